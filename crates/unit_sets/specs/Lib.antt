@@ -1,1 +1,5 @@
 pub mod Unit
+pub mod Sorted
+pub mod UnitList
+pub mod CutOrder
+pub mod Words

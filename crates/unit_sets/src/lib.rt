@@ -1,11 +1,18 @@
 //! Units of a fault tree by number, fixed sets of units, and ordered lists of cut sets.
 //!
 //! This crate stands on std alone, and every crate of the board speaks in its types. Contracts see a
-//! `UnitNo` as its number, which is 1 to 4095.
+//! `UnitNo` as its number, which is 1 to 4095, a `UnitSet` as the rising list of its members, and a
+//! `CutList` as a list of such lists.
 #![tactic(auto)]
 
 mod request;
 mod unit_no;
+mod unit_set;
 
 pub use request::{Act, CrewNo};
+use std::alloc::AllocError;
 pub use unit_no::UnitNo;
+pub use unit_set::UnitSet;
+
+/// Memory was refused.
+pub type NoMemory = AllocError;
