@@ -1,2 +1,3 @@
 pub mod Passing
 pub mod WordSets
+pub mod RowParts

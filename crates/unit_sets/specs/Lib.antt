@@ -3,3 +3,4 @@ pub mod Sorted
 pub mod UnitList
 pub mod CutOrder
 pub mod Words
+pub mod Row

@@ -5,10 +5,12 @@
 //! `CutList` as a list of such lists.
 #![tactic(auto)]
 
+mod cut_list;
 mod request;
 mod unit_no;
 mod unit_set;
 
+pub use cut_list::{CutList, ListEnd, PushEnd};
 pub use request::{Act, CrewNo};
 use std::alloc::AllocError;
 pub use unit_no::UnitNo;

@@ -1,4 +1,4 @@
-ghost use Rattle.std.specs.Prelude.{◌≡◌, ◌≤◌, ◌↔◌, IsSome, IfSome};
+ghost use Rattle.std.specs.Prelude.{All, ◌≡◌, ◌≤◌, ◌↔◌, IsSome, IfSome};
 ghost use Rattle.unit_sets.specs.Unit.{IsUnit};
 
 use std::marker::Model;
@@ -44,5 +44,14 @@ impl UnitNo {
         ensures unit { IsUnit self }
     {
         self.number
+    }
+
+    /// Tells a proof that each unit of the slice has a unit's number. Nothing is computed.
+    pub fn are_units(units: &[UnitNo])
+        ensures { All IsUnit units.now }
+    {
+        for unit in units {
+            unit.number();
+        }
     }
 }
