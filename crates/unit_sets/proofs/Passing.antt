@@ -69,7 +69,7 @@ all_append P (x ∷ xs) ys s t = (s.0, all_append P xs ys s.1 t)
 less_from_lt : (a b : ℕ) → a < b → nat_cmp a b ≡ Less
 less_from_lt a b h = grind (arith, nat_tests)
 
-all_passing : (P : ℕ → Type 0) (test : ℕ → Bool) (n : ℕ) → ((k : ℕ) → k < n → test k ≡ true → P k) → AllByRecursion P (passing_below test n)
+pub all_passing : (P : ℕ → Type 0) (test : ℕ → Bool) (n : ℕ) → ((k : ℕ) → k < n → test k ≡ true → P k) → AllByRecursion P (passing_below test n)
 unfolding passing_below
 all_passing P test zero each = tt
 all_passing P test (suc n) each =

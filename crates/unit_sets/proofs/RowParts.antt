@@ -2,10 +2,10 @@
 use Rattle.std.proofs.Common.{◌≡◌, ℕ, zero, suc, ◌+◌, ◌-◌, ◌<◌, ◌≤◌, List, [], ◌∷◌, ◌++◌, length, take, drop, slice_index, slice_get, Some, refl, sym, ◌∙◌, ap, subst, arith}
 use Rattle.std.proofs.lemmas.List.{length-append, length-drop, length-take-le, take_all, drop_at, drop-append-le, take-append-le}
 use Rattle.std.proofs.lemmas.List.Elements.{All-push, All-nil}
-use Rattle.std.proofs.lemmas.List.Sums.{sum_by-cons, sum_by_push}
+use Rattle.std.proofs.lemmas.List.Sums.{sum_by-cons}
 use Rattle.std.specs.List.Sorted.{IsStrictlySortedBy}
 use Rattle.unit_sets.specs.Row.{parts, start_at, EndAt, HoldsCuts}
-use Rattle.unit_sets.specs.CutOrder.{weight, weight_limit, IsCutSet, IsOrderedCuts, IsInCutOrder}
+use Rattle.unit_sets.specs.CutOrder.{weight-push, weight, weight_limit, IsCutSet, IsOrderedCuts, IsInCutOrder}
 
 pub EndAt-le : (from : ℕ) (ends : List ℕ) (size : ℕ) → EndAt from ends size → from ≤ size
 EndAt-le from [] size h = omega arith
@@ -80,9 +80,6 @@ weight-parts from (end ∷ ends) row h =
     sum_by-cons (λ (cut : List ℕ). 1 + length cut) (take (end - from) (drop from row)) (parts end ends row) in
     let rest : weight (parts end ends row) + end ≡ length ends + length row = weight-parts end ends row h.1 in
     weighed (weight (parts from (end ∷ ends) row)) (length (take (end - from) (drop from row))) (weight (parts end ends row)) from end (length ends) (length row) first size rest from_end
-
-pub weight-push : (cuts : List (List ℕ)) (set : List ℕ) → weight (cuts ++ set ∷ []) ≡ weight cuts + (1 + length set)
-weight-push cuts set = sum_by_push (λ (cut : List ℕ). 1 + length cut) cuts set
 
 -- the rows with one set more
 pub HoldsCuts-push : (ends row set : List ℕ) → HoldsCuts ends row → IsCutSet set → IsInCutOrder (parts 0 ends row ++ set ∷ []) → weight (parts 0 ends row ++ set ∷ []) ≤ weight_limit → HoldsCuts (ends ++ (length row + length set) ∷ []) (row ++ set)

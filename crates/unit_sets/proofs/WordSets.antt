@@ -8,10 +8,11 @@ use lib.Count.{ones, ones_in}
 use native.Mathlib.Nat.{lt_of_le_of_lt}
 use Rattle.std.proofs.lemmas.Bool.Decides.{nat_tests}
 use Rattle.std.proofs.lemmas.List.{length-append, get_or-set_same, get_or-set_other}
-use Rattle.unit_sets.specs.UnitList.{among, with_unit, without_unit, outside, is_within, same_set, among-with_unit, among-without_unit, among-from_is_within, is_within-from_among, IsRising-with_unit, IsRising-without_unit}
+use Rattle.unit_sets.specs.UnitList.{IsUnitSet, among, with_unit, without_unit, outside, is_within, same_set, among-with_unit, among-without_unit, among-from_is_within, is_within-from_among, IsRising-with_unit, IsRising-without_unit}
+use Rattle.std.proofs.lemmas.List.Elements.{All-from_recursion}
 use Rattle.unit_sets.specs.Unit.{IsUnit}
 use Rattle.unit_sets.specs.Words.{passing_below, has_bit, units_of, HoldsUnits}
-use Rattle.unit_sets.proofs.Passing.{among-passing_below, IsRising-passing_below, passing_below-same, filter-passing_below, length-passing_below-add, passing_below-none, same_by_test}
+use Rattle.unit_sets.proofs.Passing.{all_passing, among-passing_below, IsRising-passing_below, passing_below-same, filter-passing_below, length-passing_below-add, passing_below-none, same_by_test}
 
 -- ---- the bits of one word
 
@@ -143,6 +144,20 @@ pub units_of-zeros : (n : ℕ) → units_of (replicate n 0) ≡ []
 units_of-zeros n =
     passing_below-none (has_bit (replicate n 0)) 4096 (λ k h.
     ap (λ x. bit_at x (k % 64) == 1) (index_zeros n (k / 64)) ∙ ap (λ x. x == 1) (bit_at-zero (k % 64)))
+
+true_is_not_false : true ≡ false → ⊥
+true_is_not_false e = cc
+
+unit_by_bit : (words : List ℕ) → HoldsUnits words → (k : ℕ) → k < 4096 → has_bit words k ≡ true → IsUnit k
+unit_by_bit words holds zero h set = absurd (true_is_not_false (sym set ∙ holds.not_zero))
+unit_by_bit words holds (suc k) h set = (omega arith, omega arith)
+
+-- the members are unit numbers: the number 0 has no bit set
+pub IsUnitSet-units_of : (words : List ℕ) → HoldsUnits words → IsUnitSet (units_of words)
+IsUnitSet-units_of words holds = record {
+  rising = IsRising-passing_below (has_bit words) 4096;
+  units = All-from_recursion IsUnit (units_of words) (all_passing IsUnit (has_bit words) 4096 (unit_by_bit words holds));
+}
 
 -- words with one bit more hold one unit more
 pub units_of-with : (words words' : List ℕ) (unit : ℕ) → unit < 4096 → ((v : ℕ) → has_bit words' v ≡ ((unit == v) || has_bit words v)) → units_of words' ≡ with_unit unit (units_of words)

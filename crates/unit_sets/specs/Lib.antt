@@ -4,3 +4,4 @@ pub mod UnitList
 pub mod CutOrder
 pub mod Words
 pub mod Row
+pub mod Refusal

@@ -1,13 +1,13 @@
 -- Lists in strict order, by whatever order: the members decide the list.
-use Rattle.std.specs.Prelude.{◌≡◌, ◌⊎◌, List, [], ◌∷◌, ◌++◌, Contains, zero, suc}
+use Rattle.std.specs.Prelude.{◌≡◌, ℕ, ◌+◌, ◌⊎◌, List, [], ◌∷◌, ◌++◌, take, slice_get, All, Contains, Some, zero, suc}
 use Rattle.std.specs.Cmp.{IsTotalOrder}
 use Rattle.std.specs.List.{AllByRecursion}
 use Rattle.std.specs.List.Sorted.{IsStrictlySortedBy}
 use Rattle.std.specs.declared.cmp.Ordering.{Ordering}
 use Rattle.std.specs.declared.cmp.Ordering.TheVariants.{Less}
-use Rattle.std.proofs.Common.{refl, sym, ap, subst, inl, inr, arith}
+use Rattle.std.proofs.Common.{refl, sym, ◌∙◌, ap, subst, inl, inr, add-one, arith}
 use Rattle.std.proofs.lemmas.Cmp.{tied_itself}
-use Rattle.std.proofs.lemmas.List.Elements.{All-from_recursion, All-contains}
+use Rattle.std.proofs.lemmas.List.Elements.{All-from_recursion, All-contains, All-head, All-tail}
 
 -- a member of a list is its first, or a member of the others
 pub Contains-cons_cases : {X : Type 0} (x z : X) (xs : List X) → Contains (x ∷ xs) z → (x ≡ z) ⊎ Contains xs z
@@ -77,3 +77,27 @@ module _ {K : Type 0} {R : K → K → Ordering} (o : IsTotalOrder R) where
       let from' : (z : K) → Contains (x ∷ ys) z → Contains (x ∷ xs) z = λ z h. from z (subst (λ (q : K). Contains (q ∷ ys) z) same h) in
       let rest : xs ≡ ys = same_from_members xs ys s.1 t.1 (tail_members x xs ys s to') (tail_members x ys xs t' from') in
       subst (λ (q : K). x ∷ xs ≡ q ∷ ys) same (ap (λ q. x ∷ q) rest)
+
+all-take : {K : Type 0} (P : K → Type 0) (n : ℕ) (xs : List K) → AllByRecursion P xs → AllByRecursion P (take n xs)
+all-take P zero xs all = tt
+all-take P (suc n) [] all = tt
+all-take P (suc n) (x ∷ xs) all = (all.0, all-take P n xs all.1)
+
+-- A front of a list in strict order is in that order.
+pub sorted-take : {K : Type 0} (R : K → K → Ordering) (n : ℕ) (xs : List K) → IsStrictlySortedBy R xs → IsStrictlySortedBy R (take n xs)
+unfolding IsStrictlySortedBy
+sorted-take R zero xs s = tt
+sorted-take R (suc n) [] s = tt
+sorted-take R (suc n) (x ∷ xs) s = (all-take (λ y. R x y ≡ Less) n xs s.0, sorted-take R n xs s.1)
+
+-- a front and the member after it are the next longer front
+pub take-slice_get : {K : Type 0} (xs : List K) (i : ℕ) (x : K) → slice_get xs i ≡ Some x → take i xs ++ x ∷ [] ≡ take (i + 1) xs
+take-slice_get [] i x h = absurd cc
+take-slice_get (y ∷ ys) zero x h = let same : y ≡ x = cc in ap (λ z. z ∷ []) (sym same)
+take-slice_get (y ∷ ys) (suc i) x h = rw add-one (ap (λ zs. y ∷ zs) (take-slice_get ys i x h ∙ ap (λ n. take n ys) (add-one i)))
+
+-- what holds of each member holds of the one at a place
+pub All-slice_get : {K : Type 0} (P : K → Type 0) (xs : List K) (i : ℕ) (x : K) → All P xs → slice_get xs i ≡ Some x → P x
+All-slice_get P [] i x all h = absurd cc
+All-slice_get P (y ∷ ys) zero x all h = let same : y ≡ x = cc in subst P same (All-head P y ys all)
+All-slice_get P (y ∷ ys) (suc i) x all h = All-slice_get P ys i x (All-tail P y ys all) h

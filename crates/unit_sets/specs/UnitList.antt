@@ -1,5 +1,5 @@
 -- Sets of units, each written as the rising list of its members.
-use Rattle.std.specs.Prelude.{◌≡◌, ℕ, Bool, true, false, not, ◌&&◌, ◌||◌, ◌==◌, nat_lt, List, [], ◌∷◌, filter, Contains, if◌then◌else◌}
+use Rattle.std.specs.Prelude.{◌≡◌, ℕ, Bool, true, false, not, ◌&&◌, ◌||◌, ◌==◌, nat_lt, List, [], ◌∷◌, filter, All, Contains, if◌then◌else◌}
 use Rattle.std.specs.List.{list_any, list_all, AllByRecursion}
 use Rattle.std.specs.List.Sorted.{IsStrictlySortedBy}
 use Rattle.std.specs.Ordering.{nat_cmp}
@@ -9,6 +9,7 @@ use Rattle.std.proofs.lemmas.Bool.{or_cases, or_left, or_right, and_parts, and_f
 use Rattle.std.proofs.lemmas.Bool.Decides.{nat_tests}
 use Rattle.std.proofs.lemmas.Cmp.{nat_cmp_total}
 use Rattle.std.proofs.lemmas.List.Kept.{IsStrictlySortedBy-filter}
+use Rattle.unit_sets.specs.Unit.{IsUnit}
 use Rattle.unit_sets.specs.Sorted.{same_from_members, Contains-cons_first, Contains-cons_other, Contains-cons_cases}
 
 -- whether the unit is a member of the set
@@ -37,6 +38,11 @@ outside other set = filter (λ member. not (among other member)) set
 -- every member of the set is in the other
 abbrev pub is_within : List ℕ → List ℕ → Bool
 is_within other set = list_all (among other) set
+
+-- a set of units: each below those after it, and each a unit's number
+pub record IsUnitSet (set : List ℕ) : Type 0 where
+  pub rising : IsRising set
+  pub units : All IsUnit set
 
 -- ---- membership by the test and by `Contains`
 

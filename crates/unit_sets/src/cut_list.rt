@@ -1,35 +1,25 @@
-ghost use Rattle.std.specs.Prelude.{◌≡◌, ℕ, ◌<◌, ◌≤◌, ◌+◌, ◌↔◌, List, [], ◌∷◌, ◌++◌, ◌-◌, length, take, drop, slice_index, IsOk, OnOk, OnErr, Err, slice_get, Some};
+ghost use Rattle.std.specs.Prelude.{◌≡◌, ℕ, ◌<◌, ◌≤◌, ◌+◌, ◌↔◌, List, [], ◌∷◌, ◌++◌, ◌-◌, length, take, drop, slice_index, IsOk, OnOk, OnErr, IsErrOf, slice_get, Some};
 ghost use Rattle.unit_sets.specs.Unit.{IsUnit};
 ghost use Rattle.unit_sets.specs.UnitList.{IsRising};
-ghost use Rattle.unit_sets.specs.CutOrder.{IsInCutOrder, IsOrderedCuts, weight, weight_limit};
+ghost use Rattle.unit_sets.specs.CutOrder.{cut_cmp, IsInCutOrder, IsOrderedCuts, weight, weight_limit};
 ghost use Rattle.unit_sets.specs.Row.{start_at};
 
-use crate::UnitNo;
-use std::alloc::{AllocError, Global};
+use crate::{PushEnd, UnitNo};
+use std::alloc::Global;
+use std::cmp::Ordering;
 use std::marker::Model;
 
-/// Why a cut set was not added to a list.
-#[derive(Clone, Copy, Debug, PartialEq, Eq)]
-pub enum PushEnd {
-    /// The list would weigh more than `CutList::WEIGHT_LIMIT`.
-    ListLimit,
-    /// Memory was refused.
-    NoMemory,
-}
-
-/// Why a list of cut sets was not made.
-#[derive(Clone, Copy, Debug, PartialEq, Eq)]
-pub enum ListEnd {
-    /// The list would weigh more than `CutList::WEIGHT_LIMIT`.
-    ListLimit,
-    /// Memory was refused.
-    NoMemory,
+/// The order of a `CutList`: by size, and at one size lexicographically by unit numbers.
+pub fn compare_cuts(a: &[UnitNo], b: &[UnitNo]) -> Ordering
+    ensures { result ≡ cut_cmp a.now b.now }
+{
+    a.len().cmp(&b.len()).then(a.cmp(&b))
 }
 
 /// A list of cut sets, by size and then lexicographically by unit numbers.
 ///
 /// Each set has some units, each once, in rising order. The sets lie one after another in one row.
-#[derive(Drop)]
+#[derive(Clone, Drop)]
 pub struct CutList {
     row: Vec<UnitNo>,
     // Where each set ends in the row; the next one begins there.
@@ -116,16 +106,14 @@ impl CutList {
         ensures unchanged { OnErr result (self.new ≡ self.old) }
 
         // Only a list that would be too heavy is refused so, and each such list is.
-        ensures limit { (result ≡ Err PushEnd.ListLimit) ↔ (weight_limit < weight (self.old ++ set.now ∷ [])) }
+        ensures limit { IsErrOf result PushEnd.ListLimit ↔ (weight_limit < weight (self.old ++ set.now ∷ [])) }
     {
         if self.weight() + 1 + set.len() as u64 > CutList::WEIGHT_LIMIT {
             return Err(PushEnd::ListLimit);
         }
         UnitNo::are_units(set);
         let before = self.row.len();
-        if self.row.extend_from_slice(set).is_err() {
-            return Err(PushEnd::NoMemory);
-        }
+        self.row.extend_from_slice(set)?;
         let end = self.row.len() as u32;
         if self.ends.push(end).is_err() {
             self.row.truncate(before);

@@ -6,11 +6,14 @@
 #![tactic(auto)]
 
 mod cut_list;
+pub mod laws;
+mod refusal;
 mod request;
 mod unit_no;
 mod unit_set;
 
-pub use cut_list::{CutList, ListEnd, PushEnd};
+pub use cut_list::{CutList, compare_cuts};
+pub use refusal::{ListEnd, PushEnd};
 pub use request::{Act, CrewNo};
 use std::alloc::AllocError;
 pub use unit_no::UnitNo;

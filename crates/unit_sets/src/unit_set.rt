@@ -1,5 +1,5 @@
 ghost use Rattle.std.specs.Prelude.{◌≡◌, ℕ, ◌/◌, ◌<◌, ◌==◌, ◌&&◌, ◌||◌, List, [], ◌∷◌, length, not, IfOk};
-ghost use Rattle.unit_sets.specs.UnitList.{among, is_within, outside, with_unit, without_unit, IsRising};
+ghost use Rattle.unit_sets.specs.UnitList.{among, is_within, IsUnitSet, outside, with_unit, without_unit, IsRising};
 ghost use Rattle.unit_sets.specs.Words.{has_bit, units_of};
 
 use crate::{NoMemory, UnitNo};
@@ -92,7 +92,8 @@ impl UnitSet {
 
     /// Whether the unit is a member.
     pub fn contains(&self, unit: UnitNo) -> bool
-        ensures { result ≡ among self.now unit }
+        ensures value { result ≡ among self.now unit }
+        ensures set { IsUnitSet self.now }
     {
         bit(&self.words, unit.number())
     }
