@@ -1,5 +1,4 @@
-ghost use Rattle.std.specs.Prelude.{◌≡◌, ℕ, ◌<◌, ◌≤◌, ◌+◌, ◌↔◌, List, [], ◌∷◌, ◌++◌, ◌-◌, length, take, drop, slice_index, IsOk, OnOk, OnErr, IsErrOf, slice_get, Some};
-ghost use Rattle.unit_sets.specs.Unit.{IsUnit};
+ghost use Rattle.std.specs.Prelude.{◌≡◌, ◌-◌, ◌<◌, ◌≤◌, ◌↔◌, [], ◌∷◌, ◌++◌, length, take, drop, slice_index, OnOk, OnErr, IsErrOf, slice_get, Some};
 ghost use Rattle.unit_sets.specs.UnitList.{IsRising};
 ghost use Rattle.unit_sets.specs.CutOrder.{cut_cmp, IsInCutOrder, IsOrderedCuts, weight, weight_limit};
 ghost use Rattle.unit_sets.specs.Row.{start_at};

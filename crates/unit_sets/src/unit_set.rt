@@ -1,5 +1,5 @@
-ghost use Rattle.std.specs.Prelude.{◌≡◌, ℕ, ◌/◌, ◌<◌, ◌==◌, ◌&&◌, ◌||◌, List, [], ◌∷◌, length, not, IfOk};
-ghost use Rattle.unit_sets.specs.UnitList.{among, is_within, IsUnitSet, outside, with_unit, without_unit, IsRising};
+ghost use Rattle.std.specs.Prelude.{◌≡◌, ℕ, ◌/◌, ◌<◌, ◌==◌, ◌&&◌, ◌||◌, [], length, not, IfOk};
+ghost use Rattle.unit_sets.specs.UnitList.{among, is_within, IsUnitSet, outside, with_unit, without_unit};
 ghost use Rattle.unit_sets.specs.Words.{has_bit, units_of};
 
 use crate::{NoMemory, UnitNo};
