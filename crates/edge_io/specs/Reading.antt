@@ -1,0 +1,19 @@
+-- What a source gives, read after read.
+use Rattle.std.specs.Prelude.{◌≡◌, ℕ, Option, ◌+◌, ◌<◌, ◌↔◌, List, [], ◌++◌, length, take, None, Some, ⊤, Result, Ok, Err}
+
+-- what one read gave: the front of its buffer that it filled, or nothing where it failed
+abbrev pub given : {E : Type 0} → Result ℕ E → List ℕ → Option (List ℕ)
+given (Ok n) into = Some (take n into)
+given (Err _) into = None
+
+-- a fact about what was held before and is held after. A source that tells goes on telling
+abbrev pub IfTold : Option (List ℕ) → Option (List ℕ) → (List ℕ → List ℕ → Type 0) → Type 0
+IfTold None after P = ⊤
+IfTold (Some before) None P = ⊥
+IfTold (Some before) (Some after) P = P before after
+
+-- reads one after another that gave these bytes: each had room and gave at least one byte
+pub data Reads {S : Type 0} (reads : S → ℕ → Option (List ℕ) → S → Type 0) (from : S) : List ℕ → S → Type 0 where
+  unread : Reads reads from [] from
+  read_more : (bytes piece : List ℕ) (mid new : S) (room : ℕ) → Reads reads from bytes mid → 0 < length piece
+      → reads mid room (Some piece) new → Reads reads from (bytes ++ piece) new
