@@ -3,3 +3,4 @@ pub mod Reading
 pub mod Writing
 pub mod HeldSource
 pub mod KeptSink
+pub mod Out

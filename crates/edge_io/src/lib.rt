@@ -1,16 +1,26 @@
 //! The edge of the product: where bytes come from and where they go.
 #![tactic(auto)]
 
+mod buffer;
 mod bytes;
 mod call_list;
 mod held_source;
 mod kept_sink;
+mod out;
 mod pace;
+mod reading;
+mod std_edge;
 mod traits;
+mod writing;
 
+pub use buffer::{BUFFER_ROOM, Buffer};
 pub use bytes::{Bytes, NoMemory};
 pub use call_list::CallList;
 pub use held_source::HeldSource;
 pub use kept_sink::KeptSink;
+pub use out::Out;
 pub use pace::{Free, Pace};
+pub use reading::{INPUT_LIMIT, ReadEnd, read_all};
+pub use std_edge::{StdSink, StdSource};
 pub use traits::{Failed, Sink, Source};
+pub use writing::WriteFault;
