@@ -1,8 +1,10 @@
 -- Output through a buffer: what was put, what the sink took of it, and what waits.
-use Rattle.std.specs.Prelude.{◌≡◌, ℕ, ◌≤◌, Option, List, [], ◌++◌, Bool, true, false, refl}
+use Rattle.std.specs.Prelude.{◌≡◌, ℕ, ◌≤◌, Option, List, [], ◌++◌, Bool, true, false, refl, Result, Ok, Err, OnOk, OnErr, IsErr}
 use Rattle.std.proofs.Common.{sym, ap, subst, ◌∙◌, arith, true≢false, append-nil, append_assoc}
 use Rattle.std.proofs.KnownBytes.{Appends-nil, Appends-trans}
 use Rattle.std.specs.Io.KnownBytes.{Appends}
+use Rattle.std.proofs.lemmas.Result.{IfOk-from_err, on_ok_weaker, on_err_weaker}
+use Rattle.edge_io.specs.Writing.{TakesFront}
 use Rattle.edge_io.specs.Faults.{Rose, Rose-later}
 use Rattle.edge_io.specs.declared.out.Out.{Out}
 
@@ -117,3 +119,55 @@ Puts-trans taken faults old mid new text more first second =
             steady = steady
         } in
     elim (has_failed mid) as P [ true ↦ after_failure | false ↦ after_success ] refl
+
+-- a fact holds where an answer is an error
+OnErr-always : {T E P : Type 0} (answer : Result T E) → P → OnErr answer P
+OnErr-always (Ok x) fact = tt
+OnErr-always (Err e) fact = fact
+
+-- what a sink took of a text, and the answer
+pub record Delivers {K W : Type 0} (taken : K → Option (List ℕ)) (faults : K → ℕ) (old new : K) (text : List ℕ) (answer : Result (Unit {0}) W) : Type 0 where
+  pub all : OnOk answer (Appends (taken old) (taken new) text)
+  pub left : List ℕ
+  pub front : TakesFront taken old new text left
+  pub rose : OnErr answer (Rose (faults old) (faults new))
+  pub steady : faults old ≤ faults new
+
+-- a text that was put first, and then finished
+pub Puts-finished : {K W : Type 0} (taken : K → Option (List ℕ)) (faults : K → ℕ) (old out : Output K) (new : K) (text left : List ℕ) (answer : Result (Unit {0}) W)
+    → waiting old ≡ [] → has_failed old ≡ false → Puts taken faults old out text
+    → OnOk answer (Appends (taken (sink_of out)) (taken new) (waiting out))
+    → TakesFront taken (sink_of out) new (waiting out) left
+    → (has_failed out ≡ false → OnErr answer (Rose (faults (sink_of out)) (faults new)))
+    → (has_failed out ≡ true → IsErr answer × (new ≡ sink_of out))
+    → faults (sink_of out) ≤ faults new
+    → Delivers taken faults (sink_of old) new text answer
+Puts-finished {K} {W} taken faults old out new text left answer none fine puts all front rose stopped steady =
+    let whole : text ≡ puts.front ++ puts.left = subst (λ l. l ++ text ≡ puts.front ++ puts.left) none puts.split in
+    let P : Bool → Type 0 = λ b. has_failed out ≡ b → Delivers taken faults (sink_of old) new text answer in
+    let after_failure : P true = λ failed.
+        let end = stopped failed in
+        record {
+            all = IfOk-from_err answer (λ _. Appends (taken (sink_of old)) (taken new) text) end.0;
+            left = puts.left;
+            front = record { front = puts.front; split = whole; added = subst (λ s. Appends (taken (sink_of old)) (taken s) puts.front) (sym end.1) puts.added };
+            rose = OnErr-always answer (subst (λ s. Rose (faults (sink_of old)) (faults s)) (sym end.1) (puts.rose fine failed));
+            steady = omega (arith, puts.steady, steady)
+        } in
+    let after_success : P false = λ going.
+        let waits : waiting out ≡ puts.left = puts.waits going in
+        record {
+            all = on_ok_weaker answer
+                (λ added. subst (Appends (taken (sink_of old)) (taken new)) (ap (λ l. puts.front ++ l) waits ∙ sym whole)
+                    (Appends-trans (taken (sink_of old)) (taken (sink_of out)) (taken new) puts.front (waiting out) puts.added added))
+                all;
+            left = left;
+            front = record {
+                front = puts.front ++ front.front;
+                split = whole ∙ ap (λ l. puts.front ++ l) (sym waits ∙ front.split) ∙ sym (append_assoc puts.front front.front left);
+                added = Appends-trans (taken (sink_of old)) (taken (sink_of out)) (taken new) puts.front front.front puts.added front.added
+            };
+            rose = on_err_weaker answer (Rose-later (faults (sink_of old)) (faults (sink_of out)) (faults new) puts.steady) (rose going);
+            steady = omega (arith, puts.steady, steady)
+        } in
+    elim (has_failed out) as P [ true ↦ after_failure | false ↦ after_success ] refl

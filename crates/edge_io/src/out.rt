@@ -35,6 +35,18 @@ impl<'a, K: Sink> Out<'a, K> {
         }
     }
 
+    /// Output to `sink` through a buffer of its own. Nothing is written: a caller that goes on with the sink after want of
+    /// memory makes the buffer first, and then calls [`Out::over`].
+    pub fn new(alloc: Global, sink: &'a mut K) -> Result<Out<'a, K>, NoMemory>
+        ensures same_sink { IfOk result (λ out. out.sink.ghost_name ≡ sink.entry.ghost_name) }
+        ensures sink { IfOk result (λ out. sink_of out ≡ sink.old) }
+        ensures nothing_waits { IfOk result (λ out. waiting out ≡ []) }
+        ensures fine { IfOk result (λ out. has_failed out ≡ false) }
+    {
+        let buffer = Buffer::new(alloc)?;
+        Ok(Out::over(sink, buffer))
+    }
+
     /// Puts these bytes behind those that were put.
     pub fn put(&mut self, bytes: &[u8]) -> Result<(), WriteFault>
         ensures puts { Puts K.taken K.faults self.old self.new bytes.now }
