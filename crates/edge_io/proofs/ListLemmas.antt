@@ -1,5 +1,5 @@
 -- Lists that are taken from the front, piece by piece.
-use Rattle.std.proofs.Common.{◌≡◌, ℕ, ◌+◌, List, ◌++◌, length, take, drop, sym, ap, ◌∙◌, refl, take-append-drop, arith}
+use Rattle.std.proofs.Common.{◌≡◌, ℕ, ◌+◌, List, ◌++◌, length, take, drop, take-append-drop, arith}
 use Rattle.std.proofs.lemmas.Grind.{common_steps}
 
 -- a buffer whose front was filled with the next n of a list, and the list behind them

@@ -1,9 +1,8 @@
 -- A loop that reads an input, read after read.
-use Rattle.std.proofs.Common.{◌≡◌, ℕ, ◌+◌, ◌<◌, ◌≤◌, Option, Some, List, [], ◌++◌, length, take, drop, sym, ap, subst, ◌∙◌, refl, arith, length-take, length-append}
+use Rattle.std.proofs.Common.{◌≡◌, ℕ, ◌+◌, ◌<◌, ◌≤◌, Option, Some, List, [], ◌++◌, length, take, sym, subst, arith, length-take, length-append}
 use Rattle.std.specs.Io.KnownBytes.{Consumes}
 use Rattle.std.proofs.KnownBytes.{Consumes-nil, Consumes-trans}
-use Rattle.std.proofs.lemmas.Grind.{common_steps}
-use Rattle.edge_io.specs.Reading.{Reads, unread, read_more, IfTold}
+use Rattle.edge_io.specs.Reading.{Reads, unread, read_more}
 
 -- so many bytes were read, fewer than are too many
 pub record HasRead {S : Type 0} (held : S → Option (List ℕ)) (faults : S → ℕ) (reads : S → ℕ → Option (List ℕ) → S → Type 0) (old new : S) (bytes : List ℕ) (limit : ℕ) : Type 0 where
@@ -15,10 +14,10 @@ pub record HasRead {S : Type 0} (held : S → Option (List ℕ)) (faults : S →
 pub HasRead-none : {S : Type 0} (held : S → Option (List ℕ)) (faults : S → ℕ) (reads : S → ℕ → Option (List ℕ) → S → Type 0) (old : S) (bytes : List ℕ) (limit : ℕ)
     → bytes ≡ [] → HasRead held faults reads old old bytes limit
 HasRead-none held faults reads old bytes limit e = subst (λ l. HasRead held faults reads old old l limit) (sym e) (record {
-    within = omega arith;
-    taken = Consumes-nil (held old);
-    steady = omega arith;
-    run = unread
+  within = omega arith;
+  taken = Consumes-nil (held old);
+  steady = omega arith;
+  run = unread;
 })
 
 -- one more read gave a piece
@@ -37,8 +36,8 @@ HasRead-more held faults reads old mid new bytes into grown limit n h e room som
     let count = length-take n into in
     let both = length-append bytes (take n into) in
     subst (λ l. HasRead held faults reads old new l limit) (sym e) (record {
-        within = omega arith;
-        taken = Consumes-trans (held old) (held mid) (held new) bytes (take n into) h.taken next;
-        steady = omega arith;
-        run = Reads-more reads old mid new bytes into n h.run some fits step
+      within = omega arith;
+      taken = Consumes-trans (held old) (held mid) (held new) bytes (take n into) h.taken next;
+      steady = omega arith;
+      run = Reads-more reads old mid new bytes into n h.run some fits step;
     })

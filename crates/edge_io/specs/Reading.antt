@@ -1,5 +1,5 @@
 -- What a source gives, read after read.
-use Rattle.std.specs.Prelude.{◌≡◌, ℕ, Option, ◌+◌, ◌<◌, ◌≤◌, List, [], ◌++◌, length, take, None, Some, ⊤, Result, Ok, Err}
+use Rattle.std.specs.Prelude.{ℕ, Option, ◌<◌, ◌≤◌, List, [], ◌++◌, length, take, None, Some, ⊤, Result, Ok, Err}
 use Rattle.edge_io.specs.declared.reading.ReadEnd.{ReadEnd}
 use Rattle.edge_io.specs.declared.reading.ReadEnd.TheVariants.{ReadFault, TooLong, NoMemory}
 use Rattle.edge_io.specs.declared.reading.TheConstants.{INPUT_LIMIT}

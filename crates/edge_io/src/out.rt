@@ -9,7 +9,7 @@ use crate::writing::{WriteFault, write_all};
 use crate::{NoMemory, Sink};
 use std::alloc::Global;
 
-/// Output to a sink through a buffer. Once a write has failed nothing more is written. `B` is always [`Buffer`]: as a
+/// Output to a sink through a buffer, which has to be finished. Once a write has failed nothing more is written. `B` is always [`Buffer`]: as a
 /// parameter it lets the contract of [`Out::finish`] say what is left of the sink.
 pub struct Out<'a, K: Sink, B = Buffer> {
     sink: &'a mut K,

@@ -1,4 +1,4 @@
-use Rattle.std.proofs.Common.{◌≡◌, ◌+◌, ◌≤◌, length, take, drop, ◌++◌, length-append, length-take, arith}
+use Rattle.std.proofs.Common.{◌≡◌, ◌+◌, ◌≤◌, length, take, ◌++◌, length-append, length-take, arith}
 use Rattle.std.proofs.lemmas.Grind.{common_steps}
 use Rattle.edge_io.specs.declared.reading.TheConstants.{INPUT_LIMIT}
 use Rattle.edge_io.proofs.ReadingLemmas.{HasRead-none, HasRead-more, Reads-more}
@@ -10,18 +10,20 @@ reading-init g c = (c.requires, HasRead-none g.S.Source.held g.S.Source.faults g
 pub returns-then-len-count-clause-reads : goal.returns-then-len-count-clause-reads
 returns-then-len-count-clause-reads g c =
     let n = c.in-Ok.count in
-    let piece = take n c.read.new.into in
-    (c.reading.bytes.items ++ piece,
-     Reads-more g.S.Source.reads _ c.reading.source _ c.reading.bytes.items c.read.new.into n c.reading.invariant.1.run (omega arith) c.in-Ok.ensures.bound c.in-Ok.ensures.step,
-     omega (arith, c.in-Ok.ensures.bound, length-append c.reading.bytes.items piece, length-take n c.read.new.into))
+    let piece = take n c.read.new.into in (
+      c.reading.bytes.items ++ piece,
+      Reads-more g.S.Source.reads _ c.reading.source _ c.reading.bytes.items c.read.new.into n c.reading.invariant.1.run (omega arith) c.in-Ok.ensures.bound c.in-Ok.ensures.step,
+      omega (arith, c.in-Ok.ensures.bound, length-append c.reading.bytes.items piece, length-take n c.read.new.into),
+    )
 
 pub returns-then-is_err-clause-reads : goal.returns-then-is_err-clause-reads
 returns-then-is_err-clause-reads g c =
     let n = c.in-Ok.count in
-    let piece = take n c.read.new.into in
-    (c.reading.bytes.items ++ piece,
-     Reads-more g.S.Source.reads _ c.reading.source _ c.reading.bytes.items c.read.new.into n c.reading.invariant.1.run (omega arith) c.in-Ok.ensures.bound c.in-Ok.ensures.step,
-     omega (arith, c.in-Ok.ensures.bound, length-append c.reading.bytes.items piece, length-take n c.read.new.into))
+    let piece = take n c.read.new.into in (
+      c.reading.bytes.items ++ piece,
+      Reads-more g.S.Source.reads _ c.reading.source _ c.reading.bytes.items c.read.new.into n c.reading.invariant.1.run (omega arith) c.in-Ok.ensures.bound c.in-Ok.ensures.step,
+      omega (arith, c.in-Ok.ensures.bound, length-append c.reading.bytes.items piece, length-take n c.read.new.into),
+    )
 
 pub reading-preserved : goal.reading-preserved
 reading-preserved g c =

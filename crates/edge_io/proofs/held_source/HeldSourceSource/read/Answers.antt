@@ -1,4 +1,4 @@
-use Rattle.std.proofs.Common.{◌≡◌, length, take, drop, length-take, length-drop, ℕ, arith}
+use Rattle.std.proofs.Common.{◌≡◌, length, take, drop, arith}
 use Rattle.std.proofs.lemmas.Grind.{common_steps}
 use Rattle.edge_io.proofs.ListLemmas.{filled-front}
 use Rattle.edge_io.proofs.held_source.HeldSourceSource.read.Goals as goal
