@@ -1,0 +1,12 @@
+use Rattle.std.proofs.Common.{arith, length}
+use Rattle.std.proofs.lemmas.Grind.{common_steps}
+use Rattle.flat_rows.specs.Rows.{Rise-push, rows_from-push}
+use Rattle.flat_rows.proofs.Rows.push.Goals as goal
+
+pub invariant_of-self-else-is_err : goal.invariant_of-self-else-is_err
+invariant_of-self-else-is_err g c =
+    grind (arith, common_steps, Rise-push 0 c.self.inside.ends.items (length c.self.inside.items.items) (length c.args.row.now) c.self.invariant)
+
+pub returns-clause-ok : goal.returns-clause-ok
+returns-clause-ok g c =
+    grind (arith, common_steps, rows_from-push 0 c.self.inside.ends.items c.self.inside.items.items c.args.row.now c.self.invariant)

@@ -1,0 +1,2 @@
+-- rows kept end to end in one list
+pub mod Rows

@@ -1,0 +1,106 @@
+//! Rows of items, kept end to end in one buffer: a list of lists that takes two allocations and no more.
+//!
+//! It stands on std alone. A contract sees a `Rows` as the list of its rows, so the layers above speak of
+//! lists of lists and never of the buffer.
+#![tactic(auto)]
+
+ghost use Rattle.std.specs.Prelude.{◌≡◌, ◌<◌, ◌≤◌, [], ◌∷◌, ◌++◌, length, OnOk, OnErr, slice_index_or, ◌==◌};
+ghost use Rattle.flat_rows.specs.Rows.{start_of, rows_from, Rise, between};
+
+#[cfg(test)]
+mod tests;
+
+use std::alloc::{AllocError, Global};
+use std::marker::Model;
+
+/// A list of rows.
+#[derive(Drop)]
+pub struct Rows<T> {
+    items: Vec<T>,
+    // Where each row ends among the items; it begins where the row before it ends.
+    ends: Vec<usize>,
+}
+
+impl<T> Model for Rows<T> {
+    ghost use Rattle.std.specs.Prelude.{List, length};
+    ghost use Rattle.flat_rows.specs.Rows.{rows_from, Rise};
+
+    ghost Value = { List (List T) };
+
+    ghost view = { λ r. rows_from 0 r.ends.items r.items.items };
+
+    ghost invariant = { λ r. Rise 0 r.ends.items (length r.items.items) };
+}
+
+impl<T: Copy> Rows<T> {
+    /// No rows. Takes no memory.
+    pub fn new(alloc: Global) -> Self
+        ensures { result ≡ [] }
+    {
+        Rows {
+            items: Vec::new(alloc),
+            ends: Vec::new(alloc),
+        }
+    }
+
+    /// The number of rows.
+    pub fn len(&self) -> usize
+        ensures { result ≡ length self.now }
+    {
+        self.ends.len()
+    }
+
+    /// Whether there is no row.
+    pub fn is_empty(&self) -> bool
+        ensures { result ≡ (length self.now == 0) }
+    {
+        self.ends.is_empty()
+    }
+
+    /// The row of a number, from 0.
+    pub fn row(&self, i: usize) -> &[T]
+        requires { i < length self.now }
+        ensures { result.now ≡ slice_index_or self.now i [] }
+    {
+        part(&self.items, &self.ends, i)
+    }
+
+    /// One more row at the end. Where memory is wanting the rows are as before.
+    pub fn push(&mut self, row: &[T]) -> Result<(), AllocError>
+        ensures ok { OnOk result (self.new ≡ self.old ++ row.now ∷ []) }
+        ensures err { OnErr result (self.new ≡ self.old) }
+    {
+        let before = self.items.len();
+        self.items.extend_from_slice(row)?;
+        if self.ends.push(self.items.len()).is_err() {
+            self.items.truncate(before);
+            return Err(AllocError);
+        }
+        Ok(())
+    }
+}
+
+// The row of a number among items kept end to end.
+fn part<'a, T>(items: &'a [T], ends: &[usize], i: usize) -> &'a [T]
+    requires rise { Rise 0 ends.now (length items.now) }
+    requires within { i < length ends.now }
+    ensures { result.now ≡ slice_index_or (rows_from 0 ends.now items.now) i [] }
+{
+    cut(items, start(ends, i), ends[i])
+}
+
+fn cut<T>(items: &[T], from: usize, to: usize) -> &[T]
+    requires order { from ≤ to }
+    requires within { to ≤ length items.now }
+    ensures { result.now ≡ between from to items.now }
+{
+    &items[from..to]
+}
+
+// Where the row of a number begins: at the end of the one before it.
+fn start(ends: &[usize], i: usize) -> usize
+    requires { i ≤ length ends.now }
+    ensures { result ≡ start_of 0 ends.now i }
+{
+    if i == 0 { 0 } else { ends[i - 1] }
+}

@@ -1,0 +1,16 @@
+use super::*;
+use std::test::Fail;
+
+#[test]
+fn rows_come_back_as_pushed(rt: HostRuntime) -> Result<(), Fail> {
+    let mut rows = Rows::new(rt.alloc());
+    assert!(rt; rows.is_empty());
+    for row in [[3u32, 1].as_slice(), [].as_slice(), [7].as_slice()] {
+        rows.push(row)?;
+    }
+    assert_eq!(rt; rows.len(), 3);
+    assert_eq!(rt; rows.row(0), [3, 1].as_slice());
+    assert_eq!(rt; rows.row(1), [].as_slice());
+    assert_eq!(rt; rows.row(2), [7].as_slice());
+    Ok(())
+}
