@@ -1,0 +1,36 @@
+use super::*;
+use flat_rows::Rows;
+use std::test::Fail;
+
+// Each graph as its rows of successors, with the nodes that lie on a cycle and the ranks of the others.
+#[test]
+fn graphs_have_their_cycles_and_ranks(rt: HostRuntime) -> Result<(), Fail> {
+    let mut chain = Rows::new(rt.alloc());
+    for row in [[1usize, 2].as_slice(), [2].as_slice(), [].as_slice()] {
+        chain.push(row)?;
+    }
+    assert!(rt; is_graph(&chain));
+    let found = find_cycles(rt.alloc(), &chain)?;
+    assert_eq!(rt; found.on_cycle.as_slice(), [false, false, false].as_slice());
+    assert_eq!(rt; found.ranks.as_slice(), [2, 1, 0].as_slice());
+
+    // Two cycles with a bridge between them, which lies on none.
+    let mut bridge = Rows::new(rt.alloc());
+    for row in [
+        [1usize].as_slice(),
+        [0, 2].as_slice(),
+        [3].as_slice(),
+        [4].as_slice(),
+        [3].as_slice(),
+        [5].as_slice(),
+    ] {
+        bridge.push(row)?;
+    }
+    assert!(rt; is_graph(&bridge));
+    let found = find_cycles(rt.alloc(), &bridge)?;
+    assert_eq!(rt;
+        found.on_cycle.as_slice(),
+        [true, true, false, true, true, true].as_slice()
+    );
+    Ok(())
+}
