@@ -1,0 +1,7 @@
+pub mod WalkLemmas
+pub mod TriggerLemmas
+pub mod NameLemmas
+pub mod TreeLemmas
+pub mod EvalLemmas
+pub mod OrderLemmas
+pub mod TreeDecided

@@ -1,0 +1,9 @@
+use Rattle.std.specs.Prelude.{is_some}
+use Rattle.std.proofs.lemmas.Bool.{and_parts}
+use Rattle.fault_model.specs.FailingOrder.{is_admissible}
+use Rattle.fault_model.specs.Step.{step}
+use Rattle.fault_model.specs.StepLaws.{step-reads}
+use Rattle.fault_model.proofs.laws.failing_order_is_a_cut.Goals as goal
+
+pub returns : goal.returns
+returns c = λ tree order fails. step-reads tree order tree.top (and_parts (is_admissible tree order) (is_some (step tree order tree.top)) fails).1

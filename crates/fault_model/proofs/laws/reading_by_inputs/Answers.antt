@@ -1,0 +1,5 @@
+use Rattle.fault_model.specs.ReadingLaws.{reads-node}
+use Rattle.fault_model.proofs.laws.reading_by_inputs.Goals as goal
+
+pub returns : goal.returns
+returns c = reads-node

@@ -1,0 +1,55 @@
+//! Laws of the definitions, each the one clause of a function that does nothing.
+ghost use Rattle.std.specs.Prelude.{◌≡◌, ℕ, Bool, true, false, List, []};
+ghost use Rattle.unit_sets.specs.UnitList.{among};
+ghost use Rattle.fault_model.specs.Cut.{IsCutList, IsMinimalCut, is_cut};
+ghost use Rattle.fault_model.specs.FailingOrder.{is_failing};
+ghost use Rattle.fault_model.specs.Reading.{node_reads, reads};
+ghost use Rattle.fault_model.specs.ReadingLaws.{Within};
+ghost use Rattle.fault_model.specs.Step.{node_step, step};
+ghost use Rattle.fault_model.specs.Tree.{FaultTree, IsNodeOf, IsUnitOf};
+ghost use Rattle.fault_model.specs.WellFormed.{IsTree};
+
+/// The reading of a node is by the readings of what it reads.
+pub fn reading_by_inputs()
+    ensures { (tree : FaultTree) → IsTree tree → (set : ℕ → Bool) (node : ℕ) → IsNodeOf tree node
+        → reads tree set node ≡ node_reads tree set (reads tree set) node }
+{}
+
+/// The reading is monotone, of every kind of gate: what fails under some units fails under these and more.
+pub fn reading_is_monotone()
+    ensures { (tree : FaultTree) (small large : ℕ → Bool) → Within small large → (node : ℕ)
+        → reads tree small node ≡ true → reads tree large node ≡ true }
+{}
+
+/// The empty set is no cut.
+pub fn empty_set_is_no_cut()
+    ensures { (tree : FaultTree) → IsTree tree → is_cut tree [] ≡ false }
+{}
+
+/// A set that has all units is a cut.
+pub fn all_units_are_a_cut()
+    ensures { (tree : FaultTree) → IsTree tree → (set : List ℕ)
+        → ((unit : ℕ) → IsUnitOf tree unit → among set unit ≡ true) → is_cut tree set ≡ true }
+{}
+
+/// No proper subset of a minimal cut is a cut.
+pub fn less_than_minimal_is_no_cut()
+    ensures { (tree : FaultTree) (set smaller : List ℕ) (member : ℕ) → IsMinimalCut tree set → Within (among smaller) (among set)
+        → among set member ≡ true → among smaller member ≡ false → is_cut tree smaller ≡ false }
+{}
+
+/// A tree has at most one cut list.
+pub fn cut_list_is_unique()
+    ensures { (tree : FaultTree) (cuts others : List (List ℕ)) → IsCutList tree cuts → IsCutList tree others → cuts ≡ others }
+{}
+
+/// The step of a node is by the steps of what it reads.
+pub fn step_by_inputs()
+    ensures { (tree : FaultTree) → IsTree tree → (order : List ℕ) (node : ℕ) → IsNodeOf tree node
+        → step tree order node ≡ node_step tree order (step tree order) node }
+{}
+
+/// The static bound: the units of an order that fails the top event are a cut.
+pub fn failing_order_is_a_cut()
+    ensures { (tree : FaultTree) (order : List ℕ) → is_failing tree order ≡ true → is_cut tree order ≡ true }
+{}

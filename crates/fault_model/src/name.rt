@@ -1,0 +1,129 @@
+//! Names of events and gates, which are also the words and values of attributes.
+ghost use Rattle.std.specs.Prelude.{◌≡◌, ◌↔◌, IsTrue, IsSome, IfSome, IfOk, nat_eq};
+ghost use Rattle.std.specs.Cmp.{partial_equiv_from_equiv};
+ghost use Rattle.std.specs.Cmp.Lexicographic.{pointwise, nat_list_eq_equiv};
+ghost use Rattle.std.specs.Cmp.Rules.{hashing};
+ghost use Rattle.std.specs.Hash as fed;
+ghost use Rattle.std.proofs.Common.{rules};
+ghost use Rattle.fault_model.specs.Name.{is_name, is_name_byte, is_bare_name, is_bare_start, is_bare_byte};
+ghost use Rattle.std.specs.List.{list_all};
+
+use crate::NoMemory;
+use std::alloc::Global;
+use std::hash::{Hash, Hasher};
+use std::marker::Model;
+
+/// A name: 1 to 255 bytes of printable ASCII other than `"`. A contract sees it as the list of its bytes.
+#[derive(Debug, Drop)]
+pub struct Name {
+    bytes: Vec<u8>,
+}
+
+impl Model for Name {
+    ghost use Rattle.std.specs.Prelude.{ℕ, List, IsTrue};
+    ghost use Rattle.fault_model.specs.Name.{is_name};
+
+    ghost Value = { List ℕ };
+
+    ghost view = { λ name. name.bytes.items };
+
+    ghost invariant = { λ name. IsTrue (is_name name.bytes.items) };
+}
+
+impl Name {
+    /// The name of these bytes, or `None` where they are none.
+    pub fn new(alloc: Global, bytes: &[u8]) -> Result<Option<Name>, NoMemory>
+        ensures some { IfOk result (λ made. IsSome made ↔ IsTrue (is_name bytes.now)) }
+        ensures bytes { IfOk result (λ made. IfSome made (λ name. name ≡ bytes.now)) }
+    {
+        if !is_name(bytes) {
+            return Ok(None);
+        }
+        let bytes = Vec::from_slice(alloc, bytes)?;
+        Ok(Some(Name { bytes }))
+    }
+
+    /// The bytes of the name.
+    pub fn as_slice(&self) -> &[u8]
+        ensures bytes { result.now ≡ self.now }
+        ensures form { IsTrue (is_name self.now) }
+    {
+        self.bytes.as_slice()
+    }
+
+    /// Whether the name may stand in a text without quotes.
+    pub fn is_bare(&self) -> bool
+        ensures { result ≡ is_bare_name self.now }
+    {
+        is_bare_name(self.bytes.as_slice())
+    }
+}
+
+fn is_name(bytes: &[u8]) -> bool
+    ensures { result ≡ is_name bytes.now }
+{
+    1 <= bytes.len() && bytes.len() <= 255 && all_name_bytes(bytes)
+}
+
+fn all_name_bytes(bytes: &[u8]) -> bool
+    ensures { result ≡ list_all is_name_byte bytes.now }
+{
+    bytes.iter().all(|byte| is_name_byte(*byte))
+}
+
+fn is_name_byte(byte: u8) -> bool
+    ensures { result ≡ is_name_byte byte }
+{
+    32 <= byte && byte <= 126 && byte != b'"'
+}
+
+fn is_bare_name(bytes: &[u8]) -> bool
+    ensures { result ≡ is_bare_name bytes.now }
+{
+    match bytes {
+        [first, rest @ ..] => is_bare_start(*first) && all_bare_bytes(rest),
+        [] => false,
+    }
+}
+
+fn is_bare_start(byte: u8) -> bool
+    ensures { result ≡ is_bare_start byte }
+{
+    byte.is_ascii_alphabetic() || byte == b'_'
+}
+
+fn all_bare_bytes(bytes: &[u8]) -> bool
+    ensures { result ≡ list_all is_bare_byte bytes.now }
+{
+    bytes.iter().all(|byte| is_bare_byte(*byte))
+}
+
+fn is_bare_byte(byte: u8) -> bool
+    ensures { result ≡ is_bare_byte byte }
+{
+    byte.is_ascii_alphanumeric() || byte == b'_' || byte == b'-' || byte == b'.'
+}
+
+impl PartialEq for Name {
+    ghost eq = { pointwise nat_eq };
+
+    ghost laws = { partial_equiv_from_equiv nat_list_eq_equiv };
+
+    fn eq(&self, other: &Name) -> bool {
+        self.as_slice() == other.as_slice()
+    }
+}
+
+impl Eq for Name {
+    ghost laws = { nat_list_eq_equiv };
+}
+
+impl Hash for Name {
+    ghost hash_input = { fed.slice fed.u8 };
+
+    ghost respects_eq = { Prim.search (hashing, rules) };
+
+    fn hash<H: Hasher>(&self, state: &mut H) {
+        self.as_slice().hash(state);
+    }
+}

@@ -1,0 +1,230 @@
+//! The fault tree that every crate above reads, and what it keeps.
+ghost use Rattle.std.specs.Prelude.{◌≡◌, ◌≢◌, ◌↔◌, ℕ, ◌-◌, ◌<◌, ◌≤◌, false, List, ◌++◌, map, All, IfOk, IfSome, IsNone};
+ghost use Rattle.fault_model.specs.Rank.{rank_over};
+ghost use Rattle.fault_model.specs.Tree.{ranked, unit_count, gate_count, kind_of, inputs_of, rank_of, name_of, attributes_of, is_fdep, IsGateOf, IsNodeOf, IsUnitOf};
+ghost use Rattle.fault_model.specs.TreeTables.{IsFromBelow};
+ghost use Rattle.fault_model.specs.Trigger.{below, triggers_of};
+ghost use Rattle.fault_model.specs.WellFormed.{IsTree};
+
+use crate::trigger::TriggerTable;
+use crate::walk::Walk;
+use crate::{
+    Attribute, AttributeLists, GateKind, InputLists, KindList, Name, NoMemory, NodeList, NodeNo,
+    TreeParts, names,
+};
+use indexmap::IndexSet;
+use std::alloc::Global;
+use std::marker::Model;
+use unit_sets::UnitNo;
+
+/// A fault tree that is well formed. A contract sees it as its parts and the rank of each node.
+#[derive(Drop)]
+pub struct Tree {
+    names: IndexSet<Name>,
+    kinds: KindList,
+    // what each node reads: the triggers of each unit, then the inputs of each gate
+    below: Vec<NodeList>,
+    attributes: AttributeLists,
+    top: NodeNo,
+    ranks: Vec<u32>,
+    // the nodes, each after what it reads
+    bottom_up: Vec<NodeNo>,
+}
+
+impl Model for Tree {
+    ghost use Rattle.std.specs.Prelude.{drop, length};
+    ghost use Rattle.fault_model.specs.Tree.{FaultTree};
+    ghost use Rattle.fault_model.specs.TreeTables.{HoldsTables};
+
+    ghost Value = { FaultTree };
+
+    ghost view = { λ tree. record {
+      names = tree.names.keys;
+      kinds = tree.kinds;
+      inputs = drop (length tree.attributes) tree.below.items;
+      attributes = tree.attributes;
+      top = tree.top;
+      ranks = tree.ranks.items;
+    } };
+
+    ghost invariant = { λ tree. HoldsTables (record {
+      names = tree.names.keys;
+      kinds = tree.kinds;
+      inputs = drop (length tree.attributes) tree.below.items;
+      attributes = tree.attributes;
+      top = tree.top;
+      ranks = tree.ranks.items;
+    }) tree.below.items tree.bottom_up.items };
+}
+
+impl Tree {
+    /// The tree of these parts, which have to be those of one: for some ranks they keep what a tree keeps.
+    pub fn new(alloc: Global, parts: TreeParts) -> Result<Tree, NoMemory>
+        requires { (ranks : List ℕ) × IsTree (ranked parts ranks) }
+        ensures { IfOk result (λ tree. tree ≡ ranked parts tree.ranks) }
+    {
+        let TreeParts {
+            names,
+            kinds,
+            inputs,
+            attributes,
+            top,
+        } = parts;
+        let units = attributes.as_slice().len();
+        let table = TriggerTable::over(alloc, units, kinds.as_slice(), inputs.as_slice())?;
+        let below = joined(table.lists, inputs)?;
+        let walk = Walk::over(alloc, below.as_slice())?;
+        Ok(Tree {
+            names: names::table_of(alloc, names)?,
+            kinds,
+            below,
+            attributes,
+            top,
+            ranks: ranks_of(alloc, walk.heights.as_slice())?,
+            bottom_up: walk.closed,
+        })
+    }
+
+    /// How many units there are: U.
+    pub fn units(&self) -> u32
+        ensures count { result ≡ unit_count self.now }
+        ensures kept { IsTree self.now }
+    {
+        self.attributes.as_slice().len() as u32
+    }
+
+    /// How many gates there are: G.
+    pub fn gates(&self) -> u32
+        ensures count { result ≡ gate_count self.now }
+        ensures limit { result ≤ 16383 }
+    {
+        self.kinds.as_slice().len() as u32
+    }
+
+    /// The top event, which is no `fdep`.
+    pub fn top(&self) -> NodeNo
+        ensures top { result ≡ self.now.top }
+        ensures node { IsNodeOf self.now result }
+        ensures read { is_fdep self.now result ≡ false }
+    {
+        self.top
+    }
+
+    // The place of a gate, from 0, among the gates.
+    fn gate_place(&self, gate: NodeNo) -> usize
+        requires { IsGateOf self.now gate }
+        ensures place { result ≡ gate - unit_count self.now - 1 }
+        ensures within { result < gate_count self.now }
+    {
+        gate.index() - self.attributes.as_slice().len()
+    }
+
+    /// The kind of a gate.
+    pub fn kind(&self, gate: NodeNo) -> GateKind
+        requires { IsGateOf self.now gate }
+        ensures { result ≡ kind_of self.now gate }
+    {
+        self.kinds.as_slice()[self.gate_place(gate)]
+    }
+
+    fn list(&self, node: NodeNo) -> &[NodeNo]
+        requires { IsNodeOf self.now node }
+        ensures { result.now ≡ below self.now node }
+    {
+        self.below[node.index()].as_slice()
+    }
+
+    /// What a node reads: a gate its inputs from left to right, and a unit its triggers.
+    pub fn below(&self, node: NodeNo) -> &[NodeNo]
+        requires { IsNodeOf self.now node }
+        ensures below { result.now ≡ below self.now node }
+        ensures nodes { All (IsNodeOf self.now) result.now }
+    {
+        let _ = &self.below;
+        self.list(node)
+    }
+
+    /// The inputs of a gate, from left to right. None is an `fdep`.
+    pub fn inputs(&self, gate: NodeNo) -> &[NodeNo]
+        requires { IsGateOf self.now gate }
+        ensures inputs { result.now ≡ inputs_of self.now gate }
+        ensures nodes { All (IsNodeOf self.now) result.now }
+    {
+        self.below(gate)
+    }
+
+    /// The triggers of a unit: the first input of each `fdep` that has the unit among its others, in the order of the gates.
+    pub fn triggers(&self, unit: UnitNo) -> &[NodeNo]
+        requires { IsUnitOf self.now unit }
+        ensures triggers { result.now ≡ triggers_of self.now unit }
+        ensures nodes { All (IsNodeOf self.now) result.now }
+    {
+        self.below(NodeNo(u32::from(unit.number())))
+    }
+
+    /// The rank of a node: 0 of a unit without triggers, and of every other one more than the greatest of what it reads.
+    pub fn rank(&self, node: NodeNo) -> u32
+        requires { IsNodeOf self.now node }
+        ensures rank { result ≡ rank_of self.now node }
+        ensures rule { result ≡ rank_over self.now (below self.now node) }
+    {
+        self.ranks[node.index()]
+    }
+
+    /// Every node, after all that it reads.
+    pub fn bottom_up(&self) -> &[NodeNo]
+        ensures order { IsFromBelow self.now result.now }
+        ensures kept { IsTree self.now }
+    {
+        self.bottom_up.as_slice()
+    }
+
+    /// The name of a node.
+    pub fn name(&self, node: NodeNo) -> &Name
+        requires { IsNodeOf self.now node }
+        ensures { result.now ≡ name_of self.now node }
+    {
+        &self.names.as_slice()[node.index()]
+    }
+
+    /// The attributes of a unit, in the order of its definition.
+    pub fn attributes(&self, unit: UnitNo) -> &[Attribute]
+        requires { IsUnitOf self.now unit }
+        ensures { result.now ≡ attributes_of self.now unit }
+    {
+        self.attributes.as_slice()[unit.number() as usize - 1].as_slice()
+    }
+
+    /// The unit of a name. A gate's name is no unit's.
+    pub fn unit_named(&self, name: &Name) -> Option<UnitNo>
+        ensures named { IfSome result (λ unit. IsUnitOf self.now unit × (name_of self.now unit ≡ name.now)) }
+        ensures none { IsNone result ↔ ((unit : ℕ) → IsUnitOf self.now unit → name_of self.now unit ≢ name.now) }
+    {
+        let place = self.names.get_index_of(name)?;
+        if place < self.units() as usize {
+            UnitNo::new(place as u16 + 1)
+        } else {
+            None
+        }
+    }
+}
+
+// What each unit and then each gate reads.
+fn joined(mut triggers: Vec<NodeList>, inputs: InputLists) -> Result<Vec<NodeList>, NoMemory>
+    ensures { IfOk result (λ below. below.items ≡ triggers.items ++ inputs) }
+{
+    for list in inputs.into_items() {
+        triggers.push(list)?;
+    }
+    Ok(triggers)
+}
+
+// A rank is one less than a height.
+fn ranks_of(alloc: Global, heights: &[u32]) -> Result<Vec<u32>, NoMemory>
+    ensures { IfOk result (λ ranks. ranks.items ≡ map (λ height. height - 1) heights.now) }
+{
+    heights
+        .iter()
+        .map(|height| height.saturating_sub(1))
+        .collect(alloc)
+}
