@@ -1,0 +1,7 @@
+pub mod Bytes
+pub mod Spot
+pub mod Lexed
+pub mod Found
+pub mod Pieces
+pub mod Spelling
+pub mod Lexer

@@ -1,0 +1,32 @@
+-- Where a byte stands in the text.
+use Rattle.std.specs.Prelude.{ℕ, ◌+◌, ◌-◌, ◌≤◌, ◌==◌, if◌then◌else◌, List, [], ◌∷◌, length}
+use Rattle.galileo_lexer.specs.declared.spot.Spot.{Spot}
+use Rattle.galileo_lexer.specs.declared.token.LexPlace.{LexPlace}
+
+-- the first byte's
+abbrev pub origin : Spot
+origin = record { offset = 0; line = 1; line_start = 0 }
+
+-- the same line, at another offset
+abbrev pub along : Spot → ℕ → Spot
+along spot offset = record spot { offset = offset }
+
+-- behind a byte: a line feed ends the line
+abbrev pub step : Spot → ℕ → Spot
+step spot byte =
+    if byte == 10 then record { offset = spot.offset + 1; line = spot.line + 1; line_start = spot.offset + 1 }
+    else along spot (spot.offset + 1)
+
+-- behind these bytes
+abbrev pub walk : Spot → List ℕ → Spot
+walk spot [] = spot
+walk spot (byte ∷ bytes) = walk (step spot byte) bytes
+
+abbrev pub place_of : Spot → LexPlace
+place_of spot = record { line = spot.line; column = (spot.offset - spot.line_start) + 1 }
+
+-- the spot lies in the text or at its end
+pub record IsSpot (spot : Spot) (text : List ℕ) : Type 0 where
+  pub in_text : spot.offset ≤ length text
+  pub line : spot.line ≤ spot.offset + 1
+  pub line_start : spot.line_start ≤ spot.offset

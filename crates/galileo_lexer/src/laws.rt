@@ -1,0 +1,22 @@
+// The laws that say what a reading is in the notation's own terms. Their bodies are empty: each is its clause.
+ghost use Rattle.std.specs.Prelude.{◌≡◌, ℕ, List, All};
+ghost use Rattle.galileo_lexer.specs.Lexed.{Lexed, tokens_of};
+ghost use Rattle.galileo_lexer.specs.Pieces.{Reads};
+ghost use Rattle.galileo_lexer.specs.Spelling.{IsSpelled};
+
+/// The tokens and the end of a text are a reading of it: the text is a sequence of blanks, comments and token
+/// spellings, each word and line comment as long as it can be, and its tokens are these with their places. Where
+/// there is a fault it stands behind such a sequence, at the first token that cannot be formed.
+pub fn reads_its_text()
+    ensures { (text : List ℕ) → Reads text (tokens_of text) }
+{}
+
+/// A text has one reading.
+pub fn reads_one_way()
+    ensures { (text : List ℕ) (read : Lexed) → Reads text read → tokens_of text ≡ read }
+{}
+
+/// Each token lies in the text, and is spelled there as its kind says.
+pub fn tokens_are_spelled()
+    ensures { (text : List ℕ) → All (IsSpelled text) (tokens_of text).tokens }
+{}
