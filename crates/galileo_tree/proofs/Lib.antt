@@ -1,0 +1,9 @@
+pub mod Digits
+pub mod NameTexts
+pub mod Tokens
+pub mod Parses
+pub mod LexemeKinds
+pub mod Complete
+pub mod Had
+pub mod Sound
+pub mod OneWay

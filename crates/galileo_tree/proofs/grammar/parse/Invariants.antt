@@ -1,0 +1,15 @@
+use Rattle.std.proofs.Common.{◌≡◌, length}
+use Rattle.std.specs.Prelude.{All}
+use Rattle.galileo_tree.specs.ReadTree.{KeepsForm}
+use Rattle.galileo_tree.specs.Parsed.{Outside, parsed_from, parsed_text}
+use Rattle.galileo_tree.proofs.Parses.{with_front}
+use Rattle.galileo_tree.proofs.grammar.parse.Given as goal
+
+abbrev pub invariant-loop-first : goal.invariant-loop-first
+invariant-loop-first l = record {
+  same : parsed_text l.text ≡ with_front l.statements (parsed_from Outside l.reader);
+  form : All KeepsForm l.statements;
+}
+
+abbrev pub decreases-loop-first : goal.decreases-loop-first
+decreases-loop-first l = length l.reader.lexemes

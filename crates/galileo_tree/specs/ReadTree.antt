@@ -1,0 +1,37 @@
+-- What is read of a text that is in the grammar.
+use Rattle.std.specs.Prelude.{◌≡◌, ◌≤◌, true, List, All}
+use Rattle.fault_model.specs.declared.node.GateKind.{GateKind}
+use Rattle.fault_model.specs.declared.node.GateKind.TheVariants.{And, Or, Votes, Pand, Por, Seq, Fdep, Csp, Wsp, Hsp}
+use Rattle.fault_model.specs.declared.node.Place.{Place}
+use Rattle.fault_model.specs.Name.{is_bare_name}
+use Rattle.galileo_tree.specs.declared.raw.Statement.{Statement}
+use Rattle.galileo_tree.specs.declared.raw.Statement.TheVariants.{Top, Gate, Basic}
+use Rattle.galileo_tree.specs.declared.raw.RawAttribute.{RawAttribute}
+
+-- the statements in their order, and the place behind the last byte
+pub record ReadTree : Type 0 where
+  pub statements : List Statement
+  pub end : Place
+
+-- the numbers of `KofN` have at most nine digits
+abbrev pub HasShortNumbers : GateKind → Type 0
+HasShortNumbers (Votes least of) = (least ≤ 999999999) × (of ≤ 999999999)
+HasShortNumbers And = Unit {0}
+HasShortNumbers Or = Unit {0}
+HasShortNumbers Pand = Unit {0}
+HasShortNumbers Por = Unit {0}
+HasShortNumbers Seq = Unit {0}
+HasShortNumbers Fdep = Unit {0}
+HasShortNumbers Csp = Unit {0}
+HasShortNumbers Wsp = Unit {0}
+HasShortNumbers Hsp = Unit {0}
+
+-- the word of an attribute is a bare name
+abbrev pub HasBareWord : RawAttribute → Type 0
+HasBareWord raw = is_bare_name raw.attribute.word ≡ true
+
+-- what each statement keeps of the form that it was written in
+abbrev pub KeepsForm : Statement → Type 0
+KeepsForm (Top top) = Unit {0}
+KeepsForm (Gate gate) = HasShortNumbers gate.kind
+KeepsForm (Basic basic) = All HasBareWord basic.attributes

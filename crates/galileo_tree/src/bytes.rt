@@ -1,0 +1,128 @@
+// Tests of the bytes of a word.
+ghost use Rattle.std.specs.Prelude.{◌≡◌, ◌+◌, ◌*◌, ◌<◌, ◌≤◌, IfSome, length, true, Some, None};
+ghost use Rattle.std.specs.List.{list_all, prefix_len};
+ghost use Rattle.std.specs.Char.{is_ascii_digit};
+ghost use Rattle.std.specs.Str.{str_eq_ignore_ascii_case};
+ghost use Rattle.fault_model.specs.Name.{is_bare_name, is_bare_start, is_bare_byte};
+ghost use Rattle.galileo_tree.specs.ReadTree.{HasShortNumbers};
+ghost use Rattle.galileo_tree.specs.GateWord.{number_from, are_digits, votes_if, votes_of, gate_word};
+
+use fault_model::GateKind;
+
+pub(crate) fn is_bare_name(bytes: &[u8]) -> bool
+    ensures { result ≡ is_bare_name bytes.now }
+{
+    match bytes {
+        [first, rest @ ..] => is_bare_start(*first) && are_bare_bytes(rest),
+        [] => false,
+    }
+}
+
+fn is_bare_start(byte: u8) -> bool
+    ensures { result ≡ is_bare_start byte }
+{
+    byte.is_ascii_alphabetic() || byte == b'_'
+}
+
+fn are_bare_bytes(bytes: &[u8]) -> bool
+    ensures { result ≡ list_all is_bare_byte bytes.now }
+{
+    bytes.iter().all(|byte| is_bare_byte(*byte))
+}
+
+fn is_bare_byte(byte: u8) -> bool
+    ensures { result ≡ is_bare_byte byte }
+{
+    byte.is_ascii_alphanumeric() || byte == b'_' || byte == b'-' || byte == b'.'
+}
+
+// The kind of a gate that a word says.
+#[tactic(auto, unfolding(crate::specs::GateWord::gate_word))]
+pub(crate) fn gate_word(word: &[u8]) -> Option<GateKind>
+    ensures kind { result ≡ gate_word word.now }
+    ensures short { IfSome result HasShortNumbers }
+{
+    if word.eq_ignore_ascii_case(b"and") {
+        Some(GateKind::And)
+    } else if word.eq_ignore_ascii_case(b"or") {
+        Some(GateKind::Or)
+    } else if word.eq_ignore_ascii_case(b"pand") {
+        Some(GateKind::Pand)
+    } else if word.eq_ignore_ascii_case(b"por") {
+        Some(GateKind::Por)
+    } else if word.eq_ignore_ascii_case(b"seq") {
+        Some(GateKind::Seq)
+    } else if word.eq_ignore_ascii_case(b"fdep") {
+        Some(GateKind::Fdep)
+    } else if word.eq_ignore_ascii_case(b"csp") {
+        Some(GateKind::Csp)
+    } else if word.eq_ignore_ascii_case(b"wsp") {
+        Some(GateKind::Wsp)
+    } else if word.eq_ignore_ascii_case(b"hsp") {
+        Some(GateKind::Hsp)
+    } else {
+        votes(word)
+    }
+}
+
+// K, `of` and N.
+fn votes(word: &[u8]) -> Option<GateKind>
+    ensures kind { result ≡ votes_of word.now }
+    ensures short { IfSome result HasShortNumbers }
+{
+    let (front, behind) = word.split_at(digit_count(word));
+    if behind.len() < 2 {
+        return None;
+    }
+    let (of, back) = behind.split_at(2);
+    votes_if(front, of, back)
+}
+
+// How many digits stand at the front.
+fn digit_count(word: &[u8]) -> usize
+    ensures count { result ≡ prefix_len is_ascii_digit word.now }
+    ensures within { result ≤ length word.now }
+{
+    let mut count = 0;
+    while count < word.len() && word[count].is_ascii_digit() {
+        count += 1;
+    }
+    count
+}
+
+fn votes_if(front: &[u8], of: &[u8], back: &[u8]) -> Option<GateKind>
+    ensures kind { result ≡ votes_if front.now of.now back.now }
+    ensures short { IfSome result HasShortNumbers }
+{
+    if are_digits(front) && of.eq_ignore_ascii_case(b"of") && are_digits(back) {
+        Some(GateKind::Votes(number(front), number(back)))
+    } else {
+        None
+    }
+}
+
+fn are_digits(bytes: &[u8]) -> bool
+    ensures { result ≡ are_digits bytes.now }
+{
+    1 <= bytes.len() && bytes.len() <= 9 && all_digits(bytes)
+}
+
+fn all_digits(bytes: &[u8]) -> bool
+    ensures { result ≡ list_all is_ascii_digit bytes.now }
+{
+    bytes.iter().all(|byte| byte.is_ascii_digit())
+}
+
+// The number that up to nine digits write.
+fn number(digits: &[u8]) -> u32
+    requires few { length digits.now ≤ 9 }
+    requires digits { list_all is_ascii_digit digits.now ≡ true }
+    ensures value { result ≡ number_from 0 digits.now }
+    ensures small { result ≤ 999999999 }
+{
+    let mut number: u32 = 0;
+    for digit in digits {
+        number = 10 * number + u32::from(*digit - b'0');
+    }
+    number
+}

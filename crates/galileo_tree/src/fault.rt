@@ -1,0 +1,37 @@
+// Why a text is not in the grammar.
+ghost use Rattle.std.specs.Prelude.{◌≡◌};
+
+use crate::NoMemory;
+use fault_model::Place;
+use galileo_lexer::LexFault;
+
+/// What the grammar expects where it finds something else.
+#[derive(Clone, Copy, Debug, PartialEq, Eq)]
+pub enum What {
+    /// A statement, or the end of the text.
+    Statement,
+    /// The name of the top event.
+    Name,
+    /// The `;` of the top statement.
+    Semicolon,
+    /// A gate word or an attribute, or the `;` of a basic event.
+    GateOrAttribute,
+    /// The `=` behind the word of an attribute.
+    Equals,
+    /// An input of a gate, or its `;`.
+    Input,
+    /// The value of an attribute.
+    Value,
+    /// A further attribute, or the `;` of a basic event.
+    Attribute,
+}
+
+/// Why a text was not read.
+#[derive(Clone, Copy, Debug, PartialEq, Eq)]
+pub enum ParseFault {
+    /// A token that cannot be formed.
+    Lex(LexFault),
+    /// What the grammar wants at this place, where another token or the end of the text stands.
+    Expected(What, Place),
+    NoMemory,
+}

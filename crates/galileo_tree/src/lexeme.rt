@@ -1,0 +1,150 @@
+// A token with its text.
+ghost use Rattle.std.specs.Prelude.{◌≡◌, true, IfOk, IfErr, IfSome};
+ghost use Rattle.fault_model.specs.Name.{is_bare_name};
+ghost use Rattle.galileo_tree.specs.Lexeme.{is_equals, is_semicolon, is_bare, is_name, is_value, is_top_word, is_word_kind, is_quoted_kind};
+ghost use Rattle.galileo_tree.specs.ReadTree.{HasShortNumbers};
+ghost use Rattle.galileo_tree.specs.GateWord.{kind_said};
+ghost use Rattle.galileo_tree.specs.declared.fault.ParseFault.TheVariants.{NoMemory};
+
+use crate::bytes::{gate_word, is_bare_name};
+use crate::fault::ParseFault;
+use crate::raw::Placed;
+use fault_model::{GateKind, Name, Place};
+use galileo_lexer::TokenKind;
+use std::alloc::Global;
+use std::marker::Model;
+
+/// A token's kind, the text of its word or between its quotes, and its place. A contract sees it as these.
+#[derive(Drop)]
+pub(crate) struct Lexeme<'a> {
+    kind: TokenKind,
+    text: &'a [u8],
+    place: Place,
+}
+
+impl<'a> Model for Lexeme<'a> {
+    ghost use Rattle.galileo_tree.specs.Lexeme.{Lexeme as Seen, HasNameText};
+
+    ghost Value = { Seen };
+
+    ghost view = { λ lexeme. record { kind = lexeme.kind; text = lexeme.text.now; place = lexeme.place } };
+
+    ghost invariant = { λ lexeme. HasNameText lexeme.kind lexeme.text.now };
+}
+
+impl<'a> Lexeme<'a> {
+    ghost use Rattle.galileo_tree.specs.Lexeme.{HasNameText, placed};
+
+    pub(crate) fn new(kind: TokenKind, text: &'a [u8], place: Place) -> Lexeme<'a>
+        requires { HasNameText kind text.now }
+        ensures { result ≡ record { kind = kind; text = text.now; place = place } }
+    {
+        Lexeme { kind, text, place }
+    }
+
+    pub(crate) fn place(&self) -> Place
+        ensures { result ≡ self.now.place }
+    {
+        self.place
+    }
+
+    #[tactic(auto, unfolding(crate::specs::Lexeme::is_equals))]
+    pub(crate) fn is_equals(&self) -> bool
+        ensures { result ≡ is_equals self.now }
+    {
+        matches!(self.kind, TokenKind::Equals)
+    }
+
+    #[tactic(auto, unfolding(crate::specs::Lexeme::is_semicolon))]
+    pub(crate) fn is_semicolon(&self) -> bool
+        ensures { result ≡ is_semicolon self.now }
+    {
+        matches!(self.kind, TokenKind::Semicolon)
+    }
+
+    fn is_word(&self) -> bool
+        ensures { result ≡ is_word_kind self.now.kind }
+    {
+        matches!(self.kind, TokenKind::Word)
+    }
+
+    fn is_quoted(&self) -> bool
+        ensures { result ≡ is_quoted_kind self.now.kind }
+    {
+        matches!(self.kind, TokenKind::Quoted)
+    }
+
+    /// A word that is a bare name.
+    #[tactic(auto, unfolding(crate::specs::Lexeme::is_bare, crate::specs::Lexeme::is_value))]
+    pub(crate) fn is_bare(&self) -> bool
+        ensures bare { result ≡ is_bare self.now }
+        ensures form { result ≡ true → is_bare_name self.now.text ≡ true }
+        ensures value { result ≡ true → is_value self.now ≡ true }
+    {
+        self.is_word() && is_bare_name(self.text)
+    }
+
+    #[tactic(auto, unfolding(crate::specs::Lexeme::is_name, crate::specs::Lexeme::is_value))]
+    pub(crate) fn is_name(&self) -> bool
+        ensures named { result ≡ is_name self.now }
+        ensures value { result ≡ true → is_value self.now ≡ true }
+    {
+        self.is_quoted() || self.is_bare()
+    }
+
+    #[tactic(auto, unfolding(crate::specs::Lexeme::is_value))]
+    pub(crate) fn is_value(&self) -> bool
+        ensures { result ≡ is_value self.now }
+    {
+        self.is_word() || self.is_quoted()
+    }
+
+    /// The word `toplevel`, in any case.
+    #[tactic(auto, unfolding(crate::specs::Lexeme::is_top_word))]
+    pub(crate) fn is_top_word(&self) -> bool
+        ensures { result ≡ is_top_word self.now }
+    {
+        self.is_word() && self.text.eq_ignore_ascii_case(b"toplevel")
+    }
+
+    /// The kind of a gate that the lexeme says.
+    #[tactic(auto, unfolding(crate::specs::GateWord::kind_said))]
+    pub(crate) fn kind_said(&self) -> Option<GateKind>
+        ensures kind { result ≡ kind_said self.now }
+        ensures short { IfSome result HasShortNumbers }
+    {
+        if self.is_word() {
+            gate_word(self.text)
+        } else {
+            None
+        }
+    }
+
+    /// The text of a word or a quoted lexeme.
+    pub(crate) fn text(&self, alloc: Global) -> Result<Name, ParseFault>
+        requires { is_value self.now ≡ true }
+        ensures name { IfOk result (λ name. name ≡ self.now.text) }
+        ensures memory { IfErr result (λ fault. fault ≡ NoMemory) }
+    {
+        match Name::new(alloc, self.text) {
+            Ok(Some(name)) => Ok(name),
+            Ok(None) => unreachable!(),
+            Err(_) => Err(ParseFault::NoMemory),
+        }
+    }
+
+    /// The name that the lexeme writes, with its place.
+    pub(crate) fn placed(&self, alloc: Global) -> Result<Placed, ParseFault>
+        requires { is_value self.now ≡ true }
+        ensures placed { IfOk result (λ found. found ≡ placed self.now) }
+        ensures memory { IfErr result (λ fault. fault ≡ NoMemory) }
+    {
+        match self.text(alloc) {
+            Ok(name) => Ok(Placed {
+                name,
+                place: self.place,
+            }),
+            Err(fault) => Err(fault),
+        }
+    }
+}

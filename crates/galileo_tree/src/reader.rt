@@ -1,0 +1,104 @@
+// The lexemes of a text, one after the other.
+ghost use Rattle.std.specs.Prelude.{◌≡◌, ◌≤◌, length};
+ghost use Rattle.galileo_tree.specs.Lexeme.{place_at, text_between, lexeme_of};
+ghost use Rattle.galileo_tree.specs.Parsed.{lexemes_of};
+ghost use Rattle.galileo_tree.specs.Reads.{Nexts, Wants, IsAtEnd, EndsAt};
+ghost use Rattle.galileo_lexer.specs.Spelling.{IsSpelled};
+
+use crate::fault::{ParseFault, What};
+use crate::lexeme::Lexeme;
+use fault_model::Place;
+use galileo_lexer::{LexPlace, Lexer, Token, TokenKind, tokens_are_spelled};
+use std::marker::Model;
+
+/// A lexer with the text that it reads. A contract sees it as the lexemes that are still to come.
+#[derive(Drop)]
+pub(crate) struct Reader<'a> {
+    text: &'a [u8],
+    lexer: Lexer<'a>,
+}
+
+impl<'a> Model for Reader<'a> {
+    ghost use Rattle.std.specs.Prelude.{All, map};
+    ghost use Rattle.galileo_lexer.specs.Spelling.{IsSpelled};
+    ghost use Rattle.galileo_tree.specs.Lexeme.{Stream, lexeme_of};
+
+    ghost Value = { Stream };
+
+    ghost view = { λ reader. record {
+      lexemes = map (lexeme_of reader.text.now) reader.lexer.tokens;
+      ending = reader.lexer.ending;
+    } };
+
+    ghost invariant = { λ reader. All (IsSpelled reader.text.now) reader.lexer.tokens };
+}
+
+impl<'a> Reader<'a> {
+    pub(crate) fn new(text: &'a [u8]) -> Reader<'a>
+        requires { length text.now ≤ 16777216 }
+        ensures { result ≡ lexemes_of text.now }
+    {
+        // Each token lies in the text.
+        tokens_are_spelled();
+        let lexer = Lexer::new(text);
+        Reader { text, lexer }
+    }
+
+    /// The next lexeme, or None at the end of the text.
+    pub(crate) fn next(&mut self) -> Result<Option<Lexeme<'a>>, ParseFault>
+        ensures { Nexts self.old result self.new }
+    {
+        match self.lexer.next() {
+            Ok(Some(token)) => Ok(Some(lexeme(self.text, token))),
+            Ok(None) => Ok(None),
+            Err(fault) => Err(ParseFault::Lex(fault)),
+        }
+    }
+
+    /// The next lexeme, where the text must go on with what is wanted.
+    pub(crate) fn want(&mut self, wanted: What) -> Result<Lexeme<'a>, ParseFault>
+        ensures { Wants wanted self.old result self.new }
+    {
+        match self.next() {
+            Ok(Some(lexeme)) => Ok(lexeme),
+            Ok(None) => Err(ParseFault::Expected(wanted, self.end())),
+            Err(fault) => Err(fault),
+        }
+    }
+
+    /// The place of the end of the text, where no lexeme is left.
+    pub(crate) fn end(&self) -> Place
+        requires { IsAtEnd self.now }
+        ensures { EndsAt self.now result }
+    {
+        place(self.lexer.end())
+    }
+}
+
+fn place(at: LexPlace) -> Place
+    ensures { result ≡ place_at at }
+{
+    Place {
+        line: at.line,
+        column: at.column,
+    }
+}
+
+// The lexeme of a token of this text.
+fn lexeme(text: &[u8], token: Token) -> Lexeme<'_>
+    requires { IsSpelled text.now token }
+    ensures { result ≡ lexeme_of text.now token }
+{
+    Lexeme::new(token.kind, text_of(text, token), place(token.place))
+}
+
+// The bytes of a word or of a mark, and those between the quotes of a quoted token.
+fn text_of(text: &[u8], token: Token) -> &[u8]
+    requires { IsSpelled text.now token }
+    ensures { result.now ≡ text_between token.kind text.now token.start token.end }
+{
+    match token.kind {
+        TokenKind::Quoted => &text[token.start + 1..token.end - 1],
+        TokenKind::Word | TokenKind::Equals | TokenKind::Semicolon => &text[token.start..token.end],
+    }
+}
