@@ -1,0 +1,66 @@
+-- What a text by numbers keeps, for the parts of its tree, once the classes of faults are tried.
+use Rattle.std.proofs.Common.{◌≡◌, ◌+◌, ◌≤◌, List, [], ◌∷◌, length, map, sym, ap, subst, arith, length-append}
+use Rattle.std.specs.Prelude.{if◌then◌else◌, All}
+use Rattle.std.proofs.lemmas.List.{length-map}
+use Rattle.fault_model.specs.declared.node.Place.{Place}
+use Rattle.galileo_tree.specs.declared.raw.RawTop.{RawTop}
+use Rattle.galileo_tree.specs.declared.raw.RawGate.{RawGate}
+use Rattle.galileo_tree.specs.declared.raw.RawBasic.{RawBasic}
+use Rattle.galileo_tree.specs.declared.raw.Statement.{Statement}
+use Rattle.tree_check.specs.declared.numbered.Deck.{Deck}
+use Rattle.tree_check.specs.declared.numbered.NumberedGate.{NumberedGate}
+use Rattle.tree_check.specs.Said.{basics, gates, tops, names, uses, basic_names, gate_names}
+use Rattle.tree_check.specs.Numbered.{numbered, numbered_gate, numbered_gates}
+use Rattle.tree_check.specs.Numbering.{IsDeckOf}
+use Rattle.tree_check.specs.Classes.{is_empty, missing_tops, undefined, units_beyond, gates_beyond}
+use Rattle.tree_check.specs.SpareTable.{AreWithin}
+use Rattle.tree_check.specs.TreeOf.{first_number}
+use Rattle.tree_check.proofs.NonePass.{none_beyond}
+use Rattle.tree_check.proofs.GoodGates.{IsAmong}
+use Rattle.tree_check.proofs.LowNumbers.{gates_low}
+use Rattle.tree_check.proofs.StatementNames.{tops_known}
+
+module _ (statements : List Statement) (deck : Deck) (is : IsDeckOf (names statements) statements deck) where
+  -- there is a name for each unit and each gate
+  pub names_total : length (names statements) ≡ deck.units + length deck.gates.items
+  names_total =
+      omega (
+        arith,
+        is.units,
+        ap length is.gates_all,
+        length-map (gates statements) (numbered_gate (names statements)),
+        length-append (basic_names statements) (gate_names statements),
+        length-map (basics statements) (λ (basic : RawBasic). basic.name.name),
+        length-map (gates statements) (λ (gate : RawGate). gate.name.name),
+      )
+
+  -- the inputs have numbers of nodes
+  pub deck_within : AreWithin (deck.units + length deck.gates.items) deck.gates.items
+  deck_within =
+      subst (λ nodes. AreWithin nodes deck.gates.items) names_total
+      (subst (λ gs. AreWithin (length (names statements)) gs) (sym is.gates_all) (gates_low (names statements) (gates statements)))
+
+  -- and so does the top event, where each name that is used is defined
+  pub deck_top : undefined (names statements) (uses statements) ≡ [] → first_number deck.tops.items ≤ deck.units + length deck.gates.items
+  deck_top none =
+      subst (λ nodes. first_number deck.tops.items ≤ nodes) names_total
+      (subst (λ ts. first_number ts ≤ length (names statements)) (sym is.tops_all) (low (tops statements) (tops_known statements none)))
+    where
+      low : (ts : List RawTop) → All (IsAmong (length (names statements))) (map (λ (top : RawTop). numbered (names statements) top.name) ts)
+          → first_number (map (λ (top : RawTop). numbered (names statements) top.name) ts) ≤ length (names statements)
+      low [] known = omega arith
+      low (t ∷ ts) known = (known 0 (numbered (names statements) t.name) (omega arith)).1
+
+  pub deck_some : (end : Place) → missing_tops statements end ≡ [] → 1 ≤ length deck.tops.items
+  deck_some end some =
+      subst (λ ts. 1 ≤ length ts) (sym is.tops_all) (by (tops statements) some)
+    where
+      by : (ts : List RawTop) → (if is_empty ts then end ∷ [] else []) ≡ [] → 1 ≤ length (map (λ (top : RawTop). numbered (names statements) top.name) ts)
+      by [] none = absurd cc
+      by (t ∷ ts) none = omega arith
+
+  pub deck_few_units : units_beyond (basics statements) ≡ [] → deck.units ≤ 4095
+  deck_few_units none = omega (arith, is.units, none_beyond (λ (basic : RawBasic). basic.name.place) 4095 (basics statements) none)
+
+  pub deck_few_gates : gates_beyond (numbered_gates statements) ≡ [] → length deck.gates.items ≤ 16383
+  deck_few_gates none = omega (arith, ap length is.gates_all, none_beyond (λ (gate : NumberedGate). gate.name) 16383 (numbered_gates statements) none)

@@ -1,0 +1,9 @@
+use Rattle.std.proofs.Common.{◌≡◌, drop}
+use Rattle.std.specs.List.{flat_map}
+use Rattle.tree_check.specs.Numbered.{is_spare_kind}
+use Rattle.tree_check.specs.Classes.{first, gates_after_first}
+use Rattle.tree_check.proofs.gates.spare_gate.Given as goal
+
+abbrev pub invariant-loop-gate : goal.invariant-loop-gate
+invariant-loop-gate l =
+    first (flat_map (gates_after_first is_spare_kind l.units) (drop l.gate-index l.gates)) ≡ first (flat_map (gates_after_first is_spare_kind l.units) l.gates)

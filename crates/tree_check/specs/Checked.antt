@@ -1,0 +1,107 @@
+-- Whether statements stand for a tree, or which fault is the first. The classes are tried in one order, and of the first
+-- class that occurs the first place in the text is answered.
+use Rattle.std.specs.Prelude.{◌≡◌, ◌⊎◌, List, [], ◌∷◌, take, Option, Some}
+use Rattle.fault_model.specs.Tree.{FaultTree}
+use Rattle.tree_check.specs.Found.{IsFoundAs}
+use Rattle.fault_model.specs.declared.node.Place.{Place}
+use Rattle.galileo_tree.specs.ReadTree.{ReadTree}
+use Rattle.tree_check.specs.Said.{basics, names, uses}
+use Rattle.tree_check.specs.Numbered.{numbered_gates, numbered_tops, unit_total}
+use Rattle.tree_check.specs.Classes as classes
+use Rattle.tree_check.specs.TreeOf.{FirstOnCycle, HasNoCycle, tree_of}
+use Rattle.tree_check.specs.declared.fault.CheckCode.{CheckCode}
+use Rattle.tree_check.specs.declared.fault.CheckCode.TheVariants.{NoToplevel, TwoToplevels, DuplicateName, Undefined, Votes, DummyInput, NoInputs, FdepShape, DependentGate, SpareNotBasic, SharedSpare, Replicated, TopIsFdep, Cycle, TooManyUnits, TooManyGates}
+use Rattle.tree_check.specs.declared.fault.CheckFault.{CheckFault}
+use Rattle.tree_check.specs.declared.fault.CheckFault.TheVariants.{Fault, NoMemory}
+
+-- the places of each class but the cycles, in the order of the text
+abbrev pub places : ReadTree → CheckCode → List Place
+places read NoToplevel = classes.missing_tops read.statements read.end
+places read TwoToplevels = classes.further_tops read.statements
+places read DuplicateName = classes.repeats read.statements
+places read Undefined = classes.undefined (names read.statements) (uses read.statements)
+places read Votes = classes.wrong_votes (numbered_gates read.statements)
+places read DummyInput = classes.dummies (unit_total read.statements) (numbered_gates read.statements)
+places read NoInputs = classes.inputless (unit_total read.statements) (numbered_gates read.statements)
+places read FdepShape = classes.short_fdeps (numbered_gates read.statements)
+places read DependentGate = classes.dependent_gates (unit_total read.statements) (numbered_gates read.statements)
+places read SpareNotBasic = classes.spare_gates (unit_total read.statements) (numbered_gates read.statements)
+places read SharedSpare = classes.shared_spares (numbered_gates read.statements)
+places read Replicated = classes.replicated (basics read.statements)
+places read TopIsFdep = classes.fdep_tops (unit_total read.statements) (numbered_gates read.statements) (numbered_tops read.statements)
+places read Cycle = []
+places read TooManyUnits = classes.units_beyond (basics read.statements)
+places read TooManyGates = classes.gates_beyond (numbered_gates read.statements)
+
+-- none of some classes occurs
+abbrev pub NoneOf : ReadTree → List CheckCode → Type 0
+NoneOf read [] = Unit {0}
+NoneOf read (code ∷ codes) = (places read code ≡ []) × NoneOf read codes
+
+-- the classes that come before the cycles and after them
+abbrev pub before_cycles : List CheckCode
+before_cycles =
+    NoToplevel ∷ TwoToplevels ∷ DuplicateName ∷ Undefined ∷ Votes ∷ DummyInput ∷ NoInputs ∷ FdepShape ∷ DependentGate ∷ SpareNotBasic ∷ SharedSpare ∷ Replicated ∷ TopIsFdep ∷ []
+
+abbrev pub after_cycles : List CheckCode
+after_cycles = TooManyUnits ∷ TooManyGates ∷ []
+
+-- no class occurs
+pub record IsFaultless (read : ReadTree) : Type 0 where
+  pub before : NoneOf read before_cycles
+  pub acyclic : HasNoCycle read.statements
+  pub after : NoneOf read after_cycles
+
+-- this class occurs at this place first, and none of the classes before it
+abbrev pub FirstOf : ReadTree → List CheckCode → CheckCode → Place → Type 0
+FirstOf read earlier code place = NoneOf read earlier × (classes.first (places read code) ≡ Some place)
+
+abbrev pub FirstAfter : ReadTree → List CheckCode → CheckCode → Place → Type 0
+FirstAfter read earlier code place = NoneOf read before_cycles × HasNoCycle read.statements × FirstOf read earlier code place
+
+abbrev pub IsFirstFault : ReadTree → CheckCode → Place → Type 0
+IsFirstFault read NoToplevel place = FirstOf read (take 0 before_cycles) NoToplevel place
+IsFirstFault read TwoToplevels place = FirstOf read (take 1 before_cycles) TwoToplevels place
+IsFirstFault read DuplicateName place = FirstOf read (take 2 before_cycles) DuplicateName place
+IsFirstFault read Undefined place = FirstOf read (take 3 before_cycles) Undefined place
+IsFirstFault read Votes place = FirstOf read (take 4 before_cycles) Votes place
+IsFirstFault read DummyInput place = FirstOf read (take 5 before_cycles) DummyInput place
+IsFirstFault read NoInputs place = FirstOf read (take 6 before_cycles) NoInputs place
+IsFirstFault read FdepShape place = FirstOf read (take 7 before_cycles) FdepShape place
+IsFirstFault read DependentGate place = FirstOf read (take 8 before_cycles) DependentGate place
+IsFirstFault read SpareNotBasic place = FirstOf read (take 9 before_cycles) SpareNotBasic place
+IsFirstFault read SharedSpare place = FirstOf read (take 10 before_cycles) SharedSpare place
+IsFirstFault read Replicated place = FirstOf read (take 11 before_cycles) Replicated place
+IsFirstFault read TopIsFdep place = FirstOf read (take 12 before_cycles) TopIsFdep place
+IsFirstFault read Cycle place = NoneOf read before_cycles × FirstOnCycle read.statements place
+IsFirstFault read TooManyUnits place = FirstAfter read [] TooManyUnits place
+IsFirstFault read TooManyGates place = FirstAfter read (TooManyUnits ∷ []) TooManyGates place
+
+-- a fault is the first one; want of memory is free
+abbrev pub IsRefusal : ReadTree → CheckFault → Type 0
+IsRefusal read (Fault code place) = IsFirstFault read code place
+IsRefusal read NoMemory = Unit {0}
+
+-- ---- classes one after another
+
+-- none of these classes has a place
+abbrev pub NoneIn : List (CheckCode × List Place) → Type 0
+NoneIn [] = Unit {0}
+NoneIn (class ∷ classes) = (class.1 ≡ []) × NoneIn classes
+
+-- the fault is of the first of these classes that has a place
+abbrev pub FirstIn : List (CheckCode × List Place) → CheckFault → Type 0
+FirstIn [] fault = fault ≡ NoMemory
+FirstIn (class ∷ classes) fault = IsFoundAs class.0 class.1 fault ⊎ ((class.1 ≡ []) × FirstIn classes fault)
+
+-- what a search for the first place of a class answers
+abbrev pub IsRefusedBy : CheckCode → Option Place → CheckFault → Type 0
+IsRefusedBy code found (Fault refused place) = (refused ≡ code) × (found ≡ Some place)
+IsRefusedBy code found NoMemory = ⊥
+
+-- ---- what checking gives
+
+-- the tree is the one that the statements stand for, in which no class of faults occurs
+pub record Stands (read : ReadTree) (tree : FaultTree) : Type 0 where
+  pub faultless : IsFaultless read
+  pub is : tree ≡ tree_of read.statements tree.ranks

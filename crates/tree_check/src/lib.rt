@@ -1,0 +1,24 @@
+//! From the statements of a text to its fault tree.
+//!
+//! It stands on `galileo_tree` for the statements, on `fault_model` for the tree and on `graph_cycles` for cycles. Its
+//! contract gives the layer above the one tree that the statements stand for, exactly where no class of faults
+//! occurs, and else the first class that occurs, at its first place.
+#![tactic(auto)]
+
+mod assembly;
+mod checking;
+mod classes;
+mod cycles;
+mod fault;
+mod gates;
+mod name_index;
+mod naming;
+mod numbered;
+mod numbering;
+mod spares;
+mod statements;
+#[cfg(test)]
+mod tests;
+
+pub use checking::check;
+pub use fault::{CheckCode, CheckFault};
