@@ -1,0 +1,9 @@
+pub mod SetLemmas
+pub mod MergeLemmas
+pub mod SortLemmas
+pub mod MinimalLemmas
+pub mod GateLemmas
+pub mod CountLemmas
+pub mod NodeLemmas
+pub mod PlanLemmas
+pub mod CutLemmas

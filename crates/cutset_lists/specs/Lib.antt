@@ -1,0 +1,5 @@
+pub mod Sets
+pub mod Cuts
+pub mod Generation
+pub mod Counts
+pub mod Plan

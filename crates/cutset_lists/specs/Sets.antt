@@ -1,0 +1,74 @@
+-- Lists of sets of units that stand for a monotone reading: it is true where some set lies within.
+use Rattle.std.specs.Prelude.{◌≡◌, ℕ, Bool, true, false, ◌&&◌, ◌||◌, nat_lt, List, length, All, Contains}
+use Rattle.std.specs.List.{list_any, list_all}
+use Rattle.unit_sets.specs.CutOrder.{IsInCutOrder}
+use Rattle.unit_sets.specs.UnitList.{IsRising, is_within}
+
+-- some set of the list lies within
+abbrev pub hits : List (List ℕ) → (ℕ → Bool) → Bool
+hits sets within = list_any (list_all within) sets
+
+-- a set of units that pass a test, in rising order
+pub record IsSetOf (passes : ℕ → Bool) (set : List ℕ) : Type 0 where
+  pub rising : IsRising set
+  pub pass : list_all passes set ≡ true
+
+abbrev pub AreSetsOf : (ℕ → Bool) → List (List ℕ) → Type 0
+AreSetsOf passes sets = All (IsSetOf passes) sets
+
+-- one set has the units of two
+pub record IsUnion (left right union : List ℕ) : Type 0 where
+  pub within : (within : ℕ → Bool) → list_all within union ≡ (list_all within left && list_all within right)
+  pub rising : IsRising left → IsRising right → IsRising union
+
+-- a list is now also hit where a set and a list are
+pub record AddsHits (set : List ℕ) (list old new : List (List ℕ)) : Type 0 where
+  pub hits : (within : ℕ → Bool) → hits new within ≡ (hits old within || (list_all within set && hits list within))
+
+-- it has sets of units as before
+pub record AddsSets (set : List ℕ) (list old new : List (List ℕ)) : Type 0 where
+  pub sets : (passes : ℕ → Bool) → IsSetOf passes set → AreSetsOf passes list → AreSetsOf passes old → AreSetsOf passes new
+
+-- a list is now also hit where both of two are
+pub record AddsBoth (left right old new : List (List ℕ)) : Type 0 where
+  pub hits : (within : ℕ → Bool) → hits new within ≡ (hits old within || (hits left within && hits right within))
+
+-- it has sets of units where both of two do, as before
+pub record AddsSetsOf (left right old new : List (List ℕ)) : Type 0 where
+  pub sets : (passes : ℕ → Bool) → AreSetsOf passes left → AreSetsOf passes right → AreSetsOf passes old → AreSetsOf passes new
+
+-- a list is hit where both of two are
+pub record HitsBoth (left right both : List (List ℕ)) : Type 0 where
+  pub hits : (within : ℕ → Bool) → hits both within ≡ (hits left within && hits right within)
+
+-- a list has sets of units where both of two do
+pub record AreSetsAs (left right both : List (List ℕ)) : Type 0 where
+  pub sets : (passes : ℕ → Bool) → AreSetsOf passes left → AreSetsOf passes right → AreSetsOf passes both
+
+-- ---- minimal sets
+
+-- a set that has fewer units than another lies within it
+abbrev pub is_smaller_within : List ℕ → List ℕ → Bool
+is_smaller_within set smaller = nat_lt (length smaller) (length set) && is_within set smaller
+
+-- no set of the list has a smaller one within it
+abbrev pub IsSharp : List (List ℕ) → Type 0
+IsSharp sets = All (λ set. list_any (is_smaller_within set) sets ≡ false) sets
+
+-- the sets of a list in the order of cut lists, each once
+pub record IsSortedFrom (sets sorted : List (List ℕ)) : Type 0 where
+  pub hits : (within : ℕ → Bool) → hits sorted within ≡ hits sets within
+  pub members : All (Contains sets) sorted
+  pub ordered : IsInCutOrder sorted
+
+-- some sets of a list, in the order of cut lists, that are hit where the list is, and none within another
+pub record IsMinimalFrom (sets minimal : List (List ℕ)) : Type 0 where
+  pub hits : (within : ℕ → Bool) → hits minimal within ≡ hits sets within
+  pub members : All (Contains sets) minimal
+  pub ordered : IsInCutOrder minimal
+  pub sharp : IsSharp minimal
+
+-- fewer sets of a list, which are hit where it is
+pub record IsReducedFrom (list reduced : List (List ℕ)) : Type 0 where
+  pub hits : (within : ℕ → Bool) → hits reduced within ≡ hits list within
+  pub sets : (passes : ℕ → Bool) → AreSetsOf passes list → AreSetsOf passes reduced

@@ -1,0 +1,62 @@
+//! Lists that are hit where some, or all, of others are.
+ghost use Rattle.std.specs.Prelude.{◌≡◌, ◌++◌, OnOk, IfOk};
+ghost use Rattle.cutset_lists.specs.Sets.{AddsHits, AddsSets, AddsBoth, AddsSetsOf, HitsBoth, AreSetsAs};
+
+use crate::merge::merge;
+use crate::{NoMemory, Sets, UnitNo};
+use flat_rows::Rows;
+use std::alloc::Global;
+
+// Adds the sets of another list.
+pub fn append(sets: &mut Sets, more: &Sets) -> Result<(), NoMemory>
+    ensures { OnOk result (sets.new ≡ sets.old ++ more.now) }
+{
+    for i in 0..more.len() {
+        sets.push(more.row(i))?;
+    }
+    Ok(())
+}
+
+// Adds the unions of one set with each of a list.
+fn add_unions(
+    sets: &mut Sets,
+    union: &mut Vec<UnitNo>,
+    set: &[UnitNo],
+    list: &Sets,
+) -> Result<(), NoMemory>
+    ensures hits { OnOk result (AddsHits set.now list.now sets.old sets.new) }
+    ensures sets { OnOk result (AddsSets set.now list.now sets.old sets.new) }
+{
+    for i in 0..list.len() {
+        merge(union, set, list.row(i))?;
+        sets.push(union.as_slice())?;
+    }
+    Ok(())
+}
+
+// Adds the unions of each set of one list with each of another.
+pub fn add_product(
+    alloc: Global,
+    sets: &mut Sets,
+    left: &Sets,
+    right: &Sets,
+) -> Result<(), NoMemory>
+    ensures hits { OnOk result (AddsBoth left.now right.now sets.old sets.new) }
+    ensures sets { OnOk result (AddsSetsOf left.now right.now sets.old sets.new) }
+{
+    let mut union = Vec::new(alloc);
+    for i in 0..left.len() {
+        add_unions(sets, &mut union, left.row(i), right)?;
+    }
+    Ok(())
+}
+
+// The unions of each set of one list with each of another.
+pub fn product(alloc: Global, left: &Sets, right: &Sets) -> Result<Sets, NoMemory>
+    ensures hits { IfOk result (HitsBoth left.now right.now) }
+    ensures sets { IfOk result (AreSetsAs left.now right.now) }
+{
+    let mut sets = Rows::new(alloc);
+    add_product(alloc, &mut sets, left, right)?;
+    Ok(sets)
+}

@@ -1,0 +1,65 @@
+//! The minimal sets of a list.
+ghost use Rattle.std.specs.Prelude.{◌≡◌, map, IfOk};
+ghost use Rattle.std.specs.List.{list_any};
+ghost use Rattle.unit_sets.specs.CutOrder.{IsInCutOrder};
+ghost use Rattle.unit_sets.specs.UnitList.{is_within};
+ghost use Rattle.cutset_lists.specs.Cuts.{units_of};
+ghost use Rattle.cutset_lists.specs.Sets.{is_smaller_within, IsSortedFrom, IsMinimalFrom};
+
+use crate::sort::Cut;
+use crate::{NoMemory, Sets, UnitNo};
+use flat_rows::Rows;
+use std::alloc::Global;
+
+// The sets of a list, each once, in the order of cut lists.
+fn sorted<'a>(alloc: Global, sets: &'a Sets) -> Result<Vec<Cut<'a>>, NoMemory>
+    ensures { IfOk result (λ cuts. IsSortedFrom sets.now (map units_of cuts.items)) }
+{
+    let mut cuts = Vec::with_capacity(alloc, sets.len())?;
+    for i in 0..sets.len() {
+        let units = sets.row(i);
+        cuts.push(Cut { units })?;
+    }
+    cuts.sort()?;
+    cuts.dedup();
+    Ok(cuts)
+}
+
+// Whether the units of a set are all in another.
+fn is_subset(set: &[UnitNo], smaller: &[UnitNo]) -> bool
+    ensures { result ≡ is_within set.now smaller.now }
+{
+    smaller.iter().all(|unit| set.contains(unit))
+}
+
+// Whether the list, which goes by size, has a smaller set within this one.
+fn has_smaller_within(sets: &Sets, set: &[UnitNo]) -> bool
+    requires { IsInCutOrder sets.now }
+    ensures { result ≡ list_any (is_smaller_within set.now) sets.now }
+{
+    for i in 0..sets.len() {
+        let smaller = sets.row(i);
+        if smaller.len() >= set.len() {
+            return false;
+        }
+        if is_subset(set, smaller) {
+            return true;
+        }
+    }
+    false
+}
+
+// The minimal sets of a list, in the order of cut lists.
+pub fn minimal(alloc: Global, sets: &Sets) -> Result<Sets, NoMemory>
+    ensures { IfOk result (IsMinimalFrom sets.now) }
+{
+    let cuts = sorted(alloc, sets)?;
+    let mut kept = Rows::new(alloc);
+    for i in 0..cuts.len() {
+        let set = cuts[i].units;
+        if !has_smaller_within(&kept, set) {
+            kept.push(set)?;
+        }
+    }
+    Ok(kept)
+}

@@ -1,0 +1,87 @@
+//! The list of a gate that needs some number of its inputs.
+ghost use Rattle.std.specs.Prelude.{◌≡◌, ◌≤◌, ◌<◌, length, All, IfOk, OnOk};
+ghost use Rattle.cutset_lists.specs.Generation.{HasList, Follows, at_least_rule};
+ghost use Rattle.cutset_lists.specs.Counts.{counts_of_none, CountsMore, CountsList};
+
+use crate::combine::add_product;
+use crate::gate::{empty_set, reduced};
+use crate::overlap::Owners;
+use crate::{NoMemory, Sets};
+use fault_model::NodeNo;
+use flat_rows::Rows;
+use std::alloc::Global;
+use std::mem;
+
+// Lists for none, one, two and more of no nodes: the first has the empty set, and the others have no set.
+fn none_counted(alloc: Global, most: usize) -> Result<Vec<Sets>, NoMemory>
+    ensures { IfOk result (λ counts. counts.items ≡ counts_of_none most) }
+{
+    let mut counts = Vec::new(alloc);
+    counts.push(empty_set(alloc)?)?;
+    for _i in 0..most {
+        counts.push(Rows::new(alloc))?;
+    }
+    Ok(counts)
+}
+
+// One count is also reached from the one below where the list is hit.
+fn count_more(
+    alloc: Global,
+    counts: &mut Vec<Sets>,
+    at: usize,
+    list: &Sets,
+    apart: bool,
+) -> Result<(), NoMemory>
+    requires above_none { 1 ≤ at }
+    requires within { at < length counts.old.items }
+    ensures { OnOk result (CountsMore list.now at counts.old.items counts.new.items) }
+{
+    let mut sets = mem::replace(&mut counts[at], Rows::new(alloc));
+    add_product(alloc, &mut sets, &counts[at - 1], list)?;
+    counts[at] = reduced(alloc, sets, apart)?;
+    Ok(())
+}
+
+// The same for each count from the highest down to the lowest that still matters.
+fn count_list(
+    alloc: Global,
+    counts: &mut Vec<Sets>,
+    lowest: usize,
+    list: &Sets,
+    apart: bool,
+) -> Result<(), NoMemory>
+    requires above_none { 1 ≤ lowest }
+    requires within { lowest ≤ length counts.old.items }
+    ensures { OnOk result (CountsList list.now lowest counts.old.items counts.new.items) }
+{
+    let mut at = counts.len();
+    while at > lowest {
+        at -= 1;
+        count_more(alloc, counts, at, list, apart)?;
+    }
+    Ok(())
+}
+
+// The unions of a set of each of `least` of the nodes' lists.
+pub fn at_least(
+    alloc: Global,
+    owners: &mut Owners,
+    lists: &[Sets],
+    least: usize,
+    nodes: &[NodeNo],
+) -> Result<Sets, NoMemory>
+    requires { All (HasList lists.now) nodes.now }
+    ensures { IfOk result (Follows lists.now (at_least_rule least nodes.now)) }
+{
+    let apart = owners.are_apart(lists, nodes);
+    let mut counts = none_counted(alloc, least)?;
+    for i in 0..nodes.len() {
+        // what has less than this can no longer get as many as are needed
+        let left = nodes.len() - i - 1;
+        let lowest = least.saturating_sub(left).max(1);
+        if lowest <= least {
+            count_list(alloc, &mut counts, lowest, &lists[nodes[i].index()], apart)?;
+        }
+    }
+    Ok(mem::replace(&mut counts[least], Rows::new(alloc)))
+}
