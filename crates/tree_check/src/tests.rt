@@ -4,10 +4,10 @@ use galileo_tree::parse;
 use std::alloc::Global;
 use std::test::Fail;
 
-// What checking a short text in the grammar answers: the numbers of units and gates, or the fault with its line and column.
-// Want of memory, and a longer text, are told by line 0.
+// What checking a text in the grammar answers: the numbers of units and gates, or the fault with its line and column.
+// Want of memory, and a text that is too long, are told by line 0.
 fn checked(alloc: Global, text: &str) -> Result<Result<(u32, u32), (CheckCode, u32, u32)>, Fail> {
-    if text.len() > 1000 {
+    if text.len() > 16_000_000 {
         return Ok(Err((CheckCode::NoToplevel, 0, 0)));
     }
     let raw = parse(alloc, text.as_bytes())?;
@@ -92,6 +92,63 @@ fn well_formed_texts_have_their_trees(rt: HostRuntime) -> Result<(), Fail> {
         ),
     ] {
         assert_eq!(rt; checked(rt.alloc(), text)?, Ok((units, gates)), "{text}");
+    }
+    Ok(())
+}
+
+// So many basic events, each on a line of its own. The first of them is the top event.
+fn events(alloc: Global, units: u32) -> Result<String, Fail> {
+    let mut text = format!(in alloc; "toplevel B1;")?;
+    for unit in 1..=units {
+        let event = format!(in alloc; "\nB{unit};")?;
+        text.push_str(event.as_str())?;
+    }
+    Ok(text)
+}
+
+// A chain of so many gates below the top event, each on a line of its own behind the one that it reads.
+fn chain(alloc: Global, gates: u32) -> Result<String, Fail> {
+    let letters = [
+        "a", "b", "c", "d", "e", "f", "g", "h", "i", "j", "k", "l", "m", "n", "o", "p",
+    ];
+    let mut text = format!(in alloc; "B;")?;
+    let mut last = format!(in alloc; "B")?;
+    for gate in 0..gates {
+        let letter = letters[gate as usize / 65_536 % 16];
+        let low = gate % 65_536;
+        let name = format!(in alloc; "{letter}{low:04x}")?;
+        let line = format!(in alloc; "\n{name} or {last};")?;
+        text.push_str(line.as_str())?;
+        last = name;
+    }
+    let top = format!(in alloc; "\ntoplevel {last};")?;
+    text.push_str(top.as_str())?;
+    Ok(text)
+}
+
+#[test]
+fn units_and_gates_have_their_limits(rt: HostRuntime) -> Result<(), Fail> {
+    let alloc = rt.alloc();
+    let most = events(alloc, 4095)?;
+    assert_eq!(rt; checked(alloc, most.as_str())?, Ok((4095, 0)));
+    let more = events(alloc, 4096)?;
+    assert_eq!(rt;
+        checked(alloc, more.as_str())?,
+        Err((CheckCode::TooManyUnits, 4097, 1))
+    );
+    Ok(())
+}
+
+#[test]
+fn long_chains_are_walked(rt: HostRuntime) -> Result<(), Fail> {
+    let alloc = rt.alloc();
+    for (gates, wanted) in [
+        (16_383, Ok((1, 16_383))),
+        (16_384, Err((CheckCode::TooManyGates, 16_385, 1))),
+        (990_000, Err((CheckCode::TooManyGates, 16_385, 1))),
+    ] {
+        let text = chain(alloc, gates)?;
+        assert_eq!(rt; checked(alloc, text.as_str())?, wanted, "{gates}");
     }
     Ok(())
 }
