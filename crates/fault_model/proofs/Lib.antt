@@ -5,3 +5,4 @@ pub mod TreeLemmas
 pub mod EvalLemmas
 pub mod OrderLemmas
 pub mod TreeDecided
+pub mod ManyUnits

@@ -1,4 +1,5 @@
 pub mod Name
+pub mod NameBytes
 pub mod Tree
 pub mod Trigger
 pub mod Rank
@@ -18,3 +19,4 @@ pub mod WalkState
 pub mod TriggerTable
 pub mod TreeTables
 pub mod Scratch
+pub mod ManyUnits

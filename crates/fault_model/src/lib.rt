@@ -12,6 +12,7 @@
 pub mod laws;
 mod list;
 mod name;
+mod name_bytes;
 mod names;
 mod node;
 mod order;

@@ -1,5 +1,5 @@
 //! Lists that grow at their end, of which the parts of a tree are made.
-ghost use Rattle.std.specs.Prelude.{◌≡◌, ◌^◌, ◌<◌, [], ◌∷◌, ◌++◌, length, OnOk, OnErr};
+ghost use Rattle.std.specs.Prelude.{◌≡◌, ◌^◌, ◌<◌, [], ◌∷◌, ◌++◌, length, IfOk, OnOk, OnErr};
 
 use crate::{GateKind, Name, NoMemory, NodeNo};
 use std::alloc::Global;
@@ -27,6 +27,15 @@ impl<T> GrowingList<T> {
         GrowingList {
             items: Vec::new(alloc),
         }
+    }
+
+    /// The empty list, with room for some items.
+    pub fn with_room(alloc: Global, items: usize) -> Result<Self, NoMemory>
+        ensures { IfOk result (λ list. list ≡ []) }
+    {
+        Ok(GrowingList {
+            items: Vec::with_capacity(alloc, items)?,
+        })
     }
 
     /// Adds an item at the end. For want of memory the list stays, and the item is dropped.

@@ -9,6 +9,7 @@ ghost use Rattle.fault_model.specs.Name.{is_name, is_name_byte, is_bare_name, is
 ghost use Rattle.std.specs.List.{list_all};
 
 use crate::NoMemory;
+use crate::name_bytes::NameBytes;
 use std::alloc::Global;
 use std::hash::{Hash, Hasher};
 use std::marker::Model;
@@ -16,18 +17,19 @@ use std::marker::Model;
 /// A name: 1 to 255 bytes of printable ASCII other than `"`. A contract sees it as the list of its bytes.
 #[derive(Debug, Drop)]
 pub struct Name {
-    bytes: Vec<u8>,
+    bytes: NameBytes,
 }
 
 impl Model for Name {
     ghost use Rattle.std.specs.Prelude.{ℕ, List, IsTrue};
     ghost use Rattle.fault_model.specs.Name.{is_name};
+    ghost use Rattle.fault_model.specs.NameBytes.{bytes_of};
 
     ghost Value = { List ℕ };
 
-    ghost view = { λ name. name.bytes.items };
+    ghost view = { λ name. bytes_of name.bytes };
 
-    ghost invariant = { λ name. IsTrue (is_name name.bytes.items) };
+    ghost invariant = { λ name. IsTrue (is_name (bytes_of name.bytes)) };
 }
 
 impl Name {
@@ -39,8 +41,18 @@ impl Name {
         if !is_name(bytes) {
             return Ok(None);
         }
-        let bytes = Vec::from_slice(alloc, bytes)?;
-        Ok(Some(Name { bytes }))
+        Ok(Some(Name::of(alloc, bytes)?))
+    }
+
+    /// The name of these bytes, which have the form of one.
+    #[inline(always)]
+    pub fn of(alloc: Global, bytes: &[u8]) -> Result<Name, NoMemory>
+        requires { IsTrue (is_name bytes.now) }
+        ensures { IfOk result (λ name. name ≡ bytes.now) }
+    {
+        Ok(Name {
+            bytes: NameBytes::of(alloc, bytes)?,
+        })
     }
 
     /// The bytes of the name.

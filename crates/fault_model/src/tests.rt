@@ -1,5 +1,6 @@
 //! Small trees: what their top events read, and every call that takes memory once.
-ghost use Rattle.std.specs.Prelude.{◌≡◌, ℕ, [], ◌∷◌, map, replicate, All, IfOk, IsTrue, List};
+ghost use Rattle.std.specs.Prelude.{◌≡◌, ℕ, ◌<◌, ◌≤◌, [], ◌∷◌, ◌++◌, map, replicate, All, IfOk, IsTrue, List};
+ghost use Rattle.fault_model.specs.ManyUnits.{name_at, names_to, units_to};
 ghost use Rattle.fault_model.specs.Name.{is_name_byte};
 ghost use Rattle.fault_model.specs.Tree.{ranked};
 ghost use Rattle.fault_model.specs.WellFormed.{IsTree};
@@ -107,6 +108,58 @@ fn triggered_pand(alloc: Global) -> Result<Tree, NoMemory> {
     Tree::new(alloc, parts)
 }
 
+// The name at a place among those of many units: two digits of base 64 behind a `u`.
+fn name_at(alloc: Global, place: u32) -> Result<Name, NoMemory>
+    requires { place < 4096 }
+    ensures { IfOk result (λ name. name ≡ name_at place) }
+{
+    let high = (place / 64) as u8;
+    let low = (place % 64) as u8;
+    Name::of(alloc, &[b'u', b'0' + high, b'0' + low])
+}
+
+// The names of so many units and of a gate `T`.
+fn wide_names(alloc: Global, units: u32) -> Result<NameTable, NoMemory>
+    requires { units < 4096 }
+    ensures { IfOk result (λ names. names ≡ names_to units ++ (84 ∷ []) ∷ []) }
+{
+    let mut names = NameTable::new(alloc);
+    for place in 0..units {
+        names.push(name_at(alloc, place)?)?;
+    }
+    names.push(Name::of(alloc, b"T")?)?;
+    Ok(names)
+}
+
+// One gate's inputs, which are so many units.
+fn wide_inputs(alloc: Global, units: u32) -> Result<InputLists, NoMemory>
+    requires { units < 4096 }
+    ensures { IfOk result (λ lists. lists ≡ units_to units ∷ []) }
+{
+    let mut nodes = NodeList::new(alloc);
+    for place in 0..units {
+        nodes.push(NodeNo(place + 1))?;
+    }
+    let mut lists = InputLists::new(alloc);
+    lists.push(nodes)?;
+    Ok(lists)
+}
+
+// So many units under a gate `T or`.
+fn wide_or(alloc: Global, units: u32) -> Result<Tree, NoMemory>
+    requires some { 1 ≤ units }
+    requires few { units < 4096 }
+{
+    let parts = TreeParts {
+        names: wide_names(alloc, units)?,
+        kinds: kind_list(alloc, &[GateKind::Or])?,
+        inputs: wide_inputs(alloc, units)?,
+        attributes: bare_units(alloc, units as usize)?,
+        top: NodeNo(units + 1),
+    };
+    Tree::new(alloc, parts)
+}
+
 // Whether the top event fails once these units have.
 fn top_fails(alloc: Global, tree: &Tree, units: &[u16]) -> Result<bool, NoMemory> {
     let mut set = UnitSet::new(alloc)?;
@@ -187,6 +240,24 @@ fn readings(rt: HostRuntime) -> Result<(), Fail> {
     Ok(())
 }
 
+// As many units as a tree may have.
+#[test]
+fn most_units(rt: HostRuntime) -> Result<(), Fail> {
+    let tree = wide_or(rt.alloc(), 4095)?;
+    check_top(
+        &rt,
+        rt.alloc(),
+        &tree,
+        &[
+            ([0, 0], false),
+            ([1, 0], true),
+            ([2048, 0], true),
+            ([4095, 0], true),
+        ],
+    )?;
+    Ok(())
+}
+
 // The unit of a name of one letter, or 0 where there is none.
 fn number_named(alloc: Global, tree: &Tree, letter: u8) -> Result<u16, NoMemory> {
     let Some(name) = Name::new(alloc, &[letter])? else {
@@ -235,7 +306,14 @@ fn names(rt: HostRuntime) -> Result<(), Fail> {
     check_lengths(
         &rt,
         rt.alloc(),
-        &[(0, false), (1, true), (255, true), (256, false)],
+        &[
+            (0, false),
+            (1, true),
+            (22, true),
+            (23, true),
+            (255, true),
+            (256, false),
+        ],
     )?;
     Ok(())
 }

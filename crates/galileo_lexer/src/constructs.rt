@@ -29,6 +29,7 @@ fn fault(code: LexCode, spot: Spot) -> LexFault
 }
 
 // The token of one byte.
+#[inline(always)]
 pub(crate) fn mark(kind: TokenKind, spot: Spot) -> Found
     requires offset { spot.offset < 16777216 }
     requires line { spot.line_start ≤ spot.offset }
@@ -45,6 +46,7 @@ pub(crate) fn mark(kind: TokenKind, spot: Spot) -> Found
 }
 
 // The token of a name with so many bytes of text, which ends in front of `end`.
+#[inline(always)]
 fn name(kind: TokenKind, start: Spot, end: usize, size: usize) -> Found
     requires offset { start.offset ≤ 16777216 }
     requires line { start.line_start ≤ start.offset }
@@ -63,6 +65,7 @@ fn name(kind: TokenKind, start: Spot, end: usize, size: usize) -> Found
 }
 
 // The word that begins here, as long as its bytes go on.
+#[inline(always)]
 pub(crate) fn word(text: &[u8], start: Spot) -> Found
     requires small { length text.now ≤ 16777216 }
     requires spot { IsSpot start text.now }

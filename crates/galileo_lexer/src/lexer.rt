@@ -1,4 +1,5 @@
-// The lexer: the next token of a text, or its first fault.
+// The lexer: the next token of a text, or its first fault. What reads a token is inlined into its reader, so that the token's parts
+// stay in registers: through memory a token of one byte takes twice the time.
 ghost use Rattle.std.specs.Prelude.{◌≡◌, ◌≢◌, ◌<◌, ◌≤◌, false, length, drop, slice_index, Ok, None};
 ghost use Rattle.galileo_lexer.specs.Lexed.{Between, lexed, tokens_of, next_of, after};
 ghost use Rattle.galileo_lexer.specs.Bytes.{is_blank};
@@ -48,6 +49,7 @@ impl<'a> Lexer<'a> {
     }
 
     /// The next token, or None at the end of the text. After a fault the same fault comes again.
+    #[inline(always)]
     pub fn next(&mut self) -> Result<Option<Token>, LexFault>
         ensures answer { result ≡ next_of self.old.tokens self.old.ending }
         ensures rest { self.new ≡ after self.old }
@@ -84,6 +86,7 @@ impl<'a> Lexer<'a> {
 }
 
 // The first token behind the spot, the end of the text or a fault. Blanks and comments are passed over.
+#[inline(always)]
 fn find(text: &[u8], start: Spot) -> Found
     requires small { length text.now ≤ 16777216 }
     requires spot { IsSpot start text.now }
@@ -107,6 +110,7 @@ fn find(text: &[u8], start: Spot) -> Found
 }
 
 // The token that begins with this byte, which is no blank and no slash.
+#[inline(always)]
 fn token_at(text: &[u8], spot: Spot, byte: u8) -> Found
     requires small { length text.now ≤ 16777216 }
     requires spot { IsSpot spot text.now }

@@ -20,6 +20,9 @@ use fault_model::{Attribute, GateKind, GrowingList, Name, Place};
 use galileo_lexer::LONGEST_TEXT;
 use std::alloc::Global;
 
+// Most gates have two inputs, so the first room is for these.
+const USUAL_INPUTS: usize = 2;
+
 /// The statements of a text that is in the grammar, else its first fault.
 pub fn parse(alloc: Global, text: &[u8]) -> Result<RawTree, ParseFault>
     requires { length text.now ≤ LONGEST_TEXT }
@@ -149,11 +152,15 @@ fn gate(
             Err(fault) => Err(fault),
         };
     }
+    let list = match PlacedList::with_room(alloc, USUAL_INPUTS) {
+        Ok(list) => list,
+        Err(_) => return Err(ParseFault::NoMemory),
+    };
     let mut gate = RawGate {
         name,
         word: word.place(),
         kind,
-        inputs: PlacedList::new(alloc),
+        inputs: list,
     };
     if lexeme.is_semicolon() {
         return Ok(Statement::Gate(gate));
@@ -168,6 +175,7 @@ fn gate(
 }
 
 // One more input.
+#[inline(always)]
 fn add_input(alloc: Global, inputs: &mut PlacedList, lexeme: &Lexeme) -> Result<(), ParseFault>
     requires { is_value lexeme.now ≡ true }
     ensures added { OnOk result (inputs.new ≡ inputs.old ++ placed lexeme.now ∷ []) }

@@ -121,19 +121,20 @@ impl<'a> Lexeme<'a> {
     }
 
     /// The text of a word or a quoted lexeme.
+    #[inline(always)]
     pub(crate) fn text(&self, alloc: Global) -> Result<Name, ParseFault>
         requires { is_value self.now ≡ true }
         ensures name { IfOk result (λ name. name ≡ self.now.text) }
         ensures memory { IfErr result (λ fault. fault ≡ NoMemory) }
     {
-        match Name::new(alloc, self.text) {
-            Ok(Some(name)) => Ok(name),
-            Ok(None) => unreachable!(),
+        match Name::of(alloc, self.text) {
+            Ok(name) => Ok(name),
             Err(_) => Err(ParseFault::NoMemory),
         }
     }
 
     /// The name that the lexeme writes, with its place.
+    #[inline(always)]
     pub(crate) fn placed(&self, alloc: Global) -> Result<Placed, ParseFault>
         requires { is_value self.now ≡ true }
         ensures placed { IfOk result (λ found. found ≡ placed self.now) }

@@ -45,6 +45,7 @@ impl<'a> Reader<'a> {
     }
 
     /// The next lexeme, or None at the end of the text.
+    #[inline(always)]
     pub(crate) fn next(&mut self) -> Result<Option<Lexeme<'a>>, ParseFault>
         ensures { Nexts self.old result self.new }
     {
@@ -56,6 +57,7 @@ impl<'a> Reader<'a> {
     }
 
     /// The next lexeme, where the text must go on with what is wanted.
+    #[inline(always)]
     pub(crate) fn want(&mut self, wanted: What) -> Result<Lexeme<'a>, ParseFault>
         ensures { Wants wanted self.old result self.new }
     {
@@ -85,6 +87,7 @@ fn place(at: LexPlace) -> Place
 }
 
 // The lexeme of a token of this text.
+#[inline(always)]
 fn lexeme(text: &[u8], token: Token) -> Lexeme<'_>
     requires { IsSpelled text.now token }
     ensures { result ≡ lexeme_of text.now token }
@@ -93,6 +96,7 @@ fn lexeme(text: &[u8], token: Token) -> Lexeme<'_>
 }
 
 // The bytes of a word or of a mark, and those between the quotes of a quoted token.
+#[inline(always)]
 fn text_of(text: &[u8], token: Token) -> &[u8]
     requires { IsSpelled text.now token }
     ensures { result.now ≡ text_between token.kind text.now token.start token.end }
