@@ -11,6 +11,7 @@ mod classes;
 mod cycles;
 mod fault;
 mod gates;
+mod laws;
 mod name_index;
 mod naming;
 mod numbered;
@@ -22,3 +23,4 @@ mod tests;
 
 pub use checking::check;
 pub use fault::{CheckCode, CheckFault};
+pub use laws::{statements_have_one_first_fault, statements_have_one_tree, tree_or_fault};

@@ -80,6 +80,209 @@ fn each_class_is_answered_at_its_first_place(rt: HostRuntime) -> Result<(), Fail
 }
 
 #[test]
+fn names_and_values_are_refused_where_they_stand(rt: HostRuntime) -> Result<(), Fail> {
+    for (text, code, line, column) in [
+        ("A;\nB;\n", CheckCode::NoToplevel, 3, 1),
+        (
+            "A;\ntoplevel A;\nB; toplevel B;\ntoplevel A;",
+            CheckCode::TwoToplevels,
+            3,
+            4,
+        ),
+        (
+            "toplevel A;\nA; B;\nT or A; B and A; A;",
+            CheckCode::DuplicateName,
+            3,
+            9,
+        ),
+        (
+            "toplevel A; A;\nG and A \"x y\" z;",
+            CheckCode::Undefined,
+            2,
+            9,
+        ),
+        ("toplevel A; A; F fdep A B;", CheckCode::Undefined, 1, 25),
+        ("toplevel T; A;", CheckCode::Undefined, 1, 10),
+        (
+            "F fdep A B; A; B;\n  toplevel F;",
+            CheckCode::TopIsFdep,
+            2,
+            12,
+        ),
+        (
+            "toplevel A; A x=2 repl=1; B repl=\"1\" Repl=+1;",
+            CheckCode::Replicated,
+            1,
+            43,
+        ),
+        ("toplevel A; A repl=\"1.0\";", CheckCode::Replicated, 1, 20),
+    ] {
+        assert_eq!(rt;
+            checked(rt.alloc(), text)?,
+            Err((code, line, column)),
+            "{text}"
+        );
+    }
+    Ok(())
+}
+
+#[test]
+fn gates_are_refused_where_they_stand(rt: HostRuntime) -> Result<(), Fail> {
+    for (text, code, line, column) in [
+        (
+            "toplevel T; A; B;\nT or G H; G 2of2 A B; H 0of2 A B;",
+            CheckCode::Votes,
+            2,
+            25,
+        ),
+        ("toplevel T; A; T 1of3 A A;", CheckCode::Votes, 1, 18),
+        ("toplevel T; T 0of0;", CheckCode::Votes, 1, 15),
+        ("toplevel T; T and; G 2of1 A; A;", CheckCode::Votes, 1, 22),
+        (
+            "toplevel T; T or G A; G pand F A; F fdep X A; H 2of1 A; A; X;",
+            CheckCode::Votes,
+            1,
+            49,
+        ),
+        (
+            "toplevel T; T or A; F fdep A B; G fdep F A; A; B;",
+            CheckCode::DummyInput,
+            1,
+            40,
+        ),
+        (
+            "toplevel T; T csp A F; F fdep X A; A; X;",
+            CheckCode::DummyInput,
+            1,
+            21,
+        ),
+        (
+            "toplevel T; T 2of2 A F; F fdep X A; A; X;",
+            CheckCode::DummyInput,
+            1,
+            22,
+        ),
+        (
+            "toplevel T; T or A G; G or F; F fdep X A; A; X;",
+            CheckCode::NoInputs,
+            1,
+            25,
+        ),
+        ("toplevel A; A; G csp;", CheckCode::NoInputs, 1, 18),
+        (
+            "toplevel A; A; B; F fdep A B; G fdep;",
+            CheckCode::FdepShape,
+            1,
+            33,
+        ),
+    ] {
+        assert_eq!(rt;
+            checked(rt.alloc(), text)?,
+            Err((code, line, column)),
+            "{text}"
+        );
+    }
+    Ok(())
+}
+
+#[test]
+fn inputs_are_refused_where_they_stand(rt: HostRuntime) -> Result<(), Fail> {
+    for (text, code, line, column) in [
+        (
+            "toplevel T; T and A; U or A; F fdep A B U; A; B;",
+            CheckCode::DependentGate,
+            1,
+            41,
+        ),
+        (
+            "toplevel T; T wsp A B; G or A; H hsp A C G; A; B; C;",
+            CheckCode::SpareNotBasic,
+            1,
+            42,
+        ),
+        (
+            "toplevel T; T csp A S S; A; S;",
+            CheckCode::SharedSpare,
+            1,
+            23,
+        ),
+        ("toplevel T; T csp A A; A;", CheckCode::SharedSpare, 1, 21),
+        ("toplevel T; T or A T; A;", CheckCode::Cycle, 1, 13),
+        (
+            "toplevel T; A; T or A; F fdep T A;",
+            CheckCode::Cycle,
+            1,
+            13,
+        ),
+        (
+            "toplevel T; T or G; G or H; H or I A; I and G; A;",
+            CheckCode::Cycle,
+            1,
+            21,
+        ),
+    ] {
+        assert_eq!(rt;
+            checked(rt.alloc(), text)?,
+            Err((code, line, column)),
+            "{text}"
+        );
+    }
+    Ok(())
+}
+
+// As many basic events as a tree may have, or more, under one gate: `T or u1 ..`, and each on a line of its own behind it.
+fn wide(alloc: Global, units: u32) -> Result<String, Fail> {
+    let mut text = format!(in alloc; "toplevel T;\nT or")?;
+    for unit in 1..=units {
+        let input = format!(in alloc; " u{unit}")?;
+        text.push_str(input.as_str())?;
+    }
+    text.push(';')?;
+    for unit in 1..=units {
+        let event = format!(in alloc; "\nu{unit};")?;
+        text.push_str(event.as_str())?;
+    }
+    Ok(text)
+}
+
+// So many gates that all read one event, which comes last, each on a line of its own.
+fn fan(alloc: Global, gates: u32) -> Result<String, Fail> {
+    let mut text = format!(in alloc; "toplevel g1;")?;
+    for gate in 1..=gates {
+        let line = format!(in alloc; "\ng{gate} or u;")?;
+        text.push_str(line.as_str())?;
+    }
+    text.push_str("\nu;")?;
+    Ok(text)
+}
+
+#[test]
+fn wide_trees_have_the_same_limits(rt: HostRuntime) -> Result<(), Fail> {
+    let alloc = rt.alloc();
+    for (units, wanted) in [
+        (4095, Ok((4095, 1))),
+        (4096, Err((CheckCode::TooManyUnits, 4098, 1))),
+    ] {
+        let text = wide(alloc, units)?;
+        assert_eq!(rt; checked(alloc, text.as_str())?, wanted, "{units}");
+    }
+    Ok(())
+}
+
+#[test]
+fn many_gates_have_their_limit(rt: HostRuntime) -> Result<(), Fail> {
+    let alloc = rt.alloc();
+    for (gates, wanted) in [
+        (16_383, Ok((1, 16_383))),
+        (16_384, Err((CheckCode::TooManyGates, 16_385, 1))),
+    ] {
+        let text = fan(alloc, gates)?;
+        assert_eq!(rt; checked(alloc, text.as_str())?, wanted, "{gates}");
+    }
+    Ok(())
+}
+
+#[test]
 fn well_formed_texts_have_their_trees(rt: HostRuntime) -> Result<(), Fail> {
     for (text, units, gates) in [
         ("toplevel A; A lambda=0.1;", 1, 0),
@@ -89,6 +292,17 @@ fn well_formed_texts_have_their_trees(rt: HostRuntime) -> Result<(), Fail> {
             "toplevel T; T and G H; G csp A S; H csp A R; A; S; R;",
             3,
             3,
+        ),
+        (
+            "toplevel T; T or G H; G csp U S; H hsp U R; U and A; A; S; R;",
+            3,
+            4,
+        ),
+        ("toplevel T; T or F A; F fdep T B; A; B;", 2, 2),
+        (
+            "toplevel T; T 2OF3 A \"b c\" C; C; A lambda = 1e-4; \"b c\" dorm=0.5 repl=1;",
+            3,
+            1,
         ),
     ] {
         assert_eq!(rt; checked(rt.alloc(), text)?, Ok((units, gates)), "{text}");
