@@ -7,3 +7,4 @@ pub mod CountLemmas
 pub mod NodeLemmas
 pub mod PlanLemmas
 pub mod CutLemmas
+pub mod WaitingLemmas

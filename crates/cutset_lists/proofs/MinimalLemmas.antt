@@ -1,5 +1,5 @@
 -- How the minimal sets of a sorted list are kept, one after another.
-use Rattle.std.specs.Prelude.{◌≡◌, ℕ, zero, suc, ◌+◌, ◌<◌, ◌≤◌, Bool, true, false, ◌||◌, nat_lt, ◌==◌, map, List, [], ◌∷◌, ◌++◌, length, take, All, Contains, get_or}
+use Rattle.std.specs.Prelude.{◌≡◌, ℕ, zero, suc, ◌+◌, ◌<◌, ◌≤◌, Bool, true, false, ◌||◌, nat_lt, ◌==◌, map, List, [], ◌∷◌, ◌++◌, length, take, All, Contains, get_or, Result, Ok, Err, IfOk}
 use Rattle.std.specs.List.{list_any, list_all}
 use Rattle.std.specs.List.Sorted.{IsStrictlySortedBy}
 use Rattle.std.specs.Cmp.Lexicographic.{slice_cmp}
@@ -9,7 +9,7 @@ use Rattle.std.specs.declared.cmp.Ordering.TheVariants.{Less, Greater}
 use Rattle.std.proofs.Common.{refl, sym, ◌∙◌, ap, subst, inl, inr, arith}
 use Rattle.std.proofs.lemmas.Bool.{or_cases, or_left, or_right, or_from, or_parts, and_parts, and_from, and_left, le-ltb, cases_lt}
 use Rattle.std.proofs.lemmas.Bool.Decides.{nat_tests}
-use Rattle.std.proofs.lemmas.List.{take_more, get_or_default, get_or-take, length-take, length-map, get_or-map, take_all}
+use Rattle.std.proofs.lemmas.List.{take_more, get_or_default, get_or-take, length-take, length-map, get_or-map}
 use Rattle.std.proofs.lemmas.List.Folds.{list_any-append}
 use Rattle.std.proofs.lemmas.List.Elements.{All-push, All-nil, All-weaker, All-contains, recursion_from_All, Contains-append_left, Contains-push}
 use Rattle.std.proofs.lemmas.Map.Keys.{Less-from_sorted}
@@ -60,7 +60,7 @@ or_absorbed false false h = refl
 greater : (m n : ℕ) → n < m → nat_cmp m n ≡ Greater
 greater m n h = grind (arith, nat_tests)
 
-size_of_less : (m n : ℕ) (o : Ordering) → ordering_then (nat_cmp m n) o ≡ Less → m ≤ n
+pub size_of_less : (m n : ℕ) (o : Ordering) → ordering_then (nat_cmp m n) o ≡ Less → m ≤ n
 size_of_less m n o h =
     elim (cases_lt n m) [
       | inl above ↦ let less : ordering_then Greater o ≡ Less = subst (λ q. ordering_then q o ≡ Less) (greater m n above) h in absurd cc
@@ -191,7 +191,7 @@ module _ {X : Type 0} (units : X → List ℕ) (cuts : List X) (kept new : List 
   pub keeps-step : list_any (is_smaller_within (units cut)) kept ≡ false → new ≡ kept ++ units cut ∷ [] → IsMinimalFrom (take (i + 1) (map units cuts)) new
   keeps-step none same = subst (IsMinimalFrom (take (i + 1) (map units cuts))) (sym same) (keeps (map units cuts) kept (units cut) i within_map at_map ordered before none)
 
-pub IsMinimalFrom-end : {X : Type 0} (units : X → List ℕ) (cuts : List X) (sets kept : List (List ℕ)) (i : ℕ) → length cuts ≤ i → IsSortedFrom sets (map units cuts) → IsMinimalFrom (take i (map units cuts)) kept → IsMinimalFrom sets kept
-IsMinimalFrom-end units cuts sets kept i long from is =
-    let all : take i (map units cuts) ≡ map units cuts = take_all i (map units cuts) (omega (arith, length-map cuts units)) in
-    IsMinimalFrom-sorted sets (map units cuts) kept from (subst (λ (l : List (List ℕ)). IsMinimalFrom l kept) all is)
+-- of a list in order, where there is one
+pub IsMinimalFrom-kept : {E : Type 0} (sets sorted : List (List ℕ)) (made : Result (List (List ℕ)) E) → IsSortedFrom sets sorted → IfOk made (IsMinimalFrom sorted) → IfOk made (IsMinimalFrom sets)
+IsMinimalFrom-kept sets sorted (Ok kept) from is = IsMinimalFrom-sorted sets sorted kept from is
+IsMinimalFrom-kept sets sorted (Err e) from is = tt

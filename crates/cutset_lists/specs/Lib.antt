@@ -3,3 +3,4 @@ pub mod Cuts
 pub mod Generation
 pub mod Counts
 pub mod Plan
+pub mod Waiting

@@ -14,10 +14,12 @@ mod merge;
 mod minimal;
 mod overlap;
 mod plan;
+mod sifting;
 mod sort;
 #[cfg(test)]
 mod tests;
 mod votes;
+mod waiting;
 
 pub use cut_list::mcs_by_lists;
 use flat_rows::Rows;

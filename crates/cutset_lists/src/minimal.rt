@@ -6,10 +6,14 @@ ghost use Rattle.unit_sets.specs.UnitList.{is_within};
 ghost use Rattle.cutset_lists.specs.Cuts.{units_of};
 ghost use Rattle.cutset_lists.specs.Sets.{is_smaller_within, IsSortedFrom, IsMinimalFrom};
 
+use crate::sifting::{keep_unless, sifted};
 use crate::sort::Cut;
 use crate::{NoMemory, Sets, UnitNo};
 use flat_rows::Rows;
 use std::alloc::Global;
+
+// From so many sets on, a table of those that wait pays for its making.
+const MANY: usize = 64;
 
 // The sets of a list, each once, in the order of cut lists.
 fn sorted<'a>(alloc: Global, sets: &'a Sets) -> Result<Vec<Cut<'a>>, NoMemory>
@@ -49,17 +53,35 @@ fn has_smaller_within(sets: &Sets, set: &[UnitNo]) -> bool
     false
 }
 
+// The minimal ones of few sets in the order of cut lists: each is compared with all that were kept.
+fn few(alloc: Global, cuts: &[Cut]) -> Result<Sets, NoMemory>
+    requires { IsInCutOrder (map units_of cuts.now) }
+    ensures { IfOk result (IsMinimalFrom (map units_of cuts.now)) }
+{
+    let mut kept = Rows::new(alloc);
+    for cut in cuts {
+        let found = has_smaller_within(&kept, cut.units);
+        keep_unless(&mut kept, cut.units, found)?;
+    }
+    Ok(kept)
+}
+
+// The minimal ones of sets in the order of cut lists.
+fn minimal_of(alloc: Global, cuts: &[Cut]) -> Result<Sets, NoMemory>
+    requires { IsInCutOrder (map units_of cuts.now) }
+    ensures { IfOk result (IsMinimalFrom (map units_of cuts.now)) }
+{
+    if cuts.len() < MANY {
+        few(alloc, cuts)
+    } else {
+        sifted(alloc, cuts)
+    }
+}
+
 // The minimal sets of a list, in the order of cut lists.
 pub fn minimal(alloc: Global, sets: &Sets) -> Result<Sets, NoMemory>
     ensures { IfOk result (IsMinimalFrom sets.now) }
 {
     let cuts = sorted(alloc, sets)?;
-    let mut kept = Rows::new(alloc);
-    for i in 0..cuts.len() {
-        let set = cuts[i].units;
-        if !has_smaller_within(&kept, set) {
-            kept.push(set)?;
-        }
-    }
-    Ok(kept)
+    minimal_of(alloc, cuts.as_slice())
 }

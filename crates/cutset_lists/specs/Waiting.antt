@@ -1,0 +1,41 @@
+-- The first sets of a list, each waiting at one of its units.
+use Rattle.std.specs.Prelude.{◌≡◌, ℕ, ◌<◌, ◌≤◌, true, List, [], length, All, Contains, slice_index_or}
+use Rattle.unit_sets.specs.UnitList.{among}
+use Rattle.cutset_lists.specs.declared.waiting.Waiter.{Waiter}
+
+abbrev pub set_at : List (List ℕ) → ℕ → List ℕ
+set_at sets place = slice_index_or sets place []
+
+abbrev pub waiters_at : List (List Waiter) → ℕ → List Waiter
+waiters_at at unit = slice_index_or at unit []
+
+-- a waiter stands for one of the first sets, and its sign is one of that set's units
+pub record IsWaiter (sets : List (List ℕ)) (count : ℕ) (waiter : Waiter) : Type 0 where
+  pub inside : waiter.place < count
+  pub sign : among (set_at sets waiter.place) waiter.sign ≡ true
+
+-- a waiter of a set stands at one of its units
+pub record Waits (sets : List (List ℕ)) (at : List (List Waiter)) (place : ℕ) : Type 0 where
+  pub unit : ℕ
+  pub of_set : among (set_at sets place) unit ≡ true
+  pub waiter : Waiter
+  pub there : Contains (waiters_at at unit) waiter
+  pub for_set : waiter.place ≡ place
+
+-- all of the first sets wait, and none else
+pub record AreWaiting (sets : List (List ℕ)) (count : ℕ) (at : List (List Waiter)) : Type 0 where
+  pub inside : count ≤ length sets
+  pub known : (unit : ℕ) → All (IsWaiter sets count) (waiters_at at unit)
+  pub placed : (place : ℕ) → place < count → Waits sets at place
+
+-- two sets have the same units
+abbrev pub AreAlike : List ℕ → List ℕ → Type 0
+AreAlike set other = (unit : ℕ) → among set unit ≡ among other unit
+
+-- each set has some unit
+abbrev pub AreFilled : List (List ℕ) → Type 0
+AreFilled sets = (place : ℕ) → place < length sets → 1 ≤ length (set_at sets place)
+
+-- the first set has no unit
+abbrev pub HasEmptyFirst : List (List ℕ) → Type 0
+HasEmptyFirst sets = (0 < length sets) × (set_at sets 0 ≡ [])
