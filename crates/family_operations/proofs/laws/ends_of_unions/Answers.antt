@@ -1,0 +1,11 @@
+use Rattle.family_operations.specs.Union.{union-none, union-with_none, union-itself}
+use Rattle.family_operations.proofs.laws.ends_of_unions.Goals as goal
+
+pub returns-clause-none : goal.returns-clause-none
+returns-clause-none c = union-none
+
+pub returns-clause-with_none : goal.returns-clause-with_none
+returns-clause-with_none c = union-with_none
+
+pub returns-clause-itself : goal.returns-clause-itself
+returns-clause-itself c = union-itself

@@ -1,0 +1,5 @@
+use Rattle.family_operations.specs.Nodes.{node_count-one}
+use Rattle.family_operations.proofs.laws.one_node_count.Goals as goal
+
+pub returns : goal.returns
+returns c = node_count-one

@@ -1,0 +1,13 @@
+pub mod Cuts
+pub mod Sets
+pub mod Union
+pub mod Product
+pub mod Inclusion
+pub mod Without
+pub mod Minimal
+pub mod Votes
+pub mod Due
+pub mod References
+pub mod Hits
+pub mod Counting
+pub mod Nodes

@@ -1,0 +1,5 @@
+use Rattle.zdd_families.specs.Family.{IsFamily-branch}
+use Rattle.zdd_families.proofs.laws.a_branch_is_a_family.Goals as goal
+
+pub returns : goal.returns
+returns c = IsFamily-branch

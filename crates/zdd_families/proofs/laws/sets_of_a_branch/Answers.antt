@@ -1,0 +1,5 @@
+use Rattle.zdd_families.specs.Members.{branch-members}
+use Rattle.zdd_families.proofs.laws.sets_of_a_branch.Goals as goal
+
+pub returns : goal.returns
+returns c = branch-members

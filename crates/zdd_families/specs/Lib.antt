@@ -1,0 +1,5 @@
+pub mod Lists
+pub mod Family
+pub mod Members
+pub mod Map
+pub mod Canonical

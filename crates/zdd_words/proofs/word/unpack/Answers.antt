@@ -1,0 +1,12 @@
+use Rattle.std.proofs.Common.{◌∙◌}
+use Rattle.zdd_words.specs.Word.{hi_of, level_of, lo_of, packed-parts}
+use Rattle.zdd_words.proofs.Bits.{hi_of-shifted, same_packed}
+use Rattle.zdd_words.proofs.word.unpack.Goals as goal
+
+pub returns-clause-lo : goal.returns-clause-lo
+returns-clause-lo c = c.in_lowest_bits.ensures ∙ hi_of-shifted c.args.word
+
+pub returns-clause-word_comes_back : goal.returns-clause-word_comes_back
+returns-clause-word_comes_back c =
+    same_packed (level_of c.args.word) (lo_of c.args.word) (hi_of c.args.word) _ _ _ c.level_in.ensures (returns-clause-lo c) c.in_lowest_bits-2.ensures
+    ∙ packed-parts c.args.word
