@@ -1,0 +1,5 @@
+pub mod Known
+pub mod Views
+pub mod Rule
+pub mod Seats
+pub mod Search
