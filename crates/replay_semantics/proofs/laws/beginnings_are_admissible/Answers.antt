@@ -1,0 +1,5 @@
+use Rattle.replay_semantics.specs.AdmissionLaws.{admissible_before}
+use Rattle.replay_semantics.proofs.laws.beginnings_are_admissible.Goals as goal
+
+pub returns : goal.returns
+returns c = admissible_before

@@ -1,0 +1,14 @@
+use Rattle.std.proofs.Common.{◌∙◌, sym, ap, drop}
+use Rattle.std.proofs.lemmas.List.{take_rest}
+use Rattle.fault_model.specs.Step.{Step}
+use Rattle.replay_semantics.specs.Failing.{falls_not_after}
+use Rattle.replay_semantics.specs.Table.{step_in}
+use Rattle.replay_semantics.proofs.ListLemmas.{never_falls-first}
+use Rattle.replay_semantics.proofs.steps.never_fall.Goals as goal
+
+pub returns-in-len1-up : goal.returns-in-len1-up
+returns-in-len1-up c =
+    c.fall_not_after.ensures
+    ∙ ap (falls_not_after (step_in c.args.steps.now) c.step_of.result) (take_rest c.args.nodes.now 1)
+    ∙ ap (λ (before : Step). falls_not_after (step_in c.args.steps.now) before (drop 1 c.args.nodes.now)) c.step_of.ensures
+    ∙ sym (never_falls-first (step_in c.args.steps.now) c.args.nodes.now c.first-item.result c.in-len1-up.len_at_least c.first-item.is)

@@ -1,0 +1,7 @@
+-- What a replay is seen as: the tree, and the order of the units that have failed.
+use Rattle.std.specs.Prelude.{ℕ, List}
+use Rattle.fault_model.specs.Tree.{FaultTree}
+
+pub record Replayed : Type 0 where
+  pub tree : FaultTree
+  pub order : List ℕ
