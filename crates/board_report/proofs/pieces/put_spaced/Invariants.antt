@@ -1,0 +1,11 @@
+use Rattle.std.proofs.Common.{◌≡◌, false}
+use Rattle.edge_io.specs.Out.{has_failed}
+use Rattle.board_report.specs.Shown.{spaced, unit_text}
+use Rattle.board_report.proofs.Putting.{PutsFront, left_of}
+use Rattle.board_report.proofs.pieces.put_spaced.Given as goal
+
+abbrev pub invariant-loop-unit : goal.invariant-loop-unit
+invariant-loop-unit g l = record {
+  so : PutsFront g.K.Sink.taken g.K.Sink.faults l.initial.out l.out (left_of (unit_text l.tree) l.units l.unit-index) (spaced l.tree l.units);
+  going : has_failed l.out ≡ false;
+}

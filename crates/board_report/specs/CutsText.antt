@@ -1,0 +1,64 @@
+-- The text of the command `cuts`: the tree, how many cut sets and listed orders there are, and each cut set with its failing
+-- orders.
+use Rattle.std.specs.Prelude.{ℕ, ◌+◌, List, [], ◌∷◌, ◌++◌, length, map, codes, decimal, Option, Some, None}
+use Rattle.std.specs.List.{flat_map}
+use Rattle.fault_model.specs.Tree.{FaultTree, unit_count, gate_count, name_of}
+use Rattle.board_report.specs.Shown.{show, spaced}
+
+-- `tree: U units, G gates, top NAME`
+abbrev pub tree_counts : ℕ → ℕ → List ℕ
+tree_counts units gates = codes "tree: " ++ decimal units ++ codes " units, " ++ decimal gates ++ codes " gates, top "
+
+abbrev pub tree_line : FaultTree → List ℕ
+tree_line tree = tree_counts (unit_count tree) (gate_count tree) ++ (show (name_of tree tree.top) ++ codes "\n")
+
+-- `cuts: C, orders: O`
+abbrev pub count_line : ℕ → ℕ → List ℕ
+count_line cuts orders = codes "cuts: " ++ decimal cuts ++ codes ", orders: " ++ decimal orders ++ codes "\n"
+
+-- ---- a cut set and its orders
+
+-- two blanks and the names
+abbrev pub order_line : FaultTree → List ℕ → List ℕ
+order_line tree order = codes " " ++ (spaced tree order ++ codes "\n")
+
+-- the lines below a cut set: its failing orders, where it is small enough for them to be listed
+abbrev pub order_lines : FaultTree → Option (List (List ℕ)) → List ℕ
+order_lines tree None = codes "  (not listed)\n"
+order_lines tree (Some []) = codes "  (none)\n"
+order_lines tree (Some (order ∷ orders)) = flat_map (order_line tree) (order ∷ orders)
+
+-- `cut K:`
+abbrev pub cut_number : ℕ → List ℕ
+cut_number number = codes "cut " ++ decimal number ++ codes ":"
+
+-- `cut K: NAMES`, and its orders
+abbrev pub cut_block : FaultTree → ℕ → List ℕ → Option (List (List ℕ)) → List ℕ
+cut_block tree number set orders = cut_number number ++ (spaced tree set ++ (codes "\n" ++ order_lines tree orders))
+
+-- ---- all of them
+
+-- a cut set, with its orders if they are listed
+abbrev pub Listed : Type 0
+Listed = List ℕ × Option (List (List ℕ))
+
+-- the cut sets from this number on, each with its orders
+abbrev pub cut_blocks : FaultTree → ℕ → List Listed → List ℕ
+cut_blocks tree number [] = []
+cut_blocks tree number (listed ∷ more) = cut_block tree number listed.0 listed.1 ++ cut_blocks tree (number + 1) more
+
+-- how many orders are listed
+abbrev pub order_count : Option (List (List ℕ)) → ℕ
+order_count None = 0
+order_count (Some orders) = length orders
+
+abbrev pub order_total : List Listed → ℕ
+order_total [] = 0
+order_total (listed ∷ more) = order_count listed.1 + order_total more
+
+abbrev pub cuts_text : FaultTree → List Listed → List ℕ
+cuts_text tree cuts = tree_line tree ++ (count_line (length cuts) (order_total cuts) ++ cut_blocks tree 1 cuts)
+
+-- cut sets of which none has its orders listed
+abbrev pub unlisted : List (List ℕ) → List Listed
+unlisted cuts = map (λ set. (set, None)) cuts

@@ -1,0 +1,17 @@
+-- Names as texts show them.
+use Rattle.std.specs.Prelude.{ℕ, if◌then◌else◌, List, ◌++◌, codes}
+use Rattle.std.specs.List.{flat_map}
+use Rattle.fault_model.specs.Name.{is_bare_name}
+use Rattle.fault_model.specs.Tree.{FaultTree, name_of}
+
+-- a bare name as it is, and any other in quotes
+abbrev pub show : List ℕ → List ℕ
+show name = if is_bare_name name then name else codes "\"" ++ name ++ codes "\""
+
+-- a unit's name behind a blank
+abbrev pub unit_text : FaultTree → ℕ → List ℕ
+unit_text tree unit = codes " " ++ show (name_of tree unit)
+
+-- the names of units, each behind a blank
+abbrev pub spaced : FaultTree → List ℕ → List ℕ
+spaced tree units = flat_map (unit_text tree) units

@@ -1,0 +1,115 @@
+//! The text of cut sets.
+ghost use Rattle.std.specs.Prelude.{◌≡◌, is_err, false, All, None};
+ghost use Rattle.edge_io.specs.Out.{has_failed, Puts};
+ghost use Rattle.fault_model.specs.Tree.{IsUnitOf, name_of};
+ghost use Rattle.board_report.specs.CutsText.{count_line, cut_block, cut_blocks, cut_number, cuts_text, tree_counts, tree_line, unlisted};
+
+use crate::pieces::{put_all, put_shown, put_spaced};
+use edge_io::{Out, Sink, WriteFault};
+use fault_model::{Name, Tree};
+use itoa::Buffer;
+use unit_sets::{CutList, UnitNo};
+
+/// Puts the text of `cuts` over cut sets of units of the tree, of which none has its failing orders listed.
+pub fn put_unlisted_cuts<K: Sink>(
+    out: &mut Out<K>,
+    tree: &Tree,
+    cuts: &CutList,
+) -> Result<(), WriteFault>
+    requires units { All (All (IsUnitOf tree.now)) cuts.now }
+    ensures puts { Puts K.taken K.faults out.old out.new (cuts_text tree.now (unlisted cuts.now)) }
+    ensures answer { is_err result ≡ has_failed out.new }
+{
+    put_tree_line(out, tree)?;
+    put_count_line(out, cuts.len(), 0)?;
+    put_blocks(out, tree, cuts)
+}
+
+fn put_tree_line<K: Sink>(out: &mut Out<K>, tree: &Tree) -> Result<(), WriteFault>
+    ensures puts { Puts K.taken K.faults out.old out.new (tree_line tree.now) }
+    ensures answer { is_err result ≡ has_failed out.new }
+{
+    put_tree_counts(out, tree.units(), tree.gates())?;
+    put_shown(out, top_name(tree))?;
+    out.put(b"\n")
+}
+
+fn put_tree_counts<K: Sink>(out: &mut Out<K>, units: u32, gates: u32) -> Result<(), WriteFault>
+    ensures puts { Puts K.taken K.faults out.old out.new (tree_counts units gates) }
+    ensures answer { is_err result ≡ has_failed out.new }
+{
+    let mut unit_digits = Buffer::new();
+    let mut gate_digits = Buffer::new();
+    put_all(
+        out,
+        &[
+            b"tree: ",
+            unit_digits.format(units).as_bytes(),
+            b" units, ",
+            gate_digits.format(gates).as_bytes(),
+            b" gates, top ",
+        ],
+    )
+}
+
+fn top_name(tree: &Tree) -> &Name
+    ensures { result.now ≡ name_of tree.now tree.now.top }
+{
+    tree.name(tree.top())
+}
+
+fn put_count_line<K: Sink>(out: &mut Out<K>, cuts: usize, orders: u64) -> Result<(), WriteFault>
+    ensures puts { Puts K.taken K.faults out.old out.new (count_line cuts orders) }
+    ensures answer { is_err result ≡ has_failed out.new }
+{
+    let mut cut_count = Buffer::new();
+    let mut order_count = Buffer::new();
+    put_all(
+        out,
+        &[
+            b"cuts: ",
+            cut_count.format(cuts).as_bytes(),
+            b", orders: ",
+            order_count.format(orders).as_bytes(),
+            b"\n",
+        ],
+    )
+}
+
+fn put_blocks<K: Sink>(out: &mut Out<K>, tree: &Tree, cuts: &CutList) -> Result<(), WriteFault>
+    requires units { All (All (IsUnitOf tree.now)) cuts.now }
+    requires fine { has_failed out.old ≡ false }
+    ensures puts { Puts K.taken K.faults out.old out.new (cut_blocks tree.now 1 (unlisted cuts.now)) }
+    ensures answer { is_err result ≡ has_failed out.new }
+{
+    for i in 0..cuts.len() {
+        put_block(out, tree, i as u64 + 1, cuts.members(i))?;
+    }
+    Ok(())
+}
+
+// A cut set without its orders.
+fn put_block<K: Sink>(
+    out: &mut Out<K>,
+    tree: &Tree,
+    number: u64,
+    set: &[UnitNo],
+) -> Result<(), WriteFault>
+    requires units { All (IsUnitOf tree.now) set.now }
+    ensures puts { Puts K.taken K.faults out.old out.new (cut_block tree.now number set.now None) }
+    ensures answer { is_err result ≡ has_failed out.new }
+{
+    put_cut_number(out, number)?;
+    put_spaced(out, tree, set)?;
+    out.put(b"\n  (not listed)\n")
+}
+
+fn put_cut_number<K: Sink>(out: &mut Out<K>, number: u64) -> Result<(), WriteFault>
+    ensures puts { Puts K.taken K.faults out.old out.new (cut_number number) }
+    ensures answer { is_err result ≡ has_failed out.new }
+{
+    put_all(
+        out,
+        &[b"cut ", Buffer::new().format(number).as_bytes(), b":"],
+    )
+}

@@ -1,0 +1,68 @@
+//! Texts put piece by piece.
+ghost use Rattle.std.specs.Prelude.{◌≡◌, ◌<◌, is_err, length, false, All};
+ghost use Rattle.std.specs.List.{flat_map};
+ghost use Rattle.edge_io.specs.Out.{has_failed, Puts};
+ghost use Rattle.fault_model.specs.Tree.{IsUnitOf, name_of};
+ghost use Rattle.board_report.specs.Shown.{show, spaced, unit_text};
+
+use edge_io::{Out, Sink, WriteFault};
+use fault_model::{Name, NodeNo, Tree};
+use unit_sets::UnitNo;
+
+// Puts pieces one after another, of which there are some.
+pub(crate) fn put_all<K: Sink>(out: &mut Out<K>, pieces: &[&[u8]]) -> Result<(), WriteFault>
+    requires some { 0 < length pieces.now }
+    ensures puts { Puts K.taken K.faults out.old out.new (flat_map (λ piece. piece.now) pieces.now) }
+    ensures answer { is_err result ≡ has_failed out.new }
+{
+    for piece in pieces {
+        out.put(piece)?;
+    }
+    Ok(())
+}
+
+// Puts a name as texts show it: in quotes where it is not bare.
+pub(crate) fn put_shown<K: Sink>(out: &mut Out<K>, name: &Name) -> Result<(), WriteFault>
+    ensures puts { Puts K.taken K.faults out.old out.new (show name.now) }
+    ensures answer { is_err result ≡ has_failed out.new }
+{
+    if name.is_bare() {
+        out.put(name.as_slice())
+    } else {
+        put_all(out, &[b"\"", name.as_slice(), b"\""])
+    }
+}
+
+// Puts a unit's name behind a blank.
+fn put_unit<K: Sink>(out: &mut Out<K>, tree: &Tree, unit: UnitNo) -> Result<(), WriteFault>
+    requires { IsUnitOf tree.now unit }
+    ensures puts { Puts K.taken K.faults out.old out.new (unit_text tree.now unit) }
+    ensures answer { is_err result ≡ has_failed out.new }
+{
+    out.put(b" ")?;
+    put_shown(out, unit_name(tree, unit))
+}
+
+fn unit_name(tree: &Tree, unit: UnitNo) -> &Name
+    requires { IsUnitOf tree.now unit }
+    ensures { result.now ≡ name_of tree.now unit }
+{
+    tree.name(NodeNo(u32::from(unit.number())))
+}
+
+// Puts the names of units, each behind a blank.
+pub(crate) fn put_spaced<K: Sink>(
+    out: &mut Out<K>,
+    tree: &Tree,
+    units: &[UnitNo],
+) -> Result<(), WriteFault>
+    requires units { All (IsUnitOf tree.now) units.now }
+    requires fine { has_failed out.old ≡ false }
+    ensures puts { Puts K.taken K.faults out.old out.new (spaced tree.now units.now) }
+    ensures answer { is_err result ≡ has_failed out.new }
+{
+    for unit in units {
+        put_unit(out, tree, *unit)?;
+    }
+    Ok(())
+}

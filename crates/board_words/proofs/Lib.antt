@@ -1,0 +1,3 @@
+mod OptionLemmas
+mod Numerals
+mod SpellingLemmas

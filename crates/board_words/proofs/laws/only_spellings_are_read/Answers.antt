@@ -1,0 +1,5 @@
+use Rattle.board_words.proofs.SpellingLemmas.{only_spelling}
+use Rattle.board_words.proofs.laws.only_spellings_are_read.Goals as goal
+
+pub returns : goal.returns
+returns c = only_spelling

@@ -1,0 +1,8 @@
+-- numbers as words
+pub mod Number
+-- options with their values
+pub mod Options
+-- the command that words say
+pub mod Command
+-- how `cuts` is spelled
+pub mod Spellings

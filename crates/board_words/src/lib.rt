@@ -1,0 +1,18 @@
+//! The words of a command line, and the command that they say.
+//!
+//! It stands on std alone. Its contract gives the layer above the command of the words
+//! exactly where they are one. A list of words is one command at most. Two laws tell the spellings of `cuts`: each is read as
+//! this command, and nothing else is.
+#![tactic(auto)]
+
+mod command;
+mod laws;
+mod number;
+mod options;
+#[cfg(test)]
+mod tests;
+mod word;
+
+pub use command::{Command, read};
+pub use laws::{only_spellings_are_read, spellings_are_read};
+pub use word::{NoMemory, Word};

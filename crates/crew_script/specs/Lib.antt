@@ -1,0 +1,2 @@
+-- the tree part and the crew part of a deck
+pub mod Deck

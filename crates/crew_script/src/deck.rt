@@ -1,0 +1,85 @@
+//! The parts of a deck.
+ghost use Rattle.std.specs.Prelude.{◌≡◌, ◌+◌, ◌≤◌, length, drop, position};
+ghost use Rattle.crew_script.specs.Deck.{first_line, is_crews, is_feed, split_of};
+
+/// The most bytes that a deck may have.
+pub const LONGEST_DECK: usize = 16_777_216;
+
+/// Where the crew part of a deck begins: the place of its first byte, and the number of its first line.
+#[derive(Clone, Copy, Debug, PartialEq, Eq)]
+pub struct CrewsAt {
+    pub start: usize,
+    pub line: u32,
+}
+
+/// The parts of a deck: how many bytes the tree part has, and where the crew part begins, if the deck has one.
+#[derive(Clone, Copy, Debug, PartialEq, Eq)]
+pub struct Split {
+    pub tree: usize,
+    pub crews: Option<CrewsAt>,
+}
+
+/// The parts of a deck. The first line `@crews` divides it, wherever it stands.
+pub fn split_deck(bytes: &[u8]) -> Split
+    requires { length bytes.now ≤ LONGEST_DECK }
+    ensures split { result ≡ split_of bytes.now }
+    ensures within { result.tree ≤ length bytes.now }
+{
+    let mut place = 0;
+    let mut line: u32 = 1;
+    while place <= bytes.len() {
+        let row = line_at(bytes, place);
+        let behind = place + row.len() + 1;
+        if is_crews(row) {
+            let start = behind.min(bytes.len());
+            let crews = CrewsAt {
+                start,
+                line: line + 1,
+            };
+            return Split {
+                tree: place,
+                crews: Some(crews),
+            };
+        }
+        place = behind;
+        line += 1;
+    }
+    Split {
+        tree: bytes.len(),
+        crews: None,
+    }
+}
+
+// The line that begins at a place.
+fn line_at(bytes: &[u8], place: usize) -> &[u8]
+    requires { place ≤ length bytes.now }
+    ensures line { result.now ≡ first_line (drop place bytes.now) }
+    ensures within { place + length result.now ≤ length bytes.now }
+{
+    first_line(&bytes[place..])
+}
+
+// The first line.
+fn first_line(bytes: &[u8]) -> &[u8]
+    ensures line { result.now ≡ first_line bytes.now }
+    ensures within { length result.now ≤ length bytes.now }
+{
+    match feed_at(bytes) {
+        Some(end) => &bytes[..end],
+        None => bytes,
+    }
+}
+
+// Where the first line feed stands.
+fn feed_at(bytes: &[u8]) -> Option<usize>
+    ensures { result ≡ position is_feed bytes.now }
+{
+    bytes.iter().position(|byte| *byte == b'\n')
+}
+
+// Whether a line divides a deck. A carriage return at its end counts for nothing.
+fn is_crews(line: &[u8]) -> bool
+    ensures { result ≡ is_crews line.now }
+{
+    line == b"@crews".as_slice() || line == b"@crews\r".as_slice()
+}
