@@ -1,0 +1,4 @@
+mod Telling
+mod Inputs
+mod OneAnswer
+mod Clauses

@@ -1,0 +1,108 @@
+//! The answer to the words and the input, before anything is written.
+ghost use Rattle.std.specs.Prelude.{◌≡◌, ◌≤◌, ◌⊎◌, length, IfOk};
+ghost use Rattle.edge_io.specs.Faults.{Rose};
+ghost use Rattle.outage_engine.specs.Answers.{IsAnswerOf, IsWritable, status_of, text_of};
+ghost use Rattle.outage_engine.specs.Rows.{AreCuts, IsAnswerTo, IsReading, Row};
+
+use crate::deck::{DeckEnd, tree_in};
+use crate::{Method, Status};
+use board_report::DeckFault;
+use board_words::{Command, Word, read};
+use cutset_lists::mcs_by_lists;
+use edge_io::{INPUT_LIMIT, NoMemory, ReadEnd, Source, read_all};
+use fault_model::Tree;
+use std::alloc::{AllocError, Global};
+use unit_sets::{CutList, ListEnd};
+
+/// What is to be written.
+#[derive(Drop)]
+pub(crate) enum Answer {
+    /// A tree, and its cut list.
+    Cuts(Tree, CutList),
+    /// How the program is called, as it was asked.
+    Help,
+    /// The deck's first fault.
+    Refused(DeckFault),
+    /// The cut list is too heavy.
+    ListLimit,
+    /// How the program is called, since the words are no command.
+    Usage,
+    /// The input could not be read.
+    ReadFault,
+    /// The input is too long.
+    TooLong,
+}
+
+impl Answer {
+    /// How a run with this answer ends, once it is written.
+    pub(crate) fn status(&self) -> Status
+        ensures { result ≡ status_of self.now }
+    {
+        match self {
+            Answer::Cuts(_, _) => Status::Done(Method::Lists),
+            Answer::Help => Status::Done(Method::Plain),
+            Answer::Refused(fault) => Status::Refused(*fault),
+            Answer::ListLimit => Status::ListLimit,
+            Answer::Usage => Status::Usage,
+            Answer::ReadFault => Status::ReadFault,
+            Answer::TooLong => Status::TooLong,
+        }
+    }
+}
+
+// The answer to these words, which reads the input only where the command does.
+pub(crate) fn answer_words<S: Source>(
+    alloc: Global,
+    words: &[Word],
+    source: &mut S,
+) -> Result<Answer, NoMemory>
+    ensures row { IfOk result (λ answer. Row words.now (S.held source.old) (S.held source.new)
+        (Rose (S.faults source.old) (S.faults source.new)) (status_of answer) (text_of answer)) }
+    ensures writable { IfOk result IsWritable }
+    ensures unread { AreCuts words.now ⊎ (source.new ≡ source.old) }
+{
+    match read(words) {
+        Some(Command::Cuts { .. }) => answer_input(alloc, source),
+        Some(Command::Help) => Ok(Answer::Help),
+        None => Ok(Answer::Usage),
+    }
+}
+
+// The answer to the deck that the source holds.
+fn answer_input<S: Source>(alloc: Global, source: &mut S) -> Result<Answer, NoMemory>
+    ensures reading { IfOk result (λ answer. IsReading (S.held source.old) (S.held source.new)
+        (Rose (S.faults source.old) (S.faults source.new)) (status_of answer) (text_of answer)) }
+    ensures writable { IfOk result IsWritable }
+{
+    match read_all(alloc, source) {
+        Ok(bytes) => answer_deck(alloc, bytes.as_slice()),
+        Err(ReadEnd::ReadFault) => Ok(Answer::ReadFault),
+        Err(ReadEnd::TooLong) => Ok(Answer::TooLong),
+        Err(ReadEnd::NoMemory) => Err(AllocError),
+    }
+}
+
+// The answer to a deck of these bytes.
+fn answer_deck(alloc: Global, bytes: &[u8]) -> Result<Answer, NoMemory>
+    requires { length bytes.now ≤ INPUT_LIMIT }
+    ensures answer { IfOk result (λ answer. IsAnswerTo bytes.now (status_of answer) (text_of answer)) }
+    ensures writable { IfOk result IsWritable }
+{
+    match tree_in(alloc, bytes) {
+        Ok(tree) => answer_tree(alloc, tree),
+        Err(DeckEnd::Fault(fault)) => Ok(Answer::Refused(fault)),
+        Err(DeckEnd::NoMemory) => Err(AllocError),
+    }
+}
+
+// The cut list of a tree.
+fn answer_tree(alloc: Global, tree: Tree) -> Result<Answer, NoMemory>
+    ensures answer { IfOk result (IsAnswerOf tree) }
+    ensures writable { IfOk result IsWritable }
+{
+    match mcs_by_lists(alloc, &tree) {
+        Ok(cuts) => Ok(Answer::Cuts(tree, cuts)),
+        Err(ListEnd::ListLimit) => Ok(Answer::ListLimit),
+        Err(ListEnd::NoMemory) => Err(AllocError),
+    }
+}

@@ -1,0 +1,51 @@
+//! How a run ends.
+ghost use Rattle.std.specs.Prelude.{◌≡◌};
+ghost use Rattle.outage_engine.specs.Codes.{code_of};
+
+use board_report::DeckFault;
+
+/// How the cut sets were found, if they were asked for.
+#[derive(Clone, Copy, Debug, PartialEq, Eq)]
+pub enum Method {
+    /// No cut sets were asked for.
+    Plain,
+    /// By lists of sets.
+    Lists,
+}
+
+/// How a run ends.
+#[derive(Clone, Copy, Debug, PartialEq, Eq)]
+pub enum Status {
+    /// The command's text was written.
+    Done(Method),
+    /// The deck has this fault first.
+    Refused(DeckFault),
+    /// The cut list weighs more than 16,777,216: 1 for each set and 1 for each member.
+    ListLimit,
+    /// The words are no command.
+    Usage,
+    /// The source failed.
+    ReadFault,
+    /// The source has more than 16,777,216 bytes.
+    TooLong,
+    /// The sink failed.
+    WriteFault,
+    /// There was not enough memory, and nothing was written.
+    NoMemory,
+}
+
+impl Status {
+    /// The exit status of the program.
+    pub fn code(&self) -> u8
+        ensures { result ≡ code_of self.now }
+    {
+        match self {
+            Status::Done(_) => 0,
+            Status::Refused(_) | Status::ListLimit => 1,
+            Status::Usage => 2,
+            Status::ReadFault | Status::TooLong => 3,
+            Status::WriteFault => 4,
+            Status::NoMemory => 5,
+        }
+    }
+}
