@@ -28,7 +28,7 @@ pub use list::{
     Attribute, AttributeList, AttributeLists, GrowingList, InputLists, KindList, NameTable,
     NodeList,
 };
-pub use name::Name;
+pub use name::{Name, is_bare_name};
 pub use node::{GateKind, NodeNo, Place};
 pub use order::Order;
 pub use parts::TreeParts;

@@ -1,5 +1,5 @@
 //! Names of events and gates, which are also the words and values of attributes.
-ghost use Rattle.std.specs.Prelude.{◌≡◌, ◌↔◌, IsTrue, IsSome, IfSome, IfOk, nat_eq};
+ghost use Rattle.std.specs.Prelude.{◌≡◌, ◌↔◌, ◌≤◌, length, take, IsTrue, IsSome, IfSome, IfOk, nat_eq};
 ghost use Rattle.std.specs.Cmp.{partial_equiv_from_equiv};
 ghost use Rattle.std.specs.Cmp.Lexicographic.{pointwise, nat_list_eq_equiv};
 ghost use Rattle.std.specs.Cmp.Rules.{hashing};
@@ -45,13 +45,23 @@ impl Name {
     }
 
     /// The name of these bytes, which have the form of one.
-    #[inline(always)]
     pub fn of(alloc: Global, bytes: &[u8]) -> Result<Name, NoMemory>
         requires { IsTrue (is_name bytes.now) }
         ensures { IfOk result (λ name. name ≡ bytes.now) }
     {
+        Name::front(alloc, bytes, bytes.len())
+    }
+
+    /// The name of the first bytes of a text, which have the form of one. Where more of the text follows them, a short name is
+    /// copied without a call.
+    #[inline(always)]
+    pub fn front(alloc: Global, text: &[u8], count: usize) -> Result<Name, NoMemory>
+        requires inside { count ≤ length text.now }
+        requires form { IsTrue (is_name (take count text.now)) }
+        ensures { IfOk result (λ name. name ≡ take count text.now) }
+    {
         Ok(Name {
-            bytes: NameBytes::of(alloc, bytes)?,
+            bytes: NameBytes::front(alloc, text, count)?,
         })
     }
 
@@ -89,7 +99,8 @@ fn is_name_byte(byte: u8) -> bool
     32 <= byte && byte <= 126 && byte != b'"'
 }
 
-fn is_bare_name(bytes: &[u8]) -> bool
+/// Whether these bytes are a name that may stand in a text without quotes.
+pub fn is_bare_name(bytes: &[u8]) -> bool
     ensures { result ≡ is_bare_name bytes.now }
 {
     match bytes {
@@ -110,10 +121,22 @@ fn all_bare_bytes(bytes: &[u8]) -> bool
     bytes.iter().all(|byte| is_bare_byte(*byte))
 }
 
+// Each byte of a bare name behind its first stands at its own place, and a comma at every other place: one load tells a byte's
+// class.
+static BARE_BYTES: [u8; 256] = *b"\
+    ,,,,,,,,,,,,,,,,,,,,,,,,,,,,,,,,\
+    ,,,,,,,,,,,,,-.,0123456789,,,,,,\
+    ,ABCDEFGHIJKLMNOPQRSTUVWXYZ,,,,_\
+    ,abcdefghijklmnopqrstuvwxyz,,,,,\
+    ,,,,,,,,,,,,,,,,,,,,,,,,,,,,,,,,\
+    ,,,,,,,,,,,,,,,,,,,,,,,,,,,,,,,,\
+    ,,,,,,,,,,,,,,,,,,,,,,,,,,,,,,,,\
+    ,,,,,,,,,,,,,,,,,,,,,,,,,,,,,,,,";
+
 fn is_bare_byte(byte: u8) -> bool
     ensures { result ≡ is_bare_byte byte }
 {
-    byte.is_ascii_alphanumeric() || byte == b'_' || byte == b'-' || byte == b'.'
+    BARE_BYTES[byte as usize] != b','
 }
 
 impl PartialEq for Name {

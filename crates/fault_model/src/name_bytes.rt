@@ -1,6 +1,6 @@
 //! The bytes of a name: up to 22 in the value itself, and more in memory of their own. Most names are short, and a text may have
 //! millions of them.
-ghost use Rattle.std.specs.Prelude.{◌≡◌, ◌≤◌, length, IfOk};
+ghost use Rattle.std.specs.Prelude.{◌≡◌, ◌≤◌, length, take, IfOk};
 ghost use Rattle.fault_model.specs.declared.name_bytes.TheConstants.{FEW};
 
 use crate::NoMemory;
@@ -29,15 +29,36 @@ impl Model for FewBytes {
 }
 
 impl FewBytes {
+    // The first bytes of a text. What stands behind them fills the rest of the room, so that a number of bytes known beforehand
+    // is copied: that takes a few moves and no call.
     #[inline(always)]
-    fn of(bytes: &[u8]) -> FewBytes
-        requires { length bytes.now ≤ FEW }
-        ensures { result ≡ bytes.now }
+    fn front(text: &[u8], count: usize) -> FewBytes
+        requires few { count ≤ FEW }
+        requires inside { count ≤ length text.now }
+        ensures { result ≡ take count text.now }
+    {
+        if text.len() < FEW {
+            return FewBytes::front_of_few(text, count);
+        }
+        let mut room = [0; FEW];
+        room.copy_from_slice(&text[..FEW]);
+        FewBytes {
+            count: count as u8,
+            room,
+        }
+    }
+
+    // The same of a text with fewer bytes than there is room for.
+    #[inline(never)]
+    fn front_of_few(text: &[u8], count: usize) -> FewBytes
+        requires few { length text.now ≤ FEW }
+        requires inside { count ≤ length text.now }
+        ensures { result ≡ take count text.now }
     {
         let mut room = [0; FEW];
-        room[..bytes.len()].copy_from_slice(bytes);
+        room[..text.len()].copy_from_slice(text);
         FewBytes {
-            count: bytes.len() as u8,
+            count: count as u8,
             room,
         }
     }
@@ -69,15 +90,16 @@ impl Drop for NameBytes {
 impl NameBytes {
     ghost use Rattle.fault_model.specs.NameBytes.{bytes_of};
 
-    /// A copy of these bytes.
+    /// A copy of the first bytes of a text.
     #[inline(always)]
-    pub(crate) fn of(alloc: Global, bytes: &[u8]) -> Result<NameBytes, NoMemory>
-        ensures { IfOk result (λ made. bytes_of made ≡ bytes.now) }
+    pub(crate) fn front(alloc: Global, text: &[u8], count: usize) -> Result<NameBytes, NoMemory>
+        requires { count ≤ length text.now }
+        ensures { IfOk result (λ made. bytes_of made ≡ take count text.now) }
     {
-        if bytes.len() <= FEW {
-            Ok(NameBytes::Few(FewBytes::of(bytes)))
+        if count <= FEW {
+            Ok(NameBytes::Few(FewBytes::front(text, count)))
         } else {
-            NameBytes::many(alloc, bytes)
+            NameBytes::many(alloc, &text[..count])
         }
     }
 

@@ -1,6 +1,6 @@
 -- The text of a word and of a quoted token has the form of a name.
-use Rattle.std.proofs.Common.{◌≡◌, ℕ, ◌+◌, ◌-◌, ◌<◌, ◌≤◌, Bool, true, false, List, [], ◌∷◌, ◌++◌, length, drop, sym, refl, ap, ◌∙◌, arith, append_assoc, le-leb, take-append-drop, length-drop, length-append, length-take-le}
-use Rattle.std.proofs.lemmas.List.{take_at, drop-drop}
+use Rattle.std.proofs.Common.{◌≡◌, ℕ, ◌+◌, ◌-◌, ◌<◌, ◌≤◌, ◌⊎◌, inl, inr, Bool, true, false, List, [], ◌∷◌, ◌++◌, length, take, drop, sym, refl, ap, ◌∙◌, arith, append_assoc, le-leb, take-append-drop, length-drop, length-append, length-take-le}
+use Rattle.std.proofs.lemmas.List.{take_at, drop-drop, take_rest}
 use Rattle.std.specs.Prelude.{◌&&◌, slice_range}
 use Rattle.std.specs.List.{list_all}
 use Rattle.fault_model.specs.Name.{is_name, is_name_byte}
@@ -66,3 +66,30 @@ spelled_name text Quoted start stop in_text some spells named =
     rw (between text start stop spells.0 in_text some spells.2) (name_text is_quotable quotable_named spells.0 spells.1)
 spelled_name text Equals start stop in_text some spells named = absurd (cc)
 spelled_name text Semicolon start stop in_text some spells named = absurd (cc)
+
+-- ---- the same, where the text is the front of what is left of the whole
+
+-- the rest of the whole goes on for as long as the token
+pub rest_reaches : (text : List ℕ) (start stop : ℕ) → stop ≤ length text → start < stop →
+    stop - start ≤ length (slice_range text start (length text))
+rest_reaches text start stop in_text some =
+    omega (arith, ap length (take_rest text start), length-drop start text)
+
+pub quoted_rest : (text : List ℕ) (kind : TokenKind) (start stop : ℕ) → kind ≡ Quoted → stop ≤ length text → start < stop →
+    Spells kind (slice_range text start stop) → HasNameText kind (take (stop - 1 - (start + 1)) (slice_range text (start + 1) (length text)))
+quoted_rest text Quoted start stop is in_text some spells =
+    rw (take_rest text (start + 1)) (spelled_name text Quoted start stop in_text some spells)
+quoted_rest text Word start stop is in_text some spells = absurd cc
+quoted_rest text Equals start stop is in_text some spells = absurd cc
+quoted_rest text Semicolon start stop is in_text some spells = absurd cc
+
+pub plain_rest : (text : List ℕ) (kind : TokenKind) (start stop : ℕ) → (kind ≡ Word) ⊎ ((kind ≡ Equals) ⊎ (kind ≡ Semicolon)) →
+    stop ≤ length text → start < stop → Spells kind (slice_range text start stop) →
+    HasNameText kind (take (stop - start) (slice_range text start (length text)))
+plain_rest text Word start stop is in_text some spells named =
+    rw (take_rest text start) (spelled_name text Word start stop in_text some spells named)
+plain_rest text Equals start stop is in_text some spells named = absurd cc
+plain_rest text Semicolon start stop is in_text some spells named = absurd cc
+plain_rest text Quoted start stop (inl is) in_text some spells named = absurd cc
+plain_rest text Quoted start stop (inr (inl is)) in_text some spells named = absurd cc
+plain_rest text Quoted start stop (inr (inr is)) in_text some spells named = absurd cc

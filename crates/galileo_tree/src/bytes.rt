@@ -3,38 +3,10 @@ ghost use Rattle.std.specs.Prelude.{◌≡◌, ◌+◌, ◌*◌, ◌<◌, ◌≤
 ghost use Rattle.std.specs.List.{list_all, prefix_len};
 ghost use Rattle.std.specs.Char.{is_ascii_digit};
 ghost use Rattle.std.specs.Str.{str_eq_ignore_ascii_case};
-ghost use Rattle.fault_model.specs.Name.{is_bare_name, is_bare_start, is_bare_byte};
 ghost use Rattle.galileo_tree.specs.ReadTree.{HasShortNumbers};
 ghost use Rattle.galileo_tree.specs.GateWord.{number_from, are_digits, votes_if, votes_of, gate_word};
 
 use fault_model::GateKind;
-
-pub(crate) fn is_bare_name(bytes: &[u8]) -> bool
-    ensures { result ≡ is_bare_name bytes.now }
-{
-    match bytes {
-        [first, rest @ ..] => is_bare_start(*first) && are_bare_bytes(rest),
-        [] => false,
-    }
-}
-
-fn is_bare_start(byte: u8) -> bool
-    ensures { result ≡ is_bare_start byte }
-{
-    byte.is_ascii_alphabetic() || byte == b'_'
-}
-
-fn are_bare_bytes(bytes: &[u8]) -> bool
-    ensures { result ≡ list_all is_bare_byte bytes.now }
-{
-    bytes.iter().all(|byte| is_bare_byte(*byte))
-}
-
-fn is_bare_byte(byte: u8) -> bool
-    ensures { result ≡ is_bare_byte byte }
-{
-    byte.is_ascii_alphanumeric() || byte == b'_' || byte == b'-' || byte == b'.'
-}
 
 // The kind of a gate that a word says.
 #[tactic(auto, unfolding(crate::specs::GateWord::gate_word))]

@@ -115,7 +115,7 @@ fn definition(alloc: Global, reader: &mut Reader, name: Placed) -> Result<Statem
         Ok(()) => {}
         Err(fault) => return Err(fault),
     }
-    match lexeme.text(alloc) {
+    match lexeme.name(alloc) {
         Ok(word) => attributes(alloc, reader, basic(alloc, name), word),
         Err(fault) => Err(fault),
     }
@@ -147,7 +147,7 @@ fn gate(
         Err(fault) => return Err(fault),
     };
     if lexeme.is_equals() && word.is_bare() {
-        return match word.text(alloc) {
+        return match word.name(alloc) {
             Ok(word) => attributes(alloc, reader, basic(alloc, name), word),
             Err(fault) => Err(fault),
         };
@@ -258,7 +258,7 @@ fn attribute(alloc: Global, reader: &mut Reader, word: Name) -> Result<RawAttrib
         return Err(ParseFault::Expected(What::Value, lexeme.place()));
     }
     let value_place = lexeme.place();
-    match lexeme.text(alloc) {
+    match lexeme.name(alloc) {
         Ok(value) => Ok(RawAttribute {
             attribute: Attribute { word, value },
             value_place,
@@ -286,7 +286,7 @@ fn next_word(alloc: Global, reader: &mut Reader) -> Result<Option<Name>, ParseFa
         Ok(()) => {}
         Err(fault) => return Err(fault),
     }
-    match lexeme.text(alloc) {
+    match lexeme.name(alloc) {
         Ok(word) => Ok(Some(word)),
         Err(fault) => Err(fault),
     }

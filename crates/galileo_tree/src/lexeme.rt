@@ -1,15 +1,15 @@
 // A token with its text.
-ghost use Rattle.std.specs.Prelude.{◌≡◌, true, IfOk, IfErr, IfSome};
+ghost use Rattle.std.specs.Prelude.{◌≡◌, ◌≤◌, length, take, true, IfOk, IfErr, IfSome};
 ghost use Rattle.fault_model.specs.Name.{is_bare_name};
 ghost use Rattle.galileo_tree.specs.Lexeme.{is_equals, is_semicolon, is_bare, is_name, is_value, is_top_word, is_word_kind, is_quoted_kind};
 ghost use Rattle.galileo_tree.specs.ReadTree.{HasShortNumbers};
 ghost use Rattle.galileo_tree.specs.GateWord.{kind_said};
 ghost use Rattle.galileo_tree.specs.declared.fault.ParseFault.TheVariants.{NoMemory};
 
-use crate::bytes::{gate_word, is_bare_name};
+use crate::bytes::gate_word;
 use crate::fault::ParseFault;
 use crate::raw::Placed;
-use fault_model::{GateKind, Name, Place};
+use fault_model::{GateKind, Name, Place, is_bare_name};
 use galileo_lexer::TokenKind;
 use std::alloc::Global;
 use std::marker::Model;
@@ -18,28 +18,47 @@ use std::marker::Model;
 #[derive(Drop)]
 pub(crate) struct Lexeme<'a> {
     kind: TokenKind,
-    text: &'a [u8],
+    // the whole text from the first byte of the lexeme's own on, which `Name::front` copies faster than a slice of its length
+    behind: &'a [u8],
+    count: usize,
     place: Place,
 }
 
 impl<'a> Model for Lexeme<'a> {
+    ghost use Rattle.std.specs.Prelude.{◌≤◌, length, take};
     ghost use Rattle.galileo_tree.specs.Lexeme.{Lexeme as Seen, HasNameText};
 
     ghost Value = { Seen };
 
-    ghost view = { λ lexeme. record { kind = lexeme.kind; text = lexeme.text.now; place = lexeme.place } };
+    ghost view = { λ lexeme. record { kind = lexeme.kind; text = take lexeme.count lexeme.behind.now; place = lexeme.place } };
 
-    ghost invariant = { λ lexeme. HasNameText lexeme.kind lexeme.text.now };
+    ghost invariant = { λ lexeme.
+        (lexeme.count ≤ length lexeme.behind.now)
+        × HasNameText lexeme.kind (take lexeme.count lexeme.behind.now) };
 }
 
 impl<'a> Lexeme<'a> {
     ghost use Rattle.galileo_tree.specs.Lexeme.{HasNameText, placed};
 
-    pub(crate) fn new(kind: TokenKind, text: &'a [u8], place: Place) -> Lexeme<'a>
-        requires { HasNameText kind text.now }
-        ensures { result ≡ record { kind = kind; text = text.now; place = place } }
+    /// The lexeme whose text has the first bytes of what is left of the whole.
+    #[inline(always)]
+    pub(crate) fn new(kind: TokenKind, behind: &'a [u8], count: usize, place: Place) -> Lexeme<'a>
+        requires inside { count ≤ length behind.now }
+        requires form { HasNameText kind (take count behind.now) }
+        ensures { result ≡ record { kind = kind; text = take count behind.now; place = place } }
     {
-        Lexeme { kind, text, place }
+        Lexeme {
+            kind,
+            behind,
+            count,
+            place,
+        }
+    }
+
+    fn text(&self) -> &[u8]
+        ensures { result.now ≡ self.now.text }
+    {
+        &self.behind[..self.count]
     }
 
     pub(crate) fn place(&self) -> Place
@@ -81,7 +100,7 @@ impl<'a> Lexeme<'a> {
         ensures form { result ≡ true → is_bare_name self.now.text ≡ true }
         ensures value { result ≡ true → is_value self.now ≡ true }
     {
-        self.is_word() && is_bare_name(self.text)
+        self.is_word() && is_bare_name(self.text())
     }
 
     #[tactic(auto, unfolding(crate::specs::Lexeme::is_name, crate::specs::Lexeme::is_value))]
@@ -104,7 +123,7 @@ impl<'a> Lexeme<'a> {
     pub(crate) fn is_top_word(&self) -> bool
         ensures { result ≡ is_top_word self.now }
     {
-        self.is_word() && self.text.eq_ignore_ascii_case(b"toplevel")
+        self.is_word() && self.text().eq_ignore_ascii_case(b"toplevel")
     }
 
     /// The kind of a gate that the lexeme says.
@@ -114,20 +133,20 @@ impl<'a> Lexeme<'a> {
         ensures short { IfSome result HasShortNumbers }
     {
         if self.is_word() {
-            gate_word(self.text)
+            gate_word(self.text())
         } else {
             None
         }
     }
 
-    /// The text of a word or a quoted lexeme.
+    /// The text of a word or a quoted lexeme, as a name.
     #[inline(always)]
-    pub(crate) fn text(&self, alloc: Global) -> Result<Name, ParseFault>
+    pub(crate) fn name(&self, alloc: Global) -> Result<Name, ParseFault>
         requires { is_value self.now ≡ true }
         ensures name { IfOk result (λ name. name ≡ self.now.text) }
         ensures memory { IfErr result (λ fault. fault ≡ NoMemory) }
     {
-        match Name::of(alloc, self.text) {
+        match Name::front(alloc, self.behind, self.count) {
             Ok(name) => Ok(name),
             Err(_) => Err(ParseFault::NoMemory),
         }
@@ -140,7 +159,7 @@ impl<'a> Lexeme<'a> {
         ensures placed { IfOk result (λ found. found ≡ placed self.now) }
         ensures memory { IfErr result (λ fault. fault ≡ NoMemory) }
     {
-        match self.text(alloc) {
+        match self.name(alloc) {
             Ok(name) => Ok(Placed {
                 name,
                 place: self.place,

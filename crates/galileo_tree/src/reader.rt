@@ -1,6 +1,6 @@
 // The lexemes of a text, one after the other.
 ghost use Rattle.std.specs.Prelude.{◌≡◌, ◌≤◌, length};
-ghost use Rattle.galileo_tree.specs.Lexeme.{place_at, text_between, lexeme_of};
+ghost use Rattle.galileo_tree.specs.Lexeme.{place_at, lexeme_of};
 ghost use Rattle.galileo_tree.specs.Parsed.{lexemes_of};
 ghost use Rattle.galileo_tree.specs.Reads.{Nexts, Wants, IsAtEnd, EndsAt};
 ghost use Rattle.galileo_lexer.specs.Spelling.{IsSpelled};
@@ -86,23 +86,25 @@ fn place(at: LexPlace) -> Place
     }
 }
 
-// The lexeme of a token of this text.
+// The lexeme of a token of this text: the bytes of a word or of a mark, or those between the quotes of a quoted token.
 #[inline(always)]
 fn lexeme(text: &[u8], token: Token) -> Lexeme<'_>
     requires { IsSpelled text.now token }
     ensures { result ≡ lexeme_of text.now token }
 {
-    Lexeme::new(token.kind, text_of(text, token), place(token.place))
-}
-
-// The bytes of a word or of a mark, and those between the quotes of a quoted token.
-#[inline(always)]
-fn text_of(text: &[u8], token: Token) -> &[u8]
-    requires { IsSpelled text.now token }
-    ensures { result.now ≡ text_between token.kind text.now token.start token.end }
-{
+    let place = place(token.place);
     match token.kind {
-        TokenKind::Quoted => &text[token.start + 1..token.end - 1],
-        TokenKind::Word | TokenKind::Equals | TokenKind::Semicolon => &text[token.start..token.end],
+        TokenKind::Quoted => {
+            let first = token.start + 1;
+            Lexeme::new(token.kind, &text[first..], token.end - 1 - first, place)
+        }
+        TokenKind::Word | TokenKind::Equals | TokenKind::Semicolon => {
+            Lexeme::new(
+                token.kind,
+                &text[token.start..],
+                token.end - token.start,
+                place,
+            )
+        }
     }
 }

@@ -3,7 +3,7 @@ use Rattle.galileo_tree.specs.Parsed.{GateWord, AttributeEquals}
 use Rattle.galileo_tree.proofs.LexemeKinds.{equals_alone}
 use Rattle.galileo_tree.proofs.Parses.{goes_by, reads_after}
 use Rattle.galileo_tree.proofs.grammar.gate.Goals as goal
-use Rattle.galileo_tree.proofs.grammar.gate.Goals.{in-Ok-text, in-Err-text}
+use Rattle.galileo_tree.proofs.grammar.gate.Goals.{in-Ok-name, in-Err-name}
 
 -- the gate word was the word of an attribute
 pub returns-then-is_bare : goal.returns-then-is_bare
@@ -13,9 +13,9 @@ returns-then-is_bare c =
     let alone = equals_alone c.in-Ok.lexeme (sym c.if-is_equals.ensures) in
     let goes = goes_by first (AttributeEquals c.args.name [] word.text) _ _ c.in-Ok.lexeme c.in-Ok.ensures
     (rw (alone.0, alone.1, sym c.if-is_equals.ensures, sym c.if-is_bare.ensures.bare) refl) in
-    elim c.match-text.branch [
-      | in-Ok-text w ↦
+    elim c.match-name.branch [
+      | in-Ok-name w ↦
           rw (w.result-is, w.reader-is)
-          (reads_after first (AttributeEquals c.args.name [] word.text) _ _ _ goes _ (rw (w.basic.ensures, w.in-Ok-text.ensures.name) at w.attributes.ensures))
-      | in-Err-text w ↦ rw (w.result-is, w.in-Err-text.ensures.memory) tt
+          (reads_after first (AttributeEquals c.args.name [] word.text) _ _ _ goes _ (rw (w.basic.ensures, w.in-Ok-name.ensures.name) at w.attributes.ensures))
+      | in-Err-name w ↦ rw (w.result-is, w.in-Err-name.ensures.memory) tt
     ]
