@@ -1,41 +1,61 @@
--- A tree of many units under one `or`. The name of each unit is made from its place, so no two are alike.
-use Rattle.std.proofs.Common.{◌≡◌, ◌≢◌, ℕ, zero, suc, ◌+◌, ◌-◌, ◌/◌, ◌%◌, ◌<◌, ◌≤◌, true, false, List, [], ◌∷◌, ◌++◌, length, get_or, replicate, All, AllPairs, refl, sym, ap, inl, inr, ◌∙◌, arith, length-append}
-use Rattle.std.specs.Prelude.{nat_lt}
-use Rattle.std.proofs.lemmas.Bool.{cases_lt, lt-ltb, le-ltb}
+-- A tree of many units under one `or`. The name of each unit is made from its number, so no two are alike.
+use Rattle.std.proofs.Common.{◌≡◌, ◌≢◌, ℕ, zero, suc, ◌+◌, ◌-◌, ◌%◌, ◌^◌, ◌<◌, ◌≤◌, true, false, List, [], ◌∷◌, ◌++◌, length, get_or, replicate, All, AllPairs, refl, sym, ap, inl, inr, ◌∙◌, arith, length-append}
+use Rattle.std.specs.Prelude.{nat_eq, nat_lt, nat_le, codes, decimal}
+use Rattle.std.specs.List.{list_all}
+use Rattle.std.proofs.lemmas.Bool.{cases_lt, lt-ltb, le-leb, le-ltb, and_from, false≢true}
 use Rattle.std.proofs.Math.Bool.{and-false}
 use Rattle.std.proofs.lemmas.Bool.Decides.{nat_tests}
+use Rattle.std.proofs.lemmas.Fmt.{decimal_by_steps, decimal_injective, length-decimal-le}
 use Rattle.std.proofs.lemmas.List.{get_or_append_left, get_or-replicate, length-replicate}
 use Rattle.std.proofs.lemmas.List.Elements.{All-nil, All-cons, All-append, All-head, All-tail, All-weaker}
+use Rattle.std.proofs.lemmas.List.Folds.{list_all-append}
 use Rattle.fault_model.specs.declared.node.GateKind.TheVariants.{Or}
 use Rattle.fault_model.specs.declared.parts.TreeParts.{TreeParts}
-use Rattle.fault_model.specs.ManyUnits.{name_at, names_to, units_to}
+use Rattle.fault_model.specs.ManyUnits.{unit_name, names_to, units_to}
 use Rattle.fault_model.specs.Name.{is_name, is_name_byte}
 use Rattle.fault_model.specs.Tree.{FaultTree, unit_count, is_fdep, rank_of, ranked, IsNodeOf}
 use Rattle.fault_model.specs.Rank.{rank_over}
 use Rattle.fault_model.specs.Trigger.{below}
 use Rattle.fault_model.specs.WellFormed.{IsTree, IsSoundGate, IsSoundAttribute}
 
-alike : (a b : ℕ) → name_at a ≡ name_at b → a ≡ b
-alike a b same =
-    let high : 48 + a / 64 ≡ 48 + b / 64 = cc in
-    let low : 48 + a % 64 ≡ 48 + b % 64 = cc in
-    omega arith
+-- ---- names by numbers
 
-not_single : (a b c d : ℕ) → a ∷ b ∷ c ∷ [] ≡ d ∷ [] → ⊥
-not_single a b c d same = cc
+alike : (a b : ℕ) → a < 4096 → b < 4096 → unit_name a ≡ unit_name b → a ≡ b
+alike a b few_a few_b same =
+    let tails : decimal a ≡ decimal b = cc in
+    decimal_injective a b (omega arith) (omega arith) tails
 
-name_byte : (digit : ℕ) → digit < 64 → is_name_byte (48 + digit) ≡ true
-name_byte digit few = grind (arith, nat_tests)
+-- the top event has a name of its own
+not_top : (unit : ℕ) → unit_name unit ≡ codes "top" → ⊥
+not_top unit same = false≢true (sym (ap (λ bytes. nat_eq (get_or bytes 0 0) 117) same))
 
-pub name_form : (place : ℕ) → place < 4096 → is_name (name_at place) ≡ true
-name_form place few =
-    let high = name_byte (place / 64) (omega arith) in
-    let low = name_byte (place % 64) (omega arith) in
-    rw (high, low) refl
+digit : (n : ℕ) → n < 10 → is_name_byte (48 + n) ≡ true
+digit n few = grind (arith, nat_tests)
+
+digits : (n : ℕ) → n < 2 ^ 64 → list_all is_name_byte (decimal n) ≡ true
+digits n small = decimal_by_steps (λ _ bytes. list_all is_name_byte bytes ≡ true) one more n small
+  where
+    one : (m : ℕ) → m < 10 → list_all is_name_byte ((48 + m) ∷ []) ≡ true
+    one m few = rw (digit m few) refl
+
+    more : (m : ℕ) (bytes : List ℕ) → 10 ≤ m → list_all is_name_byte bytes ≡ true → list_all is_name_byte (bytes ++ (48 + m % 10) ∷ []) ≡ true
+    more m bytes big sound =
+        list_all-append is_name_byte bytes ((48 + m % 10) ∷ [])
+        ∙ and_from (list_all is_name_byte bytes) (list_all is_name_byte ((48 + m % 10) ∷ [])) sound (one (m % 10) (omega arith))
+
+pub name_form : (unit : ℕ) → unit < 4096 → is_name (unit_name unit) ≡ true
+name_form unit few =
+    let short = length-decimal-le 4 unit (omega arith) (omega arith) (omega arith) in
+    let some : nat_le 1 (length (unit_name unit)) ≡ true = le-leb 1 (length (unit_name unit)) (omega arith) in
+    let within : nat_le (length (unit_name unit)) 255 ≡ true = le-leb (length (unit_name unit)) 255 (omega arith) in
+    let all = digits unit (omega arith) in
+    rw (some, within, all) refl
+
+-- ---- the tree
 
 names_count : (count : ℕ) → length (names_to count) ≡ count
 names_count zero = refl
-names_count (suc count) = let before = names_count count in omega (arith, length-append (names_to count) (name_at count ∷ []))
+names_count (suc count) = let before = names_count count in omega (arith, length-append (names_to count) (unit_name (suc count) ∷ []))
 
 units_count : (count : ℕ) → length (units_to count) ≡ count
 units_count zero = refl
@@ -45,14 +65,14 @@ get_or-last : {X : Type 0} (xs : List X) (x d : X) → get_or (xs ++ x ∷ []) (
 get_or-last [] x d = refl
 get_or-last (y ∷ xs) x d = get_or-last xs x d
 
-name_in : (count place : ℕ) (d : List ℕ) → place < count → get_or (names_to count) place d ≡ name_at place
+name_in : (count place : ℕ) (d : List ℕ) → place < count → get_or (names_to count) place d ≡ unit_name (suc place)
 name_in zero place d below = absurd (omega arith)
 name_in (suc count) place d below =
     let all = names_count count in
     elim (cases_lt place count) [
-      | inl lower ↦ get_or_append_left (names_to count) (name_at count ∷ []) d place (omega arith) ∙ name_in count place d lower
+      | inl lower ↦ get_or_append_left (names_to count) (unit_name (suc count) ∷ []) d place (omega arith) ∙ name_in count place d lower
       | inr past ↦ let here : place ≡ length (names_to count) = omega arith in let is : place ≡ count = omega arith in
-          rw (here) (get_or-last (names_to count) (name_at count) d) ∙ ap name_at (sym is)
+          rw (here) (get_or-last (names_to count) (unit_name (suc count)) d) ∙ ap (λ p. unit_name (suc p)) (sym is)
     ]
 
 -- each unit is above 0 and within any bound of their count
@@ -80,7 +100,7 @@ one_above tree (node ∷ next ∷ nodes) lowest some =
 module _ (count : ℕ) (some : 1 ≤ count) (few : count ≤ 4095) where
   abbrev pub wide_or : FaultTree
   wide_or = record {
-    names = names_to count ++ (84 ∷ []) ∷ [];
+    names = names_to count ++ codes "top" ∷ [];
     kinds = Or ∷ [];
     inputs = units_to count ∷ [];
     attributes = replicate count [];
@@ -94,19 +114,19 @@ module _ (count : ℕ) (some : 1 ≤ count) (few : count ≤ 4095) where
   differ : AllPairs (λ earlier later. earlier ≢ later) wide_or.names
   differ i j d less short =
       let all = names_count count in
-      let whole : length (names_to count ++ (84 ∷ []) ∷ []) ≡ count + 1 = omega (arith, length-append (names_to count) ((84 ∷ []) ∷ [])) in
-      let first : get_or (names_to count ++ (84 ∷ []) ∷ []) i d ≡ name_at i =
-      get_or_append_left (names_to count) ((84 ∷ []) ∷ []) d i (omega arith) ∙ name_in count i d (omega arith) in
+      let whole : length (names_to count ++ codes "top" ∷ []) ≡ count + 1 = omega (arith, length-append (names_to count) (codes "top" ∷ [])) in
+      let first : get_or (names_to count ++ codes "top" ∷ []) i d ≡ unit_name (suc i) =
+      get_or_append_left (names_to count) (codes "top" ∷ []) d i (omega arith) ∙ name_in count i d (omega arith) in
       elim (cases_lt j count) [
         | inl lower ↦ λ same.
-            let second : get_or (names_to count ++ (84 ∷ []) ∷ []) j d ≡ name_at j =
-            get_or_append_left (names_to count) ((84 ∷ []) ∷ []) d j (omega arith) ∙ name_in count j d lower in
-            let e : i ≡ j = alike i j (sym first ∙ same ∙ second) in
+            let second : get_or (names_to count ++ codes "top" ∷ []) j d ≡ unit_name (suc j) =
+            get_or_append_left (names_to count) (codes "top" ∷ []) d j (omega arith) ∙ name_in count j d lower in
+            let e : suc i ≡ suc j = alike (suc i) (suc j) (omega arith) (omega arith) (sym first ∙ same ∙ second) in
             absurd (omega arith)
         | inr past ↦ λ same.
             let last : j ≡ length (names_to count) = omega arith in
-            let second : get_or (names_to count ++ (84 ∷ []) ∷ []) j d ≡ 84 ∷ [] = rw last (get_or-last (names_to count) (84 ∷ []) d) in
-            not_single 117 (48 + i / 64) (48 + i % 64) 84 (sym first ∙ same ∙ second)
+            let second : get_or (names_to count ++ codes "top" ∷ []) j d ≡ codes "top" = rw last (get_or-last (names_to count) (codes "top") d) in
+            not_top (suc i) (sym first ∙ same ∙ second)
       ]
 
   unit_is_read : (unit : ℕ) → unit ≤ count → is_fdep wide_or unit ≡ false
@@ -149,7 +169,7 @@ module _ (count : ℕ) (some : 1 ≤ count) (few : count ≤ 4095) where
   wide_is_tree =
       let all = all_units in
       record {
-        names_all = omega (arith, length-append (names_to count) ((84 ∷ []) ∷ []), names_count count);
+        names_all = omega (arith, length-append (names_to count) (codes "top" ∷ []), names_count count);
         inputs_all = refl;
         ranks_all = omega (arith, length-append {A = ℕ} (replicate count 0) (1 ∷ []), length-replicate {A = ℕ} count 0);
         few_units = omega arith;

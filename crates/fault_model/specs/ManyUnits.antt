@@ -1,14 +1,14 @@
 -- Names and numbers of many units, for tests at the limit.
-use Rattle.std.specs.Prelude.{ℕ, zero, suc, ◌+◌, ◌/◌, ◌%◌, List, [], ◌∷◌, ◌++◌}
+use Rattle.std.specs.Prelude.{ℕ, zero, suc, List, [], ◌∷◌, ◌++◌, codes, decimal}
 
--- two digits of base 64 behind a `u`
-abbrev pub name_at : ℕ → List ℕ
-name_at place = 117 ∷ (48 + place / 64) ∷ (48 + place % 64) ∷ []
+-- a unit's name is its number in decimal digits behind a `u`
+abbrev pub unit_name : ℕ → List ℕ
+unit_name unit = codes "u" ++ decimal unit
 
 -- the names of so many units, and their numbers
 abbrev pub names_to : ℕ → List (List ℕ)
 names_to zero = []
-names_to (suc count) = names_to count ++ name_at count ∷ []
+names_to (suc count) = names_to count ++ unit_name (suc count) ∷ []
 
 abbrev pub units_to : ℕ → List ℕ
 units_to zero = []

@@ -1,6 +1,6 @@
 //! Small trees: what their top events read, and every call that takes memory once.
-ghost use Rattle.std.specs.Prelude.{◌≡◌, ℕ, ◌<◌, ◌≤◌, [], ◌∷◌, ◌++◌, map, replicate, All, IfOk, IsTrue, List};
-ghost use Rattle.fault_model.specs.ManyUnits.{name_at, names_to, units_to};
+ghost use Rattle.std.specs.Prelude.{◌≡◌, ℕ, ◌<◌, ◌≤◌, [], ◌∷◌, ◌++◌, map, replicate, codes, All, IfOk, IsTrue, List};
+ghost use Rattle.fault_model.specs.ManyUnits.{unit_name, names_to, units_to};
 ghost use Rattle.fault_model.specs.Name.{is_name_byte};
 ghost use Rattle.fault_model.specs.Tree.{ranked};
 ghost use Rattle.fault_model.specs.WellFormed.{IsTree};
@@ -57,6 +57,15 @@ fn bare_units(alloc: Global, units: usize) -> Result<AttributeLists, NoMemory>
     Ok(lists)
 }
 
+fn two_lists(alloc: Global, first: &[u32], second: &[u32]) -> Result<InputLists, NoMemory>
+    ensures { IfOk result (λ lists. lists ≡ first.now ∷ second.now ∷ []) }
+{
+    let mut lists = InputLists::new(alloc);
+    lists.push(node_list(alloc, first)?)?;
+    lists.push(node_list(alloc, second)?)?;
+    Ok(lists)
+}
+
 fn three_lists(
     alloc: Global,
     first: &[u32],
@@ -65,9 +74,7 @@ fn three_lists(
 ) -> Result<InputLists, NoMemory>
     ensures { IfOk result (λ lists. lists ≡ first.now ∷ second.now ∷ third.now ∷ []) }
 {
-    let mut lists = InputLists::new(alloc);
-    lists.push(node_list(alloc, first)?)?;
-    lists.push(node_list(alloc, second)?)?;
+    let mut lists = two_lists(alloc, first, second)?;
     lists.push(node_list(alloc, third)?)?;
     Ok(lists)
 }
@@ -78,6 +85,18 @@ fn superset_absorbed(alloc: Global) -> Result<Tree, NoMemory> {
         names: letter_names(alloc, &[65, 66, 84, 71, 72])?,
         kinds: kind_list(alloc, &[GateKind::Or, GateKind::And, GateKind::Votes(2, 3)])?,
         inputs: three_lists(alloc, &[1, 4], &[1, 2], &[1, 2, 1])?,
+        attributes: bare_units(alloc, 2)?,
+        top: NodeNo(3),
+    };
+    Tree::new(alloc, parts)
+}
+
+// `toplevel T; T and G B; G por A B; A; B;`, with the units A and B and then the gates T and G.
+fn bare_por(alloc: Global) -> Result<Tree, NoMemory> {
+    let parts = TreeParts {
+        names: letter_names(alloc, &[65, 66, 84, 71])?,
+        kinds: kind_list(alloc, &[GateKind::And, GateKind::Por])?,
+        inputs: two_lists(alloc, &[4, 2], &[1, 2])?,
         attributes: bare_units(alloc, 2)?,
         top: NodeNo(3),
     };
@@ -108,26 +127,25 @@ fn triggered_pand(alloc: Global) -> Result<Tree, NoMemory> {
     Tree::new(alloc, parts)
 }
 
-// The name at a place among those of many units: two digits of base 64 behind a `u`.
-fn name_at(alloc: Global, place: u32) -> Result<Name, NoMemory>
-    requires { place < 4096 }
-    ensures { IfOk result (λ name. name ≡ name_at place) }
+// The name of a unit among many, which has its number in it.
+fn unit_name(alloc: Global, unit: u32) -> Result<Name, NoMemory>
+    requires { unit < 4096 }
+    ensures { IfOk result (λ name. name ≡ unit_name unit) }
 {
-    let high = (place / 64) as u8;
-    let low = (place % 64) as u8;
-    Name::of(alloc, &[b'u', b'0' + high, b'0' + low])
+    let text = format!(in alloc; "u{unit}")?;
+    Name::of(alloc, text.as_bytes())
 }
 
-// The names of so many units and of a gate `T`.
+// The names of so many units and of a gate `top`.
 fn wide_names(alloc: Global, units: u32) -> Result<NameTable, NoMemory>
     requires { units < 4096 }
-    ensures { IfOk result (λ names. names ≡ names_to units ++ (84 ∷ []) ∷ []) }
+    ensures { IfOk result (λ names. names ≡ names_to units ++ codes "top" ∷ []) }
 {
     let mut names = NameTable::new(alloc);
     for place in 0..units {
-        names.push(name_at(alloc, place)?)?;
+        names.push(unit_name(alloc, place + 1)?)?;
     }
-    names.push(Name::of(alloc, b"T")?)?;
+    names.push(Name::of(alloc, b"top")?)?;
     Ok(names)
 }
 
@@ -145,7 +163,7 @@ fn wide_inputs(alloc: Global, units: u32) -> Result<InputLists, NoMemory>
     Ok(lists)
 }
 
-// So many units under a gate `T or`.
+// So many units, from `u1` on, under a gate `top or`.
 fn wide_or(alloc: Global, units: u32) -> Result<Tree, NoMemory>
     requires some { 1 ≤ units }
     requires few { units < 4096 }
@@ -200,6 +218,22 @@ fn check_absorbed(rt: &impl Abort, alloc: Global) -> Result<(), NoMemory> {
     )
 }
 
+// Every subset of A and B.
+fn check_bare_por(rt: &impl Abort, alloc: Global) -> Result<(), NoMemory> {
+    let tree = bare_por(alloc)?;
+    check_top(
+        rt,
+        alloc,
+        &tree,
+        &[
+            ([0, 0], false),
+            ([1, 0], false),
+            ([2, 0], false),
+            ([1, 2], true),
+        ],
+    )
+}
+
 fn check_por(rt: &impl Abort, alloc: Global) -> Result<(), NoMemory> {
     let tree = triggered_por(alloc)?;
     check_top(
@@ -235,6 +269,7 @@ fn check_pand(rt: &impl Abort, alloc: Global) -> Result<(), NoMemory> {
 #[test]
 fn readings(rt: HostRuntime) -> Result<(), Fail> {
     check_absorbed(&rt, rt.alloc())?;
+    check_bare_por(&rt, rt.alloc())?;
     check_por(&rt, rt.alloc())?;
     check_pand(&rt, rt.alloc())?;
     Ok(())
@@ -255,12 +290,27 @@ fn most_units(rt: HostRuntime) -> Result<(), Fail> {
             ([4095, 0], true),
         ],
     )?;
+    check_names(
+        &rt,
+        rt.alloc(),
+        &tree,
+        &[
+            ("u1", 1),
+            ("u10", 10),
+            ("u999", 999),
+            ("u4095", 4095),
+            ("u4096", 0),
+            ("u0", 0),
+            ("u01", 0),
+            ("top", 0),
+        ],
+    )?;
     Ok(())
 }
 
-// The unit of a name of one letter, or 0 where there is none.
-fn number_named(alloc: Global, tree: &Tree, letter: u8) -> Result<u16, NoMemory> {
-    let Some(name) = Name::new(alloc, &[letter])? else {
+// The unit of a name, or 0 where there is none.
+fn number_named(alloc: Global, tree: &Tree, name: &str) -> Result<u16, NoMemory> {
+    let Some(name) = Name::new(alloc, name.as_bytes())? else {
         return Ok(0);
     };
     match tree.unit_named(&name) {
@@ -279,10 +329,10 @@ fn check_names(
     rt: &impl Abort,
     alloc: Global,
     tree: &Tree,
-    rows: &[(u8, u16)],
+    rows: &[(&str, u16)],
 ) -> Result<(), NoMemory> {
-    for (letter, number) in rows {
-        assert_eq!(rt; number_named(alloc, tree, *letter)?, *number);
+    for (name, number) in rows {
+        assert_eq!(rt; number_named(alloc, tree, name)?, *number, "{name}");
     }
     Ok(())
 }
@@ -301,7 +351,7 @@ fn names(rt: HostRuntime) -> Result<(), Fail> {
         &rt,
         rt.alloc(),
         &tree,
-        &[(b'A', 1), (b'B', 2), (b'T', 0), (b'X', 0)],
+        &[("A", 1), ("B", 2), ("T", 0), ("X", 0)],
     )?;
     check_lengths(
         &rt,
@@ -324,5 +374,19 @@ fn orders(rt: HostRuntime) -> Result<(), Fail> {
     let second = UnitNo::new(2).ok_or("2 is a unit")?;
     assert!(rt; Order::new(rt.alloc(), &[second, first])?.is_some());
     assert!(rt; Order::new(rt.alloc(), &[first, second, first])?.is_none());
+    Ok(())
+}
+
+// A list with room takes it at once, and none for no items.
+#[test]
+fn lists_with_room(rt: HostRuntime) -> Result<(), Fail> {
+    let mut nodes = NodeList::with_room(rt.alloc(), 3)?;
+    assert_eq!(rt; nodes.as_slice().len(), 0);
+    nodes.push(NodeNo(7))?;
+    assert_eq!(rt; nodes.as_slice(), [NodeNo(7)].as_slice());
+    assert_eq!(rt; nodes.into_items().capacity(), 3);
+    let none = NodeList::with_room(rt.alloc(), 0)?;
+    assert_eq!(rt; none.as_slice().len(), 0);
+    assert_eq!(rt; none.into_items().capacity(), 0);
     Ok(())
 }
