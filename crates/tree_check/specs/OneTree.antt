@@ -1,9 +1,9 @@
 -- The statements of a text stand for at most one tree: its ranks are the only ones.
-use Rattle.std.specs.Prelude.{◌≡◌, ℕ, zero, suc, ◌+◌, ◌<◌, max, List, [], ◌∷◌, length, All, get_or}
+use Rattle.std.specs.Prelude.{◌≡◌, ℕ, zero, suc, ◌<◌, max, List, [], ◌∷◌, All, get_or}
 use Rattle.std.proofs.Common.{sym, ap, subst, ◌∙◌, refl, arith}
 use Rattle.std.proofs.lemmas.List.{same_lists, get_or_default}
 use Rattle.std.proofs.lemmas.List.Elements.{All-head, All-tail}
-use Rattle.fault_model.specs.Tree.{FaultTree, IsNodeOf, node_count, rank_of}
+use Rattle.fault_model.specs.Tree.{FaultTree, IsNodeOf, rank_of}
 use Rattle.fault_model.specs.Trigger.{below}
 use Rattle.fault_model.specs.Rank.{rank_over}
 use Rattle.fault_model.specs.RankLaws.{below_ranks, below_are_nodes}

@@ -1,16 +1,25 @@
 use super::*;
-use fault_model::Place;
+use fault_model::{GateKind, NodeNo, Place, Tree};
 use galileo_tree::parse;
 use std::alloc::Global;
+use std::process::Abort;
 use std::test::Fail;
+use unit_sets::UnitNo;
 
 // What checking a text in the grammar answers: the numbers of units and gates, or the fault with its line and column.
 // Want of memory, and a text that is too long, are told by line 0.
 fn checked(alloc: Global, text: &str) -> Result<Result<(u32, u32), (CheckCode, u32, u32)>, Fail> {
-    if text.len() > 16_000_000 {
+    checked_bytes(alloc, text.as_bytes())
+}
+
+fn checked_bytes(
+    alloc: Global,
+    text: &[u8],
+) -> Result<Result<(u32, u32), (CheckCode, u32, u32)>, Fail> {
+    if text.len() > 16_777_216 {
         return Ok(Err((CheckCode::NoToplevel, 0, 0)));
     }
-    let raw = parse(alloc, text.as_bytes())?;
+    let raw = parse(alloc, text)?;
     match check(alloc, raw) {
         Ok(tree) => Ok(Ok((tree.units(), tree.gates()))),
         Err(CheckFault::Fault(code, Place { line, column })) => Ok(Err((code, line, column))),
@@ -299,11 +308,6 @@ fn well_formed_texts_have_their_trees(rt: HostRuntime) -> Result<(), Fail> {
             4,
         ),
         ("toplevel T; T or F A; F fdep T B; A; B;", 2, 2),
-        (
-            "toplevel T; T 2OF3 A \"b c\" C; C; A lambda = 1e-4; \"b c\" dorm=0.5 repl=1;",
-            3,
-            1,
-        ),
     ] {
         assert_eq!(rt; checked(rt.alloc(), text)?, Ok((units, gates)), "{text}");
     }
@@ -320,23 +324,37 @@ fn events(alloc: Global, units: u32) -> Result<String, Fail> {
     Ok(text)
 }
 
-// A chain of so many gates below the top event, each on a line of its own behind the one that it reads.
-fn chain(alloc: Global, gates: u32) -> Result<String, Fail> {
-    let letters = [
-        "a", "b", "c", "d", "e", "f", "g", "h", "i", "j", "k", "l", "m", "n", "o", "p",
-    ];
-    let mut text = format!(in alloc; "B;")?;
-    let mut last = format!(in alloc; "B")?;
-    for gate in 0..gates {
-        let letter = letters[gate as usize / 65_536 % 16];
-        let low = gate % 65_536;
-        let name = format!(in alloc; "{letter}{low:04x}")?;
-        let line = format!(in alloc; "\n{name} or {last};")?;
-        text.push_str(line.as_str())?;
+// A name of four bytes: the digits of a number in base 64. The first is a letter for numbers below 13,631,488.
+fn short_name(number: u32) -> [u8; 4] {
+    [
+        digit(number / 262_144),
+        digit(number / 4096),
+        digit(number / 64),
+        digit(number),
+    ]
+}
+
+fn digit(number: u32) -> u8 {
+    let digits = b"ABCDEFGHIJKLMNOPQRSTUVWXYZabcdefghijklmnopqrstuvwxyz0123456789_-";
+    digits[number as usize % 64]
+}
+
+// A chain of so many gates below the top event, each on a line of its own behind the one that it reads. A line has 14 bytes.
+fn chain(alloc: Global, gates: u32) -> Result<Vec<u8>, Fail> {
+    let mut text = Vec::from_slice(alloc, b"B;\nAAAA or B;")?;
+    let mut last = short_name(0);
+    for gate in 1..gates {
+        let name = short_name(gate);
+        text.push(b'\n')?;
+        text.extend_from_slice(&name)?;
+        text.extend_from_slice(b" or ")?;
+        text.extend_from_slice(&last)?;
+        text.push(b';')?;
         last = name;
     }
-    let top = format!(in alloc; "\ntoplevel {last};")?;
-    text.push_str(top.as_str())?;
+    text.extend_from_slice(b"\ntoplevel ")?;
+    text.extend_from_slice(&last)?;
+    text.push(b';')?;
     Ok(text)
 }
 
@@ -359,10 +377,58 @@ fn long_chains_are_walked(rt: HostRuntime) -> Result<(), Fail> {
     for (gates, wanted) in [
         (16_383, Ok((1, 16_383))),
         (16_384, Err((CheckCode::TooManyGates, 16_385, 1))),
-        (990_000, Err((CheckCode::TooManyGates, 16_385, 1))),
+        (1_000_000, Err((CheckCode::TooManyGates, 16_385, 1))),
     ] {
         let text = chain(alloc, gates)?;
-        assert_eq!(rt; checked(alloc, text.as_str())?, wanted, "{gates}");
+        assert_eq!(rt; checked_bytes(alloc, text.as_slice())?, wanted, "{gates}");
+    }
+    Ok(())
+}
+
+// The units and gates have these names, in the order of their numbers.
+fn check_names(rt: &impl Abort, tree: &Tree, names: &[&str]) {
+    assert_eq!(rt; (tree.units() + tree.gates()) as usize, names.len());
+    for (index, name) in names.iter().enumerate() {
+        let node = NodeNo(index as u32 + 1);
+        assert_eq!(rt; tree.name(node).as_slice(), name.as_bytes(), "{name}");
+    }
+}
+
+// A gate has this kind and these inputs.
+fn check_gate(rt: &impl Abort, tree: &Tree, gate: u32, kind: GateKind, inputs: &[NodeNo]) {
+    assert!(rt; tree.units() < gate && gate <= tree.units() + tree.gates());
+    assert_eq!(rt; tree.kind(NodeNo(gate)), kind);
+    assert_eq!(rt; tree.inputs(NodeNo(gate)), inputs);
+}
+
+// A unit has these attributes, each a word and a value.
+fn check_attributes(rt: &impl Abort, tree: &Tree, unit: UnitNo, wanted: &[(&str, &str)]) {
+    assert!(rt; u32::from(unit.number()) <= tree.units());
+    let attributes = tree.attributes(unit);
+    assert_eq!(rt; attributes.len(), wanted.len());
+    for (attribute, (word, value)) in attributes.iter().zip(wanted) {
+        assert_eq!(rt; attribute.word.as_slice(), word.as_bytes(), "{word}");
+        assert_eq!(rt; attribute.value.as_slice(), value.as_bytes(), "{word}");
+    }
+}
+
+// Units are numbered in the order of their definitions, which is not that of their uses.
+#[test]
+fn a_tree_has_exactly_what_its_text_says(rt: HostRuntime) -> Result<(), Fail> {
+    let text = "toplevel T; T 2OF3 A \"b c\" C; C; A lambda = 1e-4; \"b c\" dorm=0.5 repl=1;";
+    let tree = check(rt.alloc(), parse(rt.alloc(), text.as_bytes())?)?;
+    assert_eq!(rt; (tree.units(), tree.gates()), (3, 1));
+    check_names(&rt, &tree, &["C", "A", "b c", "T"]);
+    assert_eq!(rt; tree.top(), NodeNo(4));
+    let inputs = [NodeNo(2), NodeNo(3), NodeNo(1)];
+    check_gate(&rt, &tree, 4, GateKind::Votes(2, 3), &inputs);
+    for (unit, wanted) in [
+        (1, [].as_slice()),
+        (2, [("lambda", "1e-4")].as_slice()),
+        (3, [("dorm", "0.5"), ("repl", "1")].as_slice()),
+    ] {
+        let unit = UnitNo::new(unit).ok_or("a unit")?;
+        check_attributes(&rt, &tree, unit, wanted);
     }
     Ok(())
 }
