@@ -8,3 +8,4 @@ pub mod NodeLemmas
 pub mod PlanLemmas
 pub mod CutLemmas
 pub mod WaitingLemmas
+pub mod SplitLemmas

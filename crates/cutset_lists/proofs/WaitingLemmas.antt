@@ -13,7 +13,7 @@ use Rattle.std.specs.Ordering.{nat_cmp}
 use Rattle.std.specs.declared.cmp.Ordering.TheVariants.{Less}
 use Rattle.std.proofs.lemmas.Map.Keys.{Less-from_sorted}
 use Rattle.cutset_lists.specs.declared.waiting.Waiter.{Waiter}
-use Rattle.cutset_lists.specs.Sets.{is_smaller_within, IsMinimalFrom}
+use Rattle.cutset_lists.specs.Sets.{is_short_within, is_smaller_within, IsMinimalFrom}
 use Rattle.cutset_lists.specs.Waiting.{AreWaiting, AreAlike, AreFilled, HasEmptyFirst, IsWaiter, Waits, set_at, waiters_at}
 use Rattle.cutset_lists.proofs.SetLemmas.{or-false}
 use Rattle.std.proofs.lemmas.Bool.Decides.{nat_tests}
@@ -158,42 +158,44 @@ no_sign set smaller sign there missing = go (is_within set smaller) refl
     go false is = refl
     go true is = let found = all_at (among set) smaller sign is there in absurd cc
 
-module _ (sets : List (List ℕ)) (count : ℕ) (at : List (List Waiter)) (set : List ℕ) (before : AreWaiting sets count at) where
+module _ (sets : List (List ℕ)) (count : ℕ) (at : List (List Waiter)) (marked set : List ℕ) (size : ℕ) (alike : AreAlike marked set) (before : AreWaiting sets count at) where
   abbrev pub finds_at : ℕ → Bool
-  finds_at unit = list_any (λ (waiter : Waiter). is_smaller_within set (set_at sets waiter.place)) (waiters_at at unit)
+  finds_at unit = list_any (λ (waiter : Waiter). is_short_within size marked (set_at sets waiter.place)) (waiters_at at unit)
 
-  found_is_there : list_any finds_at set ≡ true → list_any (is_smaller_within set) (take count sets) ≡ true
+  short_alike : (smaller : List ℕ) → is_short_within size marked smaller ≡ is_short_within size set smaller
+  short_alike smaller = ap (λ b. nat_lt (length smaller) size && b) (within_alike marked set smaller alike)
+
+  found_is_there : list_any finds_at set ≡ true → list_any (is_short_within size set) (take count sets) ≡ true
   found_is_there found =
       let (k, unit, short, same, at_unit) = Any-from_list_any finds_at set found in
-      let (j, waiter, inner, is, holds) = Any-from_list_any (λ (w : Waiter). is_smaller_within set (set_at sets w.place)) (waiters_at at unit) at_unit in
+      let (j, waiter, inner, is, holds) = Any-from_list_any (λ (w : Waiter). is_short_within size marked (set_at sets w.place)) (waiters_at at unit) at_unit in
       let known : IsWaiter sets count waiter = All-contains (IsWaiter sets count) (waiters_at at unit) waiter (before.known unit) (j, inner, is) in
       let low = known.inside in
       let all = before.inside in
       let here : waiter.place < length (take count sets) = omega (arith, length-take {A = List ℕ}) in
-      some_holds (is_smaller_within set) (take count sets) (set_at sets waiter.place)
-      (subst (λ (s : List ℕ). Contains (take count sets) s) (get_or-take count sets waiter.place [] low) (Contains-get_or (take count sets) waiter.place [] here)) holds
+      some_holds (is_short_within size set) (take count sets) (set_at sets waiter.place)
+      (subst (λ (s : List ℕ). Contains (take count sets) s) (get_or-take count sets waiter.place [] low) (Contains-get_or (take count sets) waiter.place [] here)) (sym (short_alike (set_at sets waiter.place)) ∙ holds)
 
-  there_is_found : list_any (is_smaller_within set) (take count sets) ≡ true → list_any finds_at set ≡ true
+  there_is_found : list_any (is_short_within size set) (take count sets) ≡ true → list_any finds_at set ≡ true
   there_is_found some =
-      let (place, smaller, short, same, holds) = Any-from_list_any (is_smaller_within set) (take count sets) some in
+      let (place, smaller, short, same, holds) = Any-from_list_any (is_short_within size set) (take count sets) some in
       let low : place < count = omega (arith, length-take {A = List ℕ}) in
       let is : set_at sets place ≡ smaller = sym (get_or-take count sets place [] low) ∙ sym (get_or_default (take count sets) place smaller [] short) ∙ same in
       let waits : Waits sets at place = before.placed place low in
-      let smaller_there : is_smaller_within set (set_at sets place) ≡ true = subst (λ (s : List ℕ). is_smaller_within set s ≡ true) (sym is) holds in
-      let inside = (and_parts (nat_lt (length (set_at sets place)) (length set)) (is_within set (set_at sets place)) smaller_there).1 in
+      let smaller_there : is_short_within size set (set_at sets place) ≡ true = subst (λ (s : List ℕ). is_short_within size set s ≡ true) (sym is) holds in
+      let inside = (and_parts (nat_lt (length (set_at sets place)) size) (is_within set (set_at sets place)) smaller_there).1 in
       let unit_in : among set waits.unit ≡ true = all_at (among set) (set_at sets place) waits.unit inside waits.of_set in
       some_holds finds_at set waits.unit (Contains-from_among set waits.unit unit_in)
-      (some_holds (λ (w : Waiter). is_smaller_within set (set_at sets w.place)) (waiters_at at waits.unit) waits.waiter waits.there
-      (subst (λ (p : ℕ). is_smaller_within set (set_at sets p) ≡ true) (sym waits.for_set) smaller_there))
+      (some_holds (λ (w : Waiter). is_short_within size marked (set_at sets w.place)) (waiters_at at waits.unit) waits.waiter waits.there
+      (subst (λ (p : ℕ). is_short_within size marked (set_at sets p) ≡ true) (sym waits.for_set) (short_alike (set_at sets place) ∙ smaller_there)))
 
-  pub found_among_waiting : list_any finds_at set ≡ list_any (is_smaller_within set) (take count sets)
-  found_among_waiting = both_ways (list_any finds_at set) (list_any (is_smaller_within set) (take count sets)) found_is_there there_is_found
+  pub found_among_waiting : list_any finds_at set ≡ list_any (is_short_within size set) (take count sets)
+  found_among_waiting = both_ways (list_any finds_at set) (list_any (is_short_within size set) (take count sets)) found_is_there there_is_found
 
 -- ---- the same, of values as the code has them
 
-pub sign_missing : (marked set smaller : List ℕ) (sign : ℕ) → AreAlike marked set → among smaller sign ≡ true → among marked sign ≡ false → is_smaller_within set smaller ≡ false
-sign_missing marked set smaller sign alike there missing =
-    and_right (nat_lt (length smaller) (length set)) (is_within set smaller) (no_sign set smaller sign there (sym (alike sign) ∙ missing))
+pub sign_missing : (marked smaller : List ℕ) (size sign : ℕ) → among smaller sign ≡ true → among marked sign ≡ false → is_short_within size marked smaller ≡ false
+sign_missing marked smaller size sign there missing = and_right (nat_lt (length smaller) size) (is_within marked smaller) (no_sign marked smaller sign there missing)
 
 -- those who wait are sets of the list
 pub in_list : (sets : List (List ℕ)) (count : ℕ) (at : List (List Waiter)) (unit : ℕ) → AreWaiting sets count at → All (IsWaiter sets (length sets)) (waiters_at at unit)
@@ -206,33 +208,33 @@ found_waiters sets count at place found waiters before room found_is waiters_are
     subst (All (IsWaiter sets (length sets))) (sym (waiters_are ∙ found_is ∙ get_or_default at place found [] room)) (in_list sets count at place before)
 
 -- a unit where one is found
-pub finds-some : (sets : List (List ℕ)) (count : ℕ) (at : List (List Waiter)) (set : List ℕ) (unit place i d : ℕ) (waiters found : List Waiter)
-    → AreWaiting sets count at → i < length set → unit ≡ get_or set i d → place ≡ unit → place < length at → found ≡ get_or at place found → waiters ≡ found
-    → list_any (λ (waiter : Waiter). is_smaller_within set (set_at sets waiter.place)) waiters ≡ true → list_any (is_smaller_within set) (take count sets) ≡ true
-finds-some sets count at set unit place i d waiters found before short is same room found_is waiters_are holds =
+pub finds-some : (sets : List (List ℕ)) (count : ℕ) (at : List (List Waiter)) (marked set : List ℕ) (size unit place i d : ℕ) (waiters found : List Waiter)
+    → AreWaiting sets count at → AreAlike marked set → i < length set → unit ≡ get_or set i d → place ≡ unit → place < length at → found ≡ get_or at place found → waiters ≡ found
+    → list_any (λ (waiter : Waiter). is_short_within size marked (set_at sets waiter.place)) waiters ≡ true → list_any (is_short_within size set) (take count sets) ≡ true
+finds-some sets count at marked set size unit place i d waiters found before alike short is same room found_is waiters_are holds =
     let here : waiters ≡ waiters_at at unit = waiters_are ∙ found_is ∙ get_or_default at place found [] room ∙ ap (waiters_at at) same in
-    let at_unit : finds_at sets count at set before unit ≡ true = subst (λ (l : List Waiter). list_any (λ (waiter : Waiter). is_smaller_within set (set_at sets waiter.place)) l ≡ true) here holds in
-    sym (found_among_waiting sets count at set before)
-    ∙ some_holds (finds_at sets count at set before) set unit (subst (λ (u : ℕ). Contains set u) (sym is) (Contains-get_or set i d short)) at_unit
+    let at_unit : finds_at sets count at marked set size alike before unit ≡ true = subst (λ (l : List Waiter). list_any (λ (waiter : Waiter). is_short_within size marked (set_at sets waiter.place)) l ≡ true) here holds in
+    sym (found_among_waiting sets count at marked set size alike before)
+    ∙ some_holds (finds_at sets count at marked set size alike before) set unit (subst (λ (u : ℕ). Contains set u) (sym is) (Contains-get_or set i d short)) at_unit
 
 -- none is found at the first units
-abbrev pub NoneAt : List (List ℕ) → List (List Waiter) → List ℕ → ℕ → Type 0
-NoneAt sets at set i = list_any (λ (unit : ℕ). list_any (λ (waiter : Waiter). is_smaller_within set (set_at sets waiter.place)) (waiters_at at unit)) (take i set) ≡ false
+abbrev pub NoneAt : List (List ℕ) → List (List Waiter) → List ℕ → ℕ → List ℕ → ℕ → Type 0
+NoneAt sets at marked size set i = list_any (λ (unit : ℕ). list_any (λ (waiter : Waiter). is_short_within size marked (set_at sets waiter.place)) (waiters_at at unit)) (take i set) ≡ false
 
-pub NoneAt-more : (sets : List (List ℕ)) (at : List (List Waiter)) (set : List ℕ) (unit place i d : ℕ) (waiters found : List Waiter)
+pub NoneAt-more : (sets : List (List ℕ)) (at : List (List Waiter)) (marked set : List ℕ) (size unit place i d : ℕ) (waiters found : List Waiter)
     → i < length set → unit ≡ get_or set i d → place ≡ unit → place < length at → found ≡ get_or at place found → waiters ≡ found
-    → list_any (λ (waiter : Waiter). is_smaller_within set (set_at sets waiter.place)) waiters ≡ false → NoneAt sets at set i → NoneAt sets at set (i + 1)
-NoneAt-more sets at set unit place i d waiters found short is same room found_is waiters_are none before =
+    → list_any (λ (waiter : Waiter). is_short_within size marked (set_at sets waiter.place)) waiters ≡ false → NoneAt sets at marked size set i → NoneAt sets at marked size set (i + 1)
+NoneAt-more sets at marked set size unit place i d waiters found short is same room found_is waiters_are none before =
     let here : waiters ≡ waiters_at at (get_or set i d) = waiters_are ∙ found_is ∙ get_or_default at place found [] room ∙ ap (waiters_at at) (same ∙ is) in
-    let p : ℕ → Bool = λ (u : ℕ). list_any (λ (waiter : Waiter). is_smaller_within set (set_at sets waiter.place)) (waiters_at at u) in
+    let p : ℕ → Bool = λ (u : ℕ). list_any (λ (waiter : Waiter). is_short_within size marked (set_at sets waiter.place)) (waiters_at at u) in
     ap (list_any p) (take_more set i d short)
     ∙ list_any-append p (take i set) (get_or set i d ∷ [])
-    ∙ or_from _ _ before (or_from _ _ (subst (λ (l : List Waiter). list_any (λ (waiter : Waiter). is_smaller_within set (set_at sets waiter.place)) l ≡ false) here none) refl)
+    ∙ or_from _ _ before (or_from _ _ (subst (λ (l : List Waiter). list_any (λ (waiter : Waiter). is_short_within size marked (set_at sets waiter.place)) l ≡ false) here none) refl)
 
-pub finds-none : (sets : List (List ℕ)) (count : ℕ) (at : List (List Waiter)) (set : List ℕ) (i : ℕ) → AreWaiting sets count at → length set ≤ i → NoneAt sets at set i → list_any (is_smaller_within set) (take count sets) ≡ false
-finds-none sets count at set i before long none =
-    sym (found_among_waiting sets count at set before)
-    ∙ subst (λ (l : List ℕ). list_any (finds_at sets count at set before) l ≡ false) (take_all i set long) none
+pub finds-none : (sets : List (List ℕ)) (count : ℕ) (at : List (List Waiter)) (marked set : List ℕ) (size i : ℕ) → AreWaiting sets count at → AreAlike marked set → length set ≤ i → NoneAt sets at marked size set i → list_any (is_short_within size set) (take count sets) ≡ false
+finds-none sets count at marked set size i before alike long none =
+    sym (found_among_waiting sets count at marked set size alike before)
+    ∙ subst (λ (l : List ℕ). list_any (finds_at sets count at marked set size alike before) l ≡ false) (take_all i set long) none
 
 -- ---- sets one after another
 

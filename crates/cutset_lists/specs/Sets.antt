@@ -47,9 +47,13 @@ pub record AreSetsAs (left right both : List (List ℕ)) : Type 0 where
 
 -- ---- minimal sets
 
+-- a set of fewer units than a size lies within another
+abbrev pub is_short_within : ℕ → List ℕ → List ℕ → Bool
+is_short_within size set smaller = nat_lt (length smaller) size && is_within set smaller
+
 -- a set that has fewer units than another lies within it
 abbrev pub is_smaller_within : List ℕ → List ℕ → Bool
-is_smaller_within set smaller = nat_lt (length smaller) (length set) && is_within set smaller
+is_smaller_within set smaller = is_short_within (length set) set smaller
 
 -- no set of the list has a smaller one within it
 abbrev pub IsSharp : List (List ℕ) → Type 0
@@ -72,3 +76,15 @@ pub record IsMinimalFrom (sets minimal : List (List ℕ)) : Type 0 where
 pub record IsReducedFrom (list reduced : List (List ℕ)) : Type 0 where
   pub hits : (within : ℕ → Bool) → hits reduced within ≡ hits list within
   pub sets : (passes : ℕ → Bool) → AreSetsOf passes list → AreSetsOf passes reduced
+
+-- ---- sets that include one of another list
+
+-- a set has one of the list within it, and is its own union with that one
+abbrev pub Includes : List (List ℕ) → List ℕ → Type 0
+Includes list set = list_any (is_within set) list ≡ true
+
+-- a list in two parts, of which the first has sets alone that include one of another list
+pub record IsSplit (list other including rest : List (List ℕ)) : Type 0 where
+  pub hits : (within : ℕ → Bool) → hits list within ≡ (hits including within || hits rest within)
+  pub included : All (Includes other) including
+  pub sets : (passes : ℕ → Bool) → AreSetsOf passes list → AreSetsOf passes including × AreSetsOf passes rest

@@ -1,10 +1,9 @@
 //! Lists that are hit where some, or all, of others are.
-ghost use Rattle.std.specs.Prelude.{◌≡◌, ◌++◌, OnOk, IfOk};
-ghost use Rattle.cutset_lists.specs.Sets.{AddsHits, AddsSets, AddsBoth, AddsSetsOf, HitsBoth, AreSetsAs};
+ghost use Rattle.std.specs.Prelude.{◌≡◌, ◌++◌, OnOk};
+ghost use Rattle.cutset_lists.specs.Sets.{AddsHits, AddsSets, AddsBoth, AddsSetsOf};
 
 use crate::merge::merge;
 use crate::{NoMemory, Sets, UnitNo};
-use flat_rows::Rows;
 use std::alloc::Global;
 
 // Adds the sets of another list.
@@ -35,7 +34,7 @@ fn add_unions(
 }
 
 // Adds the unions of each set of one list with each of another.
-pub fn add_product(
+pub fn add_all_unions(
     alloc: Global,
     sets: &mut Sets,
     left: &Sets,
@@ -49,14 +48,4 @@ pub fn add_product(
         add_unions(sets, &mut union, left.row(i), right)?;
     }
     Ok(())
-}
-
-// The unions of each set of one list with each of another.
-pub fn product(alloc: Global, left: &Sets, right: &Sets) -> Result<Sets, NoMemory>
-    ensures hits { IfOk result (HitsBoth left.now right.now) }
-    ensures sets { IfOk result (AreSetsAs left.now right.now) }
-{
-    let mut sets = Rows::new(alloc);
-    add_product(alloc, &mut sets, left, right)?;
-    Ok(sets)
 }

@@ -4,9 +4,10 @@ ghost use Rattle.fault_model.specs.Tree.{IsNodeOf, node_count};
 ghost use Rattle.cutset_lists.specs.Sets.{IsReducedFrom};
 ghost use Rattle.cutset_lists.specs.Generation.{HasList, AddsSome, Follows, each_rule, gate_rule, IsNodeList};
 
-use crate::combine::{append, product};
+use crate::combine::append;
 use crate::minimal::minimal;
 use crate::overlap::Owners;
+use crate::product::product;
 use crate::votes::at_least;
 use crate::{NoMemory, Sets, UnitNo};
 use fault_model::{GateKind, NodeNo, Tree};
@@ -62,10 +63,12 @@ fn each_of(
     requires { All (HasList lists.now) nodes.now }
     ensures { IfOk result (Follows lists.now (each_rule nodes.now)) }
 {
-    let apart = owners.are_apart(lists, nodes);
+    let all_apart = owners.are_apart(lists, nodes);
     let mut sets = empty_set(alloc)?;
     for node in nodes {
-        let both = product(alloc, &sets, &lists[node.index()])?;
+        let list = &lists[node.index()];
+        let apart = all_apart || owners.are_two_apart(&sets, list);
+        let both = product(alloc, &sets, list, apart)?;
         sets = reduced(alloc, both, apart)?;
     }
     Ok(sets)

@@ -14,8 +14,10 @@ mod merge;
 mod minimal;
 mod overlap;
 mod plan;
+mod product;
 mod sifting;
 mod sort;
+mod split;
 #[cfg(test)]
 mod tests;
 mod votes;

@@ -29,15 +29,27 @@ impl Owners {
     {
         let first = self.next;
         for node in nodes {
-            if self.claims(&lists[node.index()], first) {
+            if !self.is_apart(&lists[node.index()], first) {
                 return false;
             }
-            self.next = self.next.wrapping_add(1);
         }
         true
     }
 
-    // Gives each unit of a list to the next owner, and says whether one belonged to an owner from `first` on.
+    // Whether no unit is in both of two lists.
+    pub fn are_two_apart(&mut self, left: &Sets, right: &Sets) -> bool {
+        let first = self.next;
+        self.is_apart(left, first) && self.is_apart(right, first)
+    }
+
+    // Gives the units of a list to the next owner, and says whether none belonged to one from `first` on.
+    fn is_apart(&mut self, list: &Sets, first: u64) -> bool {
+        let shared = self.claims(list, first);
+        self.next = self.next.wrapping_add(1);
+        !shared
+    }
+
+    // Gives each unit of a list to the next owner, up to the first that belonged to one from `first` on, if there is one.
     fn claims(&mut self, list: &Sets, first: u64) -> bool {
         for i in 0..list.len() {
             for unit in list.row(i) {

@@ -13,8 +13,8 @@ use flat_rows::Rows;
 use std::alloc::Global;
 use unit_sets::UnitSet;
 
-// Puts the units of a set into an empty one.
-fn mark(marked: &mut UnitSet, set: &[UnitNo])
+/// Puts the units of a set into an empty one.
+pub fn mark(marked: &mut UnitSet, set: &[UnitNo])
     requires { marked.old ≡ [] }
     ensures { AreAlike marked.new set.now }
 {
@@ -23,8 +23,8 @@ fn mark(marked: &mut UnitSet, set: &[UnitNo])
     }
 }
 
-// Takes the units of a set out of one that has the same.
-fn unmark(marked: &mut UnitSet, set: &[UnitNo])
+/// Takes the units of a set out of one that has the same.
+pub fn unmark(marked: &mut UnitSet, set: &[UnitNo])
     requires { AreAlike marked.old set.now }
     ensures { marked.new ≡ [] }
 {
@@ -61,7 +61,7 @@ fn has_smaller(
     }
     waiting.take_up(sets, set.len())?;
     mark(marked, set);
-    let found = waiting.finds(sets, marked, set);
+    let found = waiting.finds(sets, marked, set, set.len());
     unmark(marked, set);
     Ok(found)
 }

@@ -3,9 +3,9 @@ ghost use Rattle.std.specs.Prelude.{◌≡◌, ◌≤◌, ◌<◌, length, All, 
 ghost use Rattle.cutset_lists.specs.Generation.{HasList, Follows, at_least_rule};
 ghost use Rattle.cutset_lists.specs.Counts.{counts_of_none, CountsMore, CountsList};
 
-use crate::combine::add_product;
 use crate::gate::{empty_set, reduced};
 use crate::overlap::Owners;
+use crate::product::add_product;
 use crate::{NoMemory, Sets};
 use fault_model::NodeNo;
 use flat_rows::Rows;
@@ -37,7 +37,7 @@ fn count_more(
     ensures { OnOk result (CountsMore list.now at counts.old.items counts.new.items) }
 {
     let mut sets = mem::replace(&mut counts[at], Rows::new(alloc));
-    add_product(alloc, &mut sets, &counts[at - 1], list)?;
+    add_product(alloc, &mut sets, &counts[at - 1], list, apart)?;
     counts[at] = reduced(alloc, sets, apart)?;
     Ok(())
 }

@@ -4,7 +4,7 @@
 ghost use Rattle.std.specs.Prelude.{◌≡◌, ℕ, ◌+◌, ◌<◌, ◌≤◌, true, List, [], length, vec_len, replicate, take, All, IfOk, OnOk};
 ghost use Rattle.std.specs.List.{list_any};
 ghost use Rattle.unit_sets.specs.UnitList.{among, is_within};
-ghost use Rattle.cutset_lists.specs.Sets.{is_smaller_within};
+ghost use Rattle.cutset_lists.specs.Sets.{is_short_within};
 
 use crate::{NoMemory, Sets, UnitNo};
 use fault_model::GrowingList;
@@ -116,42 +116,40 @@ impl Waiting {
         Ok(())
     }
 
-    // Whether a waiter's set is smaller than a set, whose units are marked, and within it.
-    fn is_found(sets: &Sets, marked: &UnitSet, set: &[UnitNo], waiter: Waiter) -> bool
-        requires waiter { IsWaiter sets.now (length sets.now) waiter }
-        requires marks { AreAlike marked.now set.now }
-        ensures { result ≡ is_smaller_within set.now (set_at sets.now waiter.place) }
+    // Whether a waiter's set has fewer units than a size, and all of them are marked.
+    fn is_found(sets: &Sets, marked: &UnitSet, size: usize, waiter: Waiter) -> bool
+        requires { IsWaiter sets.now (length sets.now) waiter }
+        ensures { result ≡ is_short_within size marked.now (set_at sets.now waiter.place) }
     {
         if !marked.contains(waiter.sign) {
             return false;
         }
         let smaller = sets.row(waiter.place);
-        smaller.len() < set.len() && are_marked(marked, smaller)
+        smaller.len() < size && are_marked(marked, smaller)
     }
 
-    // Whether one of some waiters' sets is.
-    fn is_any_found(sets: &Sets, marked: &UnitSet, set: &[UnitNo], waiters: &[Waiter]) -> bool
-        requires waiters { All (IsWaiter sets.now (length sets.now)) waiters.now }
-        requires marks { AreAlike marked.now set.now }
-        ensures { result ≡ list_any (λ (waiter : Waiter). is_smaller_within set.now (set_at sets.now waiter.place)) waiters.now }
+    // Whether one of some waiters' sets does.
+    fn is_any_found(sets: &Sets, marked: &UnitSet, size: usize, waiters: &[Waiter]) -> bool
+        requires { All (IsWaiter sets.now (length sets.now)) waiters.now }
+        ensures { result ≡ list_any (λ (waiter : Waiter). is_short_within size marked.now (set_at sets.now waiter.place)) waiters.now }
     {
         for waiter in waiters {
-            if Waiting::is_found(sets, marked, set, *waiter) {
+            if Waiting::is_found(sets, marked, size, *waiter) {
                 return true;
             }
         }
         false
     }
 
-    /// Whether one of the sets that wait is smaller than a set, whose units are marked, and within it.
-    pub fn finds(&self, sets: &Sets, marked: &UnitSet, set: &[UnitNo]) -> bool
+    /// Whether one of the sets that wait has fewer units than a size, and lies within a set, whose units are marked.
+    pub fn finds(&self, sets: &Sets, marked: &UnitSet, set: &[UnitNo], size: usize) -> bool
         requires waiting { AreWaiting sets.now self.now.count self.now.at.items }
         requires marks { AreAlike marked.now set.now }
-        ensures { result ≡ list_any (is_smaller_within set.now) (take self.now.count sets.now) }
+        ensures { result ≡ list_any (is_short_within size set.now) (take self.now.count sets.now) }
     {
         for unit in set {
             let waiters = self.at[unit.number() as usize].as_slice();
-            if Waiting::is_any_found(sets, marked, set, waiters) {
+            if Waiting::is_any_found(sets, marked, size, waiters) {
                 return true;
             }
         }

@@ -1,6 +1,6 @@
 use Rattle.std.proofs.Common.{arith}
 use Rattle.cutset_lists.proofs.SetLemmas.{AddsBoth-step, AddsSetsOf-step}
-use Rattle.cutset_lists.proofs.combine.add_product.Goals as goal
+use Rattle.cutset_lists.proofs.combine.add_all_unions.Goals as goal
 
 pub loop-i-preserved : goal.loop-i-preserved
 loop-i-preserved c = record {

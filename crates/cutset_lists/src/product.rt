@@ -1,0 +1,67 @@
+//! Products of two lists: the unions of a set of each.
+//!
+//! A set of one list that has one of the other within it is its own union with that set, and all its other unions include
+//! it, so it stands for them all. Where lists share units such sets are split off, and only the rest is multiplied.
+ghost use Rattle.std.specs.Prelude.{◌≡◌, true, IfOk, OnOk};
+ghost use Rattle.cutset_lists.specs.Sets.{AddsBoth, AddsSetsOf, HitsBoth, AreSetsAs};
+ghost use Rattle.cutset_lists.specs.Waiting.{AreFilled};
+
+use crate::combine::{add_all_unions, append};
+use crate::split::{are_filled, split};
+use crate::{NoMemory, Sets};
+use flat_rows::Rows;
+use std::alloc::Global;
+
+// From so many sets on in both lists, a split pays for the tables of those that wait.
+const MANY: usize = 16;
+
+// Whether a split of two lists is possible and pays.
+fn are_split(left: &Sets, right: &Sets) -> bool
+    ensures left { result ≡ true → AreFilled left.now }
+    ensures right { result ≡ true → AreFilled right.now }
+{
+    left.len() >= MANY && right.len() >= MANY && are_filled(left) && are_filled(right)
+}
+
+// Adds the sets that stand for themselves, and the unions of the others.
+fn add_split(alloc: Global, sets: &mut Sets, left: &Sets, right: &Sets) -> Result<(), NoMemory>
+    requires left { AreFilled left.now }
+    requires right { AreFilled right.now }
+    ensures hits { OnOk result (AddsBoth left.now right.now sets.old sets.new) }
+    ensures sets { OnOk result (AddsSetsOf left.now right.now sets.old sets.new) }
+{
+    let lefts = split(alloc, left, right)?;
+    let rights = split(alloc, right, left)?;
+    append(sets, &lefts.including)?;
+    append(sets, &rights.including)?;
+    add_all_unions(alloc, sets, &lefts.rest, &rights.rest)?;
+    Ok(())
+}
+
+/// Adds the product of two lists. Where they are apart no set of one includes one of the other.
+pub fn add_product(
+    alloc: Global,
+    sets: &mut Sets,
+    left: &Sets,
+    right: &Sets,
+    apart: bool,
+) -> Result<(), NoMemory>
+    ensures hits { OnOk result (AddsBoth left.now right.now sets.old sets.new) }
+    ensures sets { OnOk result (AddsSetsOf left.now right.now sets.old sets.new) }
+{
+    if !apart && are_split(left, right) {
+        add_split(alloc, sets, left, right)
+    } else {
+        add_all_unions(alloc, sets, left, right)
+    }
+}
+
+/// The product of two lists.
+pub fn product(alloc: Global, left: &Sets, right: &Sets, apart: bool) -> Result<Sets, NoMemory>
+    ensures hits { IfOk result (HitsBoth left.now right.now) }
+    ensures sets { IfOk result (AreSetsAs left.now right.now) }
+{
+    let mut sets = Rows::new(alloc);
+    add_product(alloc, &mut sets, left, right, apart)?;
+    Ok(sets)
+}

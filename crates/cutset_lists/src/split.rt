@@ -1,0 +1,62 @@
+//! A list in two parts: the sets that include one of another list, and the rest.
+ghost use Rattle.std.specs.Prelude.{◌≡◌, [], true, IfOk};
+ghost use Rattle.cutset_lists.specs.Sets.{Includes, IsSplit};
+ghost use Rattle.cutset_lists.specs.Waiting.{AreFilled, AreWaiting};
+
+use crate::sifting::{keep_unless, mark, unmark};
+use crate::waiting::Waiting;
+use crate::{NoMemory, Sets, UnitNo};
+use flat_rows::Rows;
+use std::alloc::Global;
+use unit_sets::UnitSet;
+
+/// The sets of a list that have one of another within them, and the rest.
+#[derive(Drop)]
+pub struct Parts {
+    pub including: Sets,
+    pub rest: Sets,
+}
+
+/// Whether each set has a unit. If so, the sets can wait at their units.
+pub fn are_filled(sets: &Sets) -> bool
+    ensures { result ≡ true → AreFilled sets.now }
+{
+    for i in 0..sets.len() {
+        if sets.row(i).is_empty() {
+            return false;
+        }
+    }
+    true
+}
+
+// Whether a set includes one of those that wait. It may be told that it does not where it does: then it is multiplied.
+fn includes_some(waiting: &Waiting, marked: &mut UnitSet, sets: &Sets, set: &[UnitNo]) -> bool
+    requires waiting { AreWaiting sets.now waiting.now.count waiting.now.at.items }
+    requires marked { marked.old ≡ [] }
+    ensures found { result ≡ true → Includes sets.now set.now }
+    ensures marked { marked.new ≡ [] }
+{
+    mark(marked, set);
+    let found = waiting.finds(sets, marked, set, set.len() + 1);
+    unmark(marked, set);
+    found
+}
+
+/// Splits the sets that include one of another list off a list.
+pub fn split(alloc: Global, list: &Sets, other: &Sets) -> Result<Parts, NoMemory>
+    requires { AreFilled other.now }
+    ensures { IfOk result (λ parts. IsSplit list.now other.now parts.including parts.rest) }
+{
+    let mut waiting = Waiting::new(alloc)?;
+    waiting.take_up(other, usize::MAX)?;
+    let mut marked = UnitSet::new(alloc)?;
+    let mut including = Rows::new(alloc);
+    let mut rest = Rows::new(alloc);
+    for i in 0..list.len() {
+        let set = list.row(i);
+        let found = includes_some(&waiting, &mut marked, other, set);
+        keep_unless(&mut including, set, !found)?;
+        keep_unless(&mut rest, set, found)?;
+    }
+    Ok(Parts { including, rest })
+}
