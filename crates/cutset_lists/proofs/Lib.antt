@@ -9,3 +9,4 @@ pub mod PlanLemmas
 pub mod CutLemmas
 pub mod WaitingLemmas
 pub mod SplitLemmas
+pub mod OrderLemmas

@@ -6,6 +6,7 @@ ghost use Rattle.cutset_lists.specs.Generation.{HasList, AddsSome, Follows, each
 
 use crate::combine::append;
 use crate::minimal::minimal;
+use crate::order::shortest_first;
 use crate::overlap::Owners;
 use crate::product::product;
 use crate::votes::at_least;
@@ -53,8 +54,8 @@ fn some_of(
     reduced(alloc, sets, apart)
 }
 
-// The unions of a set of each node's list.
-fn each_of(
+// The unions of a set of each node's list, one list after another.
+fn each_in_turn(
     alloc: Global,
     owners: &mut Owners,
     lists: &[Sets],
@@ -72,6 +73,20 @@ fn each_of(
         sets = reduced(alloc, both, apart)?;
     }
     Ok(sets)
+}
+
+// The unions of a set of each node's list.
+fn each_of(
+    alloc: Global,
+    owners: &mut Owners,
+    lists: &[Sets],
+    nodes: &[NodeNo],
+) -> Result<Sets, NoMemory>
+    requires { All (HasList lists.now) nodes.now }
+    ensures { IfOk result (Follows lists.now (each_rule nodes.now)) }
+{
+    let order = shortest_first(alloc, lists, nodes)?;
+    each_in_turn(alloc, owners, lists, order.as_slice())
 }
 
 // The list of a unit: itself alone, and what its triggers have.

@@ -12,6 +12,7 @@ mod cut_list;
 mod gate;
 mod merge;
 mod minimal;
+mod order;
 mod overlap;
 mod plan;
 mod product;

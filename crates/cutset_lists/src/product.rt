@@ -23,8 +23,8 @@ fn are_split(left: &Sets, right: &Sets) -> bool
     left.len() >= MANY && right.len() >= MANY && are_filled(left) && are_filled(right)
 }
 
-// Adds the sets that stand for themselves, and the unions of the others.
-fn add_split(alloc: Global, sets: &mut Sets, left: &Sets, right: &Sets) -> Result<(), NoMemory>
+/// Adds the product by the sets that stand for themselves and the unions of the others.
+pub fn add_split(alloc: Global, sets: &mut Sets, left: &Sets, right: &Sets) -> Result<(), NoMemory>
     requires left { AreFilled left.now }
     requires right { AreFilled right.now }
     ensures hits { OnOk result (AddsBoth left.now right.now sets.old sets.new) }

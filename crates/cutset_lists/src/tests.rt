@@ -3,6 +3,9 @@ ghost use Rattle.std.specs.Prelude.{◌≡◌, ℕ, [], ◌∷◌, map, replicat
 ghost use Rattle.fault_model.specs.Name.{is_name_byte};
 
 use super::*;
+use crate::minimal::minimal;
+use crate::product::add_split;
+use crate::split::are_filled;
 use fault_model::{
     AttributeList, AttributeLists, GateKind, InputLists, KindList, Name, NameTable, NodeList,
     NodeNo, Tree, TreeParts,
@@ -155,6 +158,46 @@ fn check(rt: &impl Abort, alloc: Global, tree: &Tree, rows: &[[u16; 2]]) -> Resu
     Ok(())
 }
 
+// A list of sets, each by its unit numbers, and 0 in place of a second one where there is none.
+fn list_of(alloc: Global, rows: &[[u16; 2]]) -> Result<Sets, NoMemory> {
+    let mut sets = Rows::new(alloc);
+    for row in rows {
+        let mut set = Vec::new(alloc);
+        for number in row {
+            if let Some(unit) = UnitNo::new(*number) {
+                set.push(unit)?;
+            }
+        }
+        sets.push(set.as_slice())?;
+    }
+    Ok(sets)
+}
+
+// The sets are those of two units, in order.
+fn check_pairs(rt: &impl Abort, sets: &Sets, rows: &[[u16; 2]]) {
+    assert_eq!(rt; sets.len(), rows.len());
+    for i in 0..rows.len() {
+        let set = sets.row(i);
+        assert_eq!(rt; set.len(), 2);
+        for j in 0..2 {
+            assert_eq!(rt; set[j].number(), rows[i][j], "in set {i}");
+        }
+    }
+}
+
+// `toplevel T; T and G H; G or A X; X and B C; H or B E Y; Y and A D;`: X has B within it, and Y has A.
+fn check_split(rt: &impl Abort, alloc: Global) -> Result<(), ListEnd> {
+    let left = list_of(alloc, &[[1, 0], [2, 3]])?;
+    let right = list_of(alloc, &[[2, 0], [5, 0], [1, 4]])?;
+    assert!(rt; are_filled(&left));
+    assert!(rt; are_filled(&right));
+    let mut sets = Rows::new(alloc);
+    add_split(alloc, &mut sets, &left, &right)?;
+    let cuts = minimal(alloc, &sets)?;
+    check_pairs(rt, &cuts, &[[1, 2], [1, 4], [1, 5], [2, 3]]);
+    Ok(())
+}
+
 fn check_superset_absorbed(rt: &impl Abort, alloc: Global) -> Result<(), ListEnd> {
     check(rt, alloc, &superset_absorbed(alloc)?, &[[1, 0]])
 }
@@ -182,6 +225,7 @@ fn check_por_gate(rt: &impl Abort, alloc: Global) -> Result<(), ListEnd> {
 #[test]
 fn cut_lists_of_small_trees(rt: HostRuntime) -> Result<(), Fail> {
     let alloc = rt.alloc();
+    check_split(&rt, alloc)?;
     check_superset_absorbed(&rt, alloc)?;
     check_two_of_three(&rt, alloc)?;
     check_repeated_input(&rt, alloc)?;

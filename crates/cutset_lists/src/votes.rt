@@ -4,6 +4,7 @@ ghost use Rattle.cutset_lists.specs.Generation.{HasList, Follows, at_least_rule}
 ghost use Rattle.cutset_lists.specs.Counts.{counts_of_none, CountsMore, CountsList};
 
 use crate::gate::{empty_set, reduced};
+use crate::order::shortest_first;
 use crate::overlap::Owners;
 use crate::product::add_product;
 use crate::{NoMemory, Sets};
@@ -62,8 +63,8 @@ fn count_list(
     Ok(())
 }
 
-// The unions of a set of each of `least` of the nodes' lists.
-pub fn at_least(
+// The unions of a set of each of `least` of the nodes' lists, one list after another.
+fn at_least_in_turn(
     alloc: Global,
     owners: &mut Owners,
     lists: &[Sets],
@@ -84,4 +85,19 @@ pub fn at_least(
         }
     }
     Ok(mem::replace(&mut counts[least], Rows::new(alloc)))
+}
+
+// The unions of a set of each of `least` of the nodes' lists.
+pub fn at_least(
+    alloc: Global,
+    owners: &mut Owners,
+    lists: &[Sets],
+    least: usize,
+    nodes: &[NodeNo],
+) -> Result<Sets, NoMemory>
+    requires { All (HasList lists.now) nodes.now }
+    ensures { IfOk result (Follows lists.now (at_least_rule least nodes.now)) }
+{
+    let order = shortest_first(alloc, lists, nodes)?;
+    at_least_in_turn(alloc, owners, lists, least, order.as_slice())
 }

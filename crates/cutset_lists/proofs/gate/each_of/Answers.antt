@@ -1,11 +1,12 @@
-use Rattle.std.proofs.Common.{arith}
-use Rattle.cutset_lists.proofs.GateLemmas.{each-none, each-step}
+use Rattle.std.proofs.lemmas.Result.{IfOk-weaker}
+use Rattle.cutset_lists.specs.Generation.{Follows, each_rule}
+use Rattle.cutset_lists.proofs.OrderLemmas.{HasList-order, each-order}
 use Rattle.cutset_lists.proofs.gate.each_of.Goals as goal
 
-pub loop-node-init : goal.loop-node-init
-loop-node-init c = each-none c.args.lists.now c.args.nodes.now c.in_ok-sets.sets c.in_ok-sets.ensures
+pub each_in_turn-requires : goal.each_in_turn-requires
+each_in_turn-requires c = HasList-order c.args.lists.now c.args.nodes.now c.as_slice.result.now c.in_ok-order.order.items c.in_ok-order.ensures c.as_slice.ensures.value c.requires
 
-pub loop-node-preserved : goal.loop-node-preserved
-loop-node-preserved c =
-    each-step c.args.lists.now c.args.nodes.now c.loop-node.node-index c.node-item.result c.index.result c.index-lists-index.result (omega arith) c.node-item.is c.requires c.index.ensures c.index-lists-index.is
-    c.loop-node.sets c.in_ok-both.both c.in_ok-sets-2.sets c.in_ok-both.ensures.hits c.in_ok-both.ensures.sets c.in_ok-sets-2.ensures c.loop-node.invariant
+pub returns : goal.returns
+returns c =
+    IfOk-weaker c.each_in_turn.result (Follows c.args.lists.now (each_rule c.as_slice.result.now)) (Follows c.args.lists.now (each_rule c.args.nodes.now))
+    (λ made follows. each-order c.args.lists.now c.args.nodes.now c.as_slice.result.now c.in_ok-order.order.items c.in_ok-order.ensures c.as_slice.ensures.value made follows) c.each_in_turn.ensures
