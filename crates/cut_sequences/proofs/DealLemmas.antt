@@ -1,0 +1,172 @@
+-- Sets that are dealt to workers, and gathered again.
+use Rattle.std.proofs.Common.{◌≡◌, ℕ, zero, suc, ◌+◌, ◌-◌, ◌*◌, ◌/◌, ◌%◌, ◌<◌, ◌≤◌, List, [], ◌∷◌, ◌++◌, length, get_or, take, drop, map, Option, None, Result, Ok, refl, ap, sym, subst, ◌∙◌, arith, add-one}
+use Rattle.std.proofs.Math.Nat.{div-add-mod, mod-lt}
+use Rattle.std.specs.List.{sum_by}
+use Rattle.std.proofs.lemmas.List.{drop_more, drop_all, drop-drop, take_more, take_all, length-map, get_or-map, get_or_read}
+use Rattle.std.proofs.lemmas.List.Sums.{sum_by_more}
+use Rattle.cut_sequences.specs.declared.refusal.OrderEnd.{OrderEnd}
+use Rattle.cut_sequences.specs.Orders.{order_count, order_total}
+use Rattle.cut_sequences.specs.Dealing.{dealt, Share, IsShare, AreShares, list_in, gathered}
+use Rattle.cut_sequences.proofs.ListLemmas.{order_total-append}
+
+-- ---- the places of what a worker gets
+
+pub get_or-dealt : {X : Type 0} (waits others k : ℕ) (items : List X) (d : X) → get_or (dealt waits others items) k d ≡ get_or items (waits + k * suc others) d
+get_or-dealt waits others k [] d = refl
+get_or-dealt zero others zero (item ∷ items) d =
+    let place : zero ≡ zero + zero * suc others = omega arith in
+    ap (λ n. get_or (item ∷ items) n d) place
+get_or-dealt zero others (suc k) (item ∷ items) d =
+    let place : zero + suc k * suc others ≡ suc (others + k * suc others) = omega arith in
+    get_or-dealt others others k items d ∙ ap (λ n. get_or (item ∷ items) n d) (sym place)
+get_or-dealt (suc waits) others k (item ∷ items) d =
+    let place : suc waits + k * suc others ≡ suc (waits + k * suc others) = omega arith in
+    get_or-dealt waits others k items d ∙ ap (λ n. get_or (item ∷ items) n d) (sym place)
+
+pub dealt-reaches : {X : Type 0} (waits others k : ℕ) (items : List X) → waits + k * suc others < length items → k < length (dealt waits others items)
+dealt-reaches waits others k [] short = absurd (omega arith)
+dealt-reaches zero others zero (item ∷ items) short = omega arith
+dealt-reaches zero others (suc k) (item ∷ items) short =
+    let place : zero + suc k * suc others ≡ suc (others + k * suc others) = omega arith in
+    omega (arith, dealt-reaches others others k items (omega arith))
+dealt-reaches (suc waits) others k (item ∷ items) short = dealt-reaches waits others k items (omega arith)
+
+place_again : (i workers : ℕ) → 0 < workers → i % workers + (i / workers) * suc (workers - 1) ≡ i
+place_again i workers some =
+    let same : suc (workers - 1) ≡ workers = omega arith in
+    rw same (omega (arith, div-add-mod i workers))
+
+-- ---- what a worker gets, set by set
+
+pub dealt-drop : {X : Type 0} (waits others : ℕ) (items : List X) → dealt 0 others (drop waits items) ≡ dealt waits others items
+dealt-drop zero others items = refl
+dealt-drop (suc waits) others [] = refl
+dealt-drop (suc waits) others (item ∷ items) = dealt-drop waits others items
+
+pub dealt-next : {X : Type 0} (next others : ℕ) (items : List X) (d : X) → next < length items
+    → dealt 0 others (drop next items) ≡ get_or items next d ∷ dealt 0 others (drop (next + suc others) items)
+dealt-next next others items d short =
+    let later : next + 1 + others ≡ next + suc others = omega arith in
+    ap (dealt 0 others) (drop_more items next d short)
+    ∙ ap (λ rest. get_or items next d ∷ rest) (sym (dealt-drop others others (drop (next + 1) items)) ∙ ap (dealt 0 others) (drop-drop others (next + 1) items ∙ ap (λ n. drop n items) later))
+
+pub dealt-end : {X : Type 0} (next others : ℕ) (items : List X) → length items ≤ next → dealt 0 others (drop next items) ≡ []
+dealt-end next others items past = ap (dealt 0 others) (drop_all next items past)
+
+pub dealt-le : (waits others : ℕ) (lists : Share) → order_total (dealt waits others lists) ≤ order_total lists
+dealt-le waits others [] = omega arith
+dealt-le zero others (list ∷ lists) = omega (arith, dealt-le others others lists)
+dealt-le (suc waits) others (list ∷ lists) = omega (arith, dealt-le waits others lists)
+
+-- what has been listed and the list of one set more are of the worker's share
+pub part-le : (worker others : ℕ) (all listed rest : Share) (list : Option (List (List ℕ))) → listed ++ list ∷ rest ≡ dealt worker others all → order_total listed + order_count list ≤ order_total all
+part-le worker others all listed rest list is =
+    omega (arith, dealt-le worker others all, sym (ap order_total is), order_total-append listed (list ∷ rest))
+
+-- ---- all sets together
+
+pub list_in-is : (lists : Share) (shares : List Share) → AreShares lists shares → (i : ℕ) → list_in shares i ≡ get_or lists i None
+list_in-is lists shares are i =
+    let within : i % length shares < length shares = mod-lt i are.some in
+    ap (λ (s : Share). get_or s (i / length shares) None) (are.each (i % length shares) within)
+    ∙ get_or-dealt (i % length shares) (length shares - 1) (i / length shares) lists None
+    ∙ ap (λ n. get_or lists n None) (place_again i (length shares) are.some)
+
+pub share_reaches : (lists : Share) (shares : List Share) → AreShares lists shares → (i : ℕ) → i < length lists → i / length shares < length (get_or shares (i % length shares) [])
+share_reaches lists shares are i short =
+    let within : i % length shares < length shares = mod-lt i are.some in
+    subst (λ (s : Share). i / length shares < length s) (sym (are.each (i % length shares) within))
+    (dealt-reaches (i % length shares) (length shares - 1) (i / length shares) lists
+    (subst (λ n. n < length lists) (sym (place_again i (length shares) are.some)) short))
+
+gathered-take : (lists : Share) (shares : List Share) → AreShares lists shares → (sets : ℕ) → sets ≤ length lists → gathered sets shares ≡ take sets lists
+gathered-take lists shares are zero short = refl
+gathered-take lists shares are (suc sets) short =
+    let below : sets < length lists = omega arith in
+    ap (λ (l : Share). l ++ list_in shares sets ∷ []) (gathered-take lists shares are sets (omega arith))
+    ∙ ap (λ (o : Option (List (List ℕ))). take sets lists ++ o ∷ []) (list_in-is lists shares are sets)
+    ∙ sym (take_more lists sets None below) ∙ ap (λ n. take n lists) (add-one sets)
+
+pub gathered-is : (lists : Share) (shares : List Share) (sets : ℕ) → AreShares lists shares → sets ≡ length lists → gathered sets shares ≡ lists
+gathered-is lists shares sets are all = gathered-take lists shares are sets (omega arith) ∙ take_all sets lists (omega arith)
+
+pub length-gathered : (sets : ℕ) (shares : List Share) → length (gathered sets shares) ≡ sets
+length-gathered zero shares = refl
+length-gathered (suc sets) shares = omega (arith, length_push-is (gathered sets shares) (list_in shares sets), length-gathered sets shares)
+  where
+    length_push-is : (xs : Share) (x : Option (List (List ℕ))) → length (xs ++ x ∷ []) ≡ length xs + 1
+    length_push-is [] x = refl
+    length_push-is (y ∷ xs) x = omega (arith, length_push-is xs x)
+
+-- ---- the numbers of orders
+
+dealt_total : ℕ → ℕ → Share → ℕ
+dealt_total zero others lists = 0
+dealt_total (suc n) others lists = dealt_total n others lists + order_total (dealt n others lists)
+
+dealt_total-nil : (n others : ℕ) → dealt_total n others [] ≡ 0
+unfolding dealt_total
+dealt_total-nil zero others = refl
+dealt_total-nil (suc n) others = omega (arith, dealt_total-nil n others)
+
+dealt_total-cons : (n others : ℕ) (list : Option (List (List ℕ))) (lists : Share)
+    → dealt_total (suc n) others (list ∷ lists) ≡ order_count list + order_total (dealt others others lists) + dealt_total n others lists
+unfolding dealt_total
+dealt_total-cons zero others list lists = omega arith
+dealt_total-cons (suc n) others list lists = omega (arith, dealt_total-cons n others list lists)
+
+dealt_total-all : (others : ℕ) (lists : Share) → dealt_total (suc others) others lists ≡ order_total lists
+unfolding dealt_total
+dealt_total-all others [] = dealt_total-nil (suc others) others
+dealt_total-all others (list ∷ lists) = omega (arith, dealt_total-cons others others list lists, dealt_total-all others lists)
+
+shares_total : (lists : Share) (shares : List Share) → AreShares lists shares → (n : ℕ) → n ≤ length shares → sum_by order_total (take n shares) ≡ dealt_total n (length shares - 1) lists
+unfolding dealt_total
+shares_total lists shares are zero short = refl
+shares_total lists shares are (suc n) short =
+    let below : n < length shares = omega arith in
+    ap (λ m. sum_by order_total (take m shares)) (sym (add-one n))
+    ∙ sum_by_more order_total shares n [] below
+    ∙ omega (arith, shares_total lists shares are n (omega arith), ap order_total (are.each n below))
+
+-- the shares have as many orders as all lists together
+pub total_of_shares : (lists : Share) (shares : List Share) → AreShares lists shares → sum_by order_total shares ≡ order_total lists
+total_of_shares lists shares are =
+    let all : length shares ≡ suc (length shares - 1) = let some : 0 < length shares = are.some in omega arith in
+    ap (sum_by order_total) (sym (take_all (length shares) shares (omega arith)))
+    ∙ shares_total lists shares are (length shares) (omega arith)
+    ∙ ap (λ n. dealt_total n (length shares - 1) lists) all
+    ∙ dealt_total-all (length shares - 1) lists
+
+-- ---- a set's list in its share
+
+pub share_at : (lists : Share) (sets : ℕ) (shares : List Share) (i workers : ℕ) (share : Share) → AreShares (gathered sets shares) shares → gathered sets shares ≡ lists → workers ≡ length shares
+    → share ≡ get_or shares (i % workers) share → i < length lists → (i / workers < length share) × (get_or share (i / workers) None ≡ get_or lists i None)
+share_at lists sets shares i workers share are view all here short =
+    let whole : AreShares lists shares = subst (λ (l : Share). AreShares l shares) view are in
+    let within : i % length shares < length shares = mod-lt i whole.some in
+    let at : share ≡ get_or shares (i % length shares) [] =
+    get_or_read shares (i % length shares) share within (subst (λ n. share ≡ get_or shares (i % n) share) all here) [] in (
+      subst (λ (s : Share). i / workers < length s) (sym at) (subst (λ n. i / n < length (get_or shares (i % length shares) [])) (sym all) (share_reaches lists shares whole i short)),
+      ap (λ (s : Share). get_or s (i / workers) None) at ∙ ap (λ n. get_or (get_or shares (i % length shares) []) (i / n) None) all ∙ list_in-is lists shares whole i,
+    )
+
+-- ---- from the answers of all workers
+
+pub are_shares : (lists : Share) (answers : List (Result Share OrderEnd)) (shares : List Share) (workers : ℕ) → 0 < workers → length answers ≡ workers → answers ≡ map Ok shares
+    → ((worker : ℕ) → worker < workers → IsShare lists workers worker (get_or answers worker (Ok []))) → AreShares lists shares
+are_shares lists answers shares workers some all oks each =
+    let many : length shares ≡ workers = sym (length-map shares Ok) ∙ sym (ap length oks) ∙ all in
+    record {
+      some = omega (arith, many);
+      each = λ worker within.
+          let below : worker < workers = omega (arith, many) in
+          let ok : get_or answers worker (Ok []) ≡ Ok (get_or shares worker []) = ap (λ (l : List (Result Share OrderEnd)). get_or l worker (Ok [])) oks ∙ get_or-map Ok shares worker [] (Ok []) within in
+          let is : get_or shares worker [] ≡ dealt worker (workers - 1) lists = subst (IsShare lists workers worker) ok (each worker below) in
+          is ∙ ap (λ n. dealt worker (n - 1) lists) (sym many);
+    }
+
+pub gathered_answers : (lists : Share) (answers : List (Result Share OrderEnd)) (shares : List Share) (workers sets : ℕ) → 0 < workers → length answers ≡ workers → answers ≡ map Ok shares
+    → ((worker : ℕ) → worker < workers → IsShare lists workers worker (get_or answers worker (Ok []))) → sets ≡ length lists → gathered sets shares ≡ lists
+gathered_answers lists answers shares workers sets some all oks each same =
+    gathered-is lists shares sets (are_shares lists answers shares workers some all oks each) same

@@ -1,0 +1,6 @@
+pub mod ListLemmas
+pub mod MarkLemmas
+pub mod DealLemmas
+pub mod GoingLemmas
+pub mod ShareLemmas
+pub mod PermutationLemmas

@@ -1,0 +1,67 @@
+-- The sets of a worker, one after another.
+use Rattle.std.proofs.Common.{◌≡◌, ℕ, zero, suc, ◌+◌, ◌-◌, ◌<◌, ◌≤◌, List, [], ◌∷◌, ◌++◌, length, get_or, drop, All, Option, None, Some, slice_get, ap, sym, ◌∙◌, arith, append_assoc}
+use Rattle.std.proofs.lemmas.List.{get_or-map, length-map}
+use Rattle.std.proofs.lemmas.List.Sums.{sum_by-cons}
+use Rattle.unit_sets.specs.CutOrder.{IsOrderedCuts, cut_at, weight}
+use Rattle.unit_sets.specs.Sorted.{All-slice_get}
+use Rattle.fault_model.specs.Tree.{FaultTree, IsUnitOf}
+use Rattle.fault_model.specs.WellFormed.{IsTree}
+use Rattle.cut_sequences.specs.declared.mark.Mark.{Mark}
+use Rattle.cut_sequences.specs.declared.refusal.OrderEnd.{OrderEnd}
+use Rattle.cut_sequences.specs.Orders.{orders_of, order_lists, order_count, order_total, IsOver}
+use Rattle.cut_sequences.specs.Going.{CanGoOn}
+use Rattle.cut_sequences.specs.Dealing.{dealt, Share}
+use Rattle.cut_sequences.specs.Marks.{lists_from, HoldsShare}
+use Rattle.cut_sequences.proofs.DealLemmas.{dealt-next, part-le}
+use Rattle.cut_sequences.proofs.GoingLemmas.{can_start}
+use Rattle.cut_sequences.proofs.ListLemmas.{IsOver-more}
+
+length-weight : (cuts : List (List ℕ)) → length cuts ≤ weight cuts
+length-weight [] = omega arith
+length-weight (cut ∷ cuts) = omega (arith, length-weight cuts, sum_by-cons (λ (c : List ℕ). 1 + length c) cut cuts)
+
+pub few_sets : (cuts : List (List ℕ)) → IsOrderedCuts cuts → length cuts ≤ 16777216
+few_sets cuts ordered = omega (arith, length-weight cuts, ordered.within)
+
+pub can_start_cut : (tree : FaultTree) (cuts : List (List ℕ)) (i : ℕ) (cut : List ℕ) → IsTree tree → IsOrderedCuts cuts → All (λ (c : List ℕ). All (IsUnitOf tree) c) cuts → slice_get cuts i ≡ Some cut → CanGoOn tree [] cut
+can_start_cut tree cuts i cut kept ordered units at =
+    can_start tree cut kept (cut_at cuts i cut ordered at).rising (All-slice_get (λ (c : List ℕ). All (IsUnitOf tree) c) cuts i cut units at)
+
+get_or_from_get : (cuts : List (List ℕ)) (i : ℕ) (cut : List ℕ) → slice_get cuts i ≡ Some cut → get_or cuts i [] ≡ cut
+get_or_from_get [] i cut at = absurd cc
+get_or_from_get (first ∷ cuts) zero cut at = cc
+get_or_from_get (first ∷ cuts) (suc i) cut at = get_or_from_get cuts i cut at
+
+-- what is still to be listed begins with the list of the next set
+pub next_list : (tree : FaultTree) (most : ℕ) (cuts : List (List ℕ)) (next workers : ℕ) (cut : List ℕ) → 0 < workers → next < length cuts → slice_get cuts next ≡ Some cut
+    → dealt 0 (workers - 1) (drop next (order_lists tree cuts most)) ≡ orders_of tree most cut ∷ dealt 0 (workers - 1) (drop (next + workers) (order_lists tree cuts most))
+next_list tree most cuts next workers cut some short at =
+    let all : Share = order_lists tree cuts most in
+    let within : next < length all = omega (arith, length-map cuts (orders_of tree most)) in
+    let here : get_or all next None ≡ orders_of tree most cut = get_or-map (orders_of tree most) cuts next [] None short ∙ ap (orders_of tree most) (get_or_from_get cuts next cut at) in
+    let step : next + suc (workers - 1) ≡ next + workers = omega arith in
+    dealt-next next (workers - 1) all None within
+    ∙ ap (λ (o : Option (List (List ℕ))). o ∷ dealt 0 (workers - 1) (drop (next + suc (workers - 1)) all)) here
+    ∙ ap (λ n. orders_of tree most cut ∷ dealt 0 (workers - 1) (drop n all)) step
+
+pub share_more : (tree tree' : FaultTree) (most : ℕ) (cuts : List (List ℕ)) (next worker workers : ℕ) (cut : List ℕ) (listed listed' : Share) → tree' ≡ tree → 0 < workers → next < length cuts → slice_get cuts next ≡ Some cut
+    → listed ++ dealt 0 (workers - 1) (drop next (order_lists tree cuts most)) ≡ dealt worker (workers - 1) (order_lists tree cuts most) → listed' ≡ listed ++ orders_of tree' most cut ∷ []
+    → listed' ++ dealt 0 (workers - 1) (drop (next + workers) (order_lists tree cuts most)) ≡ dealt worker (workers - 1) (order_lists tree cuts most)
+share_more tree tree' most cuts next worker workers cut listed listed' same some short at so_far more =
+    let rest : Share = dealt 0 (workers - 1) (drop (next + workers) (order_lists tree cuts most)) in
+    ap (λ (l : Share). l ++ rest) more
+    ∙ ap (λ (t : FaultTree). (listed ++ orders_of t most cut ∷ []) ++ rest) same
+    ∙ append_assoc listed (orders_of tree most cut ∷ []) rest
+    ∙ ap (λ (l : Share). listed ++ l) (sym (next_list tree most cuts next workers cut some short at))
+    ∙ so_far
+
+pub share_over : (tree tree' : FaultTree) (most : ℕ) (cuts : List (List ℕ)) (next worker workers : ℕ) (cut : List ℕ) (marks : List Mark) (orders : List (List ℕ)) (end : OrderEnd) → tree' ≡ tree → 0 < workers → next < length cuts → slice_get cuts next ≡ Some cut
+    → HoldsShare marks orders → lists_from 0 marks orders ++ dealt 0 (workers - 1) (drop next (order_lists tree cuts most)) ≡ dealt worker (workers - 1) (order_lists tree cuts most)
+    → IsOver (length orders + order_count (orders_of tree' most cut)) end → IsOver (order_total (order_lists tree cuts most)) end
+share_over tree tree' most cuts next worker workers cut marks orders end same some short at held so_far over =
+    let all : Share = order_lists tree cuts most in
+    let count : order_count (orders_of tree' most cut) ≡ order_count (orders_of tree most cut) = ap (λ (t : FaultTree). order_count (orders_of t most cut)) same in
+    let parts : lists_from 0 marks orders ++ orders_of tree most cut ∷ dealt 0 (workers - 1) (drop (next + workers) all) ≡ dealt worker (workers - 1) all =
+    ap (λ (l : Share). lists_from 0 marks orders ++ l) (sym (next_list tree most cuts next workers cut some short at)) ∙ so_far in
+    IsOver-more (length orders + order_count (orders_of tree' most cut)) (order_total all) end
+    (omega (arith, count, held.total, part-le worker (workers - 1) all (lists_from 0 marks orders) (dealt 0 (workers - 1) (drop (next + workers) all)) (orders_of tree most cut) parts)) over

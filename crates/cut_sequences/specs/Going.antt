@@ -1,0 +1,29 @@
+-- What the search for the failing orders of a set does where it goes on from some units that have failed.
+use Rattle.std.specs.Prelude.{◌≡◌, ℕ, ◌+◌, ◌≤◌, true, false, List, [], ◌∷◌, ◌++◌, length, map, filter, All, Result, Ok, Err, remove, slice_index}
+use Rattle.unit_sets.specs.UnitList.{among, IsRising}
+use Rattle.fault_model.specs.Tree.{FaultTree, IsUnitOf}
+use Rattle.fault_model.specs.WellFormed.{IsTree}
+use Rattle.fault_model.specs.FailingOrder.{is_failing}
+use Rattle.cut_sequences.specs.declared.refusal.OrderEnd.{OrderEnd}
+use Rattle.cut_sequences.specs.Orders.{order_limit, IsOver}
+use Rattle.cut_sequences.specs.Permutations.{permutations}
+
+-- the units that are left can fail after those of an order
+pub record CanGoOn (tree : FaultTree) (order left : List ℕ) : Type 0 where
+  pub kept : IsTree tree
+  pub rising : IsRising left
+  pub units : All (IsUnitOf tree) left
+  pub apart : (unit : ℕ) → among left unit ≡ true → among order unit ≡ false
+
+-- the failing orders that begin so, and go on with all units that are left
+abbrev pub failing_from : FaultTree → List ℕ → List ℕ → List (List ℕ)
+failing_from tree order left = filter (is_failing tree) (map (λ (rest : List ℕ). order ++ rest) (permutations left))
+
+-- the same where the unit of a place fails next
+abbrev pub failing_after : FaultTree → List ℕ → List ℕ → ℕ → List (List ℕ)
+failing_after tree order left i = failing_from tree (order ++ slice_index left i ∷ []) (remove left i)
+
+-- some orders are listed after those before, or they and those before are too many
+abbrev pub Lists : {T : Type 0} → List (List ℕ) → List (List ℕ) → List (List ℕ) → Result T OrderEnd → Type 0
+Lists before after due (Ok _) = (after ≡ before ++ due) × (length after ≤ order_limit)
+Lists before after due (Err end) = IsOver (length before + length due) end

@@ -1,0 +1,5 @@
+pub mod Permutations
+pub mod Orders
+pub mod Going
+pub mod Dealing
+pub mod Marks
