@@ -1,5 +1,5 @@
 -- What is read as `cuts`.
-use Rattle.std.specs.Prelude.{◌≡◌, ℕ, zero, suc, ◌<◌, ◌≤◌, ◌⊎◌, Bool, true, false, ◌&&◌, ◌||◌, not, ◌==◌, if◌then◌else◌, List, [], ◌∷◌, codes, decimal, Option, Some, None}
+use Rattle.std.specs.Prelude.{◌≡◌, ℕ, zero, suc, ◌<◌, ◌≤◌, ◌⊎◌, Bool, true, false, ◌||◌, not, ◌==◌, if◌then◌else◌, List, [], ◌∷◌, codes, decimal, Option, Some, None}
 use Rattle.std.proofs.Common.{refl, arith, sym, ap, ◌∙◌, subst, inl, inr}
 use Rattle.std.proofs.lemmas.Bool.{and_parts, or_cases, or_parts, agree_below_at, eqb-true, not-true}
 use lib.Pointwise.{bytes_decides}
@@ -9,52 +9,53 @@ use Rattle.board_words.specs.declared.command.Command.TheVariants.{Cuts, Help}
 use Rattle.board_words.specs.Number.{number_within}
 use Rattle.board_words.specs.Options.{is_same, is_option, are_options, is_said_once, option_number}
 use Rattle.board_words.specs.Command.{is_cuts_option, cuts_with, cuts_of, if_alone, command_of}
-use Rattle.board_words.specs.Spellings.{SpellsCuts, unsaid, behind, before}
-use Rattle.board_words.proofs.Numerals.{some_if, some_is, says, Says}
+use Rattle.board_words.specs.Spellings.{SpellsCuts, unsaid, most_said, workers_said, most_first, workers_first}
+use Rattle.board_words.proofs.Numerals.{some_if, some_is, says}
 
 -- ---- a spelling is read
 
-is_cuts_by : ℕ → Option Command → Bool
-is_cuts_by workers None = false
-is_cuts_by workers (Some (Cuts most others)) = most == 0 && others == workers
-is_cuts_by workers (Some Help) = false
+is_number : ℕ → Option ℕ → Bool
+is_number n None = false
+is_number n (Some m) = m == n
 
-cuts_by : (workers : ℕ) (command : Option Command) → is_cuts_by workers command ≡ true → command ≡ Some (Cuts 0 workers)
-unfolding is_cuts_by
-cuts_by workers None e = absurd cc
-cuts_by workers (Some (Cuts most others)) e =
-    let parts = and_parts (most == 0) (others == workers) e in
-    ap (λ n. Some (Cuts n others)) (eqb-true most 0 parts.0) ∙ ap (λ n. Some (Cuts 0 n)) (eqb-true others workers parts.1)
-cuts_by workers (Some Help) e = absurd cc
+number_is : (n : ℕ) (number : Option ℕ) → is_number n number ≡ true → number ≡ Some n
+unfolding is_number
+number_is n None e = absurd cc
+number_is n (Some m) e = ap (λ k. Some k) (eqb-true m n e)
 
-abbrev behind_words : ℕ → List (List ℕ)
-behind_words workers = codes "cuts" ∷ codes "--most" ∷ codes "0" ∷ codes "--workers" ∷ decimal workers ∷ []
+most_in_table : (n : ℕ) → n < 9 → is_number n (number_within 0 8 (decimal n)) ≡ true
+unfolding is_number digits
+most_in_table n few = agree_below_at (λ k. is_number k (number_within 0 8 (decimal k))) (λ k. true) 9 n refl few
 
-abbrev before_words : ℕ → List (List ℕ)
-before_words workers = codes "cuts" ∷ codes "--workers" ∷ decimal workers ∷ codes "--most" ∷ codes "0" ∷ []
+workers_in_table : (n : ℕ) → n < 16 → is_number (suc n) (number_within 1 16 (decimal (suc n))) ≡ true
+unfolding is_number digits
+workers_in_table n few = agree_below_at (λ k. is_number (suc k) (number_within 1 16 (decimal (suc k)))) (λ k. true) 16 n refl few
 
-read_behind : (n : ℕ) → n < 16 → is_cuts_by (suc n) (command_of (behind_words (suc n))) ≡ true
-unfolding is_cuts_by digits
-read_behind n few = agree_below_at (λ k. is_cuts_by (suc k) (command_of (behind_words (suc k)))) (λ k. true) 16 n refl few
+most_read : (most : ℕ) → most ≤ 8 → number_within 0 8 (decimal most) ≡ Some most
+most_read most high = number_is most (number_within 0 8 (decimal most)) (most_in_table most (omega (arith, high)))
 
-read_before : (n : ℕ) → n < 16 → is_cuts_by (suc n) (command_of (before_words (suc n))) ≡ true
-unfolding is_cuts_by digits
-read_before n few = agree_below_at (λ k. is_cuts_by (suc k) (command_of (before_words (suc k)))) (λ k. true) 16 n refl few
+workers_read : (workers : ℕ) → 1 ≤ workers → workers ≤ 16 → number_within 1 16 (decimal workers) ≡ Some workers
+workers_read zero low high = absurd (omega (arith, low))
+workers_read (suc n) low high = number_is (suc n) (number_within 1 16 (decimal (suc n))) (workers_in_table n (omega (arith, high)))
 
-behind_read : (workers : ℕ) → 1 ≤ workers → workers ≤ 16 → command_of (behind_words workers) ≡ Some (Cuts 0 workers)
-behind_read zero low high = absurd (omega (arith, low))
-behind_read (suc n) low high = cuts_by (suc n) (command_of (behind_words (suc n))) (read_behind n (omega (arith, high)))
+both_read : (first second : Option ℕ) (most workers : ℕ) → first ≡ Some most → second ≡ Some workers → cuts_with first second ≡ Some (Cuts most workers)
+both_read first second most workers one two = ap (λ o. cuts_with o second) one ∙ ap (cuts_with (Some most)) two
 
-before_read : (workers : ℕ) → 1 ≤ workers → workers ≤ 16 → command_of (before_words workers) ≡ Some (Cuts 0 workers)
-before_read zero low high = absurd (omega (arith, low))
-before_read (suc n) low high = cuts_by (suc n) (command_of (before_words (suc n))) (read_before n (omega (arith, high)))
-
-pub spelling_read : (workers : ℕ) (words : List (List ℕ)) → SpellsCuts workers words → command_of words ≡ Some (Cuts 0 workers)
-spelling_read workers words unsaid = refl
-spelling_read workers words (behind low high) = behind_read workers low high
-spelling_read workers words (before low high) = before_read workers low high
+pub spelling_read : (most workers : ℕ) (words : List (List ℕ)) → SpellsCuts most workers words → command_of words ≡ Some (Cuts most workers)
+spelling_read most workers words unsaid = refl
+spelling_read most workers words (most_said high) = both_read (number_within 0 8 (decimal most)) (Some 4) most 4 (most_read most high) refl
+spelling_read most workers words (workers_said low high) = both_read (Some 6) (number_within 1 16 (decimal workers)) 6 workers refl (workers_read workers low high)
+spelling_read most workers words (most_first few low high) =
+    both_read (number_within 0 8 (decimal most)) (number_within 1 16 (decimal workers)) most workers (most_read most few) (workers_read workers low high)
+spelling_read most workers words (workers_first few low high) =
+    both_read (number_within 0 8 (decimal most)) (number_within 1 16 (decimal workers)) most workers (most_read most few) (workers_read workers low high)
 
 -- ---- nothing else is
+
+is_cuts : Option Command → Bool
+is_cuts None = false
+is_cuts (Some (Cuts most workers)) = true
+is_cuts (Some Help) = false
 
 most_in : Option Command → ℕ
 most_in None = 0
@@ -103,52 +104,53 @@ three a b c ka kb kc ab ac bc = elim ka [
 
 module _ (most workers : ℕ) where
   abbrev Spelled : List (List ℕ) → Type 0
-  Spelled options = (most ≡ 0) × SpellsCuts workers (codes "cuts" ∷ options)
+  Spelled options = SpellsCuts most workers (codes "cuts" ∷ options)
 
   abbrev IsRead : List (List ℕ) → Type 0
   IsRead options = cuts_of options ≡ Some (Cuts most workers)
 
-  zero_said : (word : List ℕ) → Says 0 0 word most → (most ≡ 0) × (word ≡ codes "0")
-  unfolding digits
-  zero_said word said = let none : most ≡ 0 = (let high = said.high in omega (arith, high)) in (none, said.is ∙ ap decimal none)
+  no_option : IsRead [] → Spelled []
+  no_option e =
+      let parts = with_parts (Some 6) (Some 4) most workers e in
+      subst (λ m. SpellsCuts m workers (codes "cuts" ∷ [])) (some_is 6 most parts.0)
+      (subst (λ w. SpellsCuts 6 w (codes "cuts" ∷ [])) (some_is 4 workers parts.1) unsaid)
 
-  most_alone : (value : List ℕ) → IsRead (codes "--most" ∷ value ∷ []) → Spelled (codes "--most" ∷ value ∷ [])
-  most_alone value e =
-      let parts = with_parts (number_within 0 0 value) (Some 4) most workers e in
-      let said = zero_said value (says 0 0 value most (omega arith) parts.0) in
-      let four : 4 ≡ workers = some_is 4 workers parts.1 in (
-        said.0,
-        subst (λ v. SpellsCuts workers (codes "cuts" ∷ codes "--most" ∷ v ∷ [])) (sym said.1)
-            (subst (λ w. SpellsCuts w (codes "cuts" ∷ codes "--most" ∷ codes "0" ∷ [])) four unsaid),
-      )
+  only_most : (value : List ℕ) → IsRead (codes "--most" ∷ value ∷ []) → Spelled (codes "--most" ∷ value ∷ [])
+  only_most value e =
+      let parts = with_parts (number_within 0 8 value) (Some 4) most workers e in
+      let said = says 0 8 value most (omega arith) parts.0 in
+      subst (λ v. SpellsCuts most workers (codes "cuts" ∷ codes "--most" ∷ v ∷ [])) (sym said.is)
+      (subst (λ w. SpellsCuts most w (codes "cuts" ∷ codes "--most" ∷ decimal most ∷ [])) (some_is 4 workers parts.1) (most_said said.high))
 
-  most_first : (value other : List ℕ) → IsRead (codes "--most" ∷ value ∷ codes "--workers" ∷ other ∷ []) → Spelled (codes "--most" ∷ value ∷ codes "--workers" ∷ other ∷ [])
-  most_first value other e =
-      let parts = with_parts (number_within 0 0 value) (number_within 1 16 other) most workers e in
-      let said = zero_said value (says 0 0 value most (omega arith) parts.0) in
-      let many = says 1 16 other workers (omega arith) parts.1 in (
-        said.0,
-        subst (λ v. SpellsCuts workers (codes "cuts" ∷ codes "--most" ∷ v ∷ codes "--workers" ∷ other ∷ [])) (sym said.1)
-            (subst (λ o. SpellsCuts workers (codes "cuts" ∷ codes "--most" ∷ codes "0" ∷ codes "--workers" ∷ o ∷ [])) (sym many.is) (behind many.low many.high)),
-      )
+  only_workers : (value : List ℕ) → IsRead (codes "--workers" ∷ value ∷ []) → Spelled (codes "--workers" ∷ value ∷ [])
+  only_workers value e =
+      let parts = with_parts (Some 6) (number_within 1 16 value) most workers e in
+      let many = says 1 16 value workers (omega arith) parts.1 in
+      subst (λ v. SpellsCuts most workers (codes "cuts" ∷ codes "--workers" ∷ v ∷ [])) (sym many.is)
+      (subst (λ m. SpellsCuts m workers (codes "cuts" ∷ codes "--workers" ∷ decimal workers ∷ [])) (some_is 6 most parts.0) (workers_said many.low many.high))
 
-  workers_first : (other value : List ℕ) → IsRead (codes "--workers" ∷ other ∷ codes "--most" ∷ value ∷ []) → Spelled (codes "--workers" ∷ other ∷ codes "--most" ∷ value ∷ [])
-  workers_first other value e =
-      let parts = with_parts (number_within 0 0 value) (number_within 1 16 other) most workers e in
-      let said = zero_said value (says 0 0 value most (omega arith) parts.0) in
-      let many = says 1 16 other workers (omega arith) parts.1 in (
-        said.0,
-        subst (λ v. SpellsCuts workers (codes "cuts" ∷ codes "--workers" ∷ other ∷ codes "--most" ∷ v ∷ [])) (sym said.1)
-            (subst (λ o. SpellsCuts workers (codes "cuts" ∷ codes "--workers" ∷ o ∷ codes "--most" ∷ codes "0" ∷ [])) (sym many.is) (before many.low many.high)),
-      )
+  most_then_workers : (value other : List ℕ) → IsRead (codes "--most" ∷ value ∷ codes "--workers" ∷ other ∷ []) → Spelled (codes "--most" ∷ value ∷ codes "--workers" ∷ other ∷ [])
+  most_then_workers value other e =
+      let parts = with_parts (number_within 0 8 value) (number_within 1 16 other) most workers e in
+      let said = says 0 8 value most (omega arith) parts.0 in
+      let many = says 1 16 other workers (omega arith) parts.1 in
+      subst (λ v. SpellsCuts most workers (codes "cuts" ∷ codes "--most" ∷ v ∷ codes "--workers" ∷ other ∷ [])) (sym said.is)
+      (subst (λ o. SpellsCuts most workers (codes "cuts" ∷ codes "--most" ∷ decimal most ∷ codes "--workers" ∷ o ∷ [])) (sym many.is)
+      (most_first said.high many.low many.high))
 
-  workers_alone : {P : Type 0} (value : List ℕ) → IsRead (codes "--workers" ∷ value ∷ []) → P
-  workers_alone value e = absurd cc
+  workers_then_most : (other value : List ℕ) → IsRead (codes "--workers" ∷ other ∷ codes "--most" ∷ value ∷ []) → Spelled (codes "--workers" ∷ other ∷ codes "--most" ∷ value ∷ [])
+  workers_then_most other value e =
+      let parts = with_parts (number_within 0 8 value) (number_within 1 16 other) most workers e in
+      let said = says 0 8 value most (omega arith) parts.0 in
+      let many = says 1 16 other workers (omega arith) parts.1 in
+      subst (λ v. SpellsCuts most workers (codes "cuts" ∷ codes "--workers" ∷ other ∷ codes "--most" ∷ v ∷ [])) (sym said.is)
+      (subst (λ o. SpellsCuts most workers (codes "cuts" ∷ codes "--workers" ∷ o ∷ codes "--most" ∷ decimal most ∷ [])) (sym many.is)
+      (workers_first said.high many.low many.high))
 
   one_option : (option value : List ℕ) → Known option → IsRead (option ∷ value ∷ []) → Spelled (option ∷ value ∷ [])
   one_option option value known e = elim known [
-    | inl is ↦ subst (λ o. Spelled (o ∷ value ∷ [])) (sym is) (most_alone value (subst (λ o. IsRead (o ∷ value ∷ [])) is e))
-    | inr is ↦ workers_alone value (subst (λ o. IsRead (o ∷ value ∷ [])) is e)
+    | inl is ↦ subst (λ o. Spelled (o ∷ value ∷ [])) (sym is) (only_most value (subst (λ o. IsRead (o ∷ value ∷ [])) is e))
+    | inr is ↦ subst (λ o. Spelled (o ∷ value ∷ [])) (sym is) (only_workers value (subst (λ o. IsRead (o ∷ value ∷ [])) is e))
   ]
 
   two_options : (a v b u : List ℕ) → Known a → Known b → is_same b a ≡ false → IsRead (a ∷ v ∷ b ∷ u ∷ []) → Spelled (a ∷ v ∷ b ∷ u ∷ [])
@@ -156,11 +158,11 @@ module _ (most workers : ℕ) where
     | inl am ↦ elim kb [
       | inl bm ↦ alike a b (codes "--most") am bm other
       | inr bw ↦ subst (λ o. Spelled (o ∷ v ∷ b ∷ u ∷ [])) (sym am) (subst (λ o. Spelled (codes "--most" ∷ v ∷ o ∷ u ∷ [])) (sym bw)
-          (most_first v u (subst (λ o. IsRead (codes "--most" ∷ v ∷ o ∷ u ∷ [])) bw (subst (λ o. IsRead (o ∷ v ∷ b ∷ u ∷ [])) am e))))
+          (most_then_workers v u (subst (λ o. IsRead (codes "--most" ∷ v ∷ o ∷ u ∷ [])) bw (subst (λ o. IsRead (o ∷ v ∷ b ∷ u ∷ [])) am e))))
     ]
     | inr aw ↦ elim kb [
       | inl bm ↦ subst (λ o. Spelled (o ∷ v ∷ b ∷ u ∷ [])) (sym aw) (subst (λ o. Spelled (codes "--workers" ∷ v ∷ o ∷ u ∷ [])) (sym bm)
-          (workers_first v u (subst (λ o. IsRead (codes "--workers" ∷ v ∷ o ∷ u ∷ [])) bm (subst (λ o. IsRead (o ∷ v ∷ b ∷ u ∷ [])) aw e))))
+          (workers_then_most v u (subst (λ o. IsRead (codes "--workers" ∷ v ∷ o ∷ u ∷ [])) bm (subst (λ o. IsRead (o ∷ v ∷ b ∷ u ∷ [])) aw e))))
       | inr bw ↦ alike a b (codes "--workers") aw bw other
     ]
   ]
@@ -168,9 +170,8 @@ module _ (most workers : ℕ) where
   -- what options that are read are
   are_said : (options : List (List ℕ)) → IsRead options → are_options is_cuts_option options ≡ true
   are_said options e =
-      (and_parts (are_options is_cuts_option options) (is_option (codes "--most") options)
-      (some_if (are_options is_cuts_option options && is_option (codes "--most") options)
-      (cuts_with (option_number (codes "--most") 0 0 0 options) (option_number (codes "--workers") 1 16 4 options)) (Cuts most workers) e).0).0
+      (some_if (are_options is_cuts_option options)
+      (cuts_with (option_number (codes "--most") 0 8 6 options) (option_number (codes "--workers") 1 16 4 options)) (Cuts most workers) e).0
 
 -- an option said once
 record Once (option : List ℕ) (rest : List (List ℕ)) : Type 0 where
@@ -185,7 +186,7 @@ once option value rest e =
     record { is_known = known option said.0; alone = not-true (is_option option rest) said.1; others = parts.1 }
 
 options_spelled : (most workers : ℕ) (options : List (List ℕ)) → IsRead most workers options → Spelled most workers options
-options_spelled most workers [] e = absurd cc
+options_spelled most workers [] e = no_option most workers e
 options_spelled most workers (a ∷ []) e = absurd cc
 options_spelled most workers (a ∷ v ∷ []) e =
     let one = once a v [] (are_said most workers (a ∷ v ∷ []) e) in
@@ -213,8 +214,8 @@ options_spelled most workers (a ∷ v ∷ b ∷ u ∷ c ∷ t ∷ rest) e =
 -- ---- the command
 
 help_is_other : {P : Type 0} (most workers : ℕ) (options : List (List ℕ)) → if_alone Help options ≡ Some (Cuts most workers) → P
-unfolding is_cuts_by
-help_is_other most workers [] e = let clash = ap (λ c. is_cuts_by workers c) e in absurd cc
+unfolding is_cuts
+help_is_other most workers [] e = let clash = ap is_cuts e in absurd cc
 help_is_other most workers (option ∷ options) e = absurd cc
 
 by_first : (b c : Bool) (cuts : Option Command) (options : List (List ℕ)) (most workers : ℕ)
@@ -223,9 +224,8 @@ by_first true c cuts options most workers e = (refl, e)
 by_first false true cuts options most workers e = help_is_other most workers options e
 by_first false false cuts options most workers e = absurd cc
 
-pub only_spelling : (most workers : ℕ) (words : List (List ℕ)) → command_of words ≡ Some (Cuts most workers) → (most ≡ 0) × SpellsCuts workers words
+pub only_spelling : (most workers : ℕ) (words : List (List ℕ)) → command_of words ≡ Some (Cuts most workers) → SpellsCuts most workers words
 only_spelling most workers [] e = absurd cc
 only_spelling most workers (first ∷ options) e =
     let parts = by_first (is_same first (codes "cuts")) (is_same first (codes "help")) (cuts_of options) options most workers e in
-    let spelled = options_spelled most workers options parts.1 in
-    (spelled.0, subst (λ f. SpellsCuts workers (f ∷ options)) (sym ((bytes_decides first (codes "cuts")).0 parts.0)) spelled.1)
+    subst (λ f. SpellsCuts most workers (f ∷ options)) (sym ((bytes_decides first (codes "cuts")).0 parts.0)) (options_spelled most workers options parts.1)

@@ -1,8 +1,8 @@
 -- The command that the words of a command line say. The first word is exactly a command, and options with their values follow it.
-use Rattle.std.specs.Prelude.{ℕ, Bool, ◌&&◌, ◌||◌, if◌then◌else◌, List, [], ◌∷◌, codes, Option, Some, None}
+use Rattle.std.specs.Prelude.{ℕ, Bool, ◌||◌, if◌then◌else◌, List, [], ◌∷◌, codes, Option, Some, None}
 use Rattle.board_words.specs.declared.command.Command.{Command}
 use Rattle.board_words.specs.declared.command.Command.TheVariants.{Cuts, Help}
-use Rattle.board_words.specs.Options.{is_same, is_option, are_options, option_number}
+use Rattle.board_words.specs.Options.{is_same, are_options, option_number}
 
 -- ---- `cuts`
 
@@ -15,11 +15,11 @@ cuts_with (Some most) (Some workers) = Some (Cuts most workers)
 cuts_with (Some most) None = None
 cuts_with None workers = None
 
--- `--most`, which has to be 0 for now, and 1 to 16 `--workers`, 4 where it isn't said
+-- 0 to 8 `--most`, 6 where it isn't said, and 1 to 16 `--workers`, 4 where it isn't said
 abbrev pub cuts_of : List (List ℕ) → Option Command
 cuts_of options =
-    if are_options is_cuts_option options && is_option (codes "--most") options
-    then cuts_with (option_number (codes "--most") 0 0 0 options) (option_number (codes "--workers") 1 16 4 options)
+    if are_options is_cuts_option options
+    then cuts_with (option_number (codes "--most") 0 8 6 options) (option_number (codes "--workers") 1 16 4 options)
     else None
 
 -- ---- all commands

@@ -3,7 +3,7 @@ ghost use Rattle.std.specs.Prelude.{◌≡◌};
 ghost use Rattle.board_words.specs.Command.{command_of, cuts_of};
 
 use crate::Word;
-use crate::options::{are_cuts_options, is_option, option_number};
+use crate::options::{are_cuts_options, option_number};
 
 /// What the program is asked to do.
 #[derive(Clone, Copy, Debug, PartialEq, Eq)]
@@ -34,14 +34,14 @@ pub fn read(words: &[Word]) -> Option<Command>
     }
 }
 
-// The command `cuts` with these options. Orders are not listed yet, so that `--most 0` has to be said.
+// The command `cuts` with these options.
 fn cuts(options: &[Word]) -> Option<Command>
     ensures { result ≡ cuts_of options.now }
 {
-    if !are_cuts_options(options) || !is_option(b"--most", options) {
+    if !are_cuts_options(options) {
         return None;
     }
-    let most = option_number(b"--most", 0, 0, 0, options)?;
+    let most = option_number(b"--most", 0, 8, 6, options)?;
     let workers = option_number(b"--workers", 1, 16, 4, options)?;
     Some(Command::Cuts { most, workers })
 }

@@ -6,10 +6,10 @@ ghost use Rattle.board_words.specs.declared.command.Command.TheVariants.{Cuts};
 
 /// Each spelling of `cuts` is read as this command.
 pub fn spellings_are_read()
-    ensures { (workers : ℕ) (words : List (List ℕ)) → SpellsCuts workers words → command_of words ≡ Some (Cuts 0 workers) }
+    ensures { (most workers : ℕ) (words : List (List ℕ)) → SpellsCuts most workers words → command_of words ≡ Some (Cuts most workers) }
 {}
 
 /// Nothing else is read as `cuts`.
 pub fn only_spellings_are_read()
-    ensures { (most workers : ℕ) (words : List (List ℕ)) → command_of words ≡ Some (Cuts most workers) → (most ≡ 0) × SpellsCuts workers words }
+    ensures { (most workers : ℕ) (words : List (List ℕ)) → command_of words ≡ Some (Cuts most workers) → SpellsCuts most workers words }
 {}

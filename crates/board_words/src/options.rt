@@ -34,7 +34,7 @@ fn is_cuts_option(word: &[u8]) -> bool
 }
 
 // Whether an option is among options with their values.
-pub(crate) fn is_option(option: &[u8], words: &[Word]) -> bool
+fn is_option(option: &[u8], words: &[Word]) -> bool
     ensures { result ≡ is_option option.now words.now }
 {
     let mut rest = words;

@@ -14,15 +14,17 @@ fn said(alloc: Global, text: &str) -> Result<Option<Command>, AllocError> {
 }
 
 fn check_cuts(rt: &impl Abort, alloc: Global) -> Result<(), AllocError> {
-    for (text, workers) in [
-        ("cuts --most 0", 4),
-        ("cuts --most 0 --workers 1", 1),
-        ("cuts --most 0 --workers 16", 16),
-        ("cuts --workers 1 --most 0", 1),
+    for (text, most, workers) in [
+        ("cuts", 6, 4),
+        ("cuts --most 0", 0, 4),
+        ("cuts --most 8", 8, 4),
+        ("cuts --workers 1", 6, 1),
+        ("cuts --most 0 --workers 16", 0, 16),
+        ("cuts --workers 1 --most 8", 8, 1),
     ] {
         assert_eq!(rt;
             said(alloc, text)?,
-            Some(Command::Cuts { most: 0, workers }),
+            Some(Command::Cuts { most, workers }),
             "{text}"
         );
     }
@@ -40,7 +42,6 @@ fn check_commands(rt: &impl Abort, alloc: Global) -> Result<(), AllocError> {
         "Cuts",
         "Cuts --most 0",
         "cut --most 0",
-        "cuts",
         "help x",
         "Help",
         "board",
@@ -55,8 +56,8 @@ fn check_options(rt: &impl Abort, alloc: Global) -> Result<(), AllocError> {
     for text in [
         "cuts --most",
         "cuts --most=0",
-        "cuts --most 0 --most 0",
-        "cuts --workers 4",
+        "cuts --most 0 --most 8",
+        "cuts --workers",
         "cuts --most 0 --workers",
         "cuts --most 0 --workers 1 --workers 1",
         "cuts --most 0 --margin 0",
@@ -69,7 +70,8 @@ fn check_options(rt: &impl Abort, alloc: Global) -> Result<(), AllocError> {
 
 fn check_numbers(rt: &impl Abort, alloc: Global) -> Result<(), AllocError> {
     for text in [
-        "cuts --most 6",
+        "cuts --most 9",
+        "cuts --most 08",
         "cuts --most 00",
         "cuts --most +0",
         "cuts --most 0000000",
