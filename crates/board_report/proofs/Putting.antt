@@ -1,5 +1,5 @@
 -- A text that is put piece by piece. Once a write has failed the rest counts as put, since nothing more is written.
-use Rattle.std.specs.Prelude.{◌≡◌, ℕ, ◌+◌, ◌<◌, true, false, List, [], ◌∷◌, ◌++◌, length, take, drop, get_or, Option}
+use Rattle.std.specs.Prelude.{◌≡◌, ℕ, ◌+◌, ◌<◌, true, List, [], ◌++◌, length, drop, get_or, Option}
 use Rattle.std.specs.List.{flat_map}
 use Rattle.std.proofs.Common.{sym, ap, subst, ◌∙◌, refl, append-nil, append_assoc}
 use Rattle.std.proofs.lemmas.List.{drop_more}
@@ -45,6 +45,11 @@ left_of f pieces i = flat_map f (drop i pieces)
 
 pub next_piece : {X : Type 0} (f : X → List ℕ) (pieces : List X) (i : ℕ) (d : X) → i < length pieces → left_of f pieces i ≡ f (get_or pieces i d) ++ left_of f pieces (i + 1)
 next_piece f pieces i d short = ap (flat_map f) (drop_more pieces i d short)
+
+-- the same of a piece that has a name of its own
+pub piece_named : {X : Type 0} (f : X → List ℕ) (pieces : List X) (i : ℕ) (d piece : X) → i < length pieces → piece ≡ get_or pieces i d
+    → left_of f pieces i ≡ f piece ++ left_of f pieces (i + 1)
+piece_named f pieces i d piece short is = next_piece f pieces i d short ∙ ap (λ x. f x ++ left_of f pieces (i + 1)) (sym is)
 
 -- ---- a few pieces in a row
 

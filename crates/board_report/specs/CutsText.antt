@@ -1,6 +1,7 @@
 -- The text of the command `cuts`: the tree, how many cut sets and listed orders there are, and each cut set with its failing
 -- orders.
 use Rattle.std.specs.Prelude.{ℕ, ◌+◌, List, [], ◌∷◌, ◌++◌, length, map, codes, decimal, Option, Some, None}
+use Rattle.cut_sequences.specs.Orders.{order_total}
 use Rattle.std.specs.List.{flat_map}
 use Rattle.fault_model.specs.Tree.{FaultTree, unit_count, gate_count, name_of}
 use Rattle.board_report.specs.Shown.{show, spaced}
@@ -28,13 +29,17 @@ order_lines tree None = codes "  (not listed)\n"
 order_lines tree (Some []) = codes "  (none)\n"
 order_lines tree (Some (order ∷ orders)) = flat_map (order_line tree) (order ∷ orders)
 
--- `cut K:`
+-- `cut K:`, without its names
 abbrev pub cut_number : ℕ → List ℕ
 cut_number number = codes "cut " ++ decimal number ++ codes ":"
 
--- `cut K: NAMES`, and its orders
+-- `cut K: NAMES`
+abbrev pub cut_line : FaultTree → ℕ → List ℕ → List ℕ
+cut_line tree number set = cut_number number ++ (spaced tree set ++ codes "\n")
+
+-- the line of a cut set, and those of its orders
 abbrev pub cut_block : FaultTree → ℕ → List ℕ → Option (List (List ℕ)) → List ℕ
-cut_block tree number set orders = cut_number number ++ (spaced tree set ++ (codes "\n" ++ order_lines tree orders))
+cut_block tree number set orders = cut_line tree number set ++ order_lines tree orders
 
 -- ---- all of them
 
@@ -47,18 +52,15 @@ abbrev pub cut_blocks : FaultTree → ℕ → List Listed → List ℕ
 cut_blocks tree number [] = []
 cut_blocks tree number (listed ∷ more) = cut_block tree number listed.0 listed.1 ++ cut_blocks tree (number + 1) more
 
--- how many orders are listed
-abbrev pub order_count : Option (List (List ℕ)) → ℕ
-order_count None = 0
-order_count (Some orders) = length orders
-
-abbrev pub order_total : List Listed → ℕ
-order_total [] = 0
-order_total (listed ∷ more) = order_count listed.1 + order_total more
+-- the orders of each
+abbrev pub orders_in : List Listed → List (Option (List (List ℕ)))
+orders_in cuts = map (λ (listed : Listed). listed.1) cuts
 
 abbrev pub cuts_text : FaultTree → List Listed → List ℕ
-cuts_text tree cuts = tree_line tree ++ (count_line (length cuts) (order_total cuts) ++ cut_blocks tree 1 cuts)
+cuts_text tree cuts = tree_line tree ++ (count_line (length cuts) (order_total (orders_in cuts)) ++ cut_blocks tree 1 cuts)
 
--- cut sets of which none has its orders listed
-abbrev pub unlisted : List (List ℕ) → List Listed
-unlisted cuts = map (λ set. (set, None)) cuts
+-- cut sets with their orders, which stand in a list of their own at the same places
+abbrev pub listed_with : List (List ℕ) → List (Option (List (List ℕ))) → List Listed
+listed_with [] lists = []
+listed_with (set ∷ cuts) [] = []
+listed_with (set ∷ cuts) (orders ∷ lists) = (set, orders) ∷ listed_with cuts lists

@@ -1,6 +1,5 @@
 -- The lines of refusals, and the usage line.
 use Rattle.std.specs.Prelude.{ℕ, List, ◌++◌, codes, decimal}
-use Rattle.fault_model.specs.declared.node.Place.{Place}
 use Rattle.galileo_lexer.specs.declared.token.LexCode.{LexCode}
 use Rattle.galileo_lexer.specs.declared.token.LexCode.TheVariants as lex
 use Rattle.galileo_tree.specs.declared.fault.What.{What}
@@ -11,7 +10,7 @@ use Rattle.board_report.specs.declared.fault.FaultCode.{FaultCode}
 use Rattle.board_report.specs.declared.fault.FaultCode.TheVariants.{Lex, Expected, Check}
 use Rattle.board_report.specs.declared.fault.DeckFault.{DeckFault}
 use Rattle.board_report.specs.declared.notice.Notice.{Notice}
-use Rattle.board_report.specs.declared.notice.Notice.TheVariants.{Usage, ReadFault, TooLong, ListLimit}
+use Rattle.board_report.specs.declared.notice.Notice.TheVariants.{Usage, ReadFault, TooLong, ListLimit, OrderLimit}
 
 abbrev pub lex_text : LexCode → List ℕ
 lex_text lex.BadByte = codes "L1 bad byte"
@@ -64,3 +63,4 @@ notice_line Usage = codes "usage: cuts [--most N] [--workers N] | board [--margi
 notice_line ReadFault = codes "refused: read fault\n"
 notice_line TooLong = codes "refused: input too long\n"
 notice_line ListLimit = codes "refused: list limit 16777216\n"
+notice_line OrderLimit = codes "refused: order limit 2000000\n"

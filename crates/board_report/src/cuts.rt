@@ -1,28 +1,34 @@
 //! The text of cut sets.
-ghost use Rattle.std.specs.Prelude.{◌≡◌, is_err, false, All, None};
+ghost use Rattle.std.specs.Prelude.{◌≡◌, ◌<◌, ◌+◌, is_err, length, false, All, None, slice_index_or};
+ghost use Rattle.cut_sequences.specs.Orders.{orders_at};
 ghost use Rattle.edge_io.specs.Out.{has_failed, Puts};
 ghost use Rattle.fault_model.specs.Tree.{IsUnitOf, name_of};
-ghost use Rattle.board_report.specs.CutsText.{count_line, cut_block, cut_blocks, cut_number, cuts_text, tree_counts, tree_line, unlisted};
+ghost use Rattle.board_report.specs.CutsText.{count_line, cut_block, cut_blocks, cut_line, cut_number, cuts_text, listed_with, tree_counts, tree_line};
+ghost use Rattle.board_report.specs.OrdersOfUnits.{AreOrdersOf};
 
+use crate::orders::put_order_lines;
 use crate::pieces::{put_all, put_shown, put_spaced};
+use cut_sequences::OrderLists;
 use edge_io::{Out, Sink, WriteFault};
 use fault_model::{Name, Tree};
 use itoa::Buffer;
 use unit_sets::{CutList, UnitNo};
 
-/// Puts the text of `cuts` over cut sets of units of the tree, of which none has its failing orders listed.
-pub fn put_unlisted_cuts<K: Sink>(
+/// Puts the text of `cuts` over cut sets of units of the tree and the orders that are listed for them.
+pub fn put_cuts<K: Sink>(
     out: &mut Out<K>,
     tree: &Tree,
     cuts: &CutList,
+    orders: &OrderLists,
 ) -> Result<(), WriteFault>
     requires units { All (All (IsUnitOf tree.now)) cuts.now }
-    ensures puts { Puts K.taken K.faults out.old out.new (cuts_text tree.now (unlisted cuts.now)) }
+    requires made { AreOrdersOf tree.now cuts.now orders.now }
+    ensures puts { Puts K.taken K.faults out.old out.new (cuts_text tree.now (listed_with cuts.now orders.now)) }
     ensures answer { is_err result ≡ has_failed out.new }
 {
     put_tree_line(out, tree)?;
-    put_count_line(out, cuts.len(), 0)?;
-    put_blocks(out, tree, cuts)
+    put_count_line(out, cuts.len(), orders.total())?;
+    put_blocks(out, tree, cuts, orders)
 }
 
 fn put_tree_line<K: Sink>(out: &mut Out<K>, tree: &Tree) -> Result<(), WriteFault>
@@ -76,32 +82,56 @@ fn put_count_line<K: Sink>(out: &mut Out<K>, cuts: usize, orders: u64) -> Result
     )
 }
 
-fn put_blocks<K: Sink>(out: &mut Out<K>, tree: &Tree, cuts: &CutList) -> Result<(), WriteFault>
+fn put_blocks<K: Sink>(
+    out: &mut Out<K>,
+    tree: &Tree,
+    cuts: &CutList,
+    orders: &OrderLists,
+) -> Result<(), WriteFault>
     requires units { All (All (IsUnitOf tree.now)) cuts.now }
+    requires made { AreOrdersOf tree.now cuts.now orders.now }
     requires fine { has_failed out.old ≡ false }
-    ensures puts { Puts K.taken K.faults out.old out.new (cut_blocks tree.now 1 (unlisted cuts.now)) }
+    ensures puts { Puts K.taken K.faults out.old out.new (cut_blocks tree.now 1 (listed_with cuts.now orders.now)) }
     ensures answer { is_err result ≡ has_failed out.new }
 {
     for i in 0..cuts.len() {
-        put_block(out, tree, i as u64 + 1, cuts.members(i))?;
+        put_block(out, tree, cuts.members(i), orders, i)?;
     }
     Ok(())
 }
 
-// A cut set without its orders.
+// The cut set of a place and its orders.
 fn put_block<K: Sink>(
+    out: &mut Out<K>,
+    tree: &Tree,
+    set: &[UnitNo],
+    orders: &OrderLists,
+    i: usize,
+) -> Result<(), WriteFault>
+    requires within { i < length orders.now }
+    requires countable { i < usize.MAX }
+    requires set_units { All (IsUnitOf tree.now) set.now }
+    requires units { All (All (IsUnitOf tree.now)) (orders_at orders.now i) }
+    ensures puts { Puts K.taken K.faults out.old out.new (cut_block tree.now (i + 1) set.now (slice_index_or orders.now i None)) }
+    ensures answer { is_err result ≡ has_failed out.new }
+{
+    put_cut_line(out, tree, i as u64 + 1, set)?;
+    put_order_lines(out, tree, orders, i)
+}
+
+fn put_cut_line<K: Sink>(
     out: &mut Out<K>,
     tree: &Tree,
     number: u64,
     set: &[UnitNo],
 ) -> Result<(), WriteFault>
     requires units { All (IsUnitOf tree.now) set.now }
-    ensures puts { Puts K.taken K.faults out.old out.new (cut_block tree.now number set.now None) }
+    ensures puts { Puts K.taken K.faults out.old out.new (cut_line tree.now number set.now) }
     ensures answer { is_err result ≡ has_failed out.new }
 {
     put_cut_number(out, number)?;
     put_spaced(out, tree, set)?;
-    out.put(b"\n  (not listed)\n")
+    out.put(b"\n")
 }
 
 fn put_cut_number<K: Sink>(out: &mut Out<K>, number: u64) -> Result<(), WriteFault>

@@ -16,6 +16,8 @@ pub enum Notice {
     TooLong,
     /// The cut list weighs more than it may weigh.
     ListLimit,
+    /// The cut sets have more failing orders than are listed.
+    OrderLimit,
 }
 
 /// Puts the line.
@@ -35,5 +37,6 @@ fn line_of(notice: Notice) -> &'static [u8]
         Notice::ReadFault => b"refused: read fault\n",
         Notice::TooLong => b"refused: input too long\n",
         Notice::ListLimit => b"refused: list limit 16777216\n",
+        Notice::OrderLimit => b"refused: order limit 2000000\n",
     }
 }

@@ -1,8 +1,10 @@
 //! The texts, as a sink in memory takes them.
 ghost use Rattle.std.specs.Prelude.{◌≡◌, ◌≤◌, [], ◌∷◌, length, All, IfOk};
 ghost use Rattle.fault_model.specs.Tree.{IsUnitOf, unit_count};
+ghost use Rattle.board_report.specs.OrdersOfUnits.{AreOrdersOf};
 
 use super::*;
+use cut_sequences::{OrderEnd, OrderLists, orders};
 use edge_io::{Buffer, Bytes, CallList, KeptSink, NoMemory, Out, Sink, WriteFault};
 use fault_model::{Place, Tree};
 use galileo_lexer::LexCode;
@@ -10,6 +12,7 @@ use galileo_tree::{What, parse};
 use std::alloc::Global;
 use std::process::Abort;
 use std::test::Fail;
+use std::thread::Threads;
 use tree_check::{CheckCode, check};
 use unit_sets::{CutList, UnitNo};
 
@@ -31,17 +34,19 @@ fn sink_of(alloc: Global, room: usize) -> Result<KeptSink, NoMemory> {
 
 // ---- cut sets
 
-fn put_cuts<K: Sink>(
+fn put_listed<K: Sink>(
     sink: &mut K,
     buffer: Buffer,
     tree: &Tree,
     cuts: &CutList,
+    orders: &OrderLists,
 ) -> Result<(), WriteFault>
     requires empty { buffer ≡ [] }
     requires units { All (All (IsUnitOf tree.now)) cuts.now }
+    requires made { AreOrdersOf tree.now cuts.now orders.now }
 {
     let mut out = Out::over(sink, buffer);
-    let _ = put_unlisted_cuts(&mut out, tree, cuts);
+    let _ = put_cuts(&mut out, tree, cuts, orders);
     out.finish()
 }
 
@@ -49,13 +54,15 @@ fn cuts_written(
     alloc: Global,
     tree: &Tree,
     cuts: &CutList,
+    orders: &OrderLists,
     room: usize,
 ) -> Result<Written, NoMemory>
-    requires { All (All (IsUnitOf tree.now)) cuts.now }
+    requires units { All (All (IsUnitOf tree.now)) cuts.now }
+    requires made { AreOrdersOf tree.now cuts.now orders.now }
 {
     let mut sink = sink_of(alloc, room)?;
     let buffer = Buffer::new(alloc)?;
-    let end = put_cuts(&mut sink, buffer, tree, cuts);
+    let end = put_listed(&mut sink, buffer, tree, cuts, orders);
     Ok((Bytes::of(alloc, sink.bytes())?, end))
 }
 
@@ -65,19 +72,36 @@ fn check_written(
     alloc: Global,
     tree: &Tree,
     cuts: &CutList,
+    orders: &OrderLists,
     text: &[u8],
 ) -> Result<(), NoMemory>
-    requires { All (All (IsUnitOf tree.now)) cuts.now }
+    requires units { All (All (IsUnitOf tree.now)) cuts.now }
+    requires made { AreOrdersOf tree.now cuts.now orders.now }
 {
     for room in 0..text.len() {
-        let (bytes, end) = cuts_written(alloc, tree, cuts, room)?;
+        let (bytes, end) = cuts_written(alloc, tree, cuts, orders, room)?;
         assert_eq!(rt; bytes.as_slice(), &text[..room]);
         assert!(rt; end.is_err());
     }
-    let (bytes, end) = cuts_written(alloc, tree, cuts, text.len())?;
+    let (bytes, end) = cuts_written(alloc, tree, cuts, orders, text.len())?;
     assert_eq!(rt; bytes.as_slice(), text);
     assert!(rt; end.is_ok());
     Ok(())
+}
+
+// The orders of the cut sets of at most `most` members.
+fn orders_of<R: Threads + Sync>(
+    rt: &R,
+    alloc: Global,
+    tree: &Tree,
+    cuts: &CutList,
+    most: u32,
+) -> Result<OrderLists, OrderEnd>
+    requires units { All (All (IsUnitOf tree.now)) cuts.now }
+    requires most { most ≤ 8 }
+    ensures { IfOk result (λ lists. AreOrdersOf tree.now cuts.now lists) }
+{
+    orders(rt, alloc, tree, cuts, most, 4)
 }
 
 // The cut sets of the unit 1, and of the units 2 and 3.
@@ -93,31 +117,55 @@ fn two_cuts(alloc: Global) -> Result<CutList, Fail>
     Ok(cuts)
 }
 
-fn check_two_cuts(rt: &impl Abort, alloc: Global, tree: &Tree, text: &[u8]) -> Result<(), Fail>
-    requires { unit_count tree.now ≡ 3 }
+fn check_two_cuts<R: Abort + Threads + Sync>(
+    rt: &R,
+    alloc: Global,
+    tree: &Tree,
+    most: u32,
+    text: &[u8],
+) -> Result<(), Fail>
+    requires units { unit_count tree.now ≡ 3 }
+    requires most { most ≤ 8 }
 {
     let cuts = two_cuts(alloc)?;
-    check_written(rt, alloc, tree, &cuts, text)?;
+    let orders = orders_of(rt, alloc, tree, &cuts, most)?;
+    check_written(rt, alloc, tree, &cuts, &orders, text)?;
     Ok(())
 }
 
-fn check_no_cuts(rt: &impl Abort, alloc: Global, tree: &Tree, text: &[u8]) -> Result<(), NoMemory> {
+fn check_no_cuts<R: Abort + Threads + Sync>(
+    rt: &R,
+    alloc: Global,
+    tree: &Tree,
+    text: &[u8],
+) -> Result<(), Fail> {
     let cuts = CutList::new(alloc);
-    check_written(rt, alloc, tree, &cuts, text)
+    let orders = orders_of(rt, alloc, tree, &cuts, 6)?;
+    check_written(rt, alloc, tree, &cuts, &orders, text)?;
+    Ok(())
 }
 
+// `A` alone would fail before `B`, which the `seq` forbids.
 #[test]
-fn cut_sets_are_written_with_names(rt: HostRuntime) -> Result<(), Fail> {
+fn cut_sets_are_written_with_names_and_orders(rt: HostRuntime) -> Result<(), Fail> {
     let tree = tree_of(
         rt.alloc(),
-        b"toplevel \"+T\"; \"+T\" or A G; G and B \"b c\"; A; B; \"b c\";",
+        b"toplevel \"+T\"; \"+T\" or A G; G and B \"b c\"; S seq B A; A; B; \"b c\";",
     )?;
     assert_eq!(rt; tree.units(), 3);
     check_two_cuts(
         &rt,
         rt.alloc(),
         &tree,
-        b"tree: 3 units, 2 gates, top \"+T\"\ncuts: 2, orders: 0\ncut 1: A\n  (not listed)\ncut 2: B \"b c\"\n  (not listed)\n",
+        2,
+        b"tree: 3 units, 3 gates, top \"+T\"\ncuts: 2, orders: 2\ncut 1: A\n  (none)\ncut 2: B \"b c\"\n  B \"b c\"\n  \"b c\" B\n",
+    )?;
+    check_two_cuts(
+        &rt,
+        rt.alloc(),
+        &tree,
+        1,
+        b"tree: 3 units, 3 gates, top \"+T\"\ncuts: 2, orders: 0\ncut 1: A\n  (none)\ncut 2: B \"b c\"\n  (not listed)\n",
     )
 }
 
@@ -129,8 +177,7 @@ fn a_tree_without_cut_sets_has_two_lines(rt: HostRuntime) -> Result<(), Fail> {
         rt.alloc(),
         &tree,
         b"tree: 1 units, 1 gates, top T\ncuts: 0, orders: 0\n",
-    )?;
-    Ok(())
+    )
 }
 
 // ---- faults
@@ -258,6 +305,7 @@ fn notices_are_written(rt: HostRuntime) -> Result<(), Fail> {
         (Notice::ReadFault, "refused: read fault\n"),
         (Notice::TooLong, "refused: input too long\n"),
         (Notice::ListLimit, "refused: list limit 16777216\n"),
+        (Notice::OrderLimit, "refused: order limit 2000000\n"),
     ] {
         let bytes = notice_written(rt.alloc(), notice)?;
         assert_eq!(rt; bytes.as_slice(), text.as_bytes(), "{text}");

@@ -1,23 +1,17 @@
-use Rattle.std.proofs.Common.{sym, ◌∙◌, ap, is_err, codes, ◌++◌}
-use Rattle.board_report.specs.Shown.{spaced}
-use Rattle.board_report.specs.CutsText.{cut_number}
-use Rattle.board_report.proofs.Putting.{first_short, second_short, all_three}
+use Rattle.std.proofs.Common.{sym, ◌∙◌, ap, is_err, ◌+◌, None, get_or}
+use Rattle.edge_io.specs.Out.{Puts-trans}
+use Rattle.board_report.specs.CutsText.{cut_line, order_lines}
+use Rattle.board_report.proofs.Putting.{first_short}
 use Rattle.board_report.proofs.cuts.put_block.Goals as goal
 
-pub returns-in_err-put_cut_number-clause-puts : goal.returns-in_err-put_cut_number-clause-puts
-returns-in_err-put_cut_number-clause-puts g c =
-    first_short g.K.Sink.taken g.K.Sink.faults c.args.out.now c.put_cut_number.new.out (cut_number c.args.number)
-    (spaced c.args.tree.now c.args.set.now ++ codes "\n  (not listed)\n")
-    c.put_cut_number.ensures.puts (sym c.put_cut_number.ensures.answer ∙ ap is_err c.in_err-put_cut_number.was)
-
-pub returns-in_err-put_spaced-clause-puts : goal.returns-in_err-put_spaced-clause-puts
-returns-in_err-put_spaced-clause-puts g c =
-    second_short g.K.Sink.taken g.K.Sink.faults c.args.out.now c.put_cut_number.new.out c.put_spaced.new.out (cut_number c.args.number)
-    (spaced c.args.tree.now c.args.set.now) (codes "\n  (not listed)\n")
-    c.put_cut_number.ensures.puts c.put_spaced.ensures.puts (sym c.put_spaced.ensures.answer ∙ ap is_err c.in_err-put_spaced.was)
+pub returns-in_err-put_cut_line-clause-puts : goal.returns-in_err-put_cut_line-clause-puts
+returns-in_err-put_cut_line-clause-puts g c =
+    first_short g.K.Sink.taken g.K.Sink.faults c.args.out.now c.put_cut_line.new.out (cut_line c.args.tree.now (c.args.i + 1) c.args.set.now)
+    (order_lines c.args.tree.now (get_or c.args.orders.now c.args.i None))
+    c.put_cut_line.ensures.puts (sym c.put_cut_line.ensures.answer ∙ ap is_err c.in_err-put_cut_line.was)
 
 pub returns-clause-puts : goal.returns-clause-puts
 returns-clause-puts g c =
-    all_three g.K.Sink.taken g.K.Sink.faults c.args.out.now c.put_cut_number.new.out c.put_spaced.new.out c.put.new.self (cut_number c.args.number)
-    (spaced c.args.tree.now c.args.set.now) (codes "\n  (not listed)\n")
-    c.put_cut_number.ensures.puts c.put_spaced.ensures.puts c.put.ensures.puts
+    Puts-trans g.K.Sink.taken g.K.Sink.faults c.args.out.now c.put_cut_line.new.out c.put_order_lines.new.out
+    (cut_line c.args.tree.now (c.args.i + 1) c.args.set.now) (order_lines c.args.tree.now (get_or c.args.orders.now c.args.i None))
+    c.put_cut_line.ensures.puts c.put_order_lines.ensures.puts

@@ -1,12 +1,12 @@
 use Rattle.std.proofs.Common.{◌≡◌, ◌+◌, false, drop}
 use Rattle.edge_io.specs.Out.{has_failed}
-use Rattle.board_report.specs.CutsText.{cut_blocks, unlisted}
+use Rattle.board_report.specs.CutsText.{cut_blocks, listed_with}
 use Rattle.board_report.proofs.Putting.{PutsFront}
 use Rattle.board_report.proofs.cuts.put_blocks.Given as goal
 
 abbrev pub invariant-loop-i : goal.invariant-loop-i
 invariant-loop-i g l = record {
   so : PutsFront g.K.Sink.taken g.K.Sink.faults l.initial.out l.out
-      (cut_blocks l.tree (l.i + 1) (unlisted (drop l.i l.cuts))) (cut_blocks l.tree 1 (unlisted l.cuts));
+      (cut_blocks l.tree (l.i + 1) (drop l.i (listed_with l.cuts l.orders))) (cut_blocks l.tree 1 (listed_with l.cuts l.orders));
   going : has_failed l.out ≡ false;
 }

@@ -1,4 +1,4 @@
-use Rattle.std.proofs.Common.{sym, ◌∙◌, ap, subst, refl, arith, is_err, true, false}
+use Rattle.std.proofs.Common.{sym, ◌∙◌, ap, subst, arith, is_err}
 use Rattle.std.specs.List.{flat_map}
 use Rattle.std.proofs.lemmas.List.{drop_all}
 use Rattle.board_report.proofs.Putting.{begun, whole_put, one_more, cut_short, next_piece, PutsFront}

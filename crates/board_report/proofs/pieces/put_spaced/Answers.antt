@@ -1,5 +1,4 @@
 use Rattle.std.proofs.Common.{sym, ◌∙◌, ap, subst, is_err, ◌++◌, ◌+◌}
-use Rattle.std.specs.List.{flat_map}
 use Rattle.std.proofs.lemmas.List.{drop_all}
 use Rattle.board_report.specs.Shown.{spaced, unit_text}
 use Rattle.board_report.proofs.Putting.{begun, whole_put, one_more, cut_short, next_piece, left_of, PutsFront}

@@ -1,30 +1,34 @@
 use Rattle.std.proofs.Common.{sym, ◌∙◌, ap, subst, is_err, ◌++◌, length}
 use Rattle.edge_io.specs.Out.{Puts}
-use Rattle.board_report.specs.CutsText.{tree_line, count_line, cut_blocks, order_total, unlisted}
+use Rattle.cut_sequences.specs.Orders.{order_total}
+use Rattle.board_report.specs.CutsText.{tree_line, count_line, cut_blocks, listed_with, orders_in}
 use Rattle.board_report.proofs.Putting.{first_short, second_short, all_three}
-use Rattle.board_report.proofs.Listing.{count_unlisted}
-use Rattle.board_report.proofs.cuts.put_unlisted_cuts.Goals as goal
+use Rattle.board_report.proofs.Listing.{counts_with}
+use Rattle.board_report.proofs.cuts.put_cuts.Goals as goal
 
 pub returns-in_err-put_tree_line-clause-puts : goal.returns-in_err-put_tree_line-clause-puts
 returns-in_err-put_tree_line-clause-puts g c =
+    let listed = listed_with c.args.cuts.now c.args.orders.now in
     first_short g.K.Sink.taken g.K.Sink.faults c.args.out.now c.put_tree_line.new.out (tree_line c.args.tree.now)
-    (count_line (length (unlisted c.args.cuts.now)) (order_total (unlisted c.args.cuts.now)) ++ cut_blocks c.args.tree.now 1 (unlisted c.args.cuts.now))
+    (count_line (length listed) (order_total (orders_in listed)) ++ cut_blocks c.args.tree.now 1 listed)
     c.put_tree_line.ensures.puts (sym c.put_tree_line.ensures.answer ∙ ap is_err c.in_err-put_tree_line.was)
 
 pub returns-in_err-put_count_line-clause-puts : goal.returns-in_err-put_count_line-clause-puts
 returns-in_err-put_count_line-clause-puts g c =
+    let listed = listed_with c.args.cuts.now c.args.orders.now in
     second_short g.K.Sink.taken g.K.Sink.faults c.args.out.now c.put_tree_line.new.out c.put_count_line.new.out (tree_line c.args.tree.now)
-    (count_line (length (unlisted c.args.cuts.now)) (order_total (unlisted c.args.cuts.now))) (cut_blocks c.args.tree.now 1 (unlisted c.args.cuts.now))
+    (count_line (length listed) (order_total (orders_in listed))) (cut_blocks c.args.tree.now 1 listed)
     c.put_tree_line.ensures.puts
     (subst (Puts g.K.Sink.taken g.K.Sink.faults c.put_tree_line.new.out c.put_count_line.new.out)
-    (count_unlisted c.args.cuts.now c.len.result c.len.ensures.value) c.put_count_line.ensures.puts)
+    (counts_with c.args.cuts.now c.args.orders.now c.len.result c.total.result c.requires.made.each c.len.ensures.value c.total.ensures) c.put_count_line.ensures.puts)
     (sym c.put_count_line.ensures.answer ∙ ap is_err c.in_err-put_count_line.was)
 
 pub returns-clause-puts : goal.returns-clause-puts
 returns-clause-puts g c =
+    let listed = listed_with c.args.cuts.now c.args.orders.now in
     all_three g.K.Sink.taken g.K.Sink.faults c.args.out.now c.put_tree_line.new.out c.put_count_line.new.out c.put_blocks.new.out (tree_line c.args.tree.now)
-    (count_line (length (unlisted c.args.cuts.now)) (order_total (unlisted c.args.cuts.now))) (cut_blocks c.args.tree.now 1 (unlisted c.args.cuts.now))
+    (count_line (length listed) (order_total (orders_in listed))) (cut_blocks c.args.tree.now 1 listed)
     c.put_tree_line.ensures.puts
     (subst (Puts g.K.Sink.taken g.K.Sink.faults c.put_tree_line.new.out c.put_count_line.new.out)
-    (count_unlisted c.args.cuts.now c.len.result c.len.ensures.value) c.put_count_line.ensures.puts)
+    (counts_with c.args.cuts.now c.args.orders.now c.len.result c.total.result c.requires.made.each c.len.ensures.value c.total.ensures) c.put_count_line.ensures.puts)
     c.put_blocks.ensures.puts

@@ -1,0 +1,14 @@
+use Rattle.std.proofs.Common.{◌≡◌, false}
+use Rattle.std.specs.List.{flat_map}
+use Rattle.cut_sequences.specs.Orders.{orders_at}
+use Rattle.edge_io.specs.Out.{has_failed}
+use Rattle.board_report.specs.CutsText.{order_line}
+use Rattle.board_report.proofs.Putting.{PutsFront, left_of}
+use Rattle.board_report.proofs.orders.put_orders.Given as goal
+
+abbrev pub invariant-loop-j : goal.invariant-loop-j
+invariant-loop-j g l = record {
+  so : PutsFront g.K.Sink.taken g.K.Sink.faults l.initial.out l.out
+      (left_of (order_line l.tree) (orders_at l.orders l.i) l.j) (flat_map (order_line l.tree) (orders_at l.orders l.i));
+  going : has_failed l.out ≡ false;
+}
