@@ -1,16 +1,14 @@
 -- What the row of a status says, read from a run; and that a run ends with the status that is due.
-use Rattle.std.specs.Prelude.{◌≡◌, ℕ, ◌+◌, ◌<◌, ◌≤◌, ◌⊎◌, List, [], length, Option, Some, None}
+use Rattle.std.specs.Prelude.{◌≡◌, ℕ, ◌<◌, ◌≤◌, ◌⊎◌, List, length, Option, Some, None}
 use Rattle.std.specs.Io.KnownBytes.{Appends}
-use Rattle.std.proofs.Common.{sym, ap, subst, ◌∙◌, refl, inl, inr, arith}
+use Rattle.std.proofs.Common.{sym, subst, ◌∙◌, refl, inl, inr, arith}
 use Rattle.edge_io.specs.declared.reading.TheConstants.{INPUT_LIMIT}
-use Rattle.board_words.specs.Command.{command_of}
-use Rattle.board_words.specs.declared.command.Command.TheVariants.{Cuts, Help}
 use Rattle.outage_engine.specs.declared.status.Status.{Status}
-use Rattle.outage_engine.specs.declared.status.Status.TheVariants.{Done, Refused, ListLimit, Usage, ReadFault, TooLong, WriteFault, NoMemory}
+use Rattle.outage_engine.specs.declared.status.Status.TheVariants.{Done, Refused, ListLimit, OrderLimit, Usage, ReadFault, TooLong, WriteFault, NoMemory}
 use Rattle.outage_engine.specs.declared.status.Method.TheVariants.{Plain, Lists}
-use Rattle.outage_engine.specs.Deck.{IsCutsText, IsFirstFaultOf, IsTooHeavy}
-use Rattle.outage_engine.specs.Rows.{AreCuts, AreHelp, AreNone, IsBeyond, IsDue, OfInput, Row}
-use Rattle.outage_engine.specs.Runs.{IsOrFails, Runs, Told, Tells, WritesFront, WritesFrontOfRow}
+use Rattle.outage_engine.specs.Deck.{HasManyOrders, IsCutsText, IsFirstFaultOf, IsTooHeavy}
+use Rattle.outage_engine.specs.Rows.{AreCuts, AreHelp, AreNone, IsBeyond, IsDue, OfInput, Row, most_of}
+use Rattle.outage_engine.specs.Runs.{IsOrFails, Runs, WritesFrontOfRow}
 use Rattle.outage_engine.proofs.OneAnswer.{IsGiven, one_given}
 
 -- ---- words are of one kind
@@ -44,8 +42,8 @@ abbrev Agrees : Status → Status → Type 0
 Agrees came due = (came ≡ due) ⊎ (came ≡ ReadFault)
 
 -- a deck gives what is due
-given : (bytes : List ℕ) (came due : Status) → IsGiven bytes came → IsGiven bytes due → Agrees came due
-given bytes came due one two = inl (one_given bytes came due one two)
+given : (most : ℕ) (bytes : List ℕ) (came due : Status) → IsGiven most bytes came → IsGiven most bytes due → Agrees came due
+given most bytes came due one two = inl (one_given most bytes came due one two)
 
 agrees : (words : List (List ℕ)) (bytes : List ℕ) (after : Option (List ℕ)) (rose : Type 0) (came due : Status) (text : List ℕ)
     → Row words (Some bytes) after rose came text → IsDue words bytes due → Agrees came due
@@ -54,6 +52,7 @@ agrees words bytes after rose (Done Plain) Usage text row due = not_help_and_non
 agrees words bytes after rose (Done Plain) (Done Lists) text row due = not_cuts_and_help words due.0 row.0
 agrees words bytes after rose (Done Plain) (Refused other) text row due = not_cuts_and_help words due.0 row.0
 agrees words bytes after rose (Done Plain) ListLimit text row due = not_cuts_and_help words due.0 row.0
+agrees words bytes after rose (Done Plain) OrderLimit text row due = not_cuts_and_help words due.0 row.0
 agrees words bytes after rose (Done Plain) TooLong text row due = not_cuts_and_help words due.0 row.0
 agrees words bytes after rose (Done Plain) ReadFault text row due = absurd due
 agrees words bytes after rose (Done Plain) WriteFault text row due = absurd due
@@ -63,42 +62,57 @@ agrees words bytes after rose Usage Usage text row due = inl refl
 agrees words bytes after rose Usage (Done Lists) text row due = not_cuts_and_none words due.0 row.0
 agrees words bytes after rose Usage (Refused other) text row due = not_cuts_and_none words due.0 row.0
 agrees words bytes after rose Usage ListLimit text row due = not_cuts_and_none words due.0 row.0
+agrees words bytes after rose Usage OrderLimit text row due = not_cuts_and_none words due.0 row.0
 agrees words bytes after rose Usage TooLong text row due = not_cuts_and_none words due.0 row.0
 agrees words bytes after rose Usage ReadFault text row due = absurd due
 agrees words bytes after rose Usage WriteFault text row due = absurd due
 agrees words bytes after rose Usage NoMemory text row due = absurd due
 agrees words bytes after rose (Done Lists) (Done Plain) text row due = not_cuts_and_help words row.0 due
 agrees words bytes after rose (Done Lists) Usage text row due = not_cuts_and_none words row.0 due
-agrees words bytes after rose (Done Lists) (Done Lists) text row due = given bytes (Done Lists) (Done Lists) (text, (input bytes after (λ b. IsCutsText b text) row.1).1) due.2
-agrees words bytes after rose (Done Lists) (Refused other) text row due = given bytes (Done Lists) (Refused other) (text, (input bytes after (λ b. IsCutsText b text) row.1).1) due.2
-agrees words bytes after rose (Done Lists) ListLimit text row due = given bytes (Done Lists) ListLimit (text, (input bytes after (λ b. IsCutsText b text) row.1).1) due.2
-agrees words bytes after rose (Done Lists) TooLong text row due = not_short_and_long bytes (input bytes after (λ b. IsCutsText b text) row.1).0 due.1
+agrees words bytes after rose (Done Lists) (Done Lists) text row due = given (most_of words) bytes (Done Lists) (Done Lists) (text, (input bytes after (λ b. IsCutsText (most_of words) b text) row.1).1) due.2
+agrees words bytes after rose (Done Lists) (Refused other) text row due = given (most_of words) bytes (Done Lists) (Refused other) (text, (input bytes after (λ b. IsCutsText (most_of words) b text) row.1).1) due.2
+agrees words bytes after rose (Done Lists) ListLimit text row due = given (most_of words) bytes (Done Lists) ListLimit (text, (input bytes after (λ b. IsCutsText (most_of words) b text) row.1).1) due.2
+agrees words bytes after rose (Done Lists) OrderLimit text row due = given (most_of words) bytes (Done Lists) OrderLimit (text, (input bytes after (λ b. IsCutsText (most_of words) b text) row.1).1) due.2
+agrees words bytes after rose (Done Lists) TooLong text row due = not_short_and_long bytes (input bytes after (λ b. IsCutsText (most_of words) b text) row.1).0 due.1
 agrees words bytes after rose (Done Lists) ReadFault text row due = absurd due
 agrees words bytes after rose (Done Lists) WriteFault text row due = absurd due
 agrees words bytes after rose (Done Lists) NoMemory text row due = absurd due
 agrees words bytes after rose (Refused fault) (Done Plain) text row due = not_cuts_and_help words row.0 due
 agrees words bytes after rose (Refused fault) Usage text row due = not_cuts_and_none words row.0 due
-agrees words bytes after rose (Refused fault) (Done Lists) text row due = given bytes (Refused fault) (Done Lists) (input bytes after (λ b. IsFirstFaultOf b fault) row.1.0).1 due.2
-agrees words bytes after rose (Refused fault) (Refused other) text row due = given bytes (Refused fault) (Refused other) (input bytes after (λ b. IsFirstFaultOf b fault) row.1.0).1 due.2
-agrees words bytes after rose (Refused fault) ListLimit text row due = given bytes (Refused fault) ListLimit (input bytes after (λ b. IsFirstFaultOf b fault) row.1.0).1 due.2
+agrees words bytes after rose (Refused fault) (Done Lists) text row due = given (most_of words) bytes (Refused fault) (Done Lists) (input bytes after (λ b. IsFirstFaultOf b fault) row.1.0).1 due.2
+agrees words bytes after rose (Refused fault) (Refused other) text row due = given (most_of words) bytes (Refused fault) (Refused other) (input bytes after (λ b. IsFirstFaultOf b fault) row.1.0).1 due.2
+agrees words bytes after rose (Refused fault) ListLimit text row due = given (most_of words) bytes (Refused fault) ListLimit (input bytes after (λ b. IsFirstFaultOf b fault) row.1.0).1 due.2
+agrees words bytes after rose (Refused fault) OrderLimit text row due = given (most_of words) bytes (Refused fault) OrderLimit (input bytes after (λ b. IsFirstFaultOf b fault) row.1.0).1 due.2
 agrees words bytes after rose (Refused fault) TooLong text row due = not_short_and_long bytes (input bytes after (λ b. IsFirstFaultOf b fault) row.1.0).0 due.1
 agrees words bytes after rose (Refused fault) ReadFault text row due = absurd due
 agrees words bytes after rose (Refused fault) WriteFault text row due = absurd due
 agrees words bytes after rose (Refused fault) NoMemory text row due = absurd due
 agrees words bytes after rose ListLimit (Done Plain) text row due = not_cuts_and_help words row.0 due
 agrees words bytes after rose ListLimit Usage text row due = not_cuts_and_none words row.0 due
-agrees words bytes after rose ListLimit (Done Lists) text row due = given bytes ListLimit (Done Lists) (input bytes after IsTooHeavy row.1.0).1 due.2
-agrees words bytes after rose ListLimit (Refused other) text row due = given bytes ListLimit (Refused other) (input bytes after IsTooHeavy row.1.0).1 due.2
-agrees words bytes after rose ListLimit ListLimit text row due = given bytes ListLimit ListLimit (input bytes after IsTooHeavy row.1.0).1 due.2
+agrees words bytes after rose ListLimit (Done Lists) text row due = given (most_of words) bytes ListLimit (Done Lists) (input bytes after IsTooHeavy row.1.0).1 due.2
+agrees words bytes after rose ListLimit (Refused other) text row due = given (most_of words) bytes ListLimit (Refused other) (input bytes after IsTooHeavy row.1.0).1 due.2
+agrees words bytes after rose ListLimit ListLimit text row due = given (most_of words) bytes ListLimit ListLimit (input bytes after IsTooHeavy row.1.0).1 due.2
+agrees words bytes after rose ListLimit OrderLimit text row due = given (most_of words) bytes ListLimit OrderLimit (input bytes after IsTooHeavy row.1.0).1 due.2
 agrees words bytes after rose ListLimit TooLong text row due = not_short_and_long bytes (input bytes after IsTooHeavy row.1.0).0 due.1
 agrees words bytes after rose ListLimit ReadFault text row due = absurd due
 agrees words bytes after rose ListLimit WriteFault text row due = absurd due
 agrees words bytes after rose ListLimit NoMemory text row due = absurd due
+agrees words bytes after rose OrderLimit (Done Plain) text row due = not_cuts_and_help words row.0 due
+agrees words bytes after rose OrderLimit Usage text row due = not_cuts_and_none words row.0 due
+agrees words bytes after rose OrderLimit (Done Lists) text row due = given (most_of words) bytes OrderLimit (Done Lists) (input bytes after (HasManyOrders (most_of words)) row.1.0).1 due.2
+agrees words bytes after rose OrderLimit (Refused other) text row due = given (most_of words) bytes OrderLimit (Refused other) (input bytes after (HasManyOrders (most_of words)) row.1.0).1 due.2
+agrees words bytes after rose OrderLimit ListLimit text row due = given (most_of words) bytes OrderLimit ListLimit (input bytes after (HasManyOrders (most_of words)) row.1.0).1 due.2
+agrees words bytes after rose OrderLimit OrderLimit text row due = given (most_of words) bytes OrderLimit OrderLimit (input bytes after (HasManyOrders (most_of words)) row.1.0).1 due.2
+agrees words bytes after rose OrderLimit TooLong text row due = not_short_and_long bytes (input bytes after (HasManyOrders (most_of words)) row.1.0).0 due.1
+agrees words bytes after rose OrderLimit ReadFault text row due = absurd due
+agrees words bytes after rose OrderLimit WriteFault text row due = absurd due
+agrees words bytes after rose OrderLimit NoMemory text row due = absurd due
 agrees words bytes after rose TooLong (Done Plain) text row due = not_cuts_and_help words row.0 due
 agrees words bytes after rose TooLong Usage text row due = not_cuts_and_none words row.0 due
 agrees words bytes after rose TooLong (Done Lists) text row due = not_short_and_long bytes due.1 (long_input bytes after row.1.0)
 agrees words bytes after rose TooLong (Refused other) text row due = not_short_and_long bytes due.1 (long_input bytes after row.1.0)
 agrees words bytes after rose TooLong ListLimit text row due = not_short_and_long bytes due.1 (long_input bytes after row.1.0)
+agrees words bytes after rose TooLong OrderLimit text row due = not_short_and_long bytes due.1 (long_input bytes after row.1.0)
 agrees words bytes after rose TooLong TooLong text row due = inl refl
 agrees words bytes after rose TooLong ReadFault text row due = absurd due
 agrees words bytes after rose TooLong WriteFault text row due = absurd due

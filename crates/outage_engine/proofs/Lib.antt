@@ -2,3 +2,5 @@ mod Telling
 mod Inputs
 mod OneAnswer
 mod Clauses
+mod Numbers
+mod Writable

@@ -1,5 +1,5 @@
 -- A run whose sink failed told a front of its text.
-use Rattle.std.specs.Prelude.{◌≡◌, ℕ, List, Option, Result, Ok, Err, OnErr}
+use Rattle.std.specs.Prelude.{◌≡◌, ℕ, List, Option, Result, Err, OnErr}
 use Rattle.std.proofs.Common.{subst, refl, inr}
 use Rattle.edge_io.specs.Faults.{Rose}
 use Rattle.edge_io.specs.Out.{Delivers}

@@ -1,12 +1,13 @@
 -- The exit status of each status.
 use Rattle.std.specs.Prelude.{ℕ}
 use Rattle.outage_engine.specs.declared.status.Status.{Status}
-use Rattle.outage_engine.specs.declared.status.Status.TheVariants.{Done, Refused, ListLimit, Usage, ReadFault, TooLong, WriteFault, NoMemory}
+use Rattle.outage_engine.specs.declared.status.Status.TheVariants.{Done, Refused, ListLimit, OrderLimit, Usage, ReadFault, TooLong, WriteFault, NoMemory}
 
 abbrev pub code_of : Status → ℕ
 code_of (Done method) = 0
 code_of (Refused fault) = 1
 code_of ListLimit = 1
+code_of OrderLimit = 1
 code_of Usage = 2
 code_of ReadFault = 3
 code_of TooLong = 3

@@ -13,7 +13,8 @@ use Rattle.tree_check.specs.Checked.{IsFirstFault, Stands}
 use Rattle.tree_check.specs.declared.fault.CheckCode.{CheckCode}
 use Rattle.crew_script.specs.Deck.{split_of}
 use Rattle.cutset_lists.specs.Generation.{HasHeavyCutList}
-use Rattle.board_report.specs.CutsText.{cuts_text, unlisted}
+use Rattle.cut_sequences.specs.Orders.{order_limit, order_lists, order_total}
+use Rattle.board_report.specs.CutsText.{cuts_text, listed_with}
 use Rattle.board_report.specs.declared.fault.DeckFault.{DeckFault}
 use Rattle.board_report.specs.declared.fault.FaultCode.TheVariants.{Lex, Expected, Check}
 
@@ -40,14 +41,27 @@ IsFaultOf (Ok read) found = (code : CheckCode) × (found.code ≡ Check code) ×
 abbrev pub IsFirstFaultOf : List ℕ → DeckFault → Type 0
 IsFirstFaultOf bytes fault = IsFaultOf (parsed_text (tree_part bytes)) fault
 
--- the text is that of the cut list of the tree of the deck, which is within the limit
-pub record IsCutsText (bytes text : List ℕ) : Type 0 where
-  pub tree : FaultTree
-  pub cuts : List (List ℕ)
+-- the tree of the deck, with its cut list, which is within the limit
+pub record HasCuts (bytes : List ℕ) (tree : FaultTree) (cuts : List (List ℕ)) : Type 0 where
   pub stands : StandsFor bytes tree
   pub all : IsCutList tree cuts
   pub within : weight cuts ≤ weight_limit
-  pub is : text ≡ cuts_text tree (unlisted cuts)
+
+-- the text is that of the cut list of the tree of the deck, with the failing orders of the sets of at most so many members, which
+-- are within the limit
+pub record IsCutsText (most : ℕ) (bytes text : List ℕ) : Type 0 where
+  pub tree : FaultTree
+  pub cuts : List (List ℕ)
+  pub has : HasCuts bytes tree cuts
+  pub few : order_total (order_lists tree cuts most) ≤ order_limit
+  pub is : text ≡ cuts_text tree (listed_with cuts (order_lists tree cuts most))
+
+-- the sets of at most so many members have more failing orders than the limit
+pub record HasManyOrders (most : ℕ) (bytes : List ℕ) : Type 0 where
+  pub tree : FaultTree
+  pub cuts : List (List ℕ)
+  pub has : HasCuts bytes tree cuts
+  pub many : order_limit < order_total (order_lists tree cuts most)
 
 -- the cut list of the tree of the deck is beyond the limit
 pub record IsTooHeavy (bytes : List ℕ) : Type 0 where

@@ -3,8 +3,8 @@ ghost use Rattle.std.specs.Prelude.{◌≡◌, ◌⊎◌, ℕ, List, Some};
 ghost use Rattle.std.specs.Io.KnownBytes.{Appends};
 ghost use Rattle.board_report.specs.Refusals.{fault_line, notice_line};
 ghost use Rattle.edge_io.specs.Faults.{Rose};
-ghost use Rattle.outage_engine.specs.Deck.{IsCutsText, IsFirstFaultOf, IsTooHeavy};
-ghost use Rattle.outage_engine.specs.Rows.{AreCuts, AreHelp, AreNone, IsBeyond, IsDue, OfInput};
+ghost use Rattle.outage_engine.specs.Deck.{HasManyOrders, IsCutsText, IsFirstFaultOf, IsTooHeavy};
+ghost use Rattle.outage_engine.specs.Rows.{AreCuts, AreHelp, AreNone, IsBeyond, IsDue, OfInput, most_of};
 ghost use Rattle.outage_engine.specs.Runs.{IsOrFails, Runs, Writes, WritesFrontOfRow};
 
 use crate::answer::answer_words;
@@ -13,12 +13,13 @@ use crate::{Method, Status, Word};
 use board_report::{DeckFault, Notice};
 use edge_io::{Buffer, Sink, Source};
 use std::alloc::Global;
+use std::thread::Threads;
 
 /// Does all that the program does: the words after its name say what, the source is its input, and the sink its output.
 ///
-/// `cuts --most 0` prints the minimal cut sets of the deck. Threads are not started yet; the runtime is the first parameter
-/// all the same, since the search for failing orders will.
-pub fn run<R, S: Source, K: Sink>(
+/// `cuts` prints the minimal cut sets of the deck, and the orders in which the units of each fail the top event, for the sets of
+/// at most as many members as `--most` says. The search for orders starts the threads that `--workers` says.
+pub fn run<R: Threads + Sync, S: Source, K: Sink>(
     rt: &R,
     alloc: Global,
     words: &[Word],
@@ -27,7 +28,7 @@ pub fn run<R, S: Source, K: Sink>(
 ) -> Status
     // What was written, for which input, where the run ends well.
     ensures cuts { result ≡ Status.Done Method.Lists → AreCuts words.now
-        × Writes K.taken sink.old sink.new (λ text. OfInput (S.held source.old) (S.held source.new) (λ bytes. IsCutsText bytes text)) }
+        × Writes K.taken sink.old sink.new (λ text. OfInput (S.held source.old) (S.held source.new) (λ bytes. IsCutsText (most_of words.now) bytes text)) }
     ensures help { result ≡ Status.Done Method.Plain → AreHelp words.now
         × Appends (K.taken sink.old) (K.taken sink.new) (notice_line Notice.Usage) }
 
@@ -40,6 +41,9 @@ pub fn run<R, S: Source, K: Sink>(
     ensures list_limit { result ≡ Status.ListLimit → AreCuts words.now
         × OfInput (S.held source.old) (S.held source.new) IsTooHeavy
         × Appends (K.taken sink.old) (K.taken sink.new) (notice_line Notice.ListLimit) }
+    ensures order_limit { result ≡ Status.OrderLimit → AreCuts words.now
+        × OfInput (S.held source.old) (S.held source.new) (HasManyOrders (most_of words.now))
+        × Appends (K.taken sink.old) (K.taken sink.new) (notice_line Notice.OrderLimit) }
     ensures too_long { result ≡ Status.TooLong → AreCuts words.now
         × IsBeyond (S.held source.old) (S.held source.new)
         × Appends (K.taken sink.old) (K.taken sink.new) (notice_line Notice.TooLong) }
@@ -64,8 +68,8 @@ pub fn run<R, S: Source, K: Sink>(
 }
 
 /// Does what [`run`] does for words that are no command of the board.
-pub fn run_cuts<R, S: Source, K: Sink>(
-    _rt: &R,
+pub fn run_cuts<R: Threads + Sync, S: Source, K: Sink>(
+    rt: &R,
     alloc: Global,
     words: &[Word],
     source: &mut S,
@@ -73,7 +77,7 @@ pub fn run_cuts<R, S: Source, K: Sink>(
 ) -> Status
     // What was written, for which input, where the run ends well.
     ensures cuts { result ≡ Status.Done Method.Lists → AreCuts words.now
-        × Writes K.taken sink.old sink.new (λ text. OfInput (S.held source.old) (S.held source.new) (λ bytes. IsCutsText bytes text)) }
+        × Writes K.taken sink.old sink.new (λ text. OfInput (S.held source.old) (S.held source.new) (λ bytes. IsCutsText (most_of words.now) bytes text)) }
     ensures help { result ≡ Status.Done Method.Plain → AreHelp words.now
         × Appends (K.taken sink.old) (K.taken sink.new) (notice_line Notice.Usage) }
 
@@ -86,6 +90,9 @@ pub fn run_cuts<R, S: Source, K: Sink>(
     ensures list_limit { result ≡ Status.ListLimit → AreCuts words.now
         × OfInput (S.held source.old) (S.held source.new) IsTooHeavy
         × Appends (K.taken sink.old) (K.taken sink.new) (notice_line Notice.ListLimit) }
+    ensures order_limit { result ≡ Status.OrderLimit → AreCuts words.now
+        × OfInput (S.held source.old) (S.held source.new) (HasManyOrders (most_of words.now))
+        × Appends (K.taken sink.old) (K.taken sink.new) (notice_line Notice.OrderLimit) }
     ensures too_long { result ≡ Status.TooLong → AreCuts words.now
         × IsBeyond (S.held source.old) (S.held source.new)
         × Appends (K.taken sink.old) (K.taken sink.new) (notice_line Notice.TooLong) }
@@ -106,11 +113,12 @@ pub fn run_cuts<R, S: Source, K: Sink>(
     ensures due { (bytes : List ℕ) (status : Status) → S.held source.old ≡ Some bytes → IsDue words.now bytes status
         → IsOrFails result status }
 {
-    answer_and_tell(alloc, words, source, sink)
+    answer_and_tell(rt, alloc, words, source, sink)
 }
 
 // Finds the answer, and then writes it.
-fn answer_and_tell<S: Source, K: Sink>(
+fn answer_and_tell<R: Threads + Sync, S: Source, K: Sink>(
+    rt: &R,
     alloc: Global,
     words: &[Word],
     source: &mut S,
@@ -123,7 +131,7 @@ fn answer_and_tell<S: Source, K: Sink>(
     let Ok(buffer) = Buffer::new(alloc) else {
         return Status::NoMemory;
     };
-    match answer_words(alloc, words, source) {
+    match answer_words(rt, alloc, words, source) {
         Ok(answer) => tell(sink, buffer, &answer),
         Err(_) => Status::NoMemory,
     }

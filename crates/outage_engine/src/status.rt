@@ -22,6 +22,8 @@ pub enum Status {
     Refused(DeckFault),
     /// The cut list weighs more than 16,777,216: 1 for each set and 1 for each member.
     ListLimit,
+    /// The sets that are small enough have more than 2,000,000 failing orders.
+    OrderLimit,
     /// The words are no command.
     Usage,
     /// The source failed.
@@ -41,7 +43,7 @@ impl Status {
     {
         match self {
             Status::Done(_) => 0,
-            Status::Refused(_) | Status::ListLimit => 1,
+            Status::Refused(_) | Status::ListLimit | Status::OrderLimit => 1,
             Status::Usage => 2,
             Status::ReadFault | Status::TooLong => 3,
             Status::WriteFault => 4,

@@ -6,7 +6,7 @@ ghost use Rattle.outage_engine.specs.Runs.{Tells};
 
 use crate::Status;
 use crate::answer::Answer;
-use board_report::{Notice, put_fault, put_notice, put_unlisted_cuts};
+use board_report::{Notice, put_cuts, put_fault, put_notice};
 use edge_io::{Buffer, Out, Sink, WriteFault};
 
 // Writes the text of an answer, and tells how the run ends.
@@ -30,9 +30,10 @@ fn put_answer<K: Sink>(out: &mut Out<K>, answer: &Answer) -> Result<(), WriteFau
     ensures answer { is_err result ≡ has_failed out.new }
 {
     match answer {
-        Answer::Cuts(tree, cuts) => put_unlisted_cuts(out, tree, cuts),
+        Answer::Cuts(tree, cuts, lists) => put_cuts(out, tree, cuts, lists),
         Answer::Refused(fault) => put_fault(out, fault),
         Answer::ListLimit => put_notice(out, Notice::ListLimit),
+        Answer::OrderLimit => put_notice(out, Notice::OrderLimit),
         Answer::Help | Answer::Usage => put_notice(out, Notice::Usage),
         Answer::ReadFault => put_notice(out, Notice::ReadFault),
         Answer::TooLong => put_notice(out, Notice::TooLong),

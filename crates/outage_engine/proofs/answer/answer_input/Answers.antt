@@ -10,7 +10,7 @@ pub returns-in-Ok-clause-reading : goal.returns-in-Ok-clause-reading
 returns-in-Ok-clause-reading g c =
     IfOk-weaker c.answer_deck.result _ _
     (λ answer holds.
-    answers_input _ _ _ c.in-Ok.bytes c.as_slice.result.now c.as_slice.ensures.value
+    answers_input _ _ _ _ c.in-Ok.bytes c.as_slice.result.now c.as_slice.ensures.value
     (subst (λ r. IfOk r (λ bytes. Consumes (g.S.Source.held c.args.source.now) (g.S.Source.held c.read_all.new.source) bytes)) c.in-Ok.is c.read_all.ensures.whole)
     (subst (λ r. OnOk r (IsAtEnd (g.S.Source.held c.read_all.new.source))) c.in-Ok.is c.read_all.ensures.at_end)
     (subst (λ r. IfOk r (λ bytes. length bytes ≤ INPUT_LIMIT)) c.in-Ok.is c.read_all.ensures.within)

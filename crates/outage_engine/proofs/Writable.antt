@@ -1,0 +1,17 @@
+-- The cut list of a tree and its failing orders are of units of the tree.
+use Rattle.std.specs.Prelude.{◌≡◌, ℕ, List, All, Option}
+use Rattle.std.proofs.Common.{sym, subst}
+use Rattle.std.proofs.lemmas.List.Elements.{All-weaker}
+use Rattle.fault_model.specs.Tree.{FaultTree, IsUnitOf}
+use Rattle.fault_model.specs.Cut.{IsCutList, IsMinimalCut}
+use Rattle.cut_sequences.specs.Orders.{order_lists}
+use Rattle.board_report.specs.OrdersOfUnits.{AreOrdersOf, AreOrdersOf-order_lists}
+
+cuts_of_units : (tree : FaultTree) (cuts : List (List ℕ)) → IsCutList tree cuts → All (All (IsUnitOf tree)) cuts
+cuts_of_units tree cuts list = All-weaker (IsMinimalCut tree) (All (IsUnitOf tree)) (λ set minimal. minimal.units) cuts list.sound
+
+pub listed_of_units : (tree : FaultTree) (cuts : List (List ℕ)) (most : ℕ) (lists : List (Option (List (List ℕ)))) → IsCutList tree cuts
+    → lists ≡ order_lists tree cuts most → All (All (IsUnitOf tree)) cuts × AreOrdersOf tree cuts lists
+listed_of_units tree cuts most lists list is =
+    let units = cuts_of_units tree cuts list in
+    (units, subst (AreOrdersOf tree cuts) (sym is) (AreOrdersOf-order_lists tree cuts most units))
