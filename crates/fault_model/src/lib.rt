@@ -29,6 +29,7 @@ pub use list::{
     NodeList,
 };
 pub use name::{Name, is_bare_name};
+pub use name_bytes::SHORT_NAME;
 pub use node::{GateKind, NodeNo, Place};
 pub use order::Order;
 pub use parts::TreeParts;

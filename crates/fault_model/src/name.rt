@@ -6,6 +6,7 @@ ghost use Rattle.std.specs.Cmp.Rules.{hashing};
 ghost use Rattle.std.specs.Hash as fed;
 ghost use Rattle.std.proofs.Common.{rules};
 ghost use Rattle.fault_model.specs.Name.{is_name, is_name_byte, is_bare_name, is_bare_start, is_bare_byte};
+ghost use Rattle.fault_model.specs.declared.name_bytes.TheConstants.{SHORT_NAME};
 ghost use Rattle.std.specs.List.{list_all};
 
 use crate::NoMemory;
@@ -63,6 +64,20 @@ impl Name {
         Ok(Name {
             bytes: NameBytes::front(alloc, text, count)?,
         })
+    }
+
+    /// The name of the first bytes of a text that has at least [`SHORT_NAME`] bytes, where the name has at most so many. It takes no
+    /// memory, so that a reader of many names can make each where it is to stay.
+    #[inline(always)]
+    pub fn short(text: &[u8], count: usize) -> Name
+        requires few { count ≤ SHORT_NAME }
+        requires room { SHORT_NAME ≤ length text.now }
+        requires form { IsTrue (is_name (take count text.now)) }
+        ensures { result ≡ take count text.now }
+    {
+        Name {
+            bytes: NameBytes::short(text, count),
+        }
     }
 
     /// The bytes of the name.

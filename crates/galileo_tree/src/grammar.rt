@@ -168,24 +168,8 @@ fn gate(
     if !lexeme.is_name() {
         return Err(ParseFault::Expected(What::Input, lexeme.place()));
     }
-    match add_input(alloc, &mut gate.inputs, &lexeme) {
+    match lexeme.add_to(alloc, &mut gate.inputs) {
         Ok(()) => inputs(alloc, reader, gate),
-        Err(fault) => Err(fault),
-    }
-}
-
-// One more input.
-#[inline(always)]
-fn add_input(alloc: Global, inputs: &mut PlacedList, lexeme: &Lexeme) -> Result<(), ParseFault>
-    requires { is_value lexeme.now ≡ true }
-    ensures added { OnOk result (inputs.new ≡ inputs.old ++ placed lexeme.now ∷ []) }
-    ensures memory { IfErr result (λ fault. fault ≡ NoMemory) }
-{
-    match lexeme.placed(alloc) {
-        Ok(input) => match inputs.push(input) {
-            Ok(()) => Ok(()),
-            Err(_) => Err(ParseFault::NoMemory),
-        },
         Err(fault) => Err(fault),
     }
 }
@@ -207,7 +191,7 @@ fn inputs(alloc: Global, reader: &mut Reader, begun: RawGate) -> Result<Statemen
         if !lexeme.is_name() {
             return Err(ParseFault::Expected(What::Input, lexeme.place()));
         }
-        match add_input(alloc, &mut gate.inputs, &lexeme) {
+        match lexeme.add_to(alloc, &mut gate.inputs) {
             Ok(()) => {}
             Err(fault) => return Err(fault),
         }

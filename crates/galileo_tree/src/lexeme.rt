@@ -1,5 +1,5 @@
 // A token with its text.
-ghost use Rattle.std.specs.Prelude.{◌≡◌, ◌≤◌, length, take, true, IfOk, IfErr, IfSome};
+ghost use Rattle.std.specs.Prelude.{◌≡◌, ◌≤◌, [], ◌∷◌, ◌++◌, length, take, true, IfOk, IfErr, IfSome, OnOk};
 ghost use Rattle.fault_model.specs.Name.{is_bare_name};
 ghost use Rattle.galileo_tree.specs.Lexeme.{is_equals, is_semicolon, is_bare, is_name, is_value, is_top_word, is_word_kind, is_quoted_kind};
 ghost use Rattle.galileo_tree.specs.ReadTree.{HasShortNumbers};
@@ -8,8 +8,8 @@ ghost use Rattle.galileo_tree.specs.declared.fault.ParseFault.TheVariants.{NoMem
 
 use crate::bytes::gate_word;
 use crate::fault::ParseFault;
-use crate::raw::Placed;
-use fault_model::{GateKind, Name, Place, is_bare_name};
+use crate::raw::{Placed, PlacedList};
+use fault_model::{GateKind, Name, Place, SHORT_NAME, is_bare_name};
 use galileo_lexer::TokenKind;
 use std::alloc::Global;
 use std::marker::Model;
@@ -164,6 +164,43 @@ impl<'a> Lexeme<'a> {
                 name,
                 place: self.place,
             }),
+            Err(fault) => Err(fault),
+        }
+    }
+
+    /// Puts the name that the lexeme writes, with its place, behind a list. A short name is made where it is to stay: a text may have
+    /// millions of them, and to build each apart and then move it takes longer than to read it.
+    #[inline(always)]
+    pub(crate) fn add_to(&self, alloc: Global, list: &mut PlacedList) -> Result<(), ParseFault>
+        requires { is_value self.now ≡ true }
+        ensures added { OnOk result (list.new ≡ list.old ++ placed self.now ∷ []) }
+        ensures memory { IfErr result (λ fault. fault ≡ NoMemory) }
+    {
+        if self.count > SHORT_NAME || self.behind.len() < SHORT_NAME {
+            return self.add_long_to(alloc, list);
+        }
+        let pushed = list.push(Placed {
+            name: Name::short(self.behind, self.count),
+            place: self.place,
+        });
+        match pushed {
+            Ok(()) => Ok(()),
+            Err(_) => Err(ParseFault::NoMemory),
+        }
+    }
+
+    // The same for a name of any length, wherever it stands.
+    #[inline(never)]
+    fn add_long_to(&self, alloc: Global, list: &mut PlacedList) -> Result<(), ParseFault>
+        requires { is_value self.now ≡ true }
+        ensures added { OnOk result (list.new ≡ list.old ++ placed self.now ∷ []) }
+        ensures memory { IfErr result (λ fault. fault ≡ NoMemory) }
+    {
+        match self.placed(alloc) {
+            Ok(found) => match list.push(found) {
+                Ok(()) => Ok(()),
+                Err(_) => Err(ParseFault::NoMemory),
+            },
             Err(fault) => Err(fault),
         }
     }

@@ -1,8 +1,0 @@
-use Rattle.std.proofs.Common.{◌∙◌, ap, take}
-use Rattle.std.proofs.lemmas.List.{take-take}
-use Rattle.fault_model.specs.declared.name_bytes.TheConstants.{FEW}
-use Rattle.fault_model.proofs.name_bytes.FewBytes.front.Goals as goal
-
--- what stands behind the first bytes doesn't count
-pub returns : goal.returns
-returns c = ap (take c.args.count) c.copy_from_slice.ensures.after ∙ take-take c.args.count FEW c.args.text.now c.requires.few
