@@ -1,0 +1,4 @@
+mod Mades
+mod Meets
+mod Sizes
+mod Walks

@@ -1,0 +1,5 @@
+pub mod Listing
+pub mod BySize
+pub mod Visits
+pub mod Nodes
+pub mod Made
