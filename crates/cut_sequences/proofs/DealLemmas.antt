@@ -1,13 +1,11 @@
 -- Sets that are dealt to workers, and gathered again.
-use Rattle.std.proofs.Common.{◌≡◌, ℕ, zero, suc, ◌+◌, ◌-◌, ◌*◌, ◌/◌, ◌%◌, ◌<◌, ◌≤◌, List, [], ◌∷◌, ◌++◌, length, get_or, take, drop, map, Option, None, Result, Ok, refl, ap, sym, subst, ◌∙◌, arith, add-one}
+use Rattle.std.proofs.Common.{◌≡◌, ℕ, zero, suc, ◌+◌, ◌-◌, ◌*◌, ◌/◌, ◌%◌, ◌<◌, ◌≤◌, List, [], ◌∷◌, ◌++◌, length, get_or, take, drop, Option, None, refl, ap, sym, subst, ◌∙◌, arith, add-one}
 use Rattle.std.proofs.Math.Nat.{div-add-mod, mod-lt}
 use Rattle.std.specs.List.{sum_by}
-use Rattle.std.proofs.lemmas.List.{drop_more, drop_all, drop-drop, take_more, take_all, length-map, get_or-map, get_or_read}
+use Rattle.std.proofs.lemmas.List.{drop_more, drop_all, drop-drop, take_more, take_all, get_or_read}
 use Rattle.std.proofs.lemmas.List.Sums.{sum_by_more}
-use Rattle.cut_sequences.specs.declared.refusal.OrderEnd.{OrderEnd}
 use Rattle.cut_sequences.specs.Orders.{order_count, order_total}
-use Rattle.cut_sequences.specs.Dealing.{dealt, Share, IsShare, AreShares, list_in, gathered}
-use Rattle.cut_sequences.proofs.ListLemmas.{order_total-append}
+use Rattle.cut_sequences.specs.Dealing.{dealt, Share, AreShares, list_in, gathered}
 
 -- ---- the places of what a worker gets
 
@@ -58,11 +56,6 @@ dealt-le waits others [] = omega arith
 dealt-le zero others (list ∷ lists) = omega (arith, dealt-le others others lists)
 dealt-le (suc waits) others (list ∷ lists) = omega (arith, dealt-le waits others lists)
 
--- what has been listed and the list of one set more are of the worker's share
-pub part-le : (worker others : ℕ) (all listed rest : Share) (list : Option (List (List ℕ))) → listed ++ list ∷ rest ≡ dealt worker others all → order_total listed + order_count list ≤ order_total all
-part-le worker others all listed rest list is =
-    omega (arith, dealt-le worker others all, sym (ap order_total is), order_total-append listed (list ∷ rest))
-
 -- ---- all sets together
 
 pub list_in-is : (lists : Share) (shares : List Share) → AreShares lists shares → (i : ℕ) → list_in shares i ≡ get_or lists i None
@@ -100,28 +93,25 @@ length-gathered (suc sets) shares = omega (arith, length_push-is (gathered sets 
 
 -- ---- the numbers of orders
 
-dealt_total : ℕ → ℕ → Share → ℕ
+-- the numbers of orders of the first workers together
+abbrev pub dealt_total : ℕ → ℕ → Share → ℕ
 dealt_total zero others lists = 0
 dealt_total (suc n) others lists = dealt_total n others lists + order_total (dealt n others lists)
 
 dealt_total-nil : (n others : ℕ) → dealt_total n others [] ≡ 0
-unfolding dealt_total
 dealt_total-nil zero others = refl
 dealt_total-nil (suc n) others = omega (arith, dealt_total-nil n others)
 
 dealt_total-cons : (n others : ℕ) (list : Option (List (List ℕ))) (lists : Share)
     → dealt_total (suc n) others (list ∷ lists) ≡ order_count list + order_total (dealt others others lists) + dealt_total n others lists
-unfolding dealt_total
 dealt_total-cons zero others list lists = omega arith
 dealt_total-cons (suc n) others list lists = omega (arith, dealt_total-cons n others list lists)
 
-dealt_total-all : (others : ℕ) (lists : Share) → dealt_total (suc others) others lists ≡ order_total lists
-unfolding dealt_total
+pub dealt_total-all : (others : ℕ) (lists : Share) → dealt_total (suc others) others lists ≡ order_total lists
 dealt_total-all others [] = dealt_total-nil (suc others) others
 dealt_total-all others (list ∷ lists) = omega (arith, dealt_total-cons others others list lists, dealt_total-all others lists)
 
 shares_total : (lists : Share) (shares : List Share) → AreShares lists shares → (n : ℕ) → n ≤ length shares → sum_by order_total (take n shares) ≡ dealt_total n (length shares - 1) lists
-unfolding dealt_total
 shares_total lists shares are zero short = refl
 shares_total lists shares are (suc n) short =
     let below : n < length shares = omega arith in
@@ -150,23 +140,3 @@ share_at lists sets shares i workers share are view all here short =
       subst (λ (s : Share). i / workers < length s) (sym at) (subst (λ n. i / n < length (get_or shares (i % length shares) [])) (sym all) (share_reaches lists shares whole i short)),
       ap (λ (s : Share). get_or s (i / workers) None) at ∙ ap (λ n. get_or (get_or shares (i % length shares) []) (i / n) None) all ∙ list_in-is lists shares whole i,
     )
-
--- ---- from the answers of all workers
-
-pub are_shares : (lists : Share) (answers : List (Result Share OrderEnd)) (shares : List Share) (workers : ℕ) → 0 < workers → length answers ≡ workers → answers ≡ map Ok shares
-    → ((worker : ℕ) → worker < workers → IsShare lists workers worker (get_or answers worker (Ok []))) → AreShares lists shares
-are_shares lists answers shares workers some all oks each =
-    let many : length shares ≡ workers = sym (length-map shares Ok) ∙ sym (ap length oks) ∙ all in
-    record {
-      some = omega (arith, many);
-      each = λ worker within.
-          let below : worker < workers = omega (arith, many) in
-          let ok : get_or answers worker (Ok []) ≡ Ok (get_or shares worker []) = ap (λ (l : List (Result Share OrderEnd)). get_or l worker (Ok [])) oks ∙ get_or-map Ok shares worker [] (Ok []) within in
-          let is : get_or shares worker [] ≡ dealt worker (workers - 1) lists = subst (IsShare lists workers worker) ok (each worker below) in
-          is ∙ ap (λ n. dealt worker (n - 1) lists) (sym many);
-    }
-
-pub gathered_answers : (lists : Share) (answers : List (Result Share OrderEnd)) (shares : List Share) (workers sets : ℕ) → 0 < workers → length answers ≡ workers → answers ≡ map Ok shares
-    → ((worker : ℕ) → worker < workers → IsShare lists workers worker (get_or answers worker (Ok []))) → sets ≡ length lists → gathered sets shares ≡ lists
-gathered_answers lists answers shares workers sets some all oks each same =
-    gathered-is lists shares sets (are_shares lists answers shares workers some all oks each) same

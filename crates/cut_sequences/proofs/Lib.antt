@@ -3,4 +3,5 @@ pub mod MarkLemmas
 pub mod DealLemmas
 pub mod GoingLemmas
 pub mod ShareLemmas
+pub mod RoundLemmas
 pub mod PermutationLemmas

@@ -12,9 +12,9 @@ use Rattle.cut_sequences.specs.Orders.{orders_of, order_lists, order_count, orde
 use Rattle.cut_sequences.specs.Going.{CanGoOn}
 use Rattle.cut_sequences.specs.Dealing.{dealt, Share}
 use Rattle.cut_sequences.specs.Marks.{lists_from, HoldsShare}
-use Rattle.cut_sequences.proofs.DealLemmas.{dealt-next, part-le}
+use Rattle.cut_sequences.proofs.DealLemmas.{dealt-next}
 use Rattle.cut_sequences.proofs.GoingLemmas.{can_start}
-use Rattle.cut_sequences.proofs.ListLemmas.{IsOver-more}
+use Rattle.cut_sequences.proofs.ListLemmas.{IsOver-more, order_total-append}
 
 length-weight : (cuts : List (List ℕ)) → length cuts ≤ weight cuts
 length-weight [] = omega arith
@@ -44,10 +44,14 @@ next_list tree most cuts next workers cut some short at =
     ∙ ap (λ (o : Option (List (List ℕ))). o ∷ dealt 0 (workers - 1) (drop (next + suc (workers - 1)) all)) here
     ∙ ap (λ n. orders_of tree most cut ∷ dealt 0 (workers - 1) (drop n all)) step
 
-pub share_more : (tree tree' : FaultTree) (most : ℕ) (cuts : List (List ℕ)) (next worker workers : ℕ) (cut : List ℕ) (listed listed' : Share) → tree' ≡ tree → 0 < workers → next < length cuts → slice_get cuts next ≡ Some cut
-    → listed ++ dealt 0 (workers - 1) (drop next (order_lists tree cuts most)) ≡ dealt worker (workers - 1) (order_lists tree cuts most) → listed' ≡ listed ++ orders_of tree' most cut ∷ []
-    → listed' ++ dealt 0 (workers - 1) (drop (next + workers) (order_lists tree cuts most)) ≡ dealt worker (workers - 1) (order_lists tree cuts most)
-share_more tree tree' most cuts next worker workers cut listed listed' same some short at so_far more =
+-- what has been listed and the list of one set more are no more than all that is due
+part-le : (listed rest due : Share) (list : Option (List (List ℕ))) → listed ++ list ∷ rest ≡ due → order_total listed + order_count list ≤ order_total due
+part-le listed rest due list is = omega (arith, sym (ap order_total is), order_total-append listed (list ∷ rest))
+
+pub share_more : (tree tree' : FaultTree) (most : ℕ) (cuts : List (List ℕ)) (next workers : ℕ) (cut : List ℕ) (listed listed' due : Share) → tree' ≡ tree → 0 < workers → next < length cuts → slice_get cuts next ≡ Some cut
+    → listed ++ dealt 0 (workers - 1) (drop next (order_lists tree cuts most)) ≡ due → listed' ≡ listed ++ orders_of tree' most cut ∷ []
+    → listed' ++ dealt 0 (workers - 1) (drop (next + workers) (order_lists tree cuts most)) ≡ due
+share_more tree tree' most cuts next workers cut listed listed' due same some short at so_far more =
     let rest : Share = dealt 0 (workers - 1) (drop (next + workers) (order_lists tree cuts most)) in
     ap (λ (l : Share). l ++ rest) more
     ∙ ap (λ (t : FaultTree). (listed ++ orders_of t most cut ∷ []) ++ rest) same
@@ -55,13 +59,13 @@ share_more tree tree' most cuts next worker workers cut listed listed' same some
     ∙ ap (λ (l : Share). listed ++ l) (sym (next_list tree most cuts next workers cut some short at))
     ∙ so_far
 
-pub share_over : (tree tree' : FaultTree) (most : ℕ) (cuts : List (List ℕ)) (next worker workers : ℕ) (cut : List ℕ) (marks : List Mark) (orders : List (List ℕ)) (end : OrderEnd) → tree' ≡ tree → 0 < workers → next < length cuts → slice_get cuts next ≡ Some cut
-    → HoldsShare marks orders → lists_from 0 marks orders ++ dealt 0 (workers - 1) (drop next (order_lists tree cuts most)) ≡ dealt worker (workers - 1) (order_lists tree cuts most)
-    → IsOver (length orders + order_count (orders_of tree' most cut)) end → IsOver (order_total (order_lists tree cuts most)) end
-share_over tree tree' most cuts next worker workers cut marks orders end same some short at held so_far over =
+pub share_over : (tree tree' : FaultTree) (most : ℕ) (cuts : List (List ℕ)) (next workers : ℕ) (cut : List ℕ) (marks : List Mark) (orders : List (List ℕ)) (due : Share) (end : OrderEnd) → tree' ≡ tree → 0 < workers → next < length cuts → slice_get cuts next ≡ Some cut
+    → HoldsShare marks orders → lists_from 0 marks orders ++ dealt 0 (workers - 1) (drop next (order_lists tree cuts most)) ≡ due
+    → IsOver (length orders + order_count (orders_of tree' most cut)) end → IsOver (order_total due) end
+share_over tree tree' most cuts next workers cut marks orders due end same some short at held so_far over =
     let all : Share = order_lists tree cuts most in
     let count : order_count (orders_of tree' most cut) ≡ order_count (orders_of tree most cut) = ap (λ (t : FaultTree). order_count (orders_of t most cut)) same in
-    let parts : lists_from 0 marks orders ++ orders_of tree most cut ∷ dealt 0 (workers - 1) (drop (next + workers) all) ≡ dealt worker (workers - 1) all =
+    let parts : lists_from 0 marks orders ++ orders_of tree most cut ∷ dealt 0 (workers - 1) (drop (next + workers) all) ≡ due =
     ap (λ (l : Share). lists_from 0 marks orders ++ l) (sym (next_list tree most cuts next workers cut some short at)) ∙ so_far in
-    IsOver-more (length orders + order_count (orders_of tree' most cut)) (order_total all) end
-    (omega (arith, count, held.total, part-le worker (workers - 1) all (lists_from 0 marks orders) (dealt 0 (workers - 1) (drop (next + workers) all)) (orders_of tree most cut) parts)) over
+    IsOver-more (length orders + order_count (orders_of tree' most cut)) (order_total due) end
+    (omega (arith, count, held.total, part-le (lists_from 0 marks orders) (dealt 0 (workers - 1) (drop (next + workers) all)) due (orders_of tree most cut) parts)) over

@@ -1,7 +1,5 @@
 -- How the sets are dealt to the workers in turn, and gathered again.
-use Rattle.std.specs.Prelude.{◌≡◌, ℕ, zero, suc, ◌-◌, ◌/◌, ◌%◌, ◌<◌, List, [], ◌∷◌, ◌++◌, length, Option, None, Result, Ok, Err, slice_index_or}
-use Rattle.cut_sequences.specs.declared.refusal.OrderEnd.{OrderEnd}
-use Rattle.cut_sequences.specs.Orders.{order_total, IsOver}
+use Rattle.std.specs.Prelude.{◌≡◌, ℕ, zero, suc, ◌-◌, ◌/◌, ◌%◌, ◌<◌, List, [], ◌∷◌, ◌++◌, length, Option, None, slice_index_or}
 
 -- what one worker gets, who waits for some items first and then lets `others` items pass after each
 abbrev pub dealt : {X : Type 0} → ℕ → ℕ → List X → List X
@@ -12,11 +10,6 @@ dealt (suc waits) others (item ∷ items) = dealt waits others items
 -- the lists of orders of the sets that one worker gets, a list for each set
 abbrev pub Share : Type 0
 Share = List (Option (List (List ℕ)))
-
--- what a worker answers: its share, or that all shares have too many orders
-abbrev pub IsShare : Share → ℕ → ℕ → Result Share OrderEnd → Type 0
-IsShare lists workers worker (Ok share) = share ≡ dealt worker (workers - 1) lists
-IsShare lists workers worker (Err end) = IsOver (order_total lists) end
 
 -- the shares of all workers
 pub record AreShares (lists : Share) (shares : List Share) : Type 0 where

@@ -3,3 +3,4 @@ pub mod Orders
 pub mod Going
 pub mod Dealing
 pub mod Marks
+pub mod Working

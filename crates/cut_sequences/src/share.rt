@@ -1,8 +1,9 @@
 //! The sets that one worker gets, and their orders in one buffer.
 ghost use Rattle.std.specs.Prelude.{◌≡◌, ◌<◌, ◌≤◌, [], length, All, OnOk, true, slice_index_or};
 ghost use Rattle.fault_model.specs.Tree.{IsUnitOf};
+ghost use Rattle.fault_model.specs.WellFormed.{IsTree};
 ghost use Rattle.cut_sequences.specs.Going.{CanGoOn};
-ghost use Rattle.cut_sequences.specs.Dealing.{IsShare};
+ghost use Rattle.cut_sequences.specs.Working.{AddsSets, WentOn, work_of};
 ghost use Rattle.cut_sequences.specs.Marks.{lists_from, mark_at, start_of, HoldsShare, AddsList};
 ghost use Rattle.cut_sequences.specs.Orders.{order_limit, order_lists, order_total, orders_of, orders_at, is_listed};
 
@@ -33,6 +34,20 @@ impl Model for Share {
     ghost invariant = { λ share. HoldsShare share.marks.items share.orders };
 }
 
+/// The share of a worker so far, and the place of the first set that it still lacks.
+#[derive(Drop)]
+pub struct Work {
+    pub share: Share,
+    pub next: usize,
+}
+
+/// Where the workers stop: at the set of a place, or as soon as they have more than so many orders each.
+#[derive(Clone, Copy, Debug)]
+pub struct Stop {
+    pub place: usize,
+    pub orders: usize,
+}
+
 // Where the orders of the set of a place begin: at the end of those of the set before it.
 fn start(marks: &[Mark], i: usize) -> usize
     requires { i ≤ length marks.now }
@@ -42,6 +57,16 @@ fn start(marks: &[Mark], i: usize) -> usize
 }
 
 impl Share {
+    /// The share of no set.
+    pub fn new(alloc: Global) -> Share
+        ensures { result ≡ [] }
+    {
+        Share {
+            orders: Rows::new(alloc),
+            marks: Vec::new(alloc),
+        }
+    }
+
     /// The number of orders of all sets.
     pub fn total(&self) -> usize
         ensures value { result ≡ order_total self.now }
@@ -104,27 +129,59 @@ fn add_set(
     Ok(())
 }
 
-/// Lists the orders of the sets of a worker: every so many sets one, from the worker's number on.
-pub fn list_share(
+// Lists the orders of a worker's sets from a place on, until the worker has to stop: answers the place of the next set.
+fn add_sets(
+    search: &mut Search,
+    marks: &mut Vec<Mark>,
+    cuts: &CutList,
+    most: u32,
+    workers: usize,
+    stop: Stop,
+    from: usize,
+) -> Result<usize, OrderEnd>
+    requires kept { IsTree search.old.replay.tree }
+    requires start { search.old.replay.order ≡ [] }
+    requires some { 0 < workers }
+    requires few { workers ≤ 16 }
+    requires place { stop.place ≤ length cuts.now }
+    requires units { All (λ cut. All (IsUnitOf search.old.replay.tree) cut) cuts.now }
+    requires held { HoldsShare marks.old.items search.old.orders }
+
+    ensures { AddsSets (order_lists search.old.replay.tree cuts.now most) workers stop (work_of marks.old.items search.old.orders from) marks.new.items search.new.orders result }
+{
+    let mut next = from;
+    while next < stop.place && search.orders.len() <= stop.orders {
+        add_set(search, marks, cuts.members(next), most)?;
+        next += workers;
+    }
+    Ok(next)
+}
+
+/// Goes on with a worker's sets, every so many sets one, until it has to stop.
+pub fn go_on(
     alloc: Global,
     tree: &Tree,
     cuts: &CutList,
     most: u32,
-    worker: usize,
     workers: usize,
-) -> Result<Share, OrderEnd>
-    requires workers { workers ≤ 16 }
-    requires worker { worker < workers }
+    stop: Stop,
+    work: Work,
+) -> Result<Work, OrderEnd>
+    requires some { 0 < workers }
+    requires few { workers ≤ 16 }
+    requires place { stop.place ≤ length cuts.now }
     requires units { All (λ cut. All (IsUnitOf tree.now) cut) cuts.now }
-    ensures { IsShare (order_lists tree.now cuts.now most) workers worker result }
+
+    ensures { WentOn (order_lists tree.now cuts.now most) workers stop work result }
 {
     let mut search = Search::new(alloc, tree)?;
-    let mut marks = Vec::new(alloc);
-    let mut next = worker;
-    while next < cuts.len() {
-        add_set(&mut search, &mut marks, cuts.members(next), most)?;
-        next += workers;
-    }
+    let Work { share, next } = work;
+    let Share { orders, mut marks } = share;
+    search.orders = orders;
+    let next = add_sets(&mut search, &mut marks, cuts, most, workers, stop, next)?;
     let Search { orders, .. } = search;
-    Ok(Share { orders, marks })
+    Ok(Work {
+        share: Share { orders, marks },
+        next,
+    })
 }

@@ -1,5 +1,0 @@
-use Rattle.std.proofs.Common.{◌≡◌, map, Ok}
-use Rattle.cut_sequences.proofs.listing.shares_of.Given as goal
-
-abbrev pub invariant-loop-answer : goal.invariant-loop-answer
-invariant-loop-answer l = l.yielded ≡ map Ok l.shares.items

@@ -1,0 +1,41 @@
+-- What the workers have listed so far, and what they still have to list.
+use Rattle.std.specs.Prelude.{◌≡◌, ℕ, ◌-◌, ◌<◌, ◌≤◌, List, ◌++◌, length, drop, Result, Ok, Err, slice_index_or}
+use Rattle.cut_sequences.specs.declared.refusal.OrderEnd.{OrderEnd}
+use Rattle.cut_sequences.specs.declared.share.Work.{Work}
+use Rattle.cut_sequences.specs.declared.share.Stop.{Stop}
+use Rattle.cut_sequences.specs.declared.mark.Mark.{Mark}
+use Rattle.cut_sequences.specs.Marks.{lists_from, HoldsShare}
+use Rattle.cut_sequences.specs.Orders.{order_total, IsOver}
+use Rattle.cut_sequences.specs.Dealing.{dealt, Share}
+
+-- the lists that a worker has, and those that it still has to add
+abbrev pub whole : Share → ℕ → Work → Share
+whole lists workers work = work.share ++ dealt 0 (workers - 1) (drop work.next lists)
+
+-- a worker stops at a place, or where it has enough orders
+abbrev pub HasStopped : Stop → Work → Type 0
+HasStopped stop work = order_total work.share ≤ stop.orders → stop.place ≤ work.next
+
+-- a worker has gone on until it had to stop, or it gets too many orders
+abbrev pub WentOn : Share → ℕ → Stop → Work → Result Work OrderEnd → Type 0
+WentOn lists workers stop work (Ok later) = (whole lists workers later ≡ whole lists workers work) × HasStopped stop later
+WentOn lists workers stop work (Err end) = IsOver (order_total (whole lists workers work)) end
+
+-- what a worker has listed, and the place of the next set
+abbrev pub work_of : List Mark → List (List ℕ) → ℕ → Work
+work_of marks orders next = record { share = lists_from 0 marks orders; next = next }
+
+-- the same where the lists are held in one list of orders
+abbrev pub AddsSets : Share → ℕ → Stop → Work → List Mark → List (List ℕ) → Result ℕ OrderEnd → Type 0
+AddsSets lists workers stop work marks orders (Ok next) = HoldsShare marks orders × WentOn lists workers stop work (Ok (work_of marks orders next))
+AddsSets lists workers stop work marks orders (Err end) = WentOn lists workers stop work (Err end)
+
+-- each of the workers gets what is dealt to it
+pub record AreAtWork (lists : Share) (works : List Work) : Type 0 where
+  pub some : 0 < length works
+  pub few : length works ≤ 16
+  pub each : (worker : ℕ) (d : Work) → worker < length works → whole lists (length works) (slice_index_or works worker d) ≡ dealt worker (length works - 1) lists
+
+-- the number of orders that a worker has
+abbrev pub orders_of_work : Work → ℕ
+orders_of_work work = order_total work.share

@@ -1,0 +1,199 @@
+//! The rounds of the workers: each worker goes on with its sets, and then the orders of all are counted.
+//!
+//! No worker runs far ahead of the others, so that all stop soon after they have too many orders together.
+ghost use Rattle.std.specs.Prelude.{◌≡◌, ◌<◌, ◌≤◌, ℕ, true, false, length, map, slice_index_or, All, IfOk, IsErrOf, Contains, Ok, Err, sum_by};
+ghost use Rattle.fault_model.specs.Tree.{IsUnitOf};
+ghost use Rattle.cut_sequences.specs.Dealing.{AreShares, Share as Lists};
+ghost use Rattle.cut_sequences.specs.Orders.{order_limit, order_lists, order_total};
+ghost use Rattle.cut_sequences.specs.Working.{WentOn, AreAtWork, HasStopped, orders_of_work};
+
+use crate::share::{Share, Stop, Work, go_on};
+use crate::{ORDER_LIMIT, OrderEnd};
+use fault_model::Tree;
+use std::alloc::{AllocError, Global};
+use std::thread;
+use std::thread::Threads;
+use unit_sets::CutList;
+
+// The sets before the first stop; each later stop stands about four times as far.
+const FIRST_SETS: usize = 256;
+
+// How many orders more a worker may have from one round to the next.
+const ORDERS_A_ROUND: usize = 125_000;
+
+// What each of the workers answers, one after another.
+fn answers_of<R: Threads + Sync>(
+    rt: &R,
+    alloc: Global,
+    tree: &Tree,
+    cuts: &CutList,
+    most: u32,
+    stop: Stop,
+    works: Vec<Work>,
+) -> Result<Vec<Result<Work, OrderEnd>>, AllocError>
+    requires some { 0 < length works.items }
+    requires few { length works.items ≤ 16 }
+    requires place { stop.place ≤ length cuts.now }
+    requires units { All (λ cut. All (IsUnitOf tree.now) cut) cuts.now }
+    ensures all { IfOk result (λ answers. length answers.items ≡ length works.items) }
+    ensures each { IfOk result (λ answers. (worker : ℕ) (work : _) (d : _) → worker < length works.items
+        → WentOn (order_lists tree.now cuts.now most) (length works.items) stop (slice_index_or works.items worker work) (slice_index_or answers.items worker d)) }
+{
+    let workers = works.len();
+    thread::map_vec(
+        rt,
+        works,
+        &|work| { go_on(alloc, tree, cuts, most, workers, stop, work) },
+    )
+}
+
+// The work that the workers answered, or why one of them has none.
+fn works_of(alloc: Global, answers: Vec<Result<Work, OrderEnd>>) -> Result<Vec<Work>, OrderEnd>
+    ensures works { IfOk result (λ works. answers.items ≡ map Ok works.items) }
+    ensures limit { IsErrOf result OrderEnd.OrderLimit → Contains answers.items (Err OrderEnd.OrderLimit) }
+{
+    let mut works = Vec::new(alloc);
+    for answer in answers {
+        works.push(answer?)?;
+    }
+    Ok(works)
+}
+
+// The number of orders that the workers have together.
+fn orders_so_far(works: &[Work]) -> u64
+    requires { length works.now ≤ 16 }
+    ensures { result ≡ sum_by orders_of_work works.now }
+{
+    let mut total = 0;
+    for work in works {
+        total += work.share.total() as u64;
+    }
+    total
+}
+
+// Each worker goes on until it has to stop.
+fn round<R: Threads + Sync>(
+    rt: &R,
+    alloc: Global,
+    tree: &Tree,
+    cuts: &CutList,
+    most: u32,
+    stop: Stop,
+    works: Vec<Work>,
+) -> Result<Vec<Work>, OrderEnd>
+    requires at_work { AreAtWork (order_lists tree.now cuts.now most) works.items }
+    requires place { stop.place ≤ length cuts.now }
+    requires units { All (λ cut. All (IsUnitOf tree.now) cut) cuts.now }
+    ensures at_work { IfOk result (λ later. AreAtWork (order_lists tree.now cuts.now most) later.items) }
+    ensures stopped { IfOk result (λ later. All (HasStopped stop) later.items) }
+    ensures limit { IsErrOf result OrderEnd.OrderLimit → order_limit < order_total (order_lists tree.now cuts.now most) }
+{
+    let works = works_of(alloc, answers_of(rt, alloc, tree, cuts, most, stop, works)?)?;
+    if orders_so_far(works.as_slice()) > ORDER_LIMIT {
+        return Err(OrderEnd::OrderLimit);
+    }
+    Ok(works)
+}
+
+// Whether a worker has stopped below the place, since it has enough orders.
+fn has_enough(works: &[Work], stop: Stop) -> bool
+    requires { All (HasStopped stop) works.now }
+    ensures some { result ≡ true → stop.orders < order_limit }
+    ensures none { result ≡ false → All (λ work. stop.place ≤ work.next) works.now }
+{
+    for work in works {
+        if work.next < stop.place && work.share.total() > stop.orders {
+            return true;
+        }
+    }
+    false
+}
+
+// The rounds from a stop on, until no worker lacks a set.
+fn all_rounds<R: Threads + Sync>(
+    rt: &R,
+    alloc: Global,
+    tree: &Tree,
+    cuts: &CutList,
+    most: u32,
+    stop: Stop,
+    works: Vec<Work>,
+) -> Result<Vec<Work>, OrderEnd>
+    requires at_work { AreAtWork (order_lists tree.now cuts.now most) works.items }
+    requires place { stop.place ≤ length cuts.now }
+    requires units { All (λ cut. All (IsUnitOf tree.now) cut) cuts.now }
+    ensures at_work { IfOk result (λ later. AreAtWork (order_lists tree.now cuts.now most) later.items) }
+    ensures done { IfOk result (λ later. All (λ work. length cuts.now ≤ work.next) later.items) }
+    ensures limit { IsErrOf result OrderEnd.OrderLimit → order_limit < order_total (order_lists tree.now cuts.now most) }
+{
+    let works = round(rt, alloc, tree, cuts, most, stop, works)?;
+    if has_enough(works.as_slice(), stop) {
+        let more = Stop {
+            orders: stop.orders + ORDERS_A_ROUND,
+            ..stop
+        };
+        return all_rounds(rt, alloc, tree, cuts, most, more, works);
+    }
+    let sets = cuts.len();
+    if stop.place < sets {
+        let further = Stop {
+            place: (4 * stop.place + FIRST_SETS).min(sets),
+            ..stop
+        };
+        return all_rounds(rt, alloc, tree, cuts, most, further, works);
+    }
+    Ok(works)
+}
+
+// No worker has listed a set: each begins with the set of its number.
+fn starts(alloc: Global, workers: usize) -> Result<Vec<Work>, OrderEnd>
+    requires some { 0 < workers }
+    requires few { workers ≤ 16 }
+    ensures at_work { IfOk result (λ works. (lists : Lists) → AreAtWork lists works.items) }
+    ensures memory { IsErrOf result OrderEnd.OrderLimit → ⊥ }
+{
+    let mut works = Vec::new(alloc);
+    for next in 0..workers {
+        works.push(Work {
+            share: Share::new(alloc),
+            next,
+        })?;
+    }
+    Ok(works)
+}
+
+// What the workers have listed.
+fn shares_of(alloc: Global, works: Vec<Work>) -> Result<Vec<Share>, OrderEnd>
+    ensures shares { IfOk result (λ shares. shares.items ≡ map (λ work. work.share) works.items) }
+    ensures memory { IsErrOf result OrderEnd.OrderLimit → ⊥ }
+{
+    let mut shares = Vec::new(alloc);
+    for work in works {
+        shares.push(work.share)?;
+    }
+    Ok(shares)
+}
+
+/// The shares of all workers, each of which lists the orders of the sets that are dealt to it.
+pub fn all_shares<R: Threads + Sync>(
+    rt: &R,
+    alloc: Global,
+    tree: &Tree,
+    cuts: &CutList,
+    most: u32,
+    workers: usize,
+) -> Result<Vec<Share>, OrderEnd>
+    requires some { 0 < workers }
+    requires few { workers ≤ 16 }
+    requires units { All (λ cut. All (IsUnitOf tree.now) cut) cuts.now }
+    ensures shares { IfOk result (λ shares. AreShares (order_lists tree.now cuts.now most) shares.items) }
+    ensures few { IfOk result (λ shares. length shares.items ≤ 16) }
+    ensures limit { IsErrOf result OrderEnd.OrderLimit → order_limit < order_total (order_lists tree.now cuts.now most) }
+{
+    let stop = Stop {
+        place: FIRST_SETS.min(cuts.len()),
+        orders: ORDERS_A_ROUND,
+    };
+    let works = starts(alloc, workers)?;
+    shares_of(alloc, all_rounds(rt, alloc, tree, cuts, most, stop, works)?)
+}
