@@ -468,6 +468,22 @@ fn the_number_of_orders_has_a_limit(rt: HostRuntime) -> Result<(), Fail> {
     Ok(())
 }
 
+// Six times as many orders as the limit allows: the workers stop soon after they have passed it together.
+#[test]
+fn many_more_orders_than_the_limit_are_refused(rt: HostRuntime) -> Result<(), Fail> {
+    let deck = or_of_eights(rt.alloc(), 300, "and")?;
+    for workers in ["1", "16"] {
+        let words = ["cuts", "--most", "8", "--workers", workers];
+        let (code, bytes) = told(&rt, rt.alloc(), &words, deck.as_bytes())?;
+        assert_eq!(rt;
+            bytes.as_slice(),
+            b"refused: order limit 2000000\n".as_slice()
+        );
+        assert_eq!(rt; code, 1);
+    }
+    Ok(())
+}
+
 // As many as the limit allows, with the last of them; and sets of which one order each can happen.
 #[test]
 fn as_many_orders_as_the_limit_allows_are_printed(rt: HostRuntime) -> Result<(), Fail> {
