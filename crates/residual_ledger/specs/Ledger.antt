@@ -1,0 +1,39 @@
+-- A ledger as its callers see it, and what it keeps.
+use Rattle.std.specs.Prelude.{◌≡◌, ℕ, ◌+◌, ◌≤◌, ◌<◌, Bool, true, false, List, [], ◌∷◌, length}
+use Rattle.std.proofs.Common.{arith}
+use Rattle.std.proofs.lemmas.List.Sums.{sum_by-cons}
+use Rattle.unit_sets.specs.CutOrder.{IsOrderedCuts, weight}
+use Rattle.unit_sets.specs.UnitList.{among}
+use Rattle.residual_ledger.specs.Residual.{cut_at, HasUnitsUpTo}
+use Rattle.residual_ledger.specs.Holding.{HasRows}
+use Rattle.residual_ledger.specs.Kept.{residuals, HasLeast}
+
+-- how many units there are, the cut sets, and the rising list of the units that are out
+pub record LedgerView : Type 0 where
+  pub units : ℕ
+  pub cuts : List (List ℕ)
+  pub out : List ℕ
+
+-- the units up to a number are all that there are, and there are no more than a unit's number allows
+pub record IsLedgerFor (units : ℕ) (cuts : List (List ℕ)) : Type 0 where
+  pub limit : units ≤ 4095
+  pub ordered : IsOrderedCuts cuts
+  pub known : HasUnitsUpTo units cuts
+
+-- what the rows of a ledger keep
+pub record KeepsLedger (units : ℕ) (cuts : List (List ℕ)) (out counts least ends rows : List ℕ) : Type 0 where
+  pub whole : IsLedgerFor units cuts
+  pub counted : counts ≡ residuals out cuts
+  pub blocks : HasLeast counts least
+  pub rows_of_units : HasRows units cuts ends rows
+
+-- the first of the cut sets with a unit that stand before a place and pass a test, or that place
+pub record IsFirstHolding (unit : ℕ) (test : List ℕ → Bool) (cuts : List (List ℕ)) (end first : ℕ) : Type 0 where
+  pub inside : first ≤ end
+  pub before : (place : ℕ) → place < first → among (cut_at cuts place) unit ≡ true → test (cut_at cuts place) ≡ false
+  pub here : first < end → test (cut_at cuts first) ≡ true
+
+-- there are no more cut sets than the list may weigh
+pub few_cuts : (cuts : List (List ℕ)) → length cuts ≤ weight cuts
+few_cuts [] = omega arith
+few_cuts (cut ∷ cuts) = omega (arith, few_cuts cuts, sum_by-cons (λ (c : List ℕ). 1 + length c) cut cuts)
