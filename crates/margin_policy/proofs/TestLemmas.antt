@@ -1,0 +1,84 @@
+-- What the tests need of lists that they make.
+use Rattle.std.proofs.Common.{◌≡◌, ℕ, zero, suc, ◌+◌, ◌-◌, ◌<◌, ◌≤◌, true, List, [], ◌∷◌, ◌++◌, length, get_or, slice_get, Some, All, refl, sym, ◌∙◌, ap, subst, arith, inl, inr, length-append}
+use Rattle.std.specs.Ordering.{nat_cmp, is_lt}
+use Rattle.std.specs.List.Sorted.{IsStrictlySortedBy}
+use Rattle.std.specs.declared.cmp.Ordering.{Ordering}
+use Rattle.std.specs.declared.cmp.Ordering.TheVariants.{Less, Equal, Greater}
+use Rattle.std.proofs.lemmas.Bool.{cases_eq}
+use Rattle.std.proofs.lemmas.Bool.Decides.{nat_tests}
+use Rattle.std.proofs.lemmas.Cmp.{nat_cmp_total}
+use Rattle.std.proofs.lemmas.List.{get_or_append_left, get_or_push}
+use Rattle.std.proofs.lemmas.Map.Keys.{Less-from_sorted, sorted_from_all_adjacent}
+use Rattle.unit_sets.specs.CutOrder.{cut_cmp, cut_cmp_total, IsInCutOrder, IsOrderedCuts, IsCutSet}
+use Rattle.unit_sets.specs.Unit.{IsUnit}
+use Rattle.unit_sets.specs.UnitList.{IsRising}
+use Rattle.residual_ledger.specs.Residual.{HasUnitsUpTo}
+
+-- the units before a place rise
+pub record RisesSoFar (units : List ℕ) (i : ℕ) : Type 0 where
+  pub below : (k : ℕ) → k + 1 < i → get_or units k 0 < get_or units (k + 1) 0
+
+less_from : (a b : ℕ) → a < b → nat_cmp a b ≡ Less
+less_from a b h = grind (arith, nat_tests)
+
+pub rises-more : (units : List ℕ) (i : ℕ) → 1 ≤ i → get_or units (i - 1) 0 < get_or units i 0 → RisesSoFar units i → RisesSoFar units (i + 1)
+rises-more units i some up was = record {
+  below = λ k h. elim (cases_eq (k + 1) i) [
+    | inl same ↦
+        let before : k ≡ i - 1 = omega arith in
+        subst (λ (n : ℕ). get_or units k 0 < get_or units n 0) (sym same) (subst (λ (n : ℕ). get_or units n 0 < get_or units i 0) (sym before) up)
+    | inr apart ↦ was.below k (omega arith)
+  ];
+}
+
+pub rises-all : (units : List ℕ) (i : ℕ) → length units ≤ i → RisesSoFar units i → IsRising units
+rises-all units i full was =
+    sorted_from_all_adjacent nat_cmp_total units 0 (λ k h. less_from (get_or units k 0) (get_or units (k + 1) 0) (was.below k (omega arith)))
+
+set_at : (cuts : List (List ℕ)) (place : ℕ) (set : List ℕ) → slice_get cuts place ≡ Some set → get_or cuts place [] ≡ set
+set_at [] place set at = absurd cc
+set_at (first ∷ cuts) zero set at = cc
+set_at (first ∷ cuts) (suc place) set at = set_at cuts place set at
+
+-- the first set of all, and one after the last
+pub first_set : (set : List ℕ) → IsInCutOrder (set ∷ [])
+unfolding IsStrictlySortedBy
+first_set set = (tt, tt)
+
+pub next_set : (cuts : List (List ℕ)) (last set : List ℕ) (place : ℕ) → length cuts ≡ suc place → slice_get cuts place ≡ Some last → IsInCutOrder cuts → cut_cmp last set ≡ Less → IsInCutOrder (cuts ++ set ∷ [])
+next_set cuts last set place long at ordered less =
+    sorted_from_all_adjacent cut_cmp_total (cuts ++ set ∷ []) []
+    (λ k h.
+    let within : k + 1 < length cuts + 1 = omega (arith, h, length-append cuts (set ∷ [])) in
+    let inside : k < length cuts = omega arith in
+    let front : get_or (cuts ++ set ∷ []) k [] ≡ get_or cuts k [] = get_or_append_left cuts (set ∷ []) [] k inside in
+    elim (cases_eq (k + 1) (length cuts)) [
+      | inl end ↦
+          let is_place : k ≡ place = omega arith in
+          let here : get_or cuts k [] ≡ last = ap (λ n. get_or cuts n []) is_place ∙ set_at cuts place last at in
+          let new : get_or (cuts ++ set ∷ []) (k + 1) [] ≡ set = get_or_push cuts set [] (k + 1) (sym end) in
+          ap (λ (x : List ℕ). cut_cmp x (get_or (cuts ++ set ∷ []) (k + 1) [])) (front ∙ here) ∙ ap (cut_cmp last) new ∙ less
+      | inr earlier ↦
+          let next : get_or (cuts ++ set ∷ []) (k + 1) [] ≡ get_or cuts (k + 1) [] = get_or_append_left cuts (set ∷ []) [] (k + 1) (omega arith) in
+          ap (λ (x : List ℕ). cut_cmp x (get_or (cuts ++ set ∷ []) (k + 1) [])) front ∙ ap (cut_cmp (get_or cuts k [])) next ∙ Less-from_sorted cut_cmp cuts k (k + 1) [] ordered (omega arith) (omega arith)
+    ])
+
+-- no unit of a cut set is above the greatest number that a unit can have
+pub all_known : (cuts : List (List ℕ)) → IsOrderedCuts cuts → HasUnitsUpTo 4095 cuts
+all_known cuts ordered place d short k e inside =
+    let cut : IsCutSet (get_or cuts place d) = ordered.sets place d short in
+    let unit : IsUnit (get_or (get_or cuts place d) k e) = cut.units k e inside in
+    omega (arith, unit)
+
+pub is_empty : (cuts : List (List ℕ)) → length cuts ≡ 0 → cuts ≡ []
+is_empty [] none = refl
+is_empty (cut ∷ cuts) none = absurd (omega arith)
+
+pub is_less : (order : Ordering) → is_lt order ≡ true → order ≡ Less
+is_less Less less = refl
+is_less Equal less = absurd cc
+is_less Greater less = absurd cc
+
+-- no unit that is asked for is above the greatest number that a unit can have
+pub asked_known : (units : List ℕ) → All IsUnit units → All (λ unit. unit ≤ 4095) units
+asked_known units all k d short = let unit : IsUnit (get_or units k d) = all k d short in omega (arith, unit)
