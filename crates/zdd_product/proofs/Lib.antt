@@ -1,0 +1,11 @@
+pub mod Entries
+pub mod Seats
+pub mod Halving
+pub mod UnionParts
+pub mod UnionSteps
+pub mod ProductParts
+pub mod ProductSteps
+pub mod WithoutParts
+pub mod WithoutSteps
+pub mod MinimalSteps
+pub mod VoteSteps

@@ -1,0 +1,25 @@
+use Rattle.std.proofs.Common.{arith}
+use Rattle.std.proofs.lemmas.Result.{err_from_is_err_and}
+use Rattle.zdd_product.proofs.VoteSteps.{known_stay, votes_on, votes_full}
+use Rattle.zdd_product.proofs.ops.Ops.vote_all.Goals as goal
+
+pub loop-i-preserved : goal.loop-i-preserved
+loop-i-preserved c =
+    let start = c.args.self.now in
+    let list = c.args.list.now in
+    let inv = c.loop-i.invariant in
+    let done = c.in_ok-vote.ensures in
+    record {
+      on = votes_on start c.loop-i.self c.vote.new.self list c.args.k c.is_sound.ensures.sound c.requires.knows inv.on done.0;
+      knows = known_stay c.loop-i.self c.vote.new.self list inv.on.went.sound done.0.went.sound done.0.went.keeps inv.knows;
+      space = omega arith;
+      held = done.1;
+    }
+
+pub returns-in_err-vote : goal.returns-in_err-vote
+returns-in_err-vote c =
+    let start = c.args.self.now in
+    let list = c.args.list.now in
+    let inv = c.loop-i.invariant in
+    let p = err_from_is_err_and c.from_residual.result c.from_residual.ensures.1 in
+    rw p.1 (votes_full start c.loop-i.self c.vote.new.self list c.args.k c.is_sound.ensures.sound c.requires.knows inv.on c.in_err-vote.ensures)

@@ -1,0 +1,24 @@
+-- What the entries of the cache say, over a map of references.
+use Rattle.std.specs.Prelude.{ℕ, List}
+use Rattle.zdd_families.specs.Map.{Knows, family}
+use Rattle.family_operations.specs.Union.{IsUnion}
+use Rattle.family_operations.specs.Product.{IsProduct}
+use Rattle.family_operations.specs.Without.{IsWithout}
+use Rattle.family_operations.specs.Minimal.{IsMinimal}
+use Rattle.zdd_product.specs.declared.cache.Operation.{Operation}
+use Rattle.zdd_product.specs.declared.cache.Operation.TheVariants.{Union, Product, Without, Minimal}
+use Rattle.zdd_product.specs.declared.cache.Entry.{Entry}
+
+-- the family is the operation's of two families; the minimal sets are those of the first
+abbrev pub IsResult : Operation → List (List ℕ) → List (List ℕ) → List (List ℕ) → Type 0
+IsResult Union f g result = IsUnion f g result
+IsResult Product f g result = IsProduct f g result
+IsResult Without f g result = IsWithout f g result
+IsResult Minimal f g result = IsMinimal f result
+
+-- the entry is true: the map knows its references, and the answer as the operation's family
+pub record IsTold (known : ℕ → ℕ) (entry : Entry) : Type 0 where
+  pub first : Knows known entry.question.first
+  pub second : Knows known entry.question.second
+  pub answer : Knows known entry.answer
+  pub is : IsResult entry.question.operation (family known entry.question.first) (family known entry.question.second) (family known entry.answer)

@@ -1,0 +1,89 @@
+//! The minimal sets of a family.
+ghost use Rattle.std.specs.Prelude.{◌≡◌, ◌+◌, ◌≤◌, List, ℕ, IfOk, MatchResult};
+ghost use Rattle.family_operations.specs.Due.{IsDueToMinimal};
+ghost use Rattle.family_operations.specs.Minimal.{IsMinimal};
+ghost use Rattle.family_operations.specs.Without.{IsWithout};
+ghost use Rattle.zdd_families.specs.Map.{Knows, Grown, family};
+ghost use Rattle.zdd_shared_table.specs.Seats.{IsSoundSeat, map_of};
+ghost use Rattle.zdd_product.specs.Due.{IsMadeByMinimal, IsMadeByWithout};
+ghost use Rattle.zdd_product.specs.Seats.{FillsDue, Gave, KnowsOne, MissesDue, WasFull};
+
+use crate::cache::{Entry, Operation, Question};
+use crate::halves::Split;
+use crate::ops::Ops;
+use zdd_shared_table::Full;
+use zdd_words::NodeRef;
+
+impl<'s> Ops<'s> {
+    /// The sets of a family that include no other set of it.
+    pub fn minimal(&mut self, a: NodeRef) -> Result<NodeRef, Full>
+        requires { Knows (map_of self.old) a }
+        ensures family { IfOk result (λ r. KnowsOne (map_of self.new) r (IsMinimal (family (map_of self.old) a))) }
+        ensures keeps { Grown (map_of self.old) (map_of self.new) }
+
+        // Only a search that passed every slot of the store ends the operation, and it is counted.
+        ensures fulls { MatchResult result (λ _. self.new.fulls ≡ self.old.fulls) (λ _. self.new.fulls ≡ self.old.fulls + 1) }
+        ensures fills { FillsDue (IsDueToMinimal (family (map_of self.old) a)) self.old self.new }
+        ensures missed { MatchResult result (λ _. self.new.missed ≡ self.old.missed) (λ _. MissesDue (IsDueToMinimal (family (map_of self.old) a)) self.old self.new) }
+        ensures share { self.new.share ≡ self.old.share }
+        ensures store { self.new.store ≡ self.old.store }
+        ensures sound { IsSoundSeat self.new }
+    {
+        self.least(a)
+    }
+
+    // The minimal sets, of which an end makes nothing.
+    #[cycle(least)]
+    fn least(&mut self, a: NodeRef) -> Result<NodeRef, Full>
+        requires { Knows (map_of self.old) a }
+        ensures { let f = family (map_of self.old) a in MatchResult result (Gave (IsMinimal f) (IsMadeByMinimal f) self.old self.new) (λ _. WasFull (IsMadeByMinimal f) self.old self.new) }
+    {
+        self.is_sound();
+        if a.number() < 2 {
+            return Ok(a);
+        }
+        let question = Question {
+            operation: Operation::Minimal,
+            first: a,
+            second: NodeRef::EMPTY,
+        };
+        if let Some(answer) = self.recall(&question) {
+            return Ok(answer);
+        }
+        let made = self.least_halves(a)?;
+        self.remember(Entry {
+            question,
+            answer: made,
+        });
+        Ok(made)
+    }
+
+    // The minimal sets of a node.
+    #[cycle(least)]
+    fn least_halves(&mut self, a: NodeRef) -> Result<NodeRef, Full>
+        requires knows { Knows (map_of self.old) a }
+        requires inner { 2 ≤ a }
+        ensures { let f = family (map_of self.old) a in MatchResult result (Gave (IsMinimal f) (IsMadeByMinimal f) self.old self.new) (λ _. WasFull (IsMadeByMinimal f) self.old self.new) }
+    {
+        let Split { level, half } = self.split_node(a);
+        let lo = self.least(half.lo)?;
+        let high = self.least(half.hi)?;
+        let hi = self.strip_least(high, lo)?;
+        self.make(level, lo, hi)
+    }
+
+    // What is left of some sets without those that include one of the minimal sets of a family.
+    fn strip_least(&mut self, high: NodeRef, low: NodeRef) -> Result<NodeRef, Full>
+        requires knows_high { Knows (map_of self.old) high }
+        requires knows_low { Knows (map_of self.old) low }
+        requires least { (f : List (List ℕ)) × IsMinimal f (family (map_of self.old) low) }
+        ensures { let f = family (map_of self.old) high in let g = family (map_of self.old) low in MatchResult result (Gave (IsWithout f g) (IsMadeByWithout f g) self.old self.new) (λ _. WasFull (IsMadeByWithout f g) self.old self.new) }
+    {
+        self.is_sound();
+        // Minimal sets with the empty set are the empty set alone, so there is no need to look for it in a long chain.
+        if high == NodeRef::UNIT && low != NodeRef::UNIT {
+            return Ok(high);
+        }
+        self.strip(high, low)
+    }
+}

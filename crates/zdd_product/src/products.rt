@@ -1,0 +1,107 @@
+//! The product of two families.
+ghost use Rattle.std.specs.Prelude.{◌≡◌, ◌+◌, ◌≤◌, ◌⊎◌, IfOk, MatchOption, MatchResult};
+ghost use Rattle.family_operations.specs.Due.{IsDueToProduct};
+ghost use Rattle.family_operations.specs.Product.{IsProduct};
+ghost use Rattle.zdd_families.specs.Map.{Knows, Grown, family};
+ghost use Rattle.zdd_shared_table.specs.Seats.{IsSoundSeat, map_of};
+ghost use Rattle.zdd_product.specs.Due.{IsMadeByProduct, IsMadeWith, IsProductWith};
+ghost use Rattle.zdd_product.specs.Seats.{FillsDue, Gave, KnowsOne, MissesDue, WasFull};
+
+use crate::cache::{Entry, Operation, Question};
+use crate::halves::{Half, Halves};
+use crate::ops::Ops;
+use zdd_shared_table::Full;
+use zdd_words::NodeRef;
+
+// The product, where one of both families has no sets or the empty set alone.
+fn product_end(a: NodeRef, b: NodeRef) -> Option<NodeRef>
+    ensures { MatchOption result ((2 ≤ a) × (2 ≤ b)) (λ r. ((a ≡ 0) × (r ≡ a)) ⊎ ((b ≡ 1) × (r ≡ a)) ⊎ ((b ≡ 0) × (r ≡ b)) ⊎ ((a ≡ 1) × (r ≡ b))) }
+{
+    if a == NodeRef::EMPTY || b == NodeRef::UNIT {
+        return Some(a);
+    }
+    if b == NodeRef::EMPTY || a == NodeRef::UNIT {
+        return Some(b);
+    }
+    None
+}
+
+impl<'s> Ops<'s> {
+    /// Each union of a set of the one family and a set of the other.
+    pub fn product(&mut self, a: NodeRef, b: NodeRef) -> Result<NodeRef, Full>
+        requires knows_a { Knows (map_of self.old) a }
+        requires knows_b { Knows (map_of self.old) b }
+        ensures family { IfOk result (λ r. KnowsOne (map_of self.new) r (IsProduct (family (map_of self.old) a) (family (map_of self.old) b))) }
+        ensures keeps { Grown (map_of self.old) (map_of self.new) }
+
+        // Only a search that passed every slot of the store ends the product, and it is counted.
+        ensures fulls { MatchResult result (λ _. self.new.fulls ≡ self.old.fulls) (λ _. self.new.fulls ≡ self.old.fulls + 1) }
+        ensures fills { FillsDue (IsDueToProduct (family (map_of self.old) a) (family (map_of self.old) b)) self.old self.new }
+        ensures missed { MatchResult result (λ _. self.new.missed ≡ self.old.missed) (λ _. MissesDue (IsDueToProduct (family (map_of self.old) a) (family (map_of self.old) b)) self.old self.new) }
+        ensures share { self.new.share ≡ self.old.share }
+        ensures store { self.new.store ≡ self.old.store }
+        ensures sound { IsSoundSeat self.new }
+    {
+        self.multiply(a, b)
+    }
+
+    // The product, of which an end makes nothing.
+    #[cycle(multiply)]
+    pub(crate) fn multiply(&mut self, a: NodeRef, b: NodeRef) -> Result<NodeRef, Full>
+        requires knows_a { Knows (map_of self.old) a }
+        requires knows_b { Knows (map_of self.old) b }
+        ensures { let f = family (map_of self.old) a in let g = family (map_of self.old) b in MatchResult result (Gave (IsProduct f g) (IsMadeByProduct f g) self.old self.new) (λ _. WasFull (IsMadeByProduct f g) self.old self.new) }
+    {
+        self.is_sound();
+        if let Some(end) = product_end(a, b) {
+            return Ok(end);
+        }
+        let question = Question {
+            operation: Operation::Product,
+            first: a,
+            second: b,
+        };
+        if let Some(answer) = self.recall(&question) {
+            return Ok(answer);
+        }
+        let made = self.multiply_halves(a, b)?;
+        self.remember(Entry {
+            question,
+            answer: made,
+        });
+        Ok(made)
+    }
+
+    // The product of two families that is no end, by their halves.
+    #[cycle(multiply)]
+    fn multiply_halves(&mut self, a: NodeRef, b: NodeRef) -> Result<NodeRef, Full>
+        requires knows_a { Knows (map_of self.old) a }
+        requires knows_b { Knows (map_of self.old) b }
+        requires inner { (2 ≤ a) × (2 ≤ b) }
+        ensures { let f = family (map_of self.old) a in let g = family (map_of self.old) b in MatchResult result (Gave (IsProduct f g) (IsMadeByProduct f g) self.old self.new) (λ _. WasFull (IsMadeByProduct f g) self.old self.new) }
+    {
+        let Halves {
+            level,
+            first,
+            second,
+        } = self.halves(a, b);
+        let lo = self.multiply(first.lo, second.lo)?;
+        let hi = self.multiply_with(&first, &second)?;
+        self.make(level, lo, hi)
+    }
+
+    // Of the product of two families by their halves: the sets with the unit, it taken out.
+    #[cycle(multiply)]
+    fn multiply_with(&mut self, first: &Half, second: &Half) -> Result<NodeRef, Full>
+        requires first { Knows (map_of self.old) first.now.lo × Knows (map_of self.old) first.now.hi }
+        requires second { Knows (map_of self.old) second.now.lo × Knows (map_of self.old) second.now.hi }
+        ensures { let f0 = family (map_of self.old) first.now.lo in let f1 = family (map_of self.old) first.now.hi in let g0 = family (map_of self.old) second.now.lo in let g1 = family (map_of self.old) second.now.hi in MatchResult result (Gave (IsProductWith f0 f1 g0 g1) (IsMadeWith f0 f1 g0 g1) self.old self.new) (λ _. WasFull (IsMadeWith f0 f1 g0 g1) self.old self.new) }
+    {
+        self.is_sound();
+        let both = self.multiply(first.hi, second.hi)?;
+        let one = self.multiply(first.hi, second.lo)?;
+        let some = self.unite(both, one)?;
+        let other = self.multiply(first.lo, second.hi)?;
+        self.unite(some, other)
+    }
+}

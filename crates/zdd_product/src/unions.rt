@@ -1,0 +1,92 @@
+//! The union of two families.
+ghost use Rattle.std.specs.Prelude.{◌≡◌, ◌≢◌, ◌+◌, ◌⊎◌, IfOk, MatchOption, MatchResult};
+ghost use Rattle.family_operations.specs.Due.{IsDueToUnion};
+ghost use Rattle.family_operations.specs.Union.{IsUnion};
+ghost use Rattle.zdd_families.specs.Map.{Knows, Grown, family};
+ghost use Rattle.zdd_shared_table.specs.Seats.{IsSoundSeat, map_of};
+ghost use Rattle.zdd_product.specs.Due.{IsMadeByUnion};
+ghost use Rattle.zdd_product.specs.Seats.{FillsDue, Gave, KnowsOne, MissesDue, WasFull};
+
+use crate::cache::{Entry, Operation, Question};
+use crate::halves::Halves;
+use crate::ops::Ops;
+use zdd_shared_table::Full;
+use zdd_words::NodeRef;
+
+// The union, where one of both families has no sets or both are one.
+fn union_end(a: NodeRef, b: NodeRef) -> Option<NodeRef>
+    ensures { MatchOption result ((a ≢ 0) × (b ≢ 0) × (a ≢ b)) (λ r. ((a ≡ 0) × (r ≡ b)) ⊎ ((b ≡ 0) × (r ≡ a)) ⊎ ((a ≡ b) × (r ≡ a))) }
+{
+    if a == NodeRef::EMPTY {
+        return Some(b);
+    }
+    if b == NodeRef::EMPTY || a == b {
+        return Some(a);
+    }
+    None
+}
+
+impl<'s> Ops<'s> {
+    /// The sets of either family.
+    pub fn union(&mut self, a: NodeRef, b: NodeRef) -> Result<NodeRef, Full>
+        requires knows_a { Knows (map_of self.old) a }
+        requires knows_b { Knows (map_of self.old) b }
+        ensures family { IfOk result (λ r. KnowsOne (map_of self.new) r (IsUnion (family (map_of self.old) a) (family (map_of self.old) b))) }
+        ensures keeps { Grown (map_of self.old) (map_of self.new) }
+
+        // Only a search that passed every slot of the store ends the union, and it is counted.
+        ensures fulls { MatchResult result (λ _. self.new.fulls ≡ self.old.fulls) (λ _. self.new.fulls ≡ self.old.fulls + 1) }
+        ensures fills { FillsDue (IsDueToUnion (family (map_of self.old) a) (family (map_of self.old) b)) self.old self.new }
+        ensures missed { MatchResult result (λ _. self.new.missed ≡ self.old.missed) (λ _. MissesDue (IsDueToUnion (family (map_of self.old) a) (family (map_of self.old) b)) self.old self.new) }
+        ensures share { self.new.share ≡ self.old.share }
+        ensures store { self.new.store ≡ self.old.store }
+        ensures sound { IsSoundSeat self.new }
+    {
+        self.unite(a, b)
+    }
+
+    // The union, of which an end makes nothing.
+    #[cycle(unite)]
+    pub(crate) fn unite(&mut self, a: NodeRef, b: NodeRef) -> Result<NodeRef, Full>
+        requires knows_a { Knows (map_of self.old) a }
+        requires knows_b { Knows (map_of self.old) b }
+        ensures { let f = family (map_of self.old) a in let g = family (map_of self.old) b in MatchResult result (Gave (IsUnion f g) (IsMadeByUnion f g) self.old self.new) (λ _. WasFull (IsMadeByUnion f g) self.old self.new) }
+    {
+        self.is_sound();
+        if let Some(end) = union_end(a, b) {
+            return Ok(end);
+        }
+        let question = Question {
+            operation: Operation::Union,
+            first: a,
+            second: b,
+        };
+        if let Some(answer) = self.recall(&question) {
+            return Ok(answer);
+        }
+        let made = self.unite_halves(a, b)?;
+        self.remember(Entry {
+            question,
+            answer: made,
+        });
+        Ok(made)
+    }
+
+    // The union of two families that is no end, by their halves.
+    #[cycle(unite)]
+    fn unite_halves(&mut self, a: NodeRef, b: NodeRef) -> Result<NodeRef, Full>
+        requires knows_a { Knows (map_of self.old) a }
+        requires knows_b { Knows (map_of self.old) b }
+        requires goes_on { (a ≢ 0) × (b ≢ 0) × (a ≢ b) }
+        ensures { let f = family (map_of self.old) a in let g = family (map_of self.old) b in MatchResult result (Gave (IsUnion f g) (IsMadeByUnion f g) self.old self.new) (λ _. WasFull (IsMadeByUnion f g) self.old self.new) }
+    {
+        let Halves {
+            level,
+            first,
+            second,
+        } = self.halves(a, b);
+        let lo = self.unite(first.lo, second.lo)?;
+        let hi = self.unite(first.hi, second.hi)?;
+        self.make(level, lo, hi)
+    }
+}
