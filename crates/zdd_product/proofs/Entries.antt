@@ -11,7 +11,7 @@ use Rattle.zdd_product.specs.declared.cache.Operation.{Operation}
 use Rattle.zdd_product.specs.declared.cache.Operation.TheVariants.{Union}
 use Rattle.zdd_shared_table.specs.Seats.{Seated, IsSoundSeat, map_of}
 use Rattle.zdd_product.specs.Seats.{Gave}
-use Rattle.zdd_product.proofs.Seats.{stays, at_both}
+use Rattle.zdd_product.specs.After.{stays, at_both}
 
 told_grown : (known known' : ℕ → ℕ) → IsClosed known → IsClosed known' → Grown known known' → (entry : Entry) → IsTold known entry → IsTold known' entry
 told_grown known known' closed closed' grown entry told =

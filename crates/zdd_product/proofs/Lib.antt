@@ -1,5 +1,4 @@
 pub mod Entries
-pub mod Seats
 pub mod Halving
 pub mod UnionParts
 pub mod UnionSteps

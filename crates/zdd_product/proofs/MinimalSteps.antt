@@ -15,7 +15,7 @@ use Rattle.zdd_product.specs.declared.halves.Half.{Half}
 use Rattle.zdd_product.specs.Due.{IsMadeByMinimal, IsMadeByWithout}
 use Rattle.zdd_product.specs.Halves.{IsHalf, IsSplit}
 use Rattle.zdd_product.specs.Seats.{IsBranch, KnowsOne, WentOn, Gave, WasFull}
-use Rattle.zdd_product.proofs.Seats.{stays, WentOn-as, WasFull-as, WentOn-next, WasFull-next, made_after}
+use Rattle.zdd_product.specs.After.{stays, WentOn-as, WasFull-as, WentOn-next, WasFull-next, made_after}
 use Rattle.zdd_product.proofs.WithoutParts.{has_empty, unit_stays}
 
 -- ---- ends

@@ -14,7 +14,7 @@ use Rattle.zdd_product.specs.Due.{IsMadeByUnion, IsMadeByProduct, IsProductWith,
 use Rattle.zdd_product.specs.Halves.{AreHalves}
 use Rattle.zdd_product.specs.Seats.{IsBranch, WentOn, Gave, WasFull}
 use Rattle.zdd_product.proofs.Halving.{Cuts-halved, one_split}
-use Rattle.zdd_product.proofs.Seats.{stays, at_both, WentOn-as, WasFull-as, WentOn-next, WasFull-next, made_after}
+use Rattle.zdd_product.specs.After.{stays, at_both, WentOn-as, WasFull-as, WentOn-next, WasFull-next, made_after}
 use Rattle.zdd_product.proofs.ProductParts.{product_makes_lo, product_makes_with}
 
 -- ---- the sets with the unit

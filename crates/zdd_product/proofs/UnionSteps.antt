@@ -11,7 +11,7 @@ use Rattle.zdd_product.specs.Due.{IsMadeByUnion}
 use Rattle.zdd_product.specs.Halves.{AreHalves}
 use Rattle.zdd_product.specs.Seats.{IsBranch, WentOn, Gave, WasFull}
 use Rattle.zdd_product.proofs.Halving.{Cuts-halved, one_split, levels_left, fewer_left}
-use Rattle.zdd_product.proofs.Seats.{stays, WentOn-as, WasFull-as, WentOn-then, WasFull-then, made_after}
+use Rattle.zdd_product.specs.After.{stays, WentOn-as, WasFull-as, WentOn-then, WasFull-then, made_after}
 use Rattle.zdd_product.proofs.UnionParts.{union_makes_lo, union_makes_hi}
 
 module _ (s : Seated) (a b : ℕ) (halves : Halves) (sound : IsSoundSeat s) (are : AreHalves (map_of s) a b halves) (goes : GoesOn (family (map_of s) a) (family (map_of s) b)) where

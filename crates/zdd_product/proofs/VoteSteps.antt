@@ -14,7 +14,7 @@ use Rattle.zdd_shared_table.specs.Seats.{Seated, IsSoundSeat, map_of}
 use Rattle.zdd_product.specs.Due.{IsMadeByUnion, IsMadeByProduct}
 use Rattle.zdd_product.specs.Seats.{KnowsOne, WentOn, Gave, WasFull}
 use Rattle.zdd_product.specs.Voting.{families, HoldsVotes, IsVoting}
-use Rattle.zdd_product.proofs.Seats.{stays, WentOn-as, WasFull-as, WentOn-next, WasFull-next}
+use Rattle.zdd_product.specs.After.{stays, WentOn-as, WasFull-as, WentOn-next, WasFull-next}
 
 -- ---- the families of a list stay
 

@@ -12,7 +12,7 @@ use Rattle.zdd_product.specs.Due.{IsMadeByWithout}
 use Rattle.zdd_product.specs.Halves.{AreHalves}
 use Rattle.zdd_product.specs.Seats.{IsBranch, WentOn, Gave, WasFull}
 use Rattle.zdd_product.proofs.Halving.{Cuts-halved, one_split, levels_left, fewer_left}
-use Rattle.zdd_product.proofs.Seats.{stays, at_both, WentOn-as, WasFull-as, WentOn-next, WasFull-next, made_after}
+use Rattle.zdd_product.specs.After.{stays, at_both, WentOn-as, WasFull-as, WentOn-next, WasFull-next, made_after}
 use Rattle.zdd_product.proofs.WithoutParts.{without_makes_lo, without_makes_hi, without_makes_rest}
 
 module _ (s : Seated) (a b : ℕ) (halves : Halves) (sound : IsSoundSeat s) (are : AreHalves (map_of s) a b halves) (inner : IsInnerFamily (family (map_of s) a)) (inner' : IsInnerFamily (family (map_of s) b)) where

@@ -1,4 +1,5 @@
 pub mod Seats
+pub mod After
 pub mod Told
 pub mod Held
 pub mod Due

@@ -1,3 +1,4 @@
+//! The operations' seat and cache, and the store's calls on that seat.
 ghost use Rattle.std.specs.Prelude.{◌≡◌, ◌≢◌, ◌+◌, ◌-◌, ◌<◌, ◌≤◌, ◌⊎◌, [], ◌∷◌, ◌++◌, IfOk, IfErr, IfSome, MatchResult};
 ghost use Rattle.zdd_words.specs.Word.{packed};
 ghost use Rattle.zdd_families.specs.Family.{IsAbove, branch, first_unit, sets_with, sets_without};

@@ -78,6 +78,13 @@ fn chains_of_all_units_are_as_deep_as_can_be(rt: HostRuntime) -> Result<(), Fail
     Ok(())
 }
 
+// A value that may go to another thread.
+fn sent<T: Send>(value: T) -> T
+    ensures { result ≡ value }
+{
+    value
+}
+
 // The reference of a family, got by a seat that was split off and that is joined again.
 fn by_another_seat(alloc: Global, store: &NodeStore, ops: &mut Ops) -> Result<NodeRef, Fail>
     requires own { ops.old.store ≡ store.now }
@@ -85,7 +92,7 @@ fn by_another_seat(alloc: Global, store: &NodeStore, ops: &mut Ops) -> Result<No
     ensures { IfOk result (λ r. Knows (map_of ops.new) r) }
 {
     let seat = ops.split(1);
-    let mut other = ops_on(alloc, store, seat)?;
+    let mut other = sent(ops_on(alloc, store, seat)?);
     let made = family_of(&mut other, &[1, 2, 0, 3, 0])?;
     ops.join(other.into_seat());
     Ok(made)

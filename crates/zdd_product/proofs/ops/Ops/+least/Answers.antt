@@ -9,7 +9,7 @@ use Rattle.zdd_product.specs.declared.cache.Operation.TheVariants.{Minimal}
 use Rattle.zdd_product.specs.Due.{IsMadeByMinimal}
 use Rattle.zdd_product.specs.Seats.{Gave, WasFull}
 use Rattle.zdd_product.proofs.Entries.{told_made}
-use Rattle.zdd_product.proofs.Seats.{Gave-known}
+use Rattle.zdd_product.specs.After.{Gave-known}
 use Rattle.zdd_product.proofs.MinimalSteps.{minimal_ends, levels_above, fewer_alone, minimal_lo_full, minimal_hi_knows, minimal_hi_fewer, minimal_hi_full, minimal_lo_known, minimal_rest_full, minimal_lo_knows, minimal_lo_above, minimal_hi_above, minimal_made}
 use Rattle.zdd_product.proofs.ops.Ops.+least.Goals as goal
 

@@ -10,7 +10,7 @@ use Rattle.zdd_product.specs.Due.{IsMadeByProduct}
 use Rattle.zdd_product.specs.Seats.{Gave, WasFull}
 use Rattle.zdd_product.proofs.Entries.{told_made}
 use Rattle.zdd_product.proofs.Halving.{levels_left, levels_with, fewer_with, fewer_of_halves}
-use Rattle.zdd_product.proofs.Seats.{Gave-known}
+use Rattle.zdd_product.specs.After.{Gave-known}
 use Rattle.zdd_product.proofs.ProductParts.{product_ends}
 use Rattle.zdd_product.proofs.ProductSteps.{both_full, with_on1, with_known1, first_full, with_known2, some_full, with_on3, with_known3, second_full, with_known4, product_with, product_lo_full, product_known, product_hi_full, product_lo_knows, product_lo_above, product_hi_above, product_made}
 use Rattle.zdd_product.proofs.ops.Ops.+multiply.Goals as goal

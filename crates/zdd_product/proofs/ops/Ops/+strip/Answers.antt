@@ -10,7 +10,7 @@ use Rattle.zdd_product.specs.Due.{IsMadeByWithout}
 use Rattle.zdd_product.specs.Seats.{Gave, WasFull}
 use Rattle.zdd_product.proofs.Entries.{told_made}
 use Rattle.zdd_product.proofs.Halving.{levels_left}
-use Rattle.zdd_product.proofs.Seats.{Gave-known}
+use Rattle.zdd_product.specs.After.{Gave-known}
 use Rattle.zdd_product.proofs.WithoutParts.{without_ends}
 use Rattle.zdd_product.proofs.WithoutSteps.{without_lo_full, without_known1, without_hi_fewer, without_hi_full, without_known2, without_rest_fewer, without_rest_full, without_lo_knows, without_lo_above, without_hi_above, without_made}
 use Rattle.zdd_product.proofs.ops.Ops.+strip.Goals as goal

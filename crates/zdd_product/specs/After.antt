@@ -1,4 +1,4 @@
--- Operations one after another on one seat.
+-- Operations one after another on one seat: for the proofs of this crate and of those above.
 use Rattle.std.proofs.Common.{MatchResult, Result, IfOk, Ok, Err, ◌≡◌, ℕ, ◌+◌, ◌⊎◌, List, [], ◌∷◌, ◌++◌, Contains, refl, sym, ◌∙◌, ap, subst, inl, inr, append_assoc}
 use Rattle.std.proofs.lemmas.List.{append-nil}
 use Rattle.std.proofs.lemmas.Result.{MatchResult-weaker}
@@ -197,3 +197,17 @@ module _ (made is due : List (List ℕ) → Type 0) (to_is : (h : List (List ℕ
 pub went_of : {E : Type 0} (is due : List (List ℕ) → Type 0) (before after : Seated) (result : Result ℕ E) → MatchResult result (Gave is due before after) (λ _. WasFull due before after) → Went due before after
 went_of is due before after (Ok r) gave = gave.on.went
 went_of is due before after (Err e) full = full.went
+
+-- the clauses of an operation as one fact, by which operations stand one after another
+pub answered : {E : Type 0} (is due : List (List ℕ) → Type 0) (before after : Seated) (result : Result ℕ E) → after.store ≡ before.store → after.share ≡ before.share → Grown (map_of before) (map_of after) → IsSoundSeat after
+    → FillsDue due before after → IfOk result (λ r. KnowsOne (map_of after) r is) → MatchResult result (λ _. after.fulls ≡ before.fulls) (λ _. after.fulls ≡ before.fulls + 1)
+    → MatchResult result (λ _. after.missed ≡ before.missed) (λ _. MissesDue due before after) → MatchResult result (Gave is due before after) (λ _. WasFull due before after)
+answered is due before after (Ok r) store share keeps sound fills known fulls missed = record {
+  on = record { went = record { store = store; share = share; keeps = keeps; sound = sound; fills = fills }; fulls = fulls; missed = missed };
+  known = known;
+}
+answered is due before after (Err e) store share keeps sound fills known fulls missed = record {
+  went = record { store = store; share = share; keeps = keeps; sound = sound; fills = fills };
+  fulls = fulls;
+  missed = missed;
+}
