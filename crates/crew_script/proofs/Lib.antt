@@ -1,1 +1,10 @@
 mod DeckLemmas
+mod DocketLemmas
+mod LineLemmas
+mod NameLemmas
+mod OneWay
+mod ReadingLemmas
+mod Saying
+mod Spelled
+mod Standing
+mod WordLemmas

@@ -1,11 +1,28 @@
 //! What follows a fault tree in a deck: the crews and their requests.
 //!
-//! It stands on std alone. A deck is a tree part and, behind a line `@crews`, a crew part. The contract of [`split_deck`]
-//! gives the layer above both parts by their places. The crew part is not read yet.
+//! A deck is a tree part and, behind a line `@crews`, a crew part. The contract of [`split_deck`] gives the layer above both parts by
+//! their places, and that of [`read_crews`] the crews that the lines of the crew part say, each with its requests in order, or the first
+//! line's fault. The laws in `laws` say the same as relations on whole texts. It stands on `fault_model` for names and places, on
+//! `unit_sets` for the numbers of crews, and on `indexmap` to find a crew's name again.
 #![tactic(auto)]
 
+#[cfg(test)]
+mod crew_tests;
+mod crews;
 mod deck;
+mod dockets;
+mod fault;
+pub mod laws;
+mod line;
+mod names;
+mod reading;
 #[cfg(test)]
 mod tests;
+mod text_lines;
+mod word;
 
+pub use crews::read_crews;
 pub use deck::{CrewsAt, LONGEST_DECK, Split, split_deck};
+pub use dockets::{Ask, AskList, Crew, Dockets};
+pub use fault::{CrewCode, CrewFault};
+pub use names::NameList;

@@ -1,0 +1,128 @@
+-- What the words of a line are, run by run.
+use Rattle.std.proofs.Common.{◌≡◌, ℕ, ◌+◌, ◌<◌, Bool, true, false, List, [], ◌∷◌, ◌++◌, length, take, drop, cond, not, sym, refl, ap, ◌∙◌, arith, append_assoc, append-nil, inl, inr, lt-ltb, subst, ◌≤◌, suc}
+use Rattle.std.specs.Prelude.{position, Some, None}
+use Rattle.std.specs.List.{prefix_len, position_or_len}
+use Rattle.std.proofs.lemmas.Bool.{cases_lt, cases_Bool, not-true}
+use Rattle.std.proofs.lemmas.List.Quantifiers.{position-Some}
+use Rattle.std.proofs.lemmas.List.Sums.{position_or_len_is, prefix_len-le-length}
+use Rattle.crew_script.specs.Words.{InBare, InQuotes, Closed, words, words_of, is_blank, is_quote, bare, quoted, broken, parts, begins_bare, begins_blank}
+
+pub blank_skipped : (byte : ℕ) (bytes : List ℕ) → is_blank byte ≡ true → words_of (byte ∷ bytes) ≡ words_of bytes
+blank_skipped byte bytes hit = rw hit refl
+
+-- blanks between words say nothing
+pub blanks_skipped : (bytes : List ℕ) → words_of (drop (prefix_len is_blank bytes) bytes) ≡ words_of bytes
+blanks_skipped [] = refl
+blanks_skipped (byte ∷ bytes) = elim (cases_Bool (is_blank byte)) [
+  | inl hit ↦
+      let on : 1 + prefix_len is_blank bytes ≡ suc (prefix_len is_blank bytes) = omega arith in
+      rw hit (ap (λ n. words_of (drop n (byte ∷ bytes))) on ∙ blanks_skipped bytes)
+  | inr miss ↦ ap (λ n. words_of (drop n (byte ∷ bytes))) (ap (λ b. cond b (1 + prefix_len is_blank bytes) 0) miss)
+]
+
+-- and what is left begins with none
+pub blanks_gone : (bytes : List ℕ) → begins_blank (drop (prefix_len is_blank bytes) bytes) ≡ false
+blanks_gone [] = refl
+blanks_gone (byte ∷ bytes) = elim (cases_Bool (is_blank byte)) [
+  | inl hit ↦
+      let on : 1 + prefix_len is_blank bytes ≡ suc (prefix_len is_blank bytes) = omega arith in
+      rw hit (ap (λ n. begins_blank (drop n (byte ∷ bytes))) on ∙ blanks_gone bytes)
+  | inr miss ↦ rw miss miss
+]
+
+-- a bare word goes up to the next blank
+pub bare_on : (text bytes : List ℕ) → words (InBare text) bytes
+    ≡ bare (text ++ take (position_or_len is_blank bytes) bytes) ∷ words_of (drop (position_or_len is_blank bytes) bytes)
+bare_on text [] = ap (λ t. bare t ∷ []) (sym (append-nil text))
+bare_on text (byte ∷ bytes) = elim (cases_Bool (is_blank byte)) [
+  | inl hit ↦
+      let none : position_or_len is_blank (byte ∷ bytes) ≡ 0 = ap (λ b. cond (not b) (1 + position_or_len is_blank bytes) 0) hit in
+      let ends : words (InBare text) (byte ∷ bytes) ≡ bare text ∷ words_of bytes = rw hit refl in
+      ends
+      ∙ ap (λ t. bare t ∷ words_of bytes) (sym (append-nil text))
+      ∙ ap (λ l. bare (text ++ []) ∷ l) (sym (blank_skipped byte bytes hit))
+      ∙ ap (λ n. bare (text ++ take n (byte ∷ bytes)) ∷ words_of (drop n (byte ∷ bytes))) (sym none)
+  | inr miss ↦
+      let place = position_or_len is_blank bytes in
+      let on : suc place ≡ 1 + place = omega arith in
+      rw miss
+      (bare_on (text ++ byte ∷ []) bytes
+      ∙ ap (λ t. bare t ∷ words_of (drop place bytes)) (append_assoc text (byte ∷ []) (take place bytes))
+      ∙ ap (λ n. bare (text ++ take n (byte ∷ bytes)) ∷ words_of (drop n (byte ∷ bytes))) on)
+]
+
+pub bare_from : (bytes : List ℕ) → begins_bare bytes ≡ true → begins_blank bytes ≡ false
+    → words_of bytes ≡ bare (take (position_or_len is_blank bytes) bytes) ∷ words_of (drop (position_or_len is_blank bytes) bytes)
+bare_from [] begins no_blank = absurd cc
+bare_from (byte ∷ bytes) begins no_blank =
+    let place = position_or_len is_blank bytes in
+    let on : suc place ≡ 1 + place = omega arith in
+    let unquoted : is_quote byte ≡ false = not-true (is_quote byte) begins in
+    rw (no_blank, unquoted) (bare_on (byte ∷ []) bytes ∙ ap (λ n. bare (take n (byte ∷ bytes)) ∷ words_of (drop n (byte ∷ bytes))) on)
+
+-- a quoted word goes up to the next quotation mark
+pub quoted_on : (text bytes : List ℕ) → position_or_len is_quote bytes < length bytes
+    → words (InQuotes text) bytes ≡ words (Closed (text ++ take (position_or_len is_quote bytes) bytes)) (drop (position_or_len is_quote bytes + 1) bytes)
+quoted_on text [] within = absurd (omega (arith, within))
+quoted_on text (byte ∷ bytes) within = elim (cases_Bool (is_quote byte)) [
+  | inl hit ↦ rw hit (ap (λ t. words (Closed t) bytes) (sym (append-nil text)))
+  | inr miss ↦
+      let place = position_or_len is_quote bytes in
+      let few : 1 + place < length (byte ∷ bytes) = subst (λ b. cond (not b) (1 + place) 0 < length (byte ∷ bytes)) miss within in
+      let on : suc place ≡ 1 + place = omega arith in
+      let past : suc (place + 1) ≡ 1 + place + 1 = omega arith in
+      rw miss
+      (quoted_on (text ++ byte ∷ []) bytes (omega (arith, few))
+      ∙ ap (λ t. words (Closed t) (drop (place + 1) bytes)) (append_assoc text (byte ∷ []) (take place bytes))
+      ∙ ap (λ n. words (Closed (text ++ take n (byte ∷ bytes))) (drop (place + 1) bytes)) on
+      ∙ ap (λ n. words (Closed (text ++ take (1 + place) (byte ∷ bytes))) (drop n (byte ∷ bytes))) past)
+]
+
+pub quoted_open : (text bytes : List ℕ) → length bytes ≤ position_or_len is_quote bytes → words (InQuotes text) bytes ≡ broken ∷ []
+quoted_open text [] none = refl
+quoted_open text (byte ∷ bytes) none = elim (cases_Bool (is_quote byte)) [
+  | inl hit ↦
+      let place = position_or_len is_quote bytes in
+      let few : length (byte ∷ bytes) ≤ 0 = subst (λ b. length (byte ∷ bytes) ≤ cond (not b) (1 + place) 0) hit none in
+      absurd (omega (arith, few))
+  | inr miss ↦
+      let place = position_or_len is_quote bytes in
+      let few : length (byte ∷ bytes) ≤ 1 + place = subst (λ b. length (byte ∷ bytes) ≤ cond (not b) (1 + place) 0) miss none in
+      rw miss (quoted_open (text ++ byte ∷ []) bytes (omega (arith, few)))
+]
+
+-- behind a quoted word stands a blank, or the line ends
+pub closed_parts : (text bytes : List ℕ) → parts bytes ≡ true → words (Closed text) bytes ≡ quoted text ∷ words_of bytes
+closed_parts text [] here = refl
+closed_parts text (byte ∷ bytes) here = rw here refl
+
+pub closed_broken : (text bytes : List ℕ) → parts bytes ≡ false → words (Closed text) bytes ≡ broken ∷ []
+closed_broken text [] here = absurd cc
+closed_broken text (byte ∷ bytes) here = rw here refl
+
+-- ---- where the first blank or quotation mark stands
+
+pub first_place : (test : ℕ → Bool) (bytes : List ℕ) (end : ℕ) → position test bytes ≡ Some end → end ≡ position_or_len test bytes
+first_place test bytes end at =
+    let (within, hit, before) = position-Some test bytes end 0 at in
+    sym (position_or_len_is test bytes end 0 (omega arith) before (λ _. hit))
+
+pub no_place : (test : ℕ → Bool) (bytes : List ℕ) → position test bytes ≡ None → length bytes ≡ position_or_len test bytes
+no_place test bytes none =
+    elim (cases_lt (position_or_len test bytes) (length bytes)) [
+      | inl found ↦
+          let clash = sym none ∙ ap (λ b. cond b (Some (position_or_len test bytes)) None) (lt-ltb (position_or_len test bytes) (length bytes) found) in
+          absurd cc
+      | inr past ↦ omega (arith, prefix_len-le-length (λ byte. not (test byte)) bytes)
+    ]
+
+-- a quoted word by the place of the next quotation mark
+pub quoted_to : (bytes : List ℕ) (end : ℕ) → position is_quote bytes ≡ Some end
+    → words (InQuotes []) bytes ≡ words (Closed (take end bytes)) (drop (end + 1) bytes)
+quoted_to bytes end at =
+    let (within, hit, before) = position-Some is_quote bytes end 0 at in
+    let is : position_or_len is_quote bytes ≡ end = sym (first_place is_quote bytes end at) in
+    quoted_on [] bytes (omega (arith, is, within)) ∙ ap (λ n. words (Closed (take n bytes)) (drop (n + 1) bytes)) is
+
+pub never_closed : (bytes : List ℕ) → position is_quote bytes ≡ None → words (InQuotes []) bytes ≡ broken ∷ []
+never_closed bytes none = quoted_open [] bytes (let e = no_place is_quote bytes none in omega (arith, e))

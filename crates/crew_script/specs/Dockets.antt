@@ -1,0 +1,40 @@
+-- Crews and their requests.
+use Rattle.std.specs.Prelude.{◌≡◌, ℕ, ◌+◌, ◌≤◌, true, List, [], ◌∷◌, map, length, get_or}
+use Rattle.std.specs.List.{All}
+use Rattle.crew_script.specs.Names.{all_differ}
+use Rattle.crew_script.specs.declared.dockets.Ask.{Ask}
+use Rattle.crew_script.specs.declared.dockets.Ask.TheVariants.{Take, Return, Margin}
+use Rattle.crew_script.specs.declared.dockets.Crew.{Crew}
+
+-- the names of crews
+abbrev pub names_of : List Crew → List (List ℕ)
+names_of crews = map (λ (crew : Crew). crew.name) crews
+
+-- the requests of all crews
+abbrev pub request_count : List Crew → ℕ
+request_count [] = 0
+request_count (crew ∷ crews) = length crew.docket + request_count crews
+
+-- the crew with this number
+abbrev pub crew_at : List Crew → ℕ → Crew
+crew_at crews number = get_or crews number (record { name = []; docket = [] })
+
+-- its request at this place, from 0
+abbrev pub ask_at : List Crew → ℕ → ℕ → Ask
+ask_at crews number place = get_or (crew_at crews number).docket place (Margin 0)
+
+-- the number of a margin is at most 4,095
+abbrev pub HasMargin : Ask → Type 0
+HasMargin (Take names) = Unit {0}
+HasMargin (Return name) = Unit {0}
+HasMargin (Margin number) = number ≤ 4095
+
+abbrev pub HasMargins : Crew → Type 0
+HasMargins crew = All HasMargin crew.docket
+
+-- at most 64 crews with different names, and at most 100,000 requests, of which no margin is above 4,095
+pub record IsDockets (crews : List Crew) : Type 0 where
+  pub few_crews : length crews ≤ 64
+  pub differ : all_differ (names_of crews) ≡ true
+  pub few_requests : request_count crews ≤ 100000
+  pub margins : All HasMargins crews

@@ -1,0 +1,122 @@
+-- What a line of a crew part says, by its words.
+use Rattle.std.specs.Prelude.{ℕ, ◌+◌, ◌-◌, ◌*◌, Bool, true, false, not, ◌==◌, ◌&&◌, ◌||◌, nat_le, nat_lt, if◌then◌else◌, List, [], ◌∷◌, ◌++◌, length, codes, Option, Some, None}
+use Rattle.std.specs.List.{list_all}
+use Rattle.std.specs.Char.{is_ascii_digit}
+use Rattle.std.specs.Str.{str_eq_ignore_ascii_case}
+use Rattle.fault_model.specs.Name.{is_name, is_bare_name}
+use Rattle.crew_script.specs.declared.word.WordKind.{WordKind}
+use Rattle.crew_script.specs.declared.word.WordKind.TheVariants.{Bare, Quoted, Broken}
+use Rattle.crew_script.specs.Words.{Word}
+use Rattle.crew_script.specs.Names.{has_name, most_taken}
+use Rattle.crew_script.specs.Dockets.{HasMargin}
+use Rattle.crew_script.specs.declared.dockets.Ask.TheVariants.{Take, Return, Margin}
+use Rattle.crew_script.specs.declared.line.Line.{Line}
+use Rattle.crew_script.specs.declared.line.Line.TheVariants.{Nothing, Crew, Request, Bad}
+
+abbrev pub is_bare_kind : WordKind → Bool
+is_bare_kind Bare = true
+is_bare_kind Quoted = false
+is_bare_kind Broken = false
+
+abbrev pub is_quoted_kind : WordKind → Bool
+is_quoted_kind Bare = false
+is_quoted_kind Quoted = true
+is_quoted_kind Broken = false
+
+-- a name: 1 to 255 bytes of its form, and without quotation marks a bare name
+abbrev pub is_name_word : Word → Bool
+is_name_word word = is_name word.text && (is_quoted_kind word.kind || (is_bare_kind word.kind && is_bare_name word.text))
+
+-- the word of a form, without regard to ASCII case
+abbrev pub says : Word → List ℕ → Bool
+says word form = is_bare_kind word.kind && str_eq_ignore_ascii_case word.text form
+
+abbrev pub begins_comment : List ℕ → Bool
+begins_comment [] = false
+begins_comment (byte ∷ bytes) = byte == 35
+
+-- `#` begins a comment
+abbrev pub is_comment : Word → Bool
+is_comment word = is_bare_kind word.kind && begins_comment word.text
+
+-- ---- margins
+
+-- a zero in front of other digits
+abbrev pub has_leading_zero : List ℕ → Bool
+has_leading_zero [] = false
+has_leading_zero (first ∷ []) = false
+has_leading_zero (first ∷ second ∷ rest) = first == 48
+
+-- the number that digits write behind one
+abbrev pub number_from : ℕ → List ℕ → ℕ
+number_from number [] = number
+number_from number (digit ∷ digits) = number_from (10 * number + (digit - 48)) digits
+
+-- 1 to 4 digits, without a zero in front of others
+abbrev pub is_numeral : List ℕ → Bool
+is_numeral text = nat_le 1 (length text) && nat_le (length text) 4 && list_all is_ascii_digit text && not (has_leading_zero text)
+
+-- the margin that a text writes
+abbrev pub margin_of : List ℕ → Option ℕ
+margin_of text = if is_numeral text && nat_le (number_from 0 text) 4095 then Some (number_from 0 text) else None
+
+-- ---- forms
+
+abbrev pub name_in : Word → Option (List ℕ)
+name_in word = if is_name_word word then Some word.text else None
+
+-- the one name that the words are
+abbrev pub only_name : List Word → Option (List ℕ)
+only_name [] = None
+only_name (word ∷ []) = name_in word
+only_name (word ∷ next ∷ rest) = None
+
+-- the one number that the words are
+abbrev pub only_margin : List Word → Option ℕ
+only_margin [] = None
+only_margin (word ∷ []) = if is_bare_kind word.kind then margin_of word.text else None
+only_margin (word ∷ next ∷ rest) = None
+
+abbrev pub crew_line : Option (List ℕ) → Line
+crew_line None = Bad
+crew_line (Some name) = Crew name
+
+abbrev pub return_line : Option (List ℕ) → Line
+return_line None = Bad
+return_line (Some name) = Request (Return name)
+
+abbrev pub margin_line : Option ℕ → Line
+margin_line None = Bad
+margin_line (Some number) = Request (Margin number)
+
+-- a word is one more name to take, behind these
+abbrev pub is_taken_too : List (List ℕ) → Word → Bool
+is_taken_too names word = nat_lt (length names) most_taken && is_name_word word && not (has_name names word.text)
+
+-- what a take line says, behind these names
+abbrev pub take_line : List (List ℕ) → List Word → Line
+take_line names [] = if nat_le 1 (length names) then Request (Take names) else Bad
+take_line names (word ∷ words) = if is_taken_too names word then take_line (names ++ word.text ∷ []) words else Bad
+
+-- what a line says that begins with this word, where that says no crew
+abbrev pub request_line : Word → List Word → Line
+request_line first words =
+    if says first (codes "take") then take_line [] words
+    else (if says first (codes "return") then return_line (only_name words)
+    else (if says first (codes "margin") then margin_line (only_margin words)
+    else Bad))
+
+-- what the words of a line say
+abbrev pub line_of : List Word → Line
+line_of [] = Nothing
+line_of (first ∷ words) =
+    if is_comment first then Nothing
+    else (if says first (codes "crew") then crew_line (only_name words)
+    else request_line first words)
+
+-- a margin's number is at most 4,095
+abbrev pub SaysMargin : Line → Type 0
+SaysMargin Nothing = Unit {0}
+SaysMargin Bad = Unit {0}
+SaysMargin (Crew name) = Unit {0}
+SaysMargin (Request ask) = HasMargin ask

@@ -1,0 +1,199 @@
+// What a line says.
+ghost use Rattle.std.specs.Prelude.{◌≡◌, ◌≤◌, IfOk, IfSome, length, true, []};
+ghost use Rattle.std.specs.List.{list_all};
+ghost use Rattle.std.specs.Char.{is_ascii_digit};
+ghost use Rattle.crew_script.specs.Words.{words_of};
+ghost use Rattle.crew_script.specs.Lines.{line_of, request_line, crew_line, return_line, margin_line, take_line, only_name, only_margin, margin_of, number_from, is_numeral, has_leading_zero, SaysMargin};
+ghost use Rattle.crew_script.specs.Names.{has_name};
+
+use crate::dockets::Ask;
+use crate::names::NameList;
+use crate::word::{Word, Words};
+use fault_model::Name;
+use std::alloc::{AllocError, Global};
+
+// The most names of a take.
+const MOST_TAKEN: usize = 16;
+
+const GREATEST_MARGIN: u32 = 4095;
+
+/// What a line says: nothing, a new crew, a request of the crew before it, or what is of no form.
+#[derive(Debug, Drop)]
+pub(crate) enum Line {
+    Nothing,
+    Crew(Name),
+    Request(Ask),
+    Bad,
+}
+
+/// What a line says. No more of it is read than decides.
+pub(crate) fn read_line(alloc: Global, bytes: &[u8]) -> Result<Line, AllocError>
+    ensures line { IfOk result (λ line. line ≡ line_of (words_of bytes.now)) }
+    ensures margin { IfOk result SaysMargin }
+{
+    let mut words = Words::new(bytes);
+    let first = match words.next() {
+        Some(first) => first,
+        None => return Ok(Line::Nothing),
+    };
+    if first.is_comment() {
+        Ok(Line::Nothing)
+    } else if first.says(b"crew") {
+        crew(alloc, &mut words)
+    } else {
+        request(alloc, &first, &mut words)
+    }
+}
+
+// What a line says by its first word, where that says no crew.
+fn request(alloc: Global, first: &Word, words: &mut Words) -> Result<Line, AllocError>
+    ensures line { IfOk result (λ line. line ≡ request_line first.now words.old) }
+    ensures margin { IfOk result SaysMargin }
+{
+    if first.says(b"take") {
+        take(alloc, words)
+    } else if first.says(b"return") {
+        give_back(alloc, words)
+    } else if first.says(b"margin") {
+        Ok(margin(words))
+    } else {
+        Ok(Line::Bad)
+    }
+}
+
+// A line of a crew, behind its first word.
+fn crew(alloc: Global, words: &mut Words) -> Result<Line, AllocError>
+    ensures { IfOk result (λ line. line ≡ crew_line (only_name words.old)) }
+{
+    match only_name(alloc, words)? {
+        Some(name) => Ok(Line::Crew(name)),
+        None => Ok(Line::Bad),
+    }
+}
+
+// A return, behind its first word.
+fn give_back(alloc: Global, words: &mut Words) -> Result<Line, AllocError>
+    ensures line { IfOk result (λ line. line ≡ return_line (only_name words.old)) }
+    ensures margin { IfOk result SaysMargin }
+{
+    match only_name(alloc, words)? {
+        Some(name) => Ok(Line::Request(Ask::Return(name))),
+        None => Ok(Line::Bad),
+    }
+}
+
+// The one name that is left.
+fn only_name(alloc: Global, words: &mut Words) -> Result<Option<Name>, AllocError>
+    ensures { IfOk result (λ name. name ≡ only_name words.old) }
+{
+    let word = match words.next() {
+        Some(word) => word,
+        None => return Ok(None),
+    };
+    match words.next() {
+        Some(_) => Ok(None),
+        None => word.name(alloc),
+    }
+}
+
+// A margin, behind its first word.
+fn margin(words: &mut Words) -> Line
+    ensures line { result ≡ margin_line (only_margin words.old) }
+    ensures margin { SaysMargin result }
+{
+    match only_margin(words) {
+        Some(number) => Line::Request(Ask::Margin(number)),
+        None => Line::Bad,
+    }
+}
+
+// The one margin that is left.
+fn only_margin(words: &mut Words) -> Option<u32>
+    ensures margin { result ≡ only_margin words.old }
+    ensures small { IfSome result (λ number. number ≤ 4095) }
+{
+    let word = words.next()?;
+    match words.next() {
+        None if word.is_bare() => margin_of(word.text()),
+        _ => None,
+    }
+}
+
+// The margin that a text writes.
+fn margin_of(text: &[u8]) -> Option<u32>
+    ensures margin { result ≡ margin_of text.now }
+    ensures small { IfSome result (λ number. number ≤ 4095) }
+{
+    if !is_numeral(text) {
+        return None;
+    }
+    let number = number(text);
+    if number <= GREATEST_MARGIN {
+        Some(number)
+    } else {
+        None
+    }
+}
+
+// Whether a text is 1 to 4 digits, with no zero in front of others.
+fn is_numeral(text: &[u8]) -> bool
+    ensures { result ≡ is_numeral text.now }
+{
+    1 <= text.len() && text.len() <= 4 && all_digits(text) && !has_leading_zero(text)
+}
+
+fn all_digits(text: &[u8]) -> bool
+    ensures { result ≡ list_all is_ascii_digit text.now }
+{
+    text.iter().all(|byte| byte.is_ascii_digit())
+}
+
+fn has_leading_zero(text: &[u8]) -> bool
+    ensures { result ≡ has_leading_zero text.now }
+{
+    match text {
+        [first, _, ..] => *first == b'0',
+        _ => false,
+    }
+}
+
+// The number of up to four digits.
+fn number(text: &[u8]) -> u32
+    requires few { length text.now ≤ 4 }
+    requires digits { list_all is_ascii_digit text.now ≡ true }
+    ensures { result ≡ number_from 0 text.now }
+{
+    let mut number: u32 = 0;
+    for digit in text {
+        number = 10 * number + u32::from(*digit - b'0');
+    }
+    number
+}
+
+// A take, behind its first word.
+fn take(alloc: Global, words: &mut Words) -> Result<Line, AllocError>
+    ensures line { IfOk result (λ line. line ≡ take_line [] words.old) }
+    ensures margin { IfOk result SaysMargin }
+{
+    let mut names: Vec<Name> = Vec::new(alloc);
+    while let Some(word) = words.next() {
+        let name = match word.name(alloc)? {
+            Some(name) => name,
+            None => return Ok(Line::Bad),
+        };
+        if names.len() == MOST_TAKEN || is_among(&names, &name) {
+            return Ok(Line::Bad);
+        }
+        names.push(name)?;
+    }
+    if names.is_empty() {
+        return Ok(Line::Bad);
+    }
+    Ok(Line::Request(Ask::Take(NameList::of(names))))
+}
+
+fn is_among(names: &[Name], name: &Name) -> bool
+    ensures { result ≡ has_name names.now name.now }
+{
+    names.iter().any(|other| name == other)
+}

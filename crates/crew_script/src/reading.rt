@@ -1,0 +1,184 @@
+// The crews of the lines that are read.
+ghost use Rattle.std.specs.Prelude.{◌≡◌, [], ◌∷◌, ◌++◌, None, IfOk};
+ghost use Rattle.crew_script.specs.Reading.{joined};
+ghost use Rattle.crew_script.specs.Dockets.{HasMargin};
+ghost use Rattle.crew_script.specs.Lines.{SaysMargin};
+ghost use Rattle.crew_script.specs.Crews.{fault_behind, crew_fault, request_fault, after, with_ask};
+ghost use Rattle.crew_script.specs.declared.line.Line.TheVariants.{Crew as CrewLine};
+
+use crate::dockets::{Ask, Crew, Dockets};
+use crate::fault::CrewCode;
+use crate::line::Line;
+use fault_model::{GrowingList, Name};
+use indexmap::IndexSet;
+use std::alloc::{AllocError, Global};
+use std::marker::Model;
+
+const MOST_CREWS: usize = 64;
+
+const MOST_REQUESTS: u32 = 100_000;
+
+/// The crews so far. The last of them stands apart, since its docket still grows. A contract sees their list.
+#[derive(Drop)]
+pub(crate) struct Reading {
+    names: IndexSet<Name>,
+    closed: GrowingList<Crew>,
+    last: Option<Crew>,
+    total: u32,
+}
+
+impl Model for Reading {
+    ghost use Rattle.std.specs.Prelude.{List};
+    ghost use Rattle.crew_script.specs.declared.dockets.Crew.{Crew as Kept};
+    ghost use Rattle.crew_script.specs.Reading.{joined, IsReading};
+
+    ghost Value = { List Kept };
+
+    ghost view = { λ reading. joined reading.closed reading.last };
+
+    ghost invariant = { λ reading. IsReading reading.names.keys reading.closed reading.last reading.total };
+}
+
+impl Reading {
+    /// No crews.
+    pub(crate) fn new(alloc: Global) -> Reading
+        ensures { result ≡ [] }
+    {
+        Reading {
+            names: IndexSet::new(alloc),
+            closed: GrowingList::new(alloc),
+            last: None,
+            total: 0,
+        }
+    }
+
+    /// The fault that a line has behind these crews, if it has one.
+    pub(crate) fn fault_of(&self, line: &Line) -> Option<CrewCode>
+        ensures { result ≡ fault_behind self.now line.now }
+    {
+        match line {
+            Line::Nothing => None,
+            Line::Bad => Some(CrewCode::BadLine),
+            Line::Crew(name) => self.crew_fault(name),
+            Line::Request(_) => self.request_fault(),
+        }
+    }
+
+    fn crew_fault(&self, name: &Name) -> Option<CrewCode>
+        ensures { result ≡ crew_fault self.now name.now }
+    {
+        if self.names.contains(name) {
+            Some(CrewCode::DuplicateCrew)
+        } else if self.names.len() >= MOST_CREWS {
+            Some(CrewCode::TooManyCrews)
+        } else {
+            None
+        }
+    }
+
+    fn request_fault(&self) -> Option<CrewCode>
+        ensures { result ≡ request_fault self.now }
+    {
+        if self.last.is_none() {
+            Some(CrewCode::RequestBeforeCrew)
+        } else if self.total >= MOST_REQUESTS {
+            Some(CrewCode::TooManyRequests)
+        } else {
+            None
+        }
+    }
+
+    /// The crews with what a line says that has no fault.
+    pub(crate) fn with(self, alloc: Global, line: Line) -> Result<Reading, AllocError>
+        requires faultless { fault_behind self line ≡ None }
+        requires margin { SaysMargin line }
+        ensures { IfOk result (λ reading. reading ≡ after self line) }
+    {
+        match line {
+            Line::Crew(name) => self.with_crew(alloc, name),
+            Line::Request(ask) => self.with_request(ask),
+            Line::Nothing | Line::Bad => Ok(self),
+        }
+    }
+
+    fn with_crew(self, alloc: Global, name: Name) -> Result<Reading, AllocError>
+        requires faultless { crew_fault self name ≡ None }
+        ensures { IfOk result (λ reading. reading ≡ after self (CrewLine name)) }
+    {
+        let Reading {
+            names,
+            closed,
+            last,
+            total,
+        } = self;
+        let mut names = names;
+        names.insert(Name::of(alloc, name.as_slice())?)?;
+        let closed = all_crews(closed, last)?;
+        let crew = Crew {
+            name,
+            docket: GrowingList::new(alloc),
+        };
+        Ok(Reading {
+            names,
+            closed,
+            last: Some(crew),
+            total,
+        })
+    }
+
+    fn with_request(self, ask: Ask) -> Result<Reading, AllocError>
+        requires faultless { request_fault self ≡ None }
+        requires margin { HasMargin ask }
+        ensures { IfOk result (λ reading. reading ≡ with_ask ask self) }
+    {
+        let Reading {
+            names,
+            closed,
+            last,
+            total,
+        } = self;
+        match last {
+            Some(crew) => Ok(Reading {
+                names,
+                closed,
+                last: Some(asked(crew, ask)?),
+                total: total + 1,
+            }),
+            None => unreachable!(),
+        }
+    }
+
+    /// The crews.
+    pub(crate) fn finish(self) -> Result<Dockets, AllocError>
+        ensures { IfOk result (λ dockets. dockets ≡ self) }
+    {
+        let Reading {
+            closed,
+            last,
+            total,
+            ..
+        } = self;
+        Ok(Dockets::of(all_crews(closed, last)?, total))
+    }
+}
+
+// The crews, of which the last stands apart.
+fn all_crews(closed: GrowingList<Crew>, last: Option<Crew>) -> Result<GrowingList<Crew>, AllocError>
+    ensures { IfOk result (λ crews. crews ≡ joined closed last) }
+{
+    let mut crews = closed;
+    if let Some(crew) = last {
+        crews.push(crew)?;
+    }
+    Ok(crews)
+}
+
+// The crew with one more request.
+fn asked(crew: Crew, ask: Ask) -> Result<Crew, AllocError>
+    ensures { IfOk result (λ more. more ≡ record crew { docket = crew.docket ++ ask ∷ [] }) }
+{
+    let Crew { name, docket } = crew;
+    let mut docket = docket;
+    docket.push(ask)?;
+    Ok(Crew { name, docket })
+}
