@@ -54,6 +54,7 @@ impl Standing {
         ensures { IfOk result (λ standing. standing ≡ record { units = units; cuts = cuts.now; margin = margin; supervisor = supervisor; held = nothing_held units }) }
     {
         let ledger = Ledger::new(alloc, units, cuts)?;
+        // The list tells the proof that it is in order and has known units alone.
         ledger.cuts();
         let held = vec![in alloc; None; units as usize + 1]?;
         Ok(Standing {

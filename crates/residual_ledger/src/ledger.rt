@@ -52,6 +52,7 @@ impl Ledger {
         requires known { HasUnitsUpTo units cuts.now }
         ensures { IfOk result (λ ledger. ledger ≡ record { units = units; cuts = cuts.now; out = [] }) }
     {
+        // The length tells the proof that the list is in order.
         cuts.len();
         let holding = Holding::new(alloc, units, cuts)?;
         let counts = counts::sizes(alloc, cuts)?;
@@ -104,6 +105,7 @@ impl Ledger {
         requires { unit ≤ self.now.units }
         ensures { result.now ≡ holding self.now.cuts unit }
     {
+        // A unit's number is not 0, so its row has one before it.
         unit.number();
         self.holding.row(unit)
     }
@@ -121,6 +123,7 @@ impl Ledger {
         requires in_service { among self.old.out unit ≡ false }
         ensures { self.new ≡ record self.old { out = with_unit unit self.old.out } }
     {
+        // A unit's number is not 0, so its row has one before it.
         unit.number();
         let row = self.holding.row(unit);
         counts::lower(self.counts.as_mut_slice(), self.least.as_mut_slice(), row);
@@ -133,6 +136,7 @@ impl Ledger {
         requires out { among self.old.out unit ≡ true }
         ensures { self.new ≡ record self.old { out = without_unit unit self.old.out } }
     {
+        // A unit's number is not 0, so its row has one before it.
         unit.number();
         let row = self.holding.row(unit);
         counts::raise(self.counts.as_mut_slice(), row);
