@@ -1,0 +1,13 @@
+pub mod Parts
+pub mod Spans
+pub mod UnionParts
+pub mod ProductParts
+pub mod WithoutParts
+pub mod MinimalParts
+pub mod VotesParts
+pub mod DueSpans
+pub mod Ordered
+pub mod Antichains
+pub mod OrderedUnions
+pub mod OrderedProducts
+pub mod OrderedLists

@@ -1,0 +1,21 @@
+-- Families that stand for nodes: a set of units includes a set of the family exactly where the node fails.
+use Rattle.std.specs.Prelude.{◌≡◌, ℕ, Bool, true, List, [], ◌∷◌, Contains}
+use Rattle.unit_sets.specs.UnitList.{among}
+use Rattle.fault_model.specs.Reading.{reads}
+use Rattle.fault_model.specs.Tree.{FaultTree, IsUnitOf}
+use Rattle.zdd_families.specs.Family.{IsFamily}
+use Rattle.family_operations.specs.Hits.{hits}
+
+-- a family whose sets have units of the tree alone
+pub record IsFamilyOf (tree : FaultTree) (family : List (List ℕ)) : Type 0 where
+  pub is_family : IsFamily family
+  pub units : (set : List ℕ) → Contains family set → (unit : ℕ) → among set unit ≡ true → IsUnitOf tree unit
+
+abbrev pub AreFamiliesOf : FaultTree → List (List (List ℕ)) → Type 0
+AreFamiliesOf tree [] = Unit {0}
+AreFamiliesOf tree (family ∷ families) = IsFamilyOf tree family × AreFamiliesOf tree families
+
+-- it is hit exactly where the node reads failed
+pub record Generates (tree : FaultTree) (node : ℕ) (family : List (List ℕ)) : Type 0 where
+  pub of_tree : IsFamilyOf tree family
+  pub hit : (within : ℕ → Bool) → hits family within ≡ reads tree within node
