@@ -1,0 +1,124 @@
+-- What a board keeps, from its opening on.
+use Rattle.std.proofs.Common.{◌≡◌, ℕ, zero, suc, ◌+◌, ◌<◌, ◌≤◌, List, [], ◌∷◌, ◌++◌, length, get_or, set, refl, sym, ◌∙◌, ap, subst, arith, inl, inr, length-append, length-set, get_or-set_same, get_or-set_other}
+use Rattle.std.specs.Prelude.{Option, Some, None, IsNone, slice_get, ◌↔◌}
+use Rattle.std.proofs.lemmas.Bool.{cases_eq}
+use Rattle.std.proofs.lemmas.Option.{get_or_from_slice_get, slice_get_cases}
+use Rattle.unit_sets.specs.declared.request.CrewNo.{CrewNo}
+use Rattle.margin_policy.specs.Standing.{StandingView, reply_of, after}
+use Rattle.margin_policy.specs.declared.request.Request.{Request}
+use Rattle.outage_board.specs.declared.entry.Entry.{Entry}
+use Rattle.outage_board.specs.Histories.{served, docket_of}
+use Rattle.outage_board.specs.Boards.{BoardView, IsBoard, standing_of, next_entry, entry_for, is_used_up}
+use Rattle.outage_board.specs.Kept.{KeepsBoard, left_in}
+use Rattle.outage_board.proofs.HistoryLemmas.{standing_after-push, IsLegal-push, entries_of-other, served-own, IsWholeUpTo-push}
+
+-- ---- the next entry
+
+pub record IsEntryFor (standing : StandingView) (crew : CrewNo) (place : ℕ) (found : Option Request) (entry : Entry) : Type 0 where
+  pub own : entry.crew ≡ crew
+  pub at : entry.place ≡ place
+  pub asked : found ≡ Some entry.request
+  pub decided : entry.reply ≡ reply_of standing crew entry.request
+
+entry_is : (entry other : Entry) → Some entry ≡ Some other → entry ≡ other
+entry_is entry other e = cc
+
+entry_for-is : (standing : StandingView) (crew : CrewNo) (place : ℕ) (found : Option Request) (entry : Entry) → entry_for standing crew place found ≡ Some entry → IsEntryFor standing crew place found entry
+entry_for-is standing crew place None entry is = absurd cc
+entry_for-is standing crew place (Some request) entry is =
+    subst (IsEntryFor standing crew place (Some request)) (entry_is _ entry is) (record { own = refl; at = refl; asked = refl; decided = refl })
+
+past_end : (docket : List Request) (count : ℕ) → slice_get docket count ≡ None → length docket ≤ count
+past_end docket count none = elim ((slice_get_cases docket count).1) [
+  | inl there ↦ absurd (some_none there.0 (sym there.2 ∙ none))
+  | inr past ↦ past.0
+]
+  where
+    some_none : (request : Request) → Some request ≡ None → ⊥
+    some_none request e = absurd cc
+
+inside_end : (docket : List Request) (count : ℕ) (request : Request) → slice_get docket count ≡ Some request → count < length docket
+inside_end docket count request some = elim ((slice_get_cases docket count).1) [
+  | inl there ↦ there.1
+  | inr past ↦ absurd (some_none (sym some ∙ past.1))
+]
+  where
+    some_none : Some request ≡ None → ⊥
+    some_none e = absurd cc
+
+-- there is no next entry exactly where the docket is used up
+pub no_next : (board : BoardView) (crew : CrewNo) (found : Option Entry) → IsBoard board → found ≡ next_entry board crew → IsNone found ↔ is_used_up board crew.0
+no_next board crew found kept is =
+    subst (λ f. IsNone f ↔ is_used_up board crew.0) (sym is) (by_request (slice_get (docket_of board.deck.dockets crew.0) (served crew.0 board.history)) refl)
+  where
+    by_request : (request : Option Request) → slice_get (docket_of board.deck.dockets crew.0) (served crew.0 board.history) ≡ request → IsNone (entry_for (standing_of board) crew (served crew.0 board.history) request) ↔ is_used_up board crew.0
+    by_request None at = (λ none. let past = past_end (docket_of board.deck.dockets crew.0) (served crew.0 board.history) at in let within = kept.whole.within crew.0 in omega arith, λ up. refl)
+    by_request (Some request) at = (λ none. absurd cc, λ up. let short = inside_end (docket_of board.deck.dockets crew.0) (served crew.0 board.history) request at in absurd (omega arith))
+
+-- ---- the requests that are left
+
+pub left_in-served : (dockets : List (List Request)) (next : List ℕ) (crew : ℕ) → length next ≡ length dockets → crew < length next → get_or next crew 0 < length (docket_of dockets crew)
+    → left_in dockets next ≡ left_in dockets (set next crew (get_or next crew 0 + 1)) + 1
+left_in-served [] [] crew all short some = absurd (omega arith)
+left_in-served [] (place ∷ next) crew all short some = absurd (omega arith)
+left_in-served (docket ∷ dockets) [] crew all short some = absurd (omega arith)
+left_in-served (docket ∷ dockets) (place ∷ next) zero all short some = omega arith
+left_in-served (docket ∷ dockets) (place ∷ next) (suc crew) all short some =
+    let later = left_in-served dockets next crew (omega arith) (omega arith) some in
+    omega arith
+
+-- ---- a crew is served
+
+module _ (board : BoardView) (standing : StandingView) (next : List ℕ) (room : ℕ) (entry : Entry) (kept : KeepsBoard board standing next room)
+    (within : entry.crew.0 < length board.deck.crews) (is : next_entry board entry.crew ≡ Some entry) where
+  fact : IsEntryFor (standing_of board) entry.crew (served entry.crew.0 board.history) (slice_get (docket_of board.deck.dockets entry.crew.0) (served entry.crew.0 board.history)) entry
+  fact = entry_for-is (standing_of board) entry.crew (served entry.crew.0 board.history) (slice_get (docket_of board.deck.dockets entry.crew.0) (served entry.crew.0 board.history)) entry is
+
+  short : served entry.crew.0 board.history < length (docket_of board.deck.dockets entry.crew.0)
+  short = inside_end (docket_of board.deck.dockets entry.crew.0) (served entry.crew.0 board.history) entry.request fact.asked
+
+  inside : entry.crew.0 < length next
+  inside = let all = kept.all in let both = kept.sound.all in omega (arith, within)
+
+  pub at_place : get_or next entry.crew.0 0 ≡ served entry.crew.0 board.history
+  at_place = kept.places entry.crew.0 inside
+
+  fewer : left_in board.deck.dockets next ≡ left_in board.deck.dockets (set next entry.crew.0 (get_or next entry.crew.0 0 + 1)) + 1
+  fewer = left_in-served board.deck.dockets next entry.crew.0 kept.all inside (let e = at_place in let s = short in omega arith)
+
+  pub has_room : length board.history < room
+  has_room = let f = fewer in let r = kept.room in omega arith
+
+  sound_next : IsBoard (record board { history = board.history ++ entry ∷ [] })
+  sound_next = record {
+    legal = IsLegal-push board.deck.opening board.history entry kept.sound.legal fact.decided;
+    whole = IsWholeUpTo-push board.deck.dockets board.history entry kept.sound.whole (let both = kept.sound.all in omega (arith, within)) fact.at short
+        (get_or_from_slice_get (docket_of board.deck.dockets entry.crew.0) (served entry.crew.0 board.history) entry.request entry.request fact.asked);
+    all = kept.sound.all;
+  }
+
+  places_next : (other : ℕ) → other < length (set next entry.crew.0 (get_or next entry.crew.0 0 + 1)) → get_or (set next entry.crew.0 (get_or next entry.crew.0 0 + 1)) other 0 ≡ served other (board.history ++ entry ∷ [])
+  places_next other low = elim (cases_eq other entry.crew.0) [
+    | inl same ↦
+        ap (λ c. get_or (set next entry.crew.0 (get_or next entry.crew.0 0 + 1)) c 0) same
+        ∙ get_or-set_same next entry.crew.0 (get_or next entry.crew.0 0 + 1) 0 inside
+        ∙ ap (λ n. n + 1) at_place
+        ∙ sym (served-own board.history entry entry.crew.0 refl)
+        ∙ ap (λ c. served c (board.history ++ entry ∷ [])) (sym same)
+    | inr apart ↦
+        get_or-set_other next entry.crew.0 other (get_or next entry.crew.0 0 + 1) 0 apart
+        ∙ kept.places other (let e = length-set next entry.crew.0 (get_or next entry.crew.0 0 + 1) in omega arith)
+        ∙ sym (ap length (entries_of-other board.history entry other apart))
+  ]
+
+  pub keeps_next : KeepsBoard (record board { history = board.history ++ entry ∷ [] }) (after standing entry.crew entry.request entry.reply) (set next entry.crew.0 (get_or next entry.crew.0 0 + 1)) room
+  keeps_next = record {
+    sound = sound_next;
+    leaves = ap (λ s. after s entry.crew entry.request entry.reply) kept.leaves ∙ sym (standing_after-push board.deck.opening board.history entry);
+    all = length-set next entry.crew.0 (get_or next entry.crew.0 0 + 1) ∙ kept.all;
+    places = places_next;
+    fits = kept.fits;
+    room = let f = fewer in let r = kept.room in let l = length-append board.history (entry ∷ []) in omega arith;
+    short = kept.short;
+    few = kept.few;
+  }

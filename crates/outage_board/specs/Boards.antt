@@ -1,0 +1,57 @@
+-- What contracts see of a board: the deck that it was opened for and its history; and the entry that serves a crew.
+use Rattle.std.specs.Prelude.{◌≡◌, ℕ, List, [], ◌∷◌, ◌++◌, map, length, Option, Some, None, slice_get}
+use Rattle.unit_sets.specs.declared.request.CrewNo.{CrewNo}
+use Rattle.fault_model.specs.Tree.{FaultTree, unit_count}
+use Rattle.crew_script.specs.declared.dockets.Crew.{Crew}
+use Rattle.margin_policy.specs.Standing.{StandingView, reply_of, nothing_held}
+use Rattle.margin_policy.specs.declared.request.Request.{Request}
+use Rattle.outage_board.specs.declared.entry.Entry.{Entry}
+use Rattle.outage_board.specs.Requests.{requests_of, supervisor_of}
+use Rattle.outage_board.specs.Histories.{standing_after, IsLegal, IsWholeUpTo, served, docket_of}
+
+pub record Deck : Type 0 where
+  -- nothing is out, at the opening margin
+  pub opening : StandingView
+  pub crews : List Crew
+  -- what each crew asks, by the units of the tree
+  pub dockets : List (List Request)
+
+-- the deck of a tree, its cut list, its crews and the opening margin
+abbrev pub deck_of : FaultTree → List (List ℕ) → List Crew → ℕ → Deck
+deck_of tree cuts crews margin = record {
+  opening = record { units = unit_count tree; cuts = cuts; margin = margin; supervisor = supervisor_of crews; held = nothing_held (unit_count tree) };
+  crews = crews;
+  dockets = map (requests_of tree) crews;
+}
+
+pub record BoardView : Type 0 where
+  pub deck : Deck
+  pub history : List Entry
+
+-- the standing that the history leaves
+abbrev pub standing_of : BoardView → StandingView
+standing_of board = standing_after board.deck.opening board.history
+
+-- how many requests of a crew are left
+abbrev pub is_used_up : BoardView → ℕ → Type 0
+is_used_up board crew = served crew board.history ≡ length (docket_of board.deck.dockets crew)
+
+-- a request of a crew with the decision on it
+abbrev pub entry_for : StandingView → CrewNo → ℕ → Option Request → Option Entry
+entry_for standing crew place None = None
+entry_for standing crew place (Some request) = Some (record { crew = crew; place = place; request = request; reply = reply_of standing crew request })
+
+-- the entry of a crew's next request, where one is left
+abbrev pub next_entry : BoardView → CrewNo → Option Entry
+next_entry board crew = entry_for (standing_of board) crew (served crew.0 board.history) (slice_get (docket_of board.deck.dockets crew.0) (served crew.0 board.history))
+
+-- the board with one entry more, where there is one
+abbrev pub with_entry : BoardView → Option Entry → BoardView
+with_entry board None = board
+with_entry board (Some entry) = record board { history = board.history ++ entry ∷ [] }
+
+-- what every board keeps: its history is legal, and whole up to what was served
+pub record IsBoard (board : BoardView) : Type 0 where
+  pub legal : IsLegal board.deck.opening board.history
+  pub whole : IsWholeUpTo board.deck.dockets (λ crew. served crew board.history) board.history
+  pub all : length board.deck.dockets ≡ length board.deck.crews

@@ -1,0 +1,47 @@
+ghost use Rattle.std.specs.Prelude.{◌≡◌, [], ◌∷◌, ◌++◌, IfOk, OnOk};
+
+use margin_policy::Request;
+use std::alloc::Global;
+use std::marker::{Model, PhantomData};
+use unit_sets::{NoMemory, UnitNo};
+
+/// The requests of a crew, in order. A contract sees their list.
+#[derive(Drop)]
+pub(crate) struct Docket {
+    requests: Vec<Request>,
+    // Takes no bytes: a call that moves a request has to be told of the types inside it.
+    inside: PhantomData<Option<UnitNo>>,
+}
+
+impl Model for Docket {
+    ghost use Rattle.std.specs.Prelude.{List};
+    ghost use Rattle.margin_policy.specs.declared.request.Request.{Request};
+
+    ghost Value = { List Request };
+
+    ghost view = { λ docket. docket.requests.items };
+}
+
+impl Docket {
+    pub(crate) fn with_room(alloc: Global, count: usize) -> Result<Docket, NoMemory>
+        ensures { IfOk result (λ docket. docket ≡ []) }
+    {
+        Ok(Docket {
+            requests: Vec::with_capacity(alloc, count)?,
+            inside: PhantomData,
+        })
+    }
+
+    pub(crate) fn push(&mut self, request: Request) -> Result<(), NoMemory>
+        ensures { OnOk result (self.new ≡ self.old ++ request ∷ []) }
+    {
+        self.requests.push(request)?;
+        Ok(())
+    }
+
+    pub(crate) fn as_slice(&self) -> &[Request]
+        ensures { result.now ≡ self.now }
+    {
+        self.requests.as_slice()
+    }
+}
