@@ -8,7 +8,7 @@ use Rattle.margin_policy.specs.Standing.{StandingView, reply_of, after}
 use Rattle.margin_policy.specs.declared.request.Request.{Request}
 use Rattle.outage_board.specs.declared.entry.Entry.{Entry}
 use Rattle.outage_board.specs.Histories.{served, docket_of}
-use Rattle.outage_board.specs.Boards.{BoardView, IsBoard, standing_of, next_entry, entry_for, is_used_up}
+use Rattle.outage_board.specs.Boards.{BoardView, IsBoard, standing_of, next_entry, entry_for, IsUsedUp}
 use Rattle.outage_board.specs.Kept.{KeepsBoard, left_in}
 use Rattle.outage_board.proofs.HistoryLemmas.{standing_after-push, IsLegal-push, entries_of-other, served-own, IsWholeUpTo-push}
 
@@ -47,11 +47,11 @@ inside_end docket count request some = elim ((slice_get_cases docket count).1) [
     some_none e = absurd cc
 
 -- there is no next entry exactly where the docket is used up
-pub no_next : (board : BoardView) (crew : CrewNo) (found : Option Entry) → IsBoard board → found ≡ next_entry board crew → IsNone found ↔ is_used_up board crew.0
+pub no_next : (board : BoardView) (crew : CrewNo) (found : Option Entry) → IsBoard board → found ≡ next_entry board crew → IsNone found ↔ IsUsedUp board crew.0
 no_next board crew found kept is =
-    subst (λ f. IsNone f ↔ is_used_up board crew.0) (sym is) (by_request (slice_get (docket_of board.deck.dockets crew.0) (served crew.0 board.history)) refl)
+    subst (λ f. IsNone f ↔ IsUsedUp board crew.0) (sym is) (by_request (slice_get (docket_of board.deck.dockets crew.0) (served crew.0 board.history)) refl)
   where
-    by_request : (request : Option Request) → slice_get (docket_of board.deck.dockets crew.0) (served crew.0 board.history) ≡ request → IsNone (entry_for (standing_of board) crew (served crew.0 board.history) request) ↔ is_used_up board crew.0
+    by_request : (request : Option Request) → slice_get (docket_of board.deck.dockets crew.0) (served crew.0 board.history) ≡ request → IsNone (entry_for (standing_of board) crew (served crew.0 board.history) request) ↔ IsUsedUp board crew.0
     by_request None at = (λ none. let past = past_end (docket_of board.deck.dockets crew.0) (served crew.0 board.history) at in let within = kept.whole.within crew.0 in omega arith, λ up. refl)
     by_request (Some request) at = (λ none. absurd cc, λ up. let short = inside_end (docket_of board.deck.dockets crew.0) (served crew.0 board.history) request at in absurd (omega arith))
 

@@ -32,9 +32,9 @@ pub record BoardView : Type 0 where
 abbrev pub standing_of : BoardView → StandingView
 standing_of board = standing_after board.deck.opening board.history
 
--- how many requests of a crew are left
-abbrev pub is_used_up : BoardView → ℕ → Type 0
-is_used_up board crew = served crew board.history ≡ length (docket_of board.deck.dockets crew)
+-- as many requests of a crew were served as its docket has
+abbrev pub IsUsedUp : BoardView → ℕ → Type 0
+IsUsedUp board crew = served crew board.history ≡ length (docket_of board.deck.dockets crew)
 
 -- a request of a crew with the decision on it
 abbrev pub entry_for : StandingView → CrewNo → ℕ → Option Request → Option Entry

@@ -3,11 +3,11 @@ ghost use Rattle.std.specs.Prelude.{◌≡◌, ℕ, List, ◌++◌};
 ghost use Rattle.margin_policy.specs.Standing.{StandingView};
 ghost use Rattle.outage_board.specs.declared.entry.Entry.{Entry};
 ghost use Rattle.outage_board.specs.Histories.{IsLegal, IsWhole, standing_after};
-ghost use Rattle.outage_board.specs.Boards.{BoardView, IsBoard, is_used_up};
+ghost use Rattle.outage_board.specs.Boards.{BoardView, IsBoard, IsUsedUp};
 
 /// The history of a board whose dockets are all used up is whole.
 pub fn used_up_board_is_whole()
-    ensures { (board : BoardView) → IsBoard board → ((crew : ℕ) → is_used_up board crew) → IsWhole board.deck.dockets board.history }
+    ensures { (board : BoardView) → IsBoard board → ((crew : ℕ) → IsUsedUp board crew) → IsWhole board.deck.dockets board.history }
 {}
 
 /// Each beginning of a legal history is legal, and the rest is legal after what the beginning leaves.

@@ -44,7 +44,7 @@ impl<'a> Model for BoardState<'a> {
 }
 
 impl<'a> BoardState<'a> {
-    ghost use Rattle.outage_board.specs.Boards.{deck_of, standing_of, next_entry, with_entry, is_used_up, IsBoard};
+    ghost use Rattle.outage_board.specs.Boards.{deck_of, standing_of, next_entry, with_entry, IsUsedUp, IsBoard};
 
     /// A board with the empty history, at the opening margin. Its supervisor is the crew that is named `supervisor`.
     pub fn open(
@@ -106,7 +106,7 @@ impl<'a> BoardState<'a> {
         requires crew { crew.0 < length self.old.deck.crews }
         ensures entry { result ≡ next_entry self.old crew }
         ensures board { self.new ≡ with_entry self.old result }
-        ensures used_up { IsNone result ↔ is_used_up self.old crew.0 }
+        ensures used_up { IsNone result ↔ IsUsedUp self.old crew.0 }
     {
         let entry = self.next_entry(crew)?;
         self.keep(&entry);
