@@ -1,0 +1,6 @@
+pub mod Answers
+pub mod Folding
+pub mod LeastProducts
+pub mod Staying
+pub mod NodeParts
+pub mod NodeAnswers
