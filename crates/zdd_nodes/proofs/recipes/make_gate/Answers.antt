@@ -1,6 +1,5 @@
 use Rattle.std.proofs.Common.{◌≡◌, ◌-◌, true, [], ◌∷◌, get_or, drop, take, length, sym, ◌∙◌, ap, subst, inl, arith}
 use Rattle.std.proofs.lemmas.List.{get_or_read}
-use Rattle.fault_model.specs.declared.node.GateKind.TheVariants.{Or, Votes, Fdep}
 use Rattle.family_operations.specs.Due.{IsDueToVotes}
 use Rattle.family_operations.specs.Votes.{IsVotes}
 use Rattle.tree_families.specs.Due.{IsDueToProducts, IsDueToRecipe, IsDueToUnions, due_to_products, due_to_unions, due_to_votes}

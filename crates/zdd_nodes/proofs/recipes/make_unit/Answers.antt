@@ -6,7 +6,6 @@ use Rattle.zdd_product.specs.After.{WasFull-as}
 use Rattle.zdd_product.specs.Voting.{families}
 use Rattle.zdd_nodes.specs.Steps.{IsDueToUnit}
 use Rattle.zdd_nodes.proofs.NodeAnswers.{unit_made}
-use Rattle.zdd_nodes.proofs.Staying.{known_stay}
 use Rattle.zdd_nodes.proofs.recipes.make_unit.Goals as goal
 
 pub returns-in_err-own : goal.returns-in_err-own
