@@ -14,6 +14,8 @@ pub mod RankLaws
 pub mod ReadingLaws
 pub mod StepLaws
 pub mod CutLaws
+pub mod MinimalCuts
+pub mod CutLists
 pub mod Walk
 pub mod WalkState
 pub mod TriggerTable

@@ -1,6 +1,6 @@
 //! Laws of the definitions, each the one clause of a function that does nothing.
-ghost use Rattle.std.specs.Prelude.{◌≡◌, ℕ, Bool, true, false, List, []};
-ghost use Rattle.unit_sets.specs.UnitList.{among};
+ghost use Rattle.std.specs.Prelude.{◌≡◌, ℕ, Bool, true, false, List, [], is_some};
+ghost use Rattle.unit_sets.specs.UnitList.{among, is_within};
 ghost use Rattle.fault_model.specs.Cut.{IsCutList, IsMinimalCut, is_cut};
 ghost use Rattle.fault_model.specs.FailingOrder.{is_failing};
 ghost use Rattle.fault_model.specs.Reading.{node_reads, reads};
@@ -38,9 +38,16 @@ pub fn less_than_minimal_is_no_cut()
         → among set member ≡ true → among smaller member ≡ false → is_cut tree smaller ≡ false }
 {}
 
-/// A tree has at most one cut list.
-pub fn cut_list_is_unique()
-    ensures { (tree : FaultTree) (cuts others : List (List ℕ)) → IsCutList tree cuts → IsCutList tree others → cuts ≡ others }
+/// Each cut includes a minimal cut.
+pub fn each_cut_includes_a_minimal_one()
+    ensures { (tree : FaultTree) → IsTree tree → (set : List ℕ) → is_cut tree set ≡ true
+        → (part : List ℕ) × IsMinimalCut tree part × (is_within set part ≡ true) }
+{}
+
+/// A tree has exactly one cut list.
+pub fn each_tree_has_one_cut_list()
+    ensures one { (tree : FaultTree) → (cuts : List (List ℕ)) × IsCutList tree cuts }
+    ensures unique { (tree : FaultTree) (cuts others : List (List ℕ)) → IsCutList tree cuts → IsCutList tree others → cuts ≡ others }
 {}
 
 /// The step of a node is by the steps of what it reads.
@@ -49,7 +56,9 @@ pub fn step_by_inputs()
         → step tree order node ≡ node_step tree order (step tree order) node }
 {}
 
-/// The static bound: the units of an order that fails the top event are a cut.
+/// The static bound: where the top event has a step under an order, the units of the order are a cut. So are those of an order that
+/// fails the top event.
 pub fn failing_order_is_a_cut()
-    ensures { (tree : FaultTree) (order : List ℕ) → is_failing tree order ≡ true → is_cut tree order ≡ true }
+    ensures step { (tree : FaultTree) (order : List ℕ) → is_some (step tree order tree.top) ≡ true → is_cut tree order ≡ true }
+    ensures failing { (tree : FaultTree) (order : List ℕ) → is_failing tree order ≡ true → is_cut tree order ≡ true }
 {}

@@ -4,3 +4,4 @@ pub mod Walks
 pub mod Sound
 pub mod Runs
 pub mod Spelled
+pub mod Places

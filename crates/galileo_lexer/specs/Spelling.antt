@@ -1,10 +1,11 @@
 -- The bytes of a token, in the text that it lies in.
-use Rattle.std.specs.Prelude.{◌≡◌, ℕ, ◌<◌, ◌≤◌, List, [], ◌∷◌, ◌++◌, length, slice_range}
+use Rattle.std.specs.Prelude.{◌≡◌, ℕ, ◌<◌, ◌≤◌, List, [], ◌∷◌, ◌++◌, length, slice_range, take}
 use Rattle.galileo_lexer.specs.declared.token.Token.{Token}
 use Rattle.galileo_lexer.specs.declared.token.TokenKind.{TokenKind}
 use Rattle.galileo_lexer.specs.declared.token.TokenKind.TheVariants.{Word, Quoted, Equals, Semicolon}
 use Rattle.galileo_lexer.specs.Bytes.{is_word_byte, is_quotable}
 use Rattle.galileo_lexer.specs.Pieces.{IsNameText}
+use Rattle.galileo_lexer.specs.Spot.{place_behind}
 
 -- the bytes of a token
 abbrev pub token_bytes : List ℕ → Token → List ℕ
@@ -17,8 +18,9 @@ Spells Quoted bytes = (name : List ℕ) × IsNameText is_quotable name × (bytes
 Spells Equals bytes = bytes ≡ 61 ∷ []
 Spells Semicolon bytes = bytes ≡ 59 ∷ []
 
--- the token lies in the text and is spelled there
+-- the token lies in the text and is spelled there, and its place is that of its first byte
 pub record IsSpelled (text : List ℕ) (token : Token) : Type 0 where
   pub some : token.start < token.end
   pub in_text : token.end ≤ length text
   pub spelling : Spells token.kind (token_bytes text token)
+  pub place : token.place ≡ place_behind (take token.start text)

@@ -10,6 +10,7 @@ use Rattle.unit_sets.specs.Sorted.{same_from_members}
 use Rattle.unit_sets.specs.UnitList.{among, without_unit, is_within, among-without_unit, among-from_Contains, Contains-from_among, among-from_is_within, is_within-from_among}
 use Rattle.fault_model.specs.Cut.{IsMinimalFor, IsMinimalCut, IsCutList}
 use Rattle.fault_model.specs.CutFamily.{IsCutFamily}
+use Rattle.fault_model.specs.MinimalCuts.{units_of_all}
 use Rattle.fault_model.specs.Reading.{reads}
 use Rattle.fault_model.specs.ReadingLaws.{reads-empty}
 use Rattle.fault_model.specs.Tree.{FaultTree, IsUnitOf}
@@ -50,10 +51,6 @@ within_without set part unit within none =
     ∙ and_from (among set n) (not (n == unit)) (among-from_is_within set part n within has)
     (not_from_false (n == unit) (ne_eqb n unit (λ same. false≢true (sym none ∙ subst (λ (q : ℕ). among part q ≡ true) same has)))))
 
-pub each_unit : (tree : FaultTree) (set : List ℕ) → ((unit : ℕ) → among set unit ≡ true → IsUnitOf tree unit) → All (IsUnitOf tree) set
-each_unit tree set units =
-    All-weaker (Contains set) (IsUnitOf tree) (λ unit has. units unit (among-from_Contains set unit has)) set (All-contains_itself set)
-
 module _ (tree : FaultTree) (node : ℕ) (f least : List (List ℕ)) (generates : Generates tree node f) (is : IsMinimal f least) where
   is_family : IsFamily f
   is_family = generates.of_tree.is_family
@@ -83,7 +80,7 @@ module _ (tree : FaultTree) (node : ℕ) (f least : List (List ℕ)) (generates 
       let of_f : Contains f set = ((is.sets set).0 has).0 in
       record {
         rising = set_rises f set is_family of_f;
-        units = each_unit tree set (generates.of_tree.units set of_f);
+        units = units_of_all tree set (generates.of_tree.units set of_f);
         fails = sym (generates.hit (among set)) ∙ hits-from_set f (among set) set of_f (within_itself set);
         needed = All-weaker (Contains set) (λ unit. reads tree (among (without_unit unit set)) node ≡ false) (λ unit member. needs set has unit (among-from_Contains set unit member)) set (All-contains_itself set);
       }

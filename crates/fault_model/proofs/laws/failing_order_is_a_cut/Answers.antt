@@ -5,5 +5,8 @@ use Rattle.fault_model.specs.Step.{step}
 use Rattle.fault_model.specs.StepLaws.{step-reads}
 use Rattle.fault_model.proofs.laws.failing_order_is_a_cut.Goals as goal
 
-pub returns : goal.returns
-returns c = λ tree order fails. step-reads tree order tree.top (and_parts (is_admissible tree order) (is_some (step tree order tree.top)) fails).1
+pub returns-clause-step : goal.returns-clause-step
+returns-clause-step c = λ tree order. step-reads tree order tree.top
+
+pub returns-clause-failing : goal.returns-clause-failing
+returns-clause-failing c = λ tree order fails. step-reads tree order tree.top (and_parts (is_admissible tree order) (is_some (step tree order tree.top)) fails).1
