@@ -1,7 +1,6 @@
 -- Lines and columns by the line feeds before a place.
-use Rattle.std.specs.Prelude.{◌≡◌, ◌⊎◌, ℕ, ◌+◌, ◌-◌, ◌==◌, Bool, true, false, List, [], ◌∷◌, ◌++◌, length, if◌then◌else◌}
+use Rattle.std.specs.Prelude.{◌≡◌, ◌⊎◌, ℕ, ◌+◌, ◌==◌, Bool, true, false, List, [], ◌∷◌, ◌++◌, length, if◌then◌else◌}
 use Rattle.std.proofs.Common.{refl, sym, ap, subst, ◌∙◌, inl, inr, arith}
-use Rattle.std.proofs.lemmas.Bool.{cond_both, cond-false}
 use Rattle.galileo_lexer.specs.declared.spot.Spot.{Spot}
 use Rattle.galileo_lexer.specs.Spot.{IsLastLine, along, line_feeds, origin, place_behind, step, walk}
 use Rattle.galileo_lexer.proofs.Walks.{walk-append, walk-offset}
