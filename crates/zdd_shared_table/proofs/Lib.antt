@@ -3,6 +3,7 @@ pub mod Maps
 pub mod Filling
 pub mod Views
 pub mod Told
+pub mod Owned
 pub mod Steps
 pub mod Searching
 pub mod Nodes

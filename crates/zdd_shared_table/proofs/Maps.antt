@@ -12,10 +12,10 @@ pub record IsOf (known : ℕ → ℕ) (pairs : List (ℕ × ℕ)) : Type 0 where
   pub says : (reference word : ℕ) → Contains pairs (reference, word) → known reference ≡ word
   pub filled : (reference word : ℕ) → Contains pairs (reference, word) → word ≢ 0
 
-find-first : (pair : ℕ × ℕ) (pairs : List (ℕ × ℕ)) (reference : ℕ) → pair.0 ≡ reference → find (pair ∷ pairs) reference ≡ pair.1
+pub find-first : (pair : ℕ × ℕ) (pairs : List (ℕ × ℕ)) (reference : ℕ) → pair.0 ≡ reference → find (pair ∷ pairs) reference ≡ pair.1
 find-first pair pairs reference is = rw (eq-eqb pair.0 reference is) refl
 
-find-later : (pair : ℕ × ℕ) (pairs : List (ℕ × ℕ)) (reference : ℕ) → pair.0 ≢ reference → find (pair ∷ pairs) reference ≡ find pairs reference
+pub find-later : (pair : ℕ × ℕ) (pairs : List (ℕ × ℕ)) (reference : ℕ) → pair.0 ≢ reference → find (pair ∷ pairs) reference ≡ find pairs reference
 find-later pair pairs reference other = rw (ne_eqb pair.0 reference other) refl
 
 -- what is found stands in the list

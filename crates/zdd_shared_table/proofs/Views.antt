@@ -80,7 +80,7 @@ module _ (home : ℕ → ℕ) (size : ℕ) (words : List ℕ) (v : View) (fits :
     known' : IsPlaced words (find more) more
     known' = placed_over words (find v.known) (find more) more grown (placed_both words (find v.known) v.known ((slot + 2, word) ∷ []) fits.known one)
 
-    found : find more (slot + 2) ≡ word
+    pub found : find more (slot + 2) ≡ word
     found = find-standing (placed words) more (slot + 2) word (placed_of words (find more) more known') (Contains-push v.known (slot + 2, word))
 
     pub Fits-learned : Fits home size words (learned word slot v)
@@ -151,7 +151,7 @@ module _ (home : ℕ → ℕ) (size : ℕ) (words : List ℕ) (v : View) (fits :
     left : Grown (find v.known) (find (v.known ++ w.known))
     left = grown_left words (find v.known) (find w.known) v.known w.known fits.known fits'.known
 
-    right : Grown (find w.known) (find (v.known ++ w.known))
+    pub right : Grown (find w.known) (find (v.known ++ w.known))
     right = grown_right words (find v.known) (find w.known) v.known w.known fits.known fits'.known
 
     pub Fits-joined : Fits home size words (joined v w)

@@ -36,7 +36,21 @@ pub record Fits (home : ℕ → ℕ) (size : ℕ) (words : List ℕ) (v : View) 
   -- after a full search no slot is empty
   pub full : 0 < v.fulls → (slot : ℕ) → slot < size → slice_index words slot ≢ 0
 
+-- some seat knows the reference of a slot
+pub record IsKnownBySome (views : List View) (slot : ℕ) : Type 0 where
+  pub seat : ℕ
+  pub view : View
+  pub at : get_elem? views seat ≡ some view
+  pub knows : find view.known (slot + 2) ≢ 0
+
+-- what each seat knew some seat knows, with the same word: a seat that is joined leaves what it knew to the other
+abbrev pub ForgetsNothing : List View → List View → Type 0
+ForgetsNothing before after = (seat reference : ℕ) (v : View) → get_elem? before seat ≡ some v → find v.known reference ≢ 0
+    → (other : ℕ) × (w : View) × (get_elem? after other ≡ some w) × (find w.known reference ≡ find v.known reference)
+
 -- the rule of a table of 2 ^ bits slots
 pub record IsStore (bits : ℕ) (s : State (Unit {0}) View) : Type 0 where
   pub nodes : HoldsNodes (λ word. home_of word bits) (2 ^ bits) s.words
   pub views : (seat : ℕ) (v : View) → get_elem? s.views seat ≡ some v → Fits (λ word. home_of word bits) (2 ^ bits) s.words v
+  -- each filled slot is known to some seat
+  pub owned : (slot : ℕ) → slice_index s.words slot ≢ 0 → IsKnownBySome s.views slot

@@ -1,9 +1,10 @@
 //! What the rule of the store says, for readers.
 ghost use Rattle.std.specs.Prelude.{◌≡◌, ◌≢◌, ℕ, ◌+◌, ◌<◌, List, slice_index};
+ghost use Rattle.atomic_table.specs.Table.{State};
 ghost use Rattle.zdd_families.specs.Map.{Knows, family};
 ghost use Rattle.zdd_shared_table.specs.declared.view.View.{View};
 ghost use Rattle.zdd_shared_table.specs.Known.{find, placed};
-ghost use Rattle.zdd_shared_table.specs.Rule.{round, HoldsNodes, Fits};
+ghost use Rattle.zdd_shared_table.specs.Rule.{round, HoldsNodes, Fits, ForgetsNothing, IsStore};
 
 /// From any slot on, the places round the end meet each slot once.
 pub fn places_meet_each_slot_once()
@@ -24,4 +25,11 @@ pub fn no_two_slots_have_one_family()
 /// The family as which a seat knows a reference is its family in the whole store.
 pub fn knowledge_is_of_the_store()
     ensures { (home : ℕ → ℕ) (size : ℕ) (words : List ℕ) (v : View) → HoldsNodes home size words → Fits home size words v → (r : ℕ) → Knows (find v.known) r → family (find v.known) r ≡ family (placed words) r }
+{}
+
+/// A word that stands in a slot stays there, as long as what each seat knew is known to some seat. No kind of step forgets anything:
+/// a search adds to what its seat knows, a split leaves it to both, and a join has what both knew.
+pub fn filled_words_stay()
+    ensures { (bits : ℕ) (before after : State (Unit {0}) View) → IsStore bits before → IsStore bits after → ForgetsNothing before.views after.views
+        → (slot : ℕ) → slice_index before.words slot ≢ 0 → slice_index after.words slot ≡ slice_index before.words slot }
 {}

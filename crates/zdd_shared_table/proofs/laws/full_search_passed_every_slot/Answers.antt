@@ -1,4 +1,4 @@
-use Rattle.std.proofs.Common.{◌≢◌, ℕ, ◌<◌, get_or, sym, subst, arith}
+use Rattle.std.proofs.Common.{◌≢◌, ℕ, ◌<◌, get_or, subst, arith}
 use Rattle.zdd_shared_table.proofs.Rounds.{round-onto}
 use Rattle.zdd_shared_table.proofs.laws.full_search_passed_every_slot.Goals as goal
 
