@@ -5,9 +5,4 @@ pub mod ProductParts
 pub mod WithoutParts
 pub mod MinimalParts
 pub mod VotesParts
-pub mod DueSpans
-pub mod Ordered
 pub mod Antichains
-pub mod OrderedUnions
-pub mod OrderedProducts
-pub mod OrderedLists

@@ -1,6 +1,6 @@
 -- Cut families: a node has one, it is the minimal sets of any family that generates the node, and that
 -- of the top event has the sets of the cut list.
-use Rattle.std.specs.Prelude.{◌≡◌, ◌↔◌, ℕ, true, false, not, ◌==◌, List, [], All, Contains}
+use Rattle.std.specs.Prelude.{◌≡◌, ◌↔◌, ℕ, true, false, not, ◌==◌, List, [], Contains}
 use Rattle.std.proofs.Common.{refl, sym, ◌∙◌, subst, inl, inr, eq-eqb}
 use Rattle.std.proofs.lemmas.Bool.{cases_Bool, false_from_ne_true, false≢true, and_parts, and_from, and_right, ne_eqb, not_from_true, not_from_false}
 use Rattle.std.proofs.lemmas.Cmp.{nat_list_cmp_total}
@@ -13,7 +13,7 @@ use Rattle.fault_model.specs.CutFamily.{IsCutFamily}
 use Rattle.fault_model.specs.MinimalCuts.{units_of_all}
 use Rattle.fault_model.specs.Reading.{reads}
 use Rattle.fault_model.specs.ReadingLaws.{reads-empty}
-use Rattle.fault_model.specs.Tree.{FaultTree, IsUnitOf}
+use Rattle.fault_model.specs.Tree.{FaultTree}
 use Rattle.fault_model.specs.WellFormed.{IsTree}
 use Rattle.zdd_families.specs.Family.{IsFamily}
 use Rattle.family_operations.specs.Cuts.{set_rises}

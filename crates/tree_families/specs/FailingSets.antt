@@ -1,23 +1,17 @@
 -- Each set of units that fails a node includes a minimal one, so the cut family of a node generates it.
-use Rattle.std.specs.Prelude.{◌≡◌, ℕ, zero, suc, ◌<◌, ◌≤◌, Bool, true, false, ◌||◌, ◌==◌, List, [], ◌∷◌, length, Contains, get_or, if◌then◌else◌}
-use Rattle.std.specs.List.{list_any}
-use Rattle.std.specs.List.Sorted.{IsStrictlySortedBy}
-use Rattle.std.proofs.Common.{refl, sym, ◌∙◌, ap, subst, inl, inr, arith, eq-eqb}
-use Rattle.std.proofs.lemmas.Bool.{cases_Bool, cases_eq, or_cases, or_left, or_right, or_parts, cond_both, cond-true, cond-false, eqb-true, ltb-false, false_from_ne_true}
-use Rattle.std.proofs.lemmas.List.Elements.{All-contains, All-weaker, All-contains_itself}
-use Rattle.unit_sets.specs.Sorted.{Contains-nil, Contains-cons_cases}
-use Rattle.unit_sets.specs.UnitList.{among, with_unit, without_unit, is_within, IsRising, among-with_unit, IsRising-with_unit, IsRising-without_unit, Contains-from_among, among-from_is_within}
+use Rattle.std.specs.Prelude.{◌≡◌, ℕ, Bool, true, List, Contains}
+use Rattle.std.proofs.lemmas.List.Elements.{All-contains}
+use Rattle.unit_sets.specs.UnitList.{among, IsRising, Contains-from_among}
 use Rattle.fault_model.specs.Cut.{IsMinimalFor}
 use Rattle.fault_model.specs.CutFamily.{IsCutFamily}
 use Rattle.fault_model.specs.MinimalCuts.{part_of_failing}
-use Rattle.fault_model.specs.Reading.{node_reads, reads}
-use Rattle.fault_model.specs.ReadingLaws.{node_reads-agree, reads-node, reads-rises}
-use Rattle.fault_model.specs.Tree.{FaultTree, IsNodeOf, IsUnitOf, is_above_units, rank_of, unit_count}
-use Rattle.fault_model.specs.Trigger.{below, triggers_of}
+use Rattle.fault_model.specs.Reading.{reads}
+use Rattle.fault_model.specs.ReadingLaws.{reads-rises}
+use Rattle.fault_model.specs.Tree.{FaultTree, IsNodeOf, IsUnitOf}
 use Rattle.fault_model.specs.WellFormed.{IsTree}
 use Rattle.family_operations.specs.Cuts.{each-from_contains}
 use Rattle.family_operations.specs.Hits.{hits, HasHit, HasHit-from_test, hits-from_set, passes_at, passes_from}
-use Rattle.family_operations.specs.Inclusion.{same_Bool, within_itself, within_trans, within-shorter}
+use Rattle.family_operations.specs.Inclusion.{same_Bool}
 use Rattle.tree_families.specs.Generation.{Generates}
 
 module _ (tree : FaultTree) (kept : IsTree tree) (node : ℕ) (is_node : IsNodeOf tree node) (family : List (List ℕ)) (is : IsCutFamily tree node family) where

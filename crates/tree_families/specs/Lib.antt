@@ -9,8 +9,4 @@ pub mod DueSteps
 pub mod NodeSteps
 pub mod RecipeParts
 pub mod TreeParts
-pub mod Unions
-pub mod OrderedGates
-pub mod DueUnits
-pub mod Ranges
 pub mod Examples

@@ -21,7 +21,6 @@ use Rattle.family_operations.specs.Sets.{joined, among-joined}
 use Rattle.family_operations.specs.Union.{IsUnion}
 use Rattle.family_operations.specs.Votes.{IsVotes, IsChoice}
 use Rattle.tree_families.specs.Generation.{IsFamilyOf, AreFamiliesOf, Generates}
-use Rattle.family_parts.specs.Ordered.{hit_by}
 use Rattle.family_parts.specs.Parts.{empty_unit}
 use Rattle.tree_families.specs.Recipe.{Recipe, unions, IsUnionOfAll, IsProductOfAll, IsMadeBy, all_united, all_multiplied, first_alone, gate_recipe, alone, node_recipe, StandFor}
 
@@ -42,6 +41,10 @@ or_none false = refl
 and_all : (a : Bool) → (a && true) ≡ a
 and_all true = refl
 and_all false = refl
+
+-- whether all units of some set of the family pass a test
+abbrev hit_by : (ℕ → Bool) → List (List ℕ) → Bool
+hit_by within family = hits family within
 
 hits-unions : (within : ℕ → Bool) (first : List (List ℕ)) (others : List (List (List ℕ))) (made : List (List ℕ)) → IsUnionOfAll first others made → hits made within ≡ (hits first within || list_any (hit_by within) others)
 hits-unions within first [] made same = ap (hit_by within) same ∙ sym (or_none (hits first within))

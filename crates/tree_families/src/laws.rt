@@ -16,7 +16,6 @@ ghost use Rattle.family_operations.specs.Union.{IsUnion};
 ghost use Rattle.tree_families.specs.Due.{IsDueToUnions, IsDueToProducts, IsDueToRecipe, IsDueToTree};
 ghost use Rattle.tree_families.specs.Examples.{superset_absorbed, two_of_three};
 ghost use Rattle.tree_families.specs.Generation.{AreFamiliesOf, Generates, IsFamilyOf};
-ghost use Rattle.family_parts.specs.Ordered.{AreInOrder, InSome, IsProductFromLast, IsUnionFromLast, LieBetween, LiesBetween};
 ghost use Rattle.tree_families.specs.Recipe.{IsMadeBy, IsProductOfAll, IsUnionOfAll, StandFor, alone, gate_recipe, needs_all, node_recipe, unions};
 
 /// A node has one cut family.
@@ -92,13 +91,6 @@ pub fn parts_of_cut_families_are_due()
     ensures made { (tree : FaultTree) → IsTree tree → (node : ℕ) → IsNodeOf tree node → is_fdep tree node ≡ false → (families : List (List (List ℕ))) (made part : List (List ℕ)) → StandFor (IsCutFamily tree) (below tree node) families → IsMadeBy (node_recipe tree node families) made → IsReached made part → IsDueToTree tree part }
 {}
 
-/// Unions one after another make the family that has the sets of all of them, and a family with these
-/// sets is what they make, in whatever way it was got.
-pub fn unions_by_sets()
-    ensures sets { (first : List (List ℕ)) (others : List (List (List ℕ))) (made : List (List ℕ)) → IsUnionOfAll first others made → (set : List ℕ) → Contains made set ↔ (Contains first set ⊎ InSome others set) }
-    ensures made { (tree : FaultTree) (first : List (List ℕ)) (others : List (List (List ℕ))) (made : List (List ℕ)) → IsFamilyOf tree first → AreFamiliesOf tree others → IsFamily made → ((set : List ℕ) → Contains made set ↔ (Contains first set ⊎ InSome others set)) → IsUnionOfAll first others made }
-{}
-
 /// A table that has the cut family of each of some nodes has these families in the order of the nodes.
 pub fn families_from_a_table()
     ensures { (tree : FaultTree) (table : ℕ → List (List ℕ)) (nodes : List ℕ) → All (λ node. IsCutFamily tree node (table node)) nodes → StandFor (IsCutFamily tree) nodes (map table nodes) }
@@ -116,40 +108,6 @@ pub fn products_one_by_one()
     ensures more { (place : ℕ) (first : List (List ℕ)) (others : List (List (List ℕ))) (made product next : List (List ℕ)) → place < length others → IsProductOfAll first (take place others) made → IsProduct made (get_or others place []) product → IsMinimal product next → IsProductOfAll first (take (place + 1) others) next }
     ensures due { (place : ℕ) (first : List (List ℕ)) (others : List (List (List ℕ))) (made due : List (List ℕ)) → place < length others → IsProductOfAll first (take place others) made → IsDueToProduct made (get_or others place []) due → IsDueToProducts first others due }
     ensures minimal { (place : ℕ) (first : List (List ℕ)) (others : List (List (List ℕ))) (made product due : List (List ℕ)) → place < length others → IsProductOfAll first (take place others) made → IsProduct made (get_or others place []) product → IsDueToMinimal product due → IsDueToProducts first others due }
-{}
-
-/// What is due to a tree has units of the tree alone.
-pub fn due_families_have_units_of_the_tree()
-    ensures { (tree : FaultTree) → IsTree tree → (due : List (List ℕ)) → IsDueToTree tree due → IsFamilyOf tree due }
-{}
-
-/// Where the units of each input's family lie below those of the later inputs', an `or` needs no minimal
-/// sets: united from the last input to the first, the families give its cut family. What those unions
-/// make is due to the tree.
-pub fn unions_of_inputs_in_order()
-    ensures cut_family { (tree : FaultTree) → IsTree tree → (gate : ℕ) → IsGateOf tree gate → (families : List (List (List ℕ))) → StandFor (IsCutFamily tree) (inputs_of tree gate) families → AreInOrder families → kind_of tree gate ≡ Or → (made : List (List ℕ)) → IsUnionFromLast families made → IsCutFamily tree gate made }
-    ensures due { (tree : FaultTree) → IsTree tree → (gate : ℕ) → IsGateOf tree gate → (families : List (List (List ℕ))) → StandFor (IsCutFamily tree) (inputs_of tree gate) families → AreInOrder families → kind_of tree gate ≡ Or → (place : ℕ) (rest due : List (List ℕ)) → place < length families → IsUnionFromLast (drop (place + 1) families) rest → IsDueToUnion (get_or families place []) rest due → IsInnerFamily due → IsDueToTree tree due }
-{}
-
-/// The same of a gate that fails with all of its inputs, by products.
-pub fn products_of_inputs_in_order()
-    ensures cut_family { (tree : FaultTree) → IsTree tree → (gate : ℕ) → IsGateOf tree gate → (families : List (List (List ℕ))) → StandFor (IsCutFamily tree) (inputs_of tree gate) families → AreInOrder families → needs_all (kind_of tree gate) ≡ true → (made : List (List ℕ)) → IsProductFromLast families made → IsCutFamily tree gate made }
-    ensures due { (tree : FaultTree) → IsTree tree → (gate : ℕ) → IsGateOf tree gate → (families : List (List (List ℕ))) → StandFor (IsCutFamily tree) (inputs_of tree gate) families → AreInOrder families → needs_all (kind_of tree gate) ≡ true → (place : ℕ) (rest due : List (List ℕ)) → place < length families → IsProductFromLast (drop (place + 1) families) rest → IsDueToProduct (get_or families place []) rest due → IsInnerFamily due → IsDueToTree tree due }
-{}
-
-/// The units of a gate's cut family lie between two numbers where those of its inputs' do, and the units
-/// of a unit's where the unit itself and those of its triggers' do.
-pub fn ranges_of_cut_families()
-    ensures gate { (tree : FaultTree) → IsTree tree → (gate : ℕ) → IsGateOf tree gate → (families : List (List (List ℕ))) (least greatest : ℕ) → StandFor (IsCutFamily tree) (inputs_of tree gate) families → 1 ≤ least → LieBetween least greatest families → (f : List (List ℕ)) → IsCutFamily tree gate f → LiesBetween least greatest f }
-    ensures unit { (tree : FaultTree) → IsTree tree → (unit : ℕ) → IsUnitOf tree unit → (families : List (List (List ℕ))) (least greatest : ℕ) → StandFor (IsCutFamily tree) (triggers_of tree unit) families → 1 ≤ least → least ≤ unit → unit ≤ greatest → LieBetween least greatest families → (f : List (List ℕ)) → IsCutFamily tree unit f → LiesBetween least greatest f }
-{}
-
-/// Families whose order is looked at one by one: each later one must begin past where the ones before it
-/// reach.
-pub fn order_by_ranges()
-    ensures more { (place : ℕ) (families : List (List (List ℕ))) (reach least greatest : ℕ) → place < length families → AreInOrder (take place families) → LieBetween 0 reach (take place families) → reach < least → LiesBetween least greatest (get_or families place []) → AreInOrder (take (place + 1) families) }
-    ensures reach { (place : ℕ) (families : List (List (List ℕ))) (least greatest : ℕ) → place < length families → LieBetween least greatest (take place families) → LiesBetween least greatest (get_or families place []) → LieBetween least greatest (take (place + 1) families) }
-    ensures wider { (least greatest least' greatest' : ℕ) (families : List (List (List ℕ))) → least' ≤ least → greatest ≤ greatest' → LieBetween least greatest families → LieBetween least' greatest' families }
 {}
 
 /// Two examples: of a gate that fails with two of the units 1 to 3 the cut family has the three pairs. Of
