@@ -1,4 +1,5 @@
 mod DeckLemmas
+mod DividedLemmas
 mod DocketLemmas
 mod LineLemmas
 mod NameLemmas

@@ -20,3 +20,5 @@ pub mod TextLines
 pub mod Says
 -- the crews that lines say, and the first fault
 pub mod CrewsOf
+-- where a deck is divided
+pub mod Divides

@@ -13,7 +13,14 @@ fn read(alloc: Global, text: &[u8]) -> Result<Result<String, (CrewCode, u32, u32
         return Ok(Err((CrewCode::NoCrewPart, 0, 0)));
     }
     match read_crews(alloc, text, 3) {
-        Ok(dockets) => Ok(Ok(told(alloc, &dockets)?)),
+        Ok(dockets) => {
+            let text = told(alloc, &dockets)?;
+            let copy = told(alloc, &dockets.copied(alloc)?)?;
+            if copy.as_str() != text.as_str() {
+                return Err("a copy says something else".into());
+            }
+            Ok(Ok(text))
+        }
         Err(CrewFault::Fault(code, Place { line, column })) => Ok(Err((code, line, column))),
         Err(CrewFault::NoMemory) => Ok(Err((CrewCode::NoCrewPart, 0, 0))),
     }

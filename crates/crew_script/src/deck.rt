@@ -1,6 +1,7 @@
 //! The parts of a deck.
-ghost use Rattle.std.specs.Prelude.{◌≡◌, ◌+◌, ◌≤◌, length, drop, position};
-ghost use Rattle.crew_script.specs.Deck.{first_line, is_crews, is_feed, split_of};
+ghost use Rattle.std.specs.Prelude.{◌≡◌, ◌↔◌, ◌+◌, ◌≤◌, false, length, drop, position, IfSome, IsNone};
+ghost use Rattle.std.specs.List.{list_any};
+ghost use Rattle.crew_script.specs.Deck.{first_line, is_crews, is_feed, lines_of, split_of};
 
 /// The most bytes that a deck may have.
 pub const LONGEST_DECK: usize = 16_777_216;
@@ -24,6 +25,22 @@ pub fn split_deck(bytes: &[u8]) -> Split
     requires { length bytes.now ≤ LONGEST_DECK }
     ensures split { result ≡ split_of bytes.now }
     ensures within { result.tree ≤ length bytes.now }
+    ensures none { IsNone result.crews ↔ (list_any is_crews (lines_of bytes.now) ≡ false) }
+    ensures start { IfSome result.crews (λ crews. crews.start ≤ length bytes.now) }
+    ensures first { IfSome result.crews (λ crews. 1 ≤ crews.line) }
+    ensures last { IfSome result.crews (λ crews. crews.line ≤ 16777217) }
+{
+    find_line(bytes)
+}
+
+// The parts by the line that divides the deck.
+fn find_line(bytes: &[u8]) -> Split
+    requires { length bytes.now ≤ LONGEST_DECK }
+    ensures split { result ≡ split_of bytes.now }
+    ensures within { result.tree ≤ length bytes.now }
+    ensures start { IfSome result.crews (λ crews. crews.start ≤ length bytes.now) }
+    ensures first { IfSome result.crews (λ crews. 1 ≤ crews.line) }
+    ensures last { IfSome result.crews (λ crews. crews.line ≤ 16777217) }
 {
     let mut place = 0;
     let mut line: u32 = 1;

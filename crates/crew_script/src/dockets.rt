@@ -1,11 +1,13 @@
 //! The crews of a deck and what they ask.
-ghost use Rattle.std.specs.Prelude.{◌≡◌, ◌<◌, ◌≤◌, length};
+ghost use Rattle.std.specs.Prelude.{◌≡◌, ◌<◌, ◌≤◌, length, IfOk};
 ghost use Rattle.crew_script.specs.Dockets.{HasMargin, crew_at, ask_at, request_count, IsDockets};
 
+use crate::copies::copy_of_crews;
 use crate::names::NameList;
 use fault_model::{GrowingList, Name};
+use std::alloc::Global;
 use std::marker::Model;
-use unit_sets::CrewNo;
+use unit_sets::{CrewNo, NoMemory};
 
 /// One request of a crew.
 #[derive(Debug, Drop)]
@@ -105,5 +107,15 @@ impl Dockets {
         ensures limit { result ≤ 100000 }
     {
         self.total
+    }
+
+    /// A copy.
+    pub fn copied(&self, alloc: Global) -> Result<Dockets, NoMemory>
+        ensures { IfOk result (λ copy. copy ≡ self.now) }
+    {
+        Ok(Dockets {
+            crews: copy_of_crews(alloc, &self.crews)?,
+            total: self.total,
+        })
     }
 }

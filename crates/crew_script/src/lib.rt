@@ -6,6 +6,7 @@
 //! `unit_sets` for the numbers of crews, and on `indexmap` to find a crew's name again.
 #![tactic(auto)]
 
+mod copies;
 #[cfg(test)]
 mod crew_tests;
 mod crews;

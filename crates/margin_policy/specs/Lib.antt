@@ -5,3 +5,5 @@ pub mod HeldLaws
 pub mod Decide
 pub mod DecideLaws
 pub mod Standing
+pub mod Holders
+pub mod Guard

@@ -1,16 +1,19 @@
 -- What a board keeps, from its opening on.
 use Rattle.std.proofs.Common.{◌≡◌, ℕ, zero, suc, ◌+◌, ◌<◌, ◌≤◌, List, [], ◌∷◌, ◌++◌, length, get_or, set, refl, sym, ◌∙◌, ap, subst, arith, inl, inr, length-append, length-set, get_or-set_same, get_or-set_other}
 use Rattle.std.specs.Prelude.{Option, Some, None, IsNone, slice_get, ◌↔◌}
+use Rattle.std.specs.List.{All}
 use Rattle.std.proofs.lemmas.Bool.{cases_eq}
+use Rattle.std.proofs.lemmas.List.Elements.{All-push}
 use Rattle.std.proofs.lemmas.Option.{get_or_from_slice_get, slice_get_cases}
 use Rattle.unit_sets.specs.declared.request.CrewNo.{CrewNo}
-use Rattle.margin_policy.specs.Standing.{StandingView, reply_of, after}
+use Rattle.margin_policy.specs.Holders.{HoldersBelow, NamesCrewBelow, reply_names_below, holders_after_below}
+use Rattle.margin_policy.specs.Standing.{StandingView, IsRequestFor, reply_of, after}
 use Rattle.margin_policy.specs.declared.request.Request.{Request}
 use Rattle.outage_board.specs.declared.entry.Entry.{Entry}
 use Rattle.outage_board.specs.Histories.{served, docket_of}
 use Rattle.outage_board.specs.Boards.{BoardView, IsBoard, standing_of, next_entry, entry_for, IsUsedUp}
 use Rattle.outage_board.specs.Kept.{KeepsBoard, left_in}
-use Rattle.outage_board.proofs.HistoryLemmas.{standing_after-push, IsLegal-push, entries_of-other, served-own, IsWholeUpTo-push}
+use Rattle.outage_board.proofs.HistoryLemmas.{standing_after-push, units_stay, IsLegal-push, entries_of-other, served-own, IsWholeUpTo-push}
 
 -- ---- the next entry
 
@@ -87,7 +90,18 @@ module _ (board : BoardView) (standing : StandingView) (next : List ℕ) (room :
   fewer = left_in-served board.deck.dockets next entry.crew.0 kept.all inside (let e = at_place in let s = short in omega arith)
 
   pub has_room : length board.history < room
-  has_room = let f = fewer in let r = kept.room in omega arith
+  has_room = let f = fewer in let t = kept.total in let r = kept.room in omega arith
+
+  -- what is asked is of the crew's docket
+  asked_fits : IsRequestFor board.deck.opening.units entry.request
+  asked_fits =
+      let crew_low : entry.crew.0 < length board.deck.dockets = let both = kept.sound.all in omega (arith, within) in
+      let docket_all : All (IsRequestFor standing.units) (docket_of board.deck.dockets entry.crew.0) = kept.fits entry.crew.0 [] crew_low in
+      let at : get_or (docket_of board.deck.dockets entry.crew.0) (served entry.crew.0 board.history) entry.request ≡ entry.request =
+      get_or_from_slice_get (docket_of board.deck.dockets entry.crew.0) (served entry.crew.0 board.history) entry.request entry.request fact.asked in
+      let units : standing.units ≡ board.deck.opening.units = ap (λ (s : StandingView). s.units) kept.leaves ∙ units_stay board.deck.opening board.history in
+      subst (λ (p : ℕ × Request). IsRequestFor p.0 p.1) (λ i. (units i, at i))
+      (docket_all (served entry.crew.0 board.history) entry.request short)
 
   sound_next : IsBoard (record board { history = board.history ++ entry ∷ [] })
   sound_next = record {
@@ -95,6 +109,15 @@ module _ (board : BoardView) (standing : StandingView) (next : List ℕ) (room :
     whole = IsWholeUpTo-push board.deck.dockets board.history entry kept.sound.whole (let both = kept.sound.all in omega (arith, within)) fact.at short
         (get_or_from_slice_get (docket_of board.deck.dockets entry.crew.0) (served entry.crew.0 board.history) entry.request entry.request fact.asked);
     all = kept.sound.all;
+    nothing_out = kept.sound.nothing_out;
+    places = All-push (λ (e : Entry). e.place < length (docket_of board.deck.dockets e.crew.0)) board.history entry kept.sound.places
+        (subst (λ (p : ℕ). p < length (docket_of board.deck.dockets entry.crew.0)) (sym fact.at) short);
+    requests = All-push (λ (e : Entry). IsRequestFor board.deck.opening.units e.request) board.history entry kept.sound.requests asked_fits;
+    replies = All-push (λ (e : Entry). NamesCrewBelow (length board.deck.crews) e.reply) board.history entry kept.sound.replies
+        (subst (NamesCrewBelow (length board.deck.crews)) (sym fact.decided) (reply_names_below (length board.deck.crews) (standing_of board) entry.crew entry.request kept.sound.holders));
+    holders = subst (λ (s : StandingView). HoldersBelow (length board.deck.crews) s.held) (sym (standing_after-push board.deck.opening board.history entry))
+        (holders_after_below (length board.deck.crews) entry.crew entry.request entry.reply (standing_of board).held within kept.sound.holders);
+    few = let f = fewer in let t = kept.total in let l = length-append board.history (entry ∷ []) in omega arith;
   }
 
   places_next : (other : ℕ) → other < length (set next entry.crew.0 (get_or next entry.crew.0 0 + 1)) → get_or (set next entry.crew.0 (get_or next entry.crew.0 0 + 1)) other 0 ≡ served other (board.history ++ entry ∷ [])
@@ -118,7 +141,8 @@ module _ (board : BoardView) (standing : StandingView) (next : List ℕ) (room :
     all = length-set next entry.crew.0 (get_or next entry.crew.0 0 + 1) ∙ kept.all;
     places = places_next;
     fits = kept.fits;
-    room = let f = fewer in let r = kept.room in let l = length-append board.history (entry ∷ []) in omega arith;
+    total = let f = fewer in let t = kept.total in let l = length-append board.history (entry ∷ []) in omega arith;
+    room = kept.room;
     short = kept.short;
     few = kept.few;
   }

@@ -15,6 +15,11 @@ pub standing_after-push : (standing : StandingView) (history : List Entry) (entr
 standing_after-push standing [] entry = refl
 standing_after-push standing (first ∷ history) entry = standing_after-push (after_entry standing first) history entry
 
+-- no entry changes how many units there are
+pub units_stay : (standing : StandingView) (history : List Entry) → (standing_after standing history).units ≡ standing.units
+units_stay standing [] = refl
+units_stay standing (first ∷ history) = units_stay (after_entry standing first) history
+
 pub IsLegal-push : (standing : StandingView) (history : List Entry) (entry : Entry) → IsLegal standing history → entry.reply ≡ reply_of (standing_after standing history) entry.crew entry.request → IsLegal standing (history ++ entry ∷ [])
 IsLegal-push standing [] entry legal decided = (decided, tt)
 IsLegal-push standing (first ∷ history) entry legal decided = (legal.0, IsLegal-push (after_entry standing first) history entry legal.1 decided)

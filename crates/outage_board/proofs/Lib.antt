@@ -4,3 +4,4 @@ pub mod BoardLemmas
 pub mod TakeLemmas
 pub mod OpeningLemmas
 pub mod TestLemmas
+pub mod SafetyLemmas

@@ -10,10 +10,12 @@ use Rattle.crew_script.specs.Dockets.{IsDockets, HasMargin, HasMargins, request_
 use Rattle.crew_script.specs.declared.dockets.Ask.{Ask}
 use Rattle.crew_script.specs.declared.dockets.Ask.TheVariants as asks
 use Rattle.crew_script.specs.declared.dockets.Crew.{Crew}
+use Rattle.margin_policy.specs.Holders.{NamesCrewBelow, none_held_below}
 use Rattle.margin_policy.specs.Standing.{StandingView, IsRequestFor, nothing_held}
 use Rattle.margin_policy.specs.declared.request.Request.{Request}
 use Rattle.outage_board.specs.declared.entry.Entry.{Entry}
 use Rattle.outage_board.specs.Requests.{unit_of, with_unit, units_of, request_of, requests_of, supervisor_of}
+use Rattle.outage_board.specs.Histories.{docket_of}
 use Rattle.outage_board.specs.Boards.{deck_of, BoardView, IsBoard}
 use Rattle.outage_board.specs.Kept.{KeepsBoard, left_in, emptied}
 use Rattle.outage_board.proofs.NameLemmas.{named_by}
@@ -76,6 +78,12 @@ module _ (tree : FaultTree) (cuts : List (List ℕ)) (crews : List Crew) (margin
       each = λ crew. refl;
     };
     all = length-map crews (requests_of tree);
+    nothing_out = refl;
+    places = All-nil (λ (entry : Entry). entry.place < length (docket_of (map (requests_of tree) crews) entry.crew.0));
+    requests = All-nil (λ (entry : Entry). IsRequestFor (unit_count tree) entry.request);
+    replies = All-nil (λ (entry : Entry). NamesCrewBelow (length crews) entry.reply);
+    holders = none_held_below (length crews) (unit_count tree);
+    few = omega arith;
   }
 
   keeps : KeepsBoard opened (deck_of tree cuts crews margin).opening (replicate (length crews) 0) room
@@ -85,19 +93,20 @@ module _ (tree : FaultTree) (cuts : List (List ℕ)) (crews : List Crew) (margin
     all = length-replicate (length crews) 0 ∙ sym (length-map crews (requests_of tree));
     places = first_places (length crews);
     fits = all_fit tree crews kept.margins;
-    room = let e = left_at_first tree crews in omega arith;
+    total = let e = left_at_first tree crews in omega arith;
+    room = roomy;
     short = short_dockets tree crews 100000 kept.few_requests;
     few = let e = length-map crews (requests_of tree) in let f = kept.few_crews in omega arith;
   }
 
   -- of the parts that `open` makes
-  pub opens : (standing : StandingView) (dockets : List (List Request)) (history : List Entry) (next : List ℕ) (units : ℕ) (supervisor : Option CrewNo)
-      → units ≡ unit_count tree → supervisor ≡ supervisor_of crews
+  pub opens : (standing : StandingView) (dockets : List (List Request)) (history : List Entry) (next : List ℕ) (units : ℕ) (supervisor : Option CrewNo) (copy : List Crew)
+      → copy ≡ crews → units ≡ unit_count tree → supervisor ≡ supervisor_of crews
       → standing ≡ record { units = units; cuts = cuts; margin = margin; supervisor = supervisor; held = nothing_held units }
       → dockets ≡ map (requests_of tree) crews → history ≡ [] → next ≡ replicate (length crews) 0
-      → KeepsBoard (record { deck = record { opening = emptied margin standing; crews = crews; dockets = dockets }; history = history }) standing next room
-  opens standing dockets history next units supervisor units_are supervisor_is standing_is dockets_are history_is next_is =
+      → KeepsBoard (record { deck = record { opening = emptied margin standing; crews = copy; dockets = dockets }; history = history }) standing next room
+  opens standing dockets history next units supervisor copy copied units_are supervisor_is standing_is dockets_are history_is next_is =
       let same : standing ≡ (deck_of tree cuts crews margin).opening =
       standing_is ∙ ap (λ (p : ℕ × Option CrewNo). record { units = p.0; cuts = cuts; margin = margin; supervisor = p.1; held = nothing_held p.0 }) (λ i. (units_are i, supervisor_is i)) in
-      let P : StandingView × List (List Request) × List Entry × List ℕ → Type 0 = λ p. KeepsBoard (record { deck = record { opening = emptied margin p.0; crews = crews; dockets = p.1 }; history = p.2 }) p.0 p.3 room in
-      subst P (λ i. (sym same i, sym dockets_are i, sym history_is i, sym next_is i)) keeps
+      let P : StandingView × List (List Request) × List Entry × List ℕ × List Crew → Type 0 = λ p. KeepsBoard (record { deck = record { opening = emptied margin p.0; crews = p.4; dockets = p.1 }; history = p.2 }) p.0 p.3 room in
+      subst P (λ i. (sym same i, sym dockets_are i, sym history_is i, sym next_is i, sym copied i)) keeps

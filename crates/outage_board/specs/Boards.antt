@@ -1,9 +1,11 @@
 -- What contracts see of a board: the deck that it was opened for and its history; and the entry that serves a crew.
-use Rattle.std.specs.Prelude.{◌≡◌, ℕ, List, [], ◌∷◌, ◌++◌, map, length, Option, Some, None, slice_get}
+use Rattle.std.specs.Prelude.{◌≡◌, ℕ, ◌<◌, ◌≤◌, List, [], ◌∷◌, ◌++◌, map, length, All, Option, Some, None, slice_get}
 use Rattle.unit_sets.specs.declared.request.CrewNo.{CrewNo}
 use Rattle.fault_model.specs.Tree.{FaultTree, unit_count}
+use Rattle.crew_script.specs.Dockets.{request_count}
 use Rattle.crew_script.specs.declared.dockets.Crew.{Crew}
-use Rattle.margin_policy.specs.Standing.{StandingView, reply_of, nothing_held}
+use Rattle.margin_policy.specs.Holders.{HoldersBelow, NamesCrewBelow}
+use Rattle.margin_policy.specs.Standing.{StandingView, IsRequestFor, reply_of, nothing_held}
 use Rattle.margin_policy.specs.declared.request.Request.{Request}
 use Rattle.outage_board.specs.declared.entry.Entry.{Entry}
 use Rattle.outage_board.specs.Requests.{requests_of, supervisor_of}
@@ -50,8 +52,16 @@ abbrev pub with_entry : BoardView → Option Entry → BoardView
 with_entry board None = board
 with_entry board (Some entry) = record board { history = board.history ++ entry ∷ [] }
 
--- what every board keeps: its history is legal, and whole up to what was served
+-- What every board keeps: its history is legal, and whole up to what was served. An entry's place is within its crew's docket and its
+-- request is one that the deck's standing may decide. Every crew that a reply names, and every holder, is one of the crews. The history
+-- is not longer than all requests together.
 pub record IsBoard (board : BoardView) : Type 0 where
   pub legal : IsLegal board.deck.opening board.history
   pub whole : IsWholeUpTo board.deck.dockets (λ crew. served crew board.history) board.history
   pub all : length board.deck.dockets ≡ length board.deck.crews
+  pub nothing_out : board.deck.opening.held ≡ nothing_held board.deck.opening.units
+  pub places : All (λ (entry : Entry). entry.place < length (docket_of board.deck.dockets entry.crew.0)) board.history
+  pub requests : All (λ (entry : Entry). IsRequestFor board.deck.opening.units entry.request) board.history
+  pub replies : All (λ (entry : Entry). NamesCrewBelow (length board.deck.crews) entry.reply) board.history
+  pub holders : HoldersBelow (length board.deck.crews) (standing_of board).held
+  pub few : length board.history ≤ request_count board.deck.crews

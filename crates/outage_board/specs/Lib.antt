@@ -6,3 +6,5 @@ pub mod Histories
 pub mod Boards
 -- what a board keeps
 pub mod Kept
+-- what the margin rule promises along a history
+pub mod Safety

@@ -19,8 +19,8 @@ use unit_sets::{CrewNo, CutList, NoMemory, UnitNo};
 ///
 /// Only `open` takes memory.
 #[derive(Drop)]
-pub struct BoardState<'a> {
-    dockets: &'a Dockets,
+pub struct BoardState {
+    dockets: Dockets,
     opening_margin: u32,
     // what each crew asks, and the place of its next request
     requests: Vec<Docket>,
@@ -31,19 +31,19 @@ pub struct BoardState<'a> {
     inside: PhantomData<UnitNo>,
 }
 
-impl<'a> Model for BoardState<'a> {
+impl Model for BoardState {
     ghost use Rattle.std.specs.Prelude.{vec_capacity};
     ghost use Rattle.outage_board.specs.Boards.{BoardView};
     ghost use Rattle.outage_board.specs.Kept.{emptied, KeepsBoard};
 
     ghost Value = { BoardView };
 
-    ghost view = { λ s. record { deck = record { opening = emptied s.opening_margin s.standing; crews = s.dockets.now; dockets = s.requests.items }; history = s.history.items } };
+    ghost view = { λ s. record { deck = record { opening = emptied s.opening_margin s.standing; crews = s.dockets; dockets = s.requests.items }; history = s.history.items } };
 
-    ghost invariant = { λ s. KeepsBoard (record { deck = record { opening = emptied s.opening_margin s.standing; crews = s.dockets.now; dockets = s.requests.items }; history = s.history.items }) s.standing s.places.items (vec_capacity s.history) };
+    ghost invariant = { λ s. KeepsBoard (record { deck = record { opening = emptied s.opening_margin s.standing; crews = s.dockets; dockets = s.requests.items }; history = s.history.items }) s.standing s.places.items (vec_capacity s.history) };
 }
 
-impl<'a> BoardState<'a> {
+impl BoardState {
     ghost use Rattle.outage_board.specs.Boards.{deck_of, standing_of, next_entry, with_entry, IsUsedUp, IsBoard};
 
     /// A board with the empty history, at the opening margin. Its supervisor is the crew that is named `supervisor`.
@@ -51,17 +51,18 @@ impl<'a> BoardState<'a> {
         alloc: Global,
         tree: &Tree,
         cuts: &CutList,
-        dockets: &'a Dockets,
+        dockets: &Dockets,
         margin: u32,
-    ) -> Result<BoardState<'a>, NoMemory>
+    ) -> Result<BoardState, NoMemory>
         requires known { HasUnitsUpTo (unit_count tree.now) cuts.now }
         requires margin { margin ≤ 4095 }
         ensures { IfOk result (λ board. board ≡ record { deck = deck_of tree.now cuts.now dockets.now margin; history = [] }) }
     {
+        let kept = dockets.copied(alloc)?;
         let supervisor = supervisor_of(dockets);
         let standing = Standing::new(alloc, tree.units(), cuts, margin, supervisor)?;
         Ok(BoardState {
-            dockets,
+            dockets: kept,
             opening_margin: margin,
             requests: all_requests(alloc, tree, dockets)?,
             places: vec![in alloc; 0; dockets.crews() as usize]?,
@@ -133,7 +134,7 @@ impl<'a> BoardState<'a> {
     pub fn dockets(&self) -> &Dockets
         ensures { result.now ≡ self.now.deck.crews }
     {
-        self.dockets
+        &self.dockets
     }
 
     /// The standing that the history leaves.

@@ -1,7 +1,7 @@
 use Rattle.std.proofs.Common.{length, ◌+◌, ◌-◌, ◌≡◌, ◌≤◌, drop}
 use Rattle.std.specs.List.{slice_split}
 use Rattle.crew_script.specs.Deck.{is_feed, split_by, split_of}
-use Rattle.crew_script.proofs.deck.split_deck.Given as goal
+use Rattle.crew_script.proofs.deck.find_line.Given as goal
 
 -- the lines from here on divide the deck as all its lines do
 abbrev pub invariant-loop-place : goal.invariant-loop-place
