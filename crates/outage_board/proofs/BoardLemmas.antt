@@ -26,7 +26,7 @@ pub record IsEntryFor (standing : StandingView) (crew : CrewNo) (place : ℕ) (f
 entry_is : (entry other : Entry) → Some entry ≡ Some other → entry ≡ other
 entry_is entry other e = cc
 
-entry_for-is : (standing : StandingView) (crew : CrewNo) (place : ℕ) (found : Option Request) (entry : Entry) → entry_for standing crew place found ≡ Some entry → IsEntryFor standing crew place found entry
+pub entry_for-is : (standing : StandingView) (crew : CrewNo) (place : ℕ) (found : Option Request) (entry : Entry) → entry_for standing crew place found ≡ Some entry → IsEntryFor standing crew place found entry
 entry_for-is standing crew place None entry is = absurd cc
 entry_for-is standing crew place (Some request) entry is =
     subst (IsEntryFor standing crew place (Some request)) (entry_is _ entry is) (record { own = refl; at = refl; asked = refl; decided = refl })

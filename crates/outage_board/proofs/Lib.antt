@@ -5,3 +5,7 @@ pub mod TakeLemmas
 pub mod OpeningLemmas
 pub mod TestLemmas
 pub mod SafetyLemmas
+pub mod TimesLemmas
+pub mod StepLemmas
+pub mod PassLemmas
+pub mod ServingLemmas

@@ -1,5 +1,5 @@
 -- The margin rule along a legal history.
-use Rattle.std.proofs.Common.{◌≡◌, ◌⊎◌, ℕ, ◌+◌, Bool, true, false, List, [], ◌∷◌, ◌++◌, length, replicate, refl, sym, ◌∙◌, ap, subst, inl, inr, arith}
+use Rattle.std.proofs.Common.{◌≡◌, ◌⊎◌, ℕ, ◌+◌, false, List, [], ◌∷◌, ◌++◌, length, refl, sym, ◌∙◌, ap, subst, inl, inr}
 use Rattle.std.specs.Prelude.{Option, None}
 use Rattle.std.specs.List.{All}
 use Rattle.std.proofs.lemmas.List.{length-replicate}
@@ -8,7 +8,7 @@ use Rattle.unit_sets.specs.declared.request.CrewNo.{CrewNo}
 use Rattle.margin_policy.specs.declared.request.Reply.{Reply}
 use Rattle.margin_policy.specs.declared.request.Reply.TheVariants.{Granted}
 use Rattle.margin_policy.specs.Decide.{is_granted}
-use Rattle.margin_policy.specs.Guard.{KeepsMore, is_judged, HasAllUnits, granted_keeps_more, decided_keeps_more, first_kept, all_units_after}
+use Rattle.margin_policy.specs.Guard.{KeepsMore, HasAllUnits, granted_keeps_more, decided_keeps_more, first_kept, all_units_after}
 use Rattle.margin_policy.specs.Standing.{StandingView, IsRequestFor, reply_of, after, nothing_held}
 use Rattle.outage_board.specs.declared.entry.Entry.{Entry}
 use Rattle.outage_board.specs.Histories.{after_entry, standing_after, IsLegal}

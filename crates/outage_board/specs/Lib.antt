@@ -8,3 +8,15 @@ pub mod Boards
 pub mod Kept
 -- what the margin rule promises along a history
 pub mod Safety
+-- what a pass knows of a board
+pub mod Views
+-- the rule of a board
+pub mod Rule
+-- what the steps tell
+pub mod Turns
+-- a shared board and its passes
+pub mod Passes
+-- passes are dealt and gathered
+pub mod Dealing
+-- when a history is whole
+pub mod Whole

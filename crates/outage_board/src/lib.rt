@@ -5,14 +5,23 @@
 //! in order, each once. So the layer above gets, for each call of `serve`, the one entry that the definition names.
 #![tactic(auto)]
 
+mod board;
+mod dealing;
 mod docket;
 mod entry;
 pub mod laws;
+mod pass;
 mod requests;
+mod rule;
 mod state;
+mod table;
 #[cfg(test)]
 mod tests;
+mod turns;
+mod view;
 
+pub use board::{Board, BoardStart};
 pub use entry::Entry;
+pub use pass::{CrewPass, Passes};
 pub use state::BoardState;
 pub use unit_sets::NoMemory;

@@ -1,5 +1,5 @@
 //! The state of a board: a deck and the history so far.
-ghost use Rattle.std.specs.Prelude.{◌≡◌, ◌↔◌, ◌-◌, ◌<◌, ◌≤◌, [], ◌∷◌, ◌++◌, length, slice_get, Some, IfOk, IsNone};
+ghost use Rattle.std.specs.Prelude.{◌≡◌, ◌↔◌, ◌-◌, ◌<◌, ◌≤◌, [], ◌∷◌, ◌++◌, length, slice_get, Some, IfOk, IfSome, IsNone};
 ghost use Rattle.residual_ledger.specs.Residual.{HasUnitsUpTo};
 ghost use Rattle.fault_model.specs.Tree.{unit_count};
 ghost use Rattle.outage_board.specs.Histories.{served, docket_of};
@@ -76,6 +76,7 @@ impl BoardState {
     fn next_entry(&self, crew: CrewNo) -> Option<Entry>
         requires { crew.0 < length self.now.deck.crews }
         ensures entry { result ≡ next_entry self.now crew }
+        ensures place { IfSome result (λ entry. entry.place < 100000) }
         ensures kept { IsBoard self.now }
     {
         let place = self.places[crew.0 as usize];
@@ -108,6 +109,7 @@ impl BoardState {
         ensures entry { result ≡ next_entry self.old crew }
         ensures board { self.new ≡ with_entry self.old result }
         ensures used_up { IsNone result ↔ IsUsedUp self.old crew.0 }
+        ensures place { IfSome result (λ entry. entry.place < 100000) }
     {
         let entry = self.next_entry(crew)?;
         self.keep(&entry);

@@ -3,6 +3,8 @@ ghost use Rattle.std.specs.Prelude.{◌≡◌, ℕ, [], ◌∷◌, map, replicat
 ghost use Rattle.fault_model.specs.Name.{is_name_byte};
 ghost use Rattle.fault_model.specs.Tree.{unit_count};
 
+mod threads;
+
 use super::*;
 use crew_script::{Dockets, LONGEST_DECK, read_crews};
 use fault_model::{

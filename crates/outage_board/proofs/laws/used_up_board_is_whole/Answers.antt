@@ -1,25 +1,5 @@
-use Rattle.std.proofs.Common.{◌≡◌, ℕ, ◌<◌, ◌≤◌, List, [], length, get_or, sym, ◌∙◌, ap, arith, take, inl, inr}
-use Rattle.std.specs.List.{enumerate_from}
-use Rattle.std.proofs.lemmas.Bool.{cases_lt}
-use Rattle.std.proofs.lemmas.List.{get_or_past}
-use Rattle.outage_board.specs.Histories.{docket_of, served}
-use Rattle.outage_board.specs.Boards.{BoardView, IsBoard, IsUsedUp}
+use Rattle.outage_board.specs.Whole.{whole_where_used_up}
 use Rattle.outage_board.proofs.laws.used_up_board_is_whole.Goals as goal
 
--- what is no crew's has no docket
-each_used_up : (board : BoardView) → IsBoard board → ((crew : ℕ) → crew < length board.deck.crews → IsUsedUp board crew) → (crew : ℕ) → IsUsedUp board crew
-each_used_up board kept up crew = elim (cases_lt crew (length board.deck.crews)) [
-  | inl one ↦ up crew one
-  | inr past ↦
-      let none : docket_of board.deck.dockets crew ≡ [] = get_or_past board.deck.dockets crew [] (let all = kept.all in omega (arith, past)) in
-      let size : length (docket_of board.deck.dockets crew) ≡ 0 = ap length none in
-      let few = kept.whole.within crew in
-      omega arith
-]
-
 pub returns : goal.returns
-returns c = λ board kept up. record {
-  crews = kept.whole.crews;
-  within = λ crew. omega arith;
-  each = λ crew. kept.whole.each crew ∙ ap (λ n. enumerate_from 0 (take n (docket_of board.deck.dockets crew))) (each_used_up board kept up crew);
-}
+returns c = whole_where_used_up

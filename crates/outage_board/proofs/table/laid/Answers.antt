@@ -1,0 +1,14 @@
+use Rattle.std.proofs.Common.{List, [], ◌∷◌, ◌++◌, sym, ◌∙◌, ap, subst}
+use Rattle.atomic_table.specs.Table.{opening}
+use Rattle.outage_board.specs.Boards.{BoardView}
+use Rattle.outage_board.specs.Rule.{KeepsTurns}
+use Rattle.outage_board.specs.Views.{first_view}
+use Rattle.outage_board.proofs.StepLemmas.{opens_table}
+use Rattle.outage_board.proofs.table.laid.Goals as goal
+
+pub new-requires : goal.new-requires
+new-requires c =
+    let about = c.of-opened.result in
+    let state = c.args.state in
+    let items = c.push_reserved.ensures.items ∙ ap (λ (l : List BoardView). l ++ state ∷ []) c.in_ok-slots.ensures.items in
+    subst (λ (l : List BoardView). KeepsTurns about (opening (0 ∷ []) l (first_view about.value))) (sym items) (opens_table about state c.of-opened.ensures c.requires.empty)
