@@ -1,3 +1,4 @@
 mod OptionLemmas
 mod Numerals
+mod OptionWords
 mod SpellingLemmas

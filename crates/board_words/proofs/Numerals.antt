@@ -1,12 +1,11 @@
--- Which words say the numbers up to 16.
-use Rattle.std.specs.Prelude.{◌≡◌, ℕ, ◌+◌, ◌-◌, ◌*◌, ◌<◌, ◌≤◌, Bool, true, false, ◌&&◌, ◌||◌, not, nat_eq, nat_lt, nat_le, if◌then◌else◌, List, [], ◌∷◌, length, decimal, Option, Some, None, unwrap_or}
+-- Which words say a number.
+use Rattle.std.specs.Prelude.{◌≡◌, ℕ, zero, suc, ◌+◌, ◌-◌, ◌*◌, ◌^◌, ◌<◌, ◌≤◌, Bool, true, false, ◌&&◌, not, nat_le, if◌then◌else◌, List, [], ◌∷◌, length, decimal, Option, Some, None, unwrap_or}
 use Rattle.std.specs.List.{list_all}
 use Rattle.std.specs.Char.{is_ascii_digit}
-use Rattle.std.specs.Cmp.Lexicographic.{pointwise}
-use Rattle.std.proofs.Common.{refl, arith, sym, ap, ◌∙◌, subst, inl, inr}
-use Rattle.std.proofs.lemmas.Bool.{and_parts, or_cases, agree_below_at, ltb-true, leb-true, eqb-false, not-true}
-use lib.Pointwise.{bytes_decides}
-use Rattle.std.specs.Fmt.{digits}
+use Rattle.std.proofs.Common.{refl, arith, sym, ap, ◌∙◌, subst, get_or}
+use Rattle.std.proofs.lemmas.Bool.{and_parts, and_from, leb-true, le-leb, eqb-false, not-true, ne_eqb}
+use Rattle.std.proofs.lemmas.Str.Parse.{IsNumeralModel, IsDigitsTest, FoldsDigits, numerals_by_fold, digits_value_short}
+use Rattle.std.proofs.lemmas.Fmt.{decimal-digits_value, digits_decimal, digits_value-decimal, decimal_nonempty, first_decimal, length-decimal-le, decimal_digit}
 use Rattle.board_words.specs.Number.{has_leading_zero, is_numeral, number_from, number_within}
 
 pub some_if : {X : Type 0} (b : Bool) (o : Option X) (x : X) → (if b then o else None) ≡ Some x → (b ≡ true) × (o ≡ Some x)
@@ -16,82 +15,85 @@ some_if false o x e = absurd cc
 pub some_is : (m n : ℕ) → Some m ≡ Some n → m ≡ n
 some_is m n e = ap (λ o. unwrap_or o 0) e
 
--- ---- a numeral that says at most 16 is the decimal of its number
+-- ---- digits
 
-is_decimal : List ℕ → Bool
-unfolding digits
-is_decimal word = pointwise nat_eq word (decimal (number_from 0 word))
+AreDigits : List ℕ → Type 0
+AreDigits word = list_all is_ascii_digit word ≡ true
 
-decimal_is : (word : List ℕ) → is_decimal word ≡ true → word ≡ decimal (number_from 0 word)
-unfolding is_decimal
-decimal_is word e = (bytes_decides word (decimal (number_from 0 word))).0 e
+tells : IsDigitsTest AreDigits
+unfolding AreDigits
+tells = record {
+  empty = refl;
+  parts = λ c cs e.
+      let k = and_parts (is_ascii_digit c) (list_all is_ascii_digit cs) e in
+      let m = and_parts (nat_le 48 c) (nat_le c 57) k.0 in
+      ((leb-true 48 c m.0, leb-true c 57 m.1), k.1);
+  more = λ c cs k e. and_from (is_ascii_digit c) (list_all is_ascii_digit cs) (and_from (nat_le 48 c) (nat_le c 57) (le-leb 48 c k.0) (le-leb c 57 k.1)) e;
+}
 
-tells_one : (digit : ℕ) → digit < 58 → (nat_lt digit 48 || is_decimal (digit ∷ [])) ≡ true
-unfolding is_decimal digits
-tells_one digit few = agree_below_at (λ d. nat_lt d 48 || is_decimal (d ∷ [])) (λ d. true) 58 digit refl few
+folds : FoldsDigits number_from
+folds = record { empty = λ n. refl; more = λ n c cs k. let same : 10 * n + (c - 48) ≡ n * 10 + (c - 48) = omega arith in ap (λ m. number_from m cs) same }
 
-tells_two : (digit : ℕ) → digit < 55 → (nat_lt digit 48 || is_decimal (49 ∷ digit ∷ [])) ≡ true
-unfolding is_decimal digits
-tells_two digit few = agree_below_at (λ d. nat_lt d 48 || is_decimal (49 ∷ d ∷ [])) (λ d. true) 55 digit refl few
+own : IsNumeralModel AreDigits (number_from 0)
+own = numerals_by_fold AreDigits tells number_from folds
 
-digit_low : (digit : ℕ) → is_ascii_digit digit ≡ true → 48 ≤ digit
-digit_low digit e = leb-true 48 digit (and_parts (nat_le 48 digit) (nat_le digit 57) e).0
+-- ---- a numeral is the decimal of its number
 
-digit_high : (digit : ℕ) → is_ascii_digit digit ≡ true → digit ≤ 57
-digit_high digit e = leb-true digit 57 (and_parts (nat_le 48 digit) (nat_le digit 57) e).1
-
-above : (digit : ℕ) (b : Bool) → 48 ≤ digit → (nat_lt digit 48 || b) ≡ true → b ≡ true
-above digit b low e = elim (or_cases (nat_lt digit 48) b e) [
-  | inl under ↦ (let less : digit < 48 = ltb-true digit 48 under in absurd (omega (arith, less, low)))
-  | inr holds ↦ holds
-]
-
-one_digit : (digit : ℕ) → is_ascii_digit digit ≡ true → (digit ∷ []) ≡ decimal (number_from 0 (digit ∷ []))
-one_digit digit e =
-    let high = digit_high digit e in
-    decimal_is (digit ∷ []) (above digit (is_decimal (digit ∷ [])) (digit_low digit e) (tells_one digit (omega (arith, high))))
-
-two_digits : (digit : ℕ) → 48 ≤ digit → digit < 55 → (49 ∷ digit ∷ []) ≡ decimal (number_from 0 (49 ∷ digit ∷ []))
-two_digits digit low few = decimal_is (49 ∷ digit ∷ []) (above digit (is_decimal (49 ∷ digit ∷ [])) low (tells_two digit few))
-
-grows : (digits : List ℕ) (n : ℕ) → n ≤ number_from n digits
-grows [] n = omega arith
-grows (digit ∷ digits) n = let more = grows digits (10 * n + (digit - 48)) in omega (arith, more)
+no_zero : (word : List ℕ) → has_leading_zero word ≡ false → 0 < length word → get_or word 0 0 ≡ 48 → length word ≡ 1
+no_zero [] e some first = absurd (omega (arith, some))
+no_zero (first ∷ []) e some lead = refl
+no_zero (first ∷ second ∷ rest) e some lead = absurd (eqb-false first 48 e lead)
 
 -- what a numeral has
 record Numeral (word : List ℕ) : Type 0 where
-  digits_all : list_all is_ascii_digit word ≡ true
-  no_zero : has_leading_zero word ≡ false
+  digits : AreDigits word
+  some : 1 ≤ length word
+  few : length word ≤ 6
+  first : has_leading_zero word ≡ false
 
 numeral_parts : (word : List ℕ) → is_numeral word ≡ true → Numeral word
+unfolding AreDigits
 numeral_parts word e =
     let last = and_parts (nat_le 1 (length word) && nat_le (length word) 6 && list_all is_ascii_digit word) (not (has_leading_zero word)) e in
+    let three = and_parts (nat_le 1 (length word) && nat_le (length word) 6) (list_all is_ascii_digit word) last.0 in
+    let two = and_parts (nat_le 1 (length word)) (nat_le (length word) 6) three.0 in
     record {
-      digits_all = (and_parts (nat_le 1 (length word) && nat_le (length word) 6) (list_all is_ascii_digit word) last.0).1;
-      no_zero = not-true (has_leading_zero word) last.1;
+      digits = three.1;
+      some = leb-true 1 (length word) two.0;
+      few = leb-true (length word) 6 two.1;
+      first = not-true (has_leading_zero word) last.1;
     }
 
-short : (word : List ℕ) → is_numeral word ≡ true → number_from 0 word ≤ 16 → word ≡ decimal (number_from 0 word)
-short [] e few = absurd cc
-short (first ∷ []) e few =
-    let parts = numeral_parts (first ∷ []) e in
-    one_digit first (and_parts (is_ascii_digit first) true parts.digits_all).0
-short (first ∷ second ∷ []) e few =
-    let parts = numeral_parts (first ∷ second ∷ []) e in
-    let all = and_parts (is_ascii_digit first) (is_ascii_digit second && true) parts.digits_all in
-    let low = digit_low first all.0 in
-    let second_low = digit_low second (and_parts (is_ascii_digit second) true all.1).0 in
-    let not_zero = eqb-false first 48 parts.no_zero in
-    let is_one : first ≡ 49 = omega (arith, low, second_low, not_zero, few) in
-    let second_few : second < 55 = omega (arith, is_one, second_low, few) in
-    subst (λ f. (f ∷ second ∷ []) ≡ decimal (number_from 0 (f ∷ second ∷ []))) (sym is_one) (two_digits second second_low second_few)
-short (first ∷ second ∷ third ∷ rest) e few =
-    let parts = numeral_parts (first ∷ second ∷ third ∷ rest) e in
-    let all = and_parts (is_ascii_digit first) (list_all is_ascii_digit (second ∷ third ∷ rest)) parts.digits_all in
-    let low = digit_low first all.0 in
-    let not_zero = eqb-false first 48 parts.no_zero in
-    let more = grows rest (10 * (10 * (10 * 0 + (first - 48)) + (second - 48)) + (third - 48)) in
-    absurd (omega (arith, low, not_zero, more, few))
+written : (word : List ℕ) → is_numeral word ≡ true → decimal (number_from 0 word) ≡ word
+written word e =
+    let parts = numeral_parts word e in
+    let small = digits_value_short own word 6 parts.digits parts.few in
+    decimal-digits_value own word parts.digits (omega (arith, parts.some)) (no_zero word parts.first (omega (arith, parts.some))) (omega (arith, small))
+
+-- ---- a decimal is a numeral
+
+leads_not : (word : List ℕ) → (1 < length word → 48 < get_or word 0 0) → has_leading_zero word ≡ false
+leads_not [] high = refl
+leads_not (first ∷ []) high = refl
+leads_not (first ∷ second ∷ rest) high = let more : 48 < first = high (omega arith) in ne_eqb first 48 (λ e. absurd (omega (arith, e, more)))
+
+one_long : (n : ℕ) → n < 2 ^ 64 → 1 < length (decimal n) → 0 < n
+one_long zero small long = let short : length (decimal 0) ≡ 1 = ap length (decimal_digit 0 (omega arith)) in absurd (omega (arith, long, short))
+one_long (suc n) small long = omega arith
+
+decimal_numeral : (n : ℕ) → n < 1000000 → is_numeral (decimal n) ≡ true
+unfolding AreDigits
+decimal_numeral n few =
+    let small : n < 2 ^ 64 = omega (arith, few) in
+    let some = decimal_nonempty n small in
+    let short = length-decimal-le 6 n (omega arith) (omega (arith, few)) small in
+    let word = decimal n in
+    let first = leads_not word (λ long. first_decimal n (one_long n small long) small) in
+    and_from (nat_le 1 (length word) && nat_le (length word) 6 && list_all is_ascii_digit word) (not (has_leading_zero word))
+    (and_from (nat_le 1 (length word) && nat_le (length word) 6) (list_all is_ascii_digit word)
+    (and_from (nat_le 1 (length word)) (nat_le (length word) 6) (le-leb 1 (length word) (omega (arith, some))) (le-leb (length word) 6 (omega (arith, short))))
+    (digits_decimal own n small))
+    (ap not first)
 
 -- ---- numbers within bounds
 
@@ -100,17 +102,29 @@ pub record Says (least most : ℕ) (word : List ℕ) (n : ℕ) : Type 0 where
   pub low : least ≤ n
   pub high : n ≤ most
 
-pub says : (least most : ℕ) (word : List ℕ) (n : ℕ) → most ≤ 16 → number_within least most word ≡ Some n → Says least most word n
-says least most word n few e =
+pub says : (least most : ℕ) (word : List ℕ) (n : ℕ) → number_within least most word ≡ Some n → Says least most word n
+says least most word n e =
     let m = number_from 0 word in
     let numeral = some_if (is_numeral word) (if nat_le least m && nat_le m most then Some m else None) n e in
     let within = some_if (nat_le least m && nat_le m most) (Some m) n numeral.1 in
     let bounds = and_parts (nat_le least m) (nat_le m most) within.0 in
     let same : m ≡ n = some_is m n within.1 in
-    let high : m ≤ most = leb-true m most bounds.1 in
-    let low : least ≤ m = leb-true least m bounds.0 in
     record {
-      is = short word numeral.0 (omega (arith, high, few)) ∙ ap decimal same;
-      low = subst (λ k. least ≤ k) same low;
-      high = subst (λ k. k ≤ most) same high;
+      is = sym (written word numeral.0) ∙ ap decimal same;
+      low = subst (λ k. least ≤ k) same (leb-true least m bounds.0);
+      high = subst (λ k. k ≤ most) same (leb-true m most bounds.1);
     }
+
+within_if : (a b : Bool) (n m : ℕ) → a ≡ true → b ≡ true → m ≡ n → (if a then (if b then Some m else None) else None) ≡ Some n
+within_if a b n m one two same =
+    ap (λ c. if c then (if b then Some m else None) else None) one ∙ ap (λ c. if c then Some m else None) two ∙ ap (λ k. Some k) same
+
+pub said_within : (least most n : ℕ) → most < 1000000 → least ≤ n → n ≤ most → number_within least most (decimal n) ≡ Some n
+said_within least most n few low high =
+    let under : n < 1000000 = omega (arith, few, high) in
+    let same : number_from 0 (decimal n) ≡ n = digits_value-decimal own n (omega (arith, under)) in
+    within_if (is_numeral (decimal n)) (nat_le least (number_from 0 (decimal n)) && nat_le (number_from 0 (decimal n)) most) n (number_from 0 (decimal n))
+    (decimal_numeral n under)
+    (and_from (nat_le least (number_from 0 (decimal n))) (nat_le (number_from 0 (decimal n)) most)
+    (le-leb least (number_from 0 (decimal n)) (omega (arith, same, low))) (le-leb (number_from 0 (decimal n)) most (omega (arith, same, high))))
+    same

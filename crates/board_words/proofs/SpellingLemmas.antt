@@ -1,231 +1,226 @@
--- What is read as `cuts`.
-use Rattle.std.specs.Prelude.{◌≡◌, ℕ, zero, suc, ◌<◌, ◌≤◌, ◌⊎◌, Bool, true, false, ◌||◌, not, ◌==◌, if◌then◌else◌, List, [], ◌∷◌, codes, decimal, Option, Some, None}
-use Rattle.std.proofs.Common.{refl, arith, sym, ap, ◌∙◌, subst, inl, inr}
-use Rattle.std.proofs.lemmas.Bool.{and_parts, or_cases, or_parts, agree_below_at, eqb-true, not-true}
-use lib.Pointwise.{bytes_decides}
-use Rattle.std.specs.Fmt.{digits}
+-- The spellings of the commands are read, and nothing else is.
+use Rattle.std.specs.Prelude.{◌≡◌, ℕ, ◌≤◌, Bool, true, false, if◌then◌else◌, List, [], ◌∷◌, codes, Option, Some, None, unwrap_or}
+use Rattle.std.proofs.Common.{refl, arith, sym, ap, ◌∙◌, subst}
 use Rattle.board_words.specs.declared.command.Command.{Command}
-use Rattle.board_words.specs.declared.command.Command.TheVariants.{Cuts, Help}
-use Rattle.board_words.specs.Number.{number_within}
-use Rattle.board_words.specs.Options.{is_same, is_option, are_options, is_said_once, option_number}
-use Rattle.board_words.specs.Command.{is_cuts_option, cuts_with, cuts_of, if_alone, command_of}
-use Rattle.board_words.specs.Spellings.{SpellsCuts, unsaid, most_said, workers_said, most_first, workers_first}
-use Rattle.board_words.proofs.Numerals.{some_if, some_is, says}
+use Rattle.board_words.specs.declared.command.Command.TheVariants.{Cuts, Board, Check, Print, Diagram, Make, Help}
+use Rattle.board_words.specs.declared.command.Show.{Show}
+use Rattle.board_words.specs.declared.command.Show.TheVariants.{Deck, Summary}
+use Rattle.board_words.specs.Options.{is_same, are_options, value_of}
+use Rattle.board_words.specs.Command.{cuts_options, board_options, diagram_options, make_options, margin_in, most_in, workers_in, number_in, show_said, show_in, cuts_with, board_with, diagram_with, make_with, if_options, cuts_of, board_of, diagram_of, make_of, if_alone, command_of}
+use Rattle.board_words.specs.Spellings as said
+use Rattle.board_words.specs.Spellings.{Said, words_of, AreSaid, SaysNumber, SaysMargin, SaysMost, SaysWorkers, SaysDeckNumber, SaysShow, Spells, IsWithinBounds}
+use Rattle.board_words.proofs.Numerals.{some_if, some_is}
+use Rattle.board_words.proofs.OptionWords.{same_word, value_has, value_lacks, has_value, lacks_value, are_said, as_said, number_read, number_says}
 
 -- ---- a spelling is read
 
-is_number : ℕ → Option ℕ → Bool
-is_number n None = false
-is_number n (Some m) = m == n
+with_options : (known : List (List ℕ)) (options : List Said) (command : Option Command) → AreSaid known options → if_options known (words_of options) command ≡ command
+with_options known options command all = ap (λ b. if b then command else None) (are_said known options all)
 
-number_is : (n : ℕ) (number : Option ℕ) → is_number n number ≡ true → number ≡ Some n
-unfolding is_number
-number_is n None e = absurd cc
-number_is n (Some m) e = ap (λ k. Some k) (eqb-true m n e)
+cuts_read : (a b : Option ℕ) (most workers : ℕ) → a ≡ Some most → b ≡ Some workers → cuts_with a b ≡ Some (Cuts most workers)
+cuts_read a b most workers one two = ap (λ o. cuts_with o b) one ∙ ap (cuts_with (Some most)) two
 
-most_in_table : (n : ℕ) → n < 9 → is_number n (number_within 0 8 (decimal n)) ≡ true
-unfolding is_number digits
-most_in_table n few = agree_below_at (λ k. is_number k (number_within 0 8 (decimal k))) (λ k. true) 9 n refl few
+board_read : (a b c : Option ℕ) (margin most workers : ℕ) → a ≡ Some margin → b ≡ Some most → c ≡ Some workers → board_with a b c ≡ Some (Board margin most workers)
+board_read a b c margin most workers one two three =
+    ap (λ o. board_with o b c) one ∙ ap (λ o. board_with (Some margin) o c) two ∙ ap (board_with (Some margin) (Some most)) three
 
-workers_in_table : (n : ℕ) → n < 16 → is_number (suc n) (number_within 1 16 (decimal (suc n))) ≡ true
-unfolding is_number digits
-workers_in_table n few = agree_below_at (λ k. is_number (suc k) (number_within 1 16 (decimal (suc k)))) (λ k. true) 16 n refl few
+make_read : (a : Option ℕ) (b : Option Show) (number : ℕ) (show : Show) → a ≡ Some number → b ≡ Some show → make_with a b ≡ Some (Make number show)
+make_read a b number show one two = ap (λ o. make_with o b) one ∙ ap (make_with (Some number)) two
 
-most_read : (most : ℕ) → most ≤ 8 → number_within 0 8 (decimal most) ≡ Some most
-most_read most high = number_is most (number_within 0 8 (decimal most)) (most_in_table most (omega (arith, high)))
+show_read : (known : List (List ℕ)) (options : List Said) (show : Show) → AreSaid known options → SaysShow options show → show_in (words_of options) ≡ Some show
+show_read known options Deck all (said.deck has) = ap show_said (has_value known options (codes "--show") (codes "deck") all has)
+show_read known options Summary all (said.summary has) = ap show_said (has_value known options (codes "--show") (codes "summary") all has)
+show_read known options Summary all (said.unsaid_show lacks) = ap show_said (lacks_value options (codes "--show") lacks)
 
-workers_read : (workers : ℕ) → 1 ≤ workers → workers ≤ 16 → number_within 1 16 (decimal workers) ≡ Some workers
-workers_read zero low high = absurd (omega (arith, low))
-workers_read (suc n) low high = number_is (suc n) (number_within 1 16 (decimal (suc n))) (workers_in_table n (omega (arith, high)))
-
-both_read : (first second : Option ℕ) (most workers : ℕ) → first ≡ Some most → second ≡ Some workers → cuts_with first second ≡ Some (Cuts most workers)
-both_read first second most workers one two = ap (λ o. cuts_with o second) one ∙ ap (cuts_with (Some most)) two
-
-pub spelling_read : (most workers : ℕ) (words : List (List ℕ)) → SpellsCuts most workers words → command_of words ≡ Some (Cuts most workers)
-spelling_read most workers words unsaid = refl
-spelling_read most workers words (most_said high) = both_read (number_within 0 8 (decimal most)) (Some 4) most 4 (most_read most high) refl
-spelling_read most workers words (workers_said low high) = both_read (Some 6) (number_within 1 16 (decimal workers)) 6 workers refl (workers_read workers low high)
-spelling_read most workers words (most_first few low high) =
-    both_read (number_within 0 8 (decimal most)) (number_within 1 16 (decimal workers)) most workers (most_read most few) (workers_read workers low high)
-spelling_read most workers words (workers_first few low high) =
-    both_read (number_within 0 8 (decimal most)) (number_within 1 16 (decimal workers)) most workers (most_read most few) (workers_read workers low high)
+pub spelling_read : (command : Command) (words : List (List ℕ)) → Spells command words → command_of words ≡ Some command
+spelling_read command words (said.cuts options most workers all says_most says_workers) =
+    with_options cuts_options options (cuts_with (most_in (words_of options)) (workers_in (words_of options))) all
+    ∙ cuts_read (most_in (words_of options)) (workers_in (words_of options)) most workers
+    (number_read 0 8 (Some 6) cuts_options (codes "--most") options most (omega arith) all says_most)
+    (number_read 1 16 (Some 4) cuts_options (codes "--workers") options workers (omega arith) all says_workers)
+spelling_read command words (said.board options margin most workers all says_margin says_most says_workers) =
+    with_options board_options options (board_with (margin_in (words_of options)) (most_in (words_of options)) (workers_in (words_of options))) all
+    ∙ board_read (margin_in (words_of options)) (most_in (words_of options)) (workers_in (words_of options)) margin most workers
+    (number_read 0 4095 (Some 0) board_options (codes "--margin") options margin (omega arith) all says_margin)
+    (number_read 0 8 (Some 6) board_options (codes "--most") options most (omega arith) all says_most)
+    (number_read 1 16 (Some 4) board_options (codes "--workers") options workers (omega arith) all says_workers)
+spelling_read command words said.check = refl
+spelling_read command words said.print = refl
+spelling_read command words (said.diagram options workers all says_workers) =
+    with_options diagram_options options (diagram_with (workers_in (words_of options))) all
+    ∙ ap diagram_with (number_read 1 16 (Some 4) diagram_options (codes "--workers") options workers (omega arith) all says_workers)
+spelling_read command words (said.make options number show all says_number says_show) =
+    with_options make_options options (make_with (number_in (words_of options)) (show_in (words_of options))) all
+    ∙ make_read (number_in (words_of options)) (show_in (words_of options)) number show
+    (number_read 0 999999 None make_options (codes "--number") options number (omega arith) all says_number)
+    (show_read make_options options show all says_show)
+spelling_read command words said.help = refl
 
 -- ---- nothing else is
 
-is_cuts : Option Command → Bool
-is_cuts None = false
-is_cuts (Some (Cuts most workers)) = true
-is_cuts (Some Help) = false
+module _ (command : Command) where
+  -- what two or three readings give together
+  record Both {A B : Type 0} (one : Option A) (two : Option B) (made : A → B → Command) : Type 0 where
+    first : A
+    second : B
+    one_is : one ≡ Some first
+    two_is : two ≡ Some second
+    is : Some (made first second) ≡ Some command
 
-most_in : Option Command → ℕ
-most_in None = 0
-most_in (Some (Cuts most workers)) = most
-most_in (Some Help) = 0
+  record Three (one two three : Option ℕ) : Type 0 where
+    first : ℕ
+    second : ℕ
+    third : ℕ
+    one_is : one ≡ Some first
+    two_is : two ≡ Some second
+    three_is : three ≡ Some third
+    is : Some (Board first second third) ≡ Some command
 
-workers_in : Option Command → ℕ
-workers_in None = 0
-workers_in (Some (Cuts most workers)) = workers
-workers_in (Some Help) = 0
+  cuts_parts : (a b : Option ℕ) → cuts_with a b ≡ Some command → Both a b Cuts
+  cuts_parts None b e = absurd cc
+  cuts_parts (Some most) None e = absurd cc
+  cuts_parts (Some most) (Some workers) e = record { first = most; second = workers; one_is = refl; two_is = refl; is = e }
 
-abbrev With : Option ℕ → Option ℕ → ℕ → ℕ → Type 0
-With first second most workers = (first ≡ Some most) × (second ≡ Some workers)
+  board_parts : (a b c : Option ℕ) → board_with a b c ≡ Some command → Three a b c
+  board_parts None b c e = absurd cc
+  board_parts (Some margin) None c e = absurd cc
+  board_parts (Some margin) (Some most) None e = absurd cc
+  board_parts (Some margin) (Some most) (Some workers) e =
+      record { first = margin; second = most; third = workers; one_is = refl; two_is = refl; three_is = refl; is = e }
 
-with_parts : (first second : Option ℕ) (most workers : ℕ) → cuts_with first second ≡ Some (Cuts most workers) → With first second most workers
-unfolding most_in workers_in
-with_parts (Some m) (Some w) most workers e = (ap (λ c. Some (most_in c)) e, ap (λ c. Some (workers_in c)) e)
-with_parts (Some m) None most workers e = absurd cc
-with_parts None second most workers e = absurd cc
+  diagram_parts : (a : Option ℕ) → diagram_with a ≡ Some command → (workers : ℕ) × (a ≡ Some workers) × (Some (Diagram workers) ≡ Some command)
+  diagram_parts None e = absurd cc
+  diagram_parts (Some workers) e = (workers, refl, e)
 
--- an option that `cuts` has
-abbrev Known : List ℕ → Type 0
-Known word = (word ≡ codes "--most") ⊎ (word ≡ codes "--workers")
+  make_parts : (a : Option ℕ) (b : Option Show) → make_with a b ≡ Some command → Both a b Make
+  make_parts None b e = absurd cc
+  make_parts (Some number) None e = absurd cc
+  make_parts (Some number) (Some show) e = record { first = number; second = show; one_is = refl; two_is = refl; is = e }
 
-known : (word : List ℕ) → is_cuts_option word ≡ true → Known word
-known word e = elim (or_cases (is_same word (codes "--most")) (is_same word (codes "--workers")) e) [
-  | inl most ↦ inl ((bytes_decides word (codes "--most")).0 most)
-  | inr workers ↦ inr ((bytes_decides word (codes "--workers")).0 workers)
-]
+  -- a command that is read is the one that is spelled
+  as_read : (spelled : Command) (words : List (List ℕ)) → Some spelled ≡ Some command → Spells spelled words → Spells command words
+  as_read spelled words is spells = let same : spelled ≡ command = ap (λ o. unwrap_or o Help) is in subst (λ c. Spells c words) same spells
 
-alike : {P : Type 0} (a b same : List ℕ) → a ≡ same → b ≡ same → is_same b a ≡ false → P
-alike a b same one two other = let clash : is_same b a ≡ true = (bytes_decides b a).1 (two ∙ sym one) in absurd cc
+  cuts_spelled : (options : List (List ℕ)) → cuts_of options ≡ Some command → Spells command (codes "cuts" ∷ options)
+  cuts_spelled options e =
+      let parts = some_if (are_options cuts_options options) (cuts_with (most_in options) (workers_in options)) command e in
+      let pairs = as_said cuts_options options parts.0 in
+      let both = cuts_parts (most_in (words_of pairs.options)) (workers_in (words_of pairs.options)) (subst (λ w. cuts_with (most_in w) (workers_in w) ≡ Some command) pairs.are parts.1) in
+      subst (λ w. Spells command (codes "cuts" ∷ w)) (sym pairs.are)
+      (as_read (Cuts both.first both.second) (codes "cuts" ∷ words_of pairs.options) both.is
+      (said.cuts pairs.options both.first both.second pairs.all
+      (number_says 0 8 (Some 6) (codes "--most") pairs.options both.first both.one_is)
+      (number_says 1 16 (Some 4) (codes "--workers") pairs.options both.second both.two_is)))
 
--- two words are options of `cuts`, so that a third one repeats one of them
-three : {P : Type 0} (a b c : List ℕ) → Known a → Known b → Known c → is_same b a ≡ false → is_same c a ≡ false → is_same c b ≡ false → P
-three a b c ka kb kc ab ac bc = elim ka [
-  | inl am ↦ elim kb [
-    | inl bm ↦ alike a b (codes "--most") am bm ab
-    | inr bw ↦ elim kc [ inl cm ↦ alike a c (codes "--most") am cm ac | inr cw ↦ alike b c (codes "--workers") bw cw bc ]
-  ]
-  | inr aw ↦ elim kb [
-    | inl bm ↦ elim kc [ inl cm ↦ alike b c (codes "--most") bm cm bc | inr cw ↦ alike a c (codes "--workers") aw cw ac ]
-    | inr bw ↦ alike a b (codes "--workers") aw bw ab
-  ]
-]
+  board_spelled : (options : List (List ℕ)) → board_of options ≡ Some command → Spells command (codes "board" ∷ options)
+  board_spelled options e =
+      let parts = some_if (are_options board_options options) (board_with (margin_in options) (most_in options) (workers_in options)) command e in
+      let pairs = as_said board_options options parts.0 in
+      let three = board_parts (margin_in (words_of pairs.options)) (most_in (words_of pairs.options)) (workers_in (words_of pairs.options))
+      (subst (λ w. board_with (margin_in w) (most_in w) (workers_in w) ≡ Some command) pairs.are parts.1) in
+      subst (λ w. Spells command (codes "board" ∷ w)) (sym pairs.are)
+      (as_read (Board three.first three.second three.third) (codes "board" ∷ words_of pairs.options) three.is
+      (said.board pairs.options three.first three.second three.third pairs.all
+      (number_says 0 4095 (Some 0) (codes "--margin") pairs.options three.first three.one_is)
+      (number_says 0 8 (Some 6) (codes "--most") pairs.options three.second three.two_is)
+      (number_says 1 16 (Some 4) (codes "--workers") pairs.options three.third three.three_is)))
 
-module _ (most workers : ℕ) where
-  abbrev Spelled : List (List ℕ) → Type 0
-  Spelled options = SpellsCuts most workers (codes "cuts" ∷ options)
+  diagram_spelled : (options : List (List ℕ)) → diagram_of options ≡ Some command → Spells command (codes "diagram" ∷ options)
+  diagram_spelled options e =
+      let parts = some_if (are_options diagram_options options) (diagram_with (workers_in options)) command e in
+      let pairs = as_said diagram_options options parts.0 in
+      let one = diagram_parts (workers_in (words_of pairs.options)) (subst (λ w. diagram_with (workers_in w) ≡ Some command) pairs.are parts.1) in
+      subst (λ w. Spells command (codes "diagram" ∷ w)) (sym pairs.are)
+      (as_read (Diagram one.0) (codes "diagram" ∷ words_of pairs.options) one.2
+      (said.diagram pairs.options one.0 pairs.all (number_says 1 16 (Some 4) (codes "--workers") pairs.options one.0 one.1)))
 
-  abbrev IsRead : List (List ℕ) → Type 0
-  IsRead options = cuts_of options ≡ Some (Cuts most workers)
+  show_says : (options : List Said) (show : Show) → show_in (words_of options) ≡ Some show → SaysShow options show
+  show_says options show e = by_value (value_of (codes "--show") (words_of options)) refl e
+    where
+      is_shown : (s : Show) → Some s ≡ Some show → SaysShow options s → SaysShow options show
+      is_shown s is says = let same : s ≡ show = ap (λ o. unwrap_or o Summary) is in subst (SaysShow options) same says
 
-  no_option : IsRead [] → Spelled []
-  no_option e =
-      let parts = with_parts (Some 6) (Some 4) most workers e in
-      subst (λ m. SpellsCuts m workers (codes "cuts" ∷ [])) (some_is 6 most parts.0)
-      (subst (λ w. SpellsCuts 6 w (codes "cuts" ∷ [])) (some_is 4 workers parts.1) unsaid)
+      by_word : (value : List ℕ) (b c : Bool) → value_of (codes "--show") (words_of options) ≡ Some value → is_same value (codes "deck") ≡ b → is_same value (codes "summary") ≡ c
+          → (if b then Some Deck else (if c then Some Summary else None)) ≡ Some show → SaysShow options show
+      by_word value true c is deck summary e =
+          is_shown Deck e (said.deck (value_has options (codes "--show") (codes "deck") (is ∙ ap (λ v. Some v) (same_word value (codes "deck") deck))))
+      by_word value false true is deck summary e =
+          is_shown Summary e (said.summary (value_has options (codes "--show") (codes "summary") (is ∙ ap (λ v. Some v) (same_word value (codes "summary") summary))))
+      by_word value false false is deck summary e = absurd cc
 
-  only_most : (value : List ℕ) → IsRead (codes "--most" ∷ value ∷ []) → Spelled (codes "--most" ∷ value ∷ [])
-  only_most value e =
-      let parts = with_parts (number_within 0 8 value) (Some 4) most workers e in
-      let said = says 0 8 value most (omega arith) parts.0 in
-      subst (λ v. SpellsCuts most workers (codes "cuts" ∷ codes "--most" ∷ v ∷ [])) (sym said.is)
-      (subst (λ w. SpellsCuts most w (codes "cuts" ∷ codes "--most" ∷ decimal most ∷ [])) (some_is 4 workers parts.1) (most_said said.high))
+      by_value : (value : Option (List ℕ)) → value_of (codes "--show") (words_of options) ≡ value → show_said value ≡ Some show → SaysShow options show
+      by_value None is e = is_shown Summary e (said.unsaid_show (value_lacks options (codes "--show") is))
+      by_value (Some value) is e = by_word value (is_same value (codes "deck")) (is_same value (codes "summary")) is refl refl e
 
-  only_workers : (value : List ℕ) → IsRead (codes "--workers" ∷ value ∷ []) → Spelled (codes "--workers" ∷ value ∷ [])
-  only_workers value e =
-      let parts = with_parts (Some 6) (number_within 1 16 value) most workers e in
-      let many = says 1 16 value workers (omega arith) parts.1 in
-      subst (λ v. SpellsCuts most workers (codes "cuts" ∷ codes "--workers" ∷ v ∷ [])) (sym many.is)
-      (subst (λ m. SpellsCuts m workers (codes "cuts" ∷ codes "--workers" ∷ decimal workers ∷ [])) (some_is 6 most parts.0) (workers_said many.low many.high))
+  make_spelled : (options : List (List ℕ)) → make_of options ≡ Some command → Spells command (codes "make" ∷ options)
+  make_spelled options e =
+      let parts = some_if (are_options make_options options) (make_with (number_in options) (show_in options)) command e in
+      let pairs = as_said make_options options parts.0 in
+      let both = make_parts (number_in (words_of pairs.options)) (show_in (words_of pairs.options)) (subst (λ w. make_with (number_in w) (show_in w) ≡ Some command) pairs.are parts.1) in
+      subst (λ w. Spells command (codes "make" ∷ w)) (sym pairs.are)
+      (as_read (Make both.first both.second) (codes "make" ∷ words_of pairs.options) both.is
+      (said.make pairs.options both.first both.second pairs.all
+      (number_says 0 999999 None (codes "--number") pairs.options both.first both.one_is)
+      (show_says pairs.options both.second both.two_is)))
 
-  most_then_workers : (value other : List ℕ) → IsRead (codes "--most" ∷ value ∷ codes "--workers" ∷ other ∷ []) → Spelled (codes "--most" ∷ value ∷ codes "--workers" ∷ other ∷ [])
-  most_then_workers value other e =
-      let parts = with_parts (number_within 0 8 value) (number_within 1 16 other) most workers e in
-      let said = says 0 8 value most (omega arith) parts.0 in
-      let many = says 1 16 other workers (omega arith) parts.1 in
-      subst (λ v. SpellsCuts most workers (codes "cuts" ∷ codes "--most" ∷ v ∷ codes "--workers" ∷ other ∷ [])) (sym said.is)
-      (subst (λ o. SpellsCuts most workers (codes "cuts" ∷ codes "--most" ∷ decimal most ∷ codes "--workers" ∷ o ∷ [])) (sym many.is)
-      (most_first said.high many.low many.high))
+  alone_spelled : (other : Command) (word : List ℕ) (options : List (List ℕ)) → Spells other (word ∷ []) → if_alone other options ≡ Some command → Spells command (word ∷ options)
+  alone_spelled other word [] spells e = as_read other (word ∷ []) e spells
+  alone_spelled other word (option ∷ options) spells e = absurd cc
 
-  workers_then_most : (other value : List ℕ) → IsRead (codes "--workers" ∷ other ∷ codes "--most" ∷ value ∷ []) → Spelled (codes "--workers" ∷ other ∷ codes "--most" ∷ value ∷ [])
-  workers_then_most other value e =
-      let parts = with_parts (number_within 0 8 value) (number_within 1 16 other) most workers e in
-      let said = says 0 8 value most (omega arith) parts.0 in
-      let many = says 1 16 other workers (omega arith) parts.1 in
-      subst (λ v. SpellsCuts most workers (codes "cuts" ∷ codes "--workers" ∷ other ∷ codes "--most" ∷ v ∷ [])) (sym said.is)
-      (subst (λ o. SpellsCuts most workers (codes "cuts" ∷ codes "--workers" ∷ o ∷ codes "--most" ∷ decimal most ∷ [])) (sym many.is)
-      (workers_first said.high many.low many.high))
+  -- ---- by the first word
 
-  one_option : (option value : List ℕ) → Known option → IsRead (option ∷ value ∷ []) → Spelled (option ∷ value ∷ [])
-  one_option option value known e = elim known [
-    | inl is ↦ subst (λ o. Spelled (o ∷ value ∷ [])) (sym is) (only_most value (subst (λ o. IsRead (o ∷ value ∷ [])) is e))
-    | inr is ↦ subst (λ o. Spelled (o ∷ value ∷ [])) (sym is) (only_workers value (subst (λ o. IsRead (o ∷ value ∷ [])) is e))
-  ]
+  either : (first word : List ℕ) (options : List (List ℕ)) (here later : Option Command)
+      → (here ≡ Some command → Spells command (word ∷ options)) → (later ≡ Some command → Spells command (first ∷ options))
+      → (if is_same first word then here else later) ≡ Some command → Spells command (first ∷ options)
+  either first word options here later spelled behind e = by_test (is_same first word) refl e
+    where
+      by_test : (b : Bool) → is_same first word ≡ b → (if b then here else later) ≡ Some command → Spells command (first ∷ options)
+      by_test true same e = subst (λ f. Spells command (f ∷ options)) (sym (same_word first word same)) (spelled e)
+      by_test false same e = behind e
 
-  two_options : (a v b u : List ℕ) → Known a → Known b → is_same b a ≡ false → IsRead (a ∷ v ∷ b ∷ u ∷ []) → Spelled (a ∷ v ∷ b ∷ u ∷ [])
-  two_options a v b u ka kb other e = elim ka [
-    | inl am ↦ elim kb [
-      | inl bm ↦ alike a b (codes "--most") am bm other
-      | inr bw ↦ subst (λ o. Spelled (o ∷ v ∷ b ∷ u ∷ [])) (sym am) (subst (λ o. Spelled (codes "--most" ∷ v ∷ o ∷ u ∷ [])) (sym bw)
-          (most_then_workers v u (subst (λ o. IsRead (codes "--most" ∷ v ∷ o ∷ u ∷ [])) bw (subst (λ o. IsRead (o ∷ v ∷ b ∷ u ∷ [])) am e))))
-    ]
-    | inr aw ↦ elim kb [
-      | inl bm ↦ subst (λ o. Spelled (o ∷ v ∷ b ∷ u ∷ [])) (sym aw) (subst (λ o. Spelled (codes "--workers" ∷ v ∷ o ∷ u ∷ [])) (sym bm)
-          (workers_then_most v u (subst (λ o. IsRead (codes "--workers" ∷ v ∷ o ∷ u ∷ [])) bm (subst (λ o. IsRead (o ∷ v ∷ b ∷ u ∷ [])) aw e))))
-      | inr bw ↦ alike a b (codes "--workers") aw bw other
-    ]
-  ]
+  pub only_spelling : (words : List (List ℕ)) → command_of words ≡ Some command → Spells command words
+  only_spelling [] e = absurd cc
+  only_spelling (first ∷ options) e =
+      either first (codes "cuts") options (cuts_of options) _ (cuts_spelled options)
+      (either first (codes "board") options (board_of options) _ (board_spelled options)
+      (either first (codes "check") options (if_alone Check options) _ (alone_spelled Check (codes "check") options said.check)
+      (either first (codes "print") options (if_alone Print options) _ (alone_spelled Print (codes "print") options said.print)
+      (either first (codes "diagram") options (diagram_of options) _ (diagram_spelled options)
+      (either first (codes "make") options (make_of options) _ (make_spelled options)
+      (either first (codes "help") options (if_alone Help options) None (alone_spelled Help (codes "help") options said.help)
+      (λ none. absurd cc))))))) e
 
-  -- what options that are read are
-  are_said : (options : List (List ℕ)) → IsRead options → are_options is_cuts_option options ≡ true
-  are_said options e =
-      (some_if (are_options is_cuts_option options)
-      (cuts_with (option_number (codes "--most") 0 8 6 options) (option_number (codes "--workers") 1 16 4 options)) (Cuts most workers) e).0
+-- ---- the numbers are within their bounds
 
--- an option said once
-record Once (option : List ℕ) (rest : List (List ℕ)) : Type 0 where
-  is_known : Known option
-  alone : is_option option rest ≡ false
-  others : are_options is_cuts_option rest ≡ true
+number_low : (least most default : ℕ) (option : List ℕ) (options : List Said) (number : ℕ) → least ≤ default → SaysNumber least most (Some default) option options number → least ≤ number
+number_low least most default option options number low (said.written has above below) = above
+number_low least most default option options number low (said.unsaid lacks is) = subst (λ n. least ≤ n) (some_is default number is) low
 
-once : (option value : List ℕ) (rest : List (List ℕ)) → are_options is_cuts_option (option ∷ value ∷ rest) ≡ true → Once option rest
-once option value rest e =
-    let parts = and_parts (is_said_once is_cuts_option option rest) (are_options is_cuts_option rest) e in
-    let said = and_parts (is_cuts_option option) (not (is_option option rest)) parts.0 in
-    record { is_known = known option said.0; alone = not-true (is_option option rest) said.1; others = parts.1 }
+number_high : (least most default : ℕ) (option : List ℕ) (options : List Said) (number : ℕ) → default ≤ most → SaysNumber least most (Some default) option options number → number ≤ most
+number_high least most default option options number high (said.written has above below) = below
+number_high least most default option options number high (said.unsaid lacks is) = subst (λ n. n ≤ most) (some_is default number is) high
 
-options_spelled : (most workers : ℕ) (options : List (List ℕ)) → IsRead most workers options → Spelled most workers options
-options_spelled most workers [] e = no_option most workers e
-options_spelled most workers (a ∷ []) e = absurd cc
-options_spelled most workers (a ∷ v ∷ []) e =
-    let one = once a v [] (are_said most workers (a ∷ v ∷ []) e) in
-    one_option most workers a v one.is_known e
-options_spelled most workers (a ∷ v ∷ b ∷ []) e =
-    let one = once a v (b ∷ []) (are_said most workers (a ∷ v ∷ b ∷ []) e) in
-    let others = one.others in absurd cc
-options_spelled most workers (a ∷ v ∷ b ∷ u ∷ []) e =
-    let one = once a v (b ∷ u ∷ []) (are_said most workers (a ∷ v ∷ b ∷ u ∷ []) e) in
-    let two = once b u [] one.others in
-    two_options most workers a v b u one.is_known two.is_known (or_parts (is_same b a) false one.alone).0 e
-options_spelled most workers (a ∷ v ∷ b ∷ u ∷ c ∷ []) e =
-    let one = once a v (b ∷ u ∷ c ∷ []) (are_said most workers (a ∷ v ∷ b ∷ u ∷ c ∷ []) e) in
-    let two = once b u (c ∷ []) one.others in
-    let others = two.others in absurd cc
-options_spelled most workers (a ∷ v ∷ b ∷ u ∷ c ∷ t ∷ rest) e =
-    let one = once a v (b ∷ u ∷ c ∷ t ∷ rest) (are_said most workers (a ∷ v ∷ b ∷ u ∷ c ∷ t ∷ rest) e) in
-    let two = once b u (c ∷ t ∷ rest) one.others in
-    let last = once c t rest two.others in
-    let behind_a = or_parts (is_same b a) (is_same c a || is_option a rest) one.alone in
-    let ac = (or_parts (is_same c a) (is_option a rest) behind_a.1).0 in
-    let bc = (or_parts (is_same c b) (is_option b rest) two.alone).0 in
-    three a b c one.is_known two.is_known last.is_known behind_a.0 ac bc
+deck_number_high : (options : List Said) (number : ℕ) → SaysDeckNumber options number → number ≤ 999999
+deck_number_high options number (said.written has above below) = below
+deck_number_high options number (said.unsaid lacks is) = absurd cc
 
--- ---- the command
-
-help_is_other : {P : Type 0} (most workers : ℕ) (options : List (List ℕ)) → if_alone Help options ≡ Some (Cuts most workers) → P
-unfolding is_cuts
-help_is_other most workers [] e = let clash = ap is_cuts e in absurd cc
-help_is_other most workers (option ∷ options) e = absurd cc
-
-by_first : (b c : Bool) (cuts : Option Command) (options : List (List ℕ)) (most workers : ℕ)
-    → (if b then cuts else (if c then if_alone Help options else None)) ≡ Some (Cuts most workers) → (b ≡ true) × (cuts ≡ Some (Cuts most workers))
-by_first true c cuts options most workers e = (refl, e)
-by_first false true cuts options most workers e = help_is_other most workers options e
-by_first false false cuts options most workers e = absurd cc
-
-pub only_spelling : (most workers : ℕ) (words : List (List ℕ)) → command_of words ≡ Some (Cuts most workers) → SpellsCuts most workers words
-only_spelling most workers [] e = absurd cc
-only_spelling most workers (first ∷ options) e =
-    let parts = by_first (is_same first (codes "cuts")) (is_same first (codes "help")) (cuts_of options) options most workers e in
-    subst (λ f. SpellsCuts most workers (f ∷ options)) (sym ((bytes_decides first (codes "cuts")).0 parts.0)) (options_spelled most workers options parts.1)
+pub within_bounds : (command : Command) (words : List (List ℕ)) → Spells command words → IsWithinBounds command
+within_bounds command words (said.cuts options most workers all says_most says_workers) = (
+  number_high 0 8 6 (codes "--most") options most (omega arith) says_most,
+  number_low 1 16 4 (codes "--workers") options workers (omega arith) says_workers,
+  number_high 1 16 4 (codes "--workers") options workers (omega arith) says_workers,
+)
+within_bounds command words (said.board options margin most workers all says_margin says_most says_workers) = (
+  number_high 0 4095 0 (codes "--margin") options margin (omega arith) says_margin,
+  number_high 0 8 6 (codes "--most") options most (omega arith) says_most,
+  number_low 1 16 4 (codes "--workers") options workers (omega arith) says_workers,
+  number_high 1 16 4 (codes "--workers") options workers (omega arith) says_workers,
+)
+within_bounds command words said.check = tt
+within_bounds command words said.print = tt
+within_bounds command words (said.diagram options workers all says_workers) = (
+  number_low 1 16 4 (codes "--workers") options workers (omega arith) says_workers,
+  number_high 1 16 4 (codes "--workers") options workers (omega arith) says_workers,
+)
+within_bounds command words (said.make options number show all says_number says_show) = deck_number_high options number says_number
+within_bounds command words said.help = tt

@@ -4,5 +4,5 @@ pub mod Number
 pub mod Options
 -- the command that words say
 pub mod Command
--- how `cuts` is spelled
+-- how the commands are spelled
 pub mod Spellings

@@ -1,11 +1,16 @@
 -- Options of a command: words that are an option and its value, an option and its value, and so on.
-use Rattle.std.specs.Prelude.{ℕ, Bool, true, false, ◌&&◌, ◌||◌, not, nat_eq, if◌then◌else◌, List, [], ◌∷◌, Option, Some}
+use Rattle.std.specs.Prelude.{ℕ, Bool, true, false, ◌&&◌, ◌||◌, not, nat_eq, if◌then◌else◌, List, [], ◌∷◌, Option, Some, None}
+use Rattle.std.specs.List.{list_any}
 use Rattle.std.specs.Cmp.Lexicographic.{pointwise}
 use Rattle.board_words.specs.Number.{number_within}
 
 -- two words are the same
 abbrev pub is_same : List ℕ → List ℕ → Bool
 is_same word other = pointwise nat_eq word other
+
+-- a word is among these
+abbrev pub is_known : List (List ℕ) → List ℕ → Bool
+is_known known word = list_any (is_same word) known
 
 -- an option is among them
 abbrev pub is_option : List ℕ → List (List ℕ) → Bool
@@ -14,18 +19,22 @@ is_option option (word ∷ []) = false
 is_option option (word ∷ value ∷ rest) = is_same word option || is_option option rest
 
 -- an option is known, and not among those behind it
-abbrev pub is_said_once : (List ℕ → Bool) → List ℕ → List (List ℕ) → Bool
-is_said_once is_known option rest = is_known option && not (is_option option rest)
+abbrev pub is_said_once : List (List ℕ) → List ℕ → List (List ℕ) → Bool
+is_said_once known option rest = is_known known option && not (is_option option rest)
 
 -- each is known and has a value, and none is said twice
-abbrev pub are_options : (List ℕ → Bool) → List (List ℕ) → Bool
-are_options is_known [] = true
-are_options is_known (option ∷ []) = false
-are_options is_known (option ∷ value ∷ rest) = is_said_once is_known option rest && are_options is_known rest
+abbrev pub are_options : List (List ℕ) → List (List ℕ) → Bool
+are_options known [] = true
+are_options known (option ∷ []) = false
+are_options known (option ∷ value ∷ rest) = is_said_once known option rest && are_options known rest
 
--- the number behind an option, within these bounds, and the default where the option isn't said
-abbrev pub option_number : List ℕ → ℕ → ℕ → ℕ → List (List ℕ) → Option ℕ
-option_number option least most default [] = Some default
-option_number option least most default (word ∷ []) = Some default
-option_number option least most default (word ∷ value ∷ rest) =
-    if is_same word option then number_within least most value else option_number option least most default rest
+-- the value that stands behind an option, where the option is said
+abbrev pub value_of : List ℕ → List (List ℕ) → Option (List ℕ)
+value_of option [] = None
+value_of option (word ∷ []) = None
+value_of option (word ∷ value ∷ rest) = if is_same word option then Some value else value_of option rest
+
+-- the number that a value says, within these bounds, and the default where no value is said
+abbrev pub number_said : ℕ → ℕ → Option ℕ → Option (List ℕ) → Option ℕ
+number_said least most default None = default
+number_said least most default (Some value) = number_within least most value

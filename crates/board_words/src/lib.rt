@@ -1,8 +1,8 @@
 //! The words of a command line, and the command that they say.
 //!
 //! It stands on std alone. Its contract gives the layer above the command of the words
-//! exactly where they are one. A list of words is one command at most. Two laws tell the spellings of `cuts`: each is read as
-//! this command, and nothing else is.
+//! exactly where they are one. A list of words is one command at most. Two laws tell the spellings of the commands: each is read as
+//! its command, and nothing else is read as one.
 #![tactic(auto)]
 
 mod command;
@@ -13,6 +13,6 @@ mod options;
 mod tests;
 mod word;
 
-pub use command::{Command, read};
-pub use laws::{only_spellings_are_read, spellings_are_read};
+pub use command::{Command, Show, read};
+pub use laws::{numbers_are_within_bounds, only_spellings_are_read, spellings_are_read};
 pub use word::{NoMemory, Word};

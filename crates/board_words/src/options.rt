@@ -1,18 +1,18 @@
 //! Options with their values.
-ghost use Rattle.std.specs.Prelude.{◌≡◌};
-ghost use Rattle.board_words.specs.Options.{are_options, is_option, is_said_once, option_number};
-ghost use Rattle.board_words.specs.Command.{is_cuts_option};
+ghost use Rattle.std.specs.Prelude.{◌≡◌, map, None, Some, MatchOption};
+ghost use Rattle.std.specs.List.{list_any};
+ghost use Rattle.board_words.specs.Options.{are_options, is_known, is_option, is_said_once, is_same, number_said, value_of};
 
 use crate::Word;
 use crate::number::number_within;
 
-// Whether the words are options of `cuts`, each with a value behind it, and none twice.
-pub(crate) fn are_cuts_options(words: &[Word]) -> bool
-    ensures { result ≡ are_options is_cuts_option words.now }
+// Whether the words are known options, each with a value behind it, and none twice.
+pub(crate) fn are_options(known: &[&[u8]], words: &[Word]) -> bool
+    ensures { result ≡ are_options (map (λ word. word.now) known.now) words.now }
 {
     let mut rest = words;
     while let [option, _, behind @ ..] = rest {
-        if !is_said_once(option.as_slice(), behind) {
+        if !is_said_once(known, option.as_slice(), behind) {
             return false;
         }
         rest = behind;
@@ -20,17 +20,20 @@ pub(crate) fn are_cuts_options(words: &[Word]) -> bool
     rest.is_empty()
 }
 
-// Whether a word is an option of `cuts` and not among the options behind it.
-fn is_said_once(word: &[u8], rest: &[Word]) -> bool
-    ensures { result ≡ is_said_once is_cuts_option word.now rest.now }
+// Whether a word is a known option and not among the options behind it.
+fn is_said_once(known: &[&[u8]], word: &[u8], rest: &[Word]) -> bool
+    ensures { result ≡ is_said_once (map (λ word. word.now) known.now) word.now rest.now }
 {
-    is_cuts_option(word) && !is_option(word, rest)
+    is_known(known, word) && !is_option(word, rest)
 }
 
-fn is_cuts_option(word: &[u8]) -> bool
-    ensures { result ≡ is_cuts_option word.now }
+fn is_known(known: &[&[u8]], word: &[u8]) -> bool
+    ensures { result ≡ is_known (map (λ word. word.now) known.now) word.now }
 {
-    word == b"--most".as_slice() || word == b"--workers".as_slice()
+    match known {
+        [option, rest @ ..] => word == *option || is_known(rest, word),
+        [] => false,
+    }
 }
 
 // Whether an option is among options with their values.
@@ -47,24 +50,34 @@ fn is_option(option: &[u8], words: &[Word]) -> bool
     false
 }
 
-// The number behind an option, which has to be within these bounds, and the default where the option isn't said.
-pub(crate) fn option_number(
-    option: &[u8],
-    least: u32,
-    most: u32,
-    default: u32,
-    words: &[Word],
-) -> Option<u32>
-    ensures { result ≡ option_number option.now least most default words.now }
+// The value behind an option, where the option is said.
+pub(crate) fn value_of<'a>(option: &[u8], words: &'a [Word]) -> Option<&'a Word>
+    ensures { MatchOption result (value_of option.now words.now ≡ None) (λ value. value_of option.now words.now ≡ Some value.now) }
 {
     match words {
         [word, value, rest @ ..] => {
             if word.as_slice() == option {
-                number_within(least, most, value.as_slice())
+                Some(value)
             } else {
-                option_number(option, least, most, default, rest)
+                value_of(option, rest)
             }
         }
-        _ => Some(default),
+        _ => None,
+    }
+}
+
+// The number behind an option, which has to be within these bounds, and the default where the option isn't said.
+pub(crate) fn number_said(
+    words: &[Word],
+    option: &[u8],
+    least: u32,
+    most: u32,
+    default: Option<u32>,
+) -> Option<u32>
+    ensures { result ≡ number_said least most default (value_of option.now words.now) }
+{
+    match value_of(option, words) {
+        Some(value) => number_within(least, most, value.as_slice()),
+        None => default,
     }
 }

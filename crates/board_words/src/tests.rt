@@ -13,87 +13,129 @@ fn said(alloc: Global, text: &str) -> Result<Option<Command>, AllocError> {
     Ok(read(words.as_slice()))
 }
 
-fn check_cuts(rt: &impl Abort, alloc: Global) -> Result<(), AllocError> {
-    for (text, most, workers) in [
-        ("cuts", 6, 4),
-        ("cuts --most 0", 0, 4),
-        ("cuts --most 8", 8, 4),
-        ("cuts --workers 1", 6, 1),
-        ("cuts --most 0 --workers 16", 0, 16),
-        ("cuts --workers 1 --most 8", 8, 1),
-    ] {
-        assert_eq!(rt;
-            said(alloc, text)?,
-            Some(Command::Cuts { most, workers }),
-            "{text}"
-        );
+fn check_read(rt: &impl Abort, alloc: Global, table: &[(&str, Command)]) -> Result<(), AllocError> {
+    for (text, command) in table {
+        assert_eq!(rt; said(alloc, text)?, Some(*command), "{text}");
     }
     Ok(())
 }
 
-fn check_help(rt: &impl Abort, alloc: Global) -> Result<(), AllocError> {
-    assert_eq!(rt; said(alloc, "help")?, Some(Command::Help));
-    Ok(())
-}
-
-fn check_commands(rt: &impl Abort, alloc: Global) -> Result<(), AllocError> {
-    for text in [
-        "",
-        "Cuts",
-        "Cuts --most 0",
-        "cut --most 0",
-        "help x",
-        "Help",
-        "board",
-        "--help",
-    ] {
+fn check_none(rt: &impl Abort, alloc: Global, texts: &[&str]) -> Result<(), AllocError> {
+    for text in texts {
         assert_eq!(rt; said(alloc, text)?, None, "{text}");
     }
     Ok(())
 }
 
-fn check_options(rt: &impl Abort, alloc: Global) -> Result<(), AllocError> {
-    for text in [
-        "cuts --most",
-        "cuts --most=0",
-        "cuts --most 0 --most 8",
-        "cuts --workers",
-        "cuts --most 0 --workers",
-        "cuts --most 0 --workers 1 --workers 1",
-        "cuts --most 0 --margin 0",
-        "cuts 0 --most",
-    ] {
-        assert_eq!(rt; said(alloc, text)?, None, "{text}");
-    }
-    Ok(())
+fn cuts(most: u32, workers: u32) -> Command {
+    Command::Cuts { most, workers }
 }
 
-fn check_numbers(rt: &impl Abort, alloc: Global) -> Result<(), AllocError> {
-    for text in [
-        "cuts --most 9",
-        "cuts --most 08",
-        "cuts --most 00",
-        "cuts --most +0",
-        "cuts --most 0000000",
-        "cuts --most 0 --workers 0",
-        "cuts --most 0 --workers 17",
-        "cuts --most 0 --workers 04",
-        "cuts --most 0 --workers 4x",
-        "cuts --most 0 --workers 1000000",
-    ] {
-        assert_eq!(rt; said(alloc, text)?, None, "{text}");
+fn board(margin: u32, most: u32, workers: u32) -> Command {
+    Command::Board {
+        margin,
+        most,
+        workers,
     }
+}
+
+fn make(number: u32, show: Show) -> Command {
+    Command::Make { number, show }
+}
+
+#[test]
+fn options_are_read_in_any_order(rt: HostRuntime) -> Result<(), Fail> {
+    check_read(
+        &rt,
+        rt.alloc(),
+        &[
+            ("cuts", cuts(6, 4)),
+            ("cuts --most 0", cuts(0, 4)),
+            ("cuts --workers 1 --most 8", cuts(8, 1)),
+            ("cuts --most 0 --workers 16", cuts(0, 16)),
+            ("board", board(0, 6, 4)),
+            ("board --margin 4095", board(4095, 6, 4)),
+            ("board --workers 2 --margin 1 --most 0", board(1, 0, 2)),
+            ("diagram", Command::Diagram { workers: 4 }),
+            ("diagram --workers 16", Command::Diagram { workers: 16 }),
+            ("make --number 0", make(0, Show::Summary)),
+            (
+                "make --show deck --number 999999",
+                make(999_999, Show::Deck),
+            ),
+            ("make --number 7 --show summary", make(7, Show::Summary)),
+        ],
+    )?;
     Ok(())
 }
 
 #[test]
-fn words_are_read(rt: HostRuntime) -> Result<(), Fail> {
-    let alloc = rt.alloc();
-    check_cuts(&rt, alloc)?;
-    check_help(&rt, alloc)?;
-    check_commands(&rt, alloc)?;
-    check_options(&rt, alloc)?;
-    check_numbers(&rt, alloc)?;
+fn commands_without_options_are_read(rt: HostRuntime) -> Result<(), Fail> {
+    check_read(
+        &rt,
+        rt.alloc(),
+        &[
+            ("check", Command::Check),
+            ("print", Command::Print),
+            ("help", Command::Help),
+        ],
+    )?;
+    Ok(())
+}
+
+#[test]
+fn other_words_are_no_command(rt: HostRuntime) -> Result<(), Fail> {
+    check_none(
+        &rt,
+        rt.alloc(),
+        &[
+            "",
+            "Cuts",
+            "cut --most 0",
+            "help x",
+            "check --most 0",
+            "print x",
+            "--help",
+            "cuts --most",
+            "cuts --most=6",
+            "cuts --most 6 --most 6",
+            "cuts --margin 0",
+            "cuts 0 --most",
+            "board --margin",
+            "board --margin 1 --most 0 --margin 1",
+            "board --number 1",
+            "diagram --most 0",
+            "make",
+            "make --show deck",
+            "make --number 1 --show both",
+            "make --number 1 --show",
+        ],
+    )?;
+    Ok(())
+}
+
+#[test]
+fn numbers_out_of_form_or_bounds_are_refused(rt: HostRuntime) -> Result<(), Fail> {
+    check_none(
+        &rt,
+        rt.alloc(),
+        &[
+            "cuts --most 9",
+            "cuts --most 08",
+            "cuts --most 00",
+            "cuts --most +0",
+            "cuts --most 0000000",
+            "cuts --workers 0",
+            "cuts --workers 17",
+            "cuts --workers 4x",
+            "board --margin 4096",
+            "board --margin 07",
+            "diagram --workers 17",
+            "make --number 1000000",
+            "make --number 00",
+            "make --number -1",
+        ],
+    )?;
     Ok(())
 }
 

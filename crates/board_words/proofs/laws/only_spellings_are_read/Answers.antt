@@ -2,4 +2,4 @@ use Rattle.board_words.proofs.SpellingLemmas.{only_spelling}
 use Rattle.board_words.proofs.laws.only_spellings_are_read.Goals as goal
 
 pub returns : goal.returns
-returns c = only_spelling
+returns c = record { spelled = only_spelling }
