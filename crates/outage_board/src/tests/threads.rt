@@ -27,12 +27,23 @@ fn last_pass(board: &Board, passes: &mut Passes) -> Option<CrewPass>
     passes.pop()
 }
 
+// The reply to the next request of a pass's crew, if one is left.
+fn reply_with(rt: &impl Wait, board: &Board, pass: &mut CrewPass) -> Option<Reply>
+    requires { pass.old.board ≡ board.now }
+    ensures { pass.new.board ≡ board.now }
+{
+    match board.serve(rt, pass) {
+        Some(entry) => Some(entry.reply),
+        None => None,
+    }
+}
+
 // One thread serves two requests.
-fn serve_two(rt: &impl Wait, board: &Board, mut pass: CrewPass) -> (Option<Entry>, Option<Entry>)
+fn serve_two(rt: &impl Wait, board: &Board, mut pass: CrewPass) -> (Option<Reply>, Option<Reply>)
     requires { pass.board ≡ board.now }
 {
-    let first = board.serve(rt, &mut pass);
-    let second = board.serve(rt, &mut pass);
+    let first = reply_with(rt, board, &mut pass);
+    let second = reply_with(rt, board, &mut pass);
     (first, second)
 }
 
@@ -43,24 +54,20 @@ fn serve_at_once<R: Threads + Wait + Sync>(
     one: CrewPass,
     other: CrewPass,
 ) -> (
-    (Option<Entry>, Option<Entry>),
-    (Option<Entry>, Option<Entry>),
+    (Option<Reply>, Option<Reply>),
+    (Option<Reply>, Option<Reply>),
 )
     requires { (one.board ≡ board.now) × (other.board ≡ board.now) }
 {
     join(
         rt,
-        move || -> (Option<Entry>, Option<Entry>)
+        move || -> (Option<Reply>, Option<Reply>)
             requires { IsSync R.row × (one.board ≡ board.now) }
         { serve_two(rt, board, one) },
-        move || -> (Option<Entry>, Option<Entry>)
+        move || -> (Option<Reply>, Option<Reply>)
             requires { IsSync R.row × (other.board ≡ board.now) }
         { serve_two(rt, board, other) },
     )
-}
-
-fn reply_of(entry: Option<Entry>) -> Option<Reply> {
-    Some(entry?.reply)
 }
 
 #[test]
@@ -71,15 +78,9 @@ fn two_threads_serve_a_crew_each(rt: HostRuntime) -> Result<(), Fail> {
     let one = last_pass(&board, &mut passes).ok_or("no pass")?;
     let other = last_pass(&board, &mut passes).ok_or("no pass")?;
     assert_eq!(&rt; (one.crew().0, other.crew().0), (1, 0));
-    let ((first, second), (third, fourth)) = serve_at_once(&rt, &board, one, other);
-    assert_eq!(&rt;
-        (reply_of(first), reply_of(second)),
-        (Some(Reply::Granted), None)
-    );
-    assert_eq!(&rt;
-        (reply_of(third), reply_of(fourth)),
-        (Some(Reply::Granted), Some(Reply::NotOut))
-    );
+    let (newer, older) = serve_at_once(&rt, &board, one, other);
+    assert_eq!(&rt; newer, (Some(Reply::Granted), None));
+    assert_eq!(&rt; older, (Some(Reply::Granted), Some(Reply::NotOut)));
     Ok(())
 }
 
