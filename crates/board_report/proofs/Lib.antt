@@ -1,2 +1,7 @@
 mod Putting
 mod Listing
+mod ShownNames
+mod CrewNames
+mod LogLemmas
+mod BoardLemmas
+mod PrintLemmas

@@ -63,11 +63,11 @@ counts_with cuts lists count total same is all =
     ∙ ap (count_line (length (listed_with cuts lists))) (all ∙ ap order_total (sym (orders_with cuts lists same)))
 
 -- the counts of a tree, put as numbers
-pub counted : {K : Type 0} (taken : K → Option (List ℕ)) (faults : K → ℕ) (old new : Output K) (tree : FaultTree) (units gates : ℕ)
-    → units ≡ unit_count tree → gates ≡ gate_count tree → Puts taken faults old new (tree_counts units gates)
-    → Puts taken faults old new (tree_counts (unit_count tree) (gate_count tree))
-counted taken faults old new tree units gates all all_gates put =
-    subst (Puts taken faults old new) (ap (λ n. tree_counts n gates) all ∙ ap (tree_counts (unit_count tree)) all_gates) put
+pub counted : {K : Type 0} (taken : K → Option (List ℕ)) (faults : K → ℕ) (old new : Output K) (title : List ℕ) (tree : FaultTree) (units gates : ℕ)
+    → units ≡ unit_count tree → gates ≡ gate_count tree → Puts taken faults old new (tree_counts title units gates)
+    → Puts taken faults old new (tree_counts title (unit_count tree) (gate_count tree))
+counted taken faults old new title tree units gates all all_gates put =
+    subst (Puts taken faults old new) (ap (λ n. tree_counts title n gates) all ∙ ap (tree_counts title (unit_count tree)) all_gates) put
 
 -- a text round two numbers, put in five pieces
 pub two_numbers : {K : Type 0} (taken : K → Option (List ℕ)) (faults : K → ℕ) (old new : Output K) (front middle back one : List ℕ) (first : List ℕ) → one ≡ first

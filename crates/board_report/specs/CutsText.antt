@@ -6,12 +6,17 @@ use Rattle.std.specs.List.{flat_map}
 use Rattle.fault_model.specs.Tree.{FaultTree, unit_count, gate_count, name_of}
 use Rattle.board_report.specs.Shown.{show, spaced}
 
--- `tree: U units, G gates, top NAME`
-abbrev pub tree_counts : ℕ → ℕ → List ℕ
-tree_counts units gates = codes "tree: " ++ decimal units ++ codes " units, " ++ decimal gates ++ codes " gates, top "
+-- a title, and then `U units, G gates, top`
+abbrev pub tree_counts : List ℕ → ℕ → ℕ → List ℕ
+tree_counts title units gates = title ++ decimal units ++ codes " units, " ++ decimal gates ++ codes " gates, top "
 
+-- the same, and the name of the top event
+abbrev pub titled_line : List ℕ → FaultTree → List ℕ
+titled_line title tree = tree_counts title (unit_count tree) (gate_count tree) ++ (show (name_of tree tree.top) ++ codes "\n")
+
+-- `tree: U units, G gates, top NAME`
 abbrev pub tree_line : FaultTree → List ℕ
-tree_line tree = tree_counts (unit_count tree) (gate_count tree) ++ (show (name_of tree tree.top) ++ codes "\n")
+tree_line tree = titled_line (codes "tree: ") tree
 
 -- `cuts: C, orders: O`
 abbrev pub count_line : ℕ → ℕ → List ℕ

@@ -6,8 +6,10 @@ use Rattle.galileo_tree.specs.declared.fault.What.{What}
 use Rattle.galileo_tree.specs.declared.fault.What.TheVariants as what
 use Rattle.tree_check.specs.declared.fault.CheckCode.{CheckCode}
 use Rattle.tree_check.specs.declared.fault.CheckCode.TheVariants as check
+use Rattle.crew_script.specs.declared.fault.CrewCode.{CrewCode}
+use Rattle.crew_script.specs.declared.fault.CrewCode.TheVariants as crew
 use Rattle.board_report.specs.declared.fault.FaultCode.{FaultCode}
-use Rattle.board_report.specs.declared.fault.FaultCode.TheVariants.{Lex, Expected, Check}
+use Rattle.board_report.specs.declared.fault.FaultCode.TheVariants.{Lex, Expected, Check, Crew}
 use Rattle.board_report.specs.declared.fault.DeckFault.{DeckFault}
 use Rattle.board_report.specs.declared.notice.Notice.{Notice}
 use Rattle.board_report.specs.declared.notice.Notice.TheVariants.{Usage, ReadFault, TooLong, ListLimit, OrderLimit}
@@ -47,10 +49,19 @@ check_text check.Cycle = codes "C14 cycle"
 check_text check.TooManyUnits = codes "C15 too many units"
 check_text check.TooManyGates = codes "C16 too many gates"
 
+abbrev pub crew_text : CrewCode → List ℕ
+crew_text crew.NoCrewPart = codes "S1 no crew part"
+crew_text crew.BadLine = codes "S2 bad line"
+crew_text crew.DuplicateCrew = codes "S3 duplicate crew"
+crew_text crew.RequestBeforeCrew = codes "S4 request before crew"
+crew_text crew.TooManyCrews = codes "S5 too many crews"
+crew_text crew.TooManyRequests = codes "S6 too many requests"
+
 abbrev pub code_text : FaultCode → List ℕ
 code_text (Lex code) = lex_text code
 code_text (Expected wanted) = what_text wanted
 code_text (Check code) = check_text code
+code_text (Crew code) = crew_text code
 
 -- `refused: CODE TEXT at LINE:COLUMN`
 abbrev pub fault_line : DeckFault → List ℕ

@@ -8,9 +8,13 @@ use Rattle.fault_model.specs.Tree.{FaultTree, name_of}
 abbrev pub show : List ℕ → List ℕ
 show name = if is_bare_name name then name else codes "\"" ++ name ++ codes "\""
 
+-- a name behind a blank
+abbrev pub named : List ℕ → List ℕ
+named name = codes " " ++ show name
+
 -- a unit's name behind a blank
 abbrev pub unit_text : FaultTree → ℕ → List ℕ
-unit_text tree unit = codes " " ++ show (name_of tree unit)
+unit_text tree unit = named (name_of tree unit)
 
 -- the names of units, each behind a blank
 abbrev pub spaced : FaultTree → List ℕ → List ℕ

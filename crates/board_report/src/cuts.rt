@@ -3,7 +3,7 @@ ghost use Rattle.std.specs.Prelude.{◌≡◌, ◌<◌, ◌+◌, is_err, length,
 ghost use Rattle.cut_sequences.specs.Orders.{orders_at};
 ghost use Rattle.edge_io.specs.Out.{has_failed, Puts};
 ghost use Rattle.fault_model.specs.Tree.{IsUnitOf, name_of};
-ghost use Rattle.board_report.specs.CutsText.{count_line, cut_block, cut_blocks, cut_line, cut_number, cuts_text, listed_with, tree_counts, tree_line};
+ghost use Rattle.board_report.specs.CutsText.{count_line, cut_block, cut_blocks, cut_line, cut_number, cuts_text, listed_with, titled_line, tree_counts, tree_line};
 ghost use Rattle.board_report.specs.OrdersOfUnits.{AreOrdersOf};
 
 use crate::orders::put_order_lines;
@@ -31,17 +31,34 @@ pub fn put_cuts<K: Sink>(
     put_blocks(out, tree, cuts, orders)
 }
 
-fn put_tree_line<K: Sink>(out: &mut Out<K>, tree: &Tree) -> Result<(), WriteFault>
+pub(crate) fn put_tree_line<K: Sink>(out: &mut Out<K>, tree: &Tree) -> Result<(), WriteFault>
     ensures puts { Puts K.taken K.faults out.old out.new (tree_line tree.now) }
     ensures answer { is_err result ≡ has_failed out.new }
 {
-    put_tree_counts(out, tree.units(), tree.gates())?;
+    put_titled_line(out, b"tree: ", tree)
+}
+
+// Puts the size of a tree and its top event behind a title.
+pub(crate) fn put_titled_line<K: Sink>(
+    out: &mut Out<K>,
+    title: &[u8],
+    tree: &Tree,
+) -> Result<(), WriteFault>
+    ensures puts { Puts K.taken K.faults out.old out.new (titled_line title.now tree.now) }
+    ensures answer { is_err result ≡ has_failed out.new }
+{
+    put_tree_counts(out, title, tree.units(), tree.gates())?;
     put_shown(out, top_name(tree))?;
     out.put(b"\n")
 }
 
-fn put_tree_counts<K: Sink>(out: &mut Out<K>, units: u32, gates: u32) -> Result<(), WriteFault>
-    ensures puts { Puts K.taken K.faults out.old out.new (tree_counts units gates) }
+fn put_tree_counts<K: Sink>(
+    out: &mut Out<K>,
+    title: &[u8],
+    units: u32,
+    gates: u32,
+) -> Result<(), WriteFault>
+    ensures puts { Puts K.taken K.faults out.old out.new (tree_counts title.now units gates) }
     ensures answer { is_err result ≡ has_failed out.new }
 {
     let mut unit_digits = Buffer::new();
@@ -49,7 +66,7 @@ fn put_tree_counts<K: Sink>(out: &mut Out<K>, units: u32, gates: u32) -> Result<
     put_all(
         out,
         &[
-            b"tree: ",
+            title,
             unit_digits.format(units).as_bytes(),
             b" units, ",
             gate_digits.format(gates).as_bytes(),
@@ -58,7 +75,7 @@ fn put_tree_counts<K: Sink>(out: &mut Out<K>, units: u32, gates: u32) -> Result<
     )
 }
 
-fn top_name(tree: &Tree) -> &Name
+pub(crate) fn top_name(tree: &Tree) -> &Name
     ensures { result.now ≡ name_of tree.now tree.now.top }
 {
     tree.name(tree.top())

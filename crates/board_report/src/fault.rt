@@ -1,9 +1,10 @@
 //! Faults of a deck.
 ghost use Rattle.std.specs.Prelude.{◌≡◌, is_err};
 ghost use Rattle.edge_io.specs.Out.{has_failed, Puts};
-ghost use Rattle.board_report.specs.Refusals.{check_text, code_text, fault_line, lex_text, what_text};
+ghost use Rattle.board_report.specs.Refusals.{check_text, code_text, crew_text, fault_line, lex_text, what_text};
 
 use crate::pieces::put_all;
+use crew_script::CrewCode;
 use edge_io::{Out, Sink, WriteFault};
 use fault_model::Place;
 use galileo_lexer::LexCode;
@@ -20,6 +21,8 @@ pub enum FaultCode {
     Expected(What),
     /// Statements that stand for no tree.
     Check(CheckCode),
+    /// Lines that stand for no crews, or no crew part at all.
+    Crew(CrewCode),
 }
 
 /// A fault of a deck, and its place.
@@ -57,6 +60,7 @@ fn code_text(code: FaultCode) -> &'static [u8]
         FaultCode::Lex(code) => lex_text(code),
         FaultCode::Expected(what) => what_text(what),
         FaultCode::Check(code) => check_text(code),
+        FaultCode::Crew(code) => crew_text(code),
     }
 }
 
@@ -107,5 +111,18 @@ fn check_text(code: CheckCode) -> &'static [u8]
         CheckCode::Cycle => b"C14 cycle",
         CheckCode::TooManyUnits => b"C15 too many units",
         CheckCode::TooManyGates => b"C16 too many gates",
+    }
+}
+
+fn crew_text(code: CrewCode) -> &'static [u8]
+    ensures { result.now ≡ crew_text code }
+{
+    match code {
+        CrewCode::NoCrewPart => b"S1 no crew part",
+        CrewCode::BadLine => b"S2 bad line",
+        CrewCode::DuplicateCrew => b"S3 duplicate crew",
+        CrewCode::RequestBeforeCrew => b"S4 request before crew",
+        CrewCode::TooManyCrews => b"S5 too many crews",
+        CrewCode::TooManyRequests => b"S6 too many requests",
     }
 }

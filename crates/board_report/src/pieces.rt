@@ -3,7 +3,7 @@ ghost use Rattle.std.specs.Prelude.{◌≡◌, ◌<◌, is_err, length, false, A
 ghost use Rattle.std.specs.List.{flat_map};
 ghost use Rattle.edge_io.specs.Out.{has_failed, Puts};
 ghost use Rattle.fault_model.specs.Tree.{IsUnitOf, name_of};
-ghost use Rattle.board_report.specs.Shown.{show, spaced, unit_text};
+ghost use Rattle.board_report.specs.Shown.{named, show, spaced, unit_text};
 
 use edge_io::{Out, Sink, WriteFault};
 use fault_model::{Name, NodeNo, Tree};
@@ -33,17 +33,25 @@ pub(crate) fn put_shown<K: Sink>(out: &mut Out<K>, name: &Name) -> Result<(), Wr
     }
 }
 
+// Puts a name behind a blank.
+pub(crate) fn put_named<K: Sink>(out: &mut Out<K>, name: &Name) -> Result<(), WriteFault>
+    ensures puts { Puts K.taken K.faults out.old out.new (named name.now) }
+    ensures answer { is_err result ≡ has_failed out.new }
+{
+    out.put(b" ")?;
+    put_shown(out, name)
+}
+
 // Puts a unit's name behind a blank.
 fn put_unit<K: Sink>(out: &mut Out<K>, tree: &Tree, unit: UnitNo) -> Result<(), WriteFault>
     requires { IsUnitOf tree.now unit }
     ensures puts { Puts K.taken K.faults out.old out.new (unit_text tree.now unit) }
     ensures answer { is_err result ≡ has_failed out.new }
 {
-    out.put(b" ")?;
-    put_shown(out, unit_name(tree, unit))
+    put_named(out, unit_name(tree, unit))
 }
 
-fn unit_name(tree: &Tree, unit: UnitNo) -> &Name
+pub(crate) fn unit_name(tree: &Tree, unit: UnitNo) -> &Name
     requires { IsUnitOf tree.now unit }
     ensures { result.now ≡ name_of tree.now unit }
 {

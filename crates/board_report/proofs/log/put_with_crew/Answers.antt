@@ -1,0 +1,15 @@
+use Rattle.std.proofs.Common.{sym, ◌∙◌, ap, subst, is_err, codes, ◌++◌, length, Some}
+use Rattle.edge_io.specs.Out.{Puts, Puts-trans}
+use Rattle.board_report.specs.LogText.{ask_text, crew_shown, entry_end, entry_head, entry_lines, log_head, reply_text}
+use Rattle.board_report.proofs.Putting.{first_short}
+use Rattle.board_report.proofs.log.put_with_crew.Goals as goal
+
+pub returns-in_err-put-clause-puts : goal.returns-in_err-put-clause-puts
+returns-in_err-put-clause-puts g c =
+    first_short g.K.Sink.taken g.K.Sink.faults c.args.out.now c.put.new.self c.args.text.now (crew_shown c.args.dockets.now c.args.crew) c.put.ensures.puts (sym c.put.ensures.answer ∙ ap is_err c.in_err-put.was)
+
+pub returns-clause-puts : goal.returns-clause-puts
+returns-clause-puts g c =
+    Puts-trans g.K.Sink.taken g.K.Sink.faults c.args.out.now c.put.new.self c.put_crew.new.out c.args.text.now (crew_shown c.args.dockets.now c.args.crew)
+    c.put.ensures.puts
+    c.put_crew.ensures.puts

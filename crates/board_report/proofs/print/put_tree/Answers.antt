@@ -1,0 +1,26 @@
+use Rattle.std.proofs.Common.{sym, ◌∙◌, ap, subst, is_err, codes, ◌++◌, length, Some}
+use Rattle.edge_io.specs.Out.{Puts, Puts-trans}
+use Rattle.board_report.specs.PrintText.{attribute_text, gate_line, gate_word, input_text, quoted, top_line, unit_line, value_text}
+use Rattle.fault_model.specs.Tree.{name_of, kind_of, inputs_of, attributes_of, unit_count, gate_count}
+use Rattle.std.specs.List.{flat_map, range_with_len}
+use Rattle.std.proofs.Common.{◌+◌}
+use Rattle.board_report.proofs.Putting.{first_short}
+use Rattle.board_report.proofs.print.put_tree.Goals as goal
+
+pub returns-in_err-put_top_line-clause-puts : goal.returns-in_err-put_top_line-clause-puts
+returns-in_err-put_top_line-clause-puts g c =
+    first_short g.K.Sink.taken g.K.Sink.faults c.args.out.now c.put_top_line.new.out (top_line c.args.tree.now) ((flat_map (gate_line c.args.tree.now) (range_with_len (unit_count c.args.tree.now + 1) (gate_count c.args.tree.now))) ++ (flat_map (unit_line c.args.tree.now) (range_with_len 1 (unit_count c.args.tree.now)))) c.put_top_line.ensures.puts (sym c.put_top_line.ensures.answer ∙ ap is_err c.in_err-put_top_line.was)
+
+pub returns-in_err-put_gates-clause-puts : goal.returns-in_err-put_gates-clause-puts
+returns-in_err-put_gates-clause-puts g c =
+    Puts-trans g.K.Sink.taken g.K.Sink.faults c.args.out.now c.put_top_line.new.out c.put_gates.new.out (top_line c.args.tree.now) ((flat_map (gate_line c.args.tree.now) (range_with_len (unit_count c.args.tree.now + 1) (gate_count c.args.tree.now))) ++ (flat_map (unit_line c.args.tree.now) (range_with_len 1 (unit_count c.args.tree.now))))
+    c.put_top_line.ensures.puts
+    (first_short g.K.Sink.taken g.K.Sink.faults c.put_top_line.new.out c.put_gates.new.out (flat_map (gate_line c.args.tree.now) (range_with_len (unit_count c.args.tree.now + 1) (gate_count c.args.tree.now))) (flat_map (unit_line c.args.tree.now) (range_with_len 1 (unit_count c.args.tree.now))) c.put_gates.ensures.puts (sym c.put_gates.ensures.answer ∙ ap is_err c.in_err-put_gates.was))
+
+pub returns-clause-puts : goal.returns-clause-puts
+returns-clause-puts g c =
+    Puts-trans g.K.Sink.taken g.K.Sink.faults c.args.out.now c.put_top_line.new.out c.put_units.new.out (top_line c.args.tree.now) ((flat_map (gate_line c.args.tree.now) (range_with_len (unit_count c.args.tree.now + 1) (gate_count c.args.tree.now))) ++ (flat_map (unit_line c.args.tree.now) (range_with_len 1 (unit_count c.args.tree.now))))
+    c.put_top_line.ensures.puts
+    (Puts-trans g.K.Sink.taken g.K.Sink.faults c.put_top_line.new.out c.put_gates.new.out c.put_units.new.out (flat_map (gate_line c.args.tree.now) (range_with_len (unit_count c.args.tree.now + 1) (gate_count c.args.tree.now))) (flat_map (unit_line c.args.tree.now) (range_with_len 1 (unit_count c.args.tree.now)))
+    c.put_gates.ensures.puts
+    c.put_units.ensures.puts)

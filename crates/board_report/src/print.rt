@@ -1,0 +1,212 @@
+//! A tree in its own grammar, one statement a line.
+ghost use Rattle.std.specs.Prelude.{◌≡◌, ◌<◌, ◌+◌, ◌++◌, codes, is_err, length, false, All};
+ghost use Rattle.std.specs.List.{flat_map, list_all, range_with_len};
+ghost use Rattle.edge_io.specs.Out.{has_failed, Puts};
+ghost use Rattle.fault_model.specs.Tree.{IsGateOf, IsNodeOf, IsUnitOf, attributes_of, gate_count, inputs_of, kind_of, name_of, unit_count};
+ghost use Rattle.galileo_lexer.specs.Bytes.{is_word_byte};
+ghost use Rattle.fault_model.specs.declared.node.GateKind.TheVariants.{Votes};
+ghost use Rattle.board_report.specs.PrintText.{attribute_text, attribute_word, gate_line, gate_word, input_text, print_text, quoted, top_line, unit_line, value_text};
+
+use crate::cuts::top_name;
+use crate::pieces::put_all;
+use edge_io::{Out, Sink, WriteFault};
+use fault_model::{Attribute, GateKind, Name, NodeNo, Tree};
+use itoa::Buffer;
+use unit_sets::UnitNo;
+
+/// Puts a tree as a text: the top event, then the gates and the units by number. Every name stands in quotes.
+pub fn put_tree<K: Sink>(out: &mut Out<K>, tree: &Tree) -> Result<(), WriteFault>
+    ensures puts { Puts K.taken K.faults out.old out.new (print_text tree.now) }
+    ensures answer { is_err result ≡ has_failed out.new }
+{
+    put_top_line(out, tree)?;
+    put_gates(out, tree)?;
+    put_units(out, tree)
+}
+
+fn put_top_line<K: Sink>(out: &mut Out<K>, tree: &Tree) -> Result<(), WriteFault>
+    ensures puts { Puts K.taken K.faults out.old out.new (top_line tree.now) }
+    ensures answer { is_err result ≡ has_failed out.new }
+{
+    put_all(out, &[b"toplevel \"", top_name(tree).as_slice(), b"\";\n"])
+}
+
+// Puts a name in quotes.
+fn put_quoted<K: Sink>(out: &mut Out<K>, name: &Name) -> Result<(), WriteFault>
+    ensures puts { Puts K.taken K.faults out.old out.new (quoted name.now) }
+    ensures answer { is_err result ≡ has_failed out.new }
+{
+    put_all(out, &[b"\"", name.as_slice(), b"\""])
+}
+
+fn node_name(tree: &Tree, node: NodeNo) -> &Name
+    requires { IsNodeOf tree.now node }
+    ensures { result.now ≡ name_of tree.now node }
+{
+    tree.name(node)
+}
+
+// Puts the gates' statements, each on a line.
+fn put_gates<K: Sink>(out: &mut Out<K>, tree: &Tree) -> Result<(), WriteFault>
+    requires fine { has_failed out.old ≡ false }
+    ensures puts { Puts K.taken K.faults out.old out.new (flat_map (gate_line tree.now) (range_with_len (unit_count tree.now + 1) (gate_count tree.now))) }
+    ensures answer { is_err result ≡ has_failed out.new }
+{
+    let units = tree.units();
+    for i in 0..tree.gates() {
+        put_gate_line(out, tree, NodeNo(units + 1 + i))?;
+    }
+    Ok(())
+}
+
+fn put_gate_line<K: Sink>(out: &mut Out<K>, tree: &Tree, gate: NodeNo) -> Result<(), WriteFault>
+    requires { IsGateOf tree.now gate }
+    ensures puts { Puts K.taken K.faults out.old out.new (gate_line tree.now gate) }
+    ensures answer { is_err result ≡ has_failed out.new }
+{
+    put_quoted(out, node_name(tree, gate))?;
+    out.put(b" ")?;
+    put_gate_word(out, tree.kind(gate))?;
+    put_inputs(out, tree, tree.inputs(gate))?;
+    out.put(b";\n")
+}
+
+fn put_gate_word<K: Sink>(out: &mut Out<K>, kind: GateKind) -> Result<(), WriteFault>
+    ensures puts { Puts K.taken K.faults out.old out.new (gate_word kind) }
+    ensures answer { is_err result ≡ has_failed out.new }
+{
+    match kind {
+        GateKind::And => out.put(b"and"),
+        GateKind::Or => out.put(b"or"),
+        GateKind::Votes(least, inputs) => put_votes(out, least, inputs),
+        GateKind::Pand => out.put(b"pand"),
+        GateKind::Por => out.put(b"por"),
+        GateKind::Seq => out.put(b"seq"),
+        GateKind::Fdep => out.put(b"fdep"),
+        GateKind::Csp => out.put(b"csp"),
+        GateKind::Wsp => out.put(b"wsp"),
+        GateKind::Hsp => out.put(b"hsp"),
+    }
+}
+
+fn put_votes<K: Sink>(out: &mut Out<K>, least: u32, inputs: u32) -> Result<(), WriteFault>
+    ensures puts { Puts K.taken K.faults out.old out.new (gate_word (Votes least inputs)) }
+    ensures answer { is_err result ≡ has_failed out.new }
+{
+    let mut least_digits = Buffer::new();
+    let mut input_digits = Buffer::new();
+    put_all(
+        out,
+        &[
+            least_digits.format(least).as_bytes(),
+            b"of",
+            input_digits.format(inputs).as_bytes(),
+        ],
+    )
+}
+
+// Puts the names of inputs, each behind a blank.
+fn put_inputs<K: Sink>(out: &mut Out<K>, tree: &Tree, inputs: &[NodeNo]) -> Result<(), WriteFault>
+    requires nodes { All (IsNodeOf tree.now) inputs.now }
+    requires fine { has_failed out.old ≡ false }
+    ensures puts { Puts K.taken K.faults out.old out.new (flat_map (input_text tree.now) inputs.now) }
+    ensures answer { is_err result ≡ has_failed out.new }
+{
+    for input in inputs {
+        put_input(out, tree, *input)?;
+    }
+    Ok(())
+}
+
+fn put_input<K: Sink>(out: &mut Out<K>, tree: &Tree, input: NodeNo) -> Result<(), WriteFault>
+    requires { IsNodeOf tree.now input }
+    ensures puts { Puts K.taken K.faults out.old out.new (input_text tree.now input) }
+    ensures answer { is_err result ≡ has_failed out.new }
+{
+    put_all(out, &[b" \"", node_name(tree, input).as_slice(), b"\""])
+}
+
+// Puts the units' statements, each on a line.
+fn put_units<K: Sink>(out: &mut Out<K>, tree: &Tree) -> Result<(), WriteFault>
+    requires fine { has_failed out.old ≡ false }
+    ensures puts { Puts K.taken K.faults out.old out.new (flat_map (unit_line tree.now) (range_with_len 1 (unit_count tree.now))) }
+    ensures answer { is_err result ≡ has_failed out.new }
+{
+    for i in 0..tree.units() {
+        put_unit_line(out, tree, i + 1)?;
+    }
+    Ok(())
+}
+
+fn put_unit_line<K: Sink>(out: &mut Out<K>, tree: &Tree, unit: u32) -> Result<(), WriteFault>
+    requires { IsUnitOf tree.now unit }
+    ensures puts { Puts K.taken K.faults out.old out.new (unit_line tree.now unit) }
+    ensures answer { is_err result ≡ has_failed out.new }
+{
+    put_quoted(out, node_name(tree, NodeNo(unit)))?;
+    put_attributes(out, attributes_at(tree, unit))?;
+    out.put(b";\n")
+}
+
+fn attributes_at(tree: &Tree, unit: u32) -> &[Attribute]
+    requires { IsUnitOf tree.now unit }
+    ensures { result.now ≡ attributes_of tree.now unit }
+{
+    // The number of units tells the proof that there are at most 4,095.
+    tree.units();
+    match UnitNo::new(unit as u16) {
+        Some(unit) => tree.attributes(unit),
+        None => &[],
+    }
+}
+
+fn put_attributes<K: Sink>(out: &mut Out<K>, attributes: &[Attribute]) -> Result<(), WriteFault>
+    requires fine { has_failed out.old ≡ false }
+    ensures puts { Puts K.taken K.faults out.old out.new (flat_map attribute_text attributes.now) }
+    ensures answer { is_err result ≡ has_failed out.new }
+{
+    for attribute in attributes {
+        put_attribute(out, attribute)?;
+    }
+    Ok(())
+}
+
+fn put_attribute<K: Sink>(out: &mut Out<K>, attribute: &Attribute) -> Result<(), WriteFault>
+    ensures puts { Puts K.taken K.faults out.old out.new (attribute_text attribute.now) }
+    ensures answer { is_err result ≡ has_failed out.new }
+{
+    put_attribute_word(out, &attribute.word)?;
+    put_value(out, &attribute.value)
+}
+
+fn put_attribute_word<K: Sink>(out: &mut Out<K>, word: &Name) -> Result<(), WriteFault>
+    ensures puts { Puts K.taken K.faults out.old out.new (attribute_word word.now) }
+    ensures answer { is_err result ≡ has_failed out.new }
+{
+    put_all(out, &[b" ", word.as_slice(), b"="])
+}
+
+// Puts a value: in quotes where it has bytes that no word has.
+fn put_value<K: Sink>(out: &mut Out<K>, value: &Name) -> Result<(), WriteFault>
+    ensures puts { Puts K.taken K.faults out.old out.new (value_text value.now) }
+    ensures answer { is_err result ≡ has_failed out.new }
+{
+    if has_word_bytes(value.as_slice()) {
+        out.put(value.as_slice())
+    } else {
+        put_quoted(out, value)
+    }
+}
+
+fn has_word_bytes(bytes: &[u8]) -> bool
+    ensures { result ≡ list_all is_word_byte bytes.now }
+{
+    bytes.iter().all(|byte| is_word_byte(*byte))
+}
+
+#[tactic(auto, unfolding(galileo_lexer::specs::Bytes::is_word_byte))]
+fn is_word_byte(byte: u8) -> bool
+    ensures { result ≡ is_word_byte byte }
+{
+    byte.is_ascii_alphanumeric() || byte == b'_' || byte == b'-' || byte == b'.' || byte == b'+'
+}
