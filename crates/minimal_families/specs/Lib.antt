@@ -1,0 +1,5 @@
+pub mod Hitting
+pub mod Least
+pub mod Nodes
+pub mod Steps
+pub mod Splitting
