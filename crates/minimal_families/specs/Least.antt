@@ -132,3 +132,7 @@ least-above test x least is asks =
     let passes : (unit : ℕ) → among found.set unit ≡ true → within unit ≡ true = λ unit h. passes_at within found.set unit found.passes h in
     let same : found.set ≡ set = ((is.antichain.sets set).0 has).1 found.set found.has (within_from set found.set within (λ unit h. (and_parts (among set unit) (nat_lt x unit) h).0) found.passes) in
     above_from_among x set (λ unit h. ltb-true x unit (and_parts (among set unit) (nat_lt x unit) (passes unit (subst (λ (q : List ℕ). among q unit ≡ true) (sym same) h))).1))
+
+-- the minimal sets of the product of all families of a list
+abbrev pub IsLeastProductOfAll : List (List (List ℕ)) → List (List ℕ) → Type 0
+IsLeastProductOfAll families least = IsLeastFor (λ within. list_all (λ family. hits family within) families) least

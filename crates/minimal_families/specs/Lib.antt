@@ -3,3 +3,5 @@ pub mod Least
 pub mod Nodes
 pub mod Steps
 pub mod Splitting
+pub mod Ends
+pub mod Many

@@ -1,5 +1,5 @@
 //! Laws of the definitions, each the clause of a function that does nothing.
-ghost use Rattle.std.specs.Prelude.{◌≡◌, ◌↔◌, ℕ, Bool, List};
+ghost use Rattle.std.specs.Prelude.{◌≡◌, ◌↔◌, ℕ, suc, Bool, List, [], ◌∷◌, ◌++◌};
 ghost use Rattle.family_operations.specs.Cuts.{Cuts};
 ghost use Rattle.family_operations.specs.Hits.{hits};
 ghost use Rattle.family_operations.specs.Minimal.{IsMinimal};
@@ -8,7 +8,7 @@ ghost use Rattle.family_operations.specs.Union.{IsUnion};
 ghost use Rattle.family_operations.specs.Votes.{IsVotes};
 ghost use Rattle.family_operations.specs.Without.{IsWithout};
 ghost use Rattle.family_parts.specs.Antichains.{IsAntichain};
-ghost use Rattle.minimal_families.specs.Least.{IsLeastFor, IsLeastUnion, IsLeastProduct, IsLeastVotes};
+ghost use Rattle.minimal_families.specs.Least.{IsLeastFor, IsLeastOfAll, IsLeastProduct, IsLeastProductOfAll, IsLeastUnion, IsLeastVotes};
 ghost use Rattle.zdd_families.specs.Family.{IsAbove, IsFamily, branch};
 
 /// Two families in which no set includes another, and which the same sets of units hit, are equal.
@@ -51,4 +51,12 @@ pub fn minimal_products_by_parts()
 /// of the rest.
 pub fn minimal_products_by_splitting()
     ensures { (f g rest rest' common common' alone joined least : List (List ℕ)) → IsWithout f g rest → IsWithout g f rest' → IsWithout f rest common → IsWithout g rest' common' → IsLeastUnion common common' alone → IsLeastProduct rest rest' joined → IsLeastUnion alone joined least → IsLeastProduct f g least }
+{}
+
+/// The minimal sets of many families, by those of fewer: unions of two lists, a product with one family more, and
+/// votes with one family more in front.
+pub fn minimal_sets_of_many()
+    ensures unions { (fs gs : List (List (List ℕ))) (f g h : List (List ℕ)) → IsLeastOfAll fs f → IsLeastOfAll gs g → IsLeastUnion f g h → IsLeastOfAll (fs ++ gs) h }
+    ensures products { (fs : List (List (List ℕ))) (f g h : List (List ℕ)) → IsLeastProductOfAll fs f → IsLeastProduct f g h → IsLeastProductOfAll (fs ++ g ∷ []) h }
+    ensures votes { (count : ℕ) (f : List (List ℕ)) (fs : List (List (List ℕ))) (same fewer more h : List (List ℕ)) → IsLeastVotes (suc count) fs same → IsLeastVotes count fs fewer → IsLeastProduct fewer f more → IsLeastUnion same more h → IsLeastVotes (suc count) (f ∷ fs) h }
 {}
