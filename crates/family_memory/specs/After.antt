@@ -1,5 +1,5 @@
 -- Operations one after another on one memory: for the proofs of this crate and of those above.
-use Rattle.std.proofs.Common.{MatchResult, Result, Ok, Err, ◌≡◌, ℕ, ◌<◌, List, refl, sym, ◌∙◌, inl, inr, arith}
+use Rattle.std.proofs.Common.{MatchResult, IfOk, IfErr, Result, Ok, Err, ◌≡◌, ℕ, ◌<◌, List, refl, sym, ◌∙◌, subst, inl, inr, arith}
 use Rattle.std.proofs.lemmas.Bool.{cases_lt}
 use Rattle.std.proofs.lemmas.Result.{MatchResult-weaker}
 use Rattle.zdd_families.specs.Family.{IsFamily, IsAbove}
@@ -64,7 +64,20 @@ module _ (a b c : Held) (first : Went a b) where
   pub ended : {E : Type 0} (is is' : List (List ℕ) → Type 0) (result : Result ℕ E) → ((f : List (List ℕ)) → is f → is' f) → MatchResult result (Gave is b c) (λ _. RanOut b c) → MatchResult result (Gave is' a c) (λ _. RanOut a c)
   ended is is' result to m = MatchResult-weaker result m (λ r gave. Gave-then is is' r to gave) (λ _ out. RanOut-then out)
 
--- what any answer says of the memory
-pub went_anyway : {E : Type 0} (Is : List (List ℕ) → Type 0) (before after : Held) (result : Result ℕ E) → MatchResult result (Gave Is before after) (λ _. RanOut before after) → Went before after
-went_anyway Is before after (Ok r) gave = gave.went
-went_anyway Is before after (Err e) out = out.went
+-- ---- facts of two families that stood before
+
+-- a fact of two families, at families that are equal to them
+pub at_both : (R : List (List ℕ) → List (List ℕ) → Type 0) (f f' g g' : List (List ℕ)) → f ≡ f' → g ≡ g' → R f g → R f' g'
+at_both R f f' g g' same same' fact = subst (λ q. R f' q) same' (subst (λ q. R q g) same fact)
+
+module _ (before after : Held) (sound : IsSound before) (went : Went before after) where
+  pub at_start : (R : List (List ℕ) → List (List ℕ) → Type 0) (r q : ℕ) → Has before r → Has before q → R (family_in after r) (family_in after q) → R (family_in before r) (family_in before q)
+  at_start R r q has has' = at_both R _ _ _ _ (still before after sound went r has) (still before after sound went q has')
+
+  pub of_start : (R : List (List ℕ) → List (List ℕ) → Type 0) (r q : ℕ) → Has before r → Has before q → R (family_in before r) (family_in before q) → R (family_in after r) (family_in after q)
+  of_start R r q has has' = at_both R _ _ _ _ (sym (still before after sound went r has)) (sym (still before after sound went q has'))
+
+-- the clause of both answers, by that of each
+pub answers_of : {E : Type 0} (Is : List (List ℕ) → Type 0) (before after : Held) (result : Result ℕ E) → IfOk result (Gave Is before after) → IfErr result (λ _. RanOut before after) → MatchResult result (Gave Is before after) (λ _. RanOut before after)
+answers_of Is before after (Ok r) gave out = gave
+answers_of Is before after (Err e) gave out = out
