@@ -65,7 +65,8 @@ fn place_of(question: &Question, places: usize) -> usize {
     let first = u64::from(question.first.number());
     let second = u64::from(question.second.number());
     let key = operation << OPERATION_SHIFT | first << FIRST_SHIFT | second;
-    (key.wrapping_mul(SPREAD) >> 32) as usize & places.saturating_sub(1)
+    let folded = key ^ key >> 32;
+    (folded.wrapping_mul(SPREAD) >> 32) as usize & places.saturating_sub(1)
 }
 
 impl Answers {

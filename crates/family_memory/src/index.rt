@@ -27,9 +27,10 @@ pub(crate) struct Index {
     slots: Vec<NodeRef>,
 }
 
-// Where the search for a word begins among so many slots.
+// Where the search for a word begins among so many slots. The level, which is highest, must reach the place too.
 fn place_of(word: u64, slots: usize) -> usize {
-    (word.wrapping_mul(SPREAD) >> 32) as usize & slots.saturating_sub(1)
+    let folded = word ^ word >> 32;
+    (folded.wrapping_mul(SPREAD) >> 32) as usize & slots.saturating_sub(1)
 }
 
 impl Index {
