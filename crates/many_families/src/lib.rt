@@ -7,6 +7,8 @@
 
 mod many;
 mod splitting;
+#[cfg(test)]
+mod tests;
 mod votes;
 
 pub use many::{first_of, product_of_all, union_of_all};
