@@ -1,5 +1,5 @@
 -- The minimal sets of unions, products and votes of many families, one family after another.
-use Rattle.std.specs.Prelude.{◌≡◌, ℕ, suc, ◌+◌, ◌≤◌, Bool, true, false, ◌&&◌, ◌||◌, nat_le, List, [], ◌∷◌, ◌++◌, if◌then◌else◌}
+use Rattle.std.specs.Prelude.{◌≡◌, ℕ, suc, ◌+◌, Bool, true, false, ◌&&◌, ◌||◌, nat_le, List, [], ◌∷◌, ◌++◌, if◌then◌else◌}
 use Rattle.std.specs.List.{list_any, list_all}
 use Rattle.std.proofs.Common.{refl, sym, ◌∙◌, ap, inl, inr, zero-add, arith}
 use Rattle.std.proofs.lemmas.Bool.{and_parts, or_right, and_from, or_cases, le-leb, lt-leb, leb-true}
@@ -7,7 +7,7 @@ use Rattle.family_operations.specs.Hits.{hits, hit_count}
 use Rattle.family_operations.specs.Inclusion.{same_Bool}
 use Rattle.family_operations.specs.Minimal.{minimal-none, minimal-unit}
 use Rattle.family_parts.specs.Antichains.{IsAntichain}
-use Rattle.minimal_families.specs.Least.{IsLeastFor, IsLeastFor-same, IsLeastUnion, IsLeastProduct, IsLeastOfAll, IsLeastProductOfAll, IsLeastVotes}
+use Rattle.minimal_families.specs.Least.{IsLeastFor-same, IsLeastUnion, IsLeastProduct, IsLeastOfAll, IsLeastProductOfAll, IsLeastVotes}
 use Rattle.minimal_families.specs.Steps.{and_of, or_of}
 
 -- ---- unions of two lists
