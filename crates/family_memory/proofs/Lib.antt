@@ -1,0 +1,4 @@
+pub mod Adding
+pub mod Empty
+pub mod Entries
+pub mod Nodes

@@ -1,0 +1,19 @@
+use Rattle.std.proofs.Common.{◌∙◌, ap, vec_capacity, arith}
+use Rattle.family_memory.specs.Memory.{Held}
+use Rattle.family_memory.proofs.Empty.{kept_empty, first_two, no_nodes}
+use Rattle.family_memory.proofs.memory.FamilyMemory.clear.Goals as goal
+
+pub invariant_of-self : goal.invariant_of-self
+invariant_of-self c =
+    let inside : Held = record { words = c.self.inside.words.items; room = c.self.inside.room } in
+    let after : Held = record { words = c.truncate.new.self.items; room = c.self.inside.room } in
+    kept_empty after (vec_capacity c.truncate.new.self) c.clear-2.new.self.entries.items
+    (c.truncate.ensures.items ∙ first_two inside c.self.invariant.sound) c.self.invariant.few
+    (let h = c.self.invariant.taken in let k = c.truncate.ensures.capacity in omega arith)
+    c.clear-2.ensures
+
+pub returns : goal.returns
+returns c =
+    let inside : Held = record { words = c.self.inside.words.items; room = c.self.inside.room } in
+    ap (λ l. let held : Held = record { words = l; room = c.self.inside.room } in held) (c.truncate.ensures.items ∙ first_two inside c.self.invariant.sound)
+    ∙ ap (λ (held : Held). no_nodes held.room) c.self.view_is

@@ -1,0 +1,14 @@
+use Rattle.std.proofs.Common.{sym, subst}
+use Rattle.family_memory.specs.Memory.{Held}
+use Rattle.family_memory.specs.Answers.{IsTold}
+use Rattle.family_memory.proofs.memory.FamilyMemory.remember.Goals as goal
+
+pub invariant_of-self : goal.invariant_of-self
+invariant_of-self c =
+    let held : Held = record { words = c.self.inside.words.items; room = c.self.inside.room } in
+    record {
+      sound = c.self.invariant.sound;
+      few = c.self.invariant.few;
+      taken = c.self.invariant.taken;
+      told = c.keep.ensures held (subst (λ (m : Held). IsTold m c.args.entry) (sym c.self.view_is) c.requires) c.self.invariant.told;
+    }

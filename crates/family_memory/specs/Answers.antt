@@ -1,0 +1,21 @@
+-- What the entries of the cache say, over what a memory holds.
+use Rattle.std.specs.Prelude.{ℕ, List}
+use Rattle.family_operations.specs.Without.{IsWithout}
+use Rattle.minimal_families.specs.Least.{IsLeastUnion, IsLeastProduct}
+use Rattle.family_memory.specs.Memory.{Held, Has, family_in}
+use Rattle.family_memory.specs.declared.answers.Operation.{Operation}
+use Rattle.family_memory.specs.declared.answers.Operation.TheVariants.{Without, Union, Product}
+use Rattle.family_memory.specs.declared.answers.Entry.{Entry}
+
+-- the family is the operation's of two families
+abbrev pub IsAnswer : Operation → List (List ℕ) → List (List ℕ) → List (List ℕ) → Type 0
+IsAnswer Without f g answer = IsWithout f g answer
+IsAnswer Union f g answer = IsLeastUnion f g answer
+IsAnswer Product f g answer = IsLeastProduct f g answer
+
+-- the entry is true: the memory has its references, and the answer stands for the operation's family
+pub record IsTold (held : Held) (entry : Entry) : Type 0 where
+  pub first : Has held entry.question.first
+  pub second : Has held entry.question.second
+  pub answer : Has held entry.answer
+  pub is : IsAnswer entry.question.operation (family_in held entry.question.first) (family_in held entry.question.second) (family_in held entry.answer)

@@ -1,0 +1,23 @@
+-- What the fields of a memory keep, and what a node that is added does.
+use Rattle.std.specs.Prelude.{◌≡◌, ℕ, ◌+◌, ◌≤◌, ◌^◌, List, [], ◌∷◌, ◌++◌}
+use Rattle.std.specs.List.{All}
+use Rattle.zdd_families.specs.Map.{Grown}
+use Rattle.family_memory.specs.declared.answers.Entry.{Entry}
+use Rattle.family_memory.specs.Answers.{IsTold}
+use Rattle.family_memory.specs.Memory.{Held, Has, IsSound, family_in, map_of, word_family}
+
+-- the room was taken before, references to it fit into words, and each entry is true
+pub record KeepsNodes (held : Held) (capacity : ℕ) (entries : List Entry) : Type 0 where
+  pub sound : IsSound held
+  pub few : held.room ≤ 2 ^ 25
+  pub taken : held.room + 2 ≤ capacity
+  pub told : All (IsTold held) entries
+
+-- a word was added at the end, and its reference stands for its family
+pub record IsAdded (before : Held) (word : ℕ) (after : Held) (r : ℕ) : Type 0 where
+  pub words : after.words ≡ before.words ++ word ∷ []
+  pub room : after.room ≡ before.room
+  pub has : Has after r
+  pub family : family_in after r ≡ word_family before word
+  pub keeps : Grown (map_of before) (map_of after)
+  pub sound : IsSound after

@@ -1,0 +1,5 @@
+pub mod Memory
+pub mod Answers
+pub mod Kept
+pub mod Search
+pub mod After

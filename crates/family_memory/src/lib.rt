@@ -1,0 +1,16 @@
+//! A memory of diagrams for one worker, in which each reference stands for a minimal family.
+//!
+//! Its room is taken whole when it is made, and touched only as it fills; no later call takes memory. A
+//! node is made once its parts stand, is never changed, and goes when the memory is cleared. An index finds
+//! equal nodes, and a table keeps answers of operations; both are there for speed alone. Equal families
+//! may have different references. This crate stands on `minimal_families` and starts no threads.
+#![tactic(auto)]
+
+mod answers;
+mod index;
+mod memory;
+#[cfg(test)]
+mod tests;
+
+pub use answers::{Entry, Operation, Question};
+pub use memory::{FamilyMemory, Room, Spent};

@@ -1,0 +1,181 @@
+//! The memory: node words, an index of them, and answers.
+ghost use Rattle.std.specs.Prelude.{◌≡◌, ◌≢◌, ◌⊎◌, ◌+◌, ◌≤◌, ◌<◌, ◌^◌, [], ◌∷◌, ◌++◌, length, IfOk, IfErr, IfSome, MatchResult};
+ghost use Rattle.zdd_words.specs.Word.{packed};
+ghost use Rattle.zdd_families.specs.Family.{IsAbove, branch};
+ghost use Rattle.zdd_families.specs.Map.{Grown, IsNode, level_in};
+ghost use Rattle.family_parts.specs.Antichains.{IsAntichain};
+ghost use Rattle.family_memory.specs.Answers.{IsTold};
+ghost use Rattle.family_memory.specs.Memory.{Has, IsNodeOf, IsSound, IsUsedUp, family_in, map_of, word_family};
+ghost use Rattle.family_memory.specs.Kept.{IsAdded};
+
+use crate::answers::{Answers, Entry, Question};
+use crate::index::{Index, Search};
+use std::alloc::Global;
+use std::marker::Model;
+use unit_sets::{NoMemory, UnitNo};
+use zdd_words::{NodeRef, Parts, pack, unpack};
+
+// The level of the terminals, above that of each unit.
+const NO_LEVEL: u16 = 4_096;
+
+const LEVEL_SHIFT: u32 = 52;
+
+/// How much a memory takes: at most so many nodes, slots of the index (a power of two, twice the nodes is
+/// enough), and answers (a power of two).
+#[derive(Clone, Copy)]
+pub struct Room {
+    pub nodes: usize,
+    pub slots: usize,
+    pub answers: usize,
+}
+
+/// The room for nodes is used up.
+#[derive(Clone, Copy, Debug, PartialEq, Eq, Drop)]
+pub struct Spent;
+
+/// A memory of diagrams. Contracts see it as the words of its nodes, and its room.
+#[derive(Drop)]
+pub struct FamilyMemory {
+    words: Vec<u64>,
+    room: usize,
+    index: Index,
+    answers: Answers,
+}
+
+impl Model for FamilyMemory {
+    ghost use Rattle.std.specs.Prelude.{vec_capacity};
+    ghost use Rattle.family_memory.specs.Kept.{KeepsNodes};
+    ghost use Rattle.family_memory.specs.Memory.{Held};
+
+    ghost Value = { Held };
+
+    ghost view = { λ m. record { words = m.words.items; room = m.room } };
+
+    ghost invariant = { λ m. KeepsNodes (record { words = m.words.items; room = m.room }) (vec_capacity m.words) m.answers.entries.items };
+}
+
+impl FamilyMemory {
+    /// A memory with no nodes, with all its room.
+    pub fn new(alloc: Global, room: Room) -> Result<FamilyMemory, NoMemory>
+        requires { room.nodes ≤ 2 ^ 25 }
+        ensures { IfOk result (λ memory. memory ≡ record { words = 0 ∷ 0 ∷ []; room = room.nodes }) }
+    {
+        let mut words = Vec::with_capacity(alloc, room.nodes + 2)?;
+        words.push(0)?;
+        words.push(0)?;
+        Ok(FamilyMemory {
+            words,
+            room: room.nodes,
+            index: Index::new(alloc, room.slots)?,
+            answers: Answers::new(alloc, room.answers)?,
+        })
+    }
+
+    /// Tells a proof what the memory keeps. Nothing is computed.
+    pub fn is_sound(&self)
+        ensures { IsSound self.now }
+    {
+        let _words = &self.words;
+    }
+
+    /// How many nodes there are.
+    pub fn count(&self) -> usize
+        ensures { result + 2 ≡ length self.now.words }
+    {
+        self.words.len() - 2
+    }
+
+    /// The least unit of a reference's sets, or 4,096 for a terminal.
+    pub fn level(&self, r: NodeRef) -> u16
+        requires { Has self.now r }
+        ensures { result ≡ level_in (map_of self.now) r }
+    {
+        if r.number() < 2 {
+            return NO_LEVEL;
+        }
+        (self.words[r.number() as usize] >> LEVEL_SHIFT) as u16
+    }
+
+    /// What the node of a reference is: the least unit of its sets, the sets without that unit, and the sets with it.
+    pub fn parts(&self, r: NodeRef) -> Parts
+        requires has { Has self.now r }
+        requires inner { 2 ≤ r }
+        ensures { IsNodeOf self.now r result }
+    {
+        unpack(self.words[r.number() as usize])
+    }
+
+    /// A reference to a node: the sets of lo, and those of hi each with the level.
+    pub fn node(&mut self, level: UnitNo, lo: NodeRef, hi: NodeRef) -> Result<NodeRef, Spent>
+        requires has_lo { Has self.old lo }
+        requires has_hi { Has self.old hi }
+        requires filled { hi ≢ 0 }
+        requires lo_above { IsAbove level (family_in self.old lo) }
+        requires hi_above { IsAbove level (family_in self.old hi) }
+        requires antichain { IsAntichain (branch level (family_in self.old lo) (family_in self.old hi)) }
+
+        ensures has { IfOk result (λ r. Has self.new r) }
+        ensures family { IfOk result (λ r. family_in self.new r ≡ branch level (family_in self.old lo) (family_in self.old hi)) }
+        ensures used_up { IfErr result (λ _. IsUsedUp self.old) }
+
+        // At most the one node is added.
+        ensures words { MatchResult result (λ _. (self.new.words ≡ self.old.words) ⊎ (self.new.words ≡ self.old.words ++ packed level lo hi ∷ [])) (λ _. self.new.words ≡ self.old.words) }
+        ensures keeps { Grown (map_of self.old) (map_of self.new) }
+        ensures room { self.new.room ≡ self.old.room }
+        ensures sound { IsSound self.new }
+    {
+        // Tells the proof that the level is a unit's number.
+        level.number();
+        let word = pack(level, lo, hi);
+        match self.index.search(self.words.as_slice(), word) {
+            Search::Found(r) => Ok(r),
+            Search::Free(place) => self.add(word, Some(place)),
+            Search::Nowhere => self.add(word, None),
+        }
+    }
+
+    // A node that the index lacks, at the slot where its search ended.
+    fn add(&mut self, word: u64, place: Option<usize>) -> Result<NodeRef, Spent>
+        requires node { IsNode (map_of self.old) word }
+        requires antichain { IsAntichain (word_family self.old word) }
+        ensures { MatchResult result (λ r. IsAdded self.old word self.new r) (λ _. (self.new ≡ self.old) × IsUsedUp self.old) }
+    {
+        let at = self.words.len();
+        if at - 2 >= self.room {
+            return Err(Spent);
+        }
+        match self.words.push(word) {
+            Ok(()) => {}
+            Err(_) => unreachable!(),
+        }
+        let r = NodeRef::at_slot((at - 2) as u32);
+        self.index.put(place, r);
+        self.index.follow(self.words.as_slice());
+        self.answers.follow(at);
+        Ok(r)
+    }
+
+    /// The answer to a question, if it is kept.
+    pub fn recall(&self, question: &Question) -> Option<NodeRef>
+        ensures { IfSome result (λ answer. IsTold self.now (record { question = question.now; answer = answer })) }
+    {
+        self.answers.answer(question)
+    }
+
+    /// Keeps the answer to a question.
+    pub fn remember(&mut self, entry: Entry)
+        requires { IsTold self.old entry }
+        ensures { self.new ≡ self.old }
+    {
+        self.answers.keep(entry);
+    }
+
+    /// Forgets all nodes. Their references stand for nothing any more.
+    pub fn clear(&mut self)
+        ensures { self.new ≡ record { words = 0 ∷ 0 ∷ []; room = self.old.room } }
+    {
+        self.words.truncate(2);
+        self.index.clear();
+        self.answers.clear();
+    }
+}

@@ -1,0 +1,4 @@
+pub mod Lists
+pub mod SplitSteps
+pub mod ManySteps
+pub mod VoteSteps

@@ -1,0 +1,16 @@
+//! Products by splitting, and unions, products and votes of many minimal families, in a worker's own memory.
+//!
+//! This crate stands on `minimal_operations`. What an operation gives is exactly the minimal sets of the union
+//! of a list of families, of their product, or of so many votes over them; where the room for nodes is used up
+//! it gives `Spent`, and what the memory had it still has. No call takes memory.
+#![tactic(auto)]
+
+mod many;
+mod splitting;
+#[cfg(test)]
+mod tests;
+mod votes;
+
+pub use many::{first_of, product_of_all, union_of_all};
+pub use splitting::product_by_splitting;
+pub use votes::votes_of_all;

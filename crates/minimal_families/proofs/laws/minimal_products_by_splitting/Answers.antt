@@ -1,0 +1,5 @@
+use Rattle.minimal_families.specs.Splitting.{least_product-split}
+use Rattle.minimal_families.proofs.laws.minimal_products_by_splitting.Goals as goal
+
+pub returns : goal.returns
+returns c = least_product-split

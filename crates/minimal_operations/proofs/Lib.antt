@@ -1,0 +1,11 @@
+pub mod Answering
+pub mod Ends
+pub mod Halving
+pub mod Steps
+pub mod RidSteps
+pub mod Singles
+pub mod Swapping
+pub mod Telling
+pub mod WithoutSteps
+pub mod UnionSteps
+pub mod ProductSteps

@@ -1,0 +1,9 @@
+use Rattle.std.proofs.Common.{◌+◌, ◌*◌}
+use Rattle.minimal_operations.proofs.Steps.{levels_from}
+use Rattle.minimal_operations.proofs.withouts.+strip.Given as goal
+
+abbrev pub decreases-strip : goal.decreases-strip
+decreases-strip l = 2 * levels_from l.memory.now l.a + 1
+
+abbrev pub decreases-strip_halves : goal.decreases-strip_halves
+decreases-strip_halves l = 2 * levels_from l.memory.now l.a

@@ -1,0 +1,14 @@
+use Rattle.std.proofs.Common.{ℕ, List}
+use Rattle.family_operations.specs.Without.{IsWithout}
+use Rattle.family_memory.specs.Memory.{Has, family_in}
+use Rattle.minimal_operations.proofs.Steps.{levels_from}
+use Rattle.minimal_operations.proofs.withouts.lowered.Given as goal
+
+abbrev pub invariant-loop-part : goal.invariant-loop-part
+invariant-loop-part l = record {
+  has : Has l.memory l.part;
+  same : (left : List (List ℕ)) → IsWithout (family_in l.memory l.fn.a) (family_in l.memory l.part) left → IsWithout (family_in l.memory l.fn.a) (family_in l.memory l.fn.b) left;
+}
+
+abbrev pub decreases-loop-part : goal.decreases-loop-part
+decreases-loop-part l = levels_from l.memory l.part

@@ -1,0 +1,64 @@
+//! Nodes of which a part may be empty, or has sets to be taken out.
+ghost use Rattle.std.specs.Prelude.{◌≡◌, ℕ, List, [], ◌∷◌, IfErr, IfOk, MatchResult};
+ghost use Rattle.zdd_families.specs.Family.{IsAbove, branch};
+ghost use Rattle.family_operations.specs.Without.{IsWithout};
+ghost use Rattle.family_parts.specs.Antichains.{IsAntichain};
+ghost use Rattle.family_memory.specs.Memory.{Gave, Has, RanOut, family_in};
+ghost use Rattle.minimal_operations.specs.Rests.{IsRidBranch};
+
+use crate::withouts::strip;
+use family_memory::{FamilyMemory, Spent};
+use unit_sets::UnitNo;
+use zdd_words::NodeRef;
+
+/// The family of one set, which has one unit.
+pub fn single(memory: &mut FamilyMemory, unit: UnitNo) -> Result<NodeRef, Spent>
+    ensures gives { IfOk result (Gave (λ f. f ≡ (unit ∷ []) ∷ []) memory.old memory.new) }
+    ensures spent { IfErr result (λ _. RanOut memory.old memory.new) }
+{
+    memory.is_sound();
+    make(memory, unit, NodeRef::EMPTY, NodeRef::UNIT)
+}
+
+/// The node of a level below all units of lo and hi, or lo where hi has no sets.
+pub(crate) fn make(
+    memory: &mut FamilyMemory,
+    level: UnitNo,
+    lo: NodeRef,
+    hi: NodeRef,
+) -> Result<NodeRef, Spent>
+    requires has_lo { Has memory.old lo }
+    requires has_hi { Has memory.old hi }
+    requires lo_above { IsAbove level (family_in memory.old lo) }
+    requires hi_above { IsAbove level (family_in memory.old hi) }
+    requires antichain { IsAntichain (branch level (family_in memory.old lo) (family_in memory.old hi)) }
+    ensures { MatchResult result (Gave (λ f. f ≡ branch level (family_in memory.old lo) (family_in memory.old hi)) memory.old memory.new) (λ _. RanOut memory.old memory.new) }
+{
+    memory.is_sound();
+    if hi == NodeRef::EMPTY {
+        return Ok(lo);
+    }
+    memory.node(level, lo, hi)
+}
+
+/// The node of lo and of what is left of all others without lo. Another family that says the same of these
+/// serves in place of lo.
+pub(crate) fn make_rid(
+    memory: &mut FamilyMemory,
+    level: UnitNo,
+    lo: NodeRef,
+    all: NodeRef,
+    other: NodeRef,
+) -> Result<NodeRef, Spent>
+    requires has_lo { Has memory.old lo }
+    requires has_all { Has memory.old all }
+    requires has_other { Has memory.old other }
+    requires lo_above { IsAbove level (family_in memory.old lo) }
+    requires all_above { IsAbove level (family_in memory.old all) }
+    requires same { (left : List (List ℕ)) → IsWithout (family_in memory.old all) (family_in memory.old other) left → IsWithout (family_in memory.old all) (family_in memory.old lo) left }
+    ensures { MatchResult result (Gave (IsRidBranch level (family_in memory.old lo) (family_in memory.old all)) memory.old memory.new) (λ _. RanOut memory.old memory.new) }
+{
+    memory.is_sound();
+    let hi = strip(memory, all, other)?;
+    make(memory, level, lo, hi)
+}

@@ -1,0 +1,134 @@
+//! The minimal sets of a product.
+ghost use Rattle.std.specs.Prelude.{◌≡◌, ◌⊎◌, ◌<◌, ◌≤◌, IfErr, IfOk, MatchOption, MatchResult};
+ghost use Rattle.zdd_families.specs.Map.{level_in};
+ghost use Rattle.zdd_words.specs.declared.word.Parts.{Parts};
+ghost use Rattle.minimal_families.specs.Least.{IsLeastProduct};
+ghost use Rattle.minimal_families.specs.Steps.{IsLeastSides};
+ghost use Rattle.family_memory.specs.Memory.{Gave, Has, RanOut, family_in, map_of};
+ghost use Rattle.minimal_operations.specs.Ends.{GoesOn, IsProductEnd};
+ghost use Rattle.minimal_operations.specs.Halves.{ArePartsAbove};
+
+use crate::nodes::make_rid;
+use crate::unions::unite;
+use family_memory::{Entry, FamilyMemory, Operation, Question, Spent};
+use zdd_words::{NodeRef, Parts};
+
+/// The minimal sets of the product, which has each union of a set of the one family and a set of the other.
+pub fn product(memory: &mut FamilyMemory, a: NodeRef, b: NodeRef) -> Result<NodeRef, Spent>
+    requires has_a { Has memory.old a }
+    requires has_b { Has memory.old b }
+    ensures gives { IfOk result (Gave (IsLeastProduct (family_in memory.old a) (family_in memory.old b)) memory.old memory.new) }
+    ensures spent { IfErr result (λ _. RanOut memory.old memory.new) }
+{
+    multiply(memory, a, b)
+}
+
+// The product where it is known at once.
+fn product_end(a: NodeRef, b: NodeRef) -> Option<NodeRef>
+    ensures { MatchOption result (GoesOn a b) (λ r. IsProductEnd a b r) }
+{
+    if a == NodeRef::EMPTY || b == NodeRef::EMPTY {
+        return Some(NodeRef::EMPTY);
+    }
+    if a == NodeRef::UNIT {
+        return Some(b);
+    }
+    if b == NodeRef::UNIT || a == b {
+        return Some(a);
+    }
+    None
+}
+
+/// The same, of which an end makes nothing.
+#[cycle(multiply)]
+pub(crate) fn multiply(memory: &mut FamilyMemory, a: NodeRef, b: NodeRef) -> Result<NodeRef, Spent>
+    requires has_a { Has memory.old a }
+    requires has_b { Has memory.old b }
+    ensures { MatchResult result (Gave (IsLeastProduct (family_in memory.old a) (family_in memory.old b)) memory.old memory.new) (λ _. RanOut memory.old memory.new) }
+{
+    memory.is_sound();
+    if let Some(end) = product_end(a, b) {
+        return Ok(end);
+    }
+    let question = Question {
+        operation: Operation::Product,
+        first: a,
+        second: b,
+    };
+    if let Some(answer) = memory.recall(&question) {
+        return Ok(answer);
+    }
+    let made = multiply_levels(memory, a, b)?;
+    memory.remember(Entry {
+        question,
+        answer: made,
+    });
+    Ok(made)
+}
+
+// The same of two nodes, by the order of their levels.
+#[cycle(multiply)]
+fn multiply_levels(memory: &mut FamilyMemory, a: NodeRef, b: NodeRef) -> Result<NodeRef, Spent>
+    requires has_a { Has memory.old a }
+    requires has_b { Has memory.old b }
+    requires nodes { (2 ≤ a) × (2 ≤ b) }
+    ensures { MatchResult result (Gave (IsLeastProduct (family_in memory.old a) (family_in memory.old b)) memory.old memory.new) (λ _. RanOut memory.old memory.new) }
+{
+    memory.is_sound();
+    let first = memory.level(a);
+    let second = memory.level(b);
+    if first < second {
+        return multiply_above(memory, a, b);
+    }
+    if second < first {
+        return multiply_above(memory, b, a);
+    }
+    multiply_both(memory, a, b)
+}
+
+// The same of two nodes of one level.
+#[cycle(multiply)]
+fn multiply_both(memory: &mut FamilyMemory, a: NodeRef, b: NodeRef) -> Result<NodeRef, Spent>
+    requires has_a { Has memory.old a }
+    requires has_b { Has memory.old b }
+    requires nodes { (2 ≤ a) × (2 ≤ b) }
+    requires level { level_in (map_of memory.old) a ≡ level_in (map_of memory.old) b }
+    ensures { MatchResult result (Gave (IsLeastProduct (family_in memory.old a) (family_in memory.old b)) memory.old memory.new) (λ _. RanOut memory.old memory.new) }
+{
+    memory.is_sound();
+    let one = memory.parts(a);
+    let other = memory.parts(b);
+    let lo = multiply(memory, one.lo, other.lo)?;
+    let all = multiply_sides(memory, &one, &other)?;
+    make_rid(memory, one.level, lo, all, lo)
+}
+
+// The sets that the level is added to: each part of either node may give one side.
+#[cycle(multiply)]
+fn multiply_sides(memory: &mut FamilyMemory, one: &Parts, other: &Parts) -> Result<NodeRef, Spent>
+    requires first { ArePartsAbove memory.old one.now.level one.now }
+    requires second { ArePartsAbove memory.old one.now.level other.now }
+    ensures { MatchResult result (Gave (IsLeastSides (family_in memory.old one.now.lo) (family_in memory.old one.now.hi) (family_in memory.old other.now.lo) (family_in memory.old other.now.hi)) memory.old memory.new) (λ _. RanOut memory.old memory.new) }
+{
+    memory.is_sound();
+    let first = unite(memory, one.lo, one.hi)?;
+    let second = unite(memory, other.lo, other.hi)?;
+    multiply(memory, first, second)
+}
+
+// The same of a node and a family above its level: each set with the level includes one of the other family, so
+// it need be rid of those that include one of the node's sets without the level alone.
+#[cycle(multiply)]
+fn multiply_above(memory: &mut FamilyMemory, a: NodeRef, b: NodeRef) -> Result<NodeRef, Spent>
+    requires has_a { Has memory.old a }
+    requires has_b { Has memory.old b }
+    requires inner { 2 ≤ a }
+    requires level { level_in (map_of memory.old) a < level_in (map_of memory.old) b }
+    ensures { MatchResult result (Gave (IsLeastProduct (family_in memory.old a) (family_in memory.old b)) memory.old memory.new) (λ _. RanOut memory.old memory.new) }
+{
+    memory.is_sound();
+    let one = memory.parts(a);
+    let lo = multiply(memory, one.lo, b)?;
+    let all = multiply(memory, one.hi, b)?;
+    make_rid(memory, one.level, lo, all, one.lo)
+}

@@ -1,0 +1,101 @@
+//! What is left of a family without the sets that include one of another.
+ghost use Rattle.std.specs.Prelude.{◌≡◌, ◌≤◌, ℕ, List, IfErr, IfOk, MatchOption, MatchResult};
+ghost use Rattle.zdd_families.specs.Map.{level_in};
+ghost use Rattle.family_operations.specs.Without.{IsWithout};
+ghost use Rattle.family_memory.specs.Memory.{Gave, Has, RanOut, family_in, map_of};
+ghost use Rattle.minimal_operations.specs.Ends.{GoesOn, IsWithoutEnd};
+
+use crate::halves::half_at;
+use crate::nodes::make;
+use family_memory::{Entry, FamilyMemory, Operation, Question, Spent};
+use zdd_words::NodeRef;
+
+/// The sets of the first family that include none of the second.
+pub fn without(memory: &mut FamilyMemory, a: NodeRef, b: NodeRef) -> Result<NodeRef, Spent>
+    requires has_a { Has memory.old a }
+    requires has_b { Has memory.old b }
+    ensures gives { IfOk result (Gave (IsWithout (family_in memory.old a) (family_in memory.old b)) memory.old memory.new) }
+    ensures spent { IfErr result (λ _. RanOut memory.old memory.new) }
+{
+    strip(memory, a, b)
+}
+
+// What is left where it is known at once.
+fn without_end(a: NodeRef, b: NodeRef) -> Option<NodeRef>
+    ensures { MatchOption result (GoesOn a b) (λ r. IsWithoutEnd a b r) }
+{
+    if a == NodeRef::EMPTY || b == NodeRef::UNIT || a == b {
+        return Some(NodeRef::EMPTY);
+    }
+    if b == NodeRef::EMPTY || a == NodeRef::UNIT {
+        return Some(a);
+    }
+    None
+}
+
+// The part of b that matters: a set of a includes no set with a unit below all of a's.
+fn lowered(memory: &FamilyMemory, a: NodeRef, b: NodeRef) -> NodeRef
+    requires has_a { Has memory.now a }
+    requires has_b { Has memory.now b }
+    ensures has { Has memory.now result }
+    ensures level { 2 ≤ a → level_in (map_of memory.now) a ≤ level_in (map_of memory.now) result }
+    ensures same { (left : List (List ℕ)) → IsWithout (family_in memory.now a) (family_in memory.now result) left → IsWithout (family_in memory.now a) (family_in memory.now b) left }
+{
+    memory.is_sound();
+    if a.number() < 2 {
+        return b;
+    }
+    let level = memory.level(a);
+    let mut part = b;
+    while memory.level(part) < level {
+        part = memory.parts(part).lo;
+    }
+    part
+}
+
+/// The same, of which an end makes nothing.
+#[cycle(strip)]
+pub(crate) fn strip(memory: &mut FamilyMemory, a: NodeRef, b: NodeRef) -> Result<NodeRef, Spent>
+    requires has_a { Has memory.old a }
+    requires has_b { Has memory.old b }
+    ensures { MatchResult result (Gave (IsWithout (family_in memory.old a) (family_in memory.old b)) memory.old memory.new) (λ _. RanOut memory.old memory.new) }
+{
+    memory.is_sound();
+    let part = lowered(memory, a, b);
+    if let Some(end) = without_end(a, part) {
+        return Ok(end);
+    }
+    let question = Question {
+        operation: Operation::Without,
+        first: a,
+        second: part,
+    };
+    if let Some(answer) = memory.recall(&question) {
+        return Ok(answer);
+    }
+    let left = strip_halves(memory, a, part)?;
+    memory.remember(Entry {
+        question,
+        answer: left,
+    });
+    Ok(left)
+}
+
+// The same of a node, by its parts: what is left of the sets with its level includes no set of b, with the level or
+// without it.
+#[cycle(strip)]
+fn strip_halves(memory: &mut FamilyMemory, a: NodeRef, b: NodeRef) -> Result<NodeRef, Spent>
+    requires has_a { Has memory.old a }
+    requires has_b { Has memory.old b }
+    requires inner { 2 ≤ a }
+    requires level { level_in (map_of memory.old) a ≤ level_in (map_of memory.old) b }
+    ensures { MatchResult result (Gave (IsWithout (family_in memory.old a) (family_in memory.old b)) memory.old memory.new) (λ _. RanOut memory.old memory.new) }
+{
+    memory.is_sound();
+    let one = memory.parts(a);
+    let other = half_at(memory, one.level, b);
+    let lo = strip(memory, one.lo, other.lo)?;
+    let some = strip(memory, one.hi, other.hi)?;
+    let hi = strip(memory, some, other.lo)?;
+    make(memory, one.level, lo, hi)
+}
