@@ -1,167 +1,304 @@
--- What the row of a status says, read from a run; and that a run ends with the status that is due.
-use Rattle.std.specs.Prelude.{◌≡◌, ℕ, ◌<◌, ◌≤◌, ◌⊎◌, List, length, Option, Some, None}
+-- The clauses of a run, each read from the relation that the run keeps.
+use Rattle.std.specs.Prelude.{◌≡◌, ◌⊎◌, ℕ, ◌<◌, ◌≤◌, List, length, Option, Some, None}
 use Rattle.std.specs.Io.KnownBytes.{Appends}
-use Rattle.std.proofs.Common.{sym, subst, ◌∙◌, refl, inl, inr, arith}
+use Rattle.std.proofs.Common.{sym, subst, ◌∙◌, ap, refl, inl, inr, arith}
 use Rattle.edge_io.specs.declared.reading.TheConstants.{INPUT_LIMIT}
+use Rattle.board_words.specs.declared.command.Command.{Command}
+use Rattle.board_words.specs.declared.command.Command.TheVariants.{Cuts, Board, Help}
+use Rattle.board_report.specs.Refusals.{fault_line, notice_line}
+use Rattle.board_report.specs.declared.notice.Notice.TheVariants as notice
 use Rattle.outage_engine.specs.declared.status.Status.{Status}
 use Rattle.outage_engine.specs.declared.status.Status.TheVariants.{Done, Refused, ListLimit, OrderLimit, Usage, ReadFault, TooLong, WriteFault, NoMemory}
-use Rattle.outage_engine.specs.declared.status.Method.TheVariants.{Plain, Lists}
-use Rattle.outage_engine.specs.Deck.{HasManyOrders, IsCutsText, IsFirstFaultOf, IsTooHeavy}
-use Rattle.outage_engine.specs.Rows.{AreCuts, AreHelp, AreNone, IsBeyond, IsDue, OfInput, Row, most_of}
-use Rattle.outage_engine.specs.Runs.{IsOrFails, Runs, WritesFrontOfRow}
-use Rattle.outage_engine.proofs.OneAnswer.{IsGiven, one_given}
-
--- ---- words are of one kind
-
-not_cuts_and_help : {P : Type 0} (words : List (List ℕ)) → AreCuts words → AreHelp words → P
-not_cuts_and_help words cuts help = let clash = sym cuts.said ∙ help in absurd cc
-
-not_cuts_and_none : {P : Type 0} (words : List (List ℕ)) → AreCuts words → AreNone words → P
-not_cuts_and_none words cuts none = let clash = sym cuts.said ∙ none in absurd cc
-
-not_help_and_none : {P : Type 0} (words : List (List ℕ)) → AreHelp words → AreNone words → P
-not_help_and_none words help none = let clash = sym help ∙ none in absurd cc
+use Rattle.outage_engine.specs.declared.status.Method.{Method}
+use Rattle.outage_engine.specs.Finding.{Finding, Finds, Faulty, TooHeavy, TooManyOrders, Ready, Wants}
+use Rattle.outage_engine.specs.Gives.{Gives, IsBeyond, OfInput, asked, wanted, wants_of, usage, help, read_fault, too_long, refused, list_limit, order_limit, cuts, board}
+use Rattle.outage_engine.specs.Runs as runs
+use Rattle.outage_engine.specs.Runs.{Answers, AreReading, Fails, HasFound, IsDone, Runs, Writes, WritesFront}
+use Rattle.outage_engine.specs.Safety.{IsSafeText}
+use Rattle.outage_engine.specs.Texts.{IsBoardText, IsCutsText, for_board, for_cuts}
+use Rattle.outage_engine.proofs.OneFinding.{one_finding}
 
 -- ---- inputs
+
+-- the facts of an input that is told
+input : (bytes : List ℕ) (left : Option (List ℕ)) (P : List ℕ → Type 0) → OfInput (Some bytes) left P → (length bytes ≤ INPUT_LIMIT) × P bytes
+input bytes None P fact = absurd fact
+input bytes (Some rest) P fact = (fact.1, fact.2)
+
+long_input : (bytes : List ℕ) (left : Option (List ℕ)) → IsBeyond (Some bytes) left → INPUT_LIMIT < length bytes
+long_input bytes None fact = absurd fact
+long_input bytes (Some rest) fact = omega (arith, fact)
 
 not_short_and_long : {P : Type 0} (bytes : List ℕ) → length bytes ≤ INPUT_LIMIT → INPUT_LIMIT < length bytes → P
 not_short_and_long bytes short long = absurd (omega (arith, short, long))
 
--- the facts of an input that is told
-input : (bytes : List ℕ) (after : Option (List ℕ)) (P : List ℕ → Type 0) → OfInput (Some bytes) after P → (length bytes ≤ INPUT_LIMIT) × P bytes
-input bytes None P fact = absurd fact
-input bytes (Some left) P fact = (fact.1, fact.2)
+-- a fact of an input that holds of other facts too
+pub of_input : (held left : Option (List ℕ)) (P Q : List ℕ → Type 0) → ((bytes : List ℕ) → P bytes → Q bytes) → OfInput held left P → OfInput held left Q
+of_input None left P Q weaker fact = tt
+of_input (Some bytes) None P Q weaker fact = absurd fact
+of_input (Some bytes) (Some rest) P Q weaker fact = (fact.0, fact.1, weaker bytes fact.2)
 
-long_input : (bytes : List ℕ) (after : Option (List ℕ)) → IsBeyond (Some bytes) after → INPUT_LIMIT < length bytes
-long_input bytes None fact = absurd fact
-long_input bytes (Some left) fact = omega (arith, fact)
+plain_text : (margin most : ℕ) (bytes text : List ℕ) → IsSafeText margin most bytes text → IsBoardText margin most bytes text
+plain_text margin most bytes text is = record { found = is.found; finds = is.finds; history = is.history; of_deck = is.of_deck; is = is.is }
+
+-- ---- words are of one kind
+
+wanted_by : {P : Type 0} (words : List (List ℕ)) (wants : Wants) → wanted words ≡ Some wants → asked words ≡ None → P
+wanted_by words wants some none = let clash : wants_of None ≡ Some wants = subst (λ c. wants_of c ≡ Some wants) none some in absurd cc
+
+wanted_by_help : {P : Type 0} (words : List (List ℕ)) (wants : Wants) → wanted words ≡ Some wants → asked words ≡ Some Help → P
+wanted_by_help words wants some help' = let clash : wants_of (Some Help) ≡ Some wants = subst (λ c. wants_of c ≡ Some wants) help' some in absurd cc
+
+two_commands : {P : Type 0} (words : List (List ℕ)) (one two : Command) → asked words ≡ Some one → asked words ≡ Some two → (Some one ≡ Some two → P) → P
+two_commands words one two at at' clash = clash (sym at ∙ at')
+
+same_wants : (words : List (List ℕ)) (one two : Wants) → wanted words ≡ Some one → wanted words ≡ Some two → one ≡ two
+same_wants words one two at at' = let same : Some one ≡ Some two = sym at ∙ at' in cc
+
+wants_cuts : (words : List (List ℕ)) (most workers : ℕ) → asked words ≡ Some (Cuts most workers) → wanted words ≡ Some (for_cuts most)
+wants_cuts words most workers at = ap wants_of at
+
+wants_board : (words : List (List ℕ)) (margin most workers : ℕ) → asked words ≡ Some (Board margin most workers) → wanted words ≡ Some (for_board most)
+wants_board words margin most workers at = ap wants_of at
+
+-- ---- what the relation says of each status
+
+-- a text that ends well is that of one of the commands
+data IsDoneText (words : List (List ℕ)) (held left : Option (List ℕ)) (text : List ℕ) : Type 0 where
+  of_help : asked words ≡ Some Help → text ≡ notice_line notice.Usage → IsDoneText words held left text
+  of_cuts : (most workers : ℕ) → asked words ≡ Some (Cuts most workers) → OfInput held left (λ bytes. IsCutsText most bytes text) → IsDoneText words held left text
+  of_board : (margin most workers : ℕ) → asked words ≡ Some (Board margin most workers) → OfInput held left (λ bytes. IsSafeText margin most bytes text)
+      → IsDoneText words held left text
+
+abbrev Cause : List (List ℕ) → Option (List ℕ) → Option (List ℕ) → Type 0 → Status → List ℕ → Type 0
+Cause words held left rose (Done method) text = IsDoneText words held left text
+Cause words held left rose (Refused fault) text = HasFound words held left (Faulty fault) × (text ≡ fault_line fault)
+Cause words held left rose ListLimit text = HasFound words held left TooHeavy × (text ≡ notice_line notice.ListLimit)
+Cause words held left rose OrderLimit text = HasFound words held left TooManyOrders × (text ≡ notice_line notice.OrderLimit)
+Cause words held left rose Usage text = (asked words ≡ None) × (text ≡ notice_line notice.Usage)
+Cause words held left rose ReadFault text = AreReading words × rose × (text ≡ notice_line notice.ReadFault)
+Cause words held left rose TooLong text = AreReading words × IsBeyond held left × (text ≡ notice_line notice.TooLong)
+Cause words held left rose WriteFault text = ⊥
+Cause words held left rose NoMemory text = ⊥
+
+module _ (words : List (List ℕ)) (held left : Option (List ℕ)) (rose : Type 0) (text : List ℕ) where
+  abbrev Caused : Status → Type 0
+  Caused status = Cause words held left rose status text
+
+  cause : (status : Status) → Gives words held left rose status text → Caused status
+  cause status (usage none is line) = subst Caused (sym is) (none, line)
+  cause status (help at is line) = subst Caused (sym is) (of_help at line)
+  cause status (read_fault wants at rises is line) = subst Caused (sym is) ((wants, at), rises, line)
+  cause status (too_long wants at beyond is line) = subst Caused (sym is) ((wants, at), beyond, line)
+  cause status (refused wants fault at found is line) = subst Caused (sym is) ((wants, at, found), line)
+  cause status (list_limit wants at found is line) = subst Caused (sym is) ((wants, at, found), line)
+  cause status (order_limit wants at found is line) = subst Caused (sym is) ((wants, at, found), line)
+  cause status (cuts most workers at is_text is) = subst Caused (sym is) (of_cuts most workers at is_text)
+  cause status (board margin most workers at is_text is) = subst Caused (sym is) (of_board margin most workers at is_text)
+
+  command_of_text : IsDoneText words held left text → (command : Command) × (asked words ≡ Some command)
+  command_of_text (of_help at line) = (Help, at)
+  command_of_text (of_cuts most workers at is_text) = (Cuts most workers, at)
+  command_of_text (of_board margin most workers at is_text) = (Board margin most workers, at)
+
+  help_text : asked words ≡ Some Help → IsDoneText words held left text → text ≡ notice_line notice.Usage
+  help_text asks (of_help at line) = line
+  help_text asks (of_cuts most workers at is_text) = let clash = sym at ∙ asks in absurd cc
+  help_text asks (of_board margin most workers at is_text) = let clash = sym at ∙ asks in absurd cc
+
+  cuts_text : (most workers : ℕ) → asked words ≡ Some (Cuts most workers) → IsDoneText words held left text → OfInput held left (λ bytes. IsCutsText most bytes text)
+  cuts_text most workers asks (of_help at line) = let clash = sym at ∙ asks in absurd cc
+  cuts_text most workers asks (of_cuts other workers' at is_text) =
+      let same : other ≡ most = let both = sym at ∙ asks in cc in subst (λ m. OfInput held left (λ bytes. IsCutsText m bytes text)) same is_text
+  cuts_text most workers asks (of_board margin other workers' at is_text) = let clash = sym at ∙ asks in absurd cc
+
+  board_text : (margin most workers : ℕ) → asked words ≡ Some (Board margin most workers) → IsDoneText words held left text → OfInput held left (λ bytes. IsSafeText margin most bytes text)
+  board_text margin most workers asks (of_help at line) = let clash = sym at ∙ asks in absurd cc
+  board_text margin most workers asks (of_cuts other workers' at is_text) = let clash = sym at ∙ asks in absurd cc
+  board_text margin most workers asks (of_board margin' most' workers' at is_text) =
+      let margins : margin' ≡ margin = let both = sym at ∙ asks in cc in
+      let mosts : most' ≡ most = let both = sym at ∙ asks in cc in
+      subst (λ m. OfInput held left (λ bytes. IsSafeText m most bytes text)) margins
+      (subst (λ m. OfInput held left (λ bytes. IsSafeText margin' m bytes text)) mosts is_text)
 
 -- ---- the status that is due
 
-abbrev Agrees : Status → Status → Type 0
-Agrees came due = (came ≡ due) ⊎ (came ≡ ReadFault)
+module _ (words : List (List ℕ)) (bytes : List ℕ) (left : Option (List ℕ)) (rose : Type 0) (text : List ℕ) where
+  -- of a deck that was read, the status goes with its finding
+  goes_with : (wants : Wants) (finding other : Finding) (status : Status) → wanted words ≡ Some wants → Finds wants bytes finding → HasFound words (Some bytes) left other
+      → (Answers other status) → Answers finding status
+  goes_with wants finding other status at finds (wants', at', found) answers =
+      let same : wants' ≡ wants = same_wants words wants' wants at' at in
+      let found' : Finds wants bytes other = subst (λ w. Finds w bytes other) same (input bytes left (λ b. Finds wants' b other) found).1 in
+      subst (λ f. Answers f status) (one_finding wants bytes other finding found' finds) answers
 
--- a deck gives what is due
-given : (most : ℕ) (bytes : List ℕ) (came due : Status) → IsGiven most bytes came → IsGiven most bytes due → Agrees came due
-given most bytes came due one two = inl (one_given most bytes came due one two)
+  deck_due : (wants : Wants) (finding : Finding) → length bytes ≤ INPUT_LIMIT → wanted words ≡ Some wants → Finds wants bytes finding
+      → (status : Status) → Cause words (Some bytes) left rose status text → Answers finding status ⊎ Fails status
+  deck_due wants finding short at finds (Done method) (of_help asks line) = wanted_by_help words wants at asks
+  deck_due wants finding short at finds (Done method) (of_cuts most workers at' is_text) =
+      let whole = (input bytes left (λ b. IsCutsText most b text) is_text).1 in
+      let same : for_cuts most ≡ wants = same_wants words (for_cuts most) wants (wants_cuts words most workers at') at in
+      let found' : Finds wants bytes (Ready whole.found) = subst (λ w. Finds w bytes (Ready whole.found)) same whole.finds in
+      inl (subst (λ f. Answers f (Done method)) (one_finding wants bytes (Ready whole.found) finding found' finds) (method, refl))
+  deck_due wants finding short at finds (Done method) (of_board margin most workers at' is_text) =
+      let whole = (input bytes left (λ b. IsSafeText margin most b text) is_text).1 in
+      let same : for_board most ≡ wants = same_wants words (for_board most) wants (wants_board words margin most workers at') at in
+      let found' : Finds wants bytes (Ready whole.found) = subst (λ w. Finds w bytes (Ready whole.found)) same whole.finds in
+      inl (subst (λ f. Answers f (Done method)) (one_finding wants bytes (Ready whole.found) finding found' finds) (method, refl))
+  deck_due wants finding short at finds (Refused fault) (found, line) = inl (goes_with wants finding (Faulty fault) (Refused fault) at finds found refl)
+  deck_due wants finding short at finds ListLimit (found, line) = inl (goes_with wants finding TooHeavy ListLimit at finds found refl)
+  deck_due wants finding short at finds OrderLimit (found, line) = inl (goes_with wants finding TooManyOrders OrderLimit at finds found refl)
+  deck_due wants finding short at finds Usage (none, line) = wanted_by words wants at none
+  deck_due wants finding short at finds ReadFault failed = inr (inl refl)
+  deck_due wants finding short at finds TooLong (reading, beyond, line) = not_short_and_long bytes short (long_input bytes left beyond)
+  deck_due wants finding short at finds WriteFault none = absurd none
+  deck_due wants finding short at finds NoMemory none = absurd none
 
-agrees : (words : List (List ℕ)) (bytes : List ℕ) (after : Option (List ℕ)) (rose : Type 0) (came due : Status) (text : List ℕ)
-    → Row words (Some bytes) after rose came text → IsDue words bytes due → Agrees came due
-agrees words bytes after rose (Done Plain) (Done Plain) text row due = inl refl
-agrees words bytes after rose (Done Plain) Usage text row due = not_help_and_none words row.0 due
-agrees words bytes after rose (Done Plain) (Done Lists) text row due = not_cuts_and_help words due.0 row.0
-agrees words bytes after rose (Done Plain) (Refused other) text row due = not_cuts_and_help words due.0 row.0
-agrees words bytes after rose (Done Plain) ListLimit text row due = not_cuts_and_help words due.0 row.0
-agrees words bytes after rose (Done Plain) OrderLimit text row due = not_cuts_and_help words due.0 row.0
-agrees words bytes after rose (Done Plain) TooLong text row due = not_cuts_and_help words due.0 row.0
-agrees words bytes after rose (Done Plain) ReadFault text row due = absurd due
-agrees words bytes after rose (Done Plain) WriteFault text row due = absurd due
-agrees words bytes after rose (Done Plain) NoMemory text row due = absurd due
-agrees words bytes after rose Usage (Done Plain) text row due = not_help_and_none words due row.0
-agrees words bytes after rose Usage Usage text row due = inl refl
-agrees words bytes after rose Usage (Done Lists) text row due = not_cuts_and_none words due.0 row.0
-agrees words bytes after rose Usage (Refused other) text row due = not_cuts_and_none words due.0 row.0
-agrees words bytes after rose Usage ListLimit text row due = not_cuts_and_none words due.0 row.0
-agrees words bytes after rose Usage OrderLimit text row due = not_cuts_and_none words due.0 row.0
-agrees words bytes after rose Usage TooLong text row due = not_cuts_and_none words due.0 row.0
-agrees words bytes after rose Usage ReadFault text row due = absurd due
-agrees words bytes after rose Usage WriteFault text row due = absurd due
-agrees words bytes after rose Usage NoMemory text row due = absurd due
-agrees words bytes after rose (Done Lists) (Done Plain) text row due = not_cuts_and_help words row.0 due
-agrees words bytes after rose (Done Lists) Usage text row due = not_cuts_and_none words row.0 due
-agrees words bytes after rose (Done Lists) (Done Lists) text row due = given (most_of words) bytes (Done Lists) (Done Lists) (text, (input bytes after (λ b. IsCutsText (most_of words) b text) row.1).1) due.2
-agrees words bytes after rose (Done Lists) (Refused other) text row due = given (most_of words) bytes (Done Lists) (Refused other) (text, (input bytes after (λ b. IsCutsText (most_of words) b text) row.1).1) due.2
-agrees words bytes after rose (Done Lists) ListLimit text row due = given (most_of words) bytes (Done Lists) ListLimit (text, (input bytes after (λ b. IsCutsText (most_of words) b text) row.1).1) due.2
-agrees words bytes after rose (Done Lists) OrderLimit text row due = given (most_of words) bytes (Done Lists) OrderLimit (text, (input bytes after (λ b. IsCutsText (most_of words) b text) row.1).1) due.2
-agrees words bytes after rose (Done Lists) TooLong text row due = not_short_and_long bytes (input bytes after (λ b. IsCutsText (most_of words) b text) row.1).0 due.1
-agrees words bytes after rose (Done Lists) ReadFault text row due = absurd due
-agrees words bytes after rose (Done Lists) WriteFault text row due = absurd due
-agrees words bytes after rose (Done Lists) NoMemory text row due = absurd due
-agrees words bytes after rose (Refused fault) (Done Plain) text row due = not_cuts_and_help words row.0 due
-agrees words bytes after rose (Refused fault) Usage text row due = not_cuts_and_none words row.0 due
-agrees words bytes after rose (Refused fault) (Done Lists) text row due = given (most_of words) bytes (Refused fault) (Done Lists) (input bytes after (λ b. IsFirstFaultOf b fault) row.1.0).1 due.2
-agrees words bytes after rose (Refused fault) (Refused other) text row due = given (most_of words) bytes (Refused fault) (Refused other) (input bytes after (λ b. IsFirstFaultOf b fault) row.1.0).1 due.2
-agrees words bytes after rose (Refused fault) ListLimit text row due = given (most_of words) bytes (Refused fault) ListLimit (input bytes after (λ b. IsFirstFaultOf b fault) row.1.0).1 due.2
-agrees words bytes after rose (Refused fault) OrderLimit text row due = given (most_of words) bytes (Refused fault) OrderLimit (input bytes after (λ b. IsFirstFaultOf b fault) row.1.0).1 due.2
-agrees words bytes after rose (Refused fault) TooLong text row due = not_short_and_long bytes (input bytes after (λ b. IsFirstFaultOf b fault) row.1.0).0 due.1
-agrees words bytes after rose (Refused fault) ReadFault text row due = absurd due
-agrees words bytes after rose (Refused fault) WriteFault text row due = absurd due
-agrees words bytes after rose (Refused fault) NoMemory text row due = absurd due
-agrees words bytes after rose ListLimit (Done Plain) text row due = not_cuts_and_help words row.0 due
-agrees words bytes after rose ListLimit Usage text row due = not_cuts_and_none words row.0 due
-agrees words bytes after rose ListLimit (Done Lists) text row due = given (most_of words) bytes ListLimit (Done Lists) (input bytes after IsTooHeavy row.1.0).1 due.2
-agrees words bytes after rose ListLimit (Refused other) text row due = given (most_of words) bytes ListLimit (Refused other) (input bytes after IsTooHeavy row.1.0).1 due.2
-agrees words bytes after rose ListLimit ListLimit text row due = given (most_of words) bytes ListLimit ListLimit (input bytes after IsTooHeavy row.1.0).1 due.2
-agrees words bytes after rose ListLimit OrderLimit text row due = given (most_of words) bytes ListLimit OrderLimit (input bytes after IsTooHeavy row.1.0).1 due.2
-agrees words bytes after rose ListLimit TooLong text row due = not_short_and_long bytes (input bytes after IsTooHeavy row.1.0).0 due.1
-agrees words bytes after rose ListLimit ReadFault text row due = absurd due
-agrees words bytes after rose ListLimit WriteFault text row due = absurd due
-agrees words bytes after rose ListLimit NoMemory text row due = absurd due
-agrees words bytes after rose OrderLimit (Done Plain) text row due = not_cuts_and_help words row.0 due
-agrees words bytes after rose OrderLimit Usage text row due = not_cuts_and_none words row.0 due
-agrees words bytes after rose OrderLimit (Done Lists) text row due = given (most_of words) bytes OrderLimit (Done Lists) (input bytes after (HasManyOrders (most_of words)) row.1.0).1 due.2
-agrees words bytes after rose OrderLimit (Refused other) text row due = given (most_of words) bytes OrderLimit (Refused other) (input bytes after (HasManyOrders (most_of words)) row.1.0).1 due.2
-agrees words bytes after rose OrderLimit ListLimit text row due = given (most_of words) bytes OrderLimit ListLimit (input bytes after (HasManyOrders (most_of words)) row.1.0).1 due.2
-agrees words bytes after rose OrderLimit OrderLimit text row due = given (most_of words) bytes OrderLimit OrderLimit (input bytes after (HasManyOrders (most_of words)) row.1.0).1 due.2
-agrees words bytes after rose OrderLimit TooLong text row due = not_short_and_long bytes (input bytes after (HasManyOrders (most_of words)) row.1.0).0 due.1
-agrees words bytes after rose OrderLimit ReadFault text row due = absurd due
-agrees words bytes after rose OrderLimit WriteFault text row due = absurd due
-agrees words bytes after rose OrderLimit NoMemory text row due = absurd due
-agrees words bytes after rose TooLong (Done Plain) text row due = not_cuts_and_help words row.0 due
-agrees words bytes after rose TooLong Usage text row due = not_cuts_and_none words row.0 due
-agrees words bytes after rose TooLong (Done Lists) text row due = not_short_and_long bytes due.1 (long_input bytes after row.1.0)
-agrees words bytes after rose TooLong (Refused other) text row due = not_short_and_long bytes due.1 (long_input bytes after row.1.0)
-agrees words bytes after rose TooLong ListLimit text row due = not_short_and_long bytes due.1 (long_input bytes after row.1.0)
-agrees words bytes after rose TooLong OrderLimit text row due = not_short_and_long bytes due.1 (long_input bytes after row.1.0)
-agrees words bytes after rose TooLong TooLong text row due = inl refl
-agrees words bytes after rose TooLong ReadFault text row due = absurd due
-agrees words bytes after rose TooLong WriteFault text row due = absurd due
-agrees words bytes after rose TooLong NoMemory text row due = absurd due
-agrees words bytes after rose ReadFault due text row is = inr refl
-agrees words bytes after rose WriteFault due text row is = absurd row
-agrees words bytes after rose NoMemory due text row is = absurd row
+  found_short : (finding : Finding) → HasFound words (Some bytes) left finding → length bytes ≤ INPUT_LIMIT
+  found_short finding (wants, at, found) = (input bytes left (λ b. Finds wants b finding) found).0
+
+  length_due : INPUT_LIMIT < length bytes → AreReading words → (status : Status) → Cause words (Some bytes) left rose status text → (status ≡ TooLong) ⊎ Fails status
+  length_due long (wants, at) (Done method) (of_help asks line) = wanted_by_help words wants at asks
+  length_due long (wants, at) (Done method) (of_cuts most workers at' is_text) = not_short_and_long bytes (input bytes left (λ b. IsCutsText most b text) is_text).0 long
+  length_due long (wants, at) (Done method) (of_board margin most workers at' is_text) = not_short_and_long bytes (input bytes left (λ b. IsSafeText margin most b text) is_text).0 long
+  length_due long (wants, at) (Refused fault) (found, line) = not_short_and_long bytes (found_short (Faulty fault) found) long
+  length_due long (wants, at) ListLimit (found, line) = not_short_and_long bytes (found_short TooHeavy found) long
+  length_due long (wants, at) OrderLimit (found, line) = not_short_and_long bytes (found_short TooManyOrders found) long
+  length_due long (wants, at) Usage (none, line) = wanted_by words wants at none
+  length_due long (wants, at) ReadFault failed = inr (inl refl)
+  length_due long (wants, at) TooLong cause = inl refl
+  length_due long (wants, at) WriteFault none = absurd none
+  length_due long (wants, at) NoMemory none = absurd none
+
+module _ (words : List (List ℕ)) (held left : Option (List ℕ)) (rose : Type 0) (text : List ℕ) where
+  none_reads : {P : Type 0} → asked words ≡ None → AreReading words → P
+  none_reads none (wants, at) = wanted_by words wants at none
+
+  found_reads : (finding : Finding) → HasFound words held left finding → AreReading words
+  found_reads finding (wants, at, found) = (wants, at)
+
+  usage_due : asked words ≡ None → (status : Status) → Cause words held left rose status text → (status ≡ Usage) ⊎ Fails status
+  usage_due none (Done method) done = let found = command_of_text words held left rose text done in let clash = sym none ∙ found.1 in absurd cc
+  usage_due none (Refused fault) (found, line) = none_reads none (found_reads (Faulty fault) found)
+  usage_due none ListLimit (found, line) = none_reads none (found_reads TooHeavy found)
+  usage_due none OrderLimit (found, line) = none_reads none (found_reads TooManyOrders found)
+  usage_due none Usage cause = inl refl
+  usage_due none ReadFault cause = inr (inl refl)
+  usage_due none TooLong (reading, beyond, line) = none_reads none reading
+  usage_due none WriteFault never = absurd never
+  usage_due none NoMemory never = absurd never
+
+  help_reads : {P : Type 0} → asked words ≡ Some Help → AreReading words → P
+  help_reads asks (wants, at) = wanted_by_help words wants at asks
+
+  help_due : asked words ≡ Some Help → (status : Status) → Cause words held left rose status text → IsDone status ⊎ Fails status
+  help_due asks (Done method) done = inl (method, refl)
+  help_due asks (Refused fault) (found, line) = help_reads asks (found_reads (Faulty fault) found)
+  help_due asks ListLimit (found, line) = help_reads asks (found_reads TooHeavy found)
+  help_due asks OrderLimit (found, line) = help_reads asks (found_reads TooManyOrders found)
+  help_due asks Usage (none, line) = let clash = sym none ∙ asks in absurd cc
+  help_due asks ReadFault cause = inr (inl refl)
+  help_due asks TooLong (reading, beyond, line) = help_reads asks reading
+  help_due asks WriteFault never = absurd never
+  help_due asks NoMemory never = absurd never
 
 -- ---- the clauses of a run
 
-module _ {K : Type 0} (words : List (List ℕ)) (before after : Option (List ℕ)) (rose : Type 0) (taken : K → Option (List ℕ)) (faults : K → ℕ) (old new : K) (result : Status)
-    (runs : Runs words before after rose taken faults old new result) where
-  -- the row and the text of a status that is written whole
-  pub row_of : (status : Status) → ¬ (status ≡ WriteFault) → ¬ (status ≡ NoMemory) → result ≡ status
-      → (text : List ℕ) × Row words before after rose status text × Appends (taken old) (taken new) text
-  row_of status no_fault enough is = elim runs [
+module _ {K : Type 0} (words : List (List ℕ)) (held left : Option (List ℕ)) (rose : Type 0) (taken : K → Option (List ℕ)) (faults : K → ℕ) (old new : K) (result : Status)
+    (ran : Runs words held left rose taken faults old new result) where
+  -- the cause and the text of a status that is written whole
+  written : (status : Status) → ¬ (status ≡ WriteFault) → ¬ (status ≡ NoMemory) → result ≡ status
+      → (text : List ℕ) × Cause words held left rose status text × Appends (taken old) (taken new) text
+  written status no_fault enough is = elim ran [
     | inl memory ↦ absurd (enough (sym is ∙ memory.0))
     | inr told ↦ elim told.told [
-      | inl whole ↦ (told.text, subst (λ s. Row words before after rose s told.text) (sym whole.0 ∙ is) told.row, whole.1)
+      | inl whole ↦ (told.text, subst (λ s. Cause words held left rose s told.text) (sym whole.0 ∙ is) (cause words held left rose told.text told.status told.gives), whole.1)
       | inr short ↦ absurd (no_fault (sym is ∙ short.0))
     ]
   ]
 
+  done_text : (method : Method) → result ≡ Done method → (text : List ℕ) × IsDoneText words held left text × Appends (taken old) (taken new) text
+  done_text method is = written (Done method) (λ e. let clash = e in cc) (λ e. let clash = e in cc) is
+
+  pub of_command : runs.IsOfCommand words result
+  of_command (method, is) = let found = done_text method is in command_of_text words held left rose found.0 found.1
+
+  pub prints_cuts : runs.PrintsCuts words held left taken old new result
+  prints_cuts most workers asks (method, is) =
+      let found = done_text method is in (found.0, cuts_text words held left rose found.0 most workers asks found.1, found.2)
+
+  pub prints_safely : runs.PrintsSafely words held left taken old new result
+  prints_safely margin most workers asks (method, is) =
+      let found = done_text method is in (found.0, board_text words held left rose found.0 margin most workers asks found.1, found.2)
+
+  pub prints_board : runs.PrintsBoard words held left taken old new result
+  prints_board margin most workers asks done =
+      let found = prints_safely margin most workers asks done in
+      (found.0, of_input held left (λ bytes. IsSafeText margin most bytes found.0) (λ bytes. IsBoardText margin most bytes found.0) (λ bytes is. plain_text margin most bytes found.0 is) found.1, found.2)
+
+  pub prints_help : runs.PrintsHelp words taken old new result
+  prints_help asks (method, is) =
+      let found = done_text method is in subst (Appends (taken old) (taken new)) (help_text words held left rose found.0 asks found.1) found.2
+
+  -- the line of a refusal, with its cause
+  pub refuses_words : runs.RefusesWords words taken old new result
+  refuses_words is = let found = written Usage (λ e. let clash = e in cc) (λ e. let clash = e in cc) is in (found.1.0, subst (Appends (taken old) (taken new)) found.1.1 found.2)
+
+  pub refuses_deck : runs.RefusesDeck words held left taken old new result
+  refuses_deck fault is = let found = written (Refused fault) (λ e. let clash = e in cc) (λ e. let clash = e in cc) is in (found.1.0, subst (Appends (taken old) (taken new)) found.1.1 found.2)
+
+  pub refuses_weight : runs.RefusesWeight words held left taken old new result
+  refuses_weight is = let found = written ListLimit (λ e. let clash = e in cc) (λ e. let clash = e in cc) is in (found.1.0, subst (Appends (taken old) (taken new)) found.1.1 found.2)
+
+  pub refuses_orders : runs.RefusesOrders words held left taken old new result
+  refuses_orders is = let found = written OrderLimit (λ e. let clash = e in cc) (λ e. let clash = e in cc) is in (found.1.0, subst (Appends (taken old) (taken new)) found.1.1 found.2)
+
+  pub refuses_length : runs.RefusesLength words held left taken old new result
+  refuses_length is = let found = written TooLong (λ e. let clash = e in cc) (λ e. let clash = e in cc) is in (found.1.0, found.1.1, subst (Appends (taken old) (taken new)) found.1.2 found.2)
+
+  pub fails_to_read : runs.FailsToRead words rose taken old new result
+  fails_to_read is = let found = written ReadFault (λ e. let clash = e in cc) (λ e. let clash = e in cc) is in (found.1.0, found.1.1, subst (Appends (taken old) (taken new)) found.1.2 found.2)
+
   pub unwritten : result ≡ NoMemory → new ≡ old
-  unwritten is = elim runs [
+  unwritten is = elim ran [
     | inl memory ↦ memory.1
     | inr told ↦ elim told.told [
-      | inl whole ↦ absurd (subst (λ s. Row words before after rose s told.text) (sym whole.0 ∙ is) told.row)
+      | inl whole ↦ absurd (subst (λ s. Cause words held left rose s told.text) (sym whole.0 ∙ is) (cause words held left rose told.text told.status told.gives))
       | inr short ↦ let clash = sym is ∙ short.0 in absurd cc
     ]
   ]
 
-  pub front_of : result ≡ WriteFault → WritesFrontOfRow words before after rose taken faults old new
-  front_of is = elim runs [
+  pub front_of : runs.WritesFrontOfText words held left rose taken faults old new result
+  front_of is = elim ran [
     | inl memory ↦ let clash = sym is ∙ memory.0 in absurd cc
     | inr told ↦ elim told.told [
-      | inl whole ↦ absurd (subst (λ s. Row words before after rose s told.text) (sym whole.0 ∙ is) told.row)
-      | inr short ↦ (told.status, told.text, told.row, short.1)
+      | inl whole ↦ absurd (subst (λ s. Cause words held left rose s told.text) (sym whole.0 ∙ is) (cause words held left rose told.text told.status told.gives))
+      | inr short ↦ (told.status, told.text, told.gives, short.1)
     ]
   ]
 
-  pub due_of : (bytes : List ℕ) (status : Status) → before ≡ Some bytes → IsDue words bytes status → IsOrFails result status
-  due_of bytes status holds due = elim runs [
+  -- what is due of every status that a text goes with is due of the run
+  due : (P : Status → Type 0) → ((status : Status) (text : List ℕ) → Cause words held left rose status text → P status ⊎ Fails status) → P result ⊎ Fails result
+  due P each = elim ran [
     | inl memory ↦ inr (inr (inr memory.0))
     | inr told ↦ elim told.told [
-      | inl whole ↦ elim (agrees words bytes after rose told.status status told.text (subst (λ b. Row words b after rose told.status told.text) holds told.row) due) [
-        | inl same ↦ inl (whole.0 ∙ same)
-        | inr read ↦ inr (inl (whole.0 ∙ read))
-      ]
+      | inl whole ↦ subst (λ s. P s ⊎ Fails s) (sym whole.0) (each told.status told.text (cause words held left rose told.text told.status told.gives))
       | inr short ↦ inr (inr (inl short.0))
     ]
   ]
+
+  pub answers_words : runs.AnswersWords words result
+  answers_words = (
+    λ none. due (λ s. s ≡ Usage) (λ status text causes. usage_due words held left rose text none status causes),
+    λ asks. due IsDone (λ status text causes. help_due words held left rose text asks status causes),
+  )
+
+  pub answers_deck : runs.AnswersDeck words held result
+  answers_deck bytes wants finding holds short at finds =
+      due (Answers finding) (λ status text causes.
+      deck_due words bytes left rose text wants finding short at finds status (subst (λ h. Cause words h left rose status text) holds causes))
+
+  pub answers_length : runs.AnswersLength words held result
+  answers_length bytes holds long reading =
+      due (λ s. s ≡ TooLong) (λ status text causes.
+      length_due words bytes left rose text long reading status (subst (λ h. Cause words h left rose status text) holds causes))

@@ -1,6 +1,8 @@
+mod Ends
 mod Telling
-mod Inputs
-mod OneAnswer
+mod OneFinding
+mod Bearing
 mod Clauses
-mod Numbers
 mod Writable
+mod Answering
+mod Serving

@@ -1,9 +1,8 @@
--- What the bytes of a deck stand for: its tree, or the first fault of its tree part.
-use Rattle.std.specs.Prelude.{◌≡◌, ℕ, ◌<◌, ◌≤◌, List, take, Result, Ok, Err}
-use Rattle.unit_sets.specs.CutOrder.{weight, weight_limit}
+-- What the bytes of a deck stand for: the tree of its tree part and the crews of its crew part, or their faults.
+use Rattle.std.specs.Prelude.{◌≡◌, ℕ, List, take, drop, Option, Some, None, Result, Ok, Err}
 use Rattle.fault_model.specs.Tree.{FaultTree}
-use Rattle.fault_model.specs.Cut.{IsCutList}
 use Rattle.fault_model.specs.WellFormed.{IsTree}
+use Rattle.galileo_lexer.specs.Spot.{place_behind}
 use Rattle.galileo_tree.specs.declared.fault.ParseFault.{ParseFault}
 use Rattle.galileo_tree.specs.declared.fault.ParseFault.TheVariants as parse
 use Rattle.galileo_tree.specs.Lexeme.{place_at}
@@ -11,14 +10,18 @@ use Rattle.galileo_tree.specs.Parsed.{parsed_text}
 use Rattle.galileo_tree.specs.ReadTree.{ReadTree}
 use Rattle.tree_check.specs.Checked.{IsFirstFault, Stands}
 use Rattle.tree_check.specs.declared.fault.CheckCode.{CheckCode}
+use Rattle.crew_script.specs.Crews.{crews_of}
 use Rattle.crew_script.specs.Deck.{split_of}
-use Rattle.cutset_lists.specs.Generation.{HasHeavyCutList}
-use Rattle.cut_sequences.specs.Orders.{order_limit, order_lists, order_total}
-use Rattle.board_report.specs.CutsText.{cuts_text, listed_with}
+use Rattle.crew_script.specs.declared.deck.CrewsAt.{CrewsAt}
+use Rattle.crew_script.specs.declared.dockets.Crew.{Crew}
+use Rattle.crew_script.specs.declared.fault.CrewCode.TheVariants.{NoCrewPart}
+use Rattle.crew_script.specs.declared.fault.CrewFault.{CrewFault}
 use Rattle.board_report.specs.declared.fault.DeckFault.{DeckFault}
-use Rattle.board_report.specs.declared.fault.FaultCode.TheVariants.{Lex, Expected, Check}
+use Rattle.board_report.specs.declared.fault.FaultCode.TheVariants as report
 
--- the tree part: what stands before the first line `@crews`, or all
+-- ---- the tree part
+
+-- what stands before the first line `@crews`, or all
 abbrev pub tree_part : List ℕ → List ℕ
 tree_part bytes = take (split_of bytes).tree bytes
 
@@ -32,39 +35,26 @@ pub record StandsFor (bytes : List ℕ) (tree : FaultTree) : Type 0 where
 
 -- what reading gives is refused with this fault: a token or the grammar's, or else the first class of the statements
 abbrev pub IsFaultOf : Result ReadTree ParseFault → DeckFault → Type 0
-IsFaultOf (Err (parse.Lex fault)) found = found ≡ record { code = Lex fault.code; place = place_at fault.place }
-IsFaultOf (Err (parse.Expected wanted place)) found = found ≡ record { code = Expected wanted; place = place }
+IsFaultOf (Err (parse.Lex fault)) found = found ≡ record { code = report.Lex fault.code; place = place_at fault.place }
+IsFaultOf (Err (parse.Expected wanted place)) found = found ≡ record { code = report.Expected wanted; place = place }
 IsFaultOf (Err parse.NoMemory) found = ⊥
-IsFaultOf (Ok read) found = (code : CheckCode) × (found.code ≡ Check code) × IsFirstFault read code found.place
+IsFaultOf (Ok read) found = (code : CheckCode) × (found.code ≡ report.Check code) × IsFirstFault read code found.place
 
--- the first fault of the deck
-abbrev pub IsFirstFaultOf : List ℕ → DeckFault → Type 0
-IsFirstFaultOf bytes fault = IsFaultOf (parsed_text (tree_part bytes)) fault
+-- the first fault of the tree part
+abbrev pub IsTreeFault : List ℕ → DeckFault → Type 0
+IsTreeFault bytes fault = IsFaultOf (parsed_text (tree_part bytes)) fault
 
--- the tree of the deck, with its cut list, which is within the limit
-pub record HasCuts (bytes : List ℕ) (tree : FaultTree) (cuts : List (List ℕ)) : Type 0 where
-  pub stands : StandsFor bytes tree
-  pub all : IsCutList tree cuts
-  pub within : weight cuts ≤ weight_limit
+-- ---- the crew part
 
--- the text is that of the cut list of the tree of the deck, with the failing orders of the sets of at most so many members, which
--- are within the limit
-pub record IsCutsText (most : ℕ) (bytes text : List ℕ) : Type 0 where
-  pub tree : FaultTree
-  pub cuts : List (List ℕ)
-  pub has : HasCuts bytes tree cuts
-  pub few : order_total (order_lists tree cuts most) ≤ order_limit
-  pub is : text ≡ cuts_text tree (listed_with cuts (order_lists tree cuts most))
+-- what the crew part says that begins there, and nothing where there is none
+abbrev pub crews_behind : List ℕ → Option CrewsAt → Option (Result (List Crew) CrewFault)
+crews_behind bytes None = None
+crews_behind bytes (Some at) = Some (crews_of at.line (drop at.start bytes))
 
--- the sets of at most so many members have more failing orders than the limit
-pub record HasManyOrders (most : ℕ) (bytes : List ℕ) : Type 0 where
-  pub tree : FaultTree
-  pub cuts : List (List ℕ)
-  pub has : HasCuts bytes tree cuts
-  pub many : order_limit < order_total (order_lists tree cuts most)
+-- the crews with their requests, or the first line's fault
+abbrev pub crew_part : List ℕ → Option (Result (List Crew) CrewFault)
+crew_part bytes = crews_behind bytes (split_of bytes).crews
 
--- the cut list of the tree of the deck is beyond the limit
-pub record IsTooHeavy (bytes : List ℕ) : Type 0 where
-  pub tree : FaultTree
-  pub stands : StandsFor bytes tree
-  pub heavy : HasHeavyCutList tree
+-- a deck without a crew part, told at its end
+abbrev pub no_crew_part : List ℕ → DeckFault
+no_crew_part bytes = record { code = report.Crew NoCrewPart; place = place_at (place_behind bytes) }

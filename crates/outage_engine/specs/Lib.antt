@@ -2,9 +2,17 @@
 pub mod Codes
 -- what the bytes of a deck stand for
 pub mod Deck
--- which status comes when, and with which text
-pub mod Rows
--- what a run is known to have done
+-- what is found in a deck for a command
+pub mod Finding
+-- the texts of commands
+pub mod Texts
+-- what a planner may rely on
+pub mod Safety
+-- which status comes with which text
+pub mod Gives
+-- what a run is known to have done, and the clauses of a run
 pub mod Runs
 -- an answer before it is written
 pub mod Answers
+-- a board that is opened, and what came of it
+pub mod Openings

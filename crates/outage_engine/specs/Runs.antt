@@ -1,11 +1,22 @@
--- What a run did: it gave up for want of memory and wrote nothing, or it wrote the text of its status, all of it or a front.
-use Rattle.std.specs.Prelude.{◌≡◌, ℕ, ◌⊎◌, List, Option}
+-- What a run did: it gave up for want of memory and wrote nothing, or it wrote the text of its status, all of it or a front. The clauses
+-- of a run, which its functions share, are named here.
+use Rattle.std.specs.Prelude.{◌≡◌, ◌⊎◌, ℕ, ◌<◌, ◌≤◌, List, length, Option, Some, None}
 use Rattle.std.specs.Io.KnownBytes.{Appends}
 use Rattle.edge_io.specs.Faults.{Rose}
 use Rattle.edge_io.specs.Writing.{TakesFront}
+use Rattle.edge_io.specs.declared.reading.TheConstants.{INPUT_LIMIT}
+use Rattle.board_words.specs.declared.command.Command.{Command}
+use Rattle.board_words.specs.declared.command.Command.TheVariants.{Cuts, Board, Help}
+use Rattle.board_report.specs.Refusals.{fault_line, notice_line}
+use Rattle.board_report.specs.declared.fault.DeckFault.{DeckFault}
+use Rattle.board_report.specs.declared.notice.Notice.TheVariants as notice
+use Rattle.outage_engine.specs.declared.status.Method.{Method}
 use Rattle.outage_engine.specs.declared.status.Status.{Status}
-use Rattle.outage_engine.specs.declared.status.Status.TheVariants.{ReadFault, WriteFault, NoMemory}
-use Rattle.outage_engine.specs.Rows.{Row}
+use Rattle.outage_engine.specs.declared.status.Status.TheVariants.{Done, Refused, ListLimit, OrderLimit, Usage, ReadFault, TooLong, WriteFault, NoMemory}
+use Rattle.outage_engine.specs.Finding.{Finding, Finds, Faulty, TooHeavy, TooManyOrders, Ready, Wants}
+use Rattle.outage_engine.specs.Gives.{Gives, IsBeyond, OfInput, asked, wanted}
+use Rattle.outage_engine.specs.Safety.{IsSafeText}
+use Rattle.outage_engine.specs.Texts.{IsBoardText, IsCutsText}
 
 -- a front of a text was taken, and the sink failed
 pub record WritesFront {K : Type 0} (taken : K → Option (List ℕ)) (faults : K → ℕ) (old new : K) (text : List ℕ) : Type 0 where
@@ -18,28 +29,121 @@ abbrev pub Tells : {K : Type 0} → (K → Option (List ℕ)) → (K → ℕ) �
 Tells taken faults old new status text result =
     ((result ≡ status) × Appends (taken old) (taken new) text) ⊎ ((result ≡ WriteFault) × WritesFront taken faults old new text)
 
--- the run told the text of a status whose row holds
-pub record Told {K : Type 0} (words : List (List ℕ)) (before after : Option (List ℕ)) (rose : Type 0) (taken : K → Option (List ℕ)) (faults : K → ℕ) (old new : K) (result : Status) : Type 0 where
+-- the run told a text that the words and the input give
+pub record Told {K : Type 0} (words : List (List ℕ)) (held left : Option (List ℕ)) (rose : Type 0) (taken : K → Option (List ℕ)) (faults : K → ℕ) (old new : K) (result : Status) : Type 0 where
   pub status : Status
   pub text : List ℕ
-  pub row : Row words before after rose status text
+  pub gives : Gives words held left rose status text
   pub told : Tells taken faults old new status text result
 
 abbrev pub Runs : {K : Type 0} → List (List ℕ) → Option (List ℕ) → Option (List ℕ) → Type 0 → (K → Option (List ℕ)) → (K → ℕ) → K → K → Status → Type 0
-Runs words before after rose taken faults old new result =
-    ((result ≡ NoMemory) × (new ≡ old)) ⊎ Told words before after rose taken faults old new result
+Runs words held left rose taken faults old new result =
+    ((result ≡ NoMemory) × (new ≡ old)) ⊎ Told words held left rose taken faults old new result
 
--- ---- the clauses of a run, one by one
+-- ---- which words
+
+-- the words are a command that reads its input
+abbrev pub AreReading : List (List ℕ) → Type 0
+AreReading words = (wants : Wants) × (wanted words ≡ Some wants)
+
+-- the words are a command `board`
+abbrev pub IsBoard : List (List ℕ) → Type 0
+IsBoard words = (margin : ℕ) × (most : ℕ) × (workers : ℕ) × (asked words ≡ Some (Board margin most workers))
+
+abbrev pub IsNoBoard : List (List ℕ) → Type 0
+IsNoBoard words = (margin most workers : ℕ) → ¬ (asked words ≡ Some (Board margin most workers))
+
+-- ---- the clauses: what was written where the run ends well
 
 -- a text of which this holds was added to what the sink took
 abbrev pub Writes : {K : Type 0} → (K → Option (List ℕ)) → K → K → (List ℕ → Type 0) → Type 0
 Writes taken old new P = (text : List ℕ) × P text × Appends (taken old) (taken new) text
 
--- at WriteFault: the sink took a front of the text of the status that came
-abbrev pub WritesFrontOfRow : {K : Type 0} → List (List ℕ) → Option (List ℕ) → Option (List ℕ) → Type 0 → (K → Option (List ℕ)) → (K → ℕ) → K → K → Type 0
-WritesFrontOfRow words before after rose taken faults old new =
-    (status : Status) × (text : List ℕ) × Row words before after rose status text × WritesFront taken faults old new text
+-- the status is Done, whatever the method
+abbrev pub IsDone : Status → Type 0
+IsDone result = (method : Method) × (result ≡ Done method)
 
--- a status is the one, or the run had a cause to end otherwise: a fault of the source or the sink, or want of memory
-abbrev pub IsOrFails : Status → Status → Type 0
-IsOrFails result status = (result ≡ status) ⊎ ((result ≡ ReadFault) ⊎ ((result ≡ WriteFault) ⊎ (result ≡ NoMemory)))
+-- only words that are a command are done
+abbrev pub IsOfCommand : List (List ℕ) → Status → Type 0
+IsOfCommand words result = IsDone result → (command : Command) × (asked words ≡ Some command)
+
+abbrev pub PrintsCuts : {K : Type 0} → List (List ℕ) → Option (List ℕ) → Option (List ℕ) → (K → Option (List ℕ)) → K → K → Status → Type 0
+PrintsCuts words held left taken old new result =
+    (most workers : ℕ) → asked words ≡ Some (Cuts most workers) → IsDone result
+    → Writes taken old new (λ text. OfInput held left (λ bytes. IsCutsText most bytes text))
+
+abbrev pub PrintsBoard : {K : Type 0} → List (List ℕ) → Option (List ℕ) → Option (List ℕ) → (K → Option (List ℕ)) → K → K → Status → Type 0
+PrintsBoard words held left taken old new result =
+    (margin most workers : ℕ) → asked words ≡ Some (Board margin most workers) → IsDone result
+    → Writes taken old new (λ text. OfInput held left (λ bytes. IsBoardText margin most bytes text))
+
+-- and the tree bears what the margin says after each granted take and each granted margin of the history that was printed
+abbrev pub PrintsSafely : {K : Type 0} → List (List ℕ) → Option (List ℕ) → Option (List ℕ) → (K → Option (List ℕ)) → K → K → Status → Type 0
+PrintsSafely words held left taken old new result =
+    (margin most workers : ℕ) → asked words ≡ Some (Board margin most workers) → IsDone result
+    → Writes taken old new (λ text. OfInput held left (λ bytes. IsSafeText margin most bytes text))
+
+abbrev pub PrintsHelp : {K : Type 0} → List (List ℕ) → (K → Option (List ℕ)) → K → K → Status → Type 0
+PrintsHelp words taken old new result = asked words ≡ Some Help → IsDone result → Appends (taken old) (taken new) (notice_line notice.Usage)
+
+-- ---- the clauses: each refusal has its cause, and its line was written
+
+abbrev pub RefusesWords : {K : Type 0} → List (List ℕ) → (K → Option (List ℕ)) → K → K → Status → Type 0
+RefusesWords words taken old new result = result ≡ Usage → (asked words ≡ None) × Appends (taken old) (taken new) (notice_line notice.Usage)
+
+-- what is found in the deck for the command
+abbrev pub HasFound : List (List ℕ) → Option (List ℕ) → Option (List ℕ) → Finding → Type 0
+HasFound words held left finding = (wants : Wants) × (wanted words ≡ Some wants) × OfInput held left (λ bytes. Finds wants bytes finding)
+
+abbrev pub RefusesDeck : {K : Type 0} → List (List ℕ) → Option (List ℕ) → Option (List ℕ) → (K → Option (List ℕ)) → K → K → Status → Type 0
+RefusesDeck words held left taken old new result =
+    (fault : DeckFault) → result ≡ Refused fault → HasFound words held left (Faulty fault) × Appends (taken old) (taken new) (fault_line fault)
+
+abbrev pub RefusesWeight : {K : Type 0} → List (List ℕ) → Option (List ℕ) → Option (List ℕ) → (K → Option (List ℕ)) → K → K → Status → Type 0
+RefusesWeight words held left taken old new result =
+    result ≡ ListLimit → HasFound words held left TooHeavy × Appends (taken old) (taken new) (notice_line notice.ListLimit)
+
+abbrev pub RefusesOrders : {K : Type 0} → List (List ℕ) → Option (List ℕ) → Option (List ℕ) → (K → Option (List ℕ)) → K → K → Status → Type 0
+RefusesOrders words held left taken old new result =
+    result ≡ OrderLimit → HasFound words held left TooManyOrders × Appends (taken old) (taken new) (notice_line notice.OrderLimit)
+
+abbrev pub RefusesLength : {K : Type 0} → List (List ℕ) → Option (List ℕ) → Option (List ℕ) → (K → Option (List ℕ)) → K → K → Status → Type 0
+RefusesLength words held left taken old new result =
+    result ≡ TooLong → AreReading words × IsBeyond held left × Appends (taken old) (taken new) (notice_line notice.TooLong)
+
+abbrev pub FailsToRead : {K : Type 0} → List (List ℕ) → Type 0 → (K → Option (List ℕ)) → K → K → Status → Type 0
+FailsToRead words rose taken old new result =
+    result ≡ ReadFault → AreReading words × rose × Appends (taken old) (taken new) (notice_line notice.ReadFault)
+
+-- at WriteFault the sink took a front of the text of the status that came
+abbrev pub WritesFrontOfText : {K : Type 0} → List (List ℕ) → Option (List ℕ) → Option (List ℕ) → Type 0 → (K → Option (List ℕ)) → (K → ℕ) → K → K → Status → Type 0
+WritesFrontOfText words held left rose taken faults old new result =
+    result ≡ WriteFault → (status : Status) × (text : List ℕ) × Gives words held left rose status text × WritesFront taken faults old new text
+
+-- ---- the clauses: the other way round
+
+-- the run had a cause to end otherwise: a fault of the source or the sink, or want of memory
+abbrev pub Fails : Status → Type 0
+Fails result = (result ≡ ReadFault) ⊎ ((result ≡ WriteFault) ⊎ (result ≡ NoMemory))
+
+-- the status that goes with what is found
+abbrev pub Answers : Finding → Status → Type 0
+Answers (Faulty fault) result = result ≡ Refused fault
+Answers TooHeavy result = result ≡ ListLimit
+Answers TooManyOrders result = result ≡ OrderLimit
+Answers (Ready found) result = IsDone result
+
+-- what is found in a deck is answered, as long as nothing fails and memory is found
+abbrev pub AnswersDeck : List (List ℕ) → Option (List ℕ) → Status → Type 0
+AnswersDeck words held result =
+    (bytes : List ℕ) (wants : Wants) (finding : Finding) → held ≡ Some bytes → length bytes ≤ INPUT_LIMIT → wanted words ≡ Some wants → Finds wants bytes finding
+    → Answers finding result ⊎ Fails result
+
+-- so is an input that is too long
+abbrev pub AnswersLength : List (List ℕ) → Option (List ℕ) → Status → Type 0
+AnswersLength words held result =
+    (bytes : List ℕ) → held ≡ Some bytes → INPUT_LIMIT < length bytes → AreReading words → (result ≡ TooLong) ⊎ Fails result
+
+-- and words that ask for no deck
+abbrev pub AnswersWords : List (List ℕ) → Status → Type 0
+AnswersWords words result = (asked words ≡ None → (result ≡ Usage) ⊎ Fails result) × (asked words ≡ Some Help → IsDone result ⊎ Fails result)

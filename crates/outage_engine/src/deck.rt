@@ -1,47 +1,53 @@
-//! From the bytes of a deck to its tree.
-ghost use Rattle.std.specs.Prelude.{◌≡◌, ◌≤◌, length, Ok, IfOk, IfErr};
+//! From the bytes of a deck to its tree and its crews.
+ghost use Rattle.std.specs.Prelude.{◌≡◌, ◌≤◌, length, drop, take, Ok, IfOk, IfErr};
 ghost use Rattle.fault_model.specs.WellFormed.{IsTree};
+ghost use Rattle.galileo_lexer.specs.Spot.{place_behind};
+ghost use Rattle.galileo_tree.specs.Lexeme.{place_at};
 ghost use Rattle.galileo_tree.specs.Parsed.{parsed_text};
 ghost use Rattle.galileo_tree.specs.Reads.{FailsAs};
 ghost use Rattle.tree_check.specs.Checked.{Stands};
-ghost use Rattle.outage_engine.specs.Answers.{IsCheckEnd, IsEndOf, end_of};
-ghost use Rattle.outage_engine.specs.Deck.{StandsFor, tree_part};
+ghost use Rattle.crew_script.specs.Crews.{crews_of};
+ghost use Rattle.crew_script.specs.Deck.{split_of};
+ghost use Rattle.outage_engine.specs.Answers.{IsCheckEnd, IsCrewEnd, IsTreeEnd, end_of};
+ghost use Rattle.outage_engine.specs.Deck.{StandsFor, no_crew_part, tree_part};
 
 use board_report::{DeckFault, FaultCode};
-use crew_script::split_deck;
+use crew_script::{CrewCode, CrewFault, CrewsAt, Dockets, read_crews};
 use edge_io::INPUT_LIMIT;
 use fault_model::{Place, Tree};
 use galileo_tree::{ParseFault, RawTree, parse};
 use std::alloc::Global;
 use tree_check::{CheckFault, check};
 
-/// Why a deck has no tree.
+/// Why a deck has no tree, or no crews.
 #[derive(Clone, Copy, Debug, PartialEq, Eq)]
 pub(crate) enum DeckEnd {
-    /// Its first fault.
+    /// The first fault of the part.
     Fault(DeckFault),
     NoMemory,
 }
 
-// The tree that a deck stands for, or why there is none.
-pub(crate) fn tree_in(alloc: Global, bytes: &[u8]) -> Result<Tree, DeckEnd>
-    requires { length bytes.now ≤ INPUT_LIMIT }
+/// The tree that a deck stands for, whose tree part has so many bytes, or why there is none.
+pub(crate) fn tree_in(alloc: Global, bytes: &[u8], size: usize) -> Result<Tree, DeckEnd>
+    requires short { length bytes.now ≤ INPUT_LIMIT }
+    requires part { size ≡ (split_of bytes.now).tree }
+    requires within { size ≤ length bytes.now }
     ensures tree { IfOk result (StandsFor bytes.now) }
-    ensures end { IfErr result (IsEndOf bytes.now) }
+    ensures end { IfErr result (IsTreeEnd bytes.now) }
 {
-    match read_part(alloc, bytes) {
+    match read_part(alloc, &bytes[..size]) {
         Ok(raw) => check_part(alloc, raw),
         Err(fault) => Err(end_of(fault)),
     }
 }
 
 // The statements of the tree part.
-fn read_part(alloc: Global, bytes: &[u8]) -> Result<RawTree, ParseFault>
-    requires { length bytes.now ≤ INPUT_LIMIT }
-    ensures read { IfOk result (λ raw. parsed_text (tree_part bytes.now) ≡ Ok raw) }
-    ensures fault { IfErr result (λ fault. FailsAs fault (parsed_text (tree_part bytes.now))) }
+fn read_part(alloc: Global, part: &[u8]) -> Result<RawTree, ParseFault>
+    requires { length part.now ≤ INPUT_LIMIT }
+    ensures read { IfOk result (λ raw. parsed_text part.now ≡ Ok raw) }
+    ensures fault { IfErr result (λ fault. FailsAs fault (parsed_text part.now)) }
 {
-    parse(alloc, &bytes[..split_deck(bytes).tree])
+    parse(alloc, part)
 }
 
 // The tree of the statements.
@@ -80,5 +86,53 @@ fn end_of(fault: ParseFault) -> DeckEnd
             place,
         }),
         ParseFault::NoMemory => DeckEnd::NoMemory,
+    }
+}
+
+/// The crews of the crew part that begins there, or why there are none.
+pub(crate) fn crews_in(alloc: Global, bytes: &[u8], at: CrewsAt) -> Result<Dockets, DeckEnd>
+    requires short { length bytes.now ≤ INPUT_LIMIT }
+    requires start { at.start ≤ length bytes.now }
+    requires line { at.line ≤ 16777217 }
+    ensures crews { IfOk result (λ dockets. crews_of at.line (drop at.start bytes.now) ≡ Ok dockets) }
+    ensures end { IfErr result (IsCrewEnd (crews_of at.line (drop at.start bytes.now))) }
+{
+    match read_crews(alloc, &bytes[at.start..], at.line) {
+        Ok(dockets) => Ok(dockets),
+        Err(CrewFault::Fault(code, place)) => Err(DeckEnd::Fault(DeckFault {
+            code: FaultCode::Crew(code),
+            place,
+        })),
+        Err(CrewFault::NoMemory) => Err(DeckEnd::NoMemory),
+    }
+}
+
+/// The fault of a deck without a crew part, told at its end.
+pub(crate) fn no_crew_part(bytes: &[u8]) -> DeckFault
+    requires { length bytes.now ≤ INPUT_LIMIT }
+    ensures { result ≡ no_crew_part bytes.now }
+{
+    DeckFault {
+        code: FaultCode::Crew(CrewCode::NoCrewPart),
+        place: end_of_text(bytes),
+    }
+}
+
+// The place behind the last byte.
+fn end_of_text(bytes: &[u8]) -> Place
+    requires { length bytes.now ≤ INPUT_LIMIT }
+    ensures { result ≡ place_at (place_behind bytes.now) }
+{
+    let mut line: u32 = 1;
+    let mut start = 0;
+    for i in 0..bytes.len() {
+        if bytes[i] == b'\n' {
+            line += 1;
+            start = i + 1;
+        }
+    }
+    Place {
+        line,
+        column: (bytes.len() - start) as u32 + 1,
     }
 }

@@ -1,11 +1,16 @@
-//! What the program does: it reads the words and the deck, finds the cut sets, and writes the text of its answer.
+//! What the program does: it reads the words and the deck, finds the cut sets, serves the crews, and writes the text of its answer.
 //!
-//! It stands on every layer below. The contracts of [`run`] and [`run_cuts`] are the product's own: which text the sink took
-//! for which bytes of the source, and when each status comes.
+//! It stands on every layer below. The contracts of [`run`], [`run_cuts`] and [`run_board`] are the product's own: which text the sink
+//! took for which bytes of the source, and when each status comes.
 #![tactic(auto)]
 
 mod answer;
+#[cfg(test)]
+mod board_tests;
 mod deck;
+pub mod laws;
+mod listing;
+mod opening;
 mod running;
 mod status;
 mod tell;
@@ -13,5 +18,5 @@ mod tell;
 mod tests;
 
 pub use board_words::Word;
-pub use running::{run, run_cuts};
+pub use running::{run, run_board, run_cuts};
 pub use status::{Method, Status};

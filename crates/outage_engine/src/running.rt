@@ -1,25 +1,33 @@
 //! The run of the program.
-ghost use Rattle.std.specs.Prelude.{◌≡◌, ◌⊎◌, ℕ, List, Some};
-ghost use Rattle.std.specs.Io.KnownBytes.{Appends};
-ghost use Rattle.board_report.specs.Refusals.{fault_line, notice_line};
+ghost use Rattle.std.specs.Prelude.{◌≡◌, ◌⊎◌, true, false, []};
 ghost use Rattle.edge_io.specs.Faults.{Rose};
-ghost use Rattle.outage_engine.specs.Deck.{HasManyOrders, IsCutsText, IsFirstFaultOf, IsTooHeavy};
-ghost use Rattle.outage_engine.specs.Rows.{AreCuts, AreHelp, AreNone, IsBeyond, IsDue, OfInput, most_of};
-ghost use Rattle.outage_engine.specs.Runs.{IsOrFails, Runs, Writes, WritesFrontOfRow};
+ghost use Rattle.board_report.specs.BoardText.{IsDeckOf};
+ghost use Rattle.outage_engine.specs.Answers.{IsOfUnits};
+ghost use Rattle.outage_engine.specs.Openings.{HasPasses, TellsBoard};
+ghost use Rattle.outage_engine.specs.Runs.{AreReading, IsBoard, IsNoBoard, Runs};
+ghost use Rattle.outage_engine.specs.Runs.{IsOfCommand, PrintsBoard, PrintsCuts, PrintsHelp, PrintsSafely};
+ghost use Rattle.outage_engine.specs.Runs.{FailsToRead, RefusesDeck, RefusesLength, RefusesOrders, RefusesWeight, RefusesWords};
+ghost use Rattle.outage_engine.specs.Runs.{AnswersDeck, AnswersLength, AnswersWords, WritesFrontOfText};
 
 use crate::answer::answer_words;
-use crate::tell::tell;
-use crate::{Method, Status, Word};
-use board_report::{DeckFault, Notice};
-use edge_io::{Buffer, Sink, Source};
+use crate::listing::Listing;
+use crate::opening::{Opening, open_words};
+use crate::tell::{tell, tell_board};
+use crate::{Status, Word};
+use board_words::{Command, read};
+use crew_workers::serve_all;
+use edge_io::{Buffer, Free, Sink, Source};
+use outage_board::BoardStart;
 use std::alloc::Global;
+use std::sync::Wait;
 use std::thread::Threads;
 
 /// Does all that the program does: the words after its name say what, the source is its input, and the sink its output.
 ///
 /// `cuts` prints the minimal cut sets of the deck, and the orders in which the units of each fail the top event, for the sets of
-/// at most as many members as `--most` says. The search for orders starts the threads that `--workers` says.
-pub fn run<R: Threads + Sync, S: Source, K: Sink>(
+/// at most as many members as `--most` says. `board` prints the same, and then one log of the requests of all crews, decided one after
+/// the other at the margin, and the board at the end. Waits where crews wait for their turn.
+pub fn run<R: Threads + Wait + Sync, S: Source, K: Sink>(
     rt: &R,
     alloc: Global,
     words: &[Word],
@@ -27,47 +35,50 @@ pub fn run<R: Threads + Sync, S: Source, K: Sink>(
     sink: &mut K,
 ) -> Status
     // What was written, for which input, where the run ends well.
-    ensures cuts { result ≡ Status.Done Method.Lists → AreCuts words.now
-        × Writes K.taken sink.old sink.new (λ text. OfInput (S.held source.old) (S.held source.new) (λ bytes. IsCutsText (most_of words.now) bytes text)) }
-    ensures help { result ≡ Status.Done Method.Plain → AreHelp words.now
-        × Appends (K.taken sink.old) (K.taken sink.new) (notice_line Notice.Usage) }
+    ensures command { IsOfCommand words.now result }
+    ensures cuts { PrintsCuts words.now (S.held source.old) (S.held source.new) K.taken sink.old sink.new result }
+    ensures board { PrintsBoard words.now (S.held source.old) (S.held source.new) K.taken sink.old sink.new result }
+    ensures safe { PrintsSafely words.now (S.held source.old) (S.held source.new) K.taken sink.old sink.new result }
+    ensures help { PrintsHelp words.now K.taken sink.old sink.new result }
 
     // Each refusal has its cause, and its line was written.
-    ensures usage { result ≡ Status.Usage → AreNone words.now
-        × Appends (K.taken sink.old) (K.taken sink.new) (notice_line Notice.Usage) }
-    ensures refused { (fault : DeckFault) → result ≡ Status.Refused fault → AreCuts words.now
-        × OfInput (S.held source.old) (S.held source.new) (λ bytes. IsFirstFaultOf bytes fault)
-        × Appends (K.taken sink.old) (K.taken sink.new) (fault_line fault) }
-    ensures list_limit { result ≡ Status.ListLimit → AreCuts words.now
-        × OfInput (S.held source.old) (S.held source.new) IsTooHeavy
-        × Appends (K.taken sink.old) (K.taken sink.new) (notice_line Notice.ListLimit) }
-    ensures order_limit { result ≡ Status.OrderLimit → AreCuts words.now
-        × OfInput (S.held source.old) (S.held source.new) (HasManyOrders (most_of words.now))
-        × Appends (K.taken sink.old) (K.taken sink.new) (notice_line Notice.OrderLimit) }
-    ensures too_long { result ≡ Status.TooLong → AreCuts words.now
-        × IsBeyond (S.held source.old) (S.held source.new)
-        × Appends (K.taken sink.old) (K.taken sink.new) (notice_line Notice.TooLong) }
-    ensures read_fault { result ≡ Status.ReadFault → AreCuts words.now
-        × Rose (S.faults source.old) (S.faults source.new)
-        × Appends (K.taken sink.old) (K.taken sink.new) (notice_line Notice.ReadFault) }
+    ensures usage { RefusesWords words.now K.taken sink.old sink.new result }
+    ensures refused { RefusesDeck words.now (S.held source.old) (S.held source.new) K.taken sink.old sink.new result }
+    ensures list_limit { RefusesWeight words.now (S.held source.old) (S.held source.new) K.taken sink.old sink.new result }
+    ensures order_limit { RefusesOrders words.now (S.held source.old) (S.held source.new) K.taken sink.old sink.new result }
+    ensures too_long { RefusesLength words.now (S.held source.old) (S.held source.new) K.taken sink.old sink.new result }
+    ensures read_fault { FailsToRead words.now (Rose (S.faults source.old) (S.faults source.new)) K.taken sink.old sink.new result }
 
-    // Only `cuts` reads the input.
-    ensures unread { AreCuts words.now ⊎ (source.new ≡ source.old) }
+    // Only a command that wants a deck reads the input.
+    ensures unread { AreReading words.now ⊎ (source.new ≡ source.old) }
 
     // A failed sink took a front of the text of the status that came. Want of memory comes before the first byte.
     ensures write_fault { result ≡ Status.WriteFault → Rose (K.faults sink.old) (K.faults sink.new) }
-    ensures front { result ≡ Status.WriteFault → WritesFrontOfRow words.now (S.held source.old) (S.held source.new)
-        (Rose (S.faults source.old) (S.faults source.new)) K.taken K.faults sink.old sink.new }
+    ensures front { WritesFrontOfText words.now (S.held source.old) (S.held source.new) (Rose (S.faults source.old) (S.faults source.new))
+        K.taken K.faults sink.old sink.new result }
     ensures no_memory { result ≡ Status.NoMemory → sink.new ≡ sink.old }
 
     // The other way round: what these words and this input are due comes, as long as nothing fails and memory is found.
-    ensures due { (bytes : List ℕ) (status : Status) → S.held source.old ≡ Some bytes → IsDue words.now bytes status
-        → IsOrFails result status }
+    ensures due_words { AnswersWords words.now result }
+    ensures due_length { AnswersLength words.now (S.held source.old) result }
+    ensures due { AnswersDeck words.now (S.held source.old) result }
 {
-    run_cuts(rt, alloc, words, source, sink)
+    if is_board(words) {
+        run_board(rt, alloc, words, source, sink)
+    } else {
+        run_cuts(rt, alloc, words, source, sink)
+    }
 }
 
-/// Does what [`run`] does for words that are no command of the board.
+// Whether the words are a command `board`.
+fn is_board(words: &[Word]) -> bool
+    ensures yes { result ≡ true → IsBoard words.now }
+    ensures no { result ≡ false → IsNoBoard words.now }
+{
+    matches!(read(words), Some(Command::Board { .. }))
+}
+
+/// Does what [`run`] does for words that are no command `board`. Waits for nothing.
 pub fn run_cuts<R: Threads + Sync, S: Source, K: Sink>(
     rt: &R,
     alloc: Global,
@@ -75,43 +86,34 @@ pub fn run_cuts<R: Threads + Sync, S: Source, K: Sink>(
     source: &mut S,
     sink: &mut K,
 ) -> Status
+    requires { IsNoBoard words.now }
+
     // What was written, for which input, where the run ends well.
-    ensures cuts { result ≡ Status.Done Method.Lists → AreCuts words.now
-        × Writes K.taken sink.old sink.new (λ text. OfInput (S.held source.old) (S.held source.new) (λ bytes. IsCutsText (most_of words.now) bytes text)) }
-    ensures help { result ≡ Status.Done Method.Plain → AreHelp words.now
-        × Appends (K.taken sink.old) (K.taken sink.new) (notice_line Notice.Usage) }
+    ensures command { IsOfCommand words.now result }
+    ensures cuts { PrintsCuts words.now (S.held source.old) (S.held source.new) K.taken sink.old sink.new result }
+    ensures help { PrintsHelp words.now K.taken sink.old sink.new result }
 
     // Each refusal has its cause, and its line was written.
-    ensures usage { result ≡ Status.Usage → AreNone words.now
-        × Appends (K.taken sink.old) (K.taken sink.new) (notice_line Notice.Usage) }
-    ensures refused { (fault : DeckFault) → result ≡ Status.Refused fault → AreCuts words.now
-        × OfInput (S.held source.old) (S.held source.new) (λ bytes. IsFirstFaultOf bytes fault)
-        × Appends (K.taken sink.old) (K.taken sink.new) (fault_line fault) }
-    ensures list_limit { result ≡ Status.ListLimit → AreCuts words.now
-        × OfInput (S.held source.old) (S.held source.new) IsTooHeavy
-        × Appends (K.taken sink.old) (K.taken sink.new) (notice_line Notice.ListLimit) }
-    ensures order_limit { result ≡ Status.OrderLimit → AreCuts words.now
-        × OfInput (S.held source.old) (S.held source.new) (HasManyOrders (most_of words.now))
-        × Appends (K.taken sink.old) (K.taken sink.new) (notice_line Notice.OrderLimit) }
-    ensures too_long { result ≡ Status.TooLong → AreCuts words.now
-        × IsBeyond (S.held source.old) (S.held source.new)
-        × Appends (K.taken sink.old) (K.taken sink.new) (notice_line Notice.TooLong) }
-    ensures read_fault { result ≡ Status.ReadFault → AreCuts words.now
-        × Rose (S.faults source.old) (S.faults source.new)
-        × Appends (K.taken sink.old) (K.taken sink.new) (notice_line Notice.ReadFault) }
+    ensures usage { RefusesWords words.now K.taken sink.old sink.new result }
+    ensures refused { RefusesDeck words.now (S.held source.old) (S.held source.new) K.taken sink.old sink.new result }
+    ensures list_limit { RefusesWeight words.now (S.held source.old) (S.held source.new) K.taken sink.old sink.new result }
+    ensures order_limit { RefusesOrders words.now (S.held source.old) (S.held source.new) K.taken sink.old sink.new result }
+    ensures too_long { RefusesLength words.now (S.held source.old) (S.held source.new) K.taken sink.old sink.new result }
+    ensures read_fault { FailsToRead words.now (Rose (S.faults source.old) (S.faults source.new)) K.taken sink.old sink.new result }
 
-    // Only `cuts` reads the input.
-    ensures unread { AreCuts words.now ⊎ (source.new ≡ source.old) }
+    // Only a command that wants a deck reads the input.
+    ensures unread { AreReading words.now ⊎ (source.new ≡ source.old) }
 
     // A failed sink took a front of the text of the status that came. Want of memory comes before the first byte.
     ensures write_fault { result ≡ Status.WriteFault → Rose (K.faults sink.old) (K.faults sink.new) }
-    ensures front { result ≡ Status.WriteFault → WritesFrontOfRow words.now (S.held source.old) (S.held source.new)
-        (Rose (S.faults source.old) (S.faults source.new)) K.taken K.faults sink.old sink.new }
+    ensures front { WritesFrontOfText words.now (S.held source.old) (S.held source.new) (Rose (S.faults source.old) (S.faults source.new))
+        K.taken K.faults sink.old sink.new result }
     ensures no_memory { result ≡ Status.NoMemory → sink.new ≡ sink.old }
 
     // The other way round: what these words and this input are due comes, as long as nothing fails and memory is found.
-    ensures due { (bytes : List ℕ) (status : Status) → S.held source.old ≡ Some bytes → IsDue words.now bytes status
-        → IsOrFails result status }
+    ensures due_words { AnswersWords words.now result }
+    ensures due_length { AnswersLength words.now (S.held source.old) result }
+    ensures due { AnswersDeck words.now (S.held source.old) result }
 {
     answer_and_tell(rt, alloc, words, source, sink)
 }
@@ -124,9 +126,10 @@ fn answer_and_tell<R: Threads + Sync, S: Source, K: Sink>(
     source: &mut S,
     sink: &mut K,
 ) -> Status
+    requires { IsNoBoard words.now }
     ensures runs { Runs words.now (S.held source.old) (S.held source.new) (Rose (S.faults source.old) (S.faults source.new))
         K.taken K.faults sink.old sink.new result }
-    ensures unread { AreCuts words.now ⊎ (source.new ≡ source.old) }
+    ensures unread { AreReading words.now ⊎ (source.new ≡ source.old) }
 {
     let Ok(buffer) = Buffer::new(alloc) else {
         return Status::NoMemory;
@@ -135,4 +138,87 @@ fn answer_and_tell<R: Threads + Sync, S: Source, K: Sink>(
         Ok(answer) => tell(sink, buffer, &answer),
         Err(_) => Status::NoMemory,
     }
+}
+
+/// Does what [`run`] does for a command `board`. The board is open, and all memory found, before the first request is served and before
+/// the first byte is written.
+pub fn run_board<R: Threads + Wait + Sync, S: Source, K: Sink>(
+    rt: &R,
+    alloc: Global,
+    words: &[Word],
+    source: &mut S,
+    sink: &mut K,
+) -> Status
+    requires { IsBoard words.now }
+
+    // What was written, for which input, where the run ends well.
+    ensures command { IsOfCommand words.now result }
+    ensures board { PrintsBoard words.now (S.held source.old) (S.held source.new) K.taken sink.old sink.new result }
+    ensures safe { PrintsSafely words.now (S.held source.old) (S.held source.new) K.taken sink.old sink.new result }
+
+    // Each refusal has its cause, and its line was written.
+    ensures usage { RefusesWords words.now K.taken sink.old sink.new result }
+    ensures refused { RefusesDeck words.now (S.held source.old) (S.held source.new) K.taken sink.old sink.new result }
+    ensures list_limit { RefusesWeight words.now (S.held source.old) (S.held source.new) K.taken sink.old sink.new result }
+    ensures order_limit { RefusesOrders words.now (S.held source.old) (S.held source.new) K.taken sink.old sink.new result }
+    ensures too_long { RefusesLength words.now (S.held source.old) (S.held source.new) K.taken sink.old sink.new result }
+    ensures read_fault { FailsToRead words.now (Rose (S.faults source.old) (S.faults source.new)) K.taken sink.old sink.new result }
+
+    // Only a command that wants a deck reads the input.
+    ensures unread { AreReading words.now ⊎ (source.new ≡ source.old) }
+
+    // A failed sink took a front of the text of the status that came. Want of memory comes before the first byte.
+    ensures write_fault { result ≡ Status.WriteFault → Rose (K.faults sink.old) (K.faults sink.new) }
+    ensures front { WritesFrontOfText words.now (S.held source.old) (S.held source.new) (Rose (S.faults source.old) (S.faults source.new))
+        K.taken K.faults sink.old sink.new result }
+    ensures no_memory { result ≡ Status.NoMemory → sink.new ≡ sink.old }
+
+    // The other way round: what these words and this input are due comes, as long as nothing fails and memory is found.
+    ensures due_words { AnswersWords words.now result }
+    ensures due_length { AnswersLength words.now (S.held source.old) result }
+    ensures due { AnswersDeck words.now (S.held source.old) result }
+{
+    serve_and_tell(rt, alloc, words, source, sink)
+}
+
+// Opens the board, serves the crews, and then writes what came of it.
+fn serve_and_tell<R: Threads + Wait + Sync, S: Source, K: Sink>(
+    rt: &R,
+    alloc: Global,
+    words: &[Word],
+    source: &mut S,
+    sink: &mut K,
+) -> Status
+    requires { IsBoard words.now }
+    ensures runs { Runs words.now (S.held source.old) (S.held source.new) (Rose (S.faults source.old) (S.faults source.new))
+        K.taken K.faults sink.old sink.new result }
+{
+    let Ok(buffer) = Buffer::new(alloc) else {
+        return Status::NoMemory;
+    };
+    match open_words(rt, alloc, words, source) {
+        Ok(Opening::Told(answer)) => tell(sink, buffer, &answer),
+        Ok(Opening::Opened(listing, start)) => serve(rt, listing, start, buffer, sink),
+        Err(_) => Status::NoMemory,
+    }
+}
+
+// Serves all crews, and writes what came of it.
+fn serve<R: Threads + Wait + Sync, K: Sink>(
+    rt: &R,
+    listing: Listing,
+    start: BoardStart,
+    buffer: Buffer,
+    sink: &mut K,
+) -> Status
+    requires empty { buffer ≡ [] }
+    requires units { IsOfUnits listing }
+    requires passes { HasPasses start }
+    requires deck { IsDeckOf listing.tree start.board.deck }
+    ensures told { TellsBoard listing start K.taken K.faults sink.old sink.new result }
+{
+    let state = serve_all(rt, start, &Free);
+    // It keeps what every board keeps, as its history tells.
+    let _history = state.entries();
+    tell_board(sink, buffer, &listing, &state)
 }

@@ -1,15 +1,18 @@
 //! Writing an answer.
-ghost use Rattle.std.specs.Prelude.{◌≡◌, [], is_err};
+ghost use Rattle.std.specs.Prelude.{◌≡◌, ◌++◌, [], is_err};
 ghost use Rattle.edge_io.specs.Out.{has_failed, Puts};
-ghost use Rattle.outage_engine.specs.Answers.{IsWritable, status_of, text_of};
+ghost use Rattle.board_report.specs.BoardText.{IsDeckOf, board_text};
+ghost use Rattle.outage_engine.specs.Answers.{IsOfUnits, IsWritable, listing_text, status_of, text_of};
 ghost use Rattle.outage_engine.specs.Runs.{Tells};
 
-use crate::Status;
 use crate::answer::Answer;
-use board_report::{Notice, put_cuts, put_fault, put_notice};
+use crate::listing::Listing;
+use crate::{Method, Status};
+use board_report::{Notice, put_board, put_cuts, put_fault, put_notice};
 use edge_io::{Buffer, Out, Sink, WriteFault};
+use outage_board::BoardState;
 
-// Writes the text of an answer, and tells how the run ends.
+/// Writes the text of an answer, and tells how the run ends.
 pub(crate) fn tell<K: Sink>(sink: &mut K, buffer: Buffer, answer: &Answer) -> Status
     requires empty { buffer ≡ [] }
     requires writable { IsWritable answer.now }
@@ -30,7 +33,7 @@ fn put_answer<K: Sink>(out: &mut Out<K>, answer: &Answer) -> Result<(), WriteFau
     ensures answer { is_err result ≡ has_failed out.new }
 {
     match answer {
-        Answer::Cuts(tree, cuts, lists) => put_cuts(out, tree, cuts, lists),
+        Answer::Cuts(listing) => put_listing(out, listing),
         Answer::Refused(fault) => put_fault(out, fault),
         Answer::ListLimit => put_notice(out, Notice::ListLimit),
         Answer::OrderLimit => put_notice(out, Notice::OrderLimit),
@@ -38,4 +41,47 @@ fn put_answer<K: Sink>(out: &mut Out<K>, answer: &Answer) -> Result<(), WriteFau
         Answer::ReadFault => put_notice(out, Notice::ReadFault),
         Answer::TooLong => put_notice(out, Notice::TooLong),
     }
+}
+
+fn put_listing<K: Sink>(out: &mut Out<K>, listing: &Listing) -> Result<(), WriteFault>
+    requires { IsOfUnits listing.now }
+    ensures puts { Puts K.taken K.faults out.old out.new (listing_text listing.now) }
+    ensures answer { is_err result ≡ has_failed out.new }
+{
+    put_cuts(out, &listing.tree, &listing.cuts, &listing.orders)
+}
+
+/// Writes the cut sets and the board at its end, and tells how the run ends.
+pub(crate) fn tell_board<K: Sink>(
+    sink: &mut K,
+    buffer: Buffer,
+    listing: &Listing,
+    state: &BoardState,
+) -> Status
+    requires empty { buffer ≡ [] }
+    requires units { IsOfUnits listing.now }
+    requires deck { IsDeckOf listing.now.tree state.now.deck }
+    ensures told { Tells K.taken K.faults sink.old sink.new (Status.Done Method.Lists) (listing_text listing.now ++ board_text listing.now.tree state.now) result }
+{
+    let mut out = Out::over(sink, buffer);
+    // A failed output fails again where it is finished.
+    let _ = put_listing_and_board(&mut out, listing, state);
+    match out.finish() {
+        Ok(()) => Status::Done(Method::Lists),
+        Err(_) => Status::WriteFault,
+    }
+}
+
+fn put_listing_and_board<K: Sink>(
+    out: &mut Out<K>,
+    listing: &Listing,
+    state: &BoardState,
+) -> Result<(), WriteFault>
+    requires units { IsOfUnits listing.now }
+    requires deck { IsDeckOf listing.now.tree state.now.deck }
+    ensures puts { Puts K.taken K.faults out.old out.new (listing_text listing.now ++ board_text listing.now.tree state.now) }
+    ensures answer { is_err result ≡ has_failed out.new }
+{
+    put_listing(out, listing)?;
+    put_board(out, state, &listing.tree)
 }

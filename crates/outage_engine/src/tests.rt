@@ -1,6 +1,7 @@
 use super::*;
 use edge_io::{Bytes, CallList, HeldSource, KeptSink};
 use std::alloc::{AllocError, Global};
+use std::sync::Wait;
 use std::test::Fail;
 use std::thread::Threads;
 
@@ -20,7 +21,7 @@ fn words_of(alloc: Global, words: &[&str]) -> Result<Vec<Word>, AllocError> {
     Ok(made)
 }
 
-fn calls_of(alloc: Global, failing: Option<u64>) -> Result<CallList, AllocError> {
+pub(super) fn calls_of(alloc: Global, failing: Option<u64>) -> Result<CallList, AllocError> {
     match failing {
         Some(call) => CallList::new(alloc, &[call]),
         None => CallList::new(alloc, &[]),
@@ -28,7 +29,7 @@ fn calls_of(alloc: Global, failing: Option<u64>) -> Result<CallList, AllocError>
 }
 
 // How a run over streams in memory ends, as the program's exit status, and what it writes.
-fn ran<R: Threads + Sync>(
+pub(super) fn ran<R: Threads + Wait + Sync>(
     rt: &R,
     alloc: Global,
     words: &[&str],
@@ -41,7 +42,7 @@ fn ran<R: Threads + Sync>(
 }
 
 // The same with ample room and no fault.
-fn told<R: Threads + Sync>(
+pub(super) fn told<R: Threads + Wait + Sync>(
     rt: &R,
     alloc: Global,
     words: &[&str],
@@ -139,7 +140,7 @@ fn prints_the_failing_orders(rt: HostRuntime) -> Result<(), Fail> {
     Ok(())
 }
 
-const SYSTEM: &str = "toplevel \"SYSTEM\";
+pub(super) const SYSTEM: &str = "toplevel \"SYSTEM\";
 \"SYSTEM\" or \"CPU\" \"MOTOR\" \"PUMPS\";
 \"CPU\" wsp \"P\" \"B\";
 \"DEP\" fdep \"TRIGGER\" \"P\" \"B\";   // both processors need the bus
@@ -192,7 +193,7 @@ fn prints_the_cut_sets_of_a_real_system(rt: HostRuntime) -> Result<(), Fail> {
     Ok(())
 }
 
-const SYSTEM_ORDERS: &str = "tree: 11 units, 10 gates, top SYSTEM
+pub(super) const SYSTEM_ORDERS: &str = "tree: 11 units, 10 gates, top SYSTEM
 cuts: 6, orders: 12
 cut 1: CS
   CS
@@ -315,7 +316,7 @@ fn a_read_that_fails_is_told(rt: HostRuntime) -> Result<(), Fail> {
 }
 
 // What a sink with this room, and this call failing, takes of the text of a deck, and the exit status.
-fn kept<R: Threads + Sync>(
+fn kept<R: Threads + Wait + Sync>(
     rt: &R,
     alloc: Global,
     room: usize,

@@ -1,0 +1,17 @@
+use Rattle.std.specs.Result.{IfOk}
+use Rattle.std.proofs.Common.{inr, subst}
+use Rattle.edge_io.specs.Faults.{Rose}
+use Rattle.outage_engine.specs.Answers.{status_of, text_of}
+use Rattle.outage_engine.specs.Gives.{Gives}
+use Rattle.outage_engine.proofs.running.answer_and_tell.Goals as goal
+
+pub returns-in-Ok-answer_words-clause-runs : goal.returns-in-Ok-answer_words-clause-runs
+returns-in-Ok-answer_words-clause-runs g c =
+    inr record {
+      status = status_of c.in-Ok-answer_words.answer;
+      text = text_of c.in-Ok-answer_words.answer;
+      gives = subst (λ r. IfOk r (λ answer. Gives c.args.words.now (g.S.Source.held c.args.source.now) (g.S.Source.held c.answer_words.new.source)
+          (Rose (g.S.Source.faults c.args.source.now) (g.S.Source.faults c.answer_words.new.source)) (status_of answer) (text_of answer)))
+          c.in-Ok-answer_words.is c.answer_words.ensures.gives;
+      told = c.tell.ensures.told;
+    }

@@ -1,0 +1,78 @@
+-- Which status comes with which text: one relation for all commands.
+use Rattle.std.specs.Prelude.{◌≡◌, ℕ, ◌+◌, ◌<◌, ◌≤◌, List, [], length, Option, Some, None}
+use Rattle.edge_io.specs.Reading.{IfTold}
+use Rattle.edge_io.specs.declared.reading.TheConstants.{INPUT_LIMIT}
+use Rattle.board_words.specs.Command.{command_of}
+use Rattle.board_words.specs.declared.command.Command.{Command}
+use Rattle.board_words.specs.declared.command.Command.TheVariants.{Cuts, Board, Check, Print, Diagram, Make, Help}
+use Rattle.board_report.specs.Refusals.{fault_line, notice_line}
+use Rattle.board_report.specs.declared.fault.DeckFault.{DeckFault}
+use Rattle.board_report.specs.declared.notice.Notice.TheVariants as notice
+use Rattle.outage_engine.specs.declared.status.Status.{Status}
+use Rattle.outage_engine.specs.declared.status.Status.TheVariants.{Done, Refused, ListLimit, OrderLimit, Usage, ReadFault, TooLong}
+use Rattle.outage_engine.specs.declared.status.Method.TheVariants.{Plain, Lists}
+use Rattle.outage_engine.specs.Finding.{Finds, Faulty, TooHeavy, TooManyOrders, Wants}
+use Rattle.outage_engine.specs.Texts.{IsCutsText, for_board, for_cuts}
+use Rattle.outage_engine.specs.Safety.{IsSafeText}
+
+-- ---- words
+
+-- the commands that the program does; the others are answered as words that are none
+abbrev pub done_yet : Option Command → Option Command
+done_yet (Some (Cuts most workers)) = Some (Cuts most workers)
+done_yet (Some (Board margin most workers)) = Some (Board margin most workers)
+done_yet (Some Help) = Some Help
+done_yet (Some Check) = None
+done_yet (Some Print) = None
+done_yet (Some (Diagram workers)) = None
+done_yet (Some (Make number show)) = None
+done_yet None = None
+
+-- the command that words say, where they say one that the program does
+abbrev pub asked : List (List ℕ) → Option Command
+asked words = done_yet (command_of words)
+
+-- what a command wants of a deck, where it reads one
+abbrev pub wants_of : Option Command → Option Wants
+wants_of (Some (Cuts most workers)) = Some (for_cuts most)
+wants_of (Some (Board margin most workers)) = Some (for_board most)
+wants_of (Some Help) = None
+wants_of (Some Check) = None
+wants_of (Some Print) = None
+wants_of (Some (Diagram workers)) = None
+wants_of (Some (Make number show)) = None
+wants_of None = None
+
+abbrev pub wanted : List (List ℕ) → Option Wants
+wanted words = wants_of (asked words)
+
+-- ---- the input
+
+-- a fact of the bytes of an input that was read to its end and is not too long, where the source tells them
+abbrev pub OfInput : Option (List ℕ) → Option (List ℕ) → (List ℕ → Type 0) → Type 0
+OfInput held left P = IfTold held left (λ bytes rest. (rest ≡ []) × (length bytes ≤ INPUT_LIMIT) × P bytes)
+
+-- more bytes were taken than an input may have
+abbrev pub IsBeyond : Option (List ℕ) → Option (List ℕ) → Type 0
+IsBeyond held left = IfTold held left (λ bytes rest. INPUT_LIMIT + length rest < length bytes)
+
+-- ---- the relation
+
+-- What the words give, and the input that the source held, of which it held a rest afterwards. The source's faults rose in this sense.
+pub data Gives (words : List (List ℕ)) (held left : Option (List ℕ)) (rose : Type 0) (status : Status) (text : List ℕ) : Type 0 where
+  usage : asked words ≡ None → status ≡ Usage → text ≡ notice_line notice.Usage → Gives words held left rose status text
+  help : asked words ≡ Some Help → status ≡ Done Plain → text ≡ notice_line notice.Usage → Gives words held left rose status text
+  read_fault : (wants : Wants) → wanted words ≡ Some wants → rose
+      → status ≡ ReadFault → text ≡ notice_line notice.ReadFault → Gives words held left rose status text
+  too_long : (wants : Wants) → wanted words ≡ Some wants → IsBeyond held left
+      → status ≡ TooLong → text ≡ notice_line notice.TooLong → Gives words held left rose status text
+  refused : (wants : Wants) (fault : DeckFault) → wanted words ≡ Some wants → OfInput held left (λ bytes. Finds wants bytes (Faulty fault))
+      → status ≡ Refused fault → text ≡ fault_line fault → Gives words held left rose status text
+  list_limit : (wants : Wants) → wanted words ≡ Some wants → OfInput held left (λ bytes. Finds wants bytes TooHeavy)
+      → status ≡ ListLimit → text ≡ notice_line notice.ListLimit → Gives words held left rose status text
+  order_limit : (wants : Wants) → wanted words ≡ Some wants → OfInput held left (λ bytes. Finds wants bytes TooManyOrders)
+      → status ≡ OrderLimit → text ≡ notice_line notice.OrderLimit → Gives words held left rose status text
+  cuts : (most workers : ℕ) → asked words ≡ Some (Cuts most workers) → OfInput held left (λ bytes. IsCutsText most bytes text)
+      → status ≡ Done Lists → Gives words held left rose status text
+  board : (margin most workers : ℕ) → asked words ≡ Some (Board margin most workers) → OfInput held left (λ bytes. IsSafeText margin most bytes text)
+      → status ≡ Done Lists → Gives words held left rose status text
