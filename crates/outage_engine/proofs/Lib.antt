@@ -6,3 +6,4 @@ mod Clauses
 mod Writable
 mod Answering
 mod Serving
+mod Relating

@@ -2,6 +2,8 @@
 pub mod Codes
 -- what the bytes of a deck stand for
 pub mod Deck
+-- the same by relations between whole lists
+pub mod Relations
 -- what is found in a deck for a command
 pub mod Finding
 -- the texts of commands

@@ -1,8 +1,34 @@
-//! Laws of what is found in a deck, each the one clause of a function that does nothing.
-ghost use Rattle.std.specs.Prelude.{◌≡◌, ℕ, List};
+//! Laws of what is found in a deck. The functions do nothing but call the laws that they stand on.
+ghost use Rattle.std.specs.Prelude.{◌≡◌, ◌↔◌, ℕ, List, Result, Some};
+ghost use Rattle.fault_model.specs.Tree.{FaultTree};
+ghost use Rattle.crew_script.specs.declared.dockets.Crew.{Crew};
+ghost use Rattle.crew_script.specs.declared.fault.CrewFault.{CrewFault};
+ghost use Rattle.board_report.specs.declared.fault.DeckFault.{DeckFault};
+ghost use Rattle.outage_engine.specs.Deck.{IsTreeFault, StandsFor, crew_part};
+ghost use Rattle.outage_engine.specs.Relations.{AreCrewsOf, IsFaultIn, IsTreeOf};
 ghost use Rattle.outage_engine.specs.Finding.{Finding, Finds, Wants};
+
+use crew_script::laws::{crew_part_has_one_answer, crews_or_first_fault, decks_are_divided_once};
+use galileo_lexer::{reads_its_text, reads_one_way};
+use galileo_tree::{parses_its_text, parses_one_way};
 
 /// A deck has one finding at most for what a command wants of it: its first fault, a limit that is passed, or its tree, cut list and crews.
 pub fn a_deck_has_one_finding()
     ensures { (wants : Wants) (bytes : List ℕ) (one two : Finding) → Finds wants bytes one → Finds wants bytes two → one ≡ two }
 {}
+
+/// What a deck stands for, and the first fault of its tree part, are what the relations between whole lists say: of the line that divides
+/// it, of tokens, of statements, and of the tree of statements. And so are the crews of its crew part, or the first line's fault.
+pub fn decks_are_read_by_relations()
+    ensures tree { (bytes : List ℕ) (tree : FaultTree) → StandsFor bytes tree ↔ IsTreeOf bytes tree }
+    ensures fault { (bytes : List ℕ) (fault : DeckFault) → IsTreeFault bytes fault ↔ IsFaultIn bytes fault }
+    ensures crews { (bytes : List ℕ) (said : Result (List Crew) CrewFault) → (crew_part bytes ≡ Some said) ↔ AreCrewsOf bytes said }
+{
+    decks_are_divided_once();
+    reads_its_text();
+    reads_one_way();
+    parses_its_text();
+    parses_one_way();
+    crews_or_first_fault();
+    crew_part_has_one_answer();
+}
