@@ -1,5 +1,5 @@
 -- What the board at the end of a history has, and what a log can show of it.
-use Rattle.std.specs.Prelude.{◌≡◌, ℕ, zero, suc, ◌+◌, ◌-◌, ◌<◌, ◌≤◌, Bool, true, false, ◌||◌, if◌then◌else◌, List, [], ◌∷◌, ◌++◌, length, map, drop, get_or, All, Option, Some, None, is_some, cond}
+use Rattle.std.specs.Prelude.{◌≡◌, ℕ, zero, suc, ◌+◌, ◌<◌, ◌≤◌, Bool, true, false, if◌then◌else◌, List, [], ◌∷◌, ◌++◌, length, map, drop, get_or, All, Option, Some, None, is_some, cond}
 use Rattle.std.specs.List.{flat_map}
 use Rattle.std.proofs.Common.{refl, sym, ap, ◌∙◌, subst, arith, inl, inr, append-nil, append_assoc, add-one}
 use Rattle.std.proofs.lemmas.Bool.{cases_lt}
@@ -18,7 +18,6 @@ use Rattle.crew_script.specs.declared.dockets.Crew.{Crew}
 use Rattle.margin_policy.specs.Held.{Held, holder_of, units_out}
 use Rattle.margin_policy.specs.HeldLaws.{is_held, among-units_out}
 use Rattle.margin_policy.specs.Standing.{StandingView}
-use Rattle.margin_policy.specs.declared.request.Request.{Request}
 use Rattle.outage_board.specs.declared.entry.Entry.{Entry}
 use Rattle.outage_board.specs.Requests.{requests_of}
 use Rattle.outage_board.specs.Histories.{standing_after, after_entry, docket_of}

@@ -1,6 +1,6 @@
 -- Crews are told by their names.
-use Rattle.std.specs.Prelude.{◌≡◌, ℕ, zero, suc, ◌+◌, ◌<◌, Bool, true, false, not, ◌&&◌, ◌||◌, List, [], ◌∷◌, ◌++◌, length, map, All}
-use Rattle.std.proofs.Common.{refl, sym, ap, ◌∙◌, subst, arith, get_or, true≢false}
+use Rattle.std.specs.Prelude.{◌≡◌, ℕ, zero, suc, ◌<◌, Bool, true, false, not, ◌||◌, List, [], ◌∷◌, ◌++◌, length}
+use Rattle.std.proofs.Common.{refl, sym, ap, ◌∙◌, arith, get_or, true≢false}
 use Rattle.std.proofs.lemmas.Bool.{and_parts, or_left, or_right, not-true}
 use Rattle.std.proofs.lemmas.List.{length-map}
 use Rattle.std.proofs.lemmas.List.Folds.{list_any-append}

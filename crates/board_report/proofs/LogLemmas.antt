@@ -1,24 +1,20 @@
 -- The log of a legal and whole history determines it.
-use Rattle.std.specs.Prelude.{◌≡◌, ℕ, zero, suc, ◌+◌, ◌/◌, ◌%◌, ◌<◌, Bool, true, false, not, ◌&&◌, ◌==◌, nat_eq, nat_lt, if◌then◌else◌, List, [], ◌∷◌, ◌++◌, length, map, drop, codes, decimal, All}
+use Rattle.std.specs.Prelude.{◌≡◌, ℕ, zero, suc, ◌+◌, ◌/◌, ◌%◌, ◌<◌, Bool, true, false, not, ◌==◌, nat_lt, if◌then◌else◌, List, [], ◌∷◌, ◌++◌, length, drop, codes, decimal, All}
 use Rattle.std.specs.Fmt.{digits, digits_onto, digit_glyph}
 use Rattle.std.proofs.Common.{refl, sym, ap, ◌∙◌, subst, arith, append_assoc, get_or, eq-eqb}
-use Rattle.std.proofs.lemmas.Bool.{and_from, and_parts, ne_eqb, not-true}
-use Rattle.std.proofs.lemmas.List.{length-map}
+use Rattle.std.proofs.lemmas.Bool.{and_from, ne_eqb}
 use Rattle.std.proofs.lemmas.List.Elements.{All-head, All-tail}
-use Rattle.unit_sets.specs.declared.request.CrewNo.{CrewNo}
 use Rattle.fault_model.specs.Name.{is_name}
-use Rattle.crew_script.specs.Names.{same_name, has_name, differ_from, all_differ}
+use Rattle.crew_script.specs.Names.{all_differ}
 use Rattle.crew_script.specs.Dockets.{names_of, crew_at, ask_at}
 use Rattle.crew_script.specs.declared.dockets.Ask.{Ask}
 use Rattle.crew_script.specs.declared.dockets.Ask.TheVariants.{Take, Return, Margin}
 use Rattle.crew_script.specs.declared.dockets.Crew.{Crew}
 use Rattle.margin_policy.specs.Standing.{StandingView, reply_of}
 use Rattle.margin_policy.specs.declared.request.Request.{Request}
-use Rattle.margin_policy.specs.declared.request.Reply.{Reply}
 use Rattle.outage_board.specs.declared.entry.Entry.{Entry}
-use Rattle.outage_board.specs.Histories.{after_entry, IsLegal, IsWhole, asked_by, entries_of, docket_of}
-use lib.Pointwise.{bytes_decides}
-use Rattle.board_report.specs.LogText.{crew_shown, ask_text, entry_head, entry_end, entry_line, entry_lines, log_head, log_text}
+use Rattle.outage_board.specs.Histories.{after_entry, IsLegal, IsWhole, asked_by, entries_of}
+use Rattle.board_report.specs.LogText.{crew_shown, ask_text, entry_end, entry_line, entry_lines, log_head, log_text}
 use Rattle.board_report.proofs.ShownNames.{avoids, cancelled, up_to_mark, shown_apart}
 use Rattle.board_report.proofs.CrewNames.{same_crew}
 

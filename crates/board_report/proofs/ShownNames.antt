@@ -1,7 +1,7 @@
 -- Shown names tell where they end: no shown name with a blank behind it begins another.
-use Rattle.std.specs.Prelude.{◌≡◌, ℕ, Bool, true, false, not, ◌==◌, ◌&&◌, ◌||◌, nat_le, if◌then◌else◌, List, [], ◌∷◌, ◌++◌, length, drop, codes}
+use Rattle.std.specs.Prelude.{◌≡◌, ℕ, Bool, true, false, not, ◌==◌, ◌&&◌, nat_le, if◌then◌else◌, List, [], ◌∷◌, ◌++◌, length, drop, codes}
 use Rattle.std.specs.List.{list_all}
-use Rattle.std.proofs.Common.{refl, sym, ap, ◌∙◌, subst, true≢false, append_assoc, get_or, eq-eqb}
+use Rattle.std.proofs.Common.{refl, sym, ap, ◌∙◌, true≢false, append_assoc, get_or, eq-eqb}
 use Rattle.std.proofs.lemmas.Bool.{and_parts, and_from, eqb-true}
 use Rattle.fault_model.specs.Name.{is_name, is_name_byte, is_bare_name, is_bare_start, is_bare_byte}
 use Rattle.board_report.specs.Shown.{show}

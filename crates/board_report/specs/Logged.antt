@@ -1,5 +1,5 @@
 -- Crews and entries that a log can show.
-use Rattle.std.specs.Prelude.{◌≡◌, ℕ, ◌<◌, true, List, length, All}
+use Rattle.std.specs.Prelude.{◌≡◌, ◌<◌, true, List, length, All}
 use Rattle.fault_model.specs.Name.{is_name}
 use Rattle.crew_script.specs.Names.{all_differ}
 use Rattle.crew_script.specs.Dockets.{names_of, crew_at}

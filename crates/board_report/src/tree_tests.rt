@@ -2,7 +2,7 @@
 ghost use Rattle.std.specs.Prelude.{◌≡◌, []};
 
 use super::*;
-use crate::board_tests::{cuts_of, dockets_of, tree_of};
+use crate::board_tests::{cuts_of_pairs, dockets_of, tree_of};
 use crew_script::Dockets;
 use edge_io::{Buffer, Bytes, CallList, KeptSink, NoMemory, Out, Sink, WriteFault};
 use fault_model::Tree;
@@ -11,57 +11,45 @@ use std::process::Abort;
 use std::test::Fail;
 use unit_sets::CutList;
 
-// A text to be put.
-#[derive(Clone, Copy)]
-enum Text<'a> {
-    Print(&'a Tree),
-    Check(&'a Tree, Option<&'a Dockets>),
-    Diagram(&'a Tree, &'a CutList, Option<u64>),
+// What is written, and how it ended.
+type Written = (Bytes, Result<(), WriteFault>);
+
+fn check_ended(rt: &impl Abort, written: &Written, text: &[u8]) {
+    assert_eq!(rt; written.0.as_slice(), text);
+    assert!(rt; written.1.is_ok());
 }
 
-fn put_text<K: Sink>(sink: &mut K, buffer: Buffer, text: Text) -> Result<(), WriteFault>
+fn sink_of(alloc: Global) -> Result<KeptSink, NoMemory> {
+    KeptSink::new(alloc, 1000, CallList::new(alloc, &[])?)
+}
+
+// ---- printed
+
+fn print_into<K: Sink>(sink: &mut K, buffer: Buffer, tree: &Tree) -> Result<(), WriteFault>
     requires { buffer ≡ [] }
 {
     let mut out = Out::over(sink, buffer);
-    let _ = match text {
-        Text::Print(tree) => put_tree(&mut out, tree),
-        Text::Check(tree, dockets) => put_check(&mut out, tree, dockets),
-        Text::Diagram(tree, cuts, nodes) => put_diagram(&mut out, tree, cuts, nodes),
-    };
+    let _ = put_tree(&mut out, tree);
     out.finish()
 }
 
-fn written(
-    alloc: Global,
-    text: Text,
-    room: usize,
-) -> Result<(Bytes, Result<(), WriteFault>), NoMemory> {
-    let mut sink = KeptSink::new(alloc, room, CallList::new(alloc, &[])?)?;
+fn printed(alloc: Global, tree: &Tree) -> Result<Written, NoMemory> {
+    let mut sink = sink_of(alloc)?;
     let buffer = Buffer::new(alloc)?;
-    let end = put_text(&mut sink, buffer, text);
+    let end = print_into(&mut sink, buffer, tree);
     Ok((Bytes::of(alloc, sink.bytes())?, end))
 }
 
-// With room for all of a text it is written whole, and with less room a front of it.
-fn check_written(rt: &impl Abort, alloc: Global, text: Text, bytes: &[u8]) -> Result<(), NoMemory> {
-    for room in 0..bytes.len() {
-        let (taken, end) = written(alloc, text, room)?;
-        assert_eq!(rt; taken.as_slice(), &bytes[..room]);
-        assert!(rt; end.is_err());
-    }
-    let (taken, end) = written(alloc, text, bytes.len())?;
-    assert_eq!(rt; taken.as_slice(), bytes);
-    assert!(rt; end.is_ok());
+fn check_printed(rt: &impl Abort, alloc: Global, deck: &[u8], text: &[u8]) -> Result<(), Fail> {
+    let tree = tree_of(alloc, deck)?;
+    check_ended(rt, &printed(alloc, &tree)?, text);
     Ok(())
 }
 
 // A text is printed like this, and what is printed is printed like this again.
-fn check_print(rt: &impl Abort, alloc: Global, text: &[u8], printed: &[u8]) -> Result<(), Fail> {
-    for deck in [text, printed] {
-        let tree = tree_of(alloc, deck)?;
-        check_written(rt, alloc, Text::Print(&tree), printed)?;
-    }
-    Ok(())
+fn check_print(rt: &impl Abort, alloc: Global, deck: &[u8], text: &[u8]) -> Result<(), Fail> {
+    check_printed(rt, alloc, deck, text)?;
+    check_printed(rt, alloc, text, text)
 }
 
 #[test]
@@ -91,42 +79,119 @@ fn each_kind_of_gate_is_printed(rt: HostRuntime) -> Result<(), Fail> {
     )
 }
 
+// ---- well formed
+
+fn tell_into<K: Sink>(
+    sink: &mut K,
+    buffer: Buffer,
+    tree: &Tree,
+    dockets: Option<&Dockets>,
+) -> Result<(), WriteFault>
+    requires { buffer ≡ [] }
+{
+    let mut out = Out::over(sink, buffer);
+    let _ = put_check(&mut out, tree, dockets);
+    out.finish()
+}
+
+fn told(alloc: Global, tree: &Tree, dockets: Option<&Dockets>) -> Result<Written, NoMemory> {
+    let mut sink = sink_of(alloc)?;
+    let buffer = Buffer::new(alloc)?;
+    let end = tell_into(&mut sink, buffer, tree, dockets);
+    Ok((Bytes::of(alloc, sink.bytes())?, end))
+}
+
+fn check_tree_alone(rt: &impl Abort, alloc: Global, tree: &Tree) -> Result<(), NoMemory> {
+    let written = told(alloc, tree, None)?;
+    check_ended(rt, &written, b"well formed: 2 units, 1 gates, top \"+T\"\n");
+    Ok(())
+}
+
+fn check_with_crews(
+    rt: &impl Abort,
+    alloc: Global,
+    tree: &Tree,
+    dockets: &Dockets,
+) -> Result<(), NoMemory> {
+    let written = told(alloc, tree, Some(dockets))?;
+    check_ended(
+        rt,
+        &written,
+        b"well formed: 2 units, 1 gates, top \"+T\"\ncrews: 2, requests: 3\n",
+    );
+    Ok(())
+}
+
 #[test]
 fn well_formed_decks_are_told(rt: HostRuntime) -> Result<(), Fail> {
     let alloc = rt.alloc();
     let tree = tree_of(alloc, b"toplevel \"+T\"; \"+T\" and A B; A; B;")?;
-    check_written(
-        &rt,
-        alloc,
-        Text::Check(&tree, None),
-        b"well formed: 2 units, 1 gates, top \"+T\"\n",
-    )?;
     let dockets = dockets_of(alloc, b"crew c\ntake A\nreturn A\ncrew d\nmargin 1")?;
-    check_written(
-        &rt,
-        alloc,
-        Text::Check(&tree, Some(&dockets)),
-        b"well formed: 2 units, 1 gates, top \"+T\"\ncrews: 2, requests: 3\n",
-    )?;
+    check_tree_alone(&rt, alloc, &tree)?;
+    check_with_crews(&rt, alloc, &tree, &dockets)?;
+    Ok(())
+}
+
+// ---- sizes of diagrams
+
+fn put_sizes_into<K: Sink>(
+    sink: &mut K,
+    buffer: Buffer,
+    tree: &Tree,
+    cuts: &CutList,
+    nodes: Option<u64>,
+) -> Result<(), WriteFault>
+    requires { buffer ≡ [] }
+{
+    let mut out = Out::over(sink, buffer);
+    let _ = put_diagram(&mut out, tree, cuts, nodes);
+    out.finish()
+}
+
+fn sizes_written(
+    alloc: Global,
+    tree: &Tree,
+    cuts: &CutList,
+    nodes: Option<u64>,
+) -> Result<Written, NoMemory> {
+    let mut sink = sink_of(alloc)?;
+    let buffer = Buffer::new(alloc)?;
+    let end = put_sizes_into(&mut sink, buffer, tree, cuts, nodes);
+    Ok((Bytes::of(alloc, sink.bytes())?, end))
+}
+
+fn check_sizes(
+    rt: &impl Abort,
+    alloc: Global,
+    tree: &Tree,
+    nodes: Option<u64>,
+    text: &[u8],
+) -> Result<(), Fail> {
+    let cuts = cuts_of_pairs(alloc)?;
+    let written = sizes_written(alloc, tree, &cuts, nodes)?;
+    check_ended(rt, &written, text);
     Ok(())
 }
 
 #[test]
 fn sizes_of_diagrams_are_written(rt: HostRuntime) -> Result<(), Fail> {
     let alloc = rt.alloc();
-    let tree = tree_of(alloc, b"toplevel T; T 2of3 A B C; A; B; C;")?;
-    let cuts = cuts_of(alloc, 3, &[&[1, 2], &[1, 3], &[2, 3]])?;
-    check_written(
+    let tree = tree_of(
+        alloc,
+        b"toplevel T; T or G H; G and A B; H and C D; A; B; C; D;",
+    )?;
+    check_sizes(
         &rt,
         alloc,
-        Text::Diagram(&tree, &cuts, Some(4)),
-        b"tree: 3 units, 1 gates, top T\nmethod diagram\nnodes: 4\ncuts: 3\nmembers: 6\n",
+        &tree,
+        Some(4),
+        b"tree: 4 units, 3 gates, top T\nmethod diagram\nnodes: 4\ncuts: 2\nmembers: 4\n",
     )?;
-    check_written(
+    check_sizes(
         &rt,
         alloc,
-        Text::Diagram(&tree, &cuts, None),
-        b"tree: 3 units, 1 gates, top T\nmethod lists\ncuts: 3\nmembers: 6\n",
-    )?;
-    Ok(())
+        &tree,
+        None,
+        b"tree: 4 units, 3 gates, top T\nmethod lists\ncuts: 2\nmembers: 4\n",
+    )
 }

@@ -1,9 +1,8 @@
-use Rattle.std.proofs.Common.{sym, ◌∙◌, ap, subst, is_err, codes, ◌++◌, ◌≡◌, length, Some}
+use Rattle.std.proofs.Common.{sym, ◌∙◌, ap, subst, is_err, ◌++◌}
 use Rattle.edge_io.specs.Out.{Puts, Puts-trans}
 use Rattle.outage_board.specs.Boards.{standing_of}
 use Rattle.board_report.specs.LogText.{log_text}
 use Rattle.board_report.specs.BoardText.{margin_line, margin_now, end_text}
-use Rattle.fault_model.specs.Tree.{unit_count}
 use Rattle.margin_policy.specs.Standing.{StandingView}
 use Rattle.board_report.proofs.BoardLemmas.{units_at_end}
 use Rattle.board_report.proofs.Putting.{first_short}

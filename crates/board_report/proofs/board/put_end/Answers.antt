@@ -1,4 +1,4 @@
-use Rattle.std.proofs.Common.{sym, ◌∙◌, ap, subst, is_err, codes, ◌++◌, length, Some}
+use Rattle.std.proofs.Common.{sym, ◌∙◌, ap, subst, is_err}
 use Rattle.edge_io.specs.Out.{Puts, Puts-trans}
 use Rattle.margin_policy.specs.Held.{units_out}
 use Rattle.board_report.specs.BoardText.{out_text, left_lines}

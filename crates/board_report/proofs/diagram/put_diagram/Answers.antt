@@ -1,6 +1,6 @@
-use Rattle.std.proofs.Common.{sym, ◌∙◌, ap, subst, is_err, codes, ◌++◌, length, Some}
+use Rattle.std.proofs.Common.{sym, ◌∙◌, ap, subst, is_err, ◌++◌, length}
 use Rattle.edge_io.specs.Out.{Puts, Puts-trans}
-use Rattle.board_report.specs.CutsText.{titled_line, tree_line}
+use Rattle.board_report.specs.CutsText.{tree_line}
 use Rattle.board_report.specs.DiagramText.{method_text, sizes_text, member_count}
 use Rattle.board_report.proofs.Putting.{first_short}
 use Rattle.board_report.proofs.diagram.put_diagram.Goals as goal

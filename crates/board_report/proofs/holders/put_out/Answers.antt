@@ -1,4 +1,4 @@
-use Rattle.std.proofs.Common.{sym, ◌∙◌, ap, subst, is_err, codes, ◌++◌, length, Some}
+use Rattle.std.proofs.Common.{sym, ◌∙◌, ap, subst, is_err, length}
 use Rattle.edge_io.specs.Out.{Puts, Puts-trans}
 use Rattle.std.specs.List.{flat_map}
 use Rattle.margin_policy.specs.Held.{units_out}

@@ -1,6 +1,6 @@
-use Rattle.std.proofs.Common.{sym, ◌∙◌, ap, subst, is_err, codes, ◌++◌, length, Some}
+use Rattle.std.proofs.Common.{sym, ◌∙◌, ap, subst, is_err, codes, ◌++◌, Some}
 use Rattle.edge_io.specs.Out.{Puts, Puts-trans}
-use Rattle.board_report.specs.Shown.{show, named}
+use Rattle.board_report.specs.Shown.{show}
 use Rattle.fault_model.specs.Tree.{name_of}
 use Rattle.board_report.specs.BoardText.{holder_text}
 use Rattle.board_report.proofs.Putting.{first_short}

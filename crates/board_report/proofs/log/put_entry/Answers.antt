@@ -1,7 +1,7 @@
-use Rattle.std.proofs.Common.{sym, ◌∙◌, ap, subst, is_err, codes, ◌++◌, length, Some}
+use Rattle.std.proofs.Common.{sym, ◌∙◌, ap, subst, is_err, ◌++◌}
 use Rattle.edge_io.specs.Out.{Puts, Puts-trans}
-use Rattle.board_report.specs.LogText.{ask_text, crew_shown, entry_end, entry_head, entry_lines, log_head, reply_text}
-use Rattle.crew_script.specs.Dockets.{ask_at, crew_at}
+use Rattle.board_report.specs.LogText.{ask_text, entry_end, entry_head}
+use Rattle.crew_script.specs.Dockets.{ask_at}
 use Rattle.board_report.proofs.Putting.{first_short}
 use Rattle.board_report.proofs.log.put_entry.Goals as goal
 

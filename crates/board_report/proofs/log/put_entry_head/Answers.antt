@@ -1,7 +1,7 @@
-use Rattle.std.proofs.Common.{sym, ◌∙◌, ap, subst, is_err, codes, ◌++◌, length, Some}
+use Rattle.std.proofs.Common.{sym, ◌∙◌, ap, subst, is_err}
 use Rattle.edge_io.specs.Out.{Puts, Puts-trans}
-use Rattle.board_report.specs.Shown.{show, named}
-use Rattle.crew_script.specs.Dockets.{ask_at, crew_at}
+use Rattle.board_report.specs.Shown.{named}
+use Rattle.crew_script.specs.Dockets.{crew_at}
 use Rattle.std.specs.Fmt.{decimal}
 use Rattle.board_report.proofs.Putting.{first_short}
 use Rattle.board_report.proofs.log.put_entry_head.Goals as goal

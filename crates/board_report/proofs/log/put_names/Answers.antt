@@ -1,4 +1,4 @@
-use Rattle.std.proofs.Common.{sym, ◌∙◌, ap, subst, is_err, []}
+use Rattle.std.proofs.Common.{sym, ◌∙◌, ap, subst, is_err}
 use Rattle.std.specs.List.{flat_map}
 use Rattle.std.proofs.lemmas.List.{drop_all}
 use Rattle.board_report.specs.Shown.{named}

@@ -1,6 +1,6 @@
-use Rattle.std.proofs.Common.{sym, ◌∙◌, ap, subst, is_err, codes, ◌++◌, length, Some}
-use Rattle.edge_io.specs.Out.{Puts, Puts-trans}
-use Rattle.board_report.specs.Shown.{show, named}
+use Rattle.std.proofs.Common.{sym, ◌∙◌, ap, is_err, codes}
+use Rattle.edge_io.specs.Out.{Puts-trans}
+use Rattle.board_report.specs.Shown.{named}
 use Rattle.std.specs.List.{flat_map}
 use Rattle.board_report.proofs.Putting.{first_short}
 use Rattle.board_report.proofs.log.put_take.Goals as goal

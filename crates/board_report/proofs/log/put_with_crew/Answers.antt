@@ -1,6 +1,6 @@
-use Rattle.std.proofs.Common.{sym, ◌∙◌, ap, subst, is_err, codes, ◌++◌, length, Some}
-use Rattle.edge_io.specs.Out.{Puts, Puts-trans}
-use Rattle.board_report.specs.LogText.{ask_text, crew_shown, entry_end, entry_head, entry_lines, log_head, reply_text}
+use Rattle.std.proofs.Common.{sym, ◌∙◌, ap, is_err}
+use Rattle.edge_io.specs.Out.{Puts-trans}
+use Rattle.board_report.specs.LogText.{crew_shown}
 use Rattle.board_report.proofs.Putting.{first_short}
 use Rattle.board_report.proofs.log.put_with_crew.Goals as goal
 

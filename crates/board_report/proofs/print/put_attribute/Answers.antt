@@ -1,5 +1,5 @@
-use Rattle.std.proofs.Common.{sym, ◌∙◌, ap, subst, is_err, codes, ◌++◌, length, Some}
-use Rattle.edge_io.specs.Out.{Puts, Puts-trans}
+use Rattle.std.proofs.Common.{sym, ◌∙◌, ap, is_err}
+use Rattle.edge_io.specs.Out.{Puts-trans}
 use Rattle.board_report.specs.PrintText.{attribute_word, value_text}
 use Rattle.board_report.proofs.Putting.{first_short}
 use Rattle.board_report.proofs.print.put_attribute.Goals as goal

@@ -1,7 +1,7 @@
-use Rattle.std.proofs.Common.{sym, ◌∙◌, ap, subst, is_err, codes, ◌++◌, length, Some}
-use Rattle.edge_io.specs.Out.{Puts, Puts-trans}
-use Rattle.board_report.specs.PrintText.{attribute_text, gate_line, gate_word, input_text, quoted, top_line, unit_line, value_text}
-use Rattle.fault_model.specs.Tree.{name_of, kind_of, inputs_of, attributes_of, unit_count, gate_count}
+use Rattle.std.proofs.Common.{sym, ◌∙◌, ap, is_err, ◌++◌}
+use Rattle.edge_io.specs.Out.{Puts-trans}
+use Rattle.board_report.specs.PrintText.{gate_line, top_line, unit_line}
+use Rattle.fault_model.specs.Tree.{unit_count, gate_count}
 use Rattle.std.specs.List.{flat_map, range_with_len}
 use Rattle.std.proofs.Common.{◌+◌}
 use Rattle.board_report.proofs.Putting.{first_short}

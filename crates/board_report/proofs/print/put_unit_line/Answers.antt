@@ -1,8 +1,8 @@
-use Rattle.std.proofs.Common.{sym, ◌∙◌, ap, subst, is_err, codes, ◌++◌, length, Some}
+use Rattle.std.proofs.Common.{sym, ◌∙◌, ap, subst, is_err, codes, ◌++◌}
 use Rattle.edge_io.specs.Out.{Puts, Puts-trans}
-use Rattle.board_report.specs.PrintText.{attribute_text, gate_line, gate_word, input_text, quoted, top_line, unit_line, value_text}
-use Rattle.fault_model.specs.Tree.{name_of, kind_of, inputs_of, attributes_of, unit_count, gate_count}
-use Rattle.std.specs.List.{flat_map, range_with_len}
+use Rattle.board_report.specs.PrintText.{attribute_text, quoted}
+use Rattle.fault_model.specs.Tree.{name_of, attributes_of}
+use Rattle.std.specs.List.{flat_map}
 use Rattle.board_report.proofs.Putting.{first_short}
 use Rattle.board_report.proofs.print.put_unit_line.Goals as goal
 

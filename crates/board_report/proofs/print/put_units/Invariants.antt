@@ -1,8 +1,8 @@
 use Rattle.std.proofs.Common.{◌≡◌, ◌+◌, ◌-◌, false}
 use Rattle.std.specs.List.{flat_map, range_with_len}
 use Rattle.edge_io.specs.Out.{has_failed}
-use Rattle.board_report.specs.PrintText.{gate_line, unit_line}
-use Rattle.fault_model.specs.Tree.{unit_count, gate_count}
+use Rattle.board_report.specs.PrintText.{unit_line}
+use Rattle.fault_model.specs.Tree.{unit_count}
 use Rattle.board_report.proofs.Putting.{PutsFront}
 use Rattle.board_report.proofs.print.put_units.Given as goal
 
