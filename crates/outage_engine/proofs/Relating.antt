@@ -69,8 +69,8 @@ module _ (divides : (bytes : List ℕ) → Divides bytes (split_of bytes)) (once
     crews_by_relations bytes said = (
       λ is. behind bytes said (split_of bytes).crews refl is,
       λ crews.
-      let begins : (split_of bytes).crews ≡ Some crews.at = ap (λ (s : Split). s.crews) (once bytes crews.split crews.divides) ∙ crews.begins in
-      ap (crews_behind bytes) begins ∙ ap said_of (one_answer crews.at.line (drop crews.at.start bytes) said crews.answers),
+          let begins : (split_of bytes).crews ≡ Some crews.at = ap (λ (s : Split). s.crews) (once bytes crews.split crews.divides) ∙ crews.begins in
+          ap (crews_behind bytes) begins ∙ ap said_of (one_answer crews.at.line (drop crews.at.start bytes) said crews.answers),
     )
       where
         said_of : Result (List Crew) CrewFault → Option (Result (List Crew) CrewFault)
