@@ -157,7 +157,7 @@ fn with_lines(
     let mut deck = String::new(alloc);
     deck.push_str("toplevel T; T and A B; A; B;\n@crews\n")?;
     deck.push_str(head)?;
-    for number in 1..count + 1 {
+    for number in 0..count {
         deck.push_str(words)?;
         if numbered {
             let shown = format!(in alloc; "{number}")?;
