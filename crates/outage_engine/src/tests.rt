@@ -1,3 +1,5 @@
+//! Whole runs of `cuts`, from words and bytes to bytes, and runs of words that are no command.
+
 use super::*;
 use edge_io::{Bytes, CallList, HeldSource, KeptSink};
 use std::alloc::{AllocError, Global};
