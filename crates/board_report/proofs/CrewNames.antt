@@ -1,9 +1,10 @@
 -- Crews are told by their names.
-use Rattle.std.specs.Prelude.{◌≡◌, ℕ, zero, suc, ◌<◌, Bool, true, false, not, ◌||◌, List, [], ◌∷◌, ◌++◌, length}
-use Rattle.std.proofs.Common.{refl, sym, ap, ◌∙◌, arith, get_or, true≢false}
+use Rattle.std.specs.Prelude.{◌≡◌, ℕ, zero, suc, ◌<◌, Bool, true, false, not, ◌||◌, List, [], ◌∷◌, ◌++◌, length, All}
+use Rattle.std.proofs.Common.{refl, sym, ap, subst, ◌∙◌, arith, get_or, true≢false}
 use Rattle.std.proofs.lemmas.Bool.{and_parts, or_left, or_right, not-true}
-use Rattle.std.proofs.lemmas.List.{length-map}
+use Rattle.std.proofs.lemmas.List.{length-map, get_or-map}
 use Rattle.std.proofs.lemmas.List.Folds.{list_any-append}
+use Rattle.fault_model.specs.Name.{is_name}
 use Rattle.crew_script.specs.Names.{same_name, has_name, differ_from, all_differ}
 use Rattle.crew_script.specs.Dockets.{names_of, crew_at}
 use Rattle.crew_script.specs.declared.dockets.Crew.{Crew}
@@ -50,6 +51,14 @@ name_at : (crews : List Crew) (number : ℕ) → get_or (names_of crews) number 
 name_at [] number = refl
 name_at (crew ∷ crews) zero = refl
 name_at (crew ∷ crews) (suc number) = name_at crews number
+
+-- what holds of the names of crews holds of the name of each
+pub each_named : (crews : List Crew) → All (λ (name : List ℕ). is_name name ≡ true) (names_of crews)
+    → All (λ (crew : Crew). is_name crew.name ≡ true) crews
+each_named crews all k d short =
+    let name : Crew → List ℕ = λ crew. crew.name in
+    let there : k < length (names_of crews) = omega (arith, short, length-map crews name) in
+    subst (λ (n : List ℕ). is_name n ≡ true) (get_or-map name crews k d d.name short) (all k d.name there)
 
 -- crews of one name have one number
 pub same_crew : (crews : List Crew) (i j : ℕ) → all_differ (names_of crews) ≡ true → i < length crews → j < length crews → (crew_at crews i).name ≡ (crew_at crews j).name → i ≡ j

@@ -53,3 +53,34 @@ pairs_known =
     All-cons (All (λ (unit : ℕ). unit < 5)) (1 ∷ 2 ∷ []) ((3 ∷ 4 ∷ []) ∷ [])
     (two_below 5 1 2 (omega arith) (omega arith))
     (All-cons (All (λ (unit : ℕ). unit < 5)) (3 ∷ 4 ∷ []) [] (two_below 5 3 4 (omega arith) (omega arith)) (All-nil (All (λ (unit : ℕ). unit < 5))))
+
+-- ---- the pairs of three units
+
+first_and_third : (k : ℕ) → k + 1 < 2 → nat_cmp (get_or (1 ∷ 3 ∷ []) k 0) (get_or (1 ∷ 3 ∷ []) (k + 1) 0) ≡ Less
+first_and_third zero h = refl
+first_and_third (suc k) h = absurd (omega arith)
+
+pub first_and_third_rise : IsRising (1 ∷ 3 ∷ [])
+first_and_third_rise = sorted_from_all_adjacent nat_cmp_total (1 ∷ 3 ∷ []) 0 first_and_third
+
+pub last_pair_rises : IsRising (2 ∷ 3 ∷ [])
+last_pair_rises = sorted_from_all_adjacent nat_cmp_total (2 ∷ 3 ∷ []) 0 (pair_next 2 refl)
+
+two_next : (k : ℕ) → k + 1 < 2
+    → cut_cmp (get_or ((1 ∷ 2 ∷ []) ∷ (1 ∷ 3 ∷ []) ∷ []) k []) (get_or ((1 ∷ 2 ∷ []) ∷ (1 ∷ 3 ∷ []) ∷ []) (k + 1) []) ≡ Less
+two_next zero h = refl
+two_next (suc k) h = absurd (omega arith)
+
+pub two_in_order : IsInCutOrder ((1 ∷ 2 ∷ []) ∷ (1 ∷ 3 ∷ []) ∷ [])
+two_in_order = sorted_from_all_adjacent cut_cmp_total ((1 ∷ 2 ∷ []) ∷ (1 ∷ 3 ∷ []) ∷ []) [] two_next
+
+abbrev all_pairs : List (List ℕ)
+all_pairs = (1 ∷ 2 ∷ []) ∷ (1 ∷ 3 ∷ []) ∷ (2 ∷ 3 ∷ []) ∷ []
+
+all_next : (k : ℕ) → k + 1 < 3 → cut_cmp (get_or all_pairs k []) (get_or all_pairs (k + 1) []) ≡ Less
+all_next zero h = refl
+all_next (suc zero) h = refl
+all_next (suc (suc k)) h = absurd (omega arith)
+
+pub all_pairs_in_order : IsInCutOrder ((1 ∷ 2 ∷ []) ∷ (1 ∷ 3 ∷ []) ∷ (2 ∷ 3 ∷ []) ∷ [])
+all_pairs_in_order = sorted_from_all_adjacent cut_cmp_total all_pairs [] all_next

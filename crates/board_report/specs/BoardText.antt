@@ -1,5 +1,6 @@
 -- What follows the text of cut sets for the command `board`: the log and the board at its end.
-use Rattle.std.specs.Prelude.{◌≡◌, ℕ, ◌+◌, Bool, true, false, ◌&&◌, List, [], ◌∷◌, ◌++◌, length, map, codes, decimal, Option, Some, None, if◌then◌else◌}
+use Rattle.std.specs.Prelude.{◌≡◌, ℕ, ◌+◌, Bool, true, false, ◌&&◌, List, [], ◌∷◌, ◌++◌, length, map, codes, decimal}
+use Rattle.std.specs.Prelude.{Option, Some, None, if◌then◌else◌}
 use Rattle.std.specs.List.{flat_map, list_any}
 use Rattle.unit_sets.specs.declared.request.CrewNo.{CrewNo}
 use Rattle.fault_model.specs.Tree.{FaultTree, unit_count, name_of}
@@ -38,7 +39,8 @@ grants_margin entry = is_margin entry.request && is_granted entry.reply
 
 -- `margin now: M`, where some margin request was granted
 abbrev pub margin_now : List Entry → ℕ → List ℕ
-margin_now history margin = if list_any grants_margin history then codes "margin now: " ++ (decimal margin ++ codes "\n") else []
+margin_now history margin = if list_any grants_margin history then codes "margin now: "
+    ++ (decimal margin ++ codes "\n") else []
 
 -- ---- the units that are out
 
@@ -63,12 +65,14 @@ out_text tree crews held = out_head (length (units_out held)) ++ flat_map (out_l
 
 -- `left K: R of S`
 abbrev pub left_line : ℕ → ℕ → ℕ → List ℕ
-left_line number left size = codes "left " ++ (decimal number ++ (codes ": " ++ (decimal left ++ (codes " of " ++ (decimal size ++ codes "\n")))))
+left_line number left size = codes "left "
+    ++ (decimal number ++ (codes ": " ++ (decimal left ++ (codes " of " ++ (decimal size ++ codes "\n")))))
 
 -- how many members of each cut set are not out, and how many it has, numbered from this number on
 abbrev pub left_lines : List ℕ → ℕ → List (List ℕ) → List ℕ
 left_lines out number [] = []
-left_lines out number (cut ∷ cuts) = left_line number (residual out cut) (length cut) ++ left_lines out (number + 1) cuts
+left_lines out number (cut ∷ cuts) = left_line number (residual out cut) (length cut)
+    ++ left_lines out (number + 1) cuts
 
 -- ---- all of it
 

@@ -8,7 +8,8 @@ use Rattle.board_report.specs.CutsText.{titled_line}
 -- `crews: N, requests: R`, where there is a crew part
 abbrev pub crews_line : Option (List Crew) → List ℕ
 crews_line None = []
-crews_line (Some crews) = codes "crews: " ++ (decimal (length crews) ++ (codes ", requests: " ++ (decimal (request_count crews) ++ codes "\n")))
+crews_line (Some crews) = codes "crews: "
+    ++ (decimal (length crews) ++ (codes ", requests: " ++ (decimal (request_count crews) ++ codes "\n")))
 
 -- `well formed: U units, G gates, top NAME`, and the line of the crews
 abbrev pub check_text : FaultTree → Option (List Crew) → List ℕ

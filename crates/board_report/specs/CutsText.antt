@@ -1,5 +1,5 @@
--- The text of the command `cuts`: the tree, how many cut sets and listed orders there are, and each cut set with its failing
--- orders.
+-- The text of the command `cuts`: the tree, how many cut sets and listed orders there are, and each cut set with its
+-- failing orders.
 use Rattle.std.specs.Prelude.{ℕ, ◌+◌, List, [], ◌∷◌, ◌++◌, length, map, codes, decimal, Option, Some, None}
 use Rattle.cut_sequences.specs.Orders.{order_total}
 use Rattle.std.specs.List.{flat_map}
@@ -12,7 +12,8 @@ tree_counts title units gates = title ++ decimal units ++ codes " units, " ++ de
 
 -- the same, and the name of the top event
 abbrev pub titled_line : List ℕ → FaultTree → List ℕ
-titled_line title tree = tree_counts title (unit_count tree) (gate_count tree) ++ (show (name_of tree tree.top) ++ codes "\n")
+titled_line title tree = tree_counts title (unit_count tree) (gate_count tree)
+    ++ (show (name_of tree tree.top) ++ codes "\n")
 
 -- `tree: U units, G gates, top NAME`
 abbrev pub tree_line : FaultTree → List ℕ
@@ -62,7 +63,8 @@ abbrev pub orders_in : List Listed → List (Option (List (List ℕ)))
 orders_in cuts = map (λ (listed : Listed). listed.1) cuts
 
 abbrev pub cuts_text : FaultTree → List Listed → List ℕ
-cuts_text tree cuts = tree_line tree ++ (count_line (length cuts) (order_total (orders_in cuts)) ++ cut_blocks tree 1 cuts)
+cuts_text tree cuts = tree_line tree ++ (count_line (length cuts) (order_total (orders_in cuts))
+    ++ cut_blocks tree 1 cuts)
 
 -- cut sets with their orders, which stand in a list of their own at the same places
 abbrev pub listed_with : List (List ℕ) → List (Option (List (List ℕ))) → List Listed

@@ -1,4 +1,5 @@
--- The text of the command `diagram`: the tree, how its cut sets were found, how many they are and how many members they have.
+-- The text of the command `diagram`: the tree, how its cut sets were found, how many they are and how many members
+-- they have.
 use Rattle.std.specs.Prelude.{ℕ, List, ◌++◌, length, sum_by, codes, decimal, Option, Some, None}
 use Rattle.fault_model.specs.Tree.{FaultTree}
 use Rattle.board_report.specs.CutsText.{tree_line}

@@ -7,7 +7,8 @@ use Rattle.crew_script.specs.declared.dockets.Ask.{Ask}
 use Rattle.crew_script.specs.declared.dockets.Ask.TheVariants.{Take, Return, Margin}
 use Rattle.crew_script.specs.declared.dockets.Crew.{Crew}
 use Rattle.margin_policy.specs.declared.request.Reply.{Reply}
-use Rattle.margin_policy.specs.declared.request.Reply.TheVariants.{Granted, Denied, UnknownUnit, AlreadyOut, NotOut, HeldBy, NotSupervisor}
+use Rattle.margin_policy.specs.declared.request.Reply.TheVariants.{Granted, Denied, UnknownUnit, AlreadyOut, NotOut}
+use Rattle.margin_policy.specs.declared.request.Reply.TheVariants.{HeldBy, NotSupervisor}
 use Rattle.outage_board.specs.declared.entry.Entry.{Entry}
 use Rattle.board_report.specs.Shown.{show, named}
 
@@ -41,7 +42,8 @@ entry_end crews reply = codes ": " ++ (reply_text crews reply ++ codes "\n")
 -- `N CREW take NAMES: REPLY` and the like
 abbrev pub entry_line : List Crew → ℕ → Entry → List ℕ
 entry_line crews number entry =
-    entry_head crews number entry.crew ++ (ask_text (ask_at crews entry.crew.0 entry.place) ++ entry_end crews entry.reply)
+    entry_head crews number entry.crew ++ (ask_text (ask_at crews entry.crew.0 entry.place)
+    ++ entry_end crews entry.reply)
 
 -- the lines of entries, numbered from this number on
 abbrev pub entry_lines : List Crew → ℕ → List Entry → List ℕ

@@ -1,8 +1,6 @@
--- Crews and entries that a log can show.
-use Rattle.std.specs.Prelude.{◌≡◌, ◌<◌, true, List, length, All}
-use Rattle.fault_model.specs.Name.{is_name}
-use Rattle.crew_script.specs.Names.{all_differ}
-use Rattle.crew_script.specs.Dockets.{names_of, crew_at}
+-- Entries that a log can show.
+use Rattle.std.specs.Prelude.{◌<◌, List, length}
+use Rattle.crew_script.specs.Dockets.{crew_at}
 use Rattle.crew_script.specs.declared.dockets.Crew.{Crew}
 use Rattle.margin_policy.specs.Holders.{NamesCrewBelow}
 use Rattle.outage_board.specs.declared.entry.Entry.{Entry}
@@ -12,8 +10,3 @@ pub record IsLogged (crews : List Crew) (entry : Entry) : Type 0 where
   pub crew : entry.crew.0 < length crews
   pub place : entry.place < length (crew_at crews entry.crew.0).docket
   pub reply : NamesCrewBelow (length crews) entry.reply
-
--- the crews have names, which differ
-pub record AreNamed (crews : List Crew) : Type 0 where
-  pub names : All (λ (crew : Crew). is_name crew.name ≡ true) crews
-  pub differ : all_differ (names_of crews) ≡ true

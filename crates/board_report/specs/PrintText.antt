@@ -36,7 +36,8 @@ input_text tree input = codes " " ++ quoted (name_of tree input)
 abbrev pub gate_line : FaultTree → ℕ → List ℕ
 gate_line tree gate =
     quoted (name_of tree gate)
-    ++ (codes " " ++ (gate_word (kind_of tree gate) ++ (flat_map (input_text tree) (inputs_of tree gate) ++ codes ";\n")))
+    ++ (codes " " ++ (gate_word (kind_of tree gate)
+    ++ (flat_map (input_text tree) (inputs_of tree gate) ++ codes ";\n")))
 
 -- a value as it is where it has only bytes of a word, and else in quotes
 abbrev pub value_text : List ℕ → List ℕ
@@ -58,4 +59,5 @@ unit_line tree unit = quoted (name_of tree unit) ++ (flat_map attribute_text (at
 abbrev pub print_text : FaultTree → List ℕ
 print_text tree =
     top_line tree
-    ++ (flat_map (gate_line tree) (range_with_len (unit_count tree + 1) (gate_count tree)) ++ flat_map (unit_line tree) (range_with_len 1 (unit_count tree)))
+    ++ (flat_map (gate_line tree) (range_with_len (unit_count tree + 1) (gate_count tree))
+    ++ flat_map (unit_line tree) (range_with_len 1 (unit_count tree)))

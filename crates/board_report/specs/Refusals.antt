@@ -66,7 +66,8 @@ code_text (Crew code) = crew_text code
 -- `refused: CODE TEXT at LINE:COLUMN`
 abbrev pub fault_line : DeckFault → List ℕ
 fault_line fault =
-    codes "refused: " ++ code_text fault.code ++ codes " at " ++ decimal fault.place.line ++ codes ":" ++ decimal fault.place.column
+    codes "refused: " ++ code_text fault.code ++ codes " at " ++ decimal fault.place.line ++ codes ":"
+    ++ decimal fault.place.column
     ++ codes "\n"
 
 abbrev pub notice_line : Notice → List ℕ

@@ -1,5 +1,6 @@
 //! What follows the text of cut sets for a board: its log, and the board at its end.
-ghost use Rattle.std.specs.Prelude.{◌≡◌, ◌<◌, ◌+◌, ◌≤◌, ◌++◌, codes, is_err, length, false, All, Some, is_some, if◌then◌else◌, decimal};
+ghost use Rattle.std.specs.Prelude.{◌≡◌, ◌<◌, ◌+◌, ◌≤◌, ◌++◌, codes, is_err, length, false, All, Some, is_some};
+ghost use Rattle.std.specs.Prelude.{if◌then◌else◌, decimal};
 ghost use Rattle.std.specs.List.{flat_map, list_any};
 ghost use Rattle.edge_io.specs.Out.{has_failed, Puts};
 ghost use Rattle.fault_model.specs.Tree.{IsUnitOf, name_of, unit_count};
@@ -8,7 +9,9 @@ ghost use Rattle.margin_policy.specs.Holders.{HolderBelow, HoldersBelow};
 ghost use Rattle.residual_ledger.specs.Residual.{residual};
 ghost use Rattle.board_report.specs.Shown.{show};
 ghost use Rattle.board_report.specs.LogText.{log_text};
-ghost use Rattle.board_report.specs.BoardText.{IsDeckOf, board_text, end_text, grants_margin, holder_text, is_margin, left_line, left_lines, margin_line, margin_now, out_head, out_line, out_text};
+ghost use Rattle.board_report.specs.BoardText.{IsDeckOf, board_text, end_text, grants_margin, holder_text, is_margin};
+ghost use Rattle.board_report.specs.BoardText.{left_line, left_lines, margin_line, margin_now, out_head, out_line};
+ghost use Rattle.board_report.specs.BoardText.{out_text};
 
 use crate::holders::put_out;
 use crate::left::put_left;
@@ -21,8 +24,9 @@ use itoa::Buffer;
 use margin_policy::{Reply, Request, Standing};
 use outage_board::{BoardState, Entry};
 
-/// Puts what follows the text of cut sets for a board over this tree: the opening margin, the log, the margin in force where some
-/// margin request was granted, the units that are out with their holders, and what is left of each cut set.
+/// Puts what follows the text of cut sets for a board over this tree: the opening margin, the log, the margin in
+/// force where some margin request was granted, the units that are out with their holders, and what is left of each
+/// cut set.
 pub fn put_board<K: Sink>(
     out: &mut Out<K>,
     state: &BoardState,

@@ -49,6 +49,19 @@ pub(crate) fn cuts_of_pairs(alloc: Global) -> Result<CutList, Fail>
     Ok(cuts)
 }
 
+pub(crate) fn cuts_of_two_of_three(alloc: Global) -> Result<CutList, Fail>
+    ensures { IfOk result (λ cuts. cuts ≡ (1 ∷ 2 ∷ []) ∷ (1 ∷ 3 ∷ []) ∷ (2 ∷ 3 ∷ []) ∷ []) }
+{
+    let mut cuts = CutList::new(alloc);
+    let set = units_of(alloc, &[1, 2])?;
+    cuts.push(set.as_slice())?;
+    let set = units_of(alloc, &[1, 3])?;
+    cuts.push(set.as_slice())?;
+    let set = units_of(alloc, &[2, 3])?;
+    cuts.push(set.as_slice())?;
+    Ok(cuts)
+}
+
 pub(crate) fn tree_of(alloc: Global, text: &[u8]) -> Result<Tree, Fail> {
     if text.len() > LONGEST_DECK {
         return Err("too long".into());
@@ -191,7 +204,10 @@ fn named_errors_are_written(rt: HostRuntime) -> Result<(), Fail> {
         Day {
             crews: b"crew c\ntake A\ntake A\nreturn B\ntake Z\nreturn A\ntake A\ncrew d\nreturn A\ntake A",
             order: &[0, 0, 1, 1, 0, 0, 0, 0],
-            text: b"margin: 0\nlog: 8\n1 c take A: granted\n2 c take A: E2 already out with c\n3 d return A: E4 held by c\n4 d take A: E2 already out with c\n5 c return B: E3 not out\n6 c take Z: E1 unknown unit\n7 c return A: granted\n8 c take A: granted\nout: 1\nA c\nleft 1: 2 of 3\n",
+            text: b"margin: 0\nlog: 8\n1 c take A: granted\n2 c take A: E2 already out with c\n\
+                3 d return A: E4 held by c\n4 d take A: E2 already out with c\n5 c return B: E3 not out\n\
+                6 c take Z: E1 unknown unit\n7 c return A: granted\n8 c take A: granted\nout: 1\nA c\n\
+                left 1: 2 of 3\n",
         },
     )
 }
@@ -208,9 +224,16 @@ fn the_margin_of_a_supervisor_is_written(rt: HostRuntime) -> Result<(), Fail> {
         rt.alloc(),
         &tree,
         Day {
-            crews: b"crew supervisor\ntake A C\nmargin 1\nreturn A\nmargin 1\nreturn C\nmargin 1\ntake A\nmargin 0\ntake A B\ntake C A\ntake B Z\ntake B A",
+            crews: b"crew supervisor\ntake A C\nmargin 1\nreturn A\nmargin 1\nreturn C\nmargin 1\ntake A\n\
+                margin 0\ntake A B\ntake C A\ntake B Z\ntake B A",
             order: &[0, 0, 0, 0, 0, 0, 0, 0, 0, 0, 0, 0],
-            text: b"margin: 0\nlog: 12\n1 supervisor take A C: granted\n2 supervisor margin 1: denied, cut 1\n3 supervisor return A: granted\n4 supervisor margin 1: denied, cut 2\n5 supervisor return C: granted\n6 supervisor margin 1: granted\n7 supervisor take A: denied, cut 1\n8 supervisor margin 0: granted\n9 supervisor take A B: denied, cut 1\n10 supervisor take C A: granted\n11 supervisor take B Z: E1 unknown unit\n12 supervisor take B A: E2 already out with supervisor\nmargin now: 0\nout: 2\nA supervisor\nC supervisor\nleft 1: 1 of 2\nleft 2: 1 of 2\n",
+            text: b"margin: 0\nlog: 12\n1 supervisor take A C: granted\n2 supervisor margin 1: denied, cut 1\n\
+                3 supervisor return A: granted\n4 supervisor margin 1: denied, cut 2\n\
+                5 supervisor return C: granted\n6 supervisor margin 1: granted\n\
+                7 supervisor take A: denied, cut 1\n8 supervisor margin 0: granted\n\
+                9 supervisor take A B: denied, cut 1\n10 supervisor take C A: granted\n\
+                11 supervisor take B Z: E1 unknown unit\n12 supervisor take B A: E2 already out with supervisor\n\
+                margin now: 0\nout: 2\nA supervisor\nC supervisor\nleft 1: 1 of 2\nleft 2: 1 of 2\n",
         },
     )
 }

@@ -16,7 +16,8 @@ pub fn put_check<K: Sink>(
     tree: &Tree,
     dockets: Option<&Dockets>,
 ) -> Result<(), WriteFault>
-    ensures puts { MatchOption dockets.entry (Puts K.taken K.faults out.old out.new (check_text tree.now None)) (λ crews. Puts K.taken K.faults out.old out.new (check_text tree.now (Some crews.now))) }
+    ensures puts { MatchOption dockets.entry (Puts K.taken K.faults out.old out.new (check_text tree.now None))
+        (λ crews. Puts K.taken K.faults out.old out.new (check_text tree.now (Some crews.now))) }
     ensures answer { is_err result ≡ has_failed out.new }
 {
     match dockets {

@@ -3,7 +3,8 @@ ghost use Rattle.std.specs.Prelude.{◌≡◌, ◌<◌, ◌+◌, is_err, length,
 ghost use Rattle.cut_sequences.specs.Orders.{orders_at};
 ghost use Rattle.edge_io.specs.Out.{has_failed, Puts};
 ghost use Rattle.fault_model.specs.Tree.{IsUnitOf, name_of};
-ghost use Rattle.board_report.specs.CutsText.{count_line, cut_block, cut_blocks, cut_line, cut_number, cuts_text, listed_with, titled_line, tree_counts, tree_line};
+ghost use Rattle.board_report.specs.CutsText.{count_line, cut_block, cut_blocks, cut_line, cut_number, cuts_text};
+ghost use Rattle.board_report.specs.CutsText.{listed_with, titled_line, tree_counts, tree_line};
 ghost use Rattle.board_report.specs.OrdersOfUnits.{AreOrdersOf};
 
 use crate::orders::put_order_lines;
@@ -129,7 +130,8 @@ fn put_block<K: Sink>(
     requires countable { i < usize.MAX }
     requires set_units { All (IsUnitOf tree.now) set.now }
     requires units { All (All (IsUnitOf tree.now)) (orders_at orders.now i) }
-    ensures puts { Puts K.taken K.faults out.old out.new (cut_block tree.now (i + 1) set.now (slice_index_or orders.now i None)) }
+    ensures puts { Puts K.taken K.faults out.old out.new
+        (cut_block tree.now (i + 1) set.now (slice_index_or orders.now i None)) }
     ensures answer { is_err result ≡ has_failed out.new }
 {
     put_cut_line(out, tree, i as u64 + 1, set)?;

@@ -10,8 +10,8 @@ use fault_model::Tree;
 use itoa::Buffer;
 use unit_sets::CutList;
 
-/// Puts the text of `diagram` over a tree and its cut sets. `nodes` is how many nodes their diagram has, and `None` where they were found by
-/// lists.
+/// Puts the text of `diagram` over a tree and its cut sets. `nodes` is how many nodes their diagram has, and `None`
+/// where they were found by lists.
 pub fn put_diagram<K: Sink>(
     out: &mut Out<K>,
     tree: &Tree,

@@ -1,5 +1,6 @@
 //! The units that are out, with their holders.
-ghost use Rattle.std.specs.Prelude.{◌≡◌, ◌<◌, ◌+◌, ◌≤◌, ◌++◌, [], ◌∷◌, codes, is_err, length, false, Some, None, is_some, if◌then◌else◌};
+ghost use Rattle.std.specs.Prelude.{◌≡◌, ◌<◌, ◌+◌, ◌≤◌, ◌++◌, [], ◌∷◌, codes, is_err, length, false, Some, None};
+ghost use Rattle.std.specs.Prelude.{is_some, if◌then◌else◌};
 ghost use Rattle.std.specs.List.{flat_map};
 ghost use Rattle.edge_io.specs.Out.{has_failed, Puts};
 ghost use Rattle.fault_model.specs.Tree.{IsNodeOf, name_of, unit_count};
@@ -108,7 +109,8 @@ fn put_out_lines<K: Sink>(
     requires holders { HoldersBelow (length dockets.now) standing.now.held }
     requires units { standing.now.units ≡ unit_count tree.now }
     requires fine { has_failed out.old ≡ false }
-    ensures puts { Puts K.taken K.faults out.old out.new (flat_map (out_line tree.now dockets.now standing.now.held) (units_out standing.now.held)) }
+    ensures puts { Puts K.taken K.faults out.old out.new
+        (flat_map (out_line tree.now dockets.now standing.now.held) (units_out standing.now.held)) }
     ensures answer { is_err result ≡ has_failed out.new }
 {
     holds_units_alone(standing);
@@ -130,7 +132,9 @@ fn put_if_out<K: Sink>(
     requires unit { number ≤ unit_count tree.now }
     requires holders { HoldersBelow (length dockets.now) standing.now.held }
     requires fine { has_failed out.old ≡ false }
-    ensures puts { Puts K.taken K.faults out.old out.new (flat_map (out_line tree.now dockets.now standing.now.held) (if is_some (holder_of standing.now.held number) then number ∷ [] else [])) }
+    ensures puts { Puts K.taken K.faults out.old out.new
+        (flat_map (out_line tree.now dockets.now standing.now.held) (if is_some (holder_of standing.now.held number)
+        then number ∷ [] else [])) }
     ensures answer { is_err result ≡ has_failed out.new }
 {
     // The number of units tells the proof that there are at most 4,095.
@@ -150,7 +154,8 @@ fn put_out_line<K: Sink>(
 ) -> Result<(), WriteFault>
     requires node { IsNodeOf tree.now unit }
     requires holder { holder.0 < length dockets.now }
-    ensures puts { Puts K.taken K.faults out.old out.new (show (name_of tree.now unit) ++ (holder_text dockets.now (Some holder) ++ codes "\n")) }
+    ensures puts { Puts K.taken K.faults out.old out.new (show (name_of tree.now unit)
+        ++ (holder_text dockets.now (Some holder) ++ codes "\n")) }
     ensures answer { is_err result ≡ has_failed out.new }
 {
     put_shown(out, tree.name(NodeNo(unit)))?;

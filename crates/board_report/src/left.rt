@@ -24,7 +24,8 @@ pub(crate) fn put_left<K: Sink>(out: &mut Out<K>, ledger: &Ledger) -> Result<(),
 fn put_left_of<K: Sink>(out: &mut Out<K>, ledger: &Ledger, i: usize) -> Result<(), WriteFault>
     requires within { i < length ledger.now.cuts }
     requires countable { i < usize.MAX }
-    ensures puts { Puts K.taken K.faults out.old out.new (left_line (i + 1) (residual ledger.now.out (cut_at ledger.now.cuts i)) (length (cut_at ledger.now.cuts i))) }
+    ensures puts { Puts K.taken K.faults out.old out.new
+        (left_line (i + 1) (residual ledger.now.out (cut_at ledger.now.cuts i)) (length (cut_at ledger.now.cuts i))) }
     ensures answer { is_err result ≡ has_failed out.new }
 {
     put_left_line(

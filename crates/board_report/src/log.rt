@@ -5,7 +5,8 @@ ghost use Rattle.crew_script.specs.Dockets.{ask_at, crew_at};
 ghost use Rattle.edge_io.specs.Out.{has_failed, Puts};
 ghost use Rattle.margin_policy.specs.Holders.{NamesCrewBelow};
 ghost use Rattle.board_report.specs.Shown.{named};
-ghost use Rattle.board_report.specs.LogText.{ask_text, crew_shown, entry_end, entry_head, entry_line, entry_lines, log_head, log_text, reply_text};
+ghost use Rattle.board_report.specs.LogText.{ask_text, crew_shown, entry_end, entry_head, entry_line, entry_lines};
+ghost use Rattle.board_report.specs.LogText.{log_head, log_text, reply_text};
 ghost use Rattle.board_report.specs.Logged.{IsLogged};
 
 use crate::pieces::{put_all, put_named, put_shown};

@@ -33,7 +33,8 @@ fn line_of(notice: Notice) -> &'static [u8]
 {
     match notice {
         Notice::Usage =>
-            b"usage: cuts [--most N] [--workers N] | board [--margin N] [--most N] [--workers N] | check | print | diagram [--workers N] | make --number N [--show deck|summary] | help\n",
+            b"usage: cuts [--most N] [--workers N] | board [--margin N] [--most N] [--workers N] \
+              | check | print | diagram [--workers N] | make --number N [--show deck|summary] | help\n",
         Notice::ReadFault => b"refused: read fault\n",
         Notice::TooLong => b"refused: input too long\n",
         Notice::ListLimit => b"refused: list limit 16777216\n",

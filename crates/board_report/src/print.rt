@@ -2,10 +2,12 @@
 ghost use Rattle.std.specs.Prelude.{◌≡◌, ◌<◌, ◌+◌, ◌++◌, codes, is_err, length, false, All};
 ghost use Rattle.std.specs.List.{flat_map, list_all, range_with_len};
 ghost use Rattle.edge_io.specs.Out.{has_failed, Puts};
-ghost use Rattle.fault_model.specs.Tree.{IsGateOf, IsNodeOf, IsUnitOf, attributes_of, gate_count, inputs_of, kind_of, name_of, unit_count};
+ghost use Rattle.fault_model.specs.Tree.{IsGateOf, IsNodeOf, IsUnitOf, attributes_of, gate_count, inputs_of, kind_of};
+ghost use Rattle.fault_model.specs.Tree.{name_of, unit_count};
 ghost use Rattle.galileo_lexer.specs.Bytes.{is_word_byte};
 ghost use Rattle.fault_model.specs.declared.node.GateKind.TheVariants.{Votes};
-ghost use Rattle.board_report.specs.PrintText.{attribute_text, attribute_word, gate_line, gate_word, input_text, print_text, quoted, top_line, unit_line, value_text};
+ghost use Rattle.board_report.specs.PrintText.{attribute_text, attribute_word, gate_line, gate_word, input_text};
+ghost use Rattle.board_report.specs.PrintText.{print_text, quoted, top_line, unit_line, value_text};
 
 use crate::cuts::top_name;
 use crate::pieces::put_all;
@@ -49,7 +51,8 @@ fn node_name(tree: &Tree, node: NodeNo) -> &Name
 // Puts the gates' statements, each on a line.
 fn put_gates<K: Sink>(out: &mut Out<K>, tree: &Tree) -> Result<(), WriteFault>
     requires fine { has_failed out.old ≡ false }
-    ensures puts { Puts K.taken K.faults out.old out.new (flat_map (gate_line tree.now) (range_with_len (unit_count tree.now + 1) (gate_count tree.now))) }
+    ensures puts { Puts K.taken K.faults out.old out.new
+        (flat_map (gate_line tree.now) (range_with_len (unit_count tree.now + 1) (gate_count tree.now))) }
     ensures answer { is_err result ≡ has_failed out.new }
 {
     let units = tree.units();
@@ -129,7 +132,8 @@ fn put_input<K: Sink>(out: &mut Out<K>, tree: &Tree, input: NodeNo) -> Result<()
 // Puts the units' statements, each on a line.
 fn put_units<K: Sink>(out: &mut Out<K>, tree: &Tree) -> Result<(), WriteFault>
     requires fine { has_failed out.old ≡ false }
-    ensures puts { Puts K.taken K.faults out.old out.new (flat_map (unit_line tree.now) (range_with_len 1 (unit_count tree.now))) }
+    ensures puts { Puts K.taken K.faults out.old out.new
+        (flat_map (unit_line tree.now) (range_with_len 1 (unit_count tree.now))) }
     ensures answer { is_err result ≡ has_failed out.new }
 {
     for i in 0..tree.units() {

@@ -158,14 +158,16 @@ fn cut_sets_are_written_with_names_and_orders(rt: HostRuntime) -> Result<(), Fai
         rt.alloc(),
         &tree,
         2,
-        b"tree: 3 units, 3 gates, top \"+T\"\ncuts: 2, orders: 2\ncut 1: A\n  (none)\ncut 2: B \"b c\"\n  B \"b c\"\n  \"b c\" B\n",
+        b"tree: 3 units, 3 gates, top \"+T\"\ncuts: 2, orders: 2\ncut 1: A\n  (none)\n\
+            cut 2: B \"b c\"\n  B \"b c\"\n  \"b c\" B\n",
     )?;
     check_two_cuts(
         &rt,
         rt.alloc(),
         &tree,
         1,
-        b"tree: 3 units, 3 gates, top \"+T\"\ncuts: 2, orders: 0\ncut 1: A\n  (none)\ncut 2: B \"b c\"\n  (not listed)\n",
+        b"tree: 3 units, 3 gates, top \"+T\"\ncuts: 2, orders: 0\ncut 1: A\n  (none)\n\
+            cut 2: B \"b c\"\n  (not listed)\n",
     )
 }
 
@@ -300,7 +302,8 @@ fn notices_are_written(rt: HostRuntime) -> Result<(), Fail> {
     for (notice, text) in [
         (
             Notice::Usage,
-            "usage: cuts [--most N] [--workers N] | board [--margin N] [--most N] [--workers N] | check | print | diagram [--workers N] | make --number N [--show deck|summary] | help\n",
+            "usage: cuts [--most N] [--workers N] | board [--margin N] [--most N] [--workers N] \
+             | check | print | diagram [--workers N] | make --number N [--show deck|summary] | help\n",
         ),
         (Notice::ReadFault, "refused: read fault\n"),
         (Notice::TooLong, "refused: input too long\n"),

@@ -2,7 +2,7 @@
 ghost use Rattle.std.specs.Prelude.{◌≡◌, []};
 
 use super::*;
-use crate::board_tests::{cuts_of_pairs, dockets_of, tree_of};
+use crate::board_tests::{cuts_of_pairs, cuts_of_two_of_three, dockets_of, tree_of};
 use crew_script::Dockets;
 use edge_io::{Buffer, Bytes, CallList, KeptSink, NoMemory, Out, Sink, WriteFault};
 use fault_model::Tree;
@@ -11,38 +11,90 @@ use std::process::Abort;
 use std::test::Fail;
 use unit_sets::CutList;
 
+// What is put over a tree.
+#[derive(Drop)]
+enum Shown<'a> {
+    Printed(&'a Tree),
+    WellFormed(&'a Tree, Option<&'a Dockets>),
+    Sizes(&'a Tree, &'a CutList, Option<u64>),
+}
+
+fn put_shown<K: Sink>(out: &mut Out<K>, shown: &Shown) -> Result<(), WriteFault> {
+    match shown {
+        Shown::Printed(tree) => put_tree(out, tree),
+        Shown::WellFormed(tree, dockets) => put_check(out, tree, *dockets),
+        Shown::Sizes(tree, cuts, nodes) => put_diagram(out, tree, cuts, *nodes),
+    }
+}
+
+fn put_into<K: Sink>(sink: &mut K, buffer: Buffer, shown: &Shown) -> Result<(), WriteFault>
+    requires { buffer ≡ [] }
+{
+    let mut out = Out::over(sink, buffer);
+    let _ = put_shown(&mut out, shown);
+    out.finish()
+}
+
+// A sink in memory with so much room, which fails at one call, if any.
+fn sink_of(alloc: Global, room: usize, failing: Option<u64>) -> Result<KeptSink, NoMemory> {
+    let failing = match failing {
+        None => CallList::new(alloc, &[])?,
+        Some(call) => CallList::new(alloc, &[call])?,
+    };
+    KeptSink::new(alloc, room, failing)
+}
+
 // What is written, and how it ended.
 type Written = (Bytes, Result<(), WriteFault>);
+
+fn written(
+    alloc: Global,
+    shown: &Shown,
+    room: usize,
+    failing: Option<u64>,
+) -> Result<Written, NoMemory> {
+    let mut sink = sink_of(alloc, room, failing)?;
+    let buffer = Buffer::new(alloc)?;
+    let end = put_into(&mut sink, buffer, shown);
+    Ok((Bytes::of(alloc, sink.bytes())?, end))
+}
 
 fn check_ended(rt: &impl Abort, written: &Written, text: &[u8]) {
     assert_eq!(rt; written.0.as_slice(), text);
     assert!(rt; written.1.is_ok());
 }
 
-fn sink_of(alloc: Global) -> Result<KeptSink, NoMemory> {
-    KeptSink::new(alloc, 1000, CallList::new(alloc, &[])?)
+fn check_failed(rt: &impl Abort, written: &Written, front: &[u8]) {
+    assert_eq!(rt; written.0.as_slice(), front);
+    assert!(rt; written.1.is_err());
+}
+
+// A text is written whole where the sink takes it.
+fn check_text(rt: &impl Abort, alloc: Global, shown: &Shown, text: &[u8]) -> Result<(), NoMemory> {
+    check_ended(rt, &written(alloc, shown, 1000, None)?, text);
+    Ok(())
+}
+
+// With less room a front of it is written, and nothing where the write fails. Where the flush fails all was written.
+fn check_failures(
+    rt: &impl Abort,
+    alloc: Global,
+    shown: &Shown,
+    text: &[u8],
+) -> Result<(), NoMemory> {
+    for room in 0..text.len() {
+        check_failed(rt, &written(alloc, shown, room, None)?, &text[..room]);
+    }
+    check_failed(rt, &written(alloc, shown, 1000, Some(0))?, b"");
+    check_failed(rt, &written(alloc, shown, 1000, Some(1))?, text);
+    Ok(())
 }
 
 // ---- printed
 
-fn print_into<K: Sink>(sink: &mut K, buffer: Buffer, tree: &Tree) -> Result<(), WriteFault>
-    requires { buffer ≡ [] }
-{
-    let mut out = Out::over(sink, buffer);
-    let _ = put_tree(&mut out, tree);
-    out.finish()
-}
-
-fn printed(alloc: Global, tree: &Tree) -> Result<Written, NoMemory> {
-    let mut sink = sink_of(alloc)?;
-    let buffer = Buffer::new(alloc)?;
-    let end = print_into(&mut sink, buffer, tree);
-    Ok((Bytes::of(alloc, sink.bytes())?, end))
-}
-
 fn check_printed(rt: &impl Abort, alloc: Global, deck: &[u8], text: &[u8]) -> Result<(), Fail> {
     let tree = tree_of(alloc, deck)?;
-    check_ended(rt, &printed(alloc, &tree)?, text);
+    check_text(rt, alloc, &Shown::Printed(&tree), text)?;
     Ok(())
 }
 
@@ -50,6 +102,12 @@ fn check_printed(rt: &impl Abort, alloc: Global, deck: &[u8], text: &[u8]) -> Re
 fn check_print(rt: &impl Abort, alloc: Global, deck: &[u8], text: &[u8]) -> Result<(), Fail> {
     check_printed(rt, alloc, deck, text)?;
     check_printed(rt, alloc, text, text)
+}
+
+fn check_print_fails(rt: &impl Abort, alloc: Global, deck: &[u8], text: &[u8]) -> Result<(), Fail> {
+    let tree = tree_of(alloc, deck)?;
+    check_failures(rt, alloc, &Shown::Printed(&tree), text)?;
+    Ok(())
 }
 
 #[test]
@@ -74,52 +132,37 @@ fn each_kind_of_gate_is_printed(rt: HostRuntime) -> Result<(), Fail> {
     check_print(
         &rt,
         rt.alloc(),
-        b"toplevel T; T OR F G H I J K; F fdep A B; G pand A B; H seq A B; I csp C D; J wsp E D2; K hsp E2 D3; A note=\"a b\"; B x=\"+1\"; C; D; E; D2; E2; D3;",
-        b"toplevel \"T\";\n\"T\" or \"G\" \"H\" \"I\" \"J\" \"K\";\n\"F\" fdep \"A\" \"B\";\n\"G\" pand \"A\" \"B\";\n\"H\" seq \"A\" \"B\";\n\"I\" csp \"C\" \"D\";\n\"J\" wsp \"E\" \"D2\";\n\"K\" hsp \"E2\" \"D3\";\n\"A\" note=\"a b\";\n\"B\" x=+1;\n\"C\";\n\"D\";\n\"E\";\n\"D2\";\n\"E2\";\n\"D3\";\n",
+        b"toplevel T; T OR F G H I J K; F fdep A B; G pand A B; H seq A B; I csp C D; J wsp E D2; K hsp E2 D3; \
+          A note=\"a b\"; B x=\"+1\"; C; D; E; D2; E2; D3;",
+        b"toplevel \"T\";\n\"T\" or \"G\" \"H\" \"I\" \"J\" \"K\";\n\"F\" fdep \"A\" \"B\";\n\
+            \"G\" pand \"A\" \"B\";\n\"H\" seq \"A\" \"B\";\n\"I\" csp \"C\" \"D\";\n\"J\" wsp \"E\" \"D2\";\n\
+            \"K\" hsp \"E2\" \"D3\";\n\"A\" note=\"a b\";\n\"B\" x=+1;\n\"C\";\n\"D\";\n\"E\";\n\"D2\";\n\"E2\";\n\
+            \"D3\";\n",
+    )
+}
+
+#[test]
+fn a_tree_is_printed_up_to_a_fault(rt: HostRuntime) -> Result<(), Fail> {
+    check_print_fails(
+        &rt,
+        rt.alloc(),
+        b"toplevel T; T or A \"b c\"; A dorm=0.5; \"b c\";",
+        b"toplevel \"T\";\n\"T\" or \"A\" \"b c\";\n\"A\" dorm=0.5;\n\"b c\";\n",
     )
 }
 
 // ---- well formed
 
-fn tell_into<K: Sink>(
-    sink: &mut K,
-    buffer: Buffer,
-    tree: &Tree,
-    dockets: Option<&Dockets>,
-) -> Result<(), WriteFault>
-    requires { buffer ≡ [] }
-{
-    let mut out = Out::over(sink, buffer);
-    let _ = put_check(&mut out, tree, dockets);
-    out.finish()
-}
-
-fn told(alloc: Global, tree: &Tree, dockets: Option<&Dockets>) -> Result<Written, NoMemory> {
-    let mut sink = sink_of(alloc)?;
-    let buffer = Buffer::new(alloc)?;
-    let end = tell_into(&mut sink, buffer, tree, dockets);
-    Ok((Bytes::of(alloc, sink.bytes())?, end))
-}
-
-fn check_tree_alone(rt: &impl Abort, alloc: Global, tree: &Tree) -> Result<(), NoMemory> {
-    let written = told(alloc, tree, None)?;
-    check_ended(rt, &written, b"well formed: 2 units, 1 gates, top \"+T\"\n");
-    Ok(())
-}
-
-fn check_with_crews(
+fn check_told(
     rt: &impl Abort,
     alloc: Global,
     tree: &Tree,
-    dockets: &Dockets,
+    dockets: Option<&Dockets>,
+    text: &[u8],
 ) -> Result<(), NoMemory> {
-    let written = told(alloc, tree, Some(dockets))?;
-    check_ended(
-        rt,
-        &written,
-        b"well formed: 2 units, 1 gates, top \"+T\"\ncrews: 2, requests: 3\n",
-    );
-    Ok(())
+    let shown = Shown::WellFormed(tree, dockets);
+    check_text(rt, alloc, &shown, text)?;
+    check_failures(rt, alloc, &shown, text)
 }
 
 #[test]
@@ -127,70 +170,46 @@ fn well_formed_decks_are_told(rt: HostRuntime) -> Result<(), Fail> {
     let alloc = rt.alloc();
     let tree = tree_of(alloc, b"toplevel \"+T\"; \"+T\" and A B; A; B;")?;
     let dockets = dockets_of(alloc, b"crew c\ntake A\nreturn A\ncrew d\nmargin 1")?;
-    check_tree_alone(&rt, alloc, &tree)?;
-    check_with_crews(&rt, alloc, &tree, &dockets)?;
+    let alone = b"well formed: 2 units, 1 gates, top \"+T\"\n".as_slice();
+    check_told(&rt, alloc, &tree, None, alone)?;
+    let with_crews =
+        b"well formed: 2 units, 1 gates, top \"+T\"\ncrews: 2, requests: 3\n".as_slice();
+    check_told(&rt, alloc, &tree, Some(&dockets), with_crews)?;
     Ok(())
 }
 
 // ---- sizes of diagrams
 
-fn put_sizes_into<K: Sink>(
-    sink: &mut K,
-    buffer: Buffer,
-    tree: &Tree,
-    cuts: &CutList,
-    nodes: Option<u64>,
-) -> Result<(), WriteFault>
-    requires { buffer ≡ [] }
-{
-    let mut out = Out::over(sink, buffer);
-    let _ = put_diagram(&mut out, tree, cuts, nodes);
-    out.finish()
-}
-
-fn sizes_written(
-    alloc: Global,
-    tree: &Tree,
-    cuts: &CutList,
-    nodes: Option<u64>,
-) -> Result<Written, NoMemory> {
-    let mut sink = sink_of(alloc)?;
-    let buffer = Buffer::new(alloc)?;
-    let end = put_sizes_into(&mut sink, buffer, tree, cuts, nodes);
-    Ok((Bytes::of(alloc, sink.bytes())?, end))
-}
-
 fn check_sizes(
     rt: &impl Abort,
     alloc: Global,
-    tree: &Tree,
+    deck: &[u8],
+    cuts: &CutList,
     nodes: Option<u64>,
     text: &[u8],
 ) -> Result<(), Fail> {
-    let cuts = cuts_of_pairs(alloc)?;
-    let written = sizes_written(alloc, tree, &cuts, nodes)?;
-    check_ended(rt, &written, text);
+    let tree = tree_of(alloc, deck)?;
+    let shown = Shown::Sizes(&tree, cuts, nodes);
+    check_text(rt, alloc, &shown, text)?;
+    check_failures(rt, alloc, &shown, text)?;
     Ok(())
 }
 
 #[test]
 fn sizes_of_diagrams_are_written(rt: HostRuntime) -> Result<(), Fail> {
-    let alloc = rt.alloc();
-    let tree = tree_of(
-        alloc,
-        b"toplevel T; T or G H; G and A B; H and C D; A; B; C; D;",
-    )?;
     check_sizes(
         &rt,
-        alloc,
-        &tree,
+        rt.alloc(),
+        b"toplevel T; T 2of3 A B C; A; B; C;",
+        &cuts_of_two_of_three(rt.alloc())?,
         Some(4),
-        b"tree: 4 units, 3 gates, top T\nmethod diagram\nnodes: 4\ncuts: 2\nmembers: 4\n",
+        b"tree: 3 units, 1 gates, top T\nmethod diagram\nnodes: 4\ncuts: 3\nmembers: 6\n",
     )?;
     check_sizes(
         &rt,
-        alloc,
-        &tree,
+        rt.alloc(),
+        b"toplevel T; T or G H; G and A B; H and C D; A; B; C; D;",
+        &cuts_of_pairs(rt.alloc())?,
         None,
         b"tree: 4 units, 3 gates, top T\nmethod lists\ncuts: 2\nmembers: 4\n",
     )

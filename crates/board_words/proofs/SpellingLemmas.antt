@@ -8,7 +8,7 @@ use Rattle.board_words.specs.declared.command.Show.TheVariants.{Deck, Summary}
 use Rattle.board_words.specs.Options.{is_same, are_options, value_of}
 use Rattle.board_words.specs.Command.{cuts_options, board_options, diagram_options, make_options, margin_in, most_in, workers_in, number_in, show_said, show_in, cuts_with, board_with, diagram_with, make_with, if_options, cuts_of, board_of, diagram_of, make_of, if_alone, command_of}
 use Rattle.board_words.specs.Spellings as said
-use Rattle.board_words.specs.Spellings.{Said, words_of, AreSaid, SaysNumber, SaysMargin, SaysMost, SaysWorkers, SaysDeckNumber, SaysShow, Spells, IsWithinBounds}
+use Rattle.board_words.specs.Spellings.{Said, words_of, AreSaid, SaysNumber, SaysDeckNumber, SaysShow, Spells, IsWithinBounds}
 use Rattle.board_words.proofs.Numerals.{some_if, some_is}
 use Rattle.board_words.proofs.OptionWords.{same_word, value_has, value_lacks, has_value, lacks_value, are_said, as_said, number_read, number_says}
 

@@ -5,6 +5,7 @@ use Rattle.std.specs.List.{All, list_any}
 use Rattle.std.proofs.lemmas.Bool.{cases_Bool}
 use Rattle.std.proofs.lemmas.List.Elements.{All-push, All-nil, All-cons, All-head, All-tail}
 use Rattle.crew_script.specs.Names.{has_name, same_name, all_differ}
+use Rattle.fault_model.specs.Name.{is_name}
 use Rattle.crew_script.specs.Dockets.{names_of, request_count, HasMargin, HasMargins, IsDockets}
 use Rattle.crew_script.specs.Crews.{with_ask, crew_fault, request_fault}
 use Rattle.crew_script.specs.Reading.{joined, IsReading}
@@ -46,12 +47,16 @@ request_room [] none = absurd cc
 request_room (crew ∷ crews) none = grind (arith, none)
 
 -- a new crew
-pub dockets_crew : (crews : List Crew) (name : List ℕ) → IsDockets crews → crew_fault crews name ≡ None
-    → IsDockets (crews ++ named name ∷ [])
-dockets_crew crews name kept none = record {
+pub dockets_crew : (crews : List Crew) (name : List ℕ) → is_name name ≡ true → IsDockets crews
+    → crew_fault crews name ≡ None → IsDockets (crews ++ named name ∷ [])
+dockets_crew crews name form kept none = record {
   few_crews = omega (arith, crew_room crews name none, length-append crews (named name ∷ []));
-  differ = subst (λ l. all_differ l ≡ true) (sym (names_push crews (named name)))
-      (differ_push [] (names_of crews) name kept.differ (crew_new crews name none));
+  named = record {
+    names = subst (All (λ n. is_name n ≡ true)) (sym (names_push crews (named name)))
+        (All-push (λ n. is_name n ≡ true) (names_of crews) name kept.named.names form);
+    differ = subst (λ l. all_differ l ≡ true) (sym (names_push crews (named name)))
+        (differ_push [] (names_of crews) name kept.named.differ (crew_new crews name none));
+  };
   few_requests = omega (arith, kept.few_requests, count_push crews (named name));
   margins = All-push HasMargins crews (named name) kept.margins (All-nil HasMargin);
 }
@@ -64,13 +69,13 @@ keys_crew crews keys name same none =
     ∙ ap (λ b. if b then names_of crews else names_of crews ++ name ∷ []) (crew_new crews name none)
     ∙ sym (names_push crews (named name))
 
-pub reading_crew : (crews : List Crew) (keys new : List (List ℕ)) (name : List ℕ) (total : ℕ) → keys ≡ names_of crews
-    → total ≡ request_count crews → IsDockets crews → crew_fault crews name ≡ None
+pub reading_crew : (crews : List Crew) (keys new : List (List ℕ)) (name : List ℕ) (total : ℕ) → is_name name ≡ true
+    → keys ≡ names_of crews → total ≡ request_count crews → IsDockets crews → crew_fault crews name ≡ None
     → new ≡ (if list_any (same_name name) keys then keys else keys ++ name ∷ []) → IsReading new crews (Some (named name)) total
-reading_crew crews keys new name total same counted kept none is = record {
+reading_crew crews keys new name total form same counted kept none is = record {
   named = is ∙ keys_crew crews keys name same none;
   counted = omega (arith, counted, count_push crews (named name));
-  kept = dockets_crew crews name kept none;
+  kept = dockets_crew crews name form kept none;
   begun = λ none. absurd cc;
 }
 
@@ -87,7 +92,12 @@ pub dockets_request : (crews : List Crew) (crew : Crew) (ask : Ask) → IsDocket
     → HasMargin ask → IsDockets (crews ++ more_asked ask crew ∷ [])
 dockets_request crews crew ask kept none margin = record {
   few_crews = omega (arith, kept.few_crews, length-append crews (crew ∷ []), length-append crews (more_asked ask crew ∷ []));
-  differ = subst (λ l. all_differ l ≡ true) (names_push crews crew ∙ sym (names_push crews (more_asked ask crew))) kept.differ;
+  named = record {
+    names = subst (All (λ n. is_name n ≡ true)) (names_push crews crew ∙ sym (names_push crews (more_asked ask crew)))
+        kept.named.names;
+    differ = subst (λ l. all_differ l ≡ true) (names_push crews crew ∙ sym (names_push crews (more_asked ask crew)))
+        kept.named.differ;
+  };
   few_requests = omega (arith, request_room (crews ++ crew ∷ []) none, count_push crews crew, count_push crews (more_asked ask crew), length-append crew.docket (ask ∷ []));
   margins = margins_request crews crew ask kept.margins margin;
 }

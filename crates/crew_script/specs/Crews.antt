@@ -1,5 +1,6 @@
 -- What the lines of a crew part say, and the crews with their requests that come of it.
-use Rattle.std.specs.Prelude.{◌≡◌, ℕ, ◌+◌, nat_le, if◌then◌else◌, List, [], ◌∷◌, ◌++◌, length, Result, Ok, Err, Option, Some, None}
+use Rattle.std.specs.Prelude.{◌≡◌, ℕ, ◌+◌, nat_le, if◌then◌else◌, List, [], ◌∷◌, ◌++◌, length, Result, Ok, Err}
+use Rattle.std.specs.Prelude.{Option, Some, None}
 use Rattle.crew_script.specs.Deck.{lines_of}
 use Rattle.crew_script.specs.Words.{words_of}
 use Rattle.crew_script.specs.Lines.{line_of}
@@ -10,7 +11,8 @@ use Rattle.crew_script.specs.declared.dockets.Crew.{Crew}
 use Rattle.crew_script.specs.declared.line.Line.{Line}
 use Rattle.crew_script.specs.declared.line.Line.TheVariants as line
 use Rattle.crew_script.specs.declared.fault.CrewCode.{CrewCode}
-use Rattle.crew_script.specs.declared.fault.CrewCode.TheVariants.{BadLine, DuplicateCrew, RequestBeforeCrew, TooManyCrews, TooManyRequests}
+use Rattle.crew_script.specs.declared.fault.CrewCode.TheVariants.{BadLine, DuplicateCrew, RequestBeforeCrew}
+use Rattle.crew_script.specs.declared.fault.CrewCode.TheVariants.{TooManyCrews, TooManyRequests}
 use Rattle.crew_script.specs.declared.fault.CrewFault.{CrewFault}
 use Rattle.crew_script.specs.declared.fault.CrewFault.TheVariants.{Fault, NoMemory}
 
@@ -42,7 +44,8 @@ crew_fault crews name =
 -- the fault of a request behind these crews
 abbrev pub request_fault : List Crew → Option CrewCode
 request_fault [] = Some RequestBeforeCrew
-request_fault (crew ∷ crews) = if nat_le most_requests (request_count (crew ∷ crews)) then Some TooManyRequests else None
+request_fault (crew ∷ crews) = if nat_le most_requests (request_count (crew ∷ crews)) then Some TooManyRequests
+    else None
 
 -- the fault of a line behind these crews
 abbrev pub fault_behind : List Crew → Line → Option CrewCode
@@ -70,8 +73,8 @@ crews_from number crews [] = Ok crews
 crews_from number crews (bytes ∷ lines) =
     unless_fault number (fault_behind crews (said bytes)) (crews_from (number + 1) (after crews (said bytes)) lines)
 
--- what a crew part says whose first line has this number. Where its last byte is a line feed, an empty line follows in the list, which
--- says nothing.
+-- what a crew part says whose first line has this number. Where its last byte is a line feed, an empty line follows
+-- in the list, which says nothing.
 abbrev pub crews_of : ℕ → List ℕ → Result (List Crew) CrewFault
 crews_of number bytes = crews_from number [] (lines_of bytes)
 

@@ -13,21 +13,24 @@ use Rattle.crew_script.specs.declared.line.Line.TheVariants as line
 use Rattle.crew_script.specs.declared.fault.CrewFault.{CrewFault}
 use Rattle.crew_script.specs.declared.fault.CrewFault.TheVariants.{Fault, NoMemory}
 use Rattle.crew_script.specs.declared.fault.CrewCode.{CrewCode}
-use Rattle.crew_script.specs.declared.fault.CrewCode.TheVariants.{BadLine, DuplicateCrew, RequestBeforeCrew, TooManyCrews, TooManyRequests}
+use Rattle.crew_script.specs.declared.fault.CrewCode.TheVariants.{BadLine, DuplicateCrew, RequestBeforeCrew}
+use Rattle.crew_script.specs.declared.fault.CrewCode.TheVariants.{TooManyCrews, TooManyRequests}
 
 -- the lines say these, one after the other; those that say nothing are left out
 pub data Say : List (List ℕ) → List Line → Type 0 where
   say_none : Say [] []
-  say_nothing : (bytes : List ℕ) (lines : List (List ℕ)) (more : List Line) → Says bytes line.Nothing → Say lines more → Say (bytes ∷ lines) more
-  say_next : (bytes : List ℕ) (said : Line) (lines : List (List ℕ)) (more : List Line) → Says bytes said → said ≢ line.Nothing
+  say_nothing : (bytes : List ℕ) (lines : List (List ℕ)) (more : List Line) → Says bytes line.Nothing → Say lines more
+      → Say (bytes ∷ lines) more
+  say_next : (bytes : List ℕ) (said : Line) (lines : List (List ℕ)) (more : List Line) → Says bytes said
+      → said ≢ line.Nothing
       → Say lines more → Say (bytes ∷ lines) (said ∷ more)
 
 -- what has to be said for a crew: its name, and then each of its requests
 abbrev pub lines_for : Crew → List Line
 lines_for crew = line.Crew crew.name ∷ map line.Request crew.docket
 
--- Lines stand for these crews: they say each crew and then its requests, one crew after the other. The names of the crews differ, and
--- there are at most 64 crews and 100,000 requests.
+-- Lines stand for these crews: they say each crew and then its requests, one crew after the other. The names of the
+-- crews differ, and there are at most 64 crews and 100,000 requests.
 pub record AreCrews (lines : List (List ℕ)) (crews : List Crew) : Type 0 where
   pub say : Say lines (flat_map lines_for crews)
   pub differ : all_differ (names_of crews) ≡ true
@@ -37,11 +40,14 @@ pub record AreCrews (lines : List (List ℕ)) (crews : List Crew) : Type 0 where
 -- a line has this fault behind these crews
 pub data HasFault : List Crew → List ℕ → CrewCode → Type 0 where
   bad_line : (crews : List Crew) (bytes : List ℕ) → ((said : Line) → ¬ Says bytes said) → HasFault crews bytes BadLine
-  duplicate_crew : (crews : List Crew) (bytes name : List ℕ) → Says bytes (line.Crew name) → has_name (names_of crews) name ≡ true
+  duplicate_crew : (crews : List Crew) (bytes name : List ℕ) → Says bytes (line.Crew name)
+      → has_name (names_of crews) name ≡ true
       → HasFault crews bytes DuplicateCrew
-  too_many_crews : (crews : List Crew) (bytes name : List ℕ) → Says bytes (line.Crew name) → has_name (names_of crews) name ≡ false
+  too_many_crews : (crews : List Crew) (bytes name : List ℕ) → Says bytes (line.Crew name)
+      → has_name (names_of crews) name ≡ false
       → most_crews ≤ length crews → HasFault crews bytes TooManyCrews
-  request_before_crew : (bytes : List ℕ) (ask : Ask) → Says bytes (line.Request ask) → HasFault [] bytes RequestBeforeCrew
+  request_before_crew : (bytes : List ℕ) (ask : Ask) → Says bytes (line.Request ask)
+      → HasFault [] bytes RequestBeforeCrew
   too_many_requests : (crews : List Crew) (bytes : List ℕ) (ask : Ask) → Says bytes (line.Request ask) → crews ≢ []
       → most_requests ≤ request_count crews → HasFault crews bytes TooManyRequests
 

@@ -1,7 +1,8 @@
--- The parts of a deck. The first line `@crews` divides it: the tree part stands before this line, and the crew part behind its
--- line feed. A line ends at a line feed or with the deck, and is `@crews` where it has these bytes alone once one carriage
--- return at its end is dropped.
-use Rattle.std.specs.Prelude.{ℕ, ◌+◌, min, Bool, ◌||◌, ◌==◌, if◌then◌else◌, List, [], ◌∷◌, ◌++◌, length, codes, Some, None, nat_eq}
+-- The parts of a deck. The first line `@crews` divides it: the tree part stands before this line, and the crew part
+-- behind its line feed. A line ends at a line feed or with the deck, and is `@crews` where it has these bytes alone
+-- once one carriage return at its end is dropped.
+use Rattle.std.specs.Prelude.{ℕ, ◌+◌, min, Bool, ◌||◌, ◌==◌, if◌then◌else◌, List, [], ◌∷◌, ◌++◌, length, codes, Some}
+use Rattle.std.specs.Prelude.{None, nat_eq}
 use Rattle.std.specs.List.{slice_split, before_first}
 use Rattle.std.specs.Cmp.Lexicographic.{pointwise}
 use Rattle.crew_script.specs.declared.deck.Split.{Split}

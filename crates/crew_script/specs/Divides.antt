@@ -1,9 +1,11 @@
--- Where a deck is divided, as the format puts it: by its first line that is `@crews` once one carriage return at its end is dropped.
-use Rattle.std.specs.Prelude.{◌≡◌, ℕ, ◌+◌, ◌==◌, min, Bool, false, true, if◌then◌else◌, List, [], ◌∷◌, ◌++◌, length, Option, Some, None}
+-- Where a deck is divided, as the format puts it: by its first line that is `@crews` once one carriage return at its
+-- end is dropped.
+use Rattle.std.specs.Prelude.{◌≡◌, ℕ, ◌+◌, ◌==◌, min, false, true, if◌then◌else◌, List, [], ◌∷◌, ◌++◌, length}
+use Rattle.std.specs.Prelude.{Option, Some, None}
 use Rattle.std.specs.List.{list_any}
 use Rattle.crew_script.specs.declared.deck.CrewsAt.{CrewsAt}
 use Rattle.crew_script.specs.declared.deck.Split.{Split}
-use Rattle.crew_script.specs.Deck.{is_feed, is_crews, lines_of}
+use Rattle.crew_script.specs.Deck.{is_crews, lines_of}
 
 -- a line without one carriage return at its end
 abbrev pub without_return : List ℕ → List ℕ
@@ -16,8 +18,8 @@ abbrev pub size_of : List (List ℕ) → ℕ
 size_of [] = 0
 size_of (line ∷ lines) = length line + 1 + size_of lines
 
--- Of the lines of a deck this one is the first that divides it. The tree part is what stands before it. The crew part begins behind its
--- line feed, where it has one, and its first line has the next number.
+-- Of the lines of a deck this one is the first that divides it. The tree part is what stands before it. The crew part
+-- begins behind its line feed, where it has one, and its first line has the next number.
 pub record IsDividedAt (bytes : List ℕ) (tree : ℕ) (crews : CrewsAt) : Type 0 where
   pub before : List (List ℕ)
   pub line : List ℕ

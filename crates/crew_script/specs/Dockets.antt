@@ -1,6 +1,7 @@
 -- Crews and their requests.
 use Rattle.std.specs.Prelude.{◌≡◌, ℕ, ◌+◌, ◌≤◌, true, List, [], ◌∷◌, map, length, get_or}
 use Rattle.std.specs.List.{All}
+use Rattle.fault_model.specs.Name.{is_name}
 use Rattle.crew_script.specs.Names.{all_differ}
 use Rattle.crew_script.specs.declared.dockets.Ask.{Ask}
 use Rattle.crew_script.specs.declared.dockets.Ask.TheVariants.{Take, Return, Margin}
@@ -32,9 +33,14 @@ HasMargin (Margin number) = number ≤ 4095
 abbrev pub HasMargins : Crew → Type 0
 HasMargins crew = All HasMargin crew.docket
 
--- at most 64 crews with different names, and at most 100,000 requests, of which no margin is above 4,095
+-- the crews have names, and no name stands twice
+pub record AreNamed (crews : List Crew) : Type 0 where
+  pub names : All (λ name. is_name name ≡ true) (names_of crews)
+  pub differ : all_differ (names_of crews) ≡ true
+
+-- at most 64 crews with names that differ, and at most 100,000 requests, of which no margin is above 4,095
 pub record IsDockets (crews : List Crew) : Type 0 where
   pub few_crews : length crews ≤ 64
-  pub differ : all_differ (names_of crews) ≡ true
+  pub named : AreNamed crews
   pub few_requests : request_count crews ≤ 100000
   pub margins : All HasMargins crews

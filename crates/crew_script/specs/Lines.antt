@@ -1,5 +1,6 @@
 -- What a line of a crew part says, by its words.
-use Rattle.std.specs.Prelude.{ℕ, ◌+◌, ◌-◌, ◌*◌, Bool, true, false, not, ◌==◌, ◌&&◌, ◌||◌, nat_le, nat_lt, if◌then◌else◌, List, [], ◌∷◌, ◌++◌, length, codes, Option, Some, None}
+use Rattle.std.specs.Prelude.{ℕ, ◌+◌, ◌-◌, ◌*◌, Bool, true, false, not, ◌==◌, ◌&&◌, ◌||◌, nat_le, nat_lt}
+use Rattle.std.specs.Prelude.{if◌then◌else◌, List, [], ◌∷◌, ◌++◌, length, codes, Option, Some, None}
 use Rattle.std.specs.List.{list_all}
 use Rattle.std.specs.Char.{is_ascii_digit}
 use Rattle.std.specs.Str.{str_eq_ignore_ascii_case}
@@ -25,7 +26,8 @@ is_quoted_kind Broken = false
 
 -- a name: 1 to 255 bytes of its form, and without quotation marks a bare name
 abbrev pub is_name_word : Word → Bool
-is_name_word word = is_name word.text && (is_quoted_kind word.kind || (is_bare_kind word.kind && is_bare_name word.text))
+is_name_word word = is_name word.text && (is_quoted_kind word.kind
+    || (is_bare_kind word.kind && is_bare_name word.text))
 
 -- the word of a form, without regard to ASCII case
 abbrev pub says : Word → List ℕ → Bool
@@ -54,7 +56,8 @@ number_from number (digit ∷ digits) = number_from (10 * number + (digit - 48))
 
 -- 1 to 4 digits, without a zero in front of others
 abbrev pub is_numeral : List ℕ → Bool
-is_numeral text = nat_le 1 (length text) && nat_le (length text) 4 && list_all is_ascii_digit text && not (has_leading_zero text)
+is_numeral text = nat_le 1 (length text) && nat_le (length text) 4 && list_all is_ascii_digit text
+    && not (has_leading_zero text)
 
 -- the margin that a text writes
 abbrev pub margin_of : List ℕ → Option ℕ

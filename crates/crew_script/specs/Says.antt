@@ -12,16 +12,20 @@ use Rattle.crew_script.specs.declared.line.Line.TheVariants.{Nothing, Crew, Requ
 abbrev pub texts : List Word → List (List ℕ)
 texts words = map (λ (word : Word). word.text) words
 
--- A line says this. Blanks alone say nothing, and so does a line whose first byte that is no blank is `#`. Every other line has the
--- words of a form: `crew` and a name, `take` and 1 to 16 different names, `return` and a name, `margin` and a number.
+-- A line says this. Blanks alone say nothing, and so does a line whose first byte that is no blank is `#`. Every
+-- other line has the words of a form: `crew` and a name, `take` and 1 to 16 different names, `return` and a name,
+-- `margin` and a number.
 pub data Says : List ℕ → Line → Type 0 where
   says_blank : (line : List ℕ) → are_blank line ≡ true → Says line Nothing
   says_comment : (gap rest : List ℕ) → are_blank gap ≡ true → Says (gap ++ 35 ∷ rest) Nothing
   says_crew : (line : List ℕ) (first name : Word) → Spells (first ∷ name ∷ []) line → says first (codes "crew") ≡ true
       → is_name_word name ≡ true → Says line (Crew name.text)
-  says_take : (line : List ℕ) (first : Word) (names : List Word) → Spells (first ∷ names) line → says first (codes "take") ≡ true
+  says_take : (line : List ℕ) (first : Word) (names : List Word) → Spells (first ∷ names) line
+      → says first (codes "take") ≡ true
       → list_all is_name_word names ≡ true → are_taken (texts names) ≡ true → Says line (Request (Take (texts names)))
-  says_return : (line : List ℕ) (first name : Word) → Spells (first ∷ name ∷ []) line → says first (codes "return") ≡ true
+  says_return : (line : List ℕ) (first name : Word) → Spells (first ∷ name ∷ []) line
+      → says first (codes "return") ≡ true
       → is_name_word name ≡ true → Says line (Request (Return name.text))
-  says_margin : (line : List ℕ) (first word : Word) (number : ℕ) → Spells (first ∷ word ∷ []) line → says first (codes "margin") ≡ true
+  says_margin : (line : List ℕ) (first word : Word) (number : ℕ) → Spells (first ∷ word ∷ []) line
+      → says first (codes "margin") ≡ true
       → is_bare_kind word.kind ≡ true → margin_of word.text ≡ Some number → Says line (Request (Margin number))

@@ -1,6 +1,7 @@
--- The words of a line, each with at least one blank between it and the next. A word that begins with a quotation mark ends with the
--- next one, and has to; every other word ends at a blank.
-use Rattle.std.specs.Prelude.{◌≡◌, ℕ, Bool, true, false, ◌==◌, ◌||◌, ◌&&◌, not, nat_le, if◌then◌else◌, List, [], ◌∷◌, ◌++◌, Option, Some, None}
+-- The words of a line, each with at least one blank between it and the next. A word that begins with a quotation mark
+-- ends with the next one, and has to; every other word ends at a blank.
+use Rattle.std.specs.Prelude.{◌≡◌, ℕ, Bool, true, false, ◌==◌, ◌||◌, ◌&&◌, not, nat_le, if◌then◌else◌, List, [], ◌∷◌}
+use Rattle.std.specs.Prelude.{◌++◌, Option, Some, None}
 use Rattle.std.specs.List.{list_all, list_any}
 use Rattle.crew_script.specs.declared.word.WordKind.{WordKind}
 use Rattle.crew_script.specs.declared.word.WordKind.TheVariants.{Bare, Quoted, Broken}
@@ -42,9 +43,11 @@ words Between (byte ∷ bytes) =
     if is_blank byte then words Between bytes
     else (if is_quote byte then words (InQuotes []) bytes else words (InBare (byte ∷ [])) bytes)
 words (InBare text) [] = bare text ∷ []
-words (InBare text) (byte ∷ bytes) = if is_blank byte then bare text ∷ words Between bytes else words (InBare (text ++ byte ∷ [])) bytes
+words (InBare text) (byte ∷ bytes) = if is_blank byte then bare text ∷ words Between bytes
+    else words (InBare (text ++ byte ∷ [])) bytes
 words (InQuotes text) [] = broken ∷ []
-words (InQuotes text) (byte ∷ bytes) = if is_quote byte then words (Closed text) bytes else words (InQuotes (text ++ byte ∷ [])) bytes
+words (InQuotes text) (byte ∷ bytes) = if is_quote byte then words (Closed text) bytes
+    else words (InQuotes (text ++ byte ∷ [])) bytes
 words (Closed text) [] = quoted text ∷ []
 words (Closed text) (byte ∷ bytes) = if is_blank byte then quoted text ∷ words Between bytes else broken ∷ []
 
@@ -86,5 +89,6 @@ pub data Writes : Word → List ℕ → Type 0 where
 -- a line has these words, with at least one blank between two of them, and with blanks before and after as they come
 pub data Spells : List Word → List ℕ → Type 0 where
   no_word : (gap : List ℕ) → are_blank gap ≡ true → Spells [] gap
-  word_on : (gap written rest : List ℕ) (word : Word) (more : List Word) → are_blank gap ≡ true → Writes word written → parts rest ≡ true
+  word_on : (gap written rest : List ℕ) (word : Word) (more : List Word) → are_blank gap ≡ true → Writes word written
+      → parts rest ≡ true
       → Spells more rest → Spells (word ∷ more) (gap ++ (written ++ rest))

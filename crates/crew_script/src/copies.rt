@@ -1,4 +1,4 @@
-// Copies of dockets.
+//! Copies of dockets.
 ghost use Rattle.std.specs.Prelude.{◌≡◌, IfOk};
 
 use crate::dockets::{Ask, AskList, Crew};

@@ -6,8 +6,8 @@ use std::process::Abort;
 use std::test::Fail;
 use unit_sets::CrewNo;
 
-// What a crew part says whose first line has number 3: each crew as its name and a colon, each request as its word and its names or
-// its number, or the fault as its line and column. Want of memory is told by line 0.
+// What a crew part says whose first line has number 3: each crew as its name and a colon, each request as its word
+// and its names or its number, or the fault as its line and column. Want of memory is told by line 0.
 fn read(alloc: Global, text: &[u8]) -> Result<Result<String, (CrewCode, u32, u32)>, Fail> {
     if text.len() > LONGEST_DECK {
         return Ok(Err((CrewCode::NoCrewPart, 0, 0)));

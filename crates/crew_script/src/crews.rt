@@ -1,6 +1,7 @@
 //! The crews that a crew part says.
 ghost use Rattle.std.specs.Prelude.{◌≡◌, ◌≤◌, length, Ok, IfOk, IfErr};
 ghost use Rattle.crew_script.specs.Crews.{crews_of, FailsAs};
+ghost use Rattle.crew_script.specs.Dockets.{IsDockets};
 
 use crate::deck::LONGEST_DECK;
 use crate::dockets::Dockets;
@@ -11,12 +12,13 @@ use crate::text_lines::TextLines;
 use fault_model::Place;
 use std::alloc::Global;
 
-/// The crews that the lines of a crew part say, each with its requests, else the fault of the first line that has one. The first line
-/// has the number that is given.
+/// The crews that the lines of a crew part say, each with its requests, else the fault of the first line that has
+/// one. The first line has the number that is given.
 pub fn read_crews(alloc: Global, bytes: &[u8], line: u32) -> Result<Dockets, CrewFault>
     requires short { length bytes.now ≤ LONGEST_DECK }
     requires numbers { line ≤ 16777217 }
     ensures crews { IfOk result (λ dockets. crews_of line bytes.now ≡ Ok dockets) }
+    ensures kept { IfOk result IsDockets }
     ensures fault { IfErr result (λ fault. FailsAs fault (crews_of line bytes.now)) }
 {
     let mut reading = Reading::new(alloc);

@@ -1,4 +1,5 @@
-//! What dividing a deck and reading its crew part are in the format's own terms. The bodies are empty: each law is its clause.
+//! What dividing a deck and reading its crew part are in the format's own terms. The bodies are empty: each law is
+//! its clause.
 ghost use Rattle.std.specs.Prelude.{◌≡◌, ◌⊎◌, ◌↔◌, ℕ, ◌+◌, true, false, List, Result, take, codes};
 ghost use Rattle.std.specs.List.{list_any, count_by};
 ghost use Rattle.crew_script.specs.declared.dockets.Crew.{Crew};
@@ -24,11 +25,13 @@ pub fn decks_are_divided_once()
     ensures once { (bytes : List ℕ) (split : Split) → Divides bytes split → split_of bytes ≡ split }
 {}
 
-/// No line of the tree part divides the deck. The number of the crew part's first line is 2 and as many more as line feeds stand in the
-/// tree part.
+/// No line of the tree part divides the deck. The number of the crew part's first line is 2 and as many more as line
+/// feeds stand in the tree part.
 pub fn before_the_dividing_line()
-    ensures none { (bytes : List ℕ) (tree : ℕ) (crews : CrewsAt) → IsDividedAt bytes tree crews → list_any is_crews (lines_of (take tree bytes)) ≡ false }
-    ensures number { (bytes : List ℕ) (tree : ℕ) (crews : CrewsAt) → IsDividedAt bytes tree crews → crews.line ≡ count_by is_feed (take tree bytes) + 2 }
+    ensures none { (bytes : List ℕ) (tree : ℕ) (crews : CrewsAt) → IsDividedAt bytes tree crews
+        → list_any is_crews (lines_of (take tree bytes)) ≡ false }
+    ensures number { (bytes : List ℕ) (tree : ℕ) (crews : CrewsAt) → IsDividedAt bytes tree crews
+        → crews.line ≡ count_by is_feed (take tree bytes) + 2 }
 {}
 
 /// A line says one thing.
@@ -41,12 +44,14 @@ pub fn lines_say_what_is_read()
     ensures { (line : List ℕ) → (said line ≡ Bad) ⊎ Says line (said line) }
 {}
 
-/// What is read of a crew part is what its lines stand for: the crews that they say, each with its requests, or else their first fault.
+/// What is read of a crew part is what its lines stand for: the crews that they say, each with its requests, or else
+/// their first fault.
 pub fn crews_or_first_fault()
     ensures { (number : ℕ) (bytes : List ℕ) → Answers number (lines_of bytes) (crews_of number bytes) }
 {}
 
 /// A crew part has one such answer.
 pub fn crew_part_has_one_answer()
-    ensures { (number : ℕ) (bytes : List ℕ) (read : Result (List Crew) CrewFault) → Answers number (lines_of bytes) read → crews_of number bytes ≡ read }
+    ensures { (number : ℕ) (bytes : List ℕ) (read : Result (List Crew) CrewFault)
+        → Answers number (lines_of bytes) read → crews_of number bytes ≡ read }
 {}

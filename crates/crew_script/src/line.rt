@@ -1,9 +1,11 @@
-// What a line says.
+//! What a line says.
 ghost use Rattle.std.specs.Prelude.{◌≡◌, ◌≤◌, IfOk, IfSome, length, true, []};
 ghost use Rattle.std.specs.List.{list_all};
 ghost use Rattle.std.specs.Char.{is_ascii_digit};
 ghost use Rattle.crew_script.specs.Words.{words_of};
-ghost use Rattle.crew_script.specs.Lines.{line_of, request_line, crew_line, return_line, margin_line, take_line, only_name, only_margin, margin_of, number_from, is_numeral, has_leading_zero, SaysMargin};
+ghost use Rattle.crew_script.specs.Lines.{line_of, request_line, crew_line, return_line, margin_line, take_line};
+ghost use Rattle.crew_script.specs.Lines.{only_name, only_margin, margin_of, number_from, is_numeral};
+ghost use Rattle.crew_script.specs.Lines.{has_leading_zero, SaysMargin};
 ghost use Rattle.crew_script.specs.Names.{has_name};
 
 use crate::dockets::Ask;

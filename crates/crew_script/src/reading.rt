@@ -1,7 +1,7 @@
-// The crews of the lines that are read.
+//! The crews of the lines that are read.
 ghost use Rattle.std.specs.Prelude.{◌≡◌, [], ◌∷◌, ◌++◌, None, IfOk};
 ghost use Rattle.crew_script.specs.Reading.{joined};
-ghost use Rattle.crew_script.specs.Dockets.{HasMargin};
+ghost use Rattle.crew_script.specs.Dockets.{HasMargin, IsDockets};
 ghost use Rattle.crew_script.specs.Lines.{SaysMargin};
 ghost use Rattle.crew_script.specs.Crews.{fault_behind, crew_fault, request_fault, after, with_ask};
 ghost use Rattle.crew_script.specs.declared.line.Line.TheVariants.{Crew as CrewLine};
@@ -150,7 +150,8 @@ impl Reading {
 
     /// The crews.
     pub(crate) fn finish(self) -> Result<Dockets, AllocError>
-        ensures { IfOk result (λ dockets. dockets ≡ self) }
+        ensures crews { IfOk result (λ dockets. dockets ≡ self) }
+        ensures kept { IfOk result IsDockets }
     {
         let Reading {
             closed,

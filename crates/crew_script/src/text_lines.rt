@@ -1,4 +1,4 @@
-// The lines of a text.
+//! The lines of a text.
 ghost use Rattle.std.specs.Prelude.{◌≡◌, ◌<◌, IfSome, length, position};
 ghost use Rattle.crew_script.specs.Deck.{is_feed, lines_of};
 ghost use Rattle.crew_script.specs.TextLines.{Cuts};

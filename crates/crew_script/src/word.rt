@@ -1,8 +1,10 @@
-// The words of a line.
-ghost use Rattle.std.specs.Prelude.{◌≡◌, ◌<◌, ◌≤◌, ◌&&◌, ◌||◌, [], ◌∷◌, IfOk, IfSome, false, true, drop, length, position};
+//! The words of a line.
+ghost use Rattle.std.specs.Prelude.{◌≡◌, ◌<◌, ◌≤◌, ◌&&◌, ◌||◌, [], ◌∷◌, IfOk, IfSome, false, true, drop, length};
+ghost use Rattle.std.specs.Prelude.{position};
 ghost use Rattle.std.specs.List.{position_or_len, prefix_len};
 ghost use Rattle.fault_model.specs.Name.{is_bare_name};
-ghost use Rattle.crew_script.specs.Words.{is_blank, is_quote, words_of, words, first_of, InQuotes, Closed, parts, begins_bare, begins_blank, broken};
+ghost use Rattle.crew_script.specs.Words.{is_blank, is_quote, words_of, words, first_of, InQuotes, Closed, parts};
+ghost use Rattle.crew_script.specs.Words.{begins_bare, begins_blank, broken};
 ghost use Rattle.crew_script.specs.Lines.{says, is_comment, is_bare_kind, is_quoted_kind, begins_comment, name_in};
 ghost use Rattle.crew_script.specs.Cuts.{Cuts};
 
@@ -70,7 +72,8 @@ impl<'a> Word<'a> {
 
     // Whether the word may be a name by the way it is written.
     fn is_written_as_name(&self) -> bool
-        ensures { result ≡ (is_quoted_kind self.now.kind || (is_bare_kind self.now.kind && is_bare_name self.now.text)) }
+        ensures { result ≡ (is_quoted_kind self.now.kind
+            || (is_bare_kind self.now.kind && is_bare_name self.now.text)) }
     {
         self.is_quoted() || (self.is_bare() && is_bare_name(self.text))
     }

@@ -1,3 +1,5 @@
+//! Workers that serve the crews of a board, by recursive fork and join: each level serves one crew beside the levels
+//! below it.
 ghost use Rattle.std.specs.Prelude.{◌≡◌, ◌+◌, ◌<◌, length, All, MatchBool};
 ghost use Rattle.std.specs.Thread.{IsSync};
 ghost use Rattle.outage_board.specs.Histories.{IsLegal, IsWhole};
@@ -9,8 +11,8 @@ use outage_board::{Board, BoardStart, BoardState, CrewPass, Passes};
 use std::sync::Wait;
 use std::thread::{Threads, join};
 
-// Serves the next request of a pass's crew, and says whether one was left. The pace is told before the turn is asked for and after the
-// answer, also where none was left.
+// Serves the next request of a pass's crew, and says whether one was left. The pace is told before the turn is asked
+// for and after the answer, also where none was left.
 fn serve_next<R: Wait, P: Pace>(rt: &R, board: &Board, pass: &mut CrewPass, pace: &P) -> bool
     requires { pass.old.board ≡ board.now }
     ensures pass { StaysPass pass.old pass.new }
@@ -37,7 +39,8 @@ fn serve_crew<R: Wait, P: Pace>(rt: &R, board: &Board, pass: CrewPass, pace: &P)
     pass
 }
 
-// Serves the crews of some passes, each by a thread of its own. Where no thread can be made, `join` runs the work itself.
+// Serves the crews of some passes, each by a thread of its own. Where no thread can be made, `join` runs the work
+// itself.
 fn serve_each<R: Threads + Wait + Sync, P: Pace>(
     rt: &R,
     board: &Board,
@@ -73,8 +76,9 @@ fn serve_each<R: Threads + Wait + Sync, P: Pace>(
     others
 }
 
-/// Serves all crews of a board, each by a thread of its own, until every docket is used up, and closes the board. The pace is told of each
-/// request of each crew before the turn is asked for and after the answer, and of the call at the end of the docket that finds none left.
+/// Serves all crews of a board, each by a thread of its own, until every docket is used up, and closes the board. The
+/// pace is told of each request of each crew before the turn is asked for and after the answer, and of the call at
+/// the end of the docket that finds none left.
 pub fn serve_all<R: Threads + Wait + Sync, P: Pace>(
     rt: &R,
     start: BoardStart,

@@ -2,3 +2,4 @@ mod Mades
 mod Meets
 mod Sizes
 mod Walks
+pub mod HeavyLists

@@ -1,9 +1,9 @@
 //! The sets of a known reference as a list.
-ghost use Rattle.std.specs.Prelude.{◌≡◌, ◌≤◌, ◌<◌, false, [], IfOk, OnOk, IsErrOf};
+ghost use Rattle.std.specs.Prelude.{◌≡◌, ◌≤◌, IfOk, OnOk, IsErrOf};
 ghost use Rattle.unit_sets.specs.CutOrder.{weight, weight_limit};
 ghost use Rattle.zdd_families.specs.Map.{Knows, family};
 ghost use Rattle.zdd_shared_table.specs.Seats.{map_of};
-ghost use Rattle.cutset_listing.specs.Listing.{HasSetsOf, LacksEmptySet};
+ghost use Rattle.cutset_listing.specs.Listing.{HasHeavyList, HasSetsOf, LacksEmptySet};
 
 use crate::walk::find;
 use std::alloc::Global;
@@ -25,7 +25,7 @@ pub fn list(
     requires filled { LacksEmptySet (family (map_of seat.old) root) }
     ensures sets { IfOk result (HasSetsOf (family (map_of seat.old) root)) }
     ensures within { OnOk result (weight (family (map_of seat.old) root) ≤ weight_limit) }
-    ensures limit { IsErrOf result ListEnd.ListLimit → weight_limit < weight (family (map_of seat.old) root) }
+    ensures limit { IsErrOf result ListEnd.ListLimit → HasHeavyList (family (map_of seat.old) root) }
     ensures seat { seat.new ≡ seat.old }
 {
     // Tells the proof that the family's sets rise and stand in order.

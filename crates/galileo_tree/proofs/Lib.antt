@@ -7,3 +7,4 @@ pub mod Complete
 pub mod Had
 pub mod Sound
 pub mod OneWay
+pub mod Forms

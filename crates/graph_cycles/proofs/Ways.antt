@@ -2,13 +2,9 @@
 use Rattle.std.proofs.Common.{◌≡◌, ℕ, zero, suc, ◌-◌, ◌<◌, ◌≤◌, ◌⊎◌, List, [], ◌∷◌, length, get_or, sym, ap, subst, inl, inr, arith}
 use Rattle.std.proofs.lemmas.Bool.{cases_lt}
 use Rattle.graph_cycles.specs.Graph.{Goes, Leads}
-use Rattle.graph_cycles.specs.Graph.Leads.{edge, way}
+use Rattle.graph_cycles.specs.Graph.Leads.{edge}
+use Rattle.graph_cycles.specs.Surveys.{Leads_then}
 use Rattle.graph_cycles.specs.Walk.{Reaches, Rises, IsOn}
-
--- a way and another that begins where it ends
-pub Leads_then : {graph : List (List ℕ)} {x y z : ℕ} → Leads graph x y → Leads graph y z → Leads graph x z
-Leads_then (edge e) w = way e w
-Leads_then (way e v) w = way e (Leads_then v w)
 
 pub Reaches_then : {graph : List (List ℕ)} (x y z : ℕ) → Reaches graph x y → Reaches graph y z → Reaches graph x z
 Reaches_then {graph} x y z a b = elim a [

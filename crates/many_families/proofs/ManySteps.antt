@@ -1,13 +1,13 @@
 -- Unions and products of many families, call by call.
-use Rattle.std.proofs.Common.{Result, MatchResult, ◌≡◌, ℕ, ◌+◌, ◌-◌, ◌<◌, List, [], ◌++◌, All, take, drop, get_or, length, sym, ◌∙◌, ap, subst, arith, length-drop}
+use Rattle.std.proofs.Common.{Result, MatchResult, ◌≡◌, ℕ, ◌+◌, ◌-◌, ◌<◌, List, All, take, drop, get_or, length, sym, ◌∙◌, ap, subst, arith, length-drop}
 use Rattle.std.proofs.Math.Seq.{take-length}
 use Rattle.std.proofs.lemmas.List.Elements.{All-drop}
 use Rattle.minimal_families.specs.Least.{IsLeastOfAll, IsLeastProductOfAll, IsLeastUnion, IsLeastProduct}
 use Rattle.minimal_families.specs.Many.{least_of_both}
 use Rattle.family_memory.specs.Memory.{Held, Has, IsSound, Went, Gave, RanOut, family_in}
-use Rattle.family_memory.specs.After.{Went-then, RanOut-then, ended, still, still_has}
+use Rattle.family_memory.specs.After.{Went-then, ended, still, still_has}
 use Rattle.many_families.specs.Lists.{families}
-use Rattle.many_families.proofs.Lists.{families_parts, families_stay, still_all, all_take, member_family, many_families, product_goes_on}
+use Rattle.many_families.proofs.Lists.{families_parts, families_stay, member_family, many_families, product_goes_on}
 
 -- the rest of a list, as the slice from a place on has it
 pub rest_from : (list : List ℕ) (middle : ℕ) → take (length list - middle) (drop middle list) ≡ drop middle list

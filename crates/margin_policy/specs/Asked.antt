@@ -1,5 +1,6 @@
 -- The units of a take, as they are asked for.
-use Rattle.std.specs.Prelude.{◌≡◌, ℕ, ◌-◌, ◌≤◌, Bool, true, false, not, ◌&&◌, ◌||◌, nat_le, List, [], ◌∷◌, ◌++◌, length, take, drop, replicate}
+use Rattle.std.specs.Prelude.{◌≡◌, ℕ, ◌-◌, ◌≤◌, Bool, true, false, not, ◌&&◌, ◌||◌, nat_le, List, [], ◌∷◌, ◌++◌}
+use Rattle.std.specs.Prelude.{length, take, drop, replicate}
 use Rattle.std.proofs.Common.{refl, ap, sym, ◌∙◌, arith, length-take-le, take-append-drop}
 use Rattle.std.proofs.lemmas.Bool.{and_parts, leb-true}
 use Rattle.unit_sets.specs.UnitList.{among}
@@ -25,7 +26,8 @@ asked_limit = 16
 
 -- whether a take may ask for these: not too many, none twice, and something at all
 abbrev pub can_be_asked : List ℕ → Bool → Bool
-can_be_asked units unknown = nat_le (length units) asked_limit && (not (has_repeat units) && (unknown || not (is_none_asked units)))
+can_be_asked units unknown = nat_le (length units) asked_limit &&
+    (not (has_repeat units) && (unknown || not (is_none_asked units)))
 
 -- how an array holds them: the places behind them are filled with the unit 1
 pub record HoldsAsked (places : List ℕ) (count : ℕ) (unknown : Bool) : Type 0 where
@@ -39,25 +41,29 @@ abbrev pub padded : List ℕ → List ℕ
 padded units = units ++ replicate (asked_limit - length units) 1
 
 -- what an array holds is what its units give back
-pub padded-take : (places : List ℕ) (count : ℕ) (unknown : Bool) → HoldsAsked places count unknown → padded (take count places) ≡ places
+pub padded-take : (places : List ℕ) (count : ℕ) (unknown : Bool) → HoldsAsked places count unknown
+    → padded (take count places) ≡ places
 padded-take places count unknown holds =
     let long : length (take count places) ≡ count = length-take-le count places (omega (arith, holds.all, holds.few)) in
     ap (λ n. take count places ++ replicate (asked_limit - n) 1) long
     ∙ ap (λ xs. take count places ++ xs) (sym holds.rest)
     ∙ take-append-drop count places
 
-pub length-asked : (places : List ℕ) (count : ℕ) (unknown : Bool) → HoldsAsked places count unknown → length (take count places) ≡ count
+pub length-asked : (places : List ℕ) (count : ℕ) (unknown : Bool) → HoldsAsked places count unknown
+    → length (take count places) ≡ count
 length-asked places count unknown holds = length-take-le count places (omega (arith, holds.all, holds.few))
 
 -- ---- what a take that may be asked for has
 
 pub few_asked : (units : List ℕ) (unknown : Bool) → can_be_asked units unknown ≡ true → length units ≤ asked_limit
 few_asked units unknown asked =
-    leb-true (length units) asked_limit (and_parts (nat_le (length units) asked_limit) (not (has_repeat units) && (unknown || not (is_none_asked units))) asked).0
+    leb-true (length units) asked_limit (and_parts (nat_le (length units) asked_limit)
+    (not (has_repeat units) && (unknown || not (is_none_asked units))) asked).0
 
 pub asked_once : (units : List ℕ) (unknown : Bool) → can_be_asked units unknown ≡ true → has_repeat units ≡ false
 asked_once units unknown asked =
-    let others = (and_parts (nat_le (length units) asked_limit) (not (has_repeat units) && (unknown || not (is_none_asked units))) asked).1 in
+    let others = (and_parts (nat_le (length units) asked_limit)
+    (not (has_repeat units) && (unknown || not (is_none_asked units))) asked).1 in
     turned (has_repeat units) (and_parts (not (has_repeat units)) (unknown || not (is_none_asked units)) others).0
   where
     turned : (b : Bool) → not b ≡ true → b ≡ false

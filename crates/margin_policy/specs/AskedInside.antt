@@ -5,7 +5,14 @@ use Rattle.margin_policy.specs.declared.asked.AskedUnits.TheInside.{Inside}
 use Rattle.margin_policy.specs.Asked.{HoldsAsked, padded, padded-take, length-asked}
 
 abbrev pub from_fields : Inside → Inside
-from_fields a = record { places = padded (take a.count a.places); count = length (take a.count a.places); unknown = a.unknown }
+from_fields a = record {
+  places = padded (take a.count a.places);
+  count = length (take a.count a.places);
+  unknown = a.unknown;
+}
 
 pub given_back : (a : Inside) → HoldsAsked a.places a.count a.unknown → from_fields a ≡ a
-given_back a holds = rw (padded-take a.places a.count a.unknown holds, length-asked a.places a.count a.unknown holds) refl
+given_back a holds = rw (
+  padded-take a.places a.count a.unknown holds,
+  length-asked a.places a.count a.unknown holds,
+) refl

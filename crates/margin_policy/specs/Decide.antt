@@ -5,7 +5,8 @@ use Rattle.residual_ledger.specs.Tight.{tight}
 use Rattle.margin_policy.specs.declared.request.Request.{Request}
 use Rattle.margin_policy.specs.declared.request.Request.TheVariants.{Take, Return, Margin}
 use Rattle.margin_policy.specs.declared.request.Reply.{Reply}
-use Rattle.margin_policy.specs.declared.request.Reply.TheVariants.{Granted, Denied, UnknownUnit, AlreadyOut, NotOut, HeldBy, NotSupervisor}
+use Rattle.margin_policy.specs.declared.request.Reply.TheVariants.{Granted, Denied, UnknownUnit, AlreadyOut, NotOut}
+use Rattle.margin_policy.specs.declared.request.Reply.TheVariants.{HeldBy, NotSupervisor}
 use Rattle.margin_policy.specs.Asked.{AskedView}
 use Rattle.margin_policy.specs.Held.{Held, holder_of, units_out, with_all_held, without_held, first_holder}
 
@@ -23,11 +24,13 @@ abbrev pub unless_held : Option CrewNo → Reply → Reply
 unless_held (Some holder) reply = AlreadyOut holder
 unless_held None reply = reply
 
--- The take of some units: no unit may be unknown, none may be out, and no cut set may be tight with all of them out too.
+-- The take of some units: no unit may be unknown, none may be out, and no cut set may be tight with all of them out
+-- too.
 abbrev pub decide_take : List (List ℕ) → Held → ℕ → AskedView → Reply
 decide_take cuts held margin asked =
     if asked.unknown then UnknownUnit
-    else unless_held (first_holder held asked.units) (granted_unless (tight (asked.units ++ units_out held) margin cuts))
+    else unless_held (first_holder held asked.units)
+    (granted_unless (tight (asked.units ++ units_out held) margin cuts))
 
 -- the return of a unit by a crew, by who holds it
 abbrev pub decide_return : CrewNo → Option CrewNo → Reply

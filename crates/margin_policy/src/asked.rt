@@ -1,3 +1,4 @@
+//! The units that one take asks for.
 ghost use Rattle.std.specs.Prelude.{◌≡◌, is_some, IfSome, true};
 ghost use Rattle.margin_policy.specs.Asked.{has_repeat, can_be_asked};
 

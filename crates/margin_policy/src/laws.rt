@@ -13,21 +13,31 @@ ghost use Rattle.margin_policy.specs.Standing.{StandingView, IsRequestFor, nothi
 
 /// After a granted take every cut set keeps more than the margin in force.
 pub fn a_granted_take_leaves_none_tight()
-    ensures { (cuts : List (List ℕ)) (held : Held) (margin : ℕ) (crew : CrewNo) (asked : AskedView) → ((unit : ℕ) → among asked.units unit ≡ true → unit < length held) → decide_take cuts held margin asked ≡ Granted → tight (units_out (with_all_held crew asked.units held)) margin cuts ≡ [] }
+    ensures { (cuts : List (List ℕ)) (held : Held) (margin : ℕ) (crew : CrewNo) (asked : AskedView)
+        → ((unit : ℕ) → among asked.units unit ≡ true → unit < length held)
+        → decide_take cuts held margin asked ≡ Granted
+        → tight (units_out (with_all_held crew asked.units held)) margin cuts ≡ [] }
 {}
 
 /// After a granted margin every cut set keeps more than it.
 pub fn a_granted_margin_leaves_none_tight()
-    ensures { (cuts : List (List ℕ)) (held : Held) (supervisor : Option CrewNo) (crew : CrewNo) (number : ℕ) → decide_margin cuts held supervisor crew number ≡ Granted → tight (units_out held) number cuts ≡ [] }
+    ensures { (cuts : List (List ℕ)) (held : Held) (supervisor : Option CrewNo) (crew : CrewNo) (number : ℕ)
+        → decide_margin cuts held supervisor crew number ≡ Granted → tight (units_out held) number cuts ≡ [] }
 {}
 
 /// Where every cut set keeps more than the margin in force, it still does after each request that was decided.
 pub fn decided_requests_keep_more()
-    ensures { (standing : StandingView) (crew : CrewNo) (request : Request) → HasAllUnits standing → IsRequestFor standing.units request → KeepsMore standing → KeepsMore (after standing crew request (reply_of standing crew request)) }
+    ensures { (standing : StandingView) (crew : CrewNo) (request : Request) → HasAllUnits standing
+        → IsRequestFor standing.units request → KeepsMore standing
+        → KeepsMore (after standing crew request (reply_of standing crew request)) }
 {}
 
-/// Where nothing is out, a request that was decided leaves every cut set with more than the margin then in force, or it was not granted and
-/// changes nothing.
+/// Where nothing is out, a request that was decided leaves every cut set with more than the margin then in force, or
+/// it was not granted and changes nothing.
 pub fn first_requests_keep_more_or_change_nothing()
-    ensures { (standing : StandingView) (crew : CrewNo) (request : Request) → standing.held ≡ nothing_held standing.units → IsRequestFor standing.units request → KeepsMore (after standing crew request (reply_of standing crew request)) ⊎ ((is_granted (reply_of standing crew request) ≡ false) × (after standing crew request (reply_of standing crew request) ≡ standing)) }
+    ensures { (standing : StandingView) (crew : CrewNo) (request : Request)
+        → standing.held ≡ nothing_held standing.units → IsRequestFor standing.units request
+        → KeepsMore (after standing crew request (reply_of standing crew request))
+        ⊎ ((is_granted (reply_of standing crew request) ≡ false)
+        × (after standing crew request (reply_of standing crew request) ≡ standing)) }
 {}

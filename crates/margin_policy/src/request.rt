@@ -1,3 +1,4 @@
+//! What crews ask, and what they are told.
 use crate::AskedUnits;
 use unit_sets::{CrewNo, UnitNo};
 

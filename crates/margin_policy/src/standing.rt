@@ -31,7 +31,13 @@ impl Model for Standing {
 
     ghost Value = { StandingView };
 
-    ghost view = { λ s. record { units = s.ledger.units; cuts = s.ledger.cuts; margin = s.margin; supervisor = s.supervisor; held = s.held.items } };
+    ghost view = { λ s. record {
+      units = s.ledger.units;
+      cuts = s.ledger.cuts;
+      margin = s.margin;
+      supervisor = s.supervisor;
+      held = s.held.items;
+    } };
 
     ghost invariant = { λ s. KeepsStanding s.ledger s.margin s.held.items };
 }
@@ -51,7 +57,13 @@ impl Standing {
         requires limit { units ≤ 4095 }
         requires known { HasUnitsUpTo units cuts.now }
         requires margin { margin ≤ 4095 }
-        ensures { IfOk result (λ standing. standing ≡ record { units = units; cuts = cuts.now; margin = margin; supervisor = supervisor; held = nothing_held units }) }
+        ensures { IfOk result (λ standing. standing ≡ record {
+          units = units;
+          cuts = cuts.now;
+          margin = margin;
+          supervisor = supervisor;
+          held = nothing_held units;
+        }) }
     {
         let ledger = Ledger::new(alloc, units, cuts)?;
         // The list tells the proof that it is in order and has known units alone.

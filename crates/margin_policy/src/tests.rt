@@ -1,3 +1,4 @@
+//! Requests to small standings, each with the reply that it is to get.
 ghost use Rattle.std.specs.Prelude.{◌≡◌, ◌++◌, ◌∷◌, [], true, IfOk};
 ghost use Rattle.unit_sets.specs.UnitList.{IsRising};
 ghost use Rattle.unit_sets.specs.CutOrder.{IsInCutOrder};

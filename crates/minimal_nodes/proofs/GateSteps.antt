@@ -1,18 +1,18 @@
 -- What the calls for a gate and for a unit give.
-use Rattle.std.proofs.Common.{Result, IfOk, IfErr, Ok, Err, ◌≡◌, ◌⊎◌, ℕ, ◌<◌, ◌||◌, Bool, nat_lt, List, [], ◌∷◌, All, get_or, length, map, if◌then◌else◌, refl, sym, ◌∙◌, ap, subst, inl, inr, arith}
-use Rattle.std.specs.List.{list_any, list_all}
+use Rattle.std.proofs.Common.{Result, IfOk, IfErr, Ok, Err, ◌≡◌, ◌⊎◌, ℕ, ◌||◌, nat_lt, List, [], ◌∷◌, All, get_or, length, map, if◌then◌else◌, refl, sym, ◌∙◌, ap, subst, inl, inr, arith}
+use Rattle.std.specs.List.{list_any}
 use Rattle.std.proofs.lemmas.Bool.{cond-true, lt-ltb}
 use Rattle.fault_model.specs.declared.node.GateKind.{GateKind}
-use Rattle.fault_model.specs.declared.node.GateKind.TheVariants.{And, Or, Votes, Pand, Por, Seq, Fdep, Csp, Wsp, Hsp}
+use Rattle.fault_model.specs.declared.node.GateKind.TheVariants.{And, Pand, Por, Seq, Fdep, Csp, Wsp, Hsp}
 use Rattle.zdd_families.specs.Map.{family-empty}
-use Rattle.family_operations.specs.Hits.{hits, hit_count}
+use Rattle.family_operations.specs.Hits.{hits}
 use Rattle.family_operations.specs.Minimal.{minimal-none}
 use Rattle.minimal_families.specs.Least.{IsLeastFor, IsLeastFor-same, IsLeastFor-itself, IsLeastOfAll, IsLeastProductOfAll, IsLeastUnion}
 use Rattle.minimal_families.specs.Steps.{or_of}
 use Rattle.family_memory.specs.Memory.{Held, Has, IsSound, Went, Gave, RanOut, family_in, map_of}
-use Rattle.family_memory.specs.After.{Gave-there, Went-then, still, still_has}
+use Rattle.family_memory.specs.After.{Gave-there, Went-then, still}
 use Rattle.many_families.specs.Lists.{families}
-use Rattle.minimal_nodes.specs.Gates.{first_hit, gate_hit, IsLeastOfGate}
+use Rattle.minimal_nodes.specs.Gates.{IsLeastOfGate}
 use Rattle.fault_model.specs.CutFamily.{IsCutFamily}
 use Rattle.fault_model.specs.Tree.{FaultTree, IsGateOf, IsNodeOf, IsUnitOf, kind_of}
 use Rattle.fault_model.specs.Trigger.{below}

@@ -16,7 +16,7 @@ use Rattle.family_operations.specs.Hits.{hits, hit_count}
 use Rattle.minimal_families.specs.Least.{IsLeastFor, IsLeastFor-same, minimal-from_hits}
 use Rattle.minimal_nodes.specs.Gates.{first_hit, gate_hit, IsLeastOfGate}
 use Rattle.fault_model.specs.RankLaws.{below_are_nodes}
-use Rattle.tree_families.specs.Building.{all_generate, gate_below, gate_is_node, unit_below, unit_is_node}
+use Rattle.tree_families.specs.Building.{all_generate, gate_below, unit_below}
 use Rattle.tree_families.specs.CutFamilies.{cut_family-minimal}
 use Rattle.tree_families.specs.FailingSets.{Generates-cut_family}
 use Rattle.tree_families.specs.Generation.{Generates}

@@ -1,10 +1,9 @@
 -- The answers that are known at once are right.
-use Rattle.std.proofs.Common.{◌≡◌, ◌≢◌, ℕ, ◌<◌, ◌≤◌, List, [], ◌∷◌, Contains, length, refl, sym, ◌∙◌, ap, subst, inl, inr, arith}
+use Rattle.std.proofs.Common.{◌≡◌, ◌≢◌, ℕ, ◌<◌, ◌≤◌, List, [], ◌∷◌, Contains, refl, sym, ◌∙◌, ap, subst, inl, inr, arith}
 use Rattle.zdd_words.specs.Word.{level_of, lo_of, hi_of}
 use Rattle.zdd_families.specs.Map.{IsNode, family-empty, family-unit, family-node}
 use Rattle.zdd_families.specs.Canonical.{lo_units, hi_units, hi_filled}
 use Rattle.family_operations.specs.Without.{IsWithout, without-none, without-nothing, without-unit}
-use Rattle.family_parts.specs.Antichains.{IsAntichain}
 use Rattle.minimal_families.specs.Least.{IsLeastUnion, IsLeastProduct}
 use Rattle.minimal_families.specs.Ends.{least_union-swap, least_product-swap, least_union-none, least_union-itself, least_union-unit, least_product-none, least_product-itself, least_product-unit, without-itself, unit-left, no_empty_set}
 use Rattle.family_memory.specs.Memory.{Held, Has, IsSound, family_in, map_of}

@@ -1,10 +1,10 @@
 -- A reference at a unit below all its units, and nodes without sets that have their level.
-use Rattle.std.proofs.Common.{◌≡◌, ◌≢◌, ℕ, ◌<◌, ◌≤◌, List, [], length, refl, sym, ◌∙◌, ap, subst, inl, inr, arith}
+use Rattle.std.proofs.Common.{◌≡◌, ◌≢◌, ℕ, ◌<◌, ◌≤◌, List, sym, ◌∙◌, ap, subst, inl, inr, arith}
 use Rattle.std.proofs.lemmas.Bool.{cases_lt}
 use Rattle.unit_sets.specs.Unit.{IsUnit}
 use Rattle.zdd_words.specs.Word.{level_of}
 use Rattle.zdd_words.specs.declared.word.Parts.{Parts}
-use Rattle.zdd_families.specs.Family.{IsAbove, branch}
+use Rattle.zdd_families.specs.Family.{branch}
 use Rattle.zdd_families.specs.Map.{level_in, level_in-terminal, level_in-inner, IsBounded-closed, family-empty}
 use Rattle.family_operations.specs.Cuts.{Cuts, cut_above, branch-none}
 use Rattle.family_operations.specs.Without.{IsWithout, without-lower}

@@ -1,6 +1,6 @@
 -- A minimal product by the parts of nodes.
-use Rattle.std.proofs.Common.{Result, MatchResult, ◌≡◌, ℕ, ◌-◌, ◌<◌, ◌≤◌, List, sym, ◌∙◌, subst, arith}
-use Rattle.zdd_families.specs.Family.{IsAbove, branch}
+use Rattle.std.proofs.Common.{Result, MatchResult, ◌≡◌, ℕ, ◌-◌, ◌<◌, List, sym, ◌∙◌, subst, arith}
+use Rattle.zdd_families.specs.Family.{IsAbove}
 use Rattle.zdd_families.specs.Map.{level_in}
 use Rattle.zdd_words.specs.declared.word.Parts.{Parts}
 use Rattle.family_operations.specs.Cuts.{Cuts}
@@ -8,7 +8,7 @@ use Rattle.family_operations.specs.Without.{IsWithout}
 use Rattle.minimal_families.specs.Least.{IsLeastUnion, IsLeastProduct}
 use Rattle.minimal_families.specs.Steps.{IsLeastSides, least_sides, least_sides-above, least_union-above, least_product-above, least_product-both, least_product-first, least_product-rest}
 use Rattle.family_memory.specs.Memory.{Held, Has, IsSound, IsNodeOf, Went, Gave, RanOut, family_in, map_of}
-use Rattle.family_memory.specs.After.{Went-then, above, ended, is_family, level_above, still, still_has, at_both, at_start}
+use Rattle.family_memory.specs.After.{Went-then, above, ended, level_above, still, still_has, at_start}
 use Rattle.minimal_operations.specs.Halves.{ArePartsAbove}
 use Rattle.minimal_operations.specs.Rests.{IsRidBranch}
 use Rattle.minimal_operations.proofs.Steps.{above_still, fewer_of_both, fewer_than_level, levels_of_both}

@@ -4,8 +4,8 @@ use Rattle.zdd_families.specs.Family.{IsAbove, branch}
 use Rattle.family_operations.specs.Without.{IsWithout, without-above}
 use Rattle.family_parts.specs.Antichains.{IsAntichain}
 use Rattle.minimal_families.specs.Nodes.{antichain-branch, antichain-without, none_left}
-use Rattle.family_memory.specs.Memory.{Held, Has, IsSound, Went, Gave, RanOut, family_in}
-use Rattle.family_memory.specs.After.{ended, still, still_has}
+use Rattle.family_memory.specs.Memory.{Held, Has, IsSound, Gave, RanOut, family_in}
+use Rattle.family_memory.specs.After.{ended, still}
 use Rattle.minimal_operations.specs.Rests.{IsRidBranch}
 
 module _ (s0 : Held) (x lo all other : ℕ) (sound : IsSound s0) (has_lo : Has s0 lo) (has_all : Has s0 all) (lo_above : IsAbove x (family_in s0 lo)) (all_above : IsAbove x (family_in s0 all))

@@ -1,5 +1,5 @@
 -- The family of one set with one unit.
-use Rattle.std.proofs.Common.{Result, MatchResult, IfOk, IfErr, Ok, Err, ◌≡◌, ℕ, ◌<◌, ◌≤◌, List, [], ◌∷◌, length, refl, sym, ◌∙◌, ap, subst, arith}
+use Rattle.std.proofs.Common.{Result, MatchResult, IfOk, IfErr, Ok, Err, ◌≡◌, ℕ, [], ◌∷◌, refl, sym, ◌∙◌, ap, subst, arith}
 use Rattle.zdd_families.specs.Family.{IsAbove, branch}
 use Rattle.zdd_families.specs.Map.{family-empty, family-unit}
 use Rattle.family_operations.specs.Minimal.{minimal-none, minimal-unit}

@@ -1,10 +1,9 @@
 -- Facts of families and levels over what a memory holds one call after another.
-use Rattle.std.proofs.Common.{◌≡◌, ℕ, ◌-◌, ◌<◌, ◌≤◌, ◌⊎◌, min, List, sym, ◌∙◌, subst, inl, inr, arith}
+use Rattle.std.proofs.Common.{◌≡◌, ℕ, ◌-◌, ◌<◌, ◌≤◌, min, sym, subst, arith}
 use Rattle.unit_sets.specs.Unit.{IsUnit}
-use Rattle.zdd_families.specs.Family.{IsAbove}
 use Rattle.zdd_families.specs.Map.{level_in}
-use Rattle.family_memory.specs.Memory.{Held, Has, IsSound, Went, family_in, map_of}
-use Rattle.family_memory.specs.After.{still, still_has, still_level}
+use Rattle.family_memory.specs.Memory.{Held, Has, IsSound, Went, map_of}
+use Rattle.family_memory.specs.After.{still_level}
 
 module _ (before after : Held) (sound : IsSound before) (went : Went before after) where
   pub above_still : (x r : ℕ) → Has before r → x < level_in (map_of before) r → x < level_in (map_of after) r

@@ -1,6 +1,6 @@
 -- A minimal union by the parts of nodes.
-use Rattle.std.proofs.Common.{Result, MatchResult, ◌≡◌, ℕ, ◌<◌, ◌≤◌, List, sym, ◌∙◌, subst, arith}
-use Rattle.zdd_families.specs.Family.{IsAbove, branch}
+use Rattle.std.proofs.Common.{Result, MatchResult, ◌≡◌, ℕ, ◌<◌, List, sym, ◌∙◌, subst, arith}
+use Rattle.zdd_families.specs.Family.{IsAbove}
 use Rattle.zdd_families.specs.Map.{level_in}
 use Rattle.zdd_words.specs.declared.word.Parts.{Parts}
 use Rattle.family_operations.specs.Cuts.{Cuts}
@@ -8,7 +8,7 @@ use Rattle.family_operations.specs.Without.{IsWithout}
 use Rattle.minimal_families.specs.Least.{IsLeastUnion}
 use Rattle.minimal_families.specs.Steps.{least_union-above, least_union-both, least_union-first, least_union-rest}
 use Rattle.family_memory.specs.Memory.{Held, Has, IsSound, IsNodeOf, Went, Gave, RanOut, family_in, map_of}
-use Rattle.family_memory.specs.After.{Went-then, above, ended, is_family, still, still_has, at_both, at_start, of_start}
+use Rattle.family_memory.specs.After.{Went-then, above, ended, is_family, still, at_both, at_start}
 use Rattle.minimal_operations.specs.Rests.{IsRidBranch}
 use Rattle.minimal_operations.proofs.Steps.{above_still, fewer_of_both, levels_of_both}
 

@@ -1,12 +1,11 @@
 -- What is left of a node without a family, by its parts: three inner rests, and a node of two of them.
-use Rattle.std.proofs.Common.{Result, MatchResult, ◌≡◌, ℕ, ◌<◌, List, sym, subst, arith}
+use Rattle.std.proofs.Common.{Result, MatchResult, ◌≡◌, ℕ, ◌<◌, sym, subst, arith}
 use Rattle.zdd_families.specs.Family.{IsAbove, branch}
-use Rattle.zdd_families.specs.Map.{level_in}
 use Rattle.zdd_words.specs.declared.word.Parts.{Parts}
 use Rattle.family_operations.specs.Without.{IsWithout, without-above, without-step}
 use Rattle.family_parts.specs.Antichains.{IsAntichain}
 use Rattle.minimal_families.specs.Nodes.{antichain-without}
-use Rattle.family_memory.specs.Memory.{Held, Has, IsSound, IsNodeOf, Went, Gave, RanOut, family_in, map_of}
+use Rattle.family_memory.specs.Memory.{Held, Has, IsSound, IsNodeOf, Went, Gave, RanOut, family_in}
 use Rattle.family_memory.specs.After.{Went-then, ended, level_above, still, still_has, at_start}
 use Rattle.minimal_operations.specs.declared.halves.Half.{Half}
 use Rattle.minimal_operations.specs.Halves.{IsHalf}

@@ -21,7 +21,13 @@ pub record Deck : Type 0 where
 -- the deck of a tree, its cut list, its crews and the opening margin
 abbrev pub deck_of : FaultTree → List (List ℕ) → List Crew → ℕ → Deck
 deck_of tree cuts crews margin = record {
-  opening = record { units = unit_count tree; cuts = cuts; margin = margin; supervisor = supervisor_of crews; held = nothing_held (unit_count tree) };
+  opening = record {
+    units = unit_count tree;
+    cuts = cuts;
+    margin = margin;
+    supervisor = supervisor_of crews;
+    held = nothing_held (unit_count tree);
+  };
   crews = crews;
   dockets = map (requests_of tree) crews;
 }
@@ -41,20 +47,22 @@ IsUsedUp board crew = served crew board.history ≡ length (docket_of board.deck
 -- a request of a crew with the decision on it
 abbrev pub entry_for : StandingView → CrewNo → ℕ → Option Request → Option Entry
 entry_for standing crew place None = None
-entry_for standing crew place (Some request) = Some (record { crew = crew; place = place; request = request; reply = reply_of standing crew request })
+entry_for standing crew place (Some request) =
+    Some (record { crew = crew; place = place; request = request; reply = reply_of standing crew request })
 
 -- the entry of a crew's next request, where one is left
 abbrev pub next_entry : BoardView → CrewNo → Option Entry
-next_entry board crew = entry_for (standing_of board) crew (served crew.0 board.history) (slice_get (docket_of board.deck.dockets crew.0) (served crew.0 board.history))
+next_entry board crew = entry_for (standing_of board) crew (served crew.0 board.history)
+    (slice_get (docket_of board.deck.dockets crew.0) (served crew.0 board.history))
 
 -- the board with one entry more, where there is one
 abbrev pub with_entry : BoardView → Option Entry → BoardView
 with_entry board None = board
 with_entry board (Some entry) = record board { history = board.history ++ entry ∷ [] }
 
--- What every board keeps: its history is legal, and whole up to what was served. An entry's place is within its crew's docket and its
--- request is one that the deck's standing may decide. Every crew that a reply names, and every holder, is one of the crews. The history
--- is not longer than all requests together.
+-- What every board keeps: its history is legal, and whole up to what was served. An entry's place is within its
+-- crew's docket and its request is one that the deck's standing may decide. Every crew that a reply names, and every
+-- holder, is one of the crews. The history is not longer than all requests together.
 pub record IsBoard (board : BoardView) : Type 0 where
   pub legal : IsLegal board.deck.opening board.history
   pub whole : IsWholeUpTo board.deck.dockets (λ crew. served crew board.history) board.history

@@ -16,12 +16,14 @@ standing_after standing (entry ∷ entries) = standing_after (after_entry standi
 -- each reply is the decision at what the entries before it leave
 abbrev pub IsLegal : StandingView → List Entry → Type 0
 IsLegal standing [] = Unit {0}
-IsLegal standing (entry ∷ entries) = (entry.reply ≡ reply_of standing entry.crew entry.request) × IsLegal (after_entry standing entry) entries
+IsLegal standing (entry ∷ entries) = (entry.reply ≡ reply_of standing entry.crew entry.request)
+    × IsLegal (after_entry standing entry) entries
 
 -- the entries of one crew, in order
 abbrev pub entries_of : ℕ → List Entry → List Entry
 entries_of crew [] = []
-entries_of crew (entry ∷ entries) = if entry.crew.0 == crew then entry ∷ entries_of crew entries else entries_of crew entries
+entries_of crew (entry ∷ entries) = if entry.crew.0 == crew then entry ∷ entries_of crew entries
+    else entries_of crew entries
 
 -- how many requests of a crew were served
 abbrev pub served : ℕ → List Entry → ℕ
@@ -35,12 +37,13 @@ docket_of dockets crew = get_or dockets crew []
 abbrev pub asked_by : List Entry → List (ℕ × Request)
 asked_by entries = map (λ (entry : Entry). (entry.place, entry.request)) entries
 
--- The entries of each crew are so many first requests of its docket, each once and in order, with places from 0 on; and all entries are of
--- the dockets' crews.
+-- The entries of each crew are so many first requests of its docket, each once and in order, with places from 0 on;
+-- and all entries are of the dockets' crews.
 pub record IsWholeUpTo (dockets : List (List Request)) (count : ℕ → ℕ) (history : List Entry) : Type 0 where
   pub crews : All (λ (entry : Entry). entry.crew.0 < length dockets) history
   pub within : (crew : ℕ) → count crew ≤ length (docket_of dockets crew)
-  pub each : (crew : ℕ) → asked_by (entries_of crew history) ≡ enumerate_from 0 (take (count crew) (docket_of dockets crew))
+  pub each : (crew : ℕ) → asked_by (entries_of crew history)
+      ≡ enumerate_from 0 (take (count crew) (docket_of dockets crew))
 
 -- up to the end of each docket
 abbrev pub IsWhole : List (List Request) → List Entry → Type 0

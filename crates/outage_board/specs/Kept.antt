@@ -17,8 +17,8 @@ left_in [] places = 0
 left_in (docket ∷ dockets) [] = 0
 left_in (docket ∷ dockets) (place ∷ places) = (length docket - place) + left_in dockets places
 
--- The standing is what the history leaves, each crew's next place is how many of its requests were served, the entries and what is left
--- are all requests, for whose entries there is room, and every request may be decided.
+-- The standing is what the history leaves, each crew's next place is how many of its requests were served, the
+-- entries and what is left are all requests, for whose entries there is room, and every request may be decided.
 pub record KeepsBoard (board : BoardView) (standing : StandingView) (next : List ℕ) (reserved : ℕ) : Type 0 where
   pub sound : IsBoard board
   pub leaves : standing ≡ standing_of board

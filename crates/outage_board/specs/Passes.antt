@@ -31,7 +31,11 @@ entries_made [] = []
 entries_made (made ∷ crews) = made.entries
 
 abbrev pub pass_of : TableId → View → CrewNo → Pass
-pass_of table v crew = record { board = record { table = table; deck = v.opened.deck }; crew = crew; made = entries_made v.crews }
+pass_of table v crew = record {
+  board = record { table = table; deck = v.opened.deck };
+  crew = crew;
+  made = entries_made v.crews;
+}
 
 -- what the fields of a pass keep: it has its crew alone, has not the turn and holds no state
 pub record IsPass (me : Me BoardView View) (crew : CrewNo) : Type 0 where

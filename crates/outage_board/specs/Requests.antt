@@ -1,5 +1,6 @@
 -- What the crews of a deck ask of a board, by the units of the deck's tree.
-use Rattle.std.specs.Prelude.{ℕ, suc, Bool, nat_le, List, [], ◌∷◌, map, Option, Some, None, is_none, if◌then◌else◌, codes}
+use Rattle.std.specs.Prelude.{ℕ, suc, Bool, nat_le, List, [], ◌∷◌, map, Option, Some, None, is_none, if◌then◌else◌}
+use Rattle.std.specs.Prelude.{codes}
 use Rattle.std.specs.List.{list_any}
 use Rattle.unit_sets.specs.declared.request.CrewNo.{CrewNo}
 use Rattle.fault_model.specs.Tree.{FaultTree, unit_count}
@@ -13,7 +14,8 @@ use Rattle.margin_policy.specs.declared.request.Request.TheVariants.{Take, Retur
 -- the number of the first of some names that is a given one, counted from a number on
 abbrev pub number_from : ℕ → List (List ℕ) → List ℕ → Option ℕ
 number_from number [] name = None
-number_from number (other ∷ names) name = if same_name other name then Some number else number_from (suc number) names name
+number_from number (other ∷ names) name = if same_name other name then Some number
+    else number_from (suc number) names name
 
 -- a node, where it is a unit
 abbrev pub only_unit : FaultTree → Option ℕ → Option ℕ
@@ -49,7 +51,8 @@ requests_of tree crew = map (request_of tree) crew.docket
 -- the number of the first crew with a name, counted from a number on
 abbrev pub crew_from : ℕ → List Crew → List ℕ → Option CrewNo
 crew_from number [] name = None
-crew_from number (crew ∷ crews) name = if same_name crew.name name then Some (record { 0 = number }) else crew_from (suc number) crews name
+crew_from number (crew ∷ crews) name = if same_name crew.name name then Some (record { 0 = number })
+    else crew_from (suc number) crews name
 
 -- the crew that is named `supervisor`
 abbrev pub supervisor_of : List Crew → Option CrewNo

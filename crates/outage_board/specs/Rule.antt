@@ -44,7 +44,8 @@ pub record Busy (history : List Entry) (s : State BoardView View) : Type 0 where
   pub crew : 0 < length view.crews
   pub others : (other : ℕ) (v : View) → other ≢ seat → get_elem? s.views other ≡ some v → v.turn ≡ false
 
--- what a pass knows: the opened deck, some of its crews, and for each of them all entries of the one history that are its own
+-- what a pass knows: the opened deck, some of its crews, and for each of them all entries of the one history that are
+-- its own
 pub record Knows (deck : Deck) (history : List Entry) (v : View) : Type 0 where
   pub opened : v ≢ spent → v.opened.deck ≡ deck
   pub crews : All (λ (made : Made). made.crew < length deck.crews) v.crews

@@ -11,8 +11,8 @@ use Rattle.outage_board.specs.Histories.{standing_after}
 abbrev pub IsJudgedGrant : Entry → Type 0
 IsJudgedGrant entry = (is_judged entry.request ≡ true) × (entry.reply ≡ Granted)
 
--- After each of them every cut set keeps more members in service than the margin then in force. The standing after an entry is what the
--- history up to it leaves.
+-- After each of them every cut set keeps more members in service than the margin then in force. The standing after an
+-- entry is what the history up to it leaves.
 abbrev pub IsSafe : StandingView → List Entry → Type 0
 IsSafe opening history =
     (before : List Entry) (entry : Entry) (rest : List Entry) → history ≡ before ++ entry ∷ rest → IsJudgedGrant entry

@@ -17,7 +17,8 @@ pub record MayTake (deck : Deck) (me : Me BoardView View) : Type 0 where
   pub crew : 0 < length me.0.crews
   pub holds_none : me.1 ≡ []
 
--- the pass has the turn and holds the state, a state of the opened deck, whose history has of its crews what was made with it
+-- the pass has the turn and holds the state, a state of the opened deck, whose history has of its crews what was made
+-- with it
 pub record HasTaken (before after : Me BoardView View) : Type 0 where
   pub history : List Entry
   pub view : after.0 ≡ holding history before.0
@@ -27,7 +28,8 @@ pub record HasTaken (before after : Me BoardView View) : Type 0 where
 
 -- the history that goes back is what was taken, or has one entry more, of a crew of the pass
 abbrev pub MayFollow : View → List Entry → Type 0
-MayFollow v history = (history ≡ v.taken) ⊎ ((entry : Entry) × (history ≡ v.taken ++ entry ∷ []) × (0 < times_of entry.crew.0 v.crews))
+MayFollow v history = (history ≡ v.taken)
+    ⊎ ((entry : Entry) × (history ≡ v.taken ++ entry ∷ []) × (0 < times_of entry.crew.0 v.crews))
 
 -- the pass may give the turn back: it has it, and holds a state of the opened deck
 pub record MayGive (deck : Deck) (me : Me BoardView View) : Type 0 where

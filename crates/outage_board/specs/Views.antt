@@ -13,13 +13,22 @@ nothing_made number (suc count) = record { crew = number; entries = [] } ∷ not
 
 -- the first pass of a board has all crews
 abbrev pub first_view : BoardView → View
-first_view opened = record { opened = opened; crews = nothing_made 0 (length opened.deck.crews); turn = false; taken = [] }
+first_view opened = record {
+  opened = opened;
+  crews = nothing_made 0 (length opened.deck.crews);
+  turn = false;
+  taken = [];
+}
 
 -- what a joined pass leaves behind
 abbrev pub spent : View
 spent = record {
   opened = record {
-    deck = record { opening = record { units = 0; cuts = []; margin = 0; supervisor = None; held = [] }; crews = []; dockets = [] };
+    deck = record {
+      opening = record { units = 0; cuts = []; margin = 0; supervisor = None; held = [] };
+      crews = [];
+      dockets = [];
+    };
     history = [];
   };
   crews = [];

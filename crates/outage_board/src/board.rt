@@ -1,5 +1,6 @@
 //! The board that threads share: its state stands in a slot, to which one word gives the turn.
-ghost use Rattle.std.specs.Prelude.{◌≡◌, ◌↔◌, ◌<◌, ◌≤◌, [], ◌∷◌, ◌++◌, length, slice_get, Some, IfOk, IfSome, IfNone, IsNone};
+ghost use Rattle.std.specs.Prelude.{◌≡◌, ◌↔◌, ◌<◌, ◌≤◌, [], ◌∷◌, ◌++◌, length, slice_get, Some, IfOk, IfSome, IfNone};
+ghost use Rattle.std.specs.Prelude.{IsNone};
 ghost use Rattle.residual_ledger.specs.Residual.{HasUnitsUpTo};
 ghost use Rattle.fault_model.specs.Tree.{unit_count};
 ghost use Rattle.outage_board.specs.Histories.{docket_of};
@@ -44,8 +45,8 @@ pub struct BoardStart {
 }
 
 impl Board {
-    /// A board of a deck with the empty history, and one pass for each crew in the order of the crews. Nothing else of a board takes
-    /// memory.
+    /// A board of a deck with the empty history, and one pass for each crew in the order of the crews. Nothing else
+    /// of a board takes memory.
     pub fn open(
         alloc: Global,
         tree: &Tree,
@@ -72,17 +73,19 @@ impl Board {
         })
     }
 
-    /// Waits for the turn, serves the next request of the pass's crew, and gives the turn back. None exactly where as many entries were
-    /// made with the pass as its crew's docket has requests. Takes no memory.
+    /// Waits for the turn, serves the next request of the pass's crew, and gives the turn back. None exactly where as
+    /// many entries were made with the pass as its crew's docket has requests. Takes no memory.
     pub fn serve<W: Wait>(&self, rt: &W, pass: &mut CrewPass) -> Option<Entry>
         requires own { pass.old.board ≡ self.now }
-        ensures none { IsNone result ↔ (length pass.old.made ≡ length (docket_of self.now.deck.dockets pass.old.crew.0)) }
+        ensures none { IsNone result ↔ (length pass.old.made
+            ≡ length (docket_of self.now.deck.dockets pass.old.crew.0)) }
         ensures unchanged { IfNone result (pass.new ≡ pass.old) }
         ensures board { pass.new.board ≡ pass.old.board }
         ensures same_crew { pass.new.crew ≡ pass.old.crew }
         ensures crew { IfSome result (λ entry. entry.crew ≡ pass.old.crew) }
         ensures place { IfSome result (λ entry. entry.place ≡ length pass.old.made) }
-        ensures request { IfSome result (λ entry. slice_get (docket_of self.now.deck.dockets pass.old.crew.0) entry.place ≡ Some entry.request) }
+        ensures request { IfSome result (λ entry.
+            slice_get (docket_of self.now.deck.dockets pass.old.crew.0) entry.place ≡ Some entry.request) }
         ensures made { IfSome result (λ entry. pass.new ≡ record pass.old { made = pass.old.made ++ entry ∷ [] }) }
     {
         let entry = serve_in_turn(rt, &self.table.shared, &mut pass.seat, pass.crew);

@@ -1,3 +1,4 @@
+//! What one crew asks, by the units of the tree.
 ghost use Rattle.std.specs.Prelude.{◌≡◌, [], ◌∷◌, ◌++◌, IfOk, OnOk};
 
 use margin_policy::Request;

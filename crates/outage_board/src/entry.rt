@@ -1,3 +1,4 @@
+//! What a history is made of.
 use margin_policy::{Reply, Request};
 use unit_sets::CrewNo;
 

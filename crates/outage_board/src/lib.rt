@@ -1,8 +1,9 @@
 //! The outage board: one history of decided requests, which the crews of a deck make together.
 //!
-//! It stands on `crew_script` for the crews and what they ask, and on `margin_policy` for the decision. A contract sees a `BoardState` as
-//! the deck that it was opened for and its history, and every board keeps that the history is legal and has the requests of each docket
-//! in order, each once. So the layer above gets, for each call of `serve`, the one entry that the definition names.
+//! It stands on `crew_script` for the crews and what they ask, and on `margin_policy` for the decision. A contract
+//! sees a `BoardState` as the deck that it was opened for and its history, and every board keeps that the history is
+//! legal and has the requests of each docket in order, each once. So the layer above gets, for each call of `serve`,
+//! the one entry that the definition names.
 #![tactic(auto)]
 
 mod board;

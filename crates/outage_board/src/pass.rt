@@ -22,7 +22,8 @@ impl Model for CrewPass {
 
     ghost view = { λ pass. pass_of pass.seat.table_id pass.seat.me.0 pass.crew };
 
-    ghost invariant = { λ pass. IsPass pass.seat.me pass.crew × (pass.next ≡ length (entries_made pass.seat.me.0.crews)) };
+    ghost invariant = { λ pass. IsPass pass.seat.me pass.crew
+        × (pass.next ≡ length (entries_made pass.seat.me.0.crews)) };
 }
 
 impl CrewPass {

@@ -1,5 +1,6 @@
 //! The state of a board: a deck and the history so far.
-ghost use Rattle.std.specs.Prelude.{◌≡◌, ◌↔◌, ◌-◌, ◌<◌, ◌≤◌, [], ◌∷◌, ◌++◌, length, slice_get, Some, IfOk, IfSome, IsNone};
+ghost use Rattle.std.specs.Prelude.{◌≡◌, ◌↔◌, ◌-◌, ◌<◌, ◌≤◌, [], ◌∷◌, ◌++◌, length, slice_get, Some, IfOk, IfSome};
+ghost use Rattle.std.specs.Prelude.{IsNone};
 ghost use Rattle.residual_ledger.specs.Residual.{HasUnitsUpTo};
 ghost use Rattle.fault_model.specs.Tree.{unit_count};
 ghost use Rattle.outage_board.specs.Histories.{served, docket_of};
@@ -14,8 +15,8 @@ use std::alloc::Global;
 use std::marker::{Model, PhantomData};
 use unit_sets::{CrewNo, CutList, NoMemory, UnitNo};
 
-/// The deck of a board and its history. Every board keeps that its history is legal, and that the entries of each crew are the first
-/// requests of its docket, each once and in order.
+/// The deck of a board and its history. Every board keeps that its history is legal, and that the entries of each
+/// crew are the first requests of its docket, each once and in order.
 ///
 /// Only `open` takes memory.
 #[derive(Drop)]
@@ -38,9 +39,23 @@ impl Model for BoardState {
 
     ghost Value = { BoardView };
 
-    ghost view = { λ s. record { deck = record { opening = emptied s.opening_margin s.standing; crews = s.dockets; dockets = s.requests.items }; history = s.history.items } };
+    ghost view = { λ s. record {
+      deck = record {
+        opening = emptied s.opening_margin s.standing;
+        crews = s.dockets;
+        dockets = s.requests.items;
+      };
+      history = s.history.items;
+    } };
 
-    ghost invariant = { λ s. KeepsBoard (record { deck = record { opening = emptied s.opening_margin s.standing; crews = s.dockets; dockets = s.requests.items }; history = s.history.items }) s.standing s.places.items (vec_capacity s.history) };
+    ghost invariant = { λ s. KeepsBoard (record {
+      deck = record {
+        opening = emptied s.opening_margin s.standing;
+        crews = s.dockets;
+        dockets = s.requests.items;
+      };
+      history = s.history.items;
+    }) s.standing s.places.items (vec_capacity s.history) };
 }
 
 impl BoardState {
@@ -56,7 +71,10 @@ impl BoardState {
     ) -> Result<BoardState, NoMemory>
         requires known { HasUnitsUpTo (unit_count tree.now) cuts.now }
         requires margin { margin ≤ 4095 }
-        ensures { IfOk result (λ board. board ≡ record { deck = deck_of tree.now cuts.now dockets.now margin; history = [] }) }
+        ensures { IfOk result (λ board. board ≡ record {
+          deck = deck_of tree.now cuts.now dockets.now margin;
+          history = [];
+        }) }
     {
         let kept = dockets.copied(alloc)?;
         let supervisor = supervisor_of(dockets);
@@ -102,8 +120,8 @@ impl BoardState {
         self.history.push_reserved(*entry);
     }
 
-    /// Decides a crew's next request, applies the reply and adds the entry to the history. None exactly where the crew's docket is used
-    /// up, and then nothing changes.
+    /// Decides a crew's next request, applies the reply and adds the entry to the history. None exactly where the
+    /// crew's docket is used up, and then nothing changes.
     pub fn serve(&mut self, crew: CrewNo) -> Option<Entry>
         requires crew { crew.0 < length self.old.deck.crews }
         ensures entry { result ≡ next_entry self.old crew }

@@ -10,18 +10,12 @@ use crate::state::BoardState;
 use crate::turns::{FREE, Place};
 use crate::view::View;
 use atomic_table::{Closed, Refused, Table};
-use std::alloc::{AllocError, Global};
+use std::alloc::{AllocFailed, Global};
 use std::snapshot::Snapshot;
 use unit_sets::NoMemory;
 
 /// One word, which gives the turn, and one slot, which holds the state.
 pub(crate) type BoardTable = Table<BoardState, View, Snapshot<BoardState>, TurnRule, Global>;
-
-// A table that could not be made for want of memory gives its slots back, and says no more.
-fn want_of_memory(refused: Refused<BoardState, Global>) -> AllocError {
-    drop(refused);
-    AllocError
-}
 
 /// The table of a board without history, whose turn is free, and a place at it that has all crews.
 pub(crate) fn laid(alloc: Global, state: BoardState) -> Result<(BoardTable, Place), NoMemory>
@@ -37,7 +31,8 @@ pub(crate) fn laid(alloc: Global, state: BoardState) -> Result<(BoardTable, Plac
     slots.push_reserved(state);
     match Table::new(alloc, &[FREE], slots, &opened) {
         Ok(made) => Ok(made),
-        Err(refused) => Err(want_of_memory(refused))?,
+        // The slots come back for want of memory, as its value does where a push fails.
+        Err(Refused { slots }) => Err(AllocFailed { value: slots })?,
     }
 }
 

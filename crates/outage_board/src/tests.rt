@@ -236,7 +236,8 @@ fn errors_are_named(rt: HostRuntime) -> Result<(), Fail> {
 fn the_supervisor_changes_the_margin(rt: HostRuntime) -> Result<(), Fail> {
     let alloc = rt.alloc();
     let text =
-        b"crew supervisor\ntake A C\nmargin 1\nreturn A\nmargin 1\nreturn C\nmargin 1\ntake A\nmargin 0\ntake A B\ntake C A\ntake B Z\ntake B A\n";
+        b"crew supervisor\ntake A C\nmargin 1\nreturn A\nmargin 1\nreturn C\nmargin 1\ntake A\n\
+        margin 0\ntake A B\ntake C A\ntake B Z\ntake B A\n";
     let dockets = dockets_of(alloc, text.as_slice())?;
     let mut board = board_of_pairs(alloc, &dockets)?;
     check_replies(
@@ -284,7 +285,17 @@ fn readers_tell_the_board(rt: HostRuntime) -> Result<(), Fail> {
             (0, Some(Reply::AlreadyOut(CrewNo(1)))),
         ],
     )?;
-    assert_eq!(rt; board.entries().len(), 2);
+    let [first, second] = board.entries() else {
+        return Err("not two entries".into());
+    };
+    assert_eq!(rt;
+        (first.crew.0, first.place, first.reply),
+        (1, 0, Reply::Granted)
+    );
+    assert_eq!(rt;
+        (second.crew.0, second.place, second.reply),
+        (0, 0, Reply::AlreadyOut(CrewNo(1)))
+    );
     assert_eq!(rt; board.dockets().total(), 3);
     Ok(())
 }

@@ -89,10 +89,12 @@ pub(crate) fn serve_in_turn<W: Wait>(
     requires word { 0 < words.now.table_id.words }
     requires deck { place.old.me.0.opened.deck ≡ words.now.key.value.deck }
     requires pass { IsPass place.old.me crew }
-    ensures none { IsNone result ↔ (length (entries_made place.old.me.0.crews) ≡ length (docket_of place.old.me.0.opened.deck.dockets crew.0)) }
+    ensures none { IsNone result ↔ (length (entries_made place.old.me.0.crews)
+        ≡ length (docket_of place.old.me.0.opened.deck.dockets crew.0)) }
     ensures crew { IfSome result (λ entry. entry.crew ≡ crew) }
     ensures place { IfSome result (λ entry. entry.place ≡ length (entries_made place.old.me.0.crews)) }
-    ensures request { IfSome result (λ entry. slice_get (docket_of place.old.me.0.opened.deck.dockets crew.0) entry.place ≡ Some entry.request) }
+    ensures request { IfSome result (λ entry.
+        slice_get (docket_of place.old.me.0.opened.deck.dockets crew.0) entry.place ≡ Some entry.request) }
     ensures low { IfSome result (λ entry. entry.place < 100000) }
     ensures made { entries_made place.new.me.0.crews ≡ made_with result (entries_made place.old.me.0.crews) }
     ensures opened { place.new.me.0.opened ≡ place.old.me.0.opened }

@@ -19,7 +19,7 @@ use Rattle.outage_engine.specs.Answers.{IsCutsAnswer, IsCutsAnswerTo, IsListingO
 use Rattle.outage_engine.specs.Deck.{StandsFor}
 use Rattle.outage_engine.specs.Finding.{Finds, Found, Ready, TooHeavy, TooManyOrders, Wants, judged, wanted_crews, well_formed}
 use Rattle.outage_engine.specs.Gives as gives
-use Rattle.outage_engine.specs.Gives.{Gives, IsBeyond, OfInput, asked, wanted, wants_of}
+use Rattle.outage_engine.specs.Gives.{Gives, OfInput, asked, wants_of}
 use Rattle.outage_engine.specs.Texts.{IsCutsText, cuts_said, for_cuts}
 use Rattle.outage_engine.proofs.Clauses.{of_input}
 

@@ -13,7 +13,7 @@ use Rattle.outage_engine.specs.declared.status.Method.{Method}
 use Rattle.outage_engine.specs.Finding.{Finding, Finds, Faulty, TooHeavy, TooManyOrders, Ready, Wants}
 use Rattle.outage_engine.specs.Gives.{Gives, IsBeyond, OfInput, asked, wanted, wants_of, usage, help, read_fault, too_long, refused, list_limit, order_limit, cuts, board}
 use Rattle.outage_engine.specs.Runs as runs
-use Rattle.outage_engine.specs.Runs.{Answers, AreReading, Fails, HasFound, IsDone, Runs, Writes, WritesFront}
+use Rattle.outage_engine.specs.Runs.{Answers, AreReading, Fails, HasFound, IsDone, Runs}
 use Rattle.outage_engine.specs.Safety.{IsSafeText}
 use Rattle.outage_engine.specs.Texts.{IsBoardText, IsCutsText, for_board, for_cuts}
 use Rattle.outage_engine.proofs.OneFinding.{one_finding}

@@ -7,3 +7,4 @@ mod Writable
 mod Answering
 mod Serving
 mod Relating
+mod SomeFinding

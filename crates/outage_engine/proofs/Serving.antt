@@ -28,7 +28,7 @@ use Rattle.outage_engine.specs.Answers.{IsRefusalOf, found_in, listing_text, sta
 use Rattle.outage_engine.specs.Deck.{IsTreeFault, StandsFor}
 use Rattle.outage_engine.specs.Finding.{Finds, Found, Faulty, Wants, wanted_crews, bad_tree, bad_crews}
 use Rattle.outage_engine.specs.Gives as gives
-use Rattle.outage_engine.specs.Gives.{Gives, IsBeyond, OfInput, asked, wanted, wants_of}
+use Rattle.outage_engine.specs.Gives.{Gives, OfInput, asked, wants_of}
 use Rattle.outage_engine.specs.Safety.{IsSafeText}
 use Rattle.outage_engine.specs.Texts.{board_deck, board_said, cuts_said, for_board}
 use Rattle.outage_engine.proofs.Bearing.{bears_throughout}

@@ -9,13 +9,21 @@ ghost use Rattle.outage_engine.specs.Relations.{AreCrewsOf, IsFaultIn, IsTreeOf}
 ghost use Rattle.outage_engine.specs.Finding.{Finding, Finds, Wants};
 
 use crew_script::laws::{crew_part_has_one_answer, crews_or_first_fault, decks_are_divided_once};
+use fault_model::laws::each_tree_has_one_cut_list;
 use galileo_lexer::{reads_its_text, reads_one_way};
 use galileo_tree::{parses_its_text, parses_one_way};
+use tree_check::some_tree_or_some_fault;
 
-/// A deck has one finding at most for what a command wants of it: its first fault, a limit that is passed, or its tree, cut list and crews.
+/// A deck has exactly one finding for what a command wants of it: its first fault, a limit that is passed, or its tree, cut list and crews.
 pub fn a_deck_has_one_finding()
-    ensures { (wants : Wants) (bytes : List ℕ) (one two : Finding) → Finds wants bytes one → Finds wants bytes two → one ≡ two }
-{}
+    ensures some { (wants : Wants) (bytes : List ℕ) → (finding : Finding) × Finds wants bytes finding }
+    ensures one { (wants : Wants) (bytes : List ℕ) (one two : Finding) → Finds wants bytes one → Finds wants bytes two → one ≡ two }
+{
+    parses_its_text();
+    some_tree_or_some_fault();
+    crews_or_first_fault();
+    each_tree_has_one_cut_list();
+}
 
 /// What a deck stands for, and the first fault of its tree part, are what the relations between whole lists say: of the line that divides
 /// it, of tokens, of statements, and of the tree of statements. And so are the crews of its crew part, or the first line's fault.

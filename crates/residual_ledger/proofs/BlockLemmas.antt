@@ -1,274 +1,522 @@
--- The least count of each block.
-use Rattle.std.proofs.Common.{◌≡◌, ◌≢◌, ℕ, suc, ◌+◌, ◌*◌, ◌/◌, ◌^◌, ◌<◌, ◌≤◌, min, true, false, List, [], ◌∷◌, ◌++◌, length, take, set, get_or, All, refl, sym, ◌∙◌, ap, subst, arith, inl, inr, drop, ◌==◌, eqb-true, length-append, length-set, get_or-set_same, get_or-set_other}
-use Rattle.std.proofs.lemmas.Bool.{cases_eq, cases_lt, cases_Bool, or_cases}
-use Rattle.std.proofs.lemmas.List.{drop_more, drop_all, take_all, get_or_push, get_or_append_left}
+-- The least count of each block, and a place where it stands.
+use Rattle.std.proofs.Common.{◌≡◌, ◌≢◌, ℕ, suc, ◌+◌, ◌-◌, ◌*◌, ◌/◌, ◌^◌, ◌<◌, ◌≤◌, min, true, false, List, [], ◌∷◌, ◌++◌}
+use Rattle.std.proofs.Common.{length, take, set, get_or, All, refl, sym, ◌∙◌, ap, subst, arith, inl, inr, length-append}
+use Rattle.std.proofs.Common.{Bool, ◌==◌, length-set, get_or-set_same, get_or-set_other}
+use Rattle.std.specs.Ordering.{nat_cmp}
+use Rattle.std.specs.declared.cmp.Ordering.TheVariants.{Less}
+use Rattle.std.proofs.lemmas.Bool.{cases_eq, cases_lt, cases_Bool}
+use Rattle.std.proofs.lemmas.Bool.Decides.{nat_tests}
+use Rattle.std.proofs.lemmas.List.{take_all, get_or_push, get_or_append_left, get_or_default}
+use Rattle.std.proofs.lemmas.Map.Keys.{Less-from_sorted}
+use Rattle.unit_sets.specs.UnitList.{among, IsRising, Contains-from_among}
+use Rattle.residual_ledger.specs.Kept.{block_size, blocks_for, HasLeast, IsLowest, HasLowest}
+use Rattle.residual_ledger.specs.Kept.{IsNearLowest, HasLowestOutside, HasLowestApart, IsOneMore, IsFirstBetween}
+use Rattle.residual_ledger.specs.Kept.{IsFirstAtMost}
 use Rattle.residual_ledger.proofs.RowLemmas.{one_more-none, one_more-lower_at, one_more-later}
-use Rattle.unit_sets.specs.UnitList.{among, IsRising}
-use Rattle.residual_ledger.specs.Kept.{block_size, blocks_for, IsLeastOfBlock, HasLeast, HasLeastApart, IsOneMore, IsFirstAtMost}
+
+-- the least numbers alone
+pub HasLeast-lowest : (counts least lowest : List ℕ) → HasLowest counts least lowest → HasLeast counts least
+HasLeast-lowest counts least lowest has = record {
+  all = has.all;
+  each = λ block inside.
+      let own : IsLowest counts block (get_or least block 0) (get_or lowest block 0) = has.each block inside in
+      record { stands = (get_or lowest block 0, own.inside, own.at, own.has); below = own.below };
+}
+
+pub block_below : (counts least lowest : List ℕ) (place : ℕ) → HasLowest counts least lowest → place < length counts
+    → place / block_size < length least
+block_below counts least lowest place has short = omega (arith, has.all)
 
 -- ---- a count falls by one
 
--- the block of the count
-lowered_block : (counts : List ℕ) (place left least : ℕ) → place < length counts → get_or counts place 0 ≡ suc left → IsLeastOfBlock counts (place / block_size) least → IsLeastOfBlock (set counts place left) (place / block_size) (min least left)
-lowered_block counts place left least short is old = record {
-  stands = elim (cases_lt least left) [
-    | inl low ↦
-        let q : ℕ = old.stands.0 in
-        let apart : q ≢ place = λ e. absurd (omega (arith, is, old.stands.3, ap (λ k. get_or counts k 0) e)) in
-        let value : get_or (set counts place left) q 0 ≡ min least left = get_or-set_other counts place q left 0 apart ∙ old.stands.3 ∙ omega arith in
-        let within : q < length (set counts place left) = omega (arith, length-set counts place left, old.stands.1) in
-        (q, within, old.stands.2, value)
-    | inr not_low ↦
-        let value : get_or (set counts place left) place 0 ≡ min least left = get_or-set_same counts place left 0 short ∙ omega arith in
-        let within : place < length (set counts place left) = omega (arith, length-set counts place left) in
-        (place, within, refl, value)
-  ];
+-- the block of the count, where it falls below the least
+own_lower : (counts : List ℕ) (place left least low : ℕ) → place < length counts → left < least
+    → IsLowest counts (place / block_size) least low → IsLowest (set counts place left) (place / block_size) left place
+own_lower counts place left least low short less old = record {
+  inside = omega (arith, length-set counts place left);
+  at = refl;
+  has = get_or-set_same counts place left 0 short;
   below = λ k inside block. elim (cases_eq k place) [
-    | inl same ↦ let value : get_or (set counts place left) k 0 ≡ left = subst (λ (q : ℕ). get_or (set counts place left) q 0 ≡ left) (sym same) (get_or-set_same counts place left 0 short) in omega arith
-    | inr apart ↦ let shorter : k < length counts = omega (arith, length-set counts place left) in
+    | inl same ↦
+        let value : get_or (set counts place left) k 0 ≡ left =
+        ap (λ (q : ℕ). get_or (set counts place left) q 0) same ∙ get_or-set_same counts place left 0 short in
+        omega arith
+    | inr apart ↦
+        let shorter : k < length counts = omega (arith, length-set counts place left) in
         omega (arith, get_or-set_other counts place k left 0 apart, old.below k shorter block)
   ];
 }
 
--- another block
-other_block : (counts : List ℕ) (place value block least : ℕ) → block ≢ place / block_size → IsLeastOfBlock counts block least → IsLeastOfBlock (set counts place value) block least
-other_block counts place value block least apart old =
-    let far : (k : ℕ) → k / block_size ≡ block → k ≢ place = λ k at e. apart (sym at ∙ ap (λ q. q / block_size) e) in
+-- the block of the count, where it does not
+own_same : (counts : List ℕ) (place left least low : ℕ) → place < length counts → get_or counts place 0 ≡ suc left
+    → least ≤ left → IsLowest counts (place / block_size) least low
+    → IsLowest (set counts place left) (place / block_size) least low
+own_same counts place left least low short is most old =
+    let apart : low ≢ place = λ e. absurd (omega (arith, is, old.has, ap (λ k. get_or counts k 0) e)) in
     record {
-      stands =
-          let q : ℕ = old.stands.0 in
-          let within : q < length (set counts place value) = omega (arith, length-set counts place value, old.stands.1) in
-          (q, within, old.stands.2, get_or-set_other counts place q value 0 (far q old.stands.2) ∙ old.stands.3);
+      inside = omega (arith, length-set counts place left, old.inside);
+      at = old.at;
+      has = get_or-set_other counts place low left 0 apart ∙ old.has;
+      below = λ k inside block. elim (cases_eq k place) [
+        | inl same ↦
+            let value : get_or (set counts place left) k 0 ≡ left =
+            ap (λ (q : ℕ). get_or (set counts place left) q 0) same ∙ get_or-set_same counts place left 0 short in
+            omega arith
+        | inr other ↦
+            let shorter : k < length counts = omega (arith, length-set counts place left) in
+            omega (arith, get_or-set_other counts place k left 0 other, old.below k shorter block)
+      ];
+    }
+
+-- another block
+other_block : (counts : List ℕ) (place value block least low : ℕ) → block ≢ place / block_size
+    → IsLowest counts block least low → IsLowest (set counts place value) block least low
+other_block counts place value block least low apart old =
+    let far : (k : ℕ) → k / block_size ≡ block → k ≢ place =
+    λ k at e. apart (sym at ∙ ap (λ q. q / block_size) e) in
+    record {
+      inside = omega (arith, length-set counts place value, old.inside);
+      at = old.at;
+      has = get_or-set_other counts place low value 0 (far low old.at) ∙ old.has;
       below = λ k inside at.
           let shorter : k < length counts = omega (arith, length-set counts place value) in
           omega (arith, get_or-set_other counts place k value 0 (far k at), old.below k shorter at);
     }
 
-pub block_below : (counts least : List ℕ) (place : ℕ) → HasLeast counts least → place < length counts → place / block_size < length least
-block_below counts least place has short = omega (arith, has.all)
-
-pub lowered : (counts least : List ℕ) (place left : ℕ) → HasLeast counts least → place < length counts → get_or counts place 0 ≡ suc left → HasLeast (set counts place left) (set least (place / block_size) (min (get_or least (place / block_size) 0) left))
-lowered counts least place left has short is =
+pub lowered-low : (counts least lowest : List ℕ) (place left : ℕ) → HasLowest counts least lowest
+    → place < length counts → left < get_or least (place / block_size) 0
+    → HasLowest (set counts place left) (set least (place / block_size) left) (set lowest (place / block_size) place)
+lowered-low counts least lowest place left has short less =
     let own : ℕ = place / block_size in
-    let low : ℕ = min (get_or least own 0) left in
-    let there : own < length least = block_below counts least place has short in
+    let there : own < length least = block_below counts least lowest place has short in
+    let there' : own < length lowest = omega (arith, has.long) in
+    let counts' : List ℕ = set counts place left in
     record {
-      all = length-set least own low ∙ has.all ∙ ap blocks_for (sym (length-set counts place left));
+      all = length-set least own left ∙ has.all ∙ ap blocks_for (sym (length-set counts place left));
+      long = length-set lowest own place ∙ has.long ∙ sym (length-set least own left);
       each = λ block inside. elim (cases_eq block own) [
-        | inl same ↦ subst (λ (b : ℕ). IsLeastOfBlock (set counts place left) b (get_or (set least own low) b 0)) (sym same)
-            (subst (IsLeastOfBlock (set counts place left) own) (sym (get_or-set_same least own low 0 there))
-            (lowered_block counts place left (get_or least own 0) short is (has.each own there)))
+        | inl same ↦
+            subst (λ (b : ℕ). IsLowest counts' b (get_or (set least own left) b 0) (get_or (set lowest own place) b 0))
+            (sym same)
+            (subst (λ (n : ℕ). IsLowest counts' own n (get_or (set lowest own place) own 0))
+            (sym (get_or-set_same least own left 0 there))
+            (subst (λ (n : ℕ). IsLowest counts' own left n) (sym (get_or-set_same lowest own place 0 there'))
+            (own_lower counts place left (get_or least own 0) (get_or lowest own 0) short less (has.each own there))))
         | inr apart ↦
-            let inside' : block < length least = omega (arith, length-set least own low) in
-            subst (IsLeastOfBlock (set counts place left) block) (sym (get_or-set_other least own block low 0 apart))
-            (other_block counts place left block (get_or least block 0) apart (has.each block inside'))
+            let inside' : block < length least = omega (arith, length-set least own left) in
+            subst (λ (n : ℕ). IsLowest counts' block n (get_or (set lowest own place) block 0))
+            (sym (get_or-set_other least own block left 0 apart))
+            (subst (λ (n : ℕ). IsLowest counts' block (get_or least block 0) n)
+            (sym (get_or-set_other lowest own block place 0 apart))
+            (other_block counts place left block (get_or least block 0) (get_or lowest block 0) apart
+            (has.each block inside')))
       ];
     }
 
--- ---- counts rise, and the blocks that have one are looked through anew
+pub lowered-high : (counts least lowest : List ℕ) (place left : ℕ) → HasLowest counts least lowest
+    → place < length counts → get_or counts place 0 ≡ suc left → get_or least (place / block_size) 0 ≤ left
+    → HasLowest (set counts place left) least lowest
+lowered-high counts least lowest place left has short is most =
+    let own : ℕ = place / block_size in
+    let counts' : List ℕ = set counts place left in
+    record {
+      all = has.all ∙ ap blocks_for (sym (length-set counts place left));
+      long = has.long;
+      each = λ block inside. elim (cases_eq block own) [
+        | inl same ↦
+            let there : own < length least = omega arith in
+            subst (λ (b : ℕ). IsLowest counts' b (get_or least b 0) (get_or lowest b 0)) (sym same)
+            (own_same counts place left (get_or least own 0) (get_or lowest own 0) short is most (has.each own there))
+        | inr apart ↦
+            other_block counts place left block (get_or least block 0) (get_or lowest block 0) apart
+            (has.each block inside)
+      ];
+    }
 
-same_block : (counts counts' : List ℕ) (block least : ℕ) → length counts' ≡ length counts → ((k : ℕ) → k / block_size ≡ block → get_or counts' k 0 ≡ get_or counts k 0) → IsLeastOfBlock counts block least → IsLeastOfBlock counts' block least
-same_block counts counts' block least long same old = record {
-  stands =
-      let q : ℕ = old.stands.0 in
-      let within : q < length counts' = omega (arith, old.stands.1) in
-      (q, within, old.stands.2, same q old.stands.2 ∙ old.stands.3);
-  below = λ k inside at. let shorter : k < length counts = omega arith in omega (arith, same k at, old.below k shorter at);
+-- ---- along a row, counts fall
+
+-- the counts of the first sets of a row have fallen
+pub record IsLowering (row old counts least lowest : List ℕ) (i : ℕ) : Type 0 where
+  pub fallen : IsOneMore (take i row) counts old
+  pub blocks : HasLowest counts least lowest
+
+pub lowering-first : (row old least lowest : List ℕ) → HasLowest old least lowest
+    → IsLowering row old old least lowest 0
+lowering-first row old least lowest has = record { fallen = one_more-none old; blocks = has }
+
+-- which set of a row falls, and what it then has
+pub record IsFalling (row counts : List ℕ) (i place left : ℕ) : Type 0 where
+  pub rising : IsRising row
+  pub short : i < length row
+  pub at : place ≡ get_or row i 0
+  pub there : place < length counts
+  pub is : get_or counts place 0 ≡ suc left
+
+pub lowering-low : (row old counts least lowest : List ℕ) (i place left : ℕ) → IsFalling row counts i place left
+    → left < get_or least (place / block_size) 0 → IsLowering row old counts least lowest i
+    → IsLowering row old (set counts place left) (set least (place / block_size) left)
+    (set lowest (place / block_size) place) (i + 1)
+lowering-low row old counts least lowest i place left falls less was = record {
+  fallen = one_more-lower_at row counts old i place left falls.rising falls.short falls.at was.fallen falls.there falls.is;
+  blocks = lowered-low counts least lowest place left was.blocks falls.there less;
 }
 
-not_among : (row : List ℕ) (block k : ℕ) → k / block_size ≡ block → ((place : ℕ) → among row place ≡ true → place / block_size ≡ block → ⊥) → among row k ≡ false
+pub lowering-high : (row old counts least lowest : List ℕ) (i place left : ℕ) → IsFalling row counts i place left
+    → get_or least (place / block_size) 0 ≤ left → IsLowering row old counts least lowest i
+    → IsLowering row old (set counts place left) least lowest (i + 1)
+lowering-high row old counts least lowest i place left falls most was = record {
+  fallen = one_more-lower_at row counts old i place left falls.rising falls.short falls.at was.fallen falls.there falls.is;
+  blocks = lowered-high counts least lowest place left was.blocks falls.there falls.is most;
+}
+
+-- a set of the row has still what it had
+pub lowering-positive : (row old counts least lowest : List ℕ) (i place : ℕ) → IsRising row → i < length row
+    → place ≡ get_or row i 0 → All (λ p. 0 < get_or old p 0) row → IsLowering row old counts least lowest i
+    → 0 < get_or counts place 0
+lowering-positive row old counts least lowest i place rising short at all was =
+    subst (λ (p : ℕ). 0 < get_or counts p 0) (sym at)
+    (subst (λ (n : ℕ). 0 < n) (one_more-later row counts old i rising short was.fallen) (all i 0 short))
+
+pub all_lowered : (row old counts least lowest : List ℕ) (i : ℕ) → length row ≤ i
+    → IsLowering row old counts least lowest i → IsOneMore row counts old
+all_lowered row old counts least lowest i past was =
+    subst (λ (r : List ℕ). IsOneMore r counts old) (take_all i row past) was.fallen
+
+-- ---- along a row, counts rise
+
+pub raising-room : (row old counts : List ℕ) (i place : ℕ) → IsRising row → i < length row → place ≡ get_or row i 0
+    → All (λ p. get_or old p 0 < 2 ^ 31) row → IsOneMore (take i row) old counts → get_or counts place 0 < 2 ^ 31
+raising-room row old counts i place rising short at all was =
+    subst (λ (p : ℕ). get_or counts p 0 < 2 ^ 31) (sym at)
+    (subst (λ (n : ℕ). n < 2 ^ 31) (sym (one_more-later row old counts i rising short was)) (all i 0 short))
+
+-- a count has risen by one at most
+risen_one : (row low high : List ℕ) (k : ℕ) → IsOneMore row low high
+    → (get_or low k 0 ≤ get_or high k 0) × (get_or high k 0 ≤ suc (get_or low k 0))
+risen_one row low high k more = elim (cases_Bool (among row k)) [
+  | inl has ↦ (omega (arith, more.more k has), omega (arith, more.more k has))
+  | inr none ↦ (omega (arith, more.same k none), omega (arith, more.same k none))
+]
+
+near_risen : (row low high : List ℕ) (block least place : ℕ) → IsOneMore row low high
+    → IsLowest low block least place → IsNearLowest high block least place
+near_risen row low high block least place more old = record {
+  inside = omega (arith, more.long, old.inside);
+  at = old.at;
+  near = omega (arith, (risen_one row low high place more).1, old.has);
+  below = λ k inside at.
+      let shorter : k < length low = omega (arith, more.long) in
+      omega (arith, (risen_one row low high k more).0, old.below k shorter at);
+}
+
+not_among : (row : List ℕ) (block k : ℕ) → k / block_size ≡ block
+    → ((place : ℕ) → among row place ≡ true → place / block_size ≡ block → ⊥) → among row k ≡ false
 not_among row block k at none = elim (cases_Bool (among row k)) [
   | inl has ↦ absurd (none k has at)
   | inr none' ↦ none'
 ]
 
-pub raised : (row low high least : List ℕ) → IsOneMore row low high → HasLeast low least → HasLeastApart row high least
-raised row low high least more has = record {
+exact_risen : (row low high : List ℕ) (block least place : ℕ) → IsOneMore row low high
+    → ((k : ℕ) → among row k ≡ true → k / block_size ≡ block → ⊥) → IsLowest low block least place
+    → IsLowest high block least place
+exact_risen row low high block least place more none old = record {
+  inside = omega (arith, more.long, old.inside);
+  at = old.at;
+  has = more.same place (not_among row block place old.at none) ∙ old.has;
+  below = λ k inside at.
+      let shorter : k < length low = omega (arith, more.long) in
+      omega (arith, more.same k (not_among row block k at none), old.below k shorter at);
+}
+
+pub risen : (row low high least lowest : List ℕ) → IsOneMore row low high → HasLowest low least lowest
+    → HasLowestApart row high least lowest
+risen row low high least lowest more has = record {
   all = has.all ∙ ap blocks_for more.long;
-  apart = λ block inside none.
-      same_block low high block (get_or least block 0) (sym more.long)
-      (λ k at. more.same k (not_among row block k at none))
-      (has.each block inside);
+  long = has.long;
+  near = λ block inside.
+      near_risen row low high block (get_or least block 0) (get_or lowest block 0) more (has.each block inside);
+  exact = λ block inside none.
+      exact_risen row low high block (get_or least block 0) (get_or lowest block 0) more none (has.each block inside);
 }
 
--- the places after the first one
-later_apart : (row : List ℕ) (place block : ℕ) → block ≢ place / block_size → ((p : ℕ) → among row p ≡ true → p / block_size ≡ block → ⊥) → (p : ℕ) → among (place ∷ row) p ≡ true → p / block_size ≡ block → ⊥
-later_apart row place block apart none p has at =
-    elim (or_cases (place == p) (among row p) has) [
-      | inl first ↦ apart (sym at ∙ ap (λ q. q / block_size) (sym (eqb-true place p first)))
-      | inr later ↦ none p later at
-    ]
+-- ---- which blocks a row has
 
-pub refreshed : (row counts least : List ℕ) (place value : ℕ) → place / block_size < length least → HasLeastApart (place ∷ row) counts least → IsLeastOfBlock counts (place / block_size) value → HasLeastApart row counts (set least (place / block_size) value)
-refreshed row counts least place value there old is =
-    let own : ℕ = place / block_size in
-    record {
-      all = length-set least own value ∙ old.all;
-      apart = λ block inside none. elim (cases_eq block own) [
-        | inl same ↦ subst (λ (b : ℕ). IsLeastOfBlock counts b (get_or (set least own value) b 0)) (sym same)
-            (subst (IsLeastOfBlock counts own) (sym (get_or-set_same least own value 0 there)) is)
-        | inr apart ↦
-            let inside' : block < length least = omega (arith, length-set least own value) in
-            subst (IsLeastOfBlock counts block) (sym (get_or-set_other least own block value 0 apart))
-            (old.apart block inside' (later_apart row place block apart none))
-      ];
-    }
+less : (a b : ℕ) → nat_cmp a b ≡ Less → a < b
+less a b h = grind (arith, nat_tests)
 
-pub kept_fresh : (row counts least : List ℕ) (place : ℕ) → HasLeastApart (place ∷ row) counts least → IsLeastOfBlock counts (place / block_size) (get_or least (place / block_size) 0) → HasLeastApart row counts least
-kept_fresh row counts least place old is =
-    let own : ℕ = place / block_size in
-    record {
-      all = old.all;
-      apart = λ block inside none. elim (cases_eq block own) [
-        | inl same ↦ subst (λ (b : ℕ). IsLeastOfBlock counts b (get_or least b 0)) (sym same) is
-        | inr apart ↦ old.apart block inside (later_apart row place block apart none)
-      ];
-    }
+-- a rising row's numbers stand in order
+pub in_order : (row : List ℕ) (i k : ℕ) → IsRising row → i ≤ k → k < length row → get_or row i 0 ≤ get_or row k 0
+in_order row i k rising order short = elim (cases_eq i k) [
+  | inl same ↦ omega (arith, ap (λ n. get_or row n 0) same)
+  | inr apart ↦
+      omega (
+        arith,
+        less (get_or row i 0) (get_or row k 0)
+            (Less-from_sorted nat_cmp row i k 0 rising (omega arith) short),
+      )
+]
 
-pub all_fresh : (counts least : List ℕ) → HasLeastApart [] counts least → HasLeast counts least
-all_fresh counts least has = record {
+pub between_ends : (row : List ℕ) (place : ℕ) → IsRising row → among row place ≡ true
+    → (get_or row 0 0 ≤ place) × (place ≤ get_or row (length row - 1) 0)
+between_ends row place rising has =
+    let found = Contains-from_among row place has in
+    let k : ℕ = found.0 in
+    let at : get_or row k 0 ≡ place = get_or_default row k 0 place found.1 ∙ found.2 in
+    let short : k < length row = found.1 in (
+      omega (arith, at, in_order row 0 k rising (omega arith) short),
+      omega (arith, at, in_order row k (length row - 1) rising (omega arith) (omega arith)),
+    )
+
+pub outside_ends : (row counts least lowest : List ℕ) (from end : ℕ) → IsRising row
+    → from ≡ get_or row 0 0 / block_size → end ≡ get_or row (length row - 1) 0 / block_size + 1
+    → HasLowestApart row counts least lowest → HasLowestOutside from end counts least lowest
+outside_ends row counts least lowest from end rising first last has = record {
   all = has.all;
-  each = λ block inside. has.apart block inside (λ place some at. absurd cc);
+  long = has.long;
+  near = has.near;
+  exact = λ block inside out. has.exact block inside (λ place in_row at.
+      let ends = between_ends row place rising in_row in
+      out (omega (arith, ends.0, first, at)) (omega (arith, ends.1, last, at)));
 }
 
--- what is kept while the blocks of a row are looked through: the block looked through last is right
-pub record IsRefreshing (row counts least : List ℕ) (fresh : ℕ) : Type 0 where
-  pub apart : HasLeastApart row counts least
-  pub last : fresh < length least → IsLeastOfBlock counts fresh (get_or least fresh 0)
+pub not_empty : (row : List ℕ) (none : Bool) → none ≡ (length row == 0) → none ≡ false → 0 < length row
+not_empty row none is some = grind (arith, nat_tests)
 
-pub refreshing-first : (row counts least : List ℕ) → HasLeastApart row counts least → IsRefreshing (drop 0 row) counts least (length least)
-refreshing-first row counts least has = record { apart = has; last = λ h. absurd (omega arith) }
+pub empty_row : (row counts least lowest : List ℕ) → length row ≡ 0 → HasLowestApart row counts least lowest
+    → HasLowest counts least lowest
+empty_row [] counts least lowest none has = record {
+  all = has.all;
+  long = has.long;
+  each = λ block inside. has.exact block inside (λ place some at. absurd cc);
+}
+empty_row (place ∷ row) counts least lowest none has = absurd cc
 
-pub refreshing-new : (row counts least : List ℕ) (i place value fresh : ℕ) → i < length row → place ≡ get_or row i 0 → place / block_size < length least → IsLeastOfBlock counts (place / block_size) value → IsRefreshing (drop i row) counts least fresh
-    → IsRefreshing (drop (i + 1) row) counts (set least (place / block_size) value) (place / block_size)
-refreshing-new row counts least i place value fresh short at there is old =
-    let own : ℕ = place / block_size in
-    let first : drop i row ≡ place ∷ drop (i + 1) row = drop_more row i 0 short ∙ ap (λ (p : ℕ). p ∷ drop (i + 1) row) (sym at) in
+-- ---- blocks are looked through anew
+
+near_lowest : (counts : List ℕ) (block least place : ℕ) → IsLowest counts block least place
+    → IsNearLowest counts block least place
+near_lowest counts block least place is = record {
+  inside = is.inside;
+  at = is.at;
+  near = omega (arith, is.has);
+  below = is.below;
+}
+
+not_risen : (counts : List ℕ) (block least place : ℕ) → get_or counts place 0 ≤ least
+    → IsNearLowest counts block least place → IsLowest counts block least place
+not_risen counts block least place low near = record {
+  inside = near.inside;
+  at = near.at;
+  has = omega (arith, low, near.below place near.inside near.at);
+  below = near.below;
+}
+
+pub refreshed-same : (end : ℕ) (counts least lowest : List ℕ) (block : ℕ)
+    → get_or counts (get_or lowest block 0) 0 ≤ get_or least block 0
+    → HasLowestOutside block end counts least lowest → HasLowestOutside (block + 1) end counts least lowest
+refreshed-same end counts least lowest block low was = record {
+  all = was.all;
+  long = was.long;
+  near = was.near;
+  exact = λ b inside out. elim (cases_eq b block) [
+    | inl same ↦
+        let low' : get_or counts (get_or lowest b 0) 0 ≤ get_or least b 0 =
+        subst (λ (n : ℕ). get_or counts (get_or lowest n 0) 0 ≤ get_or least n 0) (sym same) low in
+        not_risen counts b (get_or least b 0) (get_or lowest b 0) low' (was.near b inside)
+    | inr apart ↦ was.exact b inside (λ above below. out (omega arith) below)
+  ];
+}
+
+pub refreshed-new : (end : ℕ) (counts least lowest : List ℕ) (block value place : ℕ) → block < length least
+    → IsLowest counts block value place → HasLowestOutside block end counts least lowest
+    → HasLowestOutside (block + 1) end counts (set least block value) (set lowest block place)
+refreshed-new end counts least lowest block value place there is was =
+    let there' : block < length lowest = omega (arith, was.long) in
+    let least' : List ℕ = set least block value in
+    let lowest' : List ℕ = set lowest block place in
+    let own : IsLowest counts block (get_or least' block 0) (get_or lowest' block 0) =
+    subst (λ (n : ℕ). IsLowest counts block n (get_or lowest' block 0))
+    (sym (get_or-set_same least block value 0 there))
+    (subst (λ (n : ℕ). IsLowest counts block value n) (sym (get_or-set_same lowest block place 0 there')) is) in
+    let long_least : length least' ≡ length least = length-set least block value in
     record {
-      apart = refreshed (drop (i + 1) row) counts least place value there (subst (λ (r : List ℕ). HasLeastApart r counts least) first old.apart) is;
-      last = λ _. subst (IsLeastOfBlock counts own) (sym (get_or-set_same least own value 0 there)) is;
+      all = long_least ∙ was.all;
+      long = length-set lowest block place ∙ was.long ∙ sym long_least;
+      near = λ b inside. elim (cases_eq b block) [
+        | inl same ↦
+            subst (λ (n : ℕ). IsNearLowest counts n (get_or least' n 0) (get_or lowest' n 0)) (sym same)
+            (near_lowest counts block (get_or least' block 0) (get_or lowest' block 0) own)
+        | inr apart ↦
+            let inside' : b < length least = omega arith in
+            subst (λ (n : ℕ). IsNearLowest counts b n (get_or lowest' b 0))
+            (sym (get_or-set_other least block b value 0 apart))
+            (subst (λ (n : ℕ). IsNearLowest counts b (get_or least b 0) n)
+            (sym (get_or-set_other lowest block b place 0 apart)) (was.near b inside'))
+      ];
+      exact = λ b inside out. elim (cases_eq b block) [
+        | inl same ↦
+            subst (λ (n : ℕ). IsLowest counts n (get_or least' n 0) (get_or lowest' n 0)) (sym same) own
+        | inr apart ↦
+            let inside' : b < length least = omega arith in
+            subst (λ (n : ℕ). IsLowest counts b n (get_or lowest' b 0))
+            (sym (get_or-set_other least block b value 0 apart))
+            (subst (λ (n : ℕ). IsLowest counts b (get_or least b 0) n)
+            (sym (get_or-set_other lowest block b place 0 apart))
+            (was.exact b inside' (λ above below. out (omega arith) below)))
+      ];
     }
 
-pub refreshing-same : (row counts least : List ℕ) (i place fresh : ℕ) → i < length row → place ≡ get_or row i 0 → place / block_size < length least → place / block_size ≡ fresh → IsRefreshing (drop i row) counts least fresh
-    → IsRefreshing (drop (i + 1) row) counts least fresh
-refreshing-same row counts least i place fresh short at there same old =
-    let first : drop i row ≡ place ∷ drop (i + 1) row = drop_more row i 0 short ∙ ap (λ (p : ℕ). p ∷ drop (i + 1) row) (sym at) in
-    let inside : fresh < length least = omega arith in
-    record {
-      apart = kept_fresh (drop (i + 1) row) counts least place (subst (λ (r : List ℕ). HasLeastApart r counts least) first old.apart)
-          (subst (λ (b : ℕ). IsLeastOfBlock counts b (get_or least b 0)) (sym same) (old.last inside));
-      last = old.last;
-    }
-
-pub refreshing-all : (row counts least : List ℕ) (i fresh : ℕ) → length row ≤ i → IsRefreshing (drop i row) counts least fresh → HasLeast counts least
-refreshing-all row counts least i fresh past old =
-    all_fresh counts least (subst (λ (r : List ℕ). HasLeastApart r counts least) (drop_all i row past) old.apart)
+pub refreshed-all : (end : ℕ) (counts least lowest : List ℕ) (block : ℕ) → end ≤ block
+    → HasLowestOutside block end counts least lowest → HasLowest counts least lowest
+refreshed-all end counts least lowest block past was = record {
+  all = was.all;
+  long = was.long;
+  each = λ b inside. was.exact b inside (λ above below. absurd (omega arith));
+}
 
 -- ---- one block is looked through
 
-pub record IsLeastSoFar (counts : List ℕ) (from end place least : ℕ) : Type 0 where
-  pub stands : (q : ℕ) × (from ≤ q) × (q < end) × (get_or counts q 0 ≡ least)
-  pub below : (k : ℕ) → from ≤ k → k < place → least ≤ get_or counts k 0
+pub record IsLowestSoFar (counts : List ℕ) (from end place low : ℕ) : Type 0 where
+  pub above : from ≤ low
+  pub short : low < end
+  pub below : (k : ℕ) → from ≤ k → k < place → get_or counts low 0 ≤ get_or counts k 0
 
-pub least_so_far-first : (counts : List ℕ) (from end : ℕ) → from < end → IsLeastSoFar counts from end from (get_or counts from 0)
-least_so_far-first counts from end some = record {
-  stands = (from, omega arith, some, refl);
-  below = λ k above short. absurd (omega arith);
+pub so_far-first : (counts : List ℕ) (from end : ℕ) → from < end → IsLowestSoFar counts from end from from
+so_far-first counts from end some = record {
+  above = omega arith;
+  short = some;
+  below = λ k above before. absurd (omega arith);
 }
 
-pub least_so_far-more : (counts : List ℕ) (from end place least value : ℕ) → from ≤ place → place < end → value ≡ get_or counts place 0 → IsLeastSoFar counts from end place least → IsLeastSoFar counts from end (place + 1) (min least value)
-least_so_far-more counts from end place least value above short at old = record {
-  stands = elim (cases_lt value least) [
-    | inl low ↦ (place, above, short, sym at ∙ omega arith)
-    | inr not_low ↦ (old.stands.0, old.stands.1, old.stands.2, old.stands.3 ∙ omega arith)
-  ];
+pub so_far-lower : (counts : List ℕ) (from end place low : ℕ) → from ≤ place → place < end
+    → get_or counts place 0 < get_or counts low 0 → IsLowestSoFar counts from end place low
+    → IsLowestSoFar counts from end (place + 1) place
+so_far-lower counts from end place low above short less was = record {
+  above = above;
+  short = short;
   below = λ k from_k k_place. elim (cases_eq k place) [
-    | inl same ↦ let here : get_or counts k 0 ≡ value = ap (λ q. get_or counts q 0) same ∙ sym at in omega arith
-    | inr apart ↦ let earlier : k < place = omega arith in omega (arith, old.below k from_k earlier)
+    | inl same ↦ omega (arith, ap (λ q. get_or counts q 0) same)
+    | inr apart ↦ let earlier : k < place = omega arith in omega (arith, was.below k from_k earlier)
   ];
 }
 
-pub least_so_far-all : (counts : List ℕ) (block end place least : ℕ) → end ≡ min (length counts) (block * block_size + block_size) → end ≤ place → IsLeastSoFar counts (block * block_size) end place least → IsLeastOfBlock counts block least
-least_so_far-all counts block end place least is full old = record {
-  stands =
-      let q : ℕ = old.stands.0 in
-      let within : q < length counts = omega (arith, old.stands.2) in
-      let at : q / block_size ≡ block = omega (arith, old.stands.1, old.stands.2) in
-      (q, within, at, old.stands.3);
-  below = λ k inside at. old.below k (omega arith) (omega arith);
+pub so_far-same : (counts : List ℕ) (from end place low : ℕ) → get_or counts low 0 ≤ get_or counts place 0
+    → IsLowestSoFar counts from end place low → IsLowestSoFar counts from end (place + 1) low
+so_far-same counts from end place low most was = record {
+  above = was.above;
+  short = was.short;
+  below = λ k from_k k_place. elim (cases_eq k place) [
+    | inl same ↦ omega (arith, ap (λ q. get_or counts q 0) same)
+    | inr apart ↦ let earlier : k < place = omega arith in was.below k from_k earlier
+  ];
 }
+
+pub so_far-all : (counts : List ℕ) (block end place low : ℕ)
+    → end ≡ min (length counts) (block * block_size + block_size) → end ≤ place
+    → IsLowestSoFar counts (block * block_size) end place low → IsLowest counts block (get_or counts low 0) low
+so_far-all counts block end place low full past was = record {
+  inside = omega (arith, was.short);
+  at = omega (arith, was.above, was.short);
+  has = refl;
+  below = λ k inside at. was.below k (omega arith) (omega arith);
+}
+
+-- another place has the least that a block had
+pub found_same : (counts : List ℕ) (block end least place same : ℕ)
+    → end ≡ min (length counts) (block * block_size + block_size) → same < end
+    → IsNearLowest counts block least place → IsFirstBetween counts (block * block_size) end least same
+    → IsLowest counts block (get_or counts same 0) same
+found_same counts block end least place same full short near found = record {
+  inside = omega arith;
+  at = omega (arith, found.low);
+  has = refl;
+  below = λ k inside at. omega (arith, found.here short, near.below k inside at);
+}
+
+-- no place has it any more
+pub found_more : (counts : List ℕ) (block end least place same new : ℕ)
+    → end ≡ min (length counts) (block * block_size + block_size) → end ≤ same
+    → IsNearLowest counts block least place → IsFirstBetween counts (block * block_size) end least same
+    → IsFirstBetween counts (block * block_size) end (get_or counts place 0) new
+    → IsLowest counts block (get_or counts new 0) new
+found_more counts block end least place same new full past near none found =
+    let from_place : block * block_size ≤ place = omega (arith, near.at) in
+    let before_end : place < end = omega (arith, near.at, near.inside) in
+    let short : new < end = elim (cases_lt new end) [
+      | inl is ↦ is
+      | inr not ↦ absurd (omega (arith, found.before place from_place (omega arith)))
+    ] in
+    record {
+      inside = omega arith;
+      at = omega (arith, found.low);
+      has = refl;
+      below = λ k inside at.
+          omega (arith, found.here short, near.near, none.before k (omega arith) (omega (arith, none.inside)));
+    }
 
 -- ---- the blocks one after another
 
-pub record HasFirstLeast (counts least : List ℕ) (block : ℕ) : Type 0 where
-  pub long : length least ≡ block
-  pub each : (b : ℕ) → b < block → IsLeastOfBlock counts b (get_or least b 0)
+pub record HasFirstLowest (counts least lowest : List ℕ) (block : ℕ) : Type 0 where
+  pub long_least : length least ≡ block
+  pub long_lowest : length lowest ≡ block
+  pub each : (b : ℕ) → b < block → IsLowest counts b (get_or least b 0) (get_or lowest b 0)
 
-pub first_least-none : (counts : List ℕ) → HasFirstLeast counts [] 0
-first_least-none counts = record { long = refl; each = λ b h. absurd (omega arith) }
+pub first_lowest-none : (counts : List ℕ) → HasFirstLowest counts [] [] 0
+first_lowest-none counts = record { long_least = refl; long_lowest = refl; each = λ b h. absurd (omega arith) }
 
-pub first_least-more : (counts least : List ℕ) (block value : ℕ) → HasFirstLeast counts least block → IsLeastOfBlock counts block value → HasFirstLeast counts (least ++ value ∷ []) (block + 1)
-first_least-more counts least block value old is = record {
-  long = omega (arith, old.long, length-append least (value ∷ []));
-  each = λ b h. elim (cases_eq b block) [
-    | inl same ↦ subst (λ (c : ℕ). IsLeastOfBlock counts c (get_or (least ++ value ∷ []) c 0)) (sym same)
-        (subst (IsLeastOfBlock counts block) (sym (get_or_push least value 0 block old.long)) is)
-    | inr apart ↦
-        let earlier : b < block = omega arith in
-        let short : b < length least = omega (arith, old.long) in
-        subst (IsLeastOfBlock counts b) (sym (get_or_append_left least (value ∷ []) 0 b short)) (old.each b earlier)
-  ];
-}
+pub first_lowest-more : (counts least lowest : List ℕ) (block value place : ℕ)
+    → HasFirstLowest counts least lowest block → IsLowest counts block value place
+    → HasFirstLowest counts (least ++ value ∷ []) (lowest ++ place ∷ []) (block + 1)
+first_lowest-more counts least lowest block value place was is =
+    let least' : List ℕ = least ++ value ∷ [] in
+    let lowest' : List ℕ = lowest ++ place ∷ [] in
+    record {
+      long_least = omega (arith, was.long_least, length-append least (value ∷ []));
+      long_lowest = omega (arith, was.long_lowest, length-append lowest (place ∷ []));
+      each = λ b h. elim (cases_eq b block) [
+        | inl same ↦
+            subst (λ (n : ℕ). IsLowest counts n (get_or least' n 0) (get_or lowest' n 0)) (sym same)
+            (subst (λ (n : ℕ). IsLowest counts block n (get_or lowest' block 0))
+            (sym (get_or_push least value 0 block was.long_least))
+            (subst (λ (n : ℕ). IsLowest counts block value n)
+            (sym (get_or_push lowest place 0 block was.long_lowest)) is))
+        | inr apart ↦
+            let earlier : b < block = omega arith in
+            let short : b < length least = omega (arith, was.long_least) in
+            let short' : b < length lowest = omega (arith, was.long_lowest) in
+            subst (λ (n : ℕ). IsLowest counts b n (get_or lowest' b 0))
+            (sym (get_or_append_left least (value ∷ []) 0 b short))
+            (subst (λ (n : ℕ). IsLowest counts b (get_or least b 0) n)
+            (sym (get_or_append_left lowest (place ∷ []) 0 b short')) (was.each b earlier))
+      ];
+    }
 
-pub first_least-all : (counts least : List ℕ) (block : ℕ) → block ≡ blocks_for (length counts) → HasFirstLeast counts least block → HasLeast counts least
-first_least-all counts least block full has = record {
-  all = has.long ∙ full;
-  each = λ b h. has.each b (omega (arith, has.long));
+pub first_lowest-all : (counts least lowest : List ℕ) (block : ℕ) → block ≡ blocks_for (length counts)
+    → HasFirstLowest counts least lowest block → HasLowest counts least lowest
+first_lowest-all counts least lowest block full has = record {
+  all = has.long_least ∙ full;
+  long = has.long_lowest ∙ sym has.long_least;
+  each = λ b h. has.each b (omega (arith, has.long_least));
 }
 
 -- ---- a search passes over blocks
 
-pub over_blocks : (counts least : List ℕ) (most block place : ℕ) → HasLeast counts least → IsFirstAtMost least 0 most block → IsFirstAtMost counts (min (length counts) (block * block_size)) most place → IsFirstAtMost counts 0 most place
-over_blocks counts least most block place has blocks found = record {
+pub over_blocks : (counts least lowest : List ℕ) (most block place : ℕ) → HasLowest counts least lowest
+    → IsFirstAtMost least most block
+    → IsFirstBetween counts (min (length counts) (block * block_size)) (length counts) most place
+    → IsFirstAtMost counts most place
+over_blocks counts least lowest most block place has blocks found = record {
+  low = omega arith;
   inside = found.inside;
   before = λ k above short. elim (cases_lt k (min (length counts) (block * block_size))) [
     | inl passed ↦
-        let b : ℕ = k / block_size in
         let earlier : k / block_size < block = omega arith in
         let inside : k < length counts = omega arith in
-        let there : k / block_size < length least = block_below counts least k has inside in
-        let low : get_or least (k / block_size) 0 ≤ get_or counts k 0 = (has.each (k / block_size) there).below k inside refl in
+        let there : k / block_size < length least = block_below counts least lowest k has inside in
+        let low : get_or least (k / block_size) 0 ≤ get_or counts k 0 =
+        (has.each (k / block_size) there).below k inside refl in
         omega (arith, low, blocks.before (k / block_size) (omega arith) earlier)
     | inr not_passed ↦ found.before k not_passed short
   ];
   here = found.here;
 }
-
--- ---- along a row
-
--- the counts of the first sets of a row have fallen
-pub record IsLowering (row old counts least : List ℕ) (i : ℕ) : Type 0 where
-  pub fallen : IsOneMore (take i row) counts old
-  pub blocks : HasLeast counts least
-
-pub lowering-first : (row old least : List ℕ) → HasLeast old least → IsLowering row old old least 0
-lowering-first row old least has = record { fallen = one_more-none old; blocks = has }
-
-pub lowering-more : (row old counts least : List ℕ) (i place left : ℕ) → IsRising row → i < length row → place ≡ get_or row i 0 → place < length counts → get_or counts place 0 ≡ suc left → IsLowering row old counts least i
-    → IsLowering row old (set counts place left) (set least (place / block_size) (min (get_or least (place / block_size) 0) left)) (i + 1)
-lowering-more row old counts least i place left rising short at there is was = record {
-  fallen = one_more-lower_at row counts old i place left rising short at was.fallen there is;
-  blocks = lowered counts least place left was.blocks there is;
-}
-
--- a set of the row has still what it had
-pub lowering-positive : (row old counts least : List ℕ) (i place : ℕ) → IsRising row → i < length row → place ≡ get_or row i 0 → All (λ p. 0 < get_or old p 0) row → IsLowering row old counts least i → 0 < get_or counts place 0
-lowering-positive row old counts least i place rising short at all was =
-    subst (λ (p : ℕ). 0 < get_or counts p 0) (sym at) (subst (λ (n : ℕ). 0 < n) (one_more-later row counts old i rising short was.fallen) (all i 0 short))
-
-pub all_lowered : (row old counts least : List ℕ) (i : ℕ) → length row ≤ i → IsLowering row old counts least i → IsOneMore row counts old
-all_lowered row old counts least i past was = subst (λ (r : List ℕ). IsOneMore r counts old) (take_all i row past) was.fallen
-
-pub raising-room : (row old counts : List ℕ) (i place : ℕ) → IsRising row → i < length row → place ≡ get_or row i 0 → All (λ p. get_or old p 0 < 2 ^ 31) row → IsOneMore (take i row) old counts → get_or counts place 0 < 2 ^ 31
-raising-room row old counts i place rising short at all was =
-    subst (λ (p : ℕ). get_or counts p 0 < 2 ^ 31) (sym at) (subst (λ (n : ℕ). n < 2 ^ 31) (sym (one_more-later row old counts i rising short was)) (all i 0 short))

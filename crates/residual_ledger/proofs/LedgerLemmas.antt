@@ -139,5 +139,7 @@ raised_counts out cuts counts counts' unit row is counted ordered was more =
         ]
 
 -- what a ledger keeps, where its rows are read again as they were written
-pub written : (units : ℕ) (cuts : List (List ℕ)) (out counts least ends rows counts' least' : List ℕ) → counts' ≡ counts → least' ≡ least → KeepsLedger units cuts out counts least ends rows → KeepsLedger units cuts out counts' least' ends rows
-written units cuts out counts least ends rows counts' least' same_counts same_least keeps = rw (same_counts, same_least) keeps
+pub written : (units : ℕ) (cuts : List (List ℕ)) (out counts least lowest ends rows counts' : List ℕ)
+    → counts' ≡ counts → KeepsLedger units cuts out counts least lowest ends rows
+    → KeepsLedger units cuts out counts' least lowest ends rows
+written units cuts out counts least lowest ends rows counts' same keeps = rw same keeps

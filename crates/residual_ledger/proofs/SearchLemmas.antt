@@ -117,7 +117,7 @@ pub record IsNarrowed (cuts : List (List ℕ)) (out asked : List ℕ) (most coun
   pub held : (place unit : ℕ) → place < first → among (take count asked) unit ≡ true → among (cut_at cuts place) unit ≡ true → is_tight (asked ++ out) most (cut_at cuts place) ≡ false
   pub here : first < length cuts → is_tight (asked ++ out) most (cut_at cuts first) ≡ true
 
-pub narrowed-first : (cuts : List (List ℕ)) (out asked counts : List ℕ) (most first : ℕ) → counts ≡ residuals out cuts → All (λ unit. among out unit ≡ false) asked → IsFirstAtMost counts 0 most first → IsNarrowed cuts out asked most 0 first
+pub narrowed-first : (cuts : List (List ℕ)) (out asked counts : List ℕ) (most first : ℕ) → counts ≡ residuals out cuts → All (λ unit. among out unit ≡ false) asked → IsFirstAtMost counts most first → IsNarrowed cuts out asked most 0 first
 narrowed-first cuts out asked counts most first counted free found =
     let many : length counts ≡ length cuts = as_many out cuts counts counted in
     record {

@@ -29,8 +29,10 @@ between from to numbers = take (to - from) (drop from numbers)
 pub record IsFilling (size : ℕ → ℕ) (held : ℕ → List ℕ) (ends rows : List ℕ) : Type 0 where
   pub room : length rows ≡ start_of size (length ends)
   pub fits : (number : ℕ) → number < length ends → length (held number) ≤ size number
-  pub placed : (number : ℕ) → number < length ends → slice_index ends number ≡ start_of size number + length (held number)
-  pub has : (number k : ℕ) → number < length ends → k < length (held number) → slice_index rows (start_of size number + k) ≡ slice_index (held number) k
+  pub placed : (number : ℕ) → number < length ends → slice_index ends number ≡ start_of size number + length
+      (held number)
+  pub has : (number k : ℕ) → number < length ends → k < length (held number)
+      → slice_index rows (start_of size number + k) ≡ slice_index (held number) k
 
 -- each row has so far those of the first cut sets that hold its number
 abbrev pub HoldsFirst : List (List ℕ) → ℕ → List ℕ → List ℕ → Type 0

@@ -6,7 +6,7 @@ use Rattle.unit_sets.specs.CutOrder.{IsOrderedCuts, weight}
 use Rattle.unit_sets.specs.UnitList.{among}
 use Rattle.residual_ledger.specs.Residual.{cut_at, HasUnitsUpTo}
 use Rattle.residual_ledger.specs.Holding.{HasRows}
-use Rattle.residual_ledger.specs.Kept.{residuals, HasLeast}
+use Rattle.residual_ledger.specs.Kept.{residuals, HasLowest}
 
 -- how many units there are, the cut sets, and the rising list of the units that are out
 pub record LedgerView : Type 0 where
@@ -21,10 +21,10 @@ pub record IsLedgerFor (units : ℕ) (cuts : List (List ℕ)) : Type 0 where
   pub known : HasUnitsUpTo units cuts
 
 -- what the rows of a ledger keep
-pub record KeepsLedger (units : ℕ) (cuts : List (List ℕ)) (out counts least ends rows : List ℕ) : Type 0 where
+pub record KeepsLedger (units : ℕ) (cuts : List (List ℕ)) (out counts least lowest ends rows : List ℕ) : Type 0 where
   pub whole : IsLedgerFor units cuts
   pub counted : counts ≡ residuals out cuts
-  pub blocks : HasLeast counts least
+  pub blocks : HasLowest counts least lowest
   pub rows_of_units : HasRows units cuts ends rows
 
 -- the first of the cut sets with a unit that stand before a place and pass a test, or that place

@@ -1,5 +1,6 @@
 -- The numbers below a bound that pass a test: how many there are, which they are, and that they rise.
-use Rattle.std.specs.Prelude.{◌≡◌, ℕ, zero, suc, ◌+◌, ◌<◌, ◌≤◌, Bool, true, false, ◌&&◌, ◌||◌, ◌==◌, nat_lt, cond, [], ◌∷◌, ◌++◌, length, if◌then◌else◌}
+use Rattle.std.specs.Prelude.{◌≡◌, ℕ, zero, suc, ◌+◌, ◌<◌, ◌≤◌, Bool, true, false, ◌&&◌, ◌||◌, ◌==◌, nat_lt, cond, []}
+use Rattle.std.specs.Prelude.{◌∷◌, ◌++◌, length, if◌then◌else◌}
 use Rattle.std.specs.List.{AllByRecursion}
 use Rattle.std.specs.List.Sorted.{IsStrictlySortedBy}
 use Rattle.std.specs.Ordering.{nat_cmp}
@@ -14,7 +15,8 @@ use Rattle.unit_sets.specs.Words.{passing_below}
 
 -- ---- how many
 
-pub passing-more : (test : ℕ → Bool) (n : ℕ) → passing_below test (suc n) ≡ passing_below test n ++ (if test n then n ∷ [] else [])
+pub passing-more : (test : ℕ → Bool) (n : ℕ) → passing_below test (suc n) ≡ passing_below test n ++
+    (if test n then n ∷ [] else [])
 unfolding passing_below
 passing-more test n = refl
 
@@ -26,7 +28,8 @@ one_length : (b : Bool) (n : ℕ) → length (if b then n ∷ [] else []) ≡ co
 one_length true n = refl
 one_length false n = refl
 
-pub length-passing-more : (test : ℕ → Bool) (n : ℕ) → length (passing_below test (suc n)) ≡ length (passing_below test n) + cond (test n) 1 0
+pub length-passing-more : (test : ℕ → Bool) (n : ℕ) → length (passing_below test (suc n)) ≡ length
+    (passing_below test n) + cond (test n) 1 0
 length-passing-more test n =
     ap length (passing-more test n)
     ∙ length-append (passing_below test n) (if test n then n ∷ [] else [])
@@ -39,11 +42,18 @@ at_most_one false = omega arith
 -- at most n numbers are below n
 pub length-passing-le : (test : ℕ → Bool) (n : ℕ) → length (passing_below test n) ≤ n
 length-passing-le test zero = omega (arith, ap length (passing-none test))
-length-passing-le test (suc n) = omega (arith, length-passing-more test n, length-passing-le test n, at_most_one (test n))
+length-passing-le test (suc n) = omega (
+  arith,
+  length-passing-more test n,
+  length-passing-le test n,
+  at_most_one (test n),
+)
 
 -- more pass below a greater bound
-pub length-passing-grows : (test : ℕ → Bool) (n m : ℕ) → n ≤ m → length (passing_below test n) ≤ length (passing_below test m)
-length-passing-grows test n zero low = let same : n ≡ 0 = omega arith in omega (arith, ap (λ k. length (passing_below test k)) same)
+pub length-passing-grows : (test : ℕ → Bool) (n m : ℕ) → n ≤ m
+    → length (passing_below test n) ≤ length (passing_below test m)
+length-passing-grows test n zero low = let same : n ≡ 0 = omega arith in
+    omega (arith, ap (λ k. length (passing_below test k)) same)
 length-passing-grows test n (suc m) low =
     elim (cases_eq n (suc m)) [
       | inl same ↦ omega (arith, ap (λ k. length (passing_below test k)) same)
@@ -51,9 +61,11 @@ length-passing-grows test n (suc m) low =
     ]
 
 -- a number that passes is one more
-pub length-passing-one : (test : ℕ → Bool) (n m : ℕ) → n < m → test n ≡ true → length (passing_below test n) + 1 ≤ length (passing_below test m)
+pub length-passing-one : (test : ℕ → Bool) (n m : ℕ) → n < m → test n ≡ true
+    → length (passing_below test n) + 1 ≤ length (passing_below test m)
 length-passing-one test n m low passes =
-    let one : length (passing_below test (suc n)) ≡ length (passing_below test n) + 1 = length-passing-more test n ∙ ap (λ b. length (passing_below test n) + cond b 1 0) passes in
+    let one : length (passing_below test (suc n)) ≡ length (passing_below test n) + 1 = length-passing-more test n
+    ∙ ap (λ b. length (passing_below test n) + cond b 1 0) passes in
     omega (arith, length-passing-grows test (suc n) m (omega arith))
 
 -- ---- which
@@ -105,7 +117,8 @@ among-passing test (suc n) k =
     ∙ list_any-append (λ member. member == k) (passing_below test n) (if test n then n ∷ [] else [])
     ∙ ap (λ b. b || among (if test n then n ∷ [] else []) k) (among-passing test n k)
     ∙ ap (λ b. (nat_lt k n && test k) || b) (among-one (test n) n k)
-    ∙ last (nat_lt k n) (nat_lt k (suc n)) (n == k) (test k) (test n) (below_one_more k n) (λ e. ap test (same_by_test n k e))
+    ∙ last (nat_lt k n) (nat_lt k (suc n)) (n == k) (test k) (test n) (below_one_more k n)
+    (λ e. ap test (same_by_test n k e))
 
 less_from_lt : (a b : ℕ) → a < b → nat_cmp a b ≡ Less
 less_from_lt a b h = grind (arith, nat_tests)
@@ -115,7 +128,8 @@ all_below test zero m low = subst (AllByRecursion (λ k. nat_cmp k m ≡ Less)) 
 all_below test (suc n) m low =
     subst (AllByRecursion (λ k. nat_cmp k m ≡ Less)) (sym (passing-more test n))
     (cond_both (test n) (n ∷ []) [] (λ one. AllByRecursion (λ k. nat_cmp k m ≡ Less) (passing_below test n ++ one))
-    (λ _. all-push (λ k. nat_cmp k m ≡ Less) (passing_below test n) n (all_below test n m (omega arith)) (less_from_lt n m (omega arith)))
+    (λ _. all-push (λ k. nat_cmp k m ≡ Less) (passing_below test n) n (all_below test n m (omega arith))
+    (less_from_lt n m (omega arith)))
     (λ _. rw append-nil (all_below test n m (omega arith))))
 
 pub IsRising-passing : (test : ℕ → Bool) (n : ℕ) → IsRising (passing_below test n)

@@ -1,5 +1,6 @@
 -- What is left of a cut set while some units are out of service.
-use Rattle.std.specs.Prelude.{◌≡◌, ℕ, ◌+◌, ◌<◌, Bool, true, false, not, cond, List, [], ◌∷◌, length, filter, All, slice_index_or}
+use Rattle.std.specs.Prelude.{◌≡◌, ℕ, ◌+◌, ◌<◌, Bool, true, false, not, cond, List, [], ◌∷◌, length, filter, All}
+use Rattle.std.specs.Prelude.{slice_index_or}
 use Rattle.std.proofs.Common.{refl, sym, ◌∙◌, ap, arith}
 use Rattle.unit_sets.specs.UnitList.{among, outside}
 
@@ -25,14 +26,17 @@ length-kept : (b : Bool) (x : ℕ) (xs : List ℕ) → length (cond b (x ∷ xs)
 length-kept true x xs = omega arith
 length-kept false x xs = omega arith
 
-pub length-filter-cons : (p : ℕ → Bool) (x : ℕ) (xs : List ℕ) → length (filter p (x ∷ xs)) ≡ cond (p x) 1 0 + length (filter p xs)
+pub length-filter-cons : (p : ℕ → Bool) (x : ℕ) (xs : List ℕ)
+    → length (filter p (x ∷ xs)) ≡ cond (p x) 1 0 + length (filter p xs)
 length-filter-cons p x xs = length-kept (p x) x (filter p xs)
 
-pub residual-cons : (out : List ℕ) (x : ℕ) (xs : List ℕ) → residual out (x ∷ xs) ≡ cond (not (among out x)) 1 0 + residual out xs
+pub residual-cons : (out : List ℕ) (x : ℕ) (xs : List ℕ)
+    → residual out (x ∷ xs) ≡ cond (not (among out x)) 1 0 + residual out xs
 residual-cons out x xs = length-filter-cons (λ member. not (among out member)) x xs
 
 -- sets with the same members leave the same
-pub residual-alike : (a b : List ℕ) → ((unit : ℕ) → among a unit ≡ among b unit) → (cut : List ℕ) → residual a cut ≡ residual b cut
+pub residual-alike : (a b : List ℕ) → ((unit : ℕ) → among a unit ≡ among b unit) → (cut : List ℕ)
+    → residual a cut ≡ residual b cut
 residual-alike a b alike [] = refl
 residual-alike a b alike (x ∷ xs) =
     residual-cons a x xs

@@ -104,7 +104,8 @@ impl Holding {
         requires there { unit < vec_len self.now.ends }
         requires order { slice_index self.now.ends.items (unit - 1) ≤ slice_index self.now.ends.items unit }
         requires inside { slice_index self.now.ends.items unit ≤ vec_len self.now.rows }
-        ensures { result.now ≡ between (slice_index self.now.ends.items (unit - 1)) (slice_index self.now.ends.items unit) self.now.rows.items }
+        ensures { result.now ≡ between (slice_index self.now.ends.items (unit - 1))
+            (slice_index self.now.ends.items unit) self.now.rows.items }
     {
         let number = unit.number() as usize;
         &self.rows[self.ends[number - 1]..self.ends[number]]

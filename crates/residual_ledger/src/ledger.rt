@@ -1,5 +1,6 @@
 //! The ledger, and the first cut set that is left with too few members.
-ghost use Rattle.std.specs.Prelude.{◌≡◌, ◌≤◌, ◌<◌, ◌+◌, [], ◌∷◌, ◌++◌, true, false, length, filter, All, IfOk, position, ◌^◌};
+ghost use Rattle.std.specs.Prelude.{◌≡◌, ◌≤◌, ◌<◌, ◌+◌, [], ◌∷◌, ◌++◌, true, false, length, filter, All, IfOk};
+ghost use Rattle.std.specs.Prelude.{position, ◌^◌};
 ghost use Rattle.unit_sets.specs.UnitList.{among, with_unit, without_unit, IsUnitSet};
 ghost use Rattle.residual_ledger.specs.Residual.{residual, cut_at, HasUnitsUpTo};
 ghost use Rattle.residual_ledger.specs.Tight.{is_tight};
@@ -7,6 +8,7 @@ ghost use Rattle.residual_ledger.specs.Holding.{holding};
 ghost use Rattle.residual_ledger.specs.Kept.{residuals, HasLeast};
 ghost use Rattle.residual_ledger.specs.Ledger.{IsLedgerFor, IsFirstHolding};
 
+use crate::blocks::Blocks;
 use crate::counts;
 use crate::holding::Holding;
 use std::alloc::Global;
@@ -24,7 +26,7 @@ pub struct Ledger {
     // What each cut set has left.
     counts: Vec<u32>,
     // The least of each block of counts, so that a search passes over blocks.
-    least: Vec<u32>,
+    blocks: Blocks,
     holding: Holding,
 }
 
@@ -35,7 +37,8 @@ impl Model for Ledger {
 
     ghost view = { λ l. record { units = l.units; cuts = l.cuts; out = l.out } };
 
-    ghost invariant = { λ l. KeepsLedger l.units l.cuts l.out l.counts.items l.least.items l.holding.ends.items l.holding.rows.items };
+    ghost invariant = { λ l. KeepsLedger l.units l.cuts l.out l.counts.items
+        l.blocks.least.items l.blocks.lowest.items l.holding.ends.items l.holding.rows.items };
 }
 
 // A copy of the cut sets.
@@ -56,7 +59,7 @@ impl Ledger {
         cuts.len();
         let holding = Holding::new(alloc, units, cuts)?;
         let counts = counts::sizes(alloc, cuts)?;
-        let least = counts::least_of_blocks(alloc, counts.as_slice())?;
+        let blocks = Blocks::new(alloc, counts.as_slice())?;
         let out = UnitSet::new(alloc)?;
         let cuts = copied(cuts)?;
         Ok(Ledger {
@@ -64,7 +67,7 @@ impl Ledger {
             cuts,
             out,
             counts,
-            least,
+            blocks,
             holding,
         })
     }
@@ -114,7 +117,7 @@ impl Ledger {
     pub fn least(&self) -> &[u32]
         ensures { HasLeast (residuals self.now.out self.now.cuts) result.now }
     {
-        self.least.as_slice()
+        self.blocks.least.as_slice()
     }
 
     /// Takes a unit out.
@@ -126,7 +129,7 @@ impl Ledger {
         // A unit's number is not 0, so its row has one before it.
         unit.number();
         let row = self.holding.row(unit);
-        counts::lower(self.counts.as_mut_slice(), self.least.as_mut_slice(), row);
+        counts::lower(self.counts.as_mut_slice(), &mut self.blocks, row);
         self.out.insert(unit);
     }
 
@@ -140,7 +143,7 @@ impl Ledger {
         unit.number();
         let row = self.holding.row(unit);
         counts::raise(self.counts.as_mut_slice(), row);
-        counts::refresh(self.least.as_mut_slice(), self.counts.as_slice(), row);
+        self.blocks.refresh(self.counts.as_slice(), row);
         self.out.remove(unit);
     }
 
@@ -174,13 +177,14 @@ impl Ledger {
         before
     }
 
-    /// The place, from 0, of the first cut set that would have at most so many members in service with all asked units out too.
+    /// The place, from 0, of the first cut set that would have at most so many members in service with all asked
+    /// units out too.
     pub fn first_tight_after_all(&self, asked: &[UnitNo], most: u32) -> Option<usize>
         requires known { All (λ unit. unit ≤ self.now.units) asked.now }
         requires in_service { All (λ unit. among self.now.out unit ≡ false) asked.now }
         ensures { result ≡ position (is_tight (asked.now ++ self.now.out) most) self.now.cuts }
     {
-        let mut first = counts::first_at_most(self.counts.as_slice(), self.least.as_slice(), most);
+        let mut first = self.blocks.first_at_most(self.counts.as_slice(), most);
         for unit in asked {
             first = self.first_holding(*unit, asked, most, first);
         }
@@ -191,7 +195,8 @@ impl Ledger {
         }
     }
 
-    /// The place, from 0, of the first cut set that would have at most so many members in service with the unit out too.
+    /// The place, from 0, of the first cut set that would have at most so many members in service with the unit out
+    /// too.
     pub fn first_tight_after(&self, unit: UnitNo, most: u32) -> Option<usize>
         requires known { unit ≤ self.now.units }
         requires in_service { among self.now.out unit ≡ false }

@@ -5,6 +5,7 @@
 //! by definitions over lists, and never speaks of the rows that are kept.
 #![tactic(auto)]
 
+mod blocks;
 mod counts;
 mod holding;
 pub mod laws;

@@ -1,3 +1,4 @@
+//! Counts after units went out and came back, beside a count of all members anew.
 ghost use Rattle.std.specs.Prelude.{◌≡◌, ◌≤◌, ◌<◌, ◌++◌, ◌∷◌, [], true, length, IfOk, OnOk};
 ghost use Rattle.unit_sets.specs.UnitList.{IsRising};
 ghost use Rattle.unit_sets.specs.CutOrder.{IsInCutOrder};

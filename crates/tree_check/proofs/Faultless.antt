@@ -8,7 +8,7 @@ use Rattle.std.proofs.lemmas.List.{length-map}
 use Rattle.std.proofs.lemmas.List.Elements.{All-map}
 use lib.Pointwise.{bytes_decides}
 use Rattle.fault_model.specs.declared.node.Place.{Place}
-use Rattle.fault_model.specs.Tree.{FaultTree, unit_count, gate_count, node_count, is_fdep, IsNodeOf}
+use Rattle.fault_model.specs.Tree.{unit_count, gate_count, node_count, is_fdep, IsNodeOf}
 use Rattle.fault_model.specs.Tree as trees
 use Rattle.fault_model.specs.Rank.{IsRanked}
 use Rattle.fault_model.specs.WellFormed.{IsTree, IsSoundGate, IsSoundAttribute, primary_in, spares_in}

@@ -23,4 +23,7 @@ mod tests;
 
 pub use checking::check;
 pub use fault::{CheckCode, CheckFault};
-pub use laws::{statements_have_one_first_fault, statements_have_one_tree, tree_or_fault};
+pub use laws::{
+    some_tree_or_some_fault, statements_have_one_first_fault, statements_have_one_tree,
+    tree_or_fault,
+};

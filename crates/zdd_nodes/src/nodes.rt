@@ -1,20 +1,19 @@
 //! The cut family of a node.
-ghost use Rattle.std.specs.Prelude.{◌≡◌, ◌+◌, ◌≤◌, false, All, IfOk, MatchResult, length};
+ghost use Rattle.std.specs.Prelude.{◌≡◌, ◌≤◌, false, All, IfErr, IfOk, MatchResult, length};
 ghost use Rattle.fault_model.specs.CutFamily.{IsCutFamily};
 ghost use Rattle.fault_model.specs.Tree.{IsNodeOf, is_fdep, node_count};
 ghost use Rattle.fault_model.specs.Trigger.{below};
 ghost use Rattle.tree_families.specs.Due.{IsDueToTree};
 ghost use Rattle.tree_families.specs.Recipe.{IsMadeBy, StandFor, node_recipe};
-ghost use Rattle.zdd_families.specs.Map.{Grown, Knows};
-ghost use Rattle.zdd_shared_table.specs.Seats.{IsSoundSeat, map_of};
-ghost use Rattle.zdd_product.specs.Seats.{FillsDue, Gave, KnowsOne, MissesDue, WasFull};
+ghost use Rattle.zdd_families.specs.Map.{Knows};
+ghost use Rattle.zdd_shared_table.specs.Seats.{map_of};
+ghost use Rattle.zdd_product.specs.Seats.{Gave, WasFull};
 ghost use Rattle.zdd_product.specs.Voting.{families};
 ghost use Rattle.zdd_nodes.specs.Reading.{KnowsBelow, families_below};
 ghost use Rattle.zdd_nodes.specs.Room.{HaveRoomFor};
 
 use crate::recipes::{make_gate, make_unit};
 use crate::rooms::{Rooms, gather};
-use crate::steps::strip;
 use fault_model::{NodeNo, Tree};
 use unit_sets::UnitNo;
 use zdd_product::Ops;
@@ -35,41 +34,16 @@ pub fn cut_family(
     requires all { node_count tree.now ≤ length families.now }
     requires below { KnowsBelow (map_of ops.old) tree.now families.now node }
     requires room { HaveRoomFor tree.now rooms.old }
-    ensures family { IfOk result (λ r. KnowsOne (map_of ops.new) r (IsCutFamily tree.now node)) }
-    ensures keeps { Grown (map_of ops.old) (map_of ops.new) }
+    ensures gives { IfOk result (Gave (IsCutFamily tree.now node) (IsDueToTree tree.now) ops.old ops.new) }
 
     // Only a search that passed every slot of the store ends the call, and it is counted.
-    ensures fulls { MatchResult result (λ _. ops.new.fulls ≡ ops.old.fulls) (λ _. ops.new.fulls ≡ ops.old.fulls + 1) }
-    ensures fills { FillsDue (IsDueToTree tree.now) ops.old ops.new }
-    ensures missed { MatchResult result (λ _. ops.new.missed ≡ ops.old.missed) (λ _. MissesDue (IsDueToTree tree.now) ops.old ops.new) }
-    ensures share { ops.new.share ≡ ops.old.share }
-    ensures store { ops.new.store ≡ ops.old.store }
-    ensures sound { IsSoundSeat ops.new }
-    ensures room { HaveRoomFor tree.now rooms.new }
-{
-    build(ops, tree, node, families, rooms)
-}
-
-// The minimal sets of what the recipe makes.
-fn build(
-    ops: &mut Ops,
-    tree: &Tree,
-    node: NodeNo,
-    families: &[NodeRef],
-    rooms: &mut Rooms,
-) -> Result<NodeRef, Full>
-    requires node { IsNodeOf tree.now node }
-    requires read { is_fdep tree.now node ≡ false }
-    requires all { node_count tree.now ≤ length families.now }
-    requires below { KnowsBelow (map_of ops.old) tree.now families.now node }
-    requires room { HaveRoomFor tree.now rooms.old }
-    ensures made { MatchResult result (Gave (IsCutFamily tree.now node) (IsDueToTree tree.now) ops.old ops.new) (λ _. WasFull (IsDueToTree tree.now) ops.old ops.new) }
+    ensures full { IfErr result (λ _. WasFull (IsDueToTree tree.now) ops.old ops.new) }
     ensures room { HaveRoomFor tree.now rooms.new }
 {
     // Tells the proof what a tree keeps.
     tree.units();
     let made = follow(ops, tree, node, families, rooms)?;
-    strip(ops, made)
+    ops.minimal(made)
 }
 
 // What the recipe of a node makes before its end.

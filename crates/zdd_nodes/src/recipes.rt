@@ -9,7 +9,7 @@ ghost use Rattle.zdd_product.specs.Voting.{families};
 ghost use Rattle.zdd_nodes.specs.Reading.{CanVote};
 ghost use Rattle.zdd_nodes.specs.Steps.{IsDueToUnit};
 
-use crate::steps::{multiply_least, single, unite, vote};
+use crate::steps::{multiply_least, single};
 use fault_model::GateKind;
 use unit_sets::UnitNo;
 use zdd_product::Ops;
@@ -25,7 +25,7 @@ fn unite_all(ops: &mut Ops, first: NodeRef, others: &[NodeRef]) -> Result<NodeRe
     ops.is_sound();
     let mut made = first;
     for i in 0..others.len() {
-        made = unite(ops, made, others[i])?;
+        made = ops.union(made, others[i])?;
     }
     Ok(made)
 }
@@ -71,7 +71,7 @@ pub(crate) fn make_gate(
         GateKind::Or => unite_all(ops, inputs[0], &inputs[1..]),
         GateKind::Por => Ok(inputs[0]),
         GateKind::Fdep => Ok(NodeRef::EMPTY),
-        GateKind::Votes(least, _) => vote(ops, least, inputs, room),
+        GateKind::Votes(least, _) => ops.votes(least, inputs, room),
         GateKind::And
         | GateKind::Pand
         | GateKind::Seq

@@ -8,7 +8,6 @@ ghost use Rattle.zdd_nodes.specs.Reading.{CanVote};
 
 use super::*;
 use crate::recipes::{make_gate, make_unit};
-use crate::steps::strip;
 use fault_model::{
     AttributeList, AttributeLists, GateKind, InputLists, KindList, Name, NameTable, NoMemory,
     NodeList, NodeNo, Tree, TreeParts,
@@ -83,7 +82,7 @@ fn gate_gives(
     let third = family_of(&mut ops, inputs[2])?;
     let mut room = [NodeRef::EMPTY; 3];
     let made = make_gate(&mut ops, kind, &[first, second, third], &mut room)?;
-    let least = strip(&mut ops, made)?;
+    let least = ops.minimal(made)?;
     Ok(least == family_of(&mut ops, wanted)?)
 }
 
@@ -128,7 +127,7 @@ fn unit_gives(alloc: Global, number: u16, trigger: &[u16], wanted: &[u16]) -> Re
     let mut ops = ops_on(alloc, &store, seat)?;
     let by = family_of(&mut ops, trigger)?;
     let made = make_unit(&mut ops, unit(number)?, &[by])?;
-    let least = strip(&mut ops, made)?;
+    let least = ops.minimal(made)?;
     Ok(least == family_of(&mut ops, wanted)?)
 }
 

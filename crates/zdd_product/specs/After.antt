@@ -1,5 +1,5 @@
 -- Operations one after another on one seat: for the proofs of this crate and of those above.
-use Rattle.std.proofs.Common.{MatchResult, Result, IfOk, Ok, Err, ◌≡◌, ℕ, ◌+◌, ◌⊎◌, List, [], ◌∷◌, ◌++◌, Contains, refl, sym, ◌∙◌, ap, subst, inl, inr, append_assoc}
+use Rattle.std.proofs.Common.{MatchResult, Result, IfOk, IfErr, Ok, Err, ◌≡◌, ℕ, ◌+◌, ◌⊎◌, List, [], ◌∷◌, ◌++◌, Contains, refl, sym, ◌∙◌, ap, subst, inl, inr, append_assoc}
 use Rattle.std.proofs.lemmas.List.{append-nil}
 use Rattle.std.proofs.lemmas.Result.{MatchResult-weaker}
 use Rattle.std.proofs.lemmas.List.Elements.{Contains-append_cases, Contains-append_right}
@@ -120,7 +120,7 @@ at_both R f f' g g' same same' fact = subst (λ q. R f' q) same' (subst (λ q. R
 
 -- ---- one node
 
-only_one : (r q : ℕ) → Contains (r ∷ []) q → r ≡ q
+pub only_one : (r q : ℕ) → Contains (r ∷ []) q → r ≡ q
 only_one r q has =
     elim (Contains-cons_cases r q [] has) [
       | inl same ↦ same
@@ -192,22 +192,12 @@ module _ (made is due : List (List ℕ) → Type 0) (to_is : (h : List (List ℕ
   pub made_after : {E : Type 0} (result : Result ℕ E) → MatchResult result (Gave made made b c) (λ _. WasFull made b c) → MatchResult result (Gave is due a c) (λ _. WasFull due a c)
   made_after result m = MatchResult-weaker result m (λ r gave. Gave-made r gave) (λ _ full. WasFull-then due a b c on (WasFull-as made due to_due b c full))
 
--- ---- whatever the answer
+-- ---- the two answers of an operation, taken from one fact of both
 
-pub went_of : {E : Type 0} (is due : List (List ℕ) → Type 0) (before after : Seated) (result : Result ℕ E) → MatchResult result (Gave is due before after) (λ _. WasFull due before after) → Went due before after
-went_of is due before after (Ok r) gave = gave.on.went
-went_of is due before after (Err e) full = full.went
+module _ {E : Type 0} (is due due' : List (List ℕ) → Type 0) (to_due : (h : List (List ℕ)) → due h → due' h)
+    (before after : Seated) (result : Result ℕ E) (both : MatchResult result (Gave is due before after) (λ _. WasFull due before after)) where
+  pub gave_of : IfOk result (Gave is due' before after)
+  gave_of = MatchResult-weaker result both (λ r gave. record { on = WentOn-as due due' to_due before after gave.on; known = gave.known }) (λ _ _. tt)
 
--- the clauses of an operation as one fact, by which operations stand one after another
-pub answered : {E : Type 0} (is due : List (List ℕ) → Type 0) (before after : Seated) (result : Result ℕ E) → after.store ≡ before.store → after.share ≡ before.share → Grown (map_of before) (map_of after) → IsSoundSeat after
-    → FillsDue due before after → IfOk result (λ r. KnowsOne (map_of after) r is) → MatchResult result (λ _. after.fulls ≡ before.fulls) (λ _. after.fulls ≡ before.fulls + 1)
-    → MatchResult result (λ _. after.missed ≡ before.missed) (λ _. MissesDue due before after) → MatchResult result (Gave is due before after) (λ _. WasFull due before after)
-answered is due before after (Ok r) store share keeps sound fills known fulls missed = record {
-  on = record { went = record { store = store; share = share; keeps = keeps; sound = sound; fills = fills }; fulls = fulls; missed = missed };
-  known = known;
-}
-answered is due before after (Err e) store share keeps sound fills known fulls missed = record {
-  went = record { store = store; share = share; keeps = keeps; sound = sound; fills = fills };
-  fulls = fulls;
-  missed = missed;
-}
+  pub full_of : IfErr result (λ _. WasFull due' before after)
+  full_of = MatchResult-weaker result both (λ _ _. tt) (λ _ full. WasFull-as due due' to_due before after full)

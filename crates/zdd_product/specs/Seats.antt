@@ -1,5 +1,5 @@
 -- What an operation does to a seat: what it knew stays, and what it fills and asks a full store for is due.
-use Rattle.std.specs.Prelude.{◌≡◌, ℕ, ◌+◌, List, [], ◌∷◌, ◌++◌, Contains}
+use Rattle.std.specs.Prelude.{◌≡◌, ℕ, ◌+◌, List, [], ◌∷◌, ◌++◌, Contains, length}
 use Rattle.zdd_words.specs.Word.{level_of, lo_of, hi_of}
 use Rattle.zdd_families.specs.Family.{branch}
 use Rattle.zdd_families.specs.Map.{Knows, Grown, family}
@@ -29,7 +29,14 @@ pub record MissesDue (due : List (List ℕ) → Type 0) (before after : Seated) 
   pub missed : after.missed ≡ before.missed ++ word ∷ []
   pub is : due (word_family (map_of after) word)
 
--- what an operation does to its seat, whatever its answer
+-- the same of several searches: each word for which the seat has asked a full store in between has a family that is due
+pub record MissesAll (due : List (List ℕ) → Type 0) (before after : Seated) : Type 0 where
+  pub gained : List ℕ
+  pub missed : after.missed ≡ before.missed ++ gained
+  pub each : (word : ℕ) → Contains gained word → due (word_family (map_of after) word)
+
+-- What an operation does to its seat, whatever its answer: the seat stays one of its store and keeps its share, knows
+-- all that it knew, and fills only what is due.
 pub record Went (due : List (List ℕ) → Type 0) (before after : Seated) : Type 0 where
   pub store : after.store ≡ before.store
   pub share : after.share ≡ before.share
@@ -37,19 +44,47 @@ pub record Went (due : List (List ℕ) → Type 0) (before after : Seated) : Typ
   pub sound : IsSoundSeat after
   pub fills : FillsDue due before after
 
--- no search found the store full
+-- the same, and no search found the store full
 pub record WentOn (due : List (List ℕ) → Type 0) (before after : Seated) : Type 0 where
   pub went : Went due before after
   pub fulls : after.fulls ≡ before.fulls
   pub missed : after.missed ≡ before.missed
 
--- the operation gave a reference
+-- the operation gave a reference, which the seat then knows as such a family, and no search found the store full
 pub record Gave (is due : List (List ℕ) → Type 0) (before after : Seated) (r : ℕ) : Type 0 where
   pub on : WentOn due before after
   pub known : KnowsOne (map_of after) r is
 
--- a search found the store full, and the operation ended there
+-- one search, for a word that is due, found every slot of the store filled with another word, and the operation ended
+-- there
 pub record WasFull (due : List (List ℕ) → Type 0) (before after : Seated) : Type 0 where
   pub went : Went due before after
   pub fulls : after.fulls ≡ before.fulls + 1
   pub missed : MissesDue due before after
+
+-- What several searches do to a seat, whatever their answers: the seat stays one of its store, knows all that it knew,
+-- fills only what is due, and counts each search that found the store full, for a word that is due.
+pub record WentAll (due : List (List ℕ) → Type 0) (before after : Seated) : Type 0 where
+  pub store : after.store ≡ before.store
+  pub keeps : Grown (map_of before) (map_of after)
+  pub sound : IsSoundSeat after
+  pub fills : FillsDue due before after
+  pub missed : MissesAll due before after
+  pub fulls : after.fulls ≡ before.fulls + length missed.gained
+
+-- all that a seat has filled and missed since it was split off is due
+pub record CountsDue (due : List (List ℕ) → Type 0) (seat : Seated) : Type 0 where
+  pub sound : IsSoundSeat seat
+  pub fills : (r : ℕ) → Contains seat.fills r → due (family (map_of seat) r)
+  pub missed : (word : ℕ) → Contains seat.missed word → due (word_family (map_of seat) word)
+  pub fulls : seat.fulls ≡ length seat.missed
+
+-- a seat has taken in another one, with all that it knew and has counted; of its share nothing is said here
+pub record Joined (before other after : Seated) : Type 0 where
+  pub store : after.store ≡ before.store
+  pub keeps : Grown (map_of before) (map_of after)
+  pub gains : Grown (map_of other) (map_of after)
+  pub sound : IsSoundSeat after
+  pub fills : after.fills ≡ before.fills ++ other.fills
+  pub missed : after.missed ≡ before.missed ++ other.missed
+  pub fulls : after.fulls ≡ before.fulls + other.fulls

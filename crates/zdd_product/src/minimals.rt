@@ -1,12 +1,12 @@
 //! The minimal sets of a family.
-ghost use Rattle.std.specs.Prelude.{◌≡◌, ◌+◌, ◌≤◌, List, ℕ, IfOk, MatchResult};
+ghost use Rattle.std.specs.Prelude.{◌≡◌, ◌≤◌, List, ℕ, IfErr, IfOk, MatchResult};
 ghost use Rattle.family_operations.specs.Due.{IsDueToMinimal};
 ghost use Rattle.family_operations.specs.Minimal.{IsMinimal};
 ghost use Rattle.family_operations.specs.Without.{IsWithout};
-ghost use Rattle.zdd_families.specs.Map.{Knows, Grown, family};
-ghost use Rattle.zdd_shared_table.specs.Seats.{IsSoundSeat, map_of};
+ghost use Rattle.zdd_families.specs.Map.{Knows, family};
+ghost use Rattle.zdd_shared_table.specs.Seats.{map_of};
 ghost use Rattle.zdd_product.specs.Due.{IsMadeByMinimal, IsMadeByWithout};
-ghost use Rattle.zdd_product.specs.Seats.{FillsDue, Gave, KnowsOne, MissesDue, WasFull};
+ghost use Rattle.zdd_product.specs.Seats.{Gave, WasFull};
 
 use crate::cache::{Entry, Operation, Question};
 use crate::halves::Split;
@@ -18,16 +18,12 @@ impl<'s> Ops<'s> {
     /// The sets of a family that include no other set of it.
     pub fn minimal(&mut self, a: NodeRef) -> Result<NodeRef, Full>
         requires { Knows (map_of self.old) a }
-        ensures family { IfOk result (λ r. KnowsOne (map_of self.new) r (IsMinimal (family (map_of self.old) a))) }
-        ensures keeps { Grown (map_of self.old) (map_of self.new) }
+        ensures gives { let f = family (map_of self.old) a in
+            IfOk result (Gave (IsMinimal f) (IsDueToMinimal f) self.old self.new) }
 
         // Only a search that passed every slot of the store ends the operation, and it is counted.
-        ensures fulls { MatchResult result (λ _. self.new.fulls ≡ self.old.fulls) (λ _. self.new.fulls ≡ self.old.fulls + 1) }
-        ensures fills { FillsDue (IsDueToMinimal (family (map_of self.old) a)) self.old self.new }
-        ensures missed { MatchResult result (λ _. self.new.missed ≡ self.old.missed) (λ _. MissesDue (IsDueToMinimal (family (map_of self.old) a)) self.old self.new) }
-        ensures share { self.new.share ≡ self.old.share }
-        ensures store { self.new.store ≡ self.old.store }
-        ensures sound { IsSoundSeat self.new }
+        ensures full { let f = family (map_of self.old) a in
+            IfErr result (λ _. WasFull (IsDueToMinimal f) self.old self.new) }
     {
         self.least(a)
     }

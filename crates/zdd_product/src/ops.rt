@@ -11,7 +11,7 @@ ghost use Rattle.zdd_product.specs.Told.{IsTold};
 use crate::cache::{Cache, Entry, Question};
 use std::alloc::Global;
 use std::marker::Model;
-use unit_sets::UnitNo;
+use unit_sets::{NoMemory, UnitNo};
 use zdd_shared_table::{Full, NodeStore, StoreSeat};
 use zdd_words::{NodeRef, Parts};
 
@@ -37,10 +37,11 @@ impl<'s> Model for Ops<'s> {
     ghost invariant = { λ ops. HoldsOps ops.store.now ops.seat ops.cache.entries.items };
 }
 
-/// Memory was refused. The seat is the one that was given.
+/// Memory was refused. The seat is the one that was given, and the cause may be handed on.
 #[derive(Drop)]
 pub struct OpsRefused {
     pub seat: StoreSeat,
+    pub cause: NoMemory,
 }
 
 impl<'s> Ops<'s> {
@@ -53,7 +54,7 @@ impl<'s> Ops<'s> {
         seat.is_sound();
         match Cache::new(alloc, PLACES) {
             Ok(cache) => Ok(Ops { store, seat, cache }),
-            Err(_) => Err(OpsRefused { seat }),
+            Err(cause) => Err(OpsRefused { seat, cause }),
         }
     }
 

@@ -1,11 +1,11 @@
 //! The product of two families.
-ghost use Rattle.std.specs.Prelude.{◌≡◌, ◌+◌, ◌≤◌, ◌⊎◌, IfOk, MatchOption, MatchResult};
+ghost use Rattle.std.specs.Prelude.{◌≡◌, ◌≤◌, ◌⊎◌, IfErr, IfOk, MatchOption, MatchResult};
 ghost use Rattle.family_operations.specs.Due.{IsDueToProduct};
 ghost use Rattle.family_operations.specs.Product.{IsProduct};
-ghost use Rattle.zdd_families.specs.Map.{Knows, Grown, family};
-ghost use Rattle.zdd_shared_table.specs.Seats.{IsSoundSeat, map_of};
+ghost use Rattle.zdd_families.specs.Map.{Knows, family};
+ghost use Rattle.zdd_shared_table.specs.Seats.{map_of};
 ghost use Rattle.zdd_product.specs.Due.{IsMadeByProduct, IsMadeWith, IsProductWith};
-ghost use Rattle.zdd_product.specs.Seats.{FillsDue, Gave, KnowsOne, MissesDue, WasFull};
+ghost use Rattle.zdd_product.specs.Seats.{Gave, WasFull};
 
 use crate::cache::{Entry, Operation, Question};
 use crate::halves::{Half, Halves};
@@ -31,16 +31,12 @@ impl<'s> Ops<'s> {
     pub fn product(&mut self, a: NodeRef, b: NodeRef) -> Result<NodeRef, Full>
         requires knows_a { Knows (map_of self.old) a }
         requires knows_b { Knows (map_of self.old) b }
-        ensures family { IfOk result (λ r. KnowsOne (map_of self.new) r (IsProduct (family (map_of self.old) a) (family (map_of self.old) b))) }
-        ensures keeps { Grown (map_of self.old) (map_of self.new) }
+        ensures gives { let f = family (map_of self.old) a in let g = family (map_of self.old) b in
+            IfOk result (Gave (IsProduct f g) (IsDueToProduct f g) self.old self.new) }
 
-        // Only a search that passed every slot of the store ends the product, and it is counted.
-        ensures fulls { MatchResult result (λ _. self.new.fulls ≡ self.old.fulls) (λ _. self.new.fulls ≡ self.old.fulls + 1) }
-        ensures fills { FillsDue (IsDueToProduct (family (map_of self.old) a) (family (map_of self.old) b)) self.old self.new }
-        ensures missed { MatchResult result (λ _. self.new.missed ≡ self.old.missed) (λ _. MissesDue (IsDueToProduct (family (map_of self.old) a) (family (map_of self.old) b)) self.old self.new) }
-        ensures share { self.new.share ≡ self.old.share }
-        ensures store { self.new.store ≡ self.old.store }
-        ensures sound { IsSoundSeat self.new }
+        // Only a search that passed every slot of the store ends the operation, and it is counted.
+        ensures full { let f = family (map_of self.old) a in let g = family (map_of self.old) b in
+            IfErr result (λ _. WasFull (IsDueToProduct f g) self.old self.new) }
     {
         self.multiply(a, b)
     }

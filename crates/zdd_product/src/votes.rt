@@ -1,10 +1,10 @@
 //! Votes over a list of families.
-ghost use Rattle.std.specs.Prelude.{◌≡◌, ◌+◌, ◌-◌, ◌<◌, ◌≤◌, ℕ, ◌==◌, if◌then◌else◌, All, IfOk, MatchResult, length, slice_index};
+ghost use Rattle.std.specs.Prelude.{◌≡◌, ◌+◌, ◌-◌, ◌<◌, ◌≤◌, ℕ, ◌==◌, if◌then◌else◌, All, IfErr, IfOk, MatchResult, length, slice_index};
 ghost use Rattle.family_operations.specs.Due.{IsDueToVotes};
 ghost use Rattle.family_operations.specs.Votes.{IsVotes};
-ghost use Rattle.zdd_families.specs.Map.{Knows, Grown, family};
-ghost use Rattle.zdd_shared_table.specs.Seats.{IsSoundSeat, map_of};
-ghost use Rattle.zdd_product.specs.Seats.{FillsDue, KnowsOne, MissesDue, WasFull, WentOn};
+ghost use Rattle.zdd_families.specs.Map.{Knows, family};
+ghost use Rattle.zdd_shared_table.specs.Seats.{map_of};
+ghost use Rattle.zdd_product.specs.Seats.{Gave, WasFull, WentOn};
 ghost use Rattle.zdd_product.specs.Voting.{HoldsVotes, IsVoting, families};
 
 use crate::ops::Ops;
@@ -40,16 +40,12 @@ impl<'s> Ops<'s> {
         requires some { 1 ≤ k }
         requires room { k ≤ length room.old }
         requires knows { All (Knows (map_of self.old)) list.now }
-        ensures family { IfOk result (λ r. KnowsOne (map_of self.new) r (IsVotes k (families (map_of self.old) list.now))) }
-        ensures keeps { Grown (map_of self.old) (map_of self.new) }
+        ensures gives { let fs = families (map_of self.old) list.now in
+            IfOk result (Gave (IsVotes k fs) (IsDueToVotes k fs) self.old self.new) }
 
         // Only a search that passed every slot of the store ends the operation, and it is counted.
-        ensures fulls { MatchResult result (λ _. self.new.fulls ≡ self.old.fulls) (λ _. self.new.fulls ≡ self.old.fulls + 1) }
-        ensures fills { FillsDue (IsDueToVotes k (families (map_of self.old) list.now)) self.old self.new }
-        ensures missed { MatchResult result (λ _. self.new.missed ≡ self.old.missed) (λ _. MissesDue (IsDueToVotes k (families (map_of self.old) list.now)) self.old self.new) }
-        ensures share { self.new.share ≡ self.old.share }
-        ensures store { self.new.store ≡ self.old.store }
-        ensures sound { IsSoundSeat self.new }
+        ensures full { let fs = families (map_of self.old) list.now in
+            IfErr result (λ _. WasFull (IsDueToVotes k fs) self.old self.new) }
     {
         self.is_sound();
         let k = k as usize;

@@ -1,8 +1,10 @@
+use Rattle.board_report.proofs.CrewNames.{each_named}
 use Rattle.board_report.proofs.LogLemmas.{same_log}
 use Rattle.board_report.proofs.laws.logs_determine_histories.Goals as goal
 
 pub returns : goal.returns
 returns c = record {
-  same = λ deck history other named all legal whole also too e.
-      same_log deck.crews named.names named.differ deck.opening deck.dockets history other all legal whole also too e;
+  same = λ deck history other kept all legal whole also too e.
+      same_log deck.crews (each_named deck.crews kept.named.names) kept.named.differ deck.opening deck.dockets
+      history other all legal whole also too e;
 }

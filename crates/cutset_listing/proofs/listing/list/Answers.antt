@@ -1,10 +1,12 @@
-use Rattle.std.proofs.Common.{◌≡◌, sym, subst, arith}
+use Rattle.std.proofs.Common.{◌≡◌, ◌<◌, sym, subst, arith}
 use Rattle.std.proofs.lemmas.Result.{IfOk-weaker}
+use Rattle.unit_sets.specs.CutOrder.{weight, weight_limit}
 use Rattle.zdd_families.specs.Map.{family}
 use Rattle.zdd_families.specs.Canonical.{IsFamily-family}
 use Rattle.zdd_shared_table.specs.Seats.{map_of}
 use Rattle.cutset_listing.specs.BySize.{joined}
 use Rattle.cutset_listing.specs.Listing.{HasSetsOf}
+use Rattle.cutset_listing.proofs.HeavyLists.{heavy_list}
 use Rattle.cutset_listing.proofs.Sizes.{joined-sets, joined-in_order, joined-rising, joined-filled, weight-joined}
 use Rattle.cutset_listing.proofs.listing.list.Goals as goal
 
@@ -29,4 +31,9 @@ pub returns-clause-limit : goal.returns-clause-limit
 returns-clause-limit c = λ refused.
     let same = weight-joined c.in_ok-found.found (family (map_of c.args.seat.now) c.args.root) c.in_ok-found.ensures.sets in
     let heavy = c.cut_list.ensures.limit refused in
-    omega (arith, same, heavy)
+    heavy_list (family (map_of c.args.seat.now) c.args.root) (IsFamily-family _ c.args.root c.is_sound.ensures.sound.closed c.requires.knows) (omega (arith, same, heavy))
+
+pub returns-in_err-found-clause-limit : goal.returns-in_err-found-clause-limit
+returns-in_err-found-clause-limit c = λ refused.
+    let heavy : weight_limit < weight (family (map_of c.args.seat.now) c.args.root) = grind arith in
+    heavy_list (family (map_of c.args.seat.now) c.args.root) (IsFamily-family _ c.args.root c.is_sound.ensures.sound.closed c.requires.knows) heavy

@@ -1,4 +1,4 @@
-use Rattle.std.proofs.Common.{◌≡◌, get_or, length, subst, arith}
+use Rattle.std.proofs.Common.{◌≡◌, get_or, arith}
 use Rattle.std.proofs.lemmas.List.{get_or_read}
 use Rattle.std.proofs.lemmas.Result.{err_from_is_err_and}
 use Rattle.family_memory.specs.After.{RanOut-then, Went-nowhere}

@@ -1,4 +1,4 @@
-use Rattle.std.proofs.Common.{All, take}
+use Rattle.std.proofs.Common.{take}
 use Rattle.minimal_families.specs.Least.{IsLeastProductOfAll}
 use Rattle.family_memory.specs.Memory.{Has, Went, family_in}
 use Rattle.many_families.specs.Lists.{families}

@@ -1,4 +1,3 @@
-use Rattle.std.proofs.lemmas.Result.{err_from_is_err_and}
 use Rattle.minimal_nodes.proofs.GateSteps.{unit_gives, unit_spent}
 use Rattle.minimal_nodes.proofs.gates.make_unit.Goals as goal
 

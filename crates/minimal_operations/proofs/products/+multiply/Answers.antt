@@ -8,7 +8,7 @@ use Rattle.minimal_operations.proofs.Ends.{product_ends}
 use Rattle.minimal_operations.proofs.Telling.{told_made}
 use Rattle.minimal_operations.proofs.Steps.{levels_of_both}
 use Rattle.minimal_operations.proofs.Swapping.{multiplied_swapped}
-use Rattle.minimal_operations.proofs.ProductSteps.{lo_fewer, as_levels, first_parts, second_parts, went_all, lo_above, all_above, both_multiplied, went_second, sides_fewer, sides_multiplied, higher_lo_fewer, higher_all_fewer, went_higher, higher_lo_above, higher_all_above, higher_same, higher_multiplied}
+use Rattle.minimal_operations.proofs.ProductSteps.{lo_fewer, as_levels, first_parts, second_parts, lo_above, all_above, both_multiplied, sides_fewer, sides_multiplied, higher_lo_fewer, higher_all_fewer, higher_lo_above, higher_all_above, higher_same, higher_multiplied}
 use Rattle.minimal_operations.proofs.products.+multiply.Goals as goal
 
 pub multiply-returns-in-Some : goal.multiply-returns-in-Some

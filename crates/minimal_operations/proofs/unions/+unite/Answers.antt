@@ -8,7 +8,7 @@ use Rattle.minimal_operations.proofs.Ends.{union_ends}
 use Rattle.minimal_operations.proofs.Telling.{told_made}
 use Rattle.minimal_operations.proofs.Steps.{levels_of_both}
 use Rattle.minimal_operations.proofs.Swapping.{united_swapped}
-use Rattle.minimal_operations.proofs.UnionSteps.{lo_fewer, all_fewer, went_all, lo_above, all_above, both_united, first_fewer, first_above, first_all_above, first_same, first_united}
+use Rattle.minimal_operations.proofs.UnionSteps.{lo_fewer, all_fewer, lo_above, all_above, both_united, first_fewer, first_above, first_all_above, first_same, first_united}
 use Rattle.minimal_operations.proofs.unions.+unite.Goals as goal
 
 pub unite-returns-in-Some : goal.unite-returns-in-Some

@@ -7,7 +7,7 @@ use Rattle.family_memory.specs.declared.answers.Operation.TheVariants.{Without}
 use Rattle.minimal_operations.proofs.Ends.{without_ends}
 use Rattle.minimal_operations.proofs.Telling.{told_made}
 use Rattle.minimal_operations.proofs.Steps.{levels_from}
-use Rattle.minimal_operations.proofs.WithoutSteps.{lo_fewer, some_fewer, went_some, hi_fewer, went_hi, has_lo, lo_above, hi_above, antichain, left_made}
+use Rattle.minimal_operations.proofs.WithoutSteps.{lo_fewer, some_fewer, went_some, hi_fewer, has_lo, lo_above, hi_above, antichain, left_made}
 use Rattle.minimal_operations.proofs.withouts.+strip.Goals as goal
 
 pub strip-returns-in-Some : goal.strip-returns-in-Some

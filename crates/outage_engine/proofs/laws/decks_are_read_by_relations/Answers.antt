@@ -4,12 +4,12 @@ use Rattle.outage_engine.proofs.laws.decks_are_read_by_relations.Goals as goal
 pub returns-clause-tree : goal.returns-clause-tree
 returns-clause-tree c =
     tree_by_relations c.decks_are_divided_once.ensures.read c.decks_are_divided_once.ensures.once c.reads_its_text.ensures c.reads_one_way.ensures
-    c.parses_its_text.ensures c.parses_one_way.ensures
+    c.parses_its_text.ensures.reading c.parses_one_way.ensures
 
 pub returns-clause-fault : goal.returns-clause-fault
 returns-clause-fault c =
     fault_by_relations c.decks_are_divided_once.ensures.read c.decks_are_divided_once.ensures.once c.reads_its_text.ensures c.reads_one_way.ensures
-    c.parses_its_text.ensures c.parses_one_way.ensures
+    c.parses_its_text.ensures.reading c.parses_one_way.ensures
 
 pub returns-clause-crews : goal.returns-clause-crews
 returns-clause-crews c =

@@ -1,5 +1,44 @@
-use Rattle.std.proofs.lemmas.Result.{MatchResult-weaker}
+use Rattle.std.proofs.lemmas.Result.{MatchResult-from_both}
+use Rattle.family_operations.specs.Due.{IsDueToMinimal}
+use Rattle.family_operations.specs.Minimal.{IsMinimal}
+use Rattle.fault_model.specs.CutFamily.{IsCutFamily}
+use Rattle.fault_model.specs.Trigger.{below}
+use Rattle.tree_families.specs.Due.{IsDueToTree}
+use Rattle.zdd_families.specs.Map.{family}
+use Rattle.zdd_shared_table.specs.Seats.{map_of}
+use Rattle.zdd_product.specs.Seats.{Gave, WasFull}
+use Rattle.zdd_product.specs.After.{gave_of, full_of}
+use Rattle.zdd_nodes.specs.Reading.{families_below}
+use Rattle.zdd_nodes.proofs.NodeAnswers.{Answer, node_ends}
+use Rattle.zdd_nodes.proofs.NodeParts.{stand_of}
 use Rattle.zdd_nodes.proofs.nodes.cut_family.Goals as goal
 
-pub returns-clause-family : goal.returns-clause-family
-returns-clause-family c = MatchResult-weaker c.build.result c.build.ensures.made (λ r gave. gave.known) (λ _ _. tt)
+pub returns-clause-gives : goal.returns-clause-gives
+returns-clause-gives c =
+    let tree = c.args.tree.now in
+    let node = c.args.node in
+    let known = map_of c.args.ops.now in
+    let references = c.args.families.now in
+    let mid = c.follow.new.ops in
+    let after = c.minimal.new.self in
+    let made = family (map_of mid) c.in_ok-made.made in
+    let ends : Answer (IsCutFamily tree node) (IsDueToTree tree) c.args.ops.now after c.minimal.result =
+    node_ends tree node c.requires.node c.requires.read (families_below known tree references node) (stand_of known tree references (below tree node) c.requires.below) c.units.ensures.kept
+    c.args.ops.now mid after c.in_ok-made.made c.in_ok-made.ensures.made c.minimal.result
+    (MatchResult-from_both c.minimal.result (Gave (IsMinimal made) (IsDueToMinimal made) mid after) (λ _. WasFull (IsDueToMinimal made) mid after) c.minimal.ensures.gives c.minimal.ensures.full) in
+    gave_of (IsCutFamily tree node) (IsDueToTree tree) (IsDueToTree tree) (λ h due. due) c.args.ops.now after c.minimal.result ends
+
+pub returns-clause-full : goal.returns-clause-full
+returns-clause-full c =
+    let tree = c.args.tree.now in
+    let node = c.args.node in
+    let known = map_of c.args.ops.now in
+    let references = c.args.families.now in
+    let mid = c.follow.new.ops in
+    let after = c.minimal.new.self in
+    let made = family (map_of mid) c.in_ok-made.made in
+    let ends : Answer (IsCutFamily tree node) (IsDueToTree tree) c.args.ops.now after c.minimal.result =
+    node_ends tree node c.requires.node c.requires.read (families_below known tree references node) (stand_of known tree references (below tree node) c.requires.below) c.units.ensures.kept
+    c.args.ops.now mid after c.in_ok-made.made c.in_ok-made.ensures.made c.minimal.result
+    (MatchResult-from_both c.minimal.result (Gave (IsMinimal made) (IsDueToMinimal made) mid after) (λ _. WasFull (IsDueToMinimal made) mid after) c.minimal.ensures.gives c.minimal.ensures.full) in
+    full_of (IsCutFamily tree node) (IsDueToTree tree) (IsDueToTree tree) (λ h due. due) c.args.ops.now after c.minimal.result ends

@@ -1,5 +1,6 @@
 use Rattle.std.proofs.Common.{◌≡◌, ◌-◌, true, [], ◌∷◌, get_or, drop, take, length, sym, ◌∙◌, ap, subst, inl, arith}
 use Rattle.std.proofs.lemmas.List.{get_or_read}
+use Rattle.std.proofs.lemmas.Result.{MatchResult-from_both}
 use Rattle.family_operations.specs.Due.{IsDueToVotes}
 use Rattle.family_operations.specs.Votes.{IsVotes}
 use Rattle.tree_families.specs.Due.{IsDueToProducts, IsDueToRecipe, IsDueToUnions, due_to_products, due_to_unions, due_to_votes}
@@ -7,7 +8,7 @@ use Rattle.tree_families.specs.NodeSteps.{needs_all_recipe}
 use Rattle.tree_families.specs.Recipe.{IsMadeBy, IsProductOfAll, IsUnionOfAll, Recipe, all_multiplied, all_united, gate_recipe, needs_all, products, unions, votes}
 use Rattle.zdd_families.specs.Map.{family, family-empty}
 use Rattle.zdd_shared_table.specs.Seats.{map_of}
-use Rattle.zdd_product.specs.Seats.{Gave}
+use Rattle.zdd_product.specs.Seats.{Gave, WasFull}
 use Rattle.zdd_product.specs.After.{Gave-known}
 use Rattle.zdd_product.specs.Voting.{families}
 use Rattle.zdd_nodes.proofs.Answers.{answer_as}
@@ -39,8 +40,8 @@ pub returns-in-Votes : goal.returns-in-Votes
 returns-in-Votes c =
     let all = families (map_of c.args.ops.now) c.args.inputs.now in
     let k = c.in-Votes.least in
-    at_recipe (gate_recipe c.args.kind all) (votes k all) (ap (λ kind. gate_recipe kind all) c.in-Votes.is) c.args.ops.now c.vote.new.ops c.vote.result
-    (answer_as (IsVotes k all) (IsDueToVotes k all) (IsMadeBy (votes k all)) (IsDueToRecipe (votes k all)) (λ h is. is) (λ h due. due_to_votes due) c.args.ops.now c.vote.new.ops c.vote.result c.vote.ensures)
+    at_recipe (gate_recipe c.args.kind all) (votes k all) (ap (λ kind. gate_recipe kind all) c.in-Votes.is) c.args.ops.now c.votes.new.self c.votes.result
+    (answer_as (IsVotes k all) (IsDueToVotes k all) (IsMadeBy (votes k all)) (IsDueToRecipe (votes k all)) (λ h is. is) (λ h due. due_to_votes due) c.args.ops.now c.votes.new.self c.votes.result (MatchResult-from_both c.votes.result (Gave (IsVotes k all) (IsDueToVotes k all) c.args.ops.now c.votes.new.self) (λ _. WasFull (IsDueToVotes k all) c.args.ops.now c.votes.new.self) c.votes.ensures.gives c.votes.ensures.full))
 
 pub returns-in-And : goal.returns-in-And
 returns-in-And c =

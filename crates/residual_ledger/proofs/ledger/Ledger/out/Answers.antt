@@ -34,7 +34,12 @@ invariant_of-self c =
     let more : IsOneMore row c.lower.new.counts inside.counts.items = subst (IsOneMore row c.lower.new.counts) c.as_mut_slice.ensures.value c.lower.ensures.lowered in
     let counts : c.lower.new.counts ≡ residuals (with_unit c.args.unit inside.out) inside.cuts = lowered_counts inside.out inside.cuts inside.counts.items c.lower.new.counts c.args.unit row is c.self.invariant.counted c.self.invariant.whole.ordered (search rules) more in
     rw (c.insert.ensures.after)
-    (written inside.units inside.cuts (with_unit c.args.unit inside.out) c.lower.new.counts c.lower.new.least inside.holding.ends.items inside.holding.rows.items _ _
+    (written inside.units inside.cuts (with_unit c.args.unit inside.out) c.lower.new.counts
+    c.lower.new.blocks.least.items c.lower.new.blocks.lowest.items inside.holding.ends.items inside.holding.rows.items _
     (take_at c.lower.new.counts _ _ (omega (arith, c.lower.auto.counts, c.as_mut_slice.ensures.len)))
-    (take_at c.lower.new.least _ _ (omega (arith, c.lower.auto.least, c.as_mut_slice-2.ensures.len)))
-    (record { whole = c.self.invariant.whole; counted = counts; blocks = c.lower.ensures.least; rows_of_units = c.self.invariant.rows_of_units }))
+    (record {
+      whole = c.self.invariant.whole;
+      counted = counts;
+      blocks = c.lower.ensures.least;
+      rows_of_units = c.self.invariant.rows_of_units;
+    }))

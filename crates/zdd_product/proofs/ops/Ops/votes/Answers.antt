@@ -17,8 +17,8 @@ vote_all-requires-clause-held c = λ place low high.
       subst (IsVotes (suc place) []) (sym (ap (family known) none ∙ family-empty known)) (no_more_votes place),
     )
 
-pub returns-clause-family : goal.returns-clause-family
-returns-clause-family c =
+pub returns-clause-gives : goal.returns-clause-gives
+returns-clause-gives c =
     let list = c.args.list.now in
     let new = map_of c.vote_all.new.self in
     let room = c.vote_all.new.room in
@@ -31,6 +31,10 @@ returns-clause-family c =
     let all : take (length list) (families new list) ≡ families (map_of c.args.self.now) list =
     ap (λ n. take n (families new list)) (sym (length-map list (family new))) ∙ take-length (families new list)
     ∙ families_stay c.args.self.now c.vote_all.new.self list c.is_sound.ensures.sound done.0.went.sound done.0.went.keeps c.requires.knows in
-    subst (λ r. KnowsOne new r (IsVotes k (families (map_of c.args.self.now) list))) (sym at)
-    (subst (λ fs. KnowsOne new (get_or room (k - 1) 0) (IsVotes k fs)) all
-    (subst (λ n. KnowsOne new (get_or room (k - 1) 0) (IsVotes n (take (length list) (families new list)))) last (done.1 (k - 1) (omega arith) (omega arith))))
+    record {
+      on = done.0;
+      known =
+          subst (λ r. KnowsOne new r (IsVotes k (families (map_of c.args.self.now) list))) (sym at)
+          (subst (λ fs. KnowsOne new (get_or room (k - 1) 0) (IsVotes k fs)) all
+          (subst (λ n. KnowsOne new (get_or room (k - 1) 0) (IsVotes n (take (length list) (families new list)))) last (done.1 (k - 1) (omega arith) (omega arith))));
+    }

@@ -7,7 +7,7 @@ use Rattle.zdd_shared_table.specs.Seats.{map_of}
 use Rattle.zdd_shared_table.proofs.Nodes.{grown_sound}
 use Rattle.zdd_shared_table.proofs.Steps.{allows_join, allows_look}
 use Rattle.zdd_shared_table.proofs.store.NodeStore.join.Goals as goal
-use Rattle.zdd_shared_table.proofs.store.NodeStore.join.Goals.{After-load, After-load-arg-1}
+use Rattle.zdd_shared_table.proofs.store.NodeStore.join.Goals.{After-load}
 
 pub join_seat-requires : goal.join_seat-requires
 join_seat-requires c =

@@ -6,7 +6,7 @@ use Rattle.zdd_shared_table.specs.Known.{find}
 use Rattle.zdd_shared_table.specs.Seats.{map_of}
 use Rattle.zdd_shared_table.proofs.Nodes.{asked_node, grown_ended, node_ended}
 use Rattle.zdd_shared_table.proofs.store.NodeStore.node.Goals as goal
-use Rattle.zdd_shared_table.proofs.store.NodeStore.node.Goals.{in-Some, in-None, Joined-found}
+use Rattle.zdd_shared_table.proofs.store.NodeStore.node.Goals.{in-Some, in-None}
 
 pub search-found-requires-clause-node : goal.search-found-requires-clause-node
 search-found-requires-clause-node c =

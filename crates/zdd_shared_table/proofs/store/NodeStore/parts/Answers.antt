@@ -5,7 +5,7 @@ use Rattle.zdd_shared_table.specs.Seats.{map_of}
 use Rattle.zdd_shared_table.proofs.Nodes.{inner_known, HasParts, has_parts}
 use Rattle.zdd_shared_table.proofs.Steps.{allows_read}
 use Rattle.zdd_shared_table.proofs.store.NodeStore.parts.Goals as goal
-use Rattle.zdd_shared_table.proofs.store.NodeStore.parts.Goals.{After-unpack, After-load-arg-1}
+use Rattle.zdd_shared_table.proofs.store.NodeStore.parts.Goals.{After-unpack}
 
 pub load-word-requires : goal.load-word-requires
 load-word-requires c =

@@ -1,0 +1,117 @@
+-- A node of a memory in the store, by copies of its parts.
+use Rattle.std.proofs.Common.{MatchResult, Result, Ok, Err, ◌≡◌, ◌≢◌, ℕ, ◌<◌, List, [], Contains, sym, ◌∙◌, ap, subst, inl}
+use Rattle.std.proofs.lemmas.List.Elements.{All-contains}
+use Rattle.zdd_words.specs.declared.word.Parts.{Parts}
+use Rattle.zdd_families.specs.Family.{IsAbove, branch}
+use Rattle.zdd_families.specs.Map.{Knows, KnowsAs, family, family-empty}
+use Rattle.zdd_families.specs.Canonical.{family-filled}
+use Rattle.family_operations.specs.Due.{Splits}
+use Rattle.family_operations.specs.Nodes.{IsReached, reached_itself, reached_lo, reached_hi}
+use Rattle.family_memory.specs.Memory.{Held, Has, IsSound, IsNodeOf, family_in, map_of as own_map}
+use Rattle.family_memory.specs.After.{knows as own_known}
+use Rattle.zdd_shared_table.specs.Seats.{Seated, IsSoundSeat, map_of}
+use Rattle.zdd_product.specs.Seats.{IsBranch, Went, WentOn, Gave, WasFull}
+use Rattle.zdd_product.specs.After.{Gave-known, WasFull-as, WasFull-next, WentOn-as, WentOn-next, made_after, stays}
+use Rattle.family_copies.specs.declared.copies.Pair.{Pair}
+use Rattle.family_copies.specs.Copies.{AreCopies, IsCopy, copies-grown}
+use Rattle.family_copies.proofs.Parting.{fewer, levels_above, same_terminal}
+
+-- ---- whatever the answer
+
+went_of : {E : Type 0} (is due : List (List ℕ) → Type 0) (before after : Seated) (result : Result ℕ E) → MatchResult result (Gave is due before after) (λ _. WasFull due before after) → Went due before after
+went_of is due before after (Ok r) gave = gave.on.went
+went_of is due before after (Err e) full = full.went
+
+-- ---- what stands already
+
+module _ (held : Held) (r : ℕ) (seat : Seated) (sound : IsSoundSeat seat) where
+  pub terminal_known : r < 2 → Gave (λ f. f ≡ family_in held r) (IsReached (family_in held r)) seat seat r
+  terminal_known small =
+      Gave-known (IsReached (family_in held r)) seat sound (λ f. f ≡ family_in held r) r (inl small, same_terminal (map_of seat) (own_map held) r small)
+
+  pub copy_known : (pairs : List Pair) (shared : ℕ) → AreCopies held (map_of seat) pairs → Contains pairs (record { shared = shared; own = r })
+      → Gave (λ f. f ≡ family_in held r) (IsReached (family_in held r)) seat seat shared
+  copy_known pairs shared are noted =
+      let is : IsCopy held (map_of seat) (record { shared = shared; own = r }) = All-contains (IsCopy held (map_of seat)) pairs (record { shared = shared; own = r }) are noted in
+      Gave-known (IsReached (family_in held r)) seat sound (λ f. f ≡ family_in held r) shared (is.knows, sym is.same)
+
+pub copy_sent : (held : Held) (due : List (List ℕ) → Type 0) (before after : Seated) (r shared : ℕ) → Has held r → Gave (λ f. f ≡ family_in held r) due before after shared → IsCopy held (map_of after) (record { shared = shared; own = r })
+copy_sent held due before after r shared has gave = record { knows = gave.known.0; has = has; same = sym gave.known.1 }
+
+-- ---- the steps
+
+module _ (held : Held) (r : ℕ) (parts : Parts) (sound : IsSound held) (are : IsNodeOf held r parts) where
+  abbrev due : List (List ℕ) → Type 0
+  due = IsReached (family_in held r)
+
+  abbrev lo_due : List (List ℕ) → Type 0
+  lo_due = IsReached (family_in held parts.lo)
+
+  abbrev hi_due : List (List ℕ) → Type 0
+  hi_due = IsReached (family_in held parts.hi)
+
+  some_hi : family_in held parts.hi ≢ []
+  some_hi = family-filled (own_map held) parts.hi sound.closed (own_known held parts.hi sound are.has_hi) are.filled
+
+  splits : Splits parts.level (family_in held r) (family_in held parts.lo) (family_in held parts.hi)
+  splits = record { cut = are.cut; some_with = some_hi }
+
+  to_lo : (f : List (List ℕ)) → lo_due f → due f
+  to_lo f reached = reached_lo splits reached
+
+  to_hi : (f : List (List ℕ)) → hi_due f → due f
+  to_hi f reached = reached_hi splits reached
+
+  pub lo_fewer : levels_above (own_map held) parts.lo < levels_above (own_map held) r
+  lo_fewer = fewer (own_map held) r parts.lo parts.level are.unit are.level are.lo_above
+
+  pub hi_fewer : levels_above (own_map held) parts.hi < levels_above (own_map held) r
+  hi_fewer = fewer (own_map held) r parts.hi parts.level are.unit are.level are.hi_above
+
+  pub lo_full : (s0 s1 : Seated) → WasFull lo_due s0 s1 → WasFull due s0 s1
+  lo_full s0 s1 full = WasFull-as lo_due due to_lo s0 s1 full
+
+  module _ (s0 s1 : Seated) (lo : ℕ) (gave_lo : Gave (λ f. f ≡ family_in held parts.lo) lo_due s0 s1 lo) where
+    on1 : WentOn due s0 s1
+    on1 = WentOn-as lo_due due to_lo s0 s1 gave_lo.on
+
+    pub hi_full : (s2 : Seated) → WasFull hi_due s1 s2 → WasFull due s0 s2
+    hi_full s2 full = WasFull-next due hi_due s0 s1 s2 on1 to_hi full
+
+    module _ (s2 : Seated) (hi : ℕ) (gave_hi : Gave (λ f. f ≡ family_in held parts.hi) hi_due s1 s2 hi) where
+      on2 : WentOn due s0 s2
+      on2 = WentOn-next due hi_due s0 s1 s2 on1 to_hi gave_hi.on
+
+      lo_at : KnowsAs (map_of s2) lo (family (map_of s1) lo)
+      lo_at = stays s1 s2 lo gave_lo.on.went.sound gave_hi.on.went.sound gave_hi.on.went.keeps gave_lo.known.0
+
+      pub knows_lo : Knows (map_of s2) lo
+      knows_lo = lo_at.0
+
+      lo_is : family (map_of s2) lo ≡ family_in held parts.lo
+      lo_is = lo_at.1 ∙ gave_lo.known.1
+
+      pub filled : hi ≢ 0
+      filled none = some_hi (sym gave_hi.known.1 ∙ ap (family (map_of s2)) none ∙ family-empty (map_of s2))
+
+      pub lo_above : IsAbove parts.level (family (map_of s2) lo)
+      lo_above = subst (IsAbove parts.level) (sym lo_is) are.cut.lo_above
+
+      pub hi_above : IsAbove parts.level (family (map_of s2) hi)
+      hi_above = subst (IsAbove parts.level) (sym gave_hi.known.1) are.cut.hi_above
+
+      branch_is : branch parts.level (family (map_of s2) lo) (family (map_of s2) hi) ≡ family_in held r
+      branch_is = ap (λ f. branch parts.level f (family (map_of s2) hi)) lo_is ∙ ap (branch parts.level (family_in held parts.lo)) gave_hi.known.1 ∙ sym are.cut.is
+
+      abbrev made : List (List ℕ) → Type 0
+      made = IsBranch parts.level (family (map_of s2) lo) (family (map_of s2) hi)
+
+      module _ {E : Type 0} (s3 : Seated) (result : Result ℕ E) (m : MatchResult result (Gave made made s2 s3) (λ _. WasFull made s2 s3)) where
+        pub sent : MatchResult result (Gave (λ f. f ≡ family_in held r) due s0 s3) (λ _. WasFull due s0 s3)
+        sent = made_after made (λ f. f ≡ family_in held r) due (λ f e. e ∙ branch_is) (λ f e. subst due (sym (e ∙ branch_is)) (reached_itself splits)) s0 s2 s3 on2 result m
+
+        went : Went made s2 s3
+        went = went_of made made s2 s3 result m
+
+        pub copies_kept : (pairs : List Pair) → AreCopies held (map_of s2) pairs → AreCopies held (map_of s3) pairs
+        copies_kept pairs are_copies = copies-grown held (map_of s2) (map_of s3) on2.went.sound.closed went.sound.closed went.keeps pairs are_copies

@@ -1,0 +1,211 @@
+-- Statements that keep their form stand for a tree, or one of the classes of faults occurs first.
+use Rattle.std.proofs.Common.{◌≡◌, ℕ, ◌+◌, ◌-◌, ◌<◌, ◌≤◌, ◌⊎◌, Bool, true, false, List, [], ◌∷◌, ◌++◌, map, drop, refl, sym, ap, ◌∙◌, inl, inr, arith}
+use Rattle.std.specs.Prelude.{◌==◌, All, Option, Some, None, filter_map}
+use Rattle.std.specs.List.{cons_option, range_with_len}
+use Rattle.std.proofs.lemmas.Bool.{cases_lt, cond-false, or_from}
+use Rattle.std.proofs.lemmas.List.{get_or_past}
+use Rattle.std.proofs.lemmas.List.FromFn.{get_or-map-range_with_len, length-map-range_with_len}
+use Rattle.std.proofs.lemmas.List.Elements.{All-head, All-tail}
+use Rattle.unit_sets.specs.UnitList.{among}
+use Rattle.fault_model.specs.declared.node.GateKind.{GateKind}
+use Rattle.fault_model.specs.declared.node.GateKind.TheVariants.{And, Or, Votes, Pand, Por, Seq, Fdep, Csp, Wsp, Hsp}
+use Rattle.fault_model.specs.declared.node.Place.{Place}
+use Rattle.fault_model.specs.Tree.{FaultTree, is_fdep_kind}
+use Rattle.fault_model.specs.Trigger.{trigger_by}
+use Rattle.fault_model.specs.WellFormed.{IsTree}
+use Rattle.graph_cycles.specs.Surveys.{survey_exists}
+use Rattle.galileo_tree.specs.ReadTree.{ReadTree, KeepsForm}
+use Rattle.tree_check.specs.declared.fault.CheckCode.{CheckCode}
+use Rattle.tree_check.specs.declared.fault.CheckCode.TheVariants.{NoToplevel, TwoToplevels, DuplicateName, Undefined, Votes as WrongVotes, DummyInput, NoInputs, FdepShape, DependentGate, SpareNotBasic, SharedSpare, Replicated, TopIsFdep, Cycle, TooManyUnits, TooManyGates}
+use Rattle.tree_check.specs.declared.numbered.Numbered.{Numbered}
+use Rattle.tree_check.specs.declared.numbered.NumberedGate.{NumberedGate}
+use Rattle.tree_check.specs.Checked.{IsFirstFault, NoneOf, Stands, before_cycles, places}
+use Rattle.tree_check.specs.Classes.{first}
+use Rattle.tree_check.specs.Marked.{marked_places}
+use Rattle.tree_check.specs.Naming.{differ}
+use Rattle.tree_check.specs.Numbered.{numbered_gates, unit_total}
+use Rattle.tree_check.specs.Said.{definitions, names}
+use Rattle.tree_check.specs.TreeOf.{AreRanks, FirstOnCycle, HasNoCycle, input_lists, numbers, tree_of}
+use Rattle.tree_check.specs.Triggers.{HasUnitDependents, IsGraphOf, dependents_by, row_at, written_gate}
+use Rattle.tree_check.proofs.Differ.{differ-names, differ-repeats}
+use Rattle.tree_check.proofs.Faultless.{IsTree-faultless}
+use Rattle.tree_check.proofs.GoodGates.{unit_dependents}
+use Rattle.tree_check.proofs.StatementNames.{inputs_known}
+use Rattle.tree_check.proofs.Surveyed.{IsGraph-of, Surveyed, are_ranks, cycle_found, no_cycle}
+
+-- ---- the graph of what each node reads
+
+none_among : (units unit : ℕ) (inputs : List Numbered) → All (λ input. input.number ≤ units) inputs → units < unit → among (numbers inputs) unit ≡ false
+none_among units unit [] low above = refl
+none_among units unit (input ∷ inputs) low above =
+    let here : input.number ≤ units = All-head (λ (i : Numbered). i.number ≤ units) input inputs low in
+    let differs : (input.number == unit) ≡ false = grind arith in
+    or_from (input.number == unit) (among (numbers inputs) unit) differs (none_among units unit inputs (All-tail (λ (i : Numbered). i.number ≤ units) input inputs low) above)
+
+none_triggers : (units unit : ℕ) (kind : GateKind) (inputs : List Numbered) → All (λ input. input.number ≤ units) (dependents_by (is_fdep_kind kind) inputs) → units < unit
+    → trigger_by unit (kind, numbers inputs) ≡ None
+none_triggers units unit Fdep [] low above = refl
+none_triggers units unit Fdep (trigger ∷ dependents) low above =
+    cond-false (among (numbers dependents) unit) (Some trigger.number) None (none_among units unit dependents low above)
+none_triggers units unit And inputs low above = refl
+none_triggers units unit Or inputs low above = refl
+none_triggers units unit (Votes least of) inputs low above = refl
+none_triggers units unit Pand inputs low above = refl
+none_triggers units unit Por inputs low above = refl
+none_triggers units unit Seq inputs low above = refl
+none_triggers units unit Csp inputs low above = refl
+none_triggers units unit Wsp inputs low above = refl
+none_triggers units unit Hsp inputs low above = refl
+
+untriggered : (units unit : ℕ) (gates : List NumberedGate) → HasUnitDependents units gates → units < unit → filter_map (trigger_by unit) (map written_gate gates) ≡ []
+untriggered units unit [] low above = refl
+untriggered units unit (gate ∷ gates) low above =
+    ap (λ t. cons_option t (filter_map (trigger_by unit) (map written_gate gates)))
+    (none_triggers units unit gate.kind gate.inputs (All-head (λ (g : NumberedGate). All (λ (d : Numbered). d.number ≤ units) (dependents_by (is_fdep_kind g.kind) g.inputs)) gate gates low) above)
+    ∙ untriggered units unit gates (All-tail (λ (g : NumberedGate). All (λ (d : Numbered). d.number ≤ units) (dependents_by (is_fdep_kind g.kind) g.inputs)) gate gates low) above
+
+module _ (units : ℕ) (gates : List NumberedGate) (low : HasUnitDependents units gates) where
+  abbrev triggers_at : ℕ → List ℕ
+  triggers_at unit = filter_map (trigger_by unit) (map written_gate gates)
+
+  abbrev trigger_rows : List (List ℕ)
+  trigger_rows = map triggers_at (range_with_len 0 (units + 1))
+
+  row_is : (unit : ℕ) → row_at trigger_rows unit ≡ triggers_at unit
+  row_is unit = elim (cases_lt unit (units + 1)) [
+    | inl reach ↦ get_or-map-range_with_len triggers_at 0 (units + 1) unit unit [] reach (omega arith)
+    | inr past ↦
+        get_or_past trigger_rows unit [] (omega (arith, past, length-map-range_with_len triggers_at 0 (units + 1)))
+        ∙ sym (untriggered units unit gates low (omega (arith, past)))
+  ]
+
+  abbrev graph : List (List ℕ)
+  graph = trigger_rows ++ input_lists units gates
+
+  is_graph_of : IsGraphOf units gates graph
+  is_graph_of = record {
+    rows = trigger_rows;
+    is = refl;
+    triggers = record {
+      all = length-map-range_with_len triggers_at 0 (units + 1);
+      triggers = λ unit other. ap (λ row. among row other) (row_is unit);
+    };
+  }
+
+-- ---- classes one after another
+
+some_or_none : (found : List Place) → (found ≡ []) ⊎ ((place : Place) × (first found ≡ Some place))
+some_or_none [] = inl refl
+some_or_none (place ∷ more) = inr (place, refl)
+
+abbrev HasFault : ReadTree → Type 0
+HasFault read = (code : CheckCode) × (place : Place) × IsFirstFault read code place
+
+abbrev HasTree : ReadTree → Type 0
+HasTree read = (tree : FaultTree) × Stands read tree × IsTree tree
+
+module _ (read : ReadTree) where
+  before : NoneOf read before_cycles ⊎ HasFault read
+  before =
+      elim (some_or_none (places read NoToplevel)) [
+        | inr (place, is) ↦ inr (NoToplevel, place, (tt, is))
+        | inl none0 ↦ elim (some_or_none (places read TwoToplevels)) [
+          | inr (place, is) ↦ inr (TwoToplevels, place, ((none0, tt), is))
+          | inl none1 ↦ elim (some_or_none (places read DuplicateName)) [
+            | inr (place, is) ↦ inr (DuplicateName, place, ((none0, (none1, tt)), is))
+            | inl none2 ↦ elim (some_or_none (places read Undefined)) [
+              | inr (place, is) ↦ inr (Undefined, place, ((none0, (none1, (none2, tt))), is))
+              | inl none3 ↦ elim (some_or_none (places read WrongVotes)) [
+                | inr (place, is) ↦ inr (WrongVotes, place, ((none0, (none1, (none2, (none3, tt)))), is))
+                | inl none4 ↦ elim (some_or_none (places read DummyInput)) [
+                  | inr (place, is) ↦ inr (DummyInput, place, ((none0, (none1, (none2, (none3, (none4, tt))))), is))
+                  | inl none5 ↦ elim (some_or_none (places read NoInputs)) [
+                    | inr (place, is) ↦ inr (NoInputs, place, ((none0, (none1, (none2, (none3, (none4, (none5, tt)))))), is))
+                    | inl none6 ↦ elim (some_or_none (places read FdepShape)) [
+                      | inr (place, is) ↦ inr (FdepShape, place, ((none0, (none1, (none2, (none3, (none4, (none5, (none6, tt))))))), is))
+                      | inl none7 ↦ elim (some_or_none (places read DependentGate)) [
+                        | inr (place, is) ↦ inr (DependentGate, place, ((none0, (none1, (none2, (none3, (none4, (none5, (none6, (none7, tt)))))))), is))
+                        | inl none8 ↦ elim (some_or_none (places read SpareNotBasic)) [
+                          | inr (place, is) ↦ inr (SpareNotBasic, place, ((none0, (none1, (none2, (none3, (none4, (none5, (none6, (none7, (none8, tt))))))))), is))
+                          | inl none9 ↦ elim (some_or_none (places read SharedSpare)) [
+                            | inr (place, is) ↦ inr (SharedSpare, place, ((none0, (none1, (none2, (none3, (none4, (none5, (none6, (none7, (none8, (none9, tt)))))))))), is))
+                            | inl none10 ↦ elim (some_or_none (places read Replicated)) [
+                              | inr (place, is) ↦ inr (Replicated, place, ((none0, (none1, (none2, (none3, (none4, (none5, (none6, (none7, (none8, (none9, (none10, tt))))))))))), is))
+                              | inl none11 ↦ elim (some_or_none (places read TopIsFdep)) [
+                                | inr (place, is) ↦ inr (TopIsFdep, place, ((none0, (none1, (none2, (none3, (none4, (none5, (none6, (none7, (none8, (none9, (none10, (none11, tt)))))))))))), is))
+                                | inl none12 ↦ inl (none0, (none1, (none2, (none3, (none4, (none5, (none6, (none7, (none8, (none9, (none10, (none11, (none12, tt)))))))))))))
+                              ]
+                            ]
+                          ]
+                        ]
+                      ]
+                    ]
+                  ]
+                ]
+              ]
+            ]
+          ]
+        ]
+      ]
+
+  -- whether a definition leads to itself
+  module _ (none : NoneOf read before_cycles) where
+    once : differ (names read.statements) ≡ true
+    once = differ-names read.statements ∙ differ-repeats [] (definitions read.statements) refl none.1.1.0
+
+    low : HasUnitDependents (unit_total read.statements) (numbered_gates read.statements)
+    low = unit_dependents (unit_total read.statements) (numbered_gates read.statements) none.1.1.1.1.1.1.1.1.0
+
+    abbrev read_graph : List (List ℕ)
+    read_graph = graph (unit_total read.statements) (numbered_gates read.statements) low
+
+    surveyed : (marks : List Bool) × (ranks : List ℕ) × Surveyed read.statements read_graph marks ranks
+    surveyed =
+        let is = is_graph_of (unit_total read.statements) (numbered_gates read.statements) low in
+        let known = inputs_known read.statements none.1.1.1.0 in
+        let (marks, ranks, survey) = survey_exists read_graph (IsGraph-of read.statements read_graph is known) in (
+          marks,
+          ranks,
+          record { graph_is = is; each = known; once = once; exact = survey.exact; ranked = survey.ranked; ranks_all = survey.all },
+        )
+
+    some_place : (found : Option Place) → (found ≡ None) ⊎ ((place : Place) × (found ≡ Some place))
+    some_place None = inl refl
+    some_place (Some place) = inr (place, refl)
+
+    cycles : (HasNoCycle read.statements × (ranks : List ℕ) × AreRanks read.statements ranks) ⊎ ((place : Place) × FirstOnCycle read.statements place)
+    cycles =
+        let (marks, ranks, survey) = surveyed in
+        elim (some_place (first (marked_places marks (names read.statements) (definitions read.statements)))) [
+          | inl unmarked ↦ inl (
+            no_cycle read.statements read_graph marks ranks survey unmarked,
+            drop 1 ranks,
+            are_ranks read.statements read_graph marks ranks survey unmarked,
+          )
+          | inr (place, found) ↦ inr (place, cycle_found read.statements read_graph marks ranks survey place found)
+        ]
+
+  tree_of_ranks : All KeepsForm read.statements → (none : NoneOf read before_cycles) → HasNoCycle read.statements → (ranks : List ℕ) → AreRanks read.statements ranks
+      → HasTree read ⊎ HasFault read
+  tree_of_ranks form none acyclic ranks are =
+      elim (some_or_none (places read TooManyUnits)) [
+        | inr (place, is) ↦ inr (TooManyUnits, place, (none, acyclic, (tt, is)))
+        | inl few_units ↦ elim (some_or_none (places read TooManyGates)) [
+          | inr (place, is) ↦ inr (TooManyGates, place, (none, acyclic, ((few_units, tt), is)))
+          | inl few_gates ↦ inl (
+            tree_of read.statements ranks,
+            record { faultless = record { before = none; acyclic = acyclic; after = (few_units, (few_gates, tt)) }; is = refl },
+            IsTree-faultless read ranks form (once none) none (few_units, (few_gates, tt)) are.all are.ranked,
+          )
+        ]
+      ]
+
+pub tree_or_fault : (read : ReadTree) → All KeepsForm read.statements → HasTree read ⊎ HasFault read
+tree_or_fault read form =
+    elim (before read) [
+      | inr fault ↦ inr fault
+      | inl none ↦ elim (cycles read none) [
+        | inl (acyclic, ranks, are) ↦ tree_of_ranks read form none acyclic ranks are
+        | inr (place, on_cycle) ↦ inr (Cycle, place, (none, on_cycle))
+      ]
+    ]
