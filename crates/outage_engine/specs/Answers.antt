@@ -1,5 +1,5 @@
--- An answer before it is written, and what it has to do with the deck.
-use Rattle.std.specs.Prelude.{◌≡◌, ℕ, ◌<◌, ◌≤◌, List, [], All, Option, Result, Err}
+-- An answer before it is written, or why there is none, and what it has to do with the deck.
+use Rattle.std.specs.Prelude.{◌≡◌, ◌⊎◌, ℕ, ◌<◌, ◌≤◌, List, All, Option, Result, Err}
 use Rattle.unit_sets.specs.CutOrder.{weight, weight_limit}
 use Rattle.fault_model.specs.Tree.{FaultTree, IsUnitOf}
 use Rattle.fault_model.specs.Cut.{IsCutList}
@@ -9,15 +9,17 @@ use Rattle.cut_sequences.specs.Orders.{order_limit, order_lists, order_total}
 use Rattle.crew_script.specs.declared.dockets.Crew.{Crew}
 use Rattle.crew_script.specs.declared.fault.CrewCode.{CrewCode}
 use Rattle.crew_script.specs.declared.fault.CrewFault.{CrewFault}
-use Rattle.crew_script.specs.declared.fault.CrewFault.TheVariants.{Fault}
+use Rattle.crew_script.specs.declared.fault.CrewFault.TheVariants as crew
 use Rattle.galileo_tree.specs.declared.fault.ParseFault.{ParseFault}
 use Rattle.galileo_tree.specs.declared.fault.ParseFault.TheVariants as parse
 use Rattle.galileo_tree.specs.Lexeme.{place_at}
 use Rattle.galileo_tree.specs.ReadTree.{ReadTree}
 use Rattle.tree_check.specs.Checked.{IsFirstFault}
 use Rattle.tree_check.specs.declared.fault.CheckCode.{CheckCode}
+use Rattle.board_report.specs.CheckText.{check_text}
 use Rattle.board_report.specs.CutsText.{cuts_text, listed_with}
 use Rattle.board_report.specs.OrdersOfUnits.{AreOrdersOf}
+use Rattle.board_report.specs.PrintText.{print_text}
 use Rattle.board_report.specs.Refusals.{fault_line, notice_line}
 use Rattle.board_report.specs.declared.fault.FaultCode.TheVariants as report
 use Rattle.board_report.specs.declared.notice.Notice.TheVariants as notice
@@ -25,41 +27,53 @@ use Rattle.outage_engine.specs.declared.status.Status.{Status}
 use Rattle.outage_engine.specs.declared.status.Status.TheVariants as status
 use Rattle.outage_engine.specs.declared.status.Method.TheVariants.{Plain, Lists}
 use Rattle.outage_engine.specs.declared.listing.Listing.{Listing}
-use Rattle.outage_engine.specs.declared.listing.Measured.{Measured}
-use Rattle.outage_engine.specs.declared.listing.Measured.TheVariants as measured
 use Rattle.outage_engine.specs.declared.answer.Answer.{Answer}
-use Rattle.outage_engine.specs.declared.answer.Answer.TheVariants.{Cuts, Help, Refused, ListLimit, OrderLimit, Usage, ReadFault, TooLong}
+use Rattle.outage_engine.specs.declared.answer.Answer.TheVariants.{Cuts, Checked, Printed, Help, Refused}
+use Rattle.outage_engine.specs.declared.refusal.Refusal.{Refusal}
+use Rattle.outage_engine.specs.declared.refusal.Refusal.TheVariants.{Usage, ReadFault, TooLong, Fault, ListLimit, OrderLimit}
+use Rattle.outage_engine.specs.declared.refusal.RunEnd.{RunEnd}
+use Rattle.outage_engine.specs.declared.refusal.RunEnd.TheVariants as run
+use Rattle.outage_engine.specs.declared.deck.CrewPart.{CrewPart}
 use Rattle.outage_engine.specs.declared.deck.DeckEnd.{DeckEnd}
 use Rattle.outage_engine.specs.declared.deck.DeckEnd.TheVariants as end
-use Rattle.outage_engine.specs.Deck.{IsTreeFault}
-use Rattle.outage_engine.specs.Finding.{Finds, Found, Faulty, Ready, TooHeavy, TooManyOrders, Wants}
-use Rattle.outage_engine.specs.Gives.{IsBeyond, OfInput}
-use Rattle.outage_engine.specs.Texts.{for_cuts}
+use Rattle.outage_engine.specs.Deck.{IsDeckFault, IsTreeFault, StandsFor}
+use Rattle.outage_engine.specs.Finding.{Finds, Found, Faulty, TooHeavy, TooManyOrders, Wants}
+use Rattle.outage_engine.specs.Gives.{Gives, IsBeyond, OfInput}
 
 -- ---- an answer and its text
 
+abbrev pub refusal_status : Refusal → Status
+refusal_status Usage = status.Usage
+refusal_status ReadFault = status.ReadFault
+refusal_status TooLong = status.TooLong
+refusal_status (Fault fault) = status.Refused fault
+refusal_status ListLimit = status.ListLimit
+refusal_status OrderLimit = status.OrderLimit
+
+abbrev pub refusal_line : Refusal → List ℕ
+refusal_line Usage = notice_line notice.Usage
+refusal_line ReadFault = notice_line notice.ReadFault
+refusal_line TooLong = notice_line notice.TooLong
+refusal_line (Fault fault) = fault_line fault
+refusal_line ListLimit = notice_line notice.ListLimit
+refusal_line OrderLimit = notice_line notice.OrderLimit
+
 abbrev pub status_of : Answer → Status
 status_of (Cuts listing) = status.Done Lists
+status_of (Checked deck) = status.Done Plain
+status_of (Printed tree) = status.Done Plain
 status_of Help = status.Done Plain
-status_of (Refused fault) = status.Refused fault
-status_of ListLimit = status.ListLimit
-status_of OrderLimit = status.OrderLimit
-status_of Usage = status.Usage
-status_of ReadFault = status.ReadFault
-status_of TooLong = status.TooLong
+status_of (Refused refusal) = refusal_status refusal
 
 abbrev pub listing_text : Listing → List ℕ
 listing_text listing = cuts_text listing.tree (listed_with listing.cuts listing.orders)
 
 abbrev pub text_of : Answer → List ℕ
 text_of (Cuts listing) = listing_text listing
+text_of (Checked deck) = check_text deck.tree deck.crews
+text_of (Printed tree) = print_text tree
 text_of Help = notice_line notice.Usage
-text_of (Refused fault) = fault_line fault
-text_of ListLimit = notice_line notice.ListLimit
-text_of OrderLimit = notice_line notice.OrderLimit
-text_of Usage = notice_line notice.Usage
-text_of ReadFault = notice_line notice.ReadFault
-text_of TooLong = notice_line notice.TooLong
+text_of (Refused refusal) = refusal_line refusal
 
 -- its cut sets and their orders are of units of its tree, so that it can be written
 abbrev pub IsOfUnits : Listing → Type 0
@@ -67,13 +81,40 @@ IsOfUnits listing = All (All (IsUnitOf listing.tree)) listing.cuts × AreOrdersO
 
 abbrev pub IsWritable : Answer → Type 0
 IsWritable (Cuts listing) = IsOfUnits listing
+IsWritable (Checked deck) = Unit {0}
+IsWritable (Printed tree) = Unit {0}
 IsWritable Help = Unit {0}
-IsWritable (Refused fault) = Unit {0}
-IsWritable ListLimit = Unit {0}
-IsWritable OrderLimit = Unit {0}
-IsWritable Usage = Unit {0}
-IsWritable ReadFault = Unit {0}
-IsWritable TooLong = Unit {0}
+IsWritable (Refused refusal) = Unit {0}
+
+-- ---- why there is no answer
+
+-- a refusal has this cause; want of memory is free
+abbrev pub IfRefused : (Refusal → Type 0) → RunEnd → Type 0
+IfRefused P (run.Refused refusal) = P refusal
+IfRefused P run.NoMemory = Unit {0}
+
+-- why a command that wants this is refused, for the input that the source held, of which it held a rest afterwards; its faults rose in
+-- this sense
+abbrev pub IsRefusalFor : Wants → Option (List ℕ) → Option (List ℕ) → Type 0 → Refusal → Type 0
+IsRefusalFor wants held left rose ReadFault = rose
+IsRefusalFor wants held left rose TooLong = IsBeyond held left
+IsRefusalFor wants held left rose (Fault fault) = OfInput held left (λ bytes. Finds wants bytes (Faulty fault))
+IsRefusalFor wants held left rose ListLimit = OfInput held left (λ bytes. Finds wants bytes TooHeavy)
+IsRefusalFor wants held left rose OrderLimit = OfInput held left (λ bytes. Finds wants bytes TooManyOrders)
+IsRefusalFor wants held left rose Usage = ⊥
+
+-- why no deck is read
+abbrev pub IsReadRefusal : CrewPart → Option (List ℕ) → Option (List ℕ) → Type 0 → Refusal → Type 0
+IsReadRefusal part held left rose ReadFault = rose
+IsReadRefusal part held left rose TooLong = IsBeyond held left
+IsReadRefusal part held left rose (Fault fault) = OfInput held left (λ bytes. IsDeckFault part bytes fault)
+IsReadRefusal part held left rose ListLimit = ⊥
+IsReadRefusal part held left rose OrderLimit = ⊥
+IsReadRefusal part held left rose Usage = ⊥
+
+-- why words are refused
+abbrev pub IsRefusalBy : List (List ℕ) → Option (List ℕ) → Option (List ℕ) → Type 0 → Refusal → Type 0
+IsRefusalBy words held left rose refusal = Gives words held left rose (refusal_status refusal) (refusal_line refusal)
 
 -- ---- what the cut sets of a tree give
 
@@ -85,70 +126,19 @@ pub record IsListingOf (most : ℕ) (tree : FaultTree) (listing : Listing) : Typ
   pub orders : listing.orders ≡ order_lists tree listing.cuts most
   pub few : order_total listing.orders ≤ order_limit
 
-abbrev pub IsMeasured : ℕ → FaultTree → Measured → Type 0
-IsMeasured most tree (measured.Listed listing) = IsListingOf most tree listing
-IsMeasured most tree measured.ListLimit = HasHeavyCutList tree
-IsMeasured most tree measured.OrderLimit =
+-- a limit is passed
+abbrev pub IsLimitOf : ℕ → FaultTree → Refusal → Type 0
+IsLimitOf most tree ListLimit = HasHeavyCutList tree
+IsLimitOf most tree OrderLimit =
     (cuts : List (List ℕ)) × IsCutList tree cuts × (weight cuts ≤ weight_limit) × (order_limit < order_total (order_lists tree cuts most))
-
--- the same, as an answer
-abbrev pub IsTreeAnswer : ℕ → FaultTree → Answer → Type 0
-IsTreeAnswer most tree (Cuts listing) = IsListingOf most tree listing
-IsTreeAnswer most tree ListLimit = HasHeavyCutList tree
-IsTreeAnswer most tree OrderLimit = IsMeasured most tree measured.OrderLimit
-IsTreeAnswer most tree Help = ⊥
-IsTreeAnswer most tree (Refused fault) = ⊥
-IsTreeAnswer most tree Usage = ⊥
-IsTreeAnswer most tree ReadFault = ⊥
-IsTreeAnswer most tree TooLong = ⊥
-
--- it can be written
-abbrev pub IsWritableListing : Measured → Type 0
-IsWritableListing (measured.Listed listing) = IsOfUnits listing
-IsWritableListing measured.ListLimit = Unit {0}
-IsWritableListing measured.OrderLimit = Unit {0}
-
--- ---- answers for a deck
+IsLimitOf most tree ReadFault = ⊥
+IsLimitOf most tree TooLong = ⊥
+IsLimitOf most tree (Fault fault) = ⊥
+IsLimitOf most tree Usage = ⊥
 
 -- what was found, as the deck's tree, cut list and crews
-abbrev pub found_in : Listing → List Crew → Found
+abbrev pub found_in : Listing → Option (List Crew) → Found
 found_in listing crews = record { tree = listing.tree; cuts = listing.cuts; crews = crews }
-
--- the answer tells that a deck is refused, and why
-abbrev pub IsRefusalOf : Wants → List ℕ → Answer → Type 0
-IsRefusalOf wants bytes (Refused fault) = Finds wants bytes (Faulty fault)
-IsRefusalOf wants bytes ListLimit = Finds wants bytes TooHeavy
-IsRefusalOf wants bytes OrderLimit = Finds wants bytes TooManyOrders
-IsRefusalOf wants bytes (Cuts listing) = ⊥
-IsRefusalOf wants bytes Help = ⊥
-IsRefusalOf wants bytes Usage = ⊥
-IsRefusalOf wants bytes ReadFault = ⊥
-IsRefusalOf wants bytes TooLong = ⊥
-
--- the answer of `cuts`
-abbrev pub IsCutsAnswer : ℕ → List ℕ → Answer → Type 0
-IsCutsAnswer most bytes (Cuts listing) =
-    Finds (for_cuts most) bytes (Ready (found_in listing [])) × (listing.orders ≡ order_lists listing.tree listing.cuts most)
-IsCutsAnswer most bytes (Refused fault) = IsRefusalOf (for_cuts most) bytes (Refused fault)
-IsCutsAnswer most bytes ListLimit = IsRefusalOf (for_cuts most) bytes ListLimit
-IsCutsAnswer most bytes OrderLimit = IsRefusalOf (for_cuts most) bytes OrderLimit
-IsCutsAnswer most bytes Help = ⊥
-IsCutsAnswer most bytes Usage = ⊥
-IsCutsAnswer most bytes ReadFault = ⊥
-IsCutsAnswer most bytes TooLong = ⊥
-
--- ---- answers for an input
-
--- what `cuts` gives for an input that the source held, of which it held a rest afterwards; its faults rose in this sense
-abbrev pub IsCutsAnswerTo : ℕ → Option (List ℕ) → Option (List ℕ) → Type 0 → Answer → Type 0
-IsCutsAnswerTo most held left rose (Cuts listing) = OfInput held left (λ bytes. IsCutsAnswer most bytes (Cuts listing))
-IsCutsAnswerTo most held left rose (Refused fault) = OfInput held left (λ bytes. IsCutsAnswer most bytes (Refused fault))
-IsCutsAnswerTo most held left rose ListLimit = OfInput held left (λ bytes. IsCutsAnswer most bytes ListLimit)
-IsCutsAnswerTo most held left rose OrderLimit = OfInput held left (λ bytes. IsCutsAnswer most bytes OrderLimit)
-IsCutsAnswerTo most held left rose ReadFault = rose
-IsCutsAnswerTo most held left rose TooLong = IsBeyond held left
-IsCutsAnswerTo most held left rose Help = ⊥
-IsCutsAnswerTo most held left rose Usage = ⊥
 
 -- ---- why there is no tree or there are no crews
 
@@ -169,7 +159,22 @@ end_of (parse.Expected wanted place) = end.Fault (record { code = report.Expecte
 end_of parse.NoMemory = end.NoMemory
 
 -- of a crew part
-abbrev pub IsCrewEnd : Result (List Crew) CrewFault → DeckEnd → Type 0
+abbrev pub IsCrewEnd : {A : Type 0} → Result A CrewFault → DeckEnd → Type 0
 IsCrewEnd said (end.Fault fault) =
-    (code : CrewCode) × (place : Place) × (said ≡ Err (Fault code place)) × (fault ≡ record { code = report.Crew code; place = place })
+    (code : CrewCode) × (place : Place) × (said ≡ Err (crew.Fault code place)) × (fault ≡ record { code = report.Crew code; place = place })
 IsCrewEnd said end.NoMemory = Unit {0}
+
+-- of a tree part, or of the crew part behind it
+abbrev pub IsPartsEnd : {A : Type 0} → List ℕ → Result A CrewFault → DeckEnd → Type 0
+IsPartsEnd bytes said (end.Fault fault) = IsTreeFault bytes fault ⊎ ((tree : FaultTree) × StandsFor bytes tree × IsCrewEnd said (end.Fault fault))
+IsPartsEnd bytes said end.NoMemory = Unit {0}
+
+-- of a deck
+abbrev pub IsDeckEnd : CrewPart → List ℕ → DeckEnd → Type 0
+IsDeckEnd part bytes (end.Fault fault) = IsDeckFault part bytes fault
+IsDeckEnd part bytes end.NoMemory = Unit {0}
+
+-- as the end of a run
+abbrev pub run_end : DeckEnd → RunEnd
+run_end (end.Fault fault) = run.Refused (Fault fault)
+run_end end.NoMemory = run.NoMemory

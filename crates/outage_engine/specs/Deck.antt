@@ -1,7 +1,8 @@
--- What the bytes of a deck stand for: the tree of its tree part and the crews of its crew part, or their faults.
+-- What the bytes of a deck stand for: the tree of its tree part and the crews of its crew part, or the first fault.
 use Rattle.std.specs.Prelude.{◌≡◌, ℕ, List, take, drop, Option, Some, None, Result, Ok, Err}
 use Rattle.fault_model.specs.Tree.{FaultTree}
 use Rattle.fault_model.specs.WellFormed.{IsTree}
+use Rattle.fault_model.specs.declared.node.Place.{Place}
 use Rattle.galileo_lexer.specs.Spot.{place_behind}
 use Rattle.galileo_tree.specs.declared.fault.ParseFault.{ParseFault}
 use Rattle.galileo_tree.specs.declared.fault.ParseFault.TheVariants as parse
@@ -14,10 +15,14 @@ use Rattle.crew_script.specs.Crews.{crews_of}
 use Rattle.crew_script.specs.Deck.{split_of}
 use Rattle.crew_script.specs.declared.deck.CrewsAt.{CrewsAt}
 use Rattle.crew_script.specs.declared.dockets.Crew.{Crew}
+use Rattle.crew_script.specs.declared.fault.CrewCode.{CrewCode}
 use Rattle.crew_script.specs.declared.fault.CrewCode.TheVariants.{NoCrewPart}
 use Rattle.crew_script.specs.declared.fault.CrewFault.{CrewFault}
+use Rattle.crew_script.specs.declared.fault.CrewFault.TheVariants.{Fault}
 use Rattle.board_report.specs.declared.fault.DeckFault.{DeckFault}
 use Rattle.board_report.specs.declared.fault.FaultCode.TheVariants as report
+use Rattle.outage_engine.specs.declared.deck.CrewPart.{CrewPart}
+use Rattle.outage_engine.specs.declared.deck.CrewPart.TheVariants.{Unread, IfAny, Needed}
 
 -- ---- the tree part
 
@@ -58,3 +63,38 @@ crew_part bytes = crews_behind bytes (split_of bytes).crews
 -- a deck without a crew part, told at its end
 abbrev pub no_crew_part : List ℕ → DeckFault
 no_crew_part bytes = record { code = report.Crew NoCrewPart; place = place_at (place_behind bytes) }
+
+-- ---- both parts, the crew part as a command takes it
+
+-- a crew part is needed, and there is none
+abbrev pub LacksCrews : CrewPart → List ℕ → Type 0
+LacksCrews part bytes = (part ≡ Needed) × (crew_part bytes ≡ None)
+
+-- what is read of a crew part: nothing where it is passed over
+abbrev pub part_read : {A : Type 0} → CrewPart → Option A → Option A
+part_read Unread said = None
+part_read IfAny said = said
+part_read Needed said = said
+
+-- the crews that were read, none where there was nothing to read
+abbrev pub crews_said : Option (Result (List Crew) CrewFault) → Result (Option (List Crew)) CrewFault
+crews_said None = Ok None
+crews_said (Some (Ok crews)) = Ok (Some crews)
+crews_said (Some (Err fault)) = Err fault
+
+abbrev pub crews_read : CrewPart → List ℕ → Result (Option (List Crew)) CrewFault
+crews_read part bytes = crews_said (part_read part (crew_part bytes))
+
+-- The deck's first fault, in the order in which faults count: no crew part where one is needed, the fault of the tree part, the fault of
+-- the crew part.
+pub data IsDeckFault (part : CrewPart) (bytes : List ℕ) (fault : DeckFault) : Type 0 where
+  no_crews : LacksCrews part bytes → fault ≡ no_crew_part bytes → IsDeckFault part bytes fault
+  bad_tree : ¬ LacksCrews part bytes → IsTreeFault bytes fault → IsDeckFault part bytes fault
+  bad_crews : (tree : FaultTree) (code : CrewCode) (place : Place) → StandsFor bytes tree → crews_read part bytes ≡ Err (Fault code place)
+      → fault ≡ record { code = report.Crew code; place = place } → IsDeckFault part bytes fault
+
+-- the deck has no fault, and stands for this tree and these crews
+pub record IsWellFormed (part : CrewPart) (bytes : List ℕ) (tree : FaultTree) (crews : Option (List Crew)) : Type 0 where
+  pub has_crews : ¬ LacksCrews part bytes
+  pub stands : StandsFor bytes tree
+  pub said : crews_read part bytes ≡ Ok crews

@@ -8,11 +8,12 @@ use Rattle.board_words.specs.declared.command.Command.TheVariants.{Cuts, Board, 
 use Rattle.board_report.specs.Refusals.{fault_line, notice_line}
 use Rattle.board_report.specs.declared.fault.DeckFault.{DeckFault}
 use Rattle.board_report.specs.declared.notice.Notice.TheVariants as notice
+use Rattle.outage_engine.specs.declared.status.Method.{Method}
 use Rattle.outage_engine.specs.declared.status.Status.{Status}
 use Rattle.outage_engine.specs.declared.status.Status.TheVariants.{Done, Refused, ListLimit, OrderLimit, Usage, ReadFault, TooLong}
 use Rattle.outage_engine.specs.declared.status.Method.TheVariants.{Plain, Lists}
 use Rattle.outage_engine.specs.Finding.{Finds, Faulty, TooHeavy, TooManyOrders, Wants}
-use Rattle.outage_engine.specs.Texts.{IsCutsText, for_board, for_cuts}
+use Rattle.outage_engine.specs.Texts.{IsCheckText, IsCutsText, IsPrintText, for_board, for_check, for_cuts, for_print}
 use Rattle.outage_engine.specs.Safety.{IsSafeText}
 
 -- ---- words
@@ -21,9 +22,9 @@ use Rattle.outage_engine.specs.Safety.{IsSafeText}
 abbrev pub done_yet : Option Command → Option Command
 done_yet (Some (Cuts most workers)) = Some (Cuts most workers)
 done_yet (Some (Board margin most workers)) = Some (Board margin most workers)
+done_yet (Some Check) = Some Check
+done_yet (Some Print) = Some Print
 done_yet (Some Help) = Some Help
-done_yet (Some Check) = None
-done_yet (Some Print) = None
 done_yet (Some (Diagram workers)) = None
 done_yet (Some (Make number show)) = None
 done_yet None = None
@@ -36,9 +37,9 @@ asked words = done_yet (command_of words)
 abbrev pub wants_of : Option Command → Option Wants
 wants_of (Some (Cuts most workers)) = Some (for_cuts most)
 wants_of (Some (Board margin most workers)) = Some (for_board most)
+wants_of (Some Check) = Some for_check
+wants_of (Some Print) = Some for_print
 wants_of (Some Help) = None
-wants_of (Some Check) = None
-wants_of (Some Print) = None
 wants_of (Some (Diagram workers)) = None
 wants_of (Some (Make number show)) = None
 wants_of None = None
@@ -56,12 +57,35 @@ OfInput held left P = IfTold held left (λ bytes rest. (rest ≡ []) × (length 
 abbrev pub IsBeyond : Option (List ℕ) → Option (List ℕ) → Type 0
 IsBeyond held left = IfTold held left (λ bytes rest. INPUT_LIMIT + length rest < length bytes)
 
+-- ---- what ends well
+
+-- how a command finds the cut sets, if it does
+abbrev pub IsMethodOf : Command → Method → Type 0
+IsMethodOf (Cuts most workers) method = method ≡ Lists
+IsMethodOf (Board margin most workers) method = method ≡ Lists
+IsMethodOf Check method = method ≡ Plain
+IsMethodOf Print method = method ≡ Plain
+IsMethodOf Help method = method ≡ Plain
+IsMethodOf (Diagram workers) method = ⊥
+IsMethodOf (Make number show) method = ⊥
+
+-- the text of a command, for the input that the source held, of which it held a rest afterwards
+abbrev pub IsTextOf : Command → Option (List ℕ) → Option (List ℕ) → List ℕ → Type 0
+IsTextOf (Cuts most workers) held left text = OfInput held left (λ bytes. IsCutsText most bytes text)
+IsTextOf (Board margin most workers) held left text = OfInput held left (λ bytes. IsSafeText margin most bytes text)
+IsTextOf Check held left text = OfInput held left (λ bytes. IsCheckText bytes text)
+IsTextOf Print held left text = OfInput held left (λ bytes. IsPrintText bytes text)
+IsTextOf Help held left text = text ≡ notice_line notice.Usage
+IsTextOf (Diagram workers) held left text = ⊥
+IsTextOf (Make number show) held left text = ⊥
+
 -- ---- the relation
 
 -- What the words give, and the input that the source held, of which it held a rest afterwards. The source's faults rose in this sense.
 pub data Gives (words : List (List ℕ)) (held left : Option (List ℕ)) (rose : Type 0) (status : Status) (text : List ℕ) : Type 0 where
+  done : (command : Command) (method : Method) → asked words ≡ Some command → IsMethodOf command method → IsTextOf command held left text
+      → status ≡ Done method → Gives words held left rose status text
   usage : asked words ≡ None → status ≡ Usage → text ≡ notice_line notice.Usage → Gives words held left rose status text
-  help : asked words ≡ Some Help → status ≡ Done Plain → text ≡ notice_line notice.Usage → Gives words held left rose status text
   read_fault : (wants : Wants) → wanted words ≡ Some wants → rose
       → status ≡ ReadFault → text ≡ notice_line notice.ReadFault → Gives words held left rose status text
   too_long : (wants : Wants) → wanted words ≡ Some wants → IsBeyond held left
@@ -72,7 +96,3 @@ pub data Gives (words : List (List ℕ)) (held left : Option (List ℕ)) (rose :
       → status ≡ ListLimit → text ≡ notice_line notice.ListLimit → Gives words held left rose status text
   order_limit : (wants : Wants) → wanted words ≡ Some wants → OfInput held left (λ bytes. Finds wants bytes TooManyOrders)
       → status ≡ OrderLimit → text ≡ notice_line notice.OrderLimit → Gives words held left rose status text
-  cuts : (most workers : ℕ) → asked words ≡ Some (Cuts most workers) → OfInput held left (λ bytes. IsCutsText most bytes text)
-      → status ≡ Done Lists → Gives words held left rose status text
-  board : (margin most workers : ℕ) → asked words ≡ Some (Board margin most workers) → OfInput held left (λ bytes. IsSafeText margin most bytes text)
-      → status ≡ Done Lists → Gives words held left rose status text

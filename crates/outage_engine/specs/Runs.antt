@@ -6,7 +6,7 @@ use Rattle.edge_io.specs.Faults.{Rose}
 use Rattle.edge_io.specs.Writing.{TakesFront}
 use Rattle.edge_io.specs.declared.reading.TheConstants.{INPUT_LIMIT}
 use Rattle.board_words.specs.declared.command.Command.{Command}
-use Rattle.board_words.specs.declared.command.Command.TheVariants.{Cuts, Board, Help}
+use Rattle.board_words.specs.declared.command.Command.TheVariants.{Cuts, Board, Check, Print, Help}
 use Rattle.board_report.specs.Refusals.{fault_line, notice_line}
 use Rattle.board_report.specs.declared.fault.DeckFault.{DeckFault}
 use Rattle.board_report.specs.declared.notice.Notice.TheVariants as notice
@@ -14,9 +14,9 @@ use Rattle.outage_engine.specs.declared.status.Method.{Method}
 use Rattle.outage_engine.specs.declared.status.Status.{Status}
 use Rattle.outage_engine.specs.declared.status.Status.TheVariants.{Done, Refused, ListLimit, OrderLimit, Usage, ReadFault, TooLong, WriteFault, NoMemory}
 use Rattle.outage_engine.specs.Finding.{Finding, Finds, Faulty, TooHeavy, TooManyOrders, Ready, Wants}
-use Rattle.outage_engine.specs.Gives.{Gives, IsBeyond, OfInput, asked, wanted}
+use Rattle.outage_engine.specs.Gives.{Gives, IsBeyond, IsMethodOf, OfInput, asked, wanted}
 use Rattle.outage_engine.specs.Safety.{IsSafeText}
-use Rattle.outage_engine.specs.Texts.{IsBoardText, IsCutsText}
+use Rattle.outage_engine.specs.Texts.{IsBoardText, IsCheckText, IsCutsText, IsPrintText}
 
 -- a front of a text was taken, and the sink failed
 pub record WritesFront {K : Type 0} (taken : K → Option (List ℕ)) (faults : K → ℕ) (old new : K) (text : List ℕ) : Type 0 where
@@ -63,9 +63,9 @@ Writes taken old new P = (text : List ℕ) × P text × Appends (taken old) (tak
 abbrev pub IsDone : Status → Type 0
 IsDone result = (method : Method) × (result ≡ Done method)
 
--- only words that are a command are done
+-- only words that are a command are done, by the method of the command
 abbrev pub IsOfCommand : List (List ℕ) → Status → Type 0
-IsOfCommand words result = IsDone result → (command : Command) × (asked words ≡ Some command)
+IsOfCommand words result = (method : Method) → result ≡ Done method → (command : Command) × (asked words ≡ Some command) × IsMethodOf command method
 
 abbrev pub PrintsCuts : {K : Type 0} → List (List ℕ) → Option (List ℕ) → Option (List ℕ) → (K → Option (List ℕ)) → K → K → Status → Type 0
 PrintsCuts words held left taken old new result =
@@ -82,6 +82,14 @@ abbrev pub PrintsSafely : {K : Type 0} → List (List ℕ) → Option (List ℕ)
 PrintsSafely words held left taken old new result =
     (margin most workers : ℕ) → asked words ≡ Some (Board margin most workers) → IsDone result
     → Writes taken old new (λ text. OfInput held left (λ bytes. IsSafeText margin most bytes text))
+
+abbrev pub PrintsCheck : {K : Type 0} → List (List ℕ) → Option (List ℕ) → Option (List ℕ) → (K → Option (List ℕ)) → K → K → Status → Type 0
+PrintsCheck words held left taken old new result =
+    asked words ≡ Some Check → IsDone result → Writes taken old new (λ text. OfInput held left (λ bytes. IsCheckText bytes text))
+
+abbrev pub PrintsTree : {K : Type 0} → List (List ℕ) → Option (List ℕ) → Option (List ℕ) → (K → Option (List ℕ)) → K → K → Status → Type 0
+PrintsTree words held left taken old new result =
+    asked words ≡ Some Print → IsDone result → Writes taken old new (λ text. OfInput held left (λ bytes. IsPrintText bytes text))
 
 abbrev pub PrintsHelp : {K : Type 0} → List (List ℕ) → (K → Option (List ℕ)) → K → K → Status → Type 0
 PrintsHelp words taken old new result = asked words ≡ Some Help → IsDone result → Appends (taken old) (taken new) (notice_line notice.Usage)

@@ -1,20 +1,45 @@
 -- The texts of commands that are answered for a deck.
-use Rattle.std.specs.Prelude.{◌≡◌, ℕ, true, false, List, ◌++◌}
+use Rattle.std.specs.Prelude.{◌≡◌, ℕ, List, [], ◌++◌, Option, Some, None}
 use Rattle.cut_sequences.specs.Orders.{order_lists}
+use Rattle.crew_script.specs.declared.dockets.Crew.{Crew}
 use Rattle.outage_board.specs.Boards.{Deck, deck_of}
 use Rattle.outage_board.specs.Histories.{IsLegal, IsWhole}
 use Rattle.outage_board.specs.declared.entry.Entry.{Entry}
 use Rattle.board_report.specs.BoardText.{board_text}
+use Rattle.board_report.specs.CheckText.{check_text}
 use Rattle.board_report.specs.CutsText.{cuts_text, listed_with}
-use Rattle.outage_engine.specs.Finding.{Finds, Found, Ready, Wants}
+use Rattle.board_report.specs.PrintText.{print_text}
+use Rattle.outage_engine.specs.declared.deck.CrewPart.TheVariants.{Unread, IfAny, Needed}
+use Rattle.outage_engine.specs.Finding.{Finds, Found, Ready, Wants, NoCuts, WithOrders}
+
+-- ---- what each command wants of a deck
+
+abbrev pub for_cuts : ℕ → Wants
+for_cuts most = record { crews = Unread; cuts = WithOrders most }
+
+abbrev pub for_board : ℕ → Wants
+for_board most = record { crews = Needed; cuts = WithOrders most }
+
+abbrev pub for_check : Wants
+for_check = record { crews = IfAny; cuts = NoCuts }
+
+abbrev pub for_print : Wants
+for_print = record { crews = Unread; cuts = NoCuts }
+
+-- ---- what is said of what was found
 
 -- the cut list of a tree, with the failing orders of the sets of at most so many members
 abbrev pub cuts_said : ℕ → Found → List ℕ
 cuts_said most found = cuts_text found.tree (listed_with found.cuts (order_lists found.tree found.cuts most))
 
+-- the crews, none where no crew part was read
+abbrev pub all_crews : Option (List Crew) → List Crew
+all_crews None = []
+all_crews (Some crews) = crews
+
 -- the deck of a board: the tree's units, its cut list, the crews with their requests and the opening margin
 abbrev pub board_deck : ℕ → Found → Deck
-board_deck margin found = deck_of found.tree found.cuts found.crews margin
+board_deck margin found = deck_of found.tree found.cuts (all_crews found.crews) margin
 
 -- a history of the deck: each reply is the decision at what the entries before it leave, and each crew's requests are there, each once and
 -- in order
@@ -22,16 +47,11 @@ pub record IsHistoryOf (deck : Deck) (history : List Entry) : Type 0 where
   pub legal : IsLegal deck.opening history
   pub whole : IsWhole deck.dockets history
 
--- the same text, and the board's behind it: the log of a history and what it leaves
+-- what is said of the cut list, and the board's text behind it: the log of a history and what it leaves
 abbrev pub board_said : ℕ → ℕ → Found → List Entry → List ℕ
 board_said margin most found history = cuts_said most found ++ board_text found.tree (record { deck = board_deck margin found; history = history })
 
--- what `cuts` wants of a deck, and what `board` wants
-abbrev pub for_cuts : ℕ → Wants
-for_cuts most = record { crews = false; most = most }
-
-abbrev pub for_board : ℕ → Wants
-for_board most = record { crews = true; most = most }
+-- ---- the texts
 
 -- the text of `cuts` for a deck of these bytes: of the minimal cut sets of its tree, each once and in order, each with its failing orders
 pub record IsCutsText (most : ℕ) (bytes text : List ℕ) : Type 0 where
@@ -46,3 +66,15 @@ pub record IsBoardText (margin most : ℕ) (bytes text : List ℕ) : Type 0 wher
   pub history : List Entry
   pub of_deck : IsHistoryOf (board_deck margin found) history
   pub is : text ≡ board_said margin most found history
+
+-- the text of `check` for a deck of these bytes: how large its tree is and, where it has a crew part, how many crews and requests it has
+pub record IsCheckText (bytes text : List ℕ) : Type 0 where
+  pub found : Found
+  pub finds : Finds for_check bytes (Ready found)
+  pub is : text ≡ check_text found.tree found.crews
+
+-- the text of `print` for a deck of these bytes: its tree in the grammar of decks
+pub record IsPrintText (bytes text : List ℕ) : Type 0 where
+  pub found : Found
+  pub finds : Finds for_print bytes (Ready found)
+  pub is : text ≡ print_text found.tree

@@ -1,5 +1,5 @@
 //! From the bytes of a deck to its tree and its crews.
-ghost use Rattle.std.specs.Prelude.{◌≡◌, ◌≤◌, length, drop, take, Ok, IfOk, IfErr};
+ghost use Rattle.std.specs.Prelude.{◌≡◌, ◌≤◌, ◌×◌, length, drop, take, Ok, IfOk, IfErr, IfSome};
 ghost use Rattle.fault_model.specs.WellFormed.{IsTree};
 ghost use Rattle.galileo_lexer.specs.Spot.{place_behind};
 ghost use Rattle.galileo_tree.specs.Lexeme.{place_at};
@@ -8,11 +8,11 @@ ghost use Rattle.galileo_tree.specs.Reads.{FailsAs};
 ghost use Rattle.tree_check.specs.Checked.{Stands};
 ghost use Rattle.crew_script.specs.Crews.{crews_of};
 ghost use Rattle.crew_script.specs.Deck.{split_of};
-ghost use Rattle.outage_engine.specs.Answers.{IsCheckEnd, IsCrewEnd, IsTreeEnd, end_of};
-ghost use Rattle.outage_engine.specs.Deck.{StandsFor, no_crew_part, tree_part};
+ghost use Rattle.outage_engine.specs.Answers.{IsCheckEnd, IsCrewEnd, IsDeckEnd, IsPartsEnd, IsTreeEnd, end_of};
+ghost use Rattle.outage_engine.specs.Deck.{IsWellFormed, StandsFor, crews_behind, crews_said, no_crew_part, tree_part};
 
 use board_report::{DeckFault, FaultCode};
-use crew_script::{CrewCode, CrewFault, CrewsAt, Dockets, read_crews};
+use crew_script::{CrewCode, CrewFault, CrewsAt, Dockets, read_crews, split_deck};
 use edge_io::INPUT_LIMIT;
 use fault_model::{Place, Tree};
 use galileo_tree::{ParseFault, RawTree, parse};
@@ -27,8 +27,68 @@ pub(crate) enum DeckEnd {
     NoMemory,
 }
 
-/// The tree that a deck stands for, whose tree part has so many bytes, or why there is none.
-pub(crate) fn tree_in(alloc: Global, bytes: &[u8], size: usize) -> Result<Tree, DeckEnd>
+/// How a command takes the crew part of a deck.
+#[derive(Clone, Copy, Debug, PartialEq, Eq)]
+pub(crate) enum CrewPart {
+    /// It is passed over.
+    Unread,
+    /// It is read where there is one.
+    IfAny,
+    /// It has to be there.
+    Needed,
+}
+
+/// What was read of a deck.
+#[derive(Drop)]
+pub(crate) struct DeckParts {
+    pub tree: Tree,
+    /// The crews, where a crew part was read.
+    pub crews: Option<Dockets>,
+}
+
+/// The tree and the crews of a deck, its crew part taken so, or its first fault. That a crew part is needed and is not there is found
+/// before its tree part is read.
+pub(crate) fn read_deck(alloc: Global, part: CrewPart, bytes: &[u8]) -> Result<DeckParts, DeckEnd>
+    requires { length bytes.now ≤ INPUT_LIMIT }
+    ensures deck { IfOk result (λ deck. IsWellFormed part bytes.now deck.tree deck.crews) }
+    ensures end { IfErr result (IsDeckEnd part bytes.now) }
+{
+    let split = split_deck(bytes);
+    match part {
+        CrewPart::Unread => read_parts(alloc, bytes, split.tree, None),
+        CrewPart::IfAny => read_parts(alloc, bytes, split.tree, split.crews),
+        CrewPart::Needed => {
+            let Some(at) = split.crews else {
+                return Err(DeckEnd::Fault(no_crew_part(bytes)));
+            };
+            read_parts(alloc, bytes, split.tree, Some(at))
+        }
+    }
+}
+
+// The tree of the tree part, which has so many bytes, and the crews of the crew part that begins there, if any is read.
+fn read_parts(
+    alloc: Global,
+    bytes: &[u8],
+    size: usize,
+    at: Option<CrewsAt>,
+) -> Result<DeckParts, DeckEnd>
+    requires short { length bytes.now ≤ INPUT_LIMIT }
+    requires part { size ≡ (split_of bytes.now).tree }
+    requires within { size ≤ length bytes.now }
+    requires start { IfSome at (λ crews. crews.start ≤ length bytes.now) }
+    requires line { IfSome at (λ crews. crews.line ≤ 16777217) }
+    ensures tree { IfOk result (λ deck. StandsFor bytes.now deck.tree) }
+    ensures crews { IfOk result (λ deck. crews_said (crews_behind bytes.now at) ≡ Ok deck.crews) }
+    ensures end { IfErr result (IsPartsEnd bytes.now (crews_said (crews_behind bytes.now at))) }
+{
+    let tree = tree_in(alloc, bytes, size)?;
+    let crews = crews_at(alloc, bytes, at)?;
+    Ok(DeckParts { tree, crews })
+}
+
+// The tree that a deck stands for, whose tree part has so many bytes, or why there is none.
+fn tree_in(alloc: Global, bytes: &[u8], size: usize) -> Result<Tree, DeckEnd>
     requires short { length bytes.now ≤ INPUT_LIMIT }
     requires part { size ≡ (split_of bytes.now).tree }
     requires within { size ≤ length bytes.now }
@@ -89,8 +149,22 @@ fn end_of(fault: ParseFault) -> DeckEnd
     }
 }
 
-/// The crews of the crew part that begins there, or why there are none.
-pub(crate) fn crews_in(alloc: Global, bytes: &[u8], at: CrewsAt) -> Result<Dockets, DeckEnd>
+// The crews of the crew part that begins there, where one is read, or why there are none.
+fn crews_at(alloc: Global, bytes: &[u8], at: Option<CrewsAt>) -> Result<Option<Dockets>, DeckEnd>
+    requires short { length bytes.now ≤ INPUT_LIMIT }
+    requires start { IfSome at (λ crews. crews.start ≤ length bytes.now) }
+    requires line { IfSome at (λ crews. crews.line ≤ 16777217) }
+    ensures crews { IfOk result (λ crews. crews_said (crews_behind bytes.now at) ≡ Ok crews) }
+    ensures end { IfErr result (IsCrewEnd (crews_said (crews_behind bytes.now at))) }
+{
+    match at {
+        Some(at) => Ok(Some(crews_in(alloc, bytes, at)?)),
+        None => Ok(None),
+    }
+}
+
+// The crews of the crew part that begins there, or why there are none.
+fn crews_in(alloc: Global, bytes: &[u8], at: CrewsAt) -> Result<Dockets, DeckEnd>
     requires short { length bytes.now ≤ INPUT_LIMIT }
     requires start { at.start ≤ length bytes.now }
     requires line { at.line ≤ 16777217 }
@@ -107,8 +181,8 @@ pub(crate) fn crews_in(alloc: Global, bytes: &[u8], at: CrewsAt) -> Result<Docke
     }
 }
 
-/// The fault of a deck without a crew part, told at its end.
-pub(crate) fn no_crew_part(bytes: &[u8]) -> DeckFault
+// The fault of a deck without a crew part, told at its end.
+fn no_crew_part(bytes: &[u8]) -> DeckFault
     requires { length bytes.now ≤ INPUT_LIMIT }
     ensures { result ≡ no_crew_part bytes.now }
 {

@@ -8,9 +8,11 @@ mod answer;
 #[cfg(test)]
 mod board_tests;
 mod deck;
+mod input;
 pub mod laws;
 mod listing;
 mod opening;
+mod refusal;
 mod running;
 mod status;
 mod tell;

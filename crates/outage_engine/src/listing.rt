@@ -1,15 +1,15 @@
 //! The cut list of a tree and its failing orders.
-ghost use Rattle.std.specs.Prelude.{◌≡◌, ◌≤◌, IfOk};
+ghost use Rattle.std.specs.Prelude.{◌≡◌, ◌≤◌, IfOk, IfErr};
 ghost use Rattle.unit_sets.specs.CutOrder.{weight, weight_limit};
 ghost use Rattle.fault_model.specs.Cut.{IsCutList};
 ghost use Rattle.fault_model.specs.WellFormed.{IsTree};
-ghost use Rattle.outage_engine.specs.Answers.{IsMeasured, IsWritableListing};
+ghost use Rattle.outage_engine.specs.Answers.{IfRefused, IsLimitOf, IsListingOf, IsOfUnits};
 
+use crate::refusal::{Refusal, RunEnd};
 use cut_sequences::{OrderEnd, OrderLists, orders};
 use cutset_lists::mcs_by_lists;
-use edge_io::NoMemory;
 use fault_model::Tree;
-use std::alloc::{AllocError, Global};
+use std::alloc::Global;
 use std::thread::Threads;
 use unit_sets::{CutList, ListEnd};
 
@@ -21,16 +21,6 @@ pub(crate) struct Listing {
     pub orders: OrderLists,
 }
 
-/// What listing gives: one of the two may be too long.
-#[derive(Drop)]
-pub(crate) enum Measured {
-    Listed(Listing),
-    /// The cut list is too heavy.
-    ListLimit,
-    /// There are too many failing orders.
-    OrderLimit,
-}
-
 /// The cut list of a tree, with the failing orders of its sets of at most so many members.
 pub(crate) fn list_tree<R: Threads + Sync>(
     rt: &R,
@@ -38,17 +28,18 @@ pub(crate) fn list_tree<R: Threads + Sync>(
     most: u32,
     workers: u32,
     tree: Tree,
-) -> Result<Measured, NoMemory>
+) -> Result<Listing, RunEnd>
     requires most { most ≤ 8 }
     requires some { 1 ≤ workers }
     requires few { workers ≤ 16 }
-    ensures measured { IfOk result (IsMeasured most tree) }
-    ensures writable { IfOk result IsWritableListing }
+    ensures listed { IfOk result (IsListingOf most tree) }
+    ensures writable { IfOk result IsOfUnits }
+    ensures limit { IfErr result (IfRefused (IsLimitOf most tree)) }
 {
     match mcs_by_lists(alloc, &tree) {
         Ok(cuts) => list_orders(rt, alloc, most, workers, tree, cuts),
-        Err(ListEnd::ListLimit) => Ok(Measured::ListLimit),
-        Err(ListEnd::NoMemory) => Err(AllocError),
+        Err(ListEnd::ListLimit) => Err(RunEnd::Refused(Refusal::ListLimit)),
+        Err(ListEnd::NoMemory) => Err(RunEnd::NoMemory),
     }
 }
 
@@ -60,18 +51,19 @@ fn list_orders<R: Threads + Sync>(
     workers: u32,
     tree: Tree,
     cuts: CutList,
-) -> Result<Measured, NoMemory>
+) -> Result<Listing, RunEnd>
     requires most { most ≤ 8 }
     requires some { 1 ≤ workers }
     requires few { workers ≤ 16 }
     requires all { IsCutList tree cuts }
     requires light { weight cuts ≤ weight_limit }
-    ensures measured { IfOk result (IsMeasured most tree) }
-    ensures writable { IfOk result IsWritableListing }
+    ensures listed { IfOk result (IsListingOf most tree) }
+    ensures writable { IfOk result IsOfUnits }
+    ensures limit { IfErr result (IfRefused (IsLimitOf most tree)) }
 {
     match orders(rt, alloc, &tree, &cuts, most, workers) {
-        Ok(orders) => Ok(Measured::Listed(Listing { tree, cuts, orders })),
-        Err(OrderEnd::OrderLimit) => Ok(Measured::OrderLimit),
-        Err(OrderEnd::NoMemory) => Err(AllocError),
+        Ok(orders) => Ok(Listing { tree, cuts, orders }),
+        Err(OrderEnd::OrderLimit) => Err(RunEnd::Refused(Refusal::OrderLimit)),
+        Err(OrderEnd::NoMemory) => Err(RunEnd::NoMemory),
     }
 }

@@ -5,13 +5,14 @@ ghost use Rattle.board_report.specs.BoardText.{IsDeckOf};
 ghost use Rattle.outage_engine.specs.Answers.{IsOfUnits};
 ghost use Rattle.outage_engine.specs.Openings.{HasPasses, TellsBoard};
 ghost use Rattle.outage_engine.specs.Runs.{AreReading, IsBoard, IsNoBoard, Runs};
-ghost use Rattle.outage_engine.specs.Runs.{IsOfCommand, PrintsBoard, PrintsCuts, PrintsHelp, PrintsSafely};
+ghost use Rattle.outage_engine.specs.Runs.{IsOfCommand, PrintsBoard, PrintsCheck, PrintsCuts, PrintsHelp, PrintsSafely, PrintsTree};
 ghost use Rattle.outage_engine.specs.Runs.{FailsToRead, RefusesDeck, RefusesLength, RefusesOrders, RefusesWeight, RefusesWords};
 ghost use Rattle.outage_engine.specs.Runs.{AnswersDeck, AnswersLength, AnswersWords, WritesFrontOfText};
 
-use crate::answer::answer_words;
+use crate::answer::{Answer, answer_words};
 use crate::listing::Listing;
-use crate::opening::{Opening, open_words};
+use crate::opening::open_words;
+use crate::refusal::RunEnd;
 use crate::tell::{tell, tell_board};
 use crate::{Status, Word};
 use board_words::{Command, read};
@@ -26,7 +27,8 @@ use std::thread::Threads;
 ///
 /// `cuts` prints the minimal cut sets of the deck, and the orders in which the units of each fail the top event, for the sets of
 /// at most as many members as `--most` says. `board` prints the same, and then one log of the requests of all crews, decided one after
-/// the other at the margin, and the board at the end. Waits where crews wait for their turn.
+/// the other at the margin, and the board at the end. `check` prints how large a well-formed deck is, and `print` its tree. Waits where
+/// crews wait for their turn.
 pub fn run<R: Threads + Wait + Sync, S: Source, K: Sink>(
     rt: &R,
     alloc: Global,
@@ -39,6 +41,8 @@ pub fn run<R: Threads + Wait + Sync, S: Source, K: Sink>(
     ensures cuts { PrintsCuts words.now (S.held source.old) (S.held source.new) K.taken sink.old sink.new result }
     ensures board { PrintsBoard words.now (S.held source.old) (S.held source.new) K.taken sink.old sink.new result }
     ensures safe { PrintsSafely words.now (S.held source.old) (S.held source.new) K.taken sink.old sink.new result }
+    ensures check { PrintsCheck words.now (S.held source.old) (S.held source.new) K.taken sink.old sink.new result }
+    ensures print { PrintsTree words.now (S.held source.old) (S.held source.new) K.taken sink.old sink.new result }
     ensures help { PrintsHelp words.now K.taken sink.old sink.new result }
 
     // Each refusal has its cause, and its line was written.
@@ -91,6 +95,8 @@ pub fn run_cuts<R: Threads + Sync, S: Source, K: Sink>(
     // What was written, for which input, where the run ends well.
     ensures command { IsOfCommand words.now result }
     ensures cuts { PrintsCuts words.now (S.held source.old) (S.held source.new) K.taken sink.old sink.new result }
+    ensures check { PrintsCheck words.now (S.held source.old) (S.held source.new) K.taken sink.old sink.new result }
+    ensures print { PrintsTree words.now (S.held source.old) (S.held source.new) K.taken sink.old sink.new result }
     ensures help { PrintsHelp words.now K.taken sink.old sink.new result }
 
     // Each refusal has its cause, and its line was written.
@@ -136,7 +142,8 @@ fn answer_and_tell<R: Threads + Sync, S: Source, K: Sink>(
     };
     match answer_words(rt, alloc, words, source) {
         Ok(answer) => tell(sink, buffer, &answer),
-        Err(_) => Status::NoMemory,
+        Err(RunEnd::Refused(refusal)) => tell(sink, buffer, &Answer::Refused(refusal)),
+        Err(RunEnd::NoMemory) => Status::NoMemory,
     }
 }
 
@@ -197,9 +204,9 @@ fn serve_and_tell<R: Threads + Wait + Sync, S: Source, K: Sink>(
         return Status::NoMemory;
     };
     match open_words(rt, alloc, words, source) {
-        Ok(Opening::Told(answer)) => tell(sink, buffer, &answer),
-        Ok(Opening::Opened(listing, start)) => serve(rt, listing, start, buffer, sink),
-        Err(_) => Status::NoMemory,
+        Ok(opened) => serve(rt, opened.listing, opened.start, buffer, sink),
+        Err(RunEnd::Refused(refusal)) => tell(sink, buffer, &Answer::Refused(refusal)),
+        Err(RunEnd::NoMemory) => Status::NoMemory,
     }
 }
 

@@ -2,13 +2,16 @@
 ghost use Rattle.std.specs.Prelude.{◌≡◌, ◌++◌, [], is_err};
 ghost use Rattle.edge_io.specs.Out.{has_failed, Puts};
 ghost use Rattle.board_report.specs.BoardText.{IsDeckOf, board_text};
-ghost use Rattle.outage_engine.specs.Answers.{IsOfUnits, IsWritable, listing_text, status_of, text_of};
+ghost use Rattle.board_report.specs.CheckText.{check_text};
+ghost use Rattle.outage_engine.specs.Answers.{IsOfUnits, IsWritable, listing_text, refusal_line, status_of, text_of};
 ghost use Rattle.outage_engine.specs.Runs.{Tells};
 
 use crate::answer::Answer;
+use crate::deck::DeckParts;
 use crate::listing::Listing;
+use crate::refusal::Refusal;
 use crate::{Method, Status};
-use board_report::{Notice, put_board, put_cuts, put_fault, put_notice};
+use board_report::{Notice, put_board, put_check, put_cuts, put_fault, put_notice, put_tree};
 use edge_io::{Buffer, Out, Sink, WriteFault};
 use outage_board::BoardState;
 
@@ -34,13 +37,32 @@ fn put_answer<K: Sink>(out: &mut Out<K>, answer: &Answer) -> Result<(), WriteFau
 {
     match answer {
         Answer::Cuts(listing) => put_listing(out, listing),
-        Answer::Refused(fault) => put_fault(out, fault),
-        Answer::ListLimit => put_notice(out, Notice::ListLimit),
-        Answer::OrderLimit => put_notice(out, Notice::OrderLimit),
-        Answer::Help | Answer::Usage => put_notice(out, Notice::Usage),
-        Answer::ReadFault => put_notice(out, Notice::ReadFault),
-        Answer::TooLong => put_notice(out, Notice::TooLong),
+        Answer::Checked(deck) => put_deck(out, deck),
+        Answer::Printed(tree) => put_tree(out, tree),
+        Answer::Help => put_notice(out, Notice::Usage),
+        Answer::Refused(refusal) => put_refusal(out, refusal),
     }
+}
+
+fn put_refusal<K: Sink>(out: &mut Out<K>, refusal: &Refusal) -> Result<(), WriteFault>
+    ensures puts { Puts K.taken K.faults out.old out.new (refusal_line refusal.now) }
+    ensures answer { is_err result ≡ has_failed out.new }
+{
+    match refusal {
+        Refusal::Usage => put_notice(out, Notice::Usage),
+        Refusal::ReadFault => put_notice(out, Notice::ReadFault),
+        Refusal::TooLong => put_notice(out, Notice::TooLong),
+        Refusal::Fault(fault) => put_fault(out, fault),
+        Refusal::ListLimit => put_notice(out, Notice::ListLimit),
+        Refusal::OrderLimit => put_notice(out, Notice::OrderLimit),
+    }
+}
+
+fn put_deck<K: Sink>(out: &mut Out<K>, deck: &DeckParts) -> Result<(), WriteFault>
+    ensures puts { Puts K.taken K.faults out.old out.new (check_text deck.now.tree deck.now.crews) }
+    ensures answer { is_err result ≡ has_failed out.new }
+{
+    put_check(out, &deck.tree, deck.crews.as_ref())
 }
 
 fn put_listing<K: Sink>(out: &mut Out<K>, listing: &Listing) -> Result<(), WriteFault>
