@@ -1,5 +1,5 @@
 -- From what the code finds to what the words give.
-use Rattle.std.specs.Prelude.{◌≡◌, ℕ, ◌<◌, ◌≤◌, nat_lt, List, [], ◌++◌, length, Option, Some, None, Ok, if◌then◌else◌}
+use Rattle.std.specs.Prelude.{◌≡◌, ℕ, ◌<◌, ◌≤◌, nat_lt, List, [], ◌++◌, length, Option, Some, None, if◌then◌else◌}
 use Rattle.std.specs.Io.KnownBytes.{Consumes, IsAtEnd}
 use Rattle.std.proofs.Common.{sym, ap, subst, ◌∙◌, refl, append-nil}
 use Rattle.std.proofs.lemmas.Bool.{cond-true, cond-false, lt-ltb, le-ltb}
@@ -10,70 +10,81 @@ use Rattle.cutset_lists.specs.Generation.{HasHeavyCutList}
 use Rattle.cut_sequences.specs.Orders.{order_limit, order_lists, order_total}
 use Rattle.crew_script.specs.declared.dockets.Crew.{Crew}
 use Rattle.edge_io.specs.declared.reading.TheConstants.{INPUT_LIMIT}
-use Rattle.board_words.specs.declared.command.Command.TheVariants as command
+use Rattle.board_report.specs.CheckText.{check_text}
 use Rattle.board_report.specs.CutsText.{cuts_text, listed_with}
+use Rattle.board_report.specs.PrintText.{print_text}
+use Rattle.outage_engine.specs.declared.deck.CrewPart.{CrewPart}
+use Rattle.outage_engine.specs.declared.deck.CrewPart.TheVariants.{Unread, IfAny}
 use Rattle.outage_engine.specs.declared.listing.Listing.{Listing}
-use Rattle.outage_engine.specs.declared.answer.Answer.{Answer}
-use Rattle.outage_engine.specs.declared.answer.Answer.TheVariants.{Cuts, Help, Refused, ListLimit, OrderLimit, Usage, ReadFault, TooLong}
-use Rattle.outage_engine.specs.Answers.{IsCutsAnswer, IsCutsAnswerTo, IsListingOf, IsTreeAnswer, found_in, listing_text, status_of, text_of}
-use Rattle.outage_engine.specs.Deck.{StandsFor}
-use Rattle.outage_engine.specs.Finding.{Finds, Found, Ready, TooHeavy, TooManyOrders, Wants, judged, wanted_crews, well_formed}
+use Rattle.outage_engine.specs.declared.refusal.Refusal.TheVariants.{Usage, ReadFault, TooLong, Fault, ListLimit, OrderLimit}
+use Rattle.outage_engine.specs.declared.refusal.RunEnd.{RunEnd}
+use Rattle.outage_engine.specs.declared.refusal.RunEnd.TheVariants.{Refused, NoMemory}
+use Rattle.outage_engine.specs.Answers.{IfRefused, IsLimitOf, IsListingOf, IsReadRefusal, IsRefusalBy, IsRefusalFor, found_in, listing_text}
+use Rattle.outage_engine.specs.Deck.{IsDeckFault, IsWellFormed}
+use Rattle.outage_engine.specs.Finding.{Finds, Found, Faulty, Ready, TooHeavy, TooManyOrders, Wants, WithOrders, faulty, judged, well_formed}
 use Rattle.outage_engine.specs.Gives as gives
-use Rattle.outage_engine.specs.Gives.{Gives, OfInput, asked, wants_of}
-use Rattle.outage_engine.specs.Texts.{IsCutsText, cuts_said, for_cuts}
+use Rattle.outage_engine.specs.Gives.{OfInput, wanted}
+use Rattle.outage_engine.specs.Texts.{IsCheckText, IsCutsText, IsPrintText, cuts_said}
 use Rattle.outage_engine.proofs.Clauses.{of_input}
 
 -- ---- what is judged of a tree with its cut list
 
 module _ (most : ℕ) (found : Found) where
-  judged-heavy : weight_limit < weight found.cuts → judged most found ≡ TooHeavy
+  judged-heavy : weight_limit < weight found.cuts → judged (WithOrders most) found ≡ TooHeavy
   judged-heavy heavy = cond-true (nat_lt weight_limit (weight found.cuts)) _ _ (lt-ltb weight_limit (weight found.cuts) heavy)
 
   judged-light : weight found.cuts ≤ weight_limit
-      → judged most found ≡ (if nat_lt order_limit (order_total (order_lists found.tree found.cuts most)) then TooManyOrders else Ready found)
+      → judged (WithOrders most) found ≡ (if nat_lt order_limit (order_total (order_lists found.tree found.cuts most)) then TooManyOrders else Ready found)
   judged-light light = cond-false (nat_lt weight_limit (weight found.cuts)) _ _ (le-ltb weight_limit (weight found.cuts) light)
 
-  judged-many : weight found.cuts ≤ weight_limit → order_limit < order_total (order_lists found.tree found.cuts most) → judged most found ≡ TooManyOrders
+  judged-many : weight found.cuts ≤ weight_limit → order_limit < order_total (order_lists found.tree found.cuts most) → judged (WithOrders most) found ≡ TooManyOrders
   judged-many light many = judged-light light ∙ cond-true (nat_lt order_limit (order_total (order_lists found.tree found.cuts most))) _ _ (lt-ltb order_limit (order_total (order_lists found.tree found.cuts most)) many)
 
-  judged-ready : weight found.cuts ≤ weight_limit → order_total (order_lists found.tree found.cuts most) ≤ order_limit → judged most found ≡ Ready found
+  judged-ready : weight found.cuts ≤ weight_limit → order_total (order_lists found.tree found.cuts most) ≤ order_limit → judged (WithOrders most) found ≡ Ready found
   judged-ready light few = judged-light light ∙ cond-false (nat_lt order_limit (order_total (order_lists found.tree found.cuts most))) _ _ (le-ltb order_limit (order_total (order_lists found.tree found.cuts most)) few)
 
--- a tree and crews, as they are found in a deck
-module _ (wants : Wants) (bytes : List ℕ) (tree : FaultTree) (crews : List Crew) (stands : StandsFor bytes tree) (said : wanted_crews wants.crews bytes ≡ Some (Ok crews)) where
+-- ---- what is found in a deck that was read
+
+module _ (part : CrewPart) (most : ℕ) (bytes : List ℕ) (tree : FaultTree) (crews : Option (List Crew)) (deck : IsWellFormed part bytes tree crews) where
+  abbrev with_orders : Wants
+  with_orders = record { crews = part; cuts = WithOrders most }
+
   abbrev as_found : List (List ℕ) → Found
   as_found cuts = record { tree = tree; cuts = cuts; crews = crews }
 
-  pub finds_heavy : HasHeavyCutList tree → Finds wants bytes TooHeavy
-  finds_heavy (cuts, list, heavy) = well_formed (as_found cuts) stands said list (sym (judged-heavy wants.most (as_found cuts) heavy))
+  finds_heavy : HasHeavyCutList tree → Finds with_orders bytes TooHeavy
+  finds_heavy (cuts, list, heavy) = well_formed (as_found cuts) deck list (sym (judged-heavy most (as_found cuts) heavy))
 
-  pub finds_many : (cuts : List (List ℕ)) → IsCutList tree cuts → weight cuts ≤ weight_limit → order_limit < order_total (order_lists tree cuts wants.most) → Finds wants bytes TooManyOrders
-  finds_many cuts list light many = well_formed (as_found cuts) stands said list (sym (judged-many wants.most (as_found cuts) light many))
+  finds_many : IsLimitOf most tree OrderLimit → Finds with_orders bytes TooManyOrders
+  finds_many (cuts, list, light, many) = well_formed (as_found cuts) deck list (sym (judged-many most (as_found cuts) light many))
 
-  pub finds_ready : (listing : Listing) → IsListingOf wants.most tree listing → Finds wants bytes (Ready (found_in listing crews))
+  pub finds_ready : (listing : Listing) → IsListingOf most tree listing → Finds with_orders bytes (Ready (found_in listing crews))
   finds_ready listing is =
       let found : Found = found_in listing crews in
-      let few : order_total (order_lists tree listing.cuts wants.most) ≤ order_limit = subst (λ orders. order_total orders ≤ order_limit) is.orders is.few in
-      well_formed found (subst (StandsFor bytes) (sym is.of_tree) stands) said (subst (λ t. IsCutList t listing.cuts) (sym is.of_tree) is.all)
-      (sym (judged-ready wants.most found is.light (subst (λ t. order_total (order_lists t listing.cuts wants.most) ≤ order_limit) (sym is.of_tree) few)))
+      let few : order_total (order_lists tree listing.cuts most) ≤ order_limit = subst (λ orders. order_total orders ≤ order_limit) is.orders is.few in
+      well_formed found (subst (λ t. IsWellFormed part bytes t crews) (sym is.of_tree) deck) (subst (λ t. IsCutList t listing.cuts) (sym is.of_tree) is.all)
+      (sym (judged-ready most found is.light (subst (λ t. order_total (order_lists t listing.cuts most) ≤ order_limit) (sym is.of_tree) few)))
 
 pub orders_of_listing : (most : ℕ) (tree : FaultTree) (listing : Listing) → IsListingOf most tree listing → listing.orders ≡ order_lists listing.tree listing.cuts most
 orders_of_listing most tree listing is = is.orders ∙ ap (λ t. order_lists t listing.cuts most) (sym is.of_tree)
 
--- ---- the answer of `cuts`
+-- the text of a listing is what is said of its cut list
+pub said_of : (most : ℕ) (listing : Listing) (crews : Option (List Crew)) → listing.orders ≡ order_lists listing.tree listing.cuts most
+    → listing_text listing ≡ cuts_said most (found_in listing crews)
+said_of most listing crews is = ap (λ orders. cuts_text listing.tree (listed_with listing.cuts orders)) is
 
--- a tree gives it
-pub cuts_answer : (most : ℕ) (bytes : List ℕ) (tree : FaultTree) → StandsFor bytes tree → (answer : Answer) → IsTreeAnswer most tree answer → IsCutsAnswer most bytes answer
-cuts_answer most bytes tree stands (Cuts listing) is = (finds_ready (for_cuts most) bytes tree [] stands refl listing is, orders_of_listing most tree listing is)
-cuts_answer most bytes tree stands ListLimit heavy = finds_heavy (for_cuts most) bytes tree [] stands refl heavy
-cuts_answer most bytes tree stands OrderLimit (cuts, list, light, many) = finds_many (for_cuts most) bytes tree [] stands refl cuts list light many
-cuts_answer most bytes tree stands Help never = absurd never
-cuts_answer most bytes tree stands (Refused fault) never = absurd never
-cuts_answer most bytes tree stands Usage never = absurd never
-cuts_answer most bytes tree stands ReadFault never = absurd never
-cuts_answer most bytes tree stands TooLong never = absurd never
+check_said : (bytes : List ℕ) (tree : FaultTree) (crews : Option (List Crew)) → IsWellFormed IfAny bytes tree crews → IsCheckText bytes (check_text tree crews)
+check_said bytes tree crews deck =
+    let found : Found = record { tree = tree; cuts = []; crews = crews } in
+    record { found = found; finds = well_formed found deck refl refl; is = refl }
 
--- a fact of the bytes that were read is one of the input
+print_said : (bytes : List ℕ) (tree : FaultTree) (crews : Option (List Crew)) → IsWellFormed Unread bytes tree crews → IsPrintText bytes (print_text tree)
+print_said bytes tree crews deck =
+    let found : Found = record { tree = tree; cuts = []; crews = crews } in
+    record { found = found; finds = well_formed found deck refl refl; is = refl }
+
+-- ---- a fact of the bytes that were read is one of the input
+
 of_whole : (held left : Option (List ℕ)) (bytes : List ℕ) (P : List ℕ → Type 0) → Consumes held left bytes → IsAtEnd left → length bytes ≤ INPUT_LIMIT → P bytes → OfInput held left P
 of_whole None left bytes P consumes at_end within holds = tt
 of_whole (Some all) None bytes P consumes at_end within holds = absurd consumes
@@ -81,36 +92,64 @@ of_whole (Some all) (Some rest) bytes P consumes at_end within holds =
     let same : all ≡ bytes = consumes ∙ ap (λ l. bytes ++ l) at_end ∙ append-nil bytes in
     (at_end, subst (λ l. length l ≤ INPUT_LIMIT) (sym same) within, subst P (sym same) holds)
 
-module _ (held left : Option (List ℕ)) (rose : Type 0) (bytes given : List ℕ) (is : given ≡ bytes) (consumes : Consumes held left bytes) (at_end : IsAtEnd left) (within : length bytes ≤ INPUT_LIMIT) where
-  pub whole : (P : List ℕ → Type 0) → P given → OfInput held left P
-  whole P holds = of_whole held left bytes P consumes at_end within (subst P is holds)
+pub whole : (held left : Option (List ℕ)) (bytes given : List ℕ) (P : List ℕ → Type 0) → given ≡ bytes → Consumes held left bytes → IsAtEnd left → length bytes ≤ INPUT_LIMIT
+    → P given → OfInput held left P
+whole held left bytes given P is consumes at_end within holds = of_whole held left bytes P consumes at_end within (subst P is holds)
 
-  pub cuts_answer_to : (most : ℕ) (answer : Answer) → IsCutsAnswer most given answer → IsCutsAnswerTo most held left rose answer
-  cuts_answer_to most (Cuts listing) holds = whole (λ b. IsCutsAnswer most b (Cuts listing)) holds
-  cuts_answer_to most (Refused fault) holds = whole (λ b. IsCutsAnswer most b (Refused fault)) holds
-  cuts_answer_to most ListLimit holds = whole (λ b. IsCutsAnswer most b ListLimit) holds
-  cuts_answer_to most OrderLimit holds = whole (λ b. IsCutsAnswer most b OrderLimit) holds
-  cuts_answer_to most Help never = absurd never
-  cuts_answer_to most Usage never = absurd never
-  cuts_answer_to most ReadFault never = absurd never
-  cuts_answer_to most TooLong never = absurd never
+-- ---- texts and refusals, for an input
 
--- the text of a listing is what is said of its cut list
-pub said_of : (most : ℕ) (listing : Listing) (crews : List Crew) → listing.orders ≡ order_lists listing.tree listing.cuts most → listing_text listing ≡ cuts_said most (found_in listing crews)
-said_of most listing crews is = ap (λ orders. cuts_text listing.tree (listed_with listing.cuts orders)) is
+module _ (held left : Option (List ℕ)) (tree : FaultTree) (crews : Option (List Crew)) where
+  pub cuts_of_input : (most : ℕ) (listing : Listing) → OfInput held left (λ bytes. IsWellFormed Unread bytes tree crews) → IsListingOf most tree listing
+      → OfInput held left (λ bytes. IsCutsText most bytes (listing_text listing))
+  cuts_of_input most listing read is =
+      of_input held left (λ bytes. IsWellFormed Unread bytes tree crews) (λ bytes. IsCutsText most bytes (listing_text listing))
+      (λ bytes deck. record {
+        found = found_in listing crews;
+        finds = finds_ready Unread most bytes tree crews deck listing is;
+        is = said_of most listing crews (orders_of_listing most tree listing is);
+      }) read
 
-module _ (words : List (List ℕ)) (held left : Option (List ℕ)) (rose : Type 0) where
-  pub gives_cuts : (most workers : ℕ) → asked words ≡ Some (command.Cuts most workers) → (answer : Answer) → IsCutsAnswerTo most held left rose answer
-      → Gives words held left rose (status_of answer) (text_of answer)
-  gives_cuts most workers asks (Cuts listing) holds =
-      gives.cuts most workers asks
-      (of_input held left (λ bytes. IsCutsAnswer most bytes (Cuts listing)) (λ bytes. IsCutsText most bytes (listing_text listing))
-      (λ bytes is. record { found = found_in listing []; finds = is.0; is = said_of most listing [] is.1 }) holds)
-      refl
-  gives_cuts most workers asks (Refused fault) holds = gives.refused (for_cuts most) fault (ap wants_of asks) holds refl refl
-  gives_cuts most workers asks ListLimit holds = gives.list_limit (for_cuts most) (ap wants_of asks) holds refl refl
-  gives_cuts most workers asks OrderLimit holds = gives.order_limit (for_cuts most) (ap wants_of asks) holds refl refl
-  gives_cuts most workers asks ReadFault rises = gives.read_fault (for_cuts most) (ap wants_of asks) rises refl refl
-  gives_cuts most workers asks TooLong beyond = gives.too_long (for_cuts most) (ap wants_of asks) beyond refl refl
-  gives_cuts most workers asks Help never = absurd never
-  gives_cuts most workers asks Usage never = absurd never
+  pub check_of_input : OfInput held left (λ bytes. IsWellFormed IfAny bytes tree crews) → OfInput held left (λ bytes. IsCheckText bytes (check_text tree crews))
+  check_of_input read =
+      of_input held left (λ bytes. IsWellFormed IfAny bytes tree crews) (λ bytes. IsCheckText bytes (check_text tree crews)) (λ bytes deck. check_said bytes tree crews deck) read
+
+  pub print_of_input : OfInput held left (λ bytes. IsWellFormed Unread bytes tree crews) → OfInput held left (λ bytes. IsPrintText bytes (print_text tree))
+  print_of_input read =
+      of_input held left (λ bytes. IsWellFormed Unread bytes tree crews) (λ bytes. IsPrintText bytes (print_text tree)) (λ bytes deck. print_said bytes tree crews deck) read
+
+  -- a limit of the tree is one of the command
+  pub limit_for : (part : CrewPart) (most : ℕ) (rose : Type 0) (end : RunEnd) → OfInput held left (λ bytes. IsWellFormed part bytes tree crews) → IfRefused (IsLimitOf most tree) end
+      → IfRefused (IsRefusalFor (record { crews = part; cuts = WithOrders most }) held left rose) end
+  limit_for part most rose (Refused ListLimit) read heavy =
+      of_input held left (λ bytes. IsWellFormed part bytes tree crews) (λ bytes. Finds (record { crews = part; cuts = WithOrders most }) bytes TooHeavy)
+      (λ bytes deck. finds_heavy part most bytes tree crews deck heavy) read
+  limit_for part most rose (Refused OrderLimit) read many =
+      of_input held left (λ bytes. IsWellFormed part bytes tree crews) (λ bytes. Finds (record { crews = part; cuts = WithOrders most }) bytes TooManyOrders)
+      (λ bytes deck. finds_many part most bytes tree crews deck many) read
+  limit_for part most rose (Refused (Fault fault)) read never = absurd never
+  limit_for part most rose (Refused ReadFault) read never = absurd never
+  limit_for part most rose (Refused TooLong) read never = absurd never
+  limit_for part most rose (Refused Usage) read never = absurd never
+  limit_for part most rose NoMemory read free = tt
+
+module _ (held left : Option (List ℕ)) (rose : Type 0) where
+  -- why no deck is read is why the command is refused
+  pub refused_for : (wants : Wants) (end : RunEnd) → IfRefused (IsReadRefusal wants.crews held left rose) end → IfRefused (IsRefusalFor wants held left rose) end
+  refused_for wants (Refused (Fault fault)) holds =
+      of_input held left (λ bytes. IsDeckFault wants.crews bytes fault) (λ bytes. Finds wants bytes (Faulty fault)) (λ bytes refused. faulty fault refused refl) holds
+  refused_for wants (Refused ReadFault) rises = rises
+  refused_for wants (Refused TooLong) beyond = beyond
+  refused_for wants (Refused ListLimit) never = absurd never
+  refused_for wants (Refused OrderLimit) never = absurd never
+  refused_for wants (Refused Usage) never = absurd never
+  refused_for wants NoMemory free = tt
+
+  pub refused_by : (words : List (List ℕ)) (wants : Wants) (end : RunEnd) → wanted words ≡ Some wants → IfRefused (IsRefusalFor wants held left rose) end
+      → IfRefused (IsRefusalBy words held left rose) end
+  refused_by words wants (Refused (Fault fault)) at holds = gives.refused wants fault at holds refl refl
+  refused_by words wants (Refused ReadFault) at rises = gives.read_fault wants at rises refl refl
+  refused_by words wants (Refused TooLong) at beyond = gives.too_long wants at beyond refl refl
+  refused_by words wants (Refused ListLimit) at holds = gives.list_limit wants at holds refl refl
+  refused_by words wants (Refused OrderLimit) at holds = gives.order_limit wants at holds refl refl
+  refused_by words wants (Refused Usage) at never = absurd never
+  refused_by words wants NoMemory at free = tt

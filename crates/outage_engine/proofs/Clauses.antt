@@ -4,18 +4,18 @@ use Rattle.std.specs.Io.KnownBytes.{Appends}
 use Rattle.std.proofs.Common.{sym, subst, ◌∙◌, ap, refl, inl, inr, arith}
 use Rattle.edge_io.specs.declared.reading.TheConstants.{INPUT_LIMIT}
 use Rattle.board_words.specs.declared.command.Command.{Command}
-use Rattle.board_words.specs.declared.command.Command.TheVariants.{Cuts, Board, Help}
+use Rattle.board_words.specs.declared.command.Command.TheVariants.{Cuts, Board, Check, Print, Diagram, Make, Help}
 use Rattle.board_report.specs.Refusals.{fault_line, notice_line}
 use Rattle.board_report.specs.declared.notice.Notice.TheVariants as notice
 use Rattle.outage_engine.specs.declared.status.Status.{Status}
 use Rattle.outage_engine.specs.declared.status.Status.TheVariants.{Done, Refused, ListLimit, OrderLimit, Usage, ReadFault, TooLong, WriteFault, NoMemory}
 use Rattle.outage_engine.specs.declared.status.Method.{Method}
-use Rattle.outage_engine.specs.Finding.{Finding, Finds, Faulty, TooHeavy, TooManyOrders, Ready, Wants}
-use Rattle.outage_engine.specs.Gives.{Gives, IsBeyond, OfInput, asked, wanted, wants_of, usage, help, read_fault, too_long, refused, list_limit, order_limit, cuts, board}
+use Rattle.outage_engine.specs.Finding.{Finding, Finds, Found, Faulty, TooHeavy, TooManyOrders, Ready, Wants}
+use Rattle.outage_engine.specs.Gives.{Gives, IsBeyond, IsMethodOf, IsTextOf, OfInput, asked, wanted, wants_of, done, usage, read_fault, too_long, refused, list_limit, order_limit}
 use Rattle.outage_engine.specs.Runs as runs
 use Rattle.outage_engine.specs.Runs.{Answers, AreReading, Fails, HasFound, IsDone, Runs}
 use Rattle.outage_engine.specs.Safety.{IsSafeText}
-use Rattle.outage_engine.specs.Texts.{IsBoardText, IsCutsText, for_board, for_cuts}
+use Rattle.outage_engine.specs.Texts.{IsBoardText, IsCheckText, IsCutsText, IsPrintText, for_board, for_check, for_cuts, for_print}
 use Rattle.outage_engine.proofs.OneFinding.{one_finding}
 
 -- ---- inputs
@@ -49,29 +49,20 @@ wanted_by words wants some none = let clash : wants_of None ≡ Some wants = sub
 wanted_by_help : {P : Type 0} (words : List (List ℕ)) (wants : Wants) → wanted words ≡ Some wants → asked words ≡ Some Help → P
 wanted_by_help words wants some help' = let clash : wants_of (Some Help) ≡ Some wants = subst (λ c. wants_of c ≡ Some wants) help' some in absurd cc
 
-two_commands : {P : Type 0} (words : List (List ℕ)) (one two : Command) → asked words ≡ Some one → asked words ≡ Some two → (Some one ≡ Some two → P) → P
-two_commands words one two at at' clash = clash (sym at ∙ at')
+same_command : (words : List (List ℕ)) (one two : Command) → asked words ≡ Some one → asked words ≡ Some two → one ≡ two
+same_command words one two at at' = let same : Some one ≡ Some two = sym at ∙ at' in cc
 
 same_wants : (words : List (List ℕ)) (one two : Wants) → wanted words ≡ Some one → wanted words ≡ Some two → one ≡ two
 same_wants words one two at at' = let same : Some one ≡ Some two = sym at ∙ at' in cc
 
-wants_cuts : (words : List (List ℕ)) (most workers : ℕ) → asked words ≡ Some (Cuts most workers) → wanted words ≡ Some (for_cuts most)
-wants_cuts words most workers at = ap wants_of at
-
-wants_board : (words : List (List ℕ)) (margin most workers : ℕ) → asked words ≡ Some (Board margin most workers) → wanted words ≡ Some (for_board most)
-wants_board words margin most workers at = ap wants_of at
-
 -- ---- what the relation says of each status
 
--- a text that ends well is that of one of the commands
-data IsDoneText (words : List (List ℕ)) (held left : Option (List ℕ)) (text : List ℕ) : Type 0 where
-  of_help : asked words ≡ Some Help → text ≡ notice_line notice.Usage → IsDoneText words held left text
-  of_cuts : (most workers : ℕ) → asked words ≡ Some (Cuts most workers) → OfInput held left (λ bytes. IsCutsText most bytes text) → IsDoneText words held left text
-  of_board : (margin most workers : ℕ) → asked words ≡ Some (Board margin most workers) → OfInput held left (λ bytes. IsSafeText margin most bytes text)
-      → IsDoneText words held left text
+-- a text that ends well is that of the command
+abbrev IsDoneText : List (List ℕ) → Option (List ℕ) → Option (List ℕ) → Method → List ℕ → Type 0
+IsDoneText words held left method text = (command : Command) × (asked words ≡ Some command) × IsMethodOf command method × IsTextOf command held left text
 
 abbrev Cause : List (List ℕ) → Option (List ℕ) → Option (List ℕ) → Type 0 → Status → List ℕ → Type 0
-Cause words held left rose (Done method) text = IsDoneText words held left text
+Cause words held left rose (Done method) text = IsDoneText words held left method text
 Cause words held left rose (Refused fault) text = HasFound words held left (Faulty fault) × (text ≡ fault_line fault)
 Cause words held left rose ListLimit text = HasFound words held left TooHeavy × (text ≡ notice_line notice.ListLimit)
 Cause words held left rose OrderLimit text = HasFound words held left TooManyOrders × (text ≡ notice_line notice.OrderLimit)
@@ -86,40 +77,17 @@ module _ (words : List (List ℕ)) (held left : Option (List ℕ)) (rose : Type 
   Caused status = Cause words held left rose status text
 
   cause : (status : Status) → Gives words held left rose status text → Caused status
+  cause status (done command method at is_method is_text is) = subst Caused (sym is) (command, at, is_method, is_text)
   cause status (usage none is line) = subst Caused (sym is) (none, line)
-  cause status (help at is line) = subst Caused (sym is) (of_help at line)
   cause status (read_fault wants at rises is line) = subst Caused (sym is) ((wants, at), rises, line)
   cause status (too_long wants at beyond is line) = subst Caused (sym is) ((wants, at), beyond, line)
   cause status (refused wants fault at found is line) = subst Caused (sym is) ((wants, at, found), line)
   cause status (list_limit wants at found is line) = subst Caused (sym is) ((wants, at, found), line)
   cause status (order_limit wants at found is line) = subst Caused (sym is) ((wants, at, found), line)
-  cause status (cuts most workers at is_text is) = subst Caused (sym is) (of_cuts most workers at is_text)
-  cause status (board margin most workers at is_text is) = subst Caused (sym is) (of_board margin most workers at is_text)
 
-  command_of_text : IsDoneText words held left text → (command : Command) × (asked words ≡ Some command)
-  command_of_text (of_help at line) = (Help, at)
-  command_of_text (of_cuts most workers at is_text) = (Cuts most workers, at)
-  command_of_text (of_board margin most workers at is_text) = (Board margin most workers, at)
-
-  help_text : asked words ≡ Some Help → IsDoneText words held left text → text ≡ notice_line notice.Usage
-  help_text asks (of_help at line) = line
-  help_text asks (of_cuts most workers at is_text) = let clash = sym at ∙ asks in absurd cc
-  help_text asks (of_board margin most workers at is_text) = let clash = sym at ∙ asks in absurd cc
-
-  cuts_text : (most workers : ℕ) → asked words ≡ Some (Cuts most workers) → IsDoneText words held left text → OfInput held left (λ bytes. IsCutsText most bytes text)
-  cuts_text most workers asks (of_help at line) = let clash = sym at ∙ asks in absurd cc
-  cuts_text most workers asks (of_cuts other workers' at is_text) =
-      let same : other ≡ most = let both = sym at ∙ asks in cc in subst (λ m. OfInput held left (λ bytes. IsCutsText m bytes text)) same is_text
-  cuts_text most workers asks (of_board margin other workers' at is_text) = let clash = sym at ∙ asks in absurd cc
-
-  board_text : (margin most workers : ℕ) → asked words ≡ Some (Board margin most workers) → IsDoneText words held left text → OfInput held left (λ bytes. IsSafeText margin most bytes text)
-  board_text margin most workers asks (of_help at line) = let clash = sym at ∙ asks in absurd cc
-  board_text margin most workers asks (of_cuts other workers' at is_text) = let clash = sym at ∙ asks in absurd cc
-  board_text margin most workers asks (of_board margin' most' workers' at is_text) =
-      let margins : margin' ≡ margin = let both = sym at ∙ asks in cc in
-      let mosts : most' ≡ most = let both = sym at ∙ asks in cc in
-      subst (λ m. OfInput held left (λ bytes. IsSafeText m most bytes text)) margins
-      (subst (λ m. OfInput held left (λ bytes. IsSafeText margin' m bytes text)) mosts is_text)
+  text_of_command : (method : Method) (command : Command) → asked words ≡ Some command → IsDoneText words held left method text → IsTextOf command held left text
+  text_of_command method command asks (other, at, is_method, is_text) =
+      subst (λ c. IsTextOf c held left text) (same_command words other command at asks) is_text
 
 -- ---- the status that is due
 
@@ -132,19 +100,34 @@ module _ (words : List (List ℕ)) (bytes : List ℕ) (left : Option (List ℕ))
       let found' : Finds wants bytes other = subst (λ w. Finds w bytes other) same (input bytes left (λ b. Finds wants' b other) found).1 in
       subst (λ f. Answers f status) (one_finding wants bytes other finding found' finds) answers
 
+  -- what the text of a command was found of
+  ready_for : (wants : Wants) (command : Command) → wants_of (Some command) ≡ Some wants → IsTextOf command (Some bytes) left text
+      → (length bytes ≤ INPUT_LIMIT) × (found : Found) × Finds wants bytes (Ready found)
+  ready_for wants (Cuts most workers) at is_text =
+      let whole = input bytes left (λ b. IsCutsText most b text) is_text in
+      let same : for_cuts most ≡ wants = cc in
+      (whole.0, whole.1.found, subst (λ w. Finds w bytes (Ready whole.1.found)) same whole.1.finds)
+  ready_for wants (Board margin most workers) at is_text =
+      let whole = input bytes left (λ b. IsSafeText margin most b text) is_text in
+      let same : for_board most ≡ wants = cc in
+      (whole.0, whole.1.found, subst (λ w. Finds w bytes (Ready whole.1.found)) same whole.1.finds)
+  ready_for wants Check at is_text =
+      let whole = input bytes left (λ b. IsCheckText b text) is_text in
+      let same : for_check ≡ wants = cc in
+      (whole.0, whole.1.found, subst (λ w. Finds w bytes (Ready whole.1.found)) same whole.1.finds)
+  ready_for wants Print at is_text =
+      let whole = input bytes left (λ b. IsPrintText b text) is_text in
+      let same : for_print ≡ wants = cc in
+      (whole.0, whole.1.found, subst (λ w. Finds w bytes (Ready whole.1.found)) same whole.1.finds)
+  ready_for wants Help at is_text = absurd cc
+  ready_for wants (Diagram workers) at is_text = absurd is_text
+  ready_for wants (Make number show) at is_text = absurd is_text
+
   deck_due : (wants : Wants) (finding : Finding) → length bytes ≤ INPUT_LIMIT → wanted words ≡ Some wants → Finds wants bytes finding
       → (status : Status) → Cause words (Some bytes) left rose status text → Answers finding status ⊎ Fails status
-  deck_due wants finding short at finds (Done method) (of_help asks line) = wanted_by_help words wants at asks
-  deck_due wants finding short at finds (Done method) (of_cuts most workers at' is_text) =
-      let whole = (input bytes left (λ b. IsCutsText most b text) is_text).1 in
-      let same : for_cuts most ≡ wants = same_wants words (for_cuts most) wants (wants_cuts words most workers at') at in
-      let found' : Finds wants bytes (Ready whole.found) = subst (λ w. Finds w bytes (Ready whole.found)) same whole.finds in
-      inl (subst (λ f. Answers f (Done method)) (one_finding wants bytes (Ready whole.found) finding found' finds) (method, refl))
-  deck_due wants finding short at finds (Done method) (of_board margin most workers at' is_text) =
-      let whole = (input bytes left (λ b. IsSafeText margin most b text) is_text).1 in
-      let same : for_board most ≡ wants = same_wants words (for_board most) wants (wants_board words margin most workers at') at in
-      let found' : Finds wants bytes (Ready whole.found) = subst (λ w. Finds w bytes (Ready whole.found)) same whole.finds in
-      inl (subst (λ f. Answers f (Done method)) (one_finding wants bytes (Ready whole.found) finding found' finds) (method, refl))
+  deck_due wants finding short at finds (Done method) (command, asks, is_method, is_text) =
+      let ready = ready_for wants command (subst (λ c. wants_of c ≡ Some wants) asks at) is_text in
+      inl (subst (λ f. Answers f (Done method)) (one_finding wants bytes (Ready ready.1) finding ready.2 finds) (method, refl))
   deck_due wants finding short at finds (Refused fault) (found, line) = inl (goes_with wants finding (Faulty fault) (Refused fault) at finds found refl)
   deck_due wants finding short at finds ListLimit (found, line) = inl (goes_with wants finding TooHeavy ListLimit at finds found refl)
   deck_due wants finding short at finds OrderLimit (found, line) = inl (goes_with wants finding TooManyOrders OrderLimit at finds found refl)
@@ -158,9 +141,8 @@ module _ (words : List (List ℕ)) (bytes : List ℕ) (left : Option (List ℕ))
   found_short finding (wants, at, found) = (input bytes left (λ b. Finds wants b finding) found).0
 
   length_due : INPUT_LIMIT < length bytes → AreReading words → (status : Status) → Cause words (Some bytes) left rose status text → (status ≡ TooLong) ⊎ Fails status
-  length_due long (wants, at) (Done method) (of_help asks line) = wanted_by_help words wants at asks
-  length_due long (wants, at) (Done method) (of_cuts most workers at' is_text) = not_short_and_long bytes (input bytes left (λ b. IsCutsText most b text) is_text).0 long
-  length_due long (wants, at) (Done method) (of_board margin most workers at' is_text) = not_short_and_long bytes (input bytes left (λ b. IsSafeText margin most b text) is_text).0 long
+  length_due long (wants, at) (Done method) (command, asks, is_method, is_text) =
+      not_short_and_long bytes (ready_for wants command (subst (λ c. wants_of c ≡ Some wants) asks at) is_text).0 long
   length_due long (wants, at) (Refused fault) (found, line) = not_short_and_long bytes (found_short (Faulty fault) found) long
   length_due long (wants, at) ListLimit (found, line) = not_short_and_long bytes (found_short TooHeavy found) long
   length_due long (wants, at) OrderLimit (found, line) = not_short_and_long bytes (found_short TooManyOrders found) long
@@ -178,7 +160,7 @@ module _ (words : List (List ℕ)) (held left : Option (List ℕ)) (rose : Type 
   found_reads finding (wants, at, found) = (wants, at)
 
   usage_due : asked words ≡ None → (status : Status) → Cause words held left rose status text → (status ≡ Usage) ⊎ Fails status
-  usage_due none (Done method) done = let found = command_of_text words held left rose text done in let clash = sym none ∙ found.1 in absurd cc
+  usage_due none (Done method) (command, at, is_method, is_text) = let clash = sym none ∙ at in absurd cc
   usage_due none (Refused fault) (found, line) = none_reads none (found_reads (Faulty fault) found)
   usage_due none ListLimit (found, line) = none_reads none (found_reads TooHeavy found)
   usage_due none OrderLimit (found, line) = none_reads none (found_reads TooManyOrders found)
@@ -192,7 +174,7 @@ module _ (words : List (List ℕ)) (held left : Option (List ℕ)) (rose : Type 
   help_reads asks (wants, at) = wanted_by_help words wants at asks
 
   help_due : asked words ≡ Some Help → (status : Status) → Cause words held left rose status text → IsDone status ⊎ Fails status
-  help_due asks (Done method) done = inl (method, refl)
+  help_due asks (Done method) cause = inl (method, refl)
   help_due asks (Refused fault) (found, line) = help_reads asks (found_reads (Faulty fault) found)
   help_due asks ListLimit (found, line) = help_reads asks (found_reads TooHeavy found)
   help_due asks OrderLimit (found, line) = help_reads asks (found_reads TooManyOrders found)
@@ -217,28 +199,36 @@ module _ {K : Type 0} (words : List (List ℕ)) (held left : Option (List ℕ)) 
     ]
   ]
 
-  done_text : (method : Method) → result ≡ Done method → (text : List ℕ) × IsDoneText words held left text × Appends (taken old) (taken new) text
+  done_text : (method : Method) → result ≡ Done method → (text : List ℕ) × IsDoneText words held left method text × Appends (taken old) (taken new) text
   done_text method is = written (Done method) (λ e. let clash = e in cc) (λ e. let clash = e in cc) is
 
+  -- the text of a command was written
+  command_text : (command : Command) → asked words ≡ Some command → IsDone result → (text : List ℕ) × IsTextOf command held left text × Appends (taken old) (taken new) text
+  command_text command asks (method, is) =
+      let found = done_text method is in (found.0, text_of_command words held left rose found.0 method command asks found.1, found.2)
+
   pub of_command : runs.IsOfCommand words result
-  of_command (method, is) = let found = done_text method is in command_of_text words held left rose found.0 found.1
+  of_command method is = let found = done_text method is in (found.1.0, found.1.1, found.1.2)
 
   pub prints_cuts : runs.PrintsCuts words held left taken old new result
-  prints_cuts most workers asks (method, is) =
-      let found = done_text method is in (found.0, cuts_text words held left rose found.0 most workers asks found.1, found.2)
+  prints_cuts most workers asks is_done = command_text (Cuts most workers) asks is_done
 
   pub prints_safely : runs.PrintsSafely words held left taken old new result
-  prints_safely margin most workers asks (method, is) =
-      let found = done_text method is in (found.0, board_text words held left rose found.0 margin most workers asks found.1, found.2)
+  prints_safely margin most workers asks is_done = command_text (Board margin most workers) asks is_done
+
+  pub prints_check : runs.PrintsCheck words held left taken old new result
+  prints_check asks is_done = command_text Check asks is_done
+
+  pub prints_tree : runs.PrintsTree words held left taken old new result
+  prints_tree asks is_done = command_text Print asks is_done
 
   pub prints_board : runs.PrintsBoard words held left taken old new result
-  prints_board margin most workers asks done =
-      let found = prints_safely margin most workers asks done in
+  prints_board margin most workers asks is_done =
+      let found = prints_safely margin most workers asks is_done in
       (found.0, of_input held left (λ bytes. IsSafeText margin most bytes found.0) (λ bytes. IsBoardText margin most bytes found.0) (λ bytes is. plain_text margin most bytes found.0 is) found.1, found.2)
 
   pub prints_help : runs.PrintsHelp words taken old new result
-  prints_help asks (method, is) =
-      let found = done_text method is in subst (Appends (taken old) (taken new)) (help_text words held left rose found.0 asks found.1) found.2
+  prints_help asks is_done = let found = command_text Help asks is_done in subst (Appends (taken old) (taken new)) found.1 found.2
 
   -- the line of a refusal, with its cause
   pub refuses_words : runs.RefusesWords words taken old new result

@@ -5,6 +5,7 @@ mod Bearing
 mod Clauses
 mod Writable
 mod Answering
+mod Reading
 mod Serving
 mod Relating
 mod SomeFinding

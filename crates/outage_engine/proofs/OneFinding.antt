@@ -1,5 +1,5 @@
 -- A deck has one finding at most.
-use Rattle.std.specs.Prelude.{◌≡◌, ℕ, List, [], Option, Some, None, Result, Ok, Err}
+use Rattle.std.specs.Prelude.{◌≡◌, ℕ, List, Option, None, Result, Ok, Err}
 use Rattle.std.proofs.Common.{sym, ap, subst, ◌∙◌}
 use Rattle.fault_model.specs.Tree.{FaultTree}
 use Rattle.fault_model.specs.Cut.{IsCutList}
@@ -17,12 +17,12 @@ use Rattle.crew_script.specs.declared.dockets.Crew.{Crew}
 use Rattle.crew_script.specs.declared.fault.CrewCode.{CrewCode}
 use Rattle.crew_script.specs.declared.fault.CrewFault.{CrewFault}
 use Rattle.crew_script.specs.declared.fault.CrewFault.TheVariants.{Fault}
-use Rattle.crew_script.specs.declared.fault.CrewFault.TheVariants as crew
 use Rattle.board_report.specs.declared.fault.DeckFault.{DeckFault}
 use Rattle.board_report.specs.declared.fault.FaultCode.{FaultCode}
 use Rattle.board_report.specs.declared.fault.FaultCode.TheVariants.{Check, Crew as of_crews}
-use Rattle.outage_engine.specs.Deck.{IsFaultOf, IsTreeFault, StandsFor, tree_part}
-use Rattle.outage_engine.specs.Finding.{Finding, Faulty, TooHeavy, Finds, Found, Wants, judged, wanted_crews, no_crews, bad_tree, bad_crews, well_formed}
+use Rattle.outage_engine.specs.declared.deck.CrewPart.{CrewPart}
+use Rattle.outage_engine.specs.Deck.{IsDeckFault, IsFaultOf, IsTreeFault, IsWellFormed, LacksCrews, StandsFor, bad_crews, bad_tree, crew_part, crews_read, crews_said, no_crews, tree_part}
+use Rattle.outage_engine.specs.Finding.{AreCutsFor, CutsWanted, Finding, Faulty, Finds, Found, NoCuts, Wants, WithOrders, faulty, judged, well_formed}
 
 -- ---- the tree part
 
@@ -58,61 +58,70 @@ no_tree_and_fault bytes tree fault stands refused =
 
 -- ---- the crew part
 
-abbrev Said : Type 0
-Said = Option (Result (List Crew) CrewFault)
+-- where there is no crew part, none is refused
+lacking_and_faulty : {P : Type 0} (part : CrewPart) (bytes : List ℕ) (fault : CrewFault) → LacksCrews part bytes → crews_read part bytes ≡ Err fault → P
+lacking_and_faulty part bytes fault (needed, none) err =
+    let read : crews_said (crew_part bytes) ≡ Err fault = subst (λ p. crews_read p bytes ≡ Err fault) needed err in
+    let clash : Ok None ≡ Err fault = subst (λ said. crews_said said ≡ Err fault) none read in
+    absurd cc
 
-abbrev crews_in : Said → List Crew
-crews_in (Some (Ok crews)) = crews
-crews_in (Some (Err fault)) = []
-crews_in None = []
+err_and_ok : {P : Type 0} (said : Result (Option (List Crew)) CrewFault) (fault : CrewFault) (crews : Option (List Crew)) → said ≡ Err fault → said ≡ Ok crews → P
+err_and_ok said fault crews err ok = let clash = sym err ∙ ok in absurd cc
 
-abbrev faulty_crews : CrewCode → Place → Finding
-faulty_crews code place = Faulty (record { code = of_crews code; place = place })
+abbrev crew_fault : CrewCode → Place → DeckFault
+crew_fault code place = record { code = of_crews code; place = place }
 
-abbrev fault_in : Said → Finding
-fault_in (Some (Err (Fault code place))) = faulty_crews code place
-fault_in (Some (Err crew.NoMemory)) = TooHeavy
-fault_in (Some (Ok crews)) = TooHeavy
-fault_in None = TooHeavy
+same_crew_fault : (said : Result (Option (List Crew)) CrewFault) (code code' : CrewCode) (place place' : Place)
+    → said ≡ Err (Fault code place) → said ≡ Err (Fault code' place') → crew_fault code place ≡ crew_fault code' place'
+same_crew_fault said code code' place place' is is' =
+    let both = sym is ∙ is' in
+    let codes : code ≡ code' = cc in
+    let places : place ≡ place' = cc in
+    ap (λ c. crew_fault c place) codes ∙ ap (crew_fault code') places
+
+-- ---- the deck
+
+one_fault : (part : CrewPart) (bytes : List ℕ) (one two : DeckFault) → IsDeckFault part bytes one → IsDeckFault part bytes two → one ≡ two
+one_fault part bytes one two (no_crews lacks is) (no_crews lacks' is') = is ∙ sym is'
+one_fault part bytes one two (no_crews lacks is) (bad_tree has refused) = absurd (has lacks)
+one_fault part bytes one two (no_crews lacks is) (bad_crews tree code place stands said is') = lacking_and_faulty part bytes (Fault code place) lacks said
+one_fault part bytes one two (bad_tree has refused) (no_crews lacks is) = absurd (has lacks)
+one_fault part bytes one two (bad_tree has refused) (bad_tree has' refused') = same_fault_of (parsed_text (tree_part bytes)) one two refused refused'
+one_fault part bytes one two (bad_tree has refused) (bad_crews tree code place stands said is) = no_tree_and_fault bytes tree one stands refused
+one_fault part bytes one two (bad_crews tree code place stands said is) (no_crews lacks is') = lacking_and_faulty part bytes (Fault code place) lacks said
+one_fault part bytes one two (bad_crews tree code place stands said is) (bad_tree has refused) = no_tree_and_fault bytes tree two stands refused
+one_fault part bytes one two (bad_crews tree code place stands said is) (bad_crews tree' code' place' stands' said' is') =
+    is ∙ same_crew_fault (crews_read part bytes) code code' place place' said said' ∙ sym is'
+
+no_deck_and_fault : {P : Type 0} (part : CrewPart) (bytes : List ℕ) (tree : FaultTree) (crews : Option (List Crew)) (fault : DeckFault)
+    → IsWellFormed part bytes tree crews → IsDeckFault part bytes fault → P
+no_deck_and_fault part bytes tree crews fault deck (no_crews lacks is) = absurd (deck.has_crews lacks)
+no_deck_and_fault part bytes tree crews fault deck (bad_tree has refused) = no_tree_and_fault bytes tree fault deck.stands refused
+no_deck_and_fault part bytes tree crews fault deck (bad_crews tree' code place stands said is) =
+    err_and_ok (crews_read part bytes) (Fault code place) crews said deck.said
 
 -- ---- the finding
 
-abbrev found_as : FaultTree → List (List ℕ) → List Crew → Found
+abbrev found_as : FaultTree → List (List ℕ) → Option (List Crew) → Found
 found_as tree cuts crews = record { tree = tree; cuts = cuts; crews = crews }
 
-same_found : (said : Said) (bytes : List ℕ) (one two : Found) → StandsFor bytes one.tree → StandsFor bytes two.tree
-    → said ≡ Some (Ok one.crews) → said ≡ Some (Ok two.crews) → IsCutList one.tree one.cuts → IsCutList two.tree two.cuts → one ≡ two
-same_found said bytes one two stands stands' crews crews' list list' =
-    let trees : one.tree ≡ two.tree = same_deck_tree bytes one.tree two.tree stands stands' in
-    let cuts : one.cuts ≡ two.cuts = same_cut_list two.tree one.cuts two.cuts (subst (λ t. IsCutList t one.cuts) trees list) list' in
-    let said_same : one.crews ≡ two.crews = ap crews_in (sym crews ∙ crews') in
-    ap (λ t. found_as t one.cuts one.crews) trees ∙ (ap (λ c. found_as two.tree c one.crews) cuts ∙ ap (found_as two.tree two.cuts) said_same)
+same_cuts : (wanted : CutsWanted) (tree : FaultTree) (cuts cuts' : List (List ℕ)) → AreCutsFor wanted tree cuts → AreCutsFor wanted tree cuts' → cuts ≡ cuts'
+same_cuts NoCuts tree cuts cuts' is is' = is ∙ sym is'
+same_cuts (WithOrders most) tree cuts cuts' is is' = same_cut_list tree cuts cuts' is is'
 
-none_and_some : {P : Type 0} (said : Said) (one : Result (List Crew) CrewFault) → said ≡ None → said ≡ Some one → P
-none_and_some said one none given = let clash = sym none ∙ given in absurd cc
-
-err_and_ok : {P : Type 0} (said : Said) (fault : CrewFault) (crews : List Crew) → said ≡ Some (Err fault) → said ≡ Some (Ok crews) → P
-err_and_ok said fault crews err ok = let clash = sym err ∙ ok in absurd cc
+same_found : (wants : Wants) (bytes : List ℕ) (one two : Found) → IsWellFormed wants.crews bytes one.tree one.crews → IsWellFormed wants.crews bytes two.tree two.crews
+    → AreCutsFor wants.cuts one.tree one.cuts → AreCutsFor wants.cuts two.tree two.cuts → one ≡ two
+same_found wants bytes one two deck deck' list list' =
+    let trees : one.tree ≡ two.tree = same_deck_tree bytes one.tree two.tree deck.stands deck'.stands in
+    let cuts : one.cuts ≡ two.cuts = same_cuts wants.cuts two.tree one.cuts two.cuts (subst (λ t. AreCutsFor wants.cuts t one.cuts) trees list) list' in
+    let said = sym deck.said ∙ deck'.said in
+    let crews : one.crews ≡ two.crews = cc in
+    ap (λ t. found_as t one.cuts one.crews) trees ∙ (ap (λ c. found_as two.tree c one.crews) cuts ∙ ap (found_as two.tree two.cuts) crews)
 
 pub one_finding : (wants : Wants) (bytes : List ℕ) (one two : Finding) → Finds wants bytes one → Finds wants bytes two → one ≡ two
-one_finding wants bytes one two (no_crews none is) (no_crews none' is') = is ∙ sym is'
-one_finding wants bytes one two (no_crews none is) (bad_tree said fault given refused is') = none_and_some (wanted_crews wants.crews bytes) said none given
-one_finding wants bytes one two (no_crews none is) (bad_crews tree code place stands given is') = none_and_some (wanted_crews wants.crews bytes) (Err (Fault code place)) none given
-one_finding wants bytes one two (no_crews none is) (well_formed found stands given list is') = none_and_some (wanted_crews wants.crews bytes) (Ok found.crews) none given
-one_finding wants bytes one two (bad_tree said fault given refused is) (no_crews none is') = none_and_some (wanted_crews wants.crews bytes) said none given
-one_finding wants bytes one two (bad_tree said fault given refused is) (bad_tree said' fault' given' refused' is') =
-    is ∙ ap (λ f. Faulty f) (same_fault_of (parsed_text (tree_part bytes)) fault fault' refused refused') ∙ sym is'
-one_finding wants bytes one two (bad_tree said fault given refused is) (bad_crews tree code place stands given' is') = no_tree_and_fault bytes tree fault stands refused
-one_finding wants bytes one two (bad_tree said fault given refused is) (well_formed found stands given' list is') = no_tree_and_fault bytes found.tree fault stands refused
-one_finding wants bytes one two (bad_crews tree code place stands given is) (no_crews none is') = none_and_some (wanted_crews wants.crews bytes) (Err (Fault code place)) none given
-one_finding wants bytes one two (bad_crews tree code place stands given is) (bad_tree said fault given' refused is') = no_tree_and_fault bytes tree fault stands refused
-one_finding wants bytes one two (bad_crews tree code place stands given is) (bad_crews tree' code' place' stands' given' is') =
-    is ∙ ap fault_in (sym given ∙ given') ∙ sym is'
-one_finding wants bytes one two (bad_crews tree code place stands given is) (well_formed found stands' given' list is') =
-    err_and_ok (wanted_crews wants.crews bytes) (Fault code place) found.crews given given'
-one_finding wants bytes one two (well_formed found stands given list is) (no_crews none is') = none_and_some (wanted_crews wants.crews bytes) (Ok found.crews) none given
-one_finding wants bytes one two (well_formed found stands given list is) (bad_tree said fault given' refused is') = no_tree_and_fault bytes found.tree fault stands refused
-one_finding wants bytes one two (well_formed found stands given list is) (bad_crews tree code place stands' given' is') =
-    err_and_ok (wanted_crews wants.crews bytes) (Fault code place) found.crews given' given
-one_finding wants bytes one two (well_formed found stands given list is) (well_formed found' stands' given' list' is') =
-    is ∙ ap (judged wants.most) (same_found (wanted_crews wants.crews bytes) bytes found found' stands stands' given given' list list') ∙ sym is'
+one_finding wants bytes one two (faulty fault refused is) (faulty fault' refused' is') =
+    is ∙ ap (λ f. Faulty f) (one_fault wants.crews bytes fault fault' refused refused') ∙ sym is'
+one_finding wants bytes one two (faulty fault refused is) (well_formed found deck list is') = no_deck_and_fault wants.crews bytes found.tree found.crews fault deck refused
+one_finding wants bytes one two (well_formed found deck list is) (faulty fault refused is') = no_deck_and_fault wants.crews bytes found.tree found.crews fault deck refused
+one_finding wants bytes one two (well_formed found deck list is) (well_formed found' deck' list' is') =
+    is ∙ ap (judged wants.cuts) (same_found wants bytes found found' deck deck' list list') ∙ sym is'

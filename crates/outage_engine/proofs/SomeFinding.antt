@@ -1,6 +1,6 @@
 -- A deck has a finding: its first fault, a limit that is passed, or its tree, cut list and crews.
-use Rattle.std.specs.Prelude.{◌≡◌, ◌⊎◌, ℕ, Bool, true, false, All, List, drop, Option, Some, None, Result, Ok, Err}
-use Rattle.std.proofs.Common.{sym, subst, refl, inl, inr}
+use Rattle.std.specs.Prelude.{◌≡◌, ◌⊎◌, ℕ, All, List, [], drop, Option, Some, None, Result, Ok, Err}
+use Rattle.std.proofs.Common.{sym, ap, subst, refl, inl, inr}
 use Rattle.fault_model.specs.Cut.{IsCutList}
 use Rattle.fault_model.specs.Tree.{FaultTree}
 use Rattle.fault_model.specs.WellFormed.{IsTree}
@@ -23,8 +23,10 @@ use Rattle.crew_script.specs.declared.fault.CrewFault.TheVariants.{Fault}
 use Rattle.crew_script.specs.declared.fault.CrewFault.TheVariants as crew
 use Rattle.board_report.specs.declared.fault.DeckFault.{DeckFault}
 use Rattle.board_report.specs.declared.fault.FaultCode.TheVariants as report
-use Rattle.outage_engine.specs.Deck.{IsFaultOf, IsTreeFault, StandsFor, crews_behind, no_crew_part, tree_part}
-use Rattle.outage_engine.specs.Finding.{Finding, Faulty, Finds, Found, Wants, judged, wanted_crews, no_crews, bad_tree, bad_crews, well_formed}
+use Rattle.outage_engine.specs.declared.deck.CrewPart.{CrewPart}
+use Rattle.outage_engine.specs.declared.deck.CrewPart.TheVariants.{Unread, IfAny, Needed}
+use Rattle.outage_engine.specs.Deck.{IsDeckFault, IsFaultOf, IsTreeFault, IsWellFormed, LacksCrews, StandsFor, bad_crews, bad_tree, crew_part, crews_behind, crews_read, crews_said, no_crew_part, no_crews, part_read, tree_part}
+use Rattle.outage_engine.specs.Finding.{AreCutsFor, CutsWanted, Finding, Faulty, Finds, Found, NoCuts, Wants, WithOrders, faulty, judged, well_formed}
 
 -- ---- the tree part
 
@@ -64,36 +66,66 @@ module _ (reads : (text : List ℕ) → IsReading (lexemes_of text) (parsed_text
 
   -- ---- the crew part
 
-  module _ (answers : (number : ℕ) (bytes : List ℕ) → Answers number (lines_of bytes) (crews_of number bytes))
-      (listed : (tree : FaultTree) → (cuts : List (List ℕ)) × IsCutList tree cuts) where
-    no_want_of_memory : (bytes : List ℕ) (at : Option CrewsAt) → crews_behind bytes at ≡ Some (Err crew.NoMemory) → ⊥
+  module _ (answers : (number : ℕ) (bytes : List ℕ) → Answers number (lines_of bytes) (crews_of number bytes)) where
+    no_want_of_memory : (bytes : List ℕ) (at : Option CrewsAt) → crews_said (crews_behind bytes at) ≡ Err crew.NoMemory → ⊥
     no_want_of_memory bytes None is = absurd cc
     no_want_of_memory bytes (Some at) is =
-        let said : crews_of at.line (drop at.start bytes) ≡ Err crew.NoMemory = cc in
-        subst (Answers at.line (lines_of (drop at.start bytes))) said (answers at.line (drop at.start bytes))
+        subst (Answers at.line (lines_of (drop at.start bytes))) (said (crews_of at.line (drop at.start bytes)) is) (answers at.line (drop at.start bytes))
+      where
+        said : (read : Result (List Crew) CrewFault) → crews_said (Some read) ≡ Err crew.NoMemory → read ≡ Err crew.NoMemory
+        said (Ok crews) is = absurd cc
+        said (Err fault) is = let same : fault ≡ crew.NoMemory = cc in ap (λ f. Err f) same
 
-    wanted_answer : (wanted : Bool) (bytes : List ℕ) → wanted_crews wanted bytes ≡ Some (Err crew.NoMemory) → ⊥
-    wanted_answer true bytes is = no_want_of_memory bytes (split_of bytes).crews is
-    wanted_answer false bytes is = absurd cc
+    read_memory : (part : CrewPart) (bytes : List ℕ) → crews_read part bytes ≡ Err crew.NoMemory → ⊥
+    read_memory Unread bytes is = absurd cc
+    read_memory IfAny bytes is = no_want_of_memory bytes (split_of bytes).crews is
+    read_memory Needed bytes is = no_want_of_memory bytes (split_of bytes).crews is
 
-    behind_tree : (wants : Wants) (bytes : List ℕ) (tree : FaultTree) → StandsFor bytes tree → (said : Result (List Crew) CrewFault)
-        → wanted_crews wants.crews bytes ≡ Some said → (finding : Finding) × Finds wants bytes finding
-    behind_tree wants bytes tree stands (Ok crews) is =
-        let (cuts, list) = listed tree in
-        let found : Found = record { tree = tree; cuts = cuts; crews = crews } in
-        (judged wants.most found, well_formed found stands is list refl)
-    behind_tree wants bytes tree stands (Err (Fault code place)) is =
-        (Faulty (record { code = report.Crew code; place = place }), bad_crews tree code place stands is refl)
-    behind_tree wants bytes tree stands (Err crew.NoMemory) is = absurd (wanted_answer wants.crews bytes is)
+    -- ---- the deck
 
-    by_crews : (wants : Wants) (bytes : List ℕ) (said : Option (Result (List Crew) CrewFault)) → wanted_crews wants.crews bytes ≡ said
-        → (finding : Finding) × Finds wants bytes finding
-    by_crews wants bytes None is = (Faulty (no_crew_part bytes), no_crews is refl)
-    by_crews wants bytes (Some said) is =
-        elim (tree_or_fault bytes) [
-          | inl (tree, stands) ↦ behind_tree wants bytes tree stands said is
-          | inr (fault, refused) ↦ (Faulty fault, bad_tree said fault is refused refl)
+    HasDeck : CrewPart → List ℕ → Type 0
+    HasDeck part bytes = (tree : FaultTree) × (crews : Option (List Crew)) × IsWellFormed part bytes tree crews
+
+    HasDeckFault : CrewPart → List ℕ → Type 0
+    HasDeckFault part bytes = (fault : DeckFault) × IsDeckFault part bytes fault
+
+    lacks_or_has : (part : CrewPart) (bytes : List ℕ) (said : Option (Result (List Crew) CrewFault)) → crew_part bytes ≡ said → LacksCrews part bytes ⊎ (¬ LacksCrews part bytes)
+    lacks_or_has Unread bytes said is = inr (λ lacks. let clash = lacks.0 in absurd cc)
+    lacks_or_has IfAny bytes said is = inr (λ lacks. let clash = lacks.0 in absurd cc)
+    lacks_or_has Needed bytes None is = inl (refl, is)
+    lacks_or_has Needed bytes (Some said) is = inr (λ lacks. let clash = sym is in let none = lacks.1 in absurd cc)
+
+    behind_tree : (part : CrewPart) (bytes : List ℕ) (tree : FaultTree) → ¬ LacksCrews part bytes → StandsFor bytes tree → (said : Result (Option (List Crew)) CrewFault)
+        → crews_read part bytes ≡ said → HasDeck part bytes ⊎ HasDeckFault part bytes
+    behind_tree part bytes tree has stands (Ok crews) is = inl (tree, crews, record { has_crews = has; stands = stands; said = is })
+    behind_tree part bytes tree has stands (Err (Fault code place)) is =
+        let fault : DeckFault = record { code = report.Crew code; place = place } in
+        inr (fault, bad_crews tree code place stands is refl)
+    behind_tree part bytes tree has stands (Err crew.NoMemory) is = absurd (read_memory part bytes is)
+
+    deck_or_fault : (part : CrewPart) (bytes : List ℕ) → HasDeck part bytes ⊎ HasDeckFault part bytes
+    deck_or_fault part bytes =
+        elim (lacks_or_has part bytes (crew_part bytes) refl) [
+          | inl lacks ↦ inr (no_crew_part bytes, no_crews lacks refl)
+          | inr has ↦ elim (tree_or_fault bytes) [
+            | inl (tree, stands) ↦ behind_tree part bytes tree has stands (crews_read part bytes) refl
+            | inr (fault, refused) ↦ inr (fault, bad_tree has refused)
+          ]
         ]
 
-    pub some_finding : (wants : Wants) (bytes : List ℕ) → (finding : Finding) × Finds wants bytes finding
-    some_finding wants bytes = by_crews wants bytes (wanted_crews wants.crews bytes) refl
+    -- ---- the finding
+
+    module _ (listed : (tree : FaultTree) → (cuts : List (List ℕ)) × IsCutList tree cuts) where
+      cuts_for : (wanted : CutsWanted) (tree : FaultTree) → (cuts : List (List ℕ)) × AreCutsFor wanted tree cuts
+      cuts_for NoCuts tree = ([], refl)
+      cuts_for (WithOrders most) tree = listed tree
+
+      pub some_finding : (wants : Wants) (bytes : List ℕ) → (finding : Finding) × Finds wants bytes finding
+      some_finding wants bytes =
+          elim (deck_or_fault wants.crews bytes) [
+            | inl (tree, crews, deck) ↦
+                let (cuts, list) = cuts_for wants.cuts tree in
+                let found : Found = record { tree = tree; cuts = cuts; crews = crews } in
+                (judged wants.cuts found, well_formed found deck list refl)
+            | inr (fault, refused) ↦ (Faulty fault, faulty fault refused refl)
+          ]

@@ -1,10 +1,8 @@
 //! Whole runs of the command `board`.
-use super::tests::{SYSTEM, SYSTEM_ORDERS, calls_of, ran, told};
+use super::tests::{SYSTEM, SYSTEM_ORDERS, calls_of, kept, ran, told};
 use edge_io::{Bytes, HeldSource, KeptSink};
 use std::alloc::{AllocError, Global};
-use std::sync::Wait;
 use std::test::Fail;
-use std::thread::Threads;
 
 const SYSTEM_CREWS: &str = "\n@crews\ncrew day\ntake MS\ntake MA\nreturn MS\ntake MA";
 
@@ -206,58 +204,21 @@ fn as_many_requests_as_the_limit_allows_are_decided(rt: HostRuntime) -> Result<(
     Ok(())
 }
 
-// What a sink with this room, and this call failing, takes of the text of the real system's board, and the exit status.
-fn kept<R: Threads + Wait + Sync>(
-    rt: &R,
-    alloc: Global,
-    room: usize,
-    failing: Option<u64>,
-) -> Result<(u8, Bytes), AllocError> {
-    let deck = format!(in alloc; "{SYSTEM}{SYSTEM_CREWS}")?;
-    let source = HeldSource::new(
-        Bytes::of(alloc, deck.as_bytes())?,
-        4096,
-        calls_of(alloc, None)?,
-    );
-    let sink = KeptSink::new(alloc, room, calls_of(alloc, failing)?)?;
-    ran(rt, alloc, &["board"], source, sink)
-}
-
 #[test]
 fn a_sink_that_fails_has_a_front_of_the_board(rt: HostRuntime) -> Result<(), Fail> {
+    let deck = format!(in rt.alloc(); "{SYSTEM}{SYSTEM_CREWS}")?;
     let text = format!(in rt.alloc(); "{SYSTEM_ORDERS}{SYSTEM_BOARD}")?;
     let size = text.len();
     for room in 0..size + 1 {
-        let (code, bytes) = kept(&rt, rt.alloc(), room, None)?;
+        let (code, bytes) = kept(&rt, rt.alloc(), "board", deck.as_str(), room, None)?;
         assert!(rt; text.as_bytes().starts_with(bytes.as_slice()), "at {room}");
         assert_eq!(rt; bytes.as_slice().len(), room);
         assert_eq!(rt; code, if room < size { 4 } else { 0 }, "at {room}");
     }
     for (call, length) in [(0, 0), (1, size)] {
-        let (code, bytes) = kept(&rt, rt.alloc(), size, Some(call))?;
+        let (code, bytes) = kept(&rt, rt.alloc(), "board", deck.as_str(), size, Some(call))?;
         assert_eq!(rt; bytes.as_slice().len(), length);
         assert_eq!(rt; code, 4);
-    }
-    Ok(())
-}
-
-#[test]
-fn a_read_that_fails_ends_a_board(rt: HostRuntime) -> Result<(), Fail> {
-    let deck = "toplevel T; T and A B; A; B;\n@crews";
-    for call in 0..36 {
-        let source = HeldSource::new(
-            Bytes::of(rt.alloc(), deck.as_bytes())?,
-            1,
-            calls_of(rt.alloc(), Some(call))?,
-        );
-        let sink = KeptSink::new(rt.alloc(), 200, calls_of(rt.alloc(), None)?)?;
-        let (code, bytes) = ran(&rt, rt.alloc(), &["board"], source, sink)?;
-        assert_eq!(rt;
-            bytes.as_slice(),
-            b"refused: read fault\n".as_slice(),
-            "at {call}"
-        );
-        assert_eq!(rt; code, 3);
     }
     Ok(())
 }

@@ -10,6 +10,8 @@ mod board_tests;
 mod deck;
 mod input;
 pub mod laws;
+#[cfg(test)]
+mod limit_tests;
 mod listing;
 mod opening;
 mod refusal;

@@ -1,4 +1,4 @@
-//! Whole runs of `cuts`, from words and bytes to bytes, and runs of words that are no command.
+//! Whole runs of `cuts`, `check` and `print`, from words and bytes to bytes, and runs of words that are no command.
 
 use super::*;
 use edge_io::{Bytes, CallList, HeldSource, KeptSink};
@@ -11,6 +11,13 @@ const PAIR: &str = "toplevel T; T and A B; A; B;";
 
 const PAIR_TEXT: &str =
     "tree: 2 units, 1 gates, top T\ncuts: 1, orders: 0\ncut 1: A B\n  (not listed)\n";
+
+const PAIR_ORDERS: &str =
+    "tree: 2 units, 1 gates, top T\ncuts: 1, orders: 2\ncut 1: A B\n  A B\n  B A\n";
+
+const PAIR_CHECKED: &str = "well formed: 2 units, 1 gates, top T\n";
+
+const PAIR_PRINTED: &str = "toplevel \"T\";\n\"T\" and \"A\" \"B\";\n\"A\";\n\"B\";\n";
 
 const USAGE: &str =
     "usage: cuts [--most N] [--workers N] | board [--margin N] [--most N] [--workers N] | check | print | diagram [--workers N] | make --number N [--show deck|summary] | help\n";
@@ -265,6 +272,72 @@ fn refuses_a_deck_with_its_first_fault(rt: HostRuntime) -> Result<(), Fail> {
     Ok(())
 }
 
+// Where a deck has a crew part, `check` reads it behind the tree part, and `print` passes over it.
+#[test]
+fn checks_a_deck(rt: HostRuntime) -> Result<(), Fail> {
+    for (command, crews, status, text) in [
+        ("check", "", 0, PAIR_CHECKED),
+        (
+            "check",
+            "\n@crews",
+            0,
+            "well formed: 2 units, 1 gates, top T\ncrews: 0, requests: 0\n",
+        ),
+        (
+            "check",
+            "\n@crews\ncrew c\ntake A B\nreturn Z\ncrew d\nmargin 1",
+            0,
+            "well formed: 2 units, 1 gates, top T\ncrews: 2, requests: 3\n",
+        ),
+        (
+            "check",
+            "\n@crews\ncrew c\ntake",
+            1,
+            "refused: S2 bad line at 4:1\n",
+        ),
+        ("print", "\n@crews\ncrew c\ntake", 0, PAIR_PRINTED),
+        (
+            "check",
+            " T;\n@crews\ntake",
+            1,
+            "refused: P1 expected gate or attribute at 1:31\n",
+        ),
+        (
+            "print",
+            " A;",
+            1,
+            "refused: C3 duplicate name at 1:30\n",
+        ),
+    ] {
+        let deck = format!(in rt.alloc(); "{PAIR}{crews}")?;
+        let (code, bytes) = told(&rt, rt.alloc(), &[command], deck.as_bytes())?;
+        assert_eq!(rt; bytes.as_slice(), text.as_bytes(), "{deck}");
+        assert_eq!(rt; code, status);
+    }
+    Ok(())
+}
+
+#[test]
+fn prints_what_it_printed_again(rt: HostRuntime) -> Result<(), Fail> {
+    for (deck, text) in [
+        (
+            "toplevel T; T 2OF3 A \"b c\" C; C; A lambda = 1e-4; \"b c\" dorm=0.5 repl=1;",
+            "toplevel \"T\";\n\"T\" 2of3 \"A\" \"b c\" \"C\";\n\"C\";\n\"A\" lambda=1e-4;\n\"b c\" dorm=0.5 repl=1;\n",
+        ),
+        (
+            "toplevel T; T and G B; G por A B; A; B;",
+            "toplevel \"T\";\n\"T\" and \"G\" \"B\";\n\"G\" por \"A\" \"B\";\n\"A\";\n\"B\";\n",
+        ),
+    ] {
+        for given in [deck, text] {
+            let (code, bytes) = told(&rt, rt.alloc(), &["print"], given.as_bytes())?;
+            assert_eq!(rt; bytes.as_slice(), text.as_bytes());
+            assert_eq!(rt; code, 0);
+        }
+    }
+    Ok(())
+}
+
 #[test]
 fn refuses_each_front_of_a_deck(rt: HostRuntime) -> Result<(), Fail> {
     for (from, to, what, column) in [
@@ -298,223 +371,65 @@ fn refuses_each_front_of_a_deck(rt: HostRuntime) -> Result<(), Fail> {
 
 #[test]
 fn a_read_that_fails_is_told(rt: HostRuntime) -> Result<(), Fail> {
-    for call in 0..30 {
-        let source = HeldSource::new(
-            Bytes::of(rt.alloc(), PAIR.as_bytes())?,
-            1,
-            calls_of(rt.alloc(), Some(call))?,
-        );
-        let sink = KeptSink::new(rt.alloc(), 200, calls_of(rt.alloc(), None)?)?;
-        let (code, bytes) = ran(&rt, rt.alloc(), &["cuts", "--most", "0"], source, sink)?;
-        let (status, text) = if call < 29 {
-            (3, "refused: read fault\n")
-        } else {
-            (0, PAIR_TEXT)
-        };
-        assert_eq!(rt; bytes.as_slice(), text.as_bytes(), "at {call}");
-        assert_eq!(rt; code, status);
+    for (command, calls, status, text) in [
+        ("cuts", 0..29, 3, "refused: read fault\n"),
+        ("board", 0..29, 3, "refused: read fault\n"),
+        ("check", 27..29, 3, "refused: read fault\n"),
+        ("print", 27..29, 3, "refused: read fault\n"),
+        ("cuts", 29..30, 0, PAIR_ORDERS),
+    ] {
+        for call in calls {
+            let source = HeldSource::new(
+                Bytes::of(rt.alloc(), PAIR.as_bytes())?,
+                1,
+                calls_of(rt.alloc(), Some(call))?,
+            );
+            let sink = KeptSink::new(rt.alloc(), 200, calls_of(rt.alloc(), None)?)?;
+            let (code, bytes) = ran(&rt, rt.alloc(), &[command], source, sink)?;
+            assert_eq!(rt; bytes.as_slice(), text.as_bytes(), "at {call}");
+            assert_eq!(rt; code, status);
+        }
     }
     Ok(())
 }
 
 // What a sink with this room, and this call failing, takes of the text of a deck, and the exit status.
-fn kept<R: Threads + Wait + Sync>(
+pub(super) fn kept<R: Threads + Wait + Sync>(
     rt: &R,
     alloc: Global,
+    command: &str,
+    deck: &str,
     room: usize,
     failing: Option<u64>,
 ) -> Result<(u8, Bytes), AllocError> {
     let source = HeldSource::new(
-        Bytes::of(alloc, PAIR.as_bytes())?,
+        Bytes::of(alloc, deck.as_bytes())?,
         4096,
         calls_of(alloc, None)?,
     );
     let sink = KeptSink::new(alloc, room, calls_of(alloc, failing)?)?;
-    ran(rt, alloc, &["cuts", "--most", "0"], source, sink)
+    ran(rt, alloc, &[command], source, sink)
 }
 
 #[test]
 fn a_sink_that_fails_has_a_front_of_the_text(rt: HostRuntime) -> Result<(), Fail> {
-    assert_eq!(rt; PAIR_TEXT.len(), 75);
-    for room in 0..76 {
-        let (code, bytes) = kept(&rt, rt.alloc(), room, None)?;
-        assert!(rt;
-            PAIR_TEXT.as_bytes().starts_with(bytes.as_slice()),
-            "at {room}"
-        );
-        assert_eq!(rt; bytes.as_slice().len(), room);
-        assert_eq!(rt; code, if room < 75 { 4 } else { 0 }, "at {room}");
-    }
-    for (call, length) in [(0, 0), (1, 75)] {
-        let (code, bytes) = kept(&rt, rt.alloc(), 75, Some(call))?;
-        assert_eq!(rt; bytes.as_slice().len(), length);
-        assert_eq!(rt; code, 4);
-    }
-    Ok(())
-}
-
-#[test]
-fn an_input_of_the_greatest_size_is_read(rt: HostRuntime) -> Result<(), Fail> {
-    for (length, status, text) in [
-        (16_777_216, 1, "refused: C1 no toplevel at 1:16777217\n"),
-        (16_777_217, 3, "refused: input too long\n"),
+    for (command, text) in [
+        ("cuts", PAIR_ORDERS),
+        ("check", PAIR_CHECKED),
+        ("print", PAIR_PRINTED),
     ] {
-        let blanks = Bytes::from_vec(vec![in rt.alloc(); b' '; length]?);
-        let source = HeldSource::new(blanks, 1_000_000, calls_of(rt.alloc(), None)?);
-        let sink = KeptSink::new(rt.alloc(), 200, calls_of(rt.alloc(), None)?)?;
-        let (code, bytes) = ran(&rt, rt.alloc(), &["cuts", "--most", "0"], source, sink)?;
-        assert_eq!(rt; bytes.as_slice(), text.as_bytes());
-        assert_eq!(rt; code, status);
-    }
-    Ok(())
-}
-
-// The top event is an `and` of so many gates, each an `or` of two units of its own.
-fn and_of_ors(alloc: Global, gates: usize) -> Result<String, AllocError> {
-    let mut deck = format!(in alloc; "toplevel T; T and")?;
-    for i in 0..gates {
-        deck.push_str(format!(in alloc; " g{i}")?.as_str())?;
-    }
-    deck.push_str(";\n")?;
-    for i in 0..gates {
-        deck.push_str(format!(in alloc; "g{i} or a{i} b{i}; a{i}; b{i};\n")?.as_str())?;
-    }
-    Ok(deck)
-}
-
-#[test]
-fn all_cut_sets_of_many_are_printed(rt: HostRuntime) -> Result<(), Fail> {
-    let deck = and_of_ors(rt.alloc(), 12)?;
-    let source = HeldSource::new(
-        Bytes::of(rt.alloc(), deck.as_bytes())?,
-        4096,
-        calls_of(rt.alloc(), None)?,
-    );
-    let sink = KeptSink::new(rt.alloc(), 1_000_000, calls_of(rt.alloc(), None)?)?;
-    let (code, bytes) = ran(&rt, rt.alloc(), &["cuts", "--most", "0"], source, sink)?;
-    let head =
-        b"tree: 24 units, 13 gates, top T\ncuts: 4096, orders: 0\ncut 1: a0 a1 a2 a3 a4 a5 a6 a7 a8 a9 a10 a11\n";
-    let foot = b"cut 4096: b0 b1 b2 b3 b4 b5 b6 b7 b8 b9 b10 b11\n  (not listed)\n";
-    assert!(rt; bytes.as_slice().starts_with(head));
-    assert!(rt; bytes.as_slice().ends_with(foot));
-    assert_eq!(rt; code, 0);
-    Ok(())
-}
-
-// The list of the gate U is a thousand times as heavy as that of the top event, which absorbs all of it but A.
-#[test]
-fn lists_on_the_way_may_be_heavy(rt: HostRuntime) -> Result<(), Fail> {
-    let mut deck = format!(in rt.alloc(); "toplevel V; V and A W; W or A U; A; U and")?;
-    for i in 0..10 {
-        deck.push_str(format!(in rt.alloc(); " g{i}")?.as_str())?;
-    }
-    deck.push_str(";\n")?;
-    for i in 0..10 {
-        deck.push_str(format!(in rt.alloc(); "g{i} or a{i} b{i}; a{i}; b{i};\n")?.as_str())?;
-    }
-    let (code, bytes) = told(&rt, rt.alloc(), &["cuts", "--most", "0"], deck.as_bytes())?;
-    let text = b"tree: 21 units, 13 gates, top V\ncuts: 1, orders: 0\ncut 1: A\n  (not listed)\n";
-    assert_eq!(rt; bytes.as_slice(), text.as_slice());
-    assert_eq!(rt; code, 0);
-    Ok(())
-}
-
-#[test]
-fn the_weight_of_the_cut_list_has_a_limit(rt: HostRuntime) -> Result<(), Fail> {
-    let deck = and_of_ors(rt.alloc(), 20)?;
-    let (code, bytes) = told(&rt, rt.alloc(), &["cuts", "--most", "0"], deck.as_bytes())?;
-    assert_eq!(rt;
-        bytes.as_slice(),
-        b"refused: list limit 16777216\n".as_slice()
-    );
-    assert_eq!(rt; code, 1);
-    Ok(())
-}
-
-const EIGHT: [&str; 8] = ["a", "b", "c", "d", "e", "f", "h", "i"];
-
-// The top event is an `or` of so many gates of a kind, each of eight units of its own.
-fn or_of_eights(alloc: Global, gates: usize, kind: &str) -> Result<String, AllocError> {
-    let mut deck = format!(in alloc; "toplevel T; T or")?;
-    for i in 0..gates {
-        deck.push_str(format!(in alloc; " g{i}")?.as_str())?;
-    }
-    for i in 0..gates {
-        deck.push_str(format!(in alloc; ";\ng{i} {kind}")?.as_str())?;
-        for unit in EIGHT {
-            deck.push_str(format!(in alloc; " {unit}{i}")?.as_str())?;
+        let size = text.len();
+        for room in 0..size + 1 {
+            let (code, bytes) = kept(&rt, rt.alloc(), command, PAIR, room, None)?;
+            assert!(rt; text.as_bytes().starts_with(bytes.as_slice()), "at {room}");
+            assert_eq!(rt; bytes.as_slice().len(), room);
+            assert_eq!(rt; code, if room < size { 4 } else { 0 }, "at {room}");
         }
-    }
-    for i in 0..gates {
-        for unit in EIGHT {
-            deck.push_str(format!(in alloc; "; {unit}{i}")?.as_str())?;
+        for (call, length) in [(0, 0), (1, size)] {
+            let (code, bytes) = kept(&rt, rt.alloc(), command, PAIR, size, Some(call))?;
+            assert_eq!(rt; bytes.as_slice().len(), length);
+            assert_eq!(rt; code, 4);
         }
-    }
-    deck.push_str(";\n")?;
-    Ok(deck)
-}
-
-#[test]
-fn the_number_of_orders_has_a_limit(rt: HostRuntime) -> Result<(), Fail> {
-    let deck = or_of_eights(rt.alloc(), 50, "and")?;
-    let (code, bytes) = told(&rt, rt.alloc(), &["cuts", "--most", "8"], deck.as_bytes())?;
-    assert_eq!(rt;
-        bytes.as_slice(),
-        b"refused: order limit 2000000\n".as_slice()
-    );
-    assert_eq!(rt; code, 1);
-    let (code, bytes) = told(&rt, rt.alloc(), &["cuts", "--most", "6"], deck.as_bytes())?;
-    let head =
-        b"tree: 400 units, 51 gates, top T\ncuts: 50, orders: 0\ncut 1: a0 b0 c0 d0 e0 f0 h0 i0\n  (not listed)\n";
-    assert!(rt; bytes.as_slice().starts_with(head));
-    assert_eq!(rt; code, 0);
-    Ok(())
-}
-
-// Six times as many orders as the limit allows: the workers stop soon after they have passed it together.
-#[test]
-fn many_more_orders_than_the_limit_are_refused(rt: HostRuntime) -> Result<(), Fail> {
-    let deck = or_of_eights(rt.alloc(), 300, "and")?;
-    for workers in ["1", "16"] {
-        let words = ["cuts", "--most", "8", "--workers", workers];
-        let (code, bytes) = told(&rt, rt.alloc(), &words, deck.as_bytes())?;
-        assert_eq!(rt;
-            bytes.as_slice(),
-            b"refused: order limit 2000000\n".as_slice()
-        );
-        assert_eq!(rt; code, 1);
-    }
-    Ok(())
-}
-
-// As many as the limit allows, with the last of them; and sets of which one order each can happen.
-#[test]
-fn as_many_orders_as_the_limit_allows_are_printed(rt: HostRuntime) -> Result<(), Fail> {
-    for (gates, kind, head, foot) in [
-        (
-            49,
-            "and",
-            "tree: 392 units, 50 gates, top T\ncuts: 49, orders: 1975680\ncut 1: a0 b0",
-            "\n  i48 h48 f48 e48 d48 c48 b48 a48\n",
-        ),
-        (
-            60,
-            "csp",
-            "tree: 480 units, 61 gates, top T\ncuts: 60, orders: 60\ncut 1: a0 b0",
-            "\n  a59 b59 c59 d59 e59 f59 h59 i59\n",
-        ),
-    ] {
-        let deck = or_of_eights(rt.alloc(), gates, kind)?;
-        let source = HeldSource::new(
-            Bytes::of(rt.alloc(), deck.as_bytes())?,
-            4096,
-            calls_of(rt.alloc(), None)?,
-        );
-        let sink = KeptSink::new(rt.alloc(), 80_000_000, calls_of(rt.alloc(), None)?)?;
-        let (code, bytes) = ran(&rt, rt.alloc(), &["cuts", "--most", "8"], source, sink)?;
-        assert!(rt; bytes.as_slice().starts_with(head.as_bytes()));
-        assert!(rt; bytes.as_slice().ends_with(foot.as_bytes()));
-        assert_eq!(rt; code, 0);
     }
     Ok(())
 }

@@ -1,0 +1,62 @@
+-- From the parts of a deck to the deck that a command wants, or its first fault.
+use Rattle.std.specs.Prelude.{◌≡◌, ◌⊎◌, ℕ, ◌≤◌, List, length, Option, Some, None, Result, Ok, Err, IsSome}
+use Rattle.std.specs.Io.KnownBytes.{Consumes, IsAtEnd}
+use Rattle.std.proofs.Common.{sym, ap, subst, ◌∙◌, refl, inl, inr}
+use Rattle.fault_model.specs.Tree.{FaultTree}
+use Rattle.fault_model.specs.declared.node.Place.{Place}
+use Rattle.edge_io.specs.declared.reading.TheConstants.{INPUT_LIMIT}
+use Rattle.crew_script.specs.declared.dockets.Crew.{Crew}
+use Rattle.crew_script.specs.declared.deck.CrewsAt.{CrewsAt}
+use Rattle.crew_script.specs.declared.fault.CrewCode.{CrewCode}
+use Rattle.crew_script.specs.declared.fault.CrewFault.{CrewFault}
+use Rattle.crew_script.specs.declared.fault.CrewFault.TheVariants as crew
+use Rattle.outage_engine.specs.declared.deck.CrewPart.{CrewPart}
+use Rattle.outage_engine.specs.declared.deck.CrewPart.TheVariants.{Needed}
+use Rattle.outage_engine.specs.declared.deck.DeckEnd.{DeckEnd}
+use Rattle.outage_engine.specs.declared.deck.DeckEnd.TheVariants.{Fault, NoMemory}
+use Rattle.outage_engine.specs.Answers.{IfRefused, IsCrewEnd, IsDeckEnd, IsPartsEnd, IsReadRefusal, IsTreeEnd, run_end}
+use Rattle.outage_engine.specs.Deck.{IsDeckFault, IsWellFormed, LacksCrews, StandsFor, bad_crews, bad_tree, crew_part, crews_read, crews_said}
+use Rattle.outage_engine.proofs.Answering.{whole}
+
+-- ---- the ends of the parts
+
+pub crew_end : (said : Result (List Crew) CrewFault) (end : DeckEnd) → IsCrewEnd said end → IsCrewEnd (crews_said (Some said)) end
+crew_end said (Fault fault) (code, place, is, same) = (code, place, ap (λ s. crews_said (Some s)) is, same)
+crew_end said NoMemory free = tt
+
+pub tree_end : {A : Type 0} (bytes : List ℕ) (said : Result A CrewFault) (end : DeckEnd) → IsTreeEnd bytes end → IsPartsEnd bytes said end
+tree_end bytes said (Fault fault) refused = inl refused
+tree_end bytes said NoMemory free = tt
+
+pub crews_end : {A : Type 0} (bytes : List ℕ) (tree : FaultTree) (said : Result A CrewFault) (end : DeckEnd) → StandsFor bytes tree → IsCrewEnd said end → IsPartsEnd bytes said end
+crews_end bytes tree said (Fault fault) stands refused = inr (tree, stands, refused)
+crews_end bytes tree said NoMemory stands free = tt
+
+-- ---- the deck
+
+module _ (part : CrewPart) (bytes : List ℕ) (said : Result (Option (List Crew)) CrewFault) (has : ¬ LacksCrews part bytes) (is : crews_read part bytes ≡ said) where
+  pub deck_of_parts : (tree : FaultTree) (crews : Option (List Crew)) → StandsFor bytes tree → said ≡ Ok crews → IsWellFormed part bytes tree crews
+  deck_of_parts tree crews stands ok = record { has_crews = has; stands = stands; said = is ∙ ok }
+
+  pub end_of_parts : (end : DeckEnd) → IsPartsEnd bytes said end → IsDeckEnd part bytes end
+  end_of_parts (Fault fault) holds = elim holds [
+    | inl refused ↦ bad_tree has refused
+    | inr (tree, stands, code, place, err, same) ↦ bad_crews tree code place stands (is ∙ err) same
+  ]
+  end_of_parts NoMemory free = tt
+
+-- a crew part that is needed was read
+pub crews_are_there : (bytes : List ℕ) (tree : FaultTree) (crews : Option (List Crew)) → IsWellFormed Needed bytes tree crews → IsSome crews
+crews_are_there bytes tree crews deck = said_some (crew_part bytes) crews (λ none. deck.has_crews (refl, none)) deck.said
+  where
+    said_some : (said : Option (Result (List Crew) CrewFault)) (crews : Option (List Crew)) → ¬ (said ≡ None) → crews_said said ≡ Ok crews → IsSome crews
+    said_some None crews some is = absurd (some refl)
+    said_some (Some (Err fault)) crews some is = absurd cc
+    said_some (Some (Ok read)) crews some is = let same : Some read ≡ crews = cc in subst IsSome same tt
+
+-- the end of a deck that the source held, as that of a run
+pub refused_reading : (part : CrewPart) (held left : Option (List ℕ)) (rose : Type 0) (bytes given : List ℕ) (end : DeckEnd) → given ≡ bytes → Consumes held left bytes → IsAtEnd left
+    → length bytes ≤ INPUT_LIMIT → IsDeckEnd part given end → IfRefused (IsReadRefusal part held left rose) (run_end end)
+refused_reading part held left rose bytes given (Fault fault) is consumes at_end within holds =
+    whole held left bytes given (λ b. IsDeckFault part b fault) is consumes at_end within holds
+refused_reading part held left rose bytes given NoMemory is consumes at_end within free = tt

@@ -1,0 +1,171 @@
+//! Decks at the limits of the cut list and of its orders, and beyond.
+use super::tests::{calls_of, ran, told};
+use edge_io::{Bytes, HeldSource, KeptSink};
+use std::alloc::{AllocError, Global};
+use std::test::Fail;
+
+#[test]
+fn an_input_of_the_greatest_size_is_read(rt: HostRuntime) -> Result<(), Fail> {
+    for (length, status, text) in [
+        (16_777_216, 1, "refused: C1 no toplevel at 1:16777217\n"),
+        (16_777_217, 3, "refused: input too long\n"),
+    ] {
+        let blanks = Bytes::from_vec(vec![in rt.alloc(); b' '; length]?);
+        let source = HeldSource::new(blanks, 1_000_000, calls_of(rt.alloc(), None)?);
+        let sink = KeptSink::new(rt.alloc(), 200, calls_of(rt.alloc(), None)?)?;
+        let (code, bytes) = ran(&rt, rt.alloc(), &["cuts", "--most", "0"], source, sink)?;
+        assert_eq!(rt; bytes.as_slice(), text.as_bytes());
+        assert_eq!(rt; code, status);
+    }
+    Ok(())
+}
+
+// The top event is an `and` of so many gates, each an `or` of two units of its own.
+fn and_of_ors(alloc: Global, gates: usize) -> Result<String, AllocError> {
+    let mut deck = format!(in alloc; "toplevel T; T and")?;
+    for i in 0..gates {
+        deck.push_str(format!(in alloc; " g{i}")?.as_str())?;
+    }
+    deck.push_str(";\n")?;
+    for i in 0..gates {
+        deck.push_str(format!(in alloc; "g{i} or a{i} b{i}; a{i}; b{i};\n")?.as_str())?;
+    }
+    Ok(deck)
+}
+
+#[test]
+fn all_cut_sets_of_many_are_printed(rt: HostRuntime) -> Result<(), Fail> {
+    let deck = and_of_ors(rt.alloc(), 12)?;
+    let source = HeldSource::new(
+        Bytes::of(rt.alloc(), deck.as_bytes())?,
+        4096,
+        calls_of(rt.alloc(), None)?,
+    );
+    let sink = KeptSink::new(rt.alloc(), 1_000_000, calls_of(rt.alloc(), None)?)?;
+    let (code, bytes) = ran(&rt, rt.alloc(), &["cuts", "--most", "0"], source, sink)?;
+    let head =
+        b"tree: 24 units, 13 gates, top T\ncuts: 4096, orders: 0\ncut 1: a0 a1 a2 a3 a4 a5 a6 a7 a8 a9 a10 a11\n";
+    let foot = b"cut 4096: b0 b1 b2 b3 b4 b5 b6 b7 b8 b9 b10 b11\n  (not listed)\n";
+    assert!(rt; bytes.as_slice().starts_with(head));
+    assert!(rt; bytes.as_slice().ends_with(foot));
+    assert_eq!(rt; code, 0);
+    Ok(())
+}
+
+// The list of the gate U is a thousand times as heavy as that of the top event, which absorbs all of it but A.
+#[test]
+fn lists_on_the_way_may_be_heavy(rt: HostRuntime) -> Result<(), Fail> {
+    let mut deck = format!(in rt.alloc(); "toplevel V; V and A W; W or A U; A; U and")?;
+    for i in 0..10 {
+        deck.push_str(format!(in rt.alloc(); " g{i}")?.as_str())?;
+    }
+    deck.push_str(";\n")?;
+    for i in 0..10 {
+        deck.push_str(format!(in rt.alloc(); "g{i} or a{i} b{i}; a{i}; b{i};\n")?.as_str())?;
+    }
+    let (code, bytes) = told(&rt, rt.alloc(), &["cuts", "--most", "0"], deck.as_bytes())?;
+    let text = b"tree: 21 units, 13 gates, top V\ncuts: 1, orders: 0\ncut 1: A\n  (not listed)\n";
+    assert_eq!(rt; bytes.as_slice(), text.as_slice());
+    assert_eq!(rt; code, 0);
+    Ok(())
+}
+
+#[test]
+fn the_weight_of_the_cut_list_has_a_limit(rt: HostRuntime) -> Result<(), Fail> {
+    let deck = and_of_ors(rt.alloc(), 20)?;
+    let (code, bytes) = told(&rt, rt.alloc(), &["cuts", "--most", "0"], deck.as_bytes())?;
+    assert_eq!(rt;
+        bytes.as_slice(),
+        b"refused: list limit 16777216\n".as_slice()
+    );
+    assert_eq!(rt; code, 1);
+    Ok(())
+}
+
+const EIGHT: [&str; 8] = ["a", "b", "c", "d", "e", "f", "h", "i"];
+
+// The top event is an `or` of so many gates of a kind, each of eight units of its own.
+fn or_of_eights(alloc: Global, gates: usize, kind: &str) -> Result<String, AllocError> {
+    let mut deck = format!(in alloc; "toplevel T; T or")?;
+    for i in 0..gates {
+        deck.push_str(format!(in alloc; " g{i}")?.as_str())?;
+    }
+    for i in 0..gates {
+        deck.push_str(format!(in alloc; ";\ng{i} {kind}")?.as_str())?;
+        for unit in EIGHT {
+            deck.push_str(format!(in alloc; " {unit}{i}")?.as_str())?;
+        }
+    }
+    for i in 0..gates {
+        for unit in EIGHT {
+            deck.push_str(format!(in alloc; "; {unit}{i}")?.as_str())?;
+        }
+    }
+    deck.push_str(";\n")?;
+    Ok(deck)
+}
+
+#[test]
+fn the_number_of_orders_has_a_limit(rt: HostRuntime) -> Result<(), Fail> {
+    let deck = or_of_eights(rt.alloc(), 50, "and")?;
+    let (code, bytes) = told(&rt, rt.alloc(), &["cuts", "--most", "8"], deck.as_bytes())?;
+    assert_eq!(rt;
+        bytes.as_slice(),
+        b"refused: order limit 2000000\n".as_slice()
+    );
+    assert_eq!(rt; code, 1);
+    let (code, bytes) = told(&rt, rt.alloc(), &["cuts", "--most", "6"], deck.as_bytes())?;
+    let head =
+        b"tree: 400 units, 51 gates, top T\ncuts: 50, orders: 0\ncut 1: a0 b0 c0 d0 e0 f0 h0 i0\n  (not listed)\n";
+    assert!(rt; bytes.as_slice().starts_with(head));
+    assert_eq!(rt; code, 0);
+    Ok(())
+}
+
+// Six times as many orders as the limit allows: the workers stop soon after they have passed it together.
+#[test]
+fn many_more_orders_than_the_limit_are_refused(rt: HostRuntime) -> Result<(), Fail> {
+    let deck = or_of_eights(rt.alloc(), 300, "and")?;
+    for workers in ["1", "16"] {
+        let words = ["cuts", "--most", "8", "--workers", workers];
+        let (code, bytes) = told(&rt, rt.alloc(), &words, deck.as_bytes())?;
+        assert_eq!(rt;
+            bytes.as_slice(),
+            b"refused: order limit 2000000\n".as_slice()
+        );
+        assert_eq!(rt; code, 1);
+    }
+    Ok(())
+}
+
+// As many as the limit allows, with the last of them; and sets of which one order each can happen.
+#[test]
+fn as_many_orders_as_the_limit_allows_are_printed(rt: HostRuntime) -> Result<(), Fail> {
+    for (gates, kind, head, foot) in [
+        (
+            49,
+            "and",
+            "tree: 392 units, 50 gates, top T\ncuts: 49, orders: 1975680\ncut 1: a0 b0",
+            "\n  i48 h48 f48 e48 d48 c48 b48 a48\n",
+        ),
+        (
+            60,
+            "csp",
+            "tree: 480 units, 61 gates, top T\ncuts: 60, orders: 60\ncut 1: a0 b0",
+            "\n  a59 b59 c59 d59 e59 f59 h59 i59\n",
+        ),
+    ] {
+        let deck = or_of_eights(rt.alloc(), gates, kind)?;
+        let source = HeldSource::new(
+            Bytes::of(rt.alloc(), deck.as_bytes())?,
+            4096,
+            calls_of(rt.alloc(), None)?,
+        );
+        let sink = KeptSink::new(rt.alloc(), 80_000_000, calls_of(rt.alloc(), None)?)?;
+        let (code, bytes) = ran(&rt, rt.alloc(), &["cuts", "--most", "8"], source, sink)?;
+        assert!(rt; bytes.as_slice().starts_with(head.as_bytes()));
+        assert!(rt; bytes.as_slice().ends_with(foot.as_bytes()));
+        assert_eq!(rt; code, 0);
+    }
+    Ok(())
+}
