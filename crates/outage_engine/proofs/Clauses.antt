@@ -52,6 +52,9 @@ wanted_by_help words wants some help' = let clash : wants_of (Some Help) ≡ Som
 same_command : (words : List (List ℕ)) (one two : Command) → asked words ≡ Some one → asked words ≡ Some two → one ≡ two
 same_command words one two at at' = let same : Some one ≡ Some two = sym at ∙ at' in cc
 
+same_some : (one two : Wants) → Some one ≡ Some two → one ≡ two
+same_some one two same = cc
+
 same_wants : (words : List (List ℕ)) (one two : Wants) → wanted words ≡ Some one → wanted words ≡ Some two → one ≡ two
 same_wants words one two at at' = let same : Some one ≡ Some two = sym at ∙ at' in cc
 
@@ -105,19 +108,19 @@ module _ (words : List (List ℕ)) (bytes : List ℕ) (left : Option (List ℕ))
       → (length bytes ≤ INPUT_LIMIT) × (found : Found) × Finds wants bytes (Ready found)
   ready_for wants (Cuts most workers) at is_text =
       let whole = input bytes left (λ b. IsCutsText most b text) is_text in
-      let same : for_cuts most ≡ wants = cc in
+      let same : for_cuts most ≡ wants = same_some (for_cuts most) wants at in
       (whole.0, whole.1.found, subst (λ w. Finds w bytes (Ready whole.1.found)) same whole.1.finds)
   ready_for wants (Board margin most workers) at is_text =
       let whole = input bytes left (λ b. IsSafeText margin most b text) is_text in
-      let same : for_board most ≡ wants = cc in
+      let same : for_board most ≡ wants = same_some (for_board most) wants at in
       (whole.0, whole.1.found, subst (λ w. Finds w bytes (Ready whole.1.found)) same whole.1.finds)
   ready_for wants Check at is_text =
       let whole = input bytes left (λ b. IsCheckText b text) is_text in
-      let same : for_check ≡ wants = cc in
+      let same : for_check ≡ wants = same_some for_check wants at in
       (whole.0, whole.1.found, subst (λ w. Finds w bytes (Ready whole.1.found)) same whole.1.finds)
   ready_for wants Print at is_text =
       let whole = input bytes left (λ b. IsPrintText b text) is_text in
-      let same : for_print ≡ wants = cc in
+      let same : for_print ≡ wants = same_some for_print wants at in
       (whole.0, whole.1.found, subst (λ w. Finds w bytes (Ready whole.1.found)) same whole.1.finds)
   ready_for wants Help at is_text = absurd cc
   ready_for wants (Diagram workers) at is_text = absurd is_text

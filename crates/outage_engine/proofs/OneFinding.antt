@@ -62,7 +62,7 @@ no_tree_and_fault bytes tree fault stands refused =
 lacking_and_faulty : {P : Type 0} (part : CrewPart) (bytes : List ℕ) (fault : CrewFault) → LacksCrews part bytes → crews_read part bytes ≡ Err fault → P
 lacking_and_faulty part bytes fault (needed, none) err =
     let read : crews_said (crew_part bytes) ≡ Err fault = subst (λ p. crews_read p bytes ≡ Err fault) needed err in
-    let clash : Ok None ≡ Err fault = subst (λ said. crews_said said ≡ Err fault) none read in
+    let clash = subst (λ said. crews_said said ≡ Err fault) none read in
     absurd cc
 
 err_and_ok : {P : Type 0} (said : Result (Option (List Crew)) CrewFault) (fault : CrewFault) (crews : Option (List Crew)) → said ≡ Err fault → said ≡ Ok crews → P

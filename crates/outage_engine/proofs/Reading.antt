@@ -1,21 +1,23 @@
 -- From the parts of a deck to the deck that a command wants, or its first fault.
-use Rattle.std.specs.Prelude.{◌≡◌, ◌⊎◌, ℕ, ◌≤◌, List, length, Option, Some, None, Result, Ok, Err, IsSome}
+use Rattle.std.specs.Prelude.{◌≡◌, ◌⊎◌, ℕ, ◌≤◌, List, length, Option, Some, None, Result, Ok, Err, IfOk, IfErr, IsSome}
 use Rattle.std.specs.Io.KnownBytes.{Consumes, IsAtEnd}
 use Rattle.std.proofs.Common.{sym, ap, subst, ◌∙◌, refl, inl, inr}
 use Rattle.fault_model.specs.Tree.{FaultTree}
 use Rattle.fault_model.specs.declared.node.Place.{Place}
 use Rattle.edge_io.specs.declared.reading.TheConstants.{INPUT_LIMIT}
+use Rattle.crew_script.specs.Deck.{split_of}
 use Rattle.crew_script.specs.declared.dockets.Crew.{Crew}
 use Rattle.crew_script.specs.declared.deck.CrewsAt.{CrewsAt}
 use Rattle.crew_script.specs.declared.fault.CrewCode.{CrewCode}
 use Rattle.crew_script.specs.declared.fault.CrewFault.{CrewFault}
 use Rattle.crew_script.specs.declared.fault.CrewFault.TheVariants as crew
 use Rattle.outage_engine.specs.declared.deck.CrewPart.{CrewPart}
-use Rattle.outage_engine.specs.declared.deck.CrewPart.TheVariants.{Needed}
+use Rattle.outage_engine.specs.declared.deck.CrewPart.TheVariants.{Unread, IfAny, Needed}
 use Rattle.outage_engine.specs.declared.deck.DeckEnd.{DeckEnd}
+use Rattle.outage_engine.specs.declared.deck.DeckParts.{DeckParts}
 use Rattle.outage_engine.specs.declared.deck.DeckEnd.TheVariants.{Fault, NoMemory}
 use Rattle.outage_engine.specs.Answers.{IfRefused, IsCrewEnd, IsDeckEnd, IsPartsEnd, IsReadRefusal, IsTreeEnd, run_end}
-use Rattle.outage_engine.specs.Deck.{IsDeckFault, IsWellFormed, LacksCrews, StandsFor, bad_crews, bad_tree, crew_part, crews_read, crews_said}
+use Rattle.outage_engine.specs.Deck.{IsDeckFault, IsWellFormed, LacksCrews, StandsFor, bad_crews, bad_tree, crew_part, crews_behind, crews_read, crews_said}
 use Rattle.outage_engine.proofs.Answering.{whole}
 
 -- ---- the ends of the parts
@@ -34,16 +36,39 @@ crews_end bytes tree said NoMemory stands free = tt
 
 -- ---- the deck
 
-module _ (part : CrewPart) (bytes : List ℕ) (said : Result (Option (List Crew)) CrewFault) (has : ¬ LacksCrews part bytes) (is : crews_read part bytes ≡ said) where
-  pub deck_of_parts : (tree : FaultTree) (crews : Option (List Crew)) → StandsFor bytes tree → said ≡ Ok crews → IsWellFormed part bytes tree crews
-  deck_of_parts tree crews stands ok = record { has_crews = has; stands = stands; said = is ∙ ok }
+-- the crews that a deck says are those of the crew part that begins there, if any is read
+abbrev pub IsReadAt : CrewPart → List ℕ → Option CrewsAt → Type 0
+IsReadAt part bytes at = (¬ LacksCrews part bytes) × (crews_read part bytes ≡ crews_said (crews_behind bytes at))
 
-  pub end_of_parts : (end : DeckEnd) → IsPartsEnd bytes said end → IsDeckEnd part bytes end
-  end_of_parts (Fault fault) holds = elim holds [
-    | inl refused ↦ bad_tree has refused
-    | inr (tree, stands, code, place, err, same) ↦ bad_crews tree code place stands (is ∙ err) same
-  ]
-  end_of_parts NoMemory free = tt
+module _ (part : CrewPart) (bytes : List ℕ) where
+  pub unread : part ≡ Unread → IsReadAt part bytes None
+  unread is = (λ lacks. let clash = sym is ∙ lacks.0 in absurd cc, ap (λ p. crews_read p bytes) is)
+
+  pub if_any : part ≡ IfAny → (at : Option CrewsAt) → (split_of bytes).crews ≡ at → IsReadAt part bytes at
+  if_any is at split =
+      (λ lacks. let clash = sym is ∙ lacks.0 in absurd cc, ap (λ p. crews_read p bytes) is ∙ ap (λ a. crews_said (crews_behind bytes a)) split)
+
+  pub needed : part ≡ Needed → (at : CrewsAt) → (split_of bytes).crews ≡ Some at → IsReadAt part bytes (Some at)
+  needed is at split =
+      (λ lacks. let clash = sym (ap (crews_behind bytes) split) ∙ lacks.1 in absurd cc,
+      ap (λ p. crews_read p bytes) is ∙ ap (λ a. crews_said (crews_behind bytes a)) split)
+
+  module _ (at : Option CrewsAt) (read : IsReadAt part bytes at) where
+    pub deck_of_parts : (result : Result DeckParts DeckEnd) → IfOk result (λ deck. StandsFor bytes deck.tree)
+        → IfOk result (λ deck. crews_said (crews_behind bytes at) ≡ Ok deck.crews) → IfOk result (λ deck. IsWellFormed part bytes deck.tree deck.crews)
+    deck_of_parts (Ok deck) stands said = record { has_crews = read.0; stands = stands; said = read.1 ∙ said }
+    deck_of_parts (Err end) stands said = tt
+
+    end_is : (end : DeckEnd) → IsPartsEnd bytes (crews_said (crews_behind bytes at)) end → IsDeckEnd part bytes end
+    end_is (Fault fault) holds = elim holds [
+      | inl refused ↦ bad_tree read.0 refused
+      | inr (tree, stands, refused) ↦ bad_crews tree refused.0 refused.1 stands (read.1 ∙ refused.2) refused.3
+    ]
+    end_is NoMemory free = tt
+
+    pub end_of_parts : (result : Result DeckParts DeckEnd) → IfErr result (IsPartsEnd bytes (crews_said (crews_behind bytes at))) → IfErr result (IsDeckEnd part bytes)
+    end_of_parts (Ok deck) holds = tt
+    end_of_parts (Err end) holds = end_is end holds
 
 -- a crew part that is needed was read
 pub crews_are_there : (bytes : List ℕ) (tree : FaultTree) (crews : Option (List Crew)) → IsWellFormed Needed bytes tree crews → IsSome crews

@@ -1,6 +1,6 @@
 -- A deck has a finding: its first fault, a limit that is passed, or its tree, cut list and crews.
 use Rattle.std.specs.Prelude.{◌≡◌, ◌⊎◌, ℕ, All, List, [], drop, Option, Some, None, Result, Ok, Err}
-use Rattle.std.proofs.Common.{sym, ap, subst, refl, inl, inr}
+use Rattle.std.proofs.Common.{sym, ap, subst, ◌∙◌, refl, inl, inr}
 use Rattle.fault_model.specs.Cut.{IsCutList}
 use Rattle.fault_model.specs.Tree.{FaultTree}
 use Rattle.fault_model.specs.WellFormed.{IsTree}
@@ -83,17 +83,17 @@ module _ (reads : (text : List ℕ) → IsReading (lexemes_of text) (parsed_text
 
     -- ---- the deck
 
-    HasDeck : CrewPart → List ℕ → Type 0
+    abbrev HasDeck : CrewPart → List ℕ → Type 0
     HasDeck part bytes = (tree : FaultTree) × (crews : Option (List Crew)) × IsWellFormed part bytes tree crews
 
-    HasDeckFault : CrewPart → List ℕ → Type 0
+    abbrev HasDeckFault : CrewPart → List ℕ → Type 0
     HasDeckFault part bytes = (fault : DeckFault) × IsDeckFault part bytes fault
 
     lacks_or_has : (part : CrewPart) (bytes : List ℕ) (said : Option (Result (List Crew) CrewFault)) → crew_part bytes ≡ said → LacksCrews part bytes ⊎ (¬ LacksCrews part bytes)
     lacks_or_has Unread bytes said is = inr (λ lacks. let clash = lacks.0 in absurd cc)
     lacks_or_has IfAny bytes said is = inr (λ lacks. let clash = lacks.0 in absurd cc)
     lacks_or_has Needed bytes None is = inl (refl, is)
-    lacks_or_has Needed bytes (Some said) is = inr (λ lacks. let clash = sym is in let none = lacks.1 in absurd cc)
+    lacks_or_has Needed bytes (Some said) is = inr (λ lacks. let clash = sym is ∙ lacks.1 in absurd cc)
 
     behind_tree : (part : CrewPart) (bytes : List ℕ) (tree : FaultTree) → ¬ LacksCrews part bytes → StandsFor bytes tree → (said : Result (Option (List Crew)) CrewFault)
         → crews_read part bytes ≡ said → HasDeck part bytes ⊎ HasDeckFault part bytes

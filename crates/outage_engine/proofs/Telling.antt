@@ -1,8 +1,12 @@
--- A run whose sink failed told a front of its text.
-use Rattle.std.specs.Prelude.{◌≡◌, ℕ, List, Option, Result, Err, OnErr}
+-- What a run told: a front of its text where its sink failed, and the crews of a deck where it has some.
+use Rattle.std.specs.Prelude.{◌≡◌, ℕ, List, Option, Some, None, MatchOption, Result, Err, OnErr, option_copied}
 use Rattle.std.proofs.Common.{subst, refl, inr}
 use Rattle.edge_io.specs.Faults.{Rose}
 use Rattle.edge_io.specs.Out.{Delivers}
+use Rattle.fault_model.specs.Tree.{FaultTree}
+use Rattle.crew_script.specs.declared.dockets.Crew.{Crew}
+use Rattle.board_report.specs.CheckText.{check_text}
+use denote.Ref.{Bor}
 use Rattle.outage_engine.specs.declared.status.Status.{Status}
 use Rattle.outage_engine.specs.declared.status.Status.TheVariants.{WriteFault}
 use Rattle.outage_engine.specs.Runs.{Tells}
@@ -11,3 +15,9 @@ pub told_front : {K W : Type 0} (taken : K → Option (List ℕ)) (faults : K �
     → answer ≡ Err error → Delivers taken faults old new text answer → Tells taken faults old new status text WriteFault
 told_front taken faults old new text answer error status is delivered =
     inr (refl, record { rose = subst (λ r. OnErr r (Rose (faults old) (faults new))) is delivered.rose; left = delivered.left; front = delivered.front })
+
+-- what is put of crews that are borrowed is put of the crews
+pub check_of : (tree : FaultTree) (P : List ℕ → Type 0) (crews : Option (Bor (List Crew)))
+    → MatchOption crews (P (check_text tree None)) (λ some. P (check_text tree (Some some.now))) → P (check_text tree (option_copied crews))
+check_of tree P None holds = holds
+check_of tree P (Some crews) holds = holds

@@ -1,37 +1,106 @@
 use Rattle.std.specs.Prelude.{◌≡◌, Some}
-use Rattle.std.proofs.Common.{sym, ap, inl}
-use Rattle.std.proofs.lemmas.Result.{IfOk-weaker}
+use Rattle.std.proofs.Common.{sym, ap, inl, refl}
+use Rattle.std.proofs.lemmas.Result.{err_from_is_err_and}
 use Rattle.edge_io.specs.Faults.{Rose}
 use Rattle.board_words.specs.Command.{command_of}
-use Rattle.board_words.specs.declared.command.Command.TheVariants.{Cuts}
+use Rattle.board_words.specs.declared.command.Command.TheVariants.{Cuts, Check, Print}
+use Rattle.outage_engine.specs.declared.status.Method.TheVariants.{Lists, Plain}
+use Rattle.outage_engine.specs.Gives as gives
 use Rattle.outage_engine.specs.Gives.{done_yet, wants_of}
-use Rattle.outage_engine.specs.Texts.{for_cuts}
-use Rattle.outage_engine.proofs.Answering.{gives_cuts}
+use Rattle.outage_engine.specs.Texts.{for_check, for_cuts, for_print}
+use Rattle.outage_engine.proofs.Answering.{check_of_input, print_of_input, refused_by, refused_for}
 use Rattle.outage_engine.proofs.answer.answer_words.Goals as goal
 
-pub answer_input-requires-clause-most : goal.answer_input-requires-clause-most
-answer_input-requires-clause-most g c _ _ =
+pub list_input-requires-clause-most : goal.list_input-requires-clause-most
+list_input-requires-clause-most g c _ _ =
     (c.numbers_are_within_bounds.ensures.within (Cuts c.in-Some-Cuts.most c.in-Some-Cuts.workers) c.args.words.now (sym (rw c.in-Some-Cuts.field-0-is at c.in-Some-Cuts.ensures))).0
 
-pub answer_input-requires-clause-some : goal.answer_input-requires-clause-some
-answer_input-requires-clause-some g c _ _ =
+pub list_input-requires-clause-some : goal.list_input-requires-clause-some
+list_input-requires-clause-some g c _ _ =
     (c.numbers_are_within_bounds.ensures.within (Cuts c.in-Some-Cuts.most c.in-Some-Cuts.workers) c.args.words.now (sym (rw c.in-Some-Cuts.field-0-is at c.in-Some-Cuts.ensures))).1
 
-pub answer_input-requires-clause-few : goal.answer_input-requires-clause-few
-answer_input-requires-clause-few g c _ _ =
+pub list_input-requires-clause-few : goal.list_input-requires-clause-few
+list_input-requires-clause-few g c _ _ =
     (c.numbers_are_within_bounds.ensures.within (Cuts c.in-Some-Cuts.most c.in-Some-Cuts.workers) c.args.words.now (sym (rw c.in-Some-Cuts.field-0-is at c.in-Some-Cuts.ensures))).2
+
+-- ---- cuts
+
+pub returns-in-Some-Cuts-in_err-list_input-clause-refused : goal.returns-in-Some-Cuts-in_err-list_input-clause-refused
+returns-in-Some-Cuts-in_err-list_input-clause-refused g c =
+    let said : command_of c.args.words.now ≡ Some (Cuts c.in-Some-Cuts.most c.in-Some-Cuts.workers) = sym (rw c.in-Some-Cuts.field-0-is at c.in-Some-Cuts.ensures) in
+    let p = err_from_is_err_and c.from_residual.result c.from_residual.ensures.1 in
+    rw (p.1, p.2)
+    (refused_by (g.S.Source.held c.args.source.now) (g.S.Source.held c.list_input.new.source) (Rose (g.S.Source.faults c.args.source.now) (g.S.Source.faults c.list_input.new.source))
+    c.args.words.now (for_cuts c.in-Some-Cuts.most) _ (ap wants_of (ap done_yet said)) c.in_err-list_input.ensures.refused)
+
+pub returns-in-Some-Cuts-in_err-list_input-clause-unread : goal.returns-in-Some-Cuts-in_err-list_input-clause-unread
+returns-in-Some-Cuts-in_err-list_input-clause-unread g c =
+    let said : command_of c.args.words.now ≡ Some (Cuts c.in-Some-Cuts.most c.in-Some-Cuts.workers) = sym (rw c.in-Some-Cuts.field-0-is at c.in-Some-Cuts.ensures) in
+    inl (for_cuts c.in-Some-Cuts.most, ap wants_of (ap done_yet said))
 
 pub returns-in-Some-Cuts-clause-gives : goal.returns-in-Some-Cuts-clause-gives
 returns-in-Some-Cuts-clause-gives g c =
     let said : command_of c.args.words.now ≡ Some (Cuts c.in-Some-Cuts.most c.in-Some-Cuts.workers) = sym (rw c.in-Some-Cuts.field-0-is at c.in-Some-Cuts.ensures) in
-    IfOk-weaker c.answer_input.result _ _
-    (λ answer holds.
-    gives_cuts c.args.words.now (g.S.Source.held c.args.source.now) (g.S.Source.held c.answer_input.new.source)
-    (Rose (g.S.Source.faults c.args.source.now) (g.S.Source.faults c.answer_input.new.source))
-    c.in-Some-Cuts.most c.in-Some-Cuts.workers (ap done_yet said) answer holds)
-    c.answer_input.ensures.answer
+    gives.done (Cuts c.in-Some-Cuts.most c.in-Some-Cuts.workers) Lists (ap done_yet said) refl c.in_ok-list_input.ensures.text refl
 
 pub returns-in-Some-Cuts-clause-unread : goal.returns-in-Some-Cuts-clause-unread
 returns-in-Some-Cuts-clause-unread g c =
     let said : command_of c.args.words.now ≡ Some (Cuts c.in-Some-Cuts.most c.in-Some-Cuts.workers) = sym (rw c.in-Some-Cuts.field-0-is at c.in-Some-Cuts.ensures) in
     inl (for_cuts c.in-Some-Cuts.most, ap wants_of (ap done_yet said))
+
+-- ---- check
+
+pub returns-in-Some-Check-in_err-read_input-clause-refused : goal.returns-in-Some-Check-in_err-read_input-clause-refused
+returns-in-Some-Check-in_err-read_input-clause-refused g c =
+    let said : command_of c.args.words.now ≡ Some Check = sym (rw c.in-Some-Check.field-0-is at c.in-Some-Check.ensures) in
+    let p = err_from_is_err_and c.from_residual-in-Some-Check.result c.from_residual-in-Some-Check.ensures.1 in
+    let held = g.S.Source.held c.args.source.now in
+    let left = g.S.Source.held c.read_input.new.source in
+    let rose = Rose (g.S.Source.faults c.args.source.now) (g.S.Source.faults c.read_input.new.source) in
+    rw (p.1, p.2) (refused_by held left rose c.args.words.now for_check _ (ap wants_of (ap done_yet said)) (refused_for held left rose for_check _ c.in_err-read_input.ensures.refused))
+
+pub returns-in-Some-Check-in_err-read_input-clause-unread : goal.returns-in-Some-Check-in_err-read_input-clause-unread
+returns-in-Some-Check-in_err-read_input-clause-unread g c =
+    let said : command_of c.args.words.now ≡ Some Check = sym (rw c.in-Some-Check.field-0-is at c.in-Some-Check.ensures) in
+    inl (for_check, ap wants_of (ap done_yet said))
+
+pub returns-in-Some-Check-clause-gives : goal.returns-in-Some-Check-clause-gives
+returns-in-Some-Check-clause-gives g c =
+    let said : command_of c.args.words.now ≡ Some Check = sym (rw c.in-Some-Check.field-0-is at c.in-Some-Check.ensures) in
+    gives.done Check Plain (ap done_yet said) refl
+    (check_of_input (g.S.Source.held c.args.source.now) (g.S.Source.held c.read_input.new.source) c.in_ok-read_input.field-0.tree c.in_ok-read_input.field-0.crews c.in_ok-read_input.ensures.deck)
+    refl
+
+pub returns-in-Some-Check-clause-unread : goal.returns-in-Some-Check-clause-unread
+returns-in-Some-Check-clause-unread g c =
+    let said : command_of c.args.words.now ≡ Some Check = sym (rw c.in-Some-Check.field-0-is at c.in-Some-Check.ensures) in
+    inl (for_check, ap wants_of (ap done_yet said))
+
+-- ---- print
+
+pub returns-in-Some-Print-in_err-read_input-clause-refused : goal.returns-in-Some-Print-in_err-read_input-clause-refused
+returns-in-Some-Print-in_err-read_input-clause-refused g c =
+    let said : command_of c.args.words.now ≡ Some Print = sym (rw c.in-Some-Print.field-0-is at c.in-Some-Print.ensures) in
+    let p = err_from_is_err_and c.from_residual-in-Some-Print.result c.from_residual-in-Some-Print.ensures.1 in
+    let held = g.S.Source.held c.args.source.now in
+    let left = g.S.Source.held c.read_input-in-Some-Print.new.source in
+    let rose = Rose (g.S.Source.faults c.args.source.now) (g.S.Source.faults c.read_input-in-Some-Print.new.source) in
+    rw (p.1, p.2) (refused_by held left rose c.args.words.now for_print _ (ap wants_of (ap done_yet said)) (refused_for held left rose for_print _ c.in_err-read_input-in-Some-Print.ensures.refused))
+
+pub returns-in-Some-Print-in_err-read_input-clause-unread : goal.returns-in-Some-Print-in_err-read_input-clause-unread
+returns-in-Some-Print-in_err-read_input-clause-unread g c =
+    let said : command_of c.args.words.now ≡ Some Print = sym (rw c.in-Some-Print.field-0-is at c.in-Some-Print.ensures) in
+    inl (for_print, ap wants_of (ap done_yet said))
+
+pub returns-in-Some-Print-clause-gives : goal.returns-in-Some-Print-clause-gives
+returns-in-Some-Print-clause-gives g c =
+    let said : command_of c.args.words.now ≡ Some Print = sym (rw c.in-Some-Print.field-0-is at c.in-Some-Print.ensures) in
+    gives.done Print Plain (ap done_yet said) refl
+    (print_of_input (g.S.Source.held c.args.source.now) (g.S.Source.held c.read_input-in-Some-Print.new.source)
+    c.in_ok-read_input-in-Some-Print.field-0.tree c.in_ok-read_input-in-Some-Print.field-0.crews c.in_ok-read_input-in-Some-Print.ensures.deck)
+    refl
+
+pub returns-in-Some-Print-clause-unread : goal.returns-in-Some-Print-clause-unread
+returns-in-Some-Print-clause-unread g c =
+    let said : command_of c.args.words.now ≡ Some Print = sym (rw c.in-Some-Print.field-0-is at c.in-Some-Print.ensures) in
+    inl (for_print, ap wants_of (ap done_yet said))

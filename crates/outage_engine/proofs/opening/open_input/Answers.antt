@@ -1,18 +1,31 @@
-use Rattle.std.proofs.Common.{subst, length, ◌≤◌}
-use Rattle.std.specs.Result.{IfOk, OnOk}
-use Rattle.std.specs.Io.KnownBytes.{Consumes, IsAtEnd}
-use Rattle.std.proofs.lemmas.Result.{IfOk-weaker}
-use Rattle.edge_io.specs.declared.reading.TheConstants.{INPUT_LIMIT}
-use Rattle.outage_engine.proofs.Serving.{opening_for}
+use Rattle.std.proofs.Common.{refl}
+use Rattle.std.proofs.lemmas.Result.{IfOk-weaker, IfErr-weaker, err_from_is_err_and}
+use Rattle.edge_io.specs.Faults.{Rose}
+use Rattle.outage_engine.specs.declared.deck.CrewPart.TheVariants.{Needed}
+use Rattle.outage_engine.specs.Texts.{for_board}
+use Rattle.outage_engine.proofs.Answering.{limit_for, refused_for}
+use Rattle.outage_engine.proofs.Serving.{opened_of_input}
 use Rattle.outage_engine.proofs.opening.open_input.Goals as goal
 
-pub returns-in-Ok-clause-opening : goal.returns-in-Ok-clause-opening
-returns-in-Ok-clause-opening g c =
+pub returns-in_err-read_input-clause-refused : goal.returns-in_err-read_input-clause-refused
+returns-in_err-read_input-clause-refused g c =
+    let p = err_from_is_err_and c.from_residual.result c.from_residual.ensures.1 in
+    rw (p.1, p.2)
+    (refused_for (g.S.Source.held c.args.source.now) (g.S.Source.held c.read_input.new.source) (Rose (g.S.Source.faults c.args.source.now) (g.S.Source.faults c.read_input.new.source))
+    (for_board c.args.most) _ c.in_err-read_input.ensures.refused)
+
+pub returns-clause-opened : goal.returns-clause-opened
+returns-clause-opened g c =
     IfOk-weaker c.open_deck.result _ _
-    (λ found holds.
-    opening_for _ _ _ c.in-Ok.bytes c.as_slice.result.now c.as_slice.ensures.value
-    (subst (λ r. IfOk r (λ bytes. Consumes (g.S.Source.held c.args.source.now) (g.S.Source.held c.read_all.new.source) bytes)) c.in-Ok.is c.read_all.ensures.whole)
-    (subst (λ r. OnOk r (IsAtEnd (g.S.Source.held c.read_all.new.source))) c.in-Ok.is c.read_all.ensures.at_end)
-    (subst (λ r. IfOk r (λ bytes. length bytes ≤ INPUT_LIMIT)) c.in-Ok.is c.read_all.ensures.within)
-    c.args.margin c.args.most found holds)
-    c.open_deck.ensures.opening
+    (λ opened is.
+    opened_of_input (g.S.Source.held c.args.source.now) (g.S.Source.held c.read_input.new.source) c.args.margin c.args.most c.in_ok-deck.deck.tree c.in_ok-deck.deck.crews
+    opened c.in_ok-deck.ensures.deck is)
+    c.open_deck.ensures.opened
+
+pub returns-clause-refused : goal.returns-clause-refused
+returns-clause-refused g c =
+    IfErr-weaker c.open_deck.result _ _
+    (λ end limit.
+    limit_for (g.S.Source.held c.args.source.now) (g.S.Source.held c.read_input.new.source) c.in_ok-deck.deck.tree c.in_ok-deck.deck.crews Needed c.args.most
+    (Rose (g.S.Source.faults c.args.source.now) (g.S.Source.faults c.read_input.new.source)) end c.in_ok-deck.ensures.deck limit)
+    c.open_deck.ensures.limit

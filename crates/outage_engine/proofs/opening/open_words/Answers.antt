@@ -1,5 +1,12 @@
-use Rattle.std.proofs.Common.{sym}
+use Rattle.std.specs.Prelude.{◌≡◌, Some}
+use Rattle.std.proofs.Common.{sym, ap}
+use Rattle.std.proofs.lemmas.Result.{IfErr-weaker}
+use Rattle.edge_io.specs.Faults.{Rose}
+use Rattle.board_words.specs.Command.{command_of}
 use Rattle.board_words.specs.declared.command.Command.TheVariants.{Board}
+use Rattle.outage_engine.specs.Gives.{done_yet, wants_of}
+use Rattle.outage_engine.specs.Texts.{for_board}
+use Rattle.outage_engine.proofs.Answering.{refused_by}
 use Rattle.outage_engine.proofs.opening.open_words.Goals as goal
 
 pub open_input-requires-clause-margin : goal.open_input-requires-clause-margin
@@ -21,3 +28,12 @@ pub open_input-requires-clause-few : goal.open_input-requires-clause-few
 open_input-requires-clause-few g c _ _ =
     (c.numbers_are_within_bounds.ensures.within (Board c.in-Some-Board.margin c.in-Some-Board.most c.in-Some-Board.workers) c.args.words.now
     (sym (rw c.in-Some-Board.field-0-is at c.in-Some-Board.ensures))).3
+
+pub returns-in-Some-Board-clause-refused : goal.returns-in-Some-Board-clause-refused
+returns-in-Some-Board-clause-refused g c =
+    let said : command_of c.args.words.now ≡ Some (Board c.in-Some-Board.margin c.in-Some-Board.most c.in-Some-Board.workers) = sym (rw c.in-Some-Board.field-0-is at c.in-Some-Board.ensures) in
+    IfErr-weaker c.open_input.result _ _
+    (λ end holds.
+    refused_by (g.S.Source.held c.args.source.now) (g.S.Source.held c.open_input.new.source) (Rose (g.S.Source.faults c.args.source.now) (g.S.Source.faults c.open_input.new.source))
+    c.args.words.now (for_board c.in-Some-Board.most) end (ap wants_of (ap done_yet said)) holds)
+    c.open_input.ensures.refused

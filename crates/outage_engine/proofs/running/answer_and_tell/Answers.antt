@@ -1,7 +1,7 @@
 use Rattle.std.specs.Result.{IfOk}
 use Rattle.std.proofs.Common.{inr, subst}
 use Rattle.edge_io.specs.Faults.{Rose}
-use Rattle.outage_engine.specs.Answers.{status_of, text_of}
+use Rattle.outage_engine.specs.Answers.{refusal_line, refusal_status, status_of, text_of}
 use Rattle.outage_engine.specs.Gives.{Gives}
 use Rattle.outage_engine.proofs.running.answer_and_tell.Goals as goal
 
@@ -14,4 +14,13 @@ returns-in-Ok-answer_words-clause-runs g c =
           (Rose (g.S.Source.faults c.args.source.now) (g.S.Source.faults c.answer_words.new.source)) (status_of answer) (text_of answer)))
           c.in-Ok-answer_words.is c.answer_words.ensures.gives;
       told = c.tell.ensures.told;
+    }
+
+pub returns-in-Err-Refused-clause-runs : goal.returns-in-Err-Refused-clause-runs
+returns-in-Err-Refused-clause-runs g c =
+    inr record {
+      status = refusal_status c.in-Err-Refused.refusal;
+      text = refusal_line c.in-Err-Refused.refusal;
+      gives = rw c.in-Err-Refused.field-0-is at c.in-Err-Refused.ensures.refused;
+      told = c.tell-in-Err-Refused.ensures.told;
     }

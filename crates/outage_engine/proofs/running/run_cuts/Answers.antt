@@ -1,5 +1,5 @@
 use Rattle.edge_io.specs.Faults.{Rose}
-use Rattle.outage_engine.proofs.Clauses.{answers_deck, answers_length, answers_words, fails_to_read, front_of, of_command, prints_cuts, prints_help, refuses_deck, refuses_length, refuses_orders, refuses_weight, refuses_words, unwritten}
+use Rattle.outage_engine.proofs.Clauses.{answers_deck, answers_length, answers_words, fails_to_read, front_of, of_command, prints_check, prints_cuts, prints_help, prints_tree, refuses_deck, refuses_length, refuses_orders, refuses_weight, refuses_words, unwritten}
 use Rattle.outage_engine.proofs.running.run_cuts.Goals as goal
 
 pub returns-clause-command : goal.returns-clause-command
@@ -11,6 +11,18 @@ returns-clause-command g c =
 pub returns-clause-cuts : goal.returns-clause-cuts
 returns-clause-cuts g c =
     prints_cuts c.args.words.now (g.S.Source.held c.args.source.now) (g.S.Source.held c.answer_and_tell.new.source)
+    (Rose (g.S.Source.faults c.args.source.now) (g.S.Source.faults c.answer_and_tell.new.source))
+    g.K.Sink.taken g.K.Sink.faults c.args.sink.now c.answer_and_tell.new.sink c.answer_and_tell.result c.answer_and_tell.ensures.runs
+
+pub returns-clause-check : goal.returns-clause-check
+returns-clause-check g c =
+    prints_check c.args.words.now (g.S.Source.held c.args.source.now) (g.S.Source.held c.answer_and_tell.new.source)
+    (Rose (g.S.Source.faults c.args.source.now) (g.S.Source.faults c.answer_and_tell.new.source))
+    g.K.Sink.taken g.K.Sink.faults c.args.sink.now c.answer_and_tell.new.sink c.answer_and_tell.result c.answer_and_tell.ensures.runs
+
+pub returns-clause-print : goal.returns-clause-print
+returns-clause-print g c =
+    prints_tree c.args.words.now (g.S.Source.held c.args.source.now) (g.S.Source.held c.answer_and_tell.new.source)
     (Rose (g.S.Source.faults c.args.source.now) (g.S.Source.faults c.answer_and_tell.new.source))
     g.K.Sink.taken g.K.Sink.faults c.args.sink.now c.answer_and_tell.new.sink c.answer_and_tell.result c.answer_and_tell.ensures.runs
 
