@@ -21,7 +21,7 @@ use Rattle.outage_engine.specs.declared.refusal.RunEnd.{RunEnd}
 use Rattle.outage_engine.specs.declared.refusal.RunEnd.TheVariants.{Refused, NoMemory}
 use Rattle.outage_engine.specs.Answers.{IfRefused, IsLimitOf, IsListingOf, IsReadRefusal, IsRefusalBy, IsRefusalFor, found_in, listing_text}
 use Rattle.outage_engine.specs.Deck.{IsDeckFault, IsWellFormed}
-use Rattle.outage_engine.specs.Finding.{Finds, Found, Faulty, Ready, TooHeavy, TooManyOrders, Wants, WithOrders, faulty, judged, well_formed}
+use Rattle.outage_engine.specs.Finding.{Finds, Found, Faulty, Ready, TooHeavy, TooManyOrders, Wants, WithOrders, bad_deck, judged, well_formed}
 use Rattle.outage_engine.specs.Gives as gives
 use Rattle.outage_engine.specs.Gives.{OfInput, wanted}
 use Rattle.outage_engine.specs.Texts.{IsCheckText, IsCutsText, IsPrintText, cuts_said}
@@ -136,7 +136,7 @@ module _ (held left : Option (List ℕ)) (rose : Type 0) where
   -- why no deck is read is why the command is refused
   pub refused_for : (wants : Wants) (end : RunEnd) → IfRefused (IsReadRefusal wants.crews held left rose) end → IfRefused (IsRefusalFor wants held left rose) end
   refused_for wants (Refused (Fault fault)) holds =
-      of_input held left (λ bytes. IsDeckFault wants.crews bytes fault) (λ bytes. Finds wants bytes (Faulty fault)) (λ bytes refused. faulty fault refused refl) holds
+      of_input held left (λ bytes. IsDeckFault wants.crews bytes fault) (λ bytes. Finds wants bytes (Faulty fault)) (λ bytes refused. bad_deck fault refused refl) holds
   refused_for wants (Refused ReadFault) rises = rises
   refused_for wants (Refused TooLong) beyond = beyond
   refused_for wants (Refused ListLimit) never = absurd never

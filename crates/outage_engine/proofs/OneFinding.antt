@@ -22,7 +22,7 @@ use Rattle.board_report.specs.declared.fault.FaultCode.{FaultCode}
 use Rattle.board_report.specs.declared.fault.FaultCode.TheVariants.{Check, Crew as of_crews}
 use Rattle.outage_engine.specs.declared.deck.CrewPart.{CrewPart}
 use Rattle.outage_engine.specs.Deck.{IsDeckFault, IsFaultOf, IsTreeFault, IsWellFormed, LacksCrews, StandsFor, bad_crews, bad_tree, crew_part, crews_read, crews_said, no_crews, tree_part}
-use Rattle.outage_engine.specs.Finding.{AreCutsFor, CutsWanted, Finding, Faulty, Finds, Found, NoCuts, Wants, WithOrders, faulty, judged, well_formed}
+use Rattle.outage_engine.specs.Finding.{AreCutsFor, CutsWanted, Finding, Faulty, Finds, Found, NoCuts, Wants, WithOrders, bad_deck, judged, well_formed}
 
 -- ---- the tree part
 
@@ -119,9 +119,9 @@ same_found wants bytes one two deck deck' list list' =
     ap (λ t. found_as t one.cuts one.crews) trees ∙ (ap (λ c. found_as two.tree c one.crews) cuts ∙ ap (found_as two.tree two.cuts) crews)
 
 pub one_finding : (wants : Wants) (bytes : List ℕ) (one two : Finding) → Finds wants bytes one → Finds wants bytes two → one ≡ two
-one_finding wants bytes one two (faulty fault refused is) (faulty fault' refused' is') =
+one_finding wants bytes one two (bad_deck fault refused is) (bad_deck fault' refused' is') =
     is ∙ ap (λ f. Faulty f) (one_fault wants.crews bytes fault fault' refused refused') ∙ sym is'
-one_finding wants bytes one two (faulty fault refused is) (well_formed found deck list is') = no_deck_and_fault wants.crews bytes found.tree found.crews fault deck refused
-one_finding wants bytes one two (well_formed found deck list is) (faulty fault refused is') = no_deck_and_fault wants.crews bytes found.tree found.crews fault deck refused
+one_finding wants bytes one two (bad_deck fault refused is) (well_formed found deck list is') = no_deck_and_fault wants.crews bytes found.tree found.crews fault deck refused
+one_finding wants bytes one two (well_formed found deck list is) (bad_deck fault refused is') = no_deck_and_fault wants.crews bytes found.tree found.crews fault deck refused
 one_finding wants bytes one two (well_formed found deck list is) (well_formed found' deck' list' is') =
     is ∙ ap (judged wants.cuts) (same_found wants bytes found found' deck deck' list list') ∙ sym is'

@@ -41,17 +41,23 @@ abbrev pub IsReadAt : CrewPart → List ℕ → Option CrewsAt → Type 0
 IsReadAt part bytes at = (¬ LacksCrews part bytes) × (crews_read part bytes ≡ crews_said (crews_behind bytes at))
 
 module _ (part : CrewPart) (bytes : List ℕ) where
-  pub unread : part ≡ Unread → IsReadAt part bytes None
-  unread is = (λ lacks. let clash = sym is ∙ lacks.0 in absurd cc, ap (λ p. crews_read p bytes) is)
+  not_unread : part ≡ Unread → ¬ LacksCrews part bytes
+  not_unread is lacks = let clash = sym is ∙ lacks.0 in absurd cc
 
-  pub if_any : part ≡ IfAny → (at : Option CrewsAt) → (split_of bytes).crews ≡ at → IsReadAt part bytes at
-  if_any is at split =
-      (λ lacks. let clash = sym is ∙ lacks.0 in absurd cc, ap (λ p. crews_read p bytes) is ∙ ap (λ a. crews_said (crews_behind bytes a)) split)
+  not_if_any : part ≡ IfAny → ¬ LacksCrews part bytes
+  not_if_any is lacks = let clash = sym is ∙ lacks.0 in absurd cc
 
-  pub needed : part ≡ Needed → (at : CrewsAt) → (split_of bytes).crews ≡ Some at → IsReadAt part bytes (Some at)
-  needed is at split =
-      (λ lacks. let clash = sym (ap (crews_behind bytes) split) ∙ lacks.1 in absurd cc,
-      ap (λ p. crews_read p bytes) is ∙ ap (λ a. crews_said (crews_behind bytes a)) split)
+  not_where_some : (at : CrewsAt) → (split_of bytes).crews ≡ Some at → ¬ LacksCrews part bytes
+  not_where_some at split lacks = let clash = sym (ap (crews_behind bytes) split) ∙ lacks.1 in absurd cc
+
+  pub at_unread : part ≡ Unread → IsReadAt part bytes None
+  at_unread is = (not_unread is, ap (λ p. crews_read p bytes) is)
+
+  pub at_any : part ≡ IfAny → (at : Option CrewsAt) → (split_of bytes).crews ≡ at → IsReadAt part bytes at
+  at_any is at split = (not_if_any is, ap (λ p. crews_read p bytes) is ∙ ap (λ a. crews_said (crews_behind bytes a)) split)
+
+  pub at_needed : part ≡ Needed → (at : CrewsAt) → (split_of bytes).crews ≡ Some at → IsReadAt part bytes (Some at)
+  at_needed is at split = (not_where_some at split, ap (λ p. crews_read p bytes) is ∙ ap (λ a. crews_said (crews_behind bytes a)) split)
 
   module _ (at : Option CrewsAt) (read : IsReadAt part bytes at) where
     pub deck_of_parts : (result : Result DeckParts DeckEnd) → IfOk result (λ deck. StandsFor bytes deck.tree)
@@ -77,7 +83,7 @@ crews_are_there bytes tree crews deck = said_some (crew_part bytes) crews (λ no
     said_some : (said : Option (Result (List Crew) CrewFault)) (crews : Option (List Crew)) → ¬ (said ≡ None) → crews_said said ≡ Ok crews → IsSome crews
     said_some None crews some is = absurd (some refl)
     said_some (Some (Err fault)) crews some is = absurd cc
-    said_some (Some (Ok read)) crews some is = let same : Some read ≡ crews = cc in subst IsSome same tt
+    said_some (Some (Ok read)) crews some is = let same : Some read ≡ crews = cc in subst IsSome same refl
 
 -- the end of a deck that the source held, as that of a run
 pub refused_reading : (part : CrewPart) (held left : Option (List ℕ)) (rose : Type 0) (bytes given : List ℕ) (end : DeckEnd) → given ≡ bytes → Consumes held left bytes → IsAtEnd left

@@ -26,7 +26,7 @@ use Rattle.board_report.specs.declared.fault.FaultCode.TheVariants as report
 use Rattle.outage_engine.specs.declared.deck.CrewPart.{CrewPart}
 use Rattle.outage_engine.specs.declared.deck.CrewPart.TheVariants.{Unread, IfAny, Needed}
 use Rattle.outage_engine.specs.Deck.{IsDeckFault, IsFaultOf, IsTreeFault, IsWellFormed, LacksCrews, StandsFor, bad_crews, bad_tree, crew_part, crews_behind, crews_read, crews_said, no_crew_part, no_crews, part_read, tree_part}
-use Rattle.outage_engine.specs.Finding.{AreCutsFor, CutsWanted, Finding, Faulty, Finds, Found, NoCuts, Wants, WithOrders, faulty, judged, well_formed}
+use Rattle.outage_engine.specs.Finding.{AreCutsFor, CutsWanted, Finding, Faulty, Finds, Found, NoCuts, Wants, WithOrders, bad_deck, judged, well_formed}
 
 -- ---- the tree part
 
@@ -127,5 +127,5 @@ module _ (reads : (text : List ℕ) → IsReading (lexemes_of text) (parsed_text
                 let (cuts, list) = cuts_for wants.cuts tree in
                 let found : Found = record { tree = tree; cuts = cuts; crews = crews } in
                 (judged wants.cuts found, well_formed found deck list refl)
-            | inr (fault, refused) ↦ (Faulty fault, faulty fault refused refl)
+            | inr (fault, refused) ↦ (Faulty fault, bad_deck fault refused refl)
           ]

@@ -46,6 +46,6 @@ judged (WithOrders most) found =
 
 -- what is found: the first fault, or else whether the limits are kept
 pub data Finds (wants : Wants) (bytes : List ℕ) (finding : Finding) : Type 0 where
-  faulty : (fault : DeckFault) → IsDeckFault wants.crews bytes fault → finding ≡ Faulty fault → Finds wants bytes finding
+  bad_deck : (fault : DeckFault) → IsDeckFault wants.crews bytes fault → finding ≡ Faulty fault → Finds wants bytes finding
   well_formed : (found : Found) → IsWellFormed wants.crews bytes found.tree found.crews → AreCutsFor wants.cuts found.tree found.cuts
       → finding ≡ judged wants.cuts found → Finds wants bytes finding

@@ -1,0 +1,29 @@
+use Rattle.std.proofs.lemmas.Result.{IfOk-weaker, IfErr-weaker, err_from_is_err_and}
+use Rattle.edge_io.specs.Faults.{Rose}
+use Rattle.outage_engine.specs.declared.deck.CrewPart.TheVariants.{Unread}
+use Rattle.outage_engine.specs.Texts.{for_cuts}
+use Rattle.outage_engine.proofs.Answering.{cuts_of_input, limit_for, refused_for}
+use Rattle.outage_engine.proofs.answer.list_input.Goals as goal
+
+pub returns-in_err-read_input-clause-refused : goal.returns-in_err-read_input-clause-refused
+returns-in_err-read_input-clause-refused g c =
+    let p = err_from_is_err_and c.from_residual.result c.from_residual.ensures.1 in
+    rw (p.1, p.2)
+    (refused_for (g.S.Source.held c.args.source.now) (g.S.Source.held c.read_input.new.source) (Rose (g.S.Source.faults c.args.source.now) (g.S.Source.faults c.read_input.new.source))
+    (for_cuts c.args.most) _ c.in_err-read_input.ensures.refused)
+
+pub returns-clause-text : goal.returns-clause-text
+returns-clause-text g c =
+    IfOk-weaker c.list_tree.result _ _
+    (λ listing is.
+    cuts_of_input (g.S.Source.held c.args.source.now) (g.S.Source.held c.read_input.new.source) c.in_ok-deck.deck.tree c.in_ok-deck.deck.crews
+    c.args.most listing c.in_ok-deck.ensures.deck is)
+    c.list_tree.ensures.listed
+
+pub returns-clause-refused : goal.returns-clause-refused
+returns-clause-refused g c =
+    IfErr-weaker c.list_tree.result _ _
+    (λ end limit.
+    limit_for (g.S.Source.held c.args.source.now) (g.S.Source.held c.read_input.new.source) c.in_ok-deck.deck.tree c.in_ok-deck.deck.crews Unread c.args.most
+    (Rose (g.S.Source.faults c.args.source.now) (g.S.Source.faults c.read_input.new.source)) end c.in_ok-deck.ensures.deck limit)
+    c.list_tree.ensures.limit

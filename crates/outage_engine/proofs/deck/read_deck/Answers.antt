@@ -1,0 +1,37 @@
+use Rattle.std.specs.Prelude.{Some, None}
+use Rattle.std.proofs.Common.{sym, ap, ◌∙◌}
+use Rattle.crew_script.specs.declared.deck.Split.{Split}
+use Rattle.outage_engine.proofs.Reading.{at_any, at_needed, at_unread, deck_of_parts, end_of_parts}
+use Rattle.outage_engine.proofs.deck.read_deck.Goals as goal
+
+pub returns-in-Unread-clause-deck : goal.returns-in-Unread-clause-deck
+returns-in-Unread-clause-deck c =
+    deck_of_parts c.args.part c.args.bytes.now None (at_unread c.args.part c.args.bytes.now c.in-Unread.is) c.read_parts.result c.read_parts.ensures.tree c.read_parts.ensures.crews
+
+pub returns-in-Unread-clause-end : goal.returns-in-Unread-clause-end
+returns-in-Unread-clause-end c =
+    end_of_parts c.args.part c.args.bytes.now None (at_unread c.args.part c.args.bytes.now c.in-Unread.is) c.read_parts.result c.read_parts.ensures.end
+
+pub returns-in-IfAny-clause-deck : goal.returns-in-IfAny-clause-deck
+returns-in-IfAny-clause-deck c =
+    deck_of_parts c.args.part c.args.bytes.now c.split_deck-split.result.crews
+    (at_any c.args.part c.args.bytes.now c.in-IfAny.is c.split_deck-split.result.crews (ap (λ (s : Split). s.crews) (sym c.split_deck-split.ensures.split)))
+    c.read_parts.result c.read_parts.ensures.tree c.read_parts.ensures.crews
+
+pub returns-in-IfAny-clause-end : goal.returns-in-IfAny-clause-end
+returns-in-IfAny-clause-end c =
+    end_of_parts c.args.part c.args.bytes.now c.split_deck-split.result.crews
+    (at_any c.args.part c.args.bytes.now c.in-IfAny.is c.split_deck-split.result.crews (ap (λ (s : Split). s.crews) (sym c.split_deck-split.ensures.split)))
+    c.read_parts.result c.read_parts.ensures.end
+
+pub returns-in-Needed-in-Some-clause-deck : goal.returns-in-Needed-in-Some-clause-deck
+returns-in-Needed-in-Some-clause-deck c =
+    deck_of_parts c.args.part c.args.bytes.now (Some c.in-Some.at)
+    (at_needed c.args.part c.args.bytes.now c.in-Needed.is c.in-Some.at (ap (λ (s : Split). s.crews) (sym c.split_deck-split.ensures.split) ∙ c.in-Some.is))
+    c.read_parts.result c.read_parts.ensures.tree c.read_parts.ensures.crews
+
+pub returns-in-Needed-in-Some-clause-end : goal.returns-in-Needed-in-Some-clause-end
+returns-in-Needed-in-Some-clause-end c =
+    end_of_parts c.args.part c.args.bytes.now (Some c.in-Some.at)
+    (at_needed c.args.part c.args.bytes.now c.in-Needed.is c.in-Some.at (ap (λ (s : Split). s.crews) (sym c.split_deck-split.ensures.split) ∙ c.in-Some.is))
+    c.read_parts.result c.read_parts.ensures.end
