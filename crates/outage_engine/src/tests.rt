@@ -298,15 +298,15 @@ fn checks_a_deck(rt: HostRuntime) -> Result<(), Fail> {
         ("print", "\n@crews\ncrew c\ntake", 0, PAIR_PRINTED),
         (
             "check",
-            " T;\n@crews\ntake",
+            " A;\n@crews\ntake",
             1,
-            "refused: P1 expected gate or attribute at 1:31\n",
+            "refused: C3 duplicate name at 1:30\n",
         ),
         (
             "print",
-            " A;",
+            " T",
             1,
-            "refused: C3 duplicate name at 1:30\n",
+            "refused: P1 expected gate or attribute at 1:31\n",
         ),
     ] {
         let deck = format!(in rt.alloc(); "{PAIR}{crews}")?;

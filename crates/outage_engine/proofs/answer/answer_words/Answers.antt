@@ -3,7 +3,7 @@ use Rattle.std.proofs.Common.{sym, ap, inl, refl}
 use Rattle.std.proofs.lemmas.Result.{err_from_is_err_and}
 use Rattle.edge_io.specs.Faults.{Rose}
 use Rattle.board_words.specs.Command.{command_of}
-use Rattle.board_words.specs.declared.command.Command.TheVariants.{Cuts, Check, Print}
+use Rattle.board_words.specs.declared.command.Command.TheVariants.{Cuts, Check, Print, Help}
 use Rattle.outage_engine.specs.declared.status.Method.TheVariants.{Lists, Plain}
 use Rattle.outage_engine.specs.Gives as gives
 use Rattle.outage_engine.specs.Gives.{done_yet, wants_of}
@@ -25,23 +25,23 @@ list_input-requires-clause-few g c _ _ =
 
 -- ---- cuts
 
-pub returns-in-Some-Cuts-in_err-list_input-clause-refused : goal.returns-in-Some-Cuts-in_err-list_input-clause-refused
-returns-in-Some-Cuts-in_err-list_input-clause-refused g c =
+pub returns-in_err-list_input-in-Some-Cuts-clause-refused : goal.returns-in_err-list_input-in-Some-Cuts-clause-refused
+returns-in_err-list_input-in-Some-Cuts-clause-refused g c =
     let said : command_of c.args.words.now ≡ Some (Cuts c.in-Some-Cuts.most c.in-Some-Cuts.workers) = sym (rw c.in-Some-Cuts.field-0-is at c.in-Some-Cuts.ensures) in
     let p = err_from_is_err_and c.from_residual.result c.from_residual.ensures.1 in
     rw (p.1, p.2)
     (refused_by (g.S.Source.held c.args.source.now) (g.S.Source.held c.list_input.new.source) (Rose (g.S.Source.faults c.args.source.now) (g.S.Source.faults c.list_input.new.source))
-    c.args.words.now (for_cuts c.in-Some-Cuts.most) _ (ap wants_of (ap done_yet said)) c.in_err-list_input.ensures.refused)
+    c.args.words.now (for_cuts c.in-Some-Cuts.most) _ (ap wants_of (ap done_yet said)) c.in_err-list_input-in-Some-Cuts.ensures.refused)
 
-pub returns-in-Some-Cuts-in_err-list_input-clause-unread : goal.returns-in-Some-Cuts-in_err-list_input-clause-unread
-returns-in-Some-Cuts-in_err-list_input-clause-unread g c =
+pub returns-in_err-list_input-in-Some-Cuts-clause-unread : goal.returns-in_err-list_input-in-Some-Cuts-clause-unread
+returns-in_err-list_input-in-Some-Cuts-clause-unread g c =
     let said : command_of c.args.words.now ≡ Some (Cuts c.in-Some-Cuts.most c.in-Some-Cuts.workers) = sym (rw c.in-Some-Cuts.field-0-is at c.in-Some-Cuts.ensures) in
     inl (for_cuts c.in-Some-Cuts.most, ap wants_of (ap done_yet said))
 
 pub returns-in-Some-Cuts-clause-gives : goal.returns-in-Some-Cuts-clause-gives
 returns-in-Some-Cuts-clause-gives g c =
     let said : command_of c.args.words.now ≡ Some (Cuts c.in-Some-Cuts.most c.in-Some-Cuts.workers) = sym (rw c.in-Some-Cuts.field-0-is at c.in-Some-Cuts.ensures) in
-    gives.done (Cuts c.in-Some-Cuts.most c.in-Some-Cuts.workers) Lists (ap done_yet said) refl c.in_ok-list_input.ensures.text refl
+    gives.done (Cuts c.in-Some-Cuts.most c.in-Some-Cuts.workers) Lists (ap done_yet said) refl c.in_ok-list_input-in-Some-Cuts.ensures.text refl
 
 pub returns-in-Some-Cuts-clause-unread : goal.returns-in-Some-Cuts-clause-unread
 returns-in-Some-Cuts-clause-unread g c =
@@ -50,17 +50,17 @@ returns-in-Some-Cuts-clause-unread g c =
 
 -- ---- check
 
-pub returns-in-Some-Check-in_err-read_input-clause-refused : goal.returns-in-Some-Check-in_err-read_input-clause-refused
-returns-in-Some-Check-in_err-read_input-clause-refused g c =
+pub returns-in_err-read_input-in-Some-Check-clause-refused : goal.returns-in_err-read_input-in-Some-Check-clause-refused
+returns-in_err-read_input-in-Some-Check-clause-refused g c =
     let said : command_of c.args.words.now ≡ Some Check = sym (rw c.in-Some-Check.field-0-is at c.in-Some-Check.ensures) in
-    let p = err_from_is_err_and c.from_residual-in-Some-Check.result c.from_residual-in-Some-Check.ensures.1 in
+    let p = err_from_is_err_and c.from_residual-in_err-read_input-in-Some-Check.result c.from_residual-in_err-read_input-in-Some-Check.ensures.1 in
     let held = g.S.Source.held c.args.source.now in
     let left = g.S.Source.held c.read_input.new.source in
     let rose = Rose (g.S.Source.faults c.args.source.now) (g.S.Source.faults c.read_input.new.source) in
-    rw (p.1, p.2) (refused_by held left rose c.args.words.now for_check _ (ap wants_of (ap done_yet said)) (refused_for held left rose for_check _ c.in_err-read_input.ensures.refused))
+    rw (p.1, p.2) (refused_by held left rose c.args.words.now for_check _ (ap wants_of (ap done_yet said)) (refused_for held left rose for_check _ c.in_err-read_input-in-Some-Check.ensures.refused))
 
-pub returns-in-Some-Check-in_err-read_input-clause-unread : goal.returns-in-Some-Check-in_err-read_input-clause-unread
-returns-in-Some-Check-in_err-read_input-clause-unread g c =
+pub returns-in_err-read_input-in-Some-Check-clause-unread : goal.returns-in_err-read_input-in-Some-Check-clause-unread
+returns-in_err-read_input-in-Some-Check-clause-unread g c =
     let said : command_of c.args.words.now ≡ Some Check = sym (rw c.in-Some-Check.field-0-is at c.in-Some-Check.ensures) in
     inl (for_check, ap wants_of (ap done_yet said))
 
@@ -68,7 +68,7 @@ pub returns-in-Some-Check-clause-gives : goal.returns-in-Some-Check-clause-gives
 returns-in-Some-Check-clause-gives g c =
     let said : command_of c.args.words.now ≡ Some Check = sym (rw c.in-Some-Check.field-0-is at c.in-Some-Check.ensures) in
     gives.done Check Plain (ap done_yet said) refl
-    (check_of_input (g.S.Source.held c.args.source.now) (g.S.Source.held c.read_input.new.source) c.in_ok-read_input.field-0.tree c.in_ok-read_input.field-0.crews c.in_ok-read_input.ensures.deck)
+    (check_of_input (g.S.Source.held c.args.source.now) (g.S.Source.held c.read_input.new.source) c.in_ok-read_input-in-Some-Check.field-0.tree c.in_ok-read_input-in-Some-Check.field-0.crews c.in_ok-read_input-in-Some-Check.ensures.deck)
     refl
 
 pub returns-in-Some-Check-clause-unread : goal.returns-in-Some-Check-clause-unread
@@ -78,17 +78,17 @@ returns-in-Some-Check-clause-unread g c =
 
 -- ---- print
 
-pub returns-in-Some-Print-in_err-read_input-clause-refused : goal.returns-in-Some-Print-in_err-read_input-clause-refused
-returns-in-Some-Print-in_err-read_input-clause-refused g c =
+pub returns-in_err-read_input-in-Some-Print-clause-refused : goal.returns-in_err-read_input-in-Some-Print-clause-refused
+returns-in_err-read_input-in-Some-Print-clause-refused g c =
     let said : command_of c.args.words.now ≡ Some Print = sym (rw c.in-Some-Print.field-0-is at c.in-Some-Print.ensures) in
-    let p = err_from_is_err_and c.from_residual-in-Some-Print.result c.from_residual-in-Some-Print.ensures.1 in
+    let p = err_from_is_err_and c.from_residual-in_err-read_input-in-Some-Print.result c.from_residual-in_err-read_input-in-Some-Print.ensures.1 in
     let held = g.S.Source.held c.args.source.now in
     let left = g.S.Source.held c.read_input-in-Some-Print.new.source in
     let rose = Rose (g.S.Source.faults c.args.source.now) (g.S.Source.faults c.read_input-in-Some-Print.new.source) in
     rw (p.1, p.2) (refused_by held left rose c.args.words.now for_print _ (ap wants_of (ap done_yet said)) (refused_for held left rose for_print _ c.in_err-read_input-in-Some-Print.ensures.refused))
 
-pub returns-in-Some-Print-in_err-read_input-clause-unread : goal.returns-in-Some-Print-in_err-read_input-clause-unread
-returns-in-Some-Print-in_err-read_input-clause-unread g c =
+pub returns-in_err-read_input-in-Some-Print-clause-unread : goal.returns-in_err-read_input-in-Some-Print-clause-unread
+returns-in_err-read_input-in-Some-Print-clause-unread g c =
     let said : command_of c.args.words.now ≡ Some Print = sym (rw c.in-Some-Print.field-0-is at c.in-Some-Print.ensures) in
     inl (for_print, ap wants_of (ap done_yet said))
 
@@ -104,3 +104,10 @@ pub returns-in-Some-Print-clause-unread : goal.returns-in-Some-Print-clause-unre
 returns-in-Some-Print-clause-unread g c =
     let said : command_of c.args.words.now ≡ Some Print = sym (rw c.in-Some-Print.field-0-is at c.in-Some-Print.ensures) in
     inl (for_print, ap wants_of (ap done_yet said))
+
+-- ---- help
+
+pub returns-in-Some-Help-clause-gives : goal.returns-in-Some-Help-clause-gives
+returns-in-Some-Help-clause-gives g c =
+    let said : command_of c.args.words.now ≡ Some Help = sym (rw c.in-Some-Help.field-0-is at c.in-Some-Help.ensures) in
+    gives.done Help Plain (ap done_yet said) refl refl refl

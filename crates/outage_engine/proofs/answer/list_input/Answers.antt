@@ -5,12 +5,12 @@ use Rattle.outage_engine.specs.Texts.{for_cuts}
 use Rattle.outage_engine.proofs.Answering.{cuts_of_input, limit_for, refused_for}
 use Rattle.outage_engine.proofs.answer.list_input.Goals as goal
 
-pub returns-in_err-read_input-clause-refused : goal.returns-in_err-read_input-clause-refused
-returns-in_err-read_input-clause-refused g c =
+pub returns-in_err-deck-clause-refused : goal.returns-in_err-deck-clause-refused
+returns-in_err-deck-clause-refused g c =
     let p = err_from_is_err_and c.from_residual.result c.from_residual.ensures.1 in
     rw (p.1, p.2)
     (refused_for (g.S.Source.held c.args.source.now) (g.S.Source.held c.read_input.new.source) (Rose (g.S.Source.faults c.args.source.now) (g.S.Source.faults c.read_input.new.source))
-    (for_cuts c.args.most) _ c.in_err-read_input.ensures.refused)
+    (for_cuts c.args.most) _ c.in_err-deck.ensures.refused)
 
 pub returns-clause-text : goal.returns-clause-text
 returns-clause-text g c =

@@ -7,12 +7,12 @@ use Rattle.outage_engine.proofs.Answering.{limit_for, refused_for}
 use Rattle.outage_engine.proofs.Serving.{opened_of_input}
 use Rattle.outage_engine.proofs.opening.open_input.Goals as goal
 
-pub returns-in_err-read_input-clause-refused : goal.returns-in_err-read_input-clause-refused
-returns-in_err-read_input-clause-refused g c =
+pub returns-in_err-deck-clause-refused : goal.returns-in_err-deck-clause-refused
+returns-in_err-deck-clause-refused g c =
     let p = err_from_is_err_and c.from_residual.result c.from_residual.ensures.1 in
     rw (p.1, p.2)
     (refused_for (g.S.Source.held c.args.source.now) (g.S.Source.held c.read_input.new.source) (Rose (g.S.Source.faults c.args.source.now) (g.S.Source.faults c.read_input.new.source))
-    (for_board c.args.most) _ c.in_err-read_input.ensures.refused)
+    (for_board c.args.most) _ c.in_err-deck.ensures.refused)
 
 pub returns-clause-opened : goal.returns-clause-opened
 returns-clause-opened g c =
