@@ -6,25 +6,32 @@ use Rattle.fault_model.specs.Cut.{IsCutList}
 use Rattle.fault_model.specs.WellFormed.{IsTree}
 use Rattle.crew_script.specs.declared.dockets.Crew.{Crew}
 use Rattle.board_words.specs.declared.command.Command.TheVariants.{Board}
-use Rattle.board_report.specs.BoardText.{board_text}
+use Rattle.board_report.specs.BoardText.{IsDeckOf, board_text}
 use Rattle.outage_board.specs.Boards.{BoardView, Deck}
 use Rattle.outage_board.specs.Histories.{IsLegal, IsWhole}
 use Rattle.outage_board.proofs.SafetyLemmas.{board_is_safe}
 use Rattle.outage_engine.specs.declared.deck.CrewPart.TheVariants.{Needed}
+use Rattle.outage_engine.specs.declared.listing.Listing.{Listing}
 use Rattle.outage_engine.specs.declared.opening.Opened.{Opened}
 use Rattle.outage_engine.specs.declared.status.Status.TheVariants as status
 use Rattle.outage_engine.specs.declared.status.Method.TheVariants.{Lists}
-use Rattle.outage_engine.specs.Answers.{found_in, listing_text}
+use Rattle.outage_engine.specs.Answers.{IsOfUnits, found_in, listing_text}
 use Rattle.outage_engine.specs.Deck.{IsWellFormed}
 use Rattle.outage_engine.specs.Finding.{Found}
 use Rattle.outage_engine.specs.Gives as gives
 use Rattle.outage_engine.specs.Gives.{Gives, OfInput, asked}
-use Rattle.outage_engine.specs.Openings.{IsOpened, IsOpenedFor, IsServed}
+use Rattle.outage_engine.specs.Openings.{IsOpened, IsOpenedFor, IsOpenedWith, IsReady, IsServed}
 use Rattle.outage_engine.specs.Safety.{BearsThroughout, IsSafeText}
 use Rattle.outage_engine.specs.Texts.{board_deck, board_said, cuts_said}
 use Rattle.outage_engine.proofs.Answering.{finds_ready, orders_of_listing, said_of}
 use Rattle.outage_engine.proofs.Bearing.{bears_throughout}
 use Rattle.outage_engine.proofs.Clauses.{of_input}
+
+-- a board that was opened for a listing can be served and written
+pub ready : (margin : ℕ) (listing : Listing) (crews : Option (List Crew)) (opened : Opened) → IsOfUnits listing → IsOpenedWith margin listing crews opened → IsReady opened
+ready margin listing crews opened units (same, deck, passes) =
+    let of_deck : IsDeckOf listing.tree opened.start.board.deck = subst (IsDeckOf listing.tree) (sym deck) (record { units = refl; dockets = refl }) in
+    (subst IsOfUnits (sym same) units, passes, subst (λ (l : Listing). IsDeckOf l.tree opened.start.board.deck) (sym same) of_deck)
 
 -- a board that was opened for a tree and crews was opened for the deck
 pub opened_of_input : (held left : Option (List ℕ)) (margin most : ℕ) (tree : FaultTree) (crews : Option (List Crew)) (opened : Opened)

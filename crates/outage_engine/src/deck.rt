@@ -20,7 +20,7 @@ use std::alloc::Global;
 use tree_check::{CheckFault, check};
 
 /// Why a deck has no tree, or no crews.
-#[derive(Clone, Copy, Debug, PartialEq, Eq)]
+#[derive(Clone, Copy)]
 pub(crate) enum DeckEnd {
     /// The first fault of the part.
     Fault(DeckFault),
@@ -28,7 +28,7 @@ pub(crate) enum DeckEnd {
 }
 
 /// How a command takes the crew part of a deck.
-#[derive(Clone, Copy, Debug, PartialEq, Eq)]
+#[derive(Clone, Copy)]
 pub(crate) enum CrewPart {
     /// It is passed over.
     Unread,

@@ -8,7 +8,7 @@ use board_report::DeckFault;
 use std::alloc::AllocError;
 
 /// A refusal, whose line is written.
-#[derive(Clone, Copy, Debug, PartialEq, Eq)]
+#[derive(Clone, Copy)]
 pub(crate) enum Refusal {
     /// The words are no command.
     Usage,
@@ -25,7 +25,7 @@ pub(crate) enum Refusal {
 }
 
 /// Why there is no answer.
-#[derive(Clone, Copy, Debug, PartialEq, Eq)]
+#[derive(Clone, Copy)]
 pub(crate) enum RunEnd {
     Refused(Refusal),
     NoMemory,

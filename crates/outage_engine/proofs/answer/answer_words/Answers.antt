@@ -38,13 +38,13 @@ returns-in_err-list_input-in-Some-Cuts-clause-unread g c =
     let said : command_of c.args.words.now ≡ Some (Cuts c.in-Some-Cuts.most c.in-Some-Cuts.workers) = sym (rw c.in-Some-Cuts.field-0-is at c.in-Some-Cuts.ensures) in
     inl (for_cuts c.in-Some-Cuts.most, ap wants_of (ap done_yet said))
 
-pub returns-in-Some-Cuts-clause-gives : goal.returns-in-Some-Cuts-clause-gives
-returns-in-Some-Cuts-clause-gives g c =
+pub returns-in_ok-list_input-in-Some-Cuts-clause-gives : goal.returns-in_ok-list_input-in-Some-Cuts-clause-gives
+returns-in_ok-list_input-in-Some-Cuts-clause-gives g c =
     let said : command_of c.args.words.now ≡ Some (Cuts c.in-Some-Cuts.most c.in-Some-Cuts.workers) = sym (rw c.in-Some-Cuts.field-0-is at c.in-Some-Cuts.ensures) in
     gives.done (Cuts c.in-Some-Cuts.most c.in-Some-Cuts.workers) Lists (ap done_yet said) refl c.in_ok-list_input-in-Some-Cuts.ensures.text refl
 
-pub returns-in-Some-Cuts-clause-unread : goal.returns-in-Some-Cuts-clause-unread
-returns-in-Some-Cuts-clause-unread g c =
+pub returns-in_ok-list_input-in-Some-Cuts-clause-unread : goal.returns-in_ok-list_input-in-Some-Cuts-clause-unread
+returns-in_ok-list_input-in-Some-Cuts-clause-unread g c =
     let said : command_of c.args.words.now ≡ Some (Cuts c.in-Some-Cuts.most c.in-Some-Cuts.workers) = sym (rw c.in-Some-Cuts.field-0-is at c.in-Some-Cuts.ensures) in
     inl (for_cuts c.in-Some-Cuts.most, ap wants_of (ap done_yet said))
 
@@ -64,15 +64,15 @@ returns-in_err-read_input-in-Some-Check-clause-unread g c =
     let said : command_of c.args.words.now ≡ Some Check = sym (rw c.in-Some-Check.field-0-is at c.in-Some-Check.ensures) in
     inl (for_check, ap wants_of (ap done_yet said))
 
-pub returns-in-Some-Check-clause-gives : goal.returns-in-Some-Check-clause-gives
-returns-in-Some-Check-clause-gives g c =
+pub returns-in_ok-read_input-in-Some-Check-clause-gives : goal.returns-in_ok-read_input-in-Some-Check-clause-gives
+returns-in_ok-read_input-in-Some-Check-clause-gives g c =
     let said : command_of c.args.words.now ≡ Some Check = sym (rw c.in-Some-Check.field-0-is at c.in-Some-Check.ensures) in
     gives.done Check Plain (ap done_yet said) refl
     (check_of_input (g.S.Source.held c.args.source.now) (g.S.Source.held c.read_input.new.source) c.in_ok-read_input-in-Some-Check.field-0.tree c.in_ok-read_input-in-Some-Check.field-0.crews c.in_ok-read_input-in-Some-Check.ensures.deck)
     refl
 
-pub returns-in-Some-Check-clause-unread : goal.returns-in-Some-Check-clause-unread
-returns-in-Some-Check-clause-unread g c =
+pub returns-in_ok-read_input-in-Some-Check-clause-unread : goal.returns-in_ok-read_input-in-Some-Check-clause-unread
+returns-in_ok-read_input-in-Some-Check-clause-unread g c =
     let said : command_of c.args.words.now ≡ Some Check = sym (rw c.in-Some-Check.field-0-is at c.in-Some-Check.ensures) in
     inl (for_check, ap wants_of (ap done_yet said))
 
@@ -92,16 +92,16 @@ returns-in_err-read_input-in-Some-Print-clause-unread g c =
     let said : command_of c.args.words.now ≡ Some Print = sym (rw c.in-Some-Print.field-0-is at c.in-Some-Print.ensures) in
     inl (for_print, ap wants_of (ap done_yet said))
 
-pub returns-in-Some-Print-clause-gives : goal.returns-in-Some-Print-clause-gives
-returns-in-Some-Print-clause-gives g c =
+pub returns-in_ok-read_input-in-Some-Print-clause-gives : goal.returns-in_ok-read_input-in-Some-Print-clause-gives
+returns-in_ok-read_input-in-Some-Print-clause-gives g c =
     let said : command_of c.args.words.now ≡ Some Print = sym (rw c.in-Some-Print.field-0-is at c.in-Some-Print.ensures) in
     gives.done Print Plain (ap done_yet said) refl
     (print_of_input (g.S.Source.held c.args.source.now) (g.S.Source.held c.read_input-in-Some-Print.new.source)
     c.in_ok-read_input-in-Some-Print.field-0.tree c.in_ok-read_input-in-Some-Print.field-0.crews c.in_ok-read_input-in-Some-Print.ensures.deck)
     refl
 
-pub returns-in-Some-Print-clause-unread : goal.returns-in-Some-Print-clause-unread
-returns-in-Some-Print-clause-unread g c =
+pub returns-in_ok-read_input-in-Some-Print-clause-unread : goal.returns-in_ok-read_input-in-Some-Print-clause-unread
+returns-in_ok-read_input-in-Some-Print-clause-unread g c =
     let said : command_of c.args.words.now ≡ Some Print = sym (rw c.in-Some-Print.field-0-is at c.in-Some-Print.ensures) in
     inl (for_print, ap wants_of (ap done_yet said))
 

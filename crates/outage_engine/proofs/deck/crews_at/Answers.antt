@@ -11,9 +11,9 @@ pub returns-in_err-crews_in-in-Some-clause-end : goal.returns-in_err-crews_in-in
 returns-in_err-crews_in-in-Some-clause-end c =
     let p = err_from_is_err_and c.from_residual.result c.from_residual.ensures.1 in
     rw (p.1, p.2)
-    (subst (λ a. IsCrewEnd (crews_said (crews_behind c.args.bytes.now a)) _) (sym c.in-Some.is)
+    (subst (λ a. IsCrewEnd (crews_said (crews_behind c.args.bytes.now a)) c.in_err-crews_in-in-Some.field-0.0) (sym c.in-Some.is)
     (crew_end (crews_of c.in-Some.at.line (drop c.in-Some.at.start c.args.bytes.now)) _ c.in_err-crews_in-in-Some.ensures.end))
 
-pub returns-in-Some-clause-crews : goal.returns-in-Some-clause-crews
-returns-in-Some-clause-crews c =
+pub returns-in_ok-crews_in-in-Some-clause-crews : goal.returns-in_ok-crews_in-in-Some-clause-crews
+returns-in_ok-crews_in-in-Some-clause-crews c =
     ap (λ a. crews_said (crews_behind c.args.bytes.now a)) c.in-Some.is ∙ ap (λ s. crews_said (Some s)) c.in_ok-crews_in-in-Some.ensures.crews

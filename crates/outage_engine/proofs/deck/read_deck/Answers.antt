@@ -16,22 +16,16 @@ pub returns-in-IfAny-clause-deck : goal.returns-in-IfAny-clause-deck
 returns-in-IfAny-clause-deck c =
     deck_of_parts c.args.part c.args.bytes.now c.split_deck-split.result.crews
     (at_any c.args.part c.args.bytes.now c.in-IfAny.is c.split_deck-split.result.crews (ap (λ (s : Split). s.crews) (sym c.split_deck-split.ensures.split)))
-    c.read_parts.result c.read_parts.ensures.tree c.read_parts.ensures.crews
+    c.read_parts-in-IfAny.result c.read_parts-in-IfAny.ensures.tree c.read_parts-in-IfAny.ensures.crews
 
 pub returns-in-IfAny-clause-end : goal.returns-in-IfAny-clause-end
 returns-in-IfAny-clause-end c =
     end_of_parts c.args.part c.args.bytes.now c.split_deck-split.result.crews
     (at_any c.args.part c.args.bytes.now c.in-IfAny.is c.split_deck-split.result.crews (ap (λ (s : Split). s.crews) (sym c.split_deck-split.ensures.split)))
-    c.read_parts.result c.read_parts.ensures.end
+    c.read_parts-in-IfAny.result c.read_parts-in-IfAny.ensures.end
 
-pub returns-in-Needed-in-Some-clause-deck : goal.returns-in-Needed-in-Some-clause-deck
-returns-in-Needed-in-Some-clause-deck c =
-    deck_of_parts c.args.part c.args.bytes.now (Some c.in-Some.at)
-    (at_needed c.args.part c.args.bytes.now c.in-Needed.is c.in-Some.at (ap (λ (s : Split). s.crews) (sym c.split_deck-split.ensures.split) ∙ c.in-Some.is))
-    c.read_parts.result c.read_parts.ensures.tree c.read_parts.ensures.crews
-
-pub returns-in-Needed-in-Some-clause-end : goal.returns-in-Needed-in-Some-clause-end
-returns-in-Needed-in-Some-clause-end c =
+pub returns-in-Some-clause-end : goal.returns-in-Some-clause-end
+returns-in-Some-clause-end c =
     end_of_parts c.args.part c.args.bytes.now (Some c.in-Some.at)
     (at_needed c.args.part c.args.bytes.now c.in-Needed.is c.in-Some.at (ap (λ (s : Split). s.crews) (sym c.split_deck-split.ensures.split) ∙ c.in-Some.is))
-    c.read_parts.result c.read_parts.ensures.end
+    c.read_parts-in-Needed.result c.read_parts-in-Needed.ensures.end

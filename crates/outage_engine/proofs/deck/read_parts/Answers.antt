@@ -11,5 +11,5 @@ returns-in_err-tree-clause-end c =
 
 pub returns-in_err-crews-clause-end : goal.returns-in_err-crews-clause-end
 returns-in_err-crews-clause-end c =
-    let p = err_from_is_err_and c.from_residual.result c.from_residual.ensures.1 in
+    let p = err_from_is_err_and c.from_residual-in_err-crews.result c.from_residual-in_err-crews.ensures.1 in
     rw (p.1, p.2) (crews_end c.args.bytes.now c.in_ok-tree.tree (crews_said (crews_behind c.args.bytes.now c.args.at)) _ c.in_ok-tree.ensures.tree c.in_err-crews.ensures.end)

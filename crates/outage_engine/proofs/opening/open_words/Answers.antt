@@ -29,8 +29,8 @@ open_input-requires-clause-few g c _ _ =
     (c.numbers_are_within_bounds.ensures.within (Board c.in-Some-Board.margin c.in-Some-Board.most c.in-Some-Board.workers) c.args.words.now
     (sym (rw c.in-Some-Board.field-0-is at c.in-Some-Board.ensures))).3
 
-pub returns-in-Some-Board-clause-refused : goal.returns-in-Some-Board-clause-refused
-returns-in-Some-Board-clause-refused g c =
+pub returns-clause-refused : goal.returns-clause-refused
+returns-clause-refused g c =
     let said : command_of c.args.words.now ≡ Some (Board c.in-Some-Board.margin c.in-Some-Board.most c.in-Some-Board.workers) = sym (rw c.in-Some-Board.field-0-is at c.in-Some-Board.ensures) in
     IfErr-weaker c.open_input.result _ _
     (λ end holds.

@@ -8,26 +8,30 @@ use Rattle.outage_engine.specs.Answers.{listing_text, refusal_line, refusal_stat
 use Rattle.outage_engine.proofs.Serving.{gives_board}
 use Rattle.outage_engine.proofs.running.serve_and_tell.Goals as goal
 
-pub returns-in-Ok-open_words-clause-runs : goal.returns-in-Ok-open_words-clause-runs
-returns-in-Ok-open_words-clause-runs g c =
+pub returns-in-Ok-open_words : goal.returns-in-Ok-open_words
+returns-in-Ok-open_words g c =
     let held = g.S.Source.held c.args.source.now in
     let left = g.S.Source.held c.open_words.new.source in
     let rose = Rose (g.S.Source.faults c.args.source.now) (g.S.Source.faults c.open_words.new.source) in
     let opened = c.in-Ok-open_words.opened in
     let by = c.in-Ok-open_words.ensures.opened in
     let told = c.serve.ensures.told in
-    inr record {
-      status = Done Lists;
-      text = listing_text opened.listing ++ board_text opened.listing.tree told.0;
-      gives = gives_board c.args.words.now held left rose by.0 by.1 by.2 by.3 opened by.4 told.0 told.1;
-      told = told.2;
+    record {
+      runs = inr record {
+        status = Done Lists;
+        text = listing_text opened.listing ++ board_text opened.listing.tree told.0;
+        gives = gives_board c.args.words.now held left rose by.0 by.1 by.2 by.3 opened by.4 told.0 told.1;
+        told = told.2;
+      };
     }
 
-pub returns-in-Err-Refused-clause-runs : goal.returns-in-Err-Refused-clause-runs
-returns-in-Err-Refused-clause-runs g c =
-    inr record {
-      status = refusal_status c.in-Err-Refused.refusal;
-      text = refusal_line c.in-Err-Refused.refusal;
-      gives = rw c.in-Err-Refused.field-0-is at c.in-Err-Refused.ensures.refused;
-      told = c.tell.ensures.told;
+pub returns-in-Err-Refused : goal.returns-in-Err-Refused
+returns-in-Err-Refused g c =
+    record {
+      runs = inr record {
+        status = refusal_status c.in-Err-Refused.refusal;
+        text = refusal_line c.in-Err-Refused.refusal;
+        gives = rw c.in-Err-Refused.field-0-is at c.in-Err-Refused.ensures.refused;
+        told = c.tell.ensures.told;
+      };
     }
