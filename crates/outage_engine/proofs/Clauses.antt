@@ -1,7 +1,7 @@
 -- The clauses of a run, each read from the relation that the run keeps.
 use Rattle.std.specs.Prelude.{◌≡◌, ◌⊎◌, ℕ, ◌<◌, ◌≤◌, List, length, Option, Some, None}
 use Rattle.std.specs.Io.KnownBytes.{Appends}
-use Rattle.std.proofs.Common.{sym, subst, ◌∙◌, ap, refl, inl, inr, arith}
+use Rattle.std.proofs.Common.{sym, subst, ◌∙◌, refl, inl, inr, arith}
 use Rattle.edge_io.specs.declared.reading.TheConstants.{INPUT_LIMIT}
 use Rattle.board_words.specs.declared.command.Command.{Command}
 use Rattle.board_words.specs.declared.command.Command.TheVariants.{Cuts, Board, Check, Print, Diagram, Make, Help}

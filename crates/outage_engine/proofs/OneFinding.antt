@@ -1,8 +1,7 @@
 -- A deck has one finding at most.
-use Rattle.std.specs.Prelude.{◌≡◌, ℕ, List, Option, None, Result, Ok, Err}
+use Rattle.std.specs.Prelude.{◌≡◌, ℕ, List, Option, Result, Ok, Err}
 use Rattle.std.proofs.Common.{sym, ap, subst, ◌∙◌}
 use Rattle.fault_model.specs.Tree.{FaultTree}
-use Rattle.fault_model.specs.Cut.{IsCutList}
 use Rattle.fault_model.specs.CutLaws.{same_cut_list}
 use Rattle.fault_model.specs.declared.node.Place.{Place}
 use Rattle.galileo_tree.specs.declared.fault.ParseFault.{ParseFault}

@@ -25,7 +25,7 @@ use Rattle.board_report.specs.declared.fault.DeckFault.{DeckFault}
 use Rattle.board_report.specs.declared.fault.FaultCode.TheVariants as report
 use Rattle.outage_engine.specs.declared.deck.CrewPart.{CrewPart}
 use Rattle.outage_engine.specs.declared.deck.CrewPart.TheVariants.{Unread, IfAny, Needed}
-use Rattle.outage_engine.specs.Deck.{IsDeckFault, IsFaultOf, IsTreeFault, IsWellFormed, LacksCrews, StandsFor, bad_crews, bad_tree, crew_part, crews_behind, crews_read, crews_said, no_crew_part, no_crews, part_read, tree_part}
+use Rattle.outage_engine.specs.Deck.{IsDeckFault, IsFaultOf, IsTreeFault, IsWellFormed, LacksCrews, StandsFor, bad_crews, bad_tree, crew_part, crews_behind, crews_read, crews_said, no_crew_part, no_crews, tree_part}
 use Rattle.outage_engine.specs.Finding.{AreCutsFor, CutsWanted, Finding, Faulty, Finds, Found, NoCuts, Wants, WithOrders, bad_deck, judged, well_formed}
 
 -- ---- the tree part

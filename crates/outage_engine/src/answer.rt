@@ -65,9 +65,7 @@ pub(crate) fn answer_words<R: Threads + Sync, S: Source>(
         Some(Command::Cuts { most, workers }) => {
             Ok(Answer::Cuts(list_input(rt, alloc, most, workers, source)?))
         }
-        Some(Command::Check) => {
-            Ok(Answer::Checked(read_input(alloc, CrewPart::IfAny, source)?))
-        }
+        Some(Command::Check) => { Ok(Answer::Checked(read_input(alloc, CrewPart::IfAny, source)?)) }
         Some(Command::Print) => {
             Ok(Answer::Printed(read_input(alloc, CrewPart::Unread, source)?.tree))
         }

@@ -91,9 +91,7 @@ fn open_deck<R: Threads + Sync>(
     ensures ready { IfOk result IsReady }
     ensures limit { IfErr result (IfRefused (IsLimitOf most tree)) }
 {
-    let Some(dockets) = crews else {
-        unreachable!()
-    };
+    let Some(dockets) = crews else { unreachable!() };
     let listing = list_tree(rt, alloc, most, workers, tree)?;
     Ok(open_listing(alloc, margin, listing, &dockets)?)
 }

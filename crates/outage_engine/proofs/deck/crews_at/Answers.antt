@@ -1,4 +1,4 @@
-use Rattle.std.specs.Prelude.{◌≡◌, Some, drop}
+use Rattle.std.specs.Prelude.{Some, drop}
 use Rattle.std.proofs.Common.{sym, ap, ◌∙◌, subst}
 use Rattle.std.proofs.lemmas.Result.{err_from_is_err_and}
 use Rattle.crew_script.specs.Crews.{crews_of}

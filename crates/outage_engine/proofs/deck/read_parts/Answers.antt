@@ -1,5 +1,4 @@
 use Rattle.std.proofs.lemmas.Result.{err_from_is_err_and}
-use Rattle.crew_script.specs.declared.dockets.Crew.{Crew}
 use Rattle.outage_engine.specs.Deck.{crews_behind, crews_said}
 use Rattle.outage_engine.proofs.Reading.{crews_end, tree_end}
 use Rattle.outage_engine.proofs.deck.read_parts.Goals as goal

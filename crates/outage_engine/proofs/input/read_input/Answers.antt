@@ -4,7 +4,6 @@ use Rattle.std.specs.Io.KnownBytes.{Consumes, IsAtEnd}
 use Rattle.std.proofs.lemmas.Result.{err_from_is_err_and}
 use Rattle.edge_io.specs.Faults.{Rose}
 use Rattle.edge_io.specs.declared.reading.TheConstants.{INPUT_LIMIT}
-use Rattle.outage_engine.specs.declared.deck.CrewPart.TheVariants.{Needed}
 use Rattle.outage_engine.specs.Deck.{IsWellFormed}
 use Rattle.outage_engine.proofs.Answering.{whole}
 use Rattle.outage_engine.proofs.Reading.{crews_are_there, refused_reading}

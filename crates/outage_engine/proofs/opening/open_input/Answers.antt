@@ -1,4 +1,3 @@
-use Rattle.std.proofs.Common.{refl}
 use Rattle.std.proofs.lemmas.Result.{IfOk-weaker, IfErr-weaker, err_from_is_err_and}
 use Rattle.edge_io.specs.Faults.{Rose}
 use Rattle.outage_engine.specs.declared.deck.CrewPart.TheVariants.{Needed}
