@@ -93,8 +93,8 @@ abbrev pub IfRefused : (Refusal → Type 0) → RunEnd → Type 0
 IfRefused P (run.Refused refusal) = P refusal
 IfRefused P run.NoMemory = Unit {0}
 
--- why a command that wants this is refused, for the input that the source held, of which it held a rest afterwards; its faults rose in
--- this sense
+-- why a command that wants this is refused, for the input that the source held, of which it held a rest afterwards;
+-- its faults rose in this sense
 abbrev pub IsRefusalFor : Wants → Option (List ℕ) → Option (List ℕ) → Type 0 → Refusal → Type 0
 IsRefusalFor wants held left rose ReadFault = rose
 IsRefusalFor wants held left rose TooLong = IsBeyond held left
@@ -166,7 +166,8 @@ IsCrewEnd said end.NoMemory = Unit {0}
 
 -- of a tree part, or of the crew part behind it
 abbrev pub IsPartsEnd : {A : Type 0} → List ℕ → Result A CrewFault → DeckEnd → Type 0
-IsPartsEnd bytes said (end.Fault fault) = IsTreeFault bytes fault ⊎ ((tree : FaultTree) × StandsFor bytes tree × IsCrewEnd said (end.Fault fault))
+IsPartsEnd bytes said (end.Fault fault) =
+    IsTreeFault bytes fault ⊎ ((tree : FaultTree) × StandsFor bytes tree × IsCrewEnd said (end.Fault fault))
 IsPartsEnd bytes said end.NoMemory = Unit {0}
 
 -- of a deck

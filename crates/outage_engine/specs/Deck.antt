@@ -85,13 +85,13 @@ crews_said (Some (Err fault)) = Err fault
 abbrev pub crews_read : CrewPart → List ℕ → Result (Option (List Crew)) CrewFault
 crews_read part bytes = crews_said (part_read part (crew_part bytes))
 
--- The deck's first fault, in the order in which faults count: no crew part where one is needed, the fault of the tree part, the fault of
--- the crew part.
+-- The deck's first fault, in the order in which faults count: no crew part where one is needed, the fault of the tree
+-- part, the fault of the crew part.
 pub data IsDeckFault (part : CrewPart) (bytes : List ℕ) (fault : DeckFault) : Type 0 where
   no_crews : LacksCrews part bytes → fault ≡ no_crew_part bytes → IsDeckFault part bytes fault
   bad_tree : ¬ LacksCrews part bytes → IsTreeFault bytes fault → IsDeckFault part bytes fault
-  bad_crews : (tree : FaultTree) (code : CrewCode) (place : Place) → StandsFor bytes tree → crews_read part bytes ≡ Err (Fault code place)
-      → fault ≡ record { code = report.Crew code; place = place } → IsDeckFault part bytes fault
+  bad_crews : (tree : FaultTree) (code : CrewCode) (place : Place) → StandsFor bytes tree
+      → crews_read part bytes ≡ Err (Fault code place) → fault ≡ record { code = report.Crew code; place = place } → IsDeckFault part bytes fault
 
 -- the deck has no fault, and stands for this tree and these crews
 pub record IsWellFormed (part : CrewPart) (bytes : List ℕ) (tree : FaultTree) (crews : Option (List Crew)) : Type 0 where

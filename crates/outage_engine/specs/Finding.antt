@@ -10,7 +10,8 @@ use Rattle.board_report.specs.declared.fault.DeckFault.{DeckFault}
 use Rattle.outage_engine.specs.declared.deck.CrewPart.{CrewPart}
 use Rattle.outage_engine.specs.Deck.{IsDeckFault, IsWellFormed}
 
--- what a command wants of the cut sets: nothing, or the cut list and the failing orders of its sets of at most so many members
+-- what a command wants of the cut sets: nothing, or the cut list and the failing orders of its sets of at most so many
+-- members
 pub data CutsWanted : Type 0 where
   NoCuts : CutsWanted
   WithOrders : ℕ → CutsWanted
@@ -46,6 +47,7 @@ judged (WithOrders most) found =
 
 -- what is found: the first fault, or else whether the limits are kept
 pub data Finds (wants : Wants) (bytes : List ℕ) (finding : Finding) : Type 0 where
-  bad_deck : (fault : DeckFault) → IsDeckFault wants.crews bytes fault → finding ≡ Faulty fault → Finds wants bytes finding
-  well_formed : (found : Found) → IsWellFormed wants.crews bytes found.tree found.crews → AreCutsFor wants.cuts found.tree found.cuts
-      → finding ≡ judged wants.cuts found → Finds wants bytes finding
+  bad_deck : (fault : DeckFault) → IsDeckFault wants.crews bytes fault → finding ≡ Faulty fault
+      → Finds wants bytes finding
+  well_formed : (found : Found) → IsWellFormed wants.crews bytes found.tree found.crews
+      → AreCutsFor wants.cuts found.tree found.cuts → finding ≡ judged wants.cuts found → Finds wants bytes finding

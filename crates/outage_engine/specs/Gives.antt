@@ -83,8 +83,8 @@ IsTextOf (Make number show) held left text = ⊥
 
 -- What the words give, and the input that the source held, of which it held a rest afterwards. The source's faults rose in this sense.
 pub data Gives (words : List (List ℕ)) (held left : Option (List ℕ)) (rose : Type 0) (status : Status) (text : List ℕ) : Type 0 where
-  done : (command : Command) (method : Method) → asked words ≡ Some command → IsMethodOf command method → IsTextOf command held left text
-      → status ≡ Done method → Gives words held left rose status text
+  done : (command : Command) (method : Method) → asked words ≡ Some command → IsMethodOf command method
+      → IsTextOf command held left text → status ≡ Done method → Gives words held left rose status text
   usage : asked words ≡ None → status ≡ Usage → text ≡ notice_line notice.Usage → Gives words held left rose status text
   read_fault : (wants : Wants) → wanted words ≡ Some wants → rose
       → status ≡ ReadFault → text ≡ notice_line notice.ReadFault → Gives words held left rose status text

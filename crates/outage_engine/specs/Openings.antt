@@ -39,7 +39,8 @@ HasPasses start = AreOf start.board start.passes.passes × HaveAll start.board.d
 
 -- it can be served and written
 abbrev pub IsReady : Opened → Type 0
-IsReady opened = IsOfUnits opened.listing × HasPasses opened.start × IsDeckOf opened.listing.tree opened.start.board.deck
+IsReady opened =
+    IsOfUnits opened.listing × HasPasses opened.start × IsDeckOf opened.listing.tree opened.start.board.deck
 
 -- what a listing and crews give: the open board, with a pass for each crew
 abbrev pub IsOpenedWith : ℕ → Listing → Option (List Crew) → Opened → Type 0
@@ -54,7 +55,8 @@ IsOpenedFor margin most tree crews opened =
 -- of words that are a command `board`
 abbrev pub IsOpenedBy : List (List ℕ) → Option (List ℕ) → Option (List ℕ) → Opened → Type 0
 IsOpenedBy words held left opened =
-    (margin : ℕ) × (most : ℕ) × (workers : ℕ) × (asked words ≡ Some (Board margin most workers)) × OfInput held left (λ bytes. IsOpened margin most bytes opened)
+    (margin : ℕ) × (most : ℕ) × (workers : ℕ) × (asked words ≡ Some (Board margin most workers))
+    × OfInput held left (λ bytes. IsOpened margin most bytes opened)
 
 -- ---- what came of a board
 

@@ -65,7 +65,8 @@ IsDone result = (method : Method) × (result ≡ Done method)
 
 -- only words that are a command are done, by the method of the command
 abbrev pub IsOfCommand : List (List ℕ) → Status → Type 0
-IsOfCommand words result = (method : Method) → result ≡ Done method → (command : Command) × (asked words ≡ Some command) × IsMethodOf command method
+IsOfCommand words result =
+    (method : Method) → result ≡ Done method → (command : Command) × (asked words ≡ Some command) × IsMethodOf command method
 
 abbrev pub PrintsCuts : {K : Type 0} → List (List ℕ) → Option (List ℕ) → Option (List ℕ) → (K → Option (List ℕ)) → K → K → Status → Type 0
 PrintsCuts words held left taken old new result =

@@ -67,7 +67,8 @@ pub record IsBoardText (margin most : ℕ) (bytes text : List ℕ) : Type 0 wher
   pub of_deck : IsHistoryOf (board_deck margin found) history
   pub is : text ≡ board_said margin most found history
 
--- the text of `check` for a deck of these bytes: how large its tree is and, where it has a crew part, how many crews and requests it has
+-- the text of `check` for a deck of these bytes: how large its tree is and, where it has a crew part, how many crews and
+-- requests it has
 pub record IsCheckText (bytes text : List ℕ) : Type 0 where
   pub found : Found
   pub finds : Finds for_check bytes (Ready found)

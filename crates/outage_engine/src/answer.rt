@@ -56,7 +56,8 @@ pub(crate) fn answer_words<R: Threads + Sync, S: Source>(
     requires { IsNoBoard words.now }
     ensures gives { IfOk result (λ answer. Gives words.now (S.held source.old) (S.held source.new)
         (Rose (S.faults source.old) (S.faults source.new)) (status_of answer) (text_of answer)) }
-    ensures refused { IfErr result (IfRefused (IsRefusalBy words.now (S.held source.old) (S.held source.new) (Rose (S.faults source.old) (S.faults source.new)))) }
+    ensures refused { IfErr result (IfRefused (IsRefusalBy words.now (S.held source.old) (S.held source.new)
+        (Rose (S.faults source.old) (S.faults source.new)))) }
     ensures writable { IfOk result IsWritable }
     ensures unread { AreReading words.now ⊎ (source.new ≡ source.old) }
 {
@@ -88,9 +89,11 @@ fn list_input<R: Threads + Sync, S: Source>(
     requires most { most ≤ 8 }
     requires some { 1 ≤ workers }
     requires few { workers ≤ 16 }
-    ensures text { IfOk result (λ listing. OfInput (S.held source.old) (S.held source.new) (λ bytes. IsCutsText most bytes (listing_text listing))) }
+    ensures text { IfOk result (λ listing. OfInput (S.held source.old) (S.held source.new)
+        (λ bytes. IsCutsText most bytes (listing_text listing))) }
     ensures writable { IfOk result IsOfUnits }
-    ensures refused { IfErr result (IfRefused (IsRefusalFor (for_cuts most) (S.held source.old) (S.held source.new) (Rose (S.faults source.old) (S.faults source.new)))) }
+    ensures refused { IfErr result (IfRefused (IsRefusalFor (for_cuts most) (S.held source.old) (S.held source.new)
+        (Rose (S.faults source.old) (S.faults source.new)))) }
 {
     let deck = read_input(alloc, CrewPart::Unread, source)?;
     list_tree(rt, alloc, most, workers, deck.tree)

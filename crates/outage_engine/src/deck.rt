@@ -46,8 +46,8 @@ pub(crate) struct DeckParts {
     pub crews: Option<Dockets>,
 }
 
-/// The tree and the crews of a deck, its crew part taken so, or its first fault. That a crew part is needed and is not there is found
-/// before its tree part is read.
+/// The tree and the crews of a deck, its crew part taken so, or its first fault. That a crew part is needed and is not
+/// there is found before the tree part is read.
 pub(crate) fn read_deck(alloc: Global, part: CrewPart, bytes: &[u8]) -> Result<DeckParts, DeckEnd>
     requires { length bytes.now ≤ INPUT_LIMIT }
     ensures deck { IfOk result (λ deck. IsWellFormed part bytes.now deck.tree deck.crews) }

@@ -11,16 +11,18 @@ use crate::refusal::{Refusal, RunEnd};
 use edge_io::{ReadEnd, Source, read_all};
 use std::alloc::Global;
 
-/// The deck that the source holds, with its crew part as far as it is wanted, or why it is refused. Every command that wants a deck
-/// begins with this.
+/// The deck that the source holds, with its crew part as far as it is wanted, or why it is refused. Every command
+/// that wants a deck begins with this.
 pub(crate) fn read_input<S: Source>(
     alloc: Global,
     part: CrewPart,
     source: &mut S,
 ) -> Result<DeckParts, RunEnd>
-    ensures deck { IfOk result (λ deck. OfInput (S.held source.old) (S.held source.new) (λ bytes. IsWellFormed part bytes deck.tree deck.crews)) }
+    ensures deck { IfOk result (λ deck. OfInput (S.held source.old) (S.held source.new)
+        (λ bytes. IsWellFormed part bytes deck.tree deck.crews)) }
     ensures crews { IfOk result (λ deck. part ≡ Needed → IsSome deck.crews) }
-    ensures refused { IfErr result (IfRefused (IsReadRefusal part (S.held source.old) (S.held source.new) (Rose (S.faults source.old) (S.faults source.new)))) }
+    ensures refused { IfErr result (IfRefused (IsReadRefusal part (S.held source.old) (S.held source.new)
+        (Rose (S.faults source.old) (S.faults source.new)))) }
 {
     match read_all(alloc, source) {
         Ok(bytes) => Ok(read_deck(alloc, part, bytes.as_slice())?),

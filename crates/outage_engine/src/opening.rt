@@ -36,7 +36,8 @@ pub(crate) fn open_words<R: Threads + Sync, S: Source>(
     requires { IsBoard words.now }
     ensures opened { IfOk result (IsOpenedBy words.now (S.held source.old) (S.held source.new)) }
     ensures ready { IfOk result IsReady }
-    ensures refused { IfErr result (IfRefused (IsRefusalBy words.now (S.held source.old) (S.held source.new) (Rose (S.faults source.old) (S.faults source.new)))) }
+    ensures refused { IfErr result (IfRefused (IsRefusalBy words.now (S.held source.old) (S.held source.new)
+        (Rose (S.faults source.old) (S.faults source.new)))) }
 {
     numbers_are_within_bounds();
     match read(words) {
@@ -64,9 +65,11 @@ fn open_input<R: Threads + Sync, S: Source>(
     requires most { most ≤ 8 }
     requires some { 1 ≤ workers }
     requires few { workers ≤ 16 }
-    ensures opened { IfOk result (λ opened. OfInput (S.held source.old) (S.held source.new) (λ bytes. IsOpened margin most bytes opened)) }
+    ensures opened { IfOk result (λ opened. OfInput (S.held source.old) (S.held source.new)
+        (λ bytes. IsOpened margin most bytes opened)) }
     ensures ready { IfOk result IsReady }
-    ensures refused { IfErr result (IfRefused (IsRefusalFor (for_board most) (S.held source.old) (S.held source.new) (Rose (S.faults source.old) (S.faults source.new)))) }
+    ensures refused { IfErr result (IfRefused (IsRefusalFor (for_board most) (S.held source.old) (S.held source.new)
+        (Rose (S.faults source.old) (S.faults source.new)))) }
 {
     let deck = read_input(alloc, CrewPart::Needed, source)?;
     open_deck(rt, alloc, margin, most, workers, deck.tree, deck.crews)

@@ -5,7 +5,8 @@ ghost use Rattle.board_report.specs.BoardText.{IsDeckOf};
 ghost use Rattle.outage_engine.specs.Answers.{IsOfUnits};
 ghost use Rattle.outage_engine.specs.Openings.{HasPasses, TellsBoard};
 ghost use Rattle.outage_engine.specs.Runs.{AreReading, IsBoard, IsNoBoard, Runs};
-ghost use Rattle.outage_engine.specs.Runs.{IsOfCommand, PrintsBoard, PrintsCheck, PrintsCuts, PrintsHelp, PrintsSafely, PrintsTree};
+ghost use Rattle.outage_engine.specs.Runs.{IsOfCommand, PrintsBoard, PrintsCheck, PrintsCuts, PrintsHelp};
+ghost use Rattle.outage_engine.specs.Runs.{PrintsSafely, PrintsTree};
 ghost use Rattle.outage_engine.specs.Runs.{FailsToRead, RefusesDeck, RefusesLength, RefusesOrders, RefusesWeight, RefusesWords};
 ghost use Rattle.outage_engine.specs.Runs.{AnswersDeck, AnswersLength, AnswersWords, WritesFrontOfText};
 
@@ -25,10 +26,10 @@ use std::thread::Threads;
 
 /// Does all that the program does: the words after its name say what, the source is its input, and the sink its output.
 ///
-/// `cuts` prints the minimal cut sets of the deck, and the orders in which the units of each fail the top event, for the sets of
-/// at most as many members as `--most` says. `board` prints the same, and then one log of the requests of all crews, decided one after
-/// the other at the margin, and the board at the end. `check` prints how large a well-formed deck is, and `print` its tree. Waits where
-/// crews wait for their turn.
+/// `cuts` prints the minimal cut sets of the deck, and the orders in which the units of each fail the top event, for
+/// the sets of at most as many members as `--most` says. `board` prints the same, and then one log of the requests of
+/// all crews, decided one after the other at the margin, and the board at the end. `check` prints how large a
+/// well-formed deck is, and `print` its tree. Waits where crews wait for their turn.
 pub fn run<R: Threads + Wait + Sync, S: Source, K: Sink>(
     rt: &R,
     alloc: Global,
