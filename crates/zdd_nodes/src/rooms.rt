@@ -12,8 +12,8 @@ use zdd_words::NodeRef;
 /// and for its votes.
 #[derive(Debug, Drop)]
 pub struct Rooms {
-    pub(crate) list: Vec<NodeRef>,
-    pub(crate) votes: Vec<NodeRef>,
+    pub list: Vec<NodeRef>,
+    pub votes: Vec<NodeRef>,
 }
 
 impl Rooms {

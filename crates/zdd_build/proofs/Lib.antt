@@ -1,0 +1,6 @@
+mod SeatLemmas
+mod TableLemmas
+mod PlaceLemmas
+mod OwnLemmas
+mod TeamLemmas
+mod WorkerLemmas

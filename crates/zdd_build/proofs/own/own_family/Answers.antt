@@ -1,0 +1,13 @@
+use Rattle.fault_model.specs.CutFamily.{IsCutFamily}
+use Rattle.zdd_shared_table.specs.Seats.{map_of}
+use Rattle.family_copies.specs.Copies.{copies-went}
+use Rattle.zdd_build.proofs.OwnLemmas.{went_of}
+use Rattle.zdd_build.proofs.own.own_family.Goals as goal
+
+pub returns-clause-copies : goal.returns-clause-copies
+returns-clause-copies c =
+    let before = c.read_below.new.worker.memory in
+    let after = c.cut_family.new.memory in
+    copies-went before after (map_of c.read_below.new.worker.ops) c.read_below.ensures.went.sound
+    (went_of (IsCutFamily c.args.tree.now c.args.node) before after c.cut_family.result c.cut_family.ensures.gives c.cut_family.ensures.spent)
+    c.read_below.new.worker.copies c.read_below.ensures.copies

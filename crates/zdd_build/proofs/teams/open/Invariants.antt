@@ -1,0 +1,13 @@
+use Rattle.std.proofs.Common.{◌≡◌, ◌≤◌, All, length}
+use Rattle.std.specs.Prelude.{vec_capacity}
+use Rattle.zdd_build.specs.Workers.{CanWork, HasSplit, IsNew}
+use Rattle.zdd_build.proofs.teams.open.Given as goal
+
+abbrev pub invariant-loop : goal.invariant-loop
+invariant-loop l = record {
+  count : length l.team.items ≡ l.counter;
+  room : l.count ≤ vec_capacity l.team;
+  split : HasSplit l.counter l.initial.seat l.seat;
+  can : All (CanWork l.store l.tree) l.team.items;
+  new : All IsNew l.team.items;
+}

@@ -1,0 +1,4 @@
+pub mod Places
+pub mod Building
+pub mod Workers
+pub mod Own

@@ -1,0 +1,42 @@
+//! What is made of a tree: a reference for each node, and which places are made.
+ghost use Rattle.std.specs.Prelude.{◌≡◌, ◌-◌, ◌≤◌, ◌<◌, true, ℕ, IfOk, length, set};
+ghost use Rattle.zdd_build.specs.Building.{AreBuilt};
+ghost use Rattle.zdd_build.specs.Places.{node_at};
+
+use crate::places::Place;
+use fault_model::{NoMemory, Tree};
+use std::alloc::Global;
+use zdd_words::NodeRef;
+
+/// A reference for each node, and whether the node at each place is made.
+#[derive(Drop)]
+pub(crate) struct Table {
+    pub references: Vec<NodeRef>,
+    pub made: Vec<bool>,
+}
+
+impl Table {
+    /// Nothing is made yet. An `fdep` has the empty family.
+    pub fn new(alloc: Global, tree: &Tree, places: &[Place]) -> Result<Table, NoMemory>
+        ensures { (known : ℕ → ℕ) → IfOk result (λ table. AreBuilt known tree.now places.now table.references.items table.made.items) }
+    {
+        let nodes = (tree.units() + tree.gates()) as usize;
+        Ok(Table {
+            references: vec![in alloc; NodeRef::EMPTY; nodes]?,
+            made: vec![in alloc; false; places.len()]?,
+        })
+    }
+
+    /// Takes the reference that was found for the node at a place.
+    pub fn put(&mut self, places: &[Place], place: usize, family: NodeRef)
+        requires place { place < length places.now }
+        requires places { length places.now ≤ length self.old.made.items }
+        requires low { 1 ≤ node_at places.now place }
+        requires high { node_at places.now place ≤ length self.old.references.items }
+        ensures references { self.new.references.items ≡ set self.old.references.items (node_at places.now place - 1) family }
+        ensures made { self.new.made.items ≡ set self.old.made.items place true }
+    {
+        self.references[places[place].node.index()] = family;
+        self.made[place] = true;
+    }
+}

@@ -1,0 +1,175 @@
+//! One worker: its seat with the operations of the store, a memory of its own, and what it has found.
+ghost use Rattle.std.specs.Prelude.{◌≡◌, ◌≤◌, ℕ, false, true, [], length, IfErr, IfOk};
+ghost use Rattle.fault_model.specs.CutFamily.{IsCutFamily};
+ghost use Rattle.fault_model.specs.Tree.{IsNodeOf, is_fdep, node_count};
+ghost use Rattle.tree_families.specs.Due.{IsDueToTree};
+ghost use Rattle.zdd_families.specs.Map.{Grown};
+ghost use Rattle.zdd_shared_table.specs.Seats.{map_of};
+ghost use Rattle.zdd_product.specs.Seats.{Gave, KnowsOne, WasFull};
+ghost use Rattle.zdd_nodes.specs.Reading.{KnowsBelow};
+ghost use Rattle.zdd_nodes.specs.Room.{HaveRoomFor};
+ghost use Rattle.family_copies.specs.Copies.{AreCopies};
+ghost use Rattle.zdd_build.specs.Workers.{CanWork};
+
+use crate::own::own_family;
+use family_copies::{Copies, export};
+use family_memory::{FamilyMemory, Room};
+use fault_model::{NoMemory, NodeNo, Tree};
+use std::alloc::Global;
+use zdd_nodes::{Rooms, cut_family};
+use zdd_product::Ops;
+use zdd_shared_table::Full;
+use zdd_words::NodeRef;
+
+/// How many nodes a worker's memory takes. Every model that was measured needs less.
+pub(crate) const OWN_NODES: usize = 262_144;
+
+// A memory that holds more nodes than this is cleared before the next node of the tree.
+const KEPT_NODES: usize = 65_536;
+
+// How many answers of operations a worker's memory keeps.
+const OWN_ANSWERS: usize = 65_536;
+
+/// The reference that was found for the node at a place.
+#[derive(Clone, Copy, Debug)]
+pub(crate) struct Finding {
+    pub place: usize,
+    pub family: NodeRef,
+}
+
+/// A worker. `work` counts the nodes that it has made in its memory, and `full` tells that it found the store full.
+#[derive(Drop)]
+pub(crate) struct Worker<'s> {
+    pub ops: Ops<'s>,
+    pub memory: FamilyMemory,
+    pub copies: Copies,
+    pub rooms: Rooms,
+    pub found: Vec<Finding>,
+    pub work: usize,
+    pub full: bool,
+}
+
+/// All that a worker needs beside its seat.
+#[derive(Drop)]
+pub(crate) struct Tools {
+    pub memory: FamilyMemory,
+    pub copies: Copies,
+    pub rooms: Rooms,
+    pub found: Vec<Finding>,
+}
+
+impl Tools {
+    /// Tools for a tree that has so many places, with all memory that they ever take.
+    pub fn new(
+        alloc: Global,
+        tree: &Tree,
+        places: usize,
+        own_nodes: usize,
+    ) -> Result<Tools, NoMemory>
+        requires { own_nodes ≤ 262144 }
+        ensures copies { IfOk result (λ tools. tools.copies ≡ []) }
+        ensures found { IfOk result (λ tools. tools.found.items ≡ []) }
+        ensures rooms { IfOk result (λ tools. HaveRoomFor tree.now tools.rooms) }
+    {
+        let room = Room {
+            nodes: own_nodes,
+            slots: own_nodes * 2,
+            answers: OWN_ANSWERS,
+        };
+        Ok(Tools {
+            memory: FamilyMemory::new(alloc, room)?,
+            copies: Copies::new(alloc, own_nodes)?,
+            rooms: Rooms::new(alloc, tree)?,
+            found: Vec::with_capacity(alloc, places)?,
+        })
+    }
+}
+
+// Forgets what the memory holds, with the notes of it.
+fn forget(worker: &mut Worker)
+    ensures copies { worker.new.copies ≡ [] }
+    ensures ops { worker.new.ops ≡ worker.old.ops }
+    ensures rooms { worker.new.rooms ≡ worker.old.rooms }
+    ensures found { worker.new.found ≡ worker.old.found }
+    ensures full { worker.new.full ≡ worker.old.full }
+{
+    worker.memory.clear();
+    worker.copies.forget();
+}
+
+// Forgets what the memory holds where that is much.
+fn keep_few(worker: &mut Worker)
+    ensures copies { (known : ℕ → ℕ) → AreCopies worker.old.memory known worker.old.copies → AreCopies worker.new.memory known worker.new.copies }
+    ensures ops { worker.new.ops ≡ worker.old.ops }
+    ensures rooms { worker.new.rooms ≡ worker.old.rooms }
+    ensures found { worker.new.found ≡ worker.old.found }
+    ensures full { worker.new.full ≡ worker.old.full }
+{
+    if worker.memory.count() > KEPT_NODES {
+        forget(worker);
+    }
+}
+
+// The reference of the store for the cut family of a node: made in the worker's memory, or, where that is used up,
+// by the recipe over the store.
+fn shared_family(
+    worker: &mut Worker,
+    tree: &Tree,
+    node: NodeNo,
+    references: &[NodeRef],
+) -> Result<NodeRef, Full>
+    requires node { IsNodeOf tree.now node }
+    requires read { is_fdep tree.now node ≡ false }
+    requires all { node_count tree.now ≤ length references.now }
+    requires below { KnowsBelow (map_of worker.old.ops) tree.now references.now node }
+    requires copies { AreCopies worker.old.memory (map_of worker.old.ops) worker.old.copies }
+    requires rooms { HaveRoomFor tree.now worker.old.rooms }
+    ensures gives { IfOk result (Gave (IsCutFamily tree.now node) (IsDueToTree tree.now) worker.old.ops worker.new.ops) }
+    ensures full { IfErr result (λ _. WasFull (IsDueToTree tree.now) worker.old.ops worker.new.ops) }
+    ensures copies { AreCopies worker.new.memory (map_of worker.new.ops) worker.new.copies }
+    ensures rooms { HaveRoomFor tree.now worker.new.rooms }
+    ensures found { worker.new.found ≡ worker.old.found }
+    ensures same { worker.new.full ≡ worker.old.full }
+{
+    // Tells the proof what a tree keeps.
+    tree.units();
+    match own_family(worker, tree, node, references) {
+        Ok(own) => export(&worker.memory, &mut worker.copies, &mut worker.ops, own),
+        Err(_) => {
+            forget(worker);
+            cut_family(&mut worker.ops, tree, node, references, &mut worker.rooms)
+        }
+    }
+}
+
+/// Makes the cut family of a node. Where the store was found full the worker knows that.
+pub(crate) fn make(
+    worker: &mut Worker,
+    tree: &Tree,
+    node: NodeNo,
+    references: &[NodeRef],
+) -> Result<NodeRef, Full>
+    requires node { IsNodeOf tree.now node }
+    requires read { is_fdep tree.now node ≡ false }
+    requires all { node_count tree.now ≤ length references.now }
+    requires below { KnowsBelow (map_of worker.old.ops) tree.now references.now node }
+    requires can { CanWork worker.old.ops.store tree.now worker.old }
+    ensures gives { IfOk result (λ r. KnowsOne (map_of worker.new.ops) r (IsCutFamily tree.now node)) }
+    ensures full { IfErr result (λ _. worker.new.full ≡ true) }
+    ensures keeps { Grown (map_of worker.old.ops) (map_of worker.new.ops) }
+    ensures can { CanWork worker.old.ops.store tree.now worker.new }
+    ensures found { worker.new.found ≡ worker.old.found }
+{
+    keep_few(worker);
+    let before = worker.memory.count();
+    let family = match shared_family(worker, tree, node, references) {
+        Ok(family) => family,
+        Err(full) => {
+            worker.full = true;
+            return Err(full);
+        }
+    };
+    let made = worker.memory.count().saturating_sub(before);
+    worker.work = worker.work.saturating_add(made);
+    Ok(family)
+}
