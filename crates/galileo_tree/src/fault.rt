@@ -4,6 +4,7 @@ ghost use Rattle.std.specs.Prelude.{◌≡◌};
 use crate::NoMemory;
 use fault_model::Place;
 use galileo_lexer::LexFault;
+use std::alloc::AllocError;
 
 /// What the grammar expects where it finds something else.
 #[derive(Clone, Copy, Debug, PartialEq, Eq)]
@@ -34,4 +35,15 @@ pub enum ParseFault {
     /// What the grammar wants at this place, where another token or the end of the text stands.
     Expected(What, Place),
     NoMemory,
+}
+
+impl From<AllocError> for ParseFault {
+    ghost use Rattle.std.specs.Prelude.{◌≡◌};
+    ghost use Rattle.galileo_tree.specs.declared.fault.ParseFault.TheVariants.{NoMemory};
+
+    ghost from_gives = { λ _ fault. fault ≡ NoMemory };
+
+    fn from(_error: AllocError) -> ParseFault {
+        ParseFault::NoMemory
+    }
 }

@@ -41,10 +41,7 @@ pub fn parse(alloc: Global, text: &[u8]) -> Result<RawTree, ParseFault>
             Ok(read) => read,
             Err(fault) => return Err(fault),
         };
-        match statements.push(read) {
-            Ok(()) => {}
-            Err(_) => return Err(ParseFault::NoMemory),
-        }
+        statements.push(read)?;
     }
 }
 
@@ -152,15 +149,11 @@ fn gate(
             Err(fault) => Err(fault),
         };
     }
-    let list = match PlacedList::with_room(alloc, USUAL_INPUTS) {
-        Ok(list) => list,
-        Err(_) => return Err(ParseFault::NoMemory),
-    };
     let mut gate = RawGate {
         name,
         word: word.place(),
         kind,
-        inputs: list,
+        inputs: PlacedList::with_room(alloc, USUAL_INPUTS)?,
     };
     if lexeme.is_semicolon() {
         return Ok(Statement::Gate(gate));
@@ -216,10 +209,7 @@ fn attributes(
             Ok(read) => read,
             Err(fault) => return Err(fault),
         };
-        match basic.attributes.push(read) {
-            Ok(()) => {}
-            Err(_) => return Err(ParseFault::NoMemory),
-        }
+        basic.attributes.push(read)?;
         word = match next_word(alloc, reader) {
             Ok(Some(next)) => next,
             Ok(None) => return Ok(Statement::Basic(basic)),

@@ -146,10 +146,7 @@ impl<'a> Lexeme<'a> {
         ensures name { IfOk result (λ name. name ≡ self.now.text) }
         ensures memory { IfErr result (λ fault. fault ≡ NoMemory) }
     {
-        match Name::front(alloc, self.behind, self.count) {
-            Ok(name) => Ok(name),
-            Err(_) => Err(ParseFault::NoMemory),
-        }
+        Ok(Name::front(alloc, self.behind, self.count)?)
     }
 
     /// The name that the lexeme writes, with its place.
@@ -159,13 +156,10 @@ impl<'a> Lexeme<'a> {
         ensures placed { IfOk result (λ found. found ≡ placed self.now) }
         ensures memory { IfErr result (λ fault. fault ≡ NoMemory) }
     {
-        match self.name(alloc) {
-            Ok(name) => Ok(Placed {
-                name,
-                place: self.place,
-            }),
-            Err(fault) => Err(fault),
-        }
+        Ok(Placed {
+            name: self.name(alloc)?,
+            place: self.place,
+        })
     }
 
     /// Puts the name that the lexeme writes, with its place, behind a list. A short name is made where it is to stay: a text may have
@@ -179,14 +173,11 @@ impl<'a> Lexeme<'a> {
         if self.count > SHORT_NAME || self.behind.len() < SHORT_NAME {
             return self.add_long_to(alloc, list);
         }
-        let pushed = list.push(Placed {
+        list.push(Placed {
             name: Name::short(self.behind, self.count),
             place: self.place,
-        });
-        match pushed {
-            Ok(()) => Ok(()),
-            Err(_) => Err(ParseFault::NoMemory),
-        }
+        })?;
+        Ok(())
     }
 
     // The same for a name of any length, wherever it stands.
@@ -196,12 +187,7 @@ impl<'a> Lexeme<'a> {
         ensures added { OnOk result (list.new ≡ list.old ++ placed self.now ∷ []) }
         ensures memory { IfErr result (λ fault. fault ≡ NoMemory) }
     {
-        match self.placed(alloc) {
-            Ok(found) => match list.push(found) {
-                Ok(()) => Ok(()),
-                Err(_) => Err(ParseFault::NoMemory),
-            },
-            Err(fault) => Err(fault),
-        }
+        list.push(self.placed(alloc)?)?;
+        Ok(())
     }
 }

@@ -22,6 +22,3 @@ pub use raw::{
     Placed, PlacedList, RawAttribute, RawAttributes, RawBasic, RawGate, RawTop, Statement,
 };
 pub use tree::RawTree;
-
-#[cfg(test)]
-mod tests;

@@ -11,7 +11,7 @@ returns-in-Ok-None c =
     let before = c.loop-read.basic.attributes in
     let value = c.in-Ok.ensures.value name before in
     let next = rw c.in-Ok-None.field-0-is at (c.in-Ok-None.ensures.next name (before ++ c.in-Ok.read ∷ [])) in
-    rw c.in-Ok-push.ensures.added
+    rw c.in_ok-push.ensures.added
     (closes_basic _ _ c.attribute.new.reader _ (record { name = name; attributes = before ++ c.in-Ok.read ∷ [] })
     (record { same = c.loop-read.invariant.same ∙ value.same; fewer = omega (arith, value.fewer, c.loop-read.invariant.fewer) })
     next
@@ -32,7 +32,7 @@ loop-read-preserved c =
     let before = c.loop-read.basic.attributes in
     let value = c.in-Ok.ensures.value name before in
     let next = rw c.in-Ok-Some.field-0-is at (c.in-Ok-Some.ensures.next name (before ++ c.in-Ok.read ∷ [])) in
-    rw c.in-Ok-push.ensures.added
+    rw c.in_ok-push.ensures.added
     (record {
       same = c.loop-read.invariant.same ∙ value.same ∙ next.same;
       bare = rw c.in-Ok-Some.field-0-is at c.in-Ok-Some.ensures.bare;
