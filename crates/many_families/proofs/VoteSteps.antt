@@ -1,40 +1,19 @@
 -- The votes at one place, when one member more votes.
-use Rattle.std.proofs.Common.{◌≡◌, ℕ, suc, ◌+◌, ◌-◌, ◌==◌, ◌<◌, ◌≤◌, Bool, true, false, if◌then◌else◌, List, [], ◌∷◌, All, drop, get_or, set, length, sym, ◌∙◌, ap, subst, inl, inr, arith}
-use Rattle.std.proofs.lemmas.Bool.{cases_eq, cond-true, cond-false, lt-leb, ne_eqb}
+use Rattle.std.proofs.Common.{◌≡◌, ℕ, suc, ◌+◌, ◌-◌, ◌==◌, ◌<◌, ◌≤◌, Bool, true, false, if◌then◌else◌, List, [], ◌∷◌, Option, Some, None, IfSome, MatchOption, All, drop, get_or, set, length, sym, ◌∙◌, ap, subst, inl, inr, arith, length-drop, eq-eqb, refl}
+use Rattle.std.proofs.lemmas.Bool.{cases_eq, cases_lt, cond-true, cond-false, lt-leb, ne_eqb}
+use Rattle.std.proofs.lemmas.List.{drop_all, drop_more, get_or-set_same, get_or-set_other, get_or_past, length-set, get_or-map}
+use Rattle.std.proofs.lemmas.List.Elements.{All-set}
 use Rattle.family_operations.specs.Hits.{hits, hit_count}
 use Rattle.family_operations.specs.Minimal.{minimal-none}
-use Rattle.std.proofs.lemmas.List.{drop_all, drop_more, get_or-set_same, get_or-set_other}
 use Rattle.zdd_families.specs.Map.{family-empty, family-unit}
-use Rattle.minimal_families.specs.Least.{IsLeastUnion, IsLeastProduct, IsLeastVotes}
-use Rattle.minimal_families.specs.Many.{no_votes, votes_of_none, votes_of_more}
+use Rattle.minimal_families.specs.Least.{IsLeastVotes}
+use Rattle.minimal_families.specs.Many.{no_votes}
 use Rattle.family_memory.specs.Memory.{Held, Has, IsSound, Went, Gave, family_in, map_of}
-use Rattle.family_memory.specs.After.{Gave-there, Went-then, still, still_has}
-use Rattle.many_families.specs.Lists.{families, IsVote, HoldsVotes, IsVoting, lowest}
-use Rattle.many_families.proofs.Lists.{families_stay, many_families, member_family}
-
-vote_stays : (before after : Held) (list : List ℕ) → IsSound before → Went before after → All (Has before) list → (from count r : ℕ) → IsVote before list from count r → IsVote after list from count r
-vote_stays before after list sound went has from count r vote = record {
-  has = still_has before after sound went r vote.has;
-  is =
-      subst (λ fs. IsLeastVotes count (drop from fs) (family_in after r)) (sym (families_stay before after list sound went has))
-      (subst (IsLeastVotes count (drop from (families before list))) (sym (still before after sound went r vote.has)) vote.is);
-}
-
--- ---- before the last member
-
-past_all : (fs : List (List (List ℕ))) (n : ℕ) → length fs ≤ n → drop n fs ≡ []
-past_all fs n past = drop_all n fs past
-
-no_vote : (held : Held) (list : List ℕ) (count : ℕ) → IsSound held → IsVote held list (length list) (suc count) 0
-no_vote held list count sound = record {
-  has = let few = sound.terminals in omega arith;
-  is =
-      subst (λ fs. IsLeastVotes (suc count) fs (family_in held 0)) (sym (past_all (families held list) (length list) (let e = many_families held list in omega arith)))
-      (subst (IsLeastVotes (suc count) []) (sym (family-empty (map_of held))) (votes_of_none count));
-}
-
-pub none_voted : (held : Held) (list : List ℕ) (votes : ℕ) (table : List ℕ) → IsSound held → ((place : ℕ) → place < votes → get_or table place 0 ≡ 0) → HoldsVotes held list (length list) 0 votes table
-none_voted held list votes table sound clear place low high = subst (IsVote held list (length list) (suc place)) (sym (clear place high)) (no_vote held list place sound)
+use Rattle.family_memory.specs.After.{Gave-there, still, still_has}
+use Rattle.many_families.specs.Lists.{families, AreUnitsFrom, IsVote, IsVoter, IsVoting, HaveVoted}
+use Rattle.many_families.specs.Joins.{IsJoined, IsBelow}
+use Rattle.many_families.proofs.Lists.{many_families, still_all}
+use Rattle.many_families.proofs.UnitVotes.{unit_is_below, votes_joined}
 
 -- ---- no votes, and more votes than members
 
@@ -46,6 +25,14 @@ hits_few : (fs : List (List (List ℕ))) (within : ℕ → Bool) → hit_count f
 hits_few [] within = omega arith
 hits_few (f ∷ fs) within = let h = one_more (hits f within) (hit_count fs within) (length fs) (hits_few fs within) in omega arith
 
+too_many : (held : Held) (fs : List (List (List ℕ))) (votes : ℕ) → length fs < votes → IsLeastVotes votes fs (family_in held 0)
+too_many held fs votes many =
+    subst (IsLeastVotes votes fs) (sym (family-empty (map_of held)))
+    record {
+      antichain = minimal-none;
+      hit = λ within. sym (lt-leb votes (hit_count fs within) (let h = hits_few fs within in omega arith));
+    }
+
 pub given_no_votes : (held : Held) (list : List ℕ) (votes : ℕ) → IsSound held → votes ≡ 0 → Gave (IsLeastVotes votes (families held list)) held held 1
 given_no_votes held list votes sound none =
     Gave-there (IsLeastVotes votes (families held list)) held 1 sound (let few = sound.terminals in omega arith)
@@ -55,84 +42,178 @@ given_no_votes held list votes sound none =
 pub given_too_many : (held : Held) (list : List ℕ) (votes : ℕ) → IsSound held → length list < votes → Gave (IsLeastVotes votes (families held list)) held held 0
 given_too_many held list votes sound many =
     Gave-there (IsLeastVotes votes (families held list)) held 0 sound (let few = sound.terminals in omega arith)
-    (subst (IsLeastVotes votes (families held list)) (sym (family-empty (map_of held)))
-    record {
-      antichain = minimal-none;
-      hit = λ within. sym (lt-leb votes (hit_count (families held list) within) (let h = hits_few (families held list) within in let e = many_families held list in omega arith));
-    })
+    (too_many held (families held list) votes (let e = many_families held list in omega arith))
 
--- ---- after the first member
+-- ---- what stands stays
 
-pub all_voted : (held : Held) (list : List ℕ) (votes r : ℕ) (table : List ℕ) → 1 ≤ votes → HoldsVotes held list 0 (lowest votes 0) votes table → r ≡ get_or table (votes - 1) 0 → Has held r × IsLeastVotes votes (families held list) (family_in held r)
-all_voted held list votes r table some held_votes is =
-    let one : suc (votes - 1) ≡ votes = omega arith in
-    let vote : IsVote held list 0 (suc (votes - 1)) r = subst (IsVote held list 0 (suc (votes - 1))) (sym is) (held_votes (votes - 1) (omega arith) (omega arith)) in
-    (vote.has, subst (λ n. IsLeastVotes n (families held list) (family_in held r)) one vote.is)
+module _ (before after : Held) (fs : List (List (List ℕ))) (sound : IsSound before) (went : Went before after) where
+  pub vote_stays : (from count r : ℕ) → IsVote before fs from count r → IsVote after fs from count r
+  vote_stays from count r vote = record {
+    has = still_has before after sound went r vote.has;
+    is = subst (IsLeastVotes count (drop from fs)) (sym (still before after sound went r vote.has)) vote.is;
+  }
 
--- ---- one member more
+  pub voter_stays : (member : ℕ) (below : Option ℕ) (voter : ℕ) → IsVoter before fs member below voter → IsVoter after fs member below voter
+  voter_stays member below voter is = record {
+    has = still_has before after sound went voter is.has;
+    is = still before after sound went voter is.has ∙ is.is;
+    unit = unit_stays below is.unit;
+  } where
+    unit_stays : (below : Option ℕ) → IfSome below (λ unit. (family_in before voter ≡ (unit ∷ []) ∷ []) × AreUnitsFrom (suc unit) (drop (member + 1) fs)) → IfSome below (λ unit. (family_in after voter ≡ (unit ∷ []) ∷ []) × AreUnitsFrom (suc unit) (drop (member + 1) fs))
+    unit_stays None none = none
+    unit_stays (Some unit) (same, others) = (still before after sound went voter is.has ∙ same, others)
 
-module _ (s0 : Held) (list : List ℕ) (votes member place : ℕ) (table : List ℕ) (sound : IsSound s0) (has : All (Has s0) list) (inside : member < length list) (here : place < votes) (least : lowest votes member ≤ place) (space : votes ≤ length table)
-    (voting : IsVoting s0 list votes member (place + 1) table)
-    (fewer : ℕ) (fewer_is : fewer ≡ (if place == 0 then 1 else get_or table (place - 1) 0)) (voter : ℕ) (voter_is : voter ≡ get_or list member 0) (same : ℕ) (same_is : same ≡ get_or table place 0) where
-  pub has_voter : Has s0 voter
-  has_voter = subst (Has s0) (sym voter_is) (has member 0 inside)
+-- ---- one member more at one place
 
-  pub fewer_vote : IsVote s0 list (member + 1) place fewer
+module _ (s0 : Held) (fs : List (List (List ℕ))) (votes member place : ℕ) (members : List ℕ) (below : Option ℕ) (voter : ℕ) (sound : IsSound s0)
+    (first : (member ≤ place) × (votes ≤ place + 1)) (end : (place < member + votes) × (place < length members)) (is_voter : IsVoter s0 fs member below voter) (voting : IsVoting s0 fs votes member place members)
+    (fewer : ℕ) (fewer_is : fewer ≡ (if place == member then 1 else get_or members place 0)) (same : ℕ) (same_is : same ≡ get_or members (place + 1) 0) where
+  pub fewer_vote : IsVote s0 fs (member + 1) (place - member) fewer
   fewer_vote =
-      elim (cases_eq place 0) [
-        | inl none ↦
-            let unit : fewer ≡ 1 = fewer_is ∙ cond-true (place == 0) 1 (get_or table (place - 1) 0) (ap (λ n. n == 0) none) in
-            subst (λ n. IsVote s0 list (member + 1) n fewer) (sym none)
-            (subst (IsVote s0 list (member + 1) 0) (sym unit)
+      elim (cases_eq place member) [
+        | inl here ↦
+            let unit : fewer ≡ 1 = fewer_is ∙ cond-true (place == member) 1 (get_or members place 0) (ap (λ n. place == n) (sym here) ∙ eq-eqb place place refl) in
+            let none : place - member ≡ 0 = omega arith in
+            subst (λ n. IsVote s0 fs (member + 1) n fewer) (sym none)
+            (subst (IsVote s0 fs (member + 1) 0) (sym unit)
             record {
               has = let few = sound.terminals in omega arith;
-              is = subst (IsLeastVotes 0 (drop (member + 1) (families s0 list))) (sym (family-unit (map_of s0))) (no_votes (drop (member + 1) (families s0 list)));
+              is = subst (IsLeastVotes 0 (drop (member + 1) fs)) (sym (family-unit (map_of s0))) (no_votes (drop (member + 1) fs));
             })
-        | inr some ↦
-            let at : fewer ≡ get_or table (place - 1) 0 = fewer_is ∙ cond-false (place == 0) 1 (get_or table (place - 1) 0) (ne_eqb place 0 some) in
-            let one : suc (place - 1) ≡ place = omega arith in
-            subst (IsVote s0 list (member + 1) place) (sym at)
-            (subst (λ n. IsVote s0 list (member + 1) n (get_or table (place - 1) 0)) one (voting.before (place - 1) (omega arith) (omega arith)))
+        | inr past ↦
+            let at : fewer ≡ get_or members place 0 = fewer_is ∙ cond-false (place == member) 1 (get_or members place 0) (ne_eqb place member past) in
+            let one : suc (place - (member + 1)) ≡ place - member = let h = first.0 in omega (arith, h, past) in
+            subst (IsVote s0 fs (member + 1) (place - member)) (sym at)
+            (subst (λ n. IsVote s0 fs (member + 1) n (get_or members place 0)) one
+            (voting.before place (omega arith) (let h = first.0 in omega (arith, h, past)) first.1 (let h = end.0 in omega (arith, h)) end.1))
       ]
 
-  pub same_vote : IsVote s0 list (member + 1) (suc place) same
-  same_vote = subst (IsVote s0 list (member + 1) (suc place)) (sym same_is) (voting.before place (omega arith) (omega arith))
+  pub same_vote : IsVote s0 fs (member + 1) (suc (place - member)) same
+  same_vote =
+      elim (cases_lt (place + 1) (length members)) [
+        | inl inside ↦
+            let one : suc (place + 1 - (member + 1)) ≡ suc (place - member) = omega arith in
+            subst (IsVote s0 fs (member + 1) (suc (place - member))) (sym same_is)
+            (subst (λ n. IsVote s0 fs (member + 1) n (get_or members (place + 1) 0)) one
+            (voting.before (place + 1) (omega arith) (let h = first.0 in omega (arith, h)) (let h = first.1 in omega (arith, h)) (let h = end.0 in omega (arith, h)) inside))
+        | inr past ↦
+            subst (IsVote s0 fs (member + 1) (suc (place - member))) (sym (same_is ∙ get_or_past members (place + 1) 0 past))
+            record {
+              has = let few = sound.terminals in omega arith;
+              is = too_many s0 (drop (member + 1) fs) (suc (place - member))
+                  (let e = length-drop (member + 1) fs in let n = voting.count in let h = first.0 in let k = end.1 in omega (arith, e, n, h, k, past));
+            }
+      ]
 
-  module _ (s1 : Held) (more : ℕ) (gave1 : Gave (IsLeastProduct (family_in s0 fewer) (family_in s0 voter)) s0 s1 more) where
-    module _ (s2 : Held) (made : ℕ) (gave2 : Gave (IsLeastUnion (family_in s1 same) (family_in s1 more)) s1 s2 made) where
-      pub went_vote : Went s0 s2
-      went_vote = Went-then s0 s1 s2 gave1.went gave2.went
+  pub voter_below : IfSome below (λ unit. IsBelow unit (family_in s0 voter) (family_in s0 same) (family_in s0 fewer))
+  voter_below = each_below below is_voter.unit where
+    each_below : (below : Option ℕ) → IfSome below (λ unit. (family_in s0 voter ≡ (unit ∷ []) ∷ []) × AreUnitsFrom (suc unit) (drop (member + 1) fs)) → IfSome below (λ unit. IsBelow unit (family_in s0 voter) (family_in s0 same) (family_in s0 fewer))
+    each_below None none = none
+    each_below (Some unit) (is, others) =
+        unit_is_below (suc unit) (place - member) (drop (member + 1) fs) others (family_in s0 fewer) fewer_vote.is unit (family_in s0 voter) (family_in s0 same) (omega arith) is same_vote.is
 
-      next : drop member (families s0 list) ≡ family_in s0 voter ∷ drop (member + 1) (families s0 list)
-      next =
-          drop_more (families s0 list) member [] (let e = many_families s0 list in omega arith)
-          ∙ ap (λ f. f ∷ drop (member + 1) (families s0 list)) (member_family s0 list member voter inside voter_is)
+  module _ (s1 : Held) (made : ℕ) (gave : Gave (IsJoined (family_in s0 voter) (family_in s0 same) (family_in s0 fewer)) s0 s1 made) where
+    next : drop member fs ≡ family_in s0 voter ∷ drop (member + 1) fs
+    next =
+        drop_more fs member [] (let n = voting.count in let h = first.0 in let k = end.1 in omega (arith, n, h, k))
+        ∙ ap (λ f. f ∷ drop (member + 1) fs) (sym is_voter.is)
 
-      made_is : IsLeastVotes (suc place) (drop member (families s0 list)) (family_in s2 made)
-      made_is =
-          subst (λ fs. IsLeastVotes (suc place) fs (family_in s2 made)) (sym next)
-          (votes_of_more place (family_in s0 voter) (drop (member + 1) (families s0 list)) (family_in s0 same) (family_in s0 fewer) (family_in s1 more) (family_in s2 made)
-          same_vote.is fewer_vote.is gave1.is
-          (subst (λ f. IsLeastUnion f (family_in s1 more) (family_in s2 made)) (still s0 s1 sound gave1.went same same_vote.has) gave2.is))
+    made_vote : IsVote s1 fs member (suc (place - member)) made
+    made_vote = record {
+      has = gave.has;
+      is =
+          subst (λ l. IsLeastVotes (suc (place - member)) l (family_in s1 made)) (sym next)
+          (votes_joined (place - member) (family_in s0 voter) (drop (member + 1) fs) (family_in s0 same) (family_in s0 fewer) (family_in s1 made) same_vote.is fewer_vote.is gave.is);
+    }
 
-      made_vote : IsVote s2 list member (suc place) made
-      made_vote = record {
-        has = gave2.has;
-        is = subst (λ fs. IsLeastVotes (suc place) (drop member fs) (family_in s2 made)) (sym (families_stay s0 s2 list sound went_vote has)) made_is;
-      }
+    other_place : (at : ℕ) → ¬ (at ≡ place) → get_or (set members place made) at 0 ≡ get_or members at 0
+    other_place at other = get_or-set_other members place at made 0 other
 
-      pub voted : IsVoting s2 list votes member place (set table place made)
-      voted = record {
-        before = λ p low high.
-            subst (IsVote s2 list (member + 1) (suc p)) (sym (get_or-set_other table place p made 0 (λ e. omega arith)))
-            (vote_stays s0 s2 list sound went_vote has (member + 1) (suc p) (get_or table p 0) (voting.before p low (omega arith)));
-        after = λ p low high.
-            elim (cases_eq p place) [
-              | inl at ↦
-                  subst (λ q. IsVote s2 list member (suc q) (get_or (set table place made) q 0)) (sym at)
-                  (subst (IsVote s2 list member (suc place)) (sym (get_or-set_same table place made 0 (omega arith))) made_vote)
-              | inr past ↦
-                  subst (IsVote s2 list member (suc p)) (sym (get_or-set_other table place p made 0 past))
-                  (vote_stays s0 s2 list sound went_vote has member (suc p) (get_or table p 0) (voting.after p (omega arith) high))
-            ];
-      }
+    pub voted_at : IsVoting s1 fs votes member (place + 1) (set members place made)
+    voted_at = record {
+      count = length-set members place made ∙ voting.count;
+      has = All-set (Has s1) members place made gave.has (still_all s0 s1 members sound gave.went voting.has);
+      waiting = λ at low.
+          ap (family_in s1) (other_place at (λ e. let h = first.0 in omega (arith, h, e, low)))
+          ∙ still s0 s1 sound gave.went (get_or members at 0) (voting.has at 0 (let h = first.0 in let k = end.1 in omega (arith, h, k, low)))
+          ∙ voting.waiting at low;
+      before = λ at from low enough most inside.
+          subst (IsVote s1 fs (member + 1) (suc (at - (member + 1)))) (sym (other_place at (λ e. omega (arith, e, from))))
+          (vote_stays s0 s1 fs sound gave.went (member + 1) (suc (at - (member + 1))) (get_or members at 0)
+          (voting.before at (omega (arith, from)) low enough most (let e = length-set members place made in omega (arith, e, inside))));
+      after = λ at until low enough most inside.
+          elim (cases_eq at place) [
+            | inl here ↦
+                subst (λ q. IsVote s1 fs member (suc (q - member)) (get_or (set members place made) q 0)) (sym here)
+                (subst (IsVote s1 fs member (suc (place - member))) (sym (get_or-set_same members place made 0 end.1)) made_vote)
+            | inr other ↦
+                subst (IsVote s1 fs member (suc (at - member))) (sym (other_place at other))
+                (vote_stays s0 s1 fs sound gave.went member (suc (at - member)) (get_or members at 0)
+                (voting.after at (omega (arith, until, other)) low enough most (let e = length-set members place made in omega (arith, e, inside))))
+          ];
+    }
+
+-- ---- a member begins, and has voted
+
+lower_units : (floor low : ℕ) (fs : List (List (List ℕ))) → low ≤ floor → AreUnitsFrom floor fs → AreUnitsFrom low fs
+lower_units floor low [] less are = tt
+lower_units floor low (f ∷ fs) less (unit, (high, is, others)) = (unit, (omega arith, is, others))
+
+module _ (held : Held) (fs : List (List (List ℕ))) (votes member floor : ℕ) (members : List ℕ) (inside : member < length members) (voted : HaveVoted held fs votes (member + 1) floor members)
+    (voter : ℕ) (voter_is : voter ≡ get_or members member 0) (below : Option ℕ) (below_is : IfSome below (λ unit. (family_in held voter ≡ (unit ∷ []) ∷ []) × (unit < floor))) where
+  pub has_voter : Has held voter
+  has_voter = subst (Has held) (sym voter_is) (voted.has member 0 inside)
+
+  pub voter_begins : IsVoter held fs member below voter
+  voter_begins = record {
+    has = has_voter;
+    is = ap (family_in held) voter_is ∙ voted.waiting member (omega arith);
+    unit = each_unit below below_is;
+  } where
+    each_unit : (below : Option ℕ) → IfSome below (λ unit. (family_in held voter ≡ (unit ∷ []) ∷ []) × (unit < floor)) → IfSome below (λ unit. (family_in held voter ≡ (unit ∷ []) ∷ []) × AreUnitsFrom (suc unit) (drop (member + 1) fs))
+    each_unit None none = none
+    each_unit (Some unit) (is, low) = (is, lower_units floor (suc unit) (drop (member + 1) fs) (omega arith) (voted.units (omega arith)))
+
+  pub voting_begins : (place : ℕ) → ((at : ℕ) → member ≤ at → votes ≤ at + 1 → place ≤ at) → IsVoting held fs votes member place members
+  voting_begins place lowest = record {
+    count = voted.count;
+    has = voted.has;
+    waiting = λ at low. voted.waiting at (omega arith);
+    before = λ at from low enough most within. voted.voted at low enough most within;
+    after = λ at until low enough most within. absurd (let h = lowest at low enough in omega (arith, h, until));
+  }
+
+pub member_voted : (held : Held) (fs : List (List (List ℕ))) (votes member place lower : ℕ) (members : List ℕ) (below : Option ℕ) (voter : ℕ) → member < length members → IsVoter held fs member below voter
+    → IsVoting held fs votes member place members → ((at : ℕ) → at < member + votes → at < length members → at < place)
+    → MatchOption below (lower ≡ 0) (λ unit. lower ≡ unit) → HaveVoted held fs votes member lower members
+member_voted held fs votes member place lower members below voter inside is_voter voting highest lower_is = record {
+  count = voting.count;
+  has = voting.has;
+  waiting = voting.waiting;
+  voted = λ at low enough most within. voting.after at (highest at most within) low enough most within;
+  units = λ some. subst (AreUnitsFrom lower) (sym (drop_more fs member [] (let n = voting.count in omega (arith, n, inside)))) (with_first below is_voter.unit lower_is some);
+} where
+  with_first : (below : Option ℕ) → IfSome below (λ unit. (family_in held voter ≡ (unit ∷ []) ∷ []) × AreUnitsFrom (suc unit) (drop (member + 1) fs)) → MatchOption below (lower ≡ 0) (λ unit. lower ≡ unit)
+      → 1 ≤ lower → AreUnitsFrom lower (get_or fs member [] ∷ drop (member + 1) fs)
+  with_first None none is some = absurd (omega (arith, is, some))
+  with_first (Some unit) (same, others) is some = (unit, (omega (arith, is), sym is_voter.is ∙ same, others))
+
+-- ---- before the last member, and after the first
+
+pub none_voted : (held : Held) (fs : List (List (List ℕ))) (votes : ℕ) (members : List ℕ) → All (Has held) members → fs ≡ families held members → HaveVoted held fs votes (length members) 4096 members
+none_voted held fs votes members has is =
+    let count : length members ≡ length fs = sym (many_families held members) ∙ ap length (sym is) in
+    record {
+      count = count;
+      has = has;
+      waiting = λ place low. sym (ap (λ l. get_or l place []) is ∙ get_or-map (family_in held) members place 0 [] low);
+      voted = λ place from enough most inside. absurd (omega (arith, from, inside));
+      units = λ some. subst (AreUnitsFrom 4096) (sym (drop_all (length members) fs (omega (arith, count)))) tt;
+    }
+
+pub all_voted : (held : Held) (fs : List (List (List ℕ))) (votes member floor r : ℕ) (members : List ℕ) → member ≡ 0 → 1 ≤ votes → votes ≤ length members → HaveVoted held fs votes member floor members → r ≡ get_or members (votes - 1) 0 → Has held r × IsLeastVotes votes fs (family_in held r)
+all_voted held fs votes member floor r members none some space voted is =
+    let begun : HaveVoted held fs votes 0 floor members = subst (λ m. HaveVoted held fs votes m floor members) none voted in
+    let one : suc (votes - 1 - 0) ≡ votes = omega (arith, some) in
+    let vote : IsVote held fs 0 (suc (votes - 1 - 0)) r = subst (IsVote held fs 0 (suc (votes - 1 - 0))) (sym is) (begun.voted (votes - 1) (omega arith) (omega (arith, some)) (omega (arith, some)) (omega (arith, some, space))) in
+    (vote.has, subst (λ n. IsLeastVotes n fs (family_in held r)) one vote.is)

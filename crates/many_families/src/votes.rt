@@ -1,35 +1,21 @@
 //! Votes over a list of families.
-ghost use Rattle.std.specs.Prelude.{◌≡◌, ◌+◌, ◌-◌, ◌<◌, ◌≤◌, ℕ, ◌==◌, if◌then◌else◌, All, IfErr, IfOk, MatchResult, length, slice_index};
+ghost use Rattle.std.specs.Prelude.{◌≡◌, ◌+◌, ◌<◌, ◌≤◌, ℕ, ◌==◌, [], ◌∷◌, List, if◌then◌else◌, All, IfErr, IfOk, IfSome, MatchOption, MatchResult, length, slice_index};
+ghost use Rattle.zdd_families.specs.Family.{IsAbove, branch};
+ghost use Rattle.family_parts.specs.Antichains.{IsAntichain};
 ghost use Rattle.minimal_families.specs.Least.{IsLeastVotes};
-ghost use Rattle.family_memory.specs.Memory.{Gave, Has, RanOut, Went};
-ghost use Rattle.many_families.specs.Lists.{HoldsVotes, IsVoting, families, lowest};
+ghost use Rattle.family_memory.specs.Memory.{Gave, Has, RanOut, Went, family_in};
+ghost use Rattle.many_families.specs.Lists.{IsVoter, IsVoting, HaveVoted, families};
+ghost use Rattle.many_families.specs.Joins.{IsBelow, IsJoined};
 
+use crate::order::put_in_order;
 use crate::splitting::multiply_split;
 use family_memory::{FamilyMemory, Spent};
 use minimal_operations::union;
+use unit_sets::UnitNo;
 use zdd_words::NodeRef;
 
-// No votes yet: each number of votes has no sets.
-fn clear(votes: usize, table: &mut [NodeRef])
-    requires { votes ≤ length table.old }
-    ensures { (place : ℕ) → place < votes → slice_index table.new place ≡ 0 }
-{
-    for place in 0..votes {
-        table[place] = NodeRef::EMPTY;
-    }
-}
-
-// The votes, one fewer than stand at a place: no votes have the empty set.
-fn fewer_votes(table: &[NodeRef], place: usize) -> NodeRef
-    requires { place < length table.now }
-    ensures { result ≡ (if place == 0 then 1 else slice_index table.now (place - 1)) }
-{
-    if place == 0 {
-        NodeRef::UNIT
-    } else {
-        table[place - 1]
-    }
-}
+// Above the number of each unit.
+const NO_UNIT: u16 = 4_096;
 
 /// The minimal sets of so many votes over the list: the unions of sets chosen one each from that many of its
 /// families. What the table, with a place for each family, holds afterwards is left open.
@@ -51,80 +37,207 @@ pub fn votes_of_all(
     if list.len() < votes {
         return Ok(NodeRef::EMPTY);
     }
-    clear(votes, table);
-    vote_all(memory, votes, list, table)?;
-    Ok(table[votes - 1])
+    let members = &mut table[..list.len()];
+    put_in_order(memory, list, members);
+    vote_in_order(memory, votes, members)
 }
 
-// Each member of the list votes, the last first.
-fn vote_all(
+// Each member votes, the last first. The votes stand in the places of those that have voted.
+fn vote_in_order(
     memory: &mut FamilyMemory,
     votes: usize,
-    list: &[NodeRef],
-    table: &mut [NodeRef],
-) -> Result<(), Spent>
-    requires table { votes ≤ length table.old }
-    requires has { All (Has memory.old) list.now }
-    requires none { HoldsVotes memory.old list.now (length list.now) 0 votes table.old }
-    ensures { MatchResult result (λ _. Went memory.old memory.new × HoldsVotes memory.new list.now 0 (lowest votes 0) votes table.new) (λ _. RanOut memory.old memory.new) }
+    members: &mut [NodeRef],
+) -> Result<NodeRef, Spent>
+    ghost fs: { List (List (List ℕ)) }
+    requires some { 1 ≤ votes }
+    requires enough { votes ≤ length members.old }
+    requires has { All (Has memory.old) members.old }
+    requires of { fs ≡ families memory.old members.old }
+    ensures { MatchResult result (Gave (IsLeastVotes votes fs) memory.old memory.new) (λ _. RanOut memory.old memory.new) }
 {
     memory.is_sound();
-    let mut member = list.len();
+    let mut floor = NO_UNIT;
+    let mut member = members.len();
     while member > 0 {
         member -= 1;
-        vote(memory, votes, list, member, table)?;
+        floor = vote(memory, votes, member, floor, members)?;
     }
-    Ok(())
+    Ok(members[votes - 1])
 }
 
-// One member more votes. Fewer votes than the members before it can make up for are not needed.
+// One member more votes. Those that have voted are units from the floor on, or the floor is 0.
 fn vote(
     memory: &mut FamilyMemory,
     votes: usize,
-    list: &[NodeRef],
     member: usize,
-    table: &mut [NodeRef],
-) -> Result<(), Spent>
-    requires member { member < length list.now }
-    requires table { votes ≤ length table.old }
-    requires has { All (Has memory.old) list.now }
-    requires before { HoldsVotes memory.old list.now (member + 1) (lowest votes (member + 1)) votes table.old }
-    ensures { MatchResult result (λ _. Went memory.old memory.new × HoldsVotes memory.new list.now member (lowest votes member) votes table.new) (λ _. RanOut memory.old memory.new) }
+    floor: u16,
+    members: &mut [NodeRef],
+) -> Result<u16, Spent>
+    ghost fs: { List (List (List ℕ)) }
+    requires some { 1 ≤ votes }
+    requires member { member < length members.old }
+    requires voted { HaveVoted memory.old fs votes (member + 1) floor members.old }
+    ensures { MatchResult result (λ lower. Went memory.old memory.new × HaveVoted memory.new fs votes member lower members.new) (λ _. RanOut memory.old memory.new) }
 {
     memory.is_sound();
-    let least = votes.saturating_sub(1).saturating_sub(member);
-    // From the most votes down, since each number of votes is made from those one fewer before this member.
-    let mut place = votes;
-    while place > least {
-        place -= 1;
-        vote_at(memory, votes, list, member, place, table)?;
+    let voter = members[member];
+    let below = unit_below(memory, voter, floor);
+    // Fewer votes than the members before this one can make up for are not needed, nor are more than are asked for.
+    let first = member.max(votes - 1);
+    let end = members.len().min(member.saturating_add(votes));
+    for place in first..end {
+        vote_at(memory, votes, &below, voter, member, place, members)?;
     }
-    Ok(())
+    Ok(floor_with(&below))
 }
 
-// The votes at one place take in one vote fewer with a set of the member.
+// The floor where a unit below all others has voted, or another member.
+fn floor_with(below: &Option<UnitNo>) -> u16
+    ensures { MatchOption below.now (result ≡ 0) (λ unit. result ≡ unit) }
+{
+    match below {
+        Some(unit) => unit.number(),
+        None => 0,
+    }
+}
+
+// The unit of a family of one set with one unit, where that is below the floor.
+fn unit_below(memory: &FamilyMemory, r: NodeRef, floor: u16) -> Option<UnitNo>
+    requires { Has memory.now r }
+    ensures { IfSome result (λ unit. (family_in memory.now r ≡ (unit ∷ []) ∷ []) × (unit < floor)) }
+{
+    memory.is_sound();
+    if r.number() < 2 {
+        return None;
+    }
+    let parts = memory.parts(r);
+    if parts.lo == NodeRef::EMPTY && parts.hi == NodeRef::UNIT && parts.level.number() < floor {
+        Some(parts.level)
+    } else {
+        None
+    }
+}
+
+// One place more has the votes with the member. The place has one vote fewer before, and the next place as many.
 fn vote_at(
     memory: &mut FamilyMemory,
     votes: usize,
-    list: &[NodeRef],
+    below: &Option<UnitNo>,
+    voter: NodeRef,
     member: usize,
     place: usize,
-    table: &mut [NodeRef],
+    members: &mut [NodeRef],
 ) -> Result<(), Spent>
-    requires member { member < length list.now }
-    requires place { place < votes }
-    requires least { lowest votes member ≤ place }
-    requires table { votes ≤ length table.old }
-    requires has { All (Has memory.old) list.now }
-    requires voting { IsVoting memory.old list.now votes member (place + 1) table.old }
-    ensures { MatchResult result (λ _. Went memory.old memory.new × IsVoting memory.new list.now votes member place table.new) (λ _. RanOut memory.old memory.new) }
+    ghost fs: { List (List (List ℕ)) }
+    requires first { (member ≤ place) × (votes ≤ place + 1) }
+    requires end { (place < member + votes) × (place < length members.old) }
+    requires voter { IsVoter memory.old fs member below.now voter }
+    requires voting { IsVoting memory.old fs votes member place members.old }
+    ensures { MatchResult result (λ _. Went memory.old memory.new × IsVoting memory.new fs votes member (place + 1) members.new) (λ _. RanOut memory.old memory.new) }
 {
     memory.is_sound();
-    let fewer = fewer_votes(table, place);
-    let voter = list[member];
-    let more = multiply_split(memory, fewer, voter)?;
-    let same = table[place];
-    let made = union(memory, same, more)?;
-    table[place] = made;
+    let fewer = fewer_votes(members, member, place);
+    let same = same_votes(members, place);
+    let made = join(memory, below, voter, same, fewer)?;
+    members[place] = made;
     Ok(())
+}
+
+// The votes, one fewer than a place will have: no votes have the empty set.
+fn fewer_votes(members: &[NodeRef], member: usize, place: usize) -> NodeRef
+    requires { place < length members.now }
+    ensures { result ≡ (if place == member then 1 else slice_index members.now place) }
+{
+    if place == member {
+        NodeRef::UNIT
+    } else {
+        members[place]
+    }
+}
+
+// As many votes as a place will have: all members have no more votes than there are members.
+fn same_votes(members: &[NodeRef], place: usize) -> NodeRef
+    requires { place < length members.now }
+    ensures { result ≡ slice_index members.now (place + 1) }
+{
+    if place + 1 < members.len() {
+        members[place + 1]
+    } else {
+        NodeRef::EMPTY
+    }
+}
+
+// The votes without a member, and those one fewer with one of its sets.
+fn join(
+    memory: &mut FamilyMemory,
+    below: &Option<UnitNo>,
+    voter: NodeRef,
+    same: NodeRef,
+    fewer: NodeRef,
+) -> Result<NodeRef, Spent>
+    requires voter { Has memory.old voter }
+    requires same { Has memory.old same }
+    requires fewer { Has memory.old fewer }
+    requires below { IfSome below.now (λ unit. IsBelow unit (family_in memory.old voter) (family_in memory.old same) (family_in memory.old fewer)) }
+    ensures { MatchResult result (Gave (IsJoined (family_in memory.old voter) (family_in memory.old same) (family_in memory.old fewer)) memory.old memory.new) (λ _. RanOut memory.old memory.new) }
+{
+    match below {
+        Some(unit) => join_unit(memory, *unit, voter, same, fewer),
+        None => join_any(memory, voter, same, fewer),
+    }
+}
+
+// The same of a unit below all others: the sets with it include none of those without it, so that one node does.
+fn join_unit(
+    memory: &mut FamilyMemory,
+    unit: UnitNo,
+    voter: NodeRef,
+    same: NodeRef,
+    fewer: NodeRef,
+) -> Result<NodeRef, Spent>
+    requires same { Has memory.old same }
+    requires fewer { Has memory.old fewer }
+    requires below { IsBelow unit (family_in memory.old voter) (family_in memory.old same) (family_in memory.old fewer) }
+    ensures { MatchResult result (Gave (IsJoined (family_in memory.old voter) (family_in memory.old same) (family_in memory.old fewer)) memory.old memory.new) (λ _. RanOut memory.old memory.new) }
+{
+    memory.is_sound();
+    make(memory, unit, same, fewer)
+}
+
+// The node of a level below all units of lo and hi, or lo where hi has no sets.
+fn make(
+    memory: &mut FamilyMemory,
+    level: UnitNo,
+    lo: NodeRef,
+    hi: NodeRef,
+) -> Result<NodeRef, Spent>
+    requires has_lo { Has memory.old lo }
+    requires has_hi { Has memory.old hi }
+    requires lo_above { IsAbove level (family_in memory.old lo) }
+    requires hi_above { IsAbove level (family_in memory.old hi) }
+    requires antichain { IsAntichain (branch level (family_in memory.old lo) (family_in memory.old hi)) }
+    ensures { MatchResult result (Gave (λ f. f ≡ branch level (family_in memory.old lo) (family_in memory.old hi)) memory.old memory.new) (λ _. RanOut memory.old memory.new) }
+{
+    memory.is_sound();
+    if hi == NodeRef::EMPTY {
+        return Ok(lo);
+    }
+    memory.node(level, lo, hi)
+}
+
+// The same of any member.
+fn join_any(
+    memory: &mut FamilyMemory,
+    voter: NodeRef,
+    same: NodeRef,
+    fewer: NodeRef,
+) -> Result<NodeRef, Spent>
+    requires voter { Has memory.old voter }
+    requires same { Has memory.old same }
+    requires fewer { Has memory.old fewer }
+    ensures { MatchResult result (Gave (IsJoined (family_in memory.old voter) (family_in memory.old same) (family_in memory.old fewer)) memory.old memory.new) (λ _. RanOut memory.old memory.new) }
+{
+    memory.is_sound();
+    let more = multiply_split(memory, fewer, voter)?;
+    union(memory, same, more)
 }

@@ -10,7 +10,7 @@ ghost use Rattle.tree_families.specs.Recipe.{alone};
 
 use family_memory::{FamilyMemory, Spent};
 use fault_model::GateKind;
-use many_families::{first_of, product_of_all, union_of_all, votes_of_all};
+use many_families::{first_of, product_in_order, union_in_order, union_of_all, votes_of_all};
 use minimal_operations::{single, union};
 use unit_sets::UnitNo;
 use zdd_words::NodeRef;
@@ -29,7 +29,7 @@ pub(crate) fn make_gate(
 {
     memory.is_sound();
     match kind {
-        GateKind::Or => union_of_all(memory, inputs),
+        GateKind::Or => union_in_order(memory, inputs, table),
         GateKind::Por => Ok(first_of(inputs)),
         GateKind::Fdep => Ok(NodeRef::EMPTY),
         GateKind::Votes(least, _) => votes_of_all(memory, least as usize, inputs, table),
@@ -38,7 +38,7 @@ pub(crate) fn make_gate(
         | GateKind::Seq
         | GateKind::Csp
         | GateKind::Wsp
-        | GateKind::Hsp => product_of_all(memory, inputs),
+        | GateKind::Hsp => product_in_order(memory, inputs, table),
     }
 }
 

@@ -14,8 +14,7 @@ use unit_sets::UnitNo;
 use zdd_words::NodeRef;
 
 /// The cut family of a node, from the references of what it reads, each to its cut family, in the order in which
-/// it reads them; the product takes a gate's inputs in that order. What the table, with a place for each of
-/// them, holds afterwards is left open.
+/// it reads them. What the table, with a place for each of them, holds afterwards is left open.
 pub fn cut_family(
     memory: &mut FamilyMemory,
     tree: &Tree,

@@ -1,17 +1,15 @@
-use Rattle.std.proofs.Common.{All, ◌≤◌, length}
-use Rattle.family_memory.specs.Memory.{Has, Went}
-use Rattle.many_families.specs.Lists.{IsVoting, lowest}
+use Rattle.std.proofs.Common.{◌<◌, length}
+use Rattle.family_memory.specs.Memory.{Went}
+use Rattle.many_families.specs.Lists.{IsVoter, IsVoting}
 use Rattle.many_families.proofs.votes.vote.Given as goal
 
-abbrev pub invariant-loop-place : goal.invariant-loop-place
-invariant-loop-place l = record {
-  went : Went l.initial.memory l.memory;
-  has : All (Has l.memory) l.list;
-  space : l.votes ≤ length l.table;
-  below : l.place ≤ l.votes;
-  above : lowest l.votes l.member ≤ l.place;
-  held : IsVoting l.memory l.list l.votes l.member l.place l.table;
-}
+abbrev pub ghost-vote_at : goal.ghost-vote_at
+ghost-vote_at g a = g.fs
 
-abbrev pub decreases-loop-place : goal.decreases-loop-place
-decreases-loop-place l = l.place
+abbrev pub invariant-loop-place : goal.invariant-loop-place
+invariant-loop-place g l = record {
+  went : Went l.initial.memory l.memory;
+  inside : l.member < length l.members;
+  voter : IsVoter l.memory g.fs l.member l.below l.voter;
+  voting : IsVoting l.memory g.fs l.votes l.member l.place l.members;
+}

@@ -5,7 +5,7 @@ use Rattle.minimal_nodes.proofs.gates.make_gate.Goals as goal
 
 pub returns-in-Or-clause-gives : goal.returns-in-Or-clause-gives
 returns-in-Or-clause-gives c =
-    gate_gives c.args.kind Or c.in-Or.is (families c.args.memory.now c.args.inputs.now) c.args.memory.now c.union_of_all.new.memory c.union_of_all.result c.union_of_all.ensures.gives
+    gate_gives c.args.kind Or c.in-Or.is (families c.args.memory.now c.args.inputs.now) c.args.memory.now c.union_in_order.new.memory c.union_in_order.result c.union_in_order.ensures.gives
 
 pub returns-in-Por-clause-gives : goal.returns-in-Por-clause-gives
 returns-in-Por-clause-gives c =
@@ -18,4 +18,4 @@ returns-in-Fdep-clause-gives c =
 
 pub returns-in-And-clause-gives : goal.returns-in-And-clause-gives
 returns-in-And-clause-gives c =
-    all_of_kinds c.args.kind (families c.args.memory.now c.args.inputs.now) c.args.memory.now c.product_of_all.new.memory c.product_of_all.result c.in-And.is c.product_of_all.ensures.gives
+    all_of_kinds c.args.kind (families c.args.memory.now c.args.inputs.now) c.args.memory.now c.product_in_order.new.memory c.product_in_order.result c.in-And.is c.product_in_order.ensures.gives

@@ -1,0 +1,87 @@
+//! Lists of families in an order of their units, so that those whose units are near each other meet first.
+ghost use Rattle.std.specs.Prelude.{◌≡◌, ◌≤◌, All, IfErr, IfOk, length};
+ghost use Rattle.std.specs.List.Sorted.{IsPermutation};
+ghost use Rattle.minimal_families.specs.Least.{IsLeastOfAll, IsLeastProductOfAll};
+ghost use Rattle.family_memory.specs.Memory.{Gave, Has, RanOut};
+ghost use Rattle.many_families.specs.Lists.{families};
+
+use crate::many::{product_of_all, union_of_all};
+use family_memory::{FamilyMemory, Spent};
+use zdd_words::{NodeRef, Parts};
+
+// Above the number of each unit.
+const NO_UNIT: u16 = 4_096;
+
+// How many units of a set tell where a family stands.
+const UNITS_TOLD: usize = 4;
+
+const UNIT_SHIFT: u32 = 13;
+
+// The node of a reference, if it has one.
+fn node_of(memory: &FamilyMemory, r: NodeRef) -> Option<Parts> {
+    if r.number() >= 2 && (r.number() as usize - 2) < memory.count() {
+        Some(memory.parts(r))
+    } else {
+        None
+    }
+}
+
+// A number by which families are ordered: that of the first units of one of its sets, the lowest units first.
+fn first_units(memory: &FamilyMemory, r: NodeRef) -> u64 {
+    let mut told = 0;
+    let mut at = r;
+    for _ in 0..UNITS_TOLD {
+        let unit = match node_of(memory, at) {
+            Some(parts) => {
+                at = parts.hi;
+                parts.level.number()
+            }
+            None => NO_UNIT,
+        };
+        told = told << UNIT_SHIFT | u64::from(unit);
+    }
+    told
+}
+
+/// Puts the references of a list into places in an order of their units.
+pub(crate) fn put_in_order(memory: &FamilyMemory, list: &[NodeRef], places: &mut [NodeRef])
+    requires { length list.now ≡ length places.old }
+    ensures { IsPermutation list.now places.new }
+{
+    places.copy_from_slice(list);
+    places.sort_unstable_by_key(|r| first_units(memory, *r));
+}
+
+/// The minimal sets of the union of all families of the list, which are taken in an order of their units. What the
+/// table, with a place for each family, holds afterwards is left open.
+pub fn union_in_order(
+    memory: &mut FamilyMemory,
+    list: &[NodeRef],
+    table: &mut [NodeRef],
+) -> Result<NodeRef, Spent>
+    requires table { length list.now ≤ length table.old }
+    requires has { All (Has memory.old) list.now }
+    ensures gives { IfOk result (Gave (IsLeastOfAll (families memory.old list.now)) memory.old memory.new) }
+    ensures spent { IfErr result (λ _. RanOut memory.old memory.new) }
+{
+    let places = &mut table[..list.len()];
+    put_in_order(memory, list, places);
+    union_of_all(memory, places)
+}
+
+/// The minimal sets of the product, likewise; the family with the highest units comes first.
+pub fn product_in_order(
+    memory: &mut FamilyMemory,
+    list: &[NodeRef],
+    table: &mut [NodeRef],
+) -> Result<NodeRef, Spent>
+    requires table { length list.now ≤ length table.old }
+    requires has { All (Has memory.old) list.now }
+    ensures gives { IfOk result (Gave (IsLeastProductOfAll (families memory.old list.now)) memory.old memory.new) }
+    ensures spent { IfErr result (λ _. RanOut memory.old memory.new) }
+{
+    let places = &mut table[..list.len()];
+    put_in_order(memory, list, places);
+    places.reverse();
+    product_of_all(memory, places)
+}

@@ -1,0 +1,40 @@
+//! Families of units 1 to 5 as words: a bit for each set, whose units are those with a bit in its number.
+
+fn has(word: u32, place: u32) -> bool {
+    word >> (place & 31) & 1 == 1
+}
+
+/// The sets of units that include one of the family.
+pub(crate) fn hit_by(word: u32) -> u32 {
+    let mut hit = 0;
+    for set in 0..32u32 {
+        if (0..32u32).any(|part| has(word, part) && part & set == part) {
+            hit |= 1 << set;
+        }
+    }
+    hit
+}
+
+/// The sets of units that are in so many of these words.
+pub(crate) fn in_many(words: &[u32], votes: usize) -> u32 {
+    let mut many = 0;
+    for set in 0..32u32 {
+        if words.iter().filter(|word| has(**word, set)).count() >= votes {
+            many |= 1 << set;
+        }
+    }
+    many
+}
+
+/// Of these sets of units those from which no one unit can be taken.
+pub(crate) fn least_of(sets: u32) -> u32 {
+    let mut least = 0;
+    for set in 0..32u32 {
+        if has(sets, set)
+            && !(0..5u32).any(|unit| has(set, unit) && has(sets, set & !(1 << unit)))
+        {
+            least |= 1 << set;
+        }
+    }
+    least
+}
