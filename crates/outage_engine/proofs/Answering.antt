@@ -12,19 +12,22 @@ use Rattle.crew_script.specs.declared.dockets.Crew.{Crew}
 use Rattle.edge_io.specs.declared.reading.TheConstants.{INPUT_LIMIT}
 use Rattle.board_report.specs.CheckText.{check_text}
 use Rattle.board_report.specs.CutsText.{cuts_text, listed_with}
+use Rattle.board_report.specs.DiagramText.{diagram_text}
 use Rattle.board_report.specs.PrintText.{print_text}
 use Rattle.outage_engine.specs.declared.deck.CrewPart.{CrewPart}
 use Rattle.outage_engine.specs.declared.deck.CrewPart.TheVariants.{Unread, IfAny}
 use Rattle.outage_engine.specs.declared.listing.Listing.{Listing}
+use Rattle.outage_engine.specs.declared.sizes.Sizes.{Sizes}
 use Rattle.outage_engine.specs.declared.refusal.Refusal.TheVariants.{Usage, ReadFault, TooLong, Fault, ListLimit, OrderLimit}
 use Rattle.outage_engine.specs.declared.refusal.RunEnd.{RunEnd}
 use Rattle.outage_engine.specs.declared.refusal.RunEnd.TheVariants.{Refused, NoMemory}
-use Rattle.outage_engine.specs.Answers.{IfRefused, IsLimitOf, IsListingOf, IsReadRefusal, IsRefusalBy, IsRefusalFor, found_in, listing_text}
+use Rattle.outage_engine.specs.Answers.{AreSizesOf, IfRefused, IsLimitOf, IsListingOf, IsReadRefusal, IsRefusalBy, IsRefusalFor, IsWeightLimitOf, found_in, listing_text}
 use Rattle.outage_engine.specs.Deck.{IsDeckFault, IsWellFormed}
 use Rattle.outage_engine.specs.Finding.{Finds, Found, Faulty, Ready, TooHeavy, TooManyOrders, Wants, WithOrders, bad_deck, judged, well_formed}
 use Rattle.outage_engine.specs.Gives as gives
 use Rattle.outage_engine.specs.Gives.{OfInput, wanted}
-use Rattle.outage_engine.specs.Texts.{IsCheckText, IsCutsText, IsPrintText, cuts_said}
+use Rattle.outage_engine.specs.Store.{method_by}
+use Rattle.outage_engine.specs.Texts.{IsCheckText, IsCutsText, IsDiagramText, IsPrintText, cuts_said, for_diagram}
 use Rattle.outage_engine.proofs.Clauses.{of_input}
 
 -- ---- what is judged of a tree with its cut list
@@ -83,6 +86,30 @@ print_said bytes tree crews deck =
     let found : Found = record { tree = tree; cuts = []; crews = crews } in
     record { found = found; finds = well_formed found deck refl refl; is = refl }
 
+-- ---- what is found for `diagram`
+
+module _ (bytes : List ℕ) (tree : FaultTree) (crews : Option (List Crew)) (deck : IsWellFormed Unread bytes tree crews) where
+  abbrev with_cuts : List (List ℕ) → Found
+  with_cuts cuts = record { tree = tree; cuts = cuts; crews = crews }
+
+  finds_heavy_cuts : HasHeavyCutList tree → Finds for_diagram bytes TooHeavy
+  finds_heavy_cuts (cuts, list, heavy) =
+      well_formed (with_cuts cuts) deck list (sym (cond-true (nat_lt weight_limit (weight cuts)) TooHeavy (Ready (with_cuts cuts)) (lt-ltb weight_limit (weight cuts) heavy)))
+
+  finds_cuts : (cuts : List (List ℕ)) → IsCutList tree cuts → weight cuts ≤ weight_limit → Finds for_diagram bytes (Ready (with_cuts cuts))
+  finds_cuts cuts list light =
+      well_formed (with_cuts cuts) deck list (sym (cond-false (nat_lt weight_limit (weight cuts)) TooHeavy (Ready (with_cuts cuts)) (le-ltb weight_limit (weight cuts) light)))
+
+  sizes_said : (sizes : Sizes) → AreSizesOf tree sizes → IsDiagramText (method_by sizes.nodes) bytes (diagram_text sizes.tree sizes.cuts sizes.nodes)
+  sizes_said sizes are = record {
+    found = with_cuts sizes.cuts;
+    finds = finds_cuts sizes.cuts are.all are.light;
+    nodes = sizes.nodes;
+    of_method = refl;
+    counted = are.nodes;
+    is = ap (λ t. diagram_text t sizes.cuts sizes.nodes) are.of_tree;
+  }
+
 -- ---- a fact of the bytes that were read is one of the input
 
 of_whole : (held left : Option (List ℕ)) (bytes : List ℕ) (P : List ℕ → Type 0) → Consumes held left bytes → IsAtEnd left → length bytes ≤ INPUT_LIMIT → P bytes → OfInput held left P
@@ -109,6 +136,13 @@ module _ (held left : Option (List ℕ)) (tree : FaultTree) (crews : Option (Lis
         is = said_of most listing crews (orders_of_listing most tree listing is);
       }) read
 
+  pub diagram_of_input : (sizes : Sizes) → OfInput held left (λ bytes. IsWellFormed Unread bytes tree crews) → AreSizesOf tree sizes
+      → OfInput held left (λ bytes. IsDiagramText (method_by sizes.nodes) bytes (diagram_text sizes.tree sizes.cuts sizes.nodes))
+  diagram_of_input sizes read are =
+      of_input held left (λ bytes. IsWellFormed Unread bytes tree crews)
+      (λ bytes. IsDiagramText (method_by sizes.nodes) bytes (diagram_text sizes.tree sizes.cuts sizes.nodes))
+      (λ bytes deck. sizes_said bytes tree crews deck sizes are) read
+
   pub check_of_input : OfInput held left (λ bytes. IsWellFormed IfAny bytes tree crews) → OfInput held left (λ bytes. IsCheckText bytes (check_text tree crews))
   check_of_input read =
       of_input held left (λ bytes. IsWellFormed IfAny bytes tree crews) (λ bytes. IsCheckText bytes (check_text tree crews)) (λ bytes deck. check_said bytes tree crews deck) read
@@ -131,6 +165,19 @@ module _ (held left : Option (List ℕ)) (tree : FaultTree) (crews : Option (Lis
   limit_for part most rose (Refused TooLong) read never = absurd never
   limit_for part most rose (Refused Usage) read never = absurd never
   limit_for part most rose NoMemory read free = tt
+
+  -- so is the limit of weight one of `diagram`
+  pub weight_limit_for : (rose : Type 0) (end : RunEnd) → OfInput held left (λ bytes. IsWellFormed Unread bytes tree crews) → IfRefused (IsWeightLimitOf tree) end
+      → IfRefused (IsRefusalFor for_diagram held left rose) end
+  weight_limit_for rose (Refused ListLimit) read heavy =
+      of_input held left (λ bytes. IsWellFormed Unread bytes tree crews) (λ bytes. Finds for_diagram bytes TooHeavy)
+      (λ bytes deck. finds_heavy_cuts bytes tree crews deck heavy) read
+  weight_limit_for rose (Refused OrderLimit) read never = absurd never
+  weight_limit_for rose (Refused (Fault fault)) read never = absurd never
+  weight_limit_for rose (Refused ReadFault) read never = absurd never
+  weight_limit_for rose (Refused TooLong) read never = absurd never
+  weight_limit_for rose (Refused Usage) read never = absurd never
+  weight_limit_for rose NoMemory read free = tt
 
 module _ (held left : Option (List ℕ)) (rose : Type 0) where
   -- why no deck is read is why the command is refused

@@ -15,7 +15,7 @@ use Rattle.outage_engine.specs.Gives.{Gives, IsBeyond, IsMethodOf, IsTextOf, OfI
 use Rattle.outage_engine.specs.Runs as runs
 use Rattle.outage_engine.specs.Runs.{Answers, AreReading, Fails, HasFound, IsDone, Runs}
 use Rattle.outage_engine.specs.Safety.{IsSafeText}
-use Rattle.outage_engine.specs.Texts.{IsBoardText, IsCheckText, IsCutsText, IsPrintText, for_board, for_check, for_cuts, for_print}
+use Rattle.outage_engine.specs.Texts.{IsBoardText, IsCheckText, IsCutsText, IsDiagramText, IsPrintText, for_board, for_check, for_cuts, for_diagram, for_print}
 use Rattle.outage_engine.proofs.OneFinding.{one_finding}
 
 -- ---- inputs
@@ -62,7 +62,7 @@ same_wants words one two at at' = let same : Some one ≡ Some two = sym at ∙ 
 
 -- a text that ends well is that of the command
 abbrev IsDoneText : List (List ℕ) → Option (List ℕ) → Option (List ℕ) → Method → List ℕ → Type 0
-IsDoneText words held left method text = (command : Command) × (asked words ≡ Some command) × IsMethodOf command method × IsTextOf command held left text
+IsDoneText words held left method text = (command : Command) × (asked words ≡ Some command) × IsMethodOf command method × IsTextOf command method held left text
 
 abbrev Cause : List (List ℕ) → Option (List ℕ) → Option (List ℕ) → Type 0 → Status → List ℕ → Type 0
 Cause words held left rose (Done method) text = IsDoneText words held left method text
@@ -88,9 +88,9 @@ module _ (words : List (List ℕ)) (held left : Option (List ℕ)) (rose : Type 
   cause status (list_limit wants at found is line) = subst Caused (sym is) ((wants, at, found), line)
   cause status (order_limit wants at found is line) = subst Caused (sym is) ((wants, at, found), line)
 
-  text_of_command : (method : Method) (command : Command) → asked words ≡ Some command → IsDoneText words held left method text → IsTextOf command held left text
+  text_of_command : (method : Method) (command : Command) → asked words ≡ Some command → IsDoneText words held left method text → IsTextOf command method held left text
   text_of_command method command asks (other, at, is_method, is_text) =
-      subst (λ c. IsTextOf c held left text) (same_command words other command at asks) is_text
+      subst (λ c. IsTextOf c method held left text) (same_command words other command at asks) is_text
 
 -- ---- the status that is due
 
@@ -104,32 +104,35 @@ module _ (words : List (List ℕ)) (bytes : List ℕ) (left : Option (List ℕ))
       subst (λ f. Answers f status) (one_finding wants bytes other finding found' finds) answers
 
   -- what the text of a command was found of
-  ready_for : (wants : Wants) (command : Command) → wants_of (Some command) ≡ Some wants → IsTextOf command (Some bytes) left text
+  ready_for : (wants : Wants) (command : Command) (method : Method) → wants_of (Some command) ≡ Some wants → IsTextOf command method (Some bytes) left text
       → (length bytes ≤ INPUT_LIMIT) × (found : Found) × Finds wants bytes (Ready found)
-  ready_for wants (Cuts most workers) at is_text =
+  ready_for wants (Cuts most workers) method at is_text =
       let whole = input bytes left (λ b. IsCutsText most b text) is_text in
       let same : for_cuts most ≡ wants = same_some (for_cuts most) wants at in
       (whole.0, whole.1.found, subst (λ w. Finds w bytes (Ready whole.1.found)) same whole.1.finds)
-  ready_for wants (Board margin most workers) at is_text =
+  ready_for wants (Board margin most workers) method at is_text =
       let whole = input bytes left (λ b. IsSafeText margin most b text) is_text in
       let same : for_board most ≡ wants = same_some (for_board most) wants at in
       (whole.0, whole.1.found, subst (λ w. Finds w bytes (Ready whole.1.found)) same whole.1.finds)
-  ready_for wants Check at is_text =
+  ready_for wants Check method at is_text =
       let whole = input bytes left (λ b. IsCheckText b text) is_text in
       let same : for_check ≡ wants = same_some for_check wants at in
       (whole.0, whole.1.found, subst (λ w. Finds w bytes (Ready whole.1.found)) same whole.1.finds)
-  ready_for wants Print at is_text =
+  ready_for wants Print method at is_text =
       let whole = input bytes left (λ b. IsPrintText b text) is_text in
       let same : for_print ≡ wants = same_some for_print wants at in
       (whole.0, whole.1.found, subst (λ w. Finds w bytes (Ready whole.1.found)) same whole.1.finds)
-  ready_for wants Help at is_text = absurd cc
-  ready_for wants (Diagram workers) at is_text = absurd is_text
-  ready_for wants (Make number show) at is_text = absurd is_text
+  ready_for wants Help method at is_text = absurd cc
+  ready_for wants (Diagram workers) method at is_text =
+      let whole = input bytes left (λ b. IsDiagramText method b text) is_text in
+      let same : for_diagram ≡ wants = same_some for_diagram wants at in
+      (whole.0, whole.1.found, subst (λ w. Finds w bytes (Ready whole.1.found)) same whole.1.finds)
+  ready_for wants (Make number show) method at is_text = absurd is_text
 
   deck_due : (wants : Wants) (finding : Finding) → length bytes ≤ INPUT_LIMIT → wanted words ≡ Some wants → Finds wants bytes finding
       → (status : Status) → Cause words (Some bytes) left rose status text → Answers finding status ⊎ Fails status
   deck_due wants finding short at finds (Done method) (command, asks, is_method, is_text) =
-      let ready = ready_for wants command (subst (λ c. wants_of c ≡ Some wants) asks at) is_text in
+      let ready = ready_for wants command method (subst (λ c. wants_of c ≡ Some wants) asks at) is_text in
       inl (subst (λ f. Answers f (Done method)) (one_finding wants bytes (Ready ready.1) finding ready.2 finds) (method, refl))
   deck_due wants finding short at finds (Refused fault) (found, line) = inl (goes_with wants finding (Faulty fault) (Refused fault) at finds found refl)
   deck_due wants finding short at finds ListLimit (found, line) = inl (goes_with wants finding TooHeavy ListLimit at finds found refl)
@@ -145,7 +148,7 @@ module _ (words : List (List ℕ)) (bytes : List ℕ) (left : Option (List ℕ))
 
   length_due : INPUT_LIMIT < length bytes → AreReading words → (status : Status) → Cause words (Some bytes) left rose status text → (status ≡ TooLong) ⊎ Fails status
   length_due long (wants, at) (Done method) (command, asks, is_method, is_text) =
-      not_short_and_long bytes (ready_for wants command (subst (λ c. wants_of c ≡ Some wants) asks at) is_text).0 long
+      not_short_and_long bytes (ready_for wants command method (subst (λ c. wants_of c ≡ Some wants) asks at) is_text).0 long
   length_due long (wants, at) (Refused fault) (found, line) = not_short_and_long bytes (found_short (Faulty fault) found) long
   length_due long (wants, at) ListLimit (found, line) = not_short_and_long bytes (found_short TooHeavy found) long
   length_due long (wants, at) OrderLimit (found, line) = not_short_and_long bytes (found_short TooManyOrders found) long
@@ -206,24 +209,28 @@ module _ {K : Type 0} (words : List (List ℕ)) (held left : Option (List ℕ)) 
   done_text method is = written (Done method) (λ e. let clash = e in cc) (λ e. let clash = e in cc) is
 
   -- the text of a command was written
-  command_text : (command : Command) → asked words ≡ Some command → IsDone result → (text : List ℕ) × IsTextOf command held left text × Appends (taken old) (taken new) text
-  command_text command asks (method, is) =
+  command_text : (command : Command) (method : Method) → asked words ≡ Some command → result ≡ Done method
+      → (text : List ℕ) × IsTextOf command method held left text × Appends (taken old) (taken new) text
+  command_text command method asks is =
       let found = done_text method is in (found.0, text_of_command words held left rose found.0 method command asks found.1, found.2)
 
   pub of_command : runs.IsOfCommand words result
   of_command method is = let found = done_text method is in (found.1.0, found.1.1, found.1.2)
 
   pub prints_cuts : runs.PrintsCuts words held left taken old new result
-  prints_cuts most workers asks is_done = command_text (Cuts most workers) asks is_done
+  prints_cuts most workers asks (method, is) = command_text (Cuts most workers) method asks is
 
   pub prints_safely : runs.PrintsSafely words held left taken old new result
-  prints_safely margin most workers asks is_done = command_text (Board margin most workers) asks is_done
+  prints_safely margin most workers asks (method, is) = command_text (Board margin most workers) method asks is
 
   pub prints_check : runs.PrintsCheck words held left taken old new result
-  prints_check asks is_done = command_text Check asks is_done
+  prints_check asks (method, is) = command_text Check method asks is
 
   pub prints_tree : runs.PrintsTree words held left taken old new result
-  prints_tree asks is_done = command_text Print asks is_done
+  prints_tree asks (method, is) = command_text Print method asks is
+
+  pub prints_diagram : runs.PrintsDiagram words held left taken old new result
+  prints_diagram workers method asks is = command_text (Diagram workers) method asks is
 
   pub prints_board : runs.PrintsBoard words held left taken old new result
   prints_board margin most workers asks is_done =
@@ -231,7 +238,7 @@ module _ {K : Type 0} (words : List (List ℕ)) (held left : Option (List ℕ)) 
       (found.0, of_input held left (λ bytes. IsSafeText margin most bytes found.0) (λ bytes. IsBoardText margin most bytes found.0) (λ bytes is. plain_text margin most bytes found.0 is) found.1, found.2)
 
   pub prints_help : runs.PrintsHelp words taken old new result
-  prints_help asks is_done = let found = command_text Help asks is_done in subst (Appends (taken old) (taken new)) found.1 found.2
+  prints_help asks (method, is) = let found = command_text Help method asks is in subst (Appends (taken old) (taken new)) found.1 found.2
 
   -- the line of a refusal, with its cause
   pub refuses_words : runs.RefusesWords words taken old new result

@@ -5,6 +5,8 @@ mod Bearing
 mod Clauses
 mod Writable
 mod Answering
+mod ByDiagram
+mod SeatLemmas
 mod Reading
 mod Serving
 mod Relating

@@ -21,7 +21,7 @@ use Rattle.board_report.specs.declared.fault.FaultCode.{FaultCode}
 use Rattle.board_report.specs.declared.fault.FaultCode.TheVariants.{Check, Crew as of_crews}
 use Rattle.outage_engine.specs.declared.deck.CrewPart.{CrewPart}
 use Rattle.outage_engine.specs.Deck.{IsDeckFault, IsFaultOf, IsTreeFault, IsWellFormed, LacksCrews, StandsFor, bad_crews, bad_tree, crew_part, crews_read, crews_said, no_crews, tree_part}
-use Rattle.outage_engine.specs.Finding.{AreCutsFor, CutsWanted, Finding, Faulty, Finds, Found, NoCuts, Wants, WithOrders, bad_deck, judged, well_formed}
+use Rattle.outage_engine.specs.Finding.{AreCutsFor, CutsWanted, Finding, Faulty, Finds, Found, CutsAlone, NoCuts, Wants, WithOrders, bad_deck, judged, well_formed}
 
 -- ---- the tree part
 
@@ -106,6 +106,7 @@ found_as tree cuts crews = record { tree = tree; cuts = cuts; crews = crews }
 
 same_cuts : (wanted : CutsWanted) (tree : FaultTree) (cuts cuts' : List (List ℕ)) → AreCutsFor wanted tree cuts → AreCutsFor wanted tree cuts' → cuts ≡ cuts'
 same_cuts NoCuts tree cuts cuts' is is' = is ∙ sym is'
+same_cuts CutsAlone tree cuts cuts' is is' = same_cut_list tree cuts cuts' is is'
 same_cuts (WithOrders most) tree cuts cuts' is is' = same_cut_list tree cuts cuts' is is'
 
 same_found : (wants : Wants) (bytes : List ℕ) (one two : Found) → IsWellFormed wants.crews bytes one.tree one.crews → IsWellFormed wants.crews bytes two.tree two.crews

@@ -1,5 +1,5 @@
 -- From a board that was opened and served to what the words give.
-use Rattle.std.specs.Prelude.{◌≡◌, ℕ, List, ◌++◌, Option, Some}
+use Rattle.std.specs.Prelude.{◌≡◌, ℕ, List, ◌++◌, Option, Some, None}
 use Rattle.std.proofs.Common.{sym, ap, subst, ◌∙◌, refl}
 use Rattle.fault_model.specs.Tree.{FaultTree}
 use Rattle.fault_model.specs.Cut.{IsCutList}
@@ -14,14 +14,14 @@ use Rattle.outage_engine.specs.declared.deck.CrewPart.TheVariants.{Needed}
 use Rattle.outage_engine.specs.declared.listing.Listing.{Listing}
 use Rattle.outage_engine.specs.declared.opening.Opened.{Opened}
 use Rattle.outage_engine.specs.declared.status.Status.TheVariants as status
-use Rattle.outage_engine.specs.declared.status.Method.TheVariants.{Lists}
 use Rattle.outage_engine.specs.Answers.{IsOfUnits, found_in, listing_text}
 use Rattle.outage_engine.specs.Deck.{IsWellFormed}
 use Rattle.outage_engine.specs.Finding.{Found}
 use Rattle.outage_engine.specs.Gives as gives
-use Rattle.outage_engine.specs.Gives.{Gives, OfInput, asked}
+use Rattle.outage_engine.specs.Gives.{FindsSets, Gives, OfInput, asked}
 use Rattle.outage_engine.specs.Openings.{IsOpened, IsOpenedFor, IsOpenedWith, IsReady, IsServed}
 use Rattle.outage_engine.specs.Safety.{BearsThroughout, IsSafeText}
+use Rattle.outage_engine.specs.Store.{method_by}
 use Rattle.outage_engine.specs.Texts.{board_deck, board_said, cuts_said}
 use Rattle.outage_engine.proofs.Answering.{finds_ready, orders_of_listing, said_of}
 use Rattle.outage_engine.proofs.Bearing.{bears_throughout}
@@ -74,12 +74,17 @@ module _ (margin most : ℕ) (bytes : List ℕ) (made : Opened) (opened : IsOpen
         (bears_throughout made.listing.tree opened.kept made.listing.cuts opened.list state.deck state.history (ap (λ (deck : Deck). deck.opening.cuts) deck_is) (board_is_safe state served.kept));
   }
 
+-- a root and no root are of a method that finds cut sets
+pub finds_sets : (root : Option ℕ) → FindsSets (method_by root)
+finds_sets (Some number) = tt
+finds_sets None = tt
+
 module _ (words : List (List ℕ)) (held left : Option (List ℕ)) (rose : Type 0) where
   pub gives_board : (margin most workers : ℕ) → asked words ≡ Some (Board margin most workers) → (made : Opened)
       → OfInput held left (λ bytes. IsOpened margin most bytes made) → (state : BoardView) → IsServed made.start state
-      → Gives words held left rose (status.Done Lists) (listing_text made.listing ++ board_text made.listing.tree state)
+      → Gives words held left rose (status.Done (method_by made.listing.root)) (listing_text made.listing ++ board_text made.listing.tree state)
   gives_board margin most workers asks made holds state served =
-      gives.done (Board margin most workers) Lists asks refl
+      gives.done (Board margin most workers) (method_by made.listing.root) asks (finds_sets made.listing.root)
       (of_input held left (λ bytes. IsOpened margin most bytes made) (λ bytes. IsSafeText margin most bytes (listing_text made.listing ++ board_text made.listing.tree state))
       (λ bytes opened. safe_text margin most bytes made opened state served) holds)
       refl

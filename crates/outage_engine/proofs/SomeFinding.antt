@@ -26,7 +26,7 @@ use Rattle.board_report.specs.declared.fault.FaultCode.TheVariants as report
 use Rattle.outage_engine.specs.declared.deck.CrewPart.{CrewPart}
 use Rattle.outage_engine.specs.declared.deck.CrewPart.TheVariants.{Unread, IfAny, Needed}
 use Rattle.outage_engine.specs.Deck.{IsDeckFault, IsFaultOf, IsTreeFault, IsWellFormed, LacksCrews, StandsFor, bad_crews, bad_tree, crew_part, crews_behind, crews_read, crews_said, no_crew_part, no_crews, tree_part}
-use Rattle.outage_engine.specs.Finding.{AreCutsFor, CutsWanted, Finding, Faulty, Finds, Found, NoCuts, Wants, WithOrders, bad_deck, judged, well_formed}
+use Rattle.outage_engine.specs.Finding.{AreCutsFor, CutsAlone, CutsWanted, Finding, Faulty, Finds, Found, NoCuts, Wants, WithOrders, bad_deck, judged, well_formed}
 
 -- ---- the tree part
 
@@ -118,6 +118,7 @@ module _ (reads : (text : List ℕ) → IsReading (lexemes_of text) (parsed_text
     module _ (listed : (tree : FaultTree) → (cuts : List (List ℕ)) × IsCutList tree cuts) where
       cuts_for : (wanted : CutsWanted) (tree : FaultTree) → (cuts : List (List ℕ)) × AreCutsFor wanted tree cuts
       cuts_for NoCuts tree = ([], refl)
+      cuts_for CutsAlone tree = listed tree
       cuts_for (WithOrders most) tree = listed tree
 
       pub some_finding : (wants : Wants) (bytes : List ℕ) → (finding : Finding) × Finds wants bytes finding

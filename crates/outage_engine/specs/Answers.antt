@@ -18,6 +18,7 @@ use Rattle.tree_check.specs.Checked.{IsFirstFault}
 use Rattle.tree_check.specs.declared.fault.CheckCode.{CheckCode}
 use Rattle.board_report.specs.CheckText.{check_text}
 use Rattle.board_report.specs.CutsText.{cuts_text, listed_with}
+use Rattle.board_report.specs.DiagramText.{diagram_text}
 use Rattle.board_report.specs.OrdersOfUnits.{AreOrdersOf}
 use Rattle.board_report.specs.PrintText.{print_text}
 use Rattle.board_report.specs.Refusals.{fault_line, notice_line}
@@ -25,10 +26,11 @@ use Rattle.board_report.specs.declared.fault.FaultCode.TheVariants as report
 use Rattle.board_report.specs.declared.notice.Notice.TheVariants as notice
 use Rattle.outage_engine.specs.declared.status.Status.{Status}
 use Rattle.outage_engine.specs.declared.status.Status.TheVariants as status
-use Rattle.outage_engine.specs.declared.status.Method.TheVariants.{Plain, Lists}
+use Rattle.outage_engine.specs.declared.status.Method.TheVariants.{Plain}
 use Rattle.outage_engine.specs.declared.listing.Listing.{Listing}
+use Rattle.outage_engine.specs.declared.sizes.Sizes.{Sizes}
 use Rattle.outage_engine.specs.declared.answer.Answer.{Answer}
-use Rattle.outage_engine.specs.declared.answer.Answer.TheVariants.{Cuts, Checked, Printed, Help, Refused}
+use Rattle.outage_engine.specs.declared.answer.Answer.TheVariants.{Cuts, Diagram, Checked, Printed, Help, Refused}
 use Rattle.outage_engine.specs.declared.refusal.Refusal.{Refusal}
 use Rattle.outage_engine.specs.declared.refusal.Refusal.TheVariants.{Usage, ReadFault, TooLong, Fault, ListLimit, OrderLimit}
 use Rattle.outage_engine.specs.declared.refusal.RunEnd.{RunEnd}
@@ -39,6 +41,7 @@ use Rattle.outage_engine.specs.declared.deck.DeckEnd.TheVariants as end
 use Rattle.outage_engine.specs.Deck.{IsDeckFault, IsTreeFault, StandsFor}
 use Rattle.outage_engine.specs.Finding.{Finds, Found, Faulty, TooHeavy, TooManyOrders, Wants}
 use Rattle.outage_engine.specs.Gives.{Gives, IsBeyond, OfInput}
+use Rattle.outage_engine.specs.Store.{AreNodesOf, method_by}
 
 -- ---- an answer and its text
 
@@ -59,7 +62,8 @@ refusal_line ListLimit = notice_line notice.ListLimit
 refusal_line OrderLimit = notice_line notice.OrderLimit
 
 abbrev pub status_of : Answer → Status
-status_of (Cuts listing) = status.Done Lists
+status_of (Cuts listing) = status.Done (method_by listing.root)
+status_of (Diagram sizes) = status.Done (method_by sizes.nodes)
 status_of (Checked deck) = status.Done Plain
 status_of (Printed tree) = status.Done Plain
 status_of Help = status.Done Plain
@@ -70,6 +74,7 @@ listing_text listing = cuts_text listing.tree (listed_with listing.cuts listing.
 
 abbrev pub text_of : Answer → List ℕ
 text_of (Cuts listing) = listing_text listing
+text_of (Diagram sizes) = diagram_text sizes.tree sizes.cuts sizes.nodes
 text_of (Checked deck) = check_text deck.tree deck.crews
 text_of (Printed tree) = print_text tree
 text_of Help = notice_line notice.Usage
@@ -81,6 +86,7 @@ IsOfUnits listing = All (All (IsUnitOf listing.tree)) listing.cuts × AreOrdersO
 
 abbrev pub IsWritable : Answer → Type 0
 IsWritable (Cuts listing) = IsOfUnits listing
+IsWritable (Diagram sizes) = Unit {0}
 IsWritable (Checked deck) = Unit {0}
 IsWritable (Printed tree) = Unit {0}
 IsWritable Help = Unit {0}
@@ -135,6 +141,22 @@ IsLimitOf most tree ReadFault = ⊥
 IsLimitOf most tree TooLong = ⊥
 IsLimitOf most tree (Fault fault) = ⊥
 IsLimitOf most tree Usage = ⊥
+
+-- the cut list of a tree within its limit, and the number of nodes of its family, where that is known
+pub record AreSizesOf (tree : FaultTree) (sizes : Sizes) : Type 0 where
+  pub of_tree : sizes.tree ≡ tree
+  pub all : IsCutList tree sizes.cuts
+  pub light : weight sizes.cuts ≤ weight_limit
+  pub nodes : AreNodesOf tree sizes.nodes
+
+-- the limit of weight is passed
+abbrev pub IsWeightLimitOf : FaultTree → Refusal → Type 0
+IsWeightLimitOf tree ListLimit = HasHeavyCutList tree
+IsWeightLimitOf tree OrderLimit = ⊥
+IsWeightLimitOf tree ReadFault = ⊥
+IsWeightLimitOf tree TooLong = ⊥
+IsWeightLimitOf tree (Fault fault) = ⊥
+IsWeightLimitOf tree Usage = ⊥
 
 -- what was found, as the deck's tree, cut list and crews
 abbrev pub found_in : Listing → Option (List Crew) → Found

@@ -10,10 +10,11 @@ use Rattle.board_report.specs.declared.fault.DeckFault.{DeckFault}
 use Rattle.outage_engine.specs.declared.deck.CrewPart.{CrewPart}
 use Rattle.outage_engine.specs.Deck.{IsDeckFault, IsWellFormed}
 
--- what a command wants of the cut sets: nothing, or the cut list and the failing orders of its sets of at most so many
--- members
+-- what a command wants of the cut sets: nothing, the cut list, or the cut list and the failing orders of its sets of at
+-- most so many members
 pub data CutsWanted : Type 0 where
   NoCuts : CutsWanted
+  CutsAlone : CutsWanted
   WithOrders : ℕ → CutsWanted
 
 -- what a command wants of a deck
@@ -36,11 +37,13 @@ pub data Finding : Type 0 where
 -- the cut list, where it is wanted
 abbrev pub AreCutsFor : CutsWanted → FaultTree → List (List ℕ) → Type 0
 AreCutsFor NoCuts tree cuts = cuts ≡ []
+AreCutsFor CutsAlone tree cuts = IsCutList tree cuts
 AreCutsFor (WithOrders most) tree cuts = IsCutList tree cuts
 
 -- a tree with its cut list: the limits are looked at one after the other
 abbrev pub judged : CutsWanted → Found → Finding
 judged NoCuts found = Ready found
+judged CutsAlone found = if nat_lt weight_limit (weight found.cuts) then TooHeavy else Ready found
 judged (WithOrders most) found =
     if nat_lt weight_limit (weight found.cuts) then TooHeavy
     else (if nat_lt order_limit (order_total (order_lists found.tree found.cuts most)) then TooManyOrders else Ready found)

@@ -12,8 +12,9 @@ use Rattle.outage_engine.specs.declared.status.Method.{Method}
 use Rattle.outage_engine.specs.declared.status.Status.{Status}
 use Rattle.outage_engine.specs.declared.status.Status.TheVariants.{Done, Refused, ListLimit, OrderLimit, Usage, ReadFault, TooLong}
 use Rattle.outage_engine.specs.declared.status.Method.TheVariants.{Plain, Lists}
+use Rattle.outage_engine.specs.declared.status.Method.TheVariants as way
 use Rattle.outage_engine.specs.Finding.{Finds, Faulty, TooHeavy, TooManyOrders, Wants}
-use Rattle.outage_engine.specs.Texts.{IsCheckText, IsCutsText, IsPrintText, for_board, for_check, for_cuts, for_print}
+use Rattle.outage_engine.specs.Texts.{IsCheckText, IsCutsText, IsDiagramText, IsPrintText, for_board, for_check, for_cuts, for_diagram, for_print}
 use Rattle.outage_engine.specs.Safety.{IsSafeText}
 
 -- ---- words
@@ -25,7 +26,7 @@ done_yet (Some (Board margin most workers)) = Some (Board margin most workers)
 done_yet (Some Check) = Some Check
 done_yet (Some Print) = Some Print
 done_yet (Some Help) = Some Help
-done_yet (Some (Diagram workers)) = None
+done_yet (Some (Diagram workers)) = Some (Diagram workers)
 done_yet (Some (Make number show)) = None
 done_yet None = None
 
@@ -40,7 +41,7 @@ wants_of (Some (Board margin most workers)) = Some (for_board most)
 wants_of (Some Check) = Some for_check
 wants_of (Some Print) = Some for_print
 wants_of (Some Help) = None
-wants_of (Some (Diagram workers)) = None
+wants_of (Some (Diagram workers)) = Some for_diagram
 wants_of (Some (Make number show)) = None
 wants_of None = None
 
@@ -59,32 +60,38 @@ IsBeyond held left = IfTold held left (λ bytes rest. INPUT_LIMIT + length rest 
 
 -- ---- what ends well
 
+-- a method that finds cut sets
+abbrev pub FindsSets : Method → Type 0
+FindsSets Plain = ⊥
+FindsSets Lists = Unit {0}
+FindsSets way.Diagram = Unit {0}
+
 -- how a command finds the cut sets, if it does
 abbrev pub IsMethodOf : Command → Method → Type 0
-IsMethodOf (Cuts most workers) method = method ≡ Lists
-IsMethodOf (Board margin most workers) method = method ≡ Lists
+IsMethodOf (Cuts most workers) method = FindsSets method
+IsMethodOf (Board margin most workers) method = FindsSets method
 IsMethodOf Check method = method ≡ Plain
 IsMethodOf Print method = method ≡ Plain
 IsMethodOf Help method = method ≡ Plain
-IsMethodOf (Diagram workers) method = ⊥
+IsMethodOf (Diagram workers) method = FindsSets method
 IsMethodOf (Make number show) method = ⊥
 
--- the text of a command, for the input that the source held, of which it held a rest afterwards
-abbrev pub IsTextOf : Command → Option (List ℕ) → Option (List ℕ) → List ℕ → Type 0
-IsTextOf (Cuts most workers) held left text = OfInput held left (λ bytes. IsCutsText most bytes text)
-IsTextOf (Board margin most workers) held left text = OfInput held left (λ bytes. IsSafeText margin most bytes text)
-IsTextOf Check held left text = OfInput held left (λ bytes. IsCheckText bytes text)
-IsTextOf Print held left text = OfInput held left (λ bytes. IsPrintText bytes text)
-IsTextOf Help held left text = text ≡ notice_line notice.Usage
-IsTextOf (Diagram workers) held left text = ⊥
-IsTextOf (Make number show) held left text = ⊥
+-- the text of a command that is done by this method, for the input that the source held, of which it held a rest afterwards
+abbrev pub IsTextOf : Command → Method → Option (List ℕ) → Option (List ℕ) → List ℕ → Type 0
+IsTextOf (Cuts most workers) method held left text = OfInput held left (λ bytes. IsCutsText most bytes text)
+IsTextOf (Board margin most workers) method held left text = OfInput held left (λ bytes. IsSafeText margin most bytes text)
+IsTextOf Check method held left text = OfInput held left (λ bytes. IsCheckText bytes text)
+IsTextOf Print method held left text = OfInput held left (λ bytes. IsPrintText bytes text)
+IsTextOf Help method held left text = text ≡ notice_line notice.Usage
+IsTextOf (Diagram workers) method held left text = OfInput held left (λ bytes. IsDiagramText method bytes text)
+IsTextOf (Make number show) method held left text = ⊥
 
 -- ---- the relation
 
 -- What the words give, and the input that the source held, of which it held a rest afterwards. The source's faults rose in this sense.
 pub data Gives (words : List (List ℕ)) (held left : Option (List ℕ)) (rose : Type 0) (status : Status) (text : List ℕ) : Type 0 where
   done : (command : Command) (method : Method) → asked words ≡ Some command → IsMethodOf command method
-      → IsTextOf command held left text → status ≡ Done method → Gives words held left rose status text
+      → IsTextOf command method held left text → status ≡ Done method → Gives words held left rose status text
   usage : asked words ≡ None → status ≡ Usage → text ≡ notice_line notice.Usage → Gives words held left rose status text
   read_fault : (wants : Wants) → wanted words ≡ Some wants → rose
       → status ≡ ReadFault → text ≡ notice_line notice.ReadFault → Gives words held left rose status text

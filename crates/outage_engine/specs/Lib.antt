@@ -4,6 +4,8 @@ pub mod Codes
 pub mod Deck
 -- the same by relations between whole lists
 pub mod Relations
+-- how the cut sets of a tree were found, and what a seat knows then
+pub mod Store
 -- what is found in a deck for a command
 pub mod Finding
 -- the texts of commands
@@ -12,6 +14,8 @@ pub mod Texts
 pub mod Safety
 -- which status comes with which text
 pub mod Gives
+-- what a run does to a seat
+pub mod StoreAfter
 -- what a run is known to have done, and the clauses of a run
 pub mod Runs
 -- an answer before it is written

@@ -13,13 +13,13 @@ use Rattle.outage_board.specs.declared.board.BoardStart.{BoardStart}
 use Rattle.board_report.specs.BoardText.{IsDeckOf, board_text}
 use Rattle.outage_engine.specs.declared.status.Status.{Status}
 use Rattle.outage_engine.specs.declared.status.Status.TheVariants as status
-use Rattle.outage_engine.specs.declared.status.Method.TheVariants.{Lists}
 use Rattle.outage_engine.specs.declared.listing.Listing.{Listing}
 use Rattle.outage_engine.specs.declared.opening.Opened.{Opened}
 use Rattle.outage_engine.specs.Answers.{IsListingOf, IsOfUnits, found_in, listing_text}
 use Rattle.outage_engine.specs.Finding.{Finds, Ready}
 use Rattle.outage_engine.specs.Gives.{OfInput, asked}
 use Rattle.outage_engine.specs.Runs.{Tells}
+use Rattle.outage_engine.specs.Store.{method_by}
 use Rattle.outage_engine.specs.Texts.{board_deck, for_board}
 
 -- ---- an open board
@@ -68,4 +68,4 @@ pub record IsServed (start : BoardStart) (state : BoardView) : Type 0 where
 
 abbrev pub TellsBoard : {K : Type 0} → Listing → BoardStart → (K → Option (List ℕ)) → (K → ℕ) → K → K → Status → Type 0
 TellsBoard listing start taken faults old new result =
-    (state : BoardView) × IsServed start state × Tells taken faults old new (status.Done Lists) (listing_text listing ++ board_text listing.tree state) result
+    (state : BoardView) × IsServed start state × Tells taken faults old new (status.Done (method_by listing.root)) (listing_text listing ++ board_text listing.tree state) result

@@ -6,7 +6,7 @@ use Rattle.edge_io.specs.Faults.{Rose}
 use Rattle.edge_io.specs.Writing.{TakesFront}
 use Rattle.edge_io.specs.declared.reading.TheConstants.{INPUT_LIMIT}
 use Rattle.board_words.specs.declared.command.Command.{Command}
-use Rattle.board_words.specs.declared.command.Command.TheVariants.{Cuts, Board, Check, Print, Help}
+use Rattle.board_words.specs.declared.command.Command.TheVariants.{Cuts, Board, Check, Print, Diagram, Help}
 use Rattle.board_report.specs.Refusals.{fault_line, notice_line}
 use Rattle.board_report.specs.declared.fault.DeckFault.{DeckFault}
 use Rattle.board_report.specs.declared.notice.Notice.TheVariants as notice
@@ -16,7 +16,7 @@ use Rattle.outage_engine.specs.declared.status.Status.TheVariants.{Done, Refused
 use Rattle.outage_engine.specs.Finding.{Finding, Finds, Faulty, TooHeavy, TooManyOrders, Ready, Wants}
 use Rattle.outage_engine.specs.Gives.{Gives, IsBeyond, IsMethodOf, OfInput, asked, wanted}
 use Rattle.outage_engine.specs.Safety.{IsSafeText}
-use Rattle.outage_engine.specs.Texts.{IsBoardText, IsCheckText, IsCutsText, IsPrintText}
+use Rattle.outage_engine.specs.Texts.{IsBoardText, IsCheckText, IsCutsText, IsDiagramText, IsPrintText}
 
 -- a front of a text was taken, and the sink failed
 pub record WritesFront {K : Type 0} (taken : K → Option (List ℕ)) (faults : K → ℕ) (old new : K) (text : List ℕ) : Type 0 where
@@ -63,7 +63,7 @@ Writes taken old new P = (text : List ℕ) × P text × Appends (taken old) (tak
 abbrev pub IsDone : Status → Type 0
 IsDone result = (method : Method) × (result ≡ Done method)
 
--- only words that are a command are done, by the method of the command
+-- only words that are a command are done, by a method of the command
 abbrev pub IsOfCommand : List (List ℕ) → Status → Type 0
 IsOfCommand words result =
     (method : Method) → result ≡ Done method → (command : Command) × (asked words ≡ Some command) × IsMethodOf command method
@@ -91,6 +91,12 @@ PrintsCheck words held left taken old new result =
 abbrev pub PrintsTree : {K : Type 0} → List (List ℕ) → Option (List ℕ) → Option (List ℕ) → (K → Option (List ℕ)) → K → K → Status → Type 0
 PrintsTree words held left taken old new result =
     asked words ≡ Some Print → IsDone result → Writes taken old new (λ text. OfInput held left (λ bytes. IsPrintText bytes text))
+
+-- without a line of nodes exactly where the cut sets were found by lists
+abbrev pub PrintsDiagram : {K : Type 0} → List (List ℕ) → Option (List ℕ) → Option (List ℕ) → (K → Option (List ℕ)) → K → K → Status → Type 0
+PrintsDiagram words held left taken old new result =
+    (workers : ℕ) (method : Method) → asked words ≡ Some (Diagram workers) → result ≡ Done method
+    → Writes taken old new (λ text. OfInput held left (λ bytes. IsDiagramText method bytes text))
 
 abbrev pub PrintsHelp : {K : Type 0} → List (List ℕ) → (K → Option (List ℕ)) → K → K → Status → Type 0
 PrintsHelp words taken old new result = asked words ≡ Some Help → IsDone result → Appends (taken old) (taken new) (notice_line notice.Usage)

@@ -8,9 +8,12 @@ use Rattle.outage_board.specs.declared.entry.Entry.{Entry}
 use Rattle.board_report.specs.BoardText.{board_text}
 use Rattle.board_report.specs.CheckText.{check_text}
 use Rattle.board_report.specs.CutsText.{cuts_text, listed_with}
+use Rattle.board_report.specs.DiagramText.{diagram_text}
 use Rattle.board_report.specs.PrintText.{print_text}
+use Rattle.outage_engine.specs.declared.status.Method.{Method}
 use Rattle.outage_engine.specs.declared.deck.CrewPart.TheVariants.{Unread, IfAny, Needed}
-use Rattle.outage_engine.specs.Finding.{Finds, Found, Ready, Wants, NoCuts, WithOrders}
+use Rattle.outage_engine.specs.Finding.{Finds, Found, Ready, Wants, NoCuts, CutsAlone, WithOrders}
+use Rattle.outage_engine.specs.Store.{AreNodesOf, method_by}
 
 -- ---- what each command wants of a deck
 
@@ -25,6 +28,9 @@ for_check = record { crews = IfAny; cuts = NoCuts }
 
 abbrev pub for_print : Wants
 for_print = record { crews = Unread; cuts = NoCuts }
+
+abbrev pub for_diagram : Wants
+for_diagram = record { crews = Unread; cuts = CutsAlone }
 
 -- ---- what is said of what was found
 
@@ -79,3 +85,13 @@ pub record IsPrintText (bytes text : List ℕ) : Type 0 where
   pub found : Found
   pub finds : Finds for_print bytes (Ready found)
   pub is : text ≡ print_text found.tree
+
+-- the text of `diagram` for a deck of these bytes: how large the cut list of its tree is and, exactly where the sets were found by the
+-- diagram, how many nodes the family of the minimal cuts has
+pub record IsDiagramText (method : Method) (bytes text : List ℕ) : Type 0 where
+  pub found : Found
+  pub finds : Finds for_diagram bytes (Ready found)
+  pub nodes : Option ℕ
+  pub of_method : method ≡ method_by nodes
+  pub counted : AreNodesOf found.tree nodes
+  pub is : text ≡ diagram_text found.tree found.cuts nodes

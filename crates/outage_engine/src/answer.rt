@@ -5,24 +5,32 @@ ghost use Rattle.outage_engine.specs.Answers.{IfRefused, IsOfUnits, IsRefusalBy,
 ghost use Rattle.outage_engine.specs.Answers.{listing_text, status_of, text_of};
 ghost use Rattle.outage_engine.specs.Gives.{Gives, OfInput};
 ghost use Rattle.outage_engine.specs.Runs.{AreReading, IsNoBoard};
-ghost use Rattle.outage_engine.specs.Texts.{IsCutsText, for_cuts};
+ghost use Rattle.outage_engine.specs.Store.{method_by};
+ghost use Rattle.outage_engine.specs.StoreAfter.{BearsOut, GoesForDeck};
+ghost use Rattle.outage_engine.specs.Texts.{IsCutsText, IsDiagramText, for_cuts, for_diagram};
+ghost use Rattle.board_report.specs.DiagramText.{diagram_text};
+ghost use Rattle.outage_engine.specs.declared.status.Status.TheVariants.{Done};
 
 use crate::deck::{CrewPart, DeckParts};
 use crate::input::read_input;
 use crate::listing::{Listing, list_tree};
 use crate::refusal::{Refusal, RunEnd};
+use crate::sizes::{Sizes, size_tree};
 use crate::{Method, Status};
 use board_words::{Command, Word, numbers_are_within_bounds, read};
 use edge_io::Source;
 use fault_model::Tree;
 use std::alloc::Global;
 use std::thread::Threads;
+use zdd_shared_table::{NodeStore, StoreSeat};
 
 /// What is to be written.
 #[derive(Drop)]
 pub(crate) enum Answer {
     /// The cut list of the deck's tree, and its failing orders.
     Cuts(Listing),
+    /// How large the cut list of the deck's tree and its diagram are.
+    Diagram(Sizes),
     /// That the deck is well formed.
     Checked(DeckParts),
     /// The deck's tree.
@@ -39,7 +47,8 @@ impl Answer {
         ensures { result ≡ status_of self.now }
     {
         match self {
-            Answer::Cuts(_) => Status::Done(Method::Lists),
+            Answer::Cuts(listing) => Status::Done(listing.method()),
+            Answer::Diagram(sizes) => Status::Done(sizes.method()),
             Answer::Checked(_) | Answer::Printed(_) | Answer::Help => Status::Done(Method::Plain),
             Answer::Refused(refusal) => refusal.status(),
         }
@@ -52,29 +61,37 @@ pub(crate) fn answer_words<R: Threads + Sync, S: Source>(
     alloc: Global,
     words: &[Word],
     source: &mut S,
+    store: &NodeStore,
+    seat: &mut StoreSeat,
 ) -> Result<Answer, RunEnd>
-    requires { IsNoBoard words.now }
+    requires command { IsNoBoard words.now }
+    requires own { seat.old.store ≡ store.now }
+    requires share { 64 ≤ seat.old.share }
     ensures gives { IfOk result (λ answer. Gives words.now (S.held source.old) (S.held source.new)
         (Rose (S.faults source.old) (S.faults source.new)) (status_of answer) (text_of answer)) }
     ensures refused { IfErr result (IfRefused (IsRefusalBy words.now (S.held source.old) (S.held source.new)
         (Rose (S.faults source.old) (S.faults source.new)))) }
     ensures writable { IfOk result IsWritable }
     ensures unread { AreReading words.now ⊎ (source.new ≡ source.old) }
+    ensures method { IfOk result (λ answer. BearsOut (S.held source.old) (S.held source.new) seat.old seat.new (status_of answer)) }
+    ensures went { GoesForDeck (S.held source.old) (S.held source.new) seat.old seat.new }
+    ensures share { seat.new.share ≡ seat.old.share }
 {
     numbers_are_within_bounds();
     match read(words) {
         Some(Command::Cuts { most, workers }) => {
-            Ok(Answer::Cuts(list_input(rt, alloc, most, workers, source)?))
+            Ok(Answer::Cuts(list_input(rt, alloc, most, workers, source, store, seat)?))
         }
         Some(Command::Check) => { Ok(Answer::Checked(read_input(alloc, CrewPart::IfAny, source)?)) }
         Some(Command::Print) => {
             Ok(Answer::Printed(read_input(alloc, CrewPart::Unread, source)?.tree))
         }
         Some(Command::Help) => Ok(Answer::Help),
-        Some(Command::Board { .. }) => unreachable!(),
-        Some(Command::Diagram { .. }) | Some(Command::Make { .. }) | None => {
-            Err(RunEnd::Refused(Refusal::Usage))
+        Some(Command::Diagram { workers }) => {
+            Ok(Answer::Diagram(size_input(rt, alloc, workers, source, store, seat)?))
         }
+        Some(Command::Board { .. }) => unreachable!(),
+        Some(Command::Make { .. }) | None => Err(RunEnd::Refused(Refusal::Usage)),
     }
 }
 
@@ -85,16 +102,50 @@ fn list_input<R: Threads + Sync, S: Source>(
     most: u32,
     workers: u32,
     source: &mut S,
+    store: &NodeStore,
+    seat: &mut StoreSeat,
 ) -> Result<Listing, RunEnd>
     requires most { most ≤ 8 }
     requires some { 1 ≤ workers }
     requires few { workers ≤ 16 }
+    requires own { seat.old.store ≡ store.now }
+    requires share { 64 ≤ seat.old.share }
     ensures text { IfOk result (λ listing. OfInput (S.held source.old) (S.held source.new)
         (λ bytes. IsCutsText most bytes (listing_text listing))) }
     ensures writable { IfOk result IsOfUnits }
     ensures refused { IfErr result (IfRefused (IsRefusalFor (for_cuts most) (S.held source.old) (S.held source.new)
         (Rose (S.faults source.old) (S.faults source.new)))) }
+    ensures method { IfOk result (λ listing. BearsOut (S.held source.old) (S.held source.new) seat.old seat.new
+        (Done (method_by listing.root))) }
+    ensures went { GoesForDeck (S.held source.old) (S.held source.new) seat.old seat.new }
+    ensures share { seat.new.share ≡ seat.old.share }
 {
     let deck = read_input(alloc, CrewPart::Unread, source)?;
-    list_tree(rt, alloc, most, workers, deck.tree)
+    list_tree(rt, alloc, most, workers, deck.tree, store, seat)
+}
+
+// How large the cut list of the deck that the source holds is.
+fn size_input<R: Threads + Sync, S: Source>(
+    rt: &R,
+    alloc: Global,
+    workers: u32,
+    source: &mut S,
+    store: &NodeStore,
+    seat: &mut StoreSeat,
+) -> Result<Sizes, RunEnd>
+    requires some { 1 ≤ workers }
+    requires few { workers ≤ 16 }
+    requires own { seat.old.store ≡ store.now }
+    requires share { 64 ≤ seat.old.share }
+    ensures text { IfOk result (λ sizes. OfInput (S.held source.old) (S.held source.new)
+        (λ bytes. IsDiagramText (method_by sizes.nodes) bytes (diagram_text sizes.tree sizes.cuts sizes.nodes))) }
+    ensures refused { IfErr result (IfRefused (IsRefusalFor for_diagram (S.held source.old) (S.held source.new)
+        (Rose (S.faults source.old) (S.faults source.new)))) }
+    ensures method { IfOk result (λ sizes. BearsOut (S.held source.old) (S.held source.new) seat.old seat.new
+        (Done (method_by sizes.nodes))) }
+    ensures went { GoesForDeck (S.held source.old) (S.held source.new) seat.old seat.new }
+    ensures share { seat.new.share ≡ seat.old.share }
+{
+    let deck = read_input(alloc, CrewPart::Unread, source)?;
+    size_tree(rt, alloc, workers, deck.tree, store, seat)
 }

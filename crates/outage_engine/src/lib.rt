@@ -5,22 +5,19 @@
 #![tactic(auto)]
 
 mod answer;
-#[cfg(test)]
-mod board_tests;
 mod deck;
+mod found;
 mod input;
 pub mod laws;
-#[cfg(test)]
-mod limit_tests;
 mod listing;
 mod opening;
 mod refusal;
 mod running;
+mod sizes;
 mod status;
 mod tell;
-#[cfg(test)]
-mod tests;
 
 pub use board_words::Word;
+pub use found::{Found, find_cuts};
 pub use running::{run, run_board, run_cuts};
 pub use status::{Method, Status};

@@ -2,23 +2,43 @@
 ghost use Rattle.std.specs.Prelude.{◌≡◌, ◌≤◌, IfOk, IfErr};
 ghost use Rattle.unit_sets.specs.CutOrder.{weight, weight_limit};
 ghost use Rattle.fault_model.specs.Cut.{IsCutList};
-ghost use Rattle.fault_model.specs.WellFormed.{IsTree};
+ghost use Rattle.tree_families.specs.Due.{IsDueToTree};
+ghost use Rattle.zdd_product.specs.Seats.{WentAll};
 ghost use Rattle.outage_engine.specs.Answers.{IfRefused, IsLimitOf, IsListingOf, IsOfUnits};
+ghost use Rattle.outage_engine.specs.Store.{IsFoundBy, method_by};
 
+use crate::Method;
+use crate::found::{Found, find_cuts};
 use crate::refusal::{Refusal, RunEnd};
 use cut_sequences::{OrderEnd, OrderLists, orders};
-use cutset_lists::mcs_by_lists;
+use edge_io::Free;
 use fault_model::Tree;
 use std::alloc::Global;
 use std::thread::Threads;
 use unit_sets::{CutList, ListEnd};
+use zdd_shared_table::{NodeStore, StoreSeat};
+use zdd_words::NodeRef;
 
-/// A tree, its cut list, and the failing orders of the sets that are small enough.
+/// A tree, its cut list, the failing orders of the sets that are small enough, and the reference of the cut list's
+/// family where the diagrams of the tree gave it.
 #[derive(Drop)]
 pub(crate) struct Listing {
     pub tree: Tree,
     pub cuts: CutList,
     pub orders: OrderLists,
+    pub root: Option<NodeRef>,
+}
+
+impl Listing {
+    /// How the cut sets were found.
+    pub(crate) fn method(&self) -> Method
+        ensures { result ≡ method_by self.now.root }
+    {
+        match self.root {
+            Some(_) => Method::Diagram,
+            None => Method::Lists,
+        }
+    }
 }
 
 /// The cut list of a tree, with the failing orders of its sets of at most so many members.
@@ -28,16 +48,23 @@ pub(crate) fn list_tree<R: Threads + Sync>(
     most: u32,
     workers: u32,
     tree: Tree,
+    store: &NodeStore,
+    seat: &mut StoreSeat,
 ) -> Result<Listing, RunEnd>
     requires most { most ≤ 8 }
     requires some { 1 ≤ workers }
     requires few { workers ≤ 16 }
+    requires own { seat.old.store ≡ store.now }
+    requires share { 64 ≤ seat.old.share }
     ensures listed { IfOk result (IsListingOf most tree) }
     ensures writable { IfOk result IsOfUnits }
     ensures limit { IfErr result (IfRefused (IsLimitOf most tree)) }
+    ensures found { IfOk result (λ listing. IsFoundBy seat.old seat.new tree (method_by listing.root)) }
+    ensures went { WentAll (IsDueToTree tree) seat.old seat.new }
+    ensures share { seat.new.share ≡ seat.old.share }
 {
-    match mcs_by_lists(alloc, &tree) {
-        Ok(cuts) => list_orders(rt, alloc, most, workers, tree, cuts),
+    match find_cuts(rt, alloc, &tree, store, seat, workers, &Free) {
+        Ok(found) => list_orders(rt, alloc, most, workers, tree, found),
         Err(ListEnd::ListLimit) => Err(RunEnd::Refused(Refusal::ListLimit)),
         Err(ListEnd::NoMemory) => Err(RunEnd::NoMemory),
     }
@@ -50,19 +77,26 @@ fn list_orders<R: Threads + Sync>(
     most: u32,
     workers: u32,
     tree: Tree,
-    cuts: CutList,
+    found: Found,
 ) -> Result<Listing, RunEnd>
     requires most { most ≤ 8 }
     requires some { 1 ≤ workers }
     requires few { workers ≤ 16 }
-    requires all { IsCutList tree cuts }
-    requires light { weight cuts ≤ weight_limit }
+    requires all { IsCutList tree found.cuts }
+    requires light { weight found.cuts ≤ weight_limit }
     ensures listed { IfOk result (IsListingOf most tree) }
     ensures writable { IfOk result IsOfUnits }
     ensures limit { IfErr result (IfRefused (IsLimitOf most tree)) }
+    ensures root { IfOk result (λ listing. listing.root ≡ found.root) }
 {
+    let Found { cuts, root } = found;
     match orders(rt, alloc, &tree, &cuts, most, workers) {
-        Ok(orders) => Ok(Listing { tree, cuts, orders }),
+        Ok(orders) => Ok(Listing {
+            tree,
+            cuts,
+            orders,
+            root,
+        }),
         Err(OrderEnd::OrderLimit) => Err(RunEnd::Refused(Refusal::OrderLimit)),
         Err(OrderEnd::NoMemory) => Err(RunEnd::NoMemory),
     }

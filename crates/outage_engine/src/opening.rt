@@ -5,7 +5,12 @@ ghost use Rattle.outage_engine.specs.Answers.{IfRefused, IsLimitOf, IsOfUnits, I
 ghost use Rattle.outage_engine.specs.Gives.{OfInput};
 ghost use Rattle.outage_engine.specs.Openings.{IsOpened, IsOpenedBy, IsOpenedFor, IsOpenedWith, IsReady};
 ghost use Rattle.outage_engine.specs.Runs.{IsBoard};
+ghost use Rattle.outage_engine.specs.Store.{IsFoundBy, method_by};
+ghost use Rattle.outage_engine.specs.StoreAfter.{BearsOut, GoesForDeck};
 ghost use Rattle.outage_engine.specs.Texts.{for_board};
+ghost use Rattle.outage_engine.specs.declared.status.Status.TheVariants.{Done};
+ghost use Rattle.tree_families.specs.Due.{IsDueToTree};
+ghost use Rattle.zdd_product.specs.Seats.{WentAll};
 
 use crate::deck::CrewPart;
 use crate::input::read_input;
@@ -18,6 +23,7 @@ use fault_model::Tree;
 use outage_board::{Board, BoardStart};
 use std::alloc::Global;
 use std::thread::Threads;
+use zdd_shared_table::{NodeStore, StoreSeat};
 
 /// A board that is open, with what is printed before its log.
 #[derive(Drop)]
@@ -32,12 +38,20 @@ pub(crate) fn open_words<R: Threads + Sync, S: Source>(
     alloc: Global,
     words: &[Word],
     source: &mut S,
+    store: &NodeStore,
+    seat: &mut StoreSeat,
 ) -> Result<Opened, RunEnd>
-    requires { IsBoard words.now }
+    requires command { IsBoard words.now }
+    requires own { seat.old.store ≡ store.now }
+    requires share { 64 ≤ seat.old.share }
     ensures opened { IfOk result (IsOpenedBy words.now (S.held source.old) (S.held source.new)) }
     ensures ready { IfOk result IsReady }
     ensures refused { IfErr result (IfRefused (IsRefusalBy words.now (S.held source.old) (S.held source.new)
         (Rose (S.faults source.old) (S.faults source.new)))) }
+    ensures method { IfOk result (λ opened. BearsOut (S.held source.old) (S.held source.new) seat.old seat.new
+        (Done (method_by opened.listing.root))) }
+    ensures went { GoesForDeck (S.held source.old) (S.held source.new) seat.old seat.new }
+    ensures share { seat.new.share ≡ seat.old.share }
 {
     numbers_are_within_bounds();
     match read(words) {
@@ -47,7 +61,7 @@ pub(crate) fn open_words<R: Threads + Sync, S: Source>(
                 most,
                 workers,
             },
-        ) => open_input(rt, alloc, margin, most, workers, source),
+        ) => open_input(rt, alloc, margin, most, workers, source, store, seat),
         _ => unreachable!(),
     }
 }
@@ -60,19 +74,29 @@ fn open_input<R: Threads + Sync, S: Source>(
     most: u32,
     workers: u32,
     source: &mut S,
+    store: &NodeStore,
+    seat: &mut StoreSeat,
 ) -> Result<Opened, RunEnd>
     requires margin { margin ≤ 4095 }
     requires most { most ≤ 8 }
     requires some { 1 ≤ workers }
     requires few { workers ≤ 16 }
+    requires own { seat.old.store ≡ store.now }
+    requires share { 64 ≤ seat.old.share }
     ensures opened { IfOk result (λ opened. OfInput (S.held source.old) (S.held source.new)
         (λ bytes. IsOpened margin most bytes opened)) }
     ensures ready { IfOk result IsReady }
     ensures refused { IfErr result (IfRefused (IsRefusalFor (for_board most) (S.held source.old) (S.held source.new)
         (Rose (S.faults source.old) (S.faults source.new)))) }
+    ensures method { IfOk result (λ opened. BearsOut (S.held source.old) (S.held source.new) seat.old seat.new
+        (Done (method_by opened.listing.root))) }
+    ensures went { GoesForDeck (S.held source.old) (S.held source.new) seat.old seat.new }
+    ensures share { seat.new.share ≡ seat.old.share }
 {
     let deck = read_input(alloc, CrewPart::Needed, source)?;
-    open_deck(rt, alloc, margin, most, workers, deck.tree, deck.crews)
+    open_deck(
+        rt, alloc, margin, most, workers, deck.tree, deck.crews, store, seat,
+    )
 }
 
 // The board of a tree and its crews.
@@ -84,18 +108,25 @@ fn open_deck<R: Threads + Sync>(
     workers: u32,
     tree: Tree,
     crews: Option<Dockets>,
+    store: &NodeStore,
+    seat: &mut StoreSeat,
 ) -> Result<Opened, RunEnd>
     requires margin { margin ≤ 4095 }
     requires most { most ≤ 8 }
     requires some { 1 ≤ workers }
     requires few { workers ≤ 16 }
     requires crews { IsSome crews }
+    requires own { seat.old.store ≡ store.now }
+    requires share { 64 ≤ seat.old.share }
     ensures opened { IfOk result (IsOpenedFor margin most tree crews) }
     ensures ready { IfOk result IsReady }
     ensures limit { IfErr result (IfRefused (IsLimitOf most tree)) }
+    ensures found { IfOk result (λ opened. IsFoundBy seat.old seat.new tree (method_by opened.listing.root)) }
+    ensures went { WentAll (IsDueToTree tree) seat.old seat.new }
+    ensures share { seat.new.share ≡ seat.old.share }
 {
     let Some(dockets) = crews else { unreachable!() };
-    let listing = list_tree(rt, alloc, most, workers, tree)?;
+    let listing = list_tree(rt, alloc, most, workers, tree, store, seat)?;
     Ok(open_listing(alloc, margin, listing, &dockets)?)
 }
 

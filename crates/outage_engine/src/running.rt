@@ -1,14 +1,17 @@
 //! The run of the program.
-ghost use Rattle.std.specs.Prelude.{◌≡◌, ◌⊎◌, true, false, []};
+ghost use Rattle.std.specs.Prelude.{◌≡◌, ◌⊎◌, ◌≤◌, true, false, []};
 ghost use Rattle.edge_io.specs.Faults.{Rose};
 ghost use Rattle.board_report.specs.BoardText.{IsDeckOf};
 ghost use Rattle.outage_engine.specs.Answers.{IsOfUnits};
 ghost use Rattle.outage_engine.specs.Openings.{HasPasses, TellsBoard};
 ghost use Rattle.outage_engine.specs.Runs.{AreReading, IsBoard, IsNoBoard, Runs};
-ghost use Rattle.outage_engine.specs.Runs.{IsOfCommand, PrintsBoard, PrintsCheck, PrintsCuts, PrintsHelp};
+ghost use Rattle.outage_engine.specs.Runs.{IsOfCommand, PrintsBoard, PrintsCheck, PrintsCuts, PrintsDiagram, PrintsHelp};
 ghost use Rattle.outage_engine.specs.Runs.{PrintsSafely, PrintsTree};
 ghost use Rattle.outage_engine.specs.Runs.{FailsToRead, RefusesDeck, RefusesLength, RefusesOrders, RefusesWeight, RefusesWords};
 ghost use Rattle.outage_engine.specs.Runs.{AnswersDeck, AnswersLength, AnswersWords, WritesFrontOfText};
+ghost use Rattle.outage_engine.specs.Store.{method_by};
+ghost use Rattle.outage_engine.specs.StoreAfter.{BearsOut, FindsFull, GoesForDeck, LeavesDiagram};
+ghost use Rattle.outage_engine.specs.declared.status.Status.TheVariants.{Done};
 
 use crate::answer::{Answer, answer_words};
 use crate::listing::Listing;
@@ -23,20 +26,27 @@ use outage_board::BoardStart;
 use std::alloc::Global;
 use std::sync::Wait;
 use std::thread::Threads;
+use zdd_shared_table::{NodeStore, StoreSeat};
 
 /// Does all that the program does: the words after its name say what, the source is its input, and the sink its output.
 ///
 /// `cuts` prints the minimal cut sets of the deck, and the orders in which the units of each fail the top event, for
 /// the sets of at most as many members as `--most` says. `board` prints the same, and then one log of the requests of
-/// all crews, decided one after the other at the margin, and the board at the end. `check` prints how large a
-/// well-formed deck is, and `print` its tree. Waits where crews wait for their turn.
+/// all crews, decided one after the other at the margin, and the board at the end. `diagram` prints how large the cut
+/// list and its diagram are, `check` how large a well-formed deck is, and `print` its tree. The diagrams are made in
+/// the store, through the seat. Waits where crews wait for their turn.
 pub fn run<R: Threads + Wait + Sync, S: Source, K: Sink>(
     rt: &R,
     alloc: Global,
     words: &[Word],
     source: &mut S,
     sink: &mut K,
+    store: &NodeStore,
+    seat: &mut StoreSeat,
 ) -> Status
+    requires own { seat.old.store ≡ store.now }
+    requires share { 64 ≤ seat.old.share }
+
     // What was written, for which input, where the run ends well.
     ensures command { IsOfCommand words.now result }
     ensures cuts { PrintsCuts words.now (S.held source.old) (S.held source.new) K.taken sink.old sink.new result }
@@ -44,6 +54,7 @@ pub fn run<R: Threads + Wait + Sync, S: Source, K: Sink>(
     ensures safe { PrintsSafely words.now (S.held source.old) (S.held source.new) K.taken sink.old sink.new result }
     ensures check { PrintsCheck words.now (S.held source.old) (S.held source.new) K.taken sink.old sink.new result }
     ensures print { PrintsTree words.now (S.held source.old) (S.held source.new) K.taken sink.old sink.new result }
+    ensures diagram { PrintsDiagram words.now (S.held source.old) (S.held source.new) K.taken sink.old sink.new result }
     ensures help { PrintsHelp words.now K.taken sink.old sink.new result }
 
     // Each refusal has its cause, and its line was written.
@@ -67,11 +78,18 @@ pub fn run<R: Threads + Wait + Sync, S: Source, K: Sink>(
     ensures due_words { AnswersWords words.now result }
     ensures due_length { AnswersLength words.now (S.held source.old) result }
     ensures due { AnswersDeck words.now (S.held source.old) result }
+
+    // A run that ends by the diagram leaves a seat that knows it. One ends by lists only where a search of its own found
+    // the store full. Whatever the status is, all that was filled and missed is due to the deck's tree.
+    ensures known { LeavesDiagram (S.held source.old) (S.held source.new) seat.new result }
+    ensures full { FindsFull seat.old seat.new result }
+    ensures went { GoesForDeck (S.held source.old) (S.held source.new) seat.old seat.new }
+    ensures share { seat.new.share ≡ seat.old.share }
 {
     if is_board(words) {
-        run_board(rt, alloc, words, source, sink)
+        run_board(rt, alloc, words, source, sink, store, seat)
     } else {
-        run_cuts(rt, alloc, words, source, sink)
+        run_cuts(rt, alloc, words, source, sink, store, seat)
     }
 }
 
@@ -90,14 +108,19 @@ pub fn run_cuts<R: Threads + Sync, S: Source, K: Sink>(
     words: &[Word],
     source: &mut S,
     sink: &mut K,
+    store: &NodeStore,
+    seat: &mut StoreSeat,
 ) -> Status
-    requires { IsNoBoard words.now }
+    requires command { IsNoBoard words.now }
+    requires own { seat.old.store ≡ store.now }
+    requires share { 64 ≤ seat.old.share }
 
     // What was written, for which input, where the run ends well.
     ensures command { IsOfCommand words.now result }
     ensures cuts { PrintsCuts words.now (S.held source.old) (S.held source.new) K.taken sink.old sink.new result }
     ensures check { PrintsCheck words.now (S.held source.old) (S.held source.new) K.taken sink.old sink.new result }
     ensures print { PrintsTree words.now (S.held source.old) (S.held source.new) K.taken sink.old sink.new result }
+    ensures diagram { PrintsDiagram words.now (S.held source.old) (S.held source.new) K.taken sink.old sink.new result }
     ensures help { PrintsHelp words.now K.taken sink.old sink.new result }
 
     // Each refusal has its cause, and its line was written.
@@ -121,8 +144,15 @@ pub fn run_cuts<R: Threads + Sync, S: Source, K: Sink>(
     ensures due_words { AnswersWords words.now result }
     ensures due_length { AnswersLength words.now (S.held source.old) result }
     ensures due { AnswersDeck words.now (S.held source.old) result }
+
+    // A run that ends by the diagram leaves a seat that knows it. One ends by lists only where a search of its own found
+    // the store full. Whatever the status is, all that was filled and missed is due to the deck's tree.
+    ensures known { LeavesDiagram (S.held source.old) (S.held source.new) seat.new result }
+    ensures full { FindsFull seat.old seat.new result }
+    ensures went { GoesForDeck (S.held source.old) (S.held source.new) seat.old seat.new }
+    ensures share { seat.new.share ≡ seat.old.share }
 {
-    answer_and_tell(rt, alloc, words, source, sink)
+    answer_and_tell(rt, alloc, words, source, sink, store, seat)
 }
 
 // Finds the answer, and then writes it.
@@ -132,16 +162,23 @@ fn answer_and_tell<R: Threads + Sync, S: Source, K: Sink>(
     words: &[Word],
     source: &mut S,
     sink: &mut K,
+    store: &NodeStore,
+    seat: &mut StoreSeat,
 ) -> Status
-    requires { IsNoBoard words.now }
+    requires command { IsNoBoard words.now }
+    requires own { seat.old.store ≡ store.now }
+    requires share { 64 ≤ seat.old.share }
     ensures runs { Runs words.now (S.held source.old) (S.held source.new) (Rose (S.faults source.old) (S.faults source.new))
         K.taken K.faults sink.old sink.new result }
     ensures unread { AreReading words.now ⊎ (source.new ≡ source.old) }
+    ensures method { BearsOut (S.held source.old) (S.held source.new) seat.old seat.new result }
+    ensures went { GoesForDeck (S.held source.old) (S.held source.new) seat.old seat.new }
+    ensures share { seat.new.share ≡ seat.old.share }
 {
     let Ok(buffer) = Buffer::new(alloc) else {
         return Status::NoMemory;
     };
-    match answer_words(rt, alloc, words, source) {
+    match answer_words(rt, alloc, words, source, store, seat) {
         Ok(answer) => tell(sink, buffer, &answer),
         Err(RunEnd::Refused(refusal)) => tell(sink, buffer, &Answer::Refused(refusal)),
         Err(RunEnd::NoMemory) => Status::NoMemory,
@@ -156,8 +193,12 @@ pub fn run_board<R: Threads + Wait + Sync, S: Source, K: Sink>(
     words: &[Word],
     source: &mut S,
     sink: &mut K,
+    store: &NodeStore,
+    seat: &mut StoreSeat,
 ) -> Status
-    requires { IsBoard words.now }
+    requires command { IsBoard words.now }
+    requires own { seat.old.store ≡ store.now }
+    requires share { 64 ≤ seat.old.share }
 
     // What was written, for which input, where the run ends well.
     ensures command { IsOfCommand words.now result }
@@ -185,8 +226,15 @@ pub fn run_board<R: Threads + Wait + Sync, S: Source, K: Sink>(
     ensures due_words { AnswersWords words.now result }
     ensures due_length { AnswersLength words.now (S.held source.old) result }
     ensures due { AnswersDeck words.now (S.held source.old) result }
+
+    // A run that ends by the diagram leaves a seat that knows it. One ends by lists only where a search of its own found
+    // the store full. Whatever the status is, all that was filled and missed is due to the deck's tree.
+    ensures known { LeavesDiagram (S.held source.old) (S.held source.new) seat.new result }
+    ensures full { FindsFull seat.old seat.new result }
+    ensures went { GoesForDeck (S.held source.old) (S.held source.new) seat.old seat.new }
+    ensures share { seat.new.share ≡ seat.old.share }
 {
-    serve_and_tell(rt, alloc, words, source, sink)
+    serve_and_tell(rt, alloc, words, source, sink, store, seat)
 }
 
 // Opens the board, serves the crews, and then writes what came of it.
@@ -196,15 +244,22 @@ fn serve_and_tell<R: Threads + Wait + Sync, S: Source, K: Sink>(
     words: &[Word],
     source: &mut S,
     sink: &mut K,
+    store: &NodeStore,
+    seat: &mut StoreSeat,
 ) -> Status
-    requires { IsBoard words.now }
+    requires command { IsBoard words.now }
+    requires own { seat.old.store ≡ store.now }
+    requires share { 64 ≤ seat.old.share }
     ensures runs { Runs words.now (S.held source.old) (S.held source.new) (Rose (S.faults source.old) (S.faults source.new))
         K.taken K.faults sink.old sink.new result }
+    ensures method { BearsOut (S.held source.old) (S.held source.new) seat.old seat.new result }
+    ensures went { GoesForDeck (S.held source.old) (S.held source.new) seat.old seat.new }
+    ensures share { seat.new.share ≡ seat.old.share }
 {
     let Ok(buffer) = Buffer::new(alloc) else {
         return Status::NoMemory;
     };
-    match open_words(rt, alloc, words, source) {
+    match open_words(rt, alloc, words, source, store, seat) {
         Ok(opened) => serve(rt, opened.listing, opened.start, buffer, sink),
         Err(RunEnd::Refused(refusal)) => tell(sink, buffer, &Answer::Refused(refusal)),
         Err(RunEnd::NoMemory) => Status::NoMemory,

@@ -9,8 +9,10 @@ use board_report::DeckFault;
 pub enum Method {
     /// No cut sets were asked for.
     Plain,
-    /// By lists of sets.
+    /// By lists of sets, since the store was full.
     Lists,
+    /// By the diagram of each node in the store.
+    Diagram,
 }
 
 /// How a run ends.

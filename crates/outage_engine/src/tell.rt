@@ -5,13 +5,16 @@ ghost use Rattle.board_report.specs.BoardText.{IsDeckOf, board_text};
 ghost use Rattle.board_report.specs.CheckText.{check_text};
 ghost use Rattle.outage_engine.specs.Answers.{IsOfUnits, IsWritable, listing_text, refusal_line, status_of, text_of};
 ghost use Rattle.outage_engine.specs.Runs.{Tells};
+ghost use Rattle.outage_engine.specs.Store.{method_by};
 
+use crate::Status;
 use crate::answer::Answer;
 use crate::deck::DeckParts;
 use crate::listing::Listing;
 use crate::refusal::Refusal;
-use crate::{Method, Status};
-use board_report::{Notice, put_board, put_check, put_cuts, put_fault, put_notice, put_tree};
+use board_report::{
+    Notice, put_board, put_check, put_cuts, put_diagram, put_fault, put_notice, put_tree,
+};
 use edge_io::{Buffer, Out, Sink, WriteFault};
 use outage_board::BoardState;
 
@@ -37,6 +40,7 @@ fn put_answer<K: Sink>(out: &mut Out<K>, answer: &Answer) -> Result<(), WriteFau
 {
     match answer {
         Answer::Cuts(listing) => put_listing(out, listing),
+        Answer::Diagram(sizes) => put_diagram(out, &sizes.tree, &sizes.cuts, sizes.nodes),
         Answer::Checked(deck) => put_deck(out, deck),
         Answer::Printed(tree) => put_tree(out, tree),
         Answer::Help => put_notice(out, Notice::Usage),
@@ -83,13 +87,13 @@ pub(crate) fn tell_board<K: Sink>(
     requires empty { buffer ≡ [] }
     requires units { IsOfUnits listing.now }
     requires deck { IsDeckOf listing.now.tree state.now.deck }
-    ensures told { Tells K.taken K.faults sink.old sink.new (Status.Done Method.Lists) (listing_text listing.now ++ board_text listing.now.tree state.now) result }
+    ensures told { Tells K.taken K.faults sink.old sink.new (Status.Done (method_by listing.now.root)) (listing_text listing.now ++ board_text listing.now.tree state.now) result }
 {
     let mut out = Out::over(sink, buffer);
     // A failed output fails again where it is finished.
     let _ = put_listing_and_board(&mut out, listing, state);
     match out.finish() {
-        Ok(()) => Status::Done(Method::Lists),
+        Ok(()) => Status::Done(listing.method()),
         Err(_) => Status::WriteFault,
     }
 }

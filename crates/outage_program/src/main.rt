@@ -1,6 +1,7 @@
 //! The program: the words after its name, its standard input and output, and its exit status.
 //!
-//! It stands on `outage_engine` for all that it does and on `edge_io` for the edge over the standard streams.
+//! It stands on `outage_engine` for all that it does, on `zdd_shared_table` for the store of the diagrams, and on
+//! `edge_io` for the edge over the standard streams.
 #![tactic(auto)]
 
 use edge_io::{NoMemory, StdSink, StdSource};
@@ -9,15 +10,24 @@ use std::alloc::AllocError;
 use std::env;
 use std::io::ErrorKind;
 use std::process::ExitCode;
+use zdd_shared_table::{NodeStore, StoreStart};
+
+// The store has two to the power of this slots.
+const STORE_BITS: u32 = 20;
 
 fn main(rt: HostRuntime) -> ExitCode {
-    let status = match words(&rt) {
-        Ok(words) => run(
+    let Ok(words) = words(&rt) else {
+        return ExitCode::from(Status::NoMemory.code());
+    };
+    let status = match NodeStore::new(rt.alloc(), STORE_BITS) {
+        Ok(StoreStart { store, mut seat }) => run(
             &rt,
             rt.alloc(),
             words.as_slice(),
             &mut StdSource::new(rt.stdin()),
             &mut StdSink::new(rt.stdout()),
+            &store,
+            &mut seat,
         ),
         Err(_) => Status::NoMemory,
     };

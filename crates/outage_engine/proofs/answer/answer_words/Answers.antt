@@ -3,12 +3,14 @@ use Rattle.std.proofs.Common.{sym, ap, inl, refl}
 use Rattle.std.proofs.lemmas.Result.{err_from_is_err_and}
 use Rattle.edge_io.specs.Faults.{Rose}
 use Rattle.board_words.specs.Command.{command_of}
-use Rattle.board_words.specs.declared.command.Command.TheVariants.{Cuts, Check, Print, Help}
-use Rattle.outage_engine.specs.declared.status.Method.TheVariants.{Lists, Plain}
+use Rattle.board_words.specs.declared.command.Command.TheVariants.{Cuts, Check, Print, Diagram, Help}
+use Rattle.outage_engine.specs.declared.status.Method.TheVariants.{Plain}
 use Rattle.outage_engine.specs.Gives as gives
 use Rattle.outage_engine.specs.Gives.{done_yet, wants_of}
-use Rattle.outage_engine.specs.Texts.{for_check, for_cuts, for_print}
+use Rattle.outage_engine.specs.Store.{method_by}
+use Rattle.outage_engine.specs.Texts.{for_check, for_cuts, for_diagram, for_print}
 use Rattle.outage_engine.proofs.Answering.{check_of_input, print_of_input, refused_by, refused_for}
+use Rattle.outage_engine.proofs.Serving.{finds_sets}
 use Rattle.outage_engine.proofs.answer.answer_words.Goals as goal
 
 pub list_input-requires-clause-most : goal.list_input-requires-clause-most
@@ -41,7 +43,8 @@ returns-in_err-list_input-in-Some-Cuts-clause-unread g c =
 pub returns-in_ok-list_input-in-Some-Cuts-clause-gives : goal.returns-in_ok-list_input-in-Some-Cuts-clause-gives
 returns-in_ok-list_input-in-Some-Cuts-clause-gives g c =
     let said : command_of c.args.words.now ≡ Some (Cuts c.in-Some-Cuts.most c.in-Some-Cuts.workers) = sym (rw c.in-Some-Cuts.field-0-is at c.in-Some-Cuts.ensures) in
-    gives.done (Cuts c.in-Some-Cuts.most c.in-Some-Cuts.workers) Lists (ap done_yet said) refl c.in_ok-list_input-in-Some-Cuts.ensures.text refl
+    gives.done (Cuts c.in-Some-Cuts.most c.in-Some-Cuts.workers) (method_by c.in_ok-list_input-in-Some-Cuts.field-0.root) (ap done_yet said)
+    (finds_sets c.in_ok-list_input-in-Some-Cuts.field-0.root) c.in_ok-list_input-in-Some-Cuts.ensures.text refl
 
 pub returns-in_ok-list_input-in-Some-Cuts-clause-unread : goal.returns-in_ok-list_input-in-Some-Cuts-clause-unread
 returns-in_ok-list_input-in-Some-Cuts-clause-unread g c =
@@ -111,3 +114,37 @@ pub returns-in-Some-Help-clause-gives : goal.returns-in-Some-Help-clause-gives
 returns-in-Some-Help-clause-gives g c =
     let said : command_of c.args.words.now ≡ Some Help = sym (rw c.in-Some-Help.field-0-is at c.in-Some-Help.ensures) in
     gives.done Help Plain (ap done_yet said) refl refl refl
+
+-- ---- diagram
+
+pub size_input-requires-clause-some : goal.size_input-requires-clause-some
+size_input-requires-clause-some g c _ _ =
+    (c.numbers_are_within_bounds.ensures.within (Diagram c.in-Some-Diagram.workers) c.args.words.now (sym (rw c.in-Some-Diagram.field-0-is at c.in-Some-Diagram.ensures))).0
+
+pub size_input-requires-clause-few : goal.size_input-requires-clause-few
+size_input-requires-clause-few g c _ _ =
+    (c.numbers_are_within_bounds.ensures.within (Diagram c.in-Some-Diagram.workers) c.args.words.now (sym (rw c.in-Some-Diagram.field-0-is at c.in-Some-Diagram.ensures))).1
+
+pub returns-in_err-size_input-in-Some-Diagram-clause-refused : goal.returns-in_err-size_input-in-Some-Diagram-clause-refused
+returns-in_err-size_input-in-Some-Diagram-clause-refused g c =
+    let said : command_of c.args.words.now ≡ Some (Diagram c.in-Some-Diagram.workers) = sym (rw c.in-Some-Diagram.field-0-is at c.in-Some-Diagram.ensures) in
+    let p = err_from_is_err_and c.from_residual-in_err-size_input-in-Some-Diagram.result c.from_residual-in_err-size_input-in-Some-Diagram.ensures.1 in
+    rw (p.1, p.2)
+    (refused_by (g.S.Source.held c.args.source.now) (g.S.Source.held c.size_input.new.source) (Rose (g.S.Source.faults c.args.source.now) (g.S.Source.faults c.size_input.new.source))
+    c.args.words.now for_diagram _ (ap wants_of (ap done_yet said)) c.in_err-size_input-in-Some-Diagram.ensures.refused)
+
+pub returns-in_err-size_input-in-Some-Diagram-clause-unread : goal.returns-in_err-size_input-in-Some-Diagram-clause-unread
+returns-in_err-size_input-in-Some-Diagram-clause-unread g c =
+    let said : command_of c.args.words.now ≡ Some (Diagram c.in-Some-Diagram.workers) = sym (rw c.in-Some-Diagram.field-0-is at c.in-Some-Diagram.ensures) in
+    inl (for_diagram, ap wants_of (ap done_yet said))
+
+pub returns-in_ok-size_input-in-Some-Diagram-clause-gives : goal.returns-in_ok-size_input-in-Some-Diagram-clause-gives
+returns-in_ok-size_input-in-Some-Diagram-clause-gives g c =
+    let said : command_of c.args.words.now ≡ Some (Diagram c.in-Some-Diagram.workers) = sym (rw c.in-Some-Diagram.field-0-is at c.in-Some-Diagram.ensures) in
+    gives.done (Diagram c.in-Some-Diagram.workers) (method_by c.in_ok-size_input-in-Some-Diagram.field-0.nodes) (ap done_yet said)
+    (finds_sets c.in_ok-size_input-in-Some-Diagram.field-0.nodes) c.in_ok-size_input-in-Some-Diagram.ensures.text refl
+
+pub returns-in_ok-size_input-in-Some-Diagram-clause-unread : goal.returns-in_ok-size_input-in-Some-Diagram-clause-unread
+returns-in_ok-size_input-in-Some-Diagram-clause-unread g c =
+    let said : command_of c.args.words.now ≡ Some (Diagram c.in-Some-Diagram.workers) = sym (rw c.in-Some-Diagram.field-0-is at c.in-Some-Diagram.ensures) in
+    inl (for_diagram, ap wants_of (ap done_yet said))

@@ -1,8 +1,10 @@
 use Rattle.std.proofs.lemmas.Result.{IfOk-weaker, IfErr-weaker, err_from_is_err_and}
 use Rattle.edge_io.specs.Faults.{Rose}
 use Rattle.outage_engine.specs.declared.deck.CrewPart.TheVariants.{Needed}
+use Rattle.outage_engine.specs.Store.{method_by}
 use Rattle.outage_engine.specs.Texts.{for_board}
 use Rattle.outage_engine.proofs.Answering.{limit_for, refused_for}
+use Rattle.outage_engine.proofs.SeatLemmas.{bears_out, goes_for_deck}
 use Rattle.outage_engine.proofs.Serving.{opened_of_input}
 use Rattle.outage_engine.proofs.opening.open_input.Goals as goal
 
@@ -28,3 +30,16 @@ returns-clause-refused g c =
     limit_for (g.S.Source.held c.args.source.now) (g.S.Source.held c.read_input.new.source) c.in_ok-deck.deck.tree c.in_ok-deck.deck.crews Needed c.args.most
     (Rose (g.S.Source.faults c.args.source.now) (g.S.Source.faults c.read_input.new.source)) end c.in_ok-deck.ensures.deck limit)
     c.open_deck.ensures.limit
+
+pub returns-clause-method : goal.returns-clause-method
+returns-clause-method g c =
+    IfOk-weaker c.open_deck.result _ _
+    (λ opened found.
+    bears_out (g.S.Source.held c.args.source.now) (g.S.Source.held c.read_input.new.source) c.args.seat.now c.open_deck.new.seat
+    Needed c.in_ok-deck.deck.tree c.in_ok-deck.deck.crews c.in_ok-deck.ensures.deck (method_by opened.listing.root) found)
+    c.open_deck.ensures.found
+
+pub returns-clause-went : goal.returns-clause-went
+returns-clause-went g c =
+    goes_for_deck (g.S.Source.held c.args.source.now) (g.S.Source.held c.read_input.new.source) c.args.seat.now c.open_deck.new.seat
+    Needed c.in_ok-deck.deck.tree c.in_ok-deck.deck.crews c.in_ok-deck.ensures.deck c.open_deck.ensures.went

@@ -3,6 +3,7 @@ use Rattle.std.proofs.Common.{inr, subst}
 use Rattle.edge_io.specs.Faults.{Rose}
 use Rattle.outage_engine.specs.Answers.{refusal_line, refusal_status, status_of, text_of}
 use Rattle.outage_engine.specs.Gives.{Gives}
+use Rattle.outage_engine.proofs.SeatLemmas.{refusal_bears_out, told_bears_out}
 use Rattle.outage_engine.proofs.running.answer_and_tell.Goals as goal
 
 pub returns-in-Ok-answer_words-clause-runs : goal.returns-in-Ok-answer_words-clause-runs
@@ -24,3 +25,18 @@ returns-in-Err-Refused-clause-runs g c =
       gives = rw c.in-Err-Refused.field-0-is at c.in-Err-Refused.ensures.refused;
       told = c.tell-in-Err-Refused.ensures.told;
     }
+
+pub returns-in-Ok-answer_words-clause-method : goal.returns-in-Ok-answer_words-clause-method
+returns-in-Ok-answer_words-clause-method g c =
+    told_bears_out (g.S.Source.held c.args.source.now) (g.S.Source.held c.answer_words.new.source) c.args.seat.now c.answer_words.new.seat
+    g.K.Sink.taken g.K.Sink.faults c.args.sink.now c.tell.new.sink (status_of c.in-Ok-answer_words.answer) (text_of c.in-Ok-answer_words.answer) c.tell.result
+    c.in-Ok-answer_words.ensures.method c.tell.ensures.told
+
+pub returns-in-Err-Refused-clause-method : goal.returns-in-Err-Refused-clause-method
+returns-in-Err-Refused-clause-method g c =
+    let held = g.S.Source.held c.args.source.now in
+    let left = g.S.Source.held c.answer_words.new.source in
+    told_bears_out held left c.args.seat.now c.answer_words.new.seat
+    g.K.Sink.taken g.K.Sink.faults c.args.sink.now c.tell-in-Err-Refused.new.sink
+    (refusal_status c.in-Err-Refused.refusal) (refusal_line c.in-Err-Refused.refusal) c.tell-in-Err-Refused.result
+    (refusal_bears_out held left c.args.seat.now c.answer_words.new.seat c.in-Err-Refused.refusal) c.tell-in-Err-Refused.ensures.told

@@ -3,6 +3,7 @@ use Rattle.edge_io.specs.Faults.{Rose}
 use Rattle.outage_engine.specs.Gives.{wants_of}
 use Rattle.outage_engine.specs.Texts.{for_board}
 use Rattle.outage_engine.proofs.Clauses.{answers_deck, answers_length, answers_words, fails_to_read, front_of, of_command, prints_board, prints_safely, refuses_deck, refuses_length, refuses_orders, refuses_weight, refuses_words, unwritten}
+use Rattle.outage_engine.proofs.SeatLemmas.{finds_full, leaves_diagram}
 use Rattle.outage_engine.proofs.running.run_board.Goals as goal
 
 pub returns-clause-command : goal.returns-clause-command
@@ -90,4 +91,14 @@ returns-clause-due g c =
     g.K.Sink.taken g.K.Sink.faults c.args.sink.now c.serve_and_tell.new.sink c.serve_and_tell.result c.serve_and_tell.ensures.runs
 
 pub returns-clause-unread : goal.returns-clause-unread
-returns-clause-unread g c = inl (for_board c.requires.1, ap wants_of c.requires.3)
+returns-clause-unread g c = inl (for_board c.requires.command.1, ap wants_of c.requires.command.3)
+
+pub returns-clause-known : goal.returns-clause-known
+returns-clause-known g c =
+    leaves_diagram (g.S.Source.held c.args.source.now) (g.S.Source.held c.serve_and_tell.new.source) c.args.seat.now c.serve_and_tell.new.seat
+    c.serve_and_tell.result c.serve_and_tell.ensures.method
+
+pub returns-clause-full : goal.returns-clause-full
+returns-clause-full g c =
+    finds_full (g.S.Source.held c.args.source.now) (g.S.Source.held c.serve_and_tell.new.source) c.args.seat.now c.serve_and_tell.new.seat
+    c.serve_and_tell.result c.serve_and_tell.ensures.method

@@ -1,5 +1,6 @@
 use Rattle.edge_io.specs.Faults.{Rose}
-use Rattle.outage_engine.proofs.Clauses.{answers_deck, answers_length, answers_words, fails_to_read, front_of, of_command, prints_check, prints_cuts, prints_help, prints_tree, refuses_deck, refuses_length, refuses_orders, refuses_weight, refuses_words, unwritten}
+use Rattle.outage_engine.proofs.Clauses.{answers_deck, answers_length, answers_words, fails_to_read, front_of, of_command, prints_check, prints_cuts, prints_diagram, prints_help, prints_tree, refuses_deck, refuses_length, refuses_orders, refuses_weight, refuses_words, unwritten}
+use Rattle.outage_engine.proofs.SeatLemmas.{finds_full, leaves_diagram}
 use Rattle.outage_engine.proofs.running.run_cuts.Goals as goal
 
 pub returns-clause-command : goal.returns-clause-command
@@ -97,3 +98,19 @@ returns-clause-due g c =
     answers_deck c.args.words.now (g.S.Source.held c.args.source.now) (g.S.Source.held c.answer_and_tell.new.source)
     (Rose (g.S.Source.faults c.args.source.now) (g.S.Source.faults c.answer_and_tell.new.source))
     g.K.Sink.taken g.K.Sink.faults c.args.sink.now c.answer_and_tell.new.sink c.answer_and_tell.result c.answer_and_tell.ensures.runs
+
+pub returns-clause-diagram : goal.returns-clause-diagram
+returns-clause-diagram g c =
+    prints_diagram c.args.words.now (g.S.Source.held c.args.source.now) (g.S.Source.held c.answer_and_tell.new.source)
+    (Rose (g.S.Source.faults c.args.source.now) (g.S.Source.faults c.answer_and_tell.new.source))
+    g.K.Sink.taken g.K.Sink.faults c.args.sink.now c.answer_and_tell.new.sink c.answer_and_tell.result c.answer_and_tell.ensures.runs
+
+pub returns-clause-known : goal.returns-clause-known
+returns-clause-known g c =
+    leaves_diagram (g.S.Source.held c.args.source.now) (g.S.Source.held c.answer_and_tell.new.source) c.args.seat.now c.answer_and_tell.new.seat
+    c.answer_and_tell.result c.answer_and_tell.ensures.method
+
+pub returns-clause-full : goal.returns-clause-full
+returns-clause-full g c =
+    finds_full (g.S.Source.held c.args.source.now) (g.S.Source.held c.answer_and_tell.new.source) c.args.seat.now c.answer_and_tell.new.seat
+    c.answer_and_tell.result c.answer_and_tell.ensures.method

@@ -3,8 +3,9 @@ use Rattle.std.proofs.Common.{inr}
 use Rattle.edge_io.specs.Faults.{Rose}
 use Rattle.board_report.specs.BoardText.{board_text}
 use Rattle.outage_engine.specs.declared.status.Status.TheVariants.{Done}
-use Rattle.outage_engine.specs.declared.status.Method.TheVariants.{Lists}
+use Rattle.outage_engine.specs.Store.{method_by}
 use Rattle.outage_engine.specs.Answers.{listing_text, refusal_line, refusal_status}
+use Rattle.outage_engine.proofs.SeatLemmas.{refusal_bears_out, told_bears_out}
 use Rattle.outage_engine.proofs.Serving.{gives_board}
 use Rattle.outage_engine.proofs.running.serve_and_tell.Goals as goal
 
@@ -18,11 +19,16 @@ returns-in-Ok-open_words g c =
     let told = c.serve.ensures.told in
     record {
       runs = inr record {
-        status = Done Lists;
+        status = Done (method_by opened.listing.root);
         text = listing_text opened.listing ++ board_text opened.listing.tree told.0;
         gives = gives_board c.args.words.now held left rose by.0 by.1 by.2 by.3 opened by.4 told.0 told.1;
         told = told.2;
       };
+      method = told_bears_out held left c.args.seat.now c.open_words.new.seat g.K.Sink.taken g.K.Sink.faults c.args.sink.now c.serve.new.sink
+          (Done (method_by opened.listing.root)) (listing_text opened.listing ++ board_text opened.listing.tree told.0) c.serve.result
+          c.in-Ok-open_words.ensures.method told.2;
+      went = c.open_words.ensures.went;
+      share = c.open_words.ensures.share;
     }
 
 pub returns-in-Err-Refused : goal.returns-in-Err-Refused
@@ -34,4 +40,12 @@ returns-in-Err-Refused g c =
         gives = rw c.in-Err-Refused.field-0-is at c.in-Err-Refused.ensures.refused;
         told = c.tell.ensures.told;
       };
+      method =
+          let held = g.S.Source.held c.args.source.now in
+          let left = g.S.Source.held c.open_words.new.source in
+          told_bears_out held left c.args.seat.now c.open_words.new.seat g.K.Sink.taken g.K.Sink.faults c.args.sink.now c.tell.new.sink
+          (refusal_status c.in-Err-Refused.refusal) (refusal_line c.in-Err-Refused.refusal) c.tell.result
+          (refusal_bears_out held left c.args.seat.now c.open_words.new.seat c.in-Err-Refused.refusal) c.tell.ensures.told;
+      went = c.open_words.ensures.went;
+      share = c.open_words.ensures.share;
     }

@@ -1,7 +1,7 @@
 use Rattle.std.proofs.Common.{◌≡◌, arith}
 use Rattle.edge_io.specs.Out.{Puts-finished}
 use Rattle.outage_engine.specs.declared.status.Status.TheVariants.{Done}
-use Rattle.outage_engine.specs.declared.status.Method.TheVariants.{Lists}
+use Rattle.outage_engine.specs.Store.{method_by}
 use Rattle.outage_engine.proofs.Telling.{told_front}
 use Rattle.outage_engine.proofs.tell.tell_board.Goals as goal
 
@@ -13,5 +13,5 @@ returns-in-Err g c =
     c.finish.ensures.all c.finish.ensures.front.1 c.finish.ensures.rose c.finish.ensures.stopped c.finish.ensures.never_falls in
     let same : out.sink.ghost_name ≡ old.sink.ghost_name = c.put_listing_and_board.ensures.puts.same_sink in
     let delivered = rw c.over-out.ensures.sink at end in
-    let told = told_front g.K.Sink.taken g.K.Sink.faults _ _ _ c.finish.result _ (Done Lists) c.in-Err.is delivered in
+    let told = told_front g.K.Sink.taken g.K.Sink.faults _ _ _ c.finish.result _ (Done (method_by c.args.listing.now.root)) c.in-Err.is delivered in
     record { told = grind (arith, told) }

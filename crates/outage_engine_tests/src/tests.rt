@@ -1,18 +1,21 @@
 //! Whole runs of `cuts`, `check` and `print`, from words and bytes to bytes, and runs of words that are no command.
-
-use super::*;
 use edge_io::{Bytes, CallList, HeldSource, KeptSink};
+use outage_engine::{Word, run};
 use std::alloc::{AllocError, Global};
 use std::sync::Wait;
 use std::test::Fail;
 use std::thread::Threads;
+use zdd_shared_table::{NodeStore, StoreStart};
 
-const PAIR: &str = "toplevel T; T and A B; A; B;";
+pub(super) const PAIR: &str = "toplevel T; T and A B; A; B;";
 
 const PAIR_TEXT: &str =
     "tree: 2 units, 1 gates, top T\ncuts: 1, orders: 0\ncut 1: A B\n  (not listed)\n";
 
-const PAIR_ORDERS: &str =
+pub(super) const PAIR_SIZES: &str =
+    "tree: 2 units, 1 gates, top T\nmethod diagram\nnodes: 2\ncuts: 1\nmembers: 2\n";
+
+pub(super) const PAIR_ORDERS: &str =
     "tree: 2 units, 1 gates, top T\ncuts: 1, orders: 2\ncut 1: A B\n  A B\n  B A\n";
 
 const PAIR_CHECKED: &str = "well formed: 2 units, 1 gates, top T\n";
@@ -22,7 +25,7 @@ const PAIR_PRINTED: &str = "toplevel \"T\";\n\"T\" and \"A\" \"B\";\n\"A\";\n\"B
 const USAGE: &str =
     "usage: cuts [--most N] [--workers N] | board [--margin N] [--most N] [--workers N] | check | print | diagram [--workers N] | make --number N [--show deck|summary] | help\n";
 
-fn words_of(alloc: Global, words: &[&str]) -> Result<Vec<Word>, AllocError> {
+pub(super) fn words_of(alloc: Global, words: &[&str]) -> Result<Vec<Word>, AllocError> {
     let mut made = Vec::new(alloc);
     for word in words {
         made.push(Word::of(alloc, word.as_bytes())?)?;
@@ -46,7 +49,16 @@ pub(super) fn ran<R: Threads + Wait + Sync>(
     mut sink: KeptSink,
 ) -> Result<(u8, Bytes), AllocError> {
     let words = words_of(alloc, words)?;
-    let status = run(rt, alloc, words.as_slice(), &mut source, &mut sink);
+    let StoreStart { store, mut seat } = NodeStore::new(alloc, 12)?;
+    let status = run(
+        rt,
+        alloc,
+        words.as_slice(),
+        &mut source,
+        &mut sink,
+        &store,
+        &mut seat,
+    );
     Ok((status.code(), Bytes::of(alloc, sink.bytes())?))
 }
 
@@ -397,7 +409,7 @@ fn a_read_that_fails_is_told(rt: HostRuntime) -> Result<(), Fail> {
 pub(super) fn kept<R: Threads + Wait + Sync>(
     rt: &R,
     alloc: Global,
-    command: &str,
+    words: &[&str],
     deck: &str,
     room: usize,
     failing: Option<u64>,
@@ -408,25 +420,27 @@ pub(super) fn kept<R: Threads + Wait + Sync>(
         calls_of(alloc, None)?,
     );
     let sink = KeptSink::new(alloc, room, calls_of(alloc, failing)?)?;
-    ran(rt, alloc, &[command], source, sink)
+    ran(rt, alloc, words, source, sink)
 }
 
 #[test]
 fn a_sink_that_fails_has_a_front_of_the_text(rt: HostRuntime) -> Result<(), Fail> {
-    for (command, text) in [
-        ("cuts", PAIR_ORDERS),
-        ("check", PAIR_CHECKED),
-        ("print", PAIR_PRINTED),
-    ] {
+    let cases: [(&[&str], &str); 4] = [
+        (&["cuts", "--workers", "1"], PAIR_ORDERS),
+        (&["diagram", "--workers", "1"], PAIR_SIZES),
+        (&["check"], PAIR_CHECKED),
+        (&["print"], PAIR_PRINTED),
+    ];
+    for (words, text) in cases {
         let size = text.len();
         for room in 0..size + 1 {
-            let (code, bytes) = kept(&rt, rt.alloc(), command, PAIR, room, None)?;
+            let (code, bytes) = kept(&rt, rt.alloc(), words, PAIR, room, None)?;
             assert!(rt; text.as_bytes().starts_with(bytes.as_slice()), "at {room}");
             assert_eq!(rt; bytes.as_slice().len(), room);
             assert_eq!(rt; code, if room < size { 4 } else { 0 }, "at {room}");
         }
         for (call, length) in [(0, 0), (1, size)] {
-            let (code, bytes) = kept(&rt, rt.alloc(), command, PAIR, size, Some(call))?;
+            let (code, bytes) = kept(&rt, rt.alloc(), words, PAIR, size, Some(call))?;
             assert_eq!(rt; bytes.as_slice().len(), length);
             assert_eq!(rt; code, 4);
         }

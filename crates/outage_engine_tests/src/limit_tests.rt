@@ -21,7 +21,7 @@ fn an_input_of_the_greatest_size_is_read(rt: HostRuntime) -> Result<(), Fail> {
 }
 
 // The top event is an `and` of so many gates, each an `or` of two units of its own.
-fn and_of_ors(alloc: Global, gates: usize) -> Result<String, AllocError> {
+pub(super) fn and_of_ors(alloc: Global, gates: usize) -> Result<String, AllocError> {
     let mut deck = format!(in alloc; "toplevel T; T and")?;
     for i in 0..gates {
         deck.push_str(format!(in alloc; " g{i}")?.as_str())?;
@@ -85,7 +85,7 @@ fn the_weight_of_the_cut_list_has_a_limit(rt: HostRuntime) -> Result<(), Fail> {
 const EIGHT: [&str; 8] = ["a", "b", "c", "d", "e", "f", "h", "i"];
 
 // The top event is an `or` of so many gates of a kind, each of eight units of its own.
-fn or_of_eights(alloc: Global, gates: usize, kind: &str) -> Result<String, AllocError> {
+pub(super) fn or_of_eights(alloc: Global, gates: usize, kind: &str) -> Result<String, AllocError> {
     let mut deck = format!(in alloc; "toplevel T; T or")?;
     for i in 0..gates {
         deck.push_str(format!(in alloc; " g{i}")?.as_str())?;

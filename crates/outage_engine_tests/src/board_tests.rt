@@ -208,15 +208,16 @@ fn as_many_requests_as_the_limit_allows_are_decided(rt: HostRuntime) -> Result<(
 fn a_sink_that_fails_has_a_front_of_the_board(rt: HostRuntime) -> Result<(), Fail> {
     let deck = format!(in rt.alloc(); "{SYSTEM}{SYSTEM_CREWS}")?;
     let text = format!(in rt.alloc(); "{SYSTEM_ORDERS}{SYSTEM_BOARD}")?;
+    let words = ["board", "--workers", "1"];
     let size = text.len();
     for room in 0..size + 1 {
-        let (code, bytes) = kept(&rt, rt.alloc(), "board", deck.as_str(), room, None)?;
+        let (code, bytes) = kept(&rt, rt.alloc(), &words, deck.as_str(), room, None)?;
         assert!(rt; text.as_bytes().starts_with(bytes.as_slice()), "at {room}");
         assert_eq!(rt; bytes.as_slice().len(), room);
         assert_eq!(rt; code, if room < size { 4 } else { 0 }, "at {room}");
     }
     for (call, length) in [(0, 0), (1, size)] {
-        let (code, bytes) = kept(&rt, rt.alloc(), "board", deck.as_str(), size, Some(call))?;
+        let (code, bytes) = kept(&rt, rt.alloc(), &words, deck.as_str(), size, Some(call))?;
         assert_eq!(rt; bytes.as_slice().len(), length);
         assert_eq!(rt; code, 4);
     }

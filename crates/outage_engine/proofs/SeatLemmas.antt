@@ -1,0 +1,62 @@
+-- What a run does to its seat, from what finding the cut sets of the deck's tree did.
+use Rattle.std.specs.Prelude.{ℕ, List, Option}
+use Rattle.std.proofs.Common.{sym, subst, inl, inr}
+use Rattle.fault_model.specs.Tree.{FaultTree}
+use Rattle.tree_families.specs.Due.{IsDueToTree}
+use Rattle.zdd_shared_table.specs.Seats.{Seated}
+use Rattle.zdd_product.specs.Seats.{WentAll}
+use Rattle.crew_script.specs.declared.dockets.Crew.{Crew}
+use Rattle.outage_engine.specs.declared.deck.CrewPart.{CrewPart}
+use Rattle.outage_engine.specs.declared.refusal.Refusal.{Refusal}
+use Rattle.outage_engine.specs.declared.refusal.Refusal.TheVariants as refusal
+use Rattle.outage_engine.specs.declared.status.Method.{Method}
+use Rattle.outage_engine.specs.declared.status.Method.TheVariants.{Plain, Lists, Diagram}
+use Rattle.outage_engine.specs.declared.status.Status.{Status}
+use Rattle.outage_engine.specs.declared.status.Status.TheVariants.{Done}
+use Rattle.outage_engine.specs.Answers.{refusal_status}
+use Rattle.outage_engine.specs.Deck.{IsWellFormed, StandsFor}
+use Rattle.outage_engine.specs.Gives.{OfInput}
+use Rattle.outage_engine.specs.Runs.{Tells}
+use Rattle.outage_engine.specs.Store.{IsFoundBy}
+use Rattle.outage_engine.specs.StoreAfter.{BearsOut, FindsFull, GoesForDeck, LeavesDiagram}
+use Rattle.outage_engine.proofs.Clauses.{of_input}
+
+module _ (held left : Option (List ℕ)) (before after : Seated) where
+  -- ---- for a deck that was read
+
+  module _ (part : CrewPart) (tree : FaultTree) (crews : Option (List Crew)) (read : OfInput held left (λ bytes. IsWellFormed part bytes tree crews)) where
+    tree_of_input : OfInput held left (λ bytes. StandsFor bytes tree)
+    tree_of_input = of_input held left (λ bytes. IsWellFormed part bytes tree crews) (λ bytes. StandsFor bytes tree) (λ bytes deck. deck.stands) read
+
+    pub goes_for_deck : WentAll (IsDueToTree tree) before after → GoesForDeck held left before after
+    goes_for_deck went = inr (tree, tree_of_input, went)
+
+    pub bears_out : (method : Method) → IsFoundBy before after tree method → BearsOut held left before after (Done method)
+    bears_out Diagram known = (tree, tree_of_input, known)
+    bears_out Lists full = full
+    bears_out Plain none = none
+
+  -- ---- for a status
+
+  -- no refusal has a method
+  pub refusal_bears_out : (why : Refusal) → BearsOut held left before after (refusal_status why)
+  refusal_bears_out refusal.Usage = tt
+  refusal_bears_out refusal.ReadFault = tt
+  refusal_bears_out refusal.TooLong = tt
+  refusal_bears_out (refusal.Fault fault) = tt
+  refusal_bears_out refusal.ListLimit = tt
+  refusal_bears_out refusal.OrderLimit = tt
+
+  -- a run that told a status ends with it, or with a write fault
+  pub told_bears_out : {K : Type 0} (taken : K → Option (List ℕ)) (faults : K → ℕ) (old new : K) (status : Status) (text : List ℕ) (result : Status)
+      → BearsOut held left before after status → Tells taken faults old new status text result → BearsOut held left before after result
+  told_bears_out taken faults old new status text result bears told = elim told [
+    | inl whole ↦ subst (BearsOut held left before after) (sym whole.0) bears
+    | inr short ↦ subst (BearsOut held left before after) (sym short.0) tt
+  ]
+
+  pub leaves_diagram : (result : Status) → BearsOut held left before after result → LeavesDiagram held left after result
+  leaves_diagram result bears is = subst (BearsOut held left before after) is bears
+
+  pub finds_full : (result : Status) → BearsOut held left before after result → FindsFull before after result
+  finds_full result bears is = subst (BearsOut held left before after) is bears
