@@ -5,4 +5,3 @@ mod CrewNames
 mod LogLemmas
 mod BoardLemmas
 mod PrintLemmas
-mod TestLemmas

@@ -9,8 +9,6 @@
 #![tactic(auto)]
 
 mod board;
-#[cfg(test)]
-mod board_tests;
 mod check;
 mod cuts;
 mod diagram;
@@ -23,10 +21,6 @@ mod notice;
 mod orders;
 mod pieces;
 mod print;
-#[cfg(test)]
-mod tests;
-#[cfg(test)]
-mod tree_tests;
 
 pub use board::put_board;
 pub use check::put_check;

@@ -8,8 +8,6 @@
 #![tactic(auto)]
 
 mod copies;
-#[cfg(test)]
-mod crew_tests;
 mod crews;
 mod deck;
 mod dockets;
@@ -18,8 +16,6 @@ pub mod laws;
 mod line;
 mod names;
 mod reading;
-#[cfg(test)]
-mod tests;
 mod text_lines;
 mod word;
 

@@ -7,7 +7,5 @@
 #![tactic(auto)]
 
 mod serving;
-#[cfg(test)]
-mod tests;
 
 pub use serving::serve_all;

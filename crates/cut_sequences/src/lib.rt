@@ -18,8 +18,6 @@ mod refusal;
 mod rounds;
 mod search;
 mod share;
-#[cfg(test)]
-mod tests;
 
 pub use listing::{ORDER_LIMIT, orders};
 pub use lists::OrderLists;

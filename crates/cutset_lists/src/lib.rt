@@ -19,8 +19,6 @@ mod product;
 mod sifting;
 mod sort;
 mod split;
-#[cfg(test)]
-mod tests;
 mod votes;
 mod waiting;
 

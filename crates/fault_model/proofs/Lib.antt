@@ -4,5 +4,3 @@ pub mod NameLemmas
 pub mod TreeLemmas
 pub mod EvalLemmas
 pub mod OrderLemmas
-pub mod TreeDecided
-pub mod ManyUnits

@@ -18,8 +18,6 @@ mod node;
 mod order;
 mod parts;
 mod reading;
-#[cfg(test)]
-mod tests;
 mod tree;
 mod trigger;
 mod walk;

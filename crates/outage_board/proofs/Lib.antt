@@ -3,7 +3,6 @@ pub mod HistoryLemmas
 pub mod BoardLemmas
 pub mod TakeLemmas
 pub mod OpeningLemmas
-pub mod TestLemmas
 pub mod SafetyLemmas
 pub mod TimesLemmas
 pub mod StepLemmas

@@ -16,8 +16,6 @@ mod requests;
 mod rule;
 mod state;
 mod table;
-#[cfg(test)]
-mod tests;
 mod turns;
 mod view;
 

@@ -16,8 +16,6 @@ pub mod laws;
 mod readers;
 mod replay;
 mod steps;
-#[cfg(test)]
-mod tests;
 
 pub use fault_model::NoMemory;
 pub use replay::{Pushed, Replay};

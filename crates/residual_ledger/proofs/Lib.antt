@@ -6,4 +6,3 @@ pub mod HoldingLemmas
 pub mod FillingLemmas
 pub mod LedgerLemmas
 pub mod SearchLemmas
-pub mod TestLemmas

@@ -10,8 +10,6 @@ mod counts;
 mod holding;
 pub mod laws;
 mod ledger;
-#[cfg(test)]
-mod tests;
 
 pub use ledger::Ledger;
 pub use unit_sets::NoMemory;

@@ -18,8 +18,6 @@ mod numbered;
 mod numbering;
 mod spares;
 mod statements;
-#[cfg(test)]
-mod tests;
 
 pub use checking::check;
 pub use fault::{CheckCode, CheckFault};

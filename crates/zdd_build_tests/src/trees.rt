@@ -75,13 +75,14 @@ pub(crate) fn cut_count<R: Threads + Sync, P: Pace>(
 
 #[test]
 fn two_of_three_and_its_kin(rt: HostRuntime) -> Result<(), Fail> {
-    let texts: [&[u8]; 6] = [
+    let texts: [&[u8]; 7] = [
         b"toplevel T; T 2of3 A B C; A; B; C;",
         b"toplevel T; T and A A; A;",
         b"toplevel T; T or G H; G and A B; H and A B C; A; B; C;",
         b"toplevel T; T por A B; A; B;",
         b"toplevel T; T pand A B; F fdep A B; A; B;",
         b"toplevel A; A;",
+        b"toplevel T; T or A; A;",
     ];
     for text in texts {
         assert!(rt; agrees(&rt, rt.alloc(), text)?);

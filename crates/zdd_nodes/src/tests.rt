@@ -1,17 +1,11 @@
-//! Gates and units over small families, a full store, and the room of a small tree.
-ghost use Rattle.std.specs.Prelude.{◌≡◌, ◌≤◌, ◌<◌, [], ◌∷◌, map, replicate, All, IfOk, IsTrue, OnOk};
-ghost use Rattle.fault_model.specs.Name.{is_name_byte};
-ghost use Rattle.fault_model.specs.declared.node.GateKind.TheVariants.{Or};
+//! Gates and units over small families, and a full store.
+ghost use Rattle.std.specs.Prelude.{◌≡◌, ◌<◌, [], ◌∷◌, IfOk, OnOk};
 ghost use Rattle.zdd_families.specs.Map.{Knows, KnowsAs, Grown};
 ghost use Rattle.zdd_shared_table.specs.Seats.{map_of};
 ghost use Rattle.zdd_nodes.specs.Reading.{CanVote};
 
-use super::*;
 use crate::recipes::{make_gate, make_unit};
-use fault_model::{
-    AttributeList, AttributeLists, GateKind, InputLists, KindList, Name, NameTable, NoMemory,
-    NodeList, NodeNo, Tree, TreeParts,
-};
+use fault_model::GateKind;
 use std::alloc::Global;
 use std::process::Abort;
 use std::test::Fail;
@@ -135,101 +129,6 @@ fn unit_gives(alloc: Global, number: u16, trigger: &[u16], wanted: &[u16]) -> Re
 fn a_unit_fails_by_its_trigger(rt: HostRuntime) -> Result<(), Fail> {
     assert!(rt; unit_gives(rt.alloc(), 1, &[2, 0], &[1, 0, 2, 0])?);
     assert!(rt; unit_gives(rt.alloc(), 1, &[1, 2, 0, 3, 0], &[1, 0, 3, 0])?);
-    Ok(())
-}
-
-// Names of one letter each.
-fn letter_names(alloc: Global, letters: &[u8]) -> Result<NameTable, NoMemory>
-    requires { All (λ letter. IsTrue (is_name_byte letter)) letters.now }
-    ensures { IfOk result (λ names. names ≡ map (λ letter. letter ∷ []) letters.now) }
-{
-    let mut names = NameTable::new(alloc);
-    for letter in letters {
-        match Name::new(alloc, &[*letter])? {
-            Some(name) => names.push(name)?,
-            None => unreachable!(),
-        }
-    }
-    Ok(names)
-}
-
-fn node_list(alloc: Global, numbers: &[u32]) -> Result<NodeList, NoMemory>
-    ensures { IfOk result (λ nodes. nodes ≡ numbers.now) }
-{
-    let mut nodes = NodeList::new(alloc);
-    for number in numbers {
-        nodes.push(NodeNo(*number))?;
-    }
-    Ok(nodes)
-}
-
-fn kind_list(alloc: Global, kinds: &[GateKind]) -> Result<KindList, NoMemory>
-    ensures { IfOk result (λ list. list ≡ kinds.now) }
-{
-    let mut list = KindList::new(alloc);
-    for kind in kinds {
-        list.push(*kind)?;
-    }
-    Ok(list)
-}
-
-// No attributes of each of some units.
-fn bare_units(alloc: Global, units: usize) -> Result<AttributeLists, NoMemory>
-    ensures { IfOk result (λ lists. lists ≡ replicate units []) }
-{
-    let mut lists = AttributeLists::new(alloc);
-    for _ in 0..units {
-        lists.push(AttributeList::new(alloc))?;
-    }
-    Ok(lists)
-}
-
-// The inputs of one gate.
-fn one_list(alloc: Global, inputs: &[u32]) -> Result<InputLists, NoMemory>
-    ensures { IfOk result (λ lists. lists ≡ inputs.now ∷ []) }
-{
-    let mut lists = InputLists::new(alloc);
-    lists.push(node_list(alloc, inputs)?)?;
-    Ok(lists)
-}
-
-// `toplevel T; T or A; A;`, with the unit A and then the gate T.
-fn or_of_one(alloc: Global) -> Result<Tree, NoMemory>
-    ensures kinds { IfOk result (λ tree. tree.kinds ≡ Or ∷ []) }
-    ensures inputs { IfOk result (λ tree. tree.inputs ≡ (1 ∷ []) ∷ []) }
-    ensures attributes { IfOk result (λ tree. tree.attributes ≡ [] ∷ []) }
-{
-    let parts = TreeParts {
-        names: letter_names(alloc, &[65, 84])?,
-        kinds: kind_list(alloc, &[GateKind::Or])?,
-        inputs: one_list(alloc, &[1])?,
-        attributes: bare_units(alloc, 1)?,
-        top: NodeNo(2),
-    };
-    Tree::new(alloc, parts)
-}
-
-// The families of both nodes, the unit's first: whether each is that of the unit alone.
-fn both_nodes(alloc: Global, tree: &Tree) -> Result<bool, Fail>
-    requires kinds { tree.now.kinds ≡ Or ∷ [] }
-    requires inputs { tree.now.inputs ≡ (1 ∷ []) ∷ [] }
-    requires attributes { tree.now.attributes ≡ [] ∷ [] }
-{
-    let mut rooms = Rooms::new(alloc, tree)?;
-    let StoreStart { store, seat } = NodeStore::new(alloc, 10)?;
-    let mut ops = ops_on(alloc, &store, seat)?;
-    let none = [NodeRef::EMPTY; 2];
-    let own = cut_family(&mut ops, tree, NodeNo(1), &none, &mut rooms)?;
-    let known = [own, NodeRef::EMPTY];
-    let top = cut_family(&mut ops, tree, NodeNo(2), &known, &mut rooms)?;
-    let wanted = family_of(&mut ops, &[1, 0])?;
-    Ok(own == wanted && top == wanted)
-}
-
-#[test]
-fn a_tree_of_one_unit_is_built(rt: HostRuntime) -> Result<(), Fail> {
-    let tree = or_of_one(rt.alloc())?;
-    assert!(rt; both_nodes(rt.alloc(), &tree)?);
     Ok(())
 }
 

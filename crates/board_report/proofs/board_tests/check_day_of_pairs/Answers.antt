@@ -1,8 +1,0 @@
-use Rattle.std.proofs.Common.{ℕ, List, sym, subst}
-use Rattle.residual_ledger.specs.Residual.{HasUnitsUpTo}
-use Rattle.board_report.proofs.TestLemmas.{pairs_known}
-use Rattle.board_report.proofs.board_tests.check_day_of_pairs.Goals as goal
-
-pub check_day-requires : goal.check_day-requires
-check_day-requires g c =
-    record { known = subst (λ (p : ℕ × List (List ℕ)). HasUnitsUpTo p.0 p.1) (λ i. (sym c.requires.units i, sym c.in_ok-cuts.ensures i)) pairs_known }
