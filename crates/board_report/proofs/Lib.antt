@@ -5,3 +5,4 @@ mod CrewNames
 mod LogLemmas
 mod BoardLemmas
 mod PrintLemmas
+mod PrintedTrees

@@ -1,28 +1,10 @@
 -- The text of the command `print`: the tree in its own grammar, one statement a line, with every name in quotes.
-use Rattle.std.specs.Prelude.{ℕ, ◌+◌, if◌then◌else◌, List, ◌++◌, codes, decimal}
-use Rattle.std.specs.List.{flat_map, list_all, range_with_len}
-use Rattle.galileo_lexer.specs.Bytes.{is_word_byte}
-use Rattle.fault_model.specs.declared.list.Attribute.{Attribute}
-use Rattle.fault_model.specs.declared.node.GateKind.{GateKind}
-use Rattle.fault_model.specs.declared.node.GateKind.TheVariants.{And, Or, Votes, Pand, Por, Seq, Fdep, Csp, Wsp, Hsp}
+use Rattle.std.specs.Prelude.{◌≡◌, ℕ, ◌+◌, true, List, ◌++◌, All, codes}
+use Rattle.std.specs.List.{flat_map, range_with_len}
+use Rattle.fault_model.specs.Name.{is_name}
 use Rattle.fault_model.specs.Tree.{FaultTree, unit_count, gate_count, name_of, kind_of, inputs_of, attributes_of}
-
--- a name in quotes
-abbrev pub quoted : List ℕ → List ℕ
-quoted name = codes "\"" ++ (name ++ codes "\"")
-
--- the word of a gate
-abbrev pub gate_word : GateKind → List ℕ
-gate_word And = codes "and"
-gate_word Or = codes "or"
-gate_word (Votes least inputs) = decimal least ++ (codes "of" ++ decimal inputs)
-gate_word Pand = codes "pand"
-gate_word Por = codes "por"
-gate_word Seq = codes "seq"
-gate_word Fdep = codes "fdep"
-gate_word Csp = codes "csp"
-gate_word Wsp = codes "wsp"
-gate_word Hsp = codes "hsp"
+use Rattle.deck_reading.specs.TreeStatements.{HasNames}
+use Rattle.deck_reading.specs.Written.{attribute_text, gate_word, quoted}
 
 -- `toplevel "NAME";`
 abbrev pub top_line : FaultTree → List ℕ
@@ -39,18 +21,6 @@ gate_line tree gate =
     ++ (codes " " ++ (gate_word (kind_of tree gate)
     ++ (flat_map (input_text tree) (inputs_of tree gate) ++ codes ";\n")))
 
--- a value as it is where it has only bytes of a word, and else in quotes
-abbrev pub value_text : List ℕ → List ℕ
-value_text value = if list_all is_word_byte value then value else quoted value
-
--- ` word=`
-abbrev pub attribute_word : List ℕ → List ℕ
-attribute_word word = codes " " ++ (word ++ codes "=")
-
--- ` word=value`
-abbrev pub attribute_text : Attribute → List ℕ
-attribute_text attribute = attribute_word attribute.word ++ value_text attribute.value
-
 -- `"NAME" word=value ..;`
 abbrev pub unit_line : FaultTree → ℕ → List ℕ
 unit_line tree unit = quoted (name_of tree unit) ++ (flat_map attribute_text (attributes_of tree unit) ++ codes ";\n")
@@ -61,3 +31,8 @@ print_text tree =
     top_line tree
     ++ (flat_map (gate_line tree) (range_with_len (unit_count tree + 1) (gate_count tree))
     ++ flat_map (unit_line tree) (range_with_len 1 (unit_count tree)))
+
+-- the name of a unit has the form of one, and so have the words and the values of its attributes
+pub record IsNamedUnit (tree : FaultTree) (unit : ℕ) : Type 0 where
+  pub name : is_name (name_of tree unit) ≡ true
+  pub attributes : All HasNames (attributes_of tree unit)

@@ -71,7 +71,9 @@ fault_line fault =
     ++ codes "\n"
 
 abbrev pub notice_line : Notice → List ℕ
-notice_line Usage = codes "usage: cuts [--most N] [--workers N] | board [--margin N] [--most N] [--workers N] | check | print | diagram [--workers N] | make --number N [--show deck|summary] | help\n"
+notice_line Usage =
+    codes
+    "usage: cuts [--most N] [--workers N] | board [--margin N] [--most N] [--workers N] | check | print | diagram [--workers N] | make --number N [--show deck|summary] | help\n"
 notice_line ReadFault = codes "refused: read fault\n"
 notice_line TooLong = codes "refused: input too long\n"
 notice_line ListLimit = codes "refused: list limit 16777216\n"

@@ -1,26 +1,35 @@
 //! A tree in its own grammar, one statement a line.
-ghost use Rattle.std.specs.Prelude.{◌≡◌, ◌<◌, ◌+◌, ◌++◌, codes, is_err, length, false, All};
+ghost use Rattle.std.specs.Prelude.{◌≡◌, ℕ, ◌<◌, ◌+◌, ◌++◌, codes, is_err, length, false, true, All, OnOk};
 ghost use Rattle.std.specs.List.{flat_map, list_all, range_with_len};
 ghost use Rattle.edge_io.specs.Out.{has_failed, Puts};
+ghost use Rattle.fault_model.specs.Name.{is_name};
 ghost use Rattle.fault_model.specs.Tree.{IsGateOf, IsNodeOf, IsUnitOf, attributes_of, gate_count, inputs_of, kind_of};
 ghost use Rattle.fault_model.specs.Tree.{name_of, unit_count};
+ghost use Rattle.fault_model.specs.WellFormed.{IsTree};
 ghost use Rattle.galileo_lexer.specs.Bytes.{is_word_byte};
 ghost use Rattle.fault_model.specs.declared.node.GateKind.TheVariants.{Votes};
-ghost use Rattle.board_report.specs.PrintText.{attribute_text, attribute_word, gate_line, gate_word, input_text};
-ghost use Rattle.board_report.specs.PrintText.{print_text, quoted, top_line, unit_line, value_text};
+ghost use Rattle.deck_reading.specs.Deck.{StandsFor};
+ghost use Rattle.deck_reading.specs.TreeStatements.{HasNames};
+ghost use Rattle.deck_reading.specs.Written.{attribute_text, attribute_word, gate_word, quoted, value_text};
+ghost use Rattle.board_report.specs.PrintText.{IsNamedUnit, gate_line, input_text, print_text, top_line, unit_line};
 
 use crate::cuts::top_name;
+use crate::laws::printed_trees_are_read;
 use crate::pieces::put_all;
 use edge_io::{Out, Sink, WriteFault};
 use fault_model::{Attribute, GateKind, Name, NodeNo, Tree};
 use itoa::Buffer;
 use unit_sets::UnitNo;
 
-/// Puts a tree as a text: the top event, then the gates and the units by number. Every name stands in quotes.
+/// Puts a tree as a text: the top event, then the gates and the units by number. Every name stands in quotes. Where all
+/// of it is put
+/// it stands for this tree again.
 pub fn put_tree<K: Sink>(out: &mut Out<K>, tree: &Tree) -> Result<(), WriteFault>
     ensures puts { Puts K.taken K.faults out.old out.new (print_text tree.now) }
     ensures answer { is_err result ≡ has_failed out.new }
+    ensures read { OnOk result (StandsFor (print_text tree.now) tree.now) }
 {
+    printed_trees_are_read();
     put_top_line(out, tree)?;
     put_gates(out, tree)?;
     put_units(out, tree)
@@ -37,6 +46,7 @@ fn put_top_line<K: Sink>(out: &mut Out<K>, tree: &Tree) -> Result<(), WriteFault
 fn put_quoted<K: Sink>(out: &mut Out<K>, name: &Name) -> Result<(), WriteFault>
     ensures puts { Puts K.taken K.faults out.old out.new (quoted name.now) }
     ensures answer { is_err result ≡ has_failed out.new }
+    ensures form { is_name name.now ≡ true }
 {
     put_all(out, &[b"\"", name.as_slice(), b"\""])
 }
@@ -54,6 +64,7 @@ fn put_gates<K: Sink>(out: &mut Out<K>, tree: &Tree) -> Result<(), WriteFault>
     ensures puts { Puts K.taken K.faults out.old out.new
         (flat_map (gate_line tree.now) (range_with_len (unit_count tree.now + 1) (gate_count tree.now))) }
     ensures answer { is_err result ≡ has_failed out.new }
+    ensures named { OnOk result ((gate : ℕ) → IsGateOf tree.now gate → is_name (name_of tree.now gate) ≡ true) }
 {
     let units = tree.units();
     for i in 0..tree.gates() {
@@ -66,6 +77,7 @@ fn put_gate_line<K: Sink>(out: &mut Out<K>, tree: &Tree, gate: NodeNo) -> Result
     requires { IsGateOf tree.now gate }
     ensures puts { Puts K.taken K.faults out.old out.new (gate_line tree.now gate) }
     ensures answer { is_err result ≡ has_failed out.new }
+    ensures named { is_name (name_of tree.now gate) ≡ true }
 {
     put_quoted(out, node_name(tree, gate))?;
     out.put(b" ")?;
@@ -135,6 +147,8 @@ fn put_units<K: Sink>(out: &mut Out<K>, tree: &Tree) -> Result<(), WriteFault>
     ensures puts { Puts K.taken K.faults out.old out.new
         (flat_map (unit_line tree.now) (range_with_len 1 (unit_count tree.now))) }
     ensures answer { is_err result ≡ has_failed out.new }
+    ensures named { OnOk result ((unit : ℕ) → IsUnitOf tree.now unit → IsNamedUnit tree.now unit) }
+    ensures kept { IsTree tree.now }
 {
     for i in 0..tree.units() {
         put_unit_line(out, tree, i + 1)?;
@@ -146,6 +160,7 @@ fn put_unit_line<K: Sink>(out: &mut Out<K>, tree: &Tree, unit: u32) -> Result<()
     requires { IsUnitOf tree.now unit }
     ensures puts { Puts K.taken K.faults out.old out.new (unit_line tree.now unit) }
     ensures answer { is_err result ≡ has_failed out.new }
+    ensures named { OnOk result (IsNamedUnit tree.now unit) }
 {
     put_quoted(out, node_name(tree, NodeNo(unit)))?;
     put_attributes(out, attributes_at(tree, unit))?;
@@ -168,6 +183,7 @@ fn put_attributes<K: Sink>(out: &mut Out<K>, attributes: &[Attribute]) -> Result
     requires fine { has_failed out.old ≡ false }
     ensures puts { Puts K.taken K.faults out.old out.new (flat_map attribute_text attributes.now) }
     ensures answer { is_err result ≡ has_failed out.new }
+    ensures named { OnOk result (All HasNames attributes.now) }
 {
     for attribute in attributes {
         put_attribute(out, attribute)?;
@@ -178,6 +194,7 @@ fn put_attributes<K: Sink>(out: &mut Out<K>, attributes: &[Attribute]) -> Result
 fn put_attribute<K: Sink>(out: &mut Out<K>, attribute: &Attribute) -> Result<(), WriteFault>
     ensures puts { Puts K.taken K.faults out.old out.new (attribute_text attribute.now) }
     ensures answer { is_err result ≡ has_failed out.new }
+    ensures named { OnOk result (HasNames attribute.now) }
 {
     put_attribute_word(out, &attribute.word)?;
     put_value(out, &attribute.value)
@@ -186,6 +203,7 @@ fn put_attribute<K: Sink>(out: &mut Out<K>, attribute: &Attribute) -> Result<(),
 fn put_attribute_word<K: Sink>(out: &mut Out<K>, word: &Name) -> Result<(), WriteFault>
     ensures puts { Puts K.taken K.faults out.old out.new (attribute_word word.now) }
     ensures answer { is_err result ≡ has_failed out.new }
+    ensures form { is_name word.now ≡ true }
 {
     put_all(out, &[b" ", word.as_slice(), b"="])
 }
@@ -194,6 +212,7 @@ fn put_attribute_word<K: Sink>(out: &mut Out<K>, word: &Name) -> Result<(), Writ
 fn put_value<K: Sink>(out: &mut Out<K>, value: &Name) -> Result<(), WriteFault>
     ensures puts { Puts K.taken K.faults out.old out.new (value_text value.now) }
     ensures answer { is_err result ≡ has_failed out.new }
+    ensures form { is_name value.now ≡ true }
 {
     if has_word_bytes(value.as_slice()) {
         out.put(value.as_slice())

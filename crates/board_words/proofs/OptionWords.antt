@@ -1,5 +1,6 @@
 -- Options as words, and as options with their values.
-use Rattle.std.specs.Prelude.{◌≡◌, ◌≢◌, ℕ, ◌<◌, Bool, true, false, not, if◌then◌else◌, List, [], ◌∷◌, decimal, Option, Some, None, unwrap_or}
+use Rattle.std.specs.Prelude.{◌≡◌, ◌≢◌, ℕ, ◌<◌, Bool, true, false, not, if◌then◌else◌, List, [], ◌∷◌, decimal, Option}
+use Rattle.std.specs.Prelude.{Some, None, unwrap_or}
 use Rattle.std.specs.List.{Any}
 use Rattle.std.proofs.Common.{refl, sym, ap, ◌∙◌, subst, inl, inr, true≢false}
 use Rattle.std.proofs.lemmas.Bool.{and_parts, and_from, or_parts, or_from, not-true}
@@ -30,21 +31,28 @@ word_other word other apart = by_test (is_same word other) refl
 lacked : (options : List Said) (option : List ℕ) → Lacks options option → is_option option (words_of options) ≡ false
 lacked [] option lacks = refl
 lacked (said ∷ more) option lacks =
-    or_from (is_same said.option option) (is_option option (words_of more)) (word_other said.option option lacks.0) (lacked more option lacks.1)
+    or_from (is_same said.option option) (is_option option (words_of more)) (word_other said.option option lacks.0)
+    (lacked more option lacks.1)
 
-pub lacks_value : (options : List Said) (option : List ℕ) → Lacks options option → value_of option (words_of options) ≡ None
+pub lacks_value : (options : List Said) (option : List ℕ) → Lacks options option
+    → value_of option (words_of options) ≡ None
 lacks_value [] option lacks = refl
 lacks_value (said ∷ more) option lacks =
-    ap (λ b. if b then Some said.value else value_of option (words_of more)) (word_other said.option option lacks.0) ∙ lacks_value more option lacks.1
+    ap (λ b. if b then Some said.value else value_of option (words_of more)) (word_other said.option option lacks.0)
+    ∙ lacks_value more option lacks.1
 
-has_not : {P : Type 0} (options : List Said) (option value : List ℕ) → Lacks options option → Has options option value → P
+has_not : {P : Type 0} (options : List Said) (option value : List ℕ) → Lacks options option → Has options option value
+    → P
 has_not [] option value lacks has = absurd has
-has_not (said ∷ more) option value lacks has = elim has [ inl here ↦ absurd (lacks.0 here.0) | inr behind ↦ has_not more option value lacks.1 behind ]
+has_not (said ∷ more) option value lacks has =
+    elim has [ inl here ↦ absurd (lacks.0 here.0) | inr behind ↦ has_not more option value lacks.1 behind ]
 
-pub has_value : (known : List (List ℕ)) (options : List Said) (option value : List ℕ) → AreSaid known options → Has options option value → value_of option (words_of options) ≡ Some value
+pub has_value : (known : List (List ℕ)) (options : List Said) (option value : List ℕ) → AreSaid known options
+    → Has options option value → value_of option (words_of options) ≡ Some value
 has_value known [] option value all has = absurd has
 has_value known (said ∷ more) option value all has = elim has [
-  | inl here ↦ ap (λ b. if b then Some said.value else value_of option (words_of more)) (word_same said.option option here.0) ∙ ap (λ v. Some v) here.1
+  | inl here ↦ ap (λ b. if b then Some said.value else value_of option (words_of more))
+      (word_same said.option option here.0) ∙ ap (λ v. Some v) here.1
   | inr behind ↦
       ap (λ b. if b then Some said.value else value_of option (words_of more))
       (word_other said.option option (λ same. has_not more option value (subst (Lacks more) same all.1) behind))
@@ -56,11 +64,14 @@ some_word word other e = ap (λ o. unwrap_or o []) e
 
 first_or_later : (options : List Said) (said : Said) (option value : List ℕ) (b : Bool) → is_same said.option option ≡ b
     → ((value_of option (words_of options) ≡ Some value) → Has options option value)
-    → (if b then Some said.value else value_of option (words_of options)) ≡ Some value → Has (said ∷ options) option value
-first_or_later options said option value true same later e = inl (same_word said.option option same, some_word said.value value e)
+    → (if b then Some said.value else value_of option (words_of options)) ≡ Some value
+    → Has (said ∷ options) option value
+first_or_later options said option value true same later e =
+    inl (same_word said.option option same, some_word said.value value e)
 first_or_later options said option value false same later e = inr (later e)
 
-pub value_has : (options : List Said) (option value : List ℕ) → value_of option (words_of options) ≡ Some value → Has options option value
+pub value_has : (options : List Said) (option value : List ℕ) → value_of option (words_of options) ≡ Some value
+    → Has options option value
 value_has [] option value e = absurd cc
 value_has (said ∷ more) option value e =
     first_or_later more said option value (is_same said.option option) refl (value_has more option value) e
@@ -71,11 +82,14 @@ not_first : (options : List Said) (said : Said) (option : List ℕ) (b : Bool) �
 not_first options said option true same later e = absurd cc
 not_first options said option false same later e = (other_word said.option option same, later e)
 
-pub value_lacks : (options : List Said) (option : List ℕ) → value_of option (words_of options) ≡ None → Lacks options option
+pub value_lacks : (options : List Said) (option : List ℕ) → value_of option (words_of options) ≡ None
+    → Lacks options option
 value_lacks [] option e = tt
-value_lacks (said ∷ more) option e = not_first more said option (is_same said.option option) refl (value_lacks more option) e
+value_lacks (said ∷ more) option e =
+    not_first more said option (is_same said.option option) refl (value_lacks more option) e
 
-option_lacks : (options : List Said) (option : List ℕ) → is_option option (words_of options) ≡ false → Lacks options option
+option_lacks : (options : List Said) (option : List ℕ) → is_option option (words_of options) ≡ false
+    → Lacks options option
 option_lacks [] option e = tt
 option_lacks (said ∷ more) option e =
     let parts = or_parts (is_same said.option option) (is_option option (words_of more)) e in
@@ -87,16 +101,23 @@ any_weaker : (P Q : List ℕ → Type 0) → ((x : List ℕ) → P x → Q x) �
 any_weaker P Q f xs any = (any.0, any.1, any.2, any.3, f any.1 any.4)
 
 known_is : (known : List (List ℕ)) (word : List ℕ) → Any (λ option. word ≡ option) known → is_known known word ≡ true
-known_is known word any = list_any-from_Any (is_same word) known (any_weaker (λ option. word ≡ option) (λ option. is_same word option ≡ true) (λ option. word_same word option) known any)
+known_is known word any =
+    list_any-from_Any (is_same word) known (any_weaker (λ option. word ≡ option) (λ option. is_same word option ≡ true)
+    (λ option. word_same word option) known any)
 
-is_known_one : (known : List (List ℕ)) (word : List ℕ) → is_known known word ≡ true → Any (λ option. word ≡ option) known
-is_known_one known word e = any_weaker (λ option. is_same word option ≡ true) (λ option. word ≡ option) (λ option. same_word word option) known (Any-from_list_any (is_same word) known e)
+is_known_one : (known : List (List ℕ)) (word : List ℕ) → is_known known word ≡ true
+    → Any (λ option. word ≡ option) known
+is_known_one known word e =
+    any_weaker (λ option. is_same word option ≡ true) (λ option. word ≡ option) (λ option. same_word word option) known
+    (Any-from_list_any (is_same word) known e)
 
-pub are_said : (known : List (List ℕ)) (options : List Said) → AreSaid known options → are_options known (words_of options) ≡ true
+pub are_said : (known : List (List ℕ)) (options : List Said) → AreSaid known options
+    → are_options known (words_of options) ≡ true
 are_said known [] all = refl
 are_said known (said ∷ more) all =
     and_from (is_said_once known said.option (words_of more)) (are_options known (words_of more))
-    (and_from (is_known known said.option) (not (is_option said.option (words_of more))) (known_is known said.option all.0) (ap not (lacked more said.option all.1)))
+    (and_from (is_known known said.option) (not (is_option said.option (words_of more)))
+    (known_is known said.option all.0) (ap not (lacked more said.option all.1)))
     (are_said known more all.2)
 
 -- words as options with their values
@@ -112,7 +133,8 @@ as_said known (option ∷ value ∷ rest) e =
     let parts = and_parts (is_said_once known option rest) (are_options known rest) e in
     let once = and_parts (is_known known option) (not (is_option option rest)) parts.0 in
     let more = as_said known rest parts.1 in
-    let alone : is_option option (words_of more.options) ≡ false = subst (λ w. is_option option w ≡ false) more.are (not-true (is_option option rest) once.1) in
+    let alone : is_option option (words_of more.options) ≡ false =
+    subst (λ w. is_option option w ≡ false) more.are (not-true (is_option option rest) once.1) in
     record {
       options = record { option = option; value = value } ∷ more.options;
       are = ap (λ w. option ∷ value ∷ w) more.are;
@@ -121,18 +143,23 @@ as_said known (option ∷ value ∷ rest) e =
 
 -- ---- numbers
 
-pub number_read : (least most : ℕ) (default : Option ℕ) (known : List (List ℕ)) (option : List ℕ) (options : List Said) (number : ℕ)
-    → most < 1000000 → AreSaid known options → SaysNumber least most default option options number → number_said least most default (value_of option (words_of options)) ≡ Some number
+pub number_read : (least most : ℕ) (default : Option ℕ) (known : List (List ℕ)) (option : List ℕ) (options : List Said)
+    (number : ℕ)
+    → most < 1000000 → AreSaid known options → SaysNumber least most default option options number
+    → number_said least most default (value_of option (words_of options)) ≡ Some number
 number_read least most default known option options number few all (written has low high) =
-    ap (number_said least most default) (has_value known options option (decimal number) all has) ∙ said_within least most number few low high
+    ap (number_said least most default) (has_value known options option (decimal number) all has)
+    ∙ said_within least most number few low high
 number_read least most default known option options number few all (unsaid lacks is) =
     ap (number_said least most default) (lacks_value options option lacks) ∙ is
 
 pub number_says : (least most : ℕ) (default : Option ℕ) (option : List ℕ) (options : List Said) (number : ℕ)
-    → number_said least most default (value_of option (words_of options)) ≡ Some number → SaysNumber least most default option options number
+    → number_said least most default (value_of option (words_of options)) ≡ Some number
+    → SaysNumber least most default option options number
 number_says least most default option options number e = by_value (value_of option (words_of options)) refl e
   where
-    by_value : (value : Option (List ℕ)) → value_of option (words_of options) ≡ value → number_said least most default value ≡ Some number → SaysNumber least most default option options number
+    by_value : (value : Option (List ℕ)) → value_of option (words_of options) ≡ value
+        → number_said least most default value ≡ Some number → SaysNumber least most default option options number
     by_value None is e = unsaid (value_lacks options option is) e
     by_value (Some value) is e =
         let said = says least most value number e in

@@ -1,35 +1,49 @@
 -- The spellings of the commands are read, and nothing else is.
-use Rattle.std.specs.Prelude.{◌≡◌, ℕ, ◌≤◌, Bool, true, false, if◌then◌else◌, List, [], ◌∷◌, codes, Option, Some, None, unwrap_or}
+use Rattle.std.specs.Prelude.{◌≡◌, ℕ, ◌≤◌, Bool, true, false, if◌then◌else◌, List, [], ◌∷◌, codes, Option, Some, None}
+use Rattle.std.specs.Prelude.{unwrap_or}
 use Rattle.std.proofs.Common.{refl, arith, sym, ap, ◌∙◌, subst}
 use Rattle.board_words.specs.declared.command.Command.{Command}
 use Rattle.board_words.specs.declared.command.Command.TheVariants.{Cuts, Board, Check, Print, Diagram, Make, Help}
 use Rattle.board_words.specs.declared.command.Show.{Show}
 use Rattle.board_words.specs.declared.command.Show.TheVariants.{Deck, Summary}
 use Rattle.board_words.specs.Options.{is_same, are_options, value_of}
-use Rattle.board_words.specs.Command.{cuts_options, board_options, diagram_options, make_options, margin_in, most_in, workers_in, number_in, show_said, show_in, cuts_with, board_with, diagram_with, make_with, if_options, cuts_of, board_of, diagram_of, make_of, if_alone, command_of}
+use Rattle.board_words.specs.Command.{cuts_options, board_options, diagram_options, make_options, margin_in, most_in}
+use Rattle.board_words.specs.Command.{workers_in, number_in, show_said, show_in, cuts_with, board_with, diagram_with}
+use Rattle.board_words.specs.Command.{make_with, if_options, cuts_of, board_of, diagram_of, make_of, if_alone}
+use Rattle.board_words.specs.Command.{command_of}
 use Rattle.board_words.specs.Spellings as said
-use Rattle.board_words.specs.Spellings.{Said, words_of, AreSaid, SaysNumber, SaysDeckNumber, SaysShow, Spells, IsWithinBounds}
+use Rattle.board_words.specs.Spellings.{Said, words_of, AreSaid, SaysNumber, SaysDeckNumber, SaysShow, Spells}
+use Rattle.board_words.specs.Spellings.{IsWithinBounds}
 use Rattle.board_words.proofs.Numerals.{some_if, some_is}
-use Rattle.board_words.proofs.OptionWords.{same_word, value_has, value_lacks, has_value, lacks_value, are_said, as_said, number_read, number_says}
+use Rattle.board_words.proofs.OptionWords.{same_word, value_has, value_lacks, has_value, lacks_value, are_said, as_said}
+use Rattle.board_words.proofs.OptionWords.{number_read, number_says}
 
 -- ---- a spelling is read
 
-with_options : (known : List (List ℕ)) (options : List Said) (command : Option Command) → AreSaid known options → if_options known (words_of options) command ≡ command
+with_options : (known : List (List ℕ)) (options : List Said) (command : Option Command) → AreSaid known options
+    → if_options known (words_of options) command ≡ command
 with_options known options command all = ap (λ b. if b then command else None) (are_said known options all)
 
-cuts_read : (a b : Option ℕ) (most workers : ℕ) → a ≡ Some most → b ≡ Some workers → cuts_with a b ≡ Some (Cuts most workers)
+cuts_read : (a b : Option ℕ) (most workers : ℕ) → a ≡ Some most → b ≡ Some workers
+    → cuts_with a b ≡ Some (Cuts most workers)
 cuts_read a b most workers one two = ap (λ o. cuts_with o b) one ∙ ap (cuts_with (Some most)) two
 
-board_read : (a b c : Option ℕ) (margin most workers : ℕ) → a ≡ Some margin → b ≡ Some most → c ≡ Some workers → board_with a b c ≡ Some (Board margin most workers)
+board_read : (a b c : Option ℕ) (margin most workers : ℕ) → a ≡ Some margin → b ≡ Some most → c ≡ Some workers
+    → board_with a b c ≡ Some (Board margin most workers)
 board_read a b c margin most workers one two three =
-    ap (λ o. board_with o b c) one ∙ ap (λ o. board_with (Some margin) o c) two ∙ ap (board_with (Some margin) (Some most)) three
+    ap (λ o. board_with o b c) one ∙ ap (λ o. board_with (Some margin) o c) two
+    ∙ ap (board_with (Some margin) (Some most)) three
 
-make_read : (a : Option ℕ) (b : Option Show) (number : ℕ) (show : Show) → a ≡ Some number → b ≡ Some show → make_with a b ≡ Some (Make number show)
+make_read : (a : Option ℕ) (b : Option Show) (number : ℕ) (show : Show) → a ≡ Some number → b ≡ Some show
+    → make_with a b ≡ Some (Make number show)
 make_read a b number show one two = ap (λ o. make_with o b) one ∙ ap (make_with (Some number)) two
 
-show_read : (known : List (List ℕ)) (options : List Said) (show : Show) → AreSaid known options → SaysShow options show → show_in (words_of options) ≡ Some show
-show_read known options Deck all (said.deck has) = ap show_said (has_value known options (codes "--show") (codes "deck") all has)
-show_read known options Summary all (said.summary has) = ap show_said (has_value known options (codes "--show") (codes "summary") all has)
+show_read : (known : List (List ℕ)) (options : List Said) (show : Show) → AreSaid known options → SaysShow options show
+    → show_in (words_of options) ≡ Some show
+show_read known options Deck all (said.deck has) =
+    ap show_said (has_value known options (codes "--show") (codes "deck") all has)
+show_read known options Summary all (said.summary has) =
+    ap show_said (has_value known options (codes "--show") (codes "summary") all has)
 show_read known options Summary all (said.unsaid_show lacks) = ap show_said (lacks_value options (codes "--show") lacks)
 
 pub spelling_read : (command : Command) (words : List (List ℕ)) → Spells command words → command_of words ≡ Some command
@@ -39,8 +53,10 @@ spelling_read command words (said.cuts options most workers all says_most says_w
     (number_read 0 8 (Some 6) cuts_options (codes "--most") options most (omega arith) all says_most)
     (number_read 1 16 (Some 4) cuts_options (codes "--workers") options workers (omega arith) all says_workers)
 spelling_read command words (said.board options margin most workers all says_margin says_most says_workers) =
-    with_options board_options options (board_with (margin_in (words_of options)) (most_in (words_of options)) (workers_in (words_of options))) all
-    ∙ board_read (margin_in (words_of options)) (most_in (words_of options)) (workers_in (words_of options)) margin most workers
+    with_options board_options options (board_with (margin_in (words_of options)) (most_in (words_of options))
+    (workers_in (words_of options))) all
+    ∙ board_read (margin_in (words_of options)) (most_in (words_of options)) (workers_in (words_of options)) margin most
+    workers
     (number_read 0 4095 (Some 0) board_options (codes "--margin") options margin (omega arith) all says_margin)
     (number_read 0 8 (Some 6) board_options (codes "--most") options most (omega arith) all says_most)
     (number_read 1 16 (Some 4) board_options (codes "--workers") options workers (omega arith) all says_workers)
@@ -48,7 +64,8 @@ spelling_read command words said.check = refl
 spelling_read command words said.print = refl
 spelling_read command words (said.diagram options workers all says_workers) =
     with_options diagram_options options (diagram_with (workers_in (words_of options))) all
-    ∙ ap diagram_with (number_read 1 16 (Some 4) diagram_options (codes "--workers") options workers (omega arith) all says_workers)
+    ∙ ap diagram_with (number_read 1 16 (Some 4) diagram_options (codes "--workers") options workers (omega arith) all
+    says_workers)
 spelling_read command words (said.make options number show all says_number says_show) =
     with_options make_options options (make_with (number_in (words_of options)) (show_in (words_of options))) all
     ∙ make_read (number_in (words_of options)) (show_in (words_of options)) number show
@@ -79,7 +96,8 @@ module _ (command : Command) where
   cuts_parts : (a b : Option ℕ) → cuts_with a b ≡ Some command → Both a b Cuts
   cuts_parts None b e = absurd cc
   cuts_parts (Some most) None e = absurd cc
-  cuts_parts (Some most) (Some workers) e = record { first = most; second = workers; one_is = refl; two_is = refl; is = e }
+  cuts_parts (Some most) (Some workers) e =
+      record { first = most; second = workers; one_is = refl; two_is = refl; is = e }
 
   board_parts : (a b c : Option ℕ) → board_with a b c ≡ Some command → Three a b c
   board_parts None b c e = absurd cc
@@ -88,24 +106,31 @@ module _ (command : Command) where
   board_parts (Some margin) (Some most) (Some workers) e =
       record { first = margin; second = most; third = workers; one_is = refl; two_is = refl; three_is = refl; is = e }
 
-  diagram_parts : (a : Option ℕ) → diagram_with a ≡ Some command → (workers : ℕ) × (a ≡ Some workers) × (Some (Diagram workers) ≡ Some command)
+  diagram_parts : (a : Option ℕ) → diagram_with a ≡ Some command
+      → (workers : ℕ) × (a ≡ Some workers) × (Some (Diagram workers) ≡ Some command)
   diagram_parts None e = absurd cc
   diagram_parts (Some workers) e = (workers, refl, e)
 
   make_parts : (a : Option ℕ) (b : Option Show) → make_with a b ≡ Some command → Both a b Make
   make_parts None b e = absurd cc
   make_parts (Some number) None e = absurd cc
-  make_parts (Some number) (Some show) e = record { first = number; second = show; one_is = refl; two_is = refl; is = e }
+  make_parts (Some number) (Some show) e =
+      record { first = number; second = show; one_is = refl; two_is = refl; is = e }
 
   -- a command that is read is the one that is spelled
-  as_read : (spelled : Command) (words : List (List ℕ)) → Some spelled ≡ Some command → Spells spelled words → Spells command words
-  as_read spelled words is spells = let same : spelled ≡ command = ap (λ o. unwrap_or o Help) is in subst (λ c. Spells c words) same spells
+  as_read : (spelled : Command) (words : List (List ℕ)) → Some spelled ≡ Some command → Spells spelled words
+      → Spells command words
+  as_read spelled words is spells =
+      let same : spelled ≡ command = ap (λ o. unwrap_or o Help) is in subst (λ c. Spells c words) same spells
 
   cuts_spelled : (options : List (List ℕ)) → cuts_of options ≡ Some command → Spells command (codes "cuts" ∷ options)
   cuts_spelled options e =
-      let parts = some_if (are_options cuts_options options) (cuts_with (most_in options) (workers_in options)) command e in
+      let parts =
+      some_if (are_options cuts_options options) (cuts_with (most_in options) (workers_in options)) command e in
       let pairs = as_said cuts_options options parts.0 in
-      let both = cuts_parts (most_in (words_of pairs.options)) (workers_in (words_of pairs.options)) (subst (λ w. cuts_with (most_in w) (workers_in w) ≡ Some command) pairs.are parts.1) in
+      let both =
+      cuts_parts (most_in (words_of pairs.options)) (workers_in (words_of pairs.options))
+      (subst (λ w. cuts_with (most_in w) (workers_in w) ≡ Some command) pairs.are parts.1) in
       subst (λ w. Spells command (codes "cuts" ∷ w)) (sym pairs.are)
       (as_read (Cuts both.first both.second) (codes "cuts" ∷ words_of pairs.options) both.is
       (said.cuts pairs.options both.first both.second pairs.all
@@ -114,9 +139,13 @@ module _ (command : Command) where
 
   board_spelled : (options : List (List ℕ)) → board_of options ≡ Some command → Spells command (codes "board" ∷ options)
   board_spelled options e =
-      let parts = some_if (are_options board_options options) (board_with (margin_in options) (most_in options) (workers_in options)) command e in
+      let parts =
+      some_if (are_options board_options options) (board_with (margin_in options) (most_in options)
+      (workers_in options)) command e in
       let pairs = as_said board_options options parts.0 in
-      let three = board_parts (margin_in (words_of pairs.options)) (most_in (words_of pairs.options)) (workers_in (words_of pairs.options))
+      let three =
+      board_parts (margin_in (words_of pairs.options)) (most_in (words_of pairs.options))
+      (workers_in (words_of pairs.options))
       (subst (λ w. board_with (margin_in w) (most_in w) (workers_in w) ≡ Some command) pairs.are parts.1) in
       subst (λ w. Spells command (codes "board" ∷ w)) (sym pairs.are)
       (as_read (Board three.first three.second three.third) (codes "board" ∷ words_of pairs.options) three.is
@@ -125,14 +154,18 @@ module _ (command : Command) where
       (number_says 0 8 (Some 6) (codes "--most") pairs.options three.second three.two_is)
       (number_says 1 16 (Some 4) (codes "--workers") pairs.options three.third three.three_is)))
 
-  diagram_spelled : (options : List (List ℕ)) → diagram_of options ≡ Some command → Spells command (codes "diagram" ∷ options)
+  diagram_spelled : (options : List (List ℕ)) → diagram_of options ≡ Some command
+      → Spells command (codes "diagram" ∷ options)
   diagram_spelled options e =
       let parts = some_if (are_options diagram_options options) (diagram_with (workers_in options)) command e in
       let pairs = as_said diagram_options options parts.0 in
-      let one = diagram_parts (workers_in (words_of pairs.options)) (subst (λ w. diagram_with (workers_in w) ≡ Some command) pairs.are parts.1) in
+      let one =
+      diagram_parts (workers_in (words_of pairs.options))
+      (subst (λ w. diagram_with (workers_in w) ≡ Some command) pairs.are parts.1) in
       subst (λ w. Spells command (codes "diagram" ∷ w)) (sym pairs.are)
       (as_read (Diagram one.0) (codes "diagram" ∷ words_of pairs.options) one.2
-      (said.diagram pairs.options one.0 pairs.all (number_says 1 16 (Some 4) (codes "--workers") pairs.options one.0 one.1)))
+      (said.diagram pairs.options one.0 pairs.all (number_says 1 16 (Some 4) (codes "--workers") pairs.options one.0
+      one.1)))
 
   show_says : (options : List Said) (show : Show) → show_in (words_of options) ≡ Some show → SaysShow options show
   show_says options show e = by_value (value_of (codes "--show") (words_of options)) refl e
@@ -140,41 +173,52 @@ module _ (command : Command) where
       is_shown : (s : Show) → Some s ≡ Some show → SaysShow options s → SaysShow options show
       is_shown s is says = let same : s ≡ show = ap (λ o. unwrap_or o Summary) is in subst (SaysShow options) same says
 
-      by_word : (value : List ℕ) (b c : Bool) → value_of (codes "--show") (words_of options) ≡ Some value → is_same value (codes "deck") ≡ b → is_same value (codes "summary") ≡ c
+      by_word : (value : List ℕ) (b c : Bool) → value_of (codes "--show") (words_of options) ≡ Some value
+          → is_same value (codes "deck") ≡ b → is_same value (codes "summary") ≡ c
           → (if b then Some Deck else (if c then Some Summary else None)) ≡ Some show → SaysShow options show
       by_word value true c is deck summary e =
-          is_shown Deck e (said.deck (value_has options (codes "--show") (codes "deck") (is ∙ ap (λ v. Some v) (same_word value (codes "deck") deck))))
+          is_shown Deck e (said.deck (value_has options (codes "--show") (codes "deck")
+          (is ∙ ap (λ v. Some v) (same_word value (codes "deck") deck))))
       by_word value false true is deck summary e =
-          is_shown Summary e (said.summary (value_has options (codes "--show") (codes "summary") (is ∙ ap (λ v. Some v) (same_word value (codes "summary") summary))))
+          is_shown Summary e (said.summary (value_has options (codes "--show") (codes "summary")
+          (is ∙ ap (λ v. Some v) (same_word value (codes "summary") summary))))
       by_word value false false is deck summary e = absurd cc
 
-      by_value : (value : Option (List ℕ)) → value_of (codes "--show") (words_of options) ≡ value → show_said value ≡ Some show → SaysShow options show
+      by_value : (value : Option (List ℕ)) → value_of (codes "--show") (words_of options) ≡ value
+          → show_said value ≡ Some show → SaysShow options show
       by_value None is e = is_shown Summary e (said.unsaid_show (value_lacks options (codes "--show") is))
-      by_value (Some value) is e = by_word value (is_same value (codes "deck")) (is_same value (codes "summary")) is refl refl e
+      by_value (Some value) is e =
+          by_word value (is_same value (codes "deck")) (is_same value (codes "summary")) is refl refl e
 
   make_spelled : (options : List (List ℕ)) → make_of options ≡ Some command → Spells command (codes "make" ∷ options)
   make_spelled options e =
-      let parts = some_if (are_options make_options options) (make_with (number_in options) (show_in options)) command e in
+      let parts =
+      some_if (are_options make_options options) (make_with (number_in options) (show_in options)) command e in
       let pairs = as_said make_options options parts.0 in
-      let both = make_parts (number_in (words_of pairs.options)) (show_in (words_of pairs.options)) (subst (λ w. make_with (number_in w) (show_in w) ≡ Some command) pairs.are parts.1) in
+      let both =
+      make_parts (number_in (words_of pairs.options)) (show_in (words_of pairs.options))
+      (subst (λ w. make_with (number_in w) (show_in w) ≡ Some command) pairs.are parts.1) in
       subst (λ w. Spells command (codes "make" ∷ w)) (sym pairs.are)
       (as_read (Make both.first both.second) (codes "make" ∷ words_of pairs.options) both.is
       (said.make pairs.options both.first both.second pairs.all
       (number_says 0 999999 None (codes "--number") pairs.options both.first both.one_is)
       (show_says pairs.options both.second both.two_is)))
 
-  alone_spelled : (other : Command) (word : List ℕ) (options : List (List ℕ)) → Spells other (word ∷ []) → if_alone other options ≡ Some command → Spells command (word ∷ options)
+  alone_spelled : (other : Command) (word : List ℕ) (options : List (List ℕ)) → Spells other (word ∷ [])
+      → if_alone other options ≡ Some command → Spells command (word ∷ options)
   alone_spelled other word [] spells e = as_read other (word ∷ []) e spells
   alone_spelled other word (option ∷ options) spells e = absurd cc
 
   -- ---- by the first word
 
   either : (first word : List ℕ) (options : List (List ℕ)) (here later : Option Command)
-      → (here ≡ Some command → Spells command (word ∷ options)) → (later ≡ Some command → Spells command (first ∷ options))
+      → (here ≡ Some command → Spells command (word ∷ options))
+      → (later ≡ Some command → Spells command (first ∷ options))
       → (if is_same first word then here else later) ≡ Some command → Spells command (first ∷ options)
   either first word options here later spelled behind e = by_test (is_same first word) refl e
     where
-      by_test : (b : Bool) → is_same first word ≡ b → (if b then here else later) ≡ Some command → Spells command (first ∷ options)
+      by_test : (b : Bool) → is_same first word ≡ b → (if b then here else later) ≡ Some command
+          → Spells command (first ∷ options)
       by_test true same e = subst (λ f. Spells command (f ∷ options)) (sym (same_word first word same)) (spelled e)
       by_test false same e = behind e
 
@@ -183,22 +227,29 @@ module _ (command : Command) where
   only_spelling (first ∷ options) e =
       either first (codes "cuts") options (cuts_of options) _ (cuts_spelled options)
       (either first (codes "board") options (board_of options) _ (board_spelled options)
-      (either first (codes "check") options (if_alone Check options) _ (alone_spelled Check (codes "check") options said.check)
-      (either first (codes "print") options (if_alone Print options) _ (alone_spelled Print (codes "print") options said.print)
+      (either first (codes "check") options (if_alone Check options) _
+      (alone_spelled Check (codes "check") options said.check)
+      (either first (codes "print") options (if_alone Print options) _
+      (alone_spelled Print (codes "print") options said.print)
       (either first (codes "diagram") options (diagram_of options) _ (diagram_spelled options)
       (either first (codes "make") options (make_of options) _ (make_spelled options)
-      (either first (codes "help") options (if_alone Help options) None (alone_spelled Help (codes "help") options said.help)
+      (either first (codes "help") options (if_alone Help options) None
+      (alone_spelled Help (codes "help") options said.help)
       (λ none. absurd cc))))))) e
 
 -- ---- the numbers are within their bounds
 
-number_low : (least most default : ℕ) (option : List ℕ) (options : List Said) (number : ℕ) → least ≤ default → SaysNumber least most (Some default) option options number → least ≤ number
+number_low : (least most default : ℕ) (option : List ℕ) (options : List Said) (number : ℕ) → least ≤ default
+    → SaysNumber least most (Some default) option options number → least ≤ number
 number_low least most default option options number low (said.written has above below) = above
-number_low least most default option options number low (said.unsaid lacks is) = subst (λ n. least ≤ n) (some_is default number is) low
+number_low least most default option options number low (said.unsaid lacks is) =
+    subst (λ n. least ≤ n) (some_is default number is) low
 
-number_high : (least most default : ℕ) (option : List ℕ) (options : List Said) (number : ℕ) → default ≤ most → SaysNumber least most (Some default) option options number → number ≤ most
+number_high : (least most default : ℕ) (option : List ℕ) (options : List Said) (number : ℕ) → default ≤ most
+    → SaysNumber least most (Some default) option options number → number ≤ most
 number_high least most default option options number high (said.written has above below) = below
-number_high least most default option options number high (said.unsaid lacks is) = subst (λ n. n ≤ most) (some_is default number is) high
+number_high least most default option options number high (said.unsaid lacks is) =
+    subst (λ n. n ≤ most) (some_is default number is) high
 
 deck_number_high : (options : List Said) (number : ℕ) → SaysDeckNumber options number → number ≤ 999999
 deck_number_high options number (said.written has above below) = below
@@ -222,5 +273,6 @@ within_bounds command words (said.diagram options workers all says_workers) = (
   number_low 1 16 4 (codes "--workers") options workers (omega arith) says_workers,
   number_high 1 16 4 (codes "--workers") options workers (omega arith) says_workers,
 )
-within_bounds command words (said.make options number show all says_number says_show) = deck_number_high options number says_number
+within_bounds command words (said.make options number show all says_number says_show) =
+    deck_number_high options number says_number
 within_bounds command words said.help = tt

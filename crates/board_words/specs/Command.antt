@@ -1,5 +1,5 @@
--- The command that the words of a command line say. The first word is exactly a command, and options with their values follow it, in
--- any order and each once at most.
+-- The command that the words of a command line say. The first word is exactly a command, and options with their values
+-- follow it, in any order and each once at most.
 use Rattle.std.specs.Prelude.{ℕ, if◌then◌else◌, List, [], ◌∷◌, codes, Option, Some, None}
 use Rattle.board_words.specs.declared.command.Command.{Command}
 use Rattle.board_words.specs.declared.command.Command.TheVariants.{Cuts, Board, Check, Print, Diagram, Make, Help}
@@ -42,7 +42,8 @@ number_in options = number_said 0 999999 None (value_of (codes "--number") optio
 -- `deck` or `summary`, and a summary where nothing is said
 abbrev pub show_said : Option (List ℕ) → Option Show
 show_said None = Some Summary
-show_said (Some value) = if is_same value (codes "deck") then Some Deck else (if is_same value (codes "summary") then Some Summary else None)
+show_said (Some value) =
+    if is_same value (codes "deck") then Some Deck else (if is_same value (codes "summary") then Some Summary else None)
 
 abbrev pub show_in : List (List ℕ) → Option Show
 show_in options = show_said (value_of (codes "--show") options)
@@ -79,7 +80,8 @@ abbrev pub cuts_of : List (List ℕ) → Option Command
 cuts_of options = if_options cuts_options options (cuts_with (most_in options) (workers_in options))
 
 abbrev pub board_of : List (List ℕ) → Option Command
-board_of options = if_options board_options options (board_with (margin_in options) (most_in options) (workers_in options))
+board_of options =
+    if_options board_options options (board_with (margin_in options) (most_in options) (workers_in options))
 
 abbrev pub diagram_of : List (List ℕ) → Option Command
 diagram_of options = if_options diagram_options options (diagram_with (workers_in options))

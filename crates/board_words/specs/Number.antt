@@ -1,5 +1,6 @@
 -- Numbers as words: 1 to 6 decimal digits without a sign, and without a leading zero unless it is `0` alone.
-use Rattle.std.specs.Prelude.{ℕ, ◌+◌, ◌-◌, ◌*◌, Bool, false, ◌&&◌, not, ◌==◌, nat_le, if◌then◌else◌, List, [], ◌∷◌, length, Option, Some, None}
+use Rattle.std.specs.Prelude.{ℕ, ◌+◌, ◌-◌, ◌*◌, Bool, false, ◌&&◌, not, ◌==◌, nat_le, if◌then◌else◌, List, [], ◌∷◌}
+use Rattle.std.specs.Prelude.{length, Option, Some, None}
 use Rattle.std.specs.List.{list_all}
 use Rattle.std.specs.Char.{is_ascii_digit}
 
@@ -10,7 +11,8 @@ has_leading_zero (first ∷ []) = false
 has_leading_zero (first ∷ second ∷ rest) = first == 48
 
 abbrev pub is_numeral : List ℕ → Bool
-is_numeral word = nat_le 1 (length word) && nat_le (length word) 6 && list_all is_ascii_digit word && not (has_leading_zero word)
+is_numeral word =
+    nat_le 1 (length word) && nat_le (length word) 6 && list_all is_ascii_digit word && not (has_leading_zero word)
 
 -- the number that digits write behind one
 abbrev pub number_from : ℕ → List ℕ → ℕ
@@ -20,5 +22,6 @@ number_from number (digit ∷ digits) = number_from (10 * number + (digit - 48))
 -- the number that a word says, where it is within these bounds
 abbrev pub number_within : ℕ → ℕ → List ℕ → Option ℕ
 number_within least most word =
-    if is_numeral word then (if nat_le least (number_from 0 word) && nat_le (number_from 0 word) most then Some (number_from 0 word) else None)
+    if is_numeral word then (if nat_le least (number_from 0 word) && nat_le (number_from 0 word) most
+    then Some (number_from 0 word) else None)
     else None

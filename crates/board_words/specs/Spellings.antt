@@ -35,9 +35,12 @@ AreSaid known (said ∷ more) = Any (λ option. said.option ≡ option) known ×
 
 -- ---- what an option says
 
--- The number of an option: the one that is written behind it, within these bounds; or the default, where the option isn't said.
-pub data SaysNumber (least most : ℕ) (default : Option ℕ) (option : List ℕ) (options : List Said) (number : ℕ) : Type 0 where
-  written : Has options option (decimal number) → least ≤ number → number ≤ most → SaysNumber least most default option options number
+-- The number of an option: the one that is written behind it, within these bounds; or the default, where the option
+-- isn't said.
+pub data SaysNumber (least most : ℕ) (default : Option ℕ) (option : List ℕ) (options : List Said)
+    (number : ℕ) : Type 0 where
+  written : Has options option (decimal number) → least ≤ number → number ≤ most
+      → SaysNumber least most default option options number
   unsaid : Lacks options option → default ≡ Some number → SaysNumber least most default option options number
 
 -- a margin of 0 to 4,095, and 0 where it isn't said
@@ -64,17 +67,21 @@ pub data SaysShow (options : List Said) : Show → Type 0 where
 
 -- ---- commands
 
--- The words are a spelling of the command: the command's own word, and then its options with their values, in any order.
+-- The words are a spelling of the command: the command's own word, and then its options with their values, in any
+-- order.
 pub data Spells : Command → List (List ℕ) → Type 0 where
-  cuts : (options : List Said) (most workers : ℕ) → AreSaid cuts_options options → SaysMost options most → SaysWorkers options workers
+  cuts : (options : List Said) (most workers : ℕ) → AreSaid cuts_options options → SaysMost options most
+      → SaysWorkers options workers
       → Spells (Cuts most workers) (codes "cuts" ∷ words_of options)
-  board : (options : List Said) (margin most workers : ℕ) → AreSaid board_options options → SaysMargin options margin → SaysMost options most
+  board : (options : List Said) (margin most workers : ℕ) → AreSaid board_options options → SaysMargin options margin
+      → SaysMost options most
       → SaysWorkers options workers → Spells (Board margin most workers) (codes "board" ∷ words_of options)
   check : Spells Check (codes "check" ∷ [])
   print : Spells Print (codes "print" ∷ [])
   diagram : (options : List Said) (workers : ℕ) → AreSaid diagram_options options → SaysWorkers options workers
       → Spells (Diagram workers) (codes "diagram" ∷ words_of options)
-  make : (options : List Said) (number : ℕ) (show : Show) → AreSaid make_options options → SaysDeckNumber options number → SaysShow options show
+  make : (options : List Said) (number : ℕ) (show : Show) → AreSaid make_options options → SaysDeckNumber options number
+      → SaysShow options show
       → Spells (Make number show) (codes "make" ∷ words_of options)
   help : Spells Help (codes "help" ∷ [])
 

@@ -48,7 +48,8 @@ pub enum Command {
 
 /// The command of these words, the program's name left out; `None` where they are none.
 ///
-/// The first word is exactly a command. Behind it stand options, each with its value, in any order and each once at most.
+/// The first word is exactly a command. Behind it stand options, each with its value, in any order and each once at
+/// most.
 pub fn read(words: &[Word]) -> Option<Command>
     ensures { result ≡ command_of words.now }
 {

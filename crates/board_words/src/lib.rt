@@ -1,8 +1,8 @@
 //! The words of a command line, and the command that they say.
 //!
-//! It stands on std alone. Its contract gives the layer above the command of the words
-//! exactly where they are one. A list of words is one command at most. Two laws tell the spellings of the commands: each is read as
-//! its command, and nothing else is read as one.
+//! It stands on std alone. Its contract gives the layer above the command of the words exactly where they are one. A
+//! list of words is one command at most. Two laws tell the spellings of the commands: each is read as its command, and
+//! nothing else is read as one.
 #![tactic(auto)]
 
 mod command;

@@ -1,7 +1,8 @@
 //! Options with their values.
 ghost use Rattle.std.specs.Prelude.{◌≡◌, map, None, Some, MatchOption};
 ghost use Rattle.std.specs.List.{list_any};
-ghost use Rattle.board_words.specs.Options.{are_options, is_known, is_option, is_said_once, is_same, number_said, value_of};
+ghost use Rattle.board_words.specs.Options.{are_options, is_known, is_option, is_said_once, is_same, number_said};
+ghost use Rattle.board_words.specs.Options.{value_of};
 
 use crate::Word;
 use crate::number::number_within;
@@ -52,7 +53,8 @@ fn is_option(option: &[u8], words: &[Word]) -> bool
 
 // The value behind an option, where the option is said.
 pub(crate) fn value_of<'a>(option: &[u8], words: &'a [Word]) -> Option<&'a Word>
-    ensures { MatchOption result (value_of option.now words.now ≡ None) (λ value. value_of option.now words.now ≡ Some value.now) }
+    ensures { MatchOption result (value_of option.now words.now ≡ None)
+        (λ value. value_of option.now words.now ≡ Some value.now) }
 {
     match words {
         [word, value, rest @ ..] => {

@@ -8,8 +8,11 @@ use Rattle.board_report.proofs.check.put_check.Goals as goal
 pub returns-in-None-clause-puts : goal.returns-in-None-clause-puts
 returns-in-None-clause-puts g c =
     subst
-    (λ (dockets : Option (Bor (List Crew))). MatchOption dockets (Puts g.K.Sink.taken g.K.Sink.faults c.args.out.now c.put_titled_line.new.out (check_text c.args.tree.now None))
-    (λ (crews : Bor (List Crew)). Puts g.K.Sink.taken g.K.Sink.faults c.args.out.now c.put_titled_line.new.out (check_text c.args.tree.now (Some crews.now))))
+    (λ (dockets : Option (Bor (List Crew))). MatchOption dockets
+    (Puts g.K.Sink.taken g.K.Sink.faults c.args.out.now c.put_titled_line.new.out (check_text c.args.tree.now None))
+    (λ (crews : Bor (List Crew)). Puts g.K.Sink.taken g.K.Sink.faults c.args.out.now c.put_titled_line.new.out
+    (check_text c.args.tree.now (Some crews.now))))
     (sym c.in-None.is)
-    (subst (Puts g.K.Sink.taken g.K.Sink.faults c.args.out.now c.put_titled_line.new.out) (sym (append-nil (titled_line (codes "well formed: ") c.args.tree.now)))
+    (subst (Puts g.K.Sink.taken g.K.Sink.faults c.args.out.now c.put_titled_line.new.out)
+    (sym (append-nil (titled_line (codes "well formed: ") c.args.tree.now)))
     c.put_titled_line.ensures.puts)

@@ -16,19 +16,23 @@ returns-in_err-put_tree_line-clause-puts g c =
 pub returns-in_err-put_count_line-clause-puts : goal.returns-in_err-put_count_line-clause-puts
 returns-in_err-put_count_line-clause-puts g c =
     let listed = listed_with c.args.cuts.now c.args.orders.now in
-    second_short g.K.Sink.taken g.K.Sink.faults c.args.out.now c.put_tree_line.new.out c.put_count_line.new.out (tree_line c.args.tree.now)
+    second_short g.K.Sink.taken g.K.Sink.faults c.args.out.now c.put_tree_line.new.out c.put_count_line.new.out
+    (tree_line c.args.tree.now)
     (count_line (length listed) (order_total (orders_in listed))) (cut_blocks c.args.tree.now 1 listed)
     c.put_tree_line.ensures.puts
     (subst (Puts g.K.Sink.taken g.K.Sink.faults c.put_tree_line.new.out c.put_count_line.new.out)
-    (counts_with c.args.cuts.now c.args.orders.now c.len.result c.total.result c.requires.made.each c.len.ensures.value c.total.ensures) c.put_count_line.ensures.puts)
+    (counts_with c.args.cuts.now c.args.orders.now c.len.result c.total.result c.requires.made.each c.len.ensures.value
+    c.total.ensures) c.put_count_line.ensures.puts)
     (sym c.put_count_line.ensures.answer ∙ ap is_err c.in_err-put_count_line.was)
 
 pub returns-clause-puts : goal.returns-clause-puts
 returns-clause-puts g c =
     let listed = listed_with c.args.cuts.now c.args.orders.now in
-    all_three g.K.Sink.taken g.K.Sink.faults c.args.out.now c.put_tree_line.new.out c.put_count_line.new.out c.put_blocks.new.out (tree_line c.args.tree.now)
+    all_three g.K.Sink.taken g.K.Sink.faults c.args.out.now c.put_tree_line.new.out c.put_count_line.new.out
+    c.put_blocks.new.out (tree_line c.args.tree.now)
     (count_line (length listed) (order_total (orders_in listed))) (cut_blocks c.args.tree.now 1 listed)
     c.put_tree_line.ensures.puts
     (subst (Puts g.K.Sink.taken g.K.Sink.faults c.put_tree_line.new.out c.put_count_line.new.out)
-    (counts_with c.args.cuts.now c.args.orders.now c.len.result c.total.result c.requires.made.each c.len.ensures.value c.total.ensures) c.put_count_line.ensures.puts)
+    (counts_with c.args.cuts.now c.args.orders.now c.len.result c.total.result c.requires.made.each c.len.ensures.value
+    c.total.ensures) c.put_count_line.ensures.puts)
     c.put_blocks.ensures.puts

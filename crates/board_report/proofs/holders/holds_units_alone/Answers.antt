@@ -6,4 +6,5 @@ use Rattle.board_report.proofs.holders.holds_units_alone.Goals as goal
 
 pub returns-in-Some-clause-none : goal.returns-in-Some-clause-none
 returns-in-Some-clause-none c =
-    zero_free c.args.standing.now.held (subst (All IsUnit) (ap (λ (ledger : LedgerView). ledger.out) c.ledger.ensures) c.is_out.ensures.set.units)
+    zero_free c.args.standing.now.held (subst (All IsUnit) (ap (λ (ledger : LedgerView). ledger.out) c.ledger.ensures)
+    c.is_out.ensures.set.units)

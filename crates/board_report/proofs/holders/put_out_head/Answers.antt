@@ -4,5 +4,6 @@ use Rattle.board_report.proofs.holders.put_out_head.Goals as goal
 
 pub returns-clause-puts : goal.returns-clause-puts
 returns-clause-puts g c =
-    subst (λ n. Puts g.K.Sink.taken g.K.Sink.faults c.args.out.now c.put_all.new.out (codes "out: " ++ (n ++ codes "\n")))
+    subst (λ n. Puts g.K.Sink.taken g.K.Sink.faults c.args.out.now c.put_all.new.out
+    (codes "out: " ++ (n ++ codes "\n")))
     (c.as_bytes.ensures.value ∙ c.format.ensures.text) c.put_all.ensures.puts

@@ -7,6 +7,8 @@ use Rattle.board_report.proofs.holders.put_out_lines.Given as goal
 
 abbrev pub invariant-loop-number : goal.invariant-loop-number
 invariant-loop-number g l = record {
-  so : Puts g.K.Sink.taken g.K.Sink.faults l.initial.out l.out (lines_below g.K.Sink.taken g.K.Sink.faults (out_line l.tree l.dockets l.standing.held) (is_held l.standing.held) l.number);
+  so : Puts g.K.Sink.taken g.K.Sink.faults l.initial.out l.out
+      (lines_below g.K.Sink.taken g.K.Sink.faults (out_line l.tree l.dockets l.standing.held) (is_held l.standing.held)
+      l.number);
   going : has_failed l.out ≡ false;
 }

@@ -7,6 +7,7 @@ use Rattle.board_report.proofs.log.put_names.Given as goal
 
 abbrev pub invariant-loop-name : goal.invariant-loop-name
 invariant-loop-name g l = record {
-  so : PutsFront g.K.Sink.taken g.K.Sink.faults l.initial.out l.out (left_of named l.names l.name-index) (flat_map named l.names);
+  so : PutsFront g.K.Sink.taken g.K.Sink.faults l.initial.out l.out (left_of named l.names l.name-index)
+      (flat_map named l.names);
   going : has_failed l.out ≡ false;
 }

@@ -5,5 +5,6 @@ use Rattle.board_report.proofs.log.put_reply.Goals as goal
 
 pub returns-in-NotSupervisor-clause-puts : goal.returns-in-NotSupervisor-clause-puts
 returns-in-NotSupervisor-clause-puts g c =
-    subst (λ reply. Puts g.K.Sink.taken g.K.Sink.faults c.args.out.now c.put-in-NotSupervisor.new.self (reply_text c.args.dockets.now reply)) (sym c.in-NotSupervisor.is)
+    subst (λ reply. Puts g.K.Sink.taken g.K.Sink.faults c.args.out.now c.put-in-NotSupervisor.new.self
+    (reply_text c.args.dockets.now reply)) (sym c.in-NotSupervisor.is)
     c.put-in-NotSupervisor.ensures.puts

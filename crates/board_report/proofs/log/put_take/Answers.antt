@@ -7,10 +7,12 @@ use Rattle.board_report.proofs.log.put_take.Goals as goal
 
 pub returns-in_err-put-clause-puts : goal.returns-in_err-put-clause-puts
 returns-in_err-put-clause-puts g c =
-    first_short g.K.Sink.taken g.K.Sink.faults c.args.out.now c.put.new.self (codes " take") (flat_map named c.args.names.now) c.put.ensures.puts (sym c.put.ensures.answer ∙ ap is_err c.in_err-put.was)
+    first_short g.K.Sink.taken g.K.Sink.faults c.args.out.now c.put.new.self (codes " take")
+    (flat_map named c.args.names.now) c.put.ensures.puts (sym c.put.ensures.answer ∙ ap is_err c.in_err-put.was)
 
 pub returns-clause-puts : goal.returns-clause-puts
 returns-clause-puts g c =
-    Puts-trans g.K.Sink.taken g.K.Sink.faults c.args.out.now c.put.new.self c.put_names.new.out (codes " take") (flat_map named c.args.names.now)
+    Puts-trans g.K.Sink.taken g.K.Sink.faults c.args.out.now c.put.new.self c.put_names.new.out (codes " take")
+    (flat_map named c.args.names.now)
     c.put.ensures.puts
     c.put_names.ensures.puts

@@ -6,10 +6,13 @@ use Rattle.board_report.proofs.log.put_with_crew.Goals as goal
 
 pub returns-in_err-put-clause-puts : goal.returns-in_err-put-clause-puts
 returns-in_err-put-clause-puts g c =
-    first_short g.K.Sink.taken g.K.Sink.faults c.args.out.now c.put.new.self c.args.text.now (crew_shown c.args.dockets.now c.args.crew) c.put.ensures.puts (sym c.put.ensures.answer ∙ ap is_err c.in_err-put.was)
+    first_short g.K.Sink.taken g.K.Sink.faults c.args.out.now c.put.new.self c.args.text.now
+    (crew_shown c.args.dockets.now c.args.crew) c.put.ensures.puts
+    (sym c.put.ensures.answer ∙ ap is_err c.in_err-put.was)
 
 pub returns-clause-puts : goal.returns-clause-puts
 returns-clause-puts g c =
-    Puts-trans g.K.Sink.taken g.K.Sink.faults c.args.out.now c.put.new.self c.put_crew.new.out c.args.text.now (crew_shown c.args.dockets.now c.args.crew)
+    Puts-trans g.K.Sink.taken g.K.Sink.faults c.args.out.now c.put.new.self c.put_crew.new.out c.args.text.now
+    (crew_shown c.args.dockets.now c.args.crew)
     c.put.ensures.puts
     c.put_crew.ensures.puts

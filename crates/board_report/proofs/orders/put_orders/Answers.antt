@@ -8,7 +8,9 @@ use Rattle.board_report.proofs.orders.put_orders.Goals as goal
 
 pub loop-j-init : goal.loop-j-init
 loop-j-init g c = record {
-  so = begun g.K.Sink.taken g.K.Sink.faults c.args.out.now (flat_map (order_line c.args.tree.now) (orders_at c.args.orders.now c.args.i));
+  so =
+      begun g.K.Sink.taken g.K.Sink.faults c.args.out.now
+      (flat_map (order_line c.args.tree.now) (orders_at c.args.orders.now c.args.i));
   going = c.requires.fine;
 }
 
@@ -31,7 +33,11 @@ loop-j-preserved g c = record {
 
 pub returns-clause-puts : goal.returns-clause-puts
 returns-clause-puts g c =
-    whole_put g.K.Sink.taken g.K.Sink.faults c.args.out.now c.loop-j.out (flat_map (order_line c.args.tree.now) (orders_at c.args.orders.now c.args.i))
-    (subst (λ l. PutsFront g.K.Sink.taken g.K.Sink.faults c.args.out.now c.loop-j.out (flat_map (order_line c.args.tree.now) l) (flat_map (order_line c.args.tree.now) (orders_at c.args.orders.now c.args.i)))
-    (drop_all c.loop-j.j (orders_at c.args.orders.now c.args.i) (subst (λ n. n ≤ c.loop-j.j) c.count-j-end.ensures c.loop-j-test.false))
+    whole_put g.K.Sink.taken g.K.Sink.faults c.args.out.now c.loop-j.out
+    (flat_map (order_line c.args.tree.now) (orders_at c.args.orders.now c.args.i))
+    (subst (λ l. PutsFront g.K.Sink.taken g.K.Sink.faults c.args.out.now c.loop-j.out
+    (flat_map (order_line c.args.tree.now) l) (flat_map (order_line c.args.tree.now)
+    (orders_at c.args.orders.now c.args.i)))
+    (drop_all c.loop-j.j (orders_at c.args.orders.now c.args.i)
+    (subst (λ n. n ≤ c.loop-j.j) c.count-j-end.ensures c.loop-j-test.false))
     c.loop-j.invariant.so)

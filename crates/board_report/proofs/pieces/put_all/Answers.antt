@@ -27,8 +27,10 @@ loop-piece-preserved g c = record {
 
 pub returns-clause-puts : goal.returns-clause-puts
 returns-clause-puts g c =
-    whole_put g.K.Sink.taken g.K.Sink.faults c.args.out.now c.loop-piece.out (flat_map (λ piece. piece.now) c.args.pieces.now)
-    (subst (λ l. PutsFront g.K.Sink.taken g.K.Sink.faults c.args.out.now c.loop-piece.out (flat_map (λ piece. piece.now) l) (flat_map (λ piece. piece.now) c.args.pieces.now))
+    whole_put g.K.Sink.taken g.K.Sink.faults c.args.out.now c.loop-piece.out
+    (flat_map (λ piece. piece.now) c.args.pieces.now)
+    (subst (λ l. PutsFront g.K.Sink.taken g.K.Sink.faults c.args.out.now c.loop-piece.out
+    (flat_map (λ piece. piece.now) l) (flat_map (λ piece. piece.now) c.args.pieces.now))
     (drop_all c.loop-piece.piece-index c.args.pieces.now c.loop-piece-test.false)
     c.loop-piece.invariant.so)
 

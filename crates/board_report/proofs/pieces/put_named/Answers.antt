@@ -6,10 +6,12 @@ use Rattle.board_report.proofs.pieces.put_named.Goals as goal
 
 pub returns-in_err-put-clause-puts : goal.returns-in_err-put-clause-puts
 returns-in_err-put-clause-puts g c =
-    first_short g.K.Sink.taken g.K.Sink.faults c.args.out.now c.put.new.self (codes " ") (show c.args.name.now) c.put.ensures.puts (sym c.put.ensures.answer ∙ ap is_err c.in_err-put.was)
+    first_short g.K.Sink.taken g.K.Sink.faults c.args.out.now c.put.new.self (codes " ") (show c.args.name.now)
+    c.put.ensures.puts (sym c.put.ensures.answer ∙ ap is_err c.in_err-put.was)
 
 pub returns-clause-puts : goal.returns-clause-puts
 returns-clause-puts g c =
-    Puts-trans g.K.Sink.taken g.K.Sink.faults c.args.out.now c.put.new.self c.put_shown.new.out (codes " ") (show c.args.name.now)
+    Puts-trans g.K.Sink.taken g.K.Sink.faults c.args.out.now c.put.new.self c.put_shown.new.out (codes " ")
+    (show c.args.name.now)
     c.put.ensures.puts
     c.put_shown.ensures.puts

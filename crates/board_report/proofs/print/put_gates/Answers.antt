@@ -1,37 +1,62 @@
-use Rattle.std.proofs.Common.{sym, ◌∙◌, ap, subst, is_err, ◌+◌, ◌<◌, ◌≤◌}
+use Rattle.std.proofs.Common.{◌≡◌, true, sym, ◌∙◌, ap, subst, is_err, ◌+◌, ◌<◌, ◌≤◌}
 use Rattle.std.specs.List.{flat_map, range_with_len}
 use Rattle.board_report.specs.PrintText.{gate_line}
-use Rattle.fault_model.specs.Tree.{unit_count, gate_count}
+use Rattle.fault_model.specs.Name.{is_name}
+use Rattle.fault_model.specs.Tree.{name_of, unit_count, gate_count}
 use Rattle.board_report.proofs.Putting.{begun, whole_put, one_more, cut_short, PutsFront}
-use Rattle.board_report.proofs.PrintLemmas.{all_numbers, next_number, no_number}
+use Rattle.board_report.proofs.PrintLemmas.{all_named, all_numbers, next_number, no_number, none_named, one_more_named}
 use Rattle.board_report.proofs.print.put_gates.Goals as goal
 
 pub loop-i-init : goal.loop-i-init
 loop-i-init g c = record {
-  so = subst (λ rest. PutsFront g.K.Sink.taken g.K.Sink.faults c.args.out.now c.args.out.now rest (flat_map (gate_line c.args.tree.now) (range_with_len (unit_count c.args.tree.now + 1) (gate_count c.args.tree.now))))
+  so =
+      subst (λ rest. PutsFront g.K.Sink.taken g.K.Sink.faults c.args.out.now c.args.out.now rest
+      (flat_map (gate_line c.args.tree.now) (range_with_len (unit_count c.args.tree.now + 1)
+      (gate_count c.args.tree.now))))
       (all_numbers (gate_line c.args.tree.now) (unit_count c.args.tree.now + 1) (gate_count c.args.tree.now))
-      (begun g.K.Sink.taken g.K.Sink.faults c.args.out.now (flat_map (gate_line c.args.tree.now) (range_with_len (unit_count c.args.tree.now + 1) (gate_count c.args.tree.now))));
+      (begun g.K.Sink.taken g.K.Sink.faults c.args.out.now
+      (flat_map (gate_line c.args.tree.now) (range_with_len (unit_count c.args.tree.now + 1)
+      (gate_count c.args.tree.now))));
   going = c.requires.fine;
+  named = none_named (λ gate. is_name (name_of c.args.tree.now gate) ≡ true) (unit_count c.args.tree.now);
 }
 
 pub returns-in_err-put_gate_line-clause-puts : goal.returns-in_err-put_gate_line-clause-puts
 returns-in_err-put_gate_line-clause-puts g c =
     cut_short g.K.Sink.taken g.K.Sink.faults c.args.out.now c.loop-i.out c.put_gate_line.new.out _ _ _ _
     c.loop-i.invariant.so c.put_gate_line.ensures.puts
-    (next_number (gate_line c.args.tree.now) (unit_count c.args.tree.now + 1) (gate_count c.args.tree.now) c.loop-i.i _ (subst (λ n. c.loop-i.i < n) c.gates-i-end.ensures.count c.loop-i-test.true) (ap (λ n. n + 1 + c.loop-i.i) c.units-units.ensures.count))
+    (next_number (gate_line c.args.tree.now) (unit_count c.args.tree.now + 1) (gate_count c.args.tree.now) c.loop-i.i _
+    (subst (λ n. c.loop-i.i < n) c.gates-i-end.ensures.count c.loop-i-test.true)
+    (ap (λ n. n + 1 + c.loop-i.i) c.units-units.ensures.count))
     (sym c.put_gate_line.ensures.answer ∙ ap is_err c.in_err-put_gate_line.was)
 
 pub loop-i-preserved : goal.loop-i-preserved
 loop-i-preserved g c = record {
   so = one_more g.K.Sink.taken g.K.Sink.faults c.args.out.now c.loop-i.out c.put_gate_line.new.out _ _ _ _
       c.loop-i.invariant.so c.put_gate_line.ensures.puts
-      (next_number (gate_line c.args.tree.now) (unit_count c.args.tree.now + 1) (gate_count c.args.tree.now) c.loop-i.i _ (subst (λ n. c.loop-i.i < n) c.gates-i-end.ensures.count c.loop-i-test.true) (ap (λ n. n + 1 + c.loop-i.i) c.units-units.ensures.count));
+      (next_number (gate_line c.args.tree.now) (unit_count c.args.tree.now + 1) (gate_count c.args.tree.now) c.loop-i.i
+      _ (subst (λ n. c.loop-i.i < n) c.gates-i-end.ensures.count c.loop-i-test.true)
+      (ap (λ n. n + 1 + c.loop-i.i) c.units-units.ensures.count));
   going = sym c.put_gate_line.ensures.answer ∙ ap is_err c.in_ok-put_gate_line.was;
+  named = one_more_named (λ gate. is_name (name_of c.args.tree.now gate) ≡ true)
+      (unit_count c.args.tree.now) c.loop-i.i _
+      (ap (λ n. n + 1 + c.loop-i.i) c.units-units.ensures.count) c.loop-i.invariant.named c.put_gate_line.ensures.named;
 }
 
 pub returns-clause-puts : goal.returns-clause-puts
 returns-clause-puts g c =
-    whole_put g.K.Sink.taken g.K.Sink.faults c.args.out.now c.loop-i.out (flat_map (gate_line c.args.tree.now) (range_with_len (unit_count c.args.tree.now + 1) (gate_count c.args.tree.now)))
-    (subst (λ rest. PutsFront g.K.Sink.taken g.K.Sink.faults c.args.out.now c.loop-i.out rest (flat_map (gate_line c.args.tree.now) (range_with_len (unit_count c.args.tree.now + 1) (gate_count c.args.tree.now))))
-    (no_number (gate_line c.args.tree.now) (unit_count c.args.tree.now + 1) (gate_count c.args.tree.now) c.loop-i.i (subst (λ n. n ≤ c.loop-i.i) c.gates-i-end.ensures.count c.loop-i-test.false))
+    whole_put g.K.Sink.taken g.K.Sink.faults c.args.out.now c.loop-i.out
+    (flat_map (gate_line c.args.tree.now) (range_with_len (unit_count c.args.tree.now + 1)
+    (gate_count c.args.tree.now)))
+    (subst (λ rest. PutsFront g.K.Sink.taken g.K.Sink.faults c.args.out.now c.loop-i.out rest
+    (flat_map (gate_line c.args.tree.now) (range_with_len (unit_count c.args.tree.now + 1)
+    (gate_count c.args.tree.now))))
+    (no_number (gate_line c.args.tree.now) (unit_count c.args.tree.now + 1) (gate_count c.args.tree.now) c.loop-i.i
+    (subst (λ n. n ≤ c.loop-i.i) c.gates-i-end.ensures.count c.loop-i-test.false))
     c.loop-i.invariant.so)
+
+pub returns-clause-named : goal.returns-clause-named
+returns-clause-named g c =
+    all_named (λ gate. is_name (name_of c.args.tree.now gate) ≡ true) (unit_count c.args.tree.now)
+    (gate_count c.args.tree.now) c.loop-i.i
+    (subst (λ n. n ≤ c.loop-i.i) c.gates-i-end.ensures.count c.loop-i-test.false) c.loop-i.invariant.named

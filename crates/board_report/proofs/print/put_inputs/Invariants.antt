@@ -7,6 +7,7 @@ use Rattle.board_report.proofs.print.put_inputs.Given as goal
 
 abbrev pub invariant-loop-input : goal.invariant-loop-input
 invariant-loop-input g l = record {
-  so : PutsFront g.K.Sink.taken g.K.Sink.faults l.initial.out l.out (left_of (input_text l.tree) l.inputs l.input-index) (flat_map (input_text l.tree) l.inputs);
+  so : PutsFront g.K.Sink.taken g.K.Sink.faults l.initial.out l.out (left_of (input_text l.tree) l.inputs l.input-index)
+      (flat_map (input_text l.tree) l.inputs);
   going : has_failed l.out ≡ false;
 }

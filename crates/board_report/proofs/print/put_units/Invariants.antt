@@ -1,13 +1,17 @@
 use Rattle.std.proofs.Common.{◌≡◌, ◌+◌, ◌-◌, false}
 use Rattle.std.specs.List.{flat_map, range_with_len}
 use Rattle.edge_io.specs.Out.{has_failed}
-use Rattle.board_report.specs.PrintText.{unit_line}
+use Rattle.board_report.specs.PrintText.{IsNamedUnit, unit_line}
+use Rattle.board_report.proofs.PrintLemmas.{NamedUpTo}
 use Rattle.fault_model.specs.Tree.{unit_count}
 use Rattle.board_report.proofs.Putting.{PutsFront}
 use Rattle.board_report.proofs.print.put_units.Given as goal
 
 abbrev pub invariant-loop-i : goal.invariant-loop-i
 invariant-loop-i g l = record {
-  so : PutsFront g.K.Sink.taken g.K.Sink.faults l.initial.out l.out (flat_map (unit_line l.tree) (range_with_len (1 + l.i) ((unit_count l.tree) - l.i))) (flat_map (unit_line l.tree) (range_with_len 1 (unit_count l.tree)));
+  so : PutsFront g.K.Sink.taken g.K.Sink.faults l.initial.out l.out
+      (flat_map (unit_line l.tree) (range_with_len (1 + l.i) ((unit_count l.tree) - l.i)))
+      (flat_map (unit_line l.tree) (range_with_len 1 (unit_count l.tree)));
   going : has_failed l.out ≡ false;
+  named : NamedUpTo (IsNamedUnit l.tree) 0 (0 + l.i);
 }

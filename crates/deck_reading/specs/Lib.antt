@@ -1,0 +1,10 @@
+-- what the bytes of a deck stand for
+pub mod Deck
+-- the same by relations between whole lists
+pub mod Relations
+-- statements as they are written, one a line
+pub mod Written
+-- what statements say, wherever they stand
+pub mod Unplaced
+-- the statements of a tree
+pub mod TreeStatements
