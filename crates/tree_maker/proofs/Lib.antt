@@ -1,0 +1,14 @@
+pub mod Texts
+pub mod Ranges
+pub mod Decoding
+pub mod Statements
+pub mod Numbering
+pub mod Counted
+pub mod Gates
+pub mod FineGates
+pub mod Spares
+pub mod Acyclic
+pub mod GoodNames
+pub mod CrewLines
+pub mod Faultless
+pub mod Making

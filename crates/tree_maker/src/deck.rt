@@ -1,0 +1,28 @@
+//! A made deck as its bytes.
+ghost use Rattle.std.specs.Prelude.{◌≡◌, ◌≤◌, IfOk};
+ghost use Rattle.fault_model.specs.Tree.{FaultTree};
+ghost use Rattle.tree_maker.specs.MadeDeck.{made_deck};
+ghost use Rattle.tree_maker.specs.WellMade.{IsWellMade};
+
+use crate::crew::add_crew;
+use crate::laws::made_decks_are_well_made;
+use crate::tree::add_tree;
+use edge_io::{Bytes, NoMemory};
+use std::alloc::Global;
+
+/// The highest number of a made deck.
+pub const HIGHEST_NUMBER: u32 = 999_999;
+
+/// The made deck of a number, which is a deck without a fault.
+pub fn made(alloc: Global, number: u32) -> Result<Bytes, NoMemory>
+    requires { number ≤ 999999 }
+    ensures text { IfOk result (λ bytes. bytes ≡ made_deck number) }
+    ensures well_formed { IfOk result (λ bytes. (tree : FaultTree) × IsWellMade number bytes tree) }
+{
+    made_decks_are_well_made();
+    let count = 200 - number % 100;
+    let mut text = Vec::new(alloc);
+    add_tree(&mut text, number, count)?;
+    add_crew(&mut text, number, count)?;
+    Ok(Bytes::from_vec(text))
+}
