@@ -18,12 +18,15 @@ use Rattle.outage_engine.specs.declared.deck.CrewPart.{CrewPart}
 use Rattle.outage_engine.specs.declared.deck.CrewPart.TheVariants.{Unread, IfAny}
 use Rattle.outage_engine.specs.declared.listing.Listing.{Listing}
 use Rattle.outage_engine.specs.declared.sizes.Sizes.{Sizes}
-use Rattle.outage_engine.specs.declared.refusal.Refusal.TheVariants.{Usage, ReadFault, TooLong, Fault, ListLimit, OrderLimit}
+use Rattle.outage_engine.specs.declared.refusal.Refusal.TheVariants.{Usage, ReadFault, TooLong, Fault, ListLimit}
+use Rattle.outage_engine.specs.declared.refusal.Refusal.TheVariants.{OrderLimit}
 use Rattle.outage_engine.specs.declared.refusal.RunEnd.{RunEnd}
 use Rattle.outage_engine.specs.declared.refusal.RunEnd.TheVariants.{Refused, NoMemory}
-use Rattle.outage_engine.specs.Answers.{AreSizesOf, IfRefused, IsLimitOf, IsListingOf, IsReadRefusal, IsRefusalBy, IsRefusalFor, IsWeightLimitOf, found_in, listing_text}
+use Rattle.outage_engine.specs.Answers.{AreSizesOf, IfRefused, IsLimitOf, IsListingOf, IsReadRefusal, IsRefusalBy}
+use Rattle.outage_engine.specs.Answers.{IsRefusalFor, IsWeightLimitOf, found_in, listing_text}
 use Rattle.outage_engine.specs.Deck.{IsDeckFault, IsWellFormed}
-use Rattle.outage_engine.specs.Finding.{Finds, Found, Faulty, Ready, TooHeavy, TooManyOrders, Wants, WithOrders, bad_deck, judged, well_formed}
+use Rattle.outage_engine.specs.Finding.{Finds, Found, Faulty, Ready, TooHeavy, TooManyOrders, Wants, WithOrders}
+use Rattle.outage_engine.specs.Finding.{bad_deck, judged, well_formed}
 use Rattle.outage_engine.specs.Gives as gives
 use Rattle.outage_engine.specs.Gives.{OfInput, wanted}
 use Rattle.outage_engine.specs.Store.{method_by}
@@ -34,21 +37,31 @@ use Rattle.outage_engine.proofs.Clauses.{of_input}
 
 module _ (most : ℕ) (found : Found) where
   judged-heavy : weight_limit < weight found.cuts → judged (WithOrders most) found ≡ TooHeavy
-  judged-heavy heavy = cond-true (nat_lt weight_limit (weight found.cuts)) _ _ (lt-ltb weight_limit (weight found.cuts) heavy)
+  judged-heavy heavy =
+      cond-true (nat_lt weight_limit (weight found.cuts)) _ _ (lt-ltb weight_limit (weight found.cuts) heavy)
 
   judged-light : weight found.cuts ≤ weight_limit
-      → judged (WithOrders most) found ≡ (if nat_lt order_limit (order_total (order_lists found.tree found.cuts most)) then TooManyOrders else Ready found)
-  judged-light light = cond-false (nat_lt weight_limit (weight found.cuts)) _ _ (le-ltb weight_limit (weight found.cuts) light)
+      → judged (WithOrders most) found ≡ (if nat_lt order_limit (order_total (order_lists found.tree found.cuts most))
+      then TooManyOrders else Ready found)
+  judged-light light =
+      cond-false (nat_lt weight_limit (weight found.cuts)) _ _ (le-ltb weight_limit (weight found.cuts) light)
 
-  judged-many : weight found.cuts ≤ weight_limit → order_limit < order_total (order_lists found.tree found.cuts most) → judged (WithOrders most) found ≡ TooManyOrders
-  judged-many light many = judged-light light ∙ cond-true (nat_lt order_limit (order_total (order_lists found.tree found.cuts most))) _ _ (lt-ltb order_limit (order_total (order_lists found.tree found.cuts most)) many)
+  judged-many : weight found.cuts ≤ weight_limit → order_limit < order_total (order_lists found.tree found.cuts most)
+      → judged (WithOrders most) found ≡ TooManyOrders
+  judged-many light many =
+      judged-light light ∙ cond-true (nat_lt order_limit (order_total (order_lists found.tree found.cuts most))) _ _
+      (lt-ltb order_limit (order_total (order_lists found.tree found.cuts most)) many)
 
-  judged-ready : weight found.cuts ≤ weight_limit → order_total (order_lists found.tree found.cuts most) ≤ order_limit → judged (WithOrders most) found ≡ Ready found
-  judged-ready light few = judged-light light ∙ cond-false (nat_lt order_limit (order_total (order_lists found.tree found.cuts most))) _ _ (le-ltb order_limit (order_total (order_lists found.tree found.cuts most)) few)
+  judged-ready : weight found.cuts ≤ weight_limit → order_total (order_lists found.tree found.cuts most) ≤ order_limit
+      → judged (WithOrders most) found ≡ Ready found
+  judged-ready light few =
+      judged-light light ∙ cond-false (nat_lt order_limit (order_total (order_lists found.tree found.cuts most))) _ _
+      (le-ltb order_limit (order_total (order_lists found.tree found.cuts most)) few)
 
 -- ---- what is found in a deck that was read
 
-module _ (part : CrewPart) (most : ℕ) (bytes : List ℕ) (tree : FaultTree) (crews : Option (List Crew)) (deck : IsWellFormed part bytes tree crews) where
+module _ (part : CrewPart) (most : ℕ) (bytes : List ℕ) (tree : FaultTree) (crews : Option (List Crew))
+    (deck : IsWellFormed part bytes tree crews) where
   abbrev with_orders : Wants
   with_orders = record { crews = part; cuts = WithOrders most }
 
@@ -56,51 +69,66 @@ module _ (part : CrewPart) (most : ℕ) (bytes : List ℕ) (tree : FaultTree) (c
   as_found cuts = record { tree = tree; cuts = cuts; crews = crews }
 
   finds_heavy : HasHeavyCutList tree → Finds with_orders bytes TooHeavy
-  finds_heavy (cuts, list, heavy) = well_formed (as_found cuts) deck list (sym (judged-heavy most (as_found cuts) heavy))
+  finds_heavy (cuts, list, heavy) =
+      well_formed (as_found cuts) deck list (sym (judged-heavy most (as_found cuts) heavy))
 
   finds_many : IsLimitOf most tree OrderLimit → Finds with_orders bytes TooManyOrders
-  finds_many (cuts, list, light, many) = well_formed (as_found cuts) deck list (sym (judged-many most (as_found cuts) light many))
+  finds_many (cuts, list, light, many) =
+      well_formed (as_found cuts) deck list (sym (judged-many most (as_found cuts) light many))
 
-  pub finds_ready : (listing : Listing) → IsListingOf most tree listing → Finds with_orders bytes (Ready (found_in listing crews))
+  pub finds_ready : (listing : Listing) → IsListingOf most tree listing
+      → Finds with_orders bytes (Ready (found_in listing crews))
   finds_ready listing is =
       let found : Found = found_in listing crews in
-      let few : order_total (order_lists tree listing.cuts most) ≤ order_limit = subst (λ orders. order_total orders ≤ order_limit) is.orders is.few in
-      well_formed found (subst (λ t. IsWellFormed part bytes t crews) (sym is.of_tree) deck) (subst (λ t. IsCutList t listing.cuts) (sym is.of_tree) is.all)
-      (sym (judged-ready most found is.light (subst (λ t. order_total (order_lists t listing.cuts most) ≤ order_limit) (sym is.of_tree) few)))
+      let few : order_total (order_lists tree listing.cuts most) ≤ order_limit =
+      subst (λ orders. order_total orders ≤ order_limit) is.orders is.few in
+      well_formed found (subst (λ t. IsWellFormed part bytes t crews) (sym is.of_tree) deck)
+      (subst (λ t. IsCutList t listing.cuts) (sym is.of_tree) is.all)
+      (sym (judged-ready most found is.light (subst (λ t. order_total (order_lists t listing.cuts most) ≤ order_limit)
+      (sym is.of_tree) few)))
 
-pub orders_of_listing : (most : ℕ) (tree : FaultTree) (listing : Listing) → IsListingOf most tree listing → listing.orders ≡ order_lists listing.tree listing.cuts most
+pub orders_of_listing : (most : ℕ) (tree : FaultTree) (listing : Listing) → IsListingOf most tree listing
+    → listing.orders ≡ order_lists listing.tree listing.cuts most
 orders_of_listing most tree listing is = is.orders ∙ ap (λ t. order_lists t listing.cuts most) (sym is.of_tree)
 
 -- the text of a listing is what is said of its cut list
-pub said_of : (most : ℕ) (listing : Listing) (crews : Option (List Crew)) → listing.orders ≡ order_lists listing.tree listing.cuts most
+pub said_of : (most : ℕ) (listing : Listing) (crews : Option (List Crew))
+    → listing.orders ≡ order_lists listing.tree listing.cuts most
     → listing_text listing ≡ cuts_said most (found_in listing crews)
 said_of most listing crews is = ap (λ orders. cuts_text listing.tree (listed_with listing.cuts orders)) is
 
-check_said : (bytes : List ℕ) (tree : FaultTree) (crews : Option (List Crew)) → IsWellFormed IfAny bytes tree crews → IsCheckText bytes (check_text tree crews)
+check_said : (bytes : List ℕ) (tree : FaultTree) (crews : Option (List Crew)) → IsWellFormed IfAny bytes tree crews
+    → IsCheckText bytes (check_text tree crews)
 check_said bytes tree crews deck =
     let found : Found = record { tree = tree; cuts = []; crews = crews } in
     record { found = found; finds = well_formed found deck refl refl; is = refl }
 
-print_said : (bytes : List ℕ) (tree : FaultTree) (crews : Option (List Crew)) → IsWellFormed Unread bytes tree crews → IsPrintText bytes (print_text tree)
+print_said : (bytes : List ℕ) (tree : FaultTree) (crews : Option (List Crew)) → IsWellFormed Unread bytes tree crews
+    → IsPrintText bytes (print_text tree)
 print_said bytes tree crews deck =
     let found : Found = record { tree = tree; cuts = []; crews = crews } in
     record { found = found; finds = well_formed found deck refl refl; is = refl }
 
 -- ---- what is found for `diagram`
 
-module _ (bytes : List ℕ) (tree : FaultTree) (crews : Option (List Crew)) (deck : IsWellFormed Unread bytes tree crews) where
+module _ (bytes : List ℕ) (tree : FaultTree) (crews : Option (List Crew))
+    (deck : IsWellFormed Unread bytes tree crews) where
   abbrev with_cuts : List (List ℕ) → Found
   with_cuts cuts = record { tree = tree; cuts = cuts; crews = crews }
 
   finds_heavy_cuts : HasHeavyCutList tree → Finds for_diagram bytes TooHeavy
   finds_heavy_cuts (cuts, list, heavy) =
-      well_formed (with_cuts cuts) deck list (sym (cond-true (nat_lt weight_limit (weight cuts)) TooHeavy (Ready (with_cuts cuts)) (lt-ltb weight_limit (weight cuts) heavy)))
+      well_formed (with_cuts cuts) deck list (sym (cond-true (nat_lt weight_limit (weight cuts)) TooHeavy
+      (Ready (with_cuts cuts)) (lt-ltb weight_limit (weight cuts) heavy)))
 
-  finds_cuts : (cuts : List (List ℕ)) → IsCutList tree cuts → weight cuts ≤ weight_limit → Finds for_diagram bytes (Ready (with_cuts cuts))
+  finds_cuts : (cuts : List (List ℕ)) → IsCutList tree cuts → weight cuts ≤ weight_limit
+      → Finds for_diagram bytes (Ready (with_cuts cuts))
   finds_cuts cuts list light =
-      well_formed (with_cuts cuts) deck list (sym (cond-false (nat_lt weight_limit (weight cuts)) TooHeavy (Ready (with_cuts cuts)) (le-ltb weight_limit (weight cuts) light)))
+      well_formed (with_cuts cuts) deck list (sym (cond-false (nat_lt weight_limit (weight cuts)) TooHeavy
+      (Ready (with_cuts cuts)) (le-ltb weight_limit (weight cuts) light)))
 
-  sizes_said : (sizes : Sizes) → AreSizesOf tree sizes → IsDiagramText (method_by sizes.nodes) bytes (diagram_text sizes.tree sizes.cuts sizes.nodes)
+  sizes_said : (sizes : Sizes) → AreSizesOf tree sizes
+      → IsDiagramText (method_by sizes.nodes) bytes (diagram_text sizes.tree sizes.cuts sizes.nodes)
   sizes_said sizes are = record {
     found = with_cuts sizes.cuts;
     finds = finds_cuts sizes.cuts are.all are.light;
@@ -112,53 +140,67 @@ module _ (bytes : List ℕ) (tree : FaultTree) (crews : Option (List Crew)) (dec
 
 -- ---- a fact of the bytes that were read is one of the input
 
-of_whole : (held left : Option (List ℕ)) (bytes : List ℕ) (P : List ℕ → Type 0) → Consumes held left bytes → IsAtEnd left → length bytes ≤ INPUT_LIMIT → P bytes → OfInput held left P
+of_whole : (held left : Option (List ℕ)) (bytes : List ℕ) (P : List ℕ → Type 0) → Consumes held left bytes
+    → IsAtEnd left → length bytes ≤ INPUT_LIMIT → P bytes → OfInput held left P
 of_whole None left bytes P consumes at_end within holds = tt
 of_whole (Some all) None bytes P consumes at_end within holds = absurd consumes
 of_whole (Some all) (Some rest) bytes P consumes at_end within holds =
     let same : all ≡ bytes = consumes ∙ ap (λ l. bytes ++ l) at_end ∙ append-nil bytes in
     (at_end, subst (λ l. length l ≤ INPUT_LIMIT) (sym same) within, subst P (sym same) holds)
 
-pub whole : (held left : Option (List ℕ)) (bytes given : List ℕ) (P : List ℕ → Type 0) → given ≡ bytes → Consumes held left bytes → IsAtEnd left → length bytes ≤ INPUT_LIMIT
+pub whole : (held left : Option (List ℕ)) (bytes given : List ℕ) (P : List ℕ → Type 0) → given ≡ bytes
+    → Consumes held left bytes → IsAtEnd left → length bytes ≤ INPUT_LIMIT
     → P given → OfInput held left P
-whole held left bytes given P is consumes at_end within holds = of_whole held left bytes P consumes at_end within (subst P is holds)
+whole held left bytes given P is consumes at_end within holds =
+    of_whole held left bytes P consumes at_end within (subst P is holds)
 
 -- ---- texts and refusals, for an input
 
 module _ (held left : Option (List ℕ)) (tree : FaultTree) (crews : Option (List Crew)) where
-  pub cuts_of_input : (most : ℕ) (listing : Listing) → OfInput held left (λ bytes. IsWellFormed Unread bytes tree crews) → IsListingOf most tree listing
+  pub cuts_of_input : (most : ℕ) (listing : Listing) → OfInput held left (λ bytes. IsWellFormed Unread bytes tree crews)
+      → IsListingOf most tree listing
       → OfInput held left (λ bytes. IsCutsText most bytes (listing_text listing))
   cuts_of_input most listing read is =
-      of_input held left (λ bytes. IsWellFormed Unread bytes tree crews) (λ bytes. IsCutsText most bytes (listing_text listing))
+      of_input held left (λ bytes. IsWellFormed Unread bytes tree crews)
+      (λ bytes. IsCutsText most bytes (listing_text listing))
       (λ bytes deck. record {
         found = found_in listing crews;
         finds = finds_ready Unread most bytes tree crews deck listing is;
         is = said_of most listing crews (orders_of_listing most tree listing is);
       }) read
 
-  pub diagram_of_input : (sizes : Sizes) → OfInput held left (λ bytes. IsWellFormed Unread bytes tree crews) → AreSizesOf tree sizes
-      → OfInput held left (λ bytes. IsDiagramText (method_by sizes.nodes) bytes (diagram_text sizes.tree sizes.cuts sizes.nodes))
+  pub diagram_of_input : (sizes : Sizes) → OfInput held left (λ bytes. IsWellFormed Unread bytes tree crews)
+      → AreSizesOf tree sizes
+      → OfInput held left (λ bytes. IsDiagramText (method_by sizes.nodes) bytes
+      (diagram_text sizes.tree sizes.cuts sizes.nodes))
   diagram_of_input sizes read are =
       of_input held left (λ bytes. IsWellFormed Unread bytes tree crews)
       (λ bytes. IsDiagramText (method_by sizes.nodes) bytes (diagram_text sizes.tree sizes.cuts sizes.nodes))
       (λ bytes deck. sizes_said bytes tree crews deck sizes are) read
 
-  pub check_of_input : OfInput held left (λ bytes. IsWellFormed IfAny bytes tree crews) → OfInput held left (λ bytes. IsCheckText bytes (check_text tree crews))
+  pub check_of_input : OfInput held left (λ bytes. IsWellFormed IfAny bytes tree crews)
+      → OfInput held left (λ bytes. IsCheckText bytes (check_text tree crews))
   check_of_input read =
-      of_input held left (λ bytes. IsWellFormed IfAny bytes tree crews) (λ bytes. IsCheckText bytes (check_text tree crews)) (λ bytes deck. check_said bytes tree crews deck) read
+      of_input held left (λ bytes. IsWellFormed IfAny bytes tree crews)
+      (λ bytes. IsCheckText bytes (check_text tree crews)) (λ bytes deck. check_said bytes tree crews deck) read
 
-  pub print_of_input : OfInput held left (λ bytes. IsWellFormed Unread bytes tree crews) → OfInput held left (λ bytes. IsPrintText bytes (print_text tree))
+  pub print_of_input : OfInput held left (λ bytes. IsWellFormed Unread bytes tree crews)
+      → OfInput held left (λ bytes. IsPrintText bytes (print_text tree))
   print_of_input read =
-      of_input held left (λ bytes. IsWellFormed Unread bytes tree crews) (λ bytes. IsPrintText bytes (print_text tree)) (λ bytes deck. print_said bytes tree crews deck) read
+      of_input held left (λ bytes. IsWellFormed Unread bytes tree crews) (λ bytes. IsPrintText bytes (print_text tree))
+      (λ bytes deck. print_said bytes tree crews deck) read
 
   -- a limit of the tree is one of the command
-  pub limit_for : (part : CrewPart) (most : ℕ) (rose : Type 0) (end : RunEnd) → OfInput held left (λ bytes. IsWellFormed part bytes tree crews) → IfRefused (IsLimitOf most tree) end
+  pub limit_for : (part : CrewPart) (most : ℕ) (rose : Type 0) (end : RunEnd)
+      → OfInput held left (λ bytes. IsWellFormed part bytes tree crews) → IfRefused (IsLimitOf most tree) end
       → IfRefused (IsRefusalFor (record { crews = part; cuts = WithOrders most }) held left rose) end
   limit_for part most rose (Refused ListLimit) read heavy =
-      of_input held left (λ bytes. IsWellFormed part bytes tree crews) (λ bytes. Finds (record { crews = part; cuts = WithOrders most }) bytes TooHeavy)
+      of_input held left (λ bytes. IsWellFormed part bytes tree crews)
+      (λ bytes. Finds (record { crews = part; cuts = WithOrders most }) bytes TooHeavy)
       (λ bytes deck. finds_heavy part most bytes tree crews deck heavy) read
   limit_for part most rose (Refused OrderLimit) read many =
-      of_input held left (λ bytes. IsWellFormed part bytes tree crews) (λ bytes. Finds (record { crews = part; cuts = WithOrders most }) bytes TooManyOrders)
+      of_input held left (λ bytes. IsWellFormed part bytes tree crews)
+      (λ bytes. Finds (record { crews = part; cuts = WithOrders most }) bytes TooManyOrders)
       (λ bytes deck. finds_many part most bytes tree crews deck many) read
   limit_for part most rose (Refused (Fault fault)) read never = absurd never
   limit_for part most rose (Refused ReadFault) read never = absurd never
@@ -167,7 +209,8 @@ module _ (held left : Option (List ℕ)) (tree : FaultTree) (crews : Option (Lis
   limit_for part most rose NoMemory read free = tt
 
   -- so is the limit of weight one of `diagram`
-  pub weight_limit_for : (rose : Type 0) (end : RunEnd) → OfInput held left (λ bytes. IsWellFormed Unread bytes tree crews) → IfRefused (IsWeightLimitOf tree) end
+  pub weight_limit_for : (rose : Type 0) (end : RunEnd)
+      → OfInput held left (λ bytes. IsWellFormed Unread bytes tree crews) → IfRefused (IsWeightLimitOf tree) end
       → IfRefused (IsRefusalFor for_diagram held left rose) end
   weight_limit_for rose (Refused ListLimit) read heavy =
       of_input held left (λ bytes. IsWellFormed Unread bytes tree crews) (λ bytes. Finds for_diagram bytes TooHeavy)
@@ -181,9 +224,11 @@ module _ (held left : Option (List ℕ)) (tree : FaultTree) (crews : Option (Lis
 
 module _ (held left : Option (List ℕ)) (rose : Type 0) where
   -- why no deck is read is why the command is refused
-  pub refused_for : (wants : Wants) (end : RunEnd) → IfRefused (IsReadRefusal wants.crews held left rose) end → IfRefused (IsRefusalFor wants held left rose) end
+  pub refused_for : (wants : Wants) (end : RunEnd) → IfRefused (IsReadRefusal wants.crews held left rose) end
+      → IfRefused (IsRefusalFor wants held left rose) end
   refused_for wants (Refused (Fault fault)) holds =
-      of_input held left (λ bytes. IsDeckFault wants.crews bytes fault) (λ bytes. Finds wants bytes (Faulty fault)) (λ bytes refused. bad_deck fault refused refl) holds
+      of_input held left (λ bytes. IsDeckFault wants.crews bytes fault) (λ bytes. Finds wants bytes (Faulty fault))
+      (λ bytes refused. bad_deck fault refused refl) holds
   refused_for wants (Refused ReadFault) rises = rises
   refused_for wants (Refused TooLong) beyond = beyond
   refused_for wants (Refused ListLimit) never = absurd never
@@ -191,7 +236,8 @@ module _ (held left : Option (List ℕ)) (rose : Type 0) where
   refused_for wants (Refused Usage) never = absurd never
   refused_for wants NoMemory free = tt
 
-  pub refused_by : (words : List (List ℕ)) (wants : Wants) (end : RunEnd) → wanted words ≡ Some wants → IfRefused (IsRefusalFor wants held left rose) end
+  pub refused_by : (words : List (List ℕ)) (wants : Wants) (end : RunEnd) → wanted words ≡ Some wants
+      → IfRefused (IsRefusalFor wants held left rose) end
       → IfRefused (IsRefusalBy words held left rose) end
   refused_by words wants (Refused (Fault fault)) at holds = gives.refused wants fault at holds refl refl
   refused_by words wants (Refused ReadFault) at rises = gives.read_fault wants at rises refl refl

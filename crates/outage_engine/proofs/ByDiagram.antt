@@ -17,7 +17,8 @@ module _ (tree : FaultTree) (seat : Seated) (root : ℕ) (is : IsRootOf seat tre
   pub no_empty_cut : IsTree tree → LacksEmptySet (family (map_of seat) root)
   no_empty_cut kept = no_empty_set tree tree.top (family (map_of seat) root) kept is.1
 
-  pub list_of_root : (cuts : List (List ℕ)) → HasSetsOf (family (map_of seat) root) cuts → IsInCutOrder cuts → IsCutList tree cuts
+  pub list_of_root : (cuts : List (List ℕ)) → HasSetsOf (family (map_of seat) root) cuts → IsInCutOrder cuts
+      → IsCutList tree cuts
   list_of_root cuts sets ordered = cut_list-from_family tree (family (map_of seat) root) cuts is.1 ordered sets
 
   pub heavy_list : HasHeavyList (family (map_of seat) root) → HasHeavyCutList tree
@@ -26,11 +27,13 @@ module _ (tree : FaultTree) (seat : Seated) (root : ℕ) (is : IsRootOf seat tre
   pub nodes_of_root : (nodes : ℕ) → IsNodeCount (family (map_of seat) root) nodes → AreNodesOf tree (Some nodes)
   nodes_of_root nodes count = (family (map_of seat) root, is.1, count)
 
-pub found_by : (before after : Seated) (tree : FaultTree) (root : Option ℕ) → IfSome root (IsDiagramOf after tree) → (root ≡ None → before.fulls < after.fulls)
+pub found_by : (before after : Seated) (tree : FaultTree) (root : Option ℕ) → IfSome root (IsDiagramOf after tree)
+    → (root ≡ None → before.fulls < after.fulls)
     → IsFoundBy before after tree (method_by root)
 found_by before after tree (Some root) diagram full = (root, diagram)
 found_by before after tree None diagram full = full refl
 
-pub has_root : (before after : Seated) (tree : FaultTree) (root : Option ℕ) → IfSome root (IsDiagramOf after tree) → IfSome root (IsRootOf after tree)
+pub has_root : (before after : Seated) (tree : FaultTree) (root : Option ℕ) → IfSome root (IsDiagramOf after tree)
+    → IfSome root (IsRootOf after tree)
 has_root before after tree (Some root) diagram = diagram.top
 has_root before after tree None diagram = diagram

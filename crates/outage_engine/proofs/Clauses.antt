@@ -5,23 +5,28 @@ use Rattle.std.proofs.Common.{sym, subst, ◌∙◌, refl, inl, inr, arith}
 use Rattle.edge_io.specs.declared.reading.TheConstants.{INPUT_LIMIT}
 use Rattle.board_words.specs.declared.command.Command.{Command}
 use Rattle.board_words.specs.declared.command.Command.TheVariants.{Cuts, Board, Check, Print, Diagram, Make, Help}
+use Rattle.board_words.specs.declared.command.Show.TheVariants as shown
 use Rattle.board_report.specs.Refusals.{fault_line, notice_line}
 use Rattle.board_report.specs.declared.notice.Notice.TheVariants as notice
 use Rattle.outage_engine.specs.declared.status.Status.{Status}
-use Rattle.outage_engine.specs.declared.status.Status.TheVariants.{Done, Refused, ListLimit, OrderLimit, Usage, ReadFault, TooLong, WriteFault, NoMemory}
+use Rattle.outage_engine.specs.declared.status.Status.TheVariants.{Done, Refused, ListLimit, OrderLimit, Usage}
+use Rattle.outage_engine.specs.declared.status.Status.TheVariants.{ReadFault, TooLong, WriteFault, NoMemory}
 use Rattle.outage_engine.specs.declared.status.Method.{Method}
 use Rattle.outage_engine.specs.Finding.{Finding, Finds, Found, Faulty, TooHeavy, TooManyOrders, Ready, Wants}
-use Rattle.outage_engine.specs.Gives.{Gives, IsBeyond, IsMethodOf, IsTextOf, OfInput, asked, wanted, wants_of, done, usage, read_fault, too_long, refused, list_limit, order_limit}
+use Rattle.outage_engine.specs.Gives.{Gives, IsBeyond, IsMethodOf, IsTextOf, OfInput, asked, wanted, wants_of, done}
+use Rattle.outage_engine.specs.Gives.{usage, read_fault, too_long, refused, list_limit, order_limit}
 use Rattle.outage_engine.specs.Runs as runs
 use Rattle.outage_engine.specs.Runs.{Answers, AreReading, Fails, HasFound, IsDone, Runs}
 use Rattle.outage_engine.specs.Safety.{IsSafeText}
-use Rattle.outage_engine.specs.Texts.{IsBoardText, IsCheckText, IsCutsText, IsDiagramText, IsPrintText, for_board, for_check, for_cuts, for_diagram, for_print}
+use Rattle.outage_engine.specs.Texts.{IsBoardText, IsCheckText, IsCutsText, IsDiagramText, IsPrintText, for_board}
+use Rattle.outage_engine.specs.Texts.{for_check, for_cuts, for_diagram, for_print}
 use Rattle.outage_engine.proofs.OneFinding.{one_finding}
 
 -- ---- inputs
 
 -- the facts of an input that is told
-input : (bytes : List ℕ) (left : Option (List ℕ)) (P : List ℕ → Type 0) → OfInput (Some bytes) left P → (length bytes ≤ INPUT_LIMIT) × P bytes
+input : (bytes : List ℕ) (left : Option (List ℕ)) (P : List ℕ → Type 0) → OfInput (Some bytes) left P
+    → (length bytes ≤ INPUT_LIMIT) × P bytes
 input bytes None P fact = absurd fact
 input bytes (Some rest) P fact = (fact.1, fact.2)
 
@@ -33,21 +38,27 @@ not_short_and_long : {P : Type 0} (bytes : List ℕ) → length bytes ≤ INPUT_
 not_short_and_long bytes short long = absurd (omega (arith, short, long))
 
 -- a fact of an input that holds of other facts too
-pub of_input : (held left : Option (List ℕ)) (P Q : List ℕ → Type 0) → ((bytes : List ℕ) → P bytes → Q bytes) → OfInput held left P → OfInput held left Q
+pub of_input : (held left : Option (List ℕ)) (P Q : List ℕ → Type 0) → ((bytes : List ℕ) → P bytes → Q bytes)
+    → OfInput held left P → OfInput held left Q
 of_input None left P Q weaker fact = tt
 of_input (Some bytes) None P Q weaker fact = absurd fact
 of_input (Some bytes) (Some rest) P Q weaker fact = (fact.0, fact.1, weaker bytes fact.2)
 
-plain_text : (margin most : ℕ) (bytes text : List ℕ) → IsSafeText margin most bytes text → IsBoardText margin most bytes text
-plain_text margin most bytes text is = record { found = is.found; finds = is.finds; history = is.history; of_deck = is.of_deck; is = is.is }
+plain_text : (margin most : ℕ) (bytes text : List ℕ) → IsSafeText margin most bytes text
+    → IsBoardText margin most bytes text
+plain_text margin most bytes text is =
+    record { found = is.found; finds = is.finds; history = is.history; of_deck = is.of_deck; is = is.is }
 
 -- ---- words are of one kind
 
 wanted_by : {P : Type 0} (words : List (List ℕ)) (wants : Wants) → wanted words ≡ Some wants → asked words ≡ None → P
-wanted_by words wants some none = let clash : wants_of None ≡ Some wants = subst (λ c. wants_of c ≡ Some wants) none some in absurd cc
+wanted_by words wants some none =
+    let clash : wants_of None ≡ Some wants = subst (λ c. wants_of c ≡ Some wants) none some in absurd cc
 
-wanted_by_help : {P : Type 0} (words : List (List ℕ)) (wants : Wants) → wanted words ≡ Some wants → asked words ≡ Some Help → P
-wanted_by_help words wants some help' = let clash : wants_of (Some Help) ≡ Some wants = subst (λ c. wants_of c ≡ Some wants) help' some in absurd cc
+wanted_by_other : {P : Type 0} (words : List (List ℕ)) (wants : Wants) (command : Command) → wanted words ≡ Some wants
+    → asked words ≡ Some command → wants_of (Some command) ≡ None → P
+wanted_by_other words wants command some asks none =
+    let clash : None ≡ Some wants = sym none ∙ subst (λ c. wants_of c ≡ Some wants) asks some in absurd cc
 
 same_command : (words : List (List ℕ)) (one two : Command) → asked words ≡ Some one → asked words ≡ Some two → one ≡ two
 same_command words one two at at' = let same : Some one ≡ Some two = sym at ∙ at' in cc
@@ -62,13 +73,16 @@ same_wants words one two at at' = let same : Some one ≡ Some two = sym at ∙ 
 
 -- a text that ends well is that of the command
 abbrev IsDoneText : List (List ℕ) → Option (List ℕ) → Option (List ℕ) → Method → List ℕ → Type 0
-IsDoneText words held left method text = (command : Command) × (asked words ≡ Some command) × IsMethodOf command method × IsTextOf command method held left text
+IsDoneText words held left method text =
+    (command : Command) × (asked words ≡ Some command) × IsMethodOf command method
+    × IsTextOf command method held left text
 
 abbrev Cause : List (List ℕ) → Option (List ℕ) → Option (List ℕ) → Type 0 → Status → List ℕ → Type 0
 Cause words held left rose (Done method) text = IsDoneText words held left method text
 Cause words held left rose (Refused fault) text = HasFound words held left (Faulty fault) × (text ≡ fault_line fault)
 Cause words held left rose ListLimit text = HasFound words held left TooHeavy × (text ≡ notice_line notice.ListLimit)
-Cause words held left rose OrderLimit text = HasFound words held left TooManyOrders × (text ≡ notice_line notice.OrderLimit)
+Cause words held left rose OrderLimit text =
+    HasFound words held left TooManyOrders × (text ≡ notice_line notice.OrderLimit)
 Cause words held left rose Usage text = (asked words ≡ None) × (text ≡ notice_line notice.Usage)
 Cause words held left rose ReadFault text = AreReading words × rose × (text ≡ notice_line notice.ReadFault)
 Cause words held left rose TooLong text = AreReading words × IsBeyond held left × (text ≡ notice_line notice.TooLong)
@@ -88,7 +102,8 @@ module _ (words : List (List ℕ)) (held left : Option (List ℕ)) (rose : Type 
   cause status (list_limit wants at found is line) = subst Caused (sym is) ((wants, at, found), line)
   cause status (order_limit wants at found is line) = subst Caused (sym is) ((wants, at, found), line)
 
-  text_of_command : (method : Method) (command : Command) → asked words ≡ Some command → IsDoneText words held left method text → IsTextOf command method held left text
+  text_of_command : (method : Method) (command : Command) → asked words ≡ Some command
+      → IsDoneText words held left method text → IsTextOf command method held left text
   text_of_command method command asks (other, at, is_method, is_text) =
       subst (λ c. IsTextOf c method held left text) (same_command words other command at asks) is_text
 
@@ -96,15 +111,18 @@ module _ (words : List (List ℕ)) (held left : Option (List ℕ)) (rose : Type 
 
 module _ (words : List (List ℕ)) (bytes : List ℕ) (left : Option (List ℕ)) (rose : Type 0) (text : List ℕ) where
   -- of a deck that was read, the status goes with its finding
-  goes_with : (wants : Wants) (finding other : Finding) (status : Status) → wanted words ≡ Some wants → Finds wants bytes finding → HasFound words (Some bytes) left other
+  goes_with : (wants : Wants) (finding other : Finding) (status : Status) → wanted words ≡ Some wants
+      → Finds wants bytes finding → HasFound words (Some bytes) left other
       → (Answers other status) → Answers finding status
   goes_with wants finding other status at finds (wants', at', found) answers =
       let same : wants' ≡ wants = same_wants words wants' wants at' at in
-      let found' : Finds wants bytes other = subst (λ w. Finds w bytes other) same (input bytes left (λ b. Finds wants' b other) found).1 in
+      let found' : Finds wants bytes other =
+      subst (λ w. Finds w bytes other) same (input bytes left (λ b. Finds wants' b other) found).1 in
       subst (λ f. Answers f status) (one_finding wants bytes other finding found' finds) answers
 
   -- what the text of a command was found of
-  ready_for : (wants : Wants) (command : Command) (method : Method) → wants_of (Some command) ≡ Some wants → IsTextOf command method (Some bytes) left text
+  ready_for : (wants : Wants) (command : Command) (method : Method) → wants_of (Some command) ≡ Some wants
+      → IsTextOf command method (Some bytes) left text
       → (length bytes ≤ INPUT_LIMIT) × (found : Found) × Finds wants bytes (Ready found)
   ready_for wants (Cuts most workers) method at is_text =
       let whole = input bytes left (λ b. IsCutsText most b text) is_text in
@@ -127,29 +145,38 @@ module _ (words : List (List ℕ)) (bytes : List ℕ) (left : Option (List ℕ))
       let whole = input bytes left (λ b. IsDiagramText method b text) is_text in
       let same : for_diagram ≡ wants = same_some for_diagram wants at in
       (whole.0, whole.1.found, subst (λ w. Finds w bytes (Ready whole.1.found)) same whole.1.finds)
-  ready_for wants (Make number show) method at is_text = absurd is_text
+  ready_for wants (Make number show) method at is_text = absurd cc
 
-  deck_due : (wants : Wants) (finding : Finding) → length bytes ≤ INPUT_LIMIT → wanted words ≡ Some wants → Finds wants bytes finding
+  deck_due : (wants : Wants) (finding : Finding) → length bytes ≤ INPUT_LIMIT → wanted words ≡ Some wants
+      → Finds wants bytes finding
       → (status : Status) → Cause words (Some bytes) left rose status text → Answers finding status ⊎ Fails status
   deck_due wants finding short at finds (Done method) (command, asks, is_method, is_text) =
       let ready = ready_for wants command method (subst (λ c. wants_of c ≡ Some wants) asks at) is_text in
-      inl (subst (λ f. Answers f (Done method)) (one_finding wants bytes (Ready ready.1) finding ready.2 finds) (method, refl))
-  deck_due wants finding short at finds (Refused fault) (found, line) = inl (goes_with wants finding (Faulty fault) (Refused fault) at finds found refl)
-  deck_due wants finding short at finds ListLimit (found, line) = inl (goes_with wants finding TooHeavy ListLimit at finds found refl)
-  deck_due wants finding short at finds OrderLimit (found, line) = inl (goes_with wants finding TooManyOrders OrderLimit at finds found refl)
+      inl (subst (λ f. Answers f (Done method)) (one_finding wants bytes (Ready ready.1) finding ready.2 finds)
+      (method, refl))
+  deck_due wants finding short at finds (Refused fault) (found, line) =
+      inl (goes_with wants finding (Faulty fault) (Refused fault) at finds found refl)
+  deck_due wants finding short at finds ListLimit (found, line) =
+      inl (goes_with wants finding TooHeavy ListLimit at finds found refl)
+  deck_due wants finding short at finds OrderLimit (found, line) =
+      inl (goes_with wants finding TooManyOrders OrderLimit at finds found refl)
   deck_due wants finding short at finds Usage (none, line) = wanted_by words wants at none
   deck_due wants finding short at finds ReadFault failed = inr (inl refl)
-  deck_due wants finding short at finds TooLong (reading, beyond, line) = not_short_and_long bytes short (long_input bytes left beyond)
+  deck_due wants finding short at finds TooLong (reading, beyond, line) =
+      not_short_and_long bytes short (long_input bytes left beyond)
   deck_due wants finding short at finds WriteFault none = absurd none
   deck_due wants finding short at finds NoMemory none = absurd none
 
   found_short : (finding : Finding) → HasFound words (Some bytes) left finding → length bytes ≤ INPUT_LIMIT
   found_short finding (wants, at, found) = (input bytes left (λ b. Finds wants b finding) found).0
 
-  length_due : INPUT_LIMIT < length bytes → AreReading words → (status : Status) → Cause words (Some bytes) left rose status text → (status ≡ TooLong) ⊎ Fails status
+  length_due : INPUT_LIMIT < length bytes → AreReading words → (status : Status)
+      → Cause words (Some bytes) left rose status text → (status ≡ TooLong) ⊎ Fails status
   length_due long (wants, at) (Done method) (command, asks, is_method, is_text) =
-      not_short_and_long bytes (ready_for wants command method (subst (λ c. wants_of c ≡ Some wants) asks at) is_text).0 long
-  length_due long (wants, at) (Refused fault) (found, line) = not_short_and_long bytes (found_short (Faulty fault) found) long
+      not_short_and_long bytes (ready_for wants command method (subst (λ c. wants_of c ≡ Some wants) asks at) is_text).0
+      long
+  length_due long (wants, at) (Refused fault) (found, line) =
+      not_short_and_long bytes (found_short (Faulty fault) found) long
   length_due long (wants, at) ListLimit (found, line) = not_short_and_long bytes (found_short TooHeavy found) long
   length_due long (wants, at) OrderLimit (found, line) = not_short_and_long bytes (found_short TooManyOrders found) long
   length_due long (wants, at) Usage (none, line) = wanted_by words wants at none
@@ -165,7 +192,8 @@ module _ (words : List (List ℕ)) (held left : Option (List ℕ)) (rose : Type 
   found_reads : (finding : Finding) → HasFound words held left finding → AreReading words
   found_reads finding (wants, at, found) = (wants, at)
 
-  usage_due : asked words ≡ None → (status : Status) → Cause words held left rose status text → (status ≡ Usage) ⊎ Fails status
+  usage_due : asked words ≡ None → (status : Status) → Cause words held left rose status text
+      → (status ≡ Usage) ⊎ Fails status
   usage_due none (Done method) (command, at, is_method, is_text) = let clash = sym none ∙ at in absurd cc
   usage_due none (Refused fault) (found, line) = none_reads none (found_reads (Faulty fault) found)
   usage_due none ListLimit (found, line) = none_reads none (found_reads TooHeavy found)
@@ -176,23 +204,26 @@ module _ (words : List (List ℕ)) (held left : Option (List ℕ)) (rose : Type 
   usage_due none WriteFault never = absurd never
   usage_due none NoMemory never = absurd never
 
-  help_reads : {P : Type 0} → asked words ≡ Some Help → AreReading words → P
-  help_reads asks (wants, at) = wanted_by_help words wants at asks
+  -- a command that reads no deck is done
+  module _ (command : Command) (asks : asked words ≡ Some command) (unread : wants_of (Some command) ≡ None) where
+    other_reads : {P : Type 0} → AreReading words → P
+    other_reads (wants, at) = wanted_by_other words wants command at asks unread
 
-  help_due : asked words ≡ Some Help → (status : Status) → Cause words held left rose status text → IsDone status ⊎ Fails status
-  help_due asks (Done method) cause = inl (method, refl)
-  help_due asks (Refused fault) (found, line) = help_reads asks (found_reads (Faulty fault) found)
-  help_due asks ListLimit (found, line) = help_reads asks (found_reads TooHeavy found)
-  help_due asks OrderLimit (found, line) = help_reads asks (found_reads TooManyOrders found)
-  help_due asks Usage (none, line) = let clash = sym none ∙ asks in absurd cc
-  help_due asks ReadFault cause = inr (inl refl)
-  help_due asks TooLong (reading, beyond, line) = help_reads asks reading
-  help_due asks WriteFault never = absurd never
-  help_due asks NoMemory never = absurd never
+    other_due : (status : Status) → Cause words held left rose status text → IsDone status ⊎ Fails status
+    other_due (Done method) cause = inl (method, refl)
+    other_due (Refused fault) (found, line) = other_reads (found_reads (Faulty fault) found)
+    other_due ListLimit (found, line) = other_reads (found_reads TooHeavy found)
+    other_due OrderLimit (found, line) = other_reads (found_reads TooManyOrders found)
+    other_due Usage (none, line) = let clash = sym none ∙ asks in absurd cc
+    other_due ReadFault cause = inr (inl refl)
+    other_due TooLong (reading, beyond, line) = other_reads reading
+    other_due WriteFault never = absurd never
+    other_due NoMemory never = absurd never
 
 -- ---- the clauses of a run
 
-module _ {K : Type 0} (words : List (List ℕ)) (held left : Option (List ℕ)) (rose : Type 0) (taken : K → Option (List ℕ)) (faults : K → ℕ) (old new : K) (result : Status)
+module _ {K : Type 0} (words : List (List ℕ)) (held left : Option (List ℕ)) (rose : Type 0)
+    (taken : K → Option (List ℕ)) (faults : K → ℕ) (old new : K) (result : Status)
     (ran : Runs words held left rose taken faults old new result) where
   -- the cause and the text of a status that is written whole
   written : (status : Status) → ¬ (status ≡ WriteFault) → ¬ (status ≡ NoMemory) → result ≡ status
@@ -200,19 +231,30 @@ module _ {K : Type 0} (words : List (List ℕ)) (held left : Option (List ℕ)) 
   written status no_fault enough is = elim ran [
     | inl memory ↦ absurd (enough (sym is ∙ memory.0))
     | inr told ↦ elim told.told [
-      | inl whole ↦ (told.text, subst (λ s. Cause words held left rose s told.text) (sym whole.0 ∙ is) (cause words held left rose told.text told.status told.gives), whole.1)
+      | inl whole ↦ (
+        told.text,
+        subst (λ s. Cause words held left rose s told.text) (sym whole.0 ∙ is)
+            (cause words held left rose told.text told.status told.gives),
+        whole.1,
+      )
       | inr short ↦ absurd (no_fault (sym is ∙ short.0))
     ]
   ]
 
-  done_text : (method : Method) → result ≡ Done method → (text : List ℕ) × IsDoneText words held left method text × Appends (taken old) (taken new) text
+  done_text : (method : Method) → result ≡ Done method
+      → (text : List ℕ) × IsDoneText words held left method text × Appends (taken old) (taken new) text
   done_text method is = written (Done method) (λ e. let clash = e in cc) (λ e. let clash = e in cc) is
 
   -- the text of a command was written
   command_text : (command : Command) (method : Method) → asked words ≡ Some command → result ≡ Done method
       → (text : List ℕ) × IsTextOf command method held left text × Appends (taken old) (taken new) text
   command_text command method asks is =
-      let found = done_text method is in (found.0, text_of_command words held left rose found.0 method command asks found.1, found.2)
+      let found =
+      done_text method is in (
+        found.0,
+        text_of_command words held left rose found.0 method command asks found.1,
+        found.2,
+      )
 
   pub of_command : runs.IsOfCommand words result
   of_command method is = let found = done_text method is in (found.1.0, found.1.1, found.1.2)
@@ -234,36 +276,60 @@ module _ {K : Type 0} (words : List (List ℕ)) (held left : Option (List ℕ)) 
 
   pub prints_board : runs.PrintsBoard words held left taken old new result
   prints_board margin most workers asks is_done =
-      let found = prints_safely margin most workers asks is_done in
-      (found.0, of_input held left (λ bytes. IsSafeText margin most bytes found.0) (λ bytes. IsBoardText margin most bytes found.0) (λ bytes is. plain_text margin most bytes found.0 is) found.1, found.2)
+      let found = prints_safely margin most workers asks is_done in (
+        found.0,
+        of_input held left (λ bytes. IsSafeText margin most bytes found.0)
+            (λ bytes. IsBoardText margin most bytes found.0) (λ bytes is. plain_text margin most bytes found.0 is)
+            found.1,
+        found.2,
+      )
+
+  pub prints_made : runs.PrintsMade words taken old new result
+  prints_made number asks (method, is) =
+      let found = command_text (Make number shown.Deck) method asks is in
+      subst (Appends (taken old) (taken new)) found.1 found.2
 
   pub prints_help : runs.PrintsHelp words taken old new result
-  prints_help asks (method, is) = let found = command_text Help method asks is in subst (Appends (taken old) (taken new)) found.1 found.2
+  prints_help asks (method, is) =
+      let found = command_text Help method asks is in subst (Appends (taken old) (taken new)) found.1 found.2
 
   -- the line of a refusal, with its cause
   pub refuses_words : runs.RefusesWords words taken old new result
-  refuses_words is = let found = written Usage (λ e. let clash = e in cc) (λ e. let clash = e in cc) is in (found.1.0, subst (Appends (taken old) (taken new)) found.1.1 found.2)
+  refuses_words is =
+      let found = written Usage (λ e. let clash = e in cc) (λ e. let clash = e in cc) is in
+      (found.1.0, subst (Appends (taken old) (taken new)) found.1.1 found.2)
 
   pub refuses_deck : runs.RefusesDeck words held left taken old new result
-  refuses_deck fault is = let found = written (Refused fault) (λ e. let clash = e in cc) (λ e. let clash = e in cc) is in (found.1.0, subst (Appends (taken old) (taken new)) found.1.1 found.2)
+  refuses_deck fault is =
+      let found = written (Refused fault) (λ e. let clash = e in cc) (λ e. let clash = e in cc) is in
+      (found.1.0, subst (Appends (taken old) (taken new)) found.1.1 found.2)
 
   pub refuses_weight : runs.RefusesWeight words held left taken old new result
-  refuses_weight is = let found = written ListLimit (λ e. let clash = e in cc) (λ e. let clash = e in cc) is in (found.1.0, subst (Appends (taken old) (taken new)) found.1.1 found.2)
+  refuses_weight is =
+      let found = written ListLimit (λ e. let clash = e in cc) (λ e. let clash = e in cc) is in
+      (found.1.0, subst (Appends (taken old) (taken new)) found.1.1 found.2)
 
   pub refuses_orders : runs.RefusesOrders words held left taken old new result
-  refuses_orders is = let found = written OrderLimit (λ e. let clash = e in cc) (λ e. let clash = e in cc) is in (found.1.0, subst (Appends (taken old) (taken new)) found.1.1 found.2)
+  refuses_orders is =
+      let found = written OrderLimit (λ e. let clash = e in cc) (λ e. let clash = e in cc) is in
+      (found.1.0, subst (Appends (taken old) (taken new)) found.1.1 found.2)
 
   pub refuses_length : runs.RefusesLength words held left taken old new result
-  refuses_length is = let found = written TooLong (λ e. let clash = e in cc) (λ e. let clash = e in cc) is in (found.1.0, found.1.1, subst (Appends (taken old) (taken new)) found.1.2 found.2)
+  refuses_length is =
+      let found = written TooLong (λ e. let clash = e in cc) (λ e. let clash = e in cc) is in
+      (found.1.0, found.1.1, subst (Appends (taken old) (taken new)) found.1.2 found.2)
 
   pub fails_to_read : runs.FailsToRead words rose taken old new result
-  fails_to_read is = let found = written ReadFault (λ e. let clash = e in cc) (λ e. let clash = e in cc) is in (found.1.0, found.1.1, subst (Appends (taken old) (taken new)) found.1.2 found.2)
+  fails_to_read is =
+      let found = written ReadFault (λ e. let clash = e in cc) (λ e. let clash = e in cc) is in
+      (found.1.0, found.1.1, subst (Appends (taken old) (taken new)) found.1.2 found.2)
 
   pub unwritten : result ≡ NoMemory → new ≡ old
   unwritten is = elim ran [
     | inl memory ↦ memory.1
     | inr told ↦ elim told.told [
-      | inl whole ↦ absurd (subst (λ s. Cause words held left rose s told.text) (sym whole.0 ∙ is) (cause words held left rose told.text told.status told.gives))
+      | inl whole ↦ absurd (subst (λ s. Cause words held left rose s told.text) (sym whole.0 ∙ is)
+          (cause words held left rose told.text told.status told.gives))
       | inr short ↦ let clash = sym is ∙ short.0 in absurd cc
     ]
   ]
@@ -272,17 +338,20 @@ module _ {K : Type 0} (words : List (List ℕ)) (held left : Option (List ℕ)) 
   front_of is = elim ran [
     | inl memory ↦ let clash = sym is ∙ memory.0 in absurd cc
     | inr told ↦ elim told.told [
-      | inl whole ↦ absurd (subst (λ s. Cause words held left rose s told.text) (sym whole.0 ∙ is) (cause words held left rose told.text told.status told.gives))
+      | inl whole ↦ absurd (subst (λ s. Cause words held left rose s told.text) (sym whole.0 ∙ is)
+          (cause words held left rose told.text told.status told.gives))
       | inr short ↦ (told.status, told.text, told.gives, short.1)
     ]
   ]
 
   -- what is due of every status that a text goes with is due of the run
-  due : (P : Status → Type 0) → ((status : Status) (text : List ℕ) → Cause words held left rose status text → P status ⊎ Fails status) → P result ⊎ Fails result
+  due : (P : Status → Type 0) → ((status : Status) (text : List ℕ) → Cause words held left rose status text
+      → P status ⊎ Fails status) → P result ⊎ Fails result
   due P each = elim ran [
     | inl memory ↦ inr (inr (inr memory.0))
     | inr told ↦ elim told.told [
-      | inl whole ↦ subst (λ s. P s ⊎ Fails s) (sym whole.0) (each told.status told.text (cause words held left rose told.text told.status told.gives))
+      | inl whole ↦ subst (λ s. P s ⊎ Fails s) (sym whole.0)
+          (each told.status told.text (cause words held left rose told.text told.status told.gives))
       | inr short ↦ inr (inr (inl short.0))
     ]
   ]
@@ -290,15 +359,19 @@ module _ {K : Type 0} (words : List (List ℕ)) (held left : Option (List ℕ)) 
   pub answers_words : runs.AnswersWords words result
   answers_words = (
     λ none. due (λ s. s ≡ Usage) (λ status text causes. usage_due words held left rose text none status causes),
-    λ asks. due IsDone (λ status text causes. help_due words held left rose text asks status causes),
+    λ asks. due IsDone (λ status text causes. other_due words held left rose text Help asks refl status causes),
+    λ number asks. due IsDone
+        (λ status text causes. other_due words held left rose text (Make number shown.Deck) asks refl status causes),
   )
 
   pub answers_deck : runs.AnswersDeck words held result
   answers_deck bytes wants finding holds short at finds =
       due (Answers finding) (λ status text causes.
-      deck_due words bytes left rose text wants finding short at finds status (subst (λ h. Cause words h left rose status text) holds causes))
+      deck_due words bytes left rose text wants finding short at finds status
+      (subst (λ h. Cause words h left rose status text) holds causes))
 
   pub answers_length : runs.AnswersLength words held result
   answers_length bytes holds long reading =
       due (λ s. s ≡ TooLong) (λ status text causes.
-      length_due words bytes left rose text long reading status (subst (λ h. Cause words h left rose status text) holds causes))
+      length_due words bytes left rose text long reading status
+      (subst (λ h. Cause words h left rose status text) holds causes))

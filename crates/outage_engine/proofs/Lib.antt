@@ -9,5 +9,5 @@ mod ByDiagram
 mod SeatLemmas
 mod Reading
 mod Serving
-mod Relating
 mod SomeFinding
+mod Printed

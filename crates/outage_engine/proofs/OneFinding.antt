@@ -20,8 +20,11 @@ use Rattle.board_report.specs.declared.fault.DeckFault.{DeckFault}
 use Rattle.board_report.specs.declared.fault.FaultCode.{FaultCode}
 use Rattle.board_report.specs.declared.fault.FaultCode.TheVariants.{Check, Crew as of_crews}
 use Rattle.outage_engine.specs.declared.deck.CrewPart.{CrewPart}
-use Rattle.outage_engine.specs.Deck.{IsDeckFault, IsFaultOf, IsTreeFault, IsWellFormed, LacksCrews, StandsFor, bad_crews, bad_tree, crew_part, crews_read, crews_said, no_crews, tree_part}
-use Rattle.outage_engine.specs.Finding.{AreCutsFor, CutsWanted, Finding, Faulty, Finds, Found, CutsAlone, NoCuts, Wants, WithOrders, bad_deck, judged, well_formed}
+use Rattle.deck_reading.specs.Deck.{StandsFor, crew_part, tree_part}
+use Rattle.outage_engine.specs.Deck.{IsDeckFault, IsFaultOf, IsTreeFault, IsWellFormed, LacksCrews, bad_crews, bad_tree}
+use Rattle.outage_engine.specs.Deck.{crews_read, crews_said, no_crews}
+use Rattle.outage_engine.specs.Finding.{AreCutsFor, CutsWanted, Finding, Faulty, Finds, Found, CutsAlone, NoCuts, Wants}
+use Rattle.outage_engine.specs.Finding.{WithOrders, bad_deck, judged, well_formed}
 
 -- ---- the tree part
 
@@ -29,7 +32,8 @@ abbrev read_or : ReadTree → Result ReadTree ParseFault → ReadTree
 read_or read (Ok other) = other
 read_or read (Err fault) = read
 
-pub same_deck_tree : (bytes : List ℕ) (tree other : FaultTree) → StandsFor bytes tree → StandsFor bytes other → tree ≡ other
+pub same_deck_tree : (bytes : List ℕ) (tree other : FaultTree) → StandsFor bytes tree → StandsFor bytes other
+    → tree ≡ other
 same_deck_tree bytes tree other one two =
     let same : one.read ≡ two.read = ap (read_or one.read) (sym one.parsed ∙ two.parsed) in
     same_tree two.read tree other (subst (λ r. Stands r tree) same one.stands) one.kept two.stands two.kept
@@ -40,7 +44,8 @@ check_of c = Check c
 abbrev with_both : FaultCode → Place → DeckFault
 with_both c p = record { code = c; place = p }
 
-same_fault_of : (read : Result ReadTree ParseFault) (fault other : DeckFault) → IsFaultOf read fault → IsFaultOf read other → fault ≡ other
+same_fault_of : (read : Result ReadTree ParseFault) (fault other : DeckFault) → IsFaultOf read fault
+    → IsFaultOf read other → fault ≡ other
 same_fault_of (Err (Lex found)) fault other one two = one ∙ sym two
 same_fault_of (Err (Expected wanted place)) fault other one two = one ∙ sym two
 same_fault_of (Err NoMemory) fault other one two = absurd one
@@ -50,7 +55,8 @@ same_fault_of (Ok read) fault other (code, is, first) (code', is', first') =
     ap (λ c. with_both c fault.place) codes_same ∙ ap (with_both other.code) there
 
 -- a tree and a fault at once
-no_tree_and_fault : {P : Type 0} (bytes : List ℕ) (tree : FaultTree) (fault : DeckFault) → StandsFor bytes tree → IsTreeFault bytes fault → P
+no_tree_and_fault : {P : Type 0} (bytes : List ℕ) (tree : FaultTree) (fault : DeckFault) → StandsFor bytes tree
+    → IsTreeFault bytes fault → P
 no_tree_and_fault bytes tree fault stands refused =
     let (code, is, first) = subst (λ r. IsFaultOf r fault) stands.parsed refused in
     absurd (no_fault stands.read code fault.place stands.stands.faultless first)
@@ -58,13 +64,15 @@ no_tree_and_fault bytes tree fault stands refused =
 -- ---- the crew part
 
 -- where there is no crew part, none is refused
-lacking_and_faulty : {P : Type 0} (part : CrewPart) (bytes : List ℕ) (fault : CrewFault) → LacksCrews part bytes → crews_read part bytes ≡ Err fault → P
+lacking_and_faulty : {P : Type 0} (part : CrewPart) (bytes : List ℕ) (fault : CrewFault) → LacksCrews part bytes
+    → crews_read part bytes ≡ Err fault → P
 lacking_and_faulty part bytes fault (needed, none) err =
     let read : crews_said (crew_part bytes) ≡ Err fault = subst (λ p. crews_read p bytes ≡ Err fault) needed err in
     let clash = subst (λ said. crews_said said ≡ Err fault) none read in
     absurd cc
 
-err_and_ok : {P : Type 0} (said : Result (Option (List Crew)) CrewFault) (fault : CrewFault) (crews : Option (List Crew)) → said ≡ Err fault → said ≡ Ok crews → P
+err_and_ok : {P : Type 0} (said : Result (Option (List Crew)) CrewFault) (fault : CrewFault)
+    (crews : Option (List Crew)) → said ≡ Err fault → said ≡ Ok crews → P
 err_and_ok said fault crews err ok = let clash = sym err ∙ ok in absurd cc
 
 abbrev crew_fault : CrewCode → Place → DeckFault
@@ -80,22 +88,31 @@ same_crew_fault said code code' place place' is is' =
 
 -- ---- the deck
 
-one_fault : (part : CrewPart) (bytes : List ℕ) (one two : DeckFault) → IsDeckFault part bytes one → IsDeckFault part bytes two → one ≡ two
+one_fault : (part : CrewPart) (bytes : List ℕ) (one two : DeckFault) → IsDeckFault part bytes one
+    → IsDeckFault part bytes two → one ≡ two
 one_fault part bytes one two (no_crews lacks is) (no_crews lacks' is') = is ∙ sym is'
 one_fault part bytes one two (no_crews lacks is) (bad_tree has refused) = absurd (has lacks)
-one_fault part bytes one two (no_crews lacks is) (bad_crews tree code place stands said is') = lacking_and_faulty part bytes (Fault code place) lacks said
+one_fault part bytes one two (no_crews lacks is) (bad_crews tree code place stands said is') =
+    lacking_and_faulty part bytes (Fault code place) lacks said
 one_fault part bytes one two (bad_tree has refused) (no_crews lacks is) = absurd (has lacks)
-one_fault part bytes one two (bad_tree has refused) (bad_tree has' refused') = same_fault_of (parsed_text (tree_part bytes)) one two refused refused'
-one_fault part bytes one two (bad_tree has refused) (bad_crews tree code place stands said is) = no_tree_and_fault bytes tree one stands refused
-one_fault part bytes one two (bad_crews tree code place stands said is) (no_crews lacks is') = lacking_and_faulty part bytes (Fault code place) lacks said
-one_fault part bytes one two (bad_crews tree code place stands said is) (bad_tree has refused) = no_tree_and_fault bytes tree two stands refused
-one_fault part bytes one two (bad_crews tree code place stands said is) (bad_crews tree' code' place' stands' said' is') =
+one_fault part bytes one two (bad_tree has refused) (bad_tree has' refused') =
+    same_fault_of (parsed_text (tree_part bytes)) one two refused refused'
+one_fault part bytes one two (bad_tree has refused) (bad_crews tree code place stands said is) =
+    no_tree_and_fault bytes tree one stands refused
+one_fault part bytes one two (bad_crews tree code place stands said is) (no_crews lacks is') =
+    lacking_and_faulty part bytes (Fault code place) lacks said
+one_fault part bytes one two (bad_crews tree code place stands said is) (bad_tree has refused) =
+    no_tree_and_fault bytes tree two stands refused
+one_fault part bytes one two (bad_crews tree code place stands said is)
+    (bad_crews tree' code' place' stands' said' is') =
     is ∙ same_crew_fault (crews_read part bytes) code code' place place' said said' ∙ sym is'
 
-no_deck_and_fault : {P : Type 0} (part : CrewPart) (bytes : List ℕ) (tree : FaultTree) (crews : Option (List Crew)) (fault : DeckFault)
+no_deck_and_fault : {P : Type 0} (part : CrewPart) (bytes : List ℕ) (tree : FaultTree) (crews : Option (List Crew))
+    (fault : DeckFault)
     → IsWellFormed part bytes tree crews → IsDeckFault part bytes fault → P
 no_deck_and_fault part bytes tree crews fault deck (no_crews lacks is) = absurd (deck.has_crews lacks)
-no_deck_and_fault part bytes tree crews fault deck (bad_tree has refused) = no_tree_and_fault bytes tree fault deck.stands refused
+no_deck_and_fault part bytes tree crews fault deck (bad_tree has refused) =
+    no_tree_and_fault bytes tree fault deck.stands refused
 no_deck_and_fault part bytes tree crews fault deck (bad_crews tree' code place stands said is) =
     err_and_ok (crews_read part bytes) (Fault code place) crews said deck.said
 
@@ -104,24 +121,32 @@ no_deck_and_fault part bytes tree crews fault deck (bad_crews tree' code place s
 abbrev found_as : FaultTree → List (List ℕ) → Option (List Crew) → Found
 found_as tree cuts crews = record { tree = tree; cuts = cuts; crews = crews }
 
-same_cuts : (wanted : CutsWanted) (tree : FaultTree) (cuts cuts' : List (List ℕ)) → AreCutsFor wanted tree cuts → AreCutsFor wanted tree cuts' → cuts ≡ cuts'
+same_cuts : (wanted : CutsWanted) (tree : FaultTree) (cuts cuts' : List (List ℕ)) → AreCutsFor wanted tree cuts
+    → AreCutsFor wanted tree cuts' → cuts ≡ cuts'
 same_cuts NoCuts tree cuts cuts' is is' = is ∙ sym is'
 same_cuts CutsAlone tree cuts cuts' is is' = same_cut_list tree cuts cuts' is is'
 same_cuts (WithOrders most) tree cuts cuts' is is' = same_cut_list tree cuts cuts' is is'
 
-same_found : (wants : Wants) (bytes : List ℕ) (one two : Found) → IsWellFormed wants.crews bytes one.tree one.crews → IsWellFormed wants.crews bytes two.tree two.crews
+same_found : (wants : Wants) (bytes : List ℕ) (one two : Found) → IsWellFormed wants.crews bytes one.tree one.crews
+    → IsWellFormed wants.crews bytes two.tree two.crews
     → AreCutsFor wants.cuts one.tree one.cuts → AreCutsFor wants.cuts two.tree two.cuts → one ≡ two
 same_found wants bytes one two deck deck' list list' =
     let trees : one.tree ≡ two.tree = same_deck_tree bytes one.tree two.tree deck.stands deck'.stands in
-    let cuts : one.cuts ≡ two.cuts = same_cuts wants.cuts two.tree one.cuts two.cuts (subst (λ t. AreCutsFor wants.cuts t one.cuts) trees list) list' in
+    let cuts : one.cuts ≡ two.cuts =
+    same_cuts wants.cuts two.tree one.cuts two.cuts (subst (λ t. AreCutsFor wants.cuts t one.cuts) trees list)
+    list' in
     let said = sym deck.said ∙ deck'.said in
     let crews : one.crews ≡ two.crews = cc in
-    ap (λ t. found_as t one.cuts one.crews) trees ∙ (ap (λ c. found_as two.tree c one.crews) cuts ∙ ap (found_as two.tree two.cuts) crews)
+    ap (λ t. found_as t one.cuts one.crews) trees
+    ∙ (ap (λ c. found_as two.tree c one.crews) cuts ∙ ap (found_as two.tree two.cuts) crews)
 
-pub one_finding : (wants : Wants) (bytes : List ℕ) (one two : Finding) → Finds wants bytes one → Finds wants bytes two → one ≡ two
+pub one_finding : (wants : Wants) (bytes : List ℕ) (one two : Finding) → Finds wants bytes one → Finds wants bytes two
+    → one ≡ two
 one_finding wants bytes one two (bad_deck fault refused is) (bad_deck fault' refused' is') =
     is ∙ ap (λ f. Faulty f) (one_fault wants.crews bytes fault fault' refused refused') ∙ sym is'
-one_finding wants bytes one two (bad_deck fault refused is) (well_formed found deck list is') = no_deck_and_fault wants.crews bytes found.tree found.crews fault deck refused
-one_finding wants bytes one two (well_formed found deck list is) (bad_deck fault refused is') = no_deck_and_fault wants.crews bytes found.tree found.crews fault deck refused
+one_finding wants bytes one two (bad_deck fault refused is) (well_formed found deck list is') =
+    no_deck_and_fault wants.crews bytes found.tree found.crews fault deck refused
+one_finding wants bytes one two (well_formed found deck list is) (bad_deck fault refused is') =
+    no_deck_and_fault wants.crews bytes found.tree found.crews fault deck refused
 one_finding wants bytes one two (well_formed found deck list is) (well_formed found' deck' list' is') =
     is ∙ ap (judged wants.cuts) (same_found wants bytes found found' deck deck' list list') ∙ sym is'

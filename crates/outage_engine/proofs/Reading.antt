@@ -14,20 +14,24 @@ use Rattle.outage_engine.specs.declared.deck.DeckEnd.{DeckEnd}
 use Rattle.outage_engine.specs.declared.deck.DeckParts.{DeckParts}
 use Rattle.outage_engine.specs.declared.deck.DeckEnd.TheVariants.{Fault, NoMemory}
 use Rattle.outage_engine.specs.Answers.{IfRefused, IsCrewEnd, IsDeckEnd, IsPartsEnd, IsReadRefusal, IsTreeEnd, run_end}
-use Rattle.outage_engine.specs.Deck.{IsDeckFault, IsWellFormed, LacksCrews, StandsFor, bad_crews, bad_tree, crew_part, crews_behind, crews_read, crews_said}
+use Rattle.deck_reading.specs.Deck.{StandsFor, crew_part, crews_behind}
+use Rattle.outage_engine.specs.Deck.{IsDeckFault, IsWellFormed, LacksCrews, bad_crews, bad_tree, crews_read, crews_said}
 use Rattle.outage_engine.proofs.Answering.{whole}
 
 -- ---- the ends of the parts
 
-pub crew_end : (said : Result (List Crew) CrewFault) (end : DeckEnd) → IsCrewEnd said end → IsCrewEnd (crews_said (Some said)) end
+pub crew_end : (said : Result (List Crew) CrewFault) (end : DeckEnd) → IsCrewEnd said end
+    → IsCrewEnd (crews_said (Some said)) end
 crew_end said (Fault fault) (code, place, is, same) = (code, place, ap (λ s. crews_said (Some s)) is, same)
 crew_end said NoMemory free = tt
 
-pub tree_end : {A : Type 0} (bytes : List ℕ) (said : Result A CrewFault) (end : DeckEnd) → IsTreeEnd bytes end → IsPartsEnd bytes said end
+pub tree_end : {A : Type 0} (bytes : List ℕ) (said : Result A CrewFault) (end : DeckEnd) → IsTreeEnd bytes end
+    → IsPartsEnd bytes said end
 tree_end bytes said (Fault fault) refused = inl refused
 tree_end bytes said NoMemory free = tt
 
-pub crews_end : {A : Type 0} (bytes : List ℕ) (tree : FaultTree) (said : Result A CrewFault) (end : DeckEnd) → StandsFor bytes tree → IsCrewEnd said end → IsPartsEnd bytes said end
+pub crews_end : {A : Type 0} (bytes : List ℕ) (tree : FaultTree) (said : Result A CrewFault) (end : DeckEnd)
+    → StandsFor bytes tree → IsCrewEnd said end → IsPartsEnd bytes said end
 crews_end bytes tree said (Fault fault) stands refused = inr (tree, stands, refused)
 crews_end bytes tree said NoMemory stands free = tt
 
@@ -51,14 +55,17 @@ module _ (part : CrewPart) (bytes : List ℕ) where
   at_unread is = (not_unread is, ap (λ p. crews_read p bytes) is)
 
   pub at_any : part ≡ IfAny → (at : Option CrewsAt) → (split_of bytes).crews ≡ at → IsReadAt part bytes at
-  at_any is at split = (not_if_any is, ap (λ p. crews_read p bytes) is ∙ ap (λ a. crews_said (crews_behind bytes a)) split)
+  at_any is at split =
+      (not_if_any is, ap (λ p. crews_read p bytes) is ∙ ap (λ a. crews_said (crews_behind bytes a)) split)
 
   pub at_needed : part ≡ Needed → (at : CrewsAt) → (split_of bytes).crews ≡ Some at → IsReadAt part bytes (Some at)
-  at_needed is at split = (not_where_some at split, ap (λ p. crews_read p bytes) is ∙ ap (λ a. crews_said (crews_behind bytes a)) split)
+  at_needed is at split =
+      (not_where_some at split, ap (λ p. crews_read p bytes) is ∙ ap (λ a. crews_said (crews_behind bytes a)) split)
 
   module _ (at : Option CrewsAt) (read : IsReadAt part bytes at) where
     pub deck_of_parts : (result : Result DeckParts DeckEnd) → IfOk result (λ deck. StandsFor bytes deck.tree)
-        → IfOk result (λ deck. crews_said (crews_behind bytes at) ≡ Ok deck.crews) → IfOk result (λ deck. IsWellFormed part bytes deck.tree deck.crews)
+        → IfOk result (λ deck. crews_said (crews_behind bytes at) ≡ Ok deck.crews)
+        → IfOk result (λ deck. IsWellFormed part bytes deck.tree deck.crews)
     deck_of_parts (Ok deck) stands said = record { has_crews = read.0; stands = stands; said = read.1 ∙ said }
     deck_of_parts (Err end) stands said = tt
 
@@ -69,22 +76,28 @@ module _ (part : CrewPart) (bytes : List ℕ) where
     ]
     end_is NoMemory free = tt
 
-    pub end_of_parts : (result : Result DeckParts DeckEnd) → IfErr result (IsPartsEnd bytes (crews_said (crews_behind bytes at))) → IfErr result (IsDeckEnd part bytes)
+    pub end_of_parts : (result : Result DeckParts DeckEnd)
+        → IfErr result (IsPartsEnd bytes (crews_said (crews_behind bytes at))) → IfErr result (IsDeckEnd part bytes)
     end_of_parts (Ok deck) holds = tt
     end_of_parts (Err end) holds = end_is end holds
 
 -- a crew part that is needed was read
-pub crews_are_there : (bytes : List ℕ) (tree : FaultTree) (crews : Option (List Crew)) → IsWellFormed Needed bytes tree crews → IsSome crews
-crews_are_there bytes tree crews deck = said_some (crew_part bytes) crews (λ none. deck.has_crews (refl, none)) deck.said
+pub crews_are_there : (bytes : List ℕ) (tree : FaultTree) (crews : Option (List Crew))
+    → IsWellFormed Needed bytes tree crews → IsSome crews
+crews_are_there bytes tree crews deck =
+    said_some (crew_part bytes) crews (λ none. deck.has_crews (refl, none)) deck.said
   where
-    said_some : (said : Option (Result (List Crew) CrewFault)) (crews : Option (List Crew)) → ¬ (said ≡ None) → crews_said said ≡ Ok crews → IsSome crews
+    said_some : (said : Option (Result (List Crew) CrewFault)) (crews : Option (List Crew)) → ¬ (said ≡ None)
+        → crews_said said ≡ Ok crews → IsSome crews
     said_some None crews some is = absurd (some refl)
     said_some (Some (Err fault)) crews some is = absurd cc
     said_some (Some (Ok read)) crews some is = let same : Some read ≡ crews = cc in subst IsSome same refl
 
 -- the end of a deck that the source held, as that of a run
-pub refused_reading : (part : CrewPart) (held left : Option (List ℕ)) (rose : Type 0) (bytes given : List ℕ) (end : DeckEnd) → given ≡ bytes → Consumes held left bytes → IsAtEnd left
-    → length bytes ≤ INPUT_LIMIT → IsDeckEnd part given end → IfRefused (IsReadRefusal part held left rose) (run_end end)
+pub refused_reading : (part : CrewPart) (held left : Option (List ℕ)) (rose : Type 0) (bytes given : List ℕ)
+    (end : DeckEnd) → given ≡ bytes → Consumes held left bytes → IsAtEnd left
+    → length bytes ≤ INPUT_LIMIT → IsDeckEnd part given end
+    → IfRefused (IsReadRefusal part held left rose) (run_end end)
 refused_reading part held left rose bytes given (Fault fault) is consumes at_end within holds =
     whole held left bytes given (λ b. IsDeckFault part b fault) is consumes at_end within holds
 refused_reading part held left rose bytes given NoMemory is consumes at_end within free = tt

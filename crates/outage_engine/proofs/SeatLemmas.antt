@@ -14,7 +14,8 @@ use Rattle.outage_engine.specs.declared.status.Method.TheVariants.{Plain, Lists,
 use Rattle.outage_engine.specs.declared.status.Status.{Status}
 use Rattle.outage_engine.specs.declared.status.Status.TheVariants.{Done}
 use Rattle.outage_engine.specs.Answers.{refusal_status}
-use Rattle.outage_engine.specs.Deck.{IsWellFormed, StandsFor}
+use Rattle.deck_reading.specs.Deck.{StandsFor}
+use Rattle.outage_engine.specs.Deck.{IsWellFormed}
 use Rattle.outage_engine.specs.Gives.{OfInput}
 use Rattle.outage_engine.specs.Runs.{Tells}
 use Rattle.outage_engine.specs.Store.{IsFoundBy}
@@ -24,14 +25,18 @@ use Rattle.outage_engine.proofs.Clauses.{of_input}
 module _ (held left : Option (List ℕ)) (before after : Seated) where
   -- ---- for a deck that was read
 
-  module _ (part : CrewPart) (tree : FaultTree) (crews : Option (List Crew)) (read : OfInput held left (λ bytes. IsWellFormed part bytes tree crews)) where
+  module _ (part : CrewPart) (tree : FaultTree) (crews : Option (List Crew))
+      (read : OfInput held left (λ bytes. IsWellFormed part bytes tree crews)) where
     tree_of_input : OfInput held left (λ bytes. StandsFor bytes tree)
-    tree_of_input = of_input held left (λ bytes. IsWellFormed part bytes tree crews) (λ bytes. StandsFor bytes tree) (λ bytes deck. deck.stands) read
+    tree_of_input =
+        of_input held left (λ bytes. IsWellFormed part bytes tree crews) (λ bytes. StandsFor bytes tree)
+        (λ bytes deck. deck.stands) read
 
     pub goes_for_deck : WentAll (IsDueToTree tree) before after → GoesForDeck held left before after
     goes_for_deck went = inr (tree, tree_of_input, went)
 
-    pub bears_out : (method : Method) → IsFoundBy before after tree method → BearsOut held left before after (Done method)
+    pub bears_out : (method : Method) → IsFoundBy before after tree method
+        → BearsOut held left before after (Done method)
     bears_out Diagram known = (tree, tree_of_input, known)
     bears_out Lists full = full
     bears_out Plain none = none
@@ -48,8 +53,10 @@ module _ (held left : Option (List ℕ)) (before after : Seated) where
   refusal_bears_out refusal.OrderLimit = tt
 
   -- a run that told a status ends with it, or with a write fault
-  pub told_bears_out : {K : Type 0} (taken : K → Option (List ℕ)) (faults : K → ℕ) (old new : K) (status : Status) (text : List ℕ) (result : Status)
-      → BearsOut held left before after status → Tells taken faults old new status text result → BearsOut held left before after result
+  pub told_bears_out : {K : Type 0} (taken : K → Option (List ℕ)) (faults : K → ℕ) (old new : K) (status : Status)
+      (text : List ℕ) (result : Status)
+      → BearsOut held left before after status → Tells taken faults old new status text result
+      → BearsOut held left before after result
   told_bears_out taken faults old new status text result bears told = elim told [
     | inl whole ↦ subst (BearsOut held left before after) (sym whole.0) bears
     | inr short ↦ subst (BearsOut held left before after) (sym short.0) tt

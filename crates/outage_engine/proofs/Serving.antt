@@ -28,14 +28,22 @@ use Rattle.outage_engine.proofs.Bearing.{bears_throughout}
 use Rattle.outage_engine.proofs.Clauses.{of_input}
 
 -- a board that was opened for a listing can be served and written
-pub ready : (margin : ℕ) (listing : Listing) (crews : Option (List Crew)) (opened : Opened) → IsOfUnits listing → IsOpenedWith margin listing crews opened → IsReady opened
+pub ready : (margin : ℕ) (listing : Listing) (crews : Option (List Crew)) (opened : Opened) → IsOfUnits listing
+    → IsOpenedWith margin listing crews opened → IsReady opened
 ready margin listing crews opened units (same, deck, passes) =
-    let of_deck : IsDeckOf listing.tree opened.start.board.deck = subst (IsDeckOf listing.tree) (sym deck) (record { units = refl; dockets = refl }) in
-    (subst IsOfUnits (sym same) units, passes, subst (λ (l : Listing). IsDeckOf l.tree opened.start.board.deck) (sym same) of_deck)
+    let of_deck : IsDeckOf listing.tree opened.start.board.deck =
+    subst (IsDeckOf listing.tree) (sym deck) (record { units = refl; dockets = refl }) in (
+      subst IsOfUnits (sym same) units,
+      passes,
+      subst (λ (l : Listing). IsDeckOf l.tree opened.start.board.deck)
+          (sym same) of_deck,
+    )
 
 -- a board that was opened for a tree and crews was opened for the deck
-pub opened_of_input : (held left : Option (List ℕ)) (margin most : ℕ) (tree : FaultTree) (crews : Option (List Crew)) (opened : Opened)
-    → OfInput held left (λ bytes. IsWellFormed Needed bytes tree crews) → IsOpenedFor margin most tree crews opened → OfInput held left (λ bytes. IsOpened margin most bytes opened)
+pub opened_of_input : (held left : Option (List ℕ)) (margin most : ℕ) (tree : FaultTree) (crews : Option (List Crew))
+    (opened : Opened)
+    → OfInput held left (λ bytes. IsWellFormed Needed bytes tree crews) → IsOpenedFor margin most tree crews opened
+    → OfInput held left (λ bytes. IsOpened margin most bytes opened)
 opened_of_input held left margin most tree crews opened read (is, deck) =
     of_input held left (λ bytes. IsWellFormed Needed bytes tree crews) (λ bytes. IsOpened margin most bytes opened)
     (λ bytes well. record {
@@ -48,17 +56,20 @@ opened_of_input held left margin most tree crews opened read (is, deck) =
     }) read
 
 -- what is said of a board whose crews were served
-module _ (margin most : ℕ) (bytes : List ℕ) (made : Opened) (opened : IsOpened margin most bytes made) (state : BoardView) (served : IsServed made.start state) where
+module _ (margin most : ℕ) (bytes : List ℕ) (made : Opened) (opened : IsOpened margin most bytes made)
+    (state : BoardView) (served : IsServed made.start state) where
   found : Found
   found = found_in made.listing opened.crews
 
   deck_is : state.deck ≡ board_deck margin (found_in made.listing opened.crews)
   deck_is = served.deck ∙ opened.deck
 
-  text_is : listing_text made.listing ++ board_text made.listing.tree state ≡ board_said margin most (found_in made.listing opened.crews) state.history
+  text_is : listing_text made.listing ++ board_text made.listing.tree state
+      ≡ board_said margin most (found_in made.listing opened.crews) state.history
   text_is =
       ap (λ t. t ++ board_text made.listing.tree state) (said_of most made.listing opened.crews opened.orders)
-      ∙ ap (λ deck. cuts_said most (found_in made.listing opened.crews) ++ board_text made.listing.tree (record { deck = deck; history = state.history })) deck_is
+      ∙ ap (λ deck. cuts_said most (found_in made.listing opened.crews)
+      ++ board_text made.listing.tree (record { deck = deck; history = state.history })) deck_is
 
   pub safe_text : IsSafeText margin most bytes (listing_text made.listing ++ board_text made.listing.tree state)
   safe_text = record {
@@ -71,7 +82,8 @@ module _ (margin most : ℕ) (bytes : List ℕ) (made : Opened) (opened : IsOpen
     };
     is = text_is;
     safe = subst (λ deck. BearsThroughout made.listing.tree deck state.history) deck_is
-        (bears_throughout made.listing.tree opened.kept made.listing.cuts opened.list state.deck state.history (ap (λ (deck : Deck). deck.opening.cuts) deck_is) (board_is_safe state served.kept));
+        (bears_throughout made.listing.tree opened.kept made.listing.cuts opened.list state.deck state.history
+        (ap (λ (deck : Deck). deck.opening.cuts) deck_is) (board_is_safe state served.kept));
   }
 
 -- a root and no root are of a method that finds cut sets
@@ -82,9 +94,11 @@ finds_sets None = tt
 module _ (words : List (List ℕ)) (held left : Option (List ℕ)) (rose : Type 0) where
   pub gives_board : (margin most workers : ℕ) → asked words ≡ Some (Board margin most workers) → (made : Opened)
       → OfInput held left (λ bytes. IsOpened margin most bytes made) → (state : BoardView) → IsServed made.start state
-      → Gives words held left rose (status.Done (method_by made.listing.root)) (listing_text made.listing ++ board_text made.listing.tree state)
+      → Gives words held left rose (status.Done (method_by made.listing.root))
+      (listing_text made.listing ++ board_text made.listing.tree state)
   gives_board margin most workers asks made holds state served =
       gives.done (Board margin most workers) (method_by made.listing.root) asks (finds_sets made.listing.root)
-      (of_input held left (λ bytes. IsOpened margin most bytes made) (λ bytes. IsSafeText margin most bytes (listing_text made.listing ++ board_text made.listing.tree state))
+      (of_input held left (λ bytes. IsOpened margin most bytes made)
+      (λ bytes. IsSafeText margin most bytes (listing_text made.listing ++ board_text made.listing.tree state))
       (λ bytes opened. safe_text margin most bytes made opened state served) holds)
       refl

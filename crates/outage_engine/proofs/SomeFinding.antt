@@ -25,22 +25,27 @@ use Rattle.board_report.specs.declared.fault.DeckFault.{DeckFault}
 use Rattle.board_report.specs.declared.fault.FaultCode.TheVariants as report
 use Rattle.outage_engine.specs.declared.deck.CrewPart.{CrewPart}
 use Rattle.outage_engine.specs.declared.deck.CrewPart.TheVariants.{Unread, IfAny, Needed}
-use Rattle.outage_engine.specs.Deck.{IsDeckFault, IsFaultOf, IsTreeFault, IsWellFormed, LacksCrews, StandsFor, bad_crews, bad_tree, crew_part, crews_behind, crews_read, crews_said, no_crew_part, no_crews, tree_part}
-use Rattle.outage_engine.specs.Finding.{AreCutsFor, CutsAlone, CutsWanted, Finding, Faulty, Finds, Found, NoCuts, Wants, WithOrders, bad_deck, judged, well_formed}
+use Rattle.deck_reading.specs.Deck.{StandsFor, crew_part, crews_behind, tree_part}
+use Rattle.outage_engine.specs.Deck.{IsDeckFault, IsFaultOf, IsTreeFault, IsWellFormed, LacksCrews, bad_crews, bad_tree}
+use Rattle.outage_engine.specs.Deck.{crews_read, crews_said, no_crew_part, no_crews}
+use Rattle.outage_engine.specs.Finding.{AreCutsFor, CutsAlone, CutsWanted, Finding, Faulty, Finds, Found, NoCuts, Wants}
+use Rattle.outage_engine.specs.Finding.{WithOrders, bad_deck, judged, well_formed}
 
 -- ---- the tree part
 
 module _ (reads : (text : List ℕ) → IsReading (lexemes_of text) (parsed_text text))
     (form : (text : List ℕ) (read : ReadTree) → parsed_text text ≡ Ok read → All KeepsForm read.statements)
     (checks : (read : ReadTree) → All KeepsForm read.statements
-    → ((tree : FaultTree) × Stands read tree × IsTree tree) ⊎ ((code : CheckCode) × (place : Place) × IsFirstFault read code place)) where
+    → ((tree : FaultTree) × Stands read tree × IsTree tree)
+    ⊎ ((code : CheckCode) × (place : Place) × IsFirstFault read code place)) where
   abbrev HasTree : List ℕ → Type 0
   HasTree bytes = (tree : FaultTree) × StandsFor bytes tree
 
   abbrev HasTreeFault : List ℕ → Type 0
   HasTreeFault bytes = (fault : DeckFault) × IsTreeFault bytes fault
 
-  by_parse : (bytes : List ℕ) (said : Result ReadTree ParseFault) → parsed_text (tree_part bytes) ≡ said → HasTree bytes ⊎ HasTreeFault bytes
+  by_parse : (bytes : List ℕ) (said : Result ReadTree ParseFault) → parsed_text (tree_part bytes) ≡ said
+      → HasTree bytes ⊎ HasTreeFault bytes
   by_parse bytes (Ok read) is =
       elim (checks read (form (tree_part bytes) read is)) [
         | inl (tree, stands, kept) ↦ inl (tree, record { read = read; parsed = is; stands = stands; kept = kept })
@@ -67,12 +72,15 @@ module _ (reads : (text : List ℕ) → IsReading (lexemes_of text) (parsed_text
   -- ---- the crew part
 
   module _ (answers : (number : ℕ) (bytes : List ℕ) → Answers number (lines_of bytes) (crews_of number bytes)) where
-    no_want_of_memory : (bytes : List ℕ) (at : Option CrewsAt) → crews_said (crews_behind bytes at) ≡ Err crew.NoMemory → ⊥
+    no_want_of_memory : (bytes : List ℕ) (at : Option CrewsAt) → crews_said (crews_behind bytes at) ≡ Err crew.NoMemory
+        → ⊥
     no_want_of_memory bytes None is = absurd cc
     no_want_of_memory bytes (Some at) is =
-        subst (Answers at.line (lines_of (drop at.start bytes))) (said (crews_of at.line (drop at.start bytes)) is) (answers at.line (drop at.start bytes))
+        subst (Answers at.line (lines_of (drop at.start bytes))) (said (crews_of at.line (drop at.start bytes)) is)
+        (answers at.line (drop at.start bytes))
       where
-        said : (read : Result (List Crew) CrewFault) → crews_said (Some read) ≡ Err crew.NoMemory → read ≡ Err crew.NoMemory
+        said : (read : Result (List Crew) CrewFault) → crews_said (Some read) ≡ Err crew.NoMemory
+            → read ≡ Err crew.NoMemory
         said (Ok crews) is = absurd cc
         said (Err fault) is = let same : fault ≡ crew.NoMemory = cc in ap (λ f. Err f) same
 
@@ -89,15 +97,18 @@ module _ (reads : (text : List ℕ) → IsReading (lexemes_of text) (parsed_text
     abbrev HasDeckFault : CrewPart → List ℕ → Type 0
     HasDeckFault part bytes = (fault : DeckFault) × IsDeckFault part bytes fault
 
-    lacks_or_has : (part : CrewPart) (bytes : List ℕ) (said : Option (Result (List Crew) CrewFault)) → crew_part bytes ≡ said → LacksCrews part bytes ⊎ (¬ LacksCrews part bytes)
+    lacks_or_has : (part : CrewPart) (bytes : List ℕ) (said : Option (Result (List Crew) CrewFault))
+        → crew_part bytes ≡ said → LacksCrews part bytes ⊎ (¬ LacksCrews part bytes)
     lacks_or_has Unread bytes said is = inr (λ lacks. let clash = lacks.0 in absurd cc)
     lacks_or_has IfAny bytes said is = inr (λ lacks. let clash = lacks.0 in absurd cc)
     lacks_or_has Needed bytes None is = inl (refl, is)
     lacks_or_has Needed bytes (Some said) is = inr (λ lacks. let clash = sym is ∙ lacks.1 in absurd cc)
 
-    behind_tree : (part : CrewPart) (bytes : List ℕ) (tree : FaultTree) → ¬ LacksCrews part bytes → StandsFor bytes tree → (said : Result (Option (List Crew)) CrewFault)
+    behind_tree : (part : CrewPart) (bytes : List ℕ) (tree : FaultTree) → ¬ LacksCrews part bytes → StandsFor bytes tree
+        → (said : Result (Option (List Crew)) CrewFault)
         → crews_read part bytes ≡ said → HasDeck part bytes ⊎ HasDeckFault part bytes
-    behind_tree part bytes tree has stands (Ok crews) is = inl (tree, crews, record { has_crews = has; stands = stands; said = is })
+    behind_tree part bytes tree has stands (Ok crews) is =
+        inl (tree, crews, record { has_crews = has; stands = stands; said = is })
     behind_tree part bytes tree has stands (Err (Fault code place)) is =
         let fault : DeckFault = record { code = report.Crew code; place = place } in
         inr (fault, bad_crews tree code place stands is refl)

@@ -11,13 +11,22 @@ use Rattle.outage_engine.specs.declared.status.Status.{Status}
 use Rattle.outage_engine.specs.declared.status.Status.TheVariants.{WriteFault}
 use Rattle.outage_engine.specs.Runs.{Tells}
 
-pub told_front : {K W : Type 0} (taken : K → Option (List ℕ)) (faults : K → ℕ) (old new : K) (text : List ℕ) (answer : Result (Unit {0}) W) (error : W) (status : Status)
+pub told_front : {K W : Type 0} (taken : K → Option (List ℕ)) (faults : K → ℕ) (old new : K) (text : List ℕ)
+    (answer : Result (Unit {0}) W) (error : W) (status : Status)
     → answer ≡ Err error → Delivers taken faults old new text answer → Tells taken faults old new status text WriteFault
 told_front taken faults old new text answer error status is delivered =
-    inr (refl, record { rose = subst (λ r. OnErr r (Rose (faults old) (faults new))) is delivered.rose; left = delivered.left; front = delivered.front })
+    inr (
+      refl,
+      record {
+        rose = subst (λ r. OnErr r (Rose (faults old) (faults new))) is delivered.rose;
+        left = delivered.left;
+        front = delivered.front;
+      },
+    )
 
 -- what is put of crews that are borrowed is put of the crews
 pub check_of : (tree : FaultTree) (P : List ℕ → Type 0) (crews : Option (Bor (List Crew)))
-    → MatchOption crews (P (check_text tree None)) (λ some. P (check_text tree (Some some.now))) → P (check_text tree (option_copied crews))
+    → MatchOption crews (P (check_text tree None)) (λ some. P (check_text tree (Some some.now)))
+    → P (check_text tree (option_copied crews))
 check_of tree P None holds = holds
 check_of tree P (Some crews) holds = holds

@@ -8,9 +8,11 @@ use Rattle.cut_sequences.specs.Orders.{order_lists}
 use Rattle.board_report.specs.OrdersOfUnits.{AreOrdersOf, AreOrdersOf-order_lists}
 
 cuts_of_units : (tree : FaultTree) (cuts : List (List ℕ)) → IsCutList tree cuts → All (All (IsUnitOf tree)) cuts
-cuts_of_units tree cuts list = All-weaker (IsMinimalCut tree) (All (IsUnitOf tree)) (λ set minimal. minimal.units) cuts list.sound
+cuts_of_units tree cuts list =
+    All-weaker (IsMinimalCut tree) (All (IsUnitOf tree)) (λ set minimal. minimal.units) cuts list.sound
 
-pub listed_of_units : (tree : FaultTree) (cuts : List (List ℕ)) (most : ℕ) (lists : List (Option (List (List ℕ)))) → IsCutList tree cuts
+pub listed_of_units : (tree : FaultTree) (cuts : List (List ℕ)) (most : ℕ) (lists : List (Option (List (List ℕ))))
+    → IsCutList tree cuts
     → lists ≡ order_lists tree cuts most → All (All (IsUnitOf tree)) cuts × AreOrdersOf tree cuts lists
 listed_of_units tree cuts most lists list is =
     let units = cuts_of_units tree cuts list in

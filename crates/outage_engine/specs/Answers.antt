@@ -30,15 +30,17 @@ use Rattle.outage_engine.specs.declared.status.Method.TheVariants.{Plain}
 use Rattle.outage_engine.specs.declared.listing.Listing.{Listing}
 use Rattle.outage_engine.specs.declared.sizes.Sizes.{Sizes}
 use Rattle.outage_engine.specs.declared.answer.Answer.{Answer}
-use Rattle.outage_engine.specs.declared.answer.Answer.TheVariants.{Cuts, Diagram, Checked, Printed, Help, Refused}
+use Rattle.outage_engine.specs.declared.answer.Answer.TheVariants.{Cuts, Diagram, Checked, Printed, Made, Help, Refused}
 use Rattle.outage_engine.specs.declared.refusal.Refusal.{Refusal}
-use Rattle.outage_engine.specs.declared.refusal.Refusal.TheVariants.{Usage, ReadFault, TooLong, Fault, ListLimit, OrderLimit}
+use Rattle.outage_engine.specs.declared.refusal.Refusal.TheVariants.{Usage, ReadFault, TooLong, Fault, ListLimit}
+use Rattle.outage_engine.specs.declared.refusal.Refusal.TheVariants.{OrderLimit}
 use Rattle.outage_engine.specs.declared.refusal.RunEnd.{RunEnd}
 use Rattle.outage_engine.specs.declared.refusal.RunEnd.TheVariants as run
 use Rattle.outage_engine.specs.declared.deck.CrewPart.{CrewPart}
 use Rattle.outage_engine.specs.declared.deck.DeckEnd.{DeckEnd}
 use Rattle.outage_engine.specs.declared.deck.DeckEnd.TheVariants as end
-use Rattle.outage_engine.specs.Deck.{IsDeckFault, IsTreeFault, StandsFor}
+use Rattle.deck_reading.specs.Deck.{StandsFor}
+use Rattle.outage_engine.specs.Deck.{IsDeckFault, IsTreeFault}
 use Rattle.outage_engine.specs.Finding.{Finds, Found, Faulty, TooHeavy, TooManyOrders, Wants}
 use Rattle.outage_engine.specs.Gives.{Gives, IsBeyond, OfInput}
 use Rattle.outage_engine.specs.Store.{AreNodesOf, method_by}
@@ -66,6 +68,7 @@ status_of (Cuts listing) = status.Done (method_by listing.root)
 status_of (Diagram sizes) = status.Done (method_by sizes.nodes)
 status_of (Checked deck) = status.Done Plain
 status_of (Printed tree) = status.Done Plain
+status_of (Made deck) = status.Done Plain
 status_of Help = status.Done Plain
 status_of (Refused refusal) = refusal_status refusal
 
@@ -77,18 +80,21 @@ text_of (Cuts listing) = listing_text listing
 text_of (Diagram sizes) = diagram_text sizes.tree sizes.cuts sizes.nodes
 text_of (Checked deck) = check_text deck.tree deck.crews
 text_of (Printed tree) = print_text tree
+text_of (Made deck) = deck
 text_of Help = notice_line notice.Usage
 text_of (Refused refusal) = refusal_line refusal
 
 -- its cut sets and their orders are of units of its tree, so that it can be written
 abbrev pub IsOfUnits : Listing → Type 0
-IsOfUnits listing = All (All (IsUnitOf listing.tree)) listing.cuts × AreOrdersOf listing.tree listing.cuts listing.orders
+IsOfUnits listing =
+    All (All (IsUnitOf listing.tree)) listing.cuts × AreOrdersOf listing.tree listing.cuts listing.orders
 
 abbrev pub IsWritable : Answer → Type 0
 IsWritable (Cuts listing) = IsOfUnits listing
 IsWritable (Diagram sizes) = Unit {0}
 IsWritable (Checked deck) = Unit {0}
 IsWritable (Printed tree) = Unit {0}
+IsWritable (Made deck) = Unit {0}
 IsWritable Help = Unit {0}
 IsWritable (Refused refusal) = Unit {0}
 
@@ -136,7 +142,8 @@ pub record IsListingOf (most : ℕ) (tree : FaultTree) (listing : Listing) : Typ
 abbrev pub IsLimitOf : ℕ → FaultTree → Refusal → Type 0
 IsLimitOf most tree ListLimit = HasHeavyCutList tree
 IsLimitOf most tree OrderLimit =
-    (cuts : List (List ℕ)) × IsCutList tree cuts × (weight cuts ≤ weight_limit) × (order_limit < order_total (order_lists tree cuts most))
+    (cuts : List (List ℕ)) × IsCutList tree cuts × (weight cuts ≤ weight_limit)
+    × (order_limit < order_total (order_lists tree cuts most))
 IsLimitOf most tree ReadFault = ⊥
 IsLimitOf most tree TooLong = ⊥
 IsLimitOf most tree (Fault fault) = ⊥
@@ -171,7 +178,8 @@ IsTreeEnd bytes end.NoMemory = Unit {0}
 
 -- the same of statements
 abbrev pub IsCheckEnd : ReadTree → DeckEnd → Type 0
-IsCheckEnd read (end.Fault fault) = (code : CheckCode) × (fault.code ≡ report.Check code) × IsFirstFault read code fault.place
+IsCheckEnd read (end.Fault fault) =
+    (code : CheckCode) × (fault.code ≡ report.Check code) × IsFirstFault read code fault.place
 IsCheckEnd read end.NoMemory = Unit {0}
 
 -- of a fault of tokens or of the grammar
@@ -183,7 +191,8 @@ end_of parse.NoMemory = end.NoMemory
 -- of a crew part
 abbrev pub IsCrewEnd : {A : Type 0} → Result A CrewFault → DeckEnd → Type 0
 IsCrewEnd said (end.Fault fault) =
-    (code : CrewCode) × (place : Place) × (said ≡ Err (crew.Fault code place)) × (fault ≡ record { code = report.Crew code; place = place })
+    (code : CrewCode) × (place : Place) × (said ≡ Err (crew.Fault code place))
+    × (fault ≡ record { code = report.Crew code; place = place })
 IsCrewEnd said end.NoMemory = Unit {0}
 
 -- of a tree part, or of the crew part behind it

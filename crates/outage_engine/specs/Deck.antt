@@ -1,7 +1,7 @@
--- What the bytes of a deck stand for: the tree of its tree part and the crews of its crew part, or the first fault.
-use Rattle.std.specs.Prelude.{◌≡◌, ℕ, List, take, drop, Option, Some, None, Result, Ok, Err}
+-- The faults of a deck, and what a command reads of it: the tree of its tree part, and its crews where the command
+-- takes them.
+use Rattle.std.specs.Prelude.{◌≡◌, ℕ, List, Option, Some, None, Result, Ok, Err}
 use Rattle.fault_model.specs.Tree.{FaultTree}
-use Rattle.fault_model.specs.WellFormed.{IsTree}
 use Rattle.fault_model.specs.declared.node.Place.{Place}
 use Rattle.galileo_lexer.specs.Spot.{place_behind}
 use Rattle.galileo_tree.specs.declared.fault.ParseFault.{ParseFault}
@@ -9,34 +9,20 @@ use Rattle.galileo_tree.specs.declared.fault.ParseFault.TheVariants as parse
 use Rattle.galileo_tree.specs.Lexeme.{place_at}
 use Rattle.galileo_tree.specs.Parsed.{parsed_text}
 use Rattle.galileo_tree.specs.ReadTree.{ReadTree}
-use Rattle.tree_check.specs.Checked.{IsFirstFault, Stands}
+use Rattle.tree_check.specs.Checked.{IsFirstFault}
 use Rattle.tree_check.specs.declared.fault.CheckCode.{CheckCode}
-use Rattle.crew_script.specs.Crews.{crews_of}
-use Rattle.crew_script.specs.Deck.{split_of}
-use Rattle.crew_script.specs.declared.deck.CrewsAt.{CrewsAt}
 use Rattle.crew_script.specs.declared.dockets.Crew.{Crew}
 use Rattle.crew_script.specs.declared.fault.CrewCode.{CrewCode}
 use Rattle.crew_script.specs.declared.fault.CrewCode.TheVariants.{NoCrewPart}
 use Rattle.crew_script.specs.declared.fault.CrewFault.{CrewFault}
 use Rattle.crew_script.specs.declared.fault.CrewFault.TheVariants.{Fault}
+use Rattle.deck_reading.specs.Deck.{StandsFor, crew_part, tree_part}
 use Rattle.board_report.specs.declared.fault.DeckFault.{DeckFault}
 use Rattle.board_report.specs.declared.fault.FaultCode.TheVariants as report
 use Rattle.outage_engine.specs.declared.deck.CrewPart.{CrewPart}
 use Rattle.outage_engine.specs.declared.deck.CrewPart.TheVariants.{Unread, IfAny, Needed}
 
 -- ---- the tree part
-
--- what stands before the first line `@crews`, or all
-abbrev pub tree_part : List ℕ → List ℕ
-tree_part bytes = take (split_of bytes).tree bytes
-
--- the deck stands for this tree: the tree part is the spelling of statements in which no class of faults occurs, and the
--- tree is theirs
-pub record StandsFor (bytes : List ℕ) (tree : FaultTree) : Type 0 where
-  pub read : ReadTree
-  pub parsed : parsed_text (tree_part bytes) ≡ Ok read
-  pub stands : Stands read tree
-  pub kept : IsTree tree
 
 -- what reading gives is refused with this fault: a token or the grammar's, or else the first class of the statements
 abbrev pub IsFaultOf : Result ReadTree ParseFault → DeckFault → Type 0
@@ -50,15 +36,6 @@ abbrev pub IsTreeFault : List ℕ → DeckFault → Type 0
 IsTreeFault bytes fault = IsFaultOf (parsed_text (tree_part bytes)) fault
 
 -- ---- the crew part
-
--- what the crew part says that begins there, and nothing where there is none
-abbrev pub crews_behind : List ℕ → Option CrewsAt → Option (Result (List Crew) CrewFault)
-crews_behind bytes None = None
-crews_behind bytes (Some at) = Some (crews_of at.line (drop at.start bytes))
-
--- the crews with their requests, or the first line's fault
-abbrev pub crew_part : List ℕ → Option (Result (List Crew) CrewFault)
-crew_part bytes = crews_behind bytes (split_of bytes).crews
 
 -- a deck without a crew part, told at its end
 abbrev pub no_crew_part : List ℕ → DeckFault
@@ -91,10 +68,12 @@ pub data IsDeckFault (part : CrewPart) (bytes : List ℕ) (fault : DeckFault) : 
   no_crews : LacksCrews part bytes → fault ≡ no_crew_part bytes → IsDeckFault part bytes fault
   bad_tree : ¬ LacksCrews part bytes → IsTreeFault bytes fault → IsDeckFault part bytes fault
   bad_crews : (tree : FaultTree) (code : CrewCode) (place : Place) → StandsFor bytes tree
-      → crews_read part bytes ≡ Err (Fault code place) → fault ≡ record { code = report.Crew code; place = place } → IsDeckFault part bytes fault
+      → crews_read part bytes ≡ Err (Fault code place) → fault ≡ record { code = report.Crew code; place = place }
+      → IsDeckFault part bytes fault
 
 -- the deck has no fault, and stands for this tree and these crews
-pub record IsWellFormed (part : CrewPart) (bytes : List ℕ) (tree : FaultTree) (crews : Option (List Crew)) : Type 0 where
+pub record IsWellFormed (part : CrewPart) (bytes : List ℕ) (tree : FaultTree)
+    (crews : Option (List Crew)) : Type 0 where
   pub has_crews : ¬ LacksCrews part bytes
   pub stands : StandsFor bytes tree
   pub said : crews_read part bytes ≡ Ok crews

@@ -1,5 +1,5 @@
--- What is found in a deck for a command: its first fault, or that its cut list or its failing orders are over their limit, or all that
--- the command's text needs.
+-- What is found in a deck for a command: its first fault, or that its cut list or its failing orders are over their
+-- limit, or all that the command's text needs.
 use Rattle.std.specs.Prelude.{◌≡◌, ℕ, nat_lt, List, [], Option, if◌then◌else◌}
 use Rattle.unit_sets.specs.CutOrder.{weight, weight_limit}
 use Rattle.fault_model.specs.Tree.{FaultTree}
@@ -46,7 +46,8 @@ judged NoCuts found = Ready found
 judged CutsAlone found = if nat_lt weight_limit (weight found.cuts) then TooHeavy else Ready found
 judged (WithOrders most) found =
     if nat_lt weight_limit (weight found.cuts) then TooHeavy
-    else (if nat_lt order_limit (order_total (order_lists found.tree found.cuts most)) then TooManyOrders else Ready found)
+    else (if nat_lt order_limit (order_total (order_lists found.tree found.cuts most)) then TooManyOrders
+    else Ready found)
 
 -- what is found: the first fault, or else whether the limits are kept
 pub data Finds (wants : Wants) (bytes : List ℕ) (finding : Finding) : Type 0 where

@@ -5,16 +5,20 @@ use Rattle.edge_io.specs.declared.reading.TheConstants.{INPUT_LIMIT}
 use Rattle.board_words.specs.Command.{command_of}
 use Rattle.board_words.specs.declared.command.Command.{Command}
 use Rattle.board_words.specs.declared.command.Command.TheVariants.{Cuts, Board, Check, Print, Diagram, Make, Help}
+use Rattle.board_words.specs.declared.command.Show.TheVariants as shown
+use Rattle.tree_maker.specs.MadeDeck.{made_deck}
 use Rattle.board_report.specs.Refusals.{fault_line, notice_line}
 use Rattle.board_report.specs.declared.fault.DeckFault.{DeckFault}
 use Rattle.board_report.specs.declared.notice.Notice.TheVariants as notice
 use Rattle.outage_engine.specs.declared.status.Method.{Method}
 use Rattle.outage_engine.specs.declared.status.Status.{Status}
-use Rattle.outage_engine.specs.declared.status.Status.TheVariants.{Done, Refused, ListLimit, OrderLimit, Usage, ReadFault, TooLong}
+use Rattle.outage_engine.specs.declared.status.Status.TheVariants.{Done, Refused, ListLimit, OrderLimit, Usage}
+use Rattle.outage_engine.specs.declared.status.Status.TheVariants.{ReadFault, TooLong}
 use Rattle.outage_engine.specs.declared.status.Method.TheVariants.{Plain, Lists}
 use Rattle.outage_engine.specs.declared.status.Method.TheVariants as way
 use Rattle.outage_engine.specs.Finding.{Finds, Faulty, TooHeavy, TooManyOrders, Wants}
-use Rattle.outage_engine.specs.Texts.{IsCheckText, IsCutsText, IsDiagramText, IsPrintText, for_board, for_check, for_cuts, for_diagram, for_print}
+use Rattle.outage_engine.specs.Texts.{IsCheckText, IsCutsText, IsDiagramText, IsPrintText, for_board, for_check}
+use Rattle.outage_engine.specs.Texts.{for_cuts, for_diagram, for_print}
 use Rattle.outage_engine.specs.Safety.{IsSafeText}
 
 -- ---- words
@@ -27,7 +31,8 @@ done_yet (Some Check) = Some Check
 done_yet (Some Print) = Some Print
 done_yet (Some Help) = Some Help
 done_yet (Some (Diagram workers)) = Some (Diagram workers)
-done_yet (Some (Make number show)) = None
+done_yet (Some (Make number shown.Deck)) = Some (Make number shown.Deck)
+done_yet (Some (Make number shown.Summary)) = None
 done_yet None = None
 
 -- the command that words say, where they say one that the program does
@@ -74,22 +79,28 @@ IsMethodOf Check method = method ≡ Plain
 IsMethodOf Print method = method ≡ Plain
 IsMethodOf Help method = method ≡ Plain
 IsMethodOf (Diagram workers) method = FindsSets method
-IsMethodOf (Make number show) method = ⊥
+IsMethodOf (Make number shown.Deck) method = method ≡ Plain
+IsMethodOf (Make number shown.Summary) method = ⊥
 
--- the text of a command that is done by this method, for the input that the source held, of which it held a rest afterwards
+-- the text of a command that is done by this method, for the input that the source held, of which it held a rest
+-- afterwards
 abbrev pub IsTextOf : Command → Method → Option (List ℕ) → Option (List ℕ) → List ℕ → Type 0
 IsTextOf (Cuts most workers) method held left text = OfInput held left (λ bytes. IsCutsText most bytes text)
-IsTextOf (Board margin most workers) method held left text = OfInput held left (λ bytes. IsSafeText margin most bytes text)
+IsTextOf (Board margin most workers) method held left text =
+    OfInput held left (λ bytes. IsSafeText margin most bytes text)
 IsTextOf Check method held left text = OfInput held left (λ bytes. IsCheckText bytes text)
 IsTextOf Print method held left text = OfInput held left (λ bytes. IsPrintText bytes text)
 IsTextOf Help method held left text = text ≡ notice_line notice.Usage
 IsTextOf (Diagram workers) method held left text = OfInput held left (λ bytes. IsDiagramText method bytes text)
-IsTextOf (Make number show) method held left text = ⊥
+IsTextOf (Make number shown.Deck) method held left text = text ≡ made_deck number
+IsTextOf (Make number shown.Summary) method held left text = ⊥
 
 -- ---- the relation
 
--- What the words give, and the input that the source held, of which it held a rest afterwards. The source's faults rose in this sense.
-pub data Gives (words : List (List ℕ)) (held left : Option (List ℕ)) (rose : Type 0) (status : Status) (text : List ℕ) : Type 0 where
+-- What the words give, and the input that the source held, of which it held a rest afterwards. The source's faults rose
+-- in this sense.
+pub data Gives (words : List (List ℕ)) (held left : Option (List ℕ)) (rose : Type 0) (status : Status)
+    (text : List ℕ) : Type 0 where
   done : (command : Command) (method : Method) → asked words ≡ Some command → IsMethodOf command method
       → IsTextOf command method held left text → status ≡ Done method → Gives words held left rose status text
   usage : asked words ≡ None → status ≡ Usage → text ≡ notice_line notice.Usage → Gives words held left rose status text
@@ -97,9 +108,11 @@ pub data Gives (words : List (List ℕ)) (held left : Option (List ℕ)) (rose :
       → status ≡ ReadFault → text ≡ notice_line notice.ReadFault → Gives words held left rose status text
   too_long : (wants : Wants) → wanted words ≡ Some wants → IsBeyond held left
       → status ≡ TooLong → text ≡ notice_line notice.TooLong → Gives words held left rose status text
-  refused : (wants : Wants) (fault : DeckFault) → wanted words ≡ Some wants → OfInput held left (λ bytes. Finds wants bytes (Faulty fault))
+  refused : (wants : Wants) (fault : DeckFault) → wanted words ≡ Some wants
+      → OfInput held left (λ bytes. Finds wants bytes (Faulty fault))
       → status ≡ Refused fault → text ≡ fault_line fault → Gives words held left rose status text
   list_limit : (wants : Wants) → wanted words ≡ Some wants → OfInput held left (λ bytes. Finds wants bytes TooHeavy)
       → status ≡ ListLimit → text ≡ notice_line notice.ListLimit → Gives words held left rose status text
-  order_limit : (wants : Wants) → wanted words ≡ Some wants → OfInput held left (λ bytes. Finds wants bytes TooManyOrders)
+  order_limit : (wants : Wants) → wanted words ≡ Some wants
+      → OfInput held left (λ bytes. Finds wants bytes TooManyOrders)
       → status ≡ OrderLimit → text ≡ notice_line notice.OrderLimit → Gives words held left rose status text

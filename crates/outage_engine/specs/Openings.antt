@@ -45,7 +45,8 @@ IsReady opened =
 -- what a listing and crews give: the open board, with a pass for each crew
 abbrev pub IsOpenedWith : ℕ → Listing → Option (List Crew) → Opened → Type 0
 IsOpenedWith margin listing crews opened =
-    (opened.listing ≡ listing) × (opened.start.board.deck ≡ board_deck margin (found_in listing crews)) × HasPasses opened.start
+    (opened.listing ≡ listing) × (opened.start.board.deck ≡ board_deck margin (found_in listing crews))
+    × HasPasses opened.start
 
 -- what a tree and crews give
 abbrev pub IsOpenedFor : ℕ → ℕ → FaultTree → Option (List Crew) → Opened → Type 0
@@ -60,7 +61,8 @@ IsOpenedBy words held left opened =
 
 -- ---- what came of a board
 
--- all crews were served: the deck is the one that was opened, the history is whole, and the board keeps what every board keeps
+-- all crews were served: the deck is the one that was opened, the history is whole, and the board keeps what every
+-- board keeps
 pub record IsServed (start : BoardStart) (state : BoardView) : Type 0 where
   pub deck : state.deck ≡ start.board.deck
   pub whole : IsWhole state.deck.dockets state.history
@@ -68,4 +70,5 @@ pub record IsServed (start : BoardStart) (state : BoardView) : Type 0 where
 
 abbrev pub TellsBoard : {K : Type 0} → Listing → BoardStart → (K → Option (List ℕ)) → (K → ℕ) → K → K → Status → Type 0
 TellsBoard listing start taken faults old new result =
-    (state : BoardView) × IsServed start state × Tells taken faults old new (status.Done (method_by listing.root)) (listing_text listing ++ board_text listing.tree state) result
+    (state : BoardView) × IsServed start state × Tells taken faults old new (status.Done (method_by listing.root))
+    (listing_text listing ++ board_text listing.tree state) result

@@ -1,25 +1,29 @@
--- What a run did: it gave up for want of memory and wrote nothing, or it wrote the text of its status, all of it or a front. The clauses
--- of a run, which its functions share, are named here.
+-- What a run did: it gave up for want of memory and wrote nothing, or it wrote the text of its status, all of it or a
+-- front. The clauses of a run, which its functions share, are named here.
 use Rattle.std.specs.Prelude.{◌≡◌, ◌⊎◌, ℕ, ◌<◌, ◌≤◌, List, length, Option, Some, None}
 use Rattle.std.specs.Io.KnownBytes.{Appends}
 use Rattle.edge_io.specs.Faults.{Rose}
 use Rattle.edge_io.specs.Writing.{TakesFront}
 use Rattle.edge_io.specs.declared.reading.TheConstants.{INPUT_LIMIT}
 use Rattle.board_words.specs.declared.command.Command.{Command}
-use Rattle.board_words.specs.declared.command.Command.TheVariants.{Cuts, Board, Check, Print, Diagram, Help}
+use Rattle.board_words.specs.declared.command.Command.TheVariants.{Cuts, Board, Check, Print, Diagram, Make, Help}
+use Rattle.board_words.specs.declared.command.Show.TheVariants as shown
+use Rattle.tree_maker.specs.MadeDeck.{made_deck}
 use Rattle.board_report.specs.Refusals.{fault_line, notice_line}
 use Rattle.board_report.specs.declared.fault.DeckFault.{DeckFault}
 use Rattle.board_report.specs.declared.notice.Notice.TheVariants as notice
 use Rattle.outage_engine.specs.declared.status.Method.{Method}
 use Rattle.outage_engine.specs.declared.status.Status.{Status}
-use Rattle.outage_engine.specs.declared.status.Status.TheVariants.{Done, Refused, ListLimit, OrderLimit, Usage, ReadFault, TooLong, WriteFault, NoMemory}
+use Rattle.outage_engine.specs.declared.status.Status.TheVariants.{Done, Refused, ListLimit, OrderLimit, Usage}
+use Rattle.outage_engine.specs.declared.status.Status.TheVariants.{ReadFault, TooLong, WriteFault, NoMemory}
 use Rattle.outage_engine.specs.Finding.{Finding, Finds, Faulty, TooHeavy, TooManyOrders, Ready, Wants}
 use Rattle.outage_engine.specs.Gives.{Gives, IsBeyond, IsMethodOf, OfInput, asked, wanted}
 use Rattle.outage_engine.specs.Safety.{IsSafeText}
 use Rattle.outage_engine.specs.Texts.{IsBoardText, IsCheckText, IsCutsText, IsDiagramText, IsPrintText}
 
 -- a front of a text was taken, and the sink failed
-pub record WritesFront {K : Type 0} (taken : K → Option (List ℕ)) (faults : K → ℕ) (old new : K) (text : List ℕ) : Type 0 where
+pub record WritesFront {K : Type 0} (taken : K → Option (List ℕ)) (faults : K → ℕ) (old new : K)
+    (text : List ℕ) : Type 0 where
   pub rose : Rose (faults old) (faults new)
   pub left : List ℕ
   pub front : TakesFront taken old new text left
@@ -27,16 +31,19 @@ pub record WritesFront {K : Type 0} (taken : K → Option (List ℕ)) (faults : 
 -- the text of a status was written, or a front of it by a run that ends with WriteFault
 abbrev pub Tells : {K : Type 0} → (K → Option (List ℕ)) → (K → ℕ) → K → K → Status → List ℕ → Status → Type 0
 Tells taken faults old new status text result =
-    ((result ≡ status) × Appends (taken old) (taken new) text) ⊎ ((result ≡ WriteFault) × WritesFront taken faults old new text)
+    ((result ≡ status) × Appends (taken old) (taken new) text)
+    ⊎ ((result ≡ WriteFault) × WritesFront taken faults old new text)
 
 -- the run told a text that the words and the input give
-pub record Told {K : Type 0} (words : List (List ℕ)) (held left : Option (List ℕ)) (rose : Type 0) (taken : K → Option (List ℕ)) (faults : K → ℕ) (old new : K) (result : Status) : Type 0 where
+pub record Told {K : Type 0} (words : List (List ℕ)) (held left : Option (List ℕ)) (rose : Type 0)
+    (taken : K → Option (List ℕ)) (faults : K → ℕ) (old new : K) (result : Status) : Type 0 where
   pub status : Status
   pub text : List ℕ
   pub gives : Gives words held left rose status text
   pub told : Tells taken faults old new status text result
 
-abbrev pub Runs : {K : Type 0} → List (List ℕ) → Option (List ℕ) → Option (List ℕ) → Type 0 → (K → Option (List ℕ)) → (K → ℕ) → K → K → Status → Type 0
+abbrev pub Runs : {K : Type 0} → List (List ℕ) → Option (List ℕ) → Option (List ℕ) → Type 0 → (K → Option (List ℕ))
+    → (K → ℕ) → K → K → Status → Type 0
 Runs words held left rose taken faults old new result =
     ((result ≡ NoMemory) × (new ≡ old)) ⊎ Told words held left rose taken faults old new result
 
@@ -66,74 +73,103 @@ IsDone result = (method : Method) × (result ≡ Done method)
 -- only words that are a command are done, by a method of the command
 abbrev pub IsOfCommand : List (List ℕ) → Status → Type 0
 IsOfCommand words result =
-    (method : Method) → result ≡ Done method → (command : Command) × (asked words ≡ Some command) × IsMethodOf command method
+    (method : Method) → result ≡ Done method → (command : Command) × (asked words ≡ Some command)
+    × IsMethodOf command method
 
-abbrev pub PrintsCuts : {K : Type 0} → List (List ℕ) → Option (List ℕ) → Option (List ℕ) → (K → Option (List ℕ)) → K → K → Status → Type 0
+abbrev pub PrintsCuts : {K : Type 0} → List (List ℕ) → Option (List ℕ) → Option (List ℕ) → (K → Option (List ℕ)) → K → K
+    → Status → Type 0
 PrintsCuts words held left taken old new result =
     (most workers : ℕ) → asked words ≡ Some (Cuts most workers) → IsDone result
     → Writes taken old new (λ text. OfInput held left (λ bytes. IsCutsText most bytes text))
 
-abbrev pub PrintsBoard : {K : Type 0} → List (List ℕ) → Option (List ℕ) → Option (List ℕ) → (K → Option (List ℕ)) → K → K → Status → Type 0
+abbrev pub PrintsBoard : {K : Type 0} → List (List ℕ) → Option (List ℕ) → Option (List ℕ) → (K → Option (List ℕ)) → K
+    → K → Status → Type 0
 PrintsBoard words held left taken old new result =
     (margin most workers : ℕ) → asked words ≡ Some (Board margin most workers) → IsDone result
     → Writes taken old new (λ text. OfInput held left (λ bytes. IsBoardText margin most bytes text))
 
--- and the tree bears what the margin says after each granted take and each granted margin of the history that was printed
-abbrev pub PrintsSafely : {K : Type 0} → List (List ℕ) → Option (List ℕ) → Option (List ℕ) → (K → Option (List ℕ)) → K → K → Status → Type 0
+-- and the tree bears what the margin says after each granted take and each granted margin of the history that was
+-- printed
+abbrev pub PrintsSafely : {K : Type 0} → List (List ℕ) → Option (List ℕ) → Option (List ℕ) → (K → Option (List ℕ)) → K
+    → K → Status → Type 0
 PrintsSafely words held left taken old new result =
     (margin most workers : ℕ) → asked words ≡ Some (Board margin most workers) → IsDone result
     → Writes taken old new (λ text. OfInput held left (λ bytes. IsSafeText margin most bytes text))
 
-abbrev pub PrintsCheck : {K : Type 0} → List (List ℕ) → Option (List ℕ) → Option (List ℕ) → (K → Option (List ℕ)) → K → K → Status → Type 0
+abbrev pub PrintsCheck : {K : Type 0} → List (List ℕ) → Option (List ℕ) → Option (List ℕ) → (K → Option (List ℕ)) → K
+    → K → Status → Type 0
 PrintsCheck words held left taken old new result =
-    asked words ≡ Some Check → IsDone result → Writes taken old new (λ text. OfInput held left (λ bytes. IsCheckText bytes text))
+    asked words ≡ Some Check → IsDone result → Writes taken old new
+    (λ text. OfInput held left (λ bytes. IsCheckText bytes text))
 
-abbrev pub PrintsTree : {K : Type 0} → List (List ℕ) → Option (List ℕ) → Option (List ℕ) → (K → Option (List ℕ)) → K → K → Status → Type 0
+abbrev pub PrintsTree : {K : Type 0} → List (List ℕ) → Option (List ℕ) → Option (List ℕ) → (K → Option (List ℕ)) → K → K
+    → Status → Type 0
 PrintsTree words held left taken old new result =
-    asked words ≡ Some Print → IsDone result → Writes taken old new (λ text. OfInput held left (λ bytes. IsPrintText bytes text))
+    asked words ≡ Some Print → IsDone result → Writes taken old new
+    (λ text. OfInput held left (λ bytes. IsPrintText bytes text))
 
 -- without a line of nodes exactly where the cut sets were found by lists
-abbrev pub PrintsDiagram : {K : Type 0} → List (List ℕ) → Option (List ℕ) → Option (List ℕ) → (K → Option (List ℕ)) → K → K → Status → Type 0
+abbrev pub PrintsDiagram : {K : Type 0} → List (List ℕ) → Option (List ℕ) → Option (List ℕ) → (K → Option (List ℕ)) → K
+    → K → Status → Type 0
 PrintsDiagram words held left taken old new result =
     (workers : ℕ) (method : Method) → asked words ≡ Some (Diagram workers) → result ≡ Done method
     → Writes taken old new (λ text. OfInput held left (λ bytes. IsDiagramText method bytes text))
 
+-- exactly the made deck of the number
+abbrev pub PrintsMade : {K : Type 0} → List (List ℕ) → (K → Option (List ℕ)) → K → K → Status → Type 0
+PrintsMade words taken old new result =
+    (number : ℕ) → asked words ≡ Some (Make number shown.Deck) → IsDone result
+    → Appends (taken old) (taken new) (made_deck number)
+
 abbrev pub PrintsHelp : {K : Type 0} → List (List ℕ) → (K → Option (List ℕ)) → K → K → Status → Type 0
-PrintsHelp words taken old new result = asked words ≡ Some Help → IsDone result → Appends (taken old) (taken new) (notice_line notice.Usage)
+PrintsHelp words taken old new result =
+    asked words ≡ Some Help → IsDone result → Appends (taken old) (taken new) (notice_line notice.Usage)
 
 -- ---- the clauses: each refusal has its cause, and its line was written
 
 abbrev pub RefusesWords : {K : Type 0} → List (List ℕ) → (K → Option (List ℕ)) → K → K → Status → Type 0
-RefusesWords words taken old new result = result ≡ Usage → (asked words ≡ None) × Appends (taken old) (taken new) (notice_line notice.Usage)
+RefusesWords words taken old new result =
+    result ≡ Usage → (asked words ≡ None) × Appends (taken old) (taken new) (notice_line notice.Usage)
 
 -- what is found in the deck for the command
 abbrev pub HasFound : List (List ℕ) → Option (List ℕ) → Option (List ℕ) → Finding → Type 0
-HasFound words held left finding = (wants : Wants) × (wanted words ≡ Some wants) × OfInput held left (λ bytes. Finds wants bytes finding)
+HasFound words held left finding =
+    (wants : Wants) × (wanted words ≡ Some wants) × OfInput held left (λ bytes. Finds wants bytes finding)
 
-abbrev pub RefusesDeck : {K : Type 0} → List (List ℕ) → Option (List ℕ) → Option (List ℕ) → (K → Option (List ℕ)) → K → K → Status → Type 0
+abbrev pub RefusesDeck : {K : Type 0} → List (List ℕ) → Option (List ℕ) → Option (List ℕ) → (K → Option (List ℕ)) → K
+    → K → Status → Type 0
 RefusesDeck words held left taken old new result =
-    (fault : DeckFault) → result ≡ Refused fault → HasFound words held left (Faulty fault) × Appends (taken old) (taken new) (fault_line fault)
+    (fault : DeckFault) → result ≡ Refused fault → HasFound words held left (Faulty fault)
+    × Appends (taken old) (taken new) (fault_line fault)
 
-abbrev pub RefusesWeight : {K : Type 0} → List (List ℕ) → Option (List ℕ) → Option (List ℕ) → (K → Option (List ℕ)) → K → K → Status → Type 0
+abbrev pub RefusesWeight : {K : Type 0} → List (List ℕ) → Option (List ℕ) → Option (List ℕ) → (K → Option (List ℕ)) → K
+    → K → Status → Type 0
 RefusesWeight words held left taken old new result =
-    result ≡ ListLimit → HasFound words held left TooHeavy × Appends (taken old) (taken new) (notice_line notice.ListLimit)
+    result ≡ ListLimit → HasFound words held left TooHeavy
+    × Appends (taken old) (taken new) (notice_line notice.ListLimit)
 
-abbrev pub RefusesOrders : {K : Type 0} → List (List ℕ) → Option (List ℕ) → Option (List ℕ) → (K → Option (List ℕ)) → K → K → Status → Type 0
+abbrev pub RefusesOrders : {K : Type 0} → List (List ℕ) → Option (List ℕ) → Option (List ℕ) → (K → Option (List ℕ)) → K
+    → K → Status → Type 0
 RefusesOrders words held left taken old new result =
-    result ≡ OrderLimit → HasFound words held left TooManyOrders × Appends (taken old) (taken new) (notice_line notice.OrderLimit)
+    result ≡ OrderLimit → HasFound words held left TooManyOrders
+    × Appends (taken old) (taken new) (notice_line notice.OrderLimit)
 
-abbrev pub RefusesLength : {K : Type 0} → List (List ℕ) → Option (List ℕ) → Option (List ℕ) → (K → Option (List ℕ)) → K → K → Status → Type 0
+abbrev pub RefusesLength : {K : Type 0} → List (List ℕ) → Option (List ℕ) → Option (List ℕ) → (K → Option (List ℕ)) → K
+    → K → Status → Type 0
 RefusesLength words held left taken old new result =
-    result ≡ TooLong → AreReading words × IsBeyond held left × Appends (taken old) (taken new) (notice_line notice.TooLong)
+    result ≡ TooLong → AreReading words × IsBeyond held left
+    × Appends (taken old) (taken new) (notice_line notice.TooLong)
 
 abbrev pub FailsToRead : {K : Type 0} → List (List ℕ) → Type 0 → (K → Option (List ℕ)) → K → K → Status → Type 0
 FailsToRead words rose taken old new result =
     result ≡ ReadFault → AreReading words × rose × Appends (taken old) (taken new) (notice_line notice.ReadFault)
 
 -- at WriteFault the sink took a front of the text of the status that came
-abbrev pub WritesFrontOfText : {K : Type 0} → List (List ℕ) → Option (List ℕ) → Option (List ℕ) → Type 0 → (K → Option (List ℕ)) → (K → ℕ) → K → K → Status → Type 0
+abbrev pub WritesFrontOfText : {K : Type 0} → List (List ℕ) → Option (List ℕ) → Option (List ℕ) → Type 0
+    → (K → Option (List ℕ)) → (K → ℕ) → K → K → Status → Type 0
 WritesFrontOfText words held left rose taken faults old new result =
-    result ≡ WriteFault → (status : Status) × (text : List ℕ) × Gives words held left rose status text × WritesFront taken faults old new text
+    result ≡ WriteFault → (status : Status) × (text : List ℕ) × Gives words held left rose status text
+    × WritesFront taken faults old new text
 
 -- ---- the clauses: the other way round
 
@@ -151,14 +187,18 @@ Answers (Ready found) result = IsDone result
 -- what is found in a deck is answered, as long as nothing fails and memory is found
 abbrev pub AnswersDeck : List (List ℕ) → Option (List ℕ) → Status → Type 0
 AnswersDeck words held result =
-    (bytes : List ℕ) (wants : Wants) (finding : Finding) → held ≡ Some bytes → length bytes ≤ INPUT_LIMIT → wanted words ≡ Some wants → Finds wants bytes finding
+    (bytes : List ℕ) (wants : Wants) (finding : Finding) → held ≡ Some bytes → length bytes ≤ INPUT_LIMIT
+    → wanted words ≡ Some wants → Finds wants bytes finding
     → Answers finding result ⊎ Fails result
 
 -- so is an input that is too long
 abbrev pub AnswersLength : List (List ℕ) → Option (List ℕ) → Status → Type 0
 AnswersLength words held result =
-    (bytes : List ℕ) → held ≡ Some bytes → INPUT_LIMIT < length bytes → AreReading words → (result ≡ TooLong) ⊎ Fails result
+    (bytes : List ℕ) → held ≡ Some bytes → INPUT_LIMIT < length bytes → AreReading words
+    → (result ≡ TooLong) ⊎ Fails result
 
 -- and words that ask for no deck
 abbrev pub AnswersWords : List (List ℕ) → Status → Type 0
-AnswersWords words result = (asked words ≡ None → (result ≡ Usage) ⊎ Fails result) × (asked words ≡ Some Help → IsDone result ⊎ Fails result)
+AnswersWords words result =
+    (asked words ≡ None → (result ≡ Usage) ⊎ Fails result) × (asked words ≡ Some Help → IsDone result ⊎ Fails result)
+    × ((number : ℕ) → asked words ≡ Some (Make number shown.Deck) → IsDone result ⊎ Fails result)

@@ -27,8 +27,8 @@ abbrev pub method_by : Option ℕ → Method
 method_by (Some number) = Diagram
 method_by None = Lists
 
--- the seat bears out the method by which the cut sets of a tree were found: it knows the diagram, or one of its searches found the
--- store full
+-- the seat bears out the method by which the cut sets of a tree were found: it knows the diagram, or one of its
+-- searches found the store full
 abbrev pub IsFoundBy : Seated → Seated → FaultTree → Method → Type 0
 IsFoundBy before after tree Diagram = KnowsDiagram after tree
 IsFoundBy before after tree Lists = before.fulls < after.fulls

@@ -6,8 +6,9 @@ use Rattle.zdd_shared_table.specs.Seats.{Seated}
 use Rattle.zdd_product.specs.Seats.{WentAll}
 use Rattle.outage_engine.specs.declared.status.Method.TheVariants.{Plain, Lists, Diagram}
 use Rattle.outage_engine.specs.declared.status.Status.{Status}
-use Rattle.outage_engine.specs.declared.status.Status.TheVariants.{Done, Refused, ListLimit, OrderLimit, Usage, ReadFault, TooLong, WriteFault, NoMemory}
-use Rattle.outage_engine.specs.Deck.{StandsFor}
+use Rattle.outage_engine.specs.declared.status.Status.TheVariants.{Done, Refused, ListLimit, OrderLimit, Usage}
+use Rattle.outage_engine.specs.declared.status.Status.TheVariants.{ReadFault, TooLong, WriteFault, NoMemory}
+use Rattle.deck_reading.specs.Deck.{StandsFor}
 use Rattle.outage_engine.specs.Gives.{OfInput}
 use Rattle.outage_engine.specs.Store.{KnowsDiagram}
 
@@ -15,9 +16,11 @@ use Rattle.outage_engine.specs.Store.{KnowsDiagram}
 abbrev pub OfDeckTree : Option (List ℕ) → Option (List ℕ) → (FaultTree → Type 0) → Type 0
 OfDeckTree held left P = (tree : FaultTree) × OfInput held left (λ bytes. StandsFor bytes tree) × P tree
 
--- What a run may do to a seat: nothing, or it keeps what it knew, and all that it has filled and missed is due to the tree of the deck.
+-- What a run may do to a seat: nothing, or it keeps what it knew, and all that it has filled and missed is due to the
+-- tree of the deck.
 abbrev pub GoesForDeck : Option (List ℕ) → Option (List ℕ) → Seated → Seated → Type 0
-GoesForDeck held left before after = (after ≡ before) ⊎ OfDeckTree held left (λ tree. WentAll (IsDueToTree tree) before after)
+GoesForDeck held left before after =
+    (after ≡ before) ⊎ OfDeckTree held left (λ tree. WentAll (IsDueToTree tree) before after)
 
 -- a run that ends by the diagram leaves a seat that knows the diagram of the deck's tree
 abbrev pub LeavesDiagram : Option (List ℕ) → Option (List ℕ) → Seated → Status → Type 0

@@ -47,19 +47,21 @@ all_crews (Some crews) = crews
 abbrev pub board_deck : ℕ → Found → Deck
 board_deck margin found = deck_of found.tree found.cuts (all_crews found.crews) margin
 
--- a history of the deck: each reply is the decision at what the entries before it leave, and each crew's requests are there, each once and
--- in order
+-- a history of the deck: each reply is the decision at what the entries before it leave, and each crew's requests are
+-- there, each once and in order
 pub record IsHistoryOf (deck : Deck) (history : List Entry) : Type 0 where
   pub legal : IsLegal deck.opening history
   pub whole : IsWhole deck.dockets history
 
 -- what is said of the cut list, and the board's text behind it: the log of a history and what it leaves
 abbrev pub board_said : ℕ → ℕ → Found → List Entry → List ℕ
-board_said margin most found history = cuts_said most found ++ board_text found.tree (record { deck = board_deck margin found; history = history })
+board_said margin most found history =
+    cuts_said most found ++ board_text found.tree (record { deck = board_deck margin found; history = history })
 
 -- ---- the texts
 
--- the text of `cuts` for a deck of these bytes: of the minimal cut sets of its tree, each once and in order, each with its failing orders
+-- the text of `cuts` for a deck of these bytes: of the minimal cut sets of its tree, each once and in order, each with
+-- its failing orders
 pub record IsCutsText (most : ℕ) (bytes text : List ℕ) : Type 0 where
   pub found : Found
   pub finds : Finds (for_cuts most) bytes (Ready found)
@@ -73,8 +75,8 @@ pub record IsBoardText (margin most : ℕ) (bytes text : List ℕ) : Type 0 wher
   pub of_deck : IsHistoryOf (board_deck margin found) history
   pub is : text ≡ board_said margin most found history
 
--- the text of `check` for a deck of these bytes: how large its tree is and, where it has a crew part, how many crews and
--- requests it has
+-- the text of `check` for a deck of these bytes: how large its tree is and, where it has a crew part, how many crews
+-- and requests it has
 pub record IsCheckText (bytes text : List ℕ) : Type 0 where
   pub found : Found
   pub finds : Finds for_check bytes (Ready found)
@@ -86,8 +88,8 @@ pub record IsPrintText (bytes text : List ℕ) : Type 0 where
   pub finds : Finds for_print bytes (Ready found)
   pub is : text ≡ print_text found.tree
 
--- the text of `diagram` for a deck of these bytes: how large the cut list of its tree is and, exactly where the sets were found by the
--- diagram, how many nodes the family of the minimal cuts has
+-- the text of `diagram` for a deck of these bytes: how large the cut list of its tree is and, exactly where the sets
+-- were found by the diagram, how many nodes the family of the minimal cuts has
 pub record IsDiagramText (method : Method) (bytes text : List ℕ) : Type 0 where
   pub found : Found
   pub finds : Finds for_diagram bytes (Ready found)

@@ -17,11 +17,12 @@ use crate::listing::{Listing, list_tree};
 use crate::refusal::{Refusal, RunEnd};
 use crate::sizes::{Sizes, size_tree};
 use crate::{Method, Status};
-use board_words::{Command, Word, numbers_are_within_bounds, read};
-use edge_io::Source;
+use board_words::{Command, Show, Word, numbers_are_within_bounds, read};
+use edge_io::{Bytes, Source};
 use fault_model::Tree;
 use std::alloc::Global;
 use std::thread::Threads;
+use tree_maker::made;
 use zdd_shared_table::{NodeStore, StoreSeat};
 
 /// What is to be written.
@@ -35,6 +36,8 @@ pub(crate) enum Answer {
     Checked(DeckParts),
     /// The deck's tree.
     Printed(Tree),
+    /// The made deck of a number.
+    Made(Bytes),
     /// How the program is called, as it was asked.
     Help,
     /// Why there is no text of a command.
@@ -49,7 +52,9 @@ impl Answer {
         match self {
             Answer::Cuts(listing) => Status::Done(listing.method()),
             Answer::Diagram(sizes) => Status::Done(sizes.method()),
-            Answer::Checked(_) | Answer::Printed(_) | Answer::Help => Status::Done(Method::Plain),
+            Answer::Checked(_) | Answer::Printed(_) | Answer::Made(_) | Answer::Help => {
+                Status::Done(Method::Plain)
+            }
             Answer::Refused(refusal) => refusal.status(),
         }
     }
@@ -73,7 +78,8 @@ pub(crate) fn answer_words<R: Threads + Sync, S: Source>(
         (Rose (S.faults source.old) (S.faults source.new)))) }
     ensures writable { IfOk result IsWritable }
     ensures unread { AreReading words.now ⊎ (source.new ≡ source.old) }
-    ensures method { IfOk result (λ answer. BearsOut (S.held source.old) (S.held source.new) seat.old seat.new (status_of answer)) }
+    ensures method { IfOk result (λ answer. BearsOut (S.held source.old) (S.held source.new) seat.old seat.new
+        (status_of answer)) }
     ensures went { GoesForDeck (S.held source.old) (S.held source.new) seat.old seat.new }
     ensures share { seat.new.share ≡ seat.old.share }
 {
@@ -91,7 +97,19 @@ pub(crate) fn answer_words<R: Threads + Sync, S: Source>(
             Ok(Answer::Diagram(size_input(rt, alloc, workers, source, store, seat)?))
         }
         Some(Command::Board { .. }) => unreachable!(),
-        Some(Command::Make { .. }) | None => Err(RunEnd::Refused(Refusal::Usage)),
+        Some(
+            Command::Make {
+                number,
+                show: Show::Deck,
+            },
+        ) => Ok(Answer::Made(made(alloc, number)?)),
+        Some(
+            Command::Make {
+                show: Show::Summary,
+                ..
+            },
+        )
+        | None => { Err(RunEnd::Refused(Refusal::Usage)) }
     }
 }
 

@@ -9,7 +9,8 @@ ghost use Rattle.tree_check.specs.Checked.{Stands};
 ghost use Rattle.crew_script.specs.Crews.{crews_of};
 ghost use Rattle.crew_script.specs.Deck.{split_of};
 ghost use Rattle.outage_engine.specs.Answers.{IsCheckEnd, IsCrewEnd, IsDeckEnd, IsPartsEnd, IsTreeEnd, end_of};
-ghost use Rattle.outage_engine.specs.Deck.{IsWellFormed, StandsFor, crews_behind, crews_said, no_crew_part, tree_part};
+ghost use Rattle.deck_reading.specs.Deck.{StandsFor, crews_behind, tree_part};
+ghost use Rattle.outage_engine.specs.Deck.{IsWellFormed, crews_said, no_crew_part};
 
 use board_report::{DeckFault, FaultCode};
 use crew_script::{CrewCode, CrewFault, CrewsAt, Dockets, read_crews, split_deck};

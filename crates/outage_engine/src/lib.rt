@@ -1,7 +1,8 @@
-//! What the program does: it reads the words and the deck, finds the cut sets, serves the crews, and writes the text of its answer.
+//! What the program does: it reads the words and the deck, finds the cut sets, serves the crews, and writes the text of
+//! its answer.
 //!
-//! It stands on every layer below. The contracts of [`run`], [`run_cuts`] and [`run_board`] are the product's own: which text the sink
-//! took for which bytes of the source, and when each status comes.
+//! It stands on every layer below. The contracts of [`run`], [`run_cuts`] and [`run_board`] are the product's own:
+//! which text the sink took for which bytes of the source, and when each status comes.
 #![tactic(auto)]
 
 mod answer;

@@ -5,9 +5,11 @@ ghost use Rattle.board_report.specs.BoardText.{IsDeckOf};
 ghost use Rattle.outage_engine.specs.Answers.{IsOfUnits};
 ghost use Rattle.outage_engine.specs.Openings.{HasPasses, TellsBoard};
 ghost use Rattle.outage_engine.specs.Runs.{AreReading, IsBoard, IsNoBoard, Runs};
-ghost use Rattle.outage_engine.specs.Runs.{IsOfCommand, PrintsBoard, PrintsCheck, PrintsCuts, PrintsDiagram, PrintsHelp};
+ghost use Rattle.outage_engine.specs.Runs.{IsOfCommand, PrintsBoard, PrintsCheck, PrintsCuts, PrintsDiagram};
+ghost use Rattle.outage_engine.specs.Runs.{PrintsHelp, PrintsMade};
 ghost use Rattle.outage_engine.specs.Runs.{PrintsSafely, PrintsTree};
-ghost use Rattle.outage_engine.specs.Runs.{FailsToRead, RefusesDeck, RefusesLength, RefusesOrders, RefusesWeight, RefusesWords};
+ghost use Rattle.outage_engine.specs.Runs.{FailsToRead, RefusesDeck, RefusesLength, RefusesOrders, RefusesWeight};
+ghost use Rattle.outage_engine.specs.Runs.{RefusesWords};
 ghost use Rattle.outage_engine.specs.Runs.{AnswersDeck, AnswersLength, AnswersWords, WritesFrontOfText};
 ghost use Rattle.outage_engine.specs.Store.{method_by};
 ghost use Rattle.outage_engine.specs.StoreAfter.{BearsOut, FindsFull, GoesForDeck, LeavesDiagram};
@@ -33,8 +35,9 @@ use zdd_shared_table::{NodeStore, StoreSeat};
 /// `cuts` prints the minimal cut sets of the deck, and the orders in which the units of each fail the top event, for
 /// the sets of at most as many members as `--most` says. `board` prints the same, and then one log of the requests of
 /// all crews, decided one after the other at the margin, and the board at the end. `diagram` prints how large the cut
-/// list and its diagram are, `check` how large a well-formed deck is, and `print` its tree. The diagrams are made in
-/// the store, through the seat. Waits where crews wait for their turn.
+/// list and its diagram are, `check` how large a well-formed deck is, and `print` its tree. `make` prints the made deck
+/// of a number, and reads nothing. The diagrams are made in the store, through the seat. Waits where crews wait for
+/// their turn.
 pub fn run<R: Threads + Wait + Sync, S: Source, K: Sink>(
     rt: &R,
     alloc: Global,
@@ -55,22 +58,28 @@ pub fn run<R: Threads + Wait + Sync, S: Source, K: Sink>(
     ensures check { PrintsCheck words.now (S.held source.old) (S.held source.new) K.taken sink.old sink.new result }
     ensures print { PrintsTree words.now (S.held source.old) (S.held source.new) K.taken sink.old sink.new result }
     ensures diagram { PrintsDiagram words.now (S.held source.old) (S.held source.new) K.taken sink.old sink.new result }
+    ensures make { PrintsMade words.now K.taken sink.old sink.new result }
     ensures help { PrintsHelp words.now K.taken sink.old sink.new result }
 
     // Each refusal has its cause, and its line was written.
     ensures usage { RefusesWords words.now K.taken sink.old sink.new result }
     ensures refused { RefusesDeck words.now (S.held source.old) (S.held source.new) K.taken sink.old sink.new result }
-    ensures list_limit { RefusesWeight words.now (S.held source.old) (S.held source.new) K.taken sink.old sink.new result }
-    ensures order_limit { RefusesOrders words.now (S.held source.old) (S.held source.new) K.taken sink.old sink.new result }
-    ensures too_long { RefusesLength words.now (S.held source.old) (S.held source.new) K.taken sink.old sink.new result }
-    ensures read_fault { FailsToRead words.now (Rose (S.faults source.old) (S.faults source.new)) K.taken sink.old sink.new result }
+    ensures list_limit { RefusesWeight words.now (S.held source.old) (S.held source.new) K.taken sink.old sink.new
+        result }
+    ensures order_limit { RefusesOrders words.now (S.held source.old) (S.held source.new) K.taken sink.old sink.new
+        result }
+    ensures too_long { RefusesLength words.now (S.held source.old) (S.held source.new) K.taken sink.old sink.new
+        result }
+    ensures read_fault { FailsToRead words.now (Rose (S.faults source.old) (S.faults source.new)) K.taken sink.old
+        sink.new result }
 
     // Only a command that wants a deck reads the input.
     ensures unread { AreReading words.now ⊎ (source.new ≡ source.old) }
 
     // A failed sink took a front of the text of the status that came. Want of memory comes before the first byte.
     ensures write_fault { result ≡ Status.WriteFault → Rose (K.faults sink.old) (K.faults sink.new) }
-    ensures front { WritesFrontOfText words.now (S.held source.old) (S.held source.new) (Rose (S.faults source.old) (S.faults source.new))
+    ensures front { WritesFrontOfText words.now (S.held source.old) (S.held source.new)
+        (Rose (S.faults source.old) (S.faults source.new))
         K.taken K.faults sink.old sink.new result }
     ensures no_memory { result ≡ Status.NoMemory → sink.new ≡ sink.old }
 
@@ -79,8 +88,8 @@ pub fn run<R: Threads + Wait + Sync, S: Source, K: Sink>(
     ensures due_length { AnswersLength words.now (S.held source.old) result }
     ensures due { AnswersDeck words.now (S.held source.old) result }
 
-    // A run that ends by the diagram leaves a seat that knows it. One ends by lists only where a search of its own found
-    // the store full. Whatever the status is, all that was filled and missed is due to the deck's tree.
+    // A run that ends by the diagram leaves a seat that knows it. One ends by lists only where a search of its own
+    // found the store full. Whatever the status is, all that was filled and missed is due to the deck's tree.
     ensures known { LeavesDiagram (S.held source.old) (S.held source.new) seat.new result }
     ensures full { FindsFull seat.old seat.new result }
     ensures went { GoesForDeck (S.held source.old) (S.held source.new) seat.old seat.new }
@@ -121,22 +130,28 @@ pub fn run_cuts<R: Threads + Sync, S: Source, K: Sink>(
     ensures check { PrintsCheck words.now (S.held source.old) (S.held source.new) K.taken sink.old sink.new result }
     ensures print { PrintsTree words.now (S.held source.old) (S.held source.new) K.taken sink.old sink.new result }
     ensures diagram { PrintsDiagram words.now (S.held source.old) (S.held source.new) K.taken sink.old sink.new result }
+    ensures make { PrintsMade words.now K.taken sink.old sink.new result }
     ensures help { PrintsHelp words.now K.taken sink.old sink.new result }
 
     // Each refusal has its cause, and its line was written.
     ensures usage { RefusesWords words.now K.taken sink.old sink.new result }
     ensures refused { RefusesDeck words.now (S.held source.old) (S.held source.new) K.taken sink.old sink.new result }
-    ensures list_limit { RefusesWeight words.now (S.held source.old) (S.held source.new) K.taken sink.old sink.new result }
-    ensures order_limit { RefusesOrders words.now (S.held source.old) (S.held source.new) K.taken sink.old sink.new result }
-    ensures too_long { RefusesLength words.now (S.held source.old) (S.held source.new) K.taken sink.old sink.new result }
-    ensures read_fault { FailsToRead words.now (Rose (S.faults source.old) (S.faults source.new)) K.taken sink.old sink.new result }
+    ensures list_limit { RefusesWeight words.now (S.held source.old) (S.held source.new) K.taken sink.old sink.new
+        result }
+    ensures order_limit { RefusesOrders words.now (S.held source.old) (S.held source.new) K.taken sink.old sink.new
+        result }
+    ensures too_long { RefusesLength words.now (S.held source.old) (S.held source.new) K.taken sink.old sink.new
+        result }
+    ensures read_fault { FailsToRead words.now (Rose (S.faults source.old) (S.faults source.new)) K.taken sink.old
+        sink.new result }
 
     // Only a command that wants a deck reads the input.
     ensures unread { AreReading words.now ⊎ (source.new ≡ source.old) }
 
     // A failed sink took a front of the text of the status that came. Want of memory comes before the first byte.
     ensures write_fault { result ≡ Status.WriteFault → Rose (K.faults sink.old) (K.faults sink.new) }
-    ensures front { WritesFrontOfText words.now (S.held source.old) (S.held source.new) (Rose (S.faults source.old) (S.faults source.new))
+    ensures front { WritesFrontOfText words.now (S.held source.old) (S.held source.new)
+        (Rose (S.faults source.old) (S.faults source.new))
         K.taken K.faults sink.old sink.new result }
     ensures no_memory { result ≡ Status.NoMemory → sink.new ≡ sink.old }
 
@@ -145,8 +160,8 @@ pub fn run_cuts<R: Threads + Sync, S: Source, K: Sink>(
     ensures due_length { AnswersLength words.now (S.held source.old) result }
     ensures due { AnswersDeck words.now (S.held source.old) result }
 
-    // A run that ends by the diagram leaves a seat that knows it. One ends by lists only where a search of its own found
-    // the store full. Whatever the status is, all that was filled and missed is due to the deck's tree.
+    // A run that ends by the diagram leaves a seat that knows it. One ends by lists only where a search of its own
+    // found the store full. Whatever the status is, all that was filled and missed is due to the deck's tree.
     ensures known { LeavesDiagram (S.held source.old) (S.held source.new) seat.new result }
     ensures full { FindsFull seat.old seat.new result }
     ensures went { GoesForDeck (S.held source.old) (S.held source.new) seat.old seat.new }
@@ -168,7 +183,8 @@ fn answer_and_tell<R: Threads + Sync, S: Source, K: Sink>(
     requires command { IsNoBoard words.now }
     requires own { seat.old.store ≡ store.now }
     requires share { 64 ≤ seat.old.share }
-    ensures runs { Runs words.now (S.held source.old) (S.held source.new) (Rose (S.faults source.old) (S.faults source.new))
+    ensures runs { Runs words.now (S.held source.old) (S.held source.new)
+        (Rose (S.faults source.old) (S.faults source.new))
         K.taken K.faults sink.old sink.new result }
     ensures unread { AreReading words.now ⊎ (source.new ≡ source.old) }
     ensures method { BearsOut (S.held source.old) (S.held source.new) seat.old seat.new result }
@@ -185,8 +201,8 @@ fn answer_and_tell<R: Threads + Sync, S: Source, K: Sink>(
     }
 }
 
-/// Does what [`run`] does for a command `board`. The board is open, and all memory found, before the first request is served and before
-/// the first byte is written.
+/// Does what [`run`] does for a command `board`. The board is open, and all memory found, before the first request is
+/// served and before the first byte is written.
 pub fn run_board<R: Threads + Wait + Sync, S: Source, K: Sink>(
     rt: &R,
     alloc: Global,
@@ -208,17 +224,22 @@ pub fn run_board<R: Threads + Wait + Sync, S: Source, K: Sink>(
     // Each refusal has its cause, and its line was written.
     ensures usage { RefusesWords words.now K.taken sink.old sink.new result }
     ensures refused { RefusesDeck words.now (S.held source.old) (S.held source.new) K.taken sink.old sink.new result }
-    ensures list_limit { RefusesWeight words.now (S.held source.old) (S.held source.new) K.taken sink.old sink.new result }
-    ensures order_limit { RefusesOrders words.now (S.held source.old) (S.held source.new) K.taken sink.old sink.new result }
-    ensures too_long { RefusesLength words.now (S.held source.old) (S.held source.new) K.taken sink.old sink.new result }
-    ensures read_fault { FailsToRead words.now (Rose (S.faults source.old) (S.faults source.new)) K.taken sink.old sink.new result }
+    ensures list_limit { RefusesWeight words.now (S.held source.old) (S.held source.new) K.taken sink.old sink.new
+        result }
+    ensures order_limit { RefusesOrders words.now (S.held source.old) (S.held source.new) K.taken sink.old sink.new
+        result }
+    ensures too_long { RefusesLength words.now (S.held source.old) (S.held source.new) K.taken sink.old sink.new
+        result }
+    ensures read_fault { FailsToRead words.now (Rose (S.faults source.old) (S.faults source.new)) K.taken sink.old
+        sink.new result }
 
     // Only a command that wants a deck reads the input.
     ensures unread { AreReading words.now ⊎ (source.new ≡ source.old) }
 
     // A failed sink took a front of the text of the status that came. Want of memory comes before the first byte.
     ensures write_fault { result ≡ Status.WriteFault → Rose (K.faults sink.old) (K.faults sink.new) }
-    ensures front { WritesFrontOfText words.now (S.held source.old) (S.held source.new) (Rose (S.faults source.old) (S.faults source.new))
+    ensures front { WritesFrontOfText words.now (S.held source.old) (S.held source.new)
+        (Rose (S.faults source.old) (S.faults source.new))
         K.taken K.faults sink.old sink.new result }
     ensures no_memory { result ≡ Status.NoMemory → sink.new ≡ sink.old }
 
@@ -227,8 +248,8 @@ pub fn run_board<R: Threads + Wait + Sync, S: Source, K: Sink>(
     ensures due_length { AnswersLength words.now (S.held source.old) result }
     ensures due { AnswersDeck words.now (S.held source.old) result }
 
-    // A run that ends by the diagram leaves a seat that knows it. One ends by lists only where a search of its own found
-    // the store full. Whatever the status is, all that was filled and missed is due to the deck's tree.
+    // A run that ends by the diagram leaves a seat that knows it. One ends by lists only where a search of its own
+    // found the store full. Whatever the status is, all that was filled and missed is due to the deck's tree.
     ensures known { LeavesDiagram (S.held source.old) (S.held source.new) seat.new result }
     ensures full { FindsFull seat.old seat.new result }
     ensures went { GoesForDeck (S.held source.old) (S.held source.new) seat.old seat.new }
@@ -250,7 +271,8 @@ fn serve_and_tell<R: Threads + Wait + Sync, S: Source, K: Sink>(
     requires command { IsBoard words.now }
     requires own { seat.old.store ≡ store.now }
     requires share { 64 ≤ seat.old.share }
-    ensures runs { Runs words.now (S.held source.old) (S.held source.new) (Rose (S.faults source.old) (S.faults source.new))
+    ensures runs { Runs words.now (S.held source.old) (S.held source.new)
+        (Rose (S.faults source.old) (S.faults source.new))
         K.taken K.faults sink.old sink.new result }
     ensures method { BearsOut (S.held source.old) (S.held source.new) seat.old seat.new result }
     ensures went { GoesForDeck (S.held source.old) (S.held source.new) seat.old seat.new }

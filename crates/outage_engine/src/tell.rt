@@ -43,6 +43,7 @@ fn put_answer<K: Sink>(out: &mut Out<K>, answer: &Answer) -> Result<(), WriteFau
         Answer::Diagram(sizes) => put_diagram(out, &sizes.tree, &sizes.cuts, sizes.nodes),
         Answer::Checked(deck) => put_deck(out, deck),
         Answer::Printed(tree) => put_tree(out, tree),
+        Answer::Made(deck) => out.put(deck.as_slice()),
         Answer::Help => put_notice(out, Notice::Usage),
         Answer::Refused(refusal) => put_refusal(out, refusal),
     }
@@ -87,7 +88,8 @@ pub(crate) fn tell_board<K: Sink>(
     requires empty { buffer ≡ [] }
     requires units { IsOfUnits listing.now }
     requires deck { IsDeckOf listing.now.tree state.now.deck }
-    ensures told { Tells K.taken K.faults sink.old sink.new (Status.Done (method_by listing.now.root)) (listing_text listing.now ++ board_text listing.now.tree state.now) result }
+    ensures told { Tells K.taken K.faults sink.old sink.new (Status.Done (method_by listing.now.root))
+        (listing_text listing.now ++ board_text listing.now.tree state.now) result }
 {
     let mut out = Out::over(sink, buffer);
     // A failed output fails again where it is finished.
@@ -105,7 +107,8 @@ fn put_listing_and_board<K: Sink>(
 ) -> Result<(), WriteFault>
     requires units { IsOfUnits listing.now }
     requires deck { IsDeckOf listing.now.tree state.now.deck }
-    ensures puts { Puts K.taken K.faults out.old out.new (listing_text listing.now ++ board_text listing.now.tree state.now) }
+    ensures puts { Puts K.taken K.faults out.old out.new
+        (listing_text listing.now ++ board_text listing.now.tree state.now) }
     ensures answer { is_err result ≡ has_failed out.new }
 {
     put_listing(out, listing)?;

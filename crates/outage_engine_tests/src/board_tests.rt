@@ -7,7 +7,9 @@ use std::test::Fail;
 const SYSTEM_CREWS: &str = "\n@crews\ncrew day\ntake MS\ntake MA\nreturn MS\ntake MA";
 
 const SYSTEM_BOARD: &str =
-    "margin: 0\nlog: 4\n1 day take MS: granted\n2 day take MA: denied, cut 4\n3 day return MS: granted\n4 day take MA: granted\nout: 1\nMA day\nleft 1: 1 of 1\nleft 2: 1 of 1\nleft 3: 2 of 2\nleft 4: 1 of 2\nleft 5: 1 of 2\nleft 6: 4 of 4\n";
+    "margin: 0\nlog: 4\n1 day take MS: granted\n2 day take MA: denied, cut 4\n3 day return MS: granted\n\
+     4 day take MA: granted\nout: 1\nMA day\nleft 1: 1 of 1\nleft 2: 1 of 1\nleft 3: 2 of 2\nleft 4: 1 of 2\n\
+     left 5: 1 of 2\nleft 6: 4 of 4\n";
 
 const FOUR: &str = "toplevel T; T or G H; G and A B; H and C D; A; B; C; D;";
 
@@ -31,31 +33,37 @@ fn boards_of_small_trees(rt: HostRuntime) -> Result<(), Fail> {
             "1",
             "6",
             "toplevel T; T or A G; G and B C; A; B; C; D;\n@crews\ncrew c\ntake B\ntake D",
-            "tree: 4 units, 2 gates, top T\ncuts: 2, orders: 3\ncut 1: A\n  A\ncut 2: B C\n  B C\n  C B\nmargin: 1\nlog: 2\n1 c take B: denied, cut 1\n2 c take D: denied, cut 1\nout: 0\nleft 1: 1 of 1\nleft 2: 2 of 2\n",
+            "tree: 4 units, 2 gates, top T\ncuts: 2, orders: 3\ncut 1: A\n  A\ncut 2: B C\n  B C\n  C B\nmargin: 1\n\
+             log: 2\n1 c take B: denied, cut 1\n2 c take D: denied, cut 1\nout: 0\nleft 1: 1 of 1\nleft 2: 2 of 2\n",
         ),
         (
             "1",
             "0",
             "toplevel T; T or A G; G and B C; A; B; C; D;\n@crews\ncrew c\ntake B\ntake D",
-            "tree: 4 units, 2 gates, top T\ncuts: 2, orders: 0\ncut 1: A\n  (not listed)\ncut 2: B C\n  (not listed)\nmargin: 1\nlog: 2\n1 c take B: denied, cut 1\n2 c take D: denied, cut 1\nout: 0\nleft 1: 1 of 1\nleft 2: 2 of 2\n",
+            "tree: 4 units, 2 gates, top T\ncuts: 2, orders: 0\ncut 1: A\n  (not listed)\ncut 2: B C\n  (not listed)\n\
+             margin: 1\nlog: 2\n1 c take B: denied, cut 1\n2 c take D: denied, cut 1\nout: 0\nleft 1: 1 of 1\n\
+             left 2: 2 of 2\n",
         ),
         (
             "2",
             "0",
             "toplevel T; T and A B C; A; B; C;\n@crews\ncrew c\ntake A",
-            "tree: 3 units, 1 gates, top T\ncuts: 1, orders: 0\ncut 1: A B C\n  (not listed)\nmargin: 2\nlog: 1\n1 c take A: denied, cut 1\nout: 0\nleft 1: 3 of 3\n",
+            "tree: 3 units, 1 gates, top T\ncuts: 1, orders: 0\ncut 1: A B C\n  (not listed)\nmargin: 2\nlog: 1\n\
+             1 c take A: denied, cut 1\nout: 0\nleft 1: 3 of 3\n",
         ),
         (
             "1",
             "0",
             "toplevel T; T and A B C; A; B; C;\n@crews\ncrew c\ntake A",
-            "tree: 3 units, 1 gates, top T\ncuts: 1, orders: 0\ncut 1: A B C\n  (not listed)\nmargin: 1\nlog: 1\n1 c take A: granted\nout: 1\nA c\nleft 1: 2 of 3\n",
+            "tree: 3 units, 1 gates, top T\ncuts: 1, orders: 0\ncut 1: A B C\n  (not listed)\nmargin: 1\nlog: 1\n\
+             1 c take A: granted\nout: 1\nA c\nleft 1: 2 of 3\n",
         ),
         (
             "0",
             "0",
             "toplevel T; T and A B; A; B;\n@crews",
-            "tree: 2 units, 1 gates, top T\ncuts: 1, orders: 0\ncut 1: A B\n  (not listed)\nmargin: 0\nlog: 0\nout: 0\nleft 1: 2 of 2\n",
+            "tree: 2 units, 1 gates, top T\ncuts: 1, orders: 0\ncut 1: A B\n  (not listed)\nmargin: 0\nlog: 0\n\
+             out: 0\nleft 1: 2 of 2\n",
         ),
     ] {
         let words = ["board", "--most", most, "--margin", margin];
@@ -70,8 +78,14 @@ fn boards_of_small_trees(rt: HostRuntime) -> Result<(), Fail> {
 fn the_supervisor_sets_the_margin(rt: HostRuntime) -> Result<(), Fail> {
     for (crews, text) in [
         (
-            "crew supervisor\ntake A C\nmargin 1\nreturn A\nmargin 1\nreturn C\nmargin 1\ntake A\nmargin 0\ntake A B\ntake C A\ntake B Z\ntake B A",
-            "margin: 0\nlog: 12\n1 supervisor take A C: granted\n2 supervisor margin 1: denied, cut 1\n3 supervisor return A: granted\n4 supervisor margin 1: denied, cut 2\n5 supervisor return C: granted\n6 supervisor margin 1: granted\n7 supervisor take A: denied, cut 1\n8 supervisor margin 0: granted\n9 supervisor take A B: denied, cut 1\n10 supervisor take C A: granted\n11 supervisor take B Z: E1 unknown unit\n12 supervisor take B A: E2 already out with supervisor\nmargin now: 0\nout: 2\nA supervisor\nC supervisor\nleft 1: 1 of 2\nleft 2: 1 of 2\n",
+            "crew supervisor\ntake A C\nmargin 1\nreturn A\nmargin 1\nreturn C\nmargin 1\ntake A\nmargin 0\ntake A B\n\
+             take C A\ntake B Z\ntake B A",
+            "margin: 0\nlog: 12\n1 supervisor take A C: granted\n2 supervisor margin 1: denied, cut 1\n\
+             3 supervisor return A: granted\n4 supervisor margin 1: denied, cut 2\n5 supervisor return C: granted\n\
+             6 supervisor margin 1: granted\n7 supervisor take A: denied, cut 1\n8 supervisor margin 0: granted\n\
+             9 supervisor take A B: denied, cut 1\n10 supervisor take C A: granted\n\
+             11 supervisor take B Z: E1 unknown unit\n12 supervisor take B A: E2 already out with supervisor\n\
+             margin now: 0\nout: 2\nA supervisor\nC supervisor\nleft 1: 1 of 2\nleft 2: 1 of 2\n",
         ),
         (
             "crew c\nmargin 1",
@@ -196,7 +210,8 @@ fn as_many_requests_as_the_limit_allows_are_decided(rt: HostRuntime) -> Result<(
     let sink = KeptSink::new(rt.alloc(), 8_000_000, calls_of(rt.alloc(), None)?)?;
     let (code, bytes) = ran(&rt, rt.alloc(), &["board", "--most", "0"], source, sink)?;
     let head =
-        "tree: 2 units, 1 gates, top T\ncuts: 1, orders: 0\ncut 1: A B\n  (not listed)\nmargin: 0\nlog: 100000\n1 c take A: granted\n2 c take A: E2 already out with c\n";
+        "tree: 2 units, 1 gates, top T\ncuts: 1, orders: 0\ncut 1: A B\n  (not listed)\nmargin: 0\nlog: 100000\n\
+         1 c take A: granted\n2 c take A: E2 already out with c\n";
     let foot = "\n100000 c take A: E2 already out with c\nout: 1\nA c\nleft 1: 1 of 2\n";
     assert!(rt; bytes.as_slice().starts_with(head.as_bytes()));
     assert!(rt; bytes.as_slice().ends_with(foot.as_bytes()));

@@ -1,5 +1,5 @@
 //! Runs of `diagram`, and runs over stores that are full or nearly so.
-ghost use Rattle.std.specs.Prelude.{◌≡◌, ◌≤◌, OnOk};
+ghost use Rattle.std.specs.Prelude.{◌≡◌, ◌≤◌};
 
 use super::limit_tests::{and_of_ors, or_of_eights};
 use super::tests::{PAIR, PAIR_ORDERS, PAIR_SIZES, calls_of, words_of};
@@ -9,9 +9,8 @@ use std::alloc::{AllocError, Global};
 use std::sync::Wait;
 use std::test::Fail;
 use std::thread::Threads;
-use unit_sets::UnitNo;
-use zdd_shared_table::{Full, NodeStore, StoreSeat, StoreStart};
-use zdd_words::NodeRef;
+use worked_stores::store_with;
+use zdd_shared_table::{NodeStore, StoreSeat, StoreStart};
 
 // How a run over a store ends, and what it writes.
 fn ended<R: Threads + Wait + Sync>(
@@ -139,36 +138,13 @@ fn six_hundred_pairs_by_the_diagram_and_by_lists(rt: HostRuntime) -> Result<(), 
     Ok(())
 }
 
-// The family of one set of one unit.
-fn fill_one(store: &NodeStore, seat: &mut StoreSeat, level: UnitNo) -> Result<NodeRef, Full>
-    requires { seat.old.store ≡ store.now }
-    ensures store { seat.new.store ≡ seat.old.store }
-    ensures share { seat.new.share ≡ seat.old.share }
-{
-    store.node(seat, level, NodeRef::EMPTY, NodeRef::UNIT)
-}
-
-// Fills so many slots of a store with such families, of the units from 1001 on.
-fn fill(store: &NodeStore, seat: &mut StoreSeat, slots: u16) -> Result<(), Fail>
-    requires { seat.old.store ≡ store.now }
-    ensures store { OnOk result (seat.new.store ≡ seat.old.store) }
-    ensures share { OnOk result (seat.new.share ≡ seat.old.share) }
-{
-    for number in 0..slots.min(1_024) {
-        let level = UnitNo::new(1_001 + number).ok_or("no unit")?;
-        fill_one(store, seat, level)?;
-    }
-    Ok(())
-}
-
 // How `cuts` ends over a store of 2^10 slots of which so many are left, and what it writes.
 fn begun_with<R: Threads + Wait + Sync>(
     rt: &R,
     alloc: Global,
     left: u16,
 ) -> Result<(Status, Bytes), Fail> {
-    let StoreStart { store, mut seat } = NodeStore::new(alloc, 10)?;
-    fill(&store, &mut seat, 1_024u16.saturating_sub(left))?;
+    let StoreStart { store, mut seat } = store_with(alloc, left)?;
     Ok(ended(rt, alloc, &["cuts"], PAIR, &store, &mut seat)?)
 }
 

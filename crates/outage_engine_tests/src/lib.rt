@@ -10,4 +10,6 @@ mod held_tests;
 #[cfg(test)]
 mod limit_tests;
 #[cfg(test)]
+mod make_tests;
+#[cfg(test)]
 mod tests;

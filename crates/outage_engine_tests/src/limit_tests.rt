@@ -20,6 +20,51 @@ fn an_input_of_the_greatest_size_is_read(rt: HostRuntime) -> Result<(), Fail> {
     Ok(())
 }
 
+// So many gates that read one unit, the first of them the top event.
+fn gates_of_one_unit(alloc: Global, gates: usize) -> Result<String, AllocError> {
+    let mut deck = format!(in alloc; "toplevel g1;\n")?;
+    for i in 0..gates {
+        let n = i + 1;
+        deck.push_str(format!(in alloc; "g{n} or u;\n")?.as_str())?;
+    }
+    deck.push_str("u;")?;
+    Ok(deck)
+}
+
+#[test]
+fn names_and_gates_have_a_limit(rt: HostRuntime) -> Result<(), Fail> {
+    let alloc = rt.alloc();
+    let name = "a".repeat(alloc, 256)?;
+    let long = format!(in alloc; "toplevel {name}")?;
+    let most = gates_of_one_unit(alloc, 16_383)?;
+    let many = gates_of_one_unit(alloc, 16_384)?;
+    for (words, deck, status, text) in [
+        (
+            ["cuts"],
+            long.as_str(),
+            1,
+            "refused: L5 name too long at 1:10\n",
+        ),
+        (
+            ["check"],
+            most.as_str(),
+            0,
+            "well formed: 1 units, 16383 gates, top g1\n",
+        ),
+        (
+            ["check"],
+            many.as_str(),
+            1,
+            "refused: C16 too many gates at 16385:1\n",
+        ),
+    ] {
+        let (code, bytes) = told(&rt, alloc, &words, deck.as_bytes())?;
+        assert_eq!(rt; bytes.as_slice(), text.as_bytes());
+        assert_eq!(rt; code, status);
+    }
+    Ok(())
+}
+
 // The top event is an `and` of so many gates, each an `or` of two units of its own.
 pub(super) fn and_of_ors(alloc: Global, gates: usize) -> Result<String, AllocError> {
     let mut deck = format!(in alloc; "toplevel T; T and")?;

@@ -22,8 +22,9 @@ const PAIR_CHECKED: &str = "well formed: 2 units, 1 gates, top T\n";
 
 const PAIR_PRINTED: &str = "toplevel \"T\";\n\"T\" and \"A\" \"B\";\n\"A\";\n\"B\";\n";
 
-const USAGE: &str =
-    "usage: cuts [--most N] [--workers N] | board [--margin N] [--most N] [--workers N] | check | print | diagram [--workers N] | make --number N [--show deck|summary] | help\n";
+pub(super) const USAGE: &str =
+    "usage: cuts [--most N] [--workers N] | board [--margin N] [--most N] [--workers N] \
+     | check | print | diagram [--workers N] | make --number N [--show deck|summary] | help\n";
 
 pub(super) fn words_of(alloc: Global, words: &[&str]) -> Result<Vec<Word>, AllocError> {
     let mut made = Vec::new(alloc);
@@ -104,7 +105,8 @@ fn prints_the_cut_sets(rt: HostRuntime) -> Result<(), Fail> {
         ),
         (
             "toplevel \"a b\"; \"a b\" 2OF3 A \"1\" \"+\"; A; \"1\"; \"+\";\n@crews\ncrew c\ntake",
-            "tree: 3 units, 1 gates, top \"a b\"\ncuts: 3, orders: 0\ncut 1: A \"1\"\n  (not listed)\ncut 2: A \"+\"\n  (not listed)\ncut 3: \"1\" \"+\"\n  (not listed)\n",
+            "tree: 3 units, 1 gates, top \"a b\"\ncuts: 3, orders: 0\ncut 1: A \"1\"\n  (not listed)\n\
+             cut 2: A \"+\"\n  (not listed)\ncut 3: \"1\" \"+\"\n  (not listed)\n",
         ),
     ] {
         let (code, bytes) = told(&rt, rt.alloc(), &["cuts", "--most", "0"], deck.as_bytes())?;

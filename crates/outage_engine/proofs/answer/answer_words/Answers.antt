@@ -3,7 +3,8 @@ use Rattle.std.proofs.Common.{sym, ap, inl, refl}
 use Rattle.std.proofs.lemmas.Result.{err_from_is_err_and}
 use Rattle.edge_io.specs.Faults.{Rose}
 use Rattle.board_words.specs.Command.{command_of}
-use Rattle.board_words.specs.declared.command.Command.TheVariants.{Cuts, Check, Print, Diagram, Help}
+use Rattle.board_words.specs.declared.command.Command.TheVariants.{Cuts, Check, Print, Diagram, Make, Help}
+use Rattle.board_words.specs.declared.command.Show.TheVariants as shown
 use Rattle.outage_engine.specs.declared.status.Method.TheVariants.{Plain}
 use Rattle.outage_engine.specs.Gives as gives
 use Rattle.outage_engine.specs.Gives.{done_yet, wants_of}
@@ -15,97 +16,124 @@ use Rattle.outage_engine.proofs.answer.answer_words.Goals as goal
 
 pub list_input-requires-clause-most : goal.list_input-requires-clause-most
 list_input-requires-clause-most g c _ _ =
-    (c.numbers_are_within_bounds.ensures.within (Cuts c.in-Some-Cuts.most c.in-Some-Cuts.workers) c.args.words.now (sym (rw c.in-Some-Cuts.field-0-is at c.in-Some-Cuts.ensures))).0
+    (c.numbers_are_within_bounds.ensures.within (Cuts c.in-Some-Cuts.most c.in-Some-Cuts.workers) c.args.words.now
+    (sym (rw c.in-Some-Cuts.field-0-is at c.in-Some-Cuts.ensures))).0
 
 pub list_input-requires-clause-some : goal.list_input-requires-clause-some
 list_input-requires-clause-some g c _ _ =
-    (c.numbers_are_within_bounds.ensures.within (Cuts c.in-Some-Cuts.most c.in-Some-Cuts.workers) c.args.words.now (sym (rw c.in-Some-Cuts.field-0-is at c.in-Some-Cuts.ensures))).1
+    (c.numbers_are_within_bounds.ensures.within (Cuts c.in-Some-Cuts.most c.in-Some-Cuts.workers) c.args.words.now
+    (sym (rw c.in-Some-Cuts.field-0-is at c.in-Some-Cuts.ensures))).1
 
 pub list_input-requires-clause-few : goal.list_input-requires-clause-few
 list_input-requires-clause-few g c _ _ =
-    (c.numbers_are_within_bounds.ensures.within (Cuts c.in-Some-Cuts.most c.in-Some-Cuts.workers) c.args.words.now (sym (rw c.in-Some-Cuts.field-0-is at c.in-Some-Cuts.ensures))).2
+    (c.numbers_are_within_bounds.ensures.within (Cuts c.in-Some-Cuts.most c.in-Some-Cuts.workers) c.args.words.now
+    (sym (rw c.in-Some-Cuts.field-0-is at c.in-Some-Cuts.ensures))).2
 
 -- ---- cuts
 
 pub returns-in_err-list_input-in-Some-Cuts-clause-refused : goal.returns-in_err-list_input-in-Some-Cuts-clause-refused
 returns-in_err-list_input-in-Some-Cuts-clause-refused g c =
-    let said : command_of c.args.words.now ≡ Some (Cuts c.in-Some-Cuts.most c.in-Some-Cuts.workers) = sym (rw c.in-Some-Cuts.field-0-is at c.in-Some-Cuts.ensures) in
+    let said : command_of c.args.words.now ≡ Some (Cuts c.in-Some-Cuts.most c.in-Some-Cuts.workers) =
+    sym (rw c.in-Some-Cuts.field-0-is at c.in-Some-Cuts.ensures) in
     let p = err_from_is_err_and c.from_residual.result c.from_residual.ensures.1 in
     rw (p.1, p.2)
-    (refused_by (g.S.Source.held c.args.source.now) (g.S.Source.held c.list_input.new.source) (Rose (g.S.Source.faults c.args.source.now) (g.S.Source.faults c.list_input.new.source))
-    c.args.words.now (for_cuts c.in-Some-Cuts.most) _ (ap wants_of (ap done_yet said)) c.in_err-list_input-in-Some-Cuts.ensures.refused)
+    (refused_by (g.S.Source.held c.args.source.now) (g.S.Source.held c.list_input.new.source)
+    (Rose (g.S.Source.faults c.args.source.now) (g.S.Source.faults c.list_input.new.source))
+    c.args.words.now (for_cuts c.in-Some-Cuts.most) _ (ap wants_of (ap done_yet said))
+    c.in_err-list_input-in-Some-Cuts.ensures.refused)
 
 pub returns-in_err-list_input-in-Some-Cuts-clause-unread : goal.returns-in_err-list_input-in-Some-Cuts-clause-unread
 returns-in_err-list_input-in-Some-Cuts-clause-unread g c =
-    let said : command_of c.args.words.now ≡ Some (Cuts c.in-Some-Cuts.most c.in-Some-Cuts.workers) = sym (rw c.in-Some-Cuts.field-0-is at c.in-Some-Cuts.ensures) in
+    let said : command_of c.args.words.now ≡ Some (Cuts c.in-Some-Cuts.most c.in-Some-Cuts.workers) =
+    sym (rw c.in-Some-Cuts.field-0-is at c.in-Some-Cuts.ensures) in
     inl (for_cuts c.in-Some-Cuts.most, ap wants_of (ap done_yet said))
 
 pub returns-in_ok-list_input-in-Some-Cuts-clause-gives : goal.returns-in_ok-list_input-in-Some-Cuts-clause-gives
 returns-in_ok-list_input-in-Some-Cuts-clause-gives g c =
-    let said : command_of c.args.words.now ≡ Some (Cuts c.in-Some-Cuts.most c.in-Some-Cuts.workers) = sym (rw c.in-Some-Cuts.field-0-is at c.in-Some-Cuts.ensures) in
-    gives.done (Cuts c.in-Some-Cuts.most c.in-Some-Cuts.workers) (method_by c.in_ok-list_input-in-Some-Cuts.field-0.root) (ap done_yet said)
+    let said : command_of c.args.words.now ≡ Some (Cuts c.in-Some-Cuts.most c.in-Some-Cuts.workers) =
+    sym (rw c.in-Some-Cuts.field-0-is at c.in-Some-Cuts.ensures) in
+    gives.done (Cuts c.in-Some-Cuts.most c.in-Some-Cuts.workers)
+    (method_by c.in_ok-list_input-in-Some-Cuts.field-0.root) (ap done_yet said)
     (finds_sets c.in_ok-list_input-in-Some-Cuts.field-0.root) c.in_ok-list_input-in-Some-Cuts.ensures.text refl
 
 pub returns-in_ok-list_input-in-Some-Cuts-clause-unread : goal.returns-in_ok-list_input-in-Some-Cuts-clause-unread
 returns-in_ok-list_input-in-Some-Cuts-clause-unread g c =
-    let said : command_of c.args.words.now ≡ Some (Cuts c.in-Some-Cuts.most c.in-Some-Cuts.workers) = sym (rw c.in-Some-Cuts.field-0-is at c.in-Some-Cuts.ensures) in
+    let said : command_of c.args.words.now ≡ Some (Cuts c.in-Some-Cuts.most c.in-Some-Cuts.workers) =
+    sym (rw c.in-Some-Cuts.field-0-is at c.in-Some-Cuts.ensures) in
     inl (for_cuts c.in-Some-Cuts.most, ap wants_of (ap done_yet said))
 
 -- ---- check
 
 pub returns-in_err-read_input-in-Some-Check-clause-refused : goal.returns-in_err-read_input-in-Some-Check-clause-refused
 returns-in_err-read_input-in-Some-Check-clause-refused g c =
-    let said : command_of c.args.words.now ≡ Some Check = sym (rw c.in-Some-Check.field-0-is at c.in-Some-Check.ensures) in
-    let p = err_from_is_err_and c.from_residual-in_err-read_input-in-Some-Check.result c.from_residual-in_err-read_input-in-Some-Check.ensures.1 in
+    let said : command_of c.args.words.now ≡ Some Check =
+    sym (rw c.in-Some-Check.field-0-is at c.in-Some-Check.ensures) in
+    let p =
+    err_from_is_err_and c.from_residual-in_err-read_input-in-Some-Check.result
+    c.from_residual-in_err-read_input-in-Some-Check.ensures.1 in
     let held = g.S.Source.held c.args.source.now in
     let left = g.S.Source.held c.read_input.new.source in
     let rose = Rose (g.S.Source.faults c.args.source.now) (g.S.Source.faults c.read_input.new.source) in
-    rw (p.1, p.2) (refused_by held left rose c.args.words.now for_check _ (ap wants_of (ap done_yet said)) (refused_for held left rose for_check _ c.in_err-read_input-in-Some-Check.ensures.refused))
+    rw (p.1, p.2) (refused_by held left rose c.args.words.now for_check _ (ap wants_of (ap done_yet said))
+    (refused_for held left rose for_check _ c.in_err-read_input-in-Some-Check.ensures.refused))
 
 pub returns-in_err-read_input-in-Some-Check-clause-unread : goal.returns-in_err-read_input-in-Some-Check-clause-unread
 returns-in_err-read_input-in-Some-Check-clause-unread g c =
-    let said : command_of c.args.words.now ≡ Some Check = sym (rw c.in-Some-Check.field-0-is at c.in-Some-Check.ensures) in
+    let said : command_of c.args.words.now ≡ Some Check =
+    sym (rw c.in-Some-Check.field-0-is at c.in-Some-Check.ensures) in
     inl (for_check, ap wants_of (ap done_yet said))
 
 pub returns-in_ok-read_input-in-Some-Check-clause-gives : goal.returns-in_ok-read_input-in-Some-Check-clause-gives
 returns-in_ok-read_input-in-Some-Check-clause-gives g c =
-    let said : command_of c.args.words.now ≡ Some Check = sym (rw c.in-Some-Check.field-0-is at c.in-Some-Check.ensures) in
+    let said : command_of c.args.words.now ≡ Some Check =
+    sym (rw c.in-Some-Check.field-0-is at c.in-Some-Check.ensures) in
     gives.done Check Plain (ap done_yet said) refl
-    (check_of_input (g.S.Source.held c.args.source.now) (g.S.Source.held c.read_input.new.source) c.in_ok-read_input-in-Some-Check.field-0.tree c.in_ok-read_input-in-Some-Check.field-0.crews c.in_ok-read_input-in-Some-Check.ensures.deck)
+    (check_of_input (g.S.Source.held c.args.source.now) (g.S.Source.held c.read_input.new.source)
+    c.in_ok-read_input-in-Some-Check.field-0.tree c.in_ok-read_input-in-Some-Check.field-0.crews
+    c.in_ok-read_input-in-Some-Check.ensures.deck)
     refl
 
 pub returns-in_ok-read_input-in-Some-Check-clause-unread : goal.returns-in_ok-read_input-in-Some-Check-clause-unread
 returns-in_ok-read_input-in-Some-Check-clause-unread g c =
-    let said : command_of c.args.words.now ≡ Some Check = sym (rw c.in-Some-Check.field-0-is at c.in-Some-Check.ensures) in
+    let said : command_of c.args.words.now ≡ Some Check =
+    sym (rw c.in-Some-Check.field-0-is at c.in-Some-Check.ensures) in
     inl (for_check, ap wants_of (ap done_yet said))
 
 -- ---- print
 
 pub returns-in_err-read_input-in-Some-Print-clause-refused : goal.returns-in_err-read_input-in-Some-Print-clause-refused
 returns-in_err-read_input-in-Some-Print-clause-refused g c =
-    let said : command_of c.args.words.now ≡ Some Print = sym (rw c.in-Some-Print.field-0-is at c.in-Some-Print.ensures) in
-    let p = err_from_is_err_and c.from_residual-in_err-read_input-in-Some-Print.result c.from_residual-in_err-read_input-in-Some-Print.ensures.1 in
+    let said : command_of c.args.words.now ≡ Some Print =
+    sym (rw c.in-Some-Print.field-0-is at c.in-Some-Print.ensures) in
+    let p =
+    err_from_is_err_and c.from_residual-in_err-read_input-in-Some-Print.result
+    c.from_residual-in_err-read_input-in-Some-Print.ensures.1 in
     let held = g.S.Source.held c.args.source.now in
     let left = g.S.Source.held c.read_input-in-Some-Print.new.source in
     let rose = Rose (g.S.Source.faults c.args.source.now) (g.S.Source.faults c.read_input-in-Some-Print.new.source) in
-    rw (p.1, p.2) (refused_by held left rose c.args.words.now for_print _ (ap wants_of (ap done_yet said)) (refused_for held left rose for_print _ c.in_err-read_input-in-Some-Print.ensures.refused))
+    rw (p.1, p.2) (refused_by held left rose c.args.words.now for_print _ (ap wants_of (ap done_yet said))
+    (refused_for held left rose for_print _ c.in_err-read_input-in-Some-Print.ensures.refused))
 
 pub returns-in_err-read_input-in-Some-Print-clause-unread : goal.returns-in_err-read_input-in-Some-Print-clause-unread
 returns-in_err-read_input-in-Some-Print-clause-unread g c =
-    let said : command_of c.args.words.now ≡ Some Print = sym (rw c.in-Some-Print.field-0-is at c.in-Some-Print.ensures) in
+    let said : command_of c.args.words.now ≡ Some Print =
+    sym (rw c.in-Some-Print.field-0-is at c.in-Some-Print.ensures) in
     inl (for_print, ap wants_of (ap done_yet said))
 
 pub returns-in_ok-read_input-in-Some-Print-clause-gives : goal.returns-in_ok-read_input-in-Some-Print-clause-gives
 returns-in_ok-read_input-in-Some-Print-clause-gives g c =
-    let said : command_of c.args.words.now ≡ Some Print = sym (rw c.in-Some-Print.field-0-is at c.in-Some-Print.ensures) in
+    let said : command_of c.args.words.now ≡ Some Print =
+    sym (rw c.in-Some-Print.field-0-is at c.in-Some-Print.ensures) in
     gives.done Print Plain (ap done_yet said) refl
     (print_of_input (g.S.Source.held c.args.source.now) (g.S.Source.held c.read_input-in-Some-Print.new.source)
-    c.in_ok-read_input-in-Some-Print.field-0.tree c.in_ok-read_input-in-Some-Print.field-0.crews c.in_ok-read_input-in-Some-Print.ensures.deck)
+    c.in_ok-read_input-in-Some-Print.field-0.tree c.in_ok-read_input-in-Some-Print.field-0.crews
+    c.in_ok-read_input-in-Some-Print.ensures.deck)
     refl
 
 pub returns-in_ok-read_input-in-Some-Print-clause-unread : goal.returns-in_ok-read_input-in-Some-Print-clause-unread
 returns-in_ok-read_input-in-Some-Print-clause-unread g c =
-    let said : command_of c.args.words.now ≡ Some Print = sym (rw c.in-Some-Print.field-0-is at c.in-Some-Print.ensures) in
+    let said : command_of c.args.words.now ≡ Some Print =
+    sym (rw c.in-Some-Print.field-0-is at c.in-Some-Print.ensures) in
     inl (for_print, ap wants_of (ap done_yet said))
 
 -- ---- help
@@ -119,32 +147,64 @@ returns-in-Some-Help-clause-gives g c =
 
 pub size_input-requires-clause-some : goal.size_input-requires-clause-some
 size_input-requires-clause-some g c _ _ =
-    (c.numbers_are_within_bounds.ensures.within (Diagram c.in-Some-Diagram.workers) c.args.words.now (sym (rw c.in-Some-Diagram.field-0-is at c.in-Some-Diagram.ensures))).0
+    (c.numbers_are_within_bounds.ensures.within (Diagram c.in-Some-Diagram.workers) c.args.words.now
+    (sym (rw c.in-Some-Diagram.field-0-is at c.in-Some-Diagram.ensures))).0
 
 pub size_input-requires-clause-few : goal.size_input-requires-clause-few
 size_input-requires-clause-few g c _ _ =
-    (c.numbers_are_within_bounds.ensures.within (Diagram c.in-Some-Diagram.workers) c.args.words.now (sym (rw c.in-Some-Diagram.field-0-is at c.in-Some-Diagram.ensures))).1
+    (c.numbers_are_within_bounds.ensures.within (Diagram c.in-Some-Diagram.workers) c.args.words.now
+    (sym (rw c.in-Some-Diagram.field-0-is at c.in-Some-Diagram.ensures))).1
 
 pub returns-in_err-size_input-in-Some-Diagram-clause-refused : goal.returns-in_err-size_input-in-Some-Diagram-clause-refused
 returns-in_err-size_input-in-Some-Diagram-clause-refused g c =
-    let said : command_of c.args.words.now ≡ Some (Diagram c.in-Some-Diagram.workers) = sym (rw c.in-Some-Diagram.field-0-is at c.in-Some-Diagram.ensures) in
-    let p = err_from_is_err_and c.from_residual-in_err-size_input-in-Some-Diagram.result c.from_residual-in_err-size_input-in-Some-Diagram.ensures.1 in
+    let said : command_of c.args.words.now ≡ Some (Diagram c.in-Some-Diagram.workers) =
+    sym (rw c.in-Some-Diagram.field-0-is at c.in-Some-Diagram.ensures) in
+    let p =
+    err_from_is_err_and c.from_residual-in_err-size_input-in-Some-Diagram.result
+    c.from_residual-in_err-size_input-in-Some-Diagram.ensures.1 in
     rw (p.1, p.2)
-    (refused_by (g.S.Source.held c.args.source.now) (g.S.Source.held c.size_input.new.source) (Rose (g.S.Source.faults c.args.source.now) (g.S.Source.faults c.size_input.new.source))
+    (refused_by (g.S.Source.held c.args.source.now) (g.S.Source.held c.size_input.new.source)
+    (Rose (g.S.Source.faults c.args.source.now) (g.S.Source.faults c.size_input.new.source))
     c.args.words.now for_diagram _ (ap wants_of (ap done_yet said)) c.in_err-size_input-in-Some-Diagram.ensures.refused)
 
 pub returns-in_err-size_input-in-Some-Diagram-clause-unread : goal.returns-in_err-size_input-in-Some-Diagram-clause-unread
 returns-in_err-size_input-in-Some-Diagram-clause-unread g c =
-    let said : command_of c.args.words.now ≡ Some (Diagram c.in-Some-Diagram.workers) = sym (rw c.in-Some-Diagram.field-0-is at c.in-Some-Diagram.ensures) in
+    let said : command_of c.args.words.now ≡ Some (Diagram c.in-Some-Diagram.workers) =
+    sym (rw c.in-Some-Diagram.field-0-is at c.in-Some-Diagram.ensures) in
     inl (for_diagram, ap wants_of (ap done_yet said))
 
 pub returns-in_ok-size_input-in-Some-Diagram-clause-gives : goal.returns-in_ok-size_input-in-Some-Diagram-clause-gives
 returns-in_ok-size_input-in-Some-Diagram-clause-gives g c =
-    let said : command_of c.args.words.now ≡ Some (Diagram c.in-Some-Diagram.workers) = sym (rw c.in-Some-Diagram.field-0-is at c.in-Some-Diagram.ensures) in
-    gives.done (Diagram c.in-Some-Diagram.workers) (method_by c.in_ok-size_input-in-Some-Diagram.field-0.nodes) (ap done_yet said)
+    let said : command_of c.args.words.now ≡ Some (Diagram c.in-Some-Diagram.workers) =
+    sym (rw c.in-Some-Diagram.field-0-is at c.in-Some-Diagram.ensures) in
+    gives.done (Diagram c.in-Some-Diagram.workers) (method_by c.in_ok-size_input-in-Some-Diagram.field-0.nodes)
+    (ap done_yet said)
     (finds_sets c.in_ok-size_input-in-Some-Diagram.field-0.nodes) c.in_ok-size_input-in-Some-Diagram.ensures.text refl
 
 pub returns-in_ok-size_input-in-Some-Diagram-clause-unread : goal.returns-in_ok-size_input-in-Some-Diagram-clause-unread
 returns-in_ok-size_input-in-Some-Diagram-clause-unread g c =
-    let said : command_of c.args.words.now ≡ Some (Diagram c.in-Some-Diagram.workers) = sym (rw c.in-Some-Diagram.field-0-is at c.in-Some-Diagram.ensures) in
+    let said : command_of c.args.words.now ≡ Some (Diagram c.in-Some-Diagram.workers) =
+    sym (rw c.in-Some-Diagram.field-0-is at c.in-Some-Diagram.ensures) in
     inl (for_diagram, ap wants_of (ap done_yet said))
+
+-- ---- make
+
+pub made-requires : goal.made-requires
+made-requires g c =
+    let read = c.in-Some-Make-default-Deck.ensures in
+    let is = c.in-Some-Make-default-Deck.field-0-is in
+    let shows = c.in-Some-Make-default-Deck.field-0-1-is in
+    let numbered = c.in-Some-Make-default-Deck.number-is in
+    let said : command_of c.args.words.now ≡ Some (Make c.in-Some-Make-default-Deck.number shown.Deck) = cc in
+    c.numbers_are_within_bounds.ensures.within (Make c.in-Some-Make-default-Deck.number shown.Deck) c.args.words.now
+    said
+
+pub returns-in_ok-made-in-Some-Make-default-Deck-clause-gives : goal.returns-in_ok-made-in-Some-Make-default-Deck-clause-gives
+returns-in_ok-made-in-Some-Make-default-Deck-clause-gives g c =
+    let read = c.in-Some-Make-default-Deck.ensures in
+    let is = c.in-Some-Make-default-Deck.field-0-is in
+    let shows = c.in-Some-Make-default-Deck.field-0-1-is in
+    let numbered = c.in-Some-Make-default-Deck.number-is in
+    let said : command_of c.args.words.now ≡ Some (Make c.in-Some-Make-default-Deck.number shown.Deck) = cc in
+    gives.done (Make c.in-Some-Make-default-Deck.number shown.Deck) Plain (ap done_yet said) refl
+    c.in_ok-made-in-Some-Make-default-Deck.ensures.text refl

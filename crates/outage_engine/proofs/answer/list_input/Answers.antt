@@ -11,14 +11,16 @@ pub returns-in_err-deck-clause-refused : goal.returns-in_err-deck-clause-refused
 returns-in_err-deck-clause-refused g c =
     let p = err_from_is_err_and c.from_residual.result c.from_residual.ensures.1 in
     rw (p.1, p.2)
-    (refused_for (g.S.Source.held c.args.source.now) (g.S.Source.held c.read_input.new.source) (Rose (g.S.Source.faults c.args.source.now) (g.S.Source.faults c.read_input.new.source))
+    (refused_for (g.S.Source.held c.args.source.now) (g.S.Source.held c.read_input.new.source)
+    (Rose (g.S.Source.faults c.args.source.now) (g.S.Source.faults c.read_input.new.source))
     (for_cuts c.args.most) _ c.in_err-deck.ensures.refused)
 
 pub returns-clause-text : goal.returns-clause-text
 returns-clause-text g c =
     IfOk-weaker c.list_tree.result _ _
     (λ listing is.
-    cuts_of_input (g.S.Source.held c.args.source.now) (g.S.Source.held c.read_input.new.source) c.in_ok-deck.deck.tree c.in_ok-deck.deck.crews
+    cuts_of_input (g.S.Source.held c.args.source.now) (g.S.Source.held c.read_input.new.source) c.in_ok-deck.deck.tree
+    c.in_ok-deck.deck.crews
     c.args.most listing c.in_ok-deck.ensures.deck is)
     c.list_tree.ensures.listed
 
@@ -26,19 +28,23 @@ pub returns-clause-refused : goal.returns-clause-refused
 returns-clause-refused g c =
     IfErr-weaker c.list_tree.result _ _
     (λ end limit.
-    limit_for (g.S.Source.held c.args.source.now) (g.S.Source.held c.read_input.new.source) c.in_ok-deck.deck.tree c.in_ok-deck.deck.crews Unread c.args.most
-    (Rose (g.S.Source.faults c.args.source.now) (g.S.Source.faults c.read_input.new.source)) end c.in_ok-deck.ensures.deck limit)
+    limit_for (g.S.Source.held c.args.source.now) (g.S.Source.held c.read_input.new.source) c.in_ok-deck.deck.tree
+    c.in_ok-deck.deck.crews Unread c.args.most
+    (Rose (g.S.Source.faults c.args.source.now) (g.S.Source.faults c.read_input.new.source)) end
+    c.in_ok-deck.ensures.deck limit)
     c.list_tree.ensures.limit
 
 pub returns-clause-method : goal.returns-clause-method
 returns-clause-method g c =
     IfOk-weaker c.list_tree.result _ _
     (λ listing found.
-    bears_out (g.S.Source.held c.args.source.now) (g.S.Source.held c.read_input.new.source) c.args.seat.now c.list_tree.new.seat
+    bears_out (g.S.Source.held c.args.source.now) (g.S.Source.held c.read_input.new.source) c.args.seat.now
+    c.list_tree.new.seat
     Unread c.in_ok-deck.deck.tree c.in_ok-deck.deck.crews c.in_ok-deck.ensures.deck (method_by listing.root) found)
     c.list_tree.ensures.found
 
 pub returns-clause-went : goal.returns-clause-went
 returns-clause-went g c =
-    goes_for_deck (g.S.Source.held c.args.source.now) (g.S.Source.held c.read_input.new.source) c.args.seat.now c.list_tree.new.seat
+    goes_for_deck (g.S.Source.held c.args.source.now) (g.S.Source.held c.read_input.new.source) c.args.seat.now
+    c.list_tree.new.seat
     Unread c.in_ok-deck.deck.tree c.in_ok-deck.deck.crews c.in_ok-deck.ensures.deck c.list_tree.ensures.went

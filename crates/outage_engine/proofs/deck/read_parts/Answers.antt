@@ -1,14 +1,17 @@
 use Rattle.std.proofs.lemmas.Result.{err_from_is_err_and}
-use Rattle.outage_engine.specs.Deck.{crews_behind, crews_said}
+use Rattle.deck_reading.specs.Deck.{crews_behind}
+use Rattle.outage_engine.specs.Deck.{crews_said}
 use Rattle.outage_engine.proofs.Reading.{crews_end, tree_end}
 use Rattle.outage_engine.proofs.deck.read_parts.Goals as goal
 
 pub returns-in_err-tree-clause-end : goal.returns-in_err-tree-clause-end
 returns-in_err-tree-clause-end c =
     let p = err_from_is_err_and c.from_residual.result c.from_residual.ensures.1 in
-    rw (p.1, p.2) (tree_end c.args.bytes.now (crews_said (crews_behind c.args.bytes.now c.args.at)) _ c.in_err-tree.ensures.end)
+    rw (p.1, p.2) (tree_end c.args.bytes.now (crews_said (crews_behind c.args.bytes.now c.args.at)) _
+    c.in_err-tree.ensures.end)
 
 pub returns-in_err-crews-clause-end : goal.returns-in_err-crews-clause-end
 returns-in_err-crews-clause-end c =
     let p = err_from_is_err_and c.from_residual-in_err-crews.result c.from_residual-in_err-crews.ensures.1 in
-    rw (p.1, p.2) (crews_end c.args.bytes.now c.in_ok-tree.tree (crews_said (crews_behind c.args.bytes.now c.args.at)) _ c.in_ok-tree.ensures.tree c.in_err-crews.ensures.end)
+    rw (p.1, p.2) (crews_end c.args.bytes.now c.in_ok-tree.tree (crews_said (crews_behind c.args.bytes.now c.args.at)) _
+    c.in_ok-tree.ensures.tree c.in_err-crews.ensures.end)

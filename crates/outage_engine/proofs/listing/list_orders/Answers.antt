@@ -7,4 +7,5 @@ use Rattle.outage_engine.proofs.listing.list_orders.Goals as goal
 pub returns-in-Ok-clause-writable : goal.returns-in-Ok-clause-writable
 returns-in-Ok-clause-writable g c =
     listed_of_units c.args.tree c.args.found.cuts c.args.most c.in-Ok.orders c.requires.all
-    (subst (λ r. IfOk r (λ lists. lists ≡ order_lists c.args.tree c.args.found.cuts c.args.most)) c.in-Ok.is c.orders.ensures.listed)
+    (subst (λ r. IfOk r (λ lists. lists ≡ order_lists c.args.tree c.args.found.cuts c.args.most)) c.in-Ok.is
+    c.orders.ensures.listed)

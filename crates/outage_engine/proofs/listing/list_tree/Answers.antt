@@ -10,5 +10,6 @@ returns-in-Ok-clause-found g c =
     IfOk-weaker c.list_orders.result _ _
     (λ listing same.
     subst (λ (root : Option ℕ). IsFoundBy c.args.seat.now c.find_cuts.new.seat c.args.tree (method_by root)) (sym same)
-    (found_by c.args.seat.now c.find_cuts.new.seat c.args.tree c.in-Ok.found.root c.in-Ok.ensures.root c.in-Ok.ensures.full))
+    (found_by c.args.seat.now c.find_cuts.new.seat c.args.tree c.in-Ok.found.root c.in-Ok.ensures.root
+    c.in-Ok.ensures.full))
     c.list_orders.ensures.root

@@ -7,8 +7,10 @@ use Rattle.outage_engine.proofs.opening.open_deck.Goals as goal
 
 pub returns-clause-ready : goal.returns-clause-ready
 returns-clause-ready g c =
-    ready c.args.margin c.in_ok-listing.listing (Some c.in-Some.dockets) c.in_ok-open_listing.field-0 c.in_ok-listing.ensures.writable c.in_ok-open_listing.ensures.opened
+    ready c.args.margin c.in_ok-listing.listing (Some c.in-Some.dockets) c.in_ok-open_listing.field-0
+    c.in_ok-listing.ensures.writable c.in_ok-open_listing.ensures.opened
 
 pub returns-clause-found : goal.returns-clause-found
 returns-clause-found g c =
-    subst (λ (listing : Listing). IsFoundBy c.args.seat.now c.list_tree.new.seat c.args.tree (method_by listing.root)) (sym c.in_ok-open_listing.ensures.opened.0) c.in_ok-listing.ensures.found
+    subst (λ (listing : Listing). IsFoundBy c.args.seat.now c.list_tree.new.seat c.args.tree (method_by listing.root))
+    (sym c.in_ok-open_listing.ensures.opened.0) c.in_ok-listing.ensures.found

@@ -11,29 +11,36 @@ use Rattle.outage_engine.proofs.opening.open_words.Goals as goal
 
 pub open_input-requires-clause-margin : goal.open_input-requires-clause-margin
 open_input-requires-clause-margin g c _ _ =
-    (c.numbers_are_within_bounds.ensures.within (Board c.in-Some-Board.margin c.in-Some-Board.most c.in-Some-Board.workers) c.args.words.now
+    (c.numbers_are_within_bounds.ensures.within (Board c.in-Some-Board.margin c.in-Some-Board.most
+    c.in-Some-Board.workers) c.args.words.now
     (sym (rw c.in-Some-Board.field-0-is at c.in-Some-Board.ensures))).0
 
 pub open_input-requires-clause-most : goal.open_input-requires-clause-most
 open_input-requires-clause-most g c _ _ =
-    (c.numbers_are_within_bounds.ensures.within (Board c.in-Some-Board.margin c.in-Some-Board.most c.in-Some-Board.workers) c.args.words.now
+    (c.numbers_are_within_bounds.ensures.within (Board c.in-Some-Board.margin c.in-Some-Board.most
+    c.in-Some-Board.workers) c.args.words.now
     (sym (rw c.in-Some-Board.field-0-is at c.in-Some-Board.ensures))).1
 
 pub open_input-requires-clause-some : goal.open_input-requires-clause-some
 open_input-requires-clause-some g c _ _ =
-    (c.numbers_are_within_bounds.ensures.within (Board c.in-Some-Board.margin c.in-Some-Board.most c.in-Some-Board.workers) c.args.words.now
+    (c.numbers_are_within_bounds.ensures.within (Board c.in-Some-Board.margin c.in-Some-Board.most
+    c.in-Some-Board.workers) c.args.words.now
     (sym (rw c.in-Some-Board.field-0-is at c.in-Some-Board.ensures))).2
 
 pub open_input-requires-clause-few : goal.open_input-requires-clause-few
 open_input-requires-clause-few g c _ _ =
-    (c.numbers_are_within_bounds.ensures.within (Board c.in-Some-Board.margin c.in-Some-Board.most c.in-Some-Board.workers) c.args.words.now
+    (c.numbers_are_within_bounds.ensures.within (Board c.in-Some-Board.margin c.in-Some-Board.most
+    c.in-Some-Board.workers) c.args.words.now
     (sym (rw c.in-Some-Board.field-0-is at c.in-Some-Board.ensures))).3
 
 pub returns-clause-refused : goal.returns-clause-refused
 returns-clause-refused g c =
-    let said : command_of c.args.words.now ≡ Some (Board c.in-Some-Board.margin c.in-Some-Board.most c.in-Some-Board.workers) = sym (rw c.in-Some-Board.field-0-is at c.in-Some-Board.ensures) in
+    let said : command_of c.args.words.now ≡ Some
+    (Board c.in-Some-Board.margin c.in-Some-Board.most c.in-Some-Board.workers) =
+    sym (rw c.in-Some-Board.field-0-is at c.in-Some-Board.ensures) in
     IfErr-weaker c.open_input.result _ _
     (λ end holds.
-    refused_by (g.S.Source.held c.args.source.now) (g.S.Source.held c.open_input.new.source) (Rose (g.S.Source.faults c.args.source.now) (g.S.Source.faults c.open_input.new.source))
+    refused_by (g.S.Source.held c.args.source.now) (g.S.Source.held c.open_input.new.source)
+    (Rose (g.S.Source.faults c.args.source.now) (g.S.Source.faults c.open_input.new.source))
     c.args.words.now (for_board c.in-Some-Board.most) end (ap wants_of (ap done_yet said)) holds)
     c.open_input.ensures.refused

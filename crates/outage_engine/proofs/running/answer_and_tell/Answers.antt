@@ -11,8 +11,11 @@ returns-in-Ok-answer_words-clause-runs g c =
     inr record {
       status = status_of c.in-Ok-answer_words.answer;
       text = text_of c.in-Ok-answer_words.answer;
-      gives = subst (λ r. IfOk r (λ answer. Gives c.args.words.now (g.S.Source.held c.args.source.now) (g.S.Source.held c.answer_words.new.source)
-          (Rose (g.S.Source.faults c.args.source.now) (g.S.Source.faults c.answer_words.new.source)) (status_of answer) (text_of answer)))
+      gives =
+          subst (λ r. IfOk r (λ answer. Gives c.args.words.now (g.S.Source.held c.args.source.now)
+          (g.S.Source.held c.answer_words.new.source)
+          (Rose (g.S.Source.faults c.args.source.now) (g.S.Source.faults c.answer_words.new.source)) (status_of answer)
+          (text_of answer)))
           c.in-Ok-answer_words.is c.answer_words.ensures.gives;
       told = c.tell.ensures.told;
     }
@@ -28,8 +31,10 @@ returns-in-Err-Refused-clause-runs g c =
 
 pub returns-in-Ok-answer_words-clause-method : goal.returns-in-Ok-answer_words-clause-method
 returns-in-Ok-answer_words-clause-method g c =
-    told_bears_out (g.S.Source.held c.args.source.now) (g.S.Source.held c.answer_words.new.source) c.args.seat.now c.answer_words.new.seat
-    g.K.Sink.taken g.K.Sink.faults c.args.sink.now c.tell.new.sink (status_of c.in-Ok-answer_words.answer) (text_of c.in-Ok-answer_words.answer) c.tell.result
+    told_bears_out (g.S.Source.held c.args.source.now) (g.S.Source.held c.answer_words.new.source) c.args.seat.now
+    c.answer_words.new.seat
+    g.K.Sink.taken g.K.Sink.faults c.args.sink.now c.tell.new.sink (status_of c.in-Ok-answer_words.answer)
+    (text_of c.in-Ok-answer_words.answer) c.tell.result
     c.in-Ok-answer_words.ensures.method c.tell.ensures.told
 
 pub returns-in-Err-Refused-clause-method : goal.returns-in-Err-Refused-clause-method
@@ -39,4 +44,5 @@ returns-in-Err-Refused-clause-method g c =
     told_bears_out held left c.args.seat.now c.answer_words.new.seat
     g.K.Sink.taken g.K.Sink.faults c.args.sink.now c.tell-in-Err-Refused.new.sink
     (refusal_status c.in-Err-Refused.refusal) (refusal_line c.in-Err-Refused.refusal) c.tell-in-Err-Refused.result
-    (refusal_bears_out held left c.args.seat.now c.answer_words.new.seat c.in-Err-Refused.refusal) c.tell-in-Err-Refused.ensures.told
+    (refusal_bears_out held left c.args.seat.now c.answer_words.new.seat c.in-Err-Refused.refusal)
+    c.tell-in-Err-Refused.ensures.told

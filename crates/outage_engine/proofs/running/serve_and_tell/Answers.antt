@@ -24,8 +24,11 @@ returns-in-Ok-open_words g c =
         gives = gives_board c.args.words.now held left rose by.0 by.1 by.2 by.3 opened by.4 told.0 told.1;
         told = told.2;
       };
-      method = told_bears_out held left c.args.seat.now c.open_words.new.seat g.K.Sink.taken g.K.Sink.faults c.args.sink.now c.serve.new.sink
-          (Done (method_by opened.listing.root)) (listing_text opened.listing ++ board_text opened.listing.tree told.0) c.serve.result
+      method =
+          told_bears_out held left c.args.seat.now c.open_words.new.seat g.K.Sink.taken g.K.Sink.faults c.args.sink.now
+          c.serve.new.sink
+          (Done (method_by opened.listing.root)) (listing_text opened.listing ++ board_text opened.listing.tree told.0)
+          c.serve.result
           c.in-Ok-open_words.ensures.method told.2;
       went = c.open_words.ensures.went;
       share = c.open_words.ensures.share;
@@ -43,9 +46,11 @@ returns-in-Err-Refused g c =
       method =
           let held = g.S.Source.held c.args.source.now in
           let left = g.S.Source.held c.open_words.new.source in
-          told_bears_out held left c.args.seat.now c.open_words.new.seat g.K.Sink.taken g.K.Sink.faults c.args.sink.now c.tell.new.sink
+          told_bears_out held left c.args.seat.now c.open_words.new.seat g.K.Sink.taken g.K.Sink.faults c.args.sink.now
+          c.tell.new.sink
           (refusal_status c.in-Err-Refused.refusal) (refusal_line c.in-Err-Refused.refusal) c.tell.result
-          (refusal_bears_out held left c.args.seat.now c.open_words.new.seat c.in-Err-Refused.refusal) c.tell.ensures.told;
+          (refusal_bears_out held left c.args.seat.now c.open_words.new.seat c.in-Err-Refused.refusal)
+          c.tell.ensures.told;
       went = c.open_words.ensures.went;
       share = c.open_words.ensures.share;
     }

@@ -8,9 +8,14 @@ pub returns-in-Err : goal.returns-in-Err
 returns-in-Err g c =
     let old = c.over-out.result in
     let out = c.put_answer.new.out in
-    let end = Puts-finished g.K.Sink.taken g.K.Sink.faults old out _ _ _ c.finish.result c.over-out.ensures.nothing_waits c.over-out.ensures.fine c.put_answer.ensures.puts
-    c.finish.ensures.all c.finish.ensures.front.1 c.finish.ensures.rose c.finish.ensures.stopped c.finish.ensures.never_falls in
+    let end =
+    Puts-finished g.K.Sink.taken g.K.Sink.faults old out _ _ _ c.finish.result c.over-out.ensures.nothing_waits
+    c.over-out.ensures.fine c.put_answer.ensures.puts
+    c.finish.ensures.all c.finish.ensures.front.1 c.finish.ensures.rose c.finish.ensures.stopped
+    c.finish.ensures.never_falls in
     let same : out.sink.ghost_name ≡ old.sink.ghost_name = c.put_answer.ensures.puts.same_sink in
     let delivered = rw c.over-out.ensures.sink at end in
-    let told = told_front g.K.Sink.taken g.K.Sink.faults _ _ _ c.finish.result _ (status_of c.args.answer.now) c.in-Err.is delivered in
+    let told =
+    told_front g.K.Sink.taken g.K.Sink.faults _ _ _ c.finish.result _ (status_of c.args.answer.now) c.in-Err.is
+    delivered in
     record { told = grind (arith, told) }

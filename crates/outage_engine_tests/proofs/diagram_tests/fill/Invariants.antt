@@ -1,8 +1,0 @@
-use Rattle.std.proofs.Common.{◌≡◌}
-use Rattle.outage_engine_tests.proofs.diagram_tests.fill.Given as goal
-
-abbrev pub invariant-loop-number : goal.invariant-loop-number
-invariant-loop-number l = record {
-  store : l.seat.store ≡ l.initial.seat.store;
-  share : l.seat.share ≡ l.initial.seat.share;
-}
