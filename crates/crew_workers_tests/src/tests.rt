@@ -4,12 +4,12 @@ ghost use Rattle.outage_board.specs.Passes.{AreOf, HaveAll};
 
 use crew_workers::serve_all;
 use edge_io::{Free, Pace};
+use held_pace::{Meeting, Piece};
 use margin_policy::Reply;
 use outage_board::{Board, BoardStart, BoardState};
 use std::alloc::Global;
 use std::process::Abort;
 use std::sync::Wait;
-use std::sync::atomic::{AtomicU64, Ordering};
 use std::test::Fail;
 use std::thread::Threads;
 use unit_sets::CrewNo;
@@ -60,50 +60,14 @@ fn the_earlier_of_two_crews_is_granted(rt: HostRuntime) -> Result<(), Fail> {
     Ok(())
 }
 
-// Holds the first request of each of two crews until that of the other was seen.
-#[derive(Drop)]
-struct Meeting {
-    seen: [AtomicU64; 2],
-    looks: AtomicU64,
-}
-
-const MOST_LOOKS: u64 = 50_000_000;
-
-impl Pace for Meeting {
-    fn before(&self, group: u32, place: u32) {
-        if place > 0 || group > 1 {
-            return;
-        }
-        let [first, second] = &self.seen;
-        let (own, other) = if group == 0 {
-            (first, second)
-        } else {
-            (second, first)
-        };
-        own.store(1, Ordering::SeqCst);
-        let mut looks = MOST_LOOKS;
-        for look in 0..MOST_LOOKS {
-            if other.load(Ordering::SeqCst) != 0 {
-                looks = look;
-                break;
-            }
-        }
-        self.looks.fetch_max(looks, Ordering::SeqCst);
-    }
-
-    fn after(&self, _group: u32, _place: u32) {}
-}
-
 #[test]
 fn two_crews_are_served_at_once(rt: HostRuntime) -> Result<(), Fail> {
     let alloc = rt.alloc();
     let text = b"crew c\ntake A\ncrew d\ntake B\n".as_slice();
-    let meeting = Meeting {
-        seen: [AtomicU64::new(0), AtomicU64::new(0)],
-        looks: AtomicU64::new(0),
-    };
+    // The first request of each of the two crews.
+    let meeting = Meeting::of(Piece { group: 0, place: 0 }, Piece { group: 1, place: 0 });
     check_two(&rt, &served(&rt, alloc, text, &meeting)?);
-    assert!(&rt; meeting.looks.load(Ordering::SeqCst) < MOST_LOOKS);
+    assert!(&rt; meeting.was_held());
     Ok(())
 }
 

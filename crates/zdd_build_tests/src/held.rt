@@ -1,52 +1,14 @@
 //! Two gates of one rank, each held until the other was begun.
 use crate::trees::cut_count;
-use edge_io::Pace;
+use held_pace::{Meeting, Piece};
 use std::process::Abort;
-use std::sync::atomic::{AtomicU64, Ordering};
 use std::test::Fail;
-
-// Holds each of the first two nodes of rank 1 until the other was begun.
-#[derive(Drop)]
-struct Meeting {
-    begun: [AtomicU64; 2],
-    looks: AtomicU64,
-}
-
-const MOST_LOOKS: u64 = 50_000_000;
-
-impl Pace for Meeting {
-    fn before(&self, group: u32, place: u32) {
-        if group != 1 || place > 1 {
-            return;
-        }
-        let [first, second] = &self.begun;
-        let (own, other) = if place == 0 {
-            (first, second)
-        } else {
-            (second, first)
-        };
-        own.store(1, Ordering::SeqCst);
-        let mut looks = MOST_LOOKS;
-        for look in 0..MOST_LOOKS {
-            if other.load(Ordering::SeqCst) != 0 {
-                looks = look;
-                break;
-            }
-        }
-        self.looks.fetch_max(looks, Ordering::SeqCst);
-    }
-
-    fn after(&self, _group: u32, _place: u32) {}
-}
 
 #[test]
 fn two_gates_of_a_rank_are_made_at_once(rt: HostRuntime) -> Result<(), Fail> {
-    let meeting = Meeting {
-        begun: [AtomicU64::new(0), AtomicU64::new(0)],
-        looks: AtomicU64::new(0),
-    };
+    let meeting = Meeting::of(Piece { group: 1, place: 0 }, Piece { group: 1, place: 1 });
     let text = b"toplevel T; T or G H; G and A B; H and C D; A; B; C; D;".as_slice();
     assert_eq!(&rt; cut_count(&rt, rt.alloc(), text, &meeting)?, 2);
-    assert!(&rt; meeting.looks.load(Ordering::SeqCst) < MOST_LOOKS);
+    assert!(&rt; meeting.was_held());
     Ok(())
 }

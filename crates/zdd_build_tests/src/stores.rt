@@ -1,38 +1,17 @@
 //! Stores that are full, or nearly so.
-ghost use Rattle.std.specs.Prelude.{◌≡◌, OnOk};
+ghost use Rattle.std.specs.Prelude.{◌≤◌};
 
+use crate::trees::cuts_built;
 use edge_io::Free;
 use std::alloc::Global;
 use std::process::Abort;
 use std::test::Fail;
 use std::thread::Threads;
-use unit_sets::UnitNo;
+use worked_stores::store_with;
 use worked_trees::tree_of;
 use zdd_build::{BuildEnd, build};
-use zdd_shared_table::{Full, NodeStore, StoreSeat, StoreStart};
+use zdd_shared_table::{NodeStore, StoreStart};
 use zdd_words::NodeRef;
-
-// The family of one set of one unit.
-fn fill_one(store: &NodeStore, seat: &mut StoreSeat, level: UnitNo) -> Result<NodeRef, Full>
-    requires { seat.old.store ≡ store.now }
-    ensures store { seat.new.store ≡ seat.old.store }
-    ensures share { seat.new.share ≡ seat.old.share }
-{
-    store.node(seat, level, NodeRef::EMPTY, NodeRef::UNIT)
-}
-
-// Fills so many slots of a store with such families.
-fn fill(store: &NodeStore, seat: &mut StoreSeat, slots: u16) -> Result<(), Fail>
-    requires { seat.old.store ≡ store.now }
-    ensures store { OnOk result (seat.new.store ≡ seat.old.store) }
-    ensures share { OnOk result (seat.new.share ≡ seat.old.share) }
-{
-    for number in 0..slots.min(1_024) {
-        let level = UnitNo::new(1_001 + number).ok_or("no unit")?;
-        fill_one(store, seat, level)?;
-    }
-    Ok(())
-}
 
 // How the cuts A B end over a store of 2^10 slots of which so many are left.
 fn end_with<R: Threads + Sync>(
@@ -40,17 +19,57 @@ fn end_with<R: Threads + Sync>(
     alloc: Global,
     left: u16,
 ) -> Result<Result<NodeRef, BuildEnd>, Fail> {
-    let StoreStart { store, mut seat } = NodeStore::new(alloc, 10)?;
-    fill(&store, &mut seat, 1_024u16.saturating_sub(left))?;
+    let StoreStart { store, mut seat } = store_with(alloc, left)?;
     let tree = tree_of(alloc, b"toplevel T; T and A B; A; B;")?;
     Ok(build(rt, alloc, &tree, &store, &mut seat, 2, &Free))
 }
 
 #[test]
 fn three_nodes_are_enough_for_two_units(rt: HostRuntime) -> Result<(), Fail> {
-    for left in 0..3u16 {
-        assert_eq!(&rt; end_with(&rt, rt.alloc(), left)?, Err(BuildEnd::Full));
+    for left in 0..65u16 {
+        let end = end_with(&rt, rt.alloc(), left)?;
+        if left < 3 {
+            assert_eq!(&rt; end, Err(BuildEnd::Full));
+        } else {
+            assert!(&rt; end.is_ok());
+        }
     }
-    assert!(&rt; end_with(&rt, rt.alloc(), 3)?.is_ok());
+    Ok(())
+}
+
+// An `or` of so many gates, each an `and` of two units of its own.
+fn or_of_pairs(alloc: Global, gates: usize) -> Result<String, Fail> {
+    let mut deck = format!(in alloc; "toplevel T; T or")?;
+    for i in 0..gates {
+        deck.push_str(format!(in alloc; " g{i}")?.as_str())?;
+    }
+    deck.push_str(";\n")?;
+    for i in 0..gates {
+        deck.push_str(format!(in alloc; "g{i} and a{i} b{i}; a{i}; b{i};\n")?.as_str())?;
+    }
+    Ok(deck)
+}
+
+// How the six hundred pairs end over a store of so many bits.
+fn end_of_pairs<R: Threads + Sync>(
+    rt: &R,
+    alloc: Global,
+    bits: u32,
+) -> Result<Result<NodeRef, BuildEnd>, Fail>
+    requires few { 10 ≤ bits }
+    requires many { bits ≤ 25 }
+{
+    let tree = tree_of(alloc, or_of_pairs(alloc, 600)?.as_bytes())?;
+    let StoreStart { store, mut seat } = NodeStore::new(alloc, bits)?;
+    Ok(build(rt, alloc, &tree, &store, &mut seat, 4, &Free))
+}
+
+#[test]
+fn six_hundred_pairs_fill_a_small_store(rt: HostRuntime) -> Result<(), Fail> {
+    let alloc = rt.alloc();
+    assert!(&rt; end_of_pairs(&rt, alloc, 20)?.is_ok());
+    assert_eq!(&rt; end_of_pairs(&rt, alloc, 10)?, Err(BuildEnd::Full));
+    let tree = tree_of(alloc, or_of_pairs(alloc, 600)?.as_bytes())?;
+    assert_eq!(&rt; cuts_built(&rt, alloc, &tree, 4, 65_536)?.len(), 600);
     Ok(())
 }

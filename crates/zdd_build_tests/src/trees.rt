@@ -16,7 +16,7 @@ use zdd_build::{build, build_within};
 use zdd_shared_table::{NodeStore, StoreStart};
 
 // The minimal cuts from the store, made by so many workers with so much memory of their own.
-fn cuts_built<R: Threads + Sync>(
+pub(crate) fn cuts_built<R: Threads + Sync>(
     rt: &R,
     alloc: Global,
     tree: &Tree,
@@ -54,8 +54,12 @@ pub(crate) fn agrees<R: Threads + Sync>(rt: &R, alloc: Global, text: &[u8]) -> R
     let wanted = mcs_by_lists(alloc, &tree)?;
     let alone = cuts_built(rt, alloc, &tree, 1, 4_096)?;
     let many = cuts_built(rt, alloc, &tree, 4, 4_096)?;
+    let most = cuts_built(rt, alloc, &tree, 16, 4_096)?;
     let bare = cuts_built(rt, alloc, &tree, 2, 0)?;
-    Ok(same_cuts(&wanted, &alone) && same_cuts(&wanted, &many) && same_cuts(&wanted, &bare))
+    let with_memory = same_cuts(&wanted, &alone)
+        && same_cuts(&wanted, &many)
+        && same_cuts(&wanted, &most);
+    Ok(with_memory && same_cuts(&wanted, &bare))
 }
 
 // How many minimal cuts two workers find, at this pace.
@@ -75,7 +79,7 @@ pub(crate) fn cut_count<R: Threads + Sync, P: Pace>(
 
 #[test]
 fn two_of_three_and_its_kin(rt: HostRuntime) -> Result<(), Fail> {
-    let texts: [&[u8]; 7] = [
+    let texts: [&[u8]; 9] = [
         b"toplevel T; T 2of3 A B C; A; B; C;",
         b"toplevel T; T and A A; A;",
         b"toplevel T; T or G H; G and A B; H and A B C; A; B; C;",
@@ -83,6 +87,9 @@ fn two_of_three_and_its_kin(rt: HostRuntime) -> Result<(), Fail> {
         b"toplevel T; T pand A B; F fdep A B; A; B;",
         b"toplevel A; A;",
         b"toplevel T; T or A; A;",
+        b"toplevel T; T or P Q; P por A B; Q por B A C; A; B; C;",
+        b"toplevel T; T or CPU MOTOR PUMPS; CPU wsp P B; F fdep Z P B; Z or CS SS; MOTOR and MA MB; PUMPS and PA PB PS;
+          CS; SS; P; B; MA; MB; PA; PB; PS;",
     ];
     for text in texts {
         assert!(rt; agrees(&rt, rt.alloc(), text)?);
