@@ -1,5 +1,6 @@
 -- Unions and products of many families, call by call.
-use Rattle.std.proofs.Common.{Result, MatchResult, ◌≡◌, ℕ, ◌+◌, ◌-◌, ◌<◌, List, All, take, drop, get_or, length, sym, ◌∙◌, ap, subst, arith, length-drop}
+use Rattle.std.proofs.Common.{Result, MatchResult, ◌≡◌, ℕ, ◌+◌, ◌-◌, ◌<◌, List, All, take, drop, get_or, length, sym}
+use Rattle.std.proofs.Common.{◌∙◌, ap, subst, arith, length-drop}
 use Rattle.std.proofs.Math.Seq.{take-length}
 use Rattle.std.proofs.lemmas.List.Elements.{All-drop}
 use Rattle.minimal_families.specs.Least.{IsLeastOfAll, IsLeastProductOfAll, IsLeastUnion, IsLeastProduct}
@@ -11,7 +12,8 @@ use Rattle.many_families.proofs.Lists.{families_parts, families_stay, member_fam
 
 -- the rest of a list, as the slice from a place on has it
 pub rest_from : (list : List ℕ) (middle : ℕ) → take (length list - middle) (drop middle list) ≡ drop middle list
-rest_from list middle = ap (λ n. take n (drop middle list)) (sym (length-drop middle list)) ∙ take-length (drop middle list)
+rest_from list middle =
+    ap (λ n. take n (drop middle list)) (sym (length-drop middle list)) ∙ take-length (drop middle list)
 
 module _ (s0 : Held) (list : List ℕ) (middle : ℕ) (sound : IsSound s0) (has : All (Has s0) list) where
   module _ (s1 : Held) (first : ℕ) (gave1 : Gave (IsLeastOfAll (families s0 (take middle list))) s0 s1 first) where
@@ -20,21 +22,30 @@ module _ (s0 : Held) (list : List ℕ) (middle : ℕ) (sound : IsSound s0) (has 
       went_halves = Went-then s0 s1 s2 gave1.went gave2.went
 
       of_first : IsLeastOfAll (families s0 (take middle list)) (family_in s2 first)
-      of_first = subst (IsLeastOfAll (families s0 (take middle list))) (sym (still s1 s2 gave1.went.sound gave2.went first gave1.has)) gave1.is
+      of_first =
+          subst (IsLeastOfAll (families s0 (take middle list)))
+          (sym (still s1 s2 gave1.went.sound gave2.went first gave1.has)) gave1.is
 
       of_second : IsLeastOfAll (families s0 (drop middle list)) (family_in s2 second)
-      of_second = subst (λ fs. IsLeastOfAll fs (family_in s2 second)) (families_stay s0 s1 (drop middle list) sound gave1.went (All-drop (Has s0) middle list has)) gave2.is
+      of_second =
+          subst (λ fs. IsLeastOfAll fs (family_in s2 second))
+          (families_stay s0 s1 (drop middle list) sound gave1.went (All-drop (Has s0) middle list has)) gave2.is
 
-      pub halves_united : {E : Type 0} (s3 : Held) (result : Result ℕ E) → MatchResult result (Gave (IsLeastUnion (family_in s2 first) (family_in s2 second)) s2 s3) (λ _. RanOut s2 s3)
+      pub halves_united : {E : Type 0} (s3 : Held) (result : Result ℕ E)
+          → MatchResult result (Gave (IsLeastUnion (family_in s2 first) (family_in s2 second)) s2 s3)
+          (λ _. RanOut s2 s3)
           → MatchResult result (Gave (IsLeastOfAll (families s0 list)) s0 s3) (λ _. RanOut s0 s3)
       halves_united s3 result m =
-          ended s0 s2 s3 went_halves (IsLeastUnion (family_in s2 first) (family_in s2 second)) (IsLeastOfAll (families s0 list)) result
+          ended s0 s2 s3 went_halves (IsLeastUnion (family_in s2 first) (family_in s2 second))
+          (IsLeastOfAll (families s0 list)) result
           (λ f is. subst (λ fs. IsLeastOfAll fs f) (sym (families_parts s0 middle list))
-          (least_of_both (families s0 (take middle list)) (families s0 (drop middle list)) (family_in s2 first) (family_in s2 second) f of_first of_second is)) m
+          (least_of_both (families s0 (take middle list)) (families s0 (drop middle list)) (family_in s2 first)
+          (family_in s2 second) f of_first of_second is)) m
 
 -- ---- a product, one family more
 
-module _ (s0 s1 : Held) (list : List ℕ) (place made r : ℕ) (sound : IsSound s0) (went : Went s0 s1) (has : All (Has s0) list) (has_made : Has s1 made) (inside : place < length list) (member : r ≡ get_or list place 0)
+module _ (s0 s1 : Held) (list : List ℕ) (place made r : ℕ) (sound : IsSound s0) (went : Went s0 s1)
+    (has : All (Has s0) list) (has_made : Has s1 made) (inside : place < length list) (member : r ≡ get_or list place 0)
     (of_fs : IsLeastProductOfAll (take place (families s0 list)) (family_in s1 made)) where
   has_member : Has s0 r
   has_member = subst (Has s0) (sym member) (has place 0 inside)
@@ -42,10 +53,12 @@ module _ (s0 s1 : Held) (list : List ℕ) (place made r : ℕ) (sound : IsSound 
   pub still_member : Has s1 r
   still_member = still_has s0 s1 sound went r has_member
 
-  pub multiplied_more : (s2 : Held) (more : ℕ) → Gave (IsLeastProduct (family_in s1 made) (family_in s1 r)) s1 s2 more → Went s0 s2 × IsLeastProductOfAll (take (place + 1) (families s0 list)) (family_in s2 more)
+  pub multiplied_more : (s2 : Held) (more : ℕ) → Gave (IsLeastProduct (family_in s1 made) (family_in s1 r)) s1 s2 more
+      → Went s0 s2 × IsLeastProductOfAll (take (place + 1) (families s0 list)) (family_in s2 more)
   multiplied_more s2 more gave = (
     Went-then s0 s1 s2 went gave.went,
     product_goes_on (families s0 list) place (family_in s1 made) (family_in s0 r) (family_in s2 more)
         (let e = many_families s0 list in omega arith) (member_family s0 list place r inside member) of_fs
-        (subst (λ g. IsLeastProduct (family_in s1 made) g (family_in s2 more)) (still s0 s1 sound went r has_member) gave.is),
+        (subst (λ g. IsLeastProduct (family_in s1 made) g (family_in s2 more)) (still s0 s1 sound went r has_member)
+        gave.is),
   )

@@ -1,54 +1,76 @@
 -- Unions, products and votes do not depend on the order of the families.
-use Rattle.std.proofs.Common.{Result, MatchResult, IfOk, Ok, Err, ◌≡◌, ℕ, ◌+◌, Bool, true, nat_le, if◌then◌else◌, List, [], ◌∷◌, refl, sym, ◌∙◌, ap}
+use Rattle.std.proofs.Common.{Result, MatchResult, IfOk, Ok, Err, ◌≡◌, ℕ, ◌+◌, Bool, true, nat_le, if◌then◌else◌, List}
+use Rattle.std.proofs.Common.{[], ◌∷◌, refl, sym, ◌∙◌, ap}
 use Rattle.std.specs.List.{list_all, list_any, sum_by}
 use Rattle.std.specs.List.Sorted.{IsPermutation}
 use Rattle.std.proofs.lemmas.List.Sums.{AllPass-from_list_all, list_all-from_AllPass, sum_by-cons}
-use Rattle.std.proofs.lemmas.List.Sorted.{All-permutation, IsPermutation-map, IsPermutation-sym, list_any-IsPermutation, sum_by-IsPermutation}
+use Rattle.std.proofs.lemmas.List.Sorted.{All-permutation, IsPermutation-map, IsPermutation-sym, list_any-IsPermutation}
+use Rattle.std.proofs.lemmas.List.Sorted.{sum_by-IsPermutation}
 use Rattle.family_operations.specs.Hits.{hits, hit_count}
 use Rattle.family_operations.specs.Inclusion.{same_Bool}
 use Rattle.minimal_families.specs.Least.{IsLeastFor-same, IsLeastOfAll, IsLeastProductOfAll, IsLeastVotes}
 use Rattle.family_memory.specs.Memory.{Held, Gave, RanOut, family_in}
 use Rattle.many_families.specs.Lists.{families}
 
-votes_by_sum : (fs : List (List (List ℕ))) (within : ℕ → Bool) → hit_count fs within ≡ sum_by (λ f. if hits f within then 1 else 0) fs
+votes_by_sum : (fs : List (List (List ℕ))) (within : ℕ → Bool)
+    → hit_count fs within ≡ sum_by (λ f. if hits f within then 1 else 0) fs
 votes_by_sum [] within = refl
-votes_by_sum (f ∷ fs) within = ap (λ n. (if hits f within then 1 else 0) + n) (votes_by_sum fs within) ∙ sym (sum_by-cons (λ g. if hits g within then 1 else 0) f fs)
+votes_by_sum (f ∷ fs) within =
+    ap (λ n. (if hits f within then 1 else 0) + n) (votes_by_sum fs within)
+    ∙ sym (sum_by-cons (λ g. if hits g within then 1 else 0) f fs)
 
-same_votes : (fs gs : List (List (List ℕ))) (within : ℕ → Bool) → IsPermutation fs gs → hit_count gs within ≡ hit_count fs within
-same_votes fs gs within moved = votes_by_sum gs within ∙ sum_by-IsPermutation (λ f. if hits f within then 1 else 0) fs gs moved ∙ sym (votes_by_sum fs within)
+same_votes : (fs gs : List (List (List ℕ))) (within : ℕ → Bool) → IsPermutation fs gs
+    → hit_count gs within ≡ hit_count fs within
+same_votes fs gs within moved =
+    votes_by_sum gs within ∙ sum_by-IsPermutation (λ f. if hits f within then 1 else 0) fs gs moved
+    ∙ sym (votes_by_sum fs within)
 
 module _ (held after : Held) (list members : List ℕ) (votes : ℕ) (moved : IsPermutation list members) where
-  reordered : (least : List (List ℕ)) → IsLeastVotes votes (families held members) least → IsLeastVotes votes (families held list) least
+  reordered : (least : List (List ℕ)) → IsLeastVotes votes (families held members) least
+      → IsLeastVotes votes (families held list) least
   reordered least is =
-      IsLeastFor-same (λ within. nat_le votes (hit_count (families held members) within)) (λ within. nat_le votes (hit_count (families held list) within)) least is
-      (λ within. ap (nat_le votes) (same_votes (families held list) (families held members) within (IsPermutation-map (family_in held) list members moved)))
+      IsLeastFor-same (λ within. nat_le votes (hit_count (families held members) within))
+      (λ within. nat_le votes (hit_count (families held list) within)) least is
+      (λ within. ap (nat_le votes) (same_votes (families held list) (families held members) within
+      (IsPermutation-map (family_in held) list members moved)))
 
-  pub votes_reordered : {E : Type 0} (result : Result ℕ E) → MatchResult result (Gave (IsLeastVotes votes (families held members)) held after) (λ _. RanOut held after) → IfOk result (Gave (IsLeastVotes votes (families held list)) held after)
+  pub votes_reordered : {E : Type 0} (result : Result ℕ E)
+      → MatchResult result (Gave (IsLeastVotes votes (families held members)) held after) (λ _. RanOut held after)
+      → IfOk result (Gave (IsLeastVotes votes (families held list)) held after)
   votes_reordered (Ok r) gave = record { went = gave.went; has = gave.has; is = reordered (family_in after r) gave.is }
   votes_reordered (Err e) out = tt
 
 -- ---- unions and products
 
-all_to : (p : List (List ℕ) → Bool) (fs gs : List (List (List ℕ))) → IsPermutation fs gs → list_all p fs ≡ true → list_all p gs ≡ true
-all_to p fs gs moved t = list_all-from_AllPass p gs (All-permutation (λ f. p f ≡ true) fs gs moved (AllPass-from_list_all p fs t))
+all_to : (p : List (List ℕ) → Bool) (fs gs : List (List (List ℕ))) → IsPermutation fs gs → list_all p fs ≡ true
+    → list_all p gs ≡ true
+all_to p fs gs moved t =
+    list_all-from_AllPass p gs (All-permutation (λ f. p f ≡ true) fs gs moved (AllPass-from_list_all p fs t))
 
-same_all : (p : List (List ℕ) → Bool) (fs gs : List (List (List ℕ))) → IsPermutation fs gs → list_all p gs ≡ list_all p fs
-same_all p fs gs moved = same_Bool (list_all p gs) (list_all p fs) (all_to p gs fs (IsPermutation-sym fs gs moved)) (all_to p fs gs moved)
+same_all : (p : List (List ℕ) → Bool) (fs gs : List (List (List ℕ))) → IsPermutation fs gs
+    → list_all p gs ≡ list_all p fs
+same_all p fs gs moved =
+    same_Bool (list_all p gs) (list_all p fs) (all_to p gs fs (IsPermutation-sym fs gs moved)) (all_to p fs gs moved)
 
 module _ (held after : Held) (list members : List ℕ) (moved : IsPermutation list members) where
   moved_families : IsPermutation (families held list) (families held members)
   moved_families = IsPermutation-map (family_in held) list members moved
 
-  pub union_reordered : {E : Type 0} (result : Result ℕ E) → IfOk result (Gave (IsLeastOfAll (families held members)) held after) → IfOk result (Gave (IsLeastOfAll (families held list)) held after)
+  pub union_reordered : {E : Type 0} (result : Result ℕ E)
+      → IfOk result (Gave (IsLeastOfAll (families held members)) held after)
+      → IfOk result (Gave (IsLeastOfAll (families held list)) held after)
   union_reordered (Ok r) gave = record {
     went = gave.went;
     has = gave.has;
     is = IsLeastFor-same (λ within. list_any (λ f. hits f within) (families held members)) _ (family_in after r) gave.is
-        (λ within. sym (list_any-IsPermutation (λ f. hits f within) (families held list) (families held members) moved_families));
+        (λ within. sym (list_any-IsPermutation (λ f. hits f within) (families held list) (families held members)
+        moved_families));
   }
   union_reordered (Err e) none = tt
 
-  pub product_reordered : {E : Type 0} (result : Result ℕ E) → IfOk result (Gave (IsLeastProductOfAll (families held members)) held after) → IfOk result (Gave (IsLeastProductOfAll (families held list)) held after)
+  pub product_reordered : {E : Type 0} (result : Result ℕ E)
+      → IfOk result (Gave (IsLeastProductOfAll (families held members)) held after)
+      → IfOk result (Gave (IsLeastProductOfAll (families held list)) held after)
   product_reordered (Ok r) gave = record {
     went = gave.went;
     has = gave.has;

@@ -1,7 +1,9 @@
 -- Votes over single units, each above the one before: a minimal set of so many votes has exactly that many, so that
 -- none includes one with more.
-use Rattle.std.proofs.Common.{◌≡◌, ℕ, suc, ◌+◌, ◌==◌, ◌<◌, ◌≤◌, Bool, true, false, not, ◌&&◌, ◌||◌, nat_le, if◌then◌else◌, List, [], ◌∷◌, Contains, refl, sym, ◌∙◌, ap, inl, inr, arith, eq-eqb}
-use Rattle.std.proofs.lemmas.Bool.{cases_eq, and_parts, and_from, false_from_ne_true, false≢true, leb-true, le-leb, lt-ltb, ne_eqb, or_left, or_right, or_cases}
+use Rattle.std.proofs.Common.{◌≡◌, ℕ, suc, ◌+◌, ◌==◌, ◌<◌, ◌≤◌, Bool, true, false, not, ◌&&◌, ◌||◌, nat_le}
+use Rattle.std.proofs.Common.{if◌then◌else◌, List, [], ◌∷◌, Contains, refl, sym, ◌∙◌, ap, inl, inr, arith, eq-eqb}
+use Rattle.std.proofs.lemmas.Bool.{cases_eq, and_parts, and_from, false_from_ne_true, false≢true, leb-true, le-leb}
+use Rattle.std.proofs.lemmas.Bool.{lt-ltb, ne_eqb, or_left, or_right, or_cases}
 use Rattle.unit_sets.specs.UnitList.{among, is_within, is_within-from_among}
 use Rattle.zdd_families.specs.Family.{IsAbove, branch}
 use Rattle.family_operations.specs.Hits.{hits, hit_count, HasHit, HasHit-from_test, passes_at}
@@ -25,11 +27,13 @@ unit_hit unit within = one_unit (within unit)
 abbrev votes_of : Bool → ℕ
 votes_of hit = if hit then 1 else 0
 
-family_hit : (f : List (List ℕ)) (unit : ℕ) (within : ℕ → Bool) → f ≡ (unit ∷ []) ∷ [] → votes_of (hits f within) ≡ votes_of (within unit)
+family_hit : (f : List (List ℕ)) (unit : ℕ) (within : ℕ → Bool) → f ≡ (unit ∷ []) ∷ []
+    → votes_of (hits f within) ≡ votes_of (within unit)
 family_hit f unit within is = ap (λ g. votes_of (hits g within)) is ∙ ap votes_of (unit_hit unit within)
 
 -- units from a floor on ask of no other unit
-pub same_from : (floor : ℕ) (fs : List (List (List ℕ))) (p q : ℕ → Bool) → AreUnitsFrom floor fs → ((unit : ℕ) → floor ≤ unit → p unit ≡ q unit) → hit_count fs p ≡ hit_count fs q
+pub same_from : (floor : ℕ) (fs : List (List (List ℕ))) (p q : ℕ → Bool) → AreUnitsFrom floor fs
+    → ((unit : ℕ) → floor ≤ unit → p unit ≡ q unit) → hit_count fs p ≡ hit_count fs q
 same_from floor [] p q are same = refl
 same_from floor (f ∷ fs) p q (unit, (high, is, others)) same =
     ap (λ n. n + hit_count fs p) (family_hit f unit p is ∙ ap votes_of (same unit high) ∙ sym (family_hit f unit q is))
@@ -57,17 +61,23 @@ at_most_one true = omega arith
 at_most_one false = omega arith
 
 -- without one unit at most one vote fewer is left
-pub one_fewer : (floor u : ℕ) (fs : List (List (List ℕ))) (within : ℕ → Bool) → AreUnitsFrom floor fs → hit_count fs within ≤ suc (hit_count fs (except u within))
+pub one_fewer : (floor u : ℕ) (fs : List (List (List ℕ))) (within : ℕ → Bool) → AreUnitsFrom floor fs
+    → hit_count fs within ≤ suc (hit_count fs (except u within))
 one_fewer floor u [] within are = omega arith
 one_fewer floor u (f ∷ fs) within (unit, (high, is, others)) =
     elim (cases_eq u unit) [
       | inl here ↦
-          let same : hit_count fs within ≡ hit_count fs (except u within) = same_from (suc unit) fs within (except u within) others (λ v above. except_other u v within (λ e. omega arith)) in
+          let same : hit_count fs within ≡ hit_count fs (except u within) =
+          same_from (suc unit) fs within (except u within) others
+          (λ v above. except_other u v within (λ e. omega arith)) in
           let few : votes_of (hits f within) ≤ 1 = at_most_one (hits f within) in
           omega (arith, same, few)
       | inr other ↦
-          let same : votes_of (hits f within) ≡ votes_of (hits f (except u within)) = family_hit f unit within is ∙ ap votes_of (except_other u unit within other) ∙ sym (family_hit f unit (except u within) is) in
-          let less : hit_count fs within ≤ suc (hit_count fs (except u within)) = one_fewer (suc unit) u fs within others in
+          let same : votes_of (hits f within) ≡ votes_of (hits f (except u within)) =
+          family_hit f unit within is ∙ ap votes_of (except_other u unit within other)
+          ∙ sym (family_hit f unit (except u within) is) in
+          let less : hit_count fs within ≤ suc (hit_count fs (except u within)) =
+          one_fewer (suc unit) u fs within others in
           omega (arith, same, less)
     ]
 
@@ -84,7 +94,8 @@ module _ (floor count : ℕ) (fs : List (List (List ℕ))) (are : AreUnitsFrom f
   votes_above : (x wanted : ℕ) (least : List (List ℕ)) → x < floor → IsLeastVotes wanted fs least → IsAbove x least
   votes_above x wanted least low is =
       least-above (λ within. nat_le wanted (hit_count fs within)) x least is
-      (λ within. ap (nat_le wanted) (same_from floor fs (above_only x within) within are (λ unit high. ap (λ b. within unit && b) (lt-ltb x unit (omega arith)) ∙ sym (and_yes (within unit)))))
+      (λ within. ap (nat_le wanted) (same_from floor fs (above_only x within) within are
+      (λ unit high. ap (λ b. within unit && b) (lt-ltb x unit (omega arith)) ∙ sym (and_yes (within unit)))))
 
   module _ (fewer : List (List ℕ)) (fewer_is : IsLeastVotes count fs fewer) where
     -- a set with more votes would do without any one of its units
@@ -92,13 +103,19 @@ module _ (floor count : ℕ) (fs : List (List (List ℕ))) (are : AreUnitsFrom f
     no_more [] has more = let none = none_hit floor fs are in omega (arith, none, more)
     no_more (u ∷ rest) has more =
         let set : List ℕ = u ∷ rest in
-        let less : hit_count fs (among set) ≤ suc (hit_count fs (except u (among set))) = one_fewer floor u fs (among set) are in
-        let hit : hits fewer (except u (among set)) ≡ true = fewer_is.hit (except u (among set)) ∙ le-leb count (hit_count fs (except u (among set))) (omega (arith, less, more)) in
+        let less : hit_count fs (among set) ≤ suc (hit_count fs (except u (among set))) =
+        one_fewer floor u fs (among set) are in
+        let hit : hits fewer (except u (among set)) ≡ true =
+        fewer_is.hit (except u (among set)) ∙ le-leb count (hit_count fs (except u (among set)))
+        (omega (arith, less, more)) in
         let found : HasHit fewer (except u (among set)) = HasHit-from_test fewer (except u (among set)) hit in
-        let passes : (v : ℕ) → among found.set v ≡ true → except u (among set) v ≡ true = λ v h. passes_at (except u (among set)) found.set v found.passes h in
-        let within : is_within set found.set ≡ true = is_within-from_among set found.set (λ v h. (and_parts (among set v) (not (u == v)) (passes v h)).0) in
+        let passes : (v : ℕ) → among found.set v ≡ true → except u (among set) v ≡ true =
+        λ v h. passes_at (except u (among set)) found.set v found.passes h in
+        let within : is_within set found.set ≡ true =
+        is_within-from_among set found.set (λ v h. (and_parts (among set v) (not (u == v)) (passes v h)).0) in
         let same : found.set ≡ set = ((fewer_is.antichain.sets set).0 has).1 found.set found.has within in
-        let there : among found.set u ≡ true = ap (λ (q : List ℕ). among q u) same ∙ or_left (u == u) (among rest u) (eq-eqb u u refl) in
+        let there : among found.set u ≡ true =
+        ap (λ (q : List ℕ). among q u) same ∙ or_left (u == u) (among rest u) (eq-eqb u u refl) in
         let lacks : not (u == u) ≡ true = (and_parts (among set u) (not (u == u)) (passes u there)).1 in
         false≢true (ap not (sym (eq-eqb u u refl)) ∙ lacks)
 
@@ -108,7 +125,8 @@ module _ (floor count : ℕ) (fs : List (List (List ℕ))) (are : AreUnitsFrom f
         let more = leb-true (suc count) (hit_count fs (among set)) (sym (same_is.hit (among set)) ∙ t) in
         no_more set has (omega (arith, more)))
 
-    pub unit_is_below : (x : ℕ) (voter same : List (List ℕ)) → x < floor → voter ≡ (x ∷ []) ∷ [] → IsLeastVotes (suc count) fs same → IsBelow x voter same fewer
+    pub unit_is_below : (x : ℕ) (voter same : List (List ℕ)) → x < floor → voter ≡ (x ∷ []) ∷ []
+        → IsLeastVotes (suc count) fs same → IsBelow x voter same fewer
     unit_is_below x voter same low is same_is = record {
       is = is;
       same_above = votes_above x (suc count) same low same_is;
@@ -124,17 +142,22 @@ and_turned true false = refl
 and_turned false true = refl
 and_turned false false = refl
 
-pub joined_by_node : (x : ℕ) (voter same fewer : List (List ℕ)) → IsAntichain same → IsAntichain fewer → IsBelow x voter same fewer → IsJoined voter same fewer (branch x same fewer)
+pub joined_by_node : (x : ℕ) (voter same fewer : List (List ℕ)) → IsAntichain same → IsAntichain fewer
+    → IsBelow x voter same fewer → IsJoined voter same fewer (branch x same fewer)
 joined_by_node x voter same fewer is is' below =
     IsLeastFor-same (λ within. hits same within || (within x && hits fewer within)) _ (branch x same fewer)
-    (least-node x same fewer fewer (hits same) (hits fewer) below.same_above below.fewer_above (IsLeastFor-itself same is) (IsLeastFor-itself fewer is')
+    (least-node x same fewer fewer (hits same) (hits fewer) below.same_above below.fewer_above
+    (IsLeastFor-itself same is) (IsLeastFor-itself fewer is')
     (without-all same fewer is'.is_family below.includes_none))
-    (λ within. ap (λ b. hits same within || b) (and_turned (within x) (hits fewer within) ∙ ap (λ b. hits fewer within && b) (sym (ap (λ f. hits f within) below.is ∙ unit_hit x within))))
+    (λ within. ap (λ b. hits same within || b) (and_turned (within x) (hits fewer within)
+    ∙ ap (λ b. hits fewer within && b) (sym (ap (λ f. hits f within) below.is ∙ unit_hit x within))))
 
 -- ---- one family more in front
 
 vote_to : (p c : ℕ) → nat_le (suc p) (1 + c) ≡ true → (nat_le (suc p) c || (nat_le p c && true)) ≡ true
-vote_to p c t = let h = leb-true (suc p) (1 + c) t in or_right (nat_le (suc p) c) (nat_le p c && true) (and_from (nat_le p c) true (le-leb p c (omega arith)) refl)
+vote_to p c t =
+    let h = leb-true (suc p) (1 + c) t in or_right (nat_le (suc p) c) (nat_le p c && true)
+    (and_from (nat_le p c) true (le-leb p c (omega arith)) refl)
 
 vote_from : (p c : ℕ) → (nat_le (suc p) c || (nat_le p c && true)) ≡ true → nat_le (suc p) (1 + c) ≡ true
 vote_from p c t =
@@ -149,13 +172,17 @@ or_no false true = refl
 or_no false false = refl
 
 one_vote : (p c : ℕ) (hit : Bool) → nat_le (suc p) (votes_of hit + c) ≡ (nat_le (suc p) c || (nat_le p c && hit))
-one_vote p c true = same_Bool (nat_le (suc p) (1 + c)) (nat_le (suc p) c || (nat_le p c && true)) (vote_to p c) (vote_from p c)
+one_vote p c true =
+    same_Bool (nat_le (suc p) (1 + c)) (nat_le (suc p) c || (nat_le p c && true)) (vote_to p c) (vote_from p c)
 one_vote p c false = ap (nat_le (suc p)) (let e : 0 + c ≡ c = omega arith in e) ∙ or_no (nat_le (suc p) c) (nat_le p c)
 
 both_of : (a a' b b' c : Bool) → a ≡ a' → b ≡ b' → (a || (b && c)) ≡ (a' || (b' && c))
 both_of a a' b b' c e e' = ap (λ q. q || (b && c)) e ∙ ap (λ q. a' || (q && c)) e'
 
-pub votes_joined : (count : ℕ) (f : List (List ℕ)) (fs : List (List (List ℕ))) (same fewer h : List (List ℕ)) → IsLeastVotes (suc count) fs same → IsLeastVotes count fs fewer → IsJoined f same fewer h → IsLeastVotes (suc count) (f ∷ fs) h
+pub votes_joined : (count : ℕ) (f : List (List ℕ)) (fs : List (List (List ℕ))) (same fewer h : List (List ℕ))
+    → IsLeastVotes (suc count) fs same → IsLeastVotes count fs fewer → IsJoined f same fewer h
+    → IsLeastVotes (suc count) (f ∷ fs) h
 votes_joined count f fs same fewer h same_is fewer_is is =
     IsLeastFor-same (λ within. hits same within || (hits fewer within && hits f within)) _ h is
-    (λ within. both_of _ _ _ _ (hits f within) (same_is.hit within) (fewer_is.hit within) ∙ sym (one_vote count (hit_count fs within) (hits f within)))
+    (λ within. both_of _ _ _ _ (hits f within) (same_is.hit within) (fewer_is.hit within)
+    ∙ sym (one_vote count (hit_count fs within) (hits f within)))

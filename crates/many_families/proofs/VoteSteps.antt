@@ -1,7 +1,10 @@
 -- The votes at one place, when one member more votes.
-use Rattle.std.proofs.Common.{◌≡◌, ℕ, suc, ◌+◌, ◌-◌, ◌==◌, ◌<◌, ◌≤◌, Bool, true, false, if◌then◌else◌, List, [], ◌∷◌, Option, Some, None, IfSome, MatchOption, All, drop, get_or, set, length, sym, ◌∙◌, ap, subst, inl, inr, arith, length-drop, eq-eqb, refl}
+use Rattle.std.proofs.Common.{◌≡◌, ℕ, suc, ◌+◌, ◌-◌, ◌==◌, ◌<◌, ◌≤◌, Bool, true, false, if◌then◌else◌, List, [], ◌∷◌}
+use Rattle.std.proofs.Common.{Option, Some, None, IfSome, MatchOption, All, drop, get_or, set, length, sym, ◌∙◌, ap}
+use Rattle.std.proofs.Common.{subst, inl, inr, arith, length-drop, eq-eqb, refl}
 use Rattle.std.proofs.lemmas.Bool.{cases_eq, cases_lt, cond-true, cond-false, lt-leb, ne_eqb}
-use Rattle.std.proofs.lemmas.List.{drop_all, drop_more, get_or-set_same, get_or-set_other, get_or_past, length-set, get_or-map}
+use Rattle.std.proofs.lemmas.List.{drop_all, drop_more, get_or-set_same, get_or-set_other, get_or_past, length-set}
+use Rattle.std.proofs.lemmas.List.{get_or-map}
 use Rattle.std.proofs.lemmas.List.Elements.{All-set}
 use Rattle.family_operations.specs.Hits.{hits, hit_count}
 use Rattle.family_operations.specs.Minimal.{minimal-none}
@@ -23,9 +26,11 @@ one_more false n m h = omega arith
 
 hits_few : (fs : List (List (List ℕ))) (within : ℕ → Bool) → hit_count fs within ≤ length fs
 hits_few [] within = omega arith
-hits_few (f ∷ fs) within = let h = one_more (hits f within) (hit_count fs within) (length fs) (hits_few fs within) in omega arith
+hits_few (f ∷ fs) within =
+    let h = one_more (hits f within) (hit_count fs within) (length fs) (hits_few fs within) in omega arith
 
-too_many : (held : Held) (fs : List (List (List ℕ))) (votes : ℕ) → length fs < votes → IsLeastVotes votes fs (family_in held 0)
+too_many : (held : Held) (fs : List (List (List ℕ))) (votes : ℕ) → length fs < votes
+    → IsLeastVotes votes fs (family_in held 0)
 too_many held fs votes many =
     subst (IsLeastVotes votes fs) (sym (family-empty (map_of held)))
     record {
@@ -33,13 +38,15 @@ too_many held fs votes many =
       hit = λ within. sym (lt-leb votes (hit_count fs within) (let h = hits_few fs within in omega arith));
     }
 
-pub given_no_votes : (held : Held) (list : List ℕ) (votes : ℕ) → IsSound held → votes ≡ 0 → Gave (IsLeastVotes votes (families held list)) held held 1
+pub given_no_votes : (held : Held) (list : List ℕ) (votes : ℕ) → IsSound held → votes ≡ 0
+    → Gave (IsLeastVotes votes (families held list)) held held 1
 given_no_votes held list votes sound none =
     Gave-there (IsLeastVotes votes (families held list)) held 1 sound (let few = sound.terminals in omega arith)
     (subst (λ n. IsLeastVotes n (families held list) (family_in held 1)) (sym none)
     (subst (IsLeastVotes 0 (families held list)) (sym (family-unit (map_of held))) (no_votes (families held list))))
 
-pub given_too_many : (held : Held) (list : List ℕ) (votes : ℕ) → IsSound held → length list < votes → Gave (IsLeastVotes votes (families held list)) held held 0
+pub given_too_many : (held : Held) (list : List ℕ) (votes : ℕ) → IsSound held → length list < votes
+    → Gave (IsLeastVotes votes (families held list)) held held 0
 given_too_many held list votes sound many =
     Gave-there (IsLeastVotes votes (families held list)) held 0 sound (let few = sound.terminals in omega arith)
     (too_many held (families held list) votes (let e = many_families held list in omega arith))
@@ -53,39 +60,52 @@ module _ (before after : Held) (fs : List (List (List ℕ))) (sound : IsSound be
     is = subst (IsLeastVotes count (drop from fs)) (sym (still before after sound went r vote.has)) vote.is;
   }
 
-  pub voter_stays : (member : ℕ) (below : Option ℕ) (voter : ℕ) → IsVoter before fs member below voter → IsVoter after fs member below voter
+  pub voter_stays : (member : ℕ) (below : Option ℕ) (voter : ℕ) → IsVoter before fs member below voter
+      → IsVoter after fs member below voter
   voter_stays member below voter is = record {
     has = still_has before after sound went voter is.has;
     is = still before after sound went voter is.has ∙ is.is;
     unit = unit_stays below is.unit;
   } where
-    unit_stays : (below : Option ℕ) → IfSome below (λ unit. (family_in before voter ≡ (unit ∷ []) ∷ []) × AreUnitsFrom (suc unit) (drop (member + 1) fs)) → IfSome below (λ unit. (family_in after voter ≡ (unit ∷ []) ∷ []) × AreUnitsFrom (suc unit) (drop (member + 1) fs))
+    unit_stays : (below : Option ℕ) → IfSome below
+        (λ unit. (family_in before voter ≡ (unit ∷ []) ∷ []) × AreUnitsFrom (suc unit) (drop (member + 1) fs))
+        → IfSome below (λ unit. (family_in after voter ≡ (unit ∷ []) ∷ [])
+        × AreUnitsFrom (suc unit) (drop (member + 1) fs))
     unit_stays None none = none
     unit_stays (Some unit) (same, others) = (still before after sound went voter is.has ∙ same, others)
 
 -- ---- one member more at one place
 
-module _ (s0 : Held) (fs : List (List (List ℕ))) (votes member place : ℕ) (members : List ℕ) (below : Option ℕ) (voter : ℕ) (sound : IsSound s0)
-    (first : (member ≤ place) × (votes ≤ place + 1)) (end : (place < member + votes) × (place < length members)) (is_voter : IsVoter s0 fs member below voter) (voting : IsVoting s0 fs votes member place members)
-    (fewer : ℕ) (fewer_is : fewer ≡ (if place == member then 1 else get_or members place 0)) (same : ℕ) (same_is : same ≡ get_or members (place + 1) 0) where
+module _ (s0 : Held) (fs : List (List (List ℕ))) (votes member place : ℕ) (members : List ℕ) (below : Option ℕ)
+    (voter : ℕ) (sound : IsSound s0)
+    (first : (member ≤ place) × (votes ≤ place + 1)) (end : (place < member + votes) × (place < length members))
+    (is_voter : IsVoter s0 fs member below voter) (voting : IsVoting s0 fs votes member place members)
+    (fewer : ℕ) (fewer_is : fewer ≡ (if place == member then 1 else get_or members place 0)) (same : ℕ)
+    (same_is : same ≡ get_or members (place + 1) 0) where
   pub fewer_vote : IsVote s0 fs (member + 1) (place - member) fewer
   fewer_vote =
       elim (cases_eq place member) [
         | inl here ↦
-            let unit : fewer ≡ 1 = fewer_is ∙ cond-true (place == member) 1 (get_or members place 0) (ap (λ n. place == n) (sym here) ∙ eq-eqb place place refl) in
+            let unit : fewer ≡ 1 =
+            fewer_is ∙ cond-true (place == member) 1 (get_or members place 0)
+            (ap (λ n. place == n) (sym here) ∙ eq-eqb place place refl) in
             let none : place - member ≡ 0 = omega arith in
             subst (λ n. IsVote s0 fs (member + 1) n fewer) (sym none)
             (subst (IsVote s0 fs (member + 1) 0) (sym unit)
             record {
               has = let few = sound.terminals in omega arith;
-              is = subst (IsLeastVotes 0 (drop (member + 1) fs)) (sym (family-unit (map_of s0))) (no_votes (drop (member + 1) fs));
+              is =
+                  subst (IsLeastVotes 0 (drop (member + 1) fs)) (sym (family-unit (map_of s0)))
+                  (no_votes (drop (member + 1) fs));
             })
         | inr past ↦
-            let at : fewer ≡ get_or members place 0 = fewer_is ∙ cond-false (place == member) 1 (get_or members place 0) (ne_eqb place member past) in
+            let at : fewer ≡ get_or members place 0 =
+            fewer_is ∙ cond-false (place == member) 1 (get_or members place 0) (ne_eqb place member past) in
             let one : suc (place - (member + 1)) ≡ place - member = let h = first.0 in omega (arith, h, past) in
             subst (IsVote s0 fs (member + 1) (place - member)) (sym at)
             (subst (λ n. IsVote s0 fs (member + 1) n (get_or members place 0)) one
-            (voting.before place (omega arith) (let h = first.0 in omega (arith, h, past)) first.1 (let h = end.0 in omega (arith, h)) end.1))
+            (voting.before place (omega arith) (let h = first.0 in omega (arith, h, past)) first.1
+            (let h = end.0 in omega (arith, h)) end.1))
       ]
 
   pub same_vote : IsVote s0 fs (member + 1) (suc (place - member)) same
@@ -95,24 +115,31 @@ module _ (s0 : Held) (fs : List (List (List ℕ))) (votes member place : ℕ) (m
             let one : suc (place + 1 - (member + 1)) ≡ suc (place - member) = omega arith in
             subst (IsVote s0 fs (member + 1) (suc (place - member))) (sym same_is)
             (subst (λ n. IsVote s0 fs (member + 1) n (get_or members (place + 1) 0)) one
-            (voting.before (place + 1) (omega arith) (let h = first.0 in omega (arith, h)) (let h = first.1 in omega (arith, h)) (let h = end.0 in omega (arith, h)) inside))
+            (voting.before (place + 1) (omega arith) (let h = first.0 in omega (arith, h))
+            (let h = first.1 in omega (arith, h)) (let h = end.0 in omega (arith, h)) inside))
         | inr past ↦
-            subst (IsVote s0 fs (member + 1) (suc (place - member))) (sym (same_is ∙ get_or_past members (place + 1) 0 past))
+            subst (IsVote s0 fs (member + 1) (suc (place - member)))
+            (sym (same_is ∙ get_or_past members (place + 1) 0 past))
             record {
               has = let few = sound.terminals in omega arith;
               is = too_many s0 (drop (member + 1) fs) (suc (place - member))
-                  (let e = length-drop (member + 1) fs in let n = voting.count in let h = first.0 in let k = end.1 in omega (arith, e, n, h, k, past));
+                  (let e = length-drop (member + 1) fs in let n = voting.count in let h = first.0 in let k = end.1 in
+                  omega (arith, e, n, h, k, past));
             }
       ]
 
   pub voter_below : IfSome below (λ unit. IsBelow unit (family_in s0 voter) (family_in s0 same) (family_in s0 fewer))
   voter_below = each_below below is_voter.unit where
-    each_below : (below : Option ℕ) → IfSome below (λ unit. (family_in s0 voter ≡ (unit ∷ []) ∷ []) × AreUnitsFrom (suc unit) (drop (member + 1) fs)) → IfSome below (λ unit. IsBelow unit (family_in s0 voter) (family_in s0 same) (family_in s0 fewer))
+    each_below : (below : Option ℕ) → IfSome below
+        (λ unit. (family_in s0 voter ≡ (unit ∷ []) ∷ []) × AreUnitsFrom (suc unit) (drop (member + 1) fs))
+        → IfSome below (λ unit. IsBelow unit (family_in s0 voter) (family_in s0 same) (family_in s0 fewer))
     each_below None none = none
     each_below (Some unit) (is, others) =
-        unit_is_below (suc unit) (place - member) (drop (member + 1) fs) others (family_in s0 fewer) fewer_vote.is unit (family_in s0 voter) (family_in s0 same) (omega arith) is same_vote.is
+        unit_is_below (suc unit) (place - member) (drop (member + 1) fs) others (family_in s0 fewer) fewer_vote.is unit
+        (family_in s0 voter) (family_in s0 same) (omega arith) is same_vote.is
 
-  module _ (s1 : Held) (made : ℕ) (gave : Gave (IsJoined (family_in s0 voter) (family_in s0 same) (family_in s0 fewer)) s0 s1 made) where
+  module _ (s1 : Held) (made : ℕ) (gave : Gave (IsJoined (family_in s0 voter) (family_in s0 same) (family_in s0 fewer))
+      s0 s1 made) where
     next : drop member fs ≡ family_in s0 voter ∷ drop (member + 1) fs
     next =
         drop_more fs member [] (let n = voting.count in let h = first.0 in let k = end.1 in omega (arith, n, h, k))
@@ -123,7 +150,8 @@ module _ (s0 : Held) (fs : List (List (List ℕ))) (votes member place : ℕ) (m
       has = gave.has;
       is =
           subst (λ l. IsLeastVotes (suc (place - member)) l (family_in s1 made)) (sym next)
-          (votes_joined (place - member) (family_in s0 voter) (drop (member + 1) fs) (family_in s0 same) (family_in s0 fewer) (family_in s1 made) same_vote.is fewer_vote.is gave.is);
+          (votes_joined (place - member) (family_in s0 voter) (drop (member + 1) fs) (family_in s0 same)
+          (family_in s0 fewer) (family_in s1 made) same_vote.is fewer_vote.is gave.is);
     }
 
     other_place : (at : ℕ) → ¬ (at ≡ place) → get_or (set members place made) at 0 ≡ get_or members at 0
@@ -135,21 +163,26 @@ module _ (s0 : Held) (fs : List (List (List ℕ))) (votes member place : ℕ) (m
       has = All-set (Has s1) members place made gave.has (still_all s0 s1 members sound gave.went voting.has);
       waiting = λ at low.
           ap (family_in s1) (other_place at (λ e. let h = first.0 in omega (arith, h, e, low)))
-          ∙ still s0 s1 sound gave.went (get_or members at 0) (voting.has at 0 (let h = first.0 in let k = end.1 in omega (arith, h, k, low)))
+          ∙ still s0 s1 sound gave.went (get_or members at 0)
+          (voting.has at 0 (let h = first.0 in let k = end.1 in omega (arith, h, k, low)))
           ∙ voting.waiting at low;
       before = λ at from low enough most inside.
-          subst (IsVote s1 fs (member + 1) (suc (at - (member + 1)))) (sym (other_place at (λ e. omega (arith, e, from))))
+          subst (IsVote s1 fs (member + 1) (suc (at - (member + 1))))
+          (sym (other_place at (λ e. omega (arith, e, from))))
           (vote_stays s0 s1 fs sound gave.went (member + 1) (suc (at - (member + 1))) (get_or members at 0)
-          (voting.before at (omega (arith, from)) low enough most (let e = length-set members place made in omega (arith, e, inside))));
+          (voting.before at (omega (arith, from)) low enough most
+          (let e = length-set members place made in omega (arith, e, inside))));
       after = λ at until low enough most inside.
           elim (cases_eq at place) [
             | inl here ↦
                 subst (λ q. IsVote s1 fs member (suc (q - member)) (get_or (set members place made) q 0)) (sym here)
-                (subst (IsVote s1 fs member (suc (place - member))) (sym (get_or-set_same members place made 0 end.1)) made_vote)
+                (subst (IsVote s1 fs member (suc (place - member))) (sym (get_or-set_same members place made 0 end.1))
+                made_vote)
             | inr other ↦
                 subst (IsVote s1 fs member (suc (at - member))) (sym (other_place at other))
                 (vote_stays s0 s1 fs sound gave.went member (suc (at - member)) (get_or members at 0)
-                (voting.after at (omega (arith, until, other)) low enough most (let e = length-set members place made in omega (arith, e, inside))))
+                (voting.after at (omega (arith, until, other)) low enough most
+                (let e = length-set members place made in omega (arith, e, inside))))
           ];
     }
 
@@ -159,8 +192,10 @@ lower_units : (floor low : ℕ) (fs : List (List (List ℕ))) → low ≤ floor 
 lower_units floor low [] less are = tt
 lower_units floor low (f ∷ fs) less (unit, (high, is, others)) = (unit, (omega arith, is, others))
 
-module _ (held : Held) (fs : List (List (List ℕ))) (votes member floor : ℕ) (members : List ℕ) (inside : member < length members) (voted : HaveVoted held fs votes (member + 1) floor members)
-    (voter : ℕ) (voter_is : voter ≡ get_or members member 0) (below : Option ℕ) (below_is : IfSome below (λ unit. (family_in held voter ≡ (unit ∷ []) ∷ []) × (unit < floor))) where
+module _ (held : Held) (fs : List (List (List ℕ))) (votes member floor : ℕ) (members : List ℕ)
+    (inside : member < length members) (voted : HaveVoted held fs votes (member + 1) floor members)
+    (voter : ℕ) (voter_is : voter ≡ get_or members member 0) (below : Option ℕ)
+    (below_is : IfSome below (λ unit. (family_in held voter ≡ (unit ∷ []) ∷ []) × (unit < floor))) where
   pub has_voter : Has held voter
   has_voter = subst (Has held) (sym voter_is) (voted.has member 0 inside)
 
@@ -170,11 +205,15 @@ module _ (held : Held) (fs : List (List (List ℕ))) (votes member floor : ℕ) 
     is = ap (family_in held) voter_is ∙ voted.waiting member (omega arith);
     unit = each_unit below below_is;
   } where
-    each_unit : (below : Option ℕ) → IfSome below (λ unit. (family_in held voter ≡ (unit ∷ []) ∷ []) × (unit < floor)) → IfSome below (λ unit. (family_in held voter ≡ (unit ∷ []) ∷ []) × AreUnitsFrom (suc unit) (drop (member + 1) fs))
+    each_unit : (below : Option ℕ) → IfSome below (λ unit. (family_in held voter ≡ (unit ∷ []) ∷ []) × (unit < floor))
+        → IfSome below (λ unit. (family_in held voter ≡ (unit ∷ []) ∷ [])
+        × AreUnitsFrom (suc unit) (drop (member + 1) fs))
     each_unit None none = none
-    each_unit (Some unit) (is, low) = (is, lower_units floor (suc unit) (drop (member + 1) fs) (omega arith) (voted.units (omega arith)))
+    each_unit (Some unit) (is, low) =
+        (is, lower_units floor (suc unit) (drop (member + 1) fs) (omega arith) (voted.units (omega arith)))
 
-  pub voting_begins : (place : ℕ) → ((at : ℕ) → member ≤ at → votes ≤ at + 1 → place ≤ at) → IsVoting held fs votes member place members
+  pub voting_begins : (place : ℕ) → ((at : ℕ) → member ≤ at → votes ≤ at + 1 → place ≤ at)
+      → IsVoting held fs votes member place members
   voting_begins place lowest = record {
     count = voted.count;
     has = voted.has;
@@ -183,7 +222,8 @@ module _ (held : Held) (fs : List (List (List ℕ))) (votes member floor : ℕ) 
     after = λ at until low enough most within. absurd (let h = lowest at low enough in omega (arith, h, until));
   }
 
-pub member_voted : (held : Held) (fs : List (List (List ℕ))) (votes member place lower : ℕ) (members : List ℕ) (below : Option ℕ) (voter : ℕ) → member < length members → IsVoter held fs member below voter
+pub member_voted : (held : Held) (fs : List (List (List ℕ))) (votes member place lower : ℕ) (members : List ℕ)
+    (below : Option ℕ) (voter : ℕ) → member < length members → IsVoter held fs member below voter
     → IsVoting held fs votes member place members → ((at : ℕ) → at < member + votes → at < length members → at < place)
     → MatchOption below (lower ≡ 0) (λ unit. lower ≡ unit) → HaveVoted held fs votes member lower members
 member_voted held fs votes member place lower members below voter inside is_voter voting highest lower_is = record {
@@ -191,16 +231,21 @@ member_voted held fs votes member place lower members below voter inside is_vote
   has = voting.has;
   waiting = voting.waiting;
   voted = λ at low enough most within. voting.after at (highest at most within) low enough most within;
-  units = λ some. subst (AreUnitsFrom lower) (sym (drop_more fs member [] (let n = voting.count in omega (arith, n, inside)))) (with_first below is_voter.unit lower_is some);
+  units =
+      λ some. subst (AreUnitsFrom lower) (sym (drop_more fs member []
+      (let n = voting.count in omega (arith, n, inside)))) (with_first below is_voter.unit lower_is some);
 } where
-  with_first : (below : Option ℕ) → IfSome below (λ unit. (family_in held voter ≡ (unit ∷ []) ∷ []) × AreUnitsFrom (suc unit) (drop (member + 1) fs)) → MatchOption below (lower ≡ 0) (λ unit. lower ≡ unit)
+  with_first : (below : Option ℕ) → IfSome below
+      (λ unit. (family_in held voter ≡ (unit ∷ []) ∷ []) × AreUnitsFrom (suc unit) (drop (member + 1) fs))
+      → MatchOption below (lower ≡ 0) (λ unit. lower ≡ unit)
       → 1 ≤ lower → AreUnitsFrom lower (get_or fs member [] ∷ drop (member + 1) fs)
   with_first None none is some = absurd (omega (arith, is, some))
   with_first (Some unit) (same, others) is some = (unit, (omega (arith, is), sym is_voter.is ∙ same, others))
 
 -- ---- before the last member, and after the first
 
-pub none_voted : (held : Held) (fs : List (List (List ℕ))) (votes : ℕ) (members : List ℕ) → All (Has held) members → fs ≡ families held members → HaveVoted held fs votes (length members) 4096 members
+pub none_voted : (held : Held) (fs : List (List (List ℕ))) (votes : ℕ) (members : List ℕ) → All (Has held) members
+    → fs ≡ families held members → HaveVoted held fs votes (length members) 4096 members
 none_voted held fs votes members has is =
     let count : length members ≡ length fs = sym (many_families held members) ∙ ap length (sym is) in
     record {
@@ -211,9 +256,15 @@ none_voted held fs votes members has is =
       units = λ some. subst (AreUnitsFrom 4096) (sym (drop_all (length members) fs (omega (arith, count)))) tt;
     }
 
-pub all_voted : (held : Held) (fs : List (List (List ℕ))) (votes member floor r : ℕ) (members : List ℕ) → member ≡ 0 → 1 ≤ votes → votes ≤ length members → HaveVoted held fs votes member floor members → r ≡ get_or members (votes - 1) 0 → Has held r × IsLeastVotes votes fs (family_in held r)
+pub all_voted : (held : Held) (fs : List (List (List ℕ))) (votes member floor r : ℕ) (members : List ℕ) → member ≡ 0
+    → 1 ≤ votes → votes ≤ length members → HaveVoted held fs votes member floor members
+    → r ≡ get_or members (votes - 1) 0 → Has held r × IsLeastVotes votes fs (family_in held r)
 all_voted held fs votes member floor r members none some space voted is =
-    let begun : HaveVoted held fs votes 0 floor members = subst (λ m. HaveVoted held fs votes m floor members) none voted in
+    let begun : HaveVoted held fs votes 0 floor members =
+    subst (λ m. HaveVoted held fs votes m floor members) none voted in
     let one : suc (votes - 1 - 0) ≡ votes = omega (arith, some) in
-    let vote : IsVote held fs 0 (suc (votes - 1 - 0)) r = subst (IsVote held fs 0 (suc (votes - 1 - 0))) (sym is) (begun.voted (votes - 1) (omega arith) (omega (arith, some)) (omega (arith, some)) (omega (arith, some, space))) in
+    let vote : IsVote held fs 0 (suc (votes - 1 - 0)) r =
+    subst (IsVote held fs 0 (suc (votes - 1 - 0))) (sym is)
+    (begun.voted (votes - 1) (omega arith) (omega (arith, some)) (omega (arith, some))
+    (omega (arith, some, space))) in
     (vote.has, subst (λ n. IsLeastVotes n fs (family_in held r)) one vote.is)

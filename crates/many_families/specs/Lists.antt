@@ -1,5 +1,6 @@
 -- The families of a list of references, and votes over its last members.
-use Rattle.std.specs.Prelude.{◌≡◌, ℕ, suc, ◌+◌, ◌-◌, ◌<◌, ◌≤◌, List, [], ◌∷◌, Option, All, IfSome, drop, get_or, length, map, slice_index}
+use Rattle.std.specs.Prelude.{◌≡◌, ℕ, suc, ◌+◌, ◌-◌, ◌<◌, ◌≤◌, List, [], ◌∷◌, Option, All, IfSome, drop, get_or, length}
+use Rattle.std.specs.Prelude.{map, slice_index}
 use Rattle.minimal_families.specs.Least.{IsLeastVotes}
 use Rattle.family_memory.specs.Memory.{Held, Has, family_in}
 
@@ -20,23 +21,28 @@ AreUnitsFrom floor (f ∷ fs) = (unit : ℕ) × ((floor ≤ unit) × (f ≡ (uni
 -- The members from one on have voted: each place from that of the first on has one vote more than the place before,
 -- where that many votes matter. The members before have their families. Where the floor is not 0, those that have
 -- voted are single units from the floor on.
-pub record HaveVoted (held : Held) (fs : List (List (List ℕ))) (votes member floor : ℕ) (members : List ℕ) : Type 0 where
+pub record HaveVoted (held : Held) (fs : List (List (List ℕ))) (votes member floor : ℕ)
+    (members : List ℕ) : Type 0 where
   pub count : length members ≡ length fs
   pub has : All (Has held) members
   pub waiting : (place : ℕ) → place < member → family_in held (slice_index members place) ≡ get_or fs place []
-  pub voted : (place : ℕ) → member ≤ place → votes ≤ place + 1 → place < member + votes → place < length members → IsVote held fs member (suc (place - member)) (slice_index members place)
+  pub voted : (place : ℕ) → member ≤ place → votes ≤ place + 1 → place < member + votes → place < length members
+      → IsVote held fs member (suc (place - member)) (slice_index members place)
   pub units : 1 ≤ floor → AreUnitsFrom floor (drop member fs)
 
 -- a member that is to vote, which may be a single unit below all those that have voted
 pub record IsVoter (held : Held) (fs : List (List (List ℕ))) (member : ℕ) (below : Option ℕ) (voter : ℕ) : Type 0 where
   pub has : Has held voter
   pub is : family_in held voter ≡ get_or fs member []
-  pub unit : IfSome below (λ unit. (family_in held voter ≡ (unit ∷ []) ∷ []) × AreUnitsFrom (suc unit) (drop (member + 1) fs))
+  pub unit : IfSome below (λ unit. (family_in held voter ≡ (unit ∷ []) ∷ [])
+      × AreUnitsFrom (suc unit) (drop (member + 1) fs))
 
 -- before a place the member has voted, and from it on not yet
 pub record IsVoting (held : Held) (fs : List (List (List ℕ))) (votes member place : ℕ) (members : List ℕ) : Type 0 where
   pub count : length members ≡ length fs
   pub has : All (Has held) members
   pub waiting : (at : ℕ) → at < member → family_in held (slice_index members at) ≡ get_or fs at []
-  pub before : (at : ℕ) → place ≤ at → member + 1 ≤ at → votes ≤ at + 1 → at < member + 1 + votes → at < length members → IsVote held fs (member + 1) (suc (at - (member + 1))) (slice_index members at)
-  pub after : (at : ℕ) → at < place → member ≤ at → votes ≤ at + 1 → at < member + votes → at < length members → IsVote held fs member (suc (at - member)) (slice_index members at)
+  pub before : (at : ℕ) → place ≤ at → member + 1 ≤ at → votes ≤ at + 1 → at < member + 1 + votes → at < length members
+      → IsVote held fs (member + 1) (suc (at - (member + 1))) (slice_index members at)
+  pub after : (at : ℕ) → at < place → member ≤ at → votes ≤ at + 1 → at < member + votes → at < length members
+      → IsVote held fs member (suc (at - member)) (slice_index members at)

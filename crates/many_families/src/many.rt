@@ -32,7 +32,8 @@ pub fn union_of_all(memory: &mut FamilyMemory, list: &[NodeRef]) -> Result<NodeR
 // The same, by the halves of the list: unions of about equal numbers of families.
 fn unite_all(memory: &mut FamilyMemory, list: &[NodeRef]) -> Result<NodeRef, Spent>
     requires { All (Has memory.old) list.now }
-    ensures { MatchResult result (Gave (IsLeastOfAll (families memory.old list.now)) memory.old memory.new) (λ _. RanOut memory.old memory.new) }
+    ensures { MatchResult result (Gave (IsLeastOfAll (families memory.old list.now)) memory.old memory.new)
+        (λ _. RanOut memory.old memory.new) }
 {
     memory.is_sound();
     if list.len() < 2 {
@@ -56,7 +57,8 @@ pub fn product_of_all(memory: &mut FamilyMemory, list: &[NodeRef]) -> Result<Nod
 // The same, one family after another.
 fn multiply_all(memory: &mut FamilyMemory, list: &[NodeRef]) -> Result<NodeRef, Spent>
     requires { All (Has memory.old) list.now }
-    ensures { MatchResult result (Gave (IsLeastProductOfAll (families memory.old list.now)) memory.old memory.new) (λ _. RanOut memory.old memory.new) }
+    ensures { MatchResult result (Gave (IsLeastProductOfAll (families memory.old list.now)) memory.old memory.new)
+        (λ _. RanOut memory.old memory.new) }
 {
     memory.is_sound();
     let mut made = NodeRef::UNIT;

@@ -69,8 +69,39 @@ pub fn union_in_order(
     union_of_all(memory, places)
 }
 
-/// The minimal sets of the product, likewise; the family with the highest units comes first.
+/// The minimal sets of the product, likewise: single units from the last unit on, so that each product is one node
+/// more, and other families as they stand.
 pub fn product_in_order(
+    memory: &mut FamilyMemory,
+    list: &[NodeRef],
+    table: &mut [NodeRef],
+) -> Result<NodeRef, Spent>
+    requires table { length list.now ≤ length table.old }
+    requires has { All (Has memory.old) list.now }
+    ensures gives { IfOk result (Gave (IsLeastProductOfAll (families memory.old list.now)) memory.old memory.new) }
+    ensures spent { IfErr result (λ _. RanOut memory.old memory.new) }
+{
+    if are_single_units(memory, list) {
+        product_from_the_last(memory, list, table)
+    } else {
+        product_of_all(memory, list)
+    }
+}
+
+// Whether each family of the list is one set with one unit.
+fn are_single_units(memory: &FamilyMemory, list: &[NodeRef]) -> bool {
+    list.iter().all(|r| is_single_unit(memory, *r))
+}
+
+fn is_single_unit(memory: &FamilyMemory, r: NodeRef) -> bool {
+    match node_of(memory, r) {
+        Some(parts) => parts.lo == NodeRef::EMPTY && parts.hi == NodeRef::UNIT,
+        None => false,
+    }
+}
+
+// The minimal sets of the product; the family with the highest units comes first.
+fn product_from_the_last(
     memory: &mut FamilyMemory,
     list: &[NodeRef],
     table: &mut [NodeRef],

@@ -17,7 +17,8 @@ pub fn product_by_splitting(
 ) -> Result<NodeRef, Spent>
     requires has_a { Has memory.old a }
     requires has_b { Has memory.old b }
-    ensures gives { IfOk result (Gave (IsLeastProduct (family_in memory.old a) (family_in memory.old b)) memory.old memory.new) }
+    ensures gives { IfOk result (Gave (IsLeastProduct (family_in memory.old a) (family_in memory.old b)) memory.old
+        memory.new) }
     ensures spent { IfErr result (λ _. RanOut memory.old memory.new) }
 {
     multiply_split(memory, a, b)
@@ -32,7 +33,8 @@ pub(crate) fn multiply_split(
 ) -> Result<NodeRef, Spent>
     requires has_a { Has memory.old a }
     requires has_b { Has memory.old b }
-    ensures { MatchResult result (Gave (IsLeastProduct (family_in memory.old a) (family_in memory.old b)) memory.old memory.new) (λ _. RanOut memory.old memory.new) }
+    ensures { MatchResult result (Gave (IsLeastProduct (family_in memory.old a) (family_in memory.old b)) memory.old
+        memory.new) (λ _. RanOut memory.old memory.new) }
 {
     memory.is_sound();
     let rest = without(memory, a, b)?;
@@ -54,7 +56,8 @@ fn multiply_rests(
     requires has_other { Has memory.old other }
     requires rest { IsWithout (family_in memory.old a) (family_in memory.old b) (family_in memory.old rest) }
     requires other { IsWithout (family_in memory.old b) (family_in memory.old a) (family_in memory.old other) }
-    ensures { MatchResult result (Gave (IsLeastProduct (family_in memory.old a) (family_in memory.old b)) memory.old memory.new) (λ _. RanOut memory.old memory.new) }
+    ensures { MatchResult result (Gave (IsLeastProduct (family_in memory.old a) (family_in memory.old b)) memory.old
+        memory.new) (λ _. RanOut memory.old memory.new) }
 {
     memory.is_sound();
     let first = without(memory, a, rest)?;

@@ -1,5 +1,6 @@
 //! Votes over a list of families.
-ghost use Rattle.std.specs.Prelude.{◌≡◌, ◌+◌, ◌<◌, ◌≤◌, ℕ, ◌==◌, [], ◌∷◌, List, if◌then◌else◌, All, IfErr, IfOk, IfSome, MatchOption, MatchResult, length, slice_index};
+ghost use Rattle.std.specs.Prelude.{◌≡◌, ◌+◌, ◌<◌, ◌≤◌, ℕ, ◌==◌, [], ◌∷◌, List, if◌then◌else◌, All, IfErr, IfOk};
+ghost use Rattle.std.specs.Prelude.{IfSome, MatchOption, MatchResult, length, slice_index};
 ghost use Rattle.zdd_families.specs.Family.{IsAbove, branch};
 ghost use Rattle.family_parts.specs.Antichains.{IsAntichain};
 ghost use Rattle.minimal_families.specs.Least.{IsLeastVotes};
@@ -53,7 +54,8 @@ fn vote_in_order(
     requires enough { votes ≤ length members.old }
     requires has { All (Has memory.old) members.old }
     requires of { fs ≡ families memory.old members.old }
-    ensures { MatchResult result (Gave (IsLeastVotes votes fs) memory.old memory.new) (λ _. RanOut memory.old memory.new) }
+    ensures { MatchResult result (Gave (IsLeastVotes votes fs) memory.old memory.new)
+        (λ _. RanOut memory.old memory.new) }
 {
     memory.is_sound();
     let mut floor = NO_UNIT;
@@ -77,7 +79,8 @@ fn vote(
     requires some { 1 ≤ votes }
     requires member { member < length members.old }
     requires voted { HaveVoted memory.old fs votes (member + 1) floor members.old }
-    ensures { MatchResult result (λ lower. Went memory.old memory.new × HaveVoted memory.new fs votes member lower members.new) (λ _. RanOut memory.old memory.new) }
+    ensures { MatchResult result (λ lower. Went memory.old memory.new
+        × HaveVoted memory.new fs votes member lower members.new) (λ _. RanOut memory.old memory.new) }
 {
     memory.is_sound();
     let voter = members[member];
@@ -133,7 +136,8 @@ fn vote_at(
     requires end { (place < member + votes) × (place < length members.old) }
     requires voter { IsVoter memory.old fs member below.now voter }
     requires voting { IsVoting memory.old fs votes member place members.old }
-    ensures { MatchResult result (λ _. Went memory.old memory.new × IsVoting memory.new fs votes member (place + 1) members.new) (λ _. RanOut memory.old memory.new) }
+    ensures { MatchResult result (λ _. Went memory.old memory.new
+        × IsVoting memory.new fs votes member (place + 1) members.new) (λ _. RanOut memory.old memory.new) }
 {
     memory.is_sound();
     let fewer = fewer_votes(members, member, place);
@@ -178,8 +182,10 @@ fn join(
     requires voter { Has memory.old voter }
     requires same { Has memory.old same }
     requires fewer { Has memory.old fewer }
-    requires below { IfSome below.now (λ unit. IsBelow unit (family_in memory.old voter) (family_in memory.old same) (family_in memory.old fewer)) }
-    ensures { MatchResult result (Gave (IsJoined (family_in memory.old voter) (family_in memory.old same) (family_in memory.old fewer)) memory.old memory.new) (λ _. RanOut memory.old memory.new) }
+    requires below { IfSome below.now (λ unit. IsBelow unit (family_in memory.old voter) (family_in memory.old same)
+        (family_in memory.old fewer)) }
+    ensures { MatchResult result (Gave (IsJoined (family_in memory.old voter) (family_in memory.old same)
+        (family_in memory.old fewer)) memory.old memory.new) (λ _. RanOut memory.old memory.new) }
 {
     match below {
         Some(unit) => join_unit(memory, *unit, voter, same, fewer),
@@ -197,8 +203,10 @@ fn join_unit(
 ) -> Result<NodeRef, Spent>
     requires same { Has memory.old same }
     requires fewer { Has memory.old fewer }
-    requires below { IsBelow unit (family_in memory.old voter) (family_in memory.old same) (family_in memory.old fewer) }
-    ensures { MatchResult result (Gave (IsJoined (family_in memory.old voter) (family_in memory.old same) (family_in memory.old fewer)) memory.old memory.new) (λ _. RanOut memory.old memory.new) }
+    requires below { IsBelow unit (family_in memory.old voter) (family_in memory.old same)
+        (family_in memory.old fewer) }
+    ensures { MatchResult result (Gave (IsJoined (family_in memory.old voter) (family_in memory.old same)
+        (family_in memory.old fewer)) memory.old memory.new) (λ _. RanOut memory.old memory.new) }
 {
     memory.is_sound();
     make(memory, unit, same, fewer)
@@ -216,7 +224,8 @@ fn make(
     requires lo_above { IsAbove level (family_in memory.old lo) }
     requires hi_above { IsAbove level (family_in memory.old hi) }
     requires antichain { IsAntichain (branch level (family_in memory.old lo) (family_in memory.old hi)) }
-    ensures { MatchResult result (Gave (λ f. f ≡ branch level (family_in memory.old lo) (family_in memory.old hi)) memory.old memory.new) (λ _. RanOut memory.old memory.new) }
+    ensures { MatchResult result (Gave (λ f. f ≡ branch level (family_in memory.old lo) (family_in memory.old hi))
+        memory.old memory.new) (λ _. RanOut memory.old memory.new) }
 {
     memory.is_sound();
     if hi == NodeRef::EMPTY {
@@ -235,7 +244,8 @@ fn join_any(
     requires voter { Has memory.old voter }
     requires same { Has memory.old same }
     requires fewer { Has memory.old fewer }
-    ensures { MatchResult result (Gave (IsJoined (family_in memory.old voter) (family_in memory.old same) (family_in memory.old fewer)) memory.old memory.new) (λ _. RanOut memory.old memory.new) }
+    ensures { MatchResult result (Gave (IsJoined (family_in memory.old voter) (family_in memory.old same)
+        (family_in memory.old fewer)) memory.old memory.new) (λ _. RanOut memory.old memory.new) }
 {
     memory.is_sound();
     let more = multiply_split(memory, fewer, voter)?;

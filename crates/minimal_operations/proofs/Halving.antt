@@ -12,27 +12,35 @@ use Rattle.family_memory.specs.Memory.{Held, Has, IsSound, IsNodeOf, Gave, famil
 use Rattle.family_memory.specs.After.{above, Gave-there}
 use Rattle.minimal_operations.specs.Halves.{IsHalf}
 
-pub half_whole : (held : Held) (x r : ℕ) → IsSound held → IsUnit x → Has held r → x ≤ level_in (map_of held) r → level_in (map_of held) r ≢ x → IsHalf held x r (record { lo = r; hi = 0 })
+pub half_whole : (held : Held) (x r : ℕ) → IsSound held → IsUnit x → Has held r → x ≤ level_in (map_of held) r
+    → level_in (map_of held) r ≢ x → IsHalf held x r (record { lo = r; hi = 0 })
 half_whole held x r sound unit has most differs =
     let higher : x < level_in (map_of held) r = omega arith in
     record {
       has_lo = has;
       has_hi = let few = sound.terminals in omega arith;
       lo_above = higher;
-      hi_above = let e : level_in (map_of held) 0 ≡ 4096 = level_in-terminal (map_of held) 0 (omega arith) in let u = unit.1 in omega (arith, e, u);
-      cut = subst (λ hi. Cuts x (family_in held r) (family_in held r) hi) (sym (family-empty (map_of held))) (cut_above x (family_in held r) (above held x r sound has higher));
+      hi_above =
+          let e : level_in (map_of held) 0 ≡ 4096 = level_in-terminal (map_of held) 0 (omega arith) in let u = unit.1 in
+          omega (arith, e, u);
+      cut =
+          subst (λ hi. Cuts x (family_in held r) (family_in held r) hi) (sym (family-empty (map_of held)))
+          (cut_above x (family_in held r) (above held x r sound has higher));
     }
 
-pub node_without : (held : Held) (x lo hi : ℕ) → IsSound held → Has held lo → hi ≡ 0 → Gave (λ f. f ≡ branch x (family_in held lo) (family_in held hi)) held held lo
+pub node_without : (held : Held) (x lo hi : ℕ) → IsSound held → Has held lo → hi ≡ 0
+    → Gave (λ f. f ≡ branch x (family_in held lo) (family_in held hi)) held held lo
 node_without held x lo hi sound has none =
     Gave-there (λ f. f ≡ branch x (family_in held lo) (family_in held hi)) held lo sound has
-    (sym (ap (branch x (family_in held lo)) (ap (family_in held) none ∙ family-empty (map_of held)) ∙ branch-none x (family_in held lo)))
+    (sym (ap (branch x (family_in held lo)) (ap (family_in held) none ∙ family-empty (map_of held))
+    ∙ branch-none x (family_in held lo)))
 
 -- a reference of a lower level is a node
 pub inner_below : (held : Held) (r x : ℕ) → level_in (map_of held) r < x → x ≤ 4096 → 2 ≤ r
 inner_below held r x below most =
     elim (cases_lt r 2) [
-      | inl small ↦ absurd (let e : level_in (map_of held) r ≡ 4096 = level_in-terminal (map_of held) r small in omega (arith, e))
+      | inl small ↦ absurd (let e : level_in (map_of held) r ≡ 4096 = level_in-terminal (map_of held) r small in
+          omega (arith, e))
       | inr inner ↦ inner
     ]
 
@@ -40,7 +48,8 @@ inner_below held r x below most =
 pub level_most : (held : Held) (r : ℕ) → IsSound held → level_in (map_of held) r ≤ 4096
 level_most held r sound =
     elim (cases_lt r 2) [
-      | inl small ↦ let e : level_in (map_of held) r ≡ 4096 = level_in-terminal (map_of held) r small in omega (arith, e)
+      | inl small ↦ let e : level_in (map_of held) r ≡ 4096 =
+          level_in-terminal (map_of held) r small in omega (arith, e)
       | inr inner ↦
           let e : level_in (map_of held) r ≡ level_of (map_of held r) = level_in-inner (map_of held) r inner in
           let b : level_of (map_of held r) < 4096 = IsBounded-closed (map_of held) sound.closed r in
@@ -48,8 +57,11 @@ level_most held r sound =
     ]
 
 -- the part without its level serves in place of a node of a lower level
-pub part_serves : (held : Held) (a r : ℕ) (parts : Parts) → IsSound held → Has held a → IsNodeOf held r parts → level_in (map_of held) r < level_in (map_of held) a
-    → (left : List (List ℕ)) → IsWithout (family_in held a) (family_in held parts.lo) left → IsWithout (family_in held a) (family_in held r) left
+pub part_serves : (held : Held) (a r : ℕ) (parts : Parts) → IsSound held → Has held a → IsNodeOf held r parts
+    → level_in (map_of held) r < level_in (map_of held) a
+    → (left : List (List ℕ)) → IsWithout (family_in held a) (family_in held parts.lo) left
+    → IsWithout (family_in held a) (family_in held r) left
 part_serves held a r parts sound has is lower left without =
-    without-lower parts.level (family_in held a) (family_in held r) (family_in held parts.lo) (family_in held parts.hi) left is.cut
+    without-lower parts.level (family_in held a) (family_in held r) (family_in held parts.lo) (family_in held parts.hi)
+    left is.cut
     (above held parts.level a sound has (let e = is.level in omega arith)) without

@@ -8,8 +8,10 @@ use Rattle.family_memory.specs.Memory.{Held, Has, IsSound, Gave, RanOut, family_
 use Rattle.family_memory.specs.After.{ended, still}
 use Rattle.minimal_operations.specs.Rests.{IsRidBranch}
 
-module _ (s0 : Held) (x lo all other : ℕ) (sound : IsSound s0) (has_lo : Has s0 lo) (has_all : Has s0 all) (lo_above : IsAbove x (family_in s0 lo)) (all_above : IsAbove x (family_in s0 all))
-    (same : (left : List (List ℕ)) → IsWithout (family_in s0 all) (family_in s0 other) left → IsWithout (family_in s0 all) (family_in s0 lo) left) where
+module _ (s0 : Held) (x lo all other : ℕ) (sound : IsSound s0) (has_lo : Has s0 lo) (has_all : Has s0 all)
+    (lo_above : IsAbove x (family_in s0 lo)) (all_above : IsAbove x (family_in s0 all))
+    (same : (left : List (List ℕ)) → IsWithout (family_in s0 all) (family_in s0 other) left
+    → IsWithout (family_in s0 all) (family_in s0 lo) left) where
   module _ (s1 : Held) (hi : ℕ) (gave : Gave (IsWithout (family_in s0 all) (family_in s0 other)) s0 s1 hi) where
     left : IsWithout (family_in s0 all) (family_in s0 lo) (family_in s1 hi)
     left = same (family_in s1 hi) gave.is
@@ -30,8 +32,10 @@ module _ (s0 : Held) (x lo all other : ℕ) (sound : IsSound s0) (has_lo : Has s
         (antichain-without (family_in s0 all) (family_in s0 lo) (family_in s1 hi) (sound.antichains all has_all) left)
         (none_left (family_in s0 all) (family_in s0 lo) (family_in s1 hi) left))
 
-    pub rid_made : {E : Type 0} (s2 : Held) (result : Result ℕ E) → MatchResult result (Gave (λ f. f ≡ branch x (family_in s1 lo) (family_in s1 hi)) s1 s2) (λ _. RanOut s1 s2)
+    pub rid_made : {E : Type 0} (s2 : Held) (result : Result ℕ E)
+        → MatchResult result (Gave (λ f. f ≡ branch x (family_in s1 lo) (family_in s1 hi)) s1 s2) (λ _. RanOut s1 s2)
         → MatchResult result (Gave (IsRidBranch x (family_in s0 lo) (family_in s0 all)) s0 s2) (λ _. RanOut s0 s2)
     rid_made s2 result m =
-        ended s0 s1 s2 gave.went (λ f. f ≡ branch x (family_in s1 lo) (family_in s1 hi)) (IsRidBranch x (family_in s0 lo) (family_in s0 all)) result
+        ended s0 s1 s2 gave.went (λ f. f ≡ branch x (family_in s1 lo) (family_in s1 hi))
+        (IsRidBranch x (family_in s0 lo) (family_in s0 all)) result
         (λ f e. record { hi = family_in s1 hi; left = left; is = e ∙ ap (λ l. branch x l (family_in s1 hi)) same_lo }) m

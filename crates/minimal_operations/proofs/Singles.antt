@@ -1,5 +1,6 @@
 -- The family of one set with one unit.
-use Rattle.std.proofs.Common.{Result, MatchResult, IfOk, IfErr, Ok, Err, ◌≡◌, ℕ, [], ◌∷◌, refl, sym, ◌∙◌, ap, subst, arith}
+use Rattle.std.proofs.Common.{Result, MatchResult, IfOk, IfErr, Ok, Err, ◌≡◌, ℕ, [], ◌∷◌, refl, sym, ◌∙◌, ap, subst}
+use Rattle.std.proofs.Common.{arith}
 use Rattle.zdd_families.specs.Family.{IsAbove, branch}
 use Rattle.zdd_families.specs.Map.{family-empty, family-unit}
 use Rattle.family_operations.specs.Minimal.{minimal-none, minimal-unit}
@@ -36,10 +37,14 @@ module _ (held : Held) (x : ℕ) (sound : IsSound held) where
   is_single = ap (λ lo. branch x lo (family_in held 1)) none ∙ ap (branch x []) unit
 
   module _ {E : Type 0} (after : Held) where
-    pub single_gives : (result : Result ℕ E) → MatchResult result (Gave (λ f. f ≡ branch x (family_in held 0) (family_in held 1)) held after) (λ _. RanOut held after) → IfOk result (Gave (λ f. f ≡ (x ∷ []) ∷ []) held after)
+    pub single_gives : (result : Result ℕ E) → MatchResult result
+        (Gave (λ f. f ≡ branch x (family_in held 0) (family_in held 1)) held after) (λ _. RanOut held after)
+        → IfOk result (Gave (λ f. f ≡ (x ∷ []) ∷ []) held after)
     single_gives (Ok r) gave = record { went = gave.went; has = gave.has; is = gave.is ∙ is_single }
     single_gives (Err e) out = tt
 
-    pub single_spent : (result : Result ℕ E) → MatchResult result (Gave (λ f. f ≡ branch x (family_in held 0) (family_in held 1)) held after) (λ _. RanOut held after) → IfErr result (λ _. RanOut held after)
+    pub single_spent : (result : Result ℕ E) → MatchResult result
+        (Gave (λ f. f ≡ branch x (family_in held 0) (family_in held 1)) held after) (λ _. RanOut held after)
+        → IfErr result (λ _. RanOut held after)
     single_spent (Ok r) gave = tt
     single_spent (Err e) out = out

@@ -11,20 +11,27 @@ use Rattle.minimal_operations.specs.declared.halves.Half.{Half}
 use Rattle.minimal_operations.specs.Halves.{IsHalf}
 use Rattle.minimal_operations.proofs.Steps.{above_still, fewer_from, levels_from}
 
-module _ (s0 : Held) (a b : ℕ) (one : Parts) (other : Half) (sound : IsSound s0) (has_a : Has s0 a) (is : IsNodeOf s0 a one) (half : IsHalf s0 one.level b other) where
+module _ (s0 : Held) (a b : ℕ) (one : Parts) (other : Half) (sound : IsSound s0) (has_a : Has s0 a)
+    (is : IsNodeOf s0 a one) (half : IsHalf s0 one.level b other) where
   pub lo_fewer : levels_from s0 one.lo < levels_from s0 a
   lo_fewer = fewer_from s0 s0 a one.lo one.level is.level is.unit is.lo_above
 
-  module _ (s1 : Held) (lo : ℕ) (gave_lo : Gave (IsWithout (family_in s0 one.lo) (family_in s0 other.lo)) s0 s1 lo) where
+  module _ (s1 : Held) (lo : ℕ) (gave_lo : Gave (IsWithout (family_in s0 one.lo) (family_in s0 other.lo)) s0 s1
+      lo) where
     pub some_fewer : levels_from s1 one.hi < levels_from s0 a
-    some_fewer = fewer_from s0 s1 a one.hi one.level is.level is.unit (above_still s0 s1 sound gave_lo.went one.level one.hi is.has_hi is.hi_above)
+    some_fewer =
+        fewer_from s0 s1 a one.hi one.level is.level is.unit
+        (above_still s0 s1 sound gave_lo.went one.level one.hi is.has_hi is.hi_above)
 
-    module _ (s2 : Held) (some : ℕ) (gave_some : Gave (IsWithout (family_in s1 one.hi) (family_in s1 other.hi)) s1 s2 some) where
+    module _ (s2 : Held) (some : ℕ) (gave_some : Gave (IsWithout (family_in s1 one.hi) (family_in s1 other.hi)) s1 s2
+        some) where
       pub went_some : Went s0 s2
       went_some = Went-then s0 s1 s2 gave_lo.went gave_some.went
 
       some_is : IsWithout (family_in s0 one.hi) (family_in s0 other.hi) (family_in s2 some)
-      some_is = at_start s0 s1 sound gave_lo.went (λ f g. IsWithout f g (family_in s2 some)) one.hi other.hi is.has_hi half.has_hi gave_some.is
+      some_is =
+          at_start s0 s1 sound gave_lo.went (λ f g. IsWithout f g (family_in s2 some)) one.hi other.hi is.has_hi
+          half.has_hi gave_some.is
 
       some_above : IsAbove one.level (family_in s2 some)
       some_above = without-above one.level _ _ (family_in s2 some) some_is is.cut.hi_above
@@ -32,9 +39,11 @@ module _ (s0 : Held) (a b : ℕ) (one : Parts) (other : Half) (sound : IsSound s
       pub hi_fewer : levels_from s2 some < levels_from s0 a
       hi_fewer =
           fewer_from s0 s2 a some one.level is.level is.unit
-          (level_above s2 one.level some gave_some.went.sound gave_some.has (let u = is.unit.1 in omega arith) some_above)
+          (level_above s2 one.level some gave_some.went.sound gave_some.has (let u = is.unit.1 in omega arith)
+          some_above)
 
-      module _ (s3 : Held) (hi : ℕ) (gave_hi : Gave (IsWithout (family_in s2 some) (family_in s2 other.lo)) s2 s3 hi) where
+      module _ (s3 : Held) (hi : ℕ) (gave_hi : Gave (IsWithout (family_in s2 some) (family_in s2 other.lo)) s2 s3
+          hi) where
         pub went_hi : Went s0 s3
         went_hi = Went-then s0 s2 s3 went_some gave_hi.went
 
@@ -45,13 +54,19 @@ module _ (s0 : Held) (a b : ℕ) (one : Parts) (other : Half) (sound : IsSound s
         has_lo = still_has s1 s3 gave_lo.went.sound went_on lo gave_lo.has
 
         lo_is : IsWithout (family_in s0 one.lo) (family_in s0 other.lo) (family_in s3 lo)
-        lo_is = subst (IsWithout (family_in s0 one.lo) (family_in s0 other.lo)) (sym (still s1 s3 gave_lo.went.sound went_on lo gave_lo.has)) gave_lo.is
+        lo_is =
+            subst (IsWithout (family_in s0 one.lo) (family_in s0 other.lo))
+            (sym (still s1 s3 gave_lo.went.sound went_on lo gave_lo.has)) gave_lo.is
 
         hi_is : IsWithout (family_in s2 some) (family_in s0 other.lo) (family_in s3 hi)
-        hi_is = subst (λ g. IsWithout (family_in s2 some) g (family_in s3 hi)) (still s0 s2 sound went_some other.lo half.has_lo) gave_hi.is
+        hi_is =
+            subst (λ g. IsWithout (family_in s2 some) g (family_in s3 hi))
+            (still s0 s2 sound went_some other.lo half.has_lo) gave_hi.is
 
         step : IsWithout (family_in s0 a) (family_in s0 b) (branch one.level (family_in s3 lo) (family_in s3 hi))
-        step = without-step one.level _ _ _ _ _ _ (family_in s3 lo) (family_in s2 some) (family_in s3 hi) is.cut half.cut lo_is some_is hi_is
+        step =
+            without-step one.level _ _ _ _ _ _ (family_in s3 lo) (family_in s2 some) (family_in s3 hi) is.cut half.cut
+            lo_is some_is hi_is
 
         pub lo_above : IsAbove one.level (family_in s3 lo)
         lo_above = without-above one.level _ _ (family_in s3 lo) lo_is is.cut.lo_above
@@ -62,8 +77,11 @@ module _ (s0 : Held) (a b : ℕ) (one : Parts) (other : Half) (sound : IsSound s
         pub antichain : IsAntichain (branch one.level (family_in s3 lo) (family_in s3 hi))
         antichain = antichain-without _ _ _ (sound.antichains a has_a) step
 
-        pub left_made : {E : Type 0} (s4 : Held) (result : Result ℕ E) → MatchResult result (Gave (λ f. f ≡ branch one.level (family_in s3 lo) (family_in s3 hi)) s3 s4) (λ _. RanOut s3 s4)
+        pub left_made : {E : Type 0} (s4 : Held) (result : Result ℕ E)
+            → MatchResult result (Gave (λ f. f ≡ branch one.level (family_in s3 lo) (family_in s3 hi)) s3 s4)
+            (λ _. RanOut s3 s4)
             → MatchResult result (Gave (IsWithout (family_in s0 a) (family_in s0 b)) s0 s4) (λ _. RanOut s0 s4)
         left_made s4 result m =
-            ended s0 s3 s4 went_hi (λ f. f ≡ branch one.level (family_in s3 lo) (family_in s3 hi)) (IsWithout (family_in s0 a) (family_in s0 b)) result
+            ended s0 s3 s4 went_hi (λ f. f ≡ branch one.level (family_in s3 lo) (family_in s3 hi))
+            (IsWithout (family_in s0 a) (family_in s0 b)) result
             (λ f e. subst (IsWithout (family_in s0 a) (family_in s0 b)) (sym e) step) m

@@ -11,7 +11,8 @@ pub record GoesOn (a b : ℕ) : Type 0 where
 -- without no sets, and so is the empty set, which a node's family lacks
 abbrev pub IsWithoutEnd : ℕ → ℕ → ℕ → Type 0
 IsWithoutEnd a b r =
-    ((a ≡ 0) × (r ≡ 0)) ⊎ (((b ≡ 1) × (r ≡ 0)) ⊎ (((a ≡ b) × (r ≡ 0)) ⊎ (((b ≡ 0) × (r ≡ a)) ⊎ ((a ≡ 1) × (2 ≤ b) × (r ≡ a)))))
+    ((a ≡ 0) × (r ≡ 0)) ⊎ (((b ≡ 1) × (r ≡ 0)) ⊎ (((a ≡ b) × (r ≡ 0))
+    ⊎ (((b ≡ 0) × (r ≡ a)) ⊎ ((a ≡ 1) × (2 ≤ b) × (r ≡ a)))))
 
 -- a family with no sets, or one with the empty set, which all others include, or a family twice
 abbrev pub IsUnionEnd : ℕ → ℕ → ℕ → Type 0

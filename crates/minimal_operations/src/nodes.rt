@@ -32,7 +32,8 @@ pub(crate) fn make(
     requires lo_above { IsAbove level (family_in memory.old lo) }
     requires hi_above { IsAbove level (family_in memory.old hi) }
     requires antichain { IsAntichain (branch level (family_in memory.old lo) (family_in memory.old hi)) }
-    ensures { MatchResult result (Gave (λ f. f ≡ branch level (family_in memory.old lo) (family_in memory.old hi)) memory.old memory.new) (λ _. RanOut memory.old memory.new) }
+    ensures { MatchResult result (Gave (λ f. f ≡ branch level (family_in memory.old lo) (family_in memory.old hi))
+        memory.old memory.new) (λ _. RanOut memory.old memory.new) }
 {
     memory.is_sound();
     if hi == NodeRef::EMPTY {
@@ -55,8 +56,10 @@ pub(crate) fn make_rid(
     requires has_other { Has memory.old other }
     requires lo_above { IsAbove level (family_in memory.old lo) }
     requires all_above { IsAbove level (family_in memory.old all) }
-    requires same { (left : List (List ℕ)) → IsWithout (family_in memory.old all) (family_in memory.old other) left → IsWithout (family_in memory.old all) (family_in memory.old lo) left }
-    ensures { MatchResult result (Gave (IsRidBranch level (family_in memory.old lo) (family_in memory.old all)) memory.old memory.new) (λ _. RanOut memory.old memory.new) }
+    requires same { (left : List (List ℕ)) → IsWithout (family_in memory.old all) (family_in memory.old other) left
+        → IsWithout (family_in memory.old all) (family_in memory.old lo) left }
+    ensures { MatchResult result (Gave (IsRidBranch level (family_in memory.old lo) (family_in memory.old all))
+        memory.old memory.new) (λ _. RanOut memory.old memory.new) }
 {
     memory.is_sound();
     let hi = strip(memory, all, other)?;

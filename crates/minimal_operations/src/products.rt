@@ -17,7 +17,8 @@ use zdd_words::{NodeRef, Parts};
 pub fn product(memory: &mut FamilyMemory, a: NodeRef, b: NodeRef) -> Result<NodeRef, Spent>
     requires has_a { Has memory.old a }
     requires has_b { Has memory.old b }
-    ensures gives { IfOk result (Gave (IsLeastProduct (family_in memory.old a) (family_in memory.old b)) memory.old memory.new) }
+    ensures gives { IfOk result (Gave (IsLeastProduct (family_in memory.old a) (family_in memory.old b)) memory.old
+        memory.new) }
     ensures spent { IfErr result (λ _. RanOut memory.old memory.new) }
 {
     multiply(memory, a, b)
@@ -39,12 +40,14 @@ fn product_end(a: NodeRef, b: NodeRef) -> Option<NodeRef>
     None
 }
 
-/// The same, of which an end makes nothing.
+/// The same, of which an end makes nothing. Calls that end here are inlined.
+#[inline(always)]
 #[cycle(multiply)]
 pub(crate) fn multiply(memory: &mut FamilyMemory, a: NodeRef, b: NodeRef) -> Result<NodeRef, Spent>
     requires has_a { Has memory.old a }
     requires has_b { Has memory.old b }
-    ensures { MatchResult result (Gave (IsLeastProduct (family_in memory.old a) (family_in memory.old b)) memory.old memory.new) (λ _. RanOut memory.old memory.new) }
+    ensures { MatchResult result (Gave (IsLeastProduct (family_in memory.old a) (family_in memory.old b)) memory.old
+        memory.new) (λ _. RanOut memory.old memory.new) }
 {
     memory.is_sound();
     if let Some(end) = product_end(a, b) {
@@ -72,7 +75,8 @@ fn multiply_levels(memory: &mut FamilyMemory, a: NodeRef, b: NodeRef) -> Result<
     requires has_a { Has memory.old a }
     requires has_b { Has memory.old b }
     requires nodes { (2 ≤ a) × (2 ≤ b) }
-    ensures { MatchResult result (Gave (IsLeastProduct (family_in memory.old a) (family_in memory.old b)) memory.old memory.new) (λ _. RanOut memory.old memory.new) }
+    ensures { MatchResult result (Gave (IsLeastProduct (family_in memory.old a) (family_in memory.old b)) memory.old
+        memory.new) (λ _. RanOut memory.old memory.new) }
 {
     memory.is_sound();
     let first = memory.level(a);
@@ -93,7 +97,8 @@ fn multiply_both(memory: &mut FamilyMemory, a: NodeRef, b: NodeRef) -> Result<No
     requires has_b { Has memory.old b }
     requires nodes { (2 ≤ a) × (2 ≤ b) }
     requires level { level_in (map_of memory.old) a ≡ level_in (map_of memory.old) b }
-    ensures { MatchResult result (Gave (IsLeastProduct (family_in memory.old a) (family_in memory.old b)) memory.old memory.new) (λ _. RanOut memory.old memory.new) }
+    ensures { MatchResult result (Gave (IsLeastProduct (family_in memory.old a) (family_in memory.old b)) memory.old
+        memory.new) (λ _. RanOut memory.old memory.new) }
 {
     memory.is_sound();
     let one = memory.parts(a);
@@ -108,7 +113,9 @@ fn multiply_both(memory: &mut FamilyMemory, a: NodeRef, b: NodeRef) -> Result<No
 fn multiply_sides(memory: &mut FamilyMemory, one: &Parts, other: &Parts) -> Result<NodeRef, Spent>
     requires first { ArePartsAbove memory.old one.now.level one.now }
     requires second { ArePartsAbove memory.old one.now.level other.now }
-    ensures { MatchResult result (Gave (IsLeastSides (family_in memory.old one.now.lo) (family_in memory.old one.now.hi) (family_in memory.old other.now.lo) (family_in memory.old other.now.hi)) memory.old memory.new) (λ _. RanOut memory.old memory.new) }
+    ensures { MatchResult result (Gave (IsLeastSides (family_in memory.old one.now.lo) (family_in memory.old one.now.hi)
+        (family_in memory.old other.now.lo) (family_in memory.old other.now.hi)) memory.old memory.new)
+        (λ _. RanOut memory.old memory.new) }
 {
     memory.is_sound();
     let first = unite(memory, one.lo, one.hi)?;
@@ -124,7 +131,8 @@ fn multiply_above(memory: &mut FamilyMemory, a: NodeRef, b: NodeRef) -> Result<N
     requires has_b { Has memory.old b }
     requires inner { 2 ≤ a }
     requires level { level_in (map_of memory.old) a < level_in (map_of memory.old) b }
-    ensures { MatchResult result (Gave (IsLeastProduct (family_in memory.old a) (family_in memory.old b)) memory.old memory.new) (λ _. RanOut memory.old memory.new) }
+    ensures { MatchResult result (Gave (IsLeastProduct (family_in memory.old a) (family_in memory.old b)) memory.old
+        memory.new) (λ _. RanOut memory.old memory.new) }
 {
     memory.is_sound();
     let one = memory.parts(a);

@@ -1,3 +1,4 @@
+//! The operations on random small families, beside plain lists.
 ghost use Rattle.std.specs.Prelude.{IfOk};
 ghost use Rattle.family_memory.specs.Memory.{Has, Went};
 

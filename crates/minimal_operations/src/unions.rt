@@ -13,7 +13,8 @@ use zdd_words::NodeRef;
 pub fn union(memory: &mut FamilyMemory, a: NodeRef, b: NodeRef) -> Result<NodeRef, Spent>
     requires has_a { Has memory.old a }
     requires has_b { Has memory.old b }
-    ensures gives { IfOk result (Gave (IsLeastUnion (family_in memory.old a) (family_in memory.old b)) memory.old memory.new) }
+    ensures gives { IfOk result (Gave (IsLeastUnion (family_in memory.old a) (family_in memory.old b)) memory.old
+        memory.new) }
     ensures spent { IfErr result (λ _. RanOut memory.old memory.new) }
 {
     unite(memory, a, b)
@@ -35,12 +36,14 @@ fn union_end(a: NodeRef, b: NodeRef) -> Option<NodeRef>
     None
 }
 
-/// The same, of which an end makes nothing.
+/// The same, of which an end makes nothing. Calls that end here are inlined.
+#[inline(always)]
 #[cycle(unite)]
 pub(crate) fn unite(memory: &mut FamilyMemory, a: NodeRef, b: NodeRef) -> Result<NodeRef, Spent>
     requires has_a { Has memory.old a }
     requires has_b { Has memory.old b }
-    ensures { MatchResult result (Gave (IsLeastUnion (family_in memory.old a) (family_in memory.old b)) memory.old memory.new) (λ _. RanOut memory.old memory.new) }
+    ensures { MatchResult result (Gave (IsLeastUnion (family_in memory.old a) (family_in memory.old b)) memory.old
+        memory.new) (λ _. RanOut memory.old memory.new) }
 {
     memory.is_sound();
     if let Some(end) = union_end(a, b) {
@@ -68,7 +71,8 @@ fn unite_levels(memory: &mut FamilyMemory, a: NodeRef, b: NodeRef) -> Result<Nod
     requires has_a { Has memory.old a }
     requires has_b { Has memory.old b }
     requires nodes { (2 ≤ a) × (2 ≤ b) }
-    ensures { MatchResult result (Gave (IsLeastUnion (family_in memory.old a) (family_in memory.old b)) memory.old memory.new) (λ _. RanOut memory.old memory.new) }
+    ensures { MatchResult result (Gave (IsLeastUnion (family_in memory.old a) (family_in memory.old b)) memory.old
+        memory.new) (λ _. RanOut memory.old memory.new) }
 {
     memory.is_sound();
     let first = memory.level(a);
@@ -89,7 +93,8 @@ fn unite_both(memory: &mut FamilyMemory, a: NodeRef, b: NodeRef) -> Result<NodeR
     requires has_b { Has memory.old b }
     requires nodes { (2 ≤ a) × (2 ≤ b) }
     requires level { level_in (map_of memory.old) a ≡ level_in (map_of memory.old) b }
-    ensures { MatchResult result (Gave (IsLeastUnion (family_in memory.old a) (family_in memory.old b)) memory.old memory.new) (λ _. RanOut memory.old memory.new) }
+    ensures { MatchResult result (Gave (IsLeastUnion (family_in memory.old a) (family_in memory.old b)) memory.old
+        memory.new) (λ _. RanOut memory.old memory.new) }
 {
     memory.is_sound();
     let one = memory.parts(a);
@@ -107,7 +112,8 @@ fn unite_above(memory: &mut FamilyMemory, a: NodeRef, b: NodeRef) -> Result<Node
     requires has_b { Has memory.old b }
     requires inner { 2 ≤ a }
     requires level { level_in (map_of memory.old) a < level_in (map_of memory.old) b }
-    ensures { MatchResult result (Gave (IsLeastUnion (family_in memory.old a) (family_in memory.old b)) memory.old memory.new) (λ _. RanOut memory.old memory.new) }
+    ensures { MatchResult result (Gave (IsLeastUnion (family_in memory.old a) (family_in memory.old b)) memory.old
+        memory.new) (λ _. RanOut memory.old memory.new) }
 {
     memory.is_sound();
     let one = memory.parts(a);

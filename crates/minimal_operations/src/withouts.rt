@@ -14,7 +14,8 @@ use zdd_words::NodeRef;
 pub fn without(memory: &mut FamilyMemory, a: NodeRef, b: NodeRef) -> Result<NodeRef, Spent>
     requires has_a { Has memory.old a }
     requires has_b { Has memory.old b }
-    ensures gives { IfOk result (Gave (IsWithout (family_in memory.old a) (family_in memory.old b)) memory.old memory.new) }
+    ensures gives { IfOk result (Gave (IsWithout (family_in memory.old a) (family_in memory.old b)) memory.old
+        memory.new) }
     ensures spent { IfErr result (λ _. RanOut memory.old memory.new) }
 {
     strip(memory, a, b)
@@ -39,7 +40,8 @@ fn lowered(memory: &FamilyMemory, a: NodeRef, b: NodeRef) -> NodeRef
     requires has_b { Has memory.now b }
     ensures has { Has memory.now result }
     ensures level { 2 ≤ a → level_in (map_of memory.now) a ≤ level_in (map_of memory.now) result }
-    ensures same { (left : List (List ℕ)) → IsWithout (family_in memory.now a) (family_in memory.now result) left → IsWithout (family_in memory.now a) (family_in memory.now b) left }
+    ensures same { (left : List (List ℕ)) → IsWithout (family_in memory.now a) (family_in memory.now result) left
+        → IsWithout (family_in memory.now a) (family_in memory.now b) left }
 {
     memory.is_sound();
     if a.number() < 2 {
@@ -53,12 +55,14 @@ fn lowered(memory: &FamilyMemory, a: NodeRef, b: NodeRef) -> NodeRef
     part
 }
 
-/// The same, of which an end makes nothing.
+/// The same, of which an end makes nothing. Most calls end before the halves are looked at, so they are inlined.
+#[inline(always)]
 #[cycle(strip)]
 pub(crate) fn strip(memory: &mut FamilyMemory, a: NodeRef, b: NodeRef) -> Result<NodeRef, Spent>
     requires has_a { Has memory.old a }
     requires has_b { Has memory.old b }
-    ensures { MatchResult result (Gave (IsWithout (family_in memory.old a) (family_in memory.old b)) memory.old memory.new) (λ _. RanOut memory.old memory.new) }
+    ensures { MatchResult result (Gave (IsWithout (family_in memory.old a) (family_in memory.old b)) memory.old
+        memory.new) (λ _. RanOut memory.old memory.new) }
 {
     memory.is_sound();
     let part = lowered(memory, a, b);
@@ -89,7 +93,8 @@ fn strip_halves(memory: &mut FamilyMemory, a: NodeRef, b: NodeRef) -> Result<Nod
     requires has_b { Has memory.old b }
     requires inner { 2 ≤ a }
     requires level { level_in (map_of memory.old) a ≤ level_in (map_of memory.old) b }
-    ensures { MatchResult result (Gave (IsWithout (family_in memory.old a) (family_in memory.old b)) memory.old memory.new) (λ _. RanOut memory.old memory.new) }
+    ensures { MatchResult result (Gave (IsWithout (family_in memory.old a) (family_in memory.old b)) memory.old
+        memory.new) (λ _. RanOut memory.old memory.new) }
 {
     memory.is_sound();
     let one = memory.parts(a);

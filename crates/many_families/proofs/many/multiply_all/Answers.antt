@@ -17,20 +17,27 @@ pub multiply_split-requires-clause-has_b : goal.multiply_split-requires-clause-h
 multiply_split-requires-clause-has_b c =
     let inv = c.loop-place.invariant in
     let list = c.args.list.now in
-    let at : c.index-list-place.result ≡ get_or list c.loop-place.place 0 = get_or_read list c.loop-place.place c.index-list-place.result (omega arith) c.index-list-place.is 0 in
-    still_member c.args.memory.now c.loop-place.memory list c.loop-place.place c.loop-place.made c.index-list-place.result c.is_sound.ensures inv.went c.requires inv.has (omega arith) at inv.made
+    let at : c.index-list-place.result ≡ get_or list c.loop-place.place 0 =
+    get_or_read list c.loop-place.place c.index-list-place.result (omega arith) c.index-list-place.is 0 in
+    still_member c.args.memory.now c.loop-place.memory list c.loop-place.place c.loop-place.made
+    c.index-list-place.result c.is_sound.ensures inv.went c.requires inv.has (omega arith) at inv.made
 
 pub loop-place-preserved : goal.loop-place-preserved
 loop-place-preserved c =
     let inv = c.loop-place.invariant in
     let list = c.args.list.now in
-    let at : c.index-list-place.result ≡ get_or list c.loop-place.place 0 = get_or_read list c.loop-place.place c.index-list-place.result (omega arith) c.index-list-place.is 0 in
+    let at : c.index-list-place.result ≡ get_or list c.loop-place.place 0 =
+    get_or_read list c.loop-place.place c.index-list-place.result (omega arith) c.index-list-place.is 0 in
     let gave = c.in_ok-made.ensures in
-    let more = multiplied_more c.args.memory.now c.loop-place.memory list c.loop-place.place c.loop-place.made c.index-list-place.result c.is_sound.ensures inv.went c.requires inv.has (omega arith) at inv.made c.multiply_split.new.memory c.in_ok-made.made gave in
+    let more =
+    multiplied_more c.args.memory.now c.loop-place.memory list c.loop-place.place c.loop-place.made
+    c.index-list-place.result c.is_sound.ensures inv.went c.requires inv.has (omega arith) at inv.made
+    c.multiply_split.new.memory c.in_ok-made.made gave in
     record { went = more.0; has = gave.has; made = more.1 }
 
 pub returns-in_err-made : goal.returns-in_err-made
 returns-in_err-made c =
     let inv = c.loop-place.invariant in
     let p = err_from_is_err_and c.from_residual.result c.from_residual.ensures.1 in
-    rw p.1 (RanOut-then c.args.memory.now c.loop-place.memory c.multiply_split.new.memory inv.went c.in_err-made.ensures)
+    rw p.1 (RanOut-then c.args.memory.now c.loop-place.memory c.multiply_split.new.memory inv.went
+    c.in_err-made.ensures)

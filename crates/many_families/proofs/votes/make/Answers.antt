@@ -4,4 +4,6 @@ use Rattle.many_families.proofs.JoinSteps.{made_without}
 use Rattle.many_families.proofs.votes.make.Goals as goal
 
 pub returns-then-eq : goal.returns-then-eq
-returns-then-eq c = made_without c.args.memory.now c.args.level c.args.lo c.args.hi c.is_sound.ensures c.requires.has_lo (eqb-true c.args.hi 0 (sym c.eq.ensures ∙ c.if-eq.true))
+returns-then-eq c =
+    made_without c.args.memory.now c.args.level c.args.lo c.args.hi c.is_sound.ensures c.requires.has_lo
+    (eqb-true c.args.hi 0 (sym c.eq.ensures ∙ c.if-eq.true))

@@ -7,6 +7,7 @@ pub returns-then-number-floor : goal.returns-then-number-floor
 returns-then-number-floor c =
     let parts = c.parts-parts.result in (
       single_unit c.args.memory.now parts.level c.args.r parts.lo parts.hi c.parts-parts.ensures.cut
-          (eqb-true parts.lo 0 (sym c.eq.ensures ∙ c.if-eq.true)) (eqb-true parts.hi 1 (sym c.eq-then-eq.ensures ∙ c.if-eq-2.true)),
+          (eqb-true parts.lo 0 (sym c.eq.ensures ∙ c.if-eq.true))
+          (eqb-true parts.hi 1 (sym c.eq-then-eq.ensures ∙ c.if-eq-2.true)),
       omega arith,
     )

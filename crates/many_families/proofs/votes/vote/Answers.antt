@@ -11,13 +11,17 @@ loop-place-init g c =
     let voter = c.index-members-member.result in
     let inside = c.requires.1.0 in
     let voted = c.requires.1.1 in
-    let voter_is : voter ≡ get_or members c.args.member 0 = get_or_read members c.args.member voter inside c.index-members-member.is 0 in
+    let voter_is : voter ≡ get_or members c.args.member 0 =
+    get_or_read members c.args.member voter inside c.index-members-member.is 0 in
     record {
       went = Went-nowhere held c.is_sound.ensures;
       inside = inside;
-      voter = voter_begins held g.fs c.args.votes c.args.member c.args.floor members inside voted voter voter_is c.unit_below-below.result c.unit_below-below.ensures;
+      voter =
+          voter_begins held g.fs c.args.votes c.args.member c.args.floor members inside voted voter voter_is
+          c.unit_below-below.result c.unit_below-below.ensures;
       voting =
-          voting_begins held g.fs c.args.votes c.args.member c.args.floor members inside voted voter voter_is c.unit_below-below.result c.unit_below-below.ensures c.max-first.result
+          voting_begins held g.fs c.args.votes c.args.member c.args.floor members inside voted voter voter_is
+          c.unit_below-below.result c.unit_below-below.ensures c.max-first.result
           (λ at low enough. let e = c.max-first.ensures in omega (arith, e, low, enough));
     }
 
@@ -27,7 +31,11 @@ loop-place-preserved g c =
     let done = c.in_ok-vote_at.ensures in
     record {
       went = Went-then c.args.memory.now c.loop-place.memory c.vote_at.new.memory inv.went done.0;
-      inside = let h = inv.inside in let before = inv.voting.count in let after = done.1.count in omega (arith, h, before, after);
-      voter = voter_stays c.loop-place.memory c.vote_at.new.memory g.fs inv.went.sound done.0 c.args.member c.unit_below-below.result c.index-members-member.result inv.voter;
+      inside =
+          let h = inv.inside in let before = inv.voting.count in let after = done.1.count in
+          omega (arith, h, before, after);
+      voter =
+          voter_stays c.loop-place.memory c.vote_at.new.memory g.fs inv.went.sound done.0 c.args.member
+          c.unit_below-below.result c.index-members-member.result inv.voter;
       voting = done.1;
     }

@@ -6,18 +6,31 @@ use Rattle.many_families.proofs.VoteSteps.{given_no_votes, given_too_many}
 use Rattle.many_families.proofs.votes.votes_of_all.Goals as goal
 
 pub returns-then-votes-eq0-clause-gives : goal.returns-then-votes-eq0-clause-gives
-returns-then-votes-eq0-clause-gives c = given_no_votes c.args.memory.now c.args.list.now c.args.votes c.is_sound.ensures c.if-votes-eq0.true
+returns-then-votes-eq0-clause-gives c =
+    given_no_votes c.args.memory.now c.args.list.now c.args.votes c.is_sound.ensures c.if-votes-eq0.true
 
 pub returns-then-list-votes-clause-gives : goal.returns-then-list-votes-clause-gives
-returns-then-list-votes-clause-gives c = given_too_many c.args.memory.now c.args.list.now c.args.votes c.is_sound.ensures c.if-list-votes.true
+returns-then-list-votes-clause-gives c =
+    given_too_many c.args.memory.now c.args.list.now c.args.votes c.is_sound.ensures c.if-list-votes.true
 
 pub vote_in_order-requires : goal.vote_in_order-requires
 vote_in_order-requires c =
     let list = c.args.list.now in
     let members = c.put_in_order.new.places in
-    let same : length members ≡ length list = length_permutation list members c.put_in_order.ensures in
-    (omega arith, (let h = c.if-list-votes.false in omega (arith, same, h), (All-permutation (Has c.args.memory.now) list members c.put_in_order.ensures c.requires.has, refl)))
+    let same : length members ≡ length list = length_permutation list members c.put_in_order.ensures in (
+      omega arith,
+      (
+        let h = c.if-list-votes.false in
+            omega (arith, same, h),
+        (
+          All-permutation (Has c.args.memory.now) list members c.put_in_order.ensures
+              c.requires.has,
+          refl,
+        ),
+      ),
+    )
 
 pub returns-clause-gives : goal.returns-clause-gives
 returns-clause-gives c =
-    votes_reordered c.args.memory.now c.vote_in_order.new.memory c.args.list.now c.put_in_order.new.places c.args.votes c.put_in_order.ensures c.vote_in_order.result c.vote_in_order.ensures
+    votes_reordered c.args.memory.now c.vote_in_order.new.memory c.args.list.now c.put_in_order.new.places c.args.votes
+    c.put_in_order.ensures c.vote_in_order.result c.vote_in_order.ensures

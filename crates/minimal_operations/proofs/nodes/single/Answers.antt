@@ -1,4 +1,5 @@
-use Rattle.minimal_operations.proofs.Singles.{has_none, has_unit, none_above, unit_above, single_antichain, single_gives, single_spent}
+use Rattle.minimal_operations.proofs.Singles.{has_none, has_unit, none_above, unit_above, single_antichain}
+use Rattle.minimal_operations.proofs.Singles.{single_gives, single_spent}
 use Rattle.minimal_operations.proofs.nodes.single.Goals as goal
 
 pub make-requires-clause-has_lo : goal.make-requires-clause-has_lo
@@ -17,7 +18,9 @@ pub make-requires-clause-antichain : goal.make-requires-clause-antichain
 make-requires-clause-antichain c = single_antichain c.args.memory.now c.args.unit c.is_sound.ensures
 
 pub returns-clause-gives : goal.returns-clause-gives
-returns-clause-gives c = single_gives c.args.memory.now c.args.unit c.is_sound.ensures c.make.new.memory c.make.result c.make.ensures
+returns-clause-gives c =
+    single_gives c.args.memory.now c.args.unit c.is_sound.ensures c.make.new.memory c.make.result c.make.ensures
 
 pub returns-clause-spent : goal.returns-clause-spent
-returns-clause-spent c = single_spent c.args.memory.now c.args.unit c.is_sound.ensures c.make.new.memory c.make.result c.make.ensures
+returns-clause-spent c =
+    single_spent c.args.memory.now c.args.unit c.is_sound.ensures c.make.new.memory c.make.result c.make.ensures

@@ -4,7 +4,11 @@ use Rattle.minimal_operations.proofs.Answering.{gives_of, spent_of}
 use Rattle.minimal_operations.proofs.products.product.Goals as goal
 
 pub returns-clause-gives : goal.returns-clause-gives
-returns-clause-gives c = gives_of (IsLeastProduct (family_in c.args.memory.now c.args.a) (family_in c.args.memory.now c.args.b)) c.args.memory.now c.multiply.new.memory c.multiply.result c.multiply.ensures
+returns-clause-gives c =
+    gives_of (IsLeastProduct (family_in c.args.memory.now c.args.a) (family_in c.args.memory.now c.args.b))
+    c.args.memory.now c.multiply.new.memory c.multiply.result c.multiply.ensures
 
 pub returns-clause-spent : goal.returns-clause-spent
-returns-clause-spent c = spent_of (IsLeastProduct (family_in c.args.memory.now c.args.a) (family_in c.args.memory.now c.args.b)) c.args.memory.now c.multiply.new.memory c.multiply.result c.multiply.ensures
+returns-clause-spent c =
+    spent_of (IsLeastProduct (family_in c.args.memory.now c.args.a) (family_in c.args.memory.now c.args.b))
+    c.args.memory.now c.multiply.new.memory c.multiply.result c.multiply.ensures

@@ -7,41 +7,54 @@ use Rattle.family_memory.specs.declared.answers.Operation.TheVariants.{Without}
 use Rattle.minimal_operations.proofs.Ends.{without_ends}
 use Rattle.minimal_operations.proofs.Telling.{told_made}
 use Rattle.minimal_operations.proofs.Steps.{levels_from}
-use Rattle.minimal_operations.proofs.WithoutSteps.{lo_fewer, some_fewer, went_some, hi_fewer, has_lo, lo_above, hi_above, antichain, left_made}
+use Rattle.minimal_operations.proofs.WithoutSteps.{lo_fewer, some_fewer, went_some, hi_fewer, has_lo, lo_above}
+use Rattle.minimal_operations.proofs.WithoutSteps.{hi_above, antichain, left_made}
 use Rattle.minimal_operations.proofs.withouts.+strip.Goals as goal
 
 pub strip-returns-in-Some : goal.strip-returns-in-Some
 strip-returns-in-Some t c =
     let held = c.args.memory.now in
-    let fact = without_ends held c.args.a c.lowered-part.result c.in-Some.end c.is_sound.ensures c.requires.has_a c.lowered-part.ensures.has c.in-Some.ensures in
-    Gave-there (IsWithout (family_in held c.args.a) (family_in held c.args.b)) held c.in-Some.end c.is_sound.ensures fact.0 (c.lowered-part.ensures.same (family_in held c.in-Some.end) fact.1)
+    let fact =
+    without_ends held c.args.a c.lowered-part.result c.in-Some.end c.is_sound.ensures c.requires.has_a
+    c.lowered-part.ensures.has c.in-Some.ensures in
+    Gave-there (IsWithout (family_in held c.args.a) (family_in held c.args.b)) held c.in-Some.end c.is_sound.ensures
+    fact.0 (c.lowered-part.ensures.same (family_in held c.in-Some.end) fact.1)
 
 pub strip-returns-in-Some-recall : goal.strip-returns-in-Some-recall
 strip-returns-in-Some-recall t c =
     let held = c.args.memory.now in
     let answer = c.in-Some-recall.answer in
-    Gave-there (IsWithout (family_in held c.args.a) (family_in held c.args.b)) held answer c.is_sound.ensures c.in-Some-recall.ensures.answer (c.lowered-part.ensures.same (family_in held answer) c.in-Some-recall.ensures.is)
+    Gave-there (IsWithout (family_in held c.args.a) (family_in held c.args.b)) held answer c.is_sound.ensures
+    c.in-Some-recall.ensures.answer (c.lowered-part.ensures.same (family_in held answer)
+    c.in-Some-recall.ensures.is)
 
 pub strip-remember-requires : goal.strip-remember-requires
 strip-remember-requires t c =
-    told_made Without c.args.memory.now c.strip_halves.new.memory c.args.a c.lowered-part.result c.in_ok-left.left c.is_sound.ensures c.requires.has_a c.lowered-part.ensures.has c.in_ok-left.ensures
+    told_made Without c.args.memory.now c.strip_halves.new.memory c.args.a c.lowered-part.result c.in_ok-left.left
+    c.is_sound.ensures c.requires.has_a c.lowered-part.ensures.has c.in_ok-left.ensures
 
 pub strip-returns : goal.strip-returns
 strip-returns t c =
     let held = c.args.memory.now in
     let Is : List (List ℕ) → Type 0 = IsWithout (family_in held c.args.a) (family_in held c.args.b) in
     subst (λ (m : Held). Gave Is held m c.in_ok-left.left) (sym c.remember.ensures)
-    (Gave-then held held c.strip_halves.new.memory (Went-nowhere held c.is_sound.ensures) (IsWithout (family_in held c.args.a) (family_in held c.lowered-part.result)) Is c.in_ok-left.left
+    (Gave-then held held c.strip_halves.new.memory (Went-nowhere held c.is_sound.ensures)
+    (IsWithout (family_in held c.args.a) (family_in held c.lowered-part.result)) Is c.in_ok-left.left
     (λ left is. c.lowered-part.ensures.same left is) c.in_ok-left.ensures)
 
 pub strip_halves-strip-requires : goal.strip_halves-strip-requires
 strip_halves-strip-requires t c =
-    let fewer : levels_from c.args.memory.now c.parts-one.result.lo < levels_from c.args.memory.now c.args.a = lo_fewer c.args.memory.now c.args.a c.args.b c.parts-one.result c.half_at-other.result c.is_sound.ensures c.requires.has_a c.parts-one.ensures c.half_at-other.ensures in
+    let fewer : levels_from c.args.memory.now c.parts-one.result.lo < levels_from c.args.memory.now c.args.a =
+    lo_fewer c.args.memory.now c.args.a c.args.b c.parts-one.result c.half_at-other.result c.is_sound.ensures
+    c.requires.has_a c.parts-one.ensures c.half_at-other.ensures in
     (omega (arith, fewer), (c.parts-one.ensures.has_lo, c.half_at-other.ensures.has_lo))
 
 pub strip_halves-strip-requires-2 : goal.strip_halves-strip-requires-2
 strip_halves-strip-requires-2 t c =
-    let fewer : levels_from c.strip.new.memory c.parts-one.result.hi < levels_from c.args.memory.now c.args.a = some_fewer c.args.memory.now c.args.a c.args.b c.parts-one.result c.half_at-other.result c.is_sound.ensures c.requires.has_a c.parts-one.ensures c.half_at-other.ensures c.strip.new.memory c.in_ok-lo.lo c.in_ok-lo.ensures in
+    let fewer : levels_from c.strip.new.memory c.parts-one.result.hi < levels_from c.args.memory.now c.args.a =
+    some_fewer c.args.memory.now c.args.a c.args.b c.parts-one.result c.half_at-other.result c.is_sound.ensures
+    c.requires.has_a c.parts-one.ensures c.half_at-other.ensures c.strip.new.memory c.in_ok-lo.lo
+    c.in_ok-lo.ensures in
     let longer = c.in_ok-lo.ensures.went.longer in
     let has = c.parts-one.ensures.has_hi in
     let has' = c.half_at-other.ensures.has_hi in
@@ -49,37 +62,62 @@ strip_halves-strip-requires-2 t c =
 
 pub strip_halves-strip-requires-3 : goal.strip_halves-strip-requires-3
 strip_halves-strip-requires-3 t c =
-    let fewer : levels_from c.strip-2.new.memory c.in_ok-some.some < levels_from c.args.memory.now c.args.a = hi_fewer c.args.memory.now c.args.a c.args.b c.parts-one.result c.half_at-other.result c.is_sound.ensures c.requires.has_a c.parts-one.ensures c.half_at-other.ensures c.strip.new.memory c.in_ok-lo.lo c.in_ok-lo.ensures c.strip-2.new.memory c.in_ok-some.some c.in_ok-some.ensures in
-    let longer = (went_some c.args.memory.now c.args.a c.args.b c.parts-one.result c.half_at-other.result c.is_sound.ensures c.requires.has_a c.parts-one.ensures c.half_at-other.ensures c.strip.new.memory c.in_ok-lo.lo c.in_ok-lo.ensures c.strip-2.new.memory c.in_ok-some.some c.in_ok-some.ensures).longer in
+    let fewer : levels_from c.strip-2.new.memory c.in_ok-some.some < levels_from c.args.memory.now c.args.a =
+    hi_fewer c.args.memory.now c.args.a c.args.b c.parts-one.result c.half_at-other.result c.is_sound.ensures
+    c.requires.has_a c.parts-one.ensures c.half_at-other.ensures c.strip.new.memory c.in_ok-lo.lo
+    c.in_ok-lo.ensures c.strip-2.new.memory c.in_ok-some.some c.in_ok-some.ensures in
+    let longer =
+    (went_some c.args.memory.now c.args.a c.args.b c.parts-one.result c.half_at-other.result c.is_sound.ensures
+    c.requires.has_a c.parts-one.ensures c.half_at-other.ensures c.strip.new.memory c.in_ok-lo.lo
+    c.in_ok-lo.ensures c.strip-2.new.memory c.in_ok-some.some c.in_ok-some.ensures).longer in
     let has' = c.half_at-other.ensures.has_lo in
     (omega (arith, fewer), (c.in_ok-some.ensures.has, omega (arith, longer, has')))
 
 pub strip_halves-make-requires-clause-has_lo : goal.strip_halves-make-requires-clause-has_lo
 strip_halves-make-requires-clause-has_lo t c =
-    has_lo c.args.memory.now c.args.a c.args.b c.parts-one.result c.half_at-other.result c.is_sound.ensures c.requires.has_a c.parts-one.ensures c.half_at-other.ensures c.strip.new.memory c.in_ok-lo.lo c.in_ok-lo.ensures c.strip-2.new.memory c.in_ok-some.some c.in_ok-some.ensures c.strip-3.new.memory c.in_ok-hi.hi c.in_ok-hi.ensures
+    has_lo c.args.memory.now c.args.a c.args.b c.parts-one.result c.half_at-other.result c.is_sound.ensures
+    c.requires.has_a c.parts-one.ensures c.half_at-other.ensures c.strip.new.memory c.in_ok-lo.lo c.in_ok-lo.ensures
+    c.strip-2.new.memory c.in_ok-some.some c.in_ok-some.ensures c.strip-3.new.memory c.in_ok-hi.hi
+    c.in_ok-hi.ensures
 
 pub strip_halves-make-requires-clause-lo_above : goal.strip_halves-make-requires-clause-lo_above
 strip_halves-make-requires-clause-lo_above t c =
-    lo_above c.args.memory.now c.args.a c.args.b c.parts-one.result c.half_at-other.result c.is_sound.ensures c.requires.has_a c.parts-one.ensures c.half_at-other.ensures c.strip.new.memory c.in_ok-lo.lo c.in_ok-lo.ensures c.strip-2.new.memory c.in_ok-some.some c.in_ok-some.ensures c.strip-3.new.memory c.in_ok-hi.hi c.in_ok-hi.ensures
+    lo_above c.args.memory.now c.args.a c.args.b c.parts-one.result c.half_at-other.result c.is_sound.ensures
+    c.requires.has_a c.parts-one.ensures c.half_at-other.ensures c.strip.new.memory c.in_ok-lo.lo c.in_ok-lo.ensures
+    c.strip-2.new.memory c.in_ok-some.some c.in_ok-some.ensures c.strip-3.new.memory c.in_ok-hi.hi
+    c.in_ok-hi.ensures
 
 pub strip_halves-make-requires-clause-hi_above : goal.strip_halves-make-requires-clause-hi_above
 strip_halves-make-requires-clause-hi_above t c =
-    hi_above c.args.memory.now c.args.a c.args.b c.parts-one.result c.half_at-other.result c.is_sound.ensures c.requires.has_a c.parts-one.ensures c.half_at-other.ensures c.strip.new.memory c.in_ok-lo.lo c.in_ok-lo.ensures c.strip-2.new.memory c.in_ok-some.some c.in_ok-some.ensures c.strip-3.new.memory c.in_ok-hi.hi c.in_ok-hi.ensures
+    hi_above c.args.memory.now c.args.a c.args.b c.parts-one.result c.half_at-other.result c.is_sound.ensures
+    c.requires.has_a c.parts-one.ensures c.half_at-other.ensures c.strip.new.memory c.in_ok-lo.lo c.in_ok-lo.ensures
+    c.strip-2.new.memory c.in_ok-some.some c.in_ok-some.ensures c.strip-3.new.memory c.in_ok-hi.hi
+    c.in_ok-hi.ensures
 
 pub strip_halves-make-requires-clause-antichain : goal.strip_halves-make-requires-clause-antichain
 strip_halves-make-requires-clause-antichain t c =
-    antichain c.args.memory.now c.args.a c.args.b c.parts-one.result c.half_at-other.result c.is_sound.ensures c.requires.has_a c.parts-one.ensures c.half_at-other.ensures c.strip.new.memory c.in_ok-lo.lo c.in_ok-lo.ensures c.strip-2.new.memory c.in_ok-some.some c.in_ok-some.ensures c.strip-3.new.memory c.in_ok-hi.hi c.in_ok-hi.ensures
+    antichain c.args.memory.now c.args.a c.args.b c.parts-one.result c.half_at-other.result c.is_sound.ensures
+    c.requires.has_a c.parts-one.ensures c.half_at-other.ensures c.strip.new.memory c.in_ok-lo.lo c.in_ok-lo.ensures
+    c.strip-2.new.memory c.in_ok-some.some c.in_ok-some.ensures c.strip-3.new.memory c.in_ok-hi.hi
+    c.in_ok-hi.ensures
 
 pub strip_halves-returns-in_err-some : goal.strip_halves-returns-in_err-some
 strip_halves-returns-in_err-some t c =
     let p = err_from_is_err_and c.from_residual-in_err-some.result c.from_residual-in_err-some.ensures.1 in
-    rw p.1 (RanOut-then c.args.memory.now c.strip.new.memory c.strip-2.new.memory c.in_ok-lo.ensures.went c.in_err-some.ensures)
+    rw p.1 (RanOut-then c.args.memory.now c.strip.new.memory c.strip-2.new.memory c.in_ok-lo.ensures.went
+    c.in_err-some.ensures)
 
 pub strip_halves-returns-in_err-hi : goal.strip_halves-returns-in_err-hi
 strip_halves-returns-in_err-hi t c =
     let p = err_from_is_err_and c.from_residual-in_err-hi.result c.from_residual-in_err-hi.ensures.1 in
-    rw p.1 (RanOut-then c.args.memory.now c.strip-2.new.memory c.strip-3.new.memory (went_some c.args.memory.now c.args.a c.args.b c.parts-one.result c.half_at-other.result c.is_sound.ensures c.requires.has_a c.parts-one.ensures c.half_at-other.ensures c.strip.new.memory c.in_ok-lo.lo c.in_ok-lo.ensures c.strip-2.new.memory c.in_ok-some.some c.in_ok-some.ensures) c.in_err-hi.ensures)
+    rw p.1 (RanOut-then c.args.memory.now c.strip-2.new.memory c.strip-3.new.memory
+    (went_some c.args.memory.now c.args.a c.args.b c.parts-one.result c.half_at-other.result c.is_sound.ensures
+    c.requires.has_a c.parts-one.ensures c.half_at-other.ensures c.strip.new.memory c.in_ok-lo.lo c.in_ok-lo.ensures
+    c.strip-2.new.memory c.in_ok-some.some c.in_ok-some.ensures) c.in_err-hi.ensures)
 
 pub strip_halves-returns : goal.strip_halves-returns
 strip_halves-returns t c =
-    left_made c.args.memory.now c.args.a c.args.b c.parts-one.result c.half_at-other.result c.is_sound.ensures c.requires.has_a c.parts-one.ensures c.half_at-other.ensures c.strip.new.memory c.in_ok-lo.lo c.in_ok-lo.ensures c.strip-2.new.memory c.in_ok-some.some c.in_ok-some.ensures c.strip-3.new.memory c.in_ok-hi.hi c.in_ok-hi.ensures c.make.new.memory c.make.result c.make.ensures
+    left_made c.args.memory.now c.args.a c.args.b c.parts-one.result c.half_at-other.result c.is_sound.ensures
+    c.requires.has_a c.parts-one.ensures c.half_at-other.ensures c.strip.new.memory c.in_ok-lo.lo c.in_ok-lo.ensures
+    c.strip-2.new.memory c.in_ok-some.some c.in_ok-some.ensures c.strip-3.new.memory c.in_ok-hi.hi
+    c.in_ok-hi.ensures c.make.new.memory c.make.result c.make.ensures

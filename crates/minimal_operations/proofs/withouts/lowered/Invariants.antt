@@ -7,7 +7,8 @@ use Rattle.minimal_operations.proofs.withouts.lowered.Given as goal
 abbrev pub invariant-loop-part : goal.invariant-loop-part
 invariant-loop-part l = record {
   has : Has l.memory l.part;
-  same : (left : List (List ℕ)) → IsWithout (family_in l.memory l.fn.a) (family_in l.memory l.part) left → IsWithout (family_in l.memory l.fn.a) (family_in l.memory l.fn.b) left;
+  same : (left : List (List ℕ)) → IsWithout (family_in l.memory l.fn.a) (family_in l.memory l.part) left
+      → IsWithout (family_in l.memory l.fn.a) (family_in l.memory l.fn.b) left;
 }
 
 abbrev pub decreases-loop-part : goal.decreases-loop-part
