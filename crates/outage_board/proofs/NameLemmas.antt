@@ -1,5 +1,6 @@
 -- The unit that a name names, and the units of a take.
-use Rattle.std.proofs.Common.{◌≡◌, ◌≢◌, ℕ, zero, suc, ◌+◌, ◌-◌, ◌<◌, ◌≤◌, Bool, true, false, List, [], ◌∷◌, length, get_or, AllPairs, refl, sym, ◌∙◌, ap, arith}
+use Rattle.std.proofs.Common.{◌≡◌, ◌≢◌, ℕ, zero, suc, ◌+◌, ◌-◌, ◌<◌, ◌≤◌, Bool, true, false, List, [], ◌∷◌, length}
+use Rattle.std.proofs.Common.{get_or, AllPairs, refl, sym, ◌∙◌, ap, arith}
 use Rattle.std.specs.Prelude.{if◌then◌else◌, nat_le, Option, Some, None, IfSome, IsNone, ◌↔◌}
 use Rattle.std.proofs.lemmas.Bool.{leb-true, le-leb}
 use lib.Pointwise.{bytes_decides}
@@ -15,18 +16,23 @@ differ_tail : (name : List ℕ) (names : List (List ℕ)) → Differ (name ∷ n
 differ_tail name names differ i j d less short = differ (suc i) (suc j) d (omega arith) (omega arith)
 
 -- the number of a name that stands among names that differ
-number_at : (names : List (List ℕ)) (name : List ℕ) (number place : ℕ) → Differ names → place < length names → get_or names place [] ≡ name → number_from number names name ≡ Some (number + place)
+number_at : (names : List (List ℕ)) (name : List ℕ) (number place : ℕ) → Differ names → place < length names
+    → get_or names place [] ≡ name → number_from number names name ≡ Some (number + place)
 number_at [] name number place differ short at = absurd (omega arith)
-number_at (first ∷ names) name number zero differ short at = by_same (same_name first name) ((bytes_decides first name).1 at)
+number_at (first ∷ names) name number zero differ short at =
+    by_same (same_name first name) ((bytes_decides first name).1 at)
   where
-    by_same : (same : Bool) → same ≡ true → (if same then Some number else number_from (suc number) names name) ≡ Some (number + 0)
+    by_same : (same : Bool) → same ≡ true → (if same then Some number else number_from (suc number) names name)
+        ≡ Some (number + 0)
     by_same true is = ap Some (omega arith)
     by_same false is = absurd cc
 number_at (first ∷ names) name number (suc place) differ short at =
-    by_same (same_name first name) (λ same. differ 0 (suc place) [] (omega arith) short ((bytes_decides first name).0 same ∙ sym at))
+    by_same (same_name first name) (λ same. differ 0 (suc place) [] (omega arith) short
+    ((bytes_decides first name).0 same ∙ sym at))
     (number_at names name (suc number) place (differ_tail first names differ) (omega arith) at)
   where
-    by_same : (same : Bool) → (same ≡ true → ⊥) → number_from (suc number) names name ≡ Some (suc number + place) → (if same then Some number else number_from (suc number) names name) ≡ Some (number + suc place)
+    by_same : (same : Bool) → (same ≡ true → ⊥) → number_from (suc number) names name ≡ Some (suc number + place)
+        → (if same then Some number else number_from (suc number) names name) ≡ Some (number + suc place)
     by_same true apart later = absurd (apart refl)
     by_same false apart later = later ∙ ap Some (omega arith)
 
@@ -34,16 +40,21 @@ some_is : (a b : ℕ) → Some a ≡ Some b → a ≡ b
 some_is a b e = cc
 
 abbrev IsThere : List (List ℕ) → List ℕ → ℕ → ℕ → Type 0
-IsThere names name number found = (number ≤ found) × (found < number + length names) × (get_or names (found - number) [] ≡ name)
+IsThere names name number found =
+    (number ≤ found) × (found < number + length names) × (get_or names (found - number) [] ≡ name)
 
 -- a name with a number stands there
-number_there : (names : List (List ℕ)) (name : List ℕ) (number found : ℕ) → number_from number names name ≡ Some found → IsThere names name number found
+number_there : (names : List (List ℕ)) (name : List ℕ) (number found : ℕ) → number_from number names name ≡ Some found
+    → IsThere names name number found
 number_there [] name number found is = absurd cc
 number_there (first ∷ names) name number found is =
-    by_same (same_name first name) (λ same. (bytes_decides first name).0 same) (λ later. number_there names name (suc number) found later) is
+    by_same (same_name first name) (λ same. (bytes_decides first name).0 same)
+    (λ later. number_there names name (suc number) found later) is
   where
-    by_same : (same : Bool) → (same ≡ true → first ≡ name) → (number_from (suc number) names name ≡ Some found → IsThere names name (suc number) found)
-        → (if same then Some number else number_from (suc number) names name) ≡ Some found → IsThere (first ∷ names) name number found
+    by_same : (same : Bool) → (same ≡ true → first ≡ name)
+        → (number_from (suc number) names name ≡ Some found → IsThere names name (suc number) found)
+        → (if same then Some number else number_from (suc number) names name) ≡ Some found
+        → IsThere (first ∷ names) name number found
     by_same true means later is' =
         let e : number ≡ found = some_is number found is' in
         let z : found - number ≡ 0 = omega arith in
@@ -55,12 +66,15 @@ number_there (first ∷ names) name number found is =
         let z : found - number ≡ suc (found - suc number) = omega arith in
         (omega arith, omega arith, ap (λ k. get_or (first ∷ names) k []) z ∙ there.2)
 
-unit_named : (tree : FaultTree) (unit : ℕ) (found : Option ℕ) → unit ≤ unit_count tree → found ≡ Some unit → Some unit ≡ only_unit tree found
+unit_named : (tree : FaultTree) (unit : ℕ) (found : Option ℕ) → unit ≤ unit_count tree → found ≡ Some unit
+    → Some unit ≡ only_unit tree found
 unit_named tree unit found inside is = rw (is, le-leb unit (unit_count tree) inside) refl
 
-no_unit : (tree : FaultTree) (found : Option ℕ) → ((node : ℕ) → found ≡ Some node → node ≤ unit_count tree → ⊥) → None ≡ only_unit tree found
+no_unit : (tree : FaultTree) (found : Option ℕ) → ((node : ℕ) → found ≡ Some node → node ≤ unit_count tree → ⊥)
+    → None ≡ only_unit tree found
 no_unit tree None never = refl
-no_unit tree (Some node) never = by_inside (nat_le node (unit_count tree)) (λ inside. never node refl (leb-true node (unit_count tree) inside))
+no_unit tree (Some node) never =
+    by_inside (nat_le node (unit_count tree)) (λ inside. never node refl (leb-true node (unit_count tree) inside))
   where
     by_inside : (inside : Bool) → (inside ≡ true → ⊥) → None ≡ (if inside then Some node else None)
     by_inside true outside = absurd (outside refl)
@@ -73,7 +87,8 @@ pub named_is : (tree : FaultTree) (name : List ℕ) (told : Option ℕ) → IsTr
     → told ≡ unit_of tree name
 named_is tree name (Some unit) kept some none =
     unit_named tree unit (number_from 1 tree.names name) some.0.1
-    (number_at tree.names name 1 (unit - 1) kept.names_differ (let all = kept.names_all in omega (arith, some.0.0, some.0.1)) some.1 ∙ ap Some (omega (arith, some.0.0)))
+    (number_at tree.names name 1 (unit - 1) kept.names_differ
+    (let all = kept.names_all in omega (arith, some.0.0, some.0.1)) some.1 ∙ ap Some (omega (arith, some.0.0)))
 named_is tree name None kept some none =
     no_unit tree (number_from 1 tree.names name)
     (λ node is inside. let there = number_there tree.names name 1 node is in none.0 refl node (there.0, inside) there.2)
@@ -81,15 +96,23 @@ named_is tree name None kept some none =
 -- ---- the units of a take
 
 -- a name's unit has the name
-pub named_by : (tree : FaultTree) (name : List ℕ) (unit : ℕ) → unit_of tree name ≡ Some unit → (unit ≤ unit_count tree) × (get_or tree.names (unit - 1) [] ≡ name)
+pub named_by : (tree : FaultTree) (name : List ℕ) (unit : ℕ) → unit_of tree name ≡ Some unit
+    → (unit ≤ unit_count tree) × (get_or tree.names (unit - 1) [] ≡ name)
 named_by tree name unit is = by_found (number_from 1 tree.names name) refl is
   where
-    by_inside : (node : ℕ) (inside : Bool) → (inside ≡ true → node ≤ unit_count tree) → number_from 1 tree.names name ≡ Some node → (if inside then Some node else None) ≡ Some unit → (unit ≤ unit_count tree) × (get_or tree.names (unit - 1) [] ≡ name)
+    by_inside : (node : ℕ) (inside : Bool) → (inside ≡ true → node ≤ unit_count tree)
+        → number_from 1 tree.names name ≡ Some node → (if inside then Some node else None) ≡ Some unit
+        → (unit ≤ unit_count tree) × (get_or tree.names (unit - 1) [] ≡ name)
     by_inside node true within found e =
-        let same : node ≡ unit = some_is node unit e in
-        (omega (arith, within refl), ap (λ k. get_or tree.names (k - 1) []) (sym same) ∙ (number_there tree.names name 1 node found).2)
+        let same : node ≡ unit = some_is node unit e in (
+          omega (arith, within refl),
+          ap (λ k. get_or tree.names (k - 1) []) (sym same)
+              ∙ (number_there tree.names name 1 node found).2,
+        )
     by_inside node false within found e = absurd cc
 
-    by_found : (found : Option ℕ) → number_from 1 tree.names name ≡ found → only_unit tree found ≡ Some unit → (unit ≤ unit_count tree) × (get_or tree.names (unit - 1) [] ≡ name)
+    by_found : (found : Option ℕ) → number_from 1 tree.names name ≡ found → only_unit tree found ≡ Some unit
+        → (unit ≤ unit_count tree) × (get_or tree.names (unit - 1) [] ≡ name)
     by_found None found e = absurd cc
-    by_found (Some node) found e = by_inside node (nat_le node (unit_count tree)) (leb-true node (unit_count tree)) found e
+    by_found (Some node) found e =
+        by_inside node (nat_le node (unit_count tree)) (leb-true node (unit_count tree)) found e

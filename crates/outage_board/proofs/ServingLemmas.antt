@@ -20,14 +20,23 @@ use Rattle.outage_board.proofs.BoardLemmas.{IsEntryFor, entry_for-is}
 use Rattle.outage_board.proofs.TimesLemmas.{times_of-first}
 
 -- a pass of one crew may ask for the turn
-pub may_ask : (deck : Deck) (me : Me BoardView View) (crew : CrewNo) → me.0.opened.deck ≡ deck → IsPass me crew → MayTake deck me
-may_ask deck me crew opened pass = record { opened = opened; turn = pass.turn; crew = let e : length me.0.crews ≡ 1 = ap length pass.own in omega arith; holds_none = pass.holds_none }
+pub may_ask : (deck : Deck) (me : Me BoardView View) (crew : CrewNo) → me.0.opened.deck ≡ deck → IsPass me crew
+    → MayTake deck me
+may_ask deck me crew opened pass =
+    record {
+      opened = opened;
+      turn = pass.turn;
+      crew = let e : length me.0.crews ≡ 1 = ap length pass.own in
+          omega arith;
+      holds_none = pass.holds_none;
+    }
 
 -- the state that a place holds, and what is left of it
 pub held_first : (me : List (ℕ × BoardView)) (board : BoardView) → me ≡ (0, board) ∷ [] → me ≡ (0, board) ∷ rest me
 held_first me board is = is ∙ ap (λ (l : List (ℕ × BoardView)). (0, board) ∷ rest l) (sym is)
 
-module _ (crew : CrewNo) (before taken : Me BoardView View) (pass : IsPass before crew) (has : HasTaken before taken) where
+module _ (crew : CrewNo) (before taken : Me BoardView View) (pass : IsPass before crew)
+    (has : HasTaken before taken) where
   abbrev made : List Entry
   made = entries_made before.0.crews
 
@@ -44,10 +53,14 @@ module _ (crew : CrewNo) (before taken : Me BoardView View) (pass : IsPass befor
   held_is = ap held holds_board
 
   pub crew_low : crew.0 < length before.0.opened.deck.crews
-  crew_low = All-head (λ (m : Made). m.crew < length before.0.opened.deck.crews) one [] (subst (All (λ (m : Made). m.crew < length before.0.opened.deck.crews)) pass.own has.crews)
+  crew_low =
+      All-head (λ (m : Made). m.crew < length before.0.opened.deck.crews) one []
+      (subst (All (λ (m : Made). m.crew < length before.0.opened.deck.crews)) pass.own has.crews)
 
   all_made : entries_of crew.0 has.history ≡ made
-  all_made = All-head (λ (m : Made). entries_of m.crew has.history ≡ m.entries) one [] (subst (All (λ (m : Made). entries_of m.crew has.history ≡ m.entries)) pass.own has.made)
+  all_made =
+      All-head (λ (m : Made). entries_of m.crew has.history ≡ m.entries) one []
+      (subst (All (λ (m : Made). entries_of m.crew has.history ≡ m.entries)) pass.own has.made)
 
   module _ (result : Option Entry) (is : result ≡ next_entry (held taken.1) crew) where
     abbrev docket : List Request
@@ -56,8 +69,12 @@ module _ (crew : CrewNo) (before taken : Me BoardView View) (pass : IsPass befor
     next_is : result ≡ next_entry board crew
     next_is = is ∙ ap (λ (b : BoardView). next_entry b crew) held_is
 
-    facts : (entry : Entry) → result ≡ Some entry → IsEntryFor (standing_of board) crew (served crew.0 has.history) (slice_get docket (served crew.0 has.history)) entry
-    facts entry there = entry_for-is (standing_of board) crew (served crew.0 has.history) (slice_get docket (served crew.0 has.history)) entry (sym next_is ∙ there)
+    facts : (entry : Entry) → result ≡ Some entry
+        → IsEntryFor (standing_of board) crew (served crew.0 has.history) (slice_get docket (served crew.0 has.history))
+        entry
+    facts entry there =
+        entry_for-is (standing_of board) crew (served crew.0 has.history) (slice_get docket (served crew.0 has.history))
+        entry (sym next_is ∙ there)
 
     pub none_when : IsNone result ↔ IsUsedUp (held taken.1) crew.0 → IsNone result ↔ (length made ≡ length docket)
     none_when up =
@@ -73,17 +90,25 @@ module _ (crew : CrewNo) (before taken : Me BoardView View) (pass : IsPass befor
     pub of_docket : (entry : Entry) → result ≡ Some entry → slice_get docket entry.place ≡ Some entry.request
     of_docket entry there = ap (slice_get docket) ((facts entry there).at) ∙ (facts entry there).asked
 
-    follows : (found : Option Entry) → result ≡ found → MayFollow (holding has.history before.0) (with_entry board found).history
+    follows : (found : Option Entry) → result ≡ found
+        → MayFollow (holding has.history before.0) (with_entry board found).history
     follows None same = inl refl
     follows (Some entry) same =
-        inr (entry, refl, subst (λ (p : ℕ × List Made). 0 < times_of p.0 p.1) (λ i. (sym (ap (λ (c : CrewNo). c.0) (own_crew entry same)) i, sym pass.own i)) (times_of-first one []))
+        inr (
+          entry,
+          refl,
+          subst (λ (p : ℕ × List Made). 0 < times_of p.0 p.1)
+              (λ i. (sym (ap (λ (c : CrewNo). c.0) (own_crew entry same)) i, sym pass.own i)) (times_of-first one []),
+        )
 
-    with_deck : (found : Option Entry) → with_entry board found ≡ record { deck = before.0.opened.deck; history = (with_entry board found).history }
+    with_deck : (found : Option Entry) → with_entry board found
+        ≡ record { deck = before.0.opened.deck; history = (with_entry board found).history }
     with_deck None = refl
     with_deck (Some entry) = refl
 
     -- the turn goes back with what was served
-    module _ (then : Me BoardView View) (so : ◌≡◌ {A = Me BoardView View} then (taken.0, (0, with_entry (held taken.1) result) ∷ [])) where
+    module _ (then : Me BoardView View) (so : ◌≡◌ {A = Me BoardView View}
+        then (taken.0, (0, with_entry (held taken.1) result) ∷ [])) where
       then_is : ◌≡◌ {A = Me BoardView View} then (holding has.history before.0, (0, with_entry board result) ∷ [])
       then_is = so ∙ (λ i. (has.view i, (0, with_entry (held_is i) result) ∷ []))
 
@@ -92,13 +117,18 @@ module _ (crew : CrewNo) (before taken : Me BoardView View) (pass : IsPass befor
         opened = opened;
         turn = refl;
         history = (with_entry board result).history;
-        state = ap (λ (b : BoardView). (0, b) ∷ []) (with_deck result ∙ ap (λ (d : Deck). record { deck = d; history = (with_entry board result).history }) opened);
+        state =
+            ap (λ (b : BoardView). (0, b) ∷ []) (with_deck result
+            ∙ ap (λ (d : Deck). record { deck = d; history = (with_entry board result).history }) opened);
         follows = follows result refl;
       })
 
-      made_then : (found : Option Entry) → result ≡ found → entries_of crew.0 (with_entry board found).history ≡ made_with found made
+      made_then : (found : Option Entry) → result ≡ found
+          → entries_of crew.0 (with_entry board found).history ≡ made_with found made
       made_then None same = all_made
-      made_then (Some entry) same = entries_of-own has.history entry crew.0 (sym (ap (λ (c : CrewNo). c.0) (own_crew entry same))) ∙ ap (λ l. l ++ entry ∷ []) all_made
+      made_then (Some entry) same =
+          entries_of-own has.history entry crew.0 (sym (ap (λ (c : CrewNo). c.0) (own_crew entry same)))
+          ∙ ap (λ l. l ++ entry ∷ []) all_made
 
       module _ (after : Me BoardView View) (gave : HasGiven then after) where
         gave_board : gave.board ≡ with_entry board result
@@ -125,6 +155,7 @@ module _ (crew : CrewNo) (before taken : Me BoardView View) (pass : IsPass befor
         }
 
 -- a fact of an entry that there is
-pub if_some : (P : Entry → Type 0) (result : Option Entry) → ((entry : Entry) → result ≡ Some entry → P entry) → IfSome result P
+pub if_some : (P : Entry → Type 0) (result : Option Entry) → ((entry : Entry) → result ≡ Some entry → P entry)
+    → IfSome result P
 if_some P None of = tt
 if_some P (Some entry) of = of entry refl

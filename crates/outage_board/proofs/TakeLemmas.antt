@@ -1,5 +1,6 @@
 -- The units of a take's names may be asked for.
-use Rattle.std.proofs.Common.{◌≡◌, ℕ, suc, ◌-◌, ◌≤◌, Bool, true, false, not, List, [], ◌∷◌, ◌++◌, length, get_or, refl, sym, ◌∙◌, ap, subst, arith, inl, inr}
+use Rattle.std.proofs.Common.{◌≡◌, ℕ, suc, ◌-◌, ◌≤◌, Bool, true, false, not, List, [], ◌∷◌, ◌++◌, length, get_or, refl}
+use Rattle.std.proofs.Common.{sym, ◌∙◌, ap, subst, arith, inl, inr}
 use Rattle.std.specs.Prelude.{nat_le, nat_lt, ◌||◌, ◌&&◌, ◌==◌, Option, Some, None, is_none}
 use Rattle.std.proofs.lemmas.Bool.{cases_lt, lt-ltb, le-ltb, leb-true, le-leb, and_parts, or_left, or_right}
 use Rattle.std.proofs.lemmas.List.Folds.{list_any-append}
@@ -15,7 +16,8 @@ pub units_within : (tree : FaultTree) (names : List (List ℕ)) → length (unit
 units_within tree [] = omega arith
 units_within tree (name ∷ names) = by_unit (unit_of tree name) (units_within tree names)
   where
-    by_unit : (found : Option ℕ) → length (units_of tree names) ≤ length names → length (with_unit found (units_of tree names)) ≤ length (name ∷ names)
+    by_unit : (found : Option ℕ) → length (units_of tree names) ≤ length names
+        → length (with_unit found (units_of tree names)) ≤ length (name ∷ names)
     by_unit None later = omega arith
     by_unit (Some unit) later = omega arith
 
@@ -26,49 +28,71 @@ lt_suc a b = elim (cases_lt a b) [
 ]
 
 -- some name names no unit where there are fewer units than names
-pub unknown_is : (tree : FaultTree) (names : List (List ℕ)) → some_unknown tree names ≡ nat_lt (length (units_of tree names)) (length names)
+pub unknown_is : (tree : FaultTree) (names : List (List ℕ))
+    → some_unknown tree names ≡ nat_lt (length (units_of tree names)) (length names)
 unknown_is tree [] = sym (le-ltb 0 0 (omega arith))
 unknown_is tree (name ∷ names) = by_unit (unit_of tree name) (unknown_is tree names) (units_within tree names)
   where
-    by_unit : (found : Option ℕ) → some_unknown tree names ≡ nat_lt (length (units_of tree names)) (length names) → length (units_of tree names) ≤ length names
-        → (is_none found || some_unknown tree names) ≡ nat_lt (length (with_unit found (units_of tree names))) (length (name ∷ names))
+    by_unit : (found : Option ℕ) → some_unknown tree names ≡ nat_lt (length (units_of tree names)) (length names)
+        → length (units_of tree names) ≤ length names
+        → (is_none found || some_unknown tree names) ≡ nat_lt (length (with_unit found (units_of tree names)))
+        (length (name ∷ names))
     by_unit None later within = sym (lt-ltb (length (units_of tree names)) (suc (length names)) (omega arith))
     by_unit (Some unit) later within = later ∙ lt_suc (length (units_of tree names)) (length names)
 
 -- a unit of a take has one of its names
-among_named : (tree : FaultTree) (names : List (List ℕ)) (unit : ℕ) → among (units_of tree names) unit ≡ true → has_name names (get_or tree.names (unit - 1) []) ≡ true
+among_named : (tree : FaultTree) (names : List (List ℕ)) (unit : ℕ) → among (units_of tree names) unit ≡ true
+    → has_name names (get_or tree.names (unit - 1) []) ≡ true
 among_named tree [] unit is = absurd cc
 among_named tree (name ∷ names) unit is = by_unit (unit_of tree name) refl (among_named tree names unit) is
   where
-    here : (found : ℕ) → unit_of tree name ≡ Some found → (found == unit) ≡ true → same_name (get_or tree.names (unit - 1) []) name ≡ true
+    here : (found : ℕ) → unit_of tree name ≡ Some found → (found == unit) ≡ true
+        → same_name (get_or tree.names (unit - 1) []) name ≡ true
     here found at e =
         let same : found ≡ unit = eqb_is found unit e in
-        (bytes_decides (get_or tree.names (unit - 1) []) name).1 (ap (λ k. get_or tree.names (k - 1) []) (sym same) ∙ (named_by tree name found at).1)
+        (bytes_decides (get_or tree.names (unit - 1) []) name).1
+        (ap (λ k. get_or tree.names (k - 1) []) (sym same) ∙ (named_by tree name found at).1)
       where
         eqb_is : (a b : ℕ) → (a == b) ≡ true → a ≡ b
         eqb_is a b h = search (arith)
 
-    by_unit : (found : Option ℕ) → unit_of tree name ≡ found → (among (units_of tree names) unit ≡ true → has_name names (get_or tree.names (unit - 1) []) ≡ true)
-        → among (with_unit found (units_of tree names)) unit ≡ true → has_name (name ∷ names) (get_or tree.names (unit - 1) []) ≡ true
-    by_unit None at later is' = or_right (same_name (get_or tree.names (unit - 1) []) name) (has_name names (get_or tree.names (unit - 1) [])) (later is')
+    by_unit : (found : Option ℕ) → unit_of tree name ≡ found
+        → (among (units_of tree names) unit ≡ true → has_name names (get_or tree.names (unit - 1) []) ≡ true)
+        → among (with_unit found (units_of tree names)) unit ≡ true
+        → has_name (name ∷ names) (get_or tree.names (unit - 1) []) ≡ true
+    by_unit None at later is' =
+        or_right (same_name (get_or tree.names (unit - 1) []) name) (has_name names (get_or tree.names (unit - 1) []))
+        (later is')
     by_unit (Some found) at later is' = by_same (found == unit) (here found at) later is'
       where
-        by_same : (same : Bool) → (same ≡ true → same_name (get_or tree.names (unit - 1) []) name ≡ true) → (among (units_of tree names) unit ≡ true → has_name names (get_or tree.names (unit - 1) []) ≡ true)
-            → (same || among (units_of tree names) unit) ≡ true → has_name (name ∷ names) (get_or tree.names (unit - 1) []) ≡ true
-        by_same true here' later' e = or_left (same_name (get_or tree.names (unit - 1) []) name) (has_name names (get_or tree.names (unit - 1) [])) (here' refl)
-        by_same false here' later' e = or_right (same_name (get_or tree.names (unit - 1) []) name) (has_name names (get_or tree.names (unit - 1) [])) (later' e)
+        by_same : (same : Bool) → (same ≡ true → same_name (get_or tree.names (unit - 1) []) name ≡ true)
+            → (among (units_of tree names) unit ≡ true → has_name names (get_or tree.names (unit - 1) []) ≡ true)
+            → (same || among (units_of tree names) unit) ≡ true
+            → has_name (name ∷ names) (get_or tree.names (unit - 1) []) ≡ true
+        by_same true here' later' e =
+            or_left (same_name (get_or tree.names (unit - 1) []) name)
+            (has_name names (get_or tree.names (unit - 1) [])) (here' refl)
+        by_same false here' later' e =
+            or_right (same_name (get_or tree.names (unit - 1) []) name)
+            (has_name names (get_or tree.names (unit - 1) [])) (later' e)
 
 not_true : (b : Bool) → not b ≡ true → b ≡ false
 not_true true h = absurd cc
 not_true false h = refl
 
 -- names that differ from those before have none of them
-apart : (before names : List (List ℕ)) (name : List ℕ) → differ_from before names ≡ true → has_name before name ≡ true → has_name names name ≡ false
+apart : (before names : List (List ℕ)) (name : List ℕ) → differ_from before names ≡ true → has_name before name ≡ true
+    → has_name names name ≡ false
 apart before [] name differ has = refl
 apart before (first ∷ names) name differ has =
     let parts = and_parts (not (has_name before first)) (differ_from (before ++ first ∷ []) names) differ in
-    let later = apart (before ++ first ∷ []) names name parts.1 (list_any-append (same_name name) before (first ∷ []) ∙ or_left (has_name before name) (has_name (first ∷ []) name) has) in
-    by_same (same_name name first) (λ same. clash (ap (λ n. has_name before n) (sym ((bytes_decides name first).0 same)) ∙ has) (not_true (has_name before first) parts.0)) later
+    let later =
+    apart (before ++ first ∷ []) names name parts.1
+    (list_any-append (same_name name) before (first ∷ [])
+    ∙ or_left (has_name before name) (has_name (first ∷ []) name) has) in
+    by_same (same_name name first) (λ same. clash
+    (ap (λ n. has_name before n) (sym ((bytes_decides name first).0 same)) ∙ has)
+    (not_true (has_name before first) parts.0)) later
   where
     clash : {b : Bool} → b ≡ true → b ≡ false → ⊥
     clash has_it none = absurd cc
@@ -77,43 +101,59 @@ apart before (first ∷ names) name differ has =
     by_same true never later = absurd (never refl)
     by_same false never later = later
 
-no_repeat : (tree : FaultTree) (before names : List (List ℕ)) → differ_from before names ≡ true → has_repeat (units_of tree names) ≡ false
+no_repeat : (tree : FaultTree) (before names : List (List ℕ)) → differ_from before names ≡ true
+    → has_repeat (units_of tree names) ≡ false
 no_repeat tree before [] differ = refl
 no_repeat tree before (name ∷ names) differ =
     let parts = and_parts (not (has_name before name)) (differ_from (before ++ name ∷ []) names) differ in
     by_unit (unit_of tree name) refl (no_repeat tree (before ++ name ∷ []) names parts.1)
-    (apart (before ++ name ∷ []) names name parts.1 (list_any-append (same_name name) before (name ∷ []) ∙ or_right (has_name before name) (has_name (name ∷ []) name) (or_left (same_name name name) false ((bytes_decides name name).1 refl))))
+    (apart (before ++ name ∷ []) names name parts.1
+    (list_any-append (same_name name) before (name ∷ [])
+    ∙ or_right (has_name before name) (has_name (name ∷ []) name)
+    (or_left (same_name name name) false ((bytes_decides name name).1 refl))))
   where
-    by_unit : (found : Option ℕ) → unit_of tree name ≡ found → has_repeat (units_of tree names) ≡ false → has_name names name ≡ false → has_repeat (with_unit found (units_of tree names)) ≡ false
+    by_unit : (found : Option ℕ) → unit_of tree name ≡ found → has_repeat (units_of tree names) ≡ false
+        → has_name names name ≡ false → has_repeat (with_unit found (units_of tree names)) ≡ false
     by_unit None at later none = later
-    by_unit (Some unit) at later none = by_among (among (units_of tree names) unit) (λ is. clash (ap (has_name names) (sym (named_by tree name unit at).1) ∙ among_named tree names unit is) none) later
+    by_unit (Some unit) at later none =
+        by_among (among (units_of tree names) unit) (λ is.
+        clash (ap (has_name names) (sym (named_by tree name unit at).1) ∙ among_named tree names unit is) none)
+        later
       where
         clash : {b : Bool} → b ≡ true → b ≡ false → ⊥
         clash has_it none' = absurd cc
 
-        by_among : (is : Bool) → (is ≡ true → ⊥) → has_repeat (units_of tree names) ≡ false → (is || has_repeat (units_of tree names)) ≡ false
+        by_among : (is : Bool) → (is ≡ true → ⊥) → has_repeat (units_of tree names) ≡ false
+            → (is || has_repeat (units_of tree names)) ≡ false
         by_among true never later' = absurd (never refl)
         by_among false never later' = later'
 
-some_asked : (units : List ℕ) (names : ℕ) → 1 ≤ names → (nat_lt (length units) names || not (is_none_asked units)) ≡ true
+some_asked : (units : List ℕ) (names : ℕ) → 1 ≤ names
+    → (nat_lt (length units) names || not (is_none_asked units)) ≡ true
 some_asked [] names some = or_left (nat_lt 0 names) false (lt-ltb 0 names (omega arith))
 some_asked (unit ∷ units) names some = or_right (nat_lt (length (unit ∷ units)) names) true refl
 
 -- so they may be asked for
-pub may_be_asked : (tree : FaultTree) (names : List (List ℕ)) → are_taken names ≡ true → can_be_asked (units_of tree names) (nat_lt (length (units_of tree names)) (length names)) ≡ true
+pub may_be_asked : (tree : FaultTree) (names : List (List ℕ)) → are_taken names ≡ true
+    → can_be_asked (units_of tree names) (nat_lt (length (units_of tree names)) (length names)) ≡ true
 may_be_asked tree names taken =
     let both = and_parts (nat_le 1 (length names) && nat_le (length names) most_taken) (all_differ names) taken in
     let sizes = and_parts (nat_le 1 (length names)) (nat_le (length names) most_taken) both.0 in
     let few : length names ≤ 16 = leb-true (length names) 16 sizes.1 in
     let within = units_within tree names in
-    rw (le-leb (length (units_of tree names)) 16 (omega arith), no_repeat tree [] names both.1, some_asked (units_of tree names) (length names) (leb-true 1 (length names) sizes.0)) refl
+    rw (
+      le-leb (length (units_of tree names)) 16 (omega arith),
+      no_repeat tree [] names both.1,
+      some_asked (units_of tree names) (length names) (leb-true 1 (length names) sizes.0),
+    ) refl
 
 pub not_refused : (asked : Bool) → false ≡ asked → asked ≡ true → ⊥
 not_refused asked e h = absurd cc
 
 -- ---- of the parts that `take` makes
 
-module _ (tree : FaultTree) (names slice : List (List ℕ)) (units : List ℕ) (count : ℕ) (slice_is : slice ≡ names) (units_are : units ≡ units_of tree slice) (count_is : count ≡ length units) where
+module _ (tree : FaultTree) (names slice : List (List ℕ)) (units : List ℕ) (count : ℕ) (slice_is : slice ≡ names)
+    (units_are : units ≡ units_of tree slice) (count_is : count ≡ length units) where
   whole : units ≡ units_of tree names
   whole = units_are ∙ ap (units_of tree) slice_is
 
@@ -125,8 +165,10 @@ module _ (tree : FaultTree) (names slice : List (List ℕ)) (units : List ℕ) (
       let P : List (List ℕ) × List ℕ × ℕ → Type 0 = λ p. can_be_asked p.1 (nat_lt p.2 (length p.0)) ≡ true in
       subst P (λ i. (sym slice_is i, sym whole i, sym number i)) (may_be_asked tree names taken)
 
-  pub parts_are : {asked : AskedView} → asked ≡ record { units = units; unknown = nat_lt count (length slice) } → asked ≡ record { units = units_of tree names; unknown = some_unknown tree names }
+  pub parts_are : {asked : AskedView} → asked ≡ record { units = units; unknown = nat_lt count (length slice) }
+      → asked ≡ record { units = units_of tree names; unknown = some_unknown tree names }
   parts_are is =
       is
-      ∙ ap (λ (p : List (List ℕ) × List ℕ × ℕ). record { units = p.1; unknown = nat_lt p.2 (length p.0) }) (λ i. (slice_is i, whole i, number i))
+      ∙ ap (λ (p : List (List ℕ) × List ℕ × ℕ). record { units = p.1; unknown = nat_lt p.2 (length p.0) })
+      (λ i. (slice_is i, whole i, number i))
       ∙ ap (λ (b : Bool). record { units = units_of tree names; unknown = b }) (sym (unknown_is tree names))

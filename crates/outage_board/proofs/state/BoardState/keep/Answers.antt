@@ -21,5 +21,7 @@ invariant_of-self c =
     let is = subst (λ (b : BoardView). next_entry b entry.crew ≡ Some entry) (sym c.self.view_is) c.requires.next in
     let kept = c.self.invariant in
     let low : entry.crew.0 < length places = let all = kept.all in let both = kept.sound.all in omega (arith, within) in
-    let at : c.index_mut.result.now ≡ get_or places entry.crew.0 0 = get_or_read places entry.crew.0 c.index_mut.result.now low c.index_mut.ensures.value 0 in
-    rw (c.apply.ensures, c.push_reserved.ensures.items, c.push_reserved.ensures.capacity, at) (keeps_next _ _ _ _ entry kept within is)
+    let at : c.index_mut.result.now ≡ get_or places entry.crew.0 0 =
+    get_or_read places entry.crew.0 c.index_mut.result.now low c.index_mut.ensures.value 0 in
+    rw (c.apply.ensures, c.push_reserved.ensures.items, c.push_reserved.ensures.capacity, at)
+    (keeps_next _ _ _ _ entry kept within is)
