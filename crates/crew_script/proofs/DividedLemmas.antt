@@ -1,5 +1,6 @@
 -- The parts that are read of a deck are those that its first dividing line makes.
-use Rattle.std.specs.Prelude.{◌≡◌, ◌↔◌, ◌⊎◌, ℕ, suc, ◌+◌, ◌≤◌, min, nat_eq, true, false, ◌||◌, if◌then◌else◌, List, [], ◌∷◌, ◌++◌, length, take, get_or, codes, Option, Some, None, IsNone}
+use Rattle.std.specs.Prelude.{◌≡◌, ◌↔◌, ◌⊎◌, ℕ, suc, ◌+◌, ◌≤◌, min, nat_eq, true, false, ◌||◌, if◌then◌else◌, List, []}
+use Rattle.std.specs.Prelude.{◌∷◌, ◌++◌, length, take, get_or, codes, Option, Some, None, IsNone}
 use Rattle.std.specs.List.{All, list_any, slice_split, position_or_len, before_first, after_first, count_by}
 use Rattle.std.specs.Cmp.Lexicographic.{pointwise, same_text}
 use Rattle.std.proofs.Common.{refl, sym, ap, ◌∙◌, subst, inl, inr, arith}
@@ -23,21 +24,27 @@ record Found (size place number : ℕ) (lines : List (List ℕ)) : Type 0 where
   are : lines ≡ before ++ line ∷ behind
   first : list_any is_crews before ≡ false
   divides : is_crews line ≡ true
-  split : split_by size place number lines ≡ divided size (place + size_of before) (length line) (number + length before)
+  split : split_by size place number lines ≡ divided size (place + size_of before) (length line)
+      (number + length before)
 
 record NotFound (size place number : ℕ) (lines : List (List ℕ)) : Type 0 where
   none : list_any is_crews lines ≡ false
   split : split_by size place number lines ≡ record { tree = size; crews = None }
 
-goes_on : (size place number : ℕ) (line : List ℕ) (lines : List (List ℕ)) → is_crews line ≡ false → split_by size place number (line ∷ lines) ≡ split_by size (place + length line + 1) (number + 1) lines
+goes_on : (size place number : ℕ) (line : List ℕ) (lines : List (List ℕ)) → is_crews line ≡ false
+    → split_by size place number (line ∷ lines) ≡ split_by size (place + length line + 1) (number + 1) lines
 goes_on size place number line lines miss =
-    ap (λ b. if b then divided size place (length line) number else split_by size (place + length line + 1) (number + 1) lines) miss
+    ap (λ b. if b then divided size place (length line) number
+    else split_by size (place + length line + 1) (number + 1) lines) miss
 
-divides_at : (size place number : ℕ) (line : List ℕ) (lines : List (List ℕ)) → is_crews line ≡ true → split_by size place number (line ∷ lines) ≡ divided size place (length line) number
+divides_at : (size place number : ℕ) (line : List ℕ) (lines : List (List ℕ)) → is_crews line ≡ true
+    → split_by size place number (line ∷ lines) ≡ divided size place (length line) number
 divides_at size place number line lines hit =
-    ap (λ b. if b then divided size place (length line) number else split_by size (place + length line + 1) (number + 1) lines) hit
+    ap (λ b. if b then divided size place (length line) number
+    else split_by size (place + length line + 1) (number + 1) lines) hit
 
-find : (size place number : ℕ) (lines : List (List ℕ)) → NotFound size place number lines ⊎ Found size place number lines
+find : (size place number : ℕ) (lines : List (List ℕ))
+    → NotFound size place number lines ⊎ Found size place number lines
 find size place number [] = inl (record { none = refl; split = refl })
 find size place number (line ∷ lines) = elim (cases_Bool (is_crews line)) [
   | inl hit ↦ inr (record {
@@ -47,12 +54,22 @@ find size place number (line ∷ lines) = elim (cases_Bool (is_crews line)) [
     are = refl;
     first = refl;
     divides = hit;
-    split = divides_at size place number line lines hit ∙ ap (λ (p : ℕ × ℕ). divided size p.0 (length line) p.1) (λ i. ((let e : place ≡ place + 0 = omega arith in e) i, (let e : number ≡ number + 0 = omega arith in e) i));
+    split =
+        divides_at size place number line lines hit ∙ ap (λ (p : ℕ × ℕ). divided size p.0 (length line) p.1)
+        (λ i. (
+          (let e : place ≡ place + 0 = omega arith in e) i,
+          (let e : number ≡ number + 0 = omega arith in e) i,
+        ));
   })
   | inr miss ↦ elim (find size (place + length line + 1) (number + 1) lines) [
-    | inl none ↦ inl (record { none = ap (λ b. b || list_any is_crews lines) miss ∙ none.none; split = goes_on size place number line lines miss ∙ none.split })
+    | inl none ↦ inl (record {
+      none = ap (λ b. b || list_any is_crews lines) miss ∙ none.none;
+      split =
+          goes_on size place number line lines miss ∙ none.split;
+    })
     | inr found ↦
-        let at : place + length line + 1 + size_of found.before ≡ place + (length line + 1 + size_of found.before) = omega arith in
+        let at : place + length line + 1 + size_of found.before ≡ place + (length line + 1 + size_of found.before) =
+        omega arith in
         let under : number + 1 + length found.before ≡ number + length (line ∷ found.before) = omega arith in
         inr (record {
           before = line ∷ found.before;
@@ -61,7 +78,9 @@ find size place number (line ∷ lines) = elim (cases_Bool (is_crews line)) [
           are = ap (λ l. line ∷ l) found.are;
           first = ap (λ b. b || list_any is_crews found.before) miss ∙ found.first;
           divides = found.divides;
-          split = goes_on size place number line lines miss ∙ found.split ∙ ap (λ (p : ℕ × ℕ). divided size p.0 (length found.line) p.1) (λ i. (at i, under i));
+          split =
+              goes_on size place number line lines miss ∙ found.split
+              ∙ ap (λ (p : ℕ × ℕ). divided size p.0 (length found.line) p.1) (λ i. (at i, under i));
         })
   ]
 ]
@@ -73,7 +92,12 @@ divided_so bytes = elim (find (length bytes) 0 1 (lines_of bytes)) [
   | inr found ↦
       let at : 0 + size_of found.before ≡ size_of found.before = omega arith in
       let under : 1 + length found.before + 1 ≡ length found.before + 2 = omega arith in
-      let is : IsDividedAt bytes (0 + size_of found.before) (record { start = min (0 + size_of found.before + length found.line + 1) (length bytes); line = 1 + length found.before + 1 }) = record {
+      let is : IsDividedAt bytes (0 + size_of found.before)
+      (record {
+        start = min (0 + size_of found.before + length found.line + 1) (length bytes);
+        line =
+            1 + length found.before + 1;
+      }) = record {
         before = found.before;
         line = found.line;
         behind = found.behind;
@@ -89,18 +113,23 @@ divided_so bytes = elim (find (length bytes) 0 1 (lines_of bytes)) [
 
 -- ---- a deck is divided in one way
 
-divided_later : (size place number : ℕ) (before : List (List ℕ)) (line : List ℕ) (behind : List (List ℕ)) → list_any is_crews before ≡ false → is_crews line ≡ true
-    → split_by size place number (before ++ line ∷ behind) ≡ divided size (place + size_of before) (length line) (number + length before)
+divided_later : (size place number : ℕ) (before : List (List ℕ)) (line : List ℕ) (behind : List (List ℕ))
+    → list_any is_crews before ≡ false → is_crews line ≡ true
+    → split_by size place number (before ++ line ∷ behind)
+    ≡ divided size (place + size_of before) (length line) (number + length before)
 divided_later size place number [] line behind first hit =
-    divides_at size place number line behind hit ∙ ap (λ (p : ℕ × ℕ). divided size p.0 (length line) p.1) (λ i. ((let e : place ≡ place + 0 = omega arith in e) i, (let e : number ≡ number + 0 = omega arith in e) i))
+    divides_at size place number line behind hit ∙ ap (λ (p : ℕ × ℕ). divided size p.0 (length line) p.1)
+    (λ i. ((let e : place ≡ place + 0 = omega arith in e) i, (let e : number ≡ number + 0 = omega arith in e) i))
 divided_later size place number (other ∷ before) line behind first hit =
     let (miss, none) = or_parts (is_crews other) (list_any is_crews before) first in
     let at : place + length other + 1 + size_of before ≡ place + (length other + 1 + size_of before) = omega arith in
     let under : number + 1 + length before ≡ number + length (other ∷ before) = omega arith in
-    goes_on size place number other (before ++ line ∷ behind) miss ∙ divided_later size (place + length other + 1) (number + 1) before line behind none hit
+    goes_on size place number other (before ++ line ∷ behind) miss
+    ∙ divided_later size (place + length other + 1) (number + 1) before line behind none hit
     ∙ ap (λ (p : ℕ × ℕ). divided size p.0 (length line) p.1) (λ i. (at i, under i))
 
-undivided : (size place number : ℕ) (lines : List (List ℕ)) → list_any is_crews lines ≡ false → split_by size place number lines ≡ record { tree = size; crews = None }
+undivided : (size place number : ℕ) (lines : List (List ℕ)) → list_any is_crews lines ≡ false
+    → split_by size place number lines ≡ record { tree = size; crews = None }
 undivided size place number [] none = refl
 undivided size place number (line ∷ lines) none =
     let (miss, more) = or_parts (is_crews line) (list_any is_crews lines) none in
@@ -109,73 +138,96 @@ undivided size place number (line ∷ lines) none =
 pub divided_once : (bytes : List ℕ) (split : Split) → Divides bytes split → split_of bytes ≡ split
 divided_once bytes split is = by_crews split.crews is
   where
-    by_crews : (crews : Option CrewsAt) → CrewsBegin bytes split.tree crews → split_of bytes ≡ record { tree = split.tree; crews = crews }
-    by_crews None none = undivided (length bytes) 0 1 (lines_of bytes) none.1 ∙ ap (λ n. record { tree = n; crews = None }) (sym none.0)
+    by_crews : (crews : Option CrewsAt) → CrewsBegin bytes split.tree crews
+        → split_of bytes ≡ record { tree = split.tree; crews = crews }
+    by_crews None none =
+        undivided (length bytes) 0 1 (lines_of bytes) none.1 ∙ ap (λ n. record { tree = n; crews = None }) (sym none.0)
     by_crews (Some crews) at =
         let tree : 0 + size_of at.before ≡ split.tree = let p = at.place in omega arith in
-        let start : min (0 + size_of at.before + length at.line + 1) (length bytes) ≡ crews.start = ap (λ n. min (n + length at.line + 1) (length bytes)) tree ∙ sym at.start in
+        let start : min (0 + size_of at.before + length at.line + 1) (length bytes) ≡ crews.start =
+        ap (λ n. min (n + length at.line + 1) (length bytes)) tree ∙ sym at.start in
         let number : 1 + length at.before + 1 ≡ crews.line = let n = at.number in omega arith in
-        ap (split_by (length bytes) 0 1) at.lines ∙ divided_later (length bytes) 0 1 at.before at.line at.behind at.first at.divides
-        ∙ ap (λ (p : ℕ × ℕ × ℕ). record { tree = p.0; crews = Some (record { start = p.1; line = p.2 }) }) (λ i. (tree i, start i, number i))
+        ap (split_by (length bytes) 0 1) at.lines ∙ divided_later (length bytes) 0 1 at.before at.line at.behind
+        at.first at.divides
+        ∙ ap (λ (p : ℕ × ℕ × ℕ). record { tree = p.0; crews = Some (record { start = p.1; line = p.2 }) })
+        (λ i. (tree i, start i, number i))
 
 -- no line divides a deck exactly where its crew part is none
-pub none_divides : (bytes : List ℕ) (split : Split) → split ≡ split_of bytes → IsNone split.crews ↔ (list_any is_crews (lines_of bytes) ≡ false)
-none_divides bytes split is = subst (λ (s : Split). IsNone s.crews ↔ (list_any is_crews (lines_of bytes) ≡ false)) (sym is) (
-  λ none. none_of (split_of bytes).crews none (divided_so bytes),
-  λ none. subst (λ (s : Split). IsNone s.crews) (sym (undivided (length bytes) 0 1 (lines_of bytes) none)) refl,
-)
+pub none_divides : (bytes : List ℕ) (split : Split) → split ≡ split_of bytes
+    → IsNone split.crews ↔ (list_any is_crews (lines_of bytes) ≡ false)
+none_divides bytes split is =
+    subst (λ (s : Split). IsNone s.crews ↔ (list_any is_crews (lines_of bytes) ≡ false)) (sym is) (
+      λ none. none_of (split_of bytes).crews none (divided_so bytes),
+      λ none. subst (λ (s : Split). IsNone s.crews) (sym (undivided (length bytes) 0 1 (lines_of bytes) none)) refl,
+    )
   where
-    none_of : (crews : Option CrewsAt) → IsNone crews → CrewsBegin bytes (split_of bytes).tree crews → list_any is_crews (lines_of bytes) ≡ false
+    none_of : (crews : Option CrewsAt) → IsNone crews → CrewsBegin bytes (split_of bytes).tree crews
+        → list_any is_crews (lines_of bytes) ≡ false
     none_of None none is = is.1
     none_of (Some at) none is = absurd cc
 
 -- ---- what stands before the line
 
-take_behind : (line : List ℕ) (byte count : ℕ) (rest : List ℕ) → take (length line + 1 + count) (line ++ byte ∷ rest) ≡ line ++ byte ∷ take count rest
+take_behind : (line : List ℕ) (byte count : ℕ) (rest : List ℕ)
+    → take (length line + 1 + count) (line ++ byte ∷ rest) ≡ line ++ byte ∷ take count rest
 take_behind [] byte count rest = ap (λ n. take n (byte ∷ rest)) (let e : 0 + 1 + count ≡ suc count = omega arith in e)
 take_behind (first ∷ line) byte count rest =
-    ap (λ n. take n (first ∷ (line ++ byte ∷ rest))) (let e : length (first ∷ line) + 1 + count ≡ suc (length line + 1 + count) = omega arith in e)
+    ap (λ n. take n (first ∷ (line ++ byte ∷ rest)))
+    (let e : length (first ∷ line) + 1 + count ≡ suc (length line + 1 + count) = omega arith in e)
     ∙ ap (λ l. first ∷ l) (take_behind line byte count rest)
 
-parts_are : (first second : List ℕ) (some more : List (List ℕ)) → first ∷ some ≡ second ∷ more → (first ≡ second) × (some ≡ more)
+parts_are : (first second : List ℕ) (some more : List (List ℕ)) → first ∷ some ≡ second ∷ more
+    → (first ≡ second) × (some ≡ more)
 parts_are first second some more e = (grind (arith, e), grind (arith, e))
 
-pub lines_before : (before : List (List ℕ)) (line : List ℕ) (behind : List (List ℕ)) (bytes : List ℕ) → lines_of bytes ≡ before ++ line ∷ behind → lines_of (take (size_of before) bytes) ≡ before ++ [] ∷ []
+pub lines_before : (before : List (List ℕ)) (line : List ℕ) (behind : List (List ℕ)) (bytes : List ℕ)
+    → lines_of bytes ≡ before ++ line ∷ behind → lines_of (take (size_of before) bytes) ≡ before ++ [] ∷ []
 lines_before [] line behind bytes are = refl
 lines_before (first ∷ before) line behind bytes are =
     elim (cases_lt (position_or_len is_feed bytes) (length bytes)) [
       | inl feeds ↦
-          let (same, later) = parts_are (before_first is_feed bytes) first (lines_of (after_first is_feed bytes)) (before ++ line ∷ behind) (sym (slice_split_first is_feed bytes 0 feeds) ∙ are) in
+          let (same, later) =
+          parts_are (before_first is_feed bytes) first (lines_of (after_first is_feed bytes))
+          (before ++ line ∷ behind) (sym (slice_split_first is_feed bytes 0 feeds) ∙ are) in
           let feed = get_or bytes (position_or_len is_feed bytes) 0 in
-          let text : bytes ≡ first ++ feed ∷ after_first is_feed bytes = split_at_first is_feed bytes 0 feeds ∙ ap (λ l. l ++ feed ∷ after_first is_feed bytes) same in
-          let front : All (λ x. is_feed x ≡ false) first = subst (All (λ x. is_feed x ≡ false)) same (front_no_feed bytes) in
+          let text : bytes ≡ first ++ feed ∷ after_first is_feed bytes =
+          split_at_first is_feed bytes 0 feeds ∙ ap (λ l. l ++ feed ∷ after_first is_feed bytes) same in
+          let front : All (λ x. is_feed x ≡ false) first =
+          subst (All (λ x. is_feed x ≡ false)) same (front_no_feed bytes) in
           ap (λ l. lines_of (take (length first + 1 + size_of before) l)) text
           ∙ ap lines_of (take_behind first feed (size_of before) (after_first is_feed bytes))
-          ∙ slice_split_at is_feed first feed (take (size_of before) (after_first is_feed bytes)) front (passes_at_first is_feed bytes 0 feeds)
+          ∙ slice_split_at is_feed first feed (take (size_of before) (after_first is_feed bytes)) front
+          (passes_at_first is_feed bytes 0 feeds)
           ∙ ap (λ l. first ∷ l) (lines_before before line behind (after_first is_feed bytes) later)
       | inr none ↦
-          let one : lines_of bytes ≡ bytes ∷ [] = slice_split_none is_feed bytes (λ k d short. fails_before_first is_feed bytes k d (omega arith)) in
+          let one : lines_of bytes ≡ bytes ∷ [] =
+          slice_split_none is_feed bytes (λ k d short. fails_before_first is_feed bytes k d (omega arith)) in
           absurd (none_left before line behind (parts_are bytes first [] (before ++ line ∷ behind) (sym one ∙ are)).1)
     ]
   where
     front_no_feed : (text : List ℕ) → All (λ x. is_feed x ≡ false) (before_first is_feed text)
-    front_no_feed text = λ k d short. let p = fails_before_first is_feed text k d (grind (arith, common_steps)) in grind (arith, common_steps)
+    front_no_feed text =
+        λ k d short. let p = fails_before_first is_feed text k d (grind (arith, common_steps)) in
+        grind (arith, common_steps)
 
     none_left : (before : List (List ℕ)) (line : List ℕ) (behind : List (List ℕ)) → [] ≡ before ++ line ∷ behind → ⊥
     none_left [] line behind e = absurd cc
     none_left (first ∷ before) line behind e = absurd cc
 
-pub tree_part_undivided : (bytes : List ℕ) (tree : ℕ) (crews : CrewsAt) → IsDividedAt bytes tree crews → list_any is_crews (lines_of (take tree bytes)) ≡ false
+pub tree_part_undivided : (bytes : List ℕ) (tree : ℕ) (crews : CrewsAt) → IsDividedAt bytes tree crews
+    → list_any is_crews (lines_of (take tree bytes)) ≡ false
 tree_part_undivided bytes tree crews at =
     ap (λ n. list_any is_crews (lines_of (take n bytes))) at.place
     ∙ ap (list_any is_crews) (lines_before at.before at.line at.behind bytes at.lines)
     ∙ list_any-append is_crews at.before ([] ∷ [])
     ∙ ap (λ b. b || false) at.first
 
-pub number_by_feeds : (bytes : List ℕ) (tree : ℕ) (crews : CrewsAt) → IsDividedAt bytes tree crews → crews.line ≡ count_by is_feed (take tree bytes) + 2
+pub number_by_feeds : (bytes : List ℕ) (tree : ℕ) (crews : CrewsAt) → IsDividedAt bytes tree crews
+    → crews.line ≡ count_by is_feed (take tree bytes) + 2
 number_by_feeds bytes tree crews at =
     let lines : length (lines_of (take tree bytes)) ≡ length at.before + 1 =
-    ap (λ n. length (lines_of (take n bytes))) at.place ∙ ap length (lines_before at.before at.line at.behind bytes at.lines) ∙ length-append at.before ([] ∷ []) in
+    ap (λ n. length (lines_of (take n bytes))) at.place
+    ∙ ap length (lines_before at.before at.line at.behind bytes at.lines) ∙ length-append at.before ([] ∷ []) in
     let feeds = length-slice_split is_feed (take tree bytes) in
     let n = at.number in
     omega arith
@@ -194,10 +246,11 @@ with_return (byte ∷ next ∷ line) = elim (with_return (next ∷ line)) [
 ]
 
 divides_either : (line : List ℕ) → is_crews line ≡ true → (line ≡ codes "@crews") ⊎ (line ≡ codes "@crews" ++ 13 ∷ [])
-divides_either line is = elim (or_cases (pointwise nat_eq line (codes "@crews")) (pointwise nat_eq line (codes "@crews" ++ 13 ∷ [])) is) [
-  | inl plain ↦ inl (same_text line (codes "@crews") (sym plain))
-  | inr more ↦ inr (same_text line (codes "@crews" ++ 13 ∷ []) (sym more))
-]
+divides_either line is =
+    elim (or_cases (pointwise nat_eq line (codes "@crews")) (pointwise nat_eq line (codes "@crews" ++ 13 ∷ [])) is) [
+      | inl plain ↦ inl (same_text line (codes "@crews") (sym plain))
+      | inr more ↦ inr (same_text line (codes "@crews" ++ 13 ∷ []) (sym more))
+    ]
 
 pub divides_without_return : (line : List ℕ) → (is_crews line ≡ true) ↔ (without_return line ≡ codes "@crews")
 divides_without_return line = (

@@ -3,7 +3,8 @@ use Rattle.std.proofs.Common.{ℕ, zero, suc, ◌<◌, ◌≤◌, List, [], ◌�
 use Rattle.crew_script.specs.Dockets.{crew_at, request_count}
 use Rattle.crew_script.specs.declared.dockets.Crew.{Crew}
 
-pub docket_within : (crews : List Crew) (number : ℕ) → number < length crews → length (crew_at crews number).docket ≤ request_count crews
+pub docket_within : (crews : List Crew) (number : ℕ) → number < length crews
+    → length (crew_at crews number).docket ≤ request_count crews
 docket_within [] number within = absurd (omega (arith, within))
 docket_within (crew ∷ crews) zero within = omega arith
 docket_within (crew ∷ crews) (suc number) within =

@@ -9,11 +9,13 @@ use Rattle.crew_script.specs.Deck.{is_feed, lines_of}
 use Rattle.crew_script.proofs.WordLemmas.{first_place, no_place}
 
 -- a line ends at the first line feed, and the rest of the text has the other lines
-pub line_cut : (bytes : List ℕ) (end : ℕ) → position is_feed bytes ≡ Some end → lines_of bytes ≡ take end bytes ∷ lines_of (drop (end + 1) bytes)
+pub line_cut : (bytes : List ℕ) (end : ℕ) → position is_feed bytes ≡ Some end
+    → lines_of bytes ≡ take end bytes ∷ lines_of (drop (end + 1) bytes)
 line_cut bytes end at =
     let (within, hit, before) = position-Some is_feed bytes end 0 at in
     let is : position_or_len is_feed bytes ≡ end = sym (first_place is_feed bytes end at) in
-    slice_split_first is_feed bytes 0 (omega (arith, is, within)) ∙ ap (λ n. take n bytes ∷ lines_of (drop (n + 1) bytes)) is
+    slice_split_first is_feed bytes 0 (omega (arith, is, within))
+    ∙ ap (λ n. take n bytes ∷ lines_of (drop (n + 1) bytes)) is
 
 -- a text without one is a line
 pub line_whole : (bytes : List ℕ) → position is_feed bytes ≡ None → lines_of bytes ≡ bytes ∷ []

@@ -1,5 +1,6 @@
 -- Names that differ, and what a take says.
-use Rattle.std.proofs.Common.{◌≡◌, ℕ, ◌<◌, true, false, List, [], ◌∷◌, ◌++◌, length, drop, refl, arith, append_assoc, append-nil}
+use Rattle.std.proofs.Common.{◌≡◌, ℕ, ◌<◌, true, false, List, [], ◌∷◌, ◌++◌, length, drop, refl, arith, append_assoc}
+use Rattle.std.proofs.Common.{append-nil}
 use Rattle.std.specs.Prelude.{Some, None, if◌then◌else◌, codes}
 use Rattle.std.proofs.lemmas.Grind.{common_steps}
 use Rattle.crew_script.specs.Names.{has_name, differ_from}
@@ -9,7 +10,8 @@ use Rattle.crew_script.specs.declared.line.Line.{Line}
 use Rattle.crew_script.specs.declared.line.Line.TheVariants.{Bad}
 
 -- one more name, which is none of those before it
-pub differ_push : (before names : List (List ℕ)) (name : List ℕ) → differ_from before names ≡ true → has_name (before ++ names) name ≡ false
+pub differ_push : (before names : List (List ℕ)) (name : List ℕ) → differ_from before names ≡ true
+    → has_name (before ++ names) name ≡ false
     → differ_from before (names ++ name ∷ []) ≡ true
 differ_push before [] name differ new = grind (arith, append-nil before)
 differ_push before (first ∷ names) name differ new =
@@ -17,7 +19,8 @@ differ_push before (first ∷ names) name differ new =
 
 -- a take's next word
 pub takes_on : (names : List (List ℕ)) (words : List Word) (word : Word) → first_of words ≡ Some word
-    → take_line names words ≡ (if is_taken_too names word then take_line (names ++ word.text ∷ []) (drop 1 words) else Bad)
+    → take_line names words ≡ (if is_taken_too names word then take_line (names ++ word.text ∷ []) (drop 1 words)
+    else Bad)
 takes_on names [] word first = absurd cc
 takes_on names (next ∷ words) word first = grind (arith)
 

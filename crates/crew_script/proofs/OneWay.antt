@@ -1,14 +1,18 @@
 -- What lines stand for, or their first fault, is what is read of them.
-use Rattle.std.proofs.Common.{◌≡◌, ℕ, ◌+◌, ◌<◌, ◌≤◌, true, false, List, [], ◌∷◌, ◌++◌, map, length, not, sym, refl, ap, subst, ◌∙◌, arith, append_assoc, append-nil, length-append, inl, inr, le-leb}
+use Rattle.std.proofs.Common.{◌≡◌, ℕ, ◌+◌, ◌<◌, ◌≤◌, true, false, List, [], ◌∷◌, ◌++◌, map, length, not, sym, refl, ap}
+use Rattle.std.proofs.Common.{subst, ◌∙◌, arith, append_assoc, append-nil, length-append, inl, inr, le-leb}
 use Rattle.std.specs.Prelude.{◌⊎◌, Result, Ok, Err, Option, Some, None, if◌then◌else◌}
 use Rattle.std.specs.List.{flat_map}
 use Rattle.std.proofs.lemmas.Bool.{and_parts, not-true, lt-leb}
 use Rattle.fault_model.specs.declared.node.Place.{Place}
 use Rattle.crew_script.specs.Names.{all_differ, differ_from, has_name}
 use Rattle.crew_script.specs.Dockets.{names_of, request_count}
-use Rattle.crew_script.specs.Crews.{said, after, with_ask, crew_fault, request_fault, fault_behind, fault_at, unless_fault, crews_from}
+use Rattle.crew_script.specs.Crews.{said, after, with_ask, crew_fault, request_fault, fault_behind, fault_at}
+use Rattle.crew_script.specs.Crews.{unless_fault, crews_from}
 use Rattle.crew_script.specs.Says.{Says}
-use Rattle.crew_script.specs.CrewsOf.{Say, say_none, say_nothing, say_next, lines_for, AreCrews, HasFault, bad_line, duplicate_crew, too_many_crews, request_before_crew, too_many_requests, IsFirstFault, Answers}
+use Rattle.crew_script.specs.CrewsOf.{Say, say_none, say_nothing, say_next, lines_for, AreCrews, HasFault, bad_line}
+use Rattle.crew_script.specs.CrewsOf.{duplicate_crew, too_many_crews, request_before_crew, too_many_requests}
+use Rattle.crew_script.specs.CrewsOf.{IsFirstFault, Answers}
 use Rattle.crew_script.specs.declared.dockets.Ask.{Ask}
 use Rattle.crew_script.specs.declared.dockets.Crew.{Crew}
 use Rattle.crew_script.specs.declared.line.Line.{Line}
@@ -31,9 +35,11 @@ AreClean crews (other ∷ more) = (fault_behind crews other ≡ None) × AreClea
 
 -- one line of which it is known what it says
 one_read : (number : ℕ) (crews : List Crew) (bytes : List ℕ) (lines : List (List ℕ)) (other : Line) → Says bytes other
-    → crews_from number crews (bytes ∷ lines) ≡ unless_fault number (fault_behind crews other) (crews_from (number + 1) (after crews other) lines)
+    → crews_from number crews (bytes ∷ lines) ≡ unless_fault number (fault_behind crews other)
+    (crews_from (number + 1) (after crews other) lines)
 one_read number crews bytes lines other says =
-    ap (λ l. unless_fault number (fault_behind crews l) (crews_from (number + 1) (after crews l) lines)) (says_one bytes other says)
+    ap (λ l. unless_fault number (fault_behind crews l) (crews_from (number + 1) (after crews l) lines))
+    (says_one bytes other says)
 
 run : (number : ℕ) (crews : List Crew) (lines : List (List ℕ)) (all : List Line) → Say lines all → AreClean crews all
     → crews_from number crews lines ≡ Ok (after_all crews all)
@@ -47,16 +53,20 @@ run number crews _ _ (say_next bytes other lines more says some rest) clean =
 
 -- ---- what is said for crews has no fault
 
-differ_at : (before names : List (List ℕ)) (name : List ℕ) (more : List (List ℕ)) → differ_from before (names ++ name ∷ more) ≡ true
+differ_at : (before names : List (List ℕ)) (name : List ℕ) (more : List (List ℕ))
+    → differ_from before (names ++ name ∷ more) ≡ true
     → has_name (before ++ names) name ≡ false
 differ_at before [] name more differ =
     let (new, rest) = and_parts (not (has_name before name)) (differ_from (before ++ name ∷ []) more) differ in
     subst (λ l. has_name l name ≡ false) (sym (append-nil before)) (not-true (has_name before name) new)
 differ_at before (first ∷ names) name more differ =
-    let (new, rest) = and_parts (not (has_name before first)) (differ_from (before ++ first ∷ []) (names ++ name ∷ more)) differ in
-    subst (λ l. has_name l name ≡ false) (append_assoc before (first ∷ []) names) (differ_at (before ++ first ∷ []) names name more rest)
+    let (new, rest) =
+    and_parts (not (has_name before first)) (differ_from (before ++ first ∷ []) (names ++ name ∷ more)) differ in
+    subst (λ l. has_name l name ≡ false) (append_assoc before (first ∷ []) names)
+    (differ_at (before ++ first ∷ []) names name more rest)
 
-names_split : (crews : List Crew) (crew : Crew) (more : List Crew) → names_of (crews ++ crew ∷ more) ≡ names_of crews ++ crew.name ∷ names_of more
+names_split : (crews : List Crew) (crew : Crew) (more : List Crew)
+    → names_of (crews ++ crew ∷ more) ≡ names_of crews ++ crew.name ∷ names_of more
 names_split [] crew more = refl
 names_split (first ∷ crews) crew more = ap (λ l. first.name ∷ l) (names_split crews crew more)
 
@@ -64,12 +74,17 @@ count_split : (crews more : List Crew) → request_count (crews ++ more) ≡ req
 count_split [] more = omega arith
 count_split (first ∷ crews) more = omega (arith, count_split crews more)
 
-crew_open : (crews : List Crew) (name : List ℕ) → has_name (names_of crews) name ≡ false → length crews < 64 → crew_fault crews name ≡ None
+crew_open : (crews : List Crew) (name : List ℕ) → has_name (names_of crews) name ≡ false → length crews < 64
+    → crew_fault crews name ≡ None
 crew_open crews name new few = rw (new, lt-leb 64 (length crews) few) refl
 
-request_open : (crews : List Crew) (crew : Crew) → request_count (crews ++ crew ∷ []) < 100000 → request_fault (crews ++ crew ∷ []) ≡ None
-request_open [] crew few = ap (λ b. if b then Some TooManyRequests else None) (lt-leb 100000 (request_count (crew ∷ [])) few)
-request_open (first ∷ crews) crew few = ap (λ b. if b then Some TooManyRequests else None) (lt-leb 100000 (request_count (first ∷ (crews ++ crew ∷ []))) few)
+request_open : (crews : List Crew) (crew : Crew) → request_count (crews ++ crew ∷ []) < 100000
+    → request_fault (crews ++ crew ∷ []) ≡ None
+request_open [] crew few =
+    ap (λ b. if b then Some TooManyRequests else None) (lt-leb 100000 (request_count (crew ∷ [])) few)
+request_open (first ∷ crews) crew few =
+    ap (λ b. if b then Some TooManyRequests else None)
+    (lt-leb 100000 (request_count (first ∷ (crews ++ crew ∷ []))) few)
 
 abbrev crew_with : List ℕ → List Ask → Crew
 crew_with name docket = record { name = name; docket = docket }
@@ -79,7 +94,8 @@ record Ran (crews : List Crew) (all : List Line) (end : List Crew) : Type 0 wher
   gives : after_all crews all ≡ end
 
 docket_ran : (crews : List Crew) (name : List ℕ) (front back : List Ask) (rest : List Line) (end : List Crew)
-    → request_count crews + length front + length back ≤ 100000 → Ran (crews ++ crew_with name (front ++ back) ∷ []) rest end
+    → request_count crews + length front + length back ≤ 100000
+    → Ran (crews ++ crew_with name (front ++ back) ∷ []) rest end
     → Ran (crews ++ crew_with name front ∷ []) (map line.Request back ++ rest) end
 docket_ran crews name front [] rest end few ran =
     subst (λ d. Ran (crews ++ crew_with name d ∷ []) rest end) (append-nil front) ran
@@ -89,52 +105,73 @@ docket_ran crews name front (ask ∷ back) rest end few ran =
     let count = count_push crews (crew_with name front) in
     let last : with_ask ask now ≡ next = ask_last crews (crew_with name front) ask in
     let more : Ran next (map line.Request back ++ rest) end =
-    docket_ran crews name (front ++ ask ∷ []) back rest end (let long = length-append front (ask ∷ []) in omega (arith, few, long))
+    docket_ran crews name (front ++ ask ∷ []) back rest end
+    (let long = length-append front (ask ∷ []) in omega (arith, few, long))
     (subst (λ d. Ran (crews ++ crew_with name d ∷ []) rest end) (sym (append_assoc front (ask ∷ []) back)) ran) in
-    let moved : Ran (with_ask ask now) (map line.Request back ++ rest) end = subst (λ l. Ran l (map line.Request back ++ rest) end) (sym last) more in
-    record { clean = (request_open crews (crew_with name front) (omega (arith, few, count)), moved.clean); gives = moved.gives }
+    let moved : Ran (with_ask ask now) (map line.Request back ++ rest) end =
+    subst (λ l. Ran l (map line.Request back ++ rest) end) (sym last) more in
+    record {
+      clean = (request_open crews (crew_with name front) (omega (arith, few, count)), moved.clean);
+      gives =
+          moved.gives;
+    }
 
-crews_ran : (crews more : List Crew) → all_differ (names_of (crews ++ more)) ≡ true → length (crews ++ more) ≤ 64 → request_count (crews ++ more) ≤ 100000
+crews_ran : (crews more : List Crew) → all_differ (names_of (crews ++ more)) ≡ true → length (crews ++ more) ≤ 64
+    → request_count (crews ++ more) ≤ 100000
     → Ran crews (flat_map lines_for more) (crews ++ more)
 crews_ran crews [] differ few_crews few_requests = record { clean = tt; gives = sym (append-nil crews) }
 crews_ran crews (crew ∷ more) differ few_crews few_requests =
     let whole : (crews ++ crew ∷ []) ++ more ≡ crews ++ crew ∷ more = append_assoc crews (crew ∷ []) more in
-    let new = differ_at [] (names_of crews) crew.name (names_of more) (subst (λ l. all_differ l ≡ true) (names_split crews crew more) differ) in
+    let new =
+    differ_at [] (names_of crews) crew.name (names_of more)
+    (subst (λ l. all_differ l ≡ true) (names_split crews crew more) differ) in
     let long = length-append crews (crew ∷ more) in
     let count = count_split crews (crew ∷ more) in
     let rest : Ran (crews ++ crew ∷ []) (flat_map lines_for more) (crews ++ crew ∷ more) =
     subst (Ran (crews ++ crew ∷ []) (flat_map lines_for more)) whole
     (crews_ran (crews ++ crew ∷ []) more (subst (λ l. all_differ (names_of l) ≡ true) (sym whole) differ)
-    (subst (λ l. length l ≤ 64) (sym whole) few_crews) (subst (λ l. request_count l ≤ 100000) (sym whole) few_requests)) in
-    let docket = docket_ran crews crew.name [] crew.docket (flat_map lines_for more) (crews ++ crew ∷ more) (omega (arith, count, few_requests)) rest in
-    record { clean = (crew_open crews crew.name new (omega (arith, long, few_crews)), docket.clean); gives = docket.gives }
+    (subst (λ l. length l ≤ 64) (sym whole) few_crews)
+    (subst (λ l. request_count l ≤ 100000) (sym whole) few_requests)) in
+    let docket =
+    docket_ran crews crew.name [] crew.docket (flat_map lines_for more) (crews ++ crew ∷ more)
+    (omega (arith, count, few_requests)) rest in
+    record {
+      clean = (crew_open crews crew.name new (omega (arith, long, few_crews)), docket.clean);
+      gives =
+          docket.gives;
+    }
 
-stands_one : (number : ℕ) (lines : List (List ℕ)) (crews : List Crew) → AreCrews lines crews → crews_from number [] lines ≡ Ok crews
+stands_one : (number : ℕ) (lines : List (List ℕ)) (crews : List Crew) → AreCrews lines crews
+    → crews_from number [] lines ≡ Ok crews
 stands_one number lines crews stand =
     let ran = crews_ran [] crews stand.differ stand.few_crews stand.few_requests in
     run number [] lines (flat_map lines_for crews) stand.say ran.clean ∙ ap Ok ran.gives
 
 -- ---- the first fault
 
-fault_is : (crews : List Crew) (bytes : List ℕ) (code : CrewCode) → HasFault crews bytes code → fault_behind crews (said bytes) ≡ Some code
+fault_is : (crews : List Crew) (bytes : List ℕ) (code : CrewCode) → HasFault crews bytes code
+    → fault_behind crews (said bytes) ≡ Some code
 fault_is _ _ _ (bad_line crews bytes never) = elim (says_read bytes) [
   | inl bad ↦ ap (fault_behind crews) bad
   | inr says ↦ absurd (never (said bytes) says)
 ]
-fault_is _ _ _ (duplicate_crew crews bytes name says hit) = ap (fault_behind crews) (says_one bytes (line.Crew name) says) ∙ rw hit refl
+fault_is _ _ _ (duplicate_crew crews bytes name says hit) =
+    ap (fault_behind crews) (says_one bytes (line.Crew name) says) ∙ rw hit refl
 fault_is _ _ _ (too_many_crews crews bytes name says miss many) =
     ap (fault_behind crews) (says_one bytes (line.Crew name) says) ∙ rw (miss, le-leb 64 (length crews) many) refl
 fault_is _ _ _ (request_before_crew bytes ask says) = ap (fault_behind []) (says_one bytes (line.Request ask) says)
 fault_is _ _ _ (too_many_requests [] bytes ask says some many) = absurd (some refl)
 fault_is _ _ _ (too_many_requests (first ∷ crews) bytes ask says some many) =
-    ap (fault_behind (first ∷ crews)) (says_one bytes (line.Request ask) says) ∙ rw (le-leb 100000 (request_count (first ∷ crews)) many) refl
+    ap (fault_behind (first ∷ crews)) (says_one bytes (line.Request ask) says)
+    ∙ rw (le-leb 100000 (request_count (first ∷ crews)) many) refl
 
 fault_cases : (found : Option CrewCode) → (found ≡ None) ⊎ ((code : CrewCode) × (found ≡ Some code))
 fault_cases None = inl refl
 fault_cases (Some code) = inr (code, refl)
 
 -- lines behind others that have no fault
-read_on : (number : ℕ) (crews : List Crew) (lines more : List (List ℕ)) (end : List Crew) → crews_from number crews lines ≡ Ok end
+read_on : (number : ℕ) (crews : List Crew) (lines more : List (List ℕ)) (end : List Crew)
+    → crews_from number crews lines ≡ Ok end
     → crews_from number crews (lines ++ more) ≡ crews_from (number + length lines) end more
 read_on number crews [] more end same =
     let is : crews ≡ end = grind (arith, same) in
@@ -143,7 +180,9 @@ read_on number crews [] more end same =
 read_on number crews (bytes ∷ lines) more end same = elim (fault_cases (fault_behind crews (said bytes))) [
   | inl none ↦
       let next = after crews (said bytes) in
-      let goes : (rest : Result (List Crew) CrewFault) → unless_fault number (fault_behind crews (said bytes)) rest ≡ rest = λ rest. ap (λ f. unless_fault number f rest) none in
+      let goes : (rest : Result (List Crew) CrewFault)
+      → unless_fault number (fault_behind crews (said bytes)) rest ≡ rest =
+      λ rest. ap (λ f. unless_fault number f rest) none in
       let plus : number + 1 + length lines ≡ number + length (bytes ∷ lines) = omega arith in
       goes (crews_from (number + 1) next (lines ++ more))
       ∙ read_on (number + 1) next lines more end (sym (goes (crews_from (number + 1) next lines)) ∙ same)
@@ -154,18 +193,21 @@ read_on number crews (bytes ∷ lines) more end same = elim (fault_cases (fault_
       absurd (let clash = sym fails ∙ same in cc)
 ]
 
-faults_one : (number : ℕ) (lines : List (List ℕ)) (code : CrewCode) (place : Place) → IsFirstFault number lines code place
+faults_one : (number : ℕ) (lines : List (List ℕ)) (code : CrewCode) (place : Place)
+    → IsFirstFault number lines code place
     → crews_from number [] lines ≡ Err (Fault code place)
 faults_one number lines code place first =
     let at = number + length first.before in
     let rest = crews_from (at + 1) (after first.crews (said first.bytes)) first.behind in
     ap (crews_from number []) first.split
-    ∙ read_on number [] first.before (first.bytes ∷ first.behind) first.crews (stands_one number first.before first.crews first.stand)
+    ∙ read_on number [] first.before (first.bytes ∷ first.behind) first.crews
+    (stands_one number first.before first.crews first.stand)
     ∙ ap (λ f. unless_fault at f rest) (fault_is first.crews first.bytes code first.has)
     ∙ ap (λ l. Err (Fault code (record { line = l; column = 1 }))) (sym first.line)
     ∙ ap (λ k. Err (Fault code (record { line = place.line; column = k }))) (sym first.column)
 
-pub one_answer : (number : ℕ) (lines : List (List ℕ)) (read : Result (List Crew) CrewFault) → Answers number lines read → crews_from number [] lines ≡ read
+pub one_answer : (number : ℕ) (lines : List (List ℕ)) (read : Result (List Crew) CrewFault) → Answers number lines read
+    → crews_from number [] lines ≡ read
 one_answer number lines (Ok crews) stand = stands_one number lines crews stand
 one_answer number lines (Err (Fault code place)) first = faults_one number lines code place first
 one_answer number lines (Err NoMemory) never = absurd never

@@ -1,5 +1,6 @@
 -- One line more.
-use Rattle.std.proofs.Common.{◌≡◌, ℕ, ◌+◌, ◌<◌, true, false, List, [], ◌∷◌, ◌++◌, length, sym, refl, ap, subst, ◌∙◌, arith, length-append, inl, inr}
+use Rattle.std.proofs.Common.{◌≡◌, ℕ, ◌+◌, ◌<◌, true, false, List, [], ◌∷◌, ◌++◌, length, sym, refl, ap, subst, ◌∙◌}
+use Rattle.std.proofs.Common.{arith, length-append, inl, inr}
 use Rattle.std.specs.Prelude.{Option, Some, None, if◌then◌else◌}
 use Rattle.std.specs.List.{All, list_any}
 use Rattle.std.proofs.lemmas.Bool.{cases_Bool}
@@ -23,17 +24,20 @@ pub names_push : (crews : List Crew) (crew : Crew) → names_of (crews ++ crew �
 names_push [] crew = refl
 names_push (first ∷ crews) crew = ap (λ l. first.name ∷ l) (names_push crews crew)
 
-pub count_push : (crews : List Crew) (crew : Crew) → request_count (crews ++ crew ∷ []) ≡ request_count crews + length crew.docket
+pub count_push : (crews : List Crew) (crew : Crew)
+    → request_count (crews ++ crew ∷ []) ≡ request_count crews + length crew.docket
 count_push [] crew = omega arith
 count_push (first ∷ crews) crew = omega (arith, count_push crews crew)
 
-pub ask_last : (crews : List Crew) (crew : Crew) (ask : Ask) → with_ask ask (crews ++ crew ∷ []) ≡ crews ++ more_asked ask crew ∷ []
+pub ask_last : (crews : List Crew) (crew : Crew) (ask : Ask)
+    → with_ask ask (crews ++ crew ∷ []) ≡ crews ++ more_asked ask crew ∷ []
 ask_last [] crew ask = refl
 ask_last (first ∷ []) crew ask = refl
 ask_last (first ∷ second ∷ crews) crew ask = ap (λ l. first ∷ l) (ask_last (second ∷ crews) crew ask)
 
 -- a name is new among the crews, and there is room for one more
-pub crew_new : (crews : List Crew) (name : List ℕ) → crew_fault crews name ≡ None → has_name (names_of crews) name ≡ false
+pub crew_new : (crews : List Crew) (name : List ℕ) → crew_fault crews name ≡ None
+    → has_name (names_of crews) name ≡ false
 crew_new crews name none = elim (cases_Bool (has_name (names_of crews) name)) [
   | inl hit ↦ grind (arith, none, hit)
   | inr miss ↦ miss
@@ -62,7 +66,8 @@ dockets_crew crews name form kept none = record {
 }
 
 -- the names, as the index keeps them
-pub keys_crew : (crews : List Crew) (keys : List (List ℕ)) (name : List ℕ) → keys ≡ names_of crews → crew_fault crews name ≡ None
+pub keys_crew : (crews : List Crew) (keys : List (List ℕ)) (name : List ℕ) → keys ≡ names_of crews
+    → crew_fault crews name ≡ None
     → (if list_any (same_name name) keys then keys else keys ++ name ∷ []) ≡ names_of (crews ++ named name ∷ [])
 keys_crew crews keys name same none =
     ap (λ l. if list_any (same_name name) l then l else l ++ name ∷ []) same
@@ -71,7 +76,8 @@ keys_crew crews keys name same none =
 
 pub reading_crew : (crews : List Crew) (keys new : List (List ℕ)) (name : List ℕ) (total : ℕ) → is_name name ≡ true
     → keys ≡ names_of crews → total ≡ request_count crews → IsDockets crews → crew_fault crews name ≡ None
-    → new ≡ (if list_any (same_name name) keys then keys else keys ++ name ∷ []) → IsReading new crews (Some (named name)) total
+    → new ≡ (if list_any (same_name name) keys then keys else keys ++ name ∷ [])
+    → IsReading new crews (Some (named name)) total
 reading_crew crews keys new name total form same counted kept none is = record {
   named = is ∙ keys_crew crews keys name same none;
   counted = omega (arith, counted, count_push crews (named name));
@@ -83,39 +89,60 @@ reading_crew crews keys new name total form same counted kept none is = record {
 margins_request : (crews : List Crew) (crew : Crew) (ask : Ask) → All HasMargins (crews ++ crew ∷ []) → HasMargin ask
     → All HasMargins (crews ++ more_asked ask crew ∷ [])
 margins_request [] crew ask each margin =
-    All-cons HasMargins (more_asked ask crew) [] (All-push HasMargin crew.docket ask (All-head HasMargins crew [] each) margin) (All-nil HasMargins)
+    All-cons HasMargins (more_asked ask crew) [] (All-push HasMargin crew.docket ask (All-head HasMargins crew [] each)
+    margin) (All-nil HasMargins)
 margins_request (first ∷ crews) crew ask each margin =
     All-cons HasMargins first (crews ++ more_asked ask crew ∷ []) (All-head HasMargins first (crews ++ crew ∷ []) each)
     (margins_request crews crew ask (All-tail HasMargins first (crews ++ crew ∷ []) each) margin)
 
-pub dockets_request : (crews : List Crew) (crew : Crew) (ask : Ask) → IsDockets (crews ++ crew ∷ []) → request_fault (crews ++ crew ∷ []) ≡ None
+pub dockets_request : (crews : List Crew) (crew : Crew) (ask : Ask) → IsDockets (crews ++ crew ∷ [])
+    → request_fault (crews ++ crew ∷ []) ≡ None
     → HasMargin ask → IsDockets (crews ++ more_asked ask crew ∷ [])
 dockets_request crews crew ask kept none margin = record {
-  few_crews = omega (arith, kept.few_crews, length-append crews (crew ∷ []), length-append crews (more_asked ask crew ∷ []));
+  few_crews =
+      omega (arith, kept.few_crews, length-append crews (crew ∷ []), length-append crews (more_asked ask crew ∷ []));
   named = record {
     names = subst (All (λ n. is_name n ≡ true)) (names_push crews crew ∙ sym (names_push crews (more_asked ask crew)))
         kept.named.names;
     differ = subst (λ l. all_differ l ≡ true) (names_push crews crew ∙ sym (names_push crews (more_asked ask crew)))
         kept.named.differ;
   };
-  few_requests = omega (arith, request_room (crews ++ crew ∷ []) none, count_push crews crew, count_push crews (more_asked ask crew), length-append crew.docket (ask ∷ []));
+  few_requests =
+      omega (
+        arith,
+        request_room (crews ++ crew ∷ []) none,
+        count_push crews crew,
+        count_push crews (more_asked ask crew),
+        length-append crew.docket (ask ∷ []),
+      );
   margins = margins_request crews crew ask kept.margins margin;
 }
 
-pub reading_request : (keys : List (List ℕ)) (crews : List Crew) (crew : Crew) (total : ℕ) (ask : Ask) → IsReading keys crews (Some crew) total
-    → request_fault (crews ++ crew ∷ []) ≡ None → HasMargin ask → IsReading keys crews (Some (more_asked ask crew)) (total + 1)
+pub reading_request : (keys : List (List ℕ)) (crews : List Crew) (crew : Crew) (total : ℕ) (ask : Ask)
+    → IsReading keys crews (Some crew) total
+    → request_fault (crews ++ crew ∷ []) ≡ None → HasMargin ask
+    → IsReading keys crews (Some (more_asked ask crew)) (total + 1)
 reading_request keys crews crew total ask old none margin = record {
   named = old.named ∙ names_push crews crew ∙ sym (names_push crews (more_asked ask crew));
-  counted = omega (arith, old.counted, count_push crews crew, count_push crews (more_asked ask crew), length-append crew.docket (ask ∷ []));
+  counted =
+      omega (
+        arith,
+        old.counted,
+        count_push crews crew,
+        count_push crews (more_asked ask crew),
+        length-append crew.docket (ask ∷ []),
+      );
   kept = dockets_request crews crew ask old.kept none margin;
   begun = λ none. absurd cc;
 }
 
-pub begun_first : (keys : List (List ℕ)) (crews : List Crew) (last : Option Crew) (total : ℕ) → IsReading keys crews last total
+pub begun_first : (keys : List (List ℕ)) (crews : List Crew) (last : Option Crew) (total : ℕ)
+    → IsReading keys crews last total
     → last ≡ None → joined crews last ≡ []
 begun_first keys crews last total old none = rw none (old.begun none)
 
 -- a key that is equal to a name
 pub key_added : (keys : List (List ℕ)) (key name : List ℕ) → key ≡ name
-    → (if list_any (same_name key) keys then keys else keys ++ key ∷ []) ≡ (if list_any (same_name name) keys then keys else keys ++ name ∷ [])
+    → (if list_any (same_name key) keys then keys else keys ++ key ∷ [])
+    ≡ (if list_any (same_name name) keys then keys else keys ++ name ∷ [])
 key_added keys key name same = ap (λ n. if list_any (same_name n) keys then keys else keys ++ n ∷ []) same

@@ -1,5 +1,7 @@
 -- What a line says by its words is what it says by its form.
-use Rattle.std.proofs.Common.{◌≡◌, ℕ, ◌+◌, ◌<◌, ◌≤◌, Bool, true, false, List, [], ◌∷◌, ◌++◌, length, cond, not, sym, refl, ap, subst, ◌∙◌, arith, append_assoc, append-nil, inl, inr, eqb-true, take, lt-ltb, le-leb, length-append}
+use Rattle.std.proofs.Common.{◌≡◌, ℕ, ◌+◌, ◌<◌, ◌≤◌, Bool, true, false, List, [], ◌∷◌, ◌++◌, length, cond, not, sym}
+use Rattle.std.proofs.Common.{refl, ap, subst, ◌∙◌, arith, append_assoc, append-nil, inl, inr, eqb-true, take, lt-ltb}
+use Rattle.std.proofs.Common.{le-leb, length-append}
 use Rattle.std.specs.Prelude.{◌⊎◌, ◌||◌, ◌&&◌, codes, Option, Some, None, nat_le, nat_lt}
 use Rattle.std.specs.List.{list_all, position_or_len}
 use Rattle.std.specs.Str.{str_eq_ignore_ascii_case, str_to_ascii_lowercase, bytes_eq}
@@ -7,10 +9,14 @@ use Rattle.std.proofs.lemmas.Bool.{cases_Bool, and_parts, not-true, leb-true, lt
 use Rattle.fault_model.specs.Name.{is_name, is_bare_name}
 use lib.Pointwise.{bytes_decides}
 use Rattle.std.proofs.lemmas.List.{length-map}
-use Rattle.crew_script.specs.Words.{Word, Between, InQuotes, Closed, words, words_of, is_blank, is_quote, bare, are_blank, Spells, no_word}
+use Rattle.crew_script.specs.Words.{Word, Between, InQuotes, Closed, words, words_of, is_blank, is_quote, bare}
+use Rattle.crew_script.specs.Words.{are_blank, Spells, no_word}
 use Rattle.crew_script.specs.Names.{are_taken, all_differ, has_name, differ_from}
-use Rattle.crew_script.specs.Lines.{is_bare_kind, is_quoted_kind, is_name_word, says, is_comment, begins_comment, only_name, only_margin, margin_of, crew_line, return_line, margin_line, take_line, is_taken_too, request_line, line_of}
-use Rattle.crew_script.specs.Says.{Says, says_blank, says_comment, says_crew, says_take, says_return, says_margin, texts}
+use Rattle.crew_script.specs.Lines.{is_bare_kind, is_quoted_kind, is_name_word, says, is_comment, begins_comment}
+use Rattle.crew_script.specs.Lines.{only_name, only_margin, margin_of, crew_line, return_line, margin_line, take_line}
+use Rattle.crew_script.specs.Lines.{is_taken_too, request_line, line_of}
+use Rattle.crew_script.specs.Says.{Says, says_blank, says_comment, says_crew, says_take, says_return, says_margin}
+use Rattle.crew_script.specs.Says.{texts}
 use Rattle.crew_script.specs.Crews.{said}
 use Rattle.crew_script.specs.declared.dockets.Ask.TheVariants.{Take}
 use Rattle.crew_script.specs.declared.line.Line.{Line}
@@ -24,13 +30,15 @@ and_none : (b : Bool) → (b && false) ≡ false
 and_none true = refl
 and_none false = refl
 
-lower : (word : Word) (form : List ℕ) → says word form ≡ true → str_to_ascii_lowercase word.text ≡ str_to_ascii_lowercase form
+lower : (word : Word) (form : List ℕ) → says word form ≡ true
+    → str_to_ascii_lowercase word.text ≡ str_to_ascii_lowercase form
 lower word form here =
     let (kind, same) = and_parts (is_bare_kind word.kind) (str_eq_ignore_ascii_case word.text form) here in
     (bytes_decides (str_to_ascii_lowercase word.text) (str_to_ascii_lowercase form)).0 same
 
 -- it says no other form
-other_form : (word : Word) (form other : List ℕ) → says word form ≡ true → str_eq_ignore_ascii_case form other ≡ false → says word other ≡ false
+other_form : (word : Word) (form other : List ℕ) → says word form ≡ true → str_eq_ignore_ascii_case form other ≡ false
+    → says word other ≡ false
 other_form word form other here differ =
     ap (λ t. is_bare_kind word.kind && bytes_eq t (str_to_ascii_lowercase other)) (lower word form here)
     ∙ ap (λ b. is_bare_kind word.kind && b) differ
@@ -42,7 +50,8 @@ mark_lower (byte ∷ text) begins =
     subst (λ b. begins_comment (str_to_ascii_lowercase (b ∷ text)) ≡ true) (sym (eqb-true byte 35 begins)) refl
 
 -- and begins no comment
-no_comment : (word : Word) (form : List ℕ) → says word form ≡ true → begins_comment (str_to_ascii_lowercase form) ≡ false → is_comment word ≡ false
+no_comment : (word : Word) (form : List ℕ) → says word form ≡ true
+    → begins_comment (str_to_ascii_lowercase form) ≡ false → is_comment word ≡ false
 no_comment word form here plain = elim (cases_Bool (begins_comment word.text)) [
   | inl hit ↦
       let clash = sym (ap begins_comment (lower word form here) ∙ plain) ∙ mark_lower word.text hit in
@@ -58,37 +67,56 @@ pub record Took (before : List (List ℕ)) (names : List Word) : Type 0 where
   pub few : length before + length names ≤ 16
   pub some : 1 ≤ length before + length names
 
-takes : (before : List (List ℕ)) (word : Word) → length before < 16 → is_name_word word ≡ true → has_name before word.text ≡ false → is_taken_too before word ≡ true
+takes : (before : List (List ℕ)) (word : Word) → length before < 16 → is_name_word word ≡ true
+    → has_name before word.text ≡ false → is_taken_too before word ≡ true
 takes before word few is new = rw (is, new, lt-ltb (length before) 16 few) refl
 
-pub take_all : (before : List (List ℕ)) (names : List Word) → Took before names → take_line before names ≡ Request (Take (before ++ texts names))
+pub take_all : (before : List (List ℕ)) (names : List Word) → Took before names
+    → take_line before names ≡ Request (Take (before ++ texts names))
 take_all before [] took =
     let some : 1 ≤ length before = omega (arith, took.some) in
     rw (le-leb 1 (length before) some) (ap (λ l. Request (Take l)) (sym (append-nil before)))
 take_all before (word ∷ names) took =
     let (is, are) = and_parts (is_name_word word) (list_all is_name_word names) took.are in
-    let (new, differ) = and_parts (not (has_name before word.text)) (differ_from (before ++ word.text ∷ []) (texts names)) took.differ in
+    let (new, differ) =
+    and_parts (not (has_name before word.text)) (differ_from (before ++ word.text ∷ []) (texts names))
+    took.differ in
     let long = length-append before (word.text ∷ []) in
     let goes : take_line before (word ∷ names) ≡ take_line (before ++ word.text ∷ []) names =
     rw (takes before word (omega (arith, took.few)) is (not-true (has_name before word.text) new)) refl in
     goes
-    ∙ take_all (before ++ word.text ∷ []) names (record { are = are; differ = differ; few = omega (arith, long, took.few); some = omega (arith, long) })
+    ∙ take_all (before ++ word.text ∷ []) names (record {
+      are = are;
+      differ = differ;
+      few =
+          omega (arith, long, took.few);
+      some = omega (arith, long);
+    })
     ∙ ap (λ l. Request (Take l)) (append_assoc before (word.text ∷ []) (texts names))
 
-pub take_read : (before : List (List ℕ)) (names : List Word) → length before ≤ 16 → (take_line before names ≡ Bad) ⊎ Took before names
+pub take_read : (before : List (List ℕ)) (names : List Word) → length before ≤ 16
+    → (take_line before names ≡ Bad) ⊎ Took before names
 take_read before [] few = elim (cases_Bool (nat_le 1 (length before))) [
-  | inl hit ↦ inr (let some = leb-true 1 (length before) hit in record { are = refl; differ = refl; few = omega (arith, few); some = omega (arith, some) })
+  | inl hit ↦ inr (let some = leb-true 1 (length before) hit in
+      record { are = refl; differ = refl; few = omega (arith, few); some = omega (arith, some) })
   | inr miss ↦ inl (rw miss refl)
 ]
 take_read before (word ∷ names) few = elim (cases_Bool (is_taken_too before word)) [
   | inl hit ↦
-      let (front, new) = and_parts (nat_lt (length before) 16 && is_name_word word) (not (has_name before word.text)) hit in
+      let (front, new) =
+      and_parts (nat_lt (length before) 16 && is_name_word word) (not (has_name before word.text)) hit in
       let (short, is) = and_parts (nat_lt (length before) 16) (is_name_word word) front in
       let below = ltb-true (length before) 16 short in
       let long = length-append before (word.text ∷ []) in
       elim (take_read (before ++ word.text ∷ []) names (omega (arith, long, below))) [
         | inl bad ↦ inl (rw hit bad)
-        | inr took ↦ inr (record { are = rw is took.are; differ = rw new took.differ; few = omega (arith, took.few, long); some = omega arith })
+        | inr took ↦ inr (record {
+          are = rw is took.are;
+          differ = rw new took.differ;
+          few =
+              omega (arith, took.few, long);
+          some = omega arith;
+        })
       ]
   | inr miss ↦ inl (rw miss refl)
 ]
@@ -104,16 +132,25 @@ says_one line _ (says_blank _ blank) = ap line_of (no_words line blank)
 says_one _ _ (says_comment gap rest blank) =
     ap line_of (gap_skipped gap (35 ∷ rest) blank ∙ bare_begins 35 rest hash_no_blank refl ∙ bare_on (35 ∷ []) rest)
 says_one line _ (says_crew _ first name spells form is) =
-    ap line_of (words_spelled (first ∷ name ∷ []) line spells) ∙ rw (no_comment first (codes "crew") form refl, form, is) refl
+    ap line_of (words_spelled (first ∷ name ∷ []) line spells)
+    ∙ rw (no_comment first (codes "crew") form refl, form, is) refl
 says_one line _ (says_take _ first names spells form are taken) =
-    let (sizes, differ) = and_parts (nat_le 1 (length (texts names)) && nat_le (length (texts names)) 16) (all_differ (texts names)) taken in
+    let (sizes, differ) =
+    and_parts (nat_le 1 (length (texts names)) && nat_le (length (texts names)) 16) (all_differ (texts names))
+    taken in
     let (some, few) = and_parts (nat_le 1 (length (texts names))) (nat_le (length (texts names)) 16) sizes in
     let long : length (texts names) ≡ length names = length-map names (λ (word : Word). word.text) in
     let least = leb-true 1 (length (texts names)) some in
     let most = leb-true (length (texts names)) 16 few in
     ap line_of (words_spelled (first ∷ names) line spells)
     ∙ rw (no_comment first (codes "take") form refl, other_form first (codes "take") (codes "crew") form refl, form)
-    (take_all [] names (record { are = are; differ = differ; few = omega (arith, long, most); some = omega (arith, long, least) }))
+    (take_all [] names (record {
+      are = are;
+      differ = differ;
+      few = omega (arith, long, most);
+      some =
+          omega (arith, long, least);
+    }))
 says_one line _ (says_return _ first name spells form is) =
     ap line_of (words_spelled (first ∷ name ∷ []) line spells)
     ∙ rw (
@@ -155,8 +192,11 @@ name_whole word is = elim (cases_Bool (is_bare_kind word.kind)) [
   | inr miss ↦ elim (cases_Bool (is_quoted_kind word.kind)) [
     | inl quote ↦ rw (miss, quote) refl
     | inr none ↦
-        let parts = and_parts (is_name word.text) (is_quoted_kind word.kind || (is_bare_kind word.kind && is_bare_name word.text)) is in
-        let empty : (is_quoted_kind word.kind || (is_bare_kind word.kind && is_bare_name word.text)) ≡ false = rw (none, miss) refl in
+        let parts =
+        and_parts (is_name word.text) (is_quoted_kind word.kind
+        || (is_bare_kind word.kind && is_bare_name word.text)) is in
+        let empty : (is_quoted_kind word.kind || (is_bare_kind word.kind && is_bare_name word.text)) ≡ false =
+        rw (none, miss) refl in
         absurd (let both = sym parts.1 ∙ empty in cc)
   ]
 ]
@@ -168,18 +208,24 @@ names_whole (word ∷ words) are =
     rw (name_whole word is) (names_whole words more)
 
 -- a line whose first word begins a comment
-closed_first : (text line : List ℕ) (first : Word) (rest : List Word) → words (Closed text) line ≡ first ∷ rest → is_bare_kind first.kind ≡ false
+closed_first : (text line : List ℕ) (first : Word) (rest : List Word) → words (Closed text) line ≡ first ∷ rest
+    → is_bare_kind first.kind ≡ false
 closed_first text [] first rest same = grind (arith, same)
 closed_first text (byte ∷ line) first rest same = elim (cases_Bool (is_blank byte)) [
   | inl hit ↦ grind (arith, same, hit)
   | inr miss ↦ grind (arith, same, miss)
 ]
 
-quotes_first : (text line : List ℕ) (first : Word) (rest : List Word) → words (InQuotes text) line ≡ first ∷ rest → is_bare_kind first.kind ≡ false
+quotes_first : (text line : List ℕ) (first : Word) (rest : List Word) → words (InQuotes text) line ≡ first ∷ rest
+    → is_bare_kind first.kind ≡ false
 quotes_first text [] first rest same = grind (arith, same)
 quotes_first text (byte ∷ line) first rest same = elim (cases_Bool (is_quote byte)) [
-  | inl hit ↦ closed_first text line first rest (subst (λ b. cond b (words (Closed text) line) (words (InQuotes (text ++ byte ∷ [])) line) ≡ first ∷ rest) hit same)
-  | inr miss ↦ quotes_first (text ++ byte ∷ []) line first rest (subst (λ b. cond b (words (Closed text) line) (words (InQuotes (text ++ byte ∷ [])) line) ≡ first ∷ rest) miss same)
+  | inl hit ↦ closed_first text line first rest
+      (subst (λ b. cond b (words (Closed text) line) (words (InQuotes (text ++ byte ∷ [])) line) ≡ first ∷ rest) hit
+      same)
+  | inr miss ↦ quotes_first (text ++ byte ∷ []) line first rest
+      (subst (λ b. cond b (words (Closed text) line) (words (InQuotes (text ++ byte ∷ [])) line) ≡ first ∷ rest) miss
+      same)
 ]
 
 record IsComment (line : List ℕ) : Type 0 where
@@ -188,12 +234,18 @@ record IsComment (line : List ℕ) : Type 0 where
   blank : are_blank gap ≡ true
   split : line ≡ gap ++ 35 ∷ more
 
-comment_found : (line : List ℕ) (first : Word) (rest : List Word) → words_of line ≡ first ∷ rest → is_comment first ≡ true → IsComment line
+comment_found : (line : List ℕ) (first : Word) (rest : List Word) → words_of line ≡ first ∷ rest
+    → is_comment first ≡ true → IsComment line
 comment_found [] first rest same here = absurd cc
 comment_found (byte ∷ line) first rest same here = elim (cases_Bool (is_blank byte)) [
   | inl hit ↦
       let found = comment_found line first rest (sym (blank_skipped byte line hit) ∙ same) here in
-      record { gap = byte ∷ found.gap; more = found.more; blank = ap (λ b. b && are_blank found.gap) hit ∙ found.blank; split = ap (λ l. byte ∷ l) found.split }
+      record {
+        gap = byte ∷ found.gap;
+        more = found.more;
+        blank = ap (λ b. b && are_blank found.gap) hit ∙ found.blank;
+        split = ap (λ l. byte ∷ l) found.split;
+      }
   | inr miss ↦ elim (cases_Bool (is_quote byte)) [
     | inl quote ↦
         let opens : words_of (byte ∷ line) ≡ words (InQuotes []) line = rw (miss, quote) refl in
@@ -204,7 +256,8 @@ comment_found (byte ∷ line) first rest same here = elim (cases_Bool (is_blank 
         let all = sym same ∙ bare_begins byte line miss other ∙ bare_on (byte ∷ []) line in
         let is : first ≡ bare (byte ∷ take (position_or_len is_blank line) line) = grind (arith, all) in
         let here_too = (and_parts (is_bare_kind first.kind) (begins_comment first.text) here).1 in
-        let mark : begins_comment (byte ∷ take (position_or_len is_blank line) line) ≡ true = subst (λ (w : Word). begins_comment w.text ≡ true) is here_too in
+        let mark : begins_comment (byte ∷ take (position_or_len is_blank line) line) ≡ true =
+        subst (λ (w : Word). begins_comment w.text ≡ true) is here_too in
         record { gap = []; more = line; blank = refl; split = ap (λ b. b ∷ line) (eqb-true byte 35 mark) }
   ]
 ]
@@ -251,53 +304,73 @@ margin_read (word ∷ next ∷ rest) = inl refl
 abbrev Reads : List ℕ → Line → Type 0
 Reads line other = (other ≡ Bad) ⊎ Says line other
 
-read_crew : (line : List ℕ) (first : Word) (rest : List Word) → words_of line ≡ first ∷ rest → says first (codes "crew") ≡ true → Reads line (crew_line (only_name rest))
+read_crew : (line : List ℕ) (first : Word) (rest : List Word) → words_of line ≡ first ∷ rest
+    → says first (codes "crew") ≡ true → Reads line (crew_line (only_name rest))
 read_crew line first rest same form = elim (name_read rest) [
   | inl none ↦ inl (ap crew_line none)
   | inr found ↦
-      let spells = spells_all line (first ∷ found.word ∷ []) (same ∙ ap (λ l. first ∷ l) found.alone) (rw (form_whole first (codes "crew") form, name_whole found.word found.is) refl) in
+      let spells =
+      spells_all line (first ∷ found.word ∷ []) (same ∙ ap (λ l. first ∷ l) found.alone)
+      (rw (form_whole first (codes "crew") form, name_whole found.word found.is) refl) in
       let one : only_name rest ≡ Some found.word.text = ap only_name found.alone ∙ rw found.is refl in
       inr (subst (λ o. Says line (crew_line o)) (sym one) (says_crew line first found.word spells form found.is))
 ]
 
-read_return : (line : List ℕ) (first : Word) (rest : List Word) → words_of line ≡ first ∷ rest → says first (codes "return") ≡ true → Reads line (return_line (only_name rest))
+read_return : (line : List ℕ) (first : Word) (rest : List Word) → words_of line ≡ first ∷ rest
+    → says first (codes "return") ≡ true → Reads line (return_line (only_name rest))
 read_return line first rest same form = elim (name_read rest) [
   | inl none ↦ inl (ap return_line none)
   | inr found ↦
-      let spells = spells_all line (first ∷ found.word ∷ []) (same ∙ ap (λ l. first ∷ l) found.alone) (rw (form_whole first (codes "return") form, name_whole found.word found.is) refl) in
+      let spells =
+      spells_all line (first ∷ found.word ∷ []) (same ∙ ap (λ l. first ∷ l) found.alone)
+      (rw (form_whole first (codes "return") form, name_whole found.word found.is) refl) in
       let one : only_name rest ≡ Some found.word.text = ap only_name found.alone ∙ rw found.is refl in
       inr (subst (λ o. Says line (return_line o)) (sym one) (says_return line first found.word spells form found.is))
 ]
 
-read_margin : (line : List ℕ) (first : Word) (rest : List Word) → words_of line ≡ first ∷ rest → says first (codes "margin") ≡ true → Reads line (margin_line (only_margin rest))
+read_margin : (line : List ℕ) (first : Word) (rest : List Word) → words_of line ≡ first ∷ rest
+    → says first (codes "margin") ≡ true → Reads line (margin_line (only_margin rest))
 read_margin line first rest same form = elim (margin_read rest) [
   | inl none ↦ inl (ap margin_line none)
   | inr found ↦
-      let spells = spells_all line (first ∷ found.word ∷ []) (same ∙ ap (λ l. first ∷ l) found.alone) (rw (form_whole first (codes "margin") form, found.kind) refl) in
+      let spells =
+      spells_all line (first ∷ found.word ∷ []) (same ∙ ap (λ l. first ∷ l) found.alone)
+      (rw (form_whole first (codes "margin") form, found.kind) refl) in
       let one : only_margin rest ≡ Some found.number = ap only_margin found.alone ∙ rw found.kind found.is in
-      inr (subst (λ o. Says line (margin_line o)) (sym one) (says_margin line first found.word found.number spells form found.kind found.is))
+      inr (subst (λ o. Says line (margin_line o)) (sym one)
+      (says_margin line first found.word found.number spells form found.kind found.is))
 ]
 
 took_taken : (names : List Word) → Took [] names → are_taken (texts names) ≡ true
 took_taken names took =
     let long : length (texts names) ≡ length names = length-map names (λ (word : Word). word.text) in
-    rw (le-leb 1 (length (texts names)) (omega (arith, took.some, long)), le-leb (length (texts names)) 16 (omega (arith, took.few, long))) took.differ
+    rw (
+      le-leb 1 (length (texts names)) (omega (arith, took.some, long)),
+      le-leb (length (texts names)) 16 (omega (arith, took.few, long)),
+    ) took.differ
 
-read_take : (line : List ℕ) (first : Word) (rest : List Word) → words_of line ≡ first ∷ rest → says first (codes "take") ≡ true → Reads line (take_line [] rest)
+read_take : (line : List ℕ) (first : Word) (rest : List Word) → words_of line ≡ first ∷ rest
+    → says first (codes "take") ≡ true → Reads line (take_line [] rest)
 read_take line first rest same form = elim (take_read [] rest (omega arith)) [
   | inl bad ↦ inl bad
   | inr took ↦
-      let spells = spells_all line (first ∷ rest) same (rw (form_whole first (codes "take") form) (names_whole rest took.are)) in
-      inr (subst (Says line) (sym (take_all [] rest took)) (says_take line first rest spells form took.are (took_taken rest took)))
+      let spells =
+      spells_all line (first ∷ rest) same (rw (form_whole first (codes "take") form) (names_whole rest took.are)) in
+      inr (subst (Says line) (sym (take_all [] rest took))
+      (says_take line first rest spells form took.are (took_taken rest took)))
 ]
 
-read_request : (line : List ℕ) (first : Word) (rest : List Word) → words_of line ≡ first ∷ rest → Reads line (request_line first rest)
+read_request : (line : List ℕ) (first : Word) (rest : List Word) → words_of line ≡ first ∷ rest
+    → Reads line (request_line first rest)
 read_request line first rest same = elim (cases_Bool (says first (codes "take"))) [
-  | inl take ↦ subst (Reads line) (sym (let e : request_line first rest ≡ take_line [] rest = rw take refl in e)) (read_take line first rest same take)
+  | inl take ↦ subst (Reads line) (sym (let e : request_line first rest ≡ take_line [] rest = rw take refl in e))
+      (read_take line first rest same take)
   | inr no_take ↦ elim (cases_Bool (says first (codes "return"))) [
-    | inl back ↦ subst (Reads line) (sym (let e : request_line first rest ≡ return_line (only_name rest) = rw (no_take, back) refl in e)) (read_return line first rest same back)
+    | inl back ↦ subst (Reads line) (sym (let e : request_line first rest ≡ return_line (only_name rest) =
+        rw (no_take, back) refl in e)) (read_return line first rest same back)
     | inr no_back ↦ elim (cases_Bool (says first (codes "margin"))) [
-      | inl margin ↦ subst (Reads line) (sym (let e : request_line first rest ≡ margin_line (only_margin rest) = rw (no_take, no_back, margin) refl in e)) (read_margin line first rest same margin)
+      | inl margin ↦ subst (Reads line) (sym (let e : request_line first rest ≡ margin_line (only_margin rest) =
+          rw (no_take, no_back, margin) refl in e)) (read_margin line first rest same margin)
       | inr none ↦ inl (rw (no_take, no_back, none) refl)
     ]
   ]
@@ -306,10 +379,13 @@ read_request line first rest same = elim (cases_Bool (says first (codes "take"))
 by_words : (line : List ℕ) (all : List Word) → words_of line ≡ all → Reads line (line_of all)
 by_words line [] same = inr (says_blank line (none_spelled line (spells_all line [] same refl)))
 by_words line (first ∷ rest) same = elim (cases_Bool (is_comment first)) [
-  | inl hit ↦ subst (Reads line) (sym (let e : line_of (first ∷ rest) ≡ Nothing = rw hit refl in e)) (inr (comment_says line (comment_found line first rest same hit)))
+  | inl hit ↦ subst (Reads line) (sym (let e : line_of (first ∷ rest) ≡ Nothing = rw hit refl in e))
+      (inr (comment_says line (comment_found line first rest same hit)))
   | inr miss ↦ elim (cases_Bool (says first (codes "crew"))) [
-    | inl crew ↦ subst (Reads line) (sym (let e : line_of (first ∷ rest) ≡ crew_line (only_name rest) = rw (miss, crew) refl in e)) (read_crew line first rest same crew)
-    | inr other ↦ subst (Reads line) (sym (let e : line_of (first ∷ rest) ≡ request_line first rest = rw (miss, other) refl in e)) (read_request line first rest same)
+    | inl crew ↦ subst (Reads line) (sym (let e : line_of (first ∷ rest) ≡ crew_line (only_name rest) =
+        rw (miss, crew) refl in e)) (read_crew line first rest same crew)
+    | inr other ↦ subst (Reads line) (sym (let e : line_of (first ∷ rest) ≡ request_line first rest =
+        rw (miss, other) refl in e)) (read_request line first rest same)
   ]
 ]
 

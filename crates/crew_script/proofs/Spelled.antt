@@ -1,9 +1,12 @@
 -- The words of a line are those that spell it.
-use Rattle.std.proofs.Common.{◌≡◌, ℕ, Bool, true, false, List, [], ◌∷◌, ◌++◌, sym, refl, ap, subst, ◌∙◌, append_assoc, append-nil, inl, inr, eqb-true}
+use Rattle.std.proofs.Common.{◌≡◌, ℕ, Bool, true, false, List, [], ◌∷◌, ◌++◌, sym, refl, ap, subst, ◌∙◌, append_assoc}
+use Rattle.std.proofs.Common.{append-nil, inl, inr, eqb-true}
 use Rattle.std.specs.Prelude.{◌||◌}
 use Rattle.std.specs.List.{list_any, list_all}
 use Rattle.std.proofs.lemmas.Bool.{cases_Bool, and_parts, not-true}
-use Rattle.crew_script.specs.Words.{Word, Mode, Between, InBare, InQuotes, Closed, words, words_of, is_blank, is_quote, bare, quoted, broken, parts, begins_bare, are_blank, Writes, bare_word, quoted_word, Spells, no_word, word_on}
+use Rattle.crew_script.specs.Words.{Word, Mode, Between, InBare, InQuotes, Closed, words, words_of, is_blank, is_quote}
+use Rattle.crew_script.specs.Words.{bare, quoted, broken, parts, begins_bare, are_blank, Writes, bare_word, quoted_word}
+use Rattle.crew_script.specs.Words.{Spells, no_word, word_on}
 use Rattle.crew_script.specs.Lines.{is_bare_kind, is_quoted_kind}
 use Rattle.crew_script.proofs.WordLemmas.{blank_skipped, closed_parts}
 
@@ -15,7 +18,8 @@ or_right : (a b : Bool) → (a || b) ≡ false → b ≡ false
 or_right true b e = absurd cc
 or_right false b e = e
 
-any_push : (test : ℕ → Bool) (bytes : List ℕ) (byte : ℕ) → list_any test bytes ≡ false → test byte ≡ false → list_any test (bytes ++ byte ∷ []) ≡ false
+any_push : (test : ℕ → Bool) (bytes : List ℕ) (byte : ℕ) → list_any test bytes ≡ false → test byte ≡ false
+    → list_any test (bytes ++ byte ∷ []) ≡ false
 any_push test [] byte none last = rw last refl
 any_push test (b ∷ bytes) byte none last =
     let here = or_left (test b) (list_any test bytes) none in
@@ -46,7 +50,8 @@ bare_run : (text more rest : List ℕ) → list_any is_blank more ≡ false → 
 bare_run text [] rest none ends = bare_ends text rest ends ∙ ap (λ t. bare t ∷ words_of rest) (sym (append-nil text))
 bare_run text (byte ∷ more) rest none ends =
     let miss = or_left (is_blank byte) (list_any is_blank more) none in
-    let goes : words (InBare text) (byte ∷ (more ++ rest)) ≡ words (InBare (text ++ byte ∷ [])) (more ++ rest) = rw miss refl in
+    let goes : words (InBare text) (byte ∷ (more ++ rest)) ≡ words (InBare (text ++ byte ∷ [])) (more ++ rest) =
+    rw miss refl in
     goes
     ∙ bare_run (text ++ byte ∷ []) more rest (or_right (is_blank byte) (list_any is_blank more) none) ends
     ∙ ap (λ t. bare t ∷ words_of rest) (append_assoc text (byte ∷ []) more)
@@ -56,7 +61,8 @@ quote_run : (text more rest : List ℕ) → list_any is_quote more ≡ false
 quote_run text [] rest none = ap (λ t. words (Closed t) rest) (sym (append-nil text))
 quote_run text (byte ∷ more) rest none =
     let miss = or_left (is_quote byte) (list_any is_quote more) none in
-    let goes : words (InQuotes text) (byte ∷ (more ++ 34 ∷ rest)) ≡ words (InQuotes (text ++ byte ∷ [])) (more ++ 34 ∷ rest) = rw miss refl in
+    let goes : words (InQuotes text) (byte ∷ (more ++ 34 ∷ rest))
+    ≡ words (InQuotes (text ++ byte ∷ [])) (more ++ 34 ∷ rest) = rw miss refl in
     goes
     ∙ quote_run (text ++ byte ∷ []) more rest (or_right (is_quote byte) (list_any is_quote more) none)
     ∙ ap (λ t. words (Closed t) rest) (append_assoc text (byte ∷ []) more)
@@ -68,13 +74,16 @@ quote_no_blank = refl
 pub quote_begins : (bytes : List ℕ) → words_of (34 ∷ bytes) ≡ words (InQuotes []) bytes
 quote_begins bytes = rw quote_no_blank refl
 
-pub bare_begins : (byte : ℕ) (bytes : List ℕ) → is_blank byte ≡ false → is_quote byte ≡ false → words_of (byte ∷ bytes) ≡ words (InBare (byte ∷ [])) bytes
+pub bare_begins : (byte : ℕ) (bytes : List ℕ) → is_blank byte ≡ false → is_quote byte ≡ false
+    → words_of (byte ∷ bytes) ≡ words (InBare (byte ∷ [])) bytes
 bare_begins byte bytes no_blank no_quote = rw (no_blank, no_quote) refl
 
-word_run : (word : Word) (written rest : List ℕ) → Writes word written → parts rest ≡ true → words_of (written ++ rest) ≡ word ∷ words_of rest
+word_run : (word : Word) (written rest : List ℕ) → Writes word written → parts rest ≡ true
+    → words_of (written ++ rest) ≡ word ∷ words_of rest
 word_run _ _ rest (bare_word [] begins none) ends = absurd cc
 word_run _ _ rest (bare_word (byte ∷ text) begins none) ends =
-    bare_begins byte (text ++ rest) (or_left (is_blank byte) (list_any is_blank text) none) (not-true (is_quote byte) begins)
+    bare_begins byte (text ++ rest) (or_left (is_blank byte) (list_any is_blank text) none)
+    (not-true (is_quote byte) begins)
     ∙ bare_run (byte ∷ []) text rest (or_right (is_blank byte) (list_any is_blank text) none) ends
 word_run _ _ rest (quoted_word text none) ends =
     quote_begins ((text ++ 34 ∷ []) ++ rest)
@@ -86,7 +95,8 @@ word_run _ _ rest (quoted_word text none) ends =
 pub words_spelled : (all : List Word) (line : List ℕ) → Spells all line → words_of line ≡ all
 words_spelled _ _ (no_word gap blank) = no_words gap blank
 words_spelled _ _ (word_on gap written rest word more blank writes ends spells) =
-    gap_skipped gap (written ++ rest) blank ∙ word_run word written rest writes ends ∙ ap (λ l. word ∷ l) (words_spelled more rest spells)
+    gap_skipped gap (written ++ rest) blank ∙ word_run word written rest writes ends
+    ∙ ap (λ l. word ∷ l) (words_spelled more rest spells)
 
 -- ---- what is read is spelled, unless it is broken
 
@@ -106,7 +116,8 @@ IsOpen (InBare text) = (begins_bare text ≡ true) × (list_any is_blank text �
 IsOpen (InQuotes text) = list_any is_quote text ≡ false
 IsOpen (Closed text) = list_any is_quote text ≡ false
 
-spells_blank : (all : List Word) (byte : ℕ) (line : List ℕ) → is_blank byte ≡ true → Spells all line → Spells all (byte ∷ line)
+spells_blank : (all : List Word) (byte : ℕ) (line : List ℕ) → is_blank byte ≡ true → Spells all line
+    → Spells all (byte ∷ line)
 spells_blank _ byte _ hit (no_word gap blank) = no_word (byte ∷ gap) (rw hit blank)
 spells_blank _ byte _ hit (word_on gap written rest word more blank writes ends spells) =
     word_on (byte ∷ gap) written rest word more (rw hit blank) writes ends spells
@@ -115,13 +126,15 @@ begins_push : (text : List ℕ) (byte : ℕ) → begins_bare text ≡ true → b
 begins_push [] byte begins = absurd cc
 begins_push (first ∷ text) byte begins = begins
 
-pub spelled : (mode : Mode) (line : List ℕ) → IsOpen mode → list_all is_whole (words mode line) ≡ true → Spells (words mode line) (front mode ++ line)
+pub spelled : (mode : Mode) (line : List ℕ) → IsOpen mode → list_all is_whole (words mode line) ≡ true
+    → Spells (words mode line) (front mode ++ line)
 spelled Between [] is whole = no_word [] refl
 spelled Between (byte ∷ line) is whole = elim (cases_Bool (is_blank byte)) [
   | inl hit ↦
       let same = blank_skipped byte line hit in
       subst (λ l. Spells l (byte ∷ line)) (sym same)
-      (spells_blank (words_of line) byte line hit (spelled Between line tt (subst (λ l. list_all is_whole l ≡ true) same whole)))
+      (spells_blank (words_of line) byte line hit (spelled Between line tt
+      (subst (λ l. list_all is_whole l ≡ true) same whole)))
   | inr miss ↦ elim (cases_Bool (is_quote byte)) [
     | inl quote ↦
         let mark : byte ≡ 34 = eqb-true byte 34 quote in
@@ -132,16 +145,19 @@ spelled Between (byte ∷ line) is whole = elim (cases_Bool (is_blank byte)) [
     | inr other ↦
         let same = bare_begins byte line miss other in
         subst (λ l. Spells l (byte ∷ line)) (sym same)
-        (spelled (InBare (byte ∷ [])) line (rw other refl, rw miss refl) (subst (λ l. list_all is_whole l ≡ true) same whole))
+        (spelled (InBare (byte ∷ [])) line (rw other refl, rw miss refl)
+        (subst (λ l. list_all is_whole l ≡ true) same whole))
   ]
 ]
-spelled (InBare text) [] is whole = word_on [] text [] (bare text) [] refl (bare_word text is.0 is.1) refl (no_word [] refl)
+spelled (InBare text) [] is whole =
+    word_on [] text [] (bare text) [] refl (bare_word text is.0 is.1) refl (no_word [] refl)
 spelled (InBare text) (byte ∷ line) is whole = elim (cases_Bool (is_blank byte)) [
   | inl hit ↦
       let same : words (InBare text) (byte ∷ line) ≡ bare text ∷ words_of line = rw hit refl in
       subst (λ l. Spells l (text ++ byte ∷ line)) (sym same)
       (word_on [] text (byte ∷ line) (bare text) (words_of line) refl (bare_word text is.0 is.1) hit
-      (spells_blank (words_of line) byte line hit (spelled Between line tt (subst (λ l. list_all is_whole l ≡ true) same whole))))
+      (spells_blank (words_of line) byte line hit (spelled Between line tt
+      (subst (λ l. list_all is_whole l ≡ true) same whole))))
   | inr miss ↦
       let same : words (InBare text) (byte ∷ line) ≡ words (InBare (text ++ byte ∷ [])) line = rw miss refl in
       subst (λ l. Spells l (text ++ byte ∷ line)) (sym same)
@@ -172,7 +188,8 @@ spelled (Closed text) (byte ∷ line) is whole = elim (cases_Bool (is_blank byte
       let same : words (Closed text) (byte ∷ line) ≡ quoted text ∷ words_of line = rw hit refl in
       subst (λ l. Spells l (34 ∷ ((text ++ 34 ∷ []) ++ byte ∷ line))) (sym same)
       (word_on [] (34 ∷ text ++ 34 ∷ []) (byte ∷ line) (quoted text) (words_of line) refl (quoted_word text is) hit
-      (spells_blank (words_of line) byte line hit (spelled Between line tt (subst (λ l. list_all is_whole l ≡ true) same whole))))
+      (spells_blank (words_of line) byte line hit (spelled Between line tt
+      (subst (λ l. list_all is_whole l ≡ true) same whole))))
   | inr miss ↦
       let same : words (Closed text) (byte ∷ line) ≡ broken ∷ [] = rw miss refl in
       let clash : list_all is_whole (broken ∷ []) ≡ true = subst (λ l. list_all is_whole l ≡ true) same whole in

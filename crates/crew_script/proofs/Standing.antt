@@ -1,37 +1,45 @@
 -- What is read of lines is what they stand for, or their first fault.
-use Rattle.std.proofs.Common.{◌≡◌, ◌≢◌, ℕ, ◌+◌, ◌≤◌, true, List, [], ◌∷◌, ◌++◌, map, length, sym, refl, ap, subst, ◌∙◌, arith, append_assoc, append-nil, length-append, inl, inr}
+use Rattle.std.proofs.Common.{◌≡◌, ◌≢◌, ℕ, ◌+◌, ◌≤◌, true, List, [], ◌∷◌, ◌++◌, map, length, sym, refl, ap, subst, ◌∙◌}
+use Rattle.std.proofs.Common.{arith, append_assoc, append-nil, length-append, inl, inr}
 use Rattle.std.specs.Prelude.{◌⊎◌, Err, Option, Some, None, nat_le}
 use Rattle.std.specs.List.{flat_map}
 use Rattle.std.proofs.lemmas.Bool.{cases_Bool, leb-true}
 use Rattle.std.proofs.lemmas.List.Concat.{flat_map-append}
 use Rattle.crew_script.specs.Names.{all_differ, has_name}
 use Rattle.crew_script.specs.Dockets.{names_of, request_count}
-use Rattle.crew_script.specs.Crews.{said, after, with_ask, crew_fault, request_fault, fault_behind, fault_at, unless_fault, crews_from}
+use Rattle.crew_script.specs.Crews.{said, after, with_ask, crew_fault, request_fault, fault_behind, fault_at}
+use Rattle.crew_script.specs.Crews.{unless_fault, crews_from}
 use Rattle.crew_script.specs.Says.{Says, says_blank, says_comment, says_crew, says_take, says_return, says_margin}
-use Rattle.crew_script.specs.CrewsOf.{Say, say_none, say_nothing, say_next, lines_for, AreCrews, HasFault, bad_line, duplicate_crew, too_many_crews, request_before_crew, too_many_requests, Answers}
+use Rattle.crew_script.specs.CrewsOf.{Say, say_none, say_nothing, say_next, lines_for, AreCrews, HasFault, bad_line}
+use Rattle.crew_script.specs.CrewsOf.{duplicate_crew, too_many_crews, request_before_crew, too_many_requests, Answers}
 use Rattle.crew_script.specs.declared.dockets.Ask.{Ask}
 use Rattle.crew_script.specs.declared.dockets.Crew.{Crew}
 use Rattle.crew_script.specs.declared.line.Line.{Line}
 use Rattle.crew_script.specs.declared.line.Line.TheVariants as line
 use Rattle.crew_script.specs.declared.fault.CrewCode.{CrewCode}
-use Rattle.crew_script.specs.declared.fault.CrewCode.TheVariants.{BadLine, DuplicateCrew, RequestBeforeCrew, TooManyCrews, TooManyRequests}
+use Rattle.crew_script.specs.declared.fault.CrewCode.TheVariants.{BadLine, DuplicateCrew, RequestBeforeCrew}
+use Rattle.crew_script.specs.declared.fault.CrewCode.TheVariants.{TooManyCrews, TooManyRequests}
 use Rattle.crew_script.proofs.NameLemmas.{differ_push}
-use Rattle.crew_script.proofs.ReadingLemmas.{named, more_asked, names_push, count_push, crew_new, crew_room, request_room}
+use Rattle.crew_script.proofs.ReadingLemmas.{named, more_asked, names_push, count_push, crew_new, crew_room}
+use Rattle.crew_script.proofs.ReadingLemmas.{request_room}
 use Rattle.crew_script.proofs.Saying.{says_one, says_read}
 
 say_append : (lines more : List (List ℕ)) (a b : List Line) → Say lines a → Say more b → Say (lines ++ more) (a ++ b)
 say_append _ more _ b say_none second = second
-say_append _ more _ b (say_nothing bytes lines a says rest) second = say_nothing bytes (lines ++ more) (a ++ b) says (say_append lines more a b rest second)
+say_append _ more _ b (say_nothing bytes lines a says rest) second =
+    say_nothing bytes (lines ++ more) (a ++ b) says (say_append lines more a b rest second)
 say_append _ more _ b (say_next bytes other lines a says some rest) second =
     say_next bytes other (lines ++ more) (a ++ b) says some (say_append lines more a b rest second)
 
 -- ---- one more request
 
-map_push : (docket : List Ask) (ask : Ask) → map line.Request (docket ++ ask ∷ []) ≡ map line.Request docket ++ line.Request ask ∷ []
+map_push : (docket : List Ask) (ask : Ask) → map line.Request (docket ++ ask ∷ [])
+    ≡ map line.Request docket ++ line.Request ask ∷ []
 map_push [] ask = refl
 map_push (first ∷ docket) ask = ap (λ l. line.Request first ∷ l) (map_push docket ask)
 
-ask_lines : (first : Crew) (crews : List Crew) (ask : Ask) → flat_map lines_for (with_ask ask (first ∷ crews)) ≡ flat_map lines_for (first ∷ crews) ++ line.Request ask ∷ []
+ask_lines : (first : Crew) (crews : List Crew) (ask : Ask)
+    → flat_map lines_for (with_ask ask (first ∷ crews)) ≡ flat_map lines_for (first ∷ crews) ++ line.Request ask ∷ []
 ask_lines first [] ask =
     append-nil (lines_for (more_asked ask first))
     ∙ ap (λ l. line.Crew first.name ∷ l) (map_push first.docket ask)
@@ -67,11 +75,13 @@ says_it bytes other same some = elim (says_read bytes) [
 say_one : (bytes : List ℕ) (other : Line) → Says bytes other → other ≢ line.Nothing → Say (bytes ∷ []) (other ∷ [])
 say_one bytes other says some = say_next bytes other [] [] says some say_none
 
-stands_on : (before : List (List ℕ)) (crews : List Crew) (bytes : List ℕ) (other : Line) → AreCrews before crews → said bytes ≡ other
+stands_on : (before : List (List ℕ)) (crews : List Crew) (bytes : List ℕ) (other : Line) → AreCrews before crews
+    → said bytes ≡ other
     → fault_behind crews other ≡ None → AreCrews (before ++ bytes ∷ []) (after crews other)
 stands_on before crews bytes line.Nothing stand same none = record {
   say = subst (Say (before ++ bytes ∷ [])) (append-nil (flat_map lines_for crews))
-      (say_append before (bytes ∷ []) (flat_map lines_for crews) [] stand.say (say_nothing bytes [] [] (says_it bytes line.Nothing same (λ e. absurd cc)) say_none));
+      (say_append before (bytes ∷ []) (flat_map lines_for crews) [] stand.say
+      (say_nothing bytes [] [] (says_it bytes line.Nothing same (λ e. absurd cc)) say_none));
   differ = stand.differ;
   few_crews = stand.few_crews;
   few_requests = stand.few_requests;
@@ -92,7 +102,8 @@ stands_on before (first ∷ crews) bytes (line.Request ask) stand same none = re
       (say_append before (bytes ∷ []) (flat_map lines_for (first ∷ crews)) (line.Request ask ∷ []) stand.say
       (say_one bytes (line.Request ask) (says_it bytes (line.Request ask) same (λ e. absurd cc)) (λ e. absurd cc)));
   differ = subst (λ l. all_differ l ≡ true) (sym (ask_names (first ∷ crews) ask)) stand.differ;
-  few_crews = let same_length = ask_length (first ∷ crews) ask in let few = stand.few_crews in omega (arith, same_length, few);
+  few_crews =
+      let same_length = ask_length (first ∷ crews) ask in let few = stand.few_crews in omega (arith, same_length, few);
   few_requests =
       let room = request_room (first ∷ crews) none in
       let more = ask_count (first ∷ crews) ask in
@@ -117,7 +128,8 @@ bad_unsaid _ _ (says_take _ first names spells form are taken) = λ e. absurd cc
 bad_unsaid _ _ (says_return _ first name spells form is) = λ e. absurd cc
 bad_unsaid _ _ (says_margin _ first word number spells form kind is) = λ e. absurd cc
 
-has_fault : (crews : List Crew) (bytes : List ℕ) (other : Line) (code : CrewCode) → said bytes ≡ other → fault_behind crews other ≡ Some code → HasFault crews bytes code
+has_fault : (crews : List Crew) (bytes : List ℕ) (other : Line) (code : CrewCode) → said bytes ≡ other
+    → fault_behind crews other ≡ Some code → HasFault crews bytes code
 has_fault crews bytes line.Nothing code same some = absurd cc
 has_fault crews bytes line.Bad code same some =
     subst (HasFault crews bytes) (some_code BadLine code some)
@@ -127,24 +139,28 @@ has_fault crews bytes (line.Crew name) code same some =
     elim (cases_Bool (has_name (names_of crews) name)) [
       | inl hit ↦
           let is : crew_fault crews name ≡ Some DuplicateCrew = rw hit refl in
-          subst (HasFault crews bytes) (some_code DuplicateCrew code (sym is ∙ some)) (duplicate_crew crews bytes name says hit)
+          subst (HasFault crews bytes) (some_code DuplicateCrew code (sym is ∙ some))
+          (duplicate_crew crews bytes name says hit)
       | inr miss ↦ elim (cases_Bool (nat_le 64 (length crews))) [
         | inl many ↦
             let is : crew_fault crews name ≡ Some TooManyCrews = rw (miss, many) refl in
-            subst (HasFault crews bytes) (some_code TooManyCrews code (sym is ∙ some)) (too_many_crews crews bytes name says miss (leb-true 64 (length crews) many))
+            subst (HasFault crews bytes) (some_code TooManyCrews code (sym is ∙ some))
+            (too_many_crews crews bytes name says miss (leb-true 64 (length crews) many))
         | inr few ↦
             let is : crew_fault crews name ≡ None = rw (miss, few) refl in
             absurd (let clash = sym is ∙ some in cc)
       ]
     ]
 has_fault [] bytes (line.Request ask) code same some =
-    subst (HasFault [] bytes) (some_code RequestBeforeCrew code some) (request_before_crew bytes ask (says_it bytes (line.Request ask) same (λ e. absurd cc)))
+    subst (HasFault [] bytes) (some_code RequestBeforeCrew code some)
+    (request_before_crew bytes ask (says_it bytes (line.Request ask) same (λ e. absurd cc)))
 has_fault (first ∷ crews) bytes (line.Request ask) code same some =
     elim (cases_Bool (nat_le 100000 (request_count (first ∷ crews)))) [
       | inl many ↦
           let is : request_fault (first ∷ crews) ≡ Some TooManyRequests = rw many refl in
           subst (HasFault (first ∷ crews) bytes) (some_code TooManyRequests code (sym is ∙ some))
-          (too_many_requests (first ∷ crews) bytes ask (says_it bytes (line.Request ask) same (λ e. absurd cc)) (λ e. absurd cc) (leb-true 100000 (request_count (first ∷ crews)) many))
+          (too_many_requests (first ∷ crews) bytes ask (says_it bytes (line.Request ask) same (λ e. absurd cc))
+          (λ e. absurd cc) (leb-true 100000 (request_count (first ∷ crews)) many))
       | inr few ↦
           let is : request_fault (first ∷ crews) ≡ None = rw few refl in
           absurd (let clash = sym is ∙ some in cc)
@@ -162,15 +178,21 @@ answers number before [] crews stand = subst (λ l. AreCrews l crews) (sym (appe
 answers number before (bytes ∷ lines) crews stand = elim (fault_cases (fault_behind crews (said bytes))) [
   | inl none ↦
       let rest = crews_from (number + length before + 1) (after crews (said bytes)) lines in
-      let goes : unless_fault (number + length before) (fault_behind crews (said bytes)) rest ≡ rest = ap (λ f. unless_fault (number + length before) f rest) none in
-      let more = answers number (before ++ bytes ∷ []) lines (after crews (said bytes)) (stands_on before crews bytes (said bytes) stand refl none) in
-      let next : number + length (before ++ bytes ∷ []) ≡ number + length before + 1 = omega (arith, length-append before (bytes ∷ [])) in
+      let goes : unless_fault (number + length before) (fault_behind crews (said bytes)) rest ≡ rest =
+      ap (λ f. unless_fault (number + length before) f rest) none in
+      let more =
+      answers number (before ++ bytes ∷ []) lines (after crews (said bytes))
+      (stands_on before crews bytes (said bytes) stand refl none) in
+      let next : number + length (before ++ bytes ∷ []) ≡ number + length before + 1 =
+      omega (arith, length-append before (bytes ∷ [])) in
       subst (Answers number (before ++ bytes ∷ lines)) (sym goes)
       (subst (λ n. Answers number (before ++ bytes ∷ lines) (crews_from n (after crews (said bytes)) lines)) next
-      (subst (λ l. Answers number l (crews_from (number + length (before ++ bytes ∷ [])) (after crews (said bytes)) lines)) (append_assoc before (bytes ∷ []) lines) more))
+      (subst (λ l. Answers number l (crews_from (number + length (before ++ bytes ∷ [])) (after crews (said bytes))
+      lines)) (append_assoc before (bytes ∷ []) lines) more))
   | inr some ↦
       let rest = crews_from (number + length before + 1) (after crews (said bytes)) lines in
-      let fails : unless_fault (number + length before) (fault_behind crews (said bytes)) rest ≡ Err (fault_at some.0 (number + length before)) =
+      let fails : unless_fault (number + length before) (fault_behind crews (said bytes)) rest
+      ≡ Err (fault_at some.0 (number + length before)) =
       ap (λ f. unless_fault (number + length before) f rest) some.1 in
       subst (Answers number (before ++ bytes ∷ lines)) (sym fails)
       (record {

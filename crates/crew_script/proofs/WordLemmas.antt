@@ -1,11 +1,13 @@
 -- What the words of a line are, run by run.
-use Rattle.std.proofs.Common.{◌≡◌, ℕ, ◌+◌, ◌<◌, Bool, true, false, List, [], ◌∷◌, ◌++◌, length, take, drop, cond, not, sym, refl, ap, ◌∙◌, arith, append_assoc, append-nil, inl, inr, lt-ltb, subst, ◌≤◌, suc}
+use Rattle.std.proofs.Common.{◌≡◌, ℕ, ◌+◌, ◌<◌, Bool, true, false, List, [], ◌∷◌, ◌++◌, length, take, drop, cond, not}
+use Rattle.std.proofs.Common.{sym, refl, ap, ◌∙◌, arith, append_assoc, append-nil, inl, inr, lt-ltb, subst, ◌≤◌, suc}
 use Rattle.std.specs.Prelude.{position, Some, None}
 use Rattle.std.specs.List.{prefix_len, position_or_len}
 use Rattle.std.proofs.lemmas.Bool.{cases_lt, cases_Bool, not-true}
 use Rattle.std.proofs.lemmas.List.Quantifiers.{position-Some}
 use Rattle.std.proofs.lemmas.List.Sums.{position_or_len_is, prefix_len-le-length}
-use Rattle.crew_script.specs.Words.{InBare, InQuotes, Closed, words, words_of, is_blank, is_quote, bare, quoted, broken, parts, begins_bare, begins_blank}
+use Rattle.crew_script.specs.Words.{InBare, InQuotes, Closed, words, words_of, is_blank, is_quote, bare, quoted, broken}
+use Rattle.crew_script.specs.Words.{parts, begins_bare, begins_blank}
 
 pub blank_skipped : (byte : ℕ) (bytes : List ℕ) → is_blank byte ≡ true → words_of (byte ∷ bytes) ≡ words_of bytes
 blank_skipped byte bytes hit = rw hit refl
@@ -32,11 +34,13 @@ blanks_gone (byte ∷ bytes) = elim (cases_Bool (is_blank byte)) [
 
 -- a bare word goes up to the next blank
 pub bare_on : (text bytes : List ℕ) → words (InBare text) bytes
-    ≡ bare (text ++ take (position_or_len is_blank bytes) bytes) ∷ words_of (drop (position_or_len is_blank bytes) bytes)
+    ≡ bare (text ++ take (position_or_len is_blank bytes) bytes)
+    ∷ words_of (drop (position_or_len is_blank bytes) bytes)
 bare_on text [] = ap (λ t. bare t ∷ []) (sym (append-nil text))
 bare_on text (byte ∷ bytes) = elim (cases_Bool (is_blank byte)) [
   | inl hit ↦
-      let none : position_or_len is_blank (byte ∷ bytes) ≡ 0 = ap (λ b. cond (not b) (1 + position_or_len is_blank bytes) 0) hit in
+      let none : position_or_len is_blank (byte ∷ bytes) ≡ 0 =
+      ap (λ b. cond (not b) (1 + position_or_len is_blank bytes) 0) hit in
       let ends : words (InBare text) (byte ∷ bytes) ≡ bare text ∷ words_of bytes = rw hit refl in
       ends
       ∙ ap (λ t. bare t ∷ words_of bytes) (sym (append-nil text))
@@ -52,23 +56,27 @@ bare_on text (byte ∷ bytes) = elim (cases_Bool (is_blank byte)) [
 ]
 
 pub bare_from : (bytes : List ℕ) → begins_bare bytes ≡ true → begins_blank bytes ≡ false
-    → words_of bytes ≡ bare (take (position_or_len is_blank bytes) bytes) ∷ words_of (drop (position_or_len is_blank bytes) bytes)
+    → words_of bytes ≡ bare (take (position_or_len is_blank bytes) bytes)
+    ∷ words_of (drop (position_or_len is_blank bytes) bytes)
 bare_from [] begins no_blank = absurd cc
 bare_from (byte ∷ bytes) begins no_blank =
     let place = position_or_len is_blank bytes in
     let on : suc place ≡ 1 + place = omega arith in
     let unquoted : is_quote byte ≡ false = not-true (is_quote byte) begins in
-    rw (no_blank, unquoted) (bare_on (byte ∷ []) bytes ∙ ap (λ n. bare (take n (byte ∷ bytes)) ∷ words_of (drop n (byte ∷ bytes))) on)
+    rw (no_blank, unquoted) (bare_on (byte ∷ []) bytes
+    ∙ ap (λ n. bare (take n (byte ∷ bytes)) ∷ words_of (drop n (byte ∷ bytes))) on)
 
 -- a quoted word goes up to the next quotation mark
 pub quoted_on : (text bytes : List ℕ) → position_or_len is_quote bytes < length bytes
-    → words (InQuotes text) bytes ≡ words (Closed (text ++ take (position_or_len is_quote bytes) bytes)) (drop (position_or_len is_quote bytes + 1) bytes)
+    → words (InQuotes text) bytes ≡ words (Closed (text ++ take (position_or_len is_quote bytes) bytes))
+    (drop (position_or_len is_quote bytes + 1) bytes)
 quoted_on text [] within = absurd (omega (arith, within))
 quoted_on text (byte ∷ bytes) within = elim (cases_Bool (is_quote byte)) [
   | inl hit ↦ rw hit (ap (λ t. words (Closed t) bytes) (sym (append-nil text)))
   | inr miss ↦
       let place = position_or_len is_quote bytes in
-      let few : 1 + place < length (byte ∷ bytes) = subst (λ b. cond (not b) (1 + place) 0 < length (byte ∷ bytes)) miss within in
+      let few : 1 + place < length (byte ∷ bytes) =
+      subst (λ b. cond (not b) (1 + place) 0 < length (byte ∷ bytes)) miss within in
       let on : suc place ≡ 1 + place = omega arith in
       let past : suc (place + 1) ≡ 1 + place + 1 = omega arith in
       rw miss
@@ -78,7 +86,8 @@ quoted_on text (byte ∷ bytes) within = elim (cases_Bool (is_quote byte)) [
       ∙ ap (λ n. words (Closed (text ++ take (1 + place) (byte ∷ bytes))) (drop n (byte ∷ bytes))) past)
 ]
 
-pub quoted_open : (text bytes : List ℕ) → length bytes ≤ position_or_len is_quote bytes → words (InQuotes text) bytes ≡ broken ∷ []
+pub quoted_open : (text bytes : List ℕ) → length bytes ≤ position_or_len is_quote bytes
+    → words (InQuotes text) bytes ≡ broken ∷ []
 quoted_open text [] none = refl
 quoted_open text (byte ∷ bytes) none = elim (cases_Bool (is_quote byte)) [
   | inl hit ↦
@@ -87,7 +96,8 @@ quoted_open text (byte ∷ bytes) none = elim (cases_Bool (is_quote byte)) [
       absurd (omega (arith, few))
   | inr miss ↦
       let place = position_or_len is_quote bytes in
-      let few : length (byte ∷ bytes) ≤ 1 + place = subst (λ b. length (byte ∷ bytes) ≤ cond (not b) (1 + place) 0) miss none in
+      let few : length (byte ∷ bytes) ≤ 1 + place =
+      subst (λ b. length (byte ∷ bytes) ≤ cond (not b) (1 + place) 0) miss none in
       rw miss (quoted_open (text ++ byte ∷ []) bytes (omega (arith, few)))
 ]
 
@@ -102,16 +112,20 @@ closed_broken text (byte ∷ bytes) here = rw here refl
 
 -- ---- where the first blank or quotation mark stands
 
-pub first_place : (test : ℕ → Bool) (bytes : List ℕ) (end : ℕ) → position test bytes ≡ Some end → end ≡ position_or_len test bytes
+pub first_place : (test : ℕ → Bool) (bytes : List ℕ) (end : ℕ) → position test bytes ≡ Some end
+    → end ≡ position_or_len test bytes
 first_place test bytes end at =
     let (within, hit, before) = position-Some test bytes end 0 at in
     sym (position_or_len_is test bytes end 0 (omega arith) before (λ _. hit))
 
-pub no_place : (test : ℕ → Bool) (bytes : List ℕ) → position test bytes ≡ None → length bytes ≡ position_or_len test bytes
+pub no_place : (test : ℕ → Bool) (bytes : List ℕ) → position test bytes ≡ None
+    → length bytes ≡ position_or_len test bytes
 no_place test bytes none =
     elim (cases_lt (position_or_len test bytes) (length bytes)) [
       | inl found ↦
-          let clash = sym none ∙ ap (λ b. cond b (Some (position_or_len test bytes)) None) (lt-ltb (position_or_len test bytes) (length bytes) found) in
+          let clash =
+          sym none ∙ ap (λ b. cond b (Some (position_or_len test bytes)) None)
+          (lt-ltb (position_or_len test bytes) (length bytes) found) in
           absurd cc
       | inr past ↦ omega (arith, prefix_len-le-length (λ byte. not (test byte)) bytes)
     ]

@@ -1,5 +1,6 @@
 -- Sets that are dealt to workers, and gathered again.
-use Rattle.std.proofs.Common.{◌≡◌, ℕ, zero, suc, ◌+◌, ◌-◌, ◌*◌, ◌/◌, ◌%◌, ◌<◌, ◌≤◌, List, [], ◌∷◌, ◌++◌, length, get_or, take, drop, Option, None, refl, ap, sym, subst, ◌∙◌, arith, add-one}
+use Rattle.std.proofs.Common.{◌≡◌, ℕ, zero, suc, ◌+◌, ◌-◌, ◌*◌, ◌/◌, ◌%◌, ◌<◌, ◌≤◌, List, [], ◌∷◌, ◌++◌, length, get_or}
+use Rattle.std.proofs.Common.{take, drop, Option, None, refl, ap, sym, subst, ◌∙◌, arith, add-one}
 use Rattle.std.proofs.Math.Nat.{div-add-mod, mod-lt}
 use Rattle.std.specs.List.{sum_by}
 use Rattle.std.proofs.lemmas.List.{drop_more, drop_all, drop-drop, take_more, take_all, get_or_read}
@@ -9,7 +10,8 @@ use Rattle.cut_sequences.specs.Dealing.{dealt, Share, AreShares, list_in, gather
 
 -- ---- the places of what a worker gets
 
-pub get_or-dealt : {X : Type 0} (waits others k : ℕ) (items : List X) (d : X) → get_or (dealt waits others items) k d ≡ get_or items (waits + k * suc others) d
+pub get_or-dealt : {X : Type 0} (waits others k : ℕ) (items : List X) (d : X)
+    → get_or (dealt waits others items) k d ≡ get_or items (waits + k * suc others) d
 get_or-dealt waits others k [] d = refl
 get_or-dealt zero others zero (item ∷ items) d =
     let place : zero ≡ zero + zero * suc others = omega arith in
@@ -21,7 +23,8 @@ get_or-dealt (suc waits) others k (item ∷ items) d =
     let place : suc waits + k * suc others ≡ suc (waits + k * suc others) = omega arith in
     get_or-dealt waits others k items d ∙ ap (λ n. get_or (item ∷ items) n d) (sym place)
 
-pub dealt-reaches : {X : Type 0} (waits others k : ℕ) (items : List X) → waits + k * suc others < length items → k < length (dealt waits others items)
+pub dealt-reaches : {X : Type 0} (waits others k : ℕ) (items : List X) → waits + k * suc others < length items
+    → k < length (dealt waits others items)
 dealt-reaches waits others k [] short = absurd (omega arith)
 dealt-reaches zero others zero (item ∷ items) short = omega arith
 dealt-reaches zero others (suc k) (item ∷ items) short =
@@ -36,7 +39,8 @@ place_again i workers some =
 
 -- ---- what a worker gets, set by set
 
-pub dealt-drop : {X : Type 0} (waits others : ℕ) (items : List X) → dealt 0 others (drop waits items) ≡ dealt waits others items
+pub dealt-drop : {X : Type 0} (waits others : ℕ) (items : List X)
+    → dealt 0 others (drop waits items) ≡ dealt waits others items
 dealt-drop zero others items = refl
 dealt-drop (suc waits) others [] = refl
 dealt-drop (suc waits) others (item ∷ items) = dealt-drop waits others items
@@ -46,9 +50,11 @@ pub dealt-next : {X : Type 0} (next others : ℕ) (items : List X) (d : X) → n
 dealt-next next others items d short =
     let later : next + 1 + others ≡ next + suc others = omega arith in
     ap (dealt 0 others) (drop_more items next d short)
-    ∙ ap (λ rest. get_or items next d ∷ rest) (sym (dealt-drop others others (drop (next + 1) items)) ∙ ap (dealt 0 others) (drop-drop others (next + 1) items ∙ ap (λ n. drop n items) later))
+    ∙ ap (λ rest. get_or items next d ∷ rest) (sym (dealt-drop others others (drop (next + 1) items))
+    ∙ ap (dealt 0 others) (drop-drop others (next + 1) items ∙ ap (λ n. drop n items) later))
 
-pub dealt-end : {X : Type 0} (next others : ℕ) (items : List X) → length items ≤ next → dealt 0 others (drop next items) ≡ []
+pub dealt-end : {X : Type 0} (next others : ℕ) (items : List X) → length items ≤ next
+    → dealt 0 others (drop next items) ≡ []
 dealt-end next others items past = ap (dealt 0 others) (drop_all next items past)
 
 pub dealt-le : (waits others : ℕ) (lists : Share) → order_total (dealt waits others lists) ≤ order_total lists
@@ -58,21 +64,24 @@ dealt-le (suc waits) others (list ∷ lists) = omega (arith, dealt-le waits othe
 
 -- ---- all sets together
 
-pub list_in-is : (lists : Share) (shares : List Share) → AreShares lists shares → (i : ℕ) → list_in shares i ≡ get_or lists i None
+pub list_in-is : (lists : Share) (shares : List Share) → AreShares lists shares → (i : ℕ)
+    → list_in shares i ≡ get_or lists i None
 list_in-is lists shares are i =
     let within : i % length shares < length shares = mod-lt i are.some in
     ap (λ (s : Share). get_or s (i / length shares) None) (are.each (i % length shares) within)
     ∙ get_or-dealt (i % length shares) (length shares - 1) (i / length shares) lists None
     ∙ ap (λ n. get_or lists n None) (place_again i (length shares) are.some)
 
-pub share_reaches : (lists : Share) (shares : List Share) → AreShares lists shares → (i : ℕ) → i < length lists → i / length shares < length (get_or shares (i % length shares) [])
+pub share_reaches : (lists : Share) (shares : List Share) → AreShares lists shares → (i : ℕ) → i < length lists
+    → i / length shares < length (get_or shares (i % length shares) [])
 share_reaches lists shares are i short =
     let within : i % length shares < length shares = mod-lt i are.some in
     subst (λ (s : Share). i / length shares < length s) (sym (are.each (i % length shares) within))
     (dealt-reaches (i % length shares) (length shares - 1) (i / length shares) lists
     (subst (λ n. n < length lists) (sym (place_again i (length shares) are.some)) short))
 
-gathered-take : (lists : Share) (shares : List Share) → AreShares lists shares → (sets : ℕ) → sets ≤ length lists → gathered sets shares ≡ take sets lists
+gathered-take : (lists : Share) (shares : List Share) → AreShares lists shares → (sets : ℕ) → sets ≤ length lists
+    → gathered sets shares ≡ take sets lists
 gathered-take lists shares are zero short = refl
 gathered-take lists shares are (suc sets) short =
     let below : sets < length lists = omega arith in
@@ -80,12 +89,15 @@ gathered-take lists shares are (suc sets) short =
     ∙ ap (λ (o : Option (List (List ℕ))). take sets lists ++ o ∷ []) (list_in-is lists shares are sets)
     ∙ sym (take_more lists sets None below) ∙ ap (λ n. take n lists) (add-one sets)
 
-pub gathered-is : (lists : Share) (shares : List Share) (sets : ℕ) → AreShares lists shares → sets ≡ length lists → gathered sets shares ≡ lists
-gathered-is lists shares sets are all = gathered-take lists shares are sets (omega arith) ∙ take_all sets lists (omega arith)
+pub gathered-is : (lists : Share) (shares : List Share) (sets : ℕ) → AreShares lists shares → sets ≡ length lists
+    → gathered sets shares ≡ lists
+gathered-is lists shares sets are all =
+    gathered-take lists shares are sets (omega arith) ∙ take_all sets lists (omega arith)
 
 pub length-gathered : (sets : ℕ) (shares : List Share) → length (gathered sets shares) ≡ sets
 length-gathered zero shares = refl
-length-gathered (suc sets) shares = omega (arith, length_push-is (gathered sets shares) (list_in shares sets), length-gathered sets shares)
+length-gathered (suc sets) shares =
+    omega (arith, length_push-is (gathered sets shares) (list_in shares sets), length-gathered sets shares)
   where
     length_push-is : (xs : Share) (x : Option (List (List ℕ))) → length (xs ++ x ∷ []) ≡ length xs + 1
     length_push-is [] x = refl
@@ -103,15 +115,18 @@ dealt_total-nil zero others = refl
 dealt_total-nil (suc n) others = omega (arith, dealt_total-nil n others)
 
 dealt_total-cons : (n others : ℕ) (list : Option (List (List ℕ))) (lists : Share)
-    → dealt_total (suc n) others (list ∷ lists) ≡ order_count list + order_total (dealt others others lists) + dealt_total n others lists
+    → dealt_total (suc n) others (list ∷ lists) ≡ order_count list + order_total (dealt others others lists)
+    + dealt_total n others lists
 dealt_total-cons zero others list lists = omega arith
 dealt_total-cons (suc n) others list lists = omega (arith, dealt_total-cons n others list lists)
 
 pub dealt_total-all : (others : ℕ) (lists : Share) → dealt_total (suc others) others lists ≡ order_total lists
 dealt_total-all others [] = dealt_total-nil (suc others) others
-dealt_total-all others (list ∷ lists) = omega (arith, dealt_total-cons others others list lists, dealt_total-all others lists)
+dealt_total-all others (list ∷ lists) =
+    omega (arith, dealt_total-cons others others list lists, dealt_total-all others lists)
 
-shares_total : (lists : Share) (shares : List Share) → AreShares lists shares → (n : ℕ) → n ≤ length shares → sum_by order_total (take n shares) ≡ dealt_total n (length shares - 1) lists
+shares_total : (lists : Share) (shares : List Share) → AreShares lists shares → (n : ℕ) → n ≤ length shares
+    → sum_by order_total (take n shares) ≡ dealt_total n (length shares - 1) lists
 shares_total lists shares are zero short = refl
 shares_total lists shares are (suc n) short =
     let below : n < length shares = omega arith in
@@ -120,7 +135,8 @@ shares_total lists shares are (suc n) short =
     ∙ omega (arith, shares_total lists shares are n (omega arith), ap order_total (are.each n below))
 
 -- the shares have as many orders as all lists together
-pub total_of_shares : (lists : Share) (shares : List Share) → AreShares lists shares → sum_by order_total shares ≡ order_total lists
+pub total_of_shares : (lists : Share) (shares : List Share) → AreShares lists shares
+    → sum_by order_total shares ≡ order_total lists
 total_of_shares lists shares are =
     let all : length shares ≡ suc (length shares - 1) = let some : 0 < length shares = are.some in omega arith in
     ap (sum_by order_total) (sym (take_all (length shares) shares (omega arith)))
@@ -130,13 +146,19 @@ total_of_shares lists shares are =
 
 -- ---- a set's list in its share
 
-pub share_at : (lists : Share) (sets : ℕ) (shares : List Share) (i workers : ℕ) (share : Share) → AreShares (gathered sets shares) shares → gathered sets shares ≡ lists → workers ≡ length shares
-    → share ≡ get_or shares (i % workers) share → i < length lists → (i / workers < length share) × (get_or share (i / workers) None ≡ get_or lists i None)
+pub share_at : (lists : Share) (sets : ℕ) (shares : List Share) (i workers : ℕ) (share : Share)
+    → AreShares (gathered sets shares) shares → gathered sets shares ≡ lists → workers ≡ length shares
+    → share ≡ get_or shares (i % workers) share → i < length lists
+    → (i / workers < length share) × (get_or share (i / workers) None ≡ get_or lists i None)
 share_at lists sets shares i workers share are view all here short =
     let whole : AreShares lists shares = subst (λ (l : Share). AreShares l shares) view are in
     let within : i % length shares < length shares = mod-lt i whole.some in
     let at : share ≡ get_or shares (i % length shares) [] =
-    get_or_read shares (i % length shares) share within (subst (λ n. share ≡ get_or shares (i % n) share) all here) [] in (
-      subst (λ (s : Share). i / workers < length s) (sym at) (subst (λ n. i / n < length (get_or shares (i % length shares) [])) (sym all) (share_reaches lists shares whole i short)),
-      ap (λ (s : Share). get_or s (i / workers) None) at ∙ ap (λ n. get_or (get_or shares (i % length shares) []) (i / n) None) all ∙ list_in-is lists shares whole i,
+    get_or_read shares (i % length shares) share within
+    (subst (λ n. share ≡ get_or shares (i % n) share) all here) [] in (
+      subst (λ (s : Share). i / workers < length s) (sym at)
+          (subst (λ n. i / n < length (get_or shares (i % length shares) [])) (sym all)
+          (share_reaches lists shares whole i short)),
+      ap (λ (s : Share). get_or s (i / workers) None) at
+          ∙ ap (λ n. get_or (get_or shares (i % length shares) []) (i / n) None) all ∙ list_in-is lists shares whole i,
     )

@@ -1,5 +1,7 @@
 -- The search goes through all failing orders of a set.
-use Rattle.std.proofs.Common.{◌≡◌, ℕ, zero, suc, ◌+◌, ◌<◌, ◌≤◌, Bool, true, false, ◌&&◌, ◌||◌, ◌==◌, List, [], ◌∷◌, ◌++◌, length, get_or, take, drop, map, filter, remove, All, is_some, refl, ap, sym, subst, inl, inr, ◌∙◌, arith, append-nil, append_assoc, length-append, eq-eqb, if◌then◌else◌}
+use Rattle.std.proofs.Common.{◌≡◌, ℕ, zero, suc, ◌+◌, ◌<◌, ◌≤◌, Bool, true, false, ◌&&◌, ◌||◌, ◌==◌, List, [], ◌∷◌}
+use Rattle.std.proofs.Common.{◌++◌, length, get_or, take, drop, map, filter, remove, All, is_some, refl, ap, sym, subst}
+use Rattle.std.proofs.Common.{inl, inr, ◌∙◌, arith, append-nil, append_assoc, length-append, eq-eqb, if◌then◌else◌}
 use Rattle.std.specs.List.{flat_map, AllByRecursion}
 use Rattle.std.specs.List.Sorted.{IsStrictlySortedBy}
 use Rattle.std.specs.Ordering.{nat_cmp}
@@ -8,7 +10,8 @@ use Rattle.std.proofs.lemmas.Bool.{or_cases, or_left, or_right, false_from_ne_tr
 use Rattle.std.proofs.lemmas.Bool.Decides.{nat_tests}
 use Rattle.std.proofs.lemmas.List.{map-append, map-id, get_or-map, length-map, take_more, take_all}
 use Rattle.std.proofs.lemmas.List.Concat.{flat_map-append}
-use Rattle.std.proofs.lemmas.List.Elements.{filter-append, All-from_get_or, recursion_from_All, All-get_or, All-append, All-take, All-drop}
+use Rattle.std.proofs.lemmas.List.Elements.{filter-append, All-from_get_or, recursion_from_All, All-get_or, All-append}
+use Rattle.std.proofs.lemmas.List.Elements.{All-take, All-drop}
 use Rattle.std.proofs.lemmas.List.Folds.{length-flat_map-take}
 use Rattle.unit_sets.specs.UnitList.{among, IsRising}
 use Rattle.fault_model.specs.Tree.{FaultTree, IsUnitOf}
@@ -29,7 +32,8 @@ pub length-picks : (units : List ℕ) → length (picks units) ≡ length units
 length-picks [] = refl
 length-picks (unit ∷ units) = ap suc (length-map (picks units) _ ∙ length-picks units)
 
-pub get_or-picks : (units : List ℕ) (i : ℕ) (d : ℕ × List ℕ) → i < length units → get_or (picks units) i d ≡ (get_or units i 0, remove units i)
+pub get_or-picks : (units : List ℕ) (i : ℕ) (d : ℕ × List ℕ) → i < length units
+    → get_or (picks units) i d ≡ (get_or units i 0, remove units i)
 get_or-picks [] i d short = absurd (omega arith)
 get_or-picks (unit ∷ units) zero d short = refl
 get_or-picks (unit ∷ units) (suc i) d short =
@@ -54,7 +58,8 @@ unfolding IsStrictlySortedBy
 rising_remove [] zero rising = tt
 rising_remove [] (suc i) rising = tt
 rising_remove (unit ∷ units) zero rising = rising.1
-rising_remove (unit ∷ units) (suc i) rising = (all_remove (λ y. nat_cmp unit y ≡ Less) units i rising.0, rising_remove units i rising.1)
+rising_remove (unit ∷ units) (suc i) rising =
+    (all_remove (λ y. nat_cmp unit y ≡ Less) units i rising.0, rising_remove units i rising.1)
 
 among_remove : (units : List ℕ) (i unit : ℕ) → among (remove units i) unit ≡ true → among units unit ≡ true
 among_remove [] zero unit has = has
@@ -69,14 +74,16 @@ among_remove (first ∷ units) (suc i) unit has =
 pub among_at : (units : List ℕ) (i : ℕ) → i < length units → among units (get_or units i 0) ≡ true
 among_at [] i short = absurd (omega arith)
 among_at (first ∷ units) zero short = or_left (first == first) (among units first) (eq-eqb first first refl)
-among_at (first ∷ units) (suc i) short = or_right (first == get_or units i 0) (among units (get_or units i 0)) (among_at units i (omega arith))
+among_at (first ∷ units) (suc i) short =
+    or_right (first == get_or units i 0) (among units (get_or units i 0)) (among_at units i (omega arith))
 
 -- what is above a number has not that number among it
 none_below : (unit : ℕ) (units : List ℕ) → AllByRecursion (λ y. nat_cmp unit y ≡ Less) units → among units unit ≡ false
 none_below unit [] all = refl
 none_below unit (first ∷ units) all = other (first == unit) refl all.0 (none_below unit units all.1)
   where
-    other : (test : Bool) → (first == unit) ≡ test → nat_cmp unit first ≡ Less → among units unit ≡ false → ((first == unit) || among units unit) ≡ false
+    other : (test : Bool) → (first == unit) ≡ test → nat_cmp unit first ≡ Less → among units unit ≡ false
+        → ((first == unit) || among units unit) ≡ false
     other true h less rest = absurd (grind (arith, nat_tests))
     other false h less rest = ap (λ b. b || among units unit) h ∙ rest
 
@@ -86,7 +93,8 @@ at_of P (unit ∷ units) zero all short = all.0
 at_of P (unit ∷ units) (suc i) all short = at_of P units i all.1 (omega arith)
 
 -- without the unit of a place that unit is not among those that rise
-pub gone : (units : List ℕ) (i : ℕ) → IsRising units → i < length units → among (remove units i) (get_or units i 0) ≡ false
+pub gone : (units : List ℕ) (i : ℕ) → IsRising units → i < length units
+    → among (remove units i) (get_or units i 0) ≡ false
 unfolding IsStrictlySortedBy
 gone [] i rising short = absurd (omega arith)
 gone (first ∷ units) zero rising short = none_below first units rising.0
@@ -95,80 +103,104 @@ gone (first ∷ units) (suc i) rising short =
     let less : nat_cmp first (get_or units i 0) ≡ Less = at_of (λ y. nat_cmp first y ≡ Less) units i rising.0 below in
     other (first == get_or units i 0) refl less (gone units i rising.1 below)
   where
-    other : (test : Bool) → (first == get_or units i 0) ≡ test → nat_cmp first (get_or units i 0) ≡ Less → among (remove units i) (get_or units i 0) ≡ false
+    other : (test : Bool) → (first == get_or units i 0) ≡ test → nat_cmp first (get_or units i 0) ≡ Less
+        → among (remove units i) (get_or units i 0) ≡ false
         → ((first == get_or units i 0) || among (remove units i) (get_or units i 0)) ≡ false
     other true h less rest = absurd (grind (arith, nat_tests))
     other false h less rest = ap (λ b. b || among (remove units i) (get_or units i 0)) h ∙ rest
 
 -- ---- one unit more
 
-pub unit_at : (tree : FaultTree) (order left : List ℕ) (i : ℕ) → CanGoOn tree order left → i < length left → IsUnitOf tree (get_or left i 0)
+pub unit_at : (tree : FaultTree) (order left : List ℕ) (i : ℕ) → CanGoOn tree order left → i < length left
+    → IsUnitOf tree (get_or left i 0)
 unit_at tree order left i can short = All-get_or (IsUnitOf tree) left i 0 short can.units
 
-pub fresh_at : (tree : FaultTree) (order left : List ℕ) (i : ℕ) → CanGoOn tree order left → i < length left → among order (get_or left i 0) ≡ false
+pub fresh_at : (tree : FaultTree) (order left : List ℕ) (i : ℕ) → CanGoOn tree order left → i < length left
+    → among order (get_or left i 0) ≡ false
 fresh_at tree order left i can short = can.apart (get_or left i 0) (among_at left i short)
 
-pub can_go_on_after : (tree : FaultTree) (order left : List ℕ) (i : ℕ) → CanGoOn tree order left → i < length left → CanGoOn tree (order ++ get_or left i 0 ∷ []) (remove left i)
+pub can_go_on_after : (tree : FaultTree) (order left : List ℕ) (i : ℕ) → CanGoOn tree order left → i < length left
+    → CanGoOn tree (order ++ get_or left i 0 ∷ []) (remove left i)
 can_go_on_after tree order left i can short = record {
   kept = can.kept;
   rising = rising_remove left i can.rising;
-  units = All-append (IsUnitOf tree) (take i left) (drop (suc i) left) (All-take (IsUnitOf tree) i left can.units) (All-drop (IsUnitOf tree) (suc i) left can.units);
+  units =
+      All-append (IsUnitOf tree) (take i left) (drop (suc i) left) (All-take (IsUnitOf tree) i left can.units)
+      (All-drop (IsUnitOf tree) (suc i) left can.units);
   apart = λ unit has.
       among-append order (get_or left i 0 ∷ []) unit
       ∙ ap (λ b. b || ((get_or left i 0 == unit) || false)) (can.apart unit (among_remove left i unit has))
       ∙ other unit has (get_or left i 0 == unit) refl;
 }
   where
-    other : (unit : ℕ) → among (remove left i) unit ≡ true → (test : Bool) → (get_or left i 0 == unit) ≡ test → ((get_or left i 0 == unit) || false) ≡ false
+    other : (unit : ℕ) → among (remove left i) unit ≡ true → (test : Bool) → (get_or left i 0 == unit) ≡ test
+        → ((get_or left i 0 == unit) || false) ≡ false
     other unit has true h =
         let same : get_or left i 0 ≡ unit = grind (arith, nat_tests) in
-        let lacks : among (remove left i) unit ≡ false = subst (λ (u : ℕ). among (remove left i) u ≡ false) same (gone left i can.rising short) in
+        let lacks : among (remove left i) unit ≡ false =
+        subst (λ (u : ℕ). among (remove left i) u ≡ false) same (gone left i can.rising short) in
         absurd cc
     other unit has false h = ap (λ b. b || false) h
 
-pub can_start : (tree : FaultTree) (set : List ℕ) → IsTree tree → IsRising set → All (IsUnitOf tree) set → CanGoOn tree [] set
+pub can_start : (tree : FaultTree) (set : List ℕ) → IsTree tree → IsRising set → All (IsUnitOf tree) set
+    → CanGoOn tree [] set
 can_start tree set kept rising units = record { kept = kept; rising = rising; units = units; apart = λ unit has. refl }
 
 -- ---- the failing orders, by the unit that fails next
 
-front_after : (order : List ℕ) (unit : ℕ) (rests : List (List ℕ)) → map (λ (rest : List ℕ). order ++ rest) (map (λ (rest : List ℕ). unit ∷ rest) rests) ≡ map (λ (rest : List ℕ). (order ++ unit ∷ []) ++ rest) rests
+front_after : (order : List ℕ) (unit : ℕ) (rests : List (List ℕ))
+    → map (λ (rest : List ℕ). order ++ rest) (map (λ (rest : List ℕ). unit ∷ rest) rests)
+    ≡ map (λ (rest : List ℕ). (order ++ unit ∷ []) ++ rest) rests
 front_after order unit [] = refl
 front_after order unit (rest ∷ rests) =
-    ap (λ (first : List ℕ). first ∷ map (λ (r : List ℕ). order ++ r) (map (λ (r : List ℕ). unit ∷ r) rests)) (sym (append_assoc order (unit ∷ []) rest))
+    ap (λ (first : List ℕ). first ∷ map (λ (r : List ℕ). order ++ r) (map (λ (r : List ℕ). unit ∷ r) rests))
+    (sym (append_assoc order (unit ∷ []) rest))
     ∙ ap (λ (others : List (List ℕ)). ((order ++ unit ∷ []) ++ rest) ∷ others) (front_after order unit rests)
 
 -- the failing orders that begin so and go on with one of the picks
 abbrev pub failing_pick : FaultTree → List ℕ → ℕ × List ℕ → List (List ℕ)
 failing_pick tree order pick = failing_from tree (order ++ pick.0 ∷ []) pick.1
 
-by_picks : (tree : FaultTree) (order : List ℕ) (n : ℕ) (some : List (ℕ × List ℕ)) → AllByRecursion (λ (pick : ℕ × List ℕ). length pick.1 ≡ n) some
-    → filter (is_failing tree) (map (λ (rest : List ℕ). order ++ rest) (flat_map (λ (pick : ℕ × List ℕ). map (λ (rest : List ℕ). pick.0 ∷ rest) (arrangements n pick.1)) some))
+by_picks : (tree : FaultTree) (order : List ℕ) (n : ℕ) (some : List (ℕ × List ℕ))
+    → AllByRecursion (λ (pick : ℕ × List ℕ). length pick.1 ≡ n) some
+    → filter (is_failing tree) (map (λ (rest : List ℕ). order ++ rest)
+    (flat_map (λ (pick : ℕ × List ℕ). map (λ (rest : List ℕ). pick.0 ∷ rest) (arrangements n pick.1)) some))
     ≡ flat_map (failing_pick tree order) some
 by_picks tree order n [] all = refl
 by_picks tree order n (pick ∷ some) all =
     let rests : List (List ℕ) = arrangements n pick.1 in
-    let others : List (List ℕ) = flat_map (λ (p : ℕ × List ℕ). map (λ (rest : List ℕ). p.0 ∷ rest) (arrangements n p.1)) some in
-    ap (filter (is_failing tree)) (map-append (λ (rest : List ℕ). order ++ rest) (map (λ (rest : List ℕ). pick.0 ∷ rest) rests) others)
-    ∙ filter-append (is_failing tree) (map (λ (rest : List ℕ). order ++ rest) (map (λ (rest : List ℕ). pick.0 ∷ rest) rests)) (map (λ (rest : List ℕ). order ++ rest) others)
-    ∙ ap (λ (l : List (List ℕ)). filter (is_failing tree) l ++ filter (is_failing tree) (map (λ (rest : List ℕ). order ++ rest) others)) (front_after order pick.0 rests)
-    ∙ ap (λ m. filter (is_failing tree) (map (λ (rest : List ℕ). (order ++ pick.0 ∷ []) ++ rest) (arrangements m pick.1)) ++ filter (is_failing tree) (map (λ (rest : List ℕ). order ++ rest) others)) (sym all.0)
+    let others : List (List ℕ) =
+    flat_map (λ (p : ℕ × List ℕ). map (λ (rest : List ℕ). p.0 ∷ rest) (arrangements n p.1)) some in
+    ap (filter (is_failing tree)) (map-append (λ (rest : List ℕ). order ++ rest)
+    (map (λ (rest : List ℕ). pick.0 ∷ rest) rests) others)
+    ∙ filter-append (is_failing tree) (map (λ (rest : List ℕ). order ++ rest)
+    (map (λ (rest : List ℕ). pick.0 ∷ rest) rests)) (map (λ (rest : List ℕ). order ++ rest) others)
+    ∙ ap (λ (l : List (List ℕ)). filter (is_failing tree) l
+    ++ filter (is_failing tree) (map (λ (rest : List ℕ). order ++ rest) others)) (front_after order pick.0 rests)
+    ∙ ap (λ m. filter (is_failing tree) (map (λ (rest : List ℕ). (order ++ pick.0 ∷ []) ++ rest)
+    (arrangements m pick.1)) ++ filter (is_failing tree) (map (λ (rest : List ℕ). order ++ rest) others))
+    (sym all.0)
     ∙ ap (λ (l : List (List ℕ)). failing_pick tree order pick ++ l) (by_picks tree order n some all.1)
 
-pub failing_from-next : (tree : FaultTree) (order left : List ℕ) → 0 < length left → failing_from tree order left ≡ flat_map (failing_pick tree order) (picks left)
+pub failing_from-next : (tree : FaultTree) (order left : List ℕ) → 0 < length left
+    → failing_from tree order left ≡ flat_map (failing_pick tree order) (picks left)
 failing_from-next tree order [] some = absurd (omega arith)
 failing_from-next tree order (unit ∷ units) some =
     by_picks tree order (length units) (picks (unit ∷ units))
     (recursion_from_All (λ (pick : ℕ × List ℕ). length pick.1 ≡ length units) (picks (unit ∷ units))
     (All-from_get_or (λ (pick : ℕ × List ℕ). length pick.1 ≡ length units) (picks (unit ∷ units)) (0, []) (λ i short.
     let within : i < length (unit ∷ units) = omega (arith, length-picks (unit ∷ units)) in
-    let fewer : length (remove (unit ∷ units) i) ≡ length units = omega (arith, length-remove (unit ∷ units) i within) in
-    subst (λ (pick : ℕ × List ℕ). length pick.1 ≡ length units) (sym (get_or-picks (unit ∷ units) i (0, []) within)) fewer)))
+    let fewer : length (remove (unit ∷ units) i) ≡ length units =
+    omega (arith, length-remove (unit ∷ units) i within) in
+    subst (λ (pick : ℕ × List ℕ). length pick.1 ≡ length units) (sym (get_or-picks (unit ∷ units) i (0, []) within))
+    fewer)))
 
 pub failing_from-start : (tree : FaultTree) (set : List ℕ) → failing_from tree [] set ≡ failing_orders tree set
 failing_from-start tree set = ap (filter (is_failing tree)) (map-id (permutations set))
 
 -- no unit is left
-pub failing_from-end : (tree : FaultTree) (order left : List ℕ) → length left ≡ 0 → is_admissible tree order ≡ true → failing_from tree order left ≡ (if is_some (step tree order tree.top) then order ∷ [] else [])
+pub failing_from-end : (tree : FaultTree) (order left : List ℕ) → length left ≡ 0 → is_admissible tree order ≡ true
+    → failing_from tree order left ≡ (if is_some (step tree order tree.top) then order ∷ [] else [])
 failing_from-end tree order [] none admits =
     ap (λ (o : List ℕ). if is_failing tree o then o ∷ [] else []) (append-nil order)
     ∙ ap (λ b. if b && is_some (step tree order tree.top) then order ∷ [] else []) admits
@@ -176,11 +208,15 @@ failing_from-end tree order (unit ∷ units) none admits = absurd (omega arith)
 
 -- ---- where the units so far cannot fail one after another
 
-none_of : {X Y : Type 0} (f : X → List Y) (xs : List X) (d : X) → ((i : ℕ) → i < length xs → f (get_or xs i d) ≡ []) → flat_map f xs ≡ []
+none_of : {X Y : Type 0} (f : X → List Y) (xs : List X) (d : X) → ((i : ℕ) → i < length xs → f (get_or xs i d) ≡ [])
+    → flat_map f xs ≡ []
 none_of f [] d each = refl
-none_of f (x ∷ xs) d each = ap (λ (l : List _). l ++ flat_map f xs) (each 0 (omega arith)) ∙ none_of f xs d (λ i short. each (suc i) (omega arith))
+none_of f (x ∷ xs) d each =
+    ap (λ (l : List _). l ++ flat_map f xs) (each 0 (omega arith))
+    ∙ none_of f xs d (λ i short. each (suc i) (omega arith))
 
-pruned_by : (n : ℕ) (tree : FaultTree) (order left : List ℕ) → length left ≡ n → CanGoOn tree order left → is_admissible tree order ≡ false → failing_from tree order left ≡ []
+pruned_by : (n : ℕ) (tree : FaultTree) (order left : List ℕ) → length left ≡ n → CanGoOn tree order left
+    → is_admissible tree order ≡ false → failing_from tree order left ≡ []
 pruned_by zero tree order [] all can lacks =
     ap (λ (o : List ℕ). if is_failing tree o then o ∷ [] else []) (append-nil order)
     ∙ ap (λ b. if b && is_some (step tree order tree.top) then order ∷ [] else []) lacks
@@ -193,11 +229,15 @@ pruned_by (suc n) tree order (unit ∷ units) all can lacks =
     let next : ℕ = get_or (unit ∷ units) i 0 in
     let longer : is_admissible tree (order ++ next ∷ []) ≡ false =
     false_from_ne_true (is_admissible tree (order ++ next ∷ [])) (λ yes.
-    both_ways (is_admissible tree order) lacks (admissible_before tree can.kept order next (fresh_at tree order (unit ∷ units) i can within) yes)) in
+    both_ways (is_admissible tree order) lacks (admissible_before tree can.kept order next
+    (fresh_at tree order (unit ∷ units) i can within) yes)) in
     ap (failing_pick tree order) (get_or-picks (unit ∷ units) i (0, []) within)
-    ∙ pruned_by n tree (order ++ next ∷ []) (remove (unit ∷ units) i) (omega (arith, length-remove (unit ∷ units) i within)) (can_go_on_after tree order (unit ∷ units) i can within) longer)
+    ∙ pruned_by n tree (order ++ next ∷ []) (remove (unit ∷ units) i)
+    (omega (arith, length-remove (unit ∷ units) i within)) (can_go_on_after tree order (unit ∷ units) i can within)
+    longer)
 
-pub pruned : (tree : FaultTree) (order left : List ℕ) → CanGoOn tree order left → is_admissible tree order ≡ false → failing_from tree order left ≡ []
+pub pruned : (tree : FaultTree) (order left : List ℕ) → CanGoOn tree order left → is_admissible tree order ≡ false
+    → failing_from tree order left ≡ []
 pruned tree order left can lacks = pruned_by (length left) tree order left refl can lacks
 
 -- ---- the units that are left, one after another
@@ -206,46 +246,71 @@ pruned tree order left can lacks = pruned_by (length left) tree order left refl 
 abbrev pub failing_below : FaultTree → List ℕ → List ℕ → ℕ → List (List ℕ)
 failing_below tree order left i = flat_map (failing_pick tree order) (take i (picks left))
 
-pub failing_below-more : (tree : FaultTree) (order left : List ℕ) (i : ℕ) → i < length left → failing_below tree order left (i + 1) ≡ failing_below tree order left i ++ failing_after tree order left i
+pub failing_below-more : (tree : FaultTree) (order left : List ℕ) (i : ℕ) → i < length left
+    → failing_below tree order left (i + 1) ≡ failing_below tree order left i ++ failing_after tree order left i
 failing_below-more tree order left i short =
     let within : i < length (picks left) = omega (arith, length-picks left) in
     ap (flat_map (failing_pick tree order)) (take_more (picks left) i (0, []) within)
     ∙ flat_map-append (failing_pick tree order) (take i (picks left)) (get_or (picks left) i (0, []) ∷ [])
-    ∙ ap (λ (l : List (List ℕ)). failing_below tree order left i ++ l) (append-nil (failing_pick tree order (get_or (picks left) i (0, []))) ∙ ap (failing_pick tree order) (get_or-picks left i (0, []) short))
+    ∙ ap (λ (l : List (List ℕ)). failing_below tree order left i ++ l)
+    (append-nil (failing_pick tree order (get_or (picks left) i (0, [])))
+    ∙ ap (failing_pick tree order) (get_or-picks left i (0, []) short))
 
-pub failing_below-all : (tree : FaultTree) (order left : List ℕ) → 0 < length left → failing_below tree order left (length left) ≡ failing_from tree order left
+pub failing_below-all : (tree : FaultTree) (order left : List ℕ) → 0 < length left
+    → failing_below tree order left (length left) ≡ failing_from tree order left
 failing_below-all tree order left some =
     ap (flat_map (failing_pick tree order)) (take_all (length left) (picks left) (omega (arith, length-picks left)))
     ∙ sym (failing_from-next tree order left some)
 
 -- those of one place and of the places before it are no more than all
-pub failing_below-le : (tree : FaultTree) (order left : List ℕ) (i : ℕ) → i < length left → length (failing_below tree order left i) + length (failing_after tree order left i) ≤ length (failing_from tree order left)
+pub failing_below-le : (tree : FaultTree) (order left : List ℕ) (i : ℕ) → i < length left
+    → length (failing_below tree order left i) + length (failing_after tree order left i)
+    ≤ length (failing_from tree order left)
 failing_below-le tree order left i short =
     let within : i < length (picks left) = omega (arith, length-picks left) in
-    let one : failing_pick tree order (get_or (picks left) i (0, [])) ≡ failing_after tree order left i = ap (failing_pick tree order) (get_or-picks left i (0, []) short) in
-    omega (arith, length-flat_map-take (failing_pick tree order) (picks left) i (0, []) within, ap length one, ap length (failing_from-next tree order left (omega arith)))
+    let one : failing_pick tree order (get_or (picks left) i (0, [])) ≡ failing_after tree order left i =
+    ap (failing_pick tree order) (get_or-picks left i (0, []) short) in
+    omega (
+      arith,
+      length-flat_map-take (failing_pick tree order) (picks left) i (0, []) within,
+      ap length one,
+      ap length (failing_from-next tree order left (omega arith)),
+    )
 
 -- the search went through the unit of one place more
-pub through_more : (tree tree' : FaultTree) (order order' left left' : List ℕ) (i : ℕ) (before now after : List (List ℕ)) → tree' ≡ tree → order' ≡ order → left' ≡ left → i < length left
-    → now ≡ before ++ failing_below tree order left i → after ≡ now ++ failing_after tree' order' left' i → after ≡ before ++ failing_below tree order left (i + 1)
+pub through_more : (tree tree' : FaultTree) (order order' left left' : List ℕ) (i : ℕ)
+    (before now after : List (List ℕ)) → tree' ≡ tree → order' ≡ order → left' ≡ left → i < length left
+    → now ≡ before ++ failing_below tree order left i → after ≡ now ++ failing_after tree' order' left' i
+    → after ≡ before ++ failing_below tree order left (i + 1)
 through_more tree tree' order order' left left' i before now after same_tree same_order same_left short so_far more =
     let one : failing_after tree' order' left' i ≡ failing_after tree order left i =
-    ap (λ (t : FaultTree). failing_after t order' left' i) same_tree ∙ ap (λ (o : List ℕ). failing_after tree o left' i) same_order ∙ ap (λ (l : List ℕ). failing_after tree order l i) same_left in
+    ap (λ (t : FaultTree). failing_after t order' left' i) same_tree
+    ∙ ap (λ (o : List ℕ). failing_after tree o left' i) same_order
+    ∙ ap (λ (l : List ℕ). failing_after tree order l i) same_left in
     more ∙ ap (λ (l : List (List ℕ)). l ++ failing_after tree' order' left' i) so_far
     ∙ ap (λ (l : List (List ℕ)). (before ++ failing_below tree order left i) ++ l) one
     ∙ append_assoc before (failing_below tree order left i) (failing_after tree order left i)
     ∙ ap (λ (l : List (List ℕ)). before ++ l) (sym (failing_below-more tree order left i short))
 
-pub through_over : (tree tree' : FaultTree) (order order' left left' : List ℕ) (i : ℕ) (before now : List (List ℕ)) (end : OrderEnd) → tree' ≡ tree → order' ≡ order → left' ≡ left → i < length left
-    → now ≡ before ++ failing_below tree order left i → IsOver (length now + length (failing_after tree' order' left' i)) end → IsOver (length before + length (failing_from tree order left)) end
+pub through_over : (tree tree' : FaultTree) (order order' left left' : List ℕ) (i : ℕ) (before now : List (List ℕ))
+    (end : OrderEnd) → tree' ≡ tree → order' ≡ order → left' ≡ left → i < length left
+    → now ≡ before ++ failing_below tree order left i
+    → IsOver (length now + length (failing_after tree' order' left' i)) end
+    → IsOver (length before + length (failing_from tree order left)) end
 through_over tree tree' order order' left left' i before now end same_tree same_order same_left short so_far over =
     let one : failing_after tree' order' left' i ≡ failing_after tree order left i =
-    ap (λ (t : FaultTree). failing_after t order' left' i) same_tree ∙ ap (λ (o : List ℕ). failing_after tree o left' i) same_order ∙ ap (λ (l : List ℕ). failing_after tree order l i) same_left in
-    let so_long : length now ≡ length before + length (failing_below tree order left i) = ap length so_far ∙ length-append before (failing_below tree order left i) in
-    IsOver-more (length now + length (failing_after tree' order' left' i)) (length before + length (failing_from tree order left)) end
+    ap (λ (t : FaultTree). failing_after t order' left' i) same_tree
+    ∙ ap (λ (o : List ℕ). failing_after tree o left' i) same_order
+    ∙ ap (λ (l : List ℕ). failing_after tree order l i) same_left in
+    let so_long : length now ≡ length before + length (failing_below tree order left i) =
+    ap length so_far ∙ length-append before (failing_below tree order left i) in
+    IsOver-more (length now + length (failing_after tree' order' left' i))
+    (length before + length (failing_from tree order left)) end
     (omega (arith, so_long, ap length one, failing_below-le tree order left i short)) over
 
-pub through_all : (tree : FaultTree) (order left : List ℕ) (i : ℕ) (before now : List (List ℕ)) → 0 < length left → i ≡ length left
+pub through_all : (tree : FaultTree) (order left : List ℕ) (i : ℕ) (before now : List (List ℕ)) → 0 < length left
+    → i ≡ length left
     → now ≡ before ++ failing_below tree order left i → now ≡ before ++ failing_from tree order left
 through_all tree order left i before now some all so_far =
-    so_far ∙ ap (λ n. before ++ failing_below tree order left n) all ∙ ap (λ (l : List (List ℕ)). before ++ l) (failing_below-all tree order left some)
+    so_far ∙ ap (λ n. before ++ failing_below tree order left n) all
+    ∙ ap (λ (l : List (List ℕ)). before ++ l) (failing_below-all tree order left some)

@@ -1,5 +1,6 @@
 -- What the workers have after a round.
-use Rattle.std.proofs.Common.{◌≡◌, ℕ, zero, suc, ◌+◌, ◌-◌, ◌<◌, ◌≤◌, List, [], ◌++◌, length, get_or, take, drop, map, All, Result, Ok, Err, ap, sym, subst, Contains, ◌∙◌, arith, add-one, append-nil}
+use Rattle.std.proofs.Common.{◌≡◌, ℕ, zero, suc, ◌+◌, ◌-◌, ◌<◌, ◌≤◌, List, [], ◌++◌, length, get_or, take, drop, map}
+use Rattle.std.proofs.Common.{All, Result, Ok, Err, ap, sym, subst, Contains, ◌∙◌, arith, add-one, append-nil}
 use Rattle.std.specs.Bool.{⊤}
 use Rattle.std.specs.List.{sum_by}
 use Rattle.std.proofs.lemmas.List.{take_all, take_more, length-map, get_or-map}
@@ -23,16 +24,26 @@ no_work = record { share = []; next = 0 }
 have_le : (lists : Share) (workers : ℕ) (work : Work) → orders_of_work work ≤ order_total (whole lists workers work)
 have_le lists workers work = omega (arith, order_total-append work.share (dealt 0 (workers - 1) (drop work.next lists)))
 
-works_total : (lists : Share) (works : List Work) → AreAtWork lists works → (n : ℕ) → n ≤ length works → sum_by orders_of_work (take n works) ≤ dealt_total n (length works - 1) lists
+works_total : (lists : Share) (works : List Work) → AreAtWork lists works → (n : ℕ) → n ≤ length works
+    → sum_by orders_of_work (take n works) ≤ dealt_total n (length works - 1) lists
 works_total lists works are zero short = omega arith
 works_total lists works are (suc n) short =
     let below : n < length works = omega arith in
-    let more : sum_by orders_of_work (take (suc n) works) ≡ sum_by orders_of_work (take n works) + orders_of_work (get_or works n no_work) =
-    ap (λ m. sum_by orders_of_work (take m works)) (sym (add-one n)) ∙ sum_by_more orders_of_work works n no_work below in
-    omega (arith, more, works_total lists works are n (omega arith), have_le lists (length works) (get_or works n no_work), ap order_total (are.each n no_work below))
+    let more : sum_by orders_of_work (take (suc n) works)
+    ≡ sum_by orders_of_work (take n works) + orders_of_work (get_or works n no_work) =
+    ap (λ m. sum_by orders_of_work (take m works)) (sym (add-one n))
+    ∙ sum_by_more orders_of_work works n no_work below in
+    omega (
+      arith,
+      more,
+      works_total lists works are n (omega arith),
+      have_le lists (length works) (get_or works n no_work),
+      ap order_total (are.each n no_work below),
+    )
 
 -- the workers have no more orders together than all sets
-pub works_le : (lists : Share) (works : List Work) → AreAtWork lists works → sum_by orders_of_work works ≤ order_total lists
+pub works_le : (lists : Share) (works : List Work) → AreAtWork lists works
+    → sum_by orders_of_work works ≤ order_total lists
 works_le lists works are =
     let some : 0 < length works = are.some in
     let all : length works ≡ suc (length works - 1) = omega arith in
@@ -46,14 +57,17 @@ works_le lists works are =
 
 -- ---- the answers of a round
 
-module _ (lists : Share) (stop : Stop) (works : List Work) (answers : List (Result Work OrderEnd)) (are : AreAtWork lists works) (many : length answers ≡ length works)
-    (each : (worker : ℕ) (work : Work) (d : Result Work OrderEnd) → worker < length works → WentOn lists (length works) stop (get_or works worker work) (get_or answers worker d)) where
+module _ (lists : Share) (stop : Stop) (works : List Work) (answers : List (Result Work OrderEnd))
+    (are : AreAtWork lists works) (many : length answers ≡ length works)
+    (each : (worker : ℕ) (work : Work) (d : Result Work OrderEnd) → worker < length works
+    → WentOn lists (length works) stop (get_or works worker work) (get_or answers worker d)) where
   -- a worker that has ended early had too many orders, if not too little memory
   abbrev ended : Result Work OrderEnd → Type 0
   ended (Ok work) = ⊤
   ended (Err end) = IsOver (order_total lists) end
 
-  ended_by : (worker : ℕ) (answer : Result Work OrderEnd) → worker < length works → WentOn lists (length works) stop (get_or works worker no_work) answer → ended answer
+  ended_by : (worker : ℕ) (answer : Result Work OrderEnd) → worker < length works
+      → WentOn lists (length works) stop (get_or works worker no_work) answer → ended answer
   ended_by worker (Ok work) within went = tt
   ended_by worker (Err end) within went =
       IsOver-more (order_total (whole lists (length works) (get_or works worker no_work))) (order_total lists) end
@@ -71,10 +85,13 @@ module _ (lists : Share) (stop : Stop) (works : List Work) (answers : List (Resu
     pub as_many : length later ≡ length works
     as_many = sym (length-map later Ok) ∙ sym (ap length oks) ∙ many
 
-    pub went_at : (worker : ℕ) (d : Work) → worker < length works → WentOn lists (length works) stop (get_or works worker d) (Ok (get_or later worker d))
+    pub went_at : (worker : ℕ) (d : Work) → worker < length works
+        → WentOn lists (length works) stop (get_or works worker d) (Ok (get_or later worker d))
     went_at worker d within =
         let short : worker < length later = omega (arith, as_many) in
-        let ok : get_or answers worker (Ok d) ≡ Ok (get_or later worker d) = ap (λ (l : List (Result Work OrderEnd)). get_or l worker (Ok d)) oks ∙ get_or-map Ok later worker d (Ok d) short in
+        let ok : get_or answers worker (Ok d) ≡ Ok (get_or later worker d) =
+        ap (λ (l : List (Result Work OrderEnd)). get_or l worker (Ok d)) oks
+        ∙ get_or-map Ok later worker d (Ok d) short in
         subst (WentOn lists (length works) stop (get_or works worker d)) ok (each worker d (Ok d) within)
 
     pub still_at_work : AreAtWork lists later
@@ -83,7 +100,8 @@ module _ (lists : Share) (stop : Stop) (works : List Work) (answers : List (Resu
       few = omega (arith, are.few, as_many);
       each = λ worker d short.
           let within : worker < length works = omega (arith, as_many) in
-          subst (λ n. whole lists n (get_or later worker d) ≡ dealt worker (n - 1) lists) (sym as_many) ((went_at worker d within).0 ∙ are.each worker d within);
+          subst (λ n. whole lists n (get_or later worker d) ≡ dealt worker (n - 1) lists) (sym as_many)
+          ((went_at worker d within).0 ∙ are.each worker d within);
     }
 
     pub have_stopped : All (HasStopped stop) later
@@ -94,15 +112,21 @@ module _ (lists : Share) (stop : Stop) (works : List Work) (answers : List (Resu
 
 -- ---- the first round and the last
 
-pub all_start : (lists : Share) (works : List Work) → 0 < length works → length works ≤ 16 → ((worker : ℕ) (d : Work) → worker < length works → get_or works worker d ≡ record { share = []; next = worker }) → AreAtWork lists works
+pub all_start : (lists : Share) (works : List Work) → 0 < length works → length works ≤ 16
+    → ((worker : ℕ) (d : Work) → worker < length works → get_or works worker d ≡ record { share = []; next = worker })
+    → AreAtWork lists works
 all_start lists works some few each = record {
   some = some;
   few = few;
-  each = λ worker d within. ap (whole lists (length works)) (each worker d within) ∙ dealt-drop worker (length works - 1) lists;
+  each =
+      λ worker d within. ap (whole lists (length works)) (each worker d within)
+      ∙ dealt-drop worker (length works - 1) lists;
 }
 
 -- the workers' shares, where no worker lacks a set
-pub shares_at_end : (lists : Share) (works : List Work) (shares : List Share) → AreAtWork lists works → All (λ (work : Work). length lists ≤ work.next) works → shares ≡ map (λ (work : Work). work.share) works → AreShares lists shares
+pub shares_at_end : (lists : Share) (works : List Work) (shares : List Share) → AreAtWork lists works
+    → All (λ (work : Work). length lists ≤ work.next) works → shares ≡ map (λ (work : Work). work.share) works
+    → AreShares lists shares
 shares_at_end lists works shares are done is =
     let many : length shares ≡ length works = ap length is ∙ length-map works (λ (work : Work). work.share) in
     record {
@@ -110,20 +134,29 @@ shares_at_end lists works shares are done is =
       each = λ worker short.
           let within : worker < length works = omega (arith, many) in
           let work : Work = get_or works worker no_work in
-          let none : dealt 0 (length works - 1) (drop work.next lists) ≡ [] = dealt-end work.next (length works - 1) lists (All-get_or (λ (w : Work). length lists ≤ w.next) works worker no_work within done) in
-          ap (λ (l : List Share). get_or l worker []) is ∙ get_or-map (λ (w : Work). w.share) works worker no_work [] within
+          let none : dealt 0 (length works - 1) (drop work.next lists) ≡ [] =
+          dealt-end work.next (length works - 1) lists (All-get_or (λ (w : Work). length lists ≤ w.next) works
+          worker no_work within done) in
+          ap (λ (l : List Share). get_or l worker []) is
+          ∙ get_or-map (λ (w : Work). w.share) works worker no_work [] within
           ∙ sym (append-nil work.share) ∙ ap (λ (l : Share). work.share ++ l) (sym none)
           ∙ are.each worker no_work within ∙ ap (λ n. dealt worker (n - 1) lists) (sym many);
     }
 
 -- ---- workers that have stopped
 
-pub one_more : (place i : ℕ) (works : List Work) (item : Work) → i < length works → item ≡ get_or works i item → All (λ (work : Work). place ≤ work.next) (take i works) → place ≤ item.next
+pub one_more : (place i : ℕ) (works : List Work) (item : Work) → i < length works → item ≡ get_or works i item
+    → All (λ (work : Work). place ≤ work.next) (take i works) → place ≤ item.next
     → All (λ (work : Work). place ≤ work.next) (take (i + 1) works)
 one_more place i works item short is so_far here =
     subst (All (λ (work : Work). place ≤ work.next)) (sym (take_more works i item short))
-    (All-push (λ (work : Work). place ≤ work.next) (take i works) (get_or works i item) so_far (subst (λ (work : Work). place ≤ work.next) is here))
+    (All-push (λ (work : Work). place ≤ work.next) (take i works) (get_or works i item) so_far
+    (subst (λ (work : Work). place ≤ work.next) is here))
 
-pub stopped_there : (stop : Stop) (i : ℕ) (works : List Work) (item : Work) → i < length works → item ≡ get_or works i item → All (HasStopped stop) works → order_total item.share ≤ stop.orders → stop.place ≤ item.next
+pub stopped_there : (stop : Stop) (i : ℕ) (works : List Work) (item : Work) → i < length works
+    → item ≡ get_or works i item → All (HasStopped stop) works → order_total item.share ≤ stop.orders
+    → stop.place ≤ item.next
 stopped_there stop i works item short is stopped few =
-    subst (λ (work : Work). stop.place ≤ work.next) (sym is) (All-get_or (HasStopped stop) works i item short stopped (subst (λ (work : Work). order_total work.share ≤ stop.orders) is few))
+    subst (λ (work : Work). stop.place ≤ work.next) (sym is)
+    (All-get_or (HasStopped stop) works i item short stopped
+    (subst (λ (work : Work). order_total work.share ≤ stop.orders) is few))

@@ -1,5 +1,6 @@
 -- The sets of a worker, one after another.
-use Rattle.std.proofs.Common.{◌≡◌, ℕ, zero, suc, ◌+◌, ◌-◌, ◌<◌, ◌≤◌, List, [], ◌∷◌, ◌++◌, length, get_or, drop, All, Option, None, Some, slice_get, ap, sym, ◌∙◌, arith, append_assoc}
+use Rattle.std.proofs.Common.{◌≡◌, ℕ, zero, suc, ◌+◌, ◌-◌, ◌<◌, ◌≤◌, List, [], ◌∷◌, ◌++◌, length, get_or, drop, All}
+use Rattle.std.proofs.Common.{Option, None, Some, slice_get, ap, sym, ◌∙◌, arith, append_assoc}
 use Rattle.std.proofs.lemmas.List.{get_or-map, length-map}
 use Rattle.std.proofs.lemmas.List.Sums.{sum_by-cons}
 use Rattle.unit_sets.specs.CutOrder.{IsOrderedCuts, cut_at, weight}
@@ -23,9 +24,11 @@ length-weight (cut ∷ cuts) = omega (arith, length-weight cuts, sum_by-cons (λ
 pub few_sets : (cuts : List (List ℕ)) → IsOrderedCuts cuts → length cuts ≤ 16777216
 few_sets cuts ordered = omega (arith, length-weight cuts, ordered.within)
 
-pub can_start_cut : (tree : FaultTree) (cuts : List (List ℕ)) (i : ℕ) (cut : List ℕ) → IsTree tree → IsOrderedCuts cuts → All (λ (c : List ℕ). All (IsUnitOf tree) c) cuts → slice_get cuts i ≡ Some cut → CanGoOn tree [] cut
+pub can_start_cut : (tree : FaultTree) (cuts : List (List ℕ)) (i : ℕ) (cut : List ℕ) → IsTree tree → IsOrderedCuts cuts
+    → All (λ (c : List ℕ). All (IsUnitOf tree) c) cuts → slice_get cuts i ≡ Some cut → CanGoOn tree [] cut
 can_start_cut tree cuts i cut kept ordered units at =
-    can_start tree cut kept (cut_at cuts i cut ordered at).rising (All-slice_get (λ (c : List ℕ). All (IsUnitOf tree) c) cuts i cut units at)
+    can_start tree cut kept (cut_at cuts i cut ordered at).rising
+    (All-slice_get (λ (c : List ℕ). All (IsUnitOf tree) c) cuts i cut units at)
 
 get_or_from_get : (cuts : List (List ℕ)) (i : ℕ) (cut : List ℕ) → slice_get cuts i ≡ Some cut → get_or cuts i [] ≡ cut
 get_or_from_get [] i cut at = absurd cc
@@ -33,23 +36,30 @@ get_or_from_get (first ∷ cuts) zero cut at = cc
 get_or_from_get (first ∷ cuts) (suc i) cut at = get_or_from_get cuts i cut at
 
 -- what is still to be listed begins with the list of the next set
-pub next_list : (tree : FaultTree) (most : ℕ) (cuts : List (List ℕ)) (next workers : ℕ) (cut : List ℕ) → 0 < workers → next < length cuts → slice_get cuts next ≡ Some cut
-    → dealt 0 (workers - 1) (drop next (order_lists tree cuts most)) ≡ orders_of tree most cut ∷ dealt 0 (workers - 1) (drop (next + workers) (order_lists tree cuts most))
+pub next_list : (tree : FaultTree) (most : ℕ) (cuts : List (List ℕ)) (next workers : ℕ) (cut : List ℕ) → 0 < workers
+    → next < length cuts → slice_get cuts next ≡ Some cut
+    → dealt 0 (workers - 1) (drop next (order_lists tree cuts most))
+    ≡ orders_of tree most cut ∷ dealt 0 (workers - 1) (drop (next + workers) (order_lists tree cuts most))
 next_list tree most cuts next workers cut some short at =
     let all : Share = order_lists tree cuts most in
     let within : next < length all = omega (arith, length-map cuts (orders_of tree most)) in
-    let here : get_or all next None ≡ orders_of tree most cut = get_or-map (orders_of tree most) cuts next [] None short ∙ ap (orders_of tree most) (get_or_from_get cuts next cut at) in
+    let here : get_or all next None ≡ orders_of tree most cut =
+    get_or-map (orders_of tree most) cuts next [] None short
+    ∙ ap (orders_of tree most) (get_or_from_get cuts next cut at) in
     let step : next + suc (workers - 1) ≡ next + workers = omega arith in
     dealt-next next (workers - 1) all None within
     ∙ ap (λ (o : Option (List (List ℕ))). o ∷ dealt 0 (workers - 1) (drop (next + suc (workers - 1)) all)) here
     ∙ ap (λ n. orders_of tree most cut ∷ dealt 0 (workers - 1) (drop n all)) step
 
 -- what has been listed and the list of one set more are no more than all that is due
-part-le : (listed rest due : Share) (list : Option (List (List ℕ))) → listed ++ list ∷ rest ≡ due → order_total listed + order_count list ≤ order_total due
+part-le : (listed rest due : Share) (list : Option (List (List ℕ))) → listed ++ list ∷ rest ≡ due
+    → order_total listed + order_count list ≤ order_total due
 part-le listed rest due list is = omega (arith, sym (ap order_total is), order_total-append listed (list ∷ rest))
 
-pub share_more : (tree tree' : FaultTree) (most : ℕ) (cuts : List (List ℕ)) (next workers : ℕ) (cut : List ℕ) (listed listed' due : Share) → tree' ≡ tree → 0 < workers → next < length cuts → slice_get cuts next ≡ Some cut
-    → listed ++ dealt 0 (workers - 1) (drop next (order_lists tree cuts most)) ≡ due → listed' ≡ listed ++ orders_of tree' most cut ∷ []
+pub share_more : (tree tree' : FaultTree) (most : ℕ) (cuts : List (List ℕ)) (next workers : ℕ) (cut : List ℕ)
+    (listed listed' due : Share) → tree' ≡ tree → 0 < workers → next < length cuts → slice_get cuts next ≡ Some cut
+    → listed ++ dealt 0 (workers - 1) (drop next (order_lists tree cuts most)) ≡ due
+    → listed' ≡ listed ++ orders_of tree' most cut ∷ []
     → listed' ++ dealt 0 (workers - 1) (drop (next + workers) (order_lists tree cuts most)) ≡ due
 share_more tree tree' most cuts next workers cut listed listed' due same some short at so_far more =
     let rest : Share = dealt 0 (workers - 1) (drop (next + workers) (order_lists tree cuts most)) in
@@ -59,13 +69,25 @@ share_more tree tree' most cuts next workers cut listed listed' due same some sh
     ∙ ap (λ (l : Share). listed ++ l) (sym (next_list tree most cuts next workers cut some short at))
     ∙ so_far
 
-pub share_over : (tree tree' : FaultTree) (most : ℕ) (cuts : List (List ℕ)) (next workers : ℕ) (cut : List ℕ) (marks : List Mark) (orders : List (List ℕ)) (due : Share) (end : OrderEnd) → tree' ≡ tree → 0 < workers → next < length cuts → slice_get cuts next ≡ Some cut
-    → HoldsShare marks orders → lists_from 0 marks orders ++ dealt 0 (workers - 1) (drop next (order_lists tree cuts most)) ≡ due
+pub share_over : (tree tree' : FaultTree) (most : ℕ) (cuts : List (List ℕ)) (next workers : ℕ) (cut : List ℕ)
+    (marks : List Mark) (orders : List (List ℕ)) (due : Share) (end : OrderEnd) → tree' ≡ tree → 0 < workers
+    → next < length cuts → slice_get cuts next ≡ Some cut
+    → HoldsShare marks orders → lists_from 0 marks orders
+    ++ dealt 0 (workers - 1) (drop next (order_lists tree cuts most)) ≡ due
     → IsOver (length orders + order_count (orders_of tree' most cut)) end → IsOver (order_total due) end
 share_over tree tree' most cuts next workers cut marks orders due end same some short at held so_far over =
     let all : Share = order_lists tree cuts most in
-    let count : order_count (orders_of tree' most cut) ≡ order_count (orders_of tree most cut) = ap (λ (t : FaultTree). order_count (orders_of t most cut)) same in
-    let parts : lists_from 0 marks orders ++ orders_of tree most cut ∷ dealt 0 (workers - 1) (drop (next + workers) all) ≡ due =
-    ap (λ (l : Share). lists_from 0 marks orders ++ l) (sym (next_list tree most cuts next workers cut some short at)) ∙ so_far in
+    let count : order_count (orders_of tree' most cut) ≡ order_count (orders_of tree most cut) =
+    ap (λ (t : FaultTree). order_count (orders_of t most cut)) same in
+    let parts : lists_from 0 marks orders ++ orders_of tree most cut ∷ dealt 0 (workers - 1) (drop (next + workers) all)
+    ≡ due =
+    ap (λ (l : Share). lists_from 0 marks orders ++ l) (sym (next_list tree most cuts next workers cut some short at))
+    ∙ so_far in
     IsOver-more (length orders + order_count (orders_of tree' most cut)) (order_total due) end
-    (omega (arith, count, held.total, part-le (lists_from 0 marks orders) (dealt 0 (workers - 1) (drop (next + workers) all)) due (orders_of tree most cut) parts)) over
+    (omega (
+      arith,
+      count,
+      held.total,
+      part-le (lists_from 0 marks orders)
+          (dealt 0 (workers - 1) (drop (next + workers) all)) due (orders_of tree most cut) parts,
+    )) over

@@ -1,5 +1,6 @@
 -- How the sets are dealt to the workers in turn, and gathered again.
-use Rattle.std.specs.Prelude.{◌≡◌, ℕ, zero, suc, ◌-◌, ◌/◌, ◌%◌, ◌<◌, List, [], ◌∷◌, ◌++◌, length, Option, None, slice_index_or}
+use Rattle.std.specs.Prelude.{◌≡◌, ℕ, zero, suc, ◌-◌, ◌/◌, ◌%◌, ◌<◌, List, [], ◌∷◌, ◌++◌, length, Option, None}
+use Rattle.std.specs.Prelude.{slice_index_or}
 
 -- what one worker gets, who waits for some items first and then lets `others` items pass after each
 abbrev pub dealt : {X : Type 0} → ℕ → ℕ → List X → List X
@@ -14,7 +15,8 @@ Share = List (Option (List (List ℕ)))
 -- the shares of all workers
 pub record AreShares (lists : Share) (shares : List Share) : Type 0 where
   pub some : 0 < length shares
-  pub each : (worker : ℕ) → worker < length shares → slice_index_or shares worker [] ≡ dealt worker (length shares - 1) lists
+  pub each : (worker : ℕ) → worker < length shares
+      → slice_index_or shares worker [] ≡ dealt worker (length shares - 1) lists
 
 -- the list of a set, by its place among all sets
 abbrev pub list_in : List Share → ℕ → Option (List (List ℕ))

@@ -1,5 +1,6 @@
 -- What the search for the failing orders of a set does where it goes on from some units that have failed.
-use Rattle.std.specs.Prelude.{◌≡◌, ℕ, ◌+◌, ◌≤◌, true, false, List, [], ◌∷◌, ◌++◌, length, map, filter, All, Result, Ok, Err, remove, slice_index}
+use Rattle.std.specs.Prelude.{◌≡◌, ℕ, ◌+◌, ◌≤◌, true, false, List, [], ◌∷◌, ◌++◌, length, map, filter, All, Result, Ok}
+use Rattle.std.specs.Prelude.{Err, remove, slice_index}
 use Rattle.unit_sets.specs.UnitList.{among, IsRising}
 use Rattle.fault_model.specs.Tree.{FaultTree, IsUnitOf}
 use Rattle.fault_model.specs.WellFormed.{IsTree}

@@ -1,5 +1,6 @@
 -- How one list of orders, with a mark for each set, holds the lists of several sets.
-use Rattle.std.specs.Prelude.{◌≡◌, ℕ, zero, suc, ◌≤◌, List, [], ◌∷◌, ◌++◌, length, Option, Some, None, Result, Ok, Err, slice_index_or, if◌then◌else◌, false, ◌+◌}
+use Rattle.std.specs.Prelude.{◌≡◌, ℕ, zero, suc, ◌≤◌, List, [], ◌∷◌, ◌++◌, length, Option, Some, None, Result, Ok, Err}
+use Rattle.std.specs.Prelude.{slice_index_or, if◌then◌else◌, false, ◌+◌}
 use Rattle.flat_rows.specs.Rows.{between}
 use Rattle.cut_sequences.specs.declared.mark.Mark.{Mark}
 use Rattle.cut_sequences.specs.declared.refusal.OrderEnd.{OrderEnd}
@@ -34,6 +35,8 @@ pub record HoldsShare (marks : List Mark) (orders : List (List ℕ)) : Type 0 wh
   pub total : order_total (lists_from 0 marks orders) ≡ length orders
 
 -- one list more is held, or its orders and those before are too many
-abbrev pub AddsList : {T : Type 0} → List Mark → List (List ℕ) → List Mark → List (List ℕ) → Option (List (List ℕ)) → Result T OrderEnd → Type 0
-AddsList marks orders marks' orders' list (Ok _) = HoldsShare marks' orders' × (lists_from 0 marks' orders' ≡ lists_from 0 marks orders ++ list ∷ [])
+abbrev pub AddsList : {T : Type 0} → List Mark → List (List ℕ) → List Mark → List (List ℕ) → Option (List (List ℕ))
+    → Result T OrderEnd → Type 0
+AddsList marks orders marks' orders' list (Ok _) =
+    HoldsShare marks' orders' × (lists_from 0 marks' orders' ≡ lists_from 0 marks orders ++ list ∷ [])
 AddsList marks orders marks' orders' list (Err end) = IsOver (length orders + order_count list) end

@@ -1,5 +1,6 @@
 -- The orders of each cut set that fail the top event.
-use Rattle.std.specs.Prelude.{ℕ, ◌+◌, ◌<◌, ⊤, Bool, nat_le, is_some, List, [], ◌∷◌, length, map, filter, Option, Some, None, unwrap_or, slice_index_or, if◌then◌else◌}
+use Rattle.std.specs.Prelude.{ℕ, ◌+◌, ◌<◌, ⊤, Bool, nat_le, is_some, List, [], ◌∷◌, length, map, filter, Option, Some}
+use Rattle.std.specs.Prelude.{None, unwrap_or, slice_index_or, if◌then◌else◌}
 use Rattle.cut_sequences.specs.declared.refusal.OrderEnd.{OrderEnd}
 use Rattle.cut_sequences.specs.declared.refusal.OrderEnd.TheVariants.{OrderLimit, NoMemory}
 use Rattle.fault_model.specs.Tree.{FaultTree}

@@ -13,7 +13,8 @@ picks (unit ∷ units) = (unit, units) ∷ map (λ (pick : ℕ × List ℕ). (pi
 abbrev pub arrangements : ℕ → List ℕ → List (List ℕ)
 arrangements zero units = [] ∷ []
 arrangements (suc others) units =
-    flat_map (λ (pick : ℕ × List ℕ). map (λ (order : List ℕ). pick.0 ∷ order) (arrangements others pick.1)) (picks units)
+    flat_map (λ (pick : ℕ × List ℕ). map (λ (order : List ℕ). pick.0 ∷ order) (arrangements others pick.1))
+    (picks units)
 
 abbrev pub permutations : List ℕ → List (List ℕ)
 permutations units = arrangements (length units) units

@@ -18,7 +18,8 @@ HasStopped stop work = order_total work.share ≤ stop.orders → stop.place ≤
 
 -- a worker has gone on until it had to stop, or it gets too many orders
 abbrev pub WentOn : Share → ℕ → Stop → Work → Result Work OrderEnd → Type 0
-WentOn lists workers stop work (Ok later) = (whole lists workers later ≡ whole lists workers work) × HasStopped stop later
+WentOn lists workers stop work (Ok later) =
+    (whole lists workers later ≡ whole lists workers work) × HasStopped stop later
 WentOn lists workers stop work (Err end) = IsOver (order_total (whole lists workers work)) end
 
 -- what a worker has listed, and the place of the next set
@@ -27,14 +28,16 @@ work_of marks orders next = record { share = lists_from 0 marks orders; next = n
 
 -- the same where the lists are held in one list of orders
 abbrev pub AddsSets : Share → ℕ → Stop → Work → List Mark → List (List ℕ) → Result ℕ OrderEnd → Type 0
-AddsSets lists workers stop work marks orders (Ok next) = HoldsShare marks orders × WentOn lists workers stop work (Ok (work_of marks orders next))
+AddsSets lists workers stop work marks orders (Ok next) =
+    HoldsShare marks orders × WentOn lists workers stop work (Ok (work_of marks orders next))
 AddsSets lists workers stop work marks orders (Err end) = WentOn lists workers stop work (Err end)
 
 -- each of the workers gets what is dealt to it
 pub record AreAtWork (lists : Share) (works : List Work) : Type 0 where
   pub some : 0 < length works
   pub few : length works ≤ 16
-  pub each : (worker : ℕ) (d : Work) → worker < length works → whole lists (length works) (slice_index_or works worker d) ≡ dealt worker (length works - 1) lists
+  pub each : (worker : ℕ) (d : Work) → worker < length works
+      → whole lists (length works) (slice_index_or works worker d) ≡ dealt worker (length works - 1) lists
 
 -- the number of orders that a worker has
 abbrev pub orders_of_work : Work → ℕ

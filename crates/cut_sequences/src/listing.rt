@@ -14,8 +14,8 @@ use unit_sets::CutList;
 /// The most orders that are listed over all sets.
 pub const ORDER_LIMIT: u64 = 2_000_000;
 
-/// For each set of at most `most` members, its orders that can happen and fail the top event, in lexicographic order by unit
-/// numbers. Larger sets are not listed.
+/// For each set of at most `most` members, its orders that can happen and fail the top event, in lexicographic order by
+/// unit numbers. Larger sets are not listed.
 ///
 /// The answer is the same for any number of workers. `NoMemory` may come instead of either answer.
 pub fn orders<R: Threads + Sync>(
@@ -35,7 +35,8 @@ pub fn orders<R: Threads + Sync>(
     ensures within { IfOk result (λ lists. order_total lists ≤ order_limit) }
 
     // Only where the listed sets have more orders than the limit.
-    ensures limit { IsErrOf result OrderEnd.OrderLimit → order_limit < order_total (order_lists tree.now cuts.now most) }
+    ensures limit { IsErrOf result OrderEnd.OrderLimit
+        → order_limit < order_total (order_lists tree.now cuts.now most) }
 {
     let shares = all_shares(rt, alloc, tree, cuts, most, workers as usize)?;
     gather(shares, cuts.len())

@@ -1,7 +1,8 @@
 //! The rounds of the workers: each worker goes on with its sets, and then the orders of all are counted.
 //!
 //! No worker runs far ahead of the others, so that all stop soon after they have too many orders together.
-ghost use Rattle.std.specs.Prelude.{◌≡◌, ◌<◌, ◌≤◌, ℕ, true, false, length, map, slice_index_or, All, IfOk, IsErrOf, Contains, Ok, Err, sum_by};
+ghost use Rattle.std.specs.Prelude.{◌≡◌, ◌<◌, ◌≤◌, ℕ, true, false, length, map, slice_index_or, All, IfOk, IsErrOf};
+ghost use Rattle.std.specs.Prelude.{Contains, Ok, Err, sum_by};
 ghost use Rattle.fault_model.specs.Tree.{IsUnitOf};
 ghost use Rattle.cut_sequences.specs.Dealing.{AreShares, Share as Lists};
 ghost use Rattle.cut_sequences.specs.Orders.{order_limit, order_lists, order_total};
@@ -37,7 +38,8 @@ fn answers_of<R: Threads + Sync>(
     requires units { All (λ cut. All (IsUnitOf tree.now) cut) cuts.now }
     ensures all { IfOk result (λ answers. length answers.items ≡ length works.items) }
     ensures each { IfOk result (λ answers. (worker : ℕ) (work : _) (d : _) → worker < length works.items
-        → WentOn (order_lists tree.now cuts.now most) (length works.items) stop (slice_index_or works.items worker work) (slice_index_or answers.items worker d)) }
+        → WentOn (order_lists tree.now cuts.now most) (length works.items) stop (slice_index_or works.items worker work)
+        (slice_index_or answers.items worker d)) }
 {
     let workers = works.len();
     thread::map_vec(
@@ -86,7 +88,8 @@ fn round<R: Threads + Sync>(
     requires units { All (λ cut. All (IsUnitOf tree.now) cut) cuts.now }
     ensures at_work { IfOk result (λ later. AreAtWork (order_lists tree.now cuts.now most) later.items) }
     ensures stopped { IfOk result (λ later. All (HasStopped stop) later.items) }
-    ensures limit { IsErrOf result OrderEnd.OrderLimit → order_limit < order_total (order_lists tree.now cuts.now most) }
+    ensures limit { IsErrOf result OrderEnd.OrderLimit
+        → order_limit < order_total (order_lists tree.now cuts.now most) }
 {
     let works = works_of(alloc, answers_of(rt, alloc, tree, cuts, most, stop, works)?)?;
     if orders_so_far(works.as_slice()) > ORDER_LIMIT {
@@ -124,7 +127,8 @@ fn all_rounds<R: Threads + Sync>(
     requires units { All (λ cut. All (IsUnitOf tree.now) cut) cuts.now }
     ensures at_work { IfOk result (λ later. AreAtWork (order_lists tree.now cuts.now most) later.items) }
     ensures done { IfOk result (λ later. All (λ work. length cuts.now ≤ work.next) later.items) }
-    ensures limit { IsErrOf result OrderEnd.OrderLimit → order_limit < order_total (order_lists tree.now cuts.now most) }
+    ensures limit { IsErrOf result OrderEnd.OrderLimit
+        → order_limit < order_total (order_lists tree.now cuts.now most) }
 {
     let works = round(rt, alloc, tree, cuts, most, stop, works)?;
     if has_enough(works.as_slice(), stop) {
@@ -188,7 +192,8 @@ pub fn all_shares<R: Threads + Sync>(
     requires units { All (λ cut. All (IsUnitOf tree.now) cut) cuts.now }
     ensures shares { IfOk result (λ shares. AreShares (order_lists tree.now cuts.now most) shares.items) }
     ensures few { IfOk result (λ shares. length shares.items ≤ 16) }
-    ensures limit { IsErrOf result OrderEnd.OrderLimit → order_limit < order_total (order_lists tree.now cuts.now most) }
+    ensures limit { IsErrOf result OrderEnd.OrderLimit
+        → order_limit < order_total (order_lists tree.now cuts.now most) }
 {
     let stop = Stop {
         place: FIRST_SETS.min(cuts.len()),

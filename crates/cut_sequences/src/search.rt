@@ -1,6 +1,7 @@
-//! The search for the failing orders of a set: a unit fails, the search goes on with the units that are left, and the unit is
-//! taken back.
-ghost use Rattle.std.specs.Prelude.{◌≡◌, ◌<◌, ◌≤◌, true, false, [], ◌∷◌, ◌++◌, length, All, IfOk, OnOk, is_some, remove, slice_index};
+//! The search for the failing orders of a set: a unit fails, the search goes on with the units that are left, and the
+//! unit is taken back.
+ghost use Rattle.std.specs.Prelude.{◌≡◌, ◌<◌, ◌≤◌, true, false, [], ◌∷◌, ◌++◌, length, All, IfOk, OnOk, is_some};
+ghost use Rattle.std.specs.Prelude.{remove, slice_index};
 ghost use Rattle.unit_sets.specs.UnitList.{among};
 ghost use Rattle.fault_model.specs.FailingOrder.{is_admissible};
 ghost use Rattle.fault_model.specs.Step.{step};
@@ -78,7 +79,8 @@ impl<'t> Search<'t> {
         ensures tree { OnOk result (self.new.replay.tree ≡ self.old.replay.tree) }
         ensures order { OnOk result (self.new.replay.order ≡ self.old.replay.order) }
         ensures left { OnOk result (self.new.left.items ≡ self.old.left.items) }
-        ensures listed { Lists self.old.orders self.new.orders (failing_from self.old.replay.tree (self.old.replay.order ++ unit ∷ []) self.old.left.items) result }
+        ensures listed { Lists self.old.orders self.new.orders
+            (failing_from self.old.replay.tree (self.old.replay.order ++ unit ∷ []) self.old.left.items) result }
     {
         let pushed = self.replay.push(unit);
         if pushed.admissible {
@@ -93,13 +95,15 @@ impl<'t> Search<'t> {
     fn go_on(&mut self, top_failed: bool) -> Result<(), OrderEnd>
         requires left { CanGoOn self.old.replay.tree self.old.replay.order self.old.left.items }
         requires admissible { is_admissible self.old.replay.tree self.old.replay.order ≡ true }
-        requires top_failed { top_failed ≡ is_some (step self.old.replay.tree self.old.replay.order self.old.replay.tree.top) }
+        requires top_failed { top_failed ≡ is_some (step self.old.replay.tree self.old.replay.order
+            self.old.replay.tree.top) }
         requires few { length self.old.orders ≤ order_limit }
 
         ensures tree { OnOk result (self.new.replay.tree ≡ self.old.replay.tree) }
         ensures order { OnOk result (self.new.replay.order ≡ self.old.replay.order) }
         ensures left { OnOk result (self.new.left.items ≡ self.old.left.items) }
-        ensures listed { Lists self.old.orders self.new.orders (failing_from self.old.replay.tree self.old.replay.order self.old.left.items) result }
+        ensures listed { Lists self.old.orders self.new.orders
+            (failing_from self.old.replay.tree self.old.replay.order self.old.left.items) result }
     {
         if !self.left.is_empty() {
             self.go_through()
@@ -120,7 +124,8 @@ impl<'t> Search<'t> {
         ensures tree { OnOk result (self.new.replay.tree ≡ self.old.replay.tree) }
         ensures order { OnOk result (self.new.replay.order ≡ self.old.replay.order) }
         ensures left { OnOk result (self.new.left.items ≡ self.old.left.items) }
-        ensures listed { Lists self.old.orders self.new.orders (failing_from self.old.replay.tree self.old.replay.order self.old.left.items) result }
+        ensures listed { Lists self.old.orders self.new.orders
+            (failing_from self.old.replay.tree self.old.replay.order self.old.left.items) result }
     {
         for i in 0..self.left.len() {
             self.fail_at(i)?;
@@ -138,7 +143,8 @@ impl<'t> Search<'t> {
         ensures tree { OnOk result (self.new.replay.tree ≡ self.old.replay.tree) }
         ensures order { OnOk result (self.new.replay.order ≡ self.old.replay.order) }
         ensures left { OnOk result (self.new.left.items ≡ self.old.left.items) }
-        ensures listed { Lists self.old.orders self.new.orders (failing_after self.old.replay.tree self.old.replay.order self.old.left.items i) result }
+        ensures listed { Lists self.old.orders self.new.orders
+            (failing_after self.old.replay.tree self.old.replay.order self.old.left.items i) result }
     {
         let unit = self.left.remove(i);
         self.fail(unit)?;

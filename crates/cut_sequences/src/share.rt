@@ -116,7 +116,8 @@ fn add_set(
 
     ensures tree { OnOk result (search.new.replay.tree ≡ search.old.replay.tree) }
     ensures order { OnOk result (search.new.replay.order ≡ []) }
-    ensures added { AddsList marks.old.items search.old.orders marks.new.items search.new.orders (orders_of search.old.replay.tree most set.now) result }
+    ensures added { AddsList marks.old.items search.old.orders marks.new.items search.new.orders
+        (orders_of search.old.replay.tree most set.now) result }
 {
     let listed = set.len() <= most as usize;
     if listed {
@@ -147,7 +148,8 @@ fn add_sets(
     requires units { All (λ cut. All (IsUnitOf search.old.replay.tree) cut) cuts.now }
     requires held { HoldsShare marks.old.items search.old.orders }
 
-    ensures { AddsSets (order_lists search.old.replay.tree cuts.now most) workers stop (work_of marks.old.items search.old.orders from) marks.new.items search.new.orders result }
+    ensures { AddsSets (order_lists search.old.replay.tree cuts.now most) workers stop
+        (work_of marks.old.items search.old.orders from) marks.new.items search.new.orders result }
 {
     let mut next = from;
     while next < stop.place && search.orders.len() <= stop.orders {

@@ -30,9 +30,14 @@ module _ (family : List (List ℕ)) where
   each_size : (size : ℕ) → at_size sizes size ≡ of_size size family
   unfolding sizes
   each_size size = elim (cases_lt size (suc (longest family))) [
-    | inl within ↦ get_or-map-range_with_len (λ n. of_size n family) 0 (suc (longest family)) size size [] within (omega arith)
+    | inl within ↦ get_or-map-range_with_len (λ n. of_size n family) 0 (suc (longest family)) size size [] within
+        (omega arith)
     | inr past ↦
-        get_or_past sizes size [] (omega (arith, past, length-map-range_with_len (λ n. of_size n family) 0 (suc (longest family))))
+        get_or_past sizes size [] (omega (
+          arith,
+          past,
+          length-map-range_with_len (λ n. of_size n family) 0 (suc (longest family)),
+        ))
         ∙ sym (none_longer size family (omega arith))
   ]
 

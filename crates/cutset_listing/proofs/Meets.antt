@@ -1,11 +1,14 @@
 -- The nodes that a search meets are those that the root reaches.
-use Rattle.std.proofs.Common.{◌≡◌, ◌≢◌, ℕ, zero, suc, ◌+◌, ◌<◌, ◌≤◌, true, false, List, [], ◌∷◌, ◌++◌, length, take, refl, sym, ◌∙◌, ap, subst, inl, inr, arith, length-append, eq-eqb}
+use Rattle.std.proofs.Common.{◌≡◌, ◌≢◌, ℕ, zero, suc, ◌+◌, ◌<◌, ◌≤◌, true, false, List, [], ◌∷◌, ◌++◌, length, take}
+use Rattle.std.proofs.Common.{refl, sym, ◌∙◌, ap, subst, inl, inr, arith, length-append, eq-eqb}
 use Rattle.std.specs.Prelude.{◌⊎◌, ◌↔◌, ◌||◌, nat_lt, nat_eq, Contains, slice_index_or}
 use Rattle.std.specs.List.{list_any, AllByRecursion}
-use Rattle.std.proofs.lemmas.Bool.{cases_Bool, cases_lt, cond-true, cond-false, or_left, or_right, or_from, lt-ltb, le-ltb, eqb-true}
+use Rattle.std.proofs.lemmas.Bool.{cases_Bool, cases_lt, cond-true, cond-false, or_left, or_right, or_from, lt-ltb}
+use Rattle.std.proofs.lemmas.Bool.{le-ltb, eqb-true}
 use Rattle.std.proofs.lemmas.List.{take-append-le, take_more, get_or_append_left}
 use Rattle.std.proofs.lemmas.List.Elements.{Contains-append_left, Contains-append_right}
-use Rattle.unit_sets.specs.Sorted.{Contains-cons_first, Contains-cons_other, Contains-cons_cases, Contains-nil, all-push}
+use Rattle.unit_sets.specs.Sorted.{Contains-cons_first, Contains-cons_other, Contains-cons_cases, Contains-nil}
+use Rattle.unit_sets.specs.Sorted.{all-push}
 use Rattle.zdd_words.specs.Reference.{IsReference}
 use Rattle.zdd_words.specs.Word.{packed, lo_of, hi_of, lo_of-packed, hi_of-packed}
 use Rattle.zdd_families.specs.Map.{Knows, IsClosed, lo_known, hi_known}
@@ -21,16 +24,20 @@ among-contains r [] there = absurd cc
 among-contains r (node ∷ nodes) there =
     elim (cases_Bool (nat_eq r node)) [
       | inl same ↦ subst (λ q. Contains (node ∷ nodes) q) (sym (eqb-true r node same)) (Contains-cons_first node nodes)
-      | inr other ↦ Contains-cons_other node r nodes (among-contains r nodes (ap (λ b. b || list_any (nat_eq r) nodes) (sym other) ∙ there))
+      | inr other ↦ Contains-cons_other node r nodes
+          (among-contains r nodes (ap (λ b. b || list_any (nat_eq r) nodes) (sym other) ∙ there))
     ]
 
 contains-among : (r : ℕ) (nodes : List ℕ) → list_any (nat_eq r) nodes ≡ false → Contains nodes r → ⊥
 contains-among r [] none has = Contains-nil r has
 contains-among r (node ∷ nodes) none has =
     elim (cases_Bool (nat_eq r node)) [
-      | inl same ↦ absurd (let e : true ≡ false = sym (or_left (nat_eq r node) (list_any (nat_eq r) nodes) same) ∙ none in absurd cc)
+      | inl same ↦ absurd (let e : true ≡ false = sym (or_left (nat_eq r node) (list_any (nat_eq r) nodes) same)
+          ∙ none in absurd cc)
       | inr other ↦ elim (Contains-cons_cases node r nodes has) [
-        | inl same ↦ absurd (let e : nat_eq r node ≡ true = ap (λ q. nat_eq q node) (sym same) ∙ eq-eqb node node refl in let f : true ≡ false = sym e ∙ other in absurd cc)
+        | inl same ↦ absurd (let e : nat_eq r node ≡ true =
+            ap (λ q. nat_eq q node) (sym same) ∙ eq-eqb node node refl in let f : true ≡ false = sym e ∙ other in
+            absurd cc)
         | inr later ↦ contains-among r nodes (ap (λ b. b || list_any (nat_eq r) nodes) (sym other) ∙ none) later
       ]
     ]
@@ -49,16 +56,22 @@ with_node-cases : (r : ℕ) (nodes : List ℕ) → Stays r nodes ⊎ Comes r nod
 with_node-cases r nodes =
     elim (cases_lt r 2) [
       | inl terminal ↦ inl (record {
-        same = cond-true (nat_lt r 2 || list_any (nat_eq r) nodes) nodes (nodes ++ r ∷ []) (or_left (nat_lt r 2) (list_any (nat_eq r) nodes) (lt-ltb r 2 terminal));
+        same =
+            cond-true (nat_lt r 2 || list_any (nat_eq r) nodes) nodes (nodes ++ r ∷ [])
+            (or_left (nat_lt r 2) (list_any (nat_eq r) nodes) (lt-ltb r 2 terminal));
         known = inl terminal;
       })
       | inr inner ↦ elim (cases_Bool (list_any (nat_eq r) nodes)) [
         | inl there ↦ inl (record {
-          same = cond-true (nat_lt r 2 || list_any (nat_eq r) nodes) nodes (nodes ++ r ∷ []) (or_right (nat_lt r 2) (list_any (nat_eq r) nodes) there);
+          same =
+              cond-true (nat_lt r 2 || list_any (nat_eq r) nodes) nodes (nodes ++ r ∷ [])
+              (or_right (nat_lt r 2) (list_any (nat_eq r) nodes) there);
           known = inr (among-contains r nodes there);
         })
         | inr none ↦ inr (record {
-          behind = cond-false (nat_lt r 2 || list_any (nat_eq r) nodes) nodes (nodes ++ r ∷ []) (or_from (nat_lt r 2) (list_any (nat_eq r) nodes) (le-ltb r 2 inner) none);
+          behind =
+              cond-false (nat_lt r 2 || list_any (nat_eq r) nodes) nodes (nodes ++ r ∷ [])
+              (or_from (nat_lt r 2) (list_any (nat_eq r) nodes) (le-ltb r 2 inner) none);
           inner = inner;
           new = contains-among r nodes none;
         })
@@ -72,14 +85,16 @@ with_node-grows r nodes q has =
       | inr comes ↦ subst (λ l. Contains l q) (sym comes.behind) (Contains-append_left nodes (r ∷ []) q has)
     ]
 
-with_node-front : (r : ℕ) (nodes : List ℕ) (place : ℕ) → place ≤ length nodes → take place (with_node r nodes) ≡ take place nodes
+with_node-front : (r : ℕ) (nodes : List ℕ) (place : ℕ) → place ≤ length nodes
+    → take place (with_node r nodes) ≡ take place nodes
 with_node-front r nodes place short =
     elim (with_node-cases r nodes) [
       | inl stays ↦ ap (λ l. take place l) stays.same
       | inr comes ↦ ap (λ l. take place l) comes.behind ∙ take-append-le place nodes (r ∷ []) short
     ]
 
-with_node-at : (r : ℕ) (nodes : List ℕ) (place : ℕ) → place < length nodes → slice_index_or (with_node r nodes) place 0 ≡ slice_index_or nodes place 0
+with_node-at : (r : ℕ) (nodes : List ℕ) (place : ℕ) → place < length nodes
+    → slice_index_or (with_node r nodes) place 0 ≡ slice_index_or nodes place 0
 with_node-at r nodes place short =
     elim (with_node-cases r nodes) [
       | inl stays ↦ ap (λ l. slice_index_or l place 0) stays.same
@@ -96,7 +111,8 @@ with_node-longer r nodes =
 each_once-push : (nodes : List ℕ) (r : ℕ) → EachOnce nodes → (Contains nodes r → ⊥) → EachOnce (nodes ++ r ∷ [])
 each_once-push [] r once new = (tt, tt)
 each_once-push (node ∷ nodes) r once new = (
-  all-push (λ y. node ≢ y) nodes r once.0 (λ same. new (subst (λ q. Contains (node ∷ nodes) q) same (Contains-cons_first node nodes))),
+  all-push (λ y. node ≢ y) nodes r once.0 (λ same.
+      new (subst (λ q. Contains (node ∷ nodes) q) same (Contains-cons_first node nodes))),
   each_once-push nodes r once.1 (λ has. new (Contains-cons_other node r nodes has)),
 )
 
@@ -127,14 +143,17 @@ module _ (known : ℕ → ℕ) (closed : IsClosed known) where
           | inl terminal ↦ absurd (let inner = (closed r has).0 in omega (arith, inner, terminal))
           | inr there ↦ subst (λ l. Contains l r) (sym stays.same) there
         ]
-        | inr comes ↦ subst (λ l. Contains l r) (sym comes.behind) (Contains-append_right nodes (r ∷ []) r (Contains-cons_first r []))
+        | inr comes ↦ subst (λ l. Contains l r) (sym comes.behind)
+            (Contains-append_right nodes (r ∷ []) r (Contains-cons_first r []))
       ]
 
-  with_node-reached : (root r : ℕ) (nodes : List ℕ) → (2 ≤ r → Reaches known root r) → AllByRecursion (Reaches known root) nodes → AllByRecursion (Reaches known root) (with_node r nodes)
+  with_node-reached : (root r : ℕ) (nodes : List ℕ) → (2 ≤ r → Reaches known root r)
+      → AllByRecursion (Reaches known root) nodes → AllByRecursion (Reaches known root) (with_node r nodes)
   with_node-reached root r nodes reaches all =
       elim (with_node-cases r nodes) [
         | inl stays ↦ subst (AllByRecursion (Reaches known root)) (sym stays.same) all
-        | inr comes ↦ subst (AllByRecursion (Reaches known root)) (sym comes.behind) (all-push (Reaches known root) nodes r all (reaches comes.inner))
+        | inr comes ↦ subst (AllByRecursion (Reaches known root)) (sym comes.behind)
+            (all-push (Reaches known root) nodes r all (reaches comes.inner))
       ]
 
   -- the root alone
@@ -150,25 +169,32 @@ module _ (known : ℕ → ℕ) (closed : IsClosed known) where
   }
 
   -- a reference that the root reaches
-  meets_more : (root r : ℕ) (nodes : List ℕ) (place : ℕ) → (2 ≤ r → Reaches known root r) → place ≤ length nodes → HasMet known root nodes place → HasMet known root (with_node r nodes) place
+  meets_more : (root r : ℕ) (nodes : List ℕ) (place : ℕ) → (2 ≤ r → Reaches known root r) → place ≤ length nodes
+      → HasMet known root nodes place → HasMet known root (with_node r nodes) place
   meets_more root r nodes place reaches short met = record {
     once = with_node-once r nodes met.once;
     reached = with_node-reached root r nodes reaches met.reached;
     from_root = λ has. with_node-grows r nodes root (met.from_root has);
     parts = subst (AllByRecursion (HasParts known (with_node r nodes))) (sym (with_node-front r nodes place short))
         (each-from_contains (HasParts known (with_node r nodes)) (take place nodes) (λ q in_front.
-        let parts = each-contains (HasParts known nodes) (take place nodes) q met.parts in_front in
-        (λ has. with_node-grows r nodes (lo_of (known q)) (parts.0 has), λ has. with_node-grows r nodes (hi_of (known q)) (parts.1 has))));
+        let parts = each-contains (HasParts known nodes) (take place nodes) q met.parts in_front in (
+          λ has. with_node-grows r nodes (lo_of (known q)) (parts.0 has),
+          λ has. with_node-grows r nodes (hi_of (known q)) (parts.1 has),
+        )));
   }
 
   at_place : (nodes : List ℕ) (place : ℕ) → place < length nodes → Contains nodes (slice_index_or nodes place 0)
   at_place [] place short = absurd (omega (arith, short))
   at_place (node ∷ nodes) zero short = Contains-cons_first node nodes
-  at_place (node ∷ nodes) (suc place) short = Contains-cons_other node (slice_index_or nodes place 0) nodes (at_place nodes place (omega (arith, short)))
+  at_place (node ∷ nodes) (suc place) short =
+      Contains-cons_other node (slice_index_or nodes place 0) nodes (at_place nodes place (omega (arith, short)))
 
-  module _ (root : ℕ) (nodes : List ℕ) (place r : ℕ) (met : HasMet known root nodes place) (short : place < length nodes) (is : r ≡ slice_index_or nodes place 0) where
+  module _ (root : ℕ) (nodes : List ℕ) (place r : ℕ) (met : HasMet known root nodes place)
+      (short : place < length nodes) (is : r ≡ slice_index_or nodes place 0) where
     here : Reaches known root r
-    here = each-contains (Reaches known root) nodes r met.reached (subst (Contains nodes) (sym is) (at_place nodes place short))
+    here =
+        each-contains (Reaches known root) nodes r met.reached
+        (subst (Contains nodes) (sym is) (at_place nodes place short))
 
     pub inner : known r ≢ 0
     inner = reached-inner root r here
@@ -186,7 +212,8 @@ module _ (known : ℕ → ℕ) (closed : IsClosed known) where
     ]
 
     -- both parts of the next node
-    pub meets_parts : (lo hi : ℕ) (nodes' : List ℕ) → lo ≡ lo_of (known r) → hi ≡ hi_of (known r) → nodes' ≡ with_node hi (with_node lo nodes) →
+    pub meets_parts : (lo hi : ℕ) (nodes' : List ℕ) → lo ≡ lo_of (known r) → hi ≡ hi_of (known r)
+        → nodes' ≡ with_node hi (with_node lo nodes) →
         HasMet known root nodes' (place + 1) × (place + 1 ≤ length nodes')
     meets_parts lo hi nodes' lo_is hi_is nodes_is =
         let first : List ℕ = with_node (lo_of (known r)) nodes in
@@ -194,10 +221,14 @@ module _ (known : ℕ → ℕ) (closed : IsClosed known) where
         let longer : length nodes ≤ length first = with_node-longer (lo_of (known r)) nodes in
         let longer' : length first ≤ length both = with_node-longer (hi_of (known r)) first in
         let met' : HasMet known root both place =
-        meets_more root (hi_of (known r)) first place hi_reached (omega (arith, short, longer)) (meets_more root (lo_of (known r)) nodes place lo_reached (omega (arith, short)) met) in
+        meets_more root (hi_of (known r)) first place hi_reached (omega (arith, short, longer))
+        (meets_more root (lo_of (known r)) nodes place lo_reached (omega (arith, short)) met) in
         let front : take (place + 1) both ≡ take place both ++ r ∷ [] =
-        take_more both place 0 (omega (arith, short, longer, longer')) ∙ ap (λ q. take place both ++ q ∷ []) (with_node-at (hi_of (known r)) first place (omega (arith, short, longer)) ∙ with_node-at (lo_of (known r)) nodes place short ∙ sym is) in
-        let whole : nodes' ≡ both = nodes_is ∙ ap (λ q. with_node hi (with_node q nodes)) lo_is ∙ ap (λ q. with_node q first) hi_is in
+        take_more both place 0 (omega (arith, short, longer, longer'))
+        ∙ ap (λ q. take place both ++ q ∷ []) (with_node-at (hi_of (known r)) first place
+        (omega (arith, short, longer)) ∙ with_node-at (lo_of (known r)) nodes place short ∙ sym is) in
+        let whole : nodes' ≡ both =
+        nodes_is ∙ ap (λ q. with_node hi (with_node q nodes)) lo_is ∙ ap (λ q. with_node q first) hi_is in
         let long : length nodes' ≡ length both = ap length whole in (
           subst (λ l. HasMet known root l (place + 1)) (sym whole)
               (record {
@@ -205,14 +236,18 @@ module _ (known : ℕ → ℕ) (closed : IsClosed known) where
                 reached = met'.reached;
                 from_root = met'.from_root;
                 parts = subst (AllByRecursion (HasParts known both)) (sym front)
-                    (all-push (HasParts known both) (take place both) r met'.parts
-                    (λ lo_has. with_node-grows (hi_of (known r)) first (lo_of (known r)) (met-now (lo_of (known r)) nodes lo_has), met-now (hi_of (known r)) first));
+                    (all-push (HasParts known both) (take place both) r met'.parts (
+                      λ lo_has. with_node-grows (hi_of (known r)) first (lo_of (known r))
+                          (met-now (lo_of (known r)) nodes lo_has),
+                      met-now (hi_of (known r)) first,
+                    ));
               }),
           omega (arith, long, short, longer, longer'),
         )
 
   -- where all parts were met, the nodes are those that the root reaches
-  pub met_all : (root : ℕ) (nodes : List ℕ) (place : ℕ) → HasMet known root nodes place → length nodes ≤ place → (q : ℕ) → Contains nodes q ↔ Reaches known root q
+  pub met_all : (root : ℕ) (nodes : List ℕ) (place : ℕ) → HasMet known root nodes place → length nodes ≤ place → (q : ℕ)
+      → Contains nodes q ↔ Reaches known root q
   met_all root nodes place met all q = (
     λ has. each-contains (Reaches known root) nodes q met.reached has,
     λ reaches. follow root q reaches met.from_root,
@@ -225,7 +260,9 @@ module _ (known : ℕ → ℕ) (closed : IsClosed known) where
       take_whole (x ∷ l) (suc n) h = ap (λ m. x ∷ m) (take_whole l n (omega (arith, h)))
 
       parts_of : (r : ℕ) → Contains nodes r → HasParts known nodes r
-      parts_of r has = each-contains (HasParts known nodes) nodes r (subst (AllByRecursion (HasParts known nodes)) (take_whole nodes place all) met.parts) has
+      parts_of r has =
+          each-contains (HasParts known nodes) nodes r (subst (AllByRecursion (HasParts known nodes))
+          (take_whole nodes place all) met.parts) has
 
       follow : (r p : ℕ) → Reaches known r p → IsMet known nodes r → Contains nodes p
       follow r p (reaches_itself has) is = is has
@@ -249,14 +286,17 @@ below-contains zero x less = absurd (omega (arith, less))
 below-contains (suc n) x less =
     elim (cases_lt x n) [
       | inl smaller ↦ Contains-cons_other n x (below n) (below-contains n x smaller)
-      | inr greater ↦ subst (Contains (n ∷ below n)) (let e : n ≡ x = omega (arith, less, greater) in e) (Contains-cons_first n (below n))
+      | inr greater ↦ subst (Contains (n ∷ below n)) (let e : n ≡ x = omega (arith, less, greater) in e)
+          (Contains-cons_first n (below n))
     ]
 
-pub few_nodes : (known : ℕ → ℕ) (closed : IsClosed known) (root size : ℕ) (nodes : List ℕ) (place : ℕ) → HasMet known root nodes place → ((r : ℕ) → known r ≢ 0 → r < size) → length nodes ≤ size
+pub few_nodes : (known : ℕ → ℕ) (closed : IsClosed known) (root size : ℕ) (nodes : List ℕ) (place : ℕ)
+    → HasMet known root nodes place → ((r : ℕ) → known r ≢ 0 → r < size) → length nodes ≤ size
 few_nodes known closed root size nodes place met within =
     let long = below-length size in
     let few = each_once-length nodes (below size) met.once
-    (λ q has. below-contains size q (within q (reached-inner known closed root q (each-contains (Reaches known root) nodes q met.reached has)))) in
+    (λ q has. below-contains size q (within q (reached-inner known closed root q
+    (each-contains (Reaches known root) nodes q met.reached has)))) in
     omega (arith, long, few)
 
 -- the parts of a packed word

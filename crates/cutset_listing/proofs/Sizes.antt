@@ -1,5 +1,6 @@
 -- Lists of the sets of each size, one after the other, are a list in the order of cut sets.
-use Rattle.std.proofs.Common.{◌≡◌, ℕ, zero, suc, ◌+◌, ◌-◌, ◌<◌, ◌≤◌, Bool, true, false, List, [], ◌∷◌, ◌++◌, length, take, drop, refl, sym, ◌∙◌, ap, subst, inl, inr, arith, append_assoc, eq-eqb}
+use Rattle.std.proofs.Common.{◌≡◌, ℕ, zero, suc, ◌+◌, ◌-◌, ◌<◌, ◌≤◌, Bool, true, false, List, [], ◌∷◌, ◌++◌, length}
+use Rattle.std.proofs.Common.{take, drop, refl, sym, ◌∙◌, ap, subst, inl, inr, arith, append_assoc, eq-eqb}
 use Rattle.std.specs.Prelude.{filter, ◌==◌, Contains, slice_index_or, nat_le}
 use Rattle.std.specs.List.{AllByRecursion}
 use Rattle.std.specs.List.Sorted.{IsStrictlySortedBy}
@@ -24,44 +25,60 @@ each-back : {K : Type 0} (P : K → Type 0) (xs ys : List K) → AllByRecursion 
 each-back P [] ys all = all
 each-back P (x ∷ xs) ys all = each-back P xs ys all.1
 
-each-filter : {K : Type 0} (P : K → Type 0) (test : K → Bool) (xs : List K) → AllByRecursion P xs → AllByRecursion P (filter test xs)
+each-filter : {K : Type 0} (P : K → Type 0) (test : K → Bool) (xs : List K) → AllByRecursion P xs
+    → AllByRecursion P (filter test xs)
 each-filter P test [] all = tt
 each-filter P test (x ∷ xs) all =
     elim (cases_Bool (test x)) [
-      | inl kept ↦ subst (AllByRecursion P) (sym (cond-true (test x) (x ∷ filter test xs) (filter test xs) kept)) (all.0, each-filter P test xs all.1)
-      | inr left ↦ subst (AllByRecursion P) (sym (cond-false (test x) (x ∷ filter test xs) (filter test xs) left)) (each-filter P test xs all.1)
+      | inl kept ↦ subst (AllByRecursion P) (sym (cond-true (test x) (x ∷ filter test xs) (filter test xs) kept))
+          (all.0, each-filter P test xs all.1)
+      | inr left ↦ subst (AllByRecursion P) (sym (cond-false (test x) (x ∷ filter test xs) (filter test xs) left))
+          (each-filter P test xs all.1)
     ]
 
 each-has : {K : Type 0} (P : K → Type 0) (xs : List K) → ((x : K) → Contains xs x → P x) → AllByRecursion P xs
 each-has P [] all = tt
-each-has P (x ∷ xs) all = (all x (Contains-cons_first x xs), each-has P xs (λ y h. all y (Contains-cons_other x y xs h)))
+each-has P (x ∷ xs) all =
+    (all x (Contains-cons_first x xs), each-has P xs (λ y h. all y (Contains-cons_other x y xs h)))
 
-sorted-front : {K : Type 0} (R : K → K → Ordering) (xs ys : List K) → IsStrictlySortedBy R (xs ++ ys) → IsStrictlySortedBy R xs
+sorted-front : {K : Type 0} (R : K → K → Ordering) (xs ys : List K) → IsStrictlySortedBy R (xs ++ ys)
+    → IsStrictlySortedBy R xs
 unfolding IsStrictlySortedBy
 sorted-front R [] ys sorted = tt
 sorted-front R (x ∷ xs) ys sorted = (each-front (λ y. R x y ≡ Less) xs ys sorted.0, sorted-front R xs ys sorted.1)
 
-sorted-filter : {K : Type 0} (R : K → K → Ordering) (test : K → Bool) (xs : List K) → IsStrictlySortedBy R xs → IsStrictlySortedBy R (filter test xs)
+sorted-filter : {K : Type 0} (R : K → K → Ordering) (test : K → Bool) (xs : List K) → IsStrictlySortedBy R xs
+    → IsStrictlySortedBy R (filter test xs)
 unfolding IsStrictlySortedBy
 sorted-filter R test [] sorted = tt
 sorted-filter R test (x ∷ xs) sorted =
     elim (cases_Bool (test x)) [
-      | inl kept ↦ subst (IsStrictlySortedBy R) (sym (cond-true (test x) (x ∷ filter test xs) (filter test xs) kept)) (each-filter (λ y. R x y ≡ Less) test xs sorted.0, sorted-filter R test xs sorted.1)
-      | inr left ↦ subst (IsStrictlySortedBy R) (sym (cond-false (test x) (x ∷ filter test xs) (filter test xs) left)) (sorted-filter R test xs sorted.1)
+      | inl kept ↦ subst (IsStrictlySortedBy R) (sym (cond-true (test x) (x ∷ filter test xs) (filter test xs) kept))
+          (each-filter (λ y. R x y ≡ Less) test xs sorted.0, sorted-filter R test xs sorted.1)
+      | inr left ↦ subst (IsStrictlySortedBy R) (sym (cond-false (test x) (x ∷ filter test xs) (filter test xs) left))
+          (sorted-filter R test xs sorted.1)
     ]
 
 -- ---- the sets of one size
 
-Contains-of_size : (size : ℕ) (f : List (List ℕ)) (set : List ℕ) → Contains (of_size size f) set → Contains f set × (length set ≡ size)
+Contains-of_size : (size : ℕ) (f : List (List ℕ)) (set : List ℕ) → Contains (of_size size f) set
+    → Contains f set × (length set ≡ size)
 Contains-of_size size [] set has = Contains-nil set has
 Contains-of_size size (first ∷ f) set has =
     elim (cases_Bool (length first == size)) [
-      | inl so_long ↦ elim (Contains-cons_cases first set (of_size size f) (subst (λ q. Contains q set) (cond-true (length first == size) (first ∷ of_size size f) (of_size size f) so_long) has)) [
-        | inl same ↦ (subst (λ q. Contains (first ∷ f) q) same (Contains-cons_first first f), ap length (sym same) ∙ eqb-true (length first) size so_long)
-        | inr later ↦ let of = Contains-of_size size f set later in (Contains-cons_other first set f of.0, of.1)
-      ]
+      | inl so_long ↦ elim (Contains-cons_cases first set (of_size size f)
+          (subst (λ q. Contains q set) (cond-true (length first == size) (first ∷ of_size size f) (of_size size f)
+          so_long) has)) [
+            | inl same ↦ (
+              subst (λ q. Contains (first ∷ f) q) same (Contains-cons_first first f),
+              ap length (sym same) ∙ eqb-true (length first) size so_long,
+            )
+            | inr later ↦ let of = Contains-of_size size f set later in (Contains-cons_other first set f of.0, of.1)
+          ]
       | inr other ↦
-          let of = Contains-of_size size f set (subst (λ q. Contains q set) (cond-false (length first == size) (first ∷ of_size size f) (of_size size f) other) has) in
+          let of =
+          Contains-of_size size f set (subst (λ q. Contains q set)
+          (cond-false (length first == size) (first ∷ of_size size f) (of_size size f) other) has) in
           (Contains-cons_other first set f of.0, of.1)
     ]
 
@@ -69,14 +86,19 @@ of_size-Contains : (f : List (List ℕ)) (set : List ℕ) → Contains f set →
 of_size-Contains [] set has = Contains-nil set has
 of_size-Contains (first ∷ f) set has =
     elim (cases_Bool (length first == length set)) [
-      | inl so_long ↦ subst (λ q. Contains q set) (sym (cond-true (length first == length set) (first ∷ of_size (length set) f) (of_size (length set) f) so_long))
+      | inl so_long ↦ subst (λ q. Contains q set) (sym
+          (cond-true (length first == length set) (first ∷ of_size (length set) f) (of_size (length set) f) so_long))
           (elim (Contains-cons_cases first set f has) [
-            | inl same ↦ subst (λ q. Contains (first ∷ of_size (length set) f) q) same (Contains-cons_first first (of_size (length set) f))
+            | inl same ↦ subst (λ q. Contains (first ∷ of_size (length set) f) q) same
+                (Contains-cons_first first (of_size (length set) f))
             | inr later ↦ Contains-cons_other first set (of_size (length set) f) (of_size-Contains f set later)
           ])
-      | inr other ↦ subst (λ q. Contains q set) (sym (cond-false (length first == length set) (first ∷ of_size (length set) f) (of_size (length set) f) other))
+      | inr other ↦ subst (λ q. Contains q set) (sym
+          (cond-false (length first == length set) (first ∷ of_size (length set) f) (of_size (length set) f) other))
           (elim (Contains-cons_cases first set f has) [
-            | inl same ↦ absurd (let e : (length set == length set) ≡ false = ap (λ (s : List ℕ). length s == length set) (sym same) ∙ other in let e' : (length set == length set) ≡ true = eq-eqb (length set) (length set) refl in absurd cc)
+            | inl same ↦ absurd (let e : (length set == length set) ≡ false =
+                ap (λ (s : List ℕ). length s == length set) (sym same) ∙ other in
+                let e' : (length set == length set) ≡ true = eq-eqb (length set) (length set) refl in absurd cc)
             | inr later ↦ of_size-Contains f set later
           ])
     ]
@@ -87,88 +109,116 @@ of_size-Contains (first ∷ f) set has =
 abbrev Splits : ℕ → List (List (List ℕ)) → List (List ℕ) → Type 0
 Splits from lists f = (k : ℕ) → at_size lists k ≡ of_size (from + k) f
 
-splits_rest : (from : ℕ) (list : List (List ℕ)) (lists : List (List (List ℕ))) (f : List (List ℕ)) → Splits from (list ∷ lists) f → Splits (suc from) lists f
+splits_rest : (from : ℕ) (list : List (List ℕ)) (lists : List (List (List ℕ))) (f : List (List ℕ))
+    → Splits from (list ∷ lists) f → Splits (suc from) lists f
 splits_rest from list lists f splits k = splits (suc k) ∙ ap (λ n. of_size n f) (omega arith)
 
-splits_first : (from : ℕ) (list : List (List ℕ)) (lists : List (List (List ℕ))) (f : List (List ℕ)) → Splits from (list ∷ lists) f → list ≡ of_size from f
+splits_first : (from : ℕ) (list : List (List ℕ)) (lists : List (List (List ℕ))) (f : List (List ℕ))
+    → Splits from (list ∷ lists) f → list ≡ of_size from f
 splits_first from list lists f splits = splits 0 ∙ ap (λ n. of_size n f) (omega arith)
 
-joined-each : (P : List ℕ → Type 0) (from : ℕ) (lists : List (List (List ℕ))) (f : List (List ℕ)) → Splits from lists f → AllByRecursion P f → AllByRecursion P (joined lists)
+joined-each : (P : List ℕ → Type 0) (from : ℕ) (lists : List (List (List ℕ))) (f : List (List ℕ)) → Splits from lists f
+    → AllByRecursion P f → AllByRecursion P (joined lists)
 joined-each P from [] f splits all = tt
 joined-each P from (list ∷ lists) f splits all =
     each-append P list (joined lists)
-    (subst (AllByRecursion P) (sym (splits_first from list lists f splits)) (each-filter P (λ set. length set == from) f all))
+    (subst (AllByRecursion P) (sym (splits_first from list lists f splits))
+    (each-filter P (λ set. length set == from) f all))
     (joined-each P (suc from) lists f (splits_rest from list lists f splits) all)
 
-joined-has : (from : ℕ) (lists : List (List (List ℕ))) (f : List (List ℕ)) (set : List ℕ) → Splits from lists f → Contains (joined lists) set → Contains f set × (from ≤ length set)
+joined-has : (from : ℕ) (lists : List (List (List ℕ))) (f : List (List ℕ)) (set : List ℕ) → Splits from lists f
+    → Contains (joined lists) set → Contains f set × (from ≤ length set)
 joined-has from [] f set splits has = Contains-nil set has
 joined-has from (list ∷ lists) f set splits has =
     elim (Contains-append_cases list (joined lists) set has) [
       | inl here ↦
-          let of = Contains-of_size from f set (subst (λ q. Contains q set) (splits_first from list lists f splits) here) in
+          let of =
+          Contains-of_size from f set (subst (λ q. Contains q set) (splits_first from list lists f splits) here) in
           (of.0, omega (arith, of.1))
       | inr later ↦
           let of = joined-has (suc from) lists f set (splits_rest from list lists f splits) later in
           (of.0, omega (arith, of.1))
     ]
 
-has-joined : (lists : List (List (List ℕ))) (k : ℕ) (set : List ℕ) → Contains (at_size lists k) set → Contains (joined lists) set
+has-joined : (lists : List (List (List ℕ))) (k : ℕ) (set : List ℕ) → Contains (at_size lists k) set
+    → Contains (joined lists) set
 has-joined [] k set has = Contains-nil set has
 has-joined (list ∷ lists) zero set has = Contains-append_left list (joined lists) set has
 has-joined (list ∷ lists) (suc k) set has = Contains-append_right list (joined lists) set (has-joined lists k set has)
 
-pub joined-sets : (lists : List (List (List ℕ))) (f : List (List ℕ)) → ((size : ℕ) → at_size lists size ≡ of_size size f) → HasSetsOf f (joined lists)
+pub joined-sets : (lists : List (List (List ℕ))) (f : List (List ℕ))
+    → ((size : ℕ) → at_size lists size ≡ of_size size f) → HasSetsOf f (joined lists)
 joined-sets lists f splits set = (
   λ has. (joined-has 0 lists f set (λ k. splits k ∙ ap (λ n. of_size n f) (omega arith)) has).0,
-  λ has. has-joined lists (length set) set (subst (λ q. Contains q set) (sym (splits (length set))) (of_size-Contains f set has)),
+  λ has. has-joined lists (length set) set (subst (λ q. Contains q set) (sym (splits (length set)))
+      (of_size-Contains f set has)),
 )
 
 -- ---- the order
 
 smaller_first : (a b : List ℕ) → length a < length b → cut_cmp a b ≡ Less
-smaller_first a b less = let e : nat_cmp (length a) (length b) ≡ Less = grind (arith, nat_tests) in ap (λ o. ordering_then o (set_cmp a b)) e
+smaller_first a b less =
+    let e : nat_cmp (length a) (length b) ≡ Less = grind (arith, nat_tests) in ap (λ o. ordering_then o (set_cmp a b)) e
 
 at_one_size : (a b : List ℕ) → length a ≡ length b → set_cmp a b ≡ Less → cut_cmp a b ≡ Less
 at_one_size a b same less =
-    ap (λ n. ordering_then (nat_cmp n (length b)) (set_cmp a b)) same ∙ ap (λ o. ordering_then o (set_cmp a b)) (tied_itself nat_cmp_total (length b)) ∙ less
+    ap (λ n. ordering_then (nat_cmp n (length b)) (set_cmp a b)) same
+    ∙ ap (λ o. ordering_then o (set_cmp a b)) (tied_itself nat_cmp_total (length b)) ∙ less
 
-below_all : (a : List ℕ) (size : ℕ) (sets : List (List ℕ)) → length a ≡ size → AllByRecursion (λ (set : List ℕ). length set ≡ size) sets → AllByRecursion (λ b. set_cmp a b ≡ Less) sets → AllByRecursion (λ b. cut_cmp a b ≡ Less) sets
+below_all : (a : List ℕ) (size : ℕ) (sets : List (List ℕ)) → length a ≡ size
+    → AllByRecursion (λ (set : List ℕ). length set ≡ size) sets → AllByRecursion (λ b. set_cmp a b ≡ Less) sets
+    → AllByRecursion (λ b. cut_cmp a b ≡ Less) sets
 below_all a size [] same long less = tt
-below_all a size (b ∷ sets) same long less = (at_one_size a b (same ∙ sym long.0) less.0, below_all a size sets same long.1 less.1)
+below_all a size (b ∷ sets) same long less =
+    (at_one_size a b (same ∙ sym long.0) less.0, below_all a size sets same long.1 less.1)
 
-one_size_ordered : (size : ℕ) (sets : List (List ℕ)) → AllByRecursion (λ (set : List ℕ). length set ≡ size) sets → IsStrictlySortedBy set_cmp sets → IsInCutOrder sets
+one_size_ordered : (size : ℕ) (sets : List (List ℕ)) → AllByRecursion (λ (set : List ℕ). length set ≡ size) sets
+    → IsStrictlySortedBy set_cmp sets → IsInCutOrder sets
 unfolding IsStrictlySortedBy
 one_size_ordered size [] long sorted = tt
-one_size_ordered size (set ∷ sets) long sorted = (below_all set size sets long.0 long.1 sorted.0, one_size_ordered size sets long.1 sorted.1)
+one_size_ordered size (set ∷ sets) long sorted =
+    (below_all set size sets long.0 long.1 sorted.0, one_size_ordered size sets long.1 sorted.1)
 
-joined-ordered : (from : ℕ) (lists : List (List (List ℕ))) (f : List (List ℕ)) → Splits from lists f → IsStrictlySortedBy set_cmp f → IsInCutOrder (joined lists)
+joined-ordered : (from : ℕ) (lists : List (List (List ℕ))) (f : List (List ℕ)) → Splits from lists f
+    → IsStrictlySortedBy set_cmp f → IsInCutOrder (joined lists)
 unfolding IsStrictlySortedBy
 joined-ordered from [] f splits sorted = tt
 joined-ordered from (list ∷ lists) f splits sorted =
     let first : list ≡ of_size from f = splits_first from list lists f splits in
     let long : AllByRecursion (λ (set : List ℕ). length set ≡ from) list =
-    each-has (λ (set : List ℕ). length set ≡ from) list (λ set has. (Contains-of_size from f set (subst (λ q. Contains q set) first has)).1) in
+    each-has (λ (set : List ℕ). length set ≡ from) list
+    (λ set has. (Contains-of_size from f set (subst (λ q. Contains q set) first has)).1) in
     let longer : AllByRecursion (λ (set : List ℕ). suc from ≤ length set) (joined lists) =
-    each-has (λ (set : List ℕ). suc from ≤ length set) (joined lists) (λ set has. (joined-has (suc from) lists f set (splits_rest from list lists f splits) has).1) in
+    each-has (λ (set : List ℕ). suc from ≤ length set) (joined lists)
+    (λ set has. (joined-has (suc from) lists f set (splits_rest from list lists f splits) has).1) in
     sorted-append cut_cmp list (joined lists)
-    (one_size_ordered from list long (subst (IsStrictlySortedBy set_cmp) (sym first) (sorted-filter set_cmp (λ set. length set == from) f sorted)))
+    (one_size_ordered from list long (subst (IsStrictlySortedBy set_cmp) (sym first)
+    (sorted-filter set_cmp (λ set. length set == from) f sorted)))
     (joined-ordered (suc from) lists f (splits_rest from list lists f splits) sorted)
     (each-weaker (λ (a : List ℕ). length a ≡ from) (λ a. AllByRecursion (λ b. cut_cmp a b ≡ Less) (joined lists)) list
-    (λ a same. each-weaker (λ (b : List ℕ). suc from ≤ length b) (λ b. cut_cmp a b ≡ Less) (joined lists) (λ b more. smaller_first a b (omega (arith, same, more))) longer) long)
+    (λ a same. each-weaker (λ (b : List ℕ). suc from ≤ length b) (λ b. cut_cmp a b ≡ Less) (joined lists)
+    (λ b more. smaller_first a b (omega (arith, same, more))) longer) long)
 
-pub joined-in_order : (lists : List (List (List ℕ))) (f : List (List ℕ)) → ((size : ℕ) → at_size lists size ≡ of_size size f) → IsFamily f → IsInCutOrder (joined lists)
-joined-in_order lists f splits is = joined-ordered 0 lists f (λ k. splits k ∙ ap (λ n. of_size n f) (omega arith)) is.ordered
+pub joined-in_order : (lists : List (List (List ℕ))) (f : List (List ℕ))
+    → ((size : ℕ) → at_size lists size ≡ of_size size f) → IsFamily f → IsInCutOrder (joined lists)
+joined-in_order lists f splits is =
+    joined-ordered 0 lists f (λ k. splits k ∙ ap (λ n. of_size n f) (omega arith)) is.ordered
 
-pub joined-rising : (lists : List (List (List ℕ))) (f : List (List ℕ)) → ((size : ℕ) → at_size lists size ≡ of_size size f) → IsFamily f → AllByRecursion IsRising (joined lists)
-joined-rising lists f splits is = joined-each IsRising 0 lists f (λ k. splits k ∙ ap (λ n. of_size n f) (omega arith)) is.rising
+pub joined-rising : (lists : List (List (List ℕ))) (f : List (List ℕ))
+    → ((size : ℕ) → at_size lists size ≡ of_size size f) → IsFamily f → AllByRecursion IsRising (joined lists)
+joined-rising lists f splits is =
+    joined-each IsRising 0 lists f (λ k. splits k ∙ ap (λ n. of_size n f) (omega arith)) is.rising
 
 filled_set : (f : List (List ℕ)) → LacksEmptySet f → (set : List ℕ) → Contains f set → 0 < length set
 filled_set f lacks [] has = absurd (lacks has)
 filled_set f lacks (unit ∷ set) has = omega arith
 
-pub joined-filled : (lists : List (List (List ℕ))) (f : List (List ℕ)) → ((size : ℕ) → at_size lists size ≡ of_size size f) → LacksEmptySet f → AllByRecursion (λ (set : List ℕ). 0 < length set) (joined lists)
+pub joined-filled : (lists : List (List (List ℕ))) (f : List (List ℕ))
+    → ((size : ℕ) → at_size lists size ≡ of_size size f) → LacksEmptySet f
+    → AllByRecursion (λ (set : List ℕ). 0 < length set) (joined lists)
 joined-filled lists f splits lacks =
-    each-has (λ (set : List ℕ). 0 < length set) (joined lists) (λ set has. filled_set f lacks set ((joined-sets lists f splits set).0 has))
+    each-has (λ (set : List ℕ). 0 < length set) (joined lists)
+    (λ set has. filled_set f lacks set ((joined-sets lists f splits set).0 has))
 
 -- ---- the weight
 
@@ -177,7 +227,8 @@ abbrev from_size : ℕ → List (List ℕ) → List (List ℕ)
 from_size from f = filter (λ set. nat_le from (length set)) f
 
 -- what the sets of a size and the longer ones weigh
-weight-from : (from : ℕ) (f : List (List ℕ)) → weight (from_size from f) ≡ weight (of_size from f) + weight (from_size (suc from) f)
+weight-from : (from : ℕ) (f : List (List ℕ)) → weight (from_size from f)
+    ≡ weight (of_size from f) + weight (from_size (suc from) f)
 weight-from from [] = refl
 weight-from from (set ∷ f) =
     let rest = weight-from from f in
@@ -186,22 +237,38 @@ weight-from from (set ∷ f) =
     let e'' = weight-cons set (from_size (suc from) f) in
     elim (cases_lt (length set) from) [
       | inl short ↦
-          let a : from_size from (set ∷ f) ≡ from_size from f = cond-false (nat_le from (length set)) (set ∷ from_size from f) (from_size from f) (grind (arith, nat_tests, short)) in
-          let b : of_size from (set ∷ f) ≡ of_size from f = cond-false (length set == from) (set ∷ of_size from f) (of_size from f) (ne_eqb (length set) from (λ s. omega (arith, s, short))) in
-          let d : from_size (suc from) (set ∷ f) ≡ from_size (suc from) f = cond-false (nat_le (suc from) (length set)) (set ∷ from_size (suc from) f) (from_size (suc from) f) (grind (arith, nat_tests, short)) in
+          let a : from_size from (set ∷ f) ≡ from_size from f =
+          cond-false (nat_le from (length set)) (set ∷ from_size from f) (from_size from f)
+          (grind (arith, nat_tests, short)) in
+          let b : of_size from (set ∷ f) ≡ of_size from f =
+          cond-false (length set == from) (set ∷ of_size from f) (of_size from f)
+          (ne_eqb (length set) from (λ s. omega (arith, s, short))) in
+          let d : from_size (suc from) (set ∷ f) ≡ from_size (suc from) f =
+          cond-false (nat_le (suc from) (length set)) (set ∷ from_size (suc from) f) (from_size (suc from) f)
+          (grind (arith, nat_tests, short)) in
           let a' = ap weight a in let b' = ap weight b in let d' = ap weight d in omega (arith, rest, a', b', d')
       | inr long ↦
-          let a : from_size from (set ∷ f) ≡ set ∷ from_size from f = cond-true (nat_le from (length set)) (set ∷ from_size from f) (from_size from f) (grind (arith, nat_tests, long)) in
+          let a : from_size from (set ∷ f) ≡ set ∷ from_size from f =
+          cond-true (nat_le from (length set)) (set ∷ from_size from f) (from_size from f)
+          (grind (arith, nat_tests, long)) in
           let a' = ap weight a in
           elim (cases_eq (length set) from) [
             | inl same ↦
-                let b : of_size from (set ∷ f) ≡ set ∷ of_size from f = cond-true (length set == from) (set ∷ of_size from f) (of_size from f) (eq-eqb (length set) from same) in
-                let d : from_size (suc from) (set ∷ f) ≡ from_size (suc from) f = cond-false (nat_le (suc from) (length set)) (set ∷ from_size (suc from) f) (from_size (suc from) f) (grind (arith, nat_tests, same)) in
+                let b : of_size from (set ∷ f) ≡ set ∷ of_size from f =
+                cond-true (length set == from) (set ∷ of_size from f) (of_size from f)
+                (eq-eqb (length set) from same) in
+                let d : from_size (suc from) (set ∷ f) ≡ from_size (suc from) f =
+                cond-false (nat_le (suc from) (length set)) (set ∷ from_size (suc from) f) (from_size (suc from) f)
+                (grind (arith, nat_tests, same)) in
                 let b' = ap weight b in let d' = ap weight d in omega (arith, rest, a', b', d', e, e')
             | inr other ↦
-                let b : of_size from (set ∷ f) ≡ of_size from f = cond-false (length set == from) (set ∷ of_size from f) (of_size from f) (ne_eqb (length set) from other) in
+                let b : of_size from (set ∷ f) ≡ of_size from f =
+                cond-false (length set == from) (set ∷ of_size from f) (of_size from f)
+                (ne_eqb (length set) from other) in
                 let more : suc from ≤ length set = omega (arith, long, other) in
-                let d : from_size (suc from) (set ∷ f) ≡ set ∷ from_size (suc from) f = cond-true (nat_le (suc from) (length set)) (set ∷ from_size (suc from) f) (from_size (suc from) f) (grind (arith, nat_tests, more)) in
+                let d : from_size (suc from) (set ∷ f) ≡ set ∷ from_size (suc from) f =
+                cond-true (nat_le (suc from) (length set)) (set ∷ from_size (suc from) f) (from_size (suc from) f)
+                (grind (arith, nat_tests, more)) in
                 let b' = ap weight b in let d' = ap weight d in omega (arith, rest, a', b', d', e, e'')
           ]
     ]
@@ -212,16 +279,21 @@ no_sets from [] none = refl
 no_sets from (set ∷ f) none =
     elim (cases_lt (length set) from) [
       | inl short ↦
-          cond-false (nat_le from (length set)) (set ∷ from_size from f) (from_size from f) (grind (arith, nat_tests, short))
-          ∙ no_sets from f (λ k. sym (cond-false (length set == (from + k)) (set ∷ of_size (from + k) f) (of_size (from + k) f) (ne_eqb (length set) (from + k) (λ s. omega (arith, s, short)))) ∙ none k)
+          cond-false (nat_le from (length set)) (set ∷ from_size from f) (from_size from f)
+          (grind (arith, nat_tests, short))
+          ∙ no_sets from f (λ k. sym (cond-false (length set == (from + k)) (set ∷ of_size (from + k) f)
+          (of_size (from + k) f) (ne_eqb (length set) (from + k) (λ s. omega (arith, s, short)))) ∙ none k)
       | inr long ↦
           let k : ℕ = length set - from in
           let so_long : length set ≡ from + k = omega (arith, long) in
-          let there : of_size (from + k) (set ∷ f) ≡ set ∷ of_size (from + k) f = cond-true (length set == (from + k)) (set ∷ of_size (from + k) f) (of_size (from + k) f) (ap (λ n. length set == n) (sym so_long) ∙ eq-eqb (length set) (length set) refl) in
+          let there : of_size (from + k) (set ∷ f) ≡ set ∷ of_size (from + k) f =
+          cond-true (length set == (from + k)) (set ∷ of_size (from + k) f) (of_size (from + k) f)
+          (ap (λ n. length set == n) (sym so_long) ∙ eq-eqb (length set) (length set) refl) in
           absurd (let e = sym there ∙ none k in absurd cc)
     ]
 
-weight-splits : (from : ℕ) (lists : List (List (List ℕ))) (f : List (List ℕ)) → Splits from lists f → weight (joined lists) ≡ weight (from_size from f)
+weight-splits : (from : ℕ) (lists : List (List (List ℕ))) (f : List (List ℕ)) → Splits from lists f
+    → weight (joined lists) ≡ weight (from_size from f)
 weight-splits from [] f splits = ap weight (sym (no_sets from f (λ k. sym (splits k))))
 weight-splits from (list ∷ lists) f splits =
     let a = weight-append list (joined lists) in
@@ -230,44 +302,61 @@ weight-splits from (list ∷ lists) f splits =
     let e = weight-from from f in
     omega (arith, a, b, d, e)
 
-pub weight-joined : (lists : List (List (List ℕ))) (f : List (List ℕ)) → ((size : ℕ) → at_size lists size ≡ of_size size f) → weight (joined lists) ≡ weight f
+pub weight-joined : (lists : List (List (List ℕ))) (f : List (List ℕ))
+    → ((size : ℕ) → at_size lists size ≡ of_size size f) → weight (joined lists) ≡ weight f
 weight-joined lists f splits =
     weight-splits 0 lists f (λ k. splits k ∙ ap (λ n. of_size n f) (omega arith))
-    ∙ ap weight (filter-all (λ (set : List ℕ). nat_le 0 (length set)) f (each-has (λ (set : List ℕ). nat_le 0 (length set) ≡ true) f (λ set has. grind (arith, nat_tests))))
+    ∙ ap weight (filter-all (λ (set : List ℕ). nat_le 0 (length set)) f
+    (each-has (λ (set : List ℕ). nat_le 0 (length set) ≡ true) f (λ set has. grind (arith, nat_tests))))
 
 -- ---- lists put one after the other
 
 joined-front : (lists : List (List (List ℕ))) (k : ℕ) → joined lists ≡ joined (take k lists) ++ joined (drop k lists)
 joined-front lists zero = refl
 joined-front [] (suc k) = refl
-joined-front (list ∷ lists) (suc k) = ap (λ q. list ++ q) (joined-front lists k) ∙ sym (append_assoc list (joined (take k lists)) (joined (drop k lists)))
+joined-front (list ∷ lists) (suc k) =
+    ap (λ q. list ++ q) (joined-front lists k) ∙ sym (append_assoc list (joined (take k lists)) (joined (drop k lists)))
 
-pub joined-next : (lists : List (List (List ℕ))) (k : ℕ) → k < length lists → joined (take (suc k) lists) ≡ joined (take k lists) ++ at_size lists k
+pub joined-next : (lists : List (List (List ℕ))) (k : ℕ) → k < length lists
+    → joined (take (suc k) lists) ≡ joined (take k lists) ++ at_size lists k
 joined-next [] k short = absurd (omega arith)
 joined-next (list ∷ lists) zero short = append-nil list
-joined-next (list ∷ lists) (suc k) short = ap (λ q. list ++ q) (joined-next lists k (omega (arith, short))) ∙ sym (append_assoc list (joined (take k lists)) (at_size lists k))
+joined-next (list ∷ lists) (suc k) short =
+    ap (λ q. list ++ q) (joined-next lists k (omega (arith, short)))
+    ∙ sym (append_assoc list (joined (take k lists)) (at_size lists k))
 
-part_each : (P : List ℕ → Type 0) (lists : List (List (List ℕ))) (k : ℕ) → k < length lists → AllByRecursion P (joined lists) → AllByRecursion P (at_size lists k)
+part_each : (P : List ℕ → Type 0) (lists : List (List (List ℕ))) (k : ℕ) → k < length lists
+    → AllByRecursion P (joined lists) → AllByRecursion P (at_size lists k)
 part_each P [] k short all = absurd (omega arith)
 part_each P (list ∷ lists) zero short all = each-front P list (joined lists) all
-part_each P (list ∷ lists) (suc k) short all = part_each P lists k (omega (arith, short)) (each-back P list (joined lists) all)
+part_each P (list ∷ lists) (suc k) short all =
+    part_each P lists k (omega (arith, short)) (each-back P list (joined lists) all)
 
-pub part-each : (P : List ℕ → Type 0) (lists : List (List (List ℕ))) (k : ℕ) (sets : List (List ℕ)) → k < length lists → sets ≡ at_size lists k → AllByRecursion P (joined lists) → AllByRecursion P sets
+pub part-each : (P : List ℕ → Type 0) (lists : List (List (List ℕ))) (k : ℕ) (sets : List (List ℕ)) → k < length lists
+    → sets ≡ at_size lists k → AllByRecursion P (joined lists) → AllByRecursion P sets
 part-each P lists k sets short is all = subst (AllByRecursion P) (sym is) (part_each P lists k short all)
 
 -- the lists up to a place, with the one that stands there
-with_next : (lists : List (List (List ℕ))) (k : ℕ) (cuts sets : List (List ℕ)) → k < length lists → cuts ≡ joined (take k lists) → sets ≡ at_size lists k → cuts ++ sets ≡ joined (take (suc k) lists)
-with_next lists k cuts sets short same is = ap (λ q. q ++ sets) same ∙ ap (λ q. joined (take k lists) ++ q) is ∙ sym (joined-next lists k short)
+with_next : (lists : List (List (List ℕ))) (k : ℕ) (cuts sets : List (List ℕ)) → k < length lists
+    → cuts ≡ joined (take k lists) → sets ≡ at_size lists k → cuts ++ sets ≡ joined (take (suc k) lists)
+with_next lists k cuts sets short same is =
+    ap (λ q. q ++ sets) same ∙ ap (λ q. joined (take k lists) ++ q) is ∙ sym (joined-next lists k short)
 
-pub part-next : (lists : List (List (List ℕ))) (k : ℕ) (cuts cuts' sets : List (List ℕ)) → k < length lists → cuts ≡ joined (take k lists) → sets ≡ at_size lists k → cuts' ≡ cuts ++ sets → cuts' ≡ joined (take (k + 1) lists)
-part-next lists k cuts cuts' sets short same is added = added ∙ with_next lists k cuts sets short same is ∙ ap (λ n. joined (take n lists)) (let e : suc k ≡ k + 1 = omega arith in e)
+pub part-next : (lists : List (List (List ℕ))) (k : ℕ) (cuts cuts' sets : List (List ℕ)) → k < length lists
+    → cuts ≡ joined (take k lists) → sets ≡ at_size lists k → cuts' ≡ cuts ++ sets → cuts' ≡ joined (take (k + 1) lists)
+part-next lists k cuts cuts' sets short same is added =
+    added ∙ with_next lists k cuts sets short same is
+    ∙ ap (λ n. joined (take n lists)) (let e : suc k ≡ k + 1 = omega arith in e)
 
-pub part-ordered : (lists : List (List (List ℕ))) (k : ℕ) (cuts sets : List (List ℕ)) → k < length lists → cuts ≡ joined (take k lists) → sets ≡ at_size lists k → IsInCutOrder (joined lists) → IsInCutOrder (cuts ++ sets)
+pub part-ordered : (lists : List (List (List ℕ))) (k : ℕ) (cuts sets : List (List ℕ)) → k < length lists
+    → cuts ≡ joined (take k lists) → sets ≡ at_size lists k → IsInCutOrder (joined lists) → IsInCutOrder (cuts ++ sets)
 part-ordered lists k cuts sets short same is ordered =
     subst IsInCutOrder (sym (with_next lists k cuts sets short same is))
-    (sorted-front cut_cmp (joined (take (suc k) lists)) (joined (drop (suc k) lists)) (subst IsInCutOrder (joined-front lists (suc k)) ordered))
+    (sorted-front cut_cmp (joined (take (suc k) lists)) (joined (drop (suc k) lists))
+    (subst IsInCutOrder (joined-front lists (suc k)) ordered))
 
-pub part-weight : (lists : List (List (List ℕ))) (k : ℕ) (cuts sets : List (List ℕ)) → k < length lists → cuts ≡ joined (take k lists) → sets ≡ at_size lists k → weight (cuts ++ sets) ≤ weight (joined lists)
+pub part-weight : (lists : List (List (List ℕ))) (k : ℕ) (cuts sets : List (List ℕ)) → k < length lists
+    → cuts ≡ joined (take k lists) → sets ≡ at_size lists k → weight (cuts ++ sets) ≤ weight (joined lists)
 part-weight lists k cuts sets short same is =
     let a = ap weight (with_next lists k cuts sets short same is) in
     let b = ap weight (joined-front lists (suc k)) in
@@ -276,25 +365,33 @@ part-weight lists k cuts sets short same is =
 
 -- ---- sets put one after the other
 
-next_front : (before sets : List (List ℕ)) (i : ℕ) (set : List ℕ) → i < length sets → set ≡ slice_index_or sets i [] → before ++ sets ≡ ((before ++ take i sets) ++ set ∷ []) ++ drop (i + 1) sets
+next_front : (before sets : List (List ℕ)) (i : ℕ) (set : List ℕ) → i < length sets → set ≡ slice_index_or sets i []
+    → before ++ sets ≡ ((before ++ take i sets) ++ set ∷ []) ++ drop (i + 1) sets
 next_front before sets i set short same =
-    ap (λ q. before ++ q) (sym (take-append-drop (i + 1) sets) ∙ ap (λ q. q ++ drop (i + 1) sets) (take_more sets i [] short ∙ ap (λ s. take i sets ++ s ∷ []) (sym same)))
+    ap (λ q. before ++ q) (sym (take-append-drop (i + 1) sets)
+    ∙ ap (λ q. q ++ drop (i + 1) sets) (take_more sets i [] short ∙ ap (λ s. take i sets ++ s ∷ []) (sym same)))
     ∙ sym (append_assoc before (take i sets ++ set ∷ []) (drop (i + 1) sets))
     ∙ ap (λ q. q ++ drop (i + 1) sets) (sym (append_assoc before (take i sets) (set ∷ [])))
 
-pub next-ordered : (before sets cuts : List (List ℕ)) (i : ℕ) (set : List ℕ) → i < length sets → set ≡ slice_index_or sets i [] → cuts ≡ before ++ take i sets → IsInCutOrder (before ++ sets) → IsInCutOrder (cuts ++ set ∷ [])
+pub next-ordered : (before sets cuts : List (List ℕ)) (i : ℕ) (set : List ℕ) → i < length sets
+    → set ≡ slice_index_or sets i [] → cuts ≡ before ++ take i sets → IsInCutOrder (before ++ sets)
+    → IsInCutOrder (cuts ++ set ∷ [])
 next-ordered before sets cuts i set short same is ordered =
     subst (λ q. IsInCutOrder (q ++ set ∷ [])) (sym is)
-    (sorted-front cut_cmp ((before ++ take i sets) ++ set ∷ []) (drop (i + 1) sets) (subst IsInCutOrder (next_front before sets i set short same) ordered))
+    (sorted-front cut_cmp ((before ++ take i sets) ++ set ∷ []) (drop (i + 1) sets)
+    (subst IsInCutOrder (next_front before sets i set short same) ordered))
 
-pub next-weight : (before sets cuts : List (List ℕ)) (i : ℕ) (set : List ℕ) → i < length sets → set ≡ slice_index_or sets i [] → cuts ≡ before ++ take i sets → weight (cuts ++ set ∷ []) ≤ weight (before ++ sets)
+pub next-weight : (before sets cuts : List (List ℕ)) (i : ℕ) (set : List ℕ) → i < length sets
+    → set ≡ slice_index_or sets i [] → cuts ≡ before ++ take i sets
+    → weight (cuts ++ set ∷ []) ≤ weight (before ++ sets)
 next-weight before sets cuts i set short same is =
     let a = ap weight (ap (λ q. q ++ set ∷ []) is) in
     let b = ap weight (next_front before sets i set short same) in
     let d = weight-append ((before ++ take i sets) ++ set ∷ []) (drop (i + 1) sets) in
     omega (arith, a, b, d)
 
-pub set-at : (P : List ℕ → Type 0) (sets : List (List ℕ)) (i : ℕ) → i < length sets → AllByRecursion P sets → P (slice_index_or sets i [])
+pub set-at : (P : List ℕ → Type 0) (sets : List (List ℕ)) (i : ℕ) → i < length sets → AllByRecursion P sets
+    → P (slice_index_or sets i [])
 set-at P [] i short all = absurd (omega arith)
 set-at P (set ∷ sets) zero short all = all.0
 set-at P (set ∷ sets) (suc i) short all = set-at P sets i (omega (arith, short)) all.1

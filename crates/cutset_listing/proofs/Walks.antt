@@ -1,5 +1,6 @@
 -- What the steps of a walk leave to be found.
-use Rattle.std.proofs.Common.{◌≡◌, ◌≢◌, ℕ, ◌+◌, ◌*◌, ◌<◌, ◌≤◌, Bool, List, [], ◌∷◌, ◌++◌, length, take, refl, sym, ◌∙◌, ap, inl, inr, arith, append_assoc, length-append}
+use Rattle.std.proofs.Common.{◌≡◌, ◌≢◌, ℕ, ◌+◌, ◌*◌, ◌<◌, ◌≤◌, Bool, List, [], ◌∷◌, ◌++◌, length, take, refl, sym, ◌∙◌}
+use Rattle.std.proofs.Common.{ap, inl, inr, arith, append_assoc, length-append}
 use Rattle.std.specs.Prelude.{◌==◌, Err, IsErrOf}
 use Rattle.std.specs.List.{AllByRecursion}
 use Rattle.std.proofs.lemmas.Bool.{cases_Bool, cond-true, cond-false, ne_eqb, eqb-true}
@@ -21,49 +22,65 @@ pub behind-append : (front : List ℕ) (f g : List (List ℕ)) → behind front 
 behind-append front f g = map-append (λ set. front ++ set) f g
 
 -- a unit more in front, and the sets without it
-pub behind-each_with : (front : List ℕ) (x : ℕ) (f : List (List ℕ)) → behind front (each_with x f) ≡ behind (front ++ x ∷ []) f
+pub behind-each_with : (front : List ℕ) (x : ℕ) (f : List (List ℕ))
+    → behind front (each_with x f) ≡ behind (front ++ x ∷ []) f
 behind-each_with front x [] = refl
 behind-each_with front x (set ∷ f) =
-    ap (λ s. s ∷ behind front (each_with x f)) (sym (append_assoc front (x ∷ []) set)) ∙ ap (λ sets. ((front ++ x ∷ []) ++ set) ∷ sets) (behind-each_with front x f)
+    ap (λ s. s ∷ behind front (each_with x f)) (sym (append_assoc front (x ∷ []) set))
+    ∙ ap (λ sets. ((front ++ x ∷ []) ++ set) ∷ sets) (behind-each_with front x f)
 
 pub behind-nothing : (f : List (List ℕ)) → behind [] f ≡ f
 behind-nothing [] = refl
 behind-nothing (set ∷ f) = ap (λ sets. set ∷ sets) (behind-nothing f)
 
 -- sets behind units and one unit more are longer than these units
-none_so_short : (front : List ℕ) (x size : ℕ) (f : List (List ℕ)) → length front ≡ size → of_size size (behind (front ++ x ∷ []) f) ≡ []
+none_so_short : (front : List ℕ) (x size : ℕ) (f : List (List ℕ)) → length front ≡ size
+    → of_size size (behind (front ++ x ∷ []) f) ≡ []
 none_so_short front x size [] same = refl
 none_so_short front x size (set ∷ f) same =
-    let long : length ((front ++ x ∷ []) ++ set) ≡ (length front + 1) + length set = length-append (front ++ x ∷ []) set ∙ ap (λ n. n + length set) (length-append front (x ∷ [])) in
-    cond-false (length ((front ++ x ∷ []) ++ set) == size) _ (of_size size (behind (front ++ x ∷ []) f)) (ne_eqb (length ((front ++ x ∷ []) ++ set)) size (λ e. omega (arith, e, long, same)))
+    let long : length ((front ++ x ∷ []) ++ set) ≡ (length front + 1) + length set =
+    length-append (front ++ x ∷ []) set ∙ ap (λ n. n + length set) (length-append front (x ∷ [])) in
+    cond-false (length ((front ++ x ∷ []) ++ set) == size) _ (of_size size (behind (front ++ x ∷ []) f))
+    (ne_eqb (length ((front ++ x ∷ []) ++ set)) size (λ e. omega (arith, e, long, same)))
     ∙ none_so_short front x size f same
 
 -- the sets of one size of a branch: those of hi with the unit, and then those of lo
 pub of_size-branch : (size : ℕ) (front : List ℕ) (x : ℕ) (lo hi : List (List ℕ)) →
-    of_size size (behind front (branch x lo hi)) ≡ of_size size (behind (front ++ x ∷ []) hi) ++ of_size size (behind front lo)
-of_size-branch size front x [] hi = ap (of_size size) (behind-each_with front x hi) ∙ sym (append-nil (of_size size (behind (front ++ x ∷ []) hi)))
+    of_size size (behind front (branch x lo hi)) ≡ of_size size (behind (front ++ x ∷ []) hi)
+    ++ of_size size (behind front lo)
+of_size-branch size front x [] hi =
+    ap (of_size size) (behind-each_with front x hi) ∙ sym (append-nil (of_size size (behind (front ++ x ∷ []) hi)))
 of_size-branch size front x ([] ∷ others) hi =
     let A : List (List ℕ) = behind (front ++ x ∷ []) hi in
     let B : List (List ℕ) = behind front others in
-    let all : behind front (each_with x hi ++ others) ≡ A ++ B = behind-append front (each_with x hi) others ∙ ap (λ q. q ++ B) (behind-each_with front x hi) in
+    let all : behind front (each_with x hi ++ others) ≡ A ++ B =
+    behind-append front (each_with x hi) others ∙ ap (λ q. q ++ B) (behind-each_with front x hi) in
     elim (cases_Bool (length (front ++ []) == size)) [
       | inl so_long ↦
-          let same : length front ≡ size = ap length (sym (append-nil front)) ∙ eqb-true (length (front ++ [])) size so_long in
+          let same : length front ≡ size =
+          ap length (sym (append-nil front)) ∙ eqb-true (length (front ++ [])) size so_long in
           let none : of_size size A ≡ [] = none_so_short front x size hi same in
-          cond-true (length (front ++ []) == size) ((front ++ []) ∷ of_size size (behind front (each_with x hi ++ others))) (of_size size (behind front (each_with x hi ++ others))) so_long
-          ∙ ap (λ q. (front ++ []) ∷ q) (ap (of_size size) all ∙ filter-append (λ (set : List ℕ). length set == size) A B ∙ ap (λ q. q ++ of_size size B) none)
+          cond-true (length (front ++ []) == size) ((front ++ [])
+          ∷ of_size size (behind front (each_with x hi ++ others)))
+          (of_size size (behind front (each_with x hi ++ others))) so_long
+          ∙ ap (λ q. (front ++ []) ∷ q) (ap (of_size size) all
+          ∙ filter-append (λ (set : List ℕ). length set == size) A B ∙ ap (λ q. q ++ of_size size B) none)
           ∙ sym (cond-true (length (front ++ []) == size) ((front ++ []) ∷ of_size size B) (of_size size B) so_long)
           ∙ ap (λ q. q ++ of_size size ((front ++ []) ∷ B)) (sym none)
       | inr other ↦
-          cond-false (length (front ++ []) == size) ((front ++ []) ∷ of_size size (behind front (each_with x hi ++ others))) (of_size size (behind front (each_with x hi ++ others))) other
+          cond-false (length (front ++ []) == size) ((front ++ [])
+          ∷ of_size size (behind front (each_with x hi ++ others)))
+          (of_size size (behind front (each_with x hi ++ others))) other
           ∙ ap (of_size size) all
           ∙ filter-append (λ (set : List ℕ). length set == size) A B
-          ∙ ap (λ q. of_size size A ++ q) (sym (cond-false (length (front ++ []) == size) ((front ++ []) ∷ of_size size B) (of_size size B) other))
+          ∙ ap (λ q. of_size size A ++ q) (sym (cond-false (length (front ++ []) == size)
+          ((front ++ []) ∷ of_size size B) (of_size size B) other))
     ]
 of_size-branch size front x ((unit ∷ set) ∷ others) hi =
     let A : List (List ℕ) = behind (front ++ x ∷ []) hi in
     let B : List (List ℕ) = behind front ((unit ∷ set) ∷ others) in
-    ap (of_size size) (behind-append front (each_with x hi) ((unit ∷ set) ∷ others) ∙ ap (λ q. q ++ B) (behind-each_with front x hi))
+    ap (of_size size) (behind-append front (each_with x hi) ((unit ∷ set) ∷ others)
+    ∙ ap (λ q. q ++ B) (behind-each_with front x hi))
     ∙ filter-append (λ (s : List ℕ). length s == size) A B
 
 -- ---- weights
@@ -76,19 +93,24 @@ weight-cons set f = sum_by-cons (λ (s : List ℕ). 1 + length s) set f
 
 pub weight-branch : (front : List ℕ) (x : ℕ) (lo hi : List (List ℕ)) →
     weight (behind front (branch x lo hi)) ≡ weight (behind (front ++ x ∷ []) hi) + weight (behind front lo)
-weight-branch front x [] hi = let e = ap weight (behind-each_with front x hi) in let n : weight (behind front []) ≡ 0 = refl in omega (arith, e, n)
+weight-branch front x [] hi =
+    let e = ap weight (behind-each_with front x hi) in let n : weight (behind front []) ≡ 0 = refl in
+    omega (arith, e, n)
 weight-branch front x ([] ∷ others) hi =
     let A : List (List ℕ) = behind (front ++ x ∷ []) hi in
     let B : List (List ℕ) = behind front others in
-    let all : behind front (each_with x hi ++ others) ≡ A ++ B = behind-append front (each_with x hi) others ∙ ap (λ q. q ++ B) (behind-each_with front x hi) in
+    let all : behind front (each_with x hi ++ others) ≡ A ++ B =
+    behind-append front (each_with x hi) others ∙ ap (λ q. q ++ B) (behind-each_with front x hi) in
     let e = weight-cons (front ++ []) (behind front (each_with x hi ++ others)) in
     let e' = weight-cons (front ++ []) B in
-    let s : weight (behind front (each_with x hi ++ others)) ≡ weight A + weight B = ap weight all ∙ weight-append A B in
+    let s : weight (behind front (each_with x hi ++ others)) ≡ weight A + weight B =
+    ap weight all ∙ weight-append A B in
     omega (arith, e, e', s)
 weight-branch front x ((unit ∷ set) ∷ others) hi =
     let A : List (List ℕ) = behind (front ++ x ∷ []) hi in
     let B : List (List ℕ) = behind front ((unit ∷ set) ∷ others) in
-    ap weight (behind-append front (each_with x hi) ((unit ∷ set) ∷ others) ∙ ap (λ q. q ++ B) (behind-each_with front x hi))
+    ap weight (behind-append front (each_with x hi) ((unit ∷ set) ∷ others)
+    ∙ ap (λ q. q ++ B) (behind-each_with front x hi))
     ∙ weight-append A B
 
 -- with one unit more each set weighs one more
@@ -105,30 +127,36 @@ weight-each_with x (set ∷ other ∷ f) filled =
 -- both parts of a branch together weigh less than the branch
 pub parts_weigh_less : (x : ℕ) (lo hi : List (List ℕ)) → hi ≢ [] → weight lo + weight hi < weight (branch x lo hi)
 parts_weigh_less x lo hi filled =
-    let whole : weight (branch x lo hi) ≡ weight (behind (x ∷ []) hi) + weight (behind [] lo) = ap weight (sym (behind-nothing (branch x lo hi))) ∙ weight-branch [] x lo hi in
+    let whole : weight (branch x lo hi) ≡ weight (behind (x ∷ []) hi) + weight (behind [] lo) =
+    ap weight (sym (behind-nothing (branch x lo hi))) ∙ weight-branch [] x lo hi in
     let e : weight (behind [] lo) ≡ weight lo = ap weight (behind-nothing lo) in
-    let e' : weight (behind (x ∷ []) hi) ≡ weight (each_with x hi) = ap weight (sym (behind-each_with [] x hi) ∙ behind-nothing (each_with x hi)) in
+    let e' : weight (behind (x ∷ []) hi) ≡ weight (each_with x hi) =
+    ap weight (sym (behind-each_with [] x hi) ∙ behind-nothing (each_with x hi)) in
     let less = weight-each_with x hi filled in
     omega (arith, whole, e, e', less)
 
 -- ---- the pending nodes
 
 pub still-push : (known : ℕ → ℕ) (path : List ℕ) (nodes : List Pending) (last : Pending) →
-    still known path (nodes ++ last ∷ []) ≡ behind (take last.before path) (family known last.node) ++ still known path nodes
+    still known path (nodes ++ last ∷ []) ≡ behind (take last.before path) (family known last.node)
+    ++ still known path nodes
 still-push known path [] last = sym (append-nil (behind (take last.before path) (family known last.node)))
 still-push known path (node ∷ nodes) last =
     ap (λ q. q ++ behind (take node.before path) (family known node.node)) (still-push known path nodes last)
-    ∙ append_assoc (behind (take last.before path) (family known last.node)) (still known path nodes) (behind (take node.before path) (family known node.node))
+    ∙ append_assoc (behind (take last.before path) (family known last.node)) (still known path nodes)
+    (behind (take node.before path) (family known node.node))
 
 -- the path counts up to where the nodes stand
-pub still-path : (known : ℕ → ℕ) (path path' : List ℕ) (nodes : List Pending) → AllByRecursion (λ (node : Pending). take node.before path ≡ take node.before path') nodes →
+pub still-path : (known : ℕ → ℕ) (path path' : List ℕ) (nodes : List Pending)
+    → AllByRecursion (λ (node : Pending). take node.before path ≡ take node.before path') nodes →
     still known path nodes ≡ still known path' nodes
 still-path known path path' [] same = refl
 still-path known path path' (node ∷ nodes) same =
     ap (λ q. q ++ behind (take node.before path) (family known node.node)) (still-path known path path' nodes same.1)
     ∙ ap (λ front. still known path' nodes ++ behind front (family known node.node)) same.0
 
-pub visits-push : (known : ℕ → ℕ) (nodes : List Pending) (last : Pending) → visits_left known (nodes ++ last ∷ []) ≡ visits_left known nodes + (1 + 2 * weight (family known last.node))
+pub visits-push : (known : ℕ → ℕ) (nodes : List Pending) (last : Pending)
+    → visits_left known (nodes ++ last ∷ []) ≡ visits_left known nodes + (1 + 2 * weight (family known last.node))
 visits-push known [] last = omega arith
 visits-push known (node ∷ nodes) last = let e = visits-push known nodes last in omega (arith, e)
 
@@ -140,32 +168,44 @@ pub each-last : {K : Type 0} (P : K → Type 0) (xs : List K) (x : K) → AllByR
 each-last P [] x all = all.0
 each-last P (y ∷ xs) x all = each-last P xs x all.1
 
-each-push : {K : Type 0} (P : K → Type 0) (xs : List K) (x : K) → AllByRecursion P xs → P x → AllByRecursion P (xs ++ x ∷ [])
+each-push : {K : Type 0} (P : K → Type 0) (xs : List K) (x : K) → AllByRecursion P xs → P x
+    → AllByRecursion P (xs ++ x ∷ [])
 each-push P [] x all one = (one, tt)
 each-push P (y ∷ xs) x all one = (all.0, each-push P xs x all.1 one)
 
-each-also : {K : Type 0} (P Q R : K → Type 0) (xs : List K) → ((x : K) → P x → Q x → R x) → AllByRecursion P xs → AllByRecursion Q xs → AllByRecursion R xs
+each-also : {K : Type 0} (P Q R : K → Type 0) (xs : List K) → ((x : K) → P x → Q x → R x) → AllByRecursion P xs
+    → AllByRecursion Q xs → AllByRecursion R xs
 each-also P Q R [] step all also = tt
 each-also P Q R (x ∷ xs) step all also = (step x all.0 also.0, each-also P Q R xs step all.1 also.1)
 
 nested-front : (nodes : List Pending) (last : Pending) → Nested (nodes ++ last ∷ []) → Nested nodes
 nested-front [] last nested = tt
-nested-front (node ∷ nodes) last nested = (each-front (λ (other : Pending). node.before ≤ other.before) nodes (last ∷ []) nested.0, nested-front nodes last nested.1)
+nested-front (node ∷ nodes) last nested = (
+  each-front (λ (other : Pending). node.before ≤ other.before) nodes (last ∷ []) nested.0,
+  nested-front nodes last nested.1,
+)
 
-nested-below : (nodes : List Pending) (last : Pending) → Nested (nodes ++ last ∷ []) → AllByRecursion (λ (node : Pending). node.before ≤ last.before) nodes
+nested-below : (nodes : List Pending) (last : Pending) → Nested (nodes ++ last ∷ [])
+    → AllByRecursion (λ (node : Pending). node.before ≤ last.before) nodes
 nested-below [] last nested = tt
-nested-below (node ∷ nodes) last nested = (each-last (λ (other : Pending). node.before ≤ other.before) nodes last nested.0, nested-below nodes last nested.1)
+nested-below (node ∷ nodes) last nested =
+    (each-last (λ (other : Pending). node.before ≤ other.before) nodes last nested.0, nested-below nodes last nested.1)
 
-nested-push : (nodes : List Pending) (last : Pending) → Nested nodes → AllByRecursion (λ (node : Pending). node.before ≤ last.before) nodes → Nested (nodes ++ last ∷ [])
+nested-push : (nodes : List Pending) (last : Pending) → Nested nodes
+    → AllByRecursion (λ (node : Pending). node.before ≤ last.before) nodes → Nested (nodes ++ last ∷ [])
 nested-push [] last nested below = (tt, tt)
-nested-push (node ∷ nodes) last nested below =
-    (each-push (λ (other : Pending). node.before ≤ other.before) nodes last nested.0 below.0, nested-push nodes last nested.1 below.1)
+nested-push (node ∷ nodes) last nested below = (
+  each-push (λ (other : Pending). node.before ≤ other.before) nodes last nested.0 below.0,
+  nested-push nodes last nested.1 below.1,
+)
 
 -- ---- the steps
 
 -- a walk at the top of a diagram
-pub starts : (known : ℕ → ℕ) (root : ℕ) (path : List ℕ) (nodes : List Pending) (found : List (List (List ℕ))) (weighs : ℕ) → Knows known root →
-    path ≡ [] → nodes ≡ record { node = root; before = 0 } ∷ [] → found ≡ [] → weighs ≡ 0 → IsOn known (family known root) path nodes found weighs
+pub starts : (known : ℕ → ℕ) (root : ℕ) (path : List ℕ) (nodes : List Pending) (found : List (List (List ℕ)))
+    (weighs : ℕ) → Knows known root →
+    path ≡ [] → nodes ≡ record { node = root; before = 0 } ∷ [] → found ≡ [] → weighs ≡ 0
+    → IsOn known (family known root) path nodes found weighs
 starts known root path nodes found weighs knows e f g h =
     rw (e, f, g, h)
     (record {
@@ -176,12 +216,15 @@ starts known root path nodes found weighs knows e f g h =
     })
 
 -- where no node is left, all was found
-pub ends : (known : ℕ → ℕ) (sets : List (List ℕ)) (path : List ℕ) (nodes : List Pending) (found : List (List (List ℕ))) (weighs : ℕ) → IsOn known sets path nodes found weighs →
+pub ends : (known : ℕ → ℕ) (sets : List (List ℕ)) (path : List ℕ) (nodes : List Pending) (found : List (List (List ℕ)))
+    (weighs : ℕ) → IsOn known sets path nodes found weighs →
     nodes ≡ [] → (size : ℕ) → at_size found size ≡ of_size size sets
 ends known sets path nodes found weighs on none size =
-    sym (append-nil (at_size found size)) ∙ ap (λ n. at_size found size ++ of_size size (still known path n)) (sym none) ∙ on.by_size size
+    sym (append-nil (at_size found size)) ∙ ap (λ n. at_size found size ++ of_size size (still known path n)) (sym none)
+    ∙ on.by_size size
 
-module _ (known : ℕ → ℕ) (sets : List (List ℕ)) (path : List ℕ) (later : List Pending) (at : Pending) (found : List (List (List ℕ))) (weighs : ℕ) (on : IsOn known sets path (later ++ at ∷ []) found weighs) where
+module _ (known : ℕ → ℕ) (sets : List (List ℕ)) (path : List ℕ) (later : List Pending) (at : Pending)
+    (found : List (List (List ℕ))) (weighs : ℕ) (on : IsOn known sets path (later ++ at ∷ []) found weighs) where
   below : AllByRecursion (λ (node : Pending). node.before ≤ at.before) later
   below = nested-below later at on.nested
 
@@ -195,13 +238,17 @@ module _ (known : ℕ → ℕ) (sets : List (List ℕ)) (path : List ℕ) (later
   pub truncated : IsOn known sets (take at.before path) (later ++ at ∷ []) found weighs
   truncated =
       let short : length (take at.before path) ≡ at.before = length-take-le at.before path at_pending.1 in
-      let upto : AllByRecursion (λ (node : Pending). node.before ≤ at.before) (later ++ at ∷ []) = each-push (λ (node : Pending). node.before ≤ at.before) later at below (omega arith) in
+      let upto : AllByRecursion (λ (node : Pending). node.before ≤ at.before) (later ++ at ∷ []) =
+      each-push (λ (node : Pending). node.before ≤ at.before) later at below (omega arith) in
       let same : still known (take at.before path) (later ++ at ∷ []) ≡ still known path (later ++ at ∷ []) =
       still-path known (take at.before path) path (later ++ at ∷ [])
-      (each-also (λ (node : Pending). node.before ≤ at.before) (λ (node : Pending). node.before ≤ at.before) (λ (node : Pending). take node.before (take at.before path) ≡ take node.before path) (later ++ at ∷ [])
+      (each-also (λ (node : Pending). node.before ≤ at.before) (λ (node : Pending). node.before ≤ at.before)
+      (λ (node : Pending). take node.before (take at.before path) ≡ take node.before path) (later ++ at ∷ [])
       (λ node h _. take-take node.before at.before path h) upto upto) in
       record {
-        each_pending = each-also (IsPending known path) (λ (node : Pending). node.before ≤ at.before) (IsPending known (take at.before path)) (later ++ at ∷ [])
+        each_pending =
+            each-also (IsPending known path) (λ (node : Pending). node.before ≤ at.before)
+            (IsPending known (take at.before path)) (later ++ at ∷ [])
             (λ node is h. (is.0, omega (arith, short, h))) on.each_pending upto;
         nested = on.nested;
         by_size = λ size. ap (λ q. at_size found size ++ of_size size q) same ∙ on.by_size size;
@@ -212,7 +259,8 @@ module _ (known : ℕ → ℕ) (sets : List (List ℕ)) (path : List ℕ) (later
   pub skips : at.node ≡ 0 → IsOn known sets path later found weighs
   skips none =
       let same : still known path (later ++ at ∷ []) ≡ still known path later =
-      still-push known path later at ∙ ap (λ (q : List (List ℕ)). behind (take at.before path) q ++ still known path later) (ap (family known) none ∙ family-empty known) in
+      still-push known path later at ∙ ap (λ (q : List (List ℕ)). behind (take at.before path) q
+      ++ still known path later) (ap (family known) none ∙ family-empty known) in
       record {
         each_pending = each_later;
         nested = nested-front later at on.nested;
@@ -228,14 +276,18 @@ module _ (known : ℕ → ℕ) (sets : List (List ℕ)) (path : List ℕ) (later
       one_set : still known path (later ++ at ∷ []) ≡ path ∷ still known path later
       one_set =
           still-push known path later at
-          ∙ ap (λ (q : List (List ℕ)). behind (take at.before path) q ++ still known path later) (ap (family known) unit ∙ family-unit known)
+          ∙ ap (λ (q : List (List ℕ)). behind (take at.before path) q ++ still known path later)
+          (ap (family known) unit ∙ family-unit known)
           ∙ ap (λ (q : List ℕ). q ∷ still known path later) (append-nil (take at.before path) ∙ whole)
 
       one_set_weighs : weighs + ((1 + length path) + weight (still known path later)) ≡ weight sets
-      one_set_weighs = ap (λ n. weighs + n) (sym (weight-cons path (still known path later)) ∙ ap weight (sym one_set)) ∙ on.weight
+      one_set_weighs =
+          ap (λ n. weighs + n) (sym (weight-cons path (still known path later)) ∙ ap weight (sym one_set)) ∙ on.weight
 
       -- the family of the empty set gives the units of the path
-      pub keeps : (found' : List (List (List ℕ))) (weighs' : ℕ) → ((size : ℕ) → at_size found' size ≡ at_size found size ++ of_size size (path ∷ [])) → weighs' ≡ weighs + (1 + length path) →
+      pub keeps : (found' : List (List (List ℕ))) (weighs' : ℕ)
+          → ((size : ℕ) → at_size found' size ≡ at_size found size ++ of_size size (path ∷ []))
+          → weighs' ≡ weighs + (1 + length path) →
           IsOn known sets path later found' weighs'
       keeps found' weighs' added more = record {
         each_pending = each_later;
@@ -243,7 +295,8 @@ module _ (known : ℕ → ℕ) (sets : List (List ℕ)) (path : List ℕ) (later
         by_size = λ size.
             ap (λ q. q ++ of_size size (still known path later)) (added size)
             ∙ append_assoc (at_size found size) (of_size size (path ∷ [])) (of_size size (still known path later))
-            ∙ ap (λ q. at_size found size ++ q) (sym (filter-append (λ (set : List ℕ). length set == size) (path ∷ []) (still known path later)))
+            ∙ ap (λ q. at_size found size ++ q) (sym (filter-append (λ (set : List ℕ). length set == size) (path ∷ [])
+            (still known path later)))
             ∙ ap (λ q. at_size found size ++ of_size size q) (sym one_set)
             ∙ on.by_size size;
         weight = let e = one_set_weighs in omega (arith, e, more);
@@ -253,19 +306,24 @@ module _ (known : ℕ → ℕ) (sets : List (List ℕ)) (path : List ℕ) (later
       too_heavy heavy = let e = one_set_weighs in omega (arith, e, heavy)
 
     -- a node gives the sets of hi behind its unit, and those of lo
-    pub opens : (x lo hi : ℕ) → family known at.node ≡ branch x (family known lo) (family known hi) → Knows known lo → Knows known hi →
-        (path' : List ℕ) (nodes' : List Pending) → path' ≡ path ++ x ∷ [] → nodes' ≡ (later ++ record { node = lo; before = at.before } ∷ []) ++ record { node = hi; before = at.before + 1 } ∷ [] →
+    pub opens : (x lo hi : ℕ) → family known at.node ≡ branch x (family known lo) (family known hi) → Knows known lo
+        → Knows known hi →
+        (path' : List ℕ) (nodes' : List Pending) → path' ≡ path ++ x ∷ []
+        → nodes' ≡ (later ++ record { node = lo; before = at.before } ∷ [])
+        ++ record { node = hi; before = at.before + 1 } ∷ [] →
         IsOn known sets path' nodes' found weighs
     opens x lo hi is knows_lo knows_hi path' nodes' e f =
         let lo_at : Pending = record { node = lo; before = at.before } in
         let hi_at : Pending = record { node = hi; before = at.before + 1 } in
         let on_path : List ℕ = path ++ x ∷ [] in
         let long : length on_path ≡ at.before + 1 = length-append path (x ∷ []) ∙ ap (λ n. n + 1) at_end in
-        let front : take at.before on_path ≡ path = take-append-le at.before path (x ∷ []) (omega (arith, at_end)) ∙ whole in
+        let front : take at.before on_path ≡ path =
+        take-append-le at.before path (x ∷ []) (omega (arith, at_end)) ∙ whole in
         let all : take (at.before + 1) on_path ≡ on_path = ap (λ n. take n on_path) (sym long) ∙ take-length on_path in
         let same_later : still known on_path later ≡ still known path later =
         still-path known on_path path later
-        (each-also (λ (node : Pending). node.before ≤ at.before) (λ (node : Pending). node.before ≤ at.before) (λ (node : Pending). take node.before on_path ≡ take node.before path) later
+        (each-also (λ (node : Pending). node.before ≤ at.before) (λ (node : Pending). node.before ≤ at.before)
+        (λ (node : Pending). take node.before on_path ≡ take node.before path) later
         (λ node h _. sym (take-take node.before at.before on_path h) ∙ ap (take node.before) front) below below) in
         let H : List (List ℕ) = behind on_path (family known hi) in
         let L : List (List ℕ) = behind path (family known lo) in
@@ -273,10 +331,14 @@ module _ (known : ℕ → ℕ) (sets : List (List ℕ)) (path : List ℕ) (later
         let now : still known on_path ((later ++ lo_at ∷ []) ++ hi_at ∷ []) ≡ H ++ (L ++ R) =
         still-push known on_path (later ++ lo_at ∷ []) hi_at
         ∙ ap (λ q. behind q (family known hi) ++ still known on_path (later ++ lo_at ∷ [])) all
-        ∙ ap (λ q. H ++ q) (still-push known on_path later lo_at ∙ ap (λ q. behind q (family known lo) ++ still known on_path later) front ∙ ap (λ q. L ++ q) same_later) in
-        let before : still known path (later ++ at ∷ []) ≡ behind path (branch x (family known lo) (family known hi)) ++ R =
-        still-push known path later at ∙ ap (λ q. behind q (family known at.node) ++ R) whole ∙ ap (λ q. behind path q ++ R) is in
-        let in_size : (size : ℕ) → of_size size (H ++ (L ++ R)) ≡ of_size size (still known path (later ++ at ∷ [])) = λ size.
+        ∙ ap (λ q. H ++ q) (still-push known on_path later lo_at
+        ∙ ap (λ q. behind q (family known lo) ++ still known on_path later) front ∙ ap (λ q. L ++ q) same_later) in
+        let before : still known path (later ++ at ∷ [])
+        ≡ behind path (branch x (family known lo) (family known hi)) ++ R =
+        still-push known path later at ∙ ap (λ q. behind q (family known at.node) ++ R) whole
+        ∙ ap (λ q. behind path q ++ R) is in
+        let in_size : (size : ℕ) → of_size size (H ++ (L ++ R)) ≡ of_size size (still known path (later ++ at ∷ [])) =
+        λ size.
         let t : List ℕ → Bool = λ set. length set == size in
         filter-append t H (L ++ R)
         ∙ ap (λ q. of_size size H ++ q) (filter-append t L R)
@@ -296,25 +358,32 @@ module _ (known : ℕ → ℕ) (sets : List (List ℕ)) (path : List ℕ) (later
           each_pending =
               each-push (IsPending known on_path) (later ++ lo_at ∷ []) hi_at
               (each-push (IsPending known on_path) later lo_at
-              (each-also (IsPending known path) (IsPending known path) (IsPending known on_path) later (λ node is _. (is.0, omega (arith, is.1, long, at_end))) each_later each_later)
+              (each-also (IsPending known path) (IsPending known path) (IsPending known on_path) later
+              (λ node is _. (is.0, omega (arith, is.1, long, at_end))) each_later each_later)
               (knows_lo, omega (arith, long)))
               (knows_hi, omega (arith, long));
           nested =
               nested-push (later ++ lo_at ∷ []) hi_at
               (nested-push later lo_at (nested-front later at on.nested) below)
               (each-push (λ (node : Pending). node.before ≤ at.before + 1) later lo_at
-              (each-also (λ (node : Pending). node.before ≤ at.before) (λ (node : Pending). node.before ≤ at.before) (λ (node : Pending). node.before ≤ at.before + 1) later (λ node h _. omega (arith, h)) below below)
+              (each-also (λ (node : Pending). node.before ≤ at.before) (λ (node : Pending). node.before ≤ at.before)
+              (λ (node : Pending). node.before ≤ at.before + 1) later (λ node h _. omega (arith, h)) below below)
               (omega arith));
-          by_size = λ size. ap (λ q. at_size found size ++ of_size size q) now ∙ ap (λ q. at_size found size ++ q) (in_size size) ∙ on.by_size size;
+          by_size =
+              λ size. ap (λ q. at_size found size ++ of_size size q) now
+              ∙ ap (λ q. at_size found size ++ q) (in_size size) ∙ on.by_size size;
           weight = ap (λ q. weighs + weight q) now ∙ ap (λ n. weighs + n) in_weight ∙ on.weight;
         })
 
 -- a visit leaves fewer
-pub fewer_left : (known : ℕ → ℕ) (nodes : List Pending) (last : Pending) → visits_left known nodes < visits_left known (nodes ++ last ∷ [])
+pub fewer_left : (known : ℕ → ℕ) (nodes : List Pending) (last : Pending)
+    → visits_left known nodes < visits_left known (nodes ++ last ∷ [])
 fewer_left known nodes last = let e = visits-push known nodes last in omega (arith, e)
 
-pub parts_left : (known : ℕ → ℕ) (nodes nodes' : List Pending) (last : Pending) (x lo hi n m : ℕ) → family known last.node ≡ branch x (family known lo) (family known hi) → family known hi ≢ [] →
-    nodes' ≡ (nodes ++ record { node = lo; before = n } ∷ []) ++ record { node = hi; before = m } ∷ [] → visits_left known nodes' < visits_left known (nodes ++ last ∷ [])
+pub parts_left : (known : ℕ → ℕ) (nodes nodes' : List Pending) (last : Pending) (x lo hi n m : ℕ)
+    → family known last.node ≡ branch x (family known lo) (family known hi) → family known hi ≢ [] →
+    nodes' ≡ (nodes ++ record { node = lo; before = n } ∷ []) ++ record { node = hi; before = m } ∷ []
+    → visits_left known nodes' < visits_left known (nodes ++ last ∷ [])
 parts_left known nodes nodes' last x lo hi n m is filled same =
     let lo_at : Pending = record { node = lo; before = n } in
     let hi_at : Pending = record { node = hi; before = m } in
@@ -327,15 +396,19 @@ parts_left known nodes nodes' last x lo hi n m is filled same =
     omega (arith, a, b, c, d, e, less)
 
 -- the empty set alone: the units of the path are a set
-pub keeps_on : (known : ℕ → ℕ) (sets : List (List ℕ)) (old new : Walk) (at : Pending) → Keeps old new → length old.path.items ≡ at.before → at.node ≡ 1 →
+pub keeps_on : (known : ℕ → ℕ) (sets : List (List ℕ)) (old new : Walk) (at : Pending) → Keeps old new
+    → length old.path.items ≡ at.before → at.node ≡ 1 →
     Stands known sets old (old.pending.items ++ at ∷ []) → Stands known sets new new.pending.items
 keeps_on known sets old new at kept at_end unit on =
-    rw (kept.path, kept.pending) (keeps known sets old.path.items old.pending.items at old.found old.weight on at_end unit new.found new.weight kept.found kept.weight)
+    rw (kept.path, kept.pending) (keeps known sets old.path.items old.pending.items at old.found old.weight on at_end
+    unit new.found new.weight kept.found kept.weight)
 
-pub keeps_fewer : (known : ℕ → ℕ) (old new : Walk) (at : Pending) → Keeps old new → visits_left known new.pending.items < visits_left known (old.pending.items ++ at ∷ [])
+pub keeps_fewer : (known : ℕ → ℕ) (old new : Walk) (at : Pending) → Keeps old new
+    → visits_left known new.pending.items < visits_left known (old.pending.items ++ at ∷ [])
 keeps_fewer known old new at kept = rw kept.pending (fewer_left known old.pending.items at)
 
-pub pushed_twice : (nodes middle new : List Pending) (first second : Pending) → middle ≡ nodes ++ first ∷ [] → new ≡ middle ++ second ∷ [] → new ≡ (nodes ++ first ∷ []) ++ second ∷ []
+pub pushed_twice : (nodes middle new : List Pending) (first second : Pending) → middle ≡ nodes ++ first ∷ []
+    → new ≡ middle ++ second ∷ [] → new ≡ (nodes ++ first ∷ []) ++ second ∷ []
 pushed_twice nodes middle new first second e f = f ∙ ap (λ q. q ++ second ∷ []) e
 
 -- a refusal that is handed on

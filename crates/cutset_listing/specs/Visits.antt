@@ -26,7 +26,8 @@ Nested [] = Unit {0}
 Nested (node ∷ later) = AllByRecursion (λ (other : Pending). node.before ≤ other.before) later × Nested later
 
 -- what was found, and what is found at these nodes, are the sets of a family, in each size in their order
-pub record IsOn (known : ℕ → ℕ) (sets : List (List ℕ)) (path : List ℕ) (nodes : List Pending) (found : List (List (List ℕ))) (weighs : ℕ) : Type 0 where
+pub record IsOn (known : ℕ → ℕ) (sets : List (List ℕ)) (path : List ℕ) (nodes : List Pending)
+    (found : List (List (List ℕ))) (weighs : ℕ) : Type 0 where
   pub each_pending : AllByRecursion (IsPending known path) nodes
   pub nested : Nested nodes
   pub by_size : (size : ℕ) → at_size found size ++ of_size size (still known path nodes) ≡ of_size size sets

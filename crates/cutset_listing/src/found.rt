@@ -36,7 +36,8 @@ impl Found {
 
     /// Puts a set behind those of its size.
     pub(crate) fn add(&mut self, alloc: Global, set: &[UnitNo]) -> Result<(), NoMemory>
-        ensures { OnOk result ((size : ℕ) → at_size self.new size ≡ at_size self.old size ++ of_size size (set.now ∷ [])) }
+        ensures { OnOk result ((size : ℕ) → at_size self.new size
+            ≡ at_size self.old size ++ of_size size (set.now ∷ [])) }
     {
         let size = set.len();
         self.make_room(alloc, size)?;

@@ -12,7 +12,8 @@ use unit_sets::NoMemory;
 use zdd_shared_table::{NodeStore, StoreSeat};
 use zdd_words::NodeRef;
 
-// The nodes that a search has met, each once, in the order in which it met them. A contract sees them as their references.
+// The nodes that a search has met, each once, in the order in which it met them. A contract sees them as their
+// references.
 #[derive(Drop)]
 struct Met {
     nodes: IndexSet<NodeRef>,
@@ -60,8 +61,8 @@ impl Met {
     }
 }
 
-/// The number of distinct families, other than the one without sets and that of the empty set alone, that are got from a
-/// reference's family, itself included, by splitting at the least unit again and again.
+/// The number of distinct families, other than the one without sets and that of the empty set alone, that are got from
+/// a reference's family, itself included, by splitting at the least unit again and again.
 pub fn node_count(
     alloc: Global,
     store: &NodeStore,

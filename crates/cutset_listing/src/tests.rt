@@ -1,3 +1,4 @@
+//! Lists of the sets of some diagrams.
 ghost use Rattle.std.specs.Prelude.{◌≡◌, ◌≢◌, ◌+◌, ◌*◌, ◌<◌, ◌≤◌, ℕ, IfOk, OnOk};
 ghost use Rattle.unit_sets.specs.Unit.{IsUnit};
 ghost use Rattle.zdd_families.specs.Map.{family};
@@ -33,7 +34,8 @@ fn put(
     ensures keeps { OnOk result (Keeps (map_of seat.old) (map_of seat.new)) }
     ensures made { IfOk result (λ r. (below : ℕ) → below < level → IsMade (map_of seat.new) below r) }
     ensures filled { IfOk result (λ r. r ≢ 0) }
-    ensures lacks { IfOk result (λ r. LacksEmptySet (family (map_of seat.old) lo) → LacksEmptySet (family (map_of seat.new) r)) }
+    ensures lacks { IfOk result (λ r. LacksEmptySet (family (map_of seat.old) lo)
+        → LacksEmptySet (family (map_of seat.new) r)) }
 {
     seat.is_sound();
     let r = store.node(seat, unit(level)?, lo, hi)?;

@@ -1,5 +1,6 @@
 //! The walk that finds the sets of a family: hi before lo, so that sets of one size come in lexicographic order.
-ghost use Rattle.std.specs.Prelude.{◌≡◌, ◌+◌, ◌<◌, ◌≤◌, ℕ, List, ◌∷◌, [], ◌++◌, true, false, length, IfOk, OnOk, IsErrOf};
+ghost use Rattle.std.specs.Prelude.{◌≡◌, ◌+◌, ◌<◌, ◌≤◌, ℕ, List, ◌∷◌, [], ◌++◌, true, false, length, IfOk, OnOk};
+ghost use Rattle.std.specs.Prelude.{IsErrOf};
 ghost use Rattle.std.specs.List.{AllByRecursion};
 ghost use Rattle.unit_sets.specs.CutOrder.{weight, weight_limit};
 ghost use Rattle.zdd_families.specs.Map.{Knows, family};
@@ -23,8 +24,8 @@ pub(crate) struct Pending {
     before: usize,
 }
 
-// Where a walk stands: the units on the way to the last node, the nodes that are still to be visited, and what was found, with
-// its weight.
+// Where a walk stands: the units on the way to the last node, the nodes that are still to be visited, and what was
+// found, with its weight.
 #[derive(Drop)]
 pub(crate) struct Walk {
     path: Vec<UnitNo>,
@@ -42,7 +43,8 @@ pub(crate) fn find(
 ) -> Result<Found, ListEnd>
     requires own { seat.old.store ≡ store.now }
     requires knows { Knows (map_of seat.old) root }
-    ensures sets { IfOk result (λ found. (size : ℕ) → at_size found size ≡ of_size size (family (map_of seat.old) root)) }
+    ensures sets { IfOk result (λ found. (size : ℕ)
+        → at_size found size ≡ of_size size (family (map_of seat.old) root)) }
     ensures within { OnOk result (weight (family (map_of seat.old) root) ≤ weight_limit) }
     ensures limit { IsErrOf result ListEnd.ListLimit → weight_limit < weight (family (map_of seat.old) root) }
     ensures seat { seat.new ≡ seat.old }
@@ -86,11 +88,15 @@ impl Walk {
         requires own { seat.old.store ≡ store.now }
         requires light { self.old.weight ≤ weight_limit }
         requires pending { AllByRecursion (IsPending (map_of seat.old) self.old.path.items) self.old.pending.items }
-        ensures on { OnOk result (WalksOn (map_of seat.old) self.old self.old.pending.items self.new self.new.pending.items) }
+        ensures on { OnOk result (WalksOn (map_of seat.old) self.old self.old.pending.items self.new
+            self.new.pending.items) }
         ensures light { OnOk result (self.new.weight ≤ weight_limit) }
-        ensures fewer { IfOk result (λ visited. visited ≡ true → visits_left (map_of seat.old) self.new.pending.items < visits_left (map_of seat.old) self.old.pending.items) }
+        ensures fewer { IfOk result (λ visited. visited ≡ true
+            → visits_left (map_of seat.old) self.new.pending.items
+            < visits_left (map_of seat.old) self.old.pending.items) }
         ensures done { IfOk result (λ visited. visited ≡ false → self.new.pending.items ≡ []) }
-        ensures limit { IsErrOf result ListEnd.ListLimit → IsTooHeavy (map_of seat.old) self.old self.old.pending.items }
+        ensures limit { IsErrOf result ListEnd.ListLimit
+            → IsTooHeavy (map_of seat.old) self.old self.old.pending.items }
         ensures seat { seat.new ≡ seat.old }
     {
         match self.pending.pop() {
@@ -117,10 +123,13 @@ impl Walk {
         requires knows { Knows (map_of seat.old) at.node }
         requires light { self.old.weight ≤ weight_limit }
         requires at_end { length self.old.path.items ≡ at.before }
-        ensures on { OnOk result (WalksOn (map_of seat.old) self.old (self.old.pending.items ++ at ∷ []) self.new self.new.pending.items) }
+        ensures on { OnOk result (WalksOn (map_of seat.old) self.old (self.old.pending.items ++ at ∷ []) self.new
+            self.new.pending.items) }
         ensures light { OnOk result (self.new.weight ≤ weight_limit) }
-        ensures fewer { OnOk result (visits_left (map_of seat.old) self.new.pending.items < visits_left (map_of seat.old) (self.old.pending.items ++ at ∷ [])) }
-        ensures limit { IsErrOf result ListEnd.ListLimit → IsTooHeavy (map_of seat.old) self.old (self.old.pending.items ++ at ∷ []) }
+        ensures fewer { OnOk result (visits_left (map_of seat.old) self.new.pending.items
+            < visits_left (map_of seat.old) (self.old.pending.items ++ at ∷ [])) }
+        ensures limit { IsErrOf result ListEnd.ListLimit
+            → IsTooHeavy (map_of seat.old) self.old (self.old.pending.items ++ at ∷ []) }
         ensures seat { seat.new ≡ seat.old }
     {
         if at.node == NodeRef::EMPTY {
@@ -147,7 +156,8 @@ impl Walk {
         requires light { self.old.weight ≤ weight_limit }
         ensures kept { OnOk result (Keeps self.old self.new) }
         ensures light { OnOk result (self.new.weight ≤ weight_limit) }
-        ensures limit { IsErrOf result ListEnd.ListLimit → weight_limit < self.old.weight + (1 + length self.old.path.items) }
+        ensures limit { IsErrOf result ListEnd.ListLimit
+            → weight_limit < self.old.weight + (1 + length self.old.path.items) }
     {
         let weight = self.weight + 1 + self.path.len() as u64;
         if weight > CutList::WEIGHT_LIMIT {

@@ -1,9 +1,11 @@
 -- How counts grow, one node's list after another.
-use Rattle.std.specs.Prelude.{◌≡◌, ◌≢◌, ℕ, zero, suc, ◌+◌, ◌-◌, ◌<◌, ◌≤◌, Bool, true, false, ◌&&◌, ◌||◌, nat_le, if◌then◌else◌, List, [], ◌∷◌, ◌++◌, length, take, All, max, replicate, get_or, ◌⊎◌}
+use Rattle.std.specs.Prelude.{◌≡◌, ◌≢◌, ℕ, zero, suc, ◌+◌, ◌-◌, ◌<◌, ◌≤◌, Bool, true, false, ◌&&◌, ◌||◌, nat_le}
+use Rattle.std.specs.Prelude.{if◌then◌else◌, List, [], ◌∷◌, ◌++◌, length, take, All, max, replicate, get_or, ◌⊎◌}
 use Rattle.std.proofs.Common.{refl, sym, ◌∙◌, ap, subst, inl, inr, arith, set}
 use Rattle.std.proofs.lemmas.Bool.{cases_lt, cases_eq, lt-leb, le-leb}
 use Rattle.std.proofs.lemmas.Bool.Decides.{nat_tests}
-use Rattle.std.proofs.lemmas.List.{take_more, take_all, get_or-set_other, get_or-set_same, length-replicate, length-set, get_or_default}
+use Rattle.std.proofs.lemmas.List.{take_more, take_all, get_or-set_other, get_or-set_same, length-replicate, length-set}
+use Rattle.std.proofs.lemmas.List.{get_or_default}
 use Rattle.std.proofs.lemmas.List.Elements.{All-nil, All-cons, All-get_or, All-replicate, All-set}
 use Rattle.fault_model.specs.Reading.{true_count}
 use Rattle.cutset_lists.specs.Sets.{hits, IsSetOf, AreSetsOf, AddsBoth, AddsSetsOf, IsReducedFrom}
@@ -22,17 +24,21 @@ none_reached : (most at : ℕ) (within : ℕ → Bool) → hits (count_at (count
 none_reached most zero within = refl
 none_reached most (suc at) within = ap (λ s. hits s within) (none_at most at) ∙ sym (lt-leb (suc at) 0 (omega arith))
 
-pub IsCounting-none : (lists : List (List (List ℕ))) (nodes : List ℕ) (most lowest : ℕ) (counts : List (List (List ℕ))) → counts ≡ counts_of_none most → IsCounting lists (take 0 nodes) most lowest counts
+pub IsCounting-none : (lists : List (List (List ℕ))) (nodes : List ℕ) (most lowest : ℕ) (counts : List (List (List ℕ)))
+    → counts ≡ counts_of_none most → IsCounting lists (take 0 nodes) most lowest counts
 IsCounting-none lists nodes most lowest counts is =
     subst (IsCounting lists (take 0 nodes) most lowest) (sym is) (record {
       all = let e = length-replicate most (let none : List (List ℕ) = [] in none) in omega arith;
       reached = λ at _ _ within. none_reached most at within;
-      sets = λ passes _. All-cons (AreSetsOf passes) ([] ∷ []) (replicate most []) (empty_set_of passes) (All-replicate (AreSetsOf passes) most [] (All-nil (IsSetOf passes)));
+      sets =
+          λ passes _. All-cons (AreSetsOf passes) ([] ∷ []) (replicate most []) (empty_set_of passes)
+          (All-replicate (AreSetsOf passes) most [] (All-nil (IsSetOf passes)));
     })
 
 -- ---- one list more
 
-CountsList-none : (list : List (List ℕ)) (at : ℕ) (counts : List (List (List ℕ))) → length counts ≤ at → CountsList list at counts counts
+CountsList-none : (list : List (List ℕ)) (at : ℕ) (counts : List (List (List ℕ))) → length counts ≤ at
+    → CountsList list at counts counts
 CountsList-none list at counts high = record {
   all = refl;
   lower = λ _ _. refl;
@@ -40,22 +46,29 @@ CountsList-none list at counts high = record {
   sets = λ _ _ old. old;
 }
 
-pub CountsList-begin : (list : List (List ℕ)) (counts : List (List (List ℕ))) (at : ℕ) → at ≡ length counts → CountsList list at counts counts
+pub CountsList-begin : (list : List (List ℕ)) (counts : List (List (List ℕ))) (at : ℕ) → at ≡ length counts
+    → CountsList list at counts counts
 CountsList-begin list counts at is = CountsList-none list at counts (omega arith)
 
-module _ (list : List (List ℕ)) (old now new : List (List (List ℕ))) (at : ℕ) (above_none : 1 ≤ at) (short : at < length old) (before : CountsList list (at + 1) old now) (more : CountsMore list at now new) where
+module _ (list : List (List ℕ)) (old now new : List (List (List ℕ))) (at : ℕ) (above_none : 1 ≤ at)
+    (short : at < length old) (before : CountsList list (at + 1) old now) (more : CountsMore list at now new) where
   at_place : count_at new at ≡ more.grown
-  at_place = ap (λ counts. count_at counts at) more.is ∙ get_or-set_same now at more.grown [] (let e = before.all in omega arith)
+  at_place =
+      ap (λ counts. count_at counts at) more.is ∙ get_or-set_same now at more.grown []
+      (let e = before.all in omega arith)
 
   elsewhere : (q : ℕ) → q ≢ at → count_at new q ≡ count_at now q
   elsewhere q other = ap (λ counts. count_at counts q) more.is ∙ get_or-set_other now at q more.grown [] other
 
-  reached_here : (within : ℕ → Bool) → hits (count_at new at) within ≡ (hits (count_at old at) within || (hits (count_at old (at - 1)) within && hits list within))
+  reached_here : (within : ℕ → Bool) → hits (count_at new at) within
+      ≡ (hits (count_at old at) within || (hits (count_at old (at - 1)) within && hits list within))
   reached_here within =
       ap (λ s. hits s within) at_place
       ∙ more.reached within
-      ∙ ap (λ s. hits s within || (hits (count_at now (at - 1)) within && hits list within)) (before.lower at (omega arith))
-      ∙ ap (λ s. hits (count_at old at) within || (hits s within && hits list within)) (before.lower (at - 1) (omega arith))
+      ∙ ap (λ s. hits s within || (hits (count_at now (at - 1)) within && hits list within))
+      (before.lower at (omega arith))
+      ∙ ap (λ s. hits (count_at old at) within || (hits s within && hits list within))
+      (before.lower (at - 1) (omega arith))
 
   pub CountsList-more : CountsList list at old new
   CountsList-more = record {
@@ -63,30 +76,43 @@ module _ (list : List (List ℕ)) (old now new : List (List (List ℕ))) (at : �
     lower = λ q low. elsewhere q (λ same. omega arith) ∙ before.lower q (omega arith);
     reached = λ q above within_old within.
         elim (cases_eq q at) [
-          | inl same ↦ subst (λ (n : ℕ). hits (count_at new n) within ≡ (hits (count_at old n) within || (hits (count_at old (n - 1)) within && hits list within))) (sym same) (reached_here within)
+          | inl same ↦ subst (λ (n : ℕ). hits (count_at new n) within
+              ≡ (hits (count_at old n) within || (hits (count_at old (n - 1)) within && hits list within))) (sym same)
+              (reached_here within)
           | inr other ↦ ap (λ s. hits s within) (elsewhere q other) ∙ before.reached q (omega arith) within_old within
         ];
-    sets = λ passes of each. subst (All (AreSetsOf passes)) (sym more.is) (All-set (AreSetsOf passes) now at more.grown (more.sets passes of (before.sets passes of each)) (before.sets passes of each));
+    sets =
+        λ passes of each. subst (All (AreSetsOf passes)) (sym more.is)
+        (All-set (AreSetsOf passes) now at more.grown (more.sets passes of (before.sets passes of each))
+        (before.sets passes of each));
   }
 
 -- ---- one node more
 
-true_count-push : (reading : ℕ → Bool) (nodes : List ℕ) (node : ℕ) → true_count reading (nodes ++ node ∷ []) ≡ true_count reading nodes + (if reading node then 1 else 0)
+true_count-push : (reading : ℕ → Bool) (nodes : List ℕ) (node : ℕ)
+    → true_count reading (nodes ++ node ∷ []) ≡ true_count reading nodes + (if reading node then 1 else 0)
 true_count-push reading [] node = omega arith
 true_count-push reading (first ∷ nodes) node = let ih = true_count-push reading nodes node in omega arith
 
-count_step : (at count : ℕ) (reads : Bool) → 1 ≤ at → (nat_le at count || (nat_le (at - 1) count && reads)) ≡ nat_le at (count + (if reads then 1 else 0))
+count_step : (at count : ℕ) (reads : Bool) → 1 ≤ at
+    → (nat_le at count || (nat_le (at - 1) count && reads)) ≡ nat_le at (count + (if reads then 1 else 0))
 count_step at count true some = grind (arith, nat_tests)
 count_step at count false some = grind (arith, nat_tests)
 
-module _ (lists : List (List (List ℕ))) (nodes : List ℕ) (i node : ℕ) (short : i < length nodes) (is : node ≡ get_or nodes i 0) where
-  counted : (within : ℕ → Bool) → true_count (reading_of lists within) (take (i + 1) nodes) ≡ true_count (reading_of lists within) (take i nodes) + (if reading_of lists within node then 1 else 0)
+module _ (lists : List (List (List ℕ))) (nodes : List ℕ) (i node : ℕ) (short : i < length nodes)
+    (is : node ≡ get_or nodes i 0) where
+  counted : (within : ℕ → Bool) → true_count (reading_of lists within) (take (i + 1) nodes)
+      ≡ true_count (reading_of lists within) (take i nodes) + (if reading_of lists within node then 1 else 0)
   counted within =
       ap (true_count (reading_of lists within)) (take_more nodes i 0 short)
       ∙ true_count-push (reading_of lists within) (take i nodes) (get_or nodes i 0)
-      ∙ ap (λ n. true_count (reading_of lists within) (take i nodes) + (if reading_of lists within n then 1 else 0)) (sym is)
+      ∙ ap (λ n. true_count (reading_of lists within) (take i nodes) + (if reading_of lists within n then 1 else 0))
+      (sym is)
 
-  pub IsCounting-more : (most floor lowest floor' : ℕ) (counts new : List (List (List ℕ))) (list : List (List ℕ)) → list ≡ list_at lists node → HasList lists node → 1 ≤ lowest → floor + 1 ≤ lowest → (lowest ≤ floor') ⊎ (lowest ≡ 1) → lowest ≤ most → IsCounting lists (take i nodes) most floor counts → CountsList list lowest counts new → IsCounting lists (take (i + 1) nodes) most floor' new
+  pub IsCounting-more : (most floor lowest floor' : ℕ) (counts new : List (List (List ℕ))) (list : List (List ℕ))
+      → list ≡ list_at lists node → HasList lists node → 1 ≤ lowest → floor + 1 ≤ lowest
+      → (lowest ≤ floor') ⊎ (lowest ≡ 1) → lowest ≤ most → IsCounting lists (take i nodes) most floor counts
+      → CountsList list lowest counts new → IsCounting lists (take (i + 1) nodes) most floor' new
   IsCounting-more most floor lowest floor' counts new list at has some low high within_most counting grows = record {
     all = grows.all ∙ counting.all;
     reached = λ q above below within.
@@ -95,36 +121,57 @@ module _ (lists : List (List (List ℕ))) (nodes : List ℕ) (i node : ℕ) (sho
             | inl wrong ↦ absurd (omega arith)
             | inr one ↦
                 let none : q ≡ 0 = omega arith in
-                subst (λ (n : ℕ). hits (count_at new n) within ≡ nat_le n (true_count (reading_of lists within) (take (i + 1) nodes))) (sym none)
-                (ap (λ s. hits s within) (grows.lower 0 (omega arith)) ∙ counting.reached 0 (omega arith) (omega arith) within ∙ le-leb 0 _ (omega arith) ∙ sym (le-leb 0 _ (omega arith)))
+                subst (λ (n : ℕ). hits (count_at new n) within
+                ≡ nat_le n (true_count (reading_of lists within) (take (i + 1) nodes))) (sym none)
+                (ap (λ s. hits s within) (grows.lower 0 (omega arith))
+                ∙ counting.reached 0 (omega arith) (omega arith) within ∙ le-leb 0 _ (omega arith)
+                ∙ sym (le-leb 0 _ (omega arith)))
           ]
           | inr over ↦
               let e = counting.all in
               grows.reached q over (omega arith) within
-              ∙ ap (λ b. b || (hits (count_at counts (q - 1)) within && hits list within)) (counting.reached q (omega arith) below within)
-              ∙ ap (λ b. nat_le q (true_count (reading_of lists within) (take i nodes)) || (b && hits list within)) (counting.reached (q - 1) (omega arith) (omega arith) within)
-              ∙ ap (λ s. nat_le q (true_count (reading_of lists within) (take i nodes)) || (nat_le (q - 1) (true_count (reading_of lists within) (take i nodes)) && hits s within)) at
-              ∙ count_step q (true_count (reading_of lists within) (take i nodes)) (reading_of lists within node) (omega arith)
+              ∙ ap (λ b. b || (hits (count_at counts (q - 1)) within && hits list within))
+              (counting.reached q (omega arith) below within)
+              ∙ ap (λ b. nat_le q (true_count (reading_of lists within) (take i nodes)) || (b && hits list within))
+              (counting.reached (q - 1) (omega arith) (omega arith) within)
+              ∙ ap (λ s. nat_le q (true_count (reading_of lists within) (take i nodes))
+              || (nat_le (q - 1) (true_count (reading_of lists within) (take i nodes)) && hits s within)) at
+              ∙ count_step q (true_count (reading_of lists within) (take i nodes)) (reading_of lists within node)
+              (omega arith)
               ∙ ap (nat_le q) (sym (counted within))
         ];
-    sets = λ passes each. grows.sets passes (subst (AreSetsOf passes) (sym at) (All-get_or (AreSetsOf passes) lists (node - 1) [] (let p = has.0 in let q = has.1 in omega arith) each)) (counting.sets passes each);
+    sets =
+        λ passes each. grows.sets passes (subst (AreSetsOf passes) (sym at)
+        (All-get_or (AreSetsOf passes) lists (node - 1) [] (let p = has.0 in let q = has.1 in omega arith) each))
+        (counting.sets passes each);
   }
 
 -- counts up to none stay
-pub IsCounting-stays : (lists : List (List (List ℕ))) (before after : List ℕ) (floor floor' : ℕ) (counts : List (List (List ℕ))) → IsCounting lists before 0 floor counts → floor ≡ 0 → IsCounting lists after 0 floor' counts
+pub IsCounting-stays : (lists : List (List (List ℕ))) (before after : List ℕ) (floor floor' : ℕ)
+    (counts : List (List (List ℕ))) → IsCounting lists before 0 floor counts → floor ≡ 0
+    → IsCounting lists after 0 floor' counts
 IsCounting-stays lists before after floor floor' counts counting low = record {
   all = counting.all;
   reached = λ q above below within.
       let none : q ≡ 0 = omega arith in
-      subst (λ (n : ℕ). hits (count_at counts n) within ≡ nat_le n (true_count (reading_of lists within) after)) (sym none)
-      (counting.reached 0 (omega arith) (omega arith) within ∙ le-leb 0 _ (omega arith) ∙ sym (le-leb 0 _ (omega arith)));
+      subst (λ (n : ℕ). hits (count_at counts n) within ≡ nat_le n (true_count (reading_of lists within) after))
+      (sym none)
+      (counting.reached 0 (omega arith) (omega arith) within ∙ le-leb 0 _ (omega arith)
+      ∙ sym (le-leb 0 _ (omega arith)));
   sets = counting.sets;
 }
 
-pub IsCounting-end : (lists : List (List (List ℕ))) (nodes : List ℕ) (most i floor : ℕ) (counts : List (List (List ℕ))) (made : List (List ℕ)) → length nodes ≤ i → floor ≤ most → made ≡ count_at counts most → IsCounting lists (take i nodes) most floor counts → Follows lists (at_least_rule most nodes) made
+pub IsCounting-end : (lists : List (List (List ℕ))) (nodes : List ℕ) (most i floor : ℕ) (counts : List (List (List ℕ)))
+    (made : List (List ℕ)) → length nodes ≤ i → floor ≤ most → made ≡ count_at counts most
+    → IsCounting lists (take i nodes) most floor counts → Follows lists (at_least_rule most nodes) made
 IsCounting-end lists nodes most i floor counts made long low made_is counting = record {
-  hits = λ within. ap (λ s. hits s within) made_is ∙ counting.reached most low (omega arith) within ∙ ap (λ ns. nat_le most (true_count (reading_of lists within) ns)) (take_all i nodes long);
-  sets = λ passes each. subst (AreSetsOf passes) (sym made_is) (All-get_or (AreSetsOf passes) counts most [] (let e = counting.all in omega arith) (counting.sets passes each));
+  hits =
+      λ within. ap (λ s. hits s within) made_is ∙ counting.reached most low (omega arith) within
+      ∙ ap (λ ns. nat_le most (true_count (reading_of lists within) ns)) (take_all i nodes long);
+  sets =
+      λ passes each. subst (AreSetsOf passes) (sym made_is)
+      (All-get_or (AreSetsOf passes) counts most [] (let e = counting.all in omega arith)
+      (counting.sets passes each));
 }
 
 -- ---- values as the code has them
@@ -134,8 +181,13 @@ set_twice [] i a b = refl
 set_twice (x ∷ xs) zero a b = refl
 set_twice (x ∷ xs) (suc i) a b = ap (λ ys. x ∷ ys) (set_twice xs i a b)
 
-pub CountsMore-from : (list : List (List ℕ)) (old : List (List (List ℕ))) (at : ℕ) (empty read taken below summed grown : List (List ℕ)) → 1 ≤ at → at < length old → taken ≡ read → read ≡ get_or old at read → below ≡ get_or (set old at empty) (at - 1) below → AddsBoth below list taken summed → AddsSetsOf below list taken summed → IsReducedFrom summed grown → CountsMore list at old (set (set old at empty) at grown)
-CountsMore-from list old at empty read taken below summed grown some short taken_read read_is below_is adds adds_sets less =
+pub CountsMore-from : (list : List (List ℕ)) (old : List (List (List ℕ))) (at : ℕ)
+    (empty read taken below summed grown : List (List ℕ)) → 1 ≤ at → at < length old → taken ≡ read
+    → read ≡ get_or old at read → below ≡ get_or (set old at empty) (at - 1) below → AddsBoth below list taken summed
+    → AddsSetsOf below list taken summed → IsReducedFrom summed grown
+    → CountsMore list at old (set (set old at empty) at grown)
+CountsMore-from list old at empty read taken below summed grown some short taken_read read_is below_is adds adds_sets
+    less =
     let taken_is : taken ≡ count_at old at = taken_read ∙ read_is ∙ get_or_default old at read [] short in
     let below_at : below ≡ count_at old (at - 1) =
     below_is
@@ -155,16 +207,25 @@ CountsMore-from list old at empty read taken below summed grown some short taken
           (subst (AreSetsOf passes) (sym taken_is) (All-get_or (AreSetsOf passes) old at [] short each)));
     }
 
-pub CountsList-step : (list : List (List ℕ)) (old now new : List (List (List ℕ))) (above at : ℕ) → 1 ≤ at → above ≡ at + 1 → above ≤ length old → CountsList list above old now → CountsMore list at now new → CountsList list at old new
+pub CountsList-step : (list : List (List ℕ)) (old now new : List (List (List ℕ))) (above at : ℕ) → 1 ≤ at
+    → above ≡ at + 1 → above ≤ length old → CountsList list above old now → CountsMore list at now new
+    → CountsList list at old new
 CountsList-step list old now new above at some is short before more =
     CountsList-more list old now new at some (omega arith) (subst (λ (n : ℕ). CountsList list n old now) is before) more
 
-module _ (lists : List (List (List ℕ))) (nodes : List ℕ) (most i left lowest node place : ℕ) (list : List (List ℕ)) (counts new : List (List (List ℕ))) (short : i < length nodes) (left_is : left ≡ length nodes - i - 1) (lowest_is : lowest ≡ max (most - left) 1) (all : All (HasList lists) nodes) (before : IsCounting lists (take i nodes) most (most - (length nodes - i)) counts) where
-  pub counts-step : node ≡ get_or nodes i node → place ≡ node - 1 → list ≡ get_or lists place list → lowest ≤ most → CountsList list lowest counts new → IsCounting lists (take (i + 1) nodes) most (most - (length nodes - (i + 1))) new
+module _ (lists : List (List (List ℕ))) (nodes : List ℕ) (most i left lowest node place : ℕ) (list : List (List ℕ))
+    (counts new : List (List (List ℕ))) (short : i < length nodes) (left_is : left ≡ length nodes - i - 1)
+    (lowest_is : lowest ≡ max (most - left) 1) (all : All (HasList lists) nodes)
+    (before : IsCounting lists (take i nodes) most (most - (length nodes - i)) counts) where
+  pub counts-step : node ≡ get_or nodes i node → place ≡ node - 1 → list ≡ get_or lists place list → lowest ≤ most
+      → CountsList list lowest counts new → IsCounting lists (take (i + 1) nodes) most (most - (length nodes - (i + 1)))
+      new
   counts-step is place_is read high counted =
       let has : HasList lists node = has_list lists nodes i node short is all in
-      IsCounting-more lists nodes i node short (node_read nodes i node short is) most (most - (length nodes - i)) lowest (most - (length nodes - (i + 1))) counts new list
-      (list_read lists list node place has place_is read) has (omega arith) (omega arith) (low_cases) high before counted
+      IsCounting-more lists nodes i node short (node_read nodes i node short is) most (most - (length nodes - i)) lowest
+      (most - (length nodes - (i + 1))) counts new list
+      (list_read lists list node place has place_is read) has (omega arith) (omega arith) (low_cases) high before
+      counted
     where
       low_cases : (lowest ≤ most - (length nodes - (i + 1))) ⊎ (lowest ≡ 1)
       low_cases = elim (cases_lt 1 (most - left)) [ inl more ↦ inl (omega arith) | inr one ↦ inr (omega arith) ]
@@ -172,6 +233,8 @@ module _ (lists : List (List (List ℕ))) (nodes : List ℕ) (most i left lowest
   pub counts-stay : most < lowest → IsCounting lists (take (i + 1) nodes) most (most - (length nodes - (i + 1))) counts
   counts-stay over =
       let none : most ≡ 0 = omega arith in
-      let zero_before : IsCounting lists (take i nodes) 0 (0 - (length nodes - i)) counts = subst (λ (n : ℕ). IsCounting lists (take i nodes) n (n - (length nodes - i)) counts) none before in
+      let zero_before : IsCounting lists (take i nodes) 0 (0 - (length nodes - i)) counts =
+      subst (λ (n : ℕ). IsCounting lists (take i nodes) n (n - (length nodes - i)) counts) none before in
       subst (λ (n : ℕ). IsCounting lists (take (i + 1) nodes) n (n - (length nodes - (i + 1))) counts) (sym none)
-      (IsCounting-stays lists (take i nodes) (take (i + 1) nodes) (0 - (length nodes - i)) (0 - (length nodes - (i + 1))) counts zero_before (omega arith))
+      (IsCounting-stays lists (take i nodes) (take (i + 1) nodes) (0 - (length nodes - i))
+      (0 - (length nodes - (i + 1))) counts zero_before (omega arith))

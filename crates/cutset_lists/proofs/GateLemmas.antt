@@ -1,5 +1,6 @@
 -- The lists of gates and units, one node after another.
-use Rattle.std.specs.Prelude.{◌≡◌, ℕ, ◌+◌, ◌-◌, ◌<◌, ◌≤◌, Bool, true, false, ◌&&◌, ◌||◌, List, [], ◌∷◌, ◌++◌, length, take, All, Contains, get_or}
+use Rattle.std.specs.Prelude.{◌≡◌, ℕ, ◌+◌, ◌-◌, ◌<◌, ◌≤◌, Bool, true, false, ◌&&◌, ◌||◌, List, [], ◌∷◌, ◌++◌, length}
+use Rattle.std.specs.Prelude.{take, All, Contains, get_or}
 use Rattle.std.specs.List.{list_any, list_all}
 use Rattle.std.specs.List.Sorted.{IsStrictlySortedBy}
 use Rattle.std.proofs.Common.{refl, sym, ◌∙◌, ap, subst, arith}
@@ -21,7 +22,9 @@ IsReducedFrom-itself sets = record { hits = λ _. refl; sets = λ _ s. s }
 pub IsReducedFrom-minimal : (sets minimal : List (List ℕ)) → IsMinimalFrom sets minimal → IsReducedFrom sets minimal
 IsReducedFrom-minimal sets minimal is = record {
   hits = is.hits;
-  sets = λ passes of. All-weaker (λ s. Contains sets s) (IsSetOf passes) (λ s here. All-contains (IsSetOf passes) sets s of here) minimal is.members;
+  sets =
+      λ passes of. All-weaker (λ s. Contains sets s) (IsSetOf passes)
+      (λ s here. All-contains (IsSetOf passes) sets s of here) minimal is.members;
 }
 
 -- ---- some of the nodes
@@ -34,41 +37,50 @@ or_of_three : (a b c : Bool) → ((a || b) || c) ≡ (a || (b || c))
 or_of_three true b c = refl
 or_of_three false b c = refl
 
-any-more : (reading : ℕ → Bool) (nodes : List ℕ) (i node : ℕ) → i < length nodes → node ≡ get_or nodes i 0 → list_any reading (take (i + 1) nodes) ≡ (list_any reading (take i nodes) || reading node)
+any-more : (reading : ℕ → Bool) (nodes : List ℕ) (i node : ℕ) → i < length nodes → node ≡ get_or nodes i 0
+    → list_any reading (take (i + 1) nodes) ≡ (list_any reading (take i nodes) || reading node)
 any-more reading nodes i node short is =
     ap (list_any reading) (take_more nodes i 0 short)
     ∙ list_any-append reading (take i nodes) (get_or nodes i 0 ∷ [])
     ∙ ap (λ b. list_any reading (take i nodes) || b) (or-false (reading (get_or nodes i 0)))
     ∙ ap (λ n. list_any reading (take i nodes) || reading n) (sym is)
 
-all-more : (reading : ℕ → Bool) (nodes : List ℕ) (i node : ℕ) → i < length nodes → node ≡ get_or nodes i 0 → list_all reading (take (i + 1) nodes) ≡ (list_all reading (take i nodes) && reading node)
+all-more : (reading : ℕ → Bool) (nodes : List ℕ) (i node : ℕ) → i < length nodes → node ≡ get_or nodes i 0
+    → list_all reading (take (i + 1) nodes) ≡ (list_all reading (take i nodes) && reading node)
 all-more reading nodes i node short is =
     ap (list_all reading) (take_more nodes i 0 short)
     ∙ list_all-append reading (take i nodes) (get_or nodes i 0 ∷ [])
     ∙ ap (λ b. list_all reading (take i nodes) && b) (and-true (reading (get_or nodes i 0)))
     ∙ ap (λ n. list_all reading (take i nodes) && reading n) (sym is)
 
-pub AddsSome-none : (lists : List (List (List ℕ))) (nodes : List ℕ) (sets : List (List ℕ)) → AddsSome lists (take 0 nodes) sets sets
+pub AddsSome-none : (lists : List (List (List ℕ))) (nodes : List ℕ) (sets : List (List ℕ))
+    → AddsSome lists (take 0 nodes) sets sets
 AddsSome-none lists nodes sets = record { hits = λ within. sym (or-false (hits sets within)); sets = λ _ _ old. old }
 
-module _ (lists : List (List (List ℕ))) (nodes : List ℕ) (i node : ℕ) (short : i < length nodes) (is : node ≡ get_or nodes i 0) (has : HasList lists node) where
+module _ (lists : List (List (List ℕ))) (nodes : List ℕ) (i node : ℕ) (short : i < length nodes)
+    (is : node ≡ get_or nodes i 0) (has : HasList lists node) where
   sets_at : (passes : ℕ → Bool) → All (AreSetsOf passes) lists → AreSetsOf passes (list_at lists node)
-  sets_at passes each = All-get_or (AreSetsOf passes) lists (node - 1) [] (let p = has.0 in let q = has.1 in omega arith) each
+  sets_at passes each =
+      All-get_or (AreSetsOf passes) lists (node - 1) [] (let p = has.0 in let q = has.1 in omega arith) each
 
-  pub AddsSome-more : (old sets new list : List (List ℕ)) → list ≡ list_at lists node → new ≡ sets ++ list → AddsSome lists (take i nodes) old sets → AddsSome lists (take (i + 1) nodes) old new
+  pub AddsSome-more : (old sets new list : List (List ℕ)) → list ≡ list_at lists node → new ≡ sets ++ list
+      → AddsSome lists (take i nodes) old sets → AddsSome lists (take (i + 1) nodes) old new
   AddsSome-more old sets new list at new_is adds = record {
     hits = λ within.
         ap (λ s. hits s within) (new_is ∙ ap (λ l. sets ++ l) at)
         ∙ hits-append sets (list_at lists node) within
         ∙ ap (λ b. b || reading_of lists within node) (adds.hits within)
-        ∙ or_of_three (hits old within) (list_any (reading_of lists within) (take i nodes)) (reading_of lists within node)
+        ∙ or_of_three (hits old within) (list_any (reading_of lists within) (take i nodes))
+        (reading_of lists within node)
         ∙ ap (λ b. hits old within || b) (sym (any-more (reading_of lists within) nodes i node short is));
     sets = λ passes each before.
         subst (AreSetsOf passes) (sym (new_is ∙ ap (λ l. sets ++ l) at))
         (All-append (IsSetOf passes) sets (list_at lists node) (adds.sets passes each before) (sets_at passes each));
   }
 
-  pub each-more : (sets both new list : List (List ℕ)) → list ≡ list_at lists node → HitsBoth sets list both → AreSetsAs sets list both → IsReducedFrom both new → Follows lists (each_rule (take i nodes)) sets → Follows lists (each_rule (take (i + 1) nodes)) new
+  pub each-more : (sets both new list : List (List ℕ)) → list ≡ list_at lists node → HitsBoth sets list both
+      → AreSetsAs sets list both → IsReducedFrom both new → Follows lists (each_rule (take i nodes)) sets
+      → Follows lists (each_rule (take (i + 1) nodes)) new
   each-more sets both new list at hits_both as_both less follows = record {
     hits = λ within.
         less.hits within
@@ -76,12 +88,16 @@ module _ (lists : List (List (List ℕ))) (nodes : List ℕ) (i node : ℕ) (sho
         ∙ ap (λ l. hits sets within && hits l within) at
         ∙ ap (λ b. b && reading_of lists within node) (follows.hits within)
         ∙ sym (all-more (reading_of lists within) nodes i node short is);
-    sets = λ passes each. less.sets passes (as_both.sets passes (follows.sets passes each) (subst (AreSetsOf passes) (sym at) (sets_at passes each)));
+    sets =
+        λ passes each. less.sets passes (as_both.sets passes (follows.sets passes each)
+        (subst (AreSetsOf passes) (sym at) (sets_at passes each)));
   }
 
-pub AddsSome-reduced : (lists : List (List (List ℕ))) (nodes : List ℕ) (old sets new : List (List ℕ)) (i : ℕ) → length nodes ≤ i → IsReducedFrom sets new → AddsSome lists (take i nodes) old sets → AddsSome lists nodes old new
+pub AddsSome-reduced : (lists : List (List (List ℕ))) (nodes : List ℕ) (old sets new : List (List ℕ)) (i : ℕ)
+    → length nodes ≤ i → IsReducedFrom sets new → AddsSome lists (take i nodes) old sets → AddsSome lists nodes old new
 AddsSome-reduced lists nodes old sets new i long less adds =
-    let adds_all : AddsSome lists nodes old sets = subst (λ ns. AddsSome lists ns old sets) (take_all i nodes long) adds in
+    let adds_all : AddsSome lists nodes old sets =
+    subst (λ ns. AddsSome lists ns old sets) (take_all i nodes long) adds in
     record {
       hits = λ within. less.hits within ∙ adds_all.hits within;
       sets = λ passes each before. less.sets passes (adds_all.sets passes each before);
@@ -94,23 +110,28 @@ unfolding IsStrictlySortedBy
 none_rising = tt
 
 pub empty_set_of : (passes : ℕ → Bool) → AreSetsOf passes ([] ∷ [])
-empty_set_of passes = All-cons (IsSetOf passes) [] [] (record { rising = none_rising; pass = refl }) (All-nil (IsSetOf passes))
+empty_set_of passes =
+    All-cons (IsSetOf passes) [] [] (record { rising = none_rising; pass = refl }) (All-nil (IsSetOf passes))
 
-pub each-none : (lists : List (List (List ℕ))) (nodes : List ℕ) (sets : List (List ℕ)) → sets ≡ [] ∷ [] → Follows lists (each_rule (take 0 nodes)) sets
+pub each-none : (lists : List (List (List ℕ))) (nodes : List ℕ) (sets : List (List ℕ)) → sets ≡ [] ∷ []
+    → Follows lists (each_rule (take 0 nodes)) sets
 each-none lists nodes sets is = record {
   hits = λ within. ap (λ s. hits s within) is;
   sets = λ passes _. subst (AreSetsOf passes) (sym is) (empty_set_of passes);
 }
 
-pub each-all : (lists : List (List (List ℕ))) (nodes : List ℕ) (sets : List (List ℕ)) (i : ℕ) → length nodes ≤ i → Follows lists (each_rule (take i nodes)) sets → Follows lists (each_rule nodes) sets
-each-all lists nodes sets i long follows = subst (λ ns. Follows lists (each_rule ns) sets) (take_all i nodes long) follows
+pub each-all : (lists : List (List (List ℕ))) (nodes : List ℕ) (sets : List (List ℕ)) (i : ℕ) → length nodes ≤ i
+    → Follows lists (each_rule (take i nodes)) sets → Follows lists (each_rule nodes) sets
+each-all lists nodes sets i long follows =
+    subst (λ ns. Follows lists (each_rule ns) sets) (take_all i nodes long) follows
 
 -- ---- gates
 
 none_of : (passes : ℕ → Bool) (sets : List (List ℕ)) → sets ≡ [] → AreSetsOf passes sets
 none_of passes sets none = subst (AreSetsOf passes) (sym none) (All-nil (IsSetOf passes))
 
-pub or_list : (lists : List (List (List ℕ))) (inputs : List ℕ) (old new : List (List ℕ)) → old ≡ [] → AddsSome lists inputs old new → Follows lists (gate_rule Or inputs) new
+pub or_list : (lists : List (List (List ℕ))) (inputs : List ℕ) (old new : List (List ℕ)) → old ≡ []
+    → AddsSome lists inputs old new → Follows lists (gate_rule Or inputs) new
 or_list lists inputs old new none adds = record {
   hits = λ within. adds.hits within ∙ ap (λ s. hits s within || list_any (reading_of lists within) inputs) none;
   sets = λ passes each. adds.sets passes each (none_of passes old none);
@@ -120,7 +141,8 @@ any_of_first : (reading : ℕ → Bool) (inputs : List ℕ) → list_any reading
 any_of_first reading [] = refl
 any_of_first reading (input ∷ inputs) = or-false (reading input)
 
-pub por_list : (lists : List (List (List ℕ))) (inputs first : List ℕ) (old new : List (List ℕ)) → old ≡ [] → first ≡ take 1 inputs → AddsSome lists first old new → Follows lists (gate_rule Por inputs) new
+pub por_list : (lists : List (List (List ℕ))) (inputs first : List ℕ) (old new : List (List ℕ)) → old ≡ []
+    → first ≡ take 1 inputs → AddsSome lists first old new → Follows lists (gate_rule Por inputs) new
 por_list lists inputs first old new none is adds = record {
   hits = λ within.
       adds.hits within
@@ -135,19 +157,32 @@ por_list lists inputs first old new none is adds = record {
 pub node_read : (nodes : List ℕ) (i node : ℕ) → i < length nodes → node ≡ get_or nodes i node → node ≡ get_or nodes i 0
 node_read nodes i node short is = is ∙ get_or_default nodes i node 0 short
 
-pub has_list : (lists : List (List (List ℕ))) (nodes : List ℕ) (i node : ℕ) → i < length nodes → node ≡ get_or nodes i node → All (HasList lists) nodes → HasList lists node
-has_list lists nodes i node short is all = subst (HasList lists) (sym is) (All-get_or (HasList lists) nodes i node short all)
+pub has_list : (lists : List (List (List ℕ))) (nodes : List ℕ) (i node : ℕ) → i < length nodes
+    → node ≡ get_or nodes i node → All (HasList lists) nodes → HasList lists node
+has_list lists nodes i node short is all =
+    subst (HasList lists) (sym is) (All-get_or (HasList lists) nodes i node short all)
 
-pub list_read : (lists : List (List (List ℕ))) (list : List (List ℕ)) (node place : ℕ) → HasList lists node → place ≡ node - 1 → list ≡ get_or lists place list → list ≡ list_at lists node
+pub list_read : (lists : List (List (List ℕ))) (list : List (List ℕ)) (node place : ℕ) → HasList lists node
+    → place ≡ node - 1 → list ≡ get_or lists place list → list ≡ list_at lists node
 list_read lists list node place has is read =
-    read ∙ get_or_default lists place list [] (let p = has.0 in let q = has.1 in omega arith) ∙ ap (λ n. get_or lists n []) is
+    read ∙ get_or_default lists place list [] (let p = has.0 in let q = has.1 in omega arith)
+    ∙ ap (λ n. get_or lists n []) is
 
-module _ (lists : List (List (List ℕ))) (nodes : List ℕ) (i node place : ℕ) (list : List (List ℕ)) (short : i < length nodes) (is : node ≡ get_or nodes i node) (all : All (HasList lists) nodes) (place_is : place ≡ node - 1) (read : list ≡ get_or lists place list) where
+module _ (lists : List (List (List ℕ))) (nodes : List ℕ) (i node place : ℕ) (list : List (List ℕ))
+    (short : i < length nodes) (is : node ≡ get_or nodes i node) (all : All (HasList lists) nodes)
+    (place_is : place ≡ node - 1) (read : list ≡ get_or lists place list) where
   has : HasList lists node
   has = has_list lists nodes i node short is all
 
-  pub AddsSome-step : (old sets new : List (List ℕ)) → new ≡ sets ++ list → AddsSome lists (take i nodes) old sets → AddsSome lists (take (i + 1) nodes) old new
-  AddsSome-step old sets new new_is adds = AddsSome-more lists nodes i node short (node_read nodes i node short is) has old sets new list (list_read lists list node place has place_is read) new_is adds
+  pub AddsSome-step : (old sets new : List (List ℕ)) → new ≡ sets ++ list → AddsSome lists (take i nodes) old sets
+      → AddsSome lists (take (i + 1) nodes) old new
+  AddsSome-step old sets new new_is adds =
+      AddsSome-more lists nodes i node short (node_read nodes i node short is) has old sets new list
+      (list_read lists list node place has place_is read) new_is adds
 
-  pub each-step : (sets both new : List (List ℕ)) → HitsBoth sets list both → AreSetsAs sets list both → IsReducedFrom both new → Follows lists (each_rule (take i nodes)) sets → Follows lists (each_rule (take (i + 1) nodes)) new
-  each-step sets both new hits_both as_both less follows = each-more lists nodes i node short (node_read nodes i node short is) has sets both new list (list_read lists list node place has place_is read) hits_both as_both less follows
+  pub each-step : (sets both new : List (List ℕ)) → HitsBoth sets list both → AreSetsAs sets list both
+      → IsReducedFrom both new → Follows lists (each_rule (take i nodes)) sets
+      → Follows lists (each_rule (take (i + 1) nodes)) new
+  each-step sets both new hits_both as_both less follows =
+      each-more lists nodes i node short (node_read nodes i node short is) has sets both new list
+      (list_read lists list node place has place_is read) hits_both as_both less follows

@@ -1,5 +1,6 @@
 -- How two rising rows are merged into one.
-use Rattle.std.specs.Prelude.{◌≡◌, ◌⊎◌, ℕ, ◌+◌, ◌<◌, ◌≤◌, Bool, true, false, ◌&&◌, List, [], ◌∷◌, ◌++◌, length, drop, get_or}
+use Rattle.std.specs.Prelude.{◌≡◌, ◌⊎◌, ℕ, ◌+◌, ◌<◌, ◌≤◌, Bool, true, false, ◌&&◌, List, [], ◌∷◌, ◌++◌, length, drop}
+use Rattle.std.specs.Prelude.{get_or}
 use Rattle.std.specs.List.{list_all, AllByRecursion}
 use Rattle.std.specs.List.Sorted.{IsStrictlySortedBy}
 use Rattle.std.specs.Ordering.{nat_cmp}
@@ -15,7 +16,9 @@ use Rattle.cutset_lists.specs.Sets.{IsUnion}
 
 -- what was merged so far, before the rests of both rows
 pub record IsMerging (left right : List ℕ) (i j : ℕ) (out : List ℕ) : Type 0 where
-  pub within : (within : ℕ → Bool) → (list_all within out && (list_all within (drop i left) && list_all within (drop j right))) ≡ (list_all within left && list_all within right)
+  pub within : (within : ℕ → Bool) → (list_all within out
+      && (list_all within (drop i left) && list_all within (drop j right)))
+      ≡ (list_all within left && list_all within right)
   pub left_rises : IsRising left → IsRising right → IsRising (out ++ drop i left)
   pub right_rises : IsRising left → IsRising right → IsRising (out ++ drop j right)
 
@@ -26,17 +29,20 @@ IsMerging-begin left right = record { within = λ _. refl; left_rises = λ l _. 
 at_place : (row : List ℕ) (i : ℕ) → i < length row → drop i row ≡ get_or row i 0 ∷ drop (i + 1) row
 at_place row i short = drop-cons row i 0 short ∙ ap (λ n. get_or row i 0 ∷ drop n row) (sym (add-one i))
 
-all_below : (x y : ℕ) (ys : List ℕ) → nat_cmp x y ≡ Less → AllByRecursion (λ z. nat_cmp y z ≡ Less) ys → AllByRecursion (λ z. nat_cmp x z ≡ Less) ys
+all_below : (x y : ℕ) (ys : List ℕ) → nat_cmp x y ≡ Less → AllByRecursion (λ z. nat_cmp y z ≡ Less) ys
+    → AllByRecursion (λ z. nat_cmp x z ≡ Less) ys
 all_below x y [] less all = tt
 all_below x y (z ∷ zs) less all = (nat_cmp_total.trans x y z less all.0, all_below x y zs less all.1)
 
 -- what holds of each of two lists that begin alike
-all_both : (P : ℕ → Type 0) (out xs ys : List ℕ) (x : ℕ) → AllByRecursion P (out ++ x ∷ xs) → AllByRecursion P (out ++ ys) → AllByRecursion P ((out ++ x ∷ []) ++ ys)
+all_both : (P : ℕ → Type 0) (out xs ys : List ℕ) (x : ℕ) → AllByRecursion P (out ++ x ∷ xs)
+    → AllByRecursion P (out ++ ys) → AllByRecursion P ((out ++ x ∷ []) ++ ys)
 all_both P [] xs ys x l r = (l.0, r)
 all_both P (o ∷ out) xs ys x l r = (l.0, all_both P out xs ys x l.1 r.1)
 
 -- an item that is below what follows in one row goes before it
-rises_between : (out xs ys : List ℕ) (x y : ℕ) → nat_cmp x y ≡ Less → IsRising (out ++ x ∷ xs) → IsRising (out ++ y ∷ ys) → IsRising ((out ++ x ∷ []) ++ y ∷ ys)
+rises_between : (out xs ys : List ℕ) (x y : ℕ) → nat_cmp x y ≡ Less → IsRising (out ++ x ∷ xs)
+    → IsRising (out ++ y ∷ ys) → IsRising ((out ++ x ∷ []) ++ y ∷ ys)
 unfolding IsStrictlySortedBy
 rises_between [] xs ys x y less l r = ((less, all_below x y ys less r.0), r)
 rises_between (o ∷ out) xs ys x y less l r =
@@ -45,7 +51,8 @@ rises_between (o ∷ out) xs ys x y less l r =
 front_rises : (out xs : List ℕ) (x : ℕ) → IsRising (out ++ x ∷ xs) → IsRising ((out ++ x ∷ []) ++ xs)
 front_rises out xs x h = subst IsRising (sym (append_assoc out (x ∷ []) xs)) h
 
-all_front : (P : ℕ → Type 0) (out xs : List ℕ) (x : ℕ) → AllByRecursion P (out ++ x ∷ xs) → AllByRecursion P ((out ++ x ∷ []) ++ [])
+all_front : (P : ℕ → Type 0) (out xs : List ℕ) (x : ℕ) → AllByRecursion P (out ++ x ∷ xs)
+    → AllByRecursion P ((out ++ x ∷ []) ++ [])
 all_front P [] xs x h = (h.0, tt)
 all_front P (o ∷ out) xs x h = (h.0, all_front P out xs x h.1)
 
@@ -74,7 +81,8 @@ take_both false y a r = refl
 less : (x y : ℕ) → x < y → nat_cmp x y ≡ Less
 less x y h = grind (arith, nat_tests)
 
-module _ (left right : List ℕ) (i j : ℕ) (out : List ℕ) (at_left : i < length left) (at_right : j < length right) (before : IsMerging left right i j out) where
+module _ (left right : List ℕ) (i j : ℕ) (out : List ℕ) (at_left : i < length left) (at_right : j < length right)
+    (before : IsMerging left right i j out) where
   L : drop i left ≡ get_or left i 0 ∷ drop (i + 1) left
   L = at_place left i at_left
 
@@ -87,9 +95,12 @@ module _ (left right : List ℕ) (i j : ℕ) (out : List ℕ) (at_left : i < len
   rising_right : IsRising left → IsRising right → IsRising (out ++ get_or right j 0 ∷ drop (j + 1) right)
   rising_right l r = subst (λ xs. IsRising (out ++ xs)) R (before.right_rises l r)
 
-  within_before : (within : ℕ → Bool) → (list_all within out && (list_all within (get_or left i 0 ∷ drop (i + 1) left) && list_all within (get_or right j 0 ∷ drop (j + 1) right))) ≡ (list_all within left && list_all within right)
+  within_before : (within : ℕ → Bool) → (list_all within out
+      && (list_all within (get_or left i 0 ∷ drop (i + 1) left)
+      && list_all within (get_or right j 0 ∷ drop (j + 1) right))) ≡ (list_all within left && list_all within right)
   within_before within =
-      ap (λ b. list_all within out && (list_all within b && list_all within (get_or right j 0 ∷ drop (j + 1) right))) (sym L)
+      ap (λ b. list_all within out && (list_all within b && list_all within (get_or right j 0 ∷ drop (j + 1) right)))
+      (sym L)
       ∙ ap (λ b. list_all within out && (list_all within (drop i left) && list_all within b)) (sym R)
       ∙ before.within within
 
@@ -99,14 +110,18 @@ module _ (left right : List ℕ) (i j : ℕ) (out : List ℕ) (at_left : i < len
       let y : ℕ = get_or right j 0 in
       record {
         within = λ within.
-            ap (λ b. b && (list_all within (drop (i + 1) left) && list_all within (drop j right))) (list_all-append within out (x ∷ []))
-            ∙ ap (λ b. (list_all within out && (within x && true)) && (list_all within (drop (i + 1) left) && list_all within b)) R
-            ∙ take_left (list_all within out) (within x) (list_all within (drop (i + 1) left)) (list_all within (y ∷ drop (j + 1) right))
+            ap (λ b. b && (list_all within (drop (i + 1) left) && list_all within (drop j right)))
+            (list_all-append within out (x ∷ []))
+            ∙ ap (λ b. (list_all within out && (within x && true))
+            && (list_all within (drop (i + 1) left) && list_all within b)) R
+            ∙ take_left (list_all within out) (within x) (list_all within (drop (i + 1) left))
+            (list_all within (y ∷ drop (j + 1) right))
             ∙ within_before within;
         left_rises = λ l r. front_rises out (drop (i + 1) left) x (rising_left l r);
         right_rises = λ l r.
             subst (λ ys. IsRising ((out ++ x ∷ []) ++ ys)) (sym R)
-            (rises_between out (drop (i + 1) left) (drop (j + 1) right) x y (less x y below) (rising_left l r) (rising_right l r));
+            (rises_between out (drop (i + 1) left) (drop (j + 1) right) x y (less x y below) (rising_left l r)
+            (rising_right l r));
       }
 
   pub takes_right : get_or right j 0 < get_or left i 0 → IsMerging left right i (j + 1) (out ++ get_or right j 0 ∷ [])
@@ -115,32 +130,44 @@ module _ (left right : List ℕ) (i j : ℕ) (out : List ℕ) (at_left : i < len
       let y : ℕ = get_or right j 0 in
       record {
         within = λ within.
-            ap (λ b. b && (list_all within (drop i left) && list_all within (drop (j + 1) right))) (list_all-append within out (y ∷ []))
-            ∙ ap (λ b. (list_all within out && (within y && true)) && (list_all within b && list_all within (drop (j + 1) right))) L
-            ∙ take_right (list_all within out) (within y) (list_all within (x ∷ drop (i + 1) left)) (list_all within (drop (j + 1) right))
+            ap (λ b. b && (list_all within (drop i left) && list_all within (drop (j + 1) right)))
+            (list_all-append within out (y ∷ []))
+            ∙ ap (λ b. (list_all within out && (within y && true))
+            && (list_all within b && list_all within (drop (j + 1) right))) L
+            ∙ take_right (list_all within out) (within y) (list_all within (x ∷ drop (i + 1) left))
+            (list_all within (drop (j + 1) right))
             ∙ within_before within;
         left_rises = λ l r.
             subst (λ xs. IsRising ((out ++ y ∷ []) ++ xs)) (sym L)
-            (rises_between out (drop (j + 1) right) (drop (i + 1) left) y x (less y x below) (rising_right l r) (rising_left l r));
+            (rises_between out (drop (j + 1) right) (drop (i + 1) left) y x (less y x below) (rising_right l r)
+            (rising_left l r));
         right_rises = λ l r. front_rises out (drop (j + 1) right) y (rising_right l r);
       }
 
-  pub takes_both : get_or left i 0 ≡ get_or right j 0 → IsMerging left right (i + 1) (j + 1) (out ++ get_or right j 0 ∷ [])
+  pub takes_both : get_or left i 0 ≡ get_or right j 0
+      → IsMerging left right (i + 1) (j + 1) (out ++ get_or right j 0 ∷ [])
   takes_both same =
       let y : ℕ = get_or right j 0 in
       record {
         within = λ within.
-            ap (λ b. b && (list_all within (drop (i + 1) left) && list_all within (drop (j + 1) right))) (list_all-append within out (y ∷ []))
-            ∙ take_both (list_all within out) (within y) (list_all within (drop (i + 1) left)) (list_all within (drop (j + 1) right))
-            ∙ ap (λ x. list_all within out && ((within x && list_all within (drop (i + 1) left)) && (within y && list_all within (drop (j + 1) right)))) (sym same)
+            ap (λ b. b && (list_all within (drop (i + 1) left) && list_all within (drop (j + 1) right)))
+            (list_all-append within out (y ∷ []))
+            ∙ take_both (list_all within out) (within y) (list_all within (drop (i + 1) left))
+            (list_all within (drop (j + 1) right))
+            ∙ ap (λ x. list_all within out && ((within x && list_all within (drop (i + 1) left))
+            && (within y && list_all within (drop (j + 1) right)))) (sym same)
             ∙ within_before within;
-        left_rises = λ l r. front_rises out (drop (i + 1) left) y (subst (λ x. IsRising (out ++ x ∷ drop (i + 1) left)) same (rising_left l r));
+        left_rises =
+            λ l r. front_rises out (drop (i + 1) left) y (subst (λ x. IsRising (out ++ x ∷ drop (i + 1) left)) same
+            (rising_left l r));
         right_rises = λ l r. front_rises out (drop (j + 1) right) y (rising_right l r);
       }
 
 -- ---- the same of items as they are read
 
-module _ (left right : List ℕ) (i j : ℕ) (out new : List ℕ) (x y : ℕ) (at_left : i < length left) (at_right : j < length right) (x_is : x ≡ get_or left i x) (y_is : y ≡ get_or right j y) (before : IsMerging left right i j out) where
+module _ (left right : List ℕ) (i j : ℕ) (out new : List ℕ) (x y : ℕ) (at_left : i < length left)
+    (at_right : j < length right) (x_is : x ≡ get_or left i x) (y_is : y ≡ get_or right j y)
+    (before : IsMerging left right i j out) where
   X : x ≡ get_or left i 0
   X = x_is ∙ get_or_default left i x 0 at_left
 
@@ -148,13 +175,22 @@ module _ (left right : List ℕ) (i j : ℕ) (out new : List ℕ) (x y : ℕ) (a
   Y = y_is ∙ get_or_default right j y 0 at_right
 
   pub left_next : new ≡ out ++ x ∷ [] → x < y → IsMerging left right (i + 1) j new
-  left_next is below = subst (IsMerging left right (i + 1) j) (sym is) (subst (λ (v : ℕ). IsMerging left right (i + 1) j (out ++ v ∷ [])) (sym X) (takes_left left right i j out at_left at_right before (let p = X in let q = Y in omega arith)))
+  left_next is below =
+      subst (IsMerging left right (i + 1) j) (sym is)
+      (subst (λ (v : ℕ). IsMerging left right (i + 1) j (out ++ v ∷ [])) (sym X)
+      (takes_left left right i j out at_left at_right before (let p = X in let q = Y in omega arith)))
 
   pub right_next : new ≡ out ++ y ∷ [] → y < x → IsMerging left right i (j + 1) new
-  right_next is below = subst (IsMerging left right i (j + 1)) (sym is) (subst (λ (v : ℕ). IsMerging left right i (j + 1) (out ++ v ∷ [])) (sym Y) (takes_right left right i j out at_left at_right before (let p = X in let q = Y in omega arith)))
+  right_next is below =
+      subst (IsMerging left right i (j + 1)) (sym is)
+      (subst (λ (v : ℕ). IsMerging left right i (j + 1) (out ++ v ∷ [])) (sym Y)
+      (takes_right left right i j out at_left at_right before (let p = X in let q = Y in omega arith)))
 
   pub both_next : new ≡ out ++ y ∷ [] → x ≡ y → IsMerging left right (i + 1) (j + 1) new
-  both_next is same = subst (IsMerging left right (i + 1) (j + 1)) (sym is) (subst (λ (v : ℕ). IsMerging left right (i + 1) (j + 1) (out ++ v ∷ [])) (sym Y) (takes_both left right i j out at_left at_right before (let p = X in let q = Y in omega arith)))
+  both_next is same =
+      subst (IsMerging left right (i + 1) (j + 1)) (sym is)
+      (subst (λ (v : ℕ). IsMerging left right (i + 1) (j + 1) (out ++ v ∷ [])) (sym Y)
+      (takes_both left right i j out at_left at_right before (let p = X in let q = Y in omega arith)))
 
 -- ---- the end
 
@@ -163,7 +199,8 @@ and_all true a b = refl
 and_all false a b = refl
 
 -- the rests of both rows, of which one is empty, are the end
-pub IsMerging-end : (left right : List ℕ) (i j : ℕ) (out : List ℕ) → IsMerging left right i j out → (length left ≤ i) ⊎ (length right ≤ j) → IsUnion left right ((out ++ drop i left) ++ drop j right)
+pub IsMerging-end : (left right : List ℕ) (i j : ℕ) (out : List ℕ) → IsMerging left right i j out
+    → (length left ≤ i) ⊎ (length right ≤ j) → IsUnion left right ((out ++ drop i left) ++ drop j right)
 IsMerging-end left right i j out merging over = record {
   within = λ within.
       list_all-append within (out ++ drop i left) (drop j right)
@@ -172,7 +209,11 @@ IsMerging-end left right i j out merging over = record {
       ∙ merging.within within;
   rising = λ l r.
       elim over [
-        | inl done ↦ let e : drop i left ≡ [] = drop_of_length-le left done in subst (λ xs. IsRising ((out ++ xs) ++ drop j right)) (sym e) (subst (λ xs. IsRising (xs ++ drop j right)) (sym (append-nil out)) (merging.right_rises l r))
-        | inr done ↦ let e : drop j right ≡ [] = drop_of_length-le right done in subst (λ ys. IsRising ((out ++ drop i left) ++ ys)) (sym e) (subst IsRising (sym (append-nil (out ++ drop i left))) (merging.left_rises l r))
+        | inl done ↦ let e : drop i left ≡ [] =
+            drop_of_length-le left done in subst (λ xs. IsRising ((out ++ xs) ++ drop j right)) (sym e)
+            (subst (λ xs. IsRising (xs ++ drop j right)) (sym (append-nil out)) (merging.right_rises l r))
+        | inr done ↦ let e : drop j right ≡ [] =
+            drop_of_length-le right done in subst (λ ys. IsRising ((out ++ drop i left) ++ ys)) (sym e)
+            (subst IsRising (sym (append-nil (out ++ drop i left))) (merging.left_rises l r))
       ];
 }

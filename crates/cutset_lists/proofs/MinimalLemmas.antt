@@ -1,5 +1,6 @@
 -- How the minimal sets of a sorted list are kept, one after another.
-use Rattle.std.specs.Prelude.{◌≡◌, ℕ, zero, suc, ◌+◌, ◌<◌, ◌≤◌, Bool, true, false, ◌||◌, nat_lt, ◌==◌, map, List, [], ◌∷◌, ◌++◌, length, take, All, Contains, get_or, Result, Ok, Err, IfOk}
+use Rattle.std.specs.Prelude.{◌≡◌, ℕ, zero, suc, ◌+◌, ◌<◌, ◌≤◌, Bool, true, false, ◌||◌, nat_lt, ◌==◌, map, List, []}
+use Rattle.std.specs.Prelude.{◌∷◌, ◌++◌, length, take, All, Contains, get_or, Result, Ok, Err, IfOk}
 use Rattle.std.specs.List.{list_any, list_all}
 use Rattle.std.specs.List.Sorted.{IsStrictlySortedBy}
 use Rattle.std.specs.Cmp.Lexicographic.{slice_cmp}
@@ -7,11 +8,13 @@ use Rattle.std.specs.Ordering.{nat_cmp, ordering_then}
 use Rattle.std.specs.declared.cmp.Ordering.{Ordering}
 use Rattle.std.specs.declared.cmp.Ordering.TheVariants.{Less, Greater}
 use Rattle.std.proofs.Common.{refl, sym, ◌∙◌, ap, subst, inl, inr, arith}
-use Rattle.std.proofs.lemmas.Bool.{or_cases, or_left, or_right, or_from, or_parts, and_parts, and_from, and_left, le-ltb, cases_lt}
+use Rattle.std.proofs.lemmas.Bool.{or_cases, or_left, or_right, or_from, or_parts, and_parts, and_from, and_left}
+use Rattle.std.proofs.lemmas.Bool.{le-ltb, cases_lt}
 use Rattle.std.proofs.lemmas.Bool.Decides.{nat_tests}
 use Rattle.std.proofs.lemmas.List.{take_more, get_or_default, get_or-take, length-take, length-map, get_or-map}
 use Rattle.std.proofs.lemmas.List.Folds.{list_any-append}
-use Rattle.std.proofs.lemmas.List.Elements.{All-push, All-nil, All-weaker, All-contains, recursion_from_All, Contains-append_left, Contains-push}
+use Rattle.std.proofs.lemmas.List.Elements.{All-push, All-nil, All-weaker, All-contains, recursion_from_All}
+use Rattle.std.proofs.lemmas.List.Elements.{Contains-append_left, Contains-push}
 use Rattle.std.proofs.lemmas.Map.Keys.{Less-from_sorted}
 use Rattle.unit_sets.specs.CutOrder.{cut_cmp, IsInCutOrder}
 use Rattle.unit_sets.specs.Sorted.{sorted-push}
@@ -25,7 +28,8 @@ same_by_test : (a b : ℕ) → (a == b) ≡ true → a ≡ b
 same_by_test a b h = grind (arith, nat_tests)
 
 -- what holds of each unit of a set holds of one
-pub all_at : (within : ℕ → Bool) (set : List ℕ) (unit : ℕ) → list_all within set ≡ true → among set unit ≡ true → within unit ≡ true
+pub all_at : (within : ℕ → Bool) (set : List ℕ) (unit : ℕ) → list_all within set ≡ true → among set unit ≡ true
+    → within unit ≡ true
 all_at within [] unit all here = absurd cc
 all_at within (first ∷ others) unit all here =
     let parts = and_parts (within first) (list_all within others) all in
@@ -35,18 +39,23 @@ all_at within (first ∷ others) unit all here =
     ]
 
 -- a set within one that lies within lies within too
-pub all_within : (within : ℕ → Bool) (set smaller : List ℕ) → list_all within set ≡ true → is_within set smaller ≡ true → list_all within smaller ≡ true
+pub all_within : (within : ℕ → Bool) (set smaller : List ℕ) → list_all within set ≡ true → is_within set smaller ≡ true
+    → list_all within smaller ≡ true
 all_within within set [] all inside = refl
 all_within within set (first ∷ others) all inside =
     let parts = and_parts (among set first) (is_within set others) inside in
-    and_from (within first) (list_all within others) (all_at within set first all parts.0) (all_within within set others all parts.1)
+    and_from (within first) (list_all within others) (all_at within set first all parts.0)
+    (all_within within set others all parts.1)
 
 -- where a list has a smaller set within one, it is hit wherever that one lies within
-hit_by_smaller : (within : ℕ → Bool) (set : List ℕ) (kept : List (List ℕ)) → list_any (is_smaller_within set) kept ≡ true → list_all within set ≡ true → hits kept within ≡ true
+hit_by_smaller : (within : ℕ → Bool) (set : List ℕ) (kept : List (List ℕ))
+    → list_any (is_smaller_within set) kept ≡ true → list_all within set ≡ true → hits kept within ≡ true
 hit_by_smaller within set [] found all = absurd cc
 hit_by_smaller within set (first ∷ others) found all =
     elim (or_cases (is_smaller_within set first) (list_any (is_smaller_within set) others) found) [
-      | inl here ↦ or_left (list_all within first) (hits others within) (all_within within set first all (and_parts (nat_lt (length first) (length set)) (is_within set first) here).1)
+      | inl here ↦ or_left (list_all within first) (hits others within)
+          (all_within within set first all (and_parts (nat_lt (length first) (length set)) (is_within set first)
+          here).1)
       | inr later ↦ or_right (list_all within first) (hits others within) (hit_by_smaller within set others later all)
     ]
 
@@ -63,7 +72,8 @@ greater m n h = grind (arith, nat_tests)
 pub size_of_less : (m n : ℕ) (o : Ordering) → ordering_then (nat_cmp m n) o ≡ Less → m ≤ n
 size_of_less m n o h =
     elim (cases_lt n m) [
-      | inl above ↦ let less : ordering_then Greater o ≡ Less = subst (λ q. ordering_then q o ≡ Less) (greater m n above) h in absurd cc
+      | inl above ↦ let less : ordering_then Greater o ≡ Less =
+          subst (λ q. ordering_then q o ≡ Less) (greater m n above) h in absurd cc
       | inr low ↦ low
     ]
 
@@ -73,25 +83,33 @@ no_larger set later h =
     (le-ltb (length later) (length set) (size_of_less (length set) (length later) (slice_cmp nat_cmp set later) h))
 
 not_smaller_itself : (set : List ℕ) → is_smaller_within set set ≡ false
-not_smaller_itself set = and_left (nat_lt (length set) (length set)) (is_within set set) (le-ltb (length set) (length set) (omega arith))
+not_smaller_itself set =
+    and_left (nat_lt (length set) (length set)) (is_within set set) (le-ltb (length set) (length set) (omega arith))
 
 rest_ordered : (first : List ℕ) (others : List (List ℕ)) → IsInCutOrder (first ∷ others) → IsInCutOrder others
 unfolding IsStrictlySortedBy
 rest_ordered first others ordered = ordered.1
 
 -- from a place on where a set is no smaller, none is
-none_from : (set : List ℕ) (sets : List (List ℕ)) → IsInCutOrder sets → (k : ℕ) → k ≤ length sets → ((j : ℕ) → k ≤ j → j < length sets → length set ≤ length (get_or sets j [])) → list_any (is_smaller_within set) (take k sets) ≡ false → list_any (is_smaller_within set) sets ≡ false
+none_from : (set : List ℕ) (sets : List (List ℕ)) → IsInCutOrder sets → (k : ℕ) → k ≤ length sets
+    → ((j : ℕ) → k ≤ j → j < length sets → length set ≤ length (get_or sets j []))
+    → list_any (is_smaller_within set) (take k sets) ≡ false → list_any (is_smaller_within set) sets ≡ false
 none_from set [] ordered k low large none = refl
 none_from set (first ∷ others) ordered zero low large none =
     or_from (is_smaller_within set first) (list_any (is_smaller_within set) others)
-    (and_left (nat_lt (length first) (length set)) (is_within set first) (le-ltb (length first) (length set) (large 0 (omega arith) (omega arith))))
-    (none_from set others (rest_ordered first others ordered) 0 (omega arith) (λ j above short. large (suc j) (omega arith) (omega arith)) refl)
+    (and_left (nat_lt (length first) (length set)) (is_within set first)
+    (le-ltb (length first) (length set) (large 0 (omega arith) (omega arith))))
+    (none_from set others (rest_ordered first others ordered) 0 (omega arith)
+    (λ j above short. large (suc j) (omega arith) (omega arith)) refl)
 none_from set (first ∷ others) ordered (suc k) low large none =
     let parts = or_parts (is_smaller_within set first) (list_any (is_smaller_within set) (take k others)) none in
     or_from (is_smaller_within set first) (list_any (is_smaller_within set) others) parts.0
-    (none_from set others (rest_ordered first others ordered) k (omega arith) (λ j above short. large (suc j) (omega arith) (omega arith)) parts.1)
+    (none_from set others (rest_ordered first others ordered) k (omega arith)
+    (λ j above short. large (suc j) (omega arith) (omega arith)) parts.1)
 
-pub none_larger : (set smaller : List ℕ) (sets : List (List ℕ)) (i : ℕ) → i < length sets → IsInCutOrder sets → smaller ≡ get_or sets i [] → length set ≤ length smaller → list_any (is_smaller_within set) (take i sets) ≡ false → list_any (is_smaller_within set) sets ≡ false
+pub none_larger : (set smaller : List ℕ) (sets : List (List ℕ)) (i : ℕ) → i < length sets → IsInCutOrder sets
+    → smaller ≡ get_or sets i [] → length set ≤ length smaller → list_any (is_smaller_within set) (take i sets) ≡ false
+    → list_any (is_smaller_within set) sets ≡ false
 none_larger set smaller sets i short ordered is large none =
     none_from set sets ordered i (omega arith) (λ j above inside. larger_from j above inside) none
   where
@@ -100,18 +118,24 @@ none_larger set smaller sets i short ordered is large none =
         let here : length smaller ≡ length (get_or sets i []) = ap length is in
         elim (cases_lt i j) [
           | inl later ↦
-              let less : cut_cmp (get_or sets i []) (get_or sets j []) ≡ Less = Less-from_sorted cut_cmp sets i j [] ordered later inside in
-              let size : length (get_or sets i []) ≤ length (get_or sets j []) = size_of_less (length (get_or sets i [])) (length (get_or sets j [])) (slice_cmp nat_cmp (get_or sets i []) (get_or sets j [])) less in
+              let less : cut_cmp (get_or sets i []) (get_or sets j []) ≡ Less =
+              Less-from_sorted cut_cmp sets i j [] ordered later inside in
+              let size : length (get_or sets i []) ≤ length (get_or sets j []) =
+              size_of_less (length (get_or sets i [])) (length (get_or sets j []))
+              (slice_cmp nat_cmp (get_or sets i []) (get_or sets j [])) less in
               omega arith
           | inr same ↦
               let at : j ≡ i = omega arith in
-              let size : length (get_or sets j []) ≡ length (get_or sets i []) = ap (λ k. length (get_or sets k [])) at in
+              let size : length (get_or sets j []) ≡ length (get_or sets i []) =
+              ap (λ k. length (get_or sets k [])) at in
               omega arith
         ]
 
 -- ---- one set after another
 
-module _ (sorted kept : List (List ℕ)) (set : List ℕ) (i : ℕ) (short : i < length sorted) (set_is : set ≡ get_or sorted i []) (ordered : IsInCutOrder sorted) (before : IsMinimalFrom (take i sorted) kept) where
+module _ (sorted kept : List (List ℕ)) (set : List ℕ) (i : ℕ) (short : i < length sorted)
+    (set_is : set ≡ get_or sorted i []) (ordered : IsInCutOrder sorted)
+    (before : IsMinimalFrom (take i sorted) kept) where
   hits_more : (within : ℕ → Bool) → hits (take (i + 1) sorted) within ≡ (hits kept within || list_all within set)
   hits_more within =
       hits-more sorted i within short
@@ -124,28 +148,35 @@ module _ (sorted kept : List (List ℕ)) (set : List ℕ) (i : ℕ) (short : i <
   members_more : All (Contains (take (i + 1) sorted)) kept
   members_more =
       All-weaker (Contains (take i sorted)) (Contains (take (i + 1) sorted))
-      (λ s here. subst (λ (l : List (List ℕ)). Contains l s) (sym taken) (Contains-append_left (take i sorted) (set ∷ []) s here)) kept before.members
+      (λ s here. subst (λ (l : List (List ℕ)). Contains l s) (sym taken)
+      (Contains-append_left (take i sorted) (set ∷ []) s here)) kept before.members
 
   below_at : (k : ℕ) (s : List ℕ) → k < i → get_or sorted k s ≡ s → cut_cmp s set ≡ Less
   below_at k s lower is =
-      let less : cut_cmp (get_or sorted k []) (get_or sorted i []) ≡ Less = Less-from_sorted cut_cmp sorted k i [] ordered lower short in
+      let less : cut_cmp (get_or sorted k []) (get_or sorted i []) ≡ Less =
+      Less-from_sorted cut_cmp sorted k i [] ordered lower short in
       let same : get_or sorted k [] ≡ s = get_or_default sorted k [] s (omega arith) ∙ is in
-      subst (λ (q : List ℕ). cut_cmp q set ≡ Less) same (subst (λ (q : List ℕ). cut_cmp (get_or sorted k []) q ≡ Less) (sym set_is) less)
+      subst (λ (q : List ℕ). cut_cmp q set ≡ Less) same
+      (subst (λ (q : List ℕ). cut_cmp (get_or sorted k []) q ≡ Less) (sym set_is) less)
 
   all_below : All (λ s. cut_cmp s set ≡ Less) kept
   all_below =
       All-weaker (Contains (take i sorted)) (λ s. cut_cmp s set ≡ Less)
-      (λ s (k, here, is). let lower : k < i = omega (arith, length-take {A = List ℕ}) in below_at k s lower (sym (get_or-take i sorted k s lower) ∙ is)) kept before.members
+      (λ s (k, here, is). let lower : k < i = omega (arith, length-take {A = List ℕ}) in
+      below_at k s lower (sym (get_or-take i sorted k s lower) ∙ is)) kept before.members
 
   pub keeps_out : list_any (is_smaller_within set) kept ≡ true → IsMinimalFrom (take (i + 1) sorted) kept
   keeps_out found = record {
-    hits = λ within. or_absorbed (hits kept within) (list_all within set) (hit_by_smaller within set kept found) ∙ sym (hits_more within);
+    hits =
+        λ within. or_absorbed (hits kept within) (list_all within set) (hit_by_smaller within set kept found)
+        ∙ sym (hits_more within);
     members = members_more;
     ordered = before.ordered;
     sharp = before.sharp;
   }
 
-  still_sharp : (s : List ℕ) → cut_cmp s set ≡ Less → list_any (is_smaller_within s) kept ≡ false → list_any (is_smaller_within s) (kept ++ set ∷ []) ≡ false
+  still_sharp : (s : List ℕ) → cut_cmp s set ≡ Less → list_any (is_smaller_within s) kept ≡ false
+      → list_any (is_smaller_within s) (kept ++ set ∷ []) ≡ false
   still_sharp s below none =
       list_any-append (is_smaller_within s) kept (set ∷ [])
       ∙ or_from _ _ none (or_from _ _ (no_larger s set below) refl)
@@ -153,11 +184,15 @@ module _ (sorted kept : List (List ℕ)) (set : List ℕ) (i : ℕ) (short : i <
   pub keeps : list_any (is_smaller_within set) kept ≡ false → IsMinimalFrom (take (i + 1) sorted) (kept ++ set ∷ [])
   keeps none = record {
     hits = λ within. hits-push kept set within ∙ sym (hits_more within);
-    members = All-push (Contains (take (i + 1) sorted)) kept set members_more (subst (λ (l : List (List ℕ)). Contains l set) (sym taken) (Contains-push (take i sorted) set));
-    ordered = sorted-push cut_cmp kept set before.ordered (recursion_from_All (λ s. cut_cmp s set ≡ Less) kept all_below);
+    members =
+        All-push (Contains (take (i + 1) sorted)) kept set members_more
+        (subst (λ (l : List (List ℕ)). Contains l set) (sym taken) (Contains-push (take i sorted) set));
+    ordered =
+        sorted-push cut_cmp kept set before.ordered (recursion_from_All (λ s. cut_cmp s set ≡ Less) kept all_below);
     sharp = All-push (λ s. list_any (is_smaller_within s) (kept ++ set ∷ []) ≡ false) kept set
         (λ k d here. still_sharp (get_or kept k d) (all_below k d here) (before.sharp k d here))
-        (list_any-append (is_smaller_within set) kept (set ∷ []) ∙ or_from _ _ none (or_from _ _ (not_smaller_itself set) refl));
+        (list_any-append (is_smaller_within set) kept (set ∷ [])
+        ∙ or_from _ _ none (or_from _ _ (not_smaller_itself set) refl));
   }
 
 none_ordered : IsInCutOrder []
@@ -168,30 +203,42 @@ pub IsMinimalFrom-none : (sorted : List (List ℕ)) → IsMinimalFrom (take 0 so
 IsMinimalFrom-none sorted = record { hits = λ _. refl; members = All-nil _; ordered = none_ordered; sharp = All-nil _ }
 
 -- the minimal sets of a sorted list are those of what was sorted
-pub IsMinimalFrom-sorted : (sets sorted minimal : List (List ℕ)) → IsSortedFrom sets sorted → IsMinimalFrom sorted minimal → IsMinimalFrom sets minimal
+pub IsMinimalFrom-sorted : (sets sorted minimal : List (List ℕ)) → IsSortedFrom sets sorted
+    → IsMinimalFrom sorted minimal → IsMinimalFrom sets minimal
 IsMinimalFrom-sorted sets sorted minimal from is = record {
   hits = λ within. is.hits within ∙ from.hits within;
-  members = All-weaker (Contains sorted) (Contains sets) (λ s here. All-contains (Contains sets) sorted s from.members here) minimal is.members;
+  members =
+      All-weaker (Contains sorted) (Contains sets) (λ s here. All-contains (Contains sets) sorted s from.members here)
+      minimal is.members;
   ordered = is.ordered;
   sharp = is.sharp;
 }
 
 -- ---- the steps, of values as the code has them
 
-module _ {X : Type 0} (units : X → List ℕ) (cuts : List X) (kept new : List (List ℕ)) (cut : X) (i : ℕ) (short : i < length cuts) (cut_is : cut ≡ get_or cuts i cut) (ordered : IsInCutOrder (map units cuts)) (before : IsMinimalFrom (take i (map units cuts)) kept) where
+module _ {X : Type 0} (units : X → List ℕ) (cuts : List X) (kept new : List (List ℕ)) (cut : X) (i : ℕ)
+    (short : i < length cuts) (cut_is : cut ≡ get_or cuts i cut) (ordered : IsInCutOrder (map units cuts))
+    (before : IsMinimalFrom (take i (map units cuts)) kept) where
   within_map : i < length (map units cuts)
   within_map = omega (arith, length-map cuts units)
 
   at_map : units cut ≡ get_or (map units cuts) i []
   at_map = ap units cut_is ∙ sym (get_or-map units cuts i cut [] short)
 
-  pub keeps_out-step : list_any (is_smaller_within (units cut)) kept ≡ true → new ≡ kept → IsMinimalFrom (take (i + 1) (map units cuts)) new
-  keeps_out-step found same = subst (IsMinimalFrom (take (i + 1) (map units cuts))) (sym same) (keeps_out (map units cuts) kept (units cut) i within_map at_map ordered before found)
+  pub keeps_out-step : list_any (is_smaller_within (units cut)) kept ≡ true → new ≡ kept
+      → IsMinimalFrom (take (i + 1) (map units cuts)) new
+  keeps_out-step found same =
+      subst (IsMinimalFrom (take (i + 1) (map units cuts))) (sym same)
+      (keeps_out (map units cuts) kept (units cut) i within_map at_map ordered before found)
 
-  pub keeps-step : list_any (is_smaller_within (units cut)) kept ≡ false → new ≡ kept ++ units cut ∷ [] → IsMinimalFrom (take (i + 1) (map units cuts)) new
-  keeps-step none same = subst (IsMinimalFrom (take (i + 1) (map units cuts))) (sym same) (keeps (map units cuts) kept (units cut) i within_map at_map ordered before none)
+  pub keeps-step : list_any (is_smaller_within (units cut)) kept ≡ false → new ≡ kept ++ units cut ∷ []
+      → IsMinimalFrom (take (i + 1) (map units cuts)) new
+  keeps-step none same =
+      subst (IsMinimalFrom (take (i + 1) (map units cuts))) (sym same)
+      (keeps (map units cuts) kept (units cut) i within_map at_map ordered before none)
 
 -- of a list in order, where there is one
-pub IsMinimalFrom-kept : {E : Type 0} (sets sorted : List (List ℕ)) (made : Result (List (List ℕ)) E) → IsSortedFrom sets sorted → IfOk made (IsMinimalFrom sorted) → IfOk made (IsMinimalFrom sets)
+pub IsMinimalFrom-kept : {E : Type 0} (sets sorted : List (List ℕ)) (made : Result (List (List ℕ)) E)
+    → IsSortedFrom sets sorted → IfOk made (IsMinimalFrom sorted) → IfOk made (IsMinimalFrom sets)
 IsMinimalFrom-kept sets sorted (Ok kept) from is = IsMinimalFrom-sorted sets sorted kept from is
 IsMinimalFrom-kept sets sorted (Err e) from is = tt

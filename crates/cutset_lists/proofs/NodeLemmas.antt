@@ -13,18 +13,23 @@ use Rattle.fault_model.specs.Reading.{gate_reads}
 use Rattle.cutset_lists.specs.Sets.{hits, IsSetOf, AreSetsOf}
 use Rattle.cutset_lists.specs.Generation.{HasList, reading_of, Follows, AddsSome, gate_rule, is_unit_of, IsNodeList}
 
-pub nodes_have_lists : (tree : FaultTree) (lists : List (List (List ℕ))) (nodes : List ℕ) → length lists ≡ node_count tree → All (IsNodeOf tree) nodes → All (HasList lists) nodes
-nodes_have_lists tree lists nodes all is = All-weaker (IsNodeOf tree) (HasList lists) (λ n h. (h.0, let low = h.1 in omega arith)) nodes is
+pub nodes_have_lists : (tree : FaultTree) (lists : List (List (List ℕ))) (nodes : List ℕ)
+    → length lists ≡ node_count tree → All (IsNodeOf tree) nodes → All (HasList lists) nodes
+nodes_have_lists tree lists nodes all is =
+    All-weaker (IsNodeOf tree) (HasList lists) (λ n h. (h.0, let low = h.1 in omega arith)) nodes is
 
-module _ (tree : FaultTree) (lists : List (List (List ℕ))) (node : ℕ) (list : List ℕ) (list_is : list ≡ below tree node) (made : List (List ℕ)) where
-  pub gate_node : (kind : GateKind) → unit_count tree < node → kind ≡ kind_of tree node → Follows lists (gate_rule kind list) made → IsNodeList tree lists node made
+module _ (tree : FaultTree) (lists : List (List (List ℕ))) (node : ℕ) (list : List ℕ) (list_is : list ≡ below tree node)
+    (made : List (List ℕ)) where
+  pub gate_node : (kind : GateKind) → unit_count tree < node → kind ≡ kind_of tree node
+      → Follows lists (gate_rule kind list) made → IsNodeList tree lists node made
   gate_node kind above kind_is follows =
       let over : is_above_units tree node ≡ true = lt-ltb (unit_count tree) node above in
       record {
         hits = λ within.
             follows.hits within
             ∙ ap (λ k. gate_reads k (reading_of lists within) list) kind_is
-            ∙ ap (gate_reads (kind_of tree node) (reading_of lists within)) (list_is ∙ cond-true (is_above_units tree node) (inputs_of tree node) (triggers_of tree node) over)
+            ∙ ap (gate_reads (kind_of tree node) (reading_of lists within))
+            (list_is ∙ cond-true (is_above_units tree node) (inputs_of tree node) (triggers_of tree node) over)
             ∙ sym (cond-true (is_above_units tree node) _ _ over);
         sets = λ each. follows.sets (is_unit_of tree) each;
       }
@@ -37,19 +42,25 @@ module _ (tree : FaultTree) (lists : List (List (List ℕ))) (node : ℕ) (list 
   unfolding IsStrictlySortedBy
   one_rising = (tt, tt)
 
-  pub unit_node : (old : List (List ℕ)) → 1 ≤ node → node ≤ unit_count tree → old ≡ (node ∷ []) ∷ [] → AddsSome lists list old made → IsNodeList tree lists node made
+  pub unit_node : (old : List (List ℕ)) → 1 ≤ node → node ≤ unit_count tree → old ≡ (node ∷ []) ∷ []
+      → AddsSome lists list old made → IsNodeList tree lists node made
   unit_node old some low old_is adds =
       let under : is_above_units tree node ≡ false = le-ltb (unit_count tree) node low in
-      let passes : is_unit_of tree node ≡ true = and_from (nat_le 1 node) (nat_le node (unit_count tree)) (le-leb 1 node some) (le-leb node (unit_count tree) low) in
+      let passes : is_unit_of tree node ≡ true =
+      and_from (nat_le 1 node) (nat_le node (unit_count tree)) (le-leb 1 node some)
+      (le-leb node (unit_count tree) low) in
       record {
         hits = λ within.
             adds.hits within
             ∙ ap (λ s. hits s within || list_any (reading_of lists within) list) old_is
             ∙ unit_step (within node) (list_any (reading_of lists within) list)
-            ∙ ap (λ l. within node || list_any (reading_of lists within) l) (list_is ∙ cond-false (is_above_units tree node) (inputs_of tree node) (triggers_of tree node) under)
+            ∙ ap (λ l. within node || list_any (reading_of lists within) l)
+            (list_is ∙ cond-false (is_above_units tree node) (inputs_of tree node) (triggers_of tree node) under)
             ∙ sym (cond-false (is_above_units tree node) _ _ under);
         sets = λ each.
             adds.sets (is_unit_of tree) each
             (subst (AreSetsOf (is_unit_of tree)) (sym old_is)
-            (All-cons (IsSetOf (is_unit_of tree)) (node ∷ []) [] (record { rising = one_rising; pass = and_from (is_unit_of tree node) true passes refl }) (All-nil (IsSetOf (is_unit_of tree)))));
+            (All-cons (IsSetOf (is_unit_of tree)) (node ∷ []) []
+            (record { rising = one_rising; pass = and_from (is_unit_of tree node) true passes refl })
+            (All-nil (IsSetOf (is_unit_of tree)))));
       }

@@ -1,11 +1,13 @@
 -- Laws of `hits` and of sets, over plain lists.
-use Rattle.std.specs.Prelude.{◌≡◌, ℕ, ◌+◌, ◌<◌, Bool, true, false, ◌&&◌, ◌||◌, List, [], ◌∷◌, ◌++◌, length, take, get_or}
+use Rattle.std.specs.Prelude.{◌≡◌, ℕ, ◌+◌, ◌<◌, Bool, true, false, ◌&&◌, ◌||◌, List, [], ◌∷◌, ◌++◌, length, take}
+use Rattle.std.specs.Prelude.{get_or}
 use Rattle.std.specs.List.{list_all}
 use Rattle.std.proofs.Common.{refl, sym, ◌∙◌, ap, subst}
 use Rattle.std.proofs.lemmas.List.{take_more}
 use Rattle.std.proofs.lemmas.List.Folds.{list_any-append}
 use Rattle.std.proofs.lemmas.List.Elements.{All-push, All-get_or, All-nil}
-use Rattle.cutset_lists.specs.Sets.{hits, IsSetOf, AreSetsOf, IsUnion, AddsHits, AddsSets, AddsBoth, AddsSetsOf, HitsBoth, AreSetsAs}
+use Rattle.cutset_lists.specs.Sets.{hits, IsSetOf, AreSetsOf, IsUnion, AddsHits, AddsSets, AddsBoth, AddsSetsOf}
+use Rattle.cutset_lists.specs.Sets.{HitsBoth, AreSetsAs}
 
 pub or-false : (a : Bool) → (a || false) ≡ a
 or-false true = refl
@@ -23,18 +25,24 @@ pub and-over_or : (a b c : Bool) → (a && (b || c)) ≡ ((a && b) || (a && c))
 and-over_or true b c = refl
 and-over_or false b c = refl
 
-pub hits-append : (sets more : List (List ℕ)) (within : ℕ → Bool) → hits (sets ++ more) within ≡ (hits sets within || hits more within)
+pub hits-append : (sets more : List (List ℕ)) (within : ℕ → Bool)
+    → hits (sets ++ more) within ≡ (hits sets within || hits more within)
 hits-append sets more within = list_any-append (list_all within) sets more
 
-pub hits-push : (sets : List (List ℕ)) (set : List ℕ) (within : ℕ → Bool) → hits (sets ++ set ∷ []) within ≡ (hits sets within || list_all within set)
-hits-push sets set within = hits-append sets (set ∷ []) within ∙ ap (λ b. hits sets within || b) (or-false (list_all within set))
+pub hits-push : (sets : List (List ℕ)) (set : List ℕ) (within : ℕ → Bool)
+    → hits (sets ++ set ∷ []) within ≡ (hits sets within || list_all within set)
+hits-push sets set within =
+    hits-append sets (set ∷ []) within ∙ ap (λ b. hits sets within || b) (or-false (list_all within set))
 
-pub hits-more : (sets : List (List ℕ)) (i : ℕ) (within : ℕ → Bool) → i < length sets → hits (take (i + 1) sets) within ≡ (hits (take i sets) within || list_all within (get_or sets i []))
-hits-more sets i within short = ap (λ s. hits s within) (take_more sets i [] short) ∙ hits-push (take i sets) (get_or sets i []) within
+pub hits-more : (sets : List (List ℕ)) (i : ℕ) (within : ℕ → Bool) → i < length sets
+    → hits (take (i + 1) sets) within ≡ (hits (take i sets) within || list_all within (get_or sets i []))
+hits-more sets i within short =
+    ap (λ s. hits s within) (take_more sets i [] short) ∙ hits-push (take i sets) (get_or sets i []) within
 
 -- ---- unions
 
-pub IsUnion-set : (passes : ℕ → Bool) (left right union : List ℕ) → IsUnion left right union → IsSetOf passes left → IsSetOf passes right → IsSetOf passes union
+pub IsUnion-set : (passes : ℕ → Bool) (left right union : List ℕ) → IsUnion left right union → IsSetOf passes left
+    → IsSetOf passes right → IsSetOf passes union
 IsUnion-set passes left right union is l r = record {
   rising = is.rising l.rising r.rising;
   pass = let e = is.within passes in let p = l.pass in let q = r.pass in cc;
@@ -43,7 +51,8 @@ IsUnion-set passes left right union is l r = record {
 -- the unions with no set of a list
 pub AddsHits-none : (set : List ℕ) (list sets : List (List ℕ)) → AddsHits set (take 0 list) sets sets
 AddsHits-none set list sets = record {
-  hits = λ within. sym (ap (λ b. hits sets within || b) (and-false (list_all within set)) ∙ or-false (hits sets within));
+  hits =
+      λ within. sym (ap (λ b. hits sets within || b) (and-false (list_all within set)) ∙ or-false (hits sets within));
 }
 
 adds_step : (o s t h n m u : Bool) → n ≡ (o || (s && t)) → m ≡ (n || u) → u ≡ (s && h) → m ≡ (o || (s && (t || h)))
@@ -52,17 +61,22 @@ adds_step false true t h n m u e f g = cc
 adds_step false false t h n m u e f g = cc
 
 -- the union with one set more
-pub AddsHits-more : (set : List ℕ) (list old new : List (List ℕ)) (union : List ℕ) (i : ℕ) → i < length list → AddsHits set (take i list) old new → IsUnion set (get_or list i []) union → AddsHits set (take (i + 1) list) old (new ++ union ∷ [])
+pub AddsHits-more : (set : List ℕ) (list old new : List (List ℕ)) (union : List ℕ) (i : ℕ) → i < length list
+    → AddsHits set (take i list) old new → IsUnion set (get_or list i []) union
+    → AddsHits set (take (i + 1) list) old (new ++ union ∷ [])
 AddsHits-more set list old new union i short adds is = record {
   hits = λ within.
-      adds_step (hits old within) (list_all within set) (hits (take i list) within) (list_all within (get_or list i [])) (hits new within) (hits (new ++ union ∷ []) within) (list_all within union)
-      (adds.hits within) (hits-push new union within) (is.within within) ∙ ap (λ b. hits old within || (list_all within set && b)) (sym (hits-more list i within short));
+      adds_step (hits old within) (list_all within set) (hits (take i list) within) (list_all within (get_or list i []))
+      (hits new within) (hits (new ++ union ∷ []) within) (list_all within union)
+      (adds.hits within) (hits-push new union within) (is.within within)
+      ∙ ap (λ b. hits old within || (list_all within set && b)) (sym (hits-more list i within short));
 }
 
 pub AddsSets-none : (set : List ℕ) (list sets : List (List ℕ)) → AddsSets set list sets sets
 AddsSets-none set list sets = record { sets = λ passes _ _ old. old }
 
-pub AddsSets-more : (set : List ℕ) (list old new : List (List ℕ)) (union : List ℕ) (i : ℕ) → i < length list → AddsSets set list old new → IsUnion set (get_or list i []) union → AddsSets set list old (new ++ union ∷ [])
+pub AddsSets-more : (set : List ℕ) (list old new : List (List ℕ)) (union : List ℕ) (i : ℕ) → i < length list
+    → AddsSets set list old new → IsUnion set (get_or list i []) union → AddsSets set list old (new ++ union ∷ [])
 AddsSets-more set list old new union i short adds is = record {
   sets = λ passes one each before.
       All-push (IsSetOf passes) new union (adds.sets passes one each before)
@@ -81,43 +95,68 @@ product_step false true false true n m e f = cc
 product_step false true false false n m e f = cc
 product_step false false r s n m e f = cc
 
-AddsBoth-more : (left right old sets new : List (List ℕ)) (i : ℕ) → i < length left → AddsBoth (take i left) right old sets → AddsHits (get_or left i []) right sets new → AddsBoth (take (i + 1) left) right old new
+AddsBoth-more : (left right old sets new : List (List ℕ)) (i : ℕ) → i < length left
+    → AddsBoth (take i left) right old sets → AddsHits (get_or left i []) right sets new
+    → AddsBoth (take (i + 1) left) right old new
 AddsBoth-more left right old sets new i short both adds = record {
   hits = λ within.
-      product_step (hits old within) (hits (take i left) within) (hits right within) (list_all within (get_or left i [])) (hits sets within) (hits new within)
-      (both.hits within) (adds.hits within) ∙ ap (λ b. hits old within || (b && hits right within)) (sym (hits-more left i within short));
+      product_step (hits old within) (hits (take i left) within) (hits right within)
+      (list_all within (get_or left i [])) (hits sets within) (hits new within)
+      (both.hits within) (adds.hits within) ∙ ap (λ b. hits old within || (b && hits right within))
+      (sym (hits-more left i within short));
 }
 
 pub AddsSetsOf-none : (left right sets : List (List ℕ)) → AddsSetsOf left right sets sets
 AddsSetsOf-none left right sets = record { sets = λ passes _ _ old. old }
 
-AddsSetsOf-more : (left right old sets new : List (List ℕ)) (i : ℕ) → i < length left → AddsSetsOf left right old sets → AddsSets (get_or left i []) right sets new → AddsSetsOf left right old new
+AddsSetsOf-more : (left right old sets new : List (List ℕ)) (i : ℕ) → i < length left → AddsSetsOf left right old sets
+    → AddsSets (get_or left i []) right sets new → AddsSetsOf left right old new
 AddsSetsOf-more left right old sets new i short both adds = record {
-  sets = λ passes l r before. adds.sets passes (All-get_or (IsSetOf passes) left i [] short l) r (both.sets passes l r before);
+  sets =
+      λ passes l r before. adds.sets passes (All-get_or (IsSetOf passes) left i [] short l) r
+      (both.sets passes l r before);
 }
 
 -- a product of its own
-pub HitsBoth-alone : (left right old new : List (List ℕ)) → old ≡ [] → AddsBoth left right old new → HitsBoth left right new
-HitsBoth-alone left right old new none adds = record { hits = λ within. adds.hits within ∙ ap (λ s. hits s within || (hits left within && hits right within)) none }
+pub HitsBoth-alone : (left right old new : List (List ℕ)) → old ≡ [] → AddsBoth left right old new
+    → HitsBoth left right new
+HitsBoth-alone left right old new none adds =
+    record {
+      hits = λ within. adds.hits within ∙ ap (λ s. hits s within || (hits left within && hits right within))
+          none;
+    }
 
-pub AreSetsAs-alone : (left right old new : List (List ℕ)) → old ≡ [] → AddsSetsOf left right old new → AreSetsAs left right new
-AreSetsAs-alone left right old new none adds = record { sets = λ passes l r. adds.sets passes l r (subst (AreSetsOf passes) (sym none) (All-nil (IsSetOf passes))) }
+pub AreSetsAs-alone : (left right old new : List (List ℕ)) → old ≡ [] → AddsSetsOf left right old new
+    → AreSetsAs left right new
+AreSetsAs-alone left right old new none adds =
+    record {
+      sets = λ passes l r. adds.sets passes l r
+          (subst (AreSetsOf passes) (sym none) (All-nil (IsSetOf passes)));
+    }
 
 -- ---- the steps, of values as the code has them
 
-module _ (set row union : List ℕ) (list old sets new : List (List ℕ)) (i : ℕ) (short : i < length list) (row_is : row ≡ get_or list i []) (new_is : new ≡ sets ++ union ∷ []) (is : IsUnion set row union) where
+module _ (set row union : List ℕ) (list old sets new : List (List ℕ)) (i : ℕ) (short : i < length list)
+    (row_is : row ≡ get_or list i []) (new_is : new ≡ sets ++ union ∷ []) (is : IsUnion set row union) where
   is_at : IsUnion set (get_or list i []) union
   is_at = subst (λ r. IsUnion set r union) row_is is
 
   pub AddsHits-step : AddsHits set (take i list) old sets → AddsHits set (take (i + 1) list) old new
-  AddsHits-step adds = subst (λ n. AddsHits set (take (i + 1) list) old n) (sym new_is) (AddsHits-more set list old sets union i short adds is_at)
+  AddsHits-step adds =
+      subst (λ n. AddsHits set (take (i + 1) list) old n) (sym new_is)
+      (AddsHits-more set list old sets union i short adds is_at)
 
   pub AddsSets-step : AddsSets set list old sets → AddsSets set list old new
-  AddsSets-step adds = subst (λ n. AddsSets set list old n) (sym new_is) (AddsSets-more set list old sets union i short adds is_at)
+  AddsSets-step adds =
+      subst (λ n. AddsSets set list old n) (sym new_is) (AddsSets-more set list old sets union i short adds is_at)
 
-module _ (row : List ℕ) (left right old sets new : List (List ℕ)) (i : ℕ) (short : i < length left) (row_is : row ≡ get_or left i []) where
-  pub AddsBoth-step : AddsBoth (take i left) right old sets → AddsHits row right sets new → AddsBoth (take (i + 1) left) right old new
-  AddsBoth-step both adds = AddsBoth-more left right old sets new i short both (subst (λ r. AddsHits r right sets new) row_is adds)
+module _ (row : List ℕ) (left right old sets new : List (List ℕ)) (i : ℕ) (short : i < length left)
+    (row_is : row ≡ get_or left i []) where
+  pub AddsBoth-step : AddsBoth (take i left) right old sets → AddsHits row right sets new
+      → AddsBoth (take (i + 1) left) right old new
+  AddsBoth-step both adds =
+      AddsBoth-more left right old sets new i short both (subst (λ r. AddsHits r right sets new) row_is adds)
 
   pub AddsSetsOf-step : AddsSetsOf left right old sets → AddsSets row right sets new → AddsSetsOf left right old new
-  AddsSetsOf-step both adds = AddsSetsOf-more left right old sets new i short both (subst (λ r. AddsSets r right sets new) row_is adds)
+  AddsSetsOf-step both adds =
+      AddsSetsOf-more left right old sets new i short both (subst (λ r. AddsSets r right sets new) row_is adds)

@@ -1,5 +1,6 @@
 -- A list in two parts, of which the first stands for itself in a product.
-use Rattle.std.specs.Prelude.{◌≡◌, ℕ, ◌+◌, ◌<◌, ◌≤◌, Bool, true, false, ◌&&◌, ◌||◌, not, ◌==◌, nat_lt, if◌then◌else◌, List, [], ◌∷◌, ◌++◌, length, take, All, Some, get_or}
+use Rattle.std.specs.Prelude.{◌≡◌, ℕ, ◌+◌, ◌<◌, ◌≤◌, Bool, true, false, ◌&&◌, ◌||◌, not, ◌==◌, nat_lt, if◌then◌else◌}
+use Rattle.std.specs.Prelude.{List, [], ◌∷◌, ◌++◌, length, take, All, Some, get_or}
 use Rattle.std.specs.List.{list_any, list_all}
 use Rattle.std.proofs.Common.{refl, sym, ◌∙◌, ap, subst, inl, inr, arith}
 use Rattle.std.proofs.lemmas.Bool.{and_parts, cases_lt}
@@ -16,14 +17,23 @@ use Rattle.cutset_lists.proofs.WaitingLemmas.{some_holds}
 
 -- ---- sets that include one of a list
 
-pub included_if_found : (sets : List (List ℕ)) (set : List ℕ) (count size : ℕ) (found : Bool) → count ≤ length sets → found ≡ list_any (is_short_within size set) (take count sets) → found ≡ true → Includes sets set
+pub included_if_found : (sets : List (List ℕ)) (set : List ℕ) (count size : ℕ) (found : Bool) → count ≤ length sets
+    → found ≡ list_any (is_short_within size set) (take count sets) → found ≡ true → Includes sets set
 included_if_found sets set count size found low is holds_it =
-    let (k, smaller, short, same, holds) = Any-from_list_any (is_short_within size set) (take count sets) (sym is ∙ holds_it) in
+    let (k, smaller, short, same, holds) =
+    Any-from_list_any (is_short_within size set) (take count sets) (sym is ∙ holds_it) in
     let inside : k < count = omega (arith, length-take {A = List ℕ}) in
-    list_any-from_Any (is_within set) sets (k, smaller, omega arith, sym (get_or-take count sets k smaller inside) ∙ same, (and_parts (nat_lt (length smaller) size) (is_within set smaller) holds).1)
+    list_any-from_Any (is_within set) sets (
+      k,
+      smaller,
+      omega arith,
+      sym (get_or-take count sets k smaller inside) ∙ same,
+      (and_parts (nat_lt (length smaller) size) (is_within set smaller) holds).1,
+    )
 
 -- where they are hit the list is
-hit_if_included : (within : ℕ → Bool) (other including : List (List ℕ)) → All (Includes other) including → hits including within ≡ true → hits other within ≡ true
+hit_if_included : (within : ℕ → Bool) (other including : List (List ℕ)) → All (Includes other) including
+    → hits including within ≡ true → hits other within ≡ true
 hit_if_included within other including all hit =
     let (k, set, short, same, holds) = Any-from_list_any (list_all within) including hit in
     let includes : Includes other set = All-contains (Includes other) including set all (k, short, same) in
@@ -35,7 +45,8 @@ hit_if_included within other including all hit =
 abbrev pub FilledTo : List (List ℕ) → ℕ → Type 0
 FilledTo sets i = (place : ℕ) → place < i → 1 ≤ length (set_at sets place)
 
-pub FilledTo-more : (sets : List (List ℕ)) (row : List ℕ) (i : ℕ) → row ≡ get_or sets i [] → (length row == 0) ≡ false → FilledTo sets i → FilledTo sets (i + 1)
+pub FilledTo-more : (sets : List (List ℕ)) (row : List ℕ) (i : ℕ) → row ≡ get_or sets i [] → (length row == 0) ≡ false
+    → FilledTo sets i → FilledTo sets (i + 1)
 FilledTo-more sets row i is some before place inside =
     elim (cases_lt place i) [
       | inl lower ↦ before place lower
@@ -48,11 +59,16 @@ FilledTo-more sets row i is some before place inside =
 pub AreFilled-all : (sets : List (List ℕ)) (i : ℕ) → length sets ≤ i → FilledTo sets i → AreFilled sets
 AreFilled-all sets i long before place inside = before place (omega arith)
 
-pub IsSplit-none : (list other including rest : List (List ℕ)) → including ≡ [] → rest ≡ [] → IsSplit (take 0 list) other including rest
+pub IsSplit-none : (list other including rest : List (List ℕ)) → including ≡ [] → rest ≡ []
+    → IsSplit (take 0 list) other including rest
 IsSplit-none list other including rest none none' = record {
   hits = λ within. let e = ap (λ s. hits s within) none in let f = ap (λ s. hits s within) none' in cc;
   included = subst (All (Includes other)) (sym none) (All-nil (Includes other));
-  sets = λ passes _. (subst (AreSetsOf passes) (sym none) (All-nil (IsSetOf passes)), subst (AreSetsOf passes) (sym none') (All-nil (IsSetOf passes)));
+  sets =
+      λ passes _. (
+        subst (AreSetsOf passes) (sym none) (All-nil (IsSetOf passes)),
+        subst (AreSetsOf passes) (sym none') (All-nil (IsSetOf passes)),
+      );
 }
 
 to_first : (l i r s n m : Bool) → l ≡ (i || r) → n ≡ (l || s) → m ≡ (i || s) → n ≡ (m || r)
@@ -67,42 +83,63 @@ to_second l true r s n m e f g = cc
 to_second l false true s n m e f g = cc
 to_second l false false s n m e f g = cc
 
-module _ (list other including rest new new' : List (List ℕ)) (set : List ℕ) (i : ℕ) (short : i < length list) (set_is : set ≡ get_or list i []) (before : IsSplit (take i list) other including rest) where
+module _ (list other including rest new new' : List (List ℕ)) (set : List ℕ) (i : ℕ) (short : i < length list)
+    (set_is : set ≡ get_or list i []) (before : IsSplit (take i list) other including rest) where
   hits_next : (within : ℕ → Bool) → hits (take (i + 1) list) within ≡ (hits (take i list) within || list_all within set)
-  hits_next within = hits-more list i within short ∙ ap (λ s. hits (take i list) within || list_all within s) (sym set_is)
+  hits_next within =
+      hits-more list i within short ∙ ap (λ s. hits (take i list) within || list_all within s) (sym set_is)
 
   sets_before : (passes : ℕ → Bool) → AreSetsOf passes (take (i + 1) list) → AreSetsOf passes (take i list)
-  sets_before passes all = (All-pop (IsSetOf passes) (take (i + 1) list) (take i list) (Some (get_or list i [])) (take_more list i [] short) all).0
+  sets_before passes all =
+      (All-pop (IsSetOf passes) (take (i + 1) list) (take i list) (Some (get_or list i [])) (take_more list i [] short)
+      all).0
 
   set_of : (passes : ℕ → Bool) → AreSetsOf passes (take (i + 1) list) → IsSetOf passes set
-  set_of passes all = subst (IsSetOf passes) (sym set_is) ((All-pop (IsSetOf passes) (take (i + 1) list) (take i list) (Some (get_or list i [])) (take_more list i [] short) all).1)
+  set_of passes all =
+      subst (IsSetOf passes) (sym set_is) ((All-pop (IsSetOf passes) (take (i + 1) list) (take i list)
+      (Some (get_or list i [])) (take_more list i [] short) all).1)
 
-  pub IsSplit-more : (found : Bool) → (found ≡ true → Includes other set) → new ≡ (if not found then including else including ++ set ∷ []) → new' ≡ (if found then rest else rest ++ set ∷ []) → IsSplit (take (i + 1) list) other new new'
+  pub IsSplit-more : (found : Bool) → (found ≡ true → Includes other set)
+      → new ≡ (if not found then including else including ++ set ∷ [])
+      → new' ≡ (if found then rest else rest ++ set ∷ []) → IsSplit (take (i + 1) list) other new new'
   IsSplit-more true includes is is' = record {
     hits = λ within.
-        to_first (hits (take i list) within) (hits including within) (hits rest within) (list_all within set) (hits (take (i + 1) list) within) (hits new within)
-        (before.hits within) (hits_next within) (ap (λ s. hits s within) is ∙ hits-push including set within) ∙ ap (λ s. hits new within || hits s within) (sym is');
-    included = subst (All (Includes other)) (sym is) (All-push (Includes other) including set before.included (includes refl));
+        to_first (hits (take i list) within) (hits including within) (hits rest within) (list_all within set)
+        (hits (take (i + 1) list) within) (hits new within)
+        (before.hits within) (hits_next within) (ap (λ s. hits s within) is ∙ hits-push including set within)
+        ∙ ap (λ s. hits new within || hits s within) (sym is');
+    included =
+        subst (All (Includes other)) (sym is) (All-push (Includes other) including set before.included (includes refl));
     sets = λ passes all.
-        let parts = before.sets passes (sets_before passes all) in
-        (subst (AreSetsOf passes) (sym is) (All-push (IsSetOf passes) including set parts.0 (set_of passes all)), subst (AreSetsOf passes) (sym is') parts.1);
+        let parts = before.sets passes (sets_before passes all) in (
+          subst (AreSetsOf passes) (sym is) (All-push (IsSetOf passes) including set parts.0 (set_of passes all)),
+          subst (AreSetsOf passes) (sym is') parts.1,
+        );
   }
   IsSplit-more false includes is is' = record {
     hits = λ within.
-        to_second (hits (take i list) within) (hits including within) (hits rest within) (list_all within set) (hits (take (i + 1) list) within) (hits new' within)
-        (before.hits within) (hits_next within) (ap (λ s. hits s within) is' ∙ hits-push rest set within) ∙ ap (λ s. hits s within || hits new' within) (sym is);
+        to_second (hits (take i list) within) (hits including within) (hits rest within) (list_all within set)
+        (hits (take (i + 1) list) within) (hits new' within)
+        (before.hits within) (hits_next within) (ap (λ s. hits s within) is' ∙ hits-push rest set within)
+        ∙ ap (λ s. hits s within || hits new' within) (sym is);
     included = subst (All (Includes other)) (sym is) before.included;
     sets = λ passes all.
-        let parts = before.sets passes (sets_before passes all) in
-        (subst (AreSetsOf passes) (sym is) parts.0, subst (AreSetsOf passes) (sym is') (All-push (IsSetOf passes) rest set parts.1 (set_of passes all)));
+        let parts = before.sets passes (sets_before passes all) in (
+          subst (AreSetsOf passes) (sym is) parts.0,
+          subst (AreSetsOf passes) (sym is')
+              (All-push (IsSetOf passes) rest set parts.1 (set_of passes all)),
+        );
   }
 
-pub IsSplit-all : (list other including rest : List (List ℕ)) (i : ℕ) → length list ≤ i → IsSplit (take i list) other including rest → IsSplit list other including rest
-IsSplit-all list other including rest i long before = subst (λ l. IsSplit l other including rest) (take_all i list long) before
+pub IsSplit-all : (list other including rest : List (List ℕ)) (i : ℕ) → length list ≤ i
+    → IsSplit (take i list) other including rest → IsSplit list other including rest
+IsSplit-all list other including rest i long before =
+    subst (λ l. IsSplit l other including rest) (take_all i list long) before
 
 -- ---- the product
 
-split_product : (o i r i' r' m n : Bool) → (i ≡ true → (i' || r') ≡ true) → (i' ≡ true → (i || r) ≡ true) → m ≡ ((o || i) || i') → n ≡ (m || (r && r')) → n ≡ (o || ((i || r) && (i' || r')))
+split_product : (o i r i' r' m n : Bool) → (i ≡ true → (i' || r') ≡ true) → (i' ≡ true → (i || r) ≡ true)
+    → m ≡ ((o || i) || i') → n ≡ (m || (r && r')) → n ≡ (o || ((i || r) && (i' || r')))
 split_product true i r i' r' m n h k e f = cc
 split_product false true r true r' m n h k e f = cc
 split_product false true r false r' m n h k e f = let g = h refl in cc
@@ -110,13 +147,18 @@ split_product false false true true r' m n h k e f = cc
 split_product false false false true r' m n h k e f = let g = k refl in absurd cc
 split_product false false r false r' m n h k e f = cc
 
-module _ (left right old sets more new including rest including' rest' : List (List ℕ)) (one : IsSplit left right including rest) (other : IsSplit right left including' rest') (sets_are : sets ≡ old ++ including) (more_are : more ≡ sets ++ including') where
+module _ (left right old sets more new including rest including' rest' : List (List ℕ))
+    (one : IsSplit left right including rest) (other : IsSplit right left including' rest')
+    (sets_are : sets ≡ old ++ including) (more_are : more ≡ sets ++ including') where
   pub AddsBoth-split : AddsBoth rest rest' more new → AddsBoth left right old new
   AddsBoth-split adds = record {
     hits = λ within.
         let before : hits more within ≡ ((hits old within || hits including within) || hits including' within) =
-        ap (λ s. hits s within) more_are ∙ hits-append sets including' within ∙ ap (λ b. b || hits including' within) (ap (λ s. hits s within) sets_are ∙ hits-append old including within) in
-        split_product (hits old within) (hits including within) (hits rest within) (hits including' within) (hits rest' within) (hits more within) (hits new within)
+        ap (λ s. hits s within) more_are ∙ hits-append sets including' within
+        ∙ ap (λ b. b || hits including' within) (ap (λ s. hits s within) sets_are
+        ∙ hits-append old including within) in
+        split_product (hits old within) (hits including within) (hits rest within) (hits including' within)
+        (hits rest' within) (hits more within) (hits new within)
         (λ hit. sym (other.hits within) ∙ hit_if_included within right including one.included hit)
         (λ hit. sym (one.hits within) ∙ hit_if_included within left including' other.included hit)
         before (adds.hits within)

@@ -1,12 +1,18 @@
 -- How sets wait at their units, and how those within another are found.
-use Rattle.std.specs.Prelude.{◌≡◌, ◌≢◌, ℕ, zero, suc, ◌+◌, ◌<◌, ◌≤◌, Bool, true, false, ◌&&◌, ◌||◌, not, ◌==◌, nat_lt, List, [], ◌∷◌, ◌++◌, length, take, replicate, All, Contains, get_or, slice_set, map, if◌then◌else◌}
+use Rattle.std.specs.Prelude.{◌≡◌, ◌≢◌, ℕ, zero, suc, ◌+◌, ◌<◌, ◌≤◌, Bool, true, false, ◌&&◌, ◌||◌, not, ◌==◌, nat_lt}
+use Rattle.std.specs.Prelude.{List, [], ◌∷◌, ◌++◌, length, take, replicate, All, Contains, get_or, slice_set, map}
+use Rattle.std.specs.Prelude.{if◌then◌else◌}
 use Rattle.std.specs.List.{list_any}
 use Rattle.std.proofs.Common.{refl, sym, ◌∙◌, ap, subst, inl, inr, arith, length-append}
-use Rattle.std.proofs.lemmas.Bool.{or_from, and_parts, and_from, and_left, and_right, le-ltb, cases_lt, cases_eq, lt-ltb}
-use Rattle.std.proofs.lemmas.List.{get_or_default, take_more, take_all, get_or-take, length-take, get_or_append_left, get_or-set_same, get_or-set_other}
+use Rattle.std.proofs.lemmas.Bool.{or_from, and_parts, and_from, and_left, and_right, le-ltb, cases_lt, cases_eq}
+use Rattle.std.proofs.lemmas.Bool.{lt-ltb}
+use Rattle.std.proofs.lemmas.List.{get_or_default, take_more, take_all, get_or-take, length-take, get_or_append_left}
+use Rattle.std.proofs.lemmas.List.{get_or-set_same, get_or-set_other}
 use Rattle.std.proofs.lemmas.List.Folds.{list_any-append, Any-from_list_any, list_any-from_Any}
-use Rattle.std.proofs.lemmas.List.Elements.{All-push, All-nil, All-weaker, All-contains, Contains-get_or, Contains-append_left, Contains-push}
-use Rattle.unit_sets.specs.UnitList.{among, is_within, with_unit, without_unit, among-with_unit, among-without_unit, among-from_Contains, Contains-from_among}
+use Rattle.std.proofs.lemmas.List.Elements.{All-push, All-nil, All-weaker, All-contains, Contains-get_or}
+use Rattle.std.proofs.lemmas.List.Elements.{Contains-append_left, Contains-push}
+use Rattle.unit_sets.specs.UnitList.{among, is_within, with_unit, without_unit, among-with_unit, among-without_unit}
+use Rattle.unit_sets.specs.UnitList.{among-from_Contains, Contains-from_among}
 use Rattle.unit_sets.specs.CutOrder.{cut_cmp, IsInCutOrder}
 use Rattle.std.specs.Cmp.Lexicographic.{slice_cmp}
 use Rattle.std.specs.Ordering.{nat_cmp}
@@ -14,7 +20,8 @@ use Rattle.std.specs.declared.cmp.Ordering.TheVariants.{Less}
 use Rattle.std.proofs.lemmas.Map.Keys.{Less-from_sorted}
 use Rattle.cutset_lists.specs.declared.waiting.Waiter.{Waiter}
 use Rattle.cutset_lists.specs.Sets.{is_short_within, is_smaller_within, IsMinimalFrom}
-use Rattle.cutset_lists.specs.Waiting.{AreWaiting, AreAlike, AreFilled, HasEmptyFirst, IsWaiter, Waits, set_at, waiters_at}
+use Rattle.cutset_lists.specs.Waiting.{AreWaiting, AreAlike, AreFilled, HasEmptyFirst, IsWaiter, Waits, set_at}
+use Rattle.cutset_lists.specs.Waiting.{waiters_at}
 use Rattle.cutset_lists.proofs.SetLemmas.{or-false}
 use Rattle.std.proofs.lemmas.Bool.Decides.{nat_tests}
 use Rattle.cutset_lists.proofs.MinimalLemmas.{all_at, size_of_less, none_larger, keeps_out-step, keeps-step}
@@ -26,30 +33,43 @@ nobody zero unit = refl
 nobody (suc units) zero = refl
 nobody (suc units) (suc unit) = nobody units unit
 
-pub none_wait : (units : ℕ) (at : List (List Waiter)) → at ≡ replicate units [] → (sets : List (List ℕ)) → AreWaiting sets 0 at
+pub none_wait : (units : ℕ) (at : List (List Waiter)) → at ≡ replicate units [] → (sets : List (List ℕ))
+    → AreWaiting sets 0 at
 none_wait units at none sets = record {
   inside = omega arith;
-  known = λ unit. subst (All (IsWaiter sets 0)) (sym (ap (λ (l : List (List Waiter)). get_or l unit []) none ∙ nobody units unit)) (All-nil (IsWaiter sets 0));
+  known =
+      λ unit. subst (All (IsWaiter sets 0)) (sym (ap (λ (l : List (List Waiter)). get_or l unit []) none
+      ∙ nobody units unit)) (All-nil (IsWaiter sets 0));
   placed = λ place below. absurd (omega arith);
 }
 
 -- a unit at a place of a set
 pub unit_there : (set : List ℕ) (unit i d : ℕ) → i < length set → unit ≡ get_or set i d → among set unit ≡ true
-unit_there set unit i d short is = subst (λ (u : ℕ). among set u ≡ true) (sym is) (among-from_Contains set (get_or set i d) (Contains-get_or set i d short))
+unit_there set unit i d short is =
+    subst (λ (u : ℕ). among set u ≡ true) (sym is)
+    (among-from_Contains set (get_or set i d) (Contains-get_or set i d short))
 
-known_more : (sets : List (List ℕ)) (count : ℕ) (waiters : List Waiter) → All (IsWaiter sets count) waiters → All (IsWaiter sets (count + 1)) waiters
+known_more : (sets : List (List ℕ)) (count : ℕ) (waiters : List Waiter) → All (IsWaiter sets count) waiters
+    → All (IsWaiter sets (count + 1)) waiters
 known_more sets count waiters known =
-    All-weaker (IsWaiter sets count) (IsWaiter sets (count + 1)) (λ waiter is. record { inside = let low = is.inside in omega arith; sign = is.sign }) waiters known
+    All-weaker (IsWaiter sets count) (IsWaiter sets (count + 1))
+    (λ waiter is. record { inside = let low = is.inside in omega arith; sign = is.sign }) waiters known
 
 -- the next set waits at one of its units
-module _ (sets : List (List ℕ)) (count : ℕ) (at new : List (List Waiter)) (home : ℕ) (waiter : Waiter) (inside : count < length sets) (room : home < length at)
-    (of_set : among (set_at sets count) home ≡ true) (sign : among (set_at sets count) waiter.sign ≡ true) (place : waiter.place ≡ count)
+module _ (sets : List (List ℕ)) (count : ℕ) (at new : List (List Waiter)) (home : ℕ) (waiter : Waiter)
+    (inside : count < length sets) (room : home < length at)
+    (of_set : among (set_at sets count) home ≡ true) (sign : among (set_at sets count) waiter.sign ≡ true)
+    (place : waiter.place ≡ count)
     (is : new ≡ slice_set at home (waiters_at at home ++ waiter ∷ [])) (before : AreWaiting sets count at) where
   here : waiters_at new home ≡ waiters_at at home ++ waiter ∷ []
-  here = ap (λ (l : List (List Waiter)). get_or l home []) is ∙ get_or-set_same at home (waiters_at at home ++ waiter ∷ []) [] room
+  here =
+      ap (λ (l : List (List Waiter)). get_or l home []) is
+      ∙ get_or-set_same at home (waiters_at at home ++ waiter ∷ []) [] room
 
   elsewhere : (unit : ℕ) → unit ≢ home → waiters_at new unit ≡ waiters_at at unit
-  elsewhere unit other = ap (λ (l : List (List Waiter)). get_or l unit []) is ∙ get_or-set_other at home unit (waiters_at at home ++ waiter ∷ []) [] other
+  elsewhere unit other =
+      ap (λ (l : List (List Waiter)). get_or l unit []) is
+      ∙ get_or-set_other at home unit (waiters_at at home ++ waiter ∷ []) [] other
 
   is_waiter : IsWaiter sets (count + 1) waiter
   is_waiter = record {
@@ -61,15 +81,20 @@ module _ (sets : List (List ℕ)) (count : ℕ) (at new : List (List Waiter)) (h
   known_now unit =
       elim (cases_eq unit home) [
         | inl same ↦ subst (λ (u : ℕ). All (IsWaiter sets (count + 1)) (waiters_at new u)) (sym same)
-            (subst (All (IsWaiter sets (count + 1))) (sym here) (All-push (IsWaiter sets (count + 1)) (waiters_at at home) waiter (known_more sets count (waiters_at at home) (before.known home)) is_waiter))
-        | inr other ↦ subst (All (IsWaiter sets (count + 1))) (sym (elsewhere unit other)) (known_more sets count (waiters_at at unit) (before.known unit))
+            (subst (All (IsWaiter sets (count + 1))) (sym here)
+            (All-push (IsWaiter sets (count + 1)) (waiters_at at home) waiter
+            (known_more sets count (waiters_at at home) (before.known home)) is_waiter))
+        | inr other ↦ subst (All (IsWaiter sets (count + 1))) (sym (elsewhere unit other))
+            (known_more sets count (waiters_at at unit) (before.known unit))
       ]
 
   still_there : (unit : ℕ) (old : Waiter) → Contains (waiters_at at unit) old → Contains (waiters_at new unit) old
   still_there unit old there =
       elim (cases_eq unit home) [
         | inl same ↦ subst (λ (u : ℕ). Contains (waiters_at new u) old) (sym same)
-            (subst (λ (l : List Waiter). Contains l old) (sym here) (Contains-append_left (waiters_at at home) (waiter ∷ []) old (subst (λ (u : ℕ). Contains (waiters_at at u) old) same there)))
+            (subst (λ (l : List Waiter). Contains l old) (sym here)
+            (Contains-append_left (waiters_at at home) (waiter ∷ []) old
+            (subst (λ (u : ℕ). Contains (waiters_at at u) old) same there)))
         | inr other ↦ subst (λ (l : List Waiter). Contains l old) (sym (elsewhere unit other)) there
       ]
 
@@ -102,18 +127,25 @@ module _ (sets : List (List ℕ)) (count : ℕ) (at new : List (List Waiter)) (h
   }
 
 -- the same, of values as the code has them
-pub one_more-step : (sets : List (List ℕ)) (count : ℕ) (at : List (List Waiter)) (home place : ℕ) (waiter : Waiter) (set : List ℕ) (found pushed : List Waiter)
-    → count < length sets → place < length at → place ≡ home → set ≡ get_or sets count [] → among set home ≡ true → among set waiter.sign ≡ true → waiter.place ≡ count
-    → found ≡ get_or at place found → pushed ≡ found ++ waiter ∷ [] → AreWaiting sets count at → AreWaiting sets (count + 1) (slice_set at place pushed)
-one_more-step sets count at home place waiter set found pushed inside room same set_is of_set sign at_count found_is pushed_is before =
+pub one_more-step : (sets : List (List ℕ)) (count : ℕ) (at : List (List Waiter)) (home place : ℕ) (waiter : Waiter)
+    (set : List ℕ) (found pushed : List Waiter)
+    → count < length sets → place < length at → place ≡ home → set ≡ get_or sets count [] → among set home ≡ true
+    → among set waiter.sign ≡ true → waiter.place ≡ count
+    → found ≡ get_or at place found → pushed ≡ found ++ waiter ∷ [] → AreWaiting sets count at
+    → AreWaiting sets (count + 1) (slice_set at place pushed)
+one_more-step sets count at home place waiter set found pushed inside room same set_is of_set sign at_count found_is
+    pushed_is before =
     let there : found ≡ waiters_at at place = found_is ∙ get_or_default at place found [] room in
     one_more sets count at (slice_set at place pushed) place waiter inside room
-    (subst (λ (u : ℕ). among (set_at sets count) u ≡ true) (sym same) (subst (λ (s : List ℕ). among s home ≡ true) set_is of_set))
+    (subst (λ (u : ℕ). among (set_at sets count) u ≡ true) (sym same)
+    (subst (λ (s : List ℕ). among s home ≡ true) set_is of_set))
     (subst (λ (s : List ℕ). among s waiter.sign ≡ true) set_is sign)
-    at_count (ap (λ (l : List Waiter). slice_set at place l) (pushed_is ∙ ap (λ (l : List Waiter). l ++ waiter ∷ []) there)) before
+    at_count (ap (λ (l : List Waiter). slice_set at place l)
+    (pushed_is ∙ ap (λ (l : List Waiter). l ++ waiter ∷ []) there)) before
 
 -- with one set more in the list the same wait
-module _ (sets : List (List ℕ)) (count : ℕ) (at : List (List Waiter)) (set : List ℕ) (before : AreWaiting sets count at) where
+module _ (sets : List (List ℕ)) (count : ℕ) (at : List (List Waiter)) (set : List ℕ)
+    (before : AreWaiting sets count at) where
   same_set_at : (place : ℕ) → place < count → set_at (sets ++ set ∷ []) place ≡ set_at sets place
   same_set_at place below = let low = before.inside in get_or_append_left sets (set ∷ []) [] place (omega arith)
 
@@ -121,7 +153,11 @@ module _ (sets : List (List ℕ)) (count : ℕ) (at : List (List Waiter)) (set :
   longer_list = record {
     inside = let low = before.inside in omega (arith, length-append sets (set ∷ []));
     known = λ unit. All-weaker (IsWaiter sets count) (IsWaiter (sets ++ set ∷ []) count)
-        (λ waiter is. record { inside = is.inside; sign = subst (λ (s : List ℕ). among s waiter.sign ≡ true) (sym (same_set_at waiter.place is.inside)) is.sign })
+        (λ waiter is. record {
+          inside = is.inside;
+          sign =
+              subst (λ (s : List ℕ). among s waiter.sign ≡ true) (sym (same_set_at waiter.place is.inside)) is.sign;
+        })
         (waiters_at at unit) (before.known unit);
     placed = λ place below. let old = before.placed place below in record {
       unit = old.unit;
@@ -151,16 +187,19 @@ within_alike set other (first ∷ others) alike =
     cc
 
 -- a set without the sign of another does not have it within
-pub no_sign : (set smaller : List ℕ) (sign : ℕ) → among smaller sign ≡ true → among set sign ≡ false → is_within set smaller ≡ false
+pub no_sign : (set smaller : List ℕ) (sign : ℕ) → among smaller sign ≡ true → among set sign ≡ false
+    → is_within set smaller ≡ false
 no_sign set smaller sign there missing = go (is_within set smaller) refl
   where
     go : (b : Bool) → is_within set smaller ≡ b → b ≡ false
     go false is = refl
     go true is = let found = all_at (among set) smaller sign is there in absurd cc
 
-module _ (sets : List (List ℕ)) (count : ℕ) (at : List (List Waiter)) (marked set : List ℕ) (size : ℕ) (alike : AreAlike marked set) (before : AreWaiting sets count at) where
+module _ (sets : List (List ℕ)) (count : ℕ) (at : List (List Waiter)) (marked set : List ℕ) (size : ℕ)
+    (alike : AreAlike marked set) (before : AreWaiting sets count at) where
   abbrev pub finds_at : ℕ → Bool
-  finds_at unit = list_any (λ (waiter : Waiter). is_short_within size marked (set_at sets waiter.place)) (waiters_at at unit)
+  finds_at unit =
+      list_any (λ (waiter : Waiter). is_short_within size marked (set_at sets waiter.place)) (waiters_at at unit)
 
   short_alike : (smaller : List ℕ) → is_short_within size marked smaller ≡ is_short_within size set smaller
   short_alike smaller = ap (λ b. nat_lt (length smaller) size && b) (within_alike marked set smaller alike)
@@ -168,73 +207,115 @@ module _ (sets : List (List ℕ)) (count : ℕ) (at : List (List Waiter)) (marke
   found_is_there : list_any finds_at set ≡ true → list_any (is_short_within size set) (take count sets) ≡ true
   found_is_there found =
       let (k, unit, short, same, at_unit) = Any-from_list_any finds_at set found in
-      let (j, waiter, inner, is, holds) = Any-from_list_any (λ (w : Waiter). is_short_within size marked (set_at sets w.place)) (waiters_at at unit) at_unit in
-      let known : IsWaiter sets count waiter = All-contains (IsWaiter sets count) (waiters_at at unit) waiter (before.known unit) (j, inner, is) in
+      let (j, waiter, inner, is, holds) =
+      Any-from_list_any (λ (w : Waiter). is_short_within size marked (set_at sets w.place)) (waiters_at at unit)
+      at_unit in
+      let known : IsWaiter sets count waiter =
+      All-contains (IsWaiter sets count) (waiters_at at unit) waiter (before.known unit) (j, inner, is) in
       let low = known.inside in
       let all = before.inside in
       let here : waiter.place < length (take count sets) = omega (arith, length-take {A = List ℕ}) in
       some_holds (is_short_within size set) (take count sets) (set_at sets waiter.place)
-      (subst (λ (s : List ℕ). Contains (take count sets) s) (get_or-take count sets waiter.place [] low) (Contains-get_or (take count sets) waiter.place [] here)) (sym (short_alike (set_at sets waiter.place)) ∙ holds)
+      (subst (λ (s : List ℕ). Contains (take count sets) s) (get_or-take count sets waiter.place [] low)
+      (Contains-get_or (take count sets) waiter.place [] here))
+      (sym (short_alike (set_at sets waiter.place)) ∙ holds)
 
   there_is_found : list_any (is_short_within size set) (take count sets) ≡ true → list_any finds_at set ≡ true
   there_is_found some =
       let (place, smaller, short, same, holds) = Any-from_list_any (is_short_within size set) (take count sets) some in
       let low : place < count = omega (arith, length-take {A = List ℕ}) in
-      let is : set_at sets place ≡ smaller = sym (get_or-take count sets place [] low) ∙ sym (get_or_default (take count sets) place smaller [] short) ∙ same in
+      let is : set_at sets place ≡ smaller =
+      sym (get_or-take count sets place [] low) ∙ sym (get_or_default (take count sets) place smaller [] short)
+      ∙ same in
       let waits : Waits sets at place = before.placed place low in
-      let smaller_there : is_short_within size set (set_at sets place) ≡ true = subst (λ (s : List ℕ). is_short_within size set s ≡ true) (sym is) holds in
-      let inside = (and_parts (nat_lt (length (set_at sets place)) size) (is_within set (set_at sets place)) smaller_there).1 in
-      let unit_in : among set waits.unit ≡ true = all_at (among set) (set_at sets place) waits.unit inside waits.of_set in
+      let smaller_there : is_short_within size set (set_at sets place) ≡ true =
+      subst (λ (s : List ℕ). is_short_within size set s ≡ true) (sym is) holds in
+      let inside =
+      (and_parts (nat_lt (length (set_at sets place)) size) (is_within set (set_at sets place)) smaller_there).1 in
+      let unit_in : among set waits.unit ≡ true =
+      all_at (among set) (set_at sets place) waits.unit inside waits.of_set in
       some_holds finds_at set waits.unit (Contains-from_among set waits.unit unit_in)
-      (some_holds (λ (w : Waiter). is_short_within size marked (set_at sets w.place)) (waiters_at at waits.unit) waits.waiter waits.there
-      (subst (λ (p : ℕ). is_short_within size marked (set_at sets p) ≡ true) (sym waits.for_set) (short_alike (set_at sets place) ∙ smaller_there)))
+      (some_holds (λ (w : Waiter). is_short_within size marked (set_at sets w.place)) (waiters_at at waits.unit)
+      waits.waiter waits.there
+      (subst (λ (p : ℕ). is_short_within size marked (set_at sets p) ≡ true) (sym waits.for_set)
+      (short_alike (set_at sets place) ∙ smaller_there)))
 
   pub found_among_waiting : list_any finds_at set ≡ list_any (is_short_within size set) (take count sets)
-  found_among_waiting = both_ways (list_any finds_at set) (list_any (is_short_within size set) (take count sets)) found_is_there there_is_found
+  found_among_waiting =
+      both_ways (list_any finds_at set) (list_any (is_short_within size set) (take count sets)) found_is_there
+      there_is_found
 
 -- ---- the same, of values as the code has them
 
-pub sign_missing : (marked smaller : List ℕ) (size sign : ℕ) → among smaller sign ≡ true → among marked sign ≡ false → is_short_within size marked smaller ≡ false
-sign_missing marked smaller size sign there missing = and_right (nat_lt (length smaller) size) (is_within marked smaller) (no_sign marked smaller sign there missing)
+pub sign_missing : (marked smaller : List ℕ) (size sign : ℕ) → among smaller sign ≡ true → among marked sign ≡ false
+    → is_short_within size marked smaller ≡ false
+sign_missing marked smaller size sign there missing =
+    and_right (nat_lt (length smaller) size) (is_within marked smaller) (no_sign marked smaller sign there missing)
 
 -- those who wait are sets of the list
-pub in_list : (sets : List (List ℕ)) (count : ℕ) (at : List (List Waiter)) (unit : ℕ) → AreWaiting sets count at → All (IsWaiter sets (length sets)) (waiters_at at unit)
+pub in_list : (sets : List (List ℕ)) (count : ℕ) (at : List (List Waiter)) (unit : ℕ) → AreWaiting sets count at
+    → All (IsWaiter sets (length sets)) (waiters_at at unit)
 in_list sets count at unit before =
-    All-weaker (IsWaiter sets count) (IsWaiter sets (length sets)) (λ waiter is. record { inside = let low = is.inside in let all = before.inside in omega arith; sign = is.sign }) (waiters_at at unit) (before.known unit)
+    All-weaker (IsWaiter sets count) (IsWaiter sets (length sets))
+    (λ waiter is. record { inside = let low = is.inside in let all = before.inside in omega arith; sign = is.sign })
+    (waiters_at at unit) (before.known unit)
 
-pub found_waiters : (sets : List (List ℕ)) (count : ℕ) (at : List (List Waiter)) (place : ℕ) (found waiters : List Waiter)
-    → AreWaiting sets count at → place < length at → found ≡ get_or at place found → waiters ≡ found → All (IsWaiter sets (length sets)) waiters
+pub found_waiters : (sets : List (List ℕ)) (count : ℕ) (at : List (List Waiter)) (place : ℕ)
+    (found waiters : List Waiter)
+    → AreWaiting sets count at → place < length at → found ≡ get_or at place found → waiters ≡ found
+    → All (IsWaiter sets (length sets)) waiters
 found_waiters sets count at place found waiters before room found_is waiters_are =
-    subst (All (IsWaiter sets (length sets))) (sym (waiters_are ∙ found_is ∙ get_or_default at place found [] room)) (in_list sets count at place before)
+    subst (All (IsWaiter sets (length sets))) (sym (waiters_are ∙ found_is ∙ get_or_default at place found [] room))
+    (in_list sets count at place before)
 
 -- a unit where one is found
-pub finds-some : (sets : List (List ℕ)) (count : ℕ) (at : List (List Waiter)) (marked set : List ℕ) (size unit place i d : ℕ) (waiters found : List Waiter)
-    → AreWaiting sets count at → AreAlike marked set → i < length set → unit ≡ get_or set i d → place ≡ unit → place < length at → found ≡ get_or at place found → waiters ≡ found
-    → list_any (λ (waiter : Waiter). is_short_within size marked (set_at sets waiter.place)) waiters ≡ true → list_any (is_short_within size set) (take count sets) ≡ true
-finds-some sets count at marked set size unit place i d waiters found before alike short is same room found_is waiters_are holds =
-    let here : waiters ≡ waiters_at at unit = waiters_are ∙ found_is ∙ get_or_default at place found [] room ∙ ap (waiters_at at) same in
-    let at_unit : finds_at sets count at marked set size alike before unit ≡ true = subst (λ (l : List Waiter). list_any (λ (waiter : Waiter). is_short_within size marked (set_at sets waiter.place)) l ≡ true) here holds in
+pub finds-some : (sets : List (List ℕ)) (count : ℕ) (at : List (List Waiter)) (marked set : List ℕ)
+    (size unit place i d : ℕ) (waiters found : List Waiter)
+    → AreWaiting sets count at → AreAlike marked set → i < length set → unit ≡ get_or set i d → place ≡ unit
+    → place < length at → found ≡ get_or at place found → waiters ≡ found
+    → list_any (λ (waiter : Waiter). is_short_within size marked (set_at sets waiter.place)) waiters ≡ true
+    → list_any (is_short_within size set) (take count sets) ≡ true
+finds-some sets count at marked set size unit place i d waiters found before alike short is same room found_is
+    waiters_are holds =
+    let here : waiters ≡ waiters_at at unit =
+    waiters_are ∙ found_is ∙ get_or_default at place found [] room ∙ ap (waiters_at at) same in
+    let at_unit : finds_at sets count at marked set size alike before unit ≡ true =
+    subst (λ (l : List Waiter). list_any (λ (waiter : Waiter). is_short_within size marked
+    (set_at sets waiter.place)) l ≡ true) here holds in
     sym (found_among_waiting sets count at marked set size alike before)
-    ∙ some_holds (finds_at sets count at marked set size alike before) set unit (subst (λ (u : ℕ). Contains set u) (sym is) (Contains-get_or set i d short)) at_unit
+    ∙ some_holds (finds_at sets count at marked set size alike before) set unit
+    (subst (λ (u : ℕ). Contains set u) (sym is) (Contains-get_or set i d short)) at_unit
 
 -- none is found at the first units
 abbrev pub NoneAt : List (List ℕ) → List (List Waiter) → List ℕ → ℕ → List ℕ → ℕ → Type 0
-NoneAt sets at marked size set i = list_any (λ (unit : ℕ). list_any (λ (waiter : Waiter). is_short_within size marked (set_at sets waiter.place)) (waiters_at at unit)) (take i set) ≡ false
+NoneAt sets at marked size set i =
+    list_any (λ (unit : ℕ). list_any (λ (waiter : Waiter). is_short_within size marked (set_at sets waiter.place))
+    (waiters_at at unit)) (take i set) ≡ false
 
-pub NoneAt-more : (sets : List (List ℕ)) (at : List (List Waiter)) (marked set : List ℕ) (size unit place i d : ℕ) (waiters found : List Waiter)
-    → i < length set → unit ≡ get_or set i d → place ≡ unit → place < length at → found ≡ get_or at place found → waiters ≡ found
-    → list_any (λ (waiter : Waiter). is_short_within size marked (set_at sets waiter.place)) waiters ≡ false → NoneAt sets at marked size set i → NoneAt sets at marked size set (i + 1)
+pub NoneAt-more : (sets : List (List ℕ)) (at : List (List Waiter)) (marked set : List ℕ) (size unit place i d : ℕ)
+    (waiters found : List Waiter)
+    → i < length set → unit ≡ get_or set i d → place ≡ unit → place < length at → found ≡ get_or at place found
+    → waiters ≡ found
+    → list_any (λ (waiter : Waiter). is_short_within size marked (set_at sets waiter.place)) waiters ≡ false
+    → NoneAt sets at marked size set i → NoneAt sets at marked size set (i + 1)
 NoneAt-more sets at marked set size unit place i d waiters found short is same room found_is waiters_are none before =
-    let here : waiters ≡ waiters_at at (get_or set i d) = waiters_are ∙ found_is ∙ get_or_default at place found [] room ∙ ap (waiters_at at) (same ∙ is) in
-    let p : ℕ → Bool = λ (u : ℕ). list_any (λ (waiter : Waiter). is_short_within size marked (set_at sets waiter.place)) (waiters_at at u) in
+    let here : waiters ≡ waiters_at at (get_or set i d) =
+    waiters_are ∙ found_is ∙ get_or_default at place found [] room ∙ ap (waiters_at at) (same ∙ is) in
+    let p : ℕ → Bool =
+    λ (u : ℕ). list_any (λ (waiter : Waiter). is_short_within size marked (set_at sets waiter.place))
+    (waiters_at at u) in
     ap (list_any p) (take_more set i d short)
     ∙ list_any-append p (take i set) (get_or set i d ∷ [])
-    ∙ or_from _ _ before (or_from _ _ (subst (λ (l : List Waiter). list_any (λ (waiter : Waiter). is_short_within size marked (set_at sets waiter.place)) l ≡ false) here none) refl)
+    ∙ or_from _ _ before (or_from _ _ (subst (λ (l : List Waiter). list_any
+    (λ (waiter : Waiter). is_short_within size marked (set_at sets waiter.place)) l ≡ false) here none) refl)
 
-pub finds-none : (sets : List (List ℕ)) (count : ℕ) (at : List (List Waiter)) (marked set : List ℕ) (size i : ℕ) → AreWaiting sets count at → AreAlike marked set → length set ≤ i → NoneAt sets at marked size set i → list_any (is_short_within size set) (take count sets) ≡ false
+pub finds-none : (sets : List (List ℕ)) (count : ℕ) (at : List (List Waiter)) (marked set : List ℕ) (size i : ℕ)
+    → AreWaiting sets count at → AreAlike marked set → length set ≤ i → NoneAt sets at marked size set i
+    → list_any (is_short_within size set) (take count sets) ≡ false
 finds-none sets count at marked set size i before alike long none =
     sym (found_among_waiting sets count at marked set size alike before)
-    ∙ subst (λ (l : List ℕ). list_any (finds_at sets count at marked set size alike before) l ≡ false) (take_all i set long) none
+    ∙ subst (λ (l : List ℕ). list_any (finds_at sets count at marked set size alike before) l ≡ false)
+    (take_all i set long) none
 
 -- ---- sets one after another
 
@@ -256,14 +337,16 @@ take_out true true e f same = refl
 take_out true false e f same = ap not same
 take_out false b e f same = refl
 
-among_next : (set : List ℕ) (unit i d other : ℕ) → i < length set → unit ≡ get_or set i d → among (take (i + 1) set) other ≡ (among (take i set) other || (unit == other))
+among_next : (set : List ℕ) (unit i d other : ℕ) → i < length set → unit ≡ get_or set i d
+    → among (take (i + 1) set) other ≡ (among (take i set) other || (unit == other))
 among_next set unit i d other short is =
     ap (λ (l : List ℕ). among l other) (take_more set i d short)
     ∙ list_any-append (λ member. member == other) (take i set) (get_or set i d ∷ [])
     ∙ ap (λ (u : ℕ). among (take i set) other || ((u == other) || false)) (sym is)
     ∙ ap (λ b. among (take i set) other || b) (or-false (unit == other))
 
-pub marks_more : (set marked new : List ℕ) (unit i d : ℕ) → i < length set → unit ≡ get_or set i d → ((other : ℕ) → among marked other ≡ among (take i set) other)
+pub marks_more : (set marked new : List ℕ) (unit i d : ℕ) → i < length set → unit ≡ get_or set i d
+    → ((other : ℕ) → among marked other ≡ among (take i set) other)
     → new ≡ with_unit unit marked → (other : ℕ) → among new other ≡ among (take (i + 1) set) other
 marks_more set marked new unit i d short is before with_it other =
     ap (λ (l : List ℕ). among l other) with_it
@@ -272,8 +355,10 @@ marks_more set marked new unit i d short is before with_it other =
     ∙ ap (λ b. b || (unit == other)) (before other)
     ∙ sym (among_next set unit i d other short is)
 
-pub marks_fewer : (set marked new : List ℕ) (unit i d : ℕ) → i < length set → unit ≡ get_or set i d → ((other : ℕ) → among marked other ≡ (among set other && not (among (take i set) other)))
-    → new ≡ without_unit unit marked → (other : ℕ) → among new other ≡ (among set other && not (among (take (i + 1) set) other))
+pub marks_fewer : (set marked new : List ℕ) (unit i d : ℕ) → i < length set → unit ≡ get_or set i d
+    → ((other : ℕ) → among marked other ≡ (among set other && not (among (take i set) other)))
+    → new ≡ without_unit unit marked → (other : ℕ)
+    → among new other ≡ (among set other && not (among (take (i + 1) set) other))
 marks_fewer set marked new unit i d short is before without_it other =
     ap (λ (l : List ℕ). among l other) without_it
     ∙ among-without_unit unit marked other
@@ -285,46 +370,59 @@ marks_fewer set marked new unit i d short is before without_it other =
 pub no_members : (set : List ℕ) → ((unit : ℕ) → among set unit ≡ false) → set ≡ []
 no_members [] none = refl
 no_members (first ∷ others) none =
-    let here : among (first ∷ others) first ≡ true = among-from_Contains (first ∷ others) first (Contains-get_or (first ∷ others) 0 first (omega arith)) in
+    let here : among (first ∷ others) first ≡ true =
+    among-from_Contains (first ∷ others) first (Contains-get_or (first ∷ others) 0 first (omega arith)) in
     let nowhere = none first in
     absurd cc
 
-pub all_taken_out : (set marked : List ℕ) (i : ℕ) → length set ≤ i → ((other : ℕ) → among marked other ≡ (among set other && not (among (take i set) other))) → marked ≡ []
+pub all_taken_out : (set marked : List ℕ) (i : ℕ) → length set ≤ i
+    → ((other : ℕ) → among marked other ≡ (among set other && not (among (take i set) other))) → marked ≡ []
 all_taken_out set marked i long left =
-    no_members marked (λ unit. left unit ∙ ap (λ (l : List ℕ). among set unit && not (among l unit)) (take_all i set long) ∙ and-not (among set unit))
+    no_members marked (λ unit. left unit ∙ ap (λ (l : List ℕ). among set unit && not (among l unit))
+    (take_all i set long) ∙ and-not (among set unit))
 
 -- ---- an empty set
 
 pub filled : (sets : List (List ℕ)) → IsInCutOrder sets → 1 ≤ length (set_at sets 0) → AreFilled sets
 filled sets ordered some zero inside = some
 filled sets ordered some (suc place) inside =
-    let less : cut_cmp (get_or sets 0 []) (get_or sets (suc place) []) ≡ Less = Less-from_sorted cut_cmp sets 0 (suc place) [] ordered (omega arith) inside in
-    let size : length (get_or sets 0 []) ≤ length (get_or sets (suc place) []) = size_of_less (length (get_or sets 0 [])) (length (get_or sets (suc place) [])) (slice_cmp nat_cmp (get_or sets 0 []) (get_or sets (suc place) [])) less in
+    let less : cut_cmp (get_or sets 0 []) (get_or sets (suc place) []) ≡ Less =
+    Less-from_sorted cut_cmp sets 0 (suc place) [] ordered (omega arith) inside in
+    let size : length (get_or sets 0 []) ≤ length (get_or sets (suc place) []) =
+    size_of_less (length (get_or sets 0 [])) (length (get_or sets (suc place) []))
+    (slice_cmp nat_cmp (get_or sets 0 []) (get_or sets (suc place) [])) less in
     omega arith
 
-pub empty_within : (sets : List (List ℕ)) (set : List ℕ) → HasEmptyFirst sets → list_any (is_smaller_within set) sets ≡ nat_lt 0 (length set)
+pub empty_within : (sets : List (List ℕ)) (set : List ℕ) → HasEmptyFirst sets
+    → list_any (is_smaller_within set) sets ≡ nat_lt 0 (length set)
 empty_within sets set (some, empty) = go set refl
   where
     none_in : (l : List (List ℕ)) → list_any (is_smaller_within []) l ≡ false
     none_in [] = refl
-    none_in (smaller ∷ others) = or_from _ _ (and_left (nat_lt (length smaller) 0) (is_within [] smaller) (le-ltb (length smaller) 0 (omega arith))) (none_in others)
+    none_in (smaller ∷ others) =
+        or_from _ _ (and_left (nat_lt (length smaller) 0) (is_within [] smaller)
+        (le-ltb (length smaller) 0 (omega arith))) (none_in others)
 
     go : (s : List ℕ) → s ≡ set → list_any (is_smaller_within set) sets ≡ nat_lt 0 (length set)
     go [] is = subst (λ (s : List ℕ). list_any (is_smaller_within s) sets ≡ nat_lt 0 (length s)) is (none_in sets)
     go (unit ∷ others) is =
         subst (λ (s : List ℕ). list_any (is_smaller_within s) sets ≡ nat_lt 0 (length s)) is
-        (some_holds (is_smaller_within (unit ∷ others)) sets [] (0, some, empty) (and_from (nat_lt 0 (length (unit ∷ others))) (is_within (unit ∷ others) []) (lt-ltb 0 (length (unit ∷ others)) (omega arith)) refl)
+        (some_holds (is_smaller_within (unit ∷ others)) sets [] (0, some, empty)
+        (and_from (nat_lt 0 (length (unit ∷ others))) (is_within (unit ∷ others) [])
+        (lt-ltb 0 (length (unit ∷ others)) (omega arith)) refl)
         ∙ sym (lt-ltb 0 (length (unit ∷ others)) (omega arith)))
 
 -- ---- all sets
 
 -- with the first sets decided and the others no smaller, all are decided
-pub all_decided : (sets : List (List ℕ)) (set : List ℕ) (count : ℕ) (found : Bool) → count ≤ length sets → IsInCutOrder sets → (count < length sets → length set ≤ length (set_at sets count))
+pub all_decided : (sets : List (List ℕ)) (set : List ℕ) (count : ℕ) (found : Bool) → count ≤ length sets
+    → IsInCutOrder sets → (count < length sets → length set ≤ length (set_at sets count))
     → found ≡ list_any (is_smaller_within set) (take count sets) → found ≡ list_any (is_smaller_within set) sets
 all_decided sets set count true low ordered large is =
     let (k, smaller, short, same, holds) = Any-from_list_any (is_smaller_within set) (take count sets) (sym is) in
     let inside : k < count = omega (arith, length-take {A = List ℕ}) in
-    sym (list_any-from_Any (is_smaller_within set) sets (k, smaller, omega arith, sym (get_or-take count sets k smaller inside) ∙ same, holds))
+    sym (list_any-from_Any (is_smaller_within set) sets
+    (k, smaller, omega arith, sym (get_or-take count sets k smaller inside) ∙ same, holds))
 all_decided sets set count false low ordered large is =
     elim (cases_lt count (length sets)) [
       | inl more ↦ sym (none_larger set (set_at sets count) sets count more ordered refl (large more) (sym is))
@@ -336,17 +434,24 @@ all_decided sets set count false low ordered large is =
 pub some_unit : (set : List ℕ) (empty : Bool) → empty ≡ (length set == 0) → not empty ≡ nat_lt 0 (length set)
 some_unit set empty is = grind (arith, nat_tests)
 
-pub filled_unless : (sets : List (List ℕ)) (first : List ℕ) (empty : Bool) → IsInCutOrder sets → first ≡ get_or sets 0 [] → empty ≡ (length first == 0) → empty ≡ false → AreFilled sets
+pub filled_unless : (sets : List (List ℕ)) (first : List ℕ) (empty : Bool) → IsInCutOrder sets
+    → first ≡ get_or sets 0 [] → empty ≡ (length first == 0) → empty ≡ false → AreFilled sets
 filled_unless sets first empty ordered is empty_is not_empty =
     let size : length first ≡ length (get_or sets 0 []) = ap length is in
     let some : 1 ≤ length first = grind (arith, nat_tests) in
     filled sets ordered (omega arith)
 
-pub sifts_one : {X : Type 0} (units : X → List ℕ) (cuts : List X) (kept new : List (List ℕ)) (cut : X) (i : ℕ) (found : Bool) → i < length cuts → cut ≡ get_or cuts i cut → IsInCutOrder (map units cuts)
-    → IsMinimalFrom (take i (map units cuts)) kept → found ≡ list_any (is_smaller_within (units cut)) kept → new ≡ (if found then kept else kept ++ units cut ∷ []) → IsMinimalFrom (take (i + 1) (map units cuts)) new
-sifts_one units cuts kept new cut i true short cut_is ordered before is kept_is = keeps_out-step units cuts kept new cut i short cut_is ordered before (sym is) kept_is
-sifts_one units cuts kept new cut i false short cut_is ordered before is kept_is = keeps-step units cuts kept new cut i short cut_is ordered before (sym is) kept_is
+pub sifts_one : {X : Type 0} (units : X → List ℕ) (cuts : List X) (kept new : List (List ℕ)) (cut : X) (i : ℕ)
+    (found : Bool) → i < length cuts → cut ≡ get_or cuts i cut → IsInCutOrder (map units cuts)
+    → IsMinimalFrom (take i (map units cuts)) kept → found ≡ list_any (is_smaller_within (units cut)) kept
+    → new ≡ (if found then kept else kept ++ units cut ∷ []) → IsMinimalFrom (take (i + 1) (map units cuts)) new
+sifts_one units cuts kept new cut i true short cut_is ordered before is kept_is =
+    keeps_out-step units cuts kept new cut i short cut_is ordered before (sym is) kept_is
+sifts_one units cuts kept new cut i false short cut_is ordered before is kept_is =
+    keeps-step units cuts kept new cut i short cut_is ordered before (sym is) kept_is
 
-pub waits_on : (kept new : List (List ℕ)) (count : ℕ) (at : List (List Waiter)) (set : List ℕ) (found : Bool) → AreWaiting kept count at → new ≡ (if found then kept else kept ++ set ∷ []) → AreWaiting new count at
+pub waits_on : (kept new : List (List ℕ)) (count : ℕ) (at : List (List Waiter)) (set : List ℕ) (found : Bool)
+    → AreWaiting kept count at → new ≡ (if found then kept else kept ++ set ∷ []) → AreWaiting new count at
 waits_on kept new count at set true before is = subst (λ (l : List (List ℕ)). AreWaiting l count at) (sym is) before
-waits_on kept new count at set false before is = subst (λ (l : List (List ℕ)). AreWaiting l count at) (sym is) (longer_list kept count at set before)
+waits_on kept new count at set false before is =
+    subst (λ (l : List (List ℕ)). AreWaiting l count at) (sym is) (longer_list kept count at set before)

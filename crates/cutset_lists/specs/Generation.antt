@@ -25,7 +25,8 @@ abbrev pub reading_of : List (List (List ℕ)) → (ℕ → Bool) → ℕ → Bo
 reading_of lists within node = hits (list_at lists node) within
 
 -- a list is hit where a rule says so, from what is within and from the readings of the nodes
-pub record Follows (lists : List (List (List ℕ))) (rule : (ℕ → Bool) → (ℕ → Bool) → Bool) (made : List (List ℕ)) : Type 0 where
+pub record Follows (lists : List (List (List ℕ))) (rule : (ℕ → Bool) → (ℕ → Bool) → Bool)
+    (made : List (List ℕ)) : Type 0 where
   pub hits : (within : ℕ → Bool) → hits made within ≡ rule within (reading_of lists within)
   pub sets : (passes : ℕ → Bool) → All (AreSetsOf passes) lists → AreSetsOf passes made
 
@@ -49,7 +50,8 @@ pub record AddsSome (lists : List (List (List ℕ))) (nodes : List ℕ) (old new
 abbrev pub is_unit_of : FaultTree → ℕ → Bool
 is_unit_of tree unit = nat_le 1 unit && nat_le unit (unit_count tree)
 
--- a node's list is hit where the node fails by the readings of the lists, and has sets of units of the tree where they do
+-- a node's list is hit where the node fails by the readings of the lists, and has sets of units of the tree where they
+-- do
 pub record IsNodeList (tree : FaultTree) (lists : List (List (List ℕ))) (node : ℕ) (made : List (List ℕ)) : Type 0 where
   pub hits : (within : ℕ → Bool) → hits made within ≡ node_reads tree within (reading_of lists within) node
   pub sets : All (AreSetsOf (is_unit_of tree)) lists → AreSetsOf (is_unit_of tree) made

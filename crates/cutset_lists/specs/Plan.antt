@@ -22,7 +22,8 @@ pub record Keeps (nodes : List ℕ) (end : ℕ) (old new : List ℕ) : Type 0 wh
 -- the readers at the places from one on, as far as they are needed, have what they read until after them
 abbrev pub AreServedFrom : FaultTree → List ℕ → List ℕ → ℕ → Type 0
 AreServedFrom tree order until from =
-    (place : ℕ) → from ≤ place → place < length order → place < until_of until (slice_index order place) → All (λ node. place < until_of until node) (below tree (slice_index order place))
+    (place : ℕ) → from ≤ place → place < length order → place < until_of until (slice_index order place)
+    → All (λ node. place < until_of until node) (below tree (slice_index order place))
 
 -- the top event is needed past the end, and each reader that is needed is served
 pub record IsPlanFrom (tree : FaultTree) (order until : List ℕ) (from : ℕ) : Type 0 where
@@ -44,5 +45,6 @@ pub record Releases (until : List ℕ) (end : ℕ) (old new : List (List (List �
 -- the nodes before a place of the order have their lists, as far as those are still needed
 pub record IsBuiltTo (tree : FaultTree) (order until : List ℕ) (place : ℕ) (lists : List (List (List ℕ))) : Type 0 where
   pub all : length lists ≡ node_count tree
-  pub built : (node : ℕ) → Contains (take place order) node → place < until_of until node → (within : ℕ → Bool) → reading_of lists within node ≡ reads tree within node
+  pub built : (node : ℕ) → Contains (take place order) node → place < until_of until node → (within : ℕ → Bool)
+      → reading_of lists within node ≡ reads tree within node
   pub sets : All (AreSetsOf (is_unit_of tree)) lists

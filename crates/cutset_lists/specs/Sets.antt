@@ -27,7 +27,8 @@ pub record AddsHits (set : List ℕ) (list old new : List (List ℕ)) : Type 0 w
 
 -- it has sets of units as before
 pub record AddsSets (set : List ℕ) (list old new : List (List ℕ)) : Type 0 where
-  pub sets : (passes : ℕ → Bool) → IsSetOf passes set → AreSetsOf passes list → AreSetsOf passes old → AreSetsOf passes new
+  pub sets : (passes : ℕ → Bool) → IsSetOf passes set → AreSetsOf passes list → AreSetsOf passes old
+      → AreSetsOf passes new
 
 -- a list is now also hit where both of two are
 pub record AddsBoth (left right old new : List (List ℕ)) : Type 0 where
@@ -35,7 +36,8 @@ pub record AddsBoth (left right old new : List (List ℕ)) : Type 0 where
 
 -- it has sets of units where both of two do, as before
 pub record AddsSetsOf (left right old new : List (List ℕ)) : Type 0 where
-  pub sets : (passes : ℕ → Bool) → AreSetsOf passes left → AreSetsOf passes right → AreSetsOf passes old → AreSetsOf passes new
+  pub sets : (passes : ℕ → Bool) → AreSetsOf passes left → AreSetsOf passes right → AreSetsOf passes old
+      → AreSetsOf passes new
 
 -- a list is hit where both of two are
 pub record HitsBoth (left right both : List (List ℕ)) : Type 0 where

@@ -14,8 +14,8 @@ use unit_sets::{CutList, ListEnd};
 
 /// The minimal cut sets of a tree, by size and then lexicographically by unit numbers.
 ///
-/// They are sets of units that fail the top event in the static reading and no longer do without any one of their members.
-/// `NoMemory` may come of any tree, since the lists on the way may be larger than the answer.
+/// They are sets of units that fail the top event in the static reading and no longer do without any one of their
+/// members. `NoMemory` may come of any tree, since the lists on the way may be larger than the answer.
 pub fn mcs_by_lists(alloc: Global, tree: &Tree) -> Result<CutList, ListEnd>
     ensures cut_list { IfOk result (IsCutList tree.now) }
     ensures within { IfOk result (λ cuts. weight cuts ≤ weight_limit) }

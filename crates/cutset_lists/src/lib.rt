@@ -1,9 +1,11 @@
-//! The minimal cut sets of a fault tree by lists of sets, which also meets trees whose cut list is small and whose diagram is not.
+//! The minimal cut sets of a fault tree by lists of sets, which also meets trees whose cut list is small and whose
+//! diagram is not.
 //!
-//! It stands on `fault_model` for the tree and its reading, and on `flat_rows` for lists that lie in one buffer. From below
-//! upwards each node gets a list of sets that stands for it: the node fails exactly where some set of the list has failed.
-//! Which sets are left out on the way is a matter of speed alone, since the sets that can spare no unit are picked from the
-//! list of the top event at the end. The layers above learn that the answer is the cut list of the tree.
+//! It stands on `fault_model` for the tree and its reading, and on `flat_rows` for lists that lie in one buffer. From
+//! below upwards each node gets a list of sets that stands for it: the node fails exactly where some set of the list
+//! has failed. Which sets are left out on the way is a matter of speed alone, since the sets that can spare no unit are
+//! picked from the list of the top event at the end. The layers above learn that the answer is the cut list of the
+//! tree.
 #![tactic(auto)]
 
 mod bottom_up;

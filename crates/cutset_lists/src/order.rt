@@ -1,4 +1,5 @@
-//! In which order the lists of a gate's inputs are multiplied. The gate fails by all, or by some number, of them in any order.
+//! In which order the lists of a gate's inputs are multiplied. The gate fails by all, or by some number, of them in any
+//! order.
 ghost use Rattle.std.specs.Prelude.{IfOk};
 ghost use Rattle.std.specs.List.Sorted.{IsPermutation};
 

@@ -49,7 +49,8 @@ impl Owners {
         !shared
     }
 
-    // Gives each unit of a list to the next owner, up to the first that belonged to one from `first` on, if there is one.
+    // Gives each unit of a list to the next owner, up to the first that belonged to one from `first` on, if there is
+    // one.
     fn claims(&mut self, list: &Sets, first: u64) -> bool {
         for i in 0..list.len() {
             for unit in list.row(i) {

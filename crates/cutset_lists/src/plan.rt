@@ -20,7 +20,8 @@ fn keep_until(until: &mut Vec<usize>, nodes: &[NodeNo], end: usize)
     }
 }
 
-// For each node the place, from 1, of the last reader of its list in the order, or 0 where none is needed that reads it.
+// For each node the place, from 1, of the last reader of its list in the order, or 0 where none is needed that reads
+// it.
 pub fn plan(alloc: Global, tree: &Tree, order: &[NodeNo]) -> Result<Vec<usize>, NoMemory>
     requires { All (IsNodeOf tree.now) order.now }
     ensures { IfOk result (λ until. IsPlan tree.now order.now until.items) }

@@ -1,7 +1,8 @@
 //! Products of two lists: the unions of a set of each.
 //!
-//! A set of one list that has one of the other within it is its own union with that set, and all its other unions include
-//! it, so it stands for them all. Where lists share units such sets are split off, and only the rest is multiplied.
+//! A set of one list that has one of the other within it is its own union with that set, and all its other unions
+//! include it, so it stands for them all. Where lists share units such sets are split off, and only the rest is
+//! multiplied.
 ghost use Rattle.std.specs.Prelude.{◌≡◌, true, IfOk, OnOk};
 ghost use Rattle.cutset_lists.specs.Sets.{AddsBoth, AddsSetsOf, HitsBoth, AreSetsAs};
 ghost use Rattle.cutset_lists.specs.Waiting.{AreFilled};

@@ -1,7 +1,8 @@
 //! Sets of a list that wait at their units, so that those within another set are found without a look at all.
 //!
 //! A set within another has all its units there, so it may wait at any one of them: it waits where the fewest do.
-ghost use Rattle.std.specs.Prelude.{◌≡◌, ℕ, ◌+◌, ◌<◌, ◌≤◌, true, List, [], length, vec_len, replicate, take, All, IfOk, OnOk};
+ghost use Rattle.std.specs.Prelude.{◌≡◌, ℕ, ◌+◌, ◌<◌, ◌≤◌, true, List, [], length, vec_len, replicate, take, All, IfOk};
+ghost use Rattle.std.specs.Prelude.{OnOk};
 ghost use Rattle.std.specs.List.{list_any};
 ghost use Rattle.unit_sets.specs.UnitList.{among, is_within};
 ghost use Rattle.cutset_lists.specs.Sets.{is_short_within};
@@ -14,7 +15,8 @@ use unit_sets::UnitSet;
 // There are fewer unit numbers than this.
 const UNITS: usize = 4096;
 
-/// A set that waits, by its place in the list, and one more of its units, which tells most sets apart without a look at them.
+/// A set that waits, by its place in the list, and one more of its units, which tells most sets apart without a look at
+/// them.
 #[derive(Clone, Copy)]
 pub struct Waiter {
     pub place: usize,
@@ -131,7 +133,8 @@ impl Waiting {
     // Whether one of some waiters' sets does.
     fn is_any_found(sets: &Sets, marked: &UnitSet, size: usize, waiters: &[Waiter]) -> bool
         requires { All (IsWaiter sets.now (length sets.now)) waiters.now }
-        ensures { result ≡ list_any (λ (waiter : Waiter). is_short_within size marked.now (set_at sets.now waiter.place)) waiters.now }
+        ensures { result ≡ list_any (λ (waiter : Waiter). is_short_within size marked.now
+            (set_at sets.now waiter.place)) waiters.now }
     {
         for waiter in waiters {
             if Waiting::is_found(sets, marked, size, *waiter) {

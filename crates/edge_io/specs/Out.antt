@@ -1,5 +1,6 @@
 -- Output through a buffer: what was put, what the sink took of it, and what waits.
-use Rattle.std.specs.Prelude.{◌≡◌, ℕ, ◌≤◌, Option, List, [], ◌++◌, Bool, true, false, refl, Result, Ok, Err, OnOk, OnErr, IsErr}
+use Rattle.std.specs.Prelude.{◌≡◌, ℕ, ◌≤◌, Option, List, [], ◌++◌, Bool, true, false, refl, Result, Ok, Err, OnOk}
+use Rattle.std.specs.Prelude.{OnErr, IsErr}
 use Rattle.std.proofs.Common.{sym, ap, subst, ◌∙◌, arith, true≢false, append-nil, append_assoc}
 use Rattle.std.proofs.KnownBytes.{Appends-nil, Appends-trans}
 use Rattle.std.specs.Io.KnownBytes.{Appends}
@@ -26,7 +27,8 @@ has_failed out = out.has_failed
 
 -- a text was put, to the same sink: it took a front of what waited and the text, and where no write failed the rest
 -- waits. A write fails only by a fault. Once one has failed the sink stays as it is
-pub record Puts {K : Type 0} (taken : K → Option (List ℕ)) (faults : K → ℕ) (old new : Output K) (text : List ℕ) : Type 0 where
+pub record Puts {K : Type 0} (taken : K → Option (List ℕ)) (faults : K → ℕ) (old new : Output K)
+    (text : List ℕ) : Type 0 where
   pub same_sink : new.sink.ghost_name ≡ old.sink.ghost_name
   pub front : List ℕ
   pub left : List ℕ
@@ -38,7 +40,8 @@ pub record Puts {K : Type 0} (taken : K → Option (List ℕ)) (faults : K → �
   pub steady : faults (sink_of old) ≤ faults (sink_of new)
 
 -- nothing put
-pub Puts-none : {K : Type 0} (taken : K → Option (List ℕ)) (faults : K → ℕ) (out : Output K) → Puts taken faults out out []
+pub Puts-none : {K : Type 0} (taken : K → Option (List ℕ)) (faults : K → ℕ) (out : Output K)
+    → Puts taken faults out out []
 Puts-none taken faults out = record {
   same_sink = refl;
   front = [];
@@ -52,7 +55,8 @@ Puts-none taken faults out = record {
 }
 
 -- a text put while a write had failed before
-pub Puts-failed : {K : Type 0} (taken : K → Option (List ℕ)) (faults : K → ℕ) (out : Output K) (text : List ℕ) → has_failed out ≡ true → Puts taken faults out out text
+pub Puts-failed : {K : Type 0} (taken : K → Option (List ℕ)) (faults : K → ℕ) (out : Output K) (text : List ℕ)
+    → has_failed out ≡ true → Puts taken faults out out text
 Puts-failed taken faults out text failed = record {
   same_sink = refl;
   front = [];
@@ -67,7 +71,8 @@ Puts-failed taken faults out text failed = record {
 
 -- a text that waits
 pub Puts-held : {K : Type 0} (taken : K → Option (List ℕ)) (faults : K → ℕ) (old new : Output K) (text : List ℕ)
-    → new.sink ≡ old.sink → new.waiting ≡ old.waiting ++ text → new.has_failed ≡ old.has_failed → Puts taken faults old new text
+    → new.sink ≡ old.sink → new.waiting ≡ old.waiting ++ text → new.has_failed ≡ old.has_failed
+    → Puts taken faults old new text
 Puts-held taken faults old new text sink grown state = record {
   same_sink = ap (λ s. s.ghost_name) sink;
   front = [];
@@ -81,7 +86,8 @@ Puts-held taken faults old new text sink grown state = record {
 }
 
 -- one text put behind another: where the first put failed the second wrote nothing
-pub Puts-trans : {K : Type 0} (taken : K → Option (List ℕ)) (faults : K → ℕ) (old mid new : Output K) (text more : List ℕ)
+pub Puts-trans : {K : Type 0} (taken : K → Option (List ℕ)) (faults : K → ℕ) (old mid new : Output K)
+    (text more : List ℕ)
     → Puts taken faults old mid text → Puts taken faults mid new more → Puts taken faults old new (text ++ more)
 Puts-trans taken faults old mid new text more first second =
     let same = second.same_sink ∙ first.same_sink in
@@ -95,7 +101,9 @@ Puts-trans taken faults old mid new text more first second =
       same_sink = same;
       front = first.front;
       left = first.left ++ more;
-      split = sym (append_assoc (waiting old) text more) ∙ ap (λ l. l ++ more) first.split ∙ append_assoc first.front first.left more;
+      split =
+          sym (append_assoc (waiting old) text more) ∙ ap (λ l. l ++ more) first.split
+          ∙ append_assoc first.front first.left more;
       added = subst (λ s. Appends (taken (sink_of old)) (taken s) first.front) (sym two.1) first.added;
       waits = λ fine. absurd (true≢false (sym two.0 ∙ fine));
       stopped = stopped;
@@ -104,7 +112,8 @@ Puts-trans taken faults old mid new text more first second =
     } in
     let after_success : P false = λ fine.
     let joined : waiting old ++ (text ++ more) ≡ (first.front ++ second.front) ++ second.left =
-    sym (append_assoc (waiting old) text more) ∙ ap (λ l. l ++ more) first.split ∙ append_assoc first.front first.left more
+    sym (append_assoc (waiting old) text more) ∙ ap (λ l. l ++ more) first.split
+    ∙ append_assoc first.front first.left more
     ∙ ap (λ l. first.front ++ (l ++ more)) (sym (first.waits fine)) ∙ ap (λ l. first.front ++ l) second.split
     ∙ sym (append_assoc first.front second.front second.left) in
     record {
@@ -112,10 +121,14 @@ Puts-trans taken faults old mid new text more first second =
       front = first.front ++ second.front;
       left = second.left;
       split = joined;
-      added = Appends-trans (taken (sink_of old)) (taken (sink_of mid)) (taken (sink_of new)) first.front second.front first.added second.added;
+      added =
+          Appends-trans (taken (sink_of old)) (taken (sink_of mid)) (taken (sink_of new)) first.front second.front
+          first.added second.added;
       waits = second.waits;
       stopped = stopped;
-      rose = λ _ failed. Rose-later (faults (sink_of old)) (faults (sink_of mid)) (faults (sink_of new)) first.steady (second.rose fine failed);
+      rose =
+          λ _ failed. Rose-later (faults (sink_of old)) (faults (sink_of mid)) (faults (sink_of new)) first.steady
+          (second.rose fine failed);
       steady = steady;
     } in
     elim (has_failed mid) as P [ true ↦ after_failure | false ↦ after_success ] refl
@@ -126,7 +139,8 @@ OnErr-always (Ok x) fact = tt
 OnErr-always (Err e) fact = fact
 
 -- what a sink took of a text, and the answer
-pub record Delivers {K W : Type 0} (taken : K → Option (List ℕ)) (faults : K → ℕ) (old new : K) (text : List ℕ) (answer : Result (Unit {0}) W) : Type 0 where
+pub record Delivers {K W : Type 0} (taken : K → Option (List ℕ)) (faults : K → ℕ) (old new : K) (text : List ℕ)
+    (answer : Result (Unit {0}) W) : Type 0 where
   pub all : OnOk answer (Appends (taken old) (taken new) text)
   pub left : List ℕ
   pub front : TakesFront taken old new text left
@@ -134,7 +148,8 @@ pub record Delivers {K W : Type 0} (taken : K → Option (List ℕ)) (faults : K
   pub steady : faults old ≤ faults new
 
 -- a text that was put first, and then finished
-pub Puts-finished : {K W : Type 0} (taken : K → Option (List ℕ)) (faults : K → ℕ) (old out : Output K) (new : K) (text left : List ℕ) (answer : Result (Unit {0}) W)
+pub Puts-finished : {K W : Type 0} (taken : K → Option (List ℕ)) (faults : K → ℕ) (old out : Output K) (new : K)
+    (text left : List ℕ) (answer : Result (Unit {0}) W)
     → waiting old ≡ [] → has_failed old ≡ false → Puts taken faults old out text
     → OnOk answer (Appends (taken (sink_of out)) (taken new) (waiting out))
     → TakesFront taken (sink_of out) new (waiting out) left
@@ -150,8 +165,15 @@ Puts-finished {K} {W} taken faults old out new text left answer none fine puts a
     record {
       all = IfOk-from_err answer (λ _. Appends (taken (sink_of old)) (taken new) text) end.0;
       left = puts.left;
-      front = record { front = puts.front; split = whole; added = subst (λ s. Appends (taken (sink_of old)) (taken s) puts.front) (sym end.1) puts.added };
-      rose = OnErr-always answer (subst (λ s. Rose (faults (sink_of old)) (faults s)) (sym end.1) (puts.rose fine failed));
+      front =
+          record {
+            front = puts.front;
+            split = whole;
+            added =
+                subst (λ s. Appends (taken (sink_of old)) (taken s) puts.front) (sym end.1) puts.added;
+          };
+      rose =
+          OnErr-always answer (subst (λ s. Rose (faults (sink_of old)) (faults s)) (sym end.1) (puts.rose fine failed));
       steady = omega (arith, puts.steady, steady);
     } in
     let after_success : P false = λ going.
@@ -159,15 +181,22 @@ Puts-finished {K} {W} taken faults old out new text left answer none fine puts a
     record {
       all = on_ok_weaker answer
           (λ added. subst (Appends (taken (sink_of old)) (taken new)) (ap (λ l. puts.front ++ l) waits ∙ sym whole)
-          (Appends-trans (taken (sink_of old)) (taken (sink_of out)) (taken new) puts.front (waiting out) puts.added added))
+          (Appends-trans (taken (sink_of old)) (taken (sink_of out)) (taken new) puts.front (waiting out) puts.added
+          added))
           all;
       left = left;
       front = record {
         front = puts.front ++ front.front;
-        split = whole ∙ ap (λ l. puts.front ++ l) (sym waits ∙ front.split) ∙ sym (append_assoc puts.front front.front left);
-        added = Appends-trans (taken (sink_of old)) (taken (sink_of out)) (taken new) puts.front front.front puts.added front.added;
+        split =
+            whole ∙ ap (λ l. puts.front ++ l) (sym waits ∙ front.split)
+            ∙ sym (append_assoc puts.front front.front left);
+        added =
+            Appends-trans (taken (sink_of old)) (taken (sink_of out)) (taken new) puts.front front.front puts.added
+            front.added;
       };
-      rose = on_err_weaker answer (Rose-later (faults (sink_of old)) (faults (sink_of out)) (faults new) puts.steady) (rose going);
+      rose =
+          on_err_weaker answer (Rose-later (faults (sink_of old)) (faults (sink_of out)) (faults new) puts.steady)
+          (rose going);
       steady = omega (arith, puts.steady, steady);
     } in
     elim (has_failed out) as P [ true ↦ after_failure | false ↦ after_success ] refl

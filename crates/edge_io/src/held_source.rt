@@ -22,7 +22,14 @@ impl Model for HeldSource {
 
     ghost Value = { Held };
 
-    ghost view = { λ s. record { bytes = drop s.at s.bytes; most = s.most; failing = s.failing; calls = s.calls; faults = s.faults } };
+    ghost view = { λ s. record {
+      bytes = drop s.at s.bytes;
+      most = s.most;
+      failing = s.failing;
+      calls = s.calls;
+      faults =
+          s.faults;
+    } };
 
     ghost invariant = { λ s. (s.at ≤ length s.bytes) × (1 ≤ s.most) };
 }

@@ -23,7 +23,14 @@ impl Model for KeptSink {
 
     ghost Value = { Kept };
 
-    ghost view = { λ s. record { bytes = s.bytes.items; room = s.room; failing = s.failing; calls = s.calls; faults = s.faults } };
+    ghost view = { λ s. record {
+      bytes = s.bytes.items;
+      room = s.room;
+      failing = s.failing;
+      calls = s.calls;
+      faults =
+          s.faults;
+    } };
 
     ghost invariant = { λ s. (vec_len s.bytes ≤ s.room) × (s.room ≤ vec_capacity s.bytes) };
 }
@@ -31,7 +38,13 @@ impl Model for KeptSink {
 impl KeptSink {
     /// Keeps up to `room` bytes, for which it takes memory now, and fails the calls in `failing`.
     pub fn new(alloc: Global, room: usize, failing: CallList) -> Result<KeptSink, NoMemory>
-        ensures made { IfOk result (λ sink. sink ≡ record { bytes = []; room = room; failing = failing; calls = 0; faults = 0 }) }
+        ensures made { IfOk result (λ sink. sink ≡ record {
+          bytes = [];
+          room = room;
+          failing = failing;
+          calls = 0;
+          faults = 0;
+        }) }
     {
         Ok(KeptSink {
             bytes: Vec::with_capacity(alloc, room)?,

@@ -1,5 +1,6 @@
 //! Output through a buffer.
-ghost use Rattle.std.specs.Prelude.{◌≡◌, ℕ, ◌+◌, ◌≤◌, ◌↔◌, List, [], ◌++◌, length, false, true, IsTrue, is_err, IsOk, IsErr, IfOk, OnOk, OnErr};
+ghost use Rattle.std.specs.Prelude.{◌≡◌, ℕ, ◌+◌, ◌≤◌, ◌↔◌, List, [], ◌++◌, length, false, true, IsTrue, is_err, IsOk};
+ghost use Rattle.std.specs.Prelude.{IsErr, IfOk, OnOk, OnErr};
 ghost use Rattle.std.specs.Io.KnownBytes.{Appends};
 ghost use Rattle.edge_io.specs.Faults.{Rose};
 ghost use Rattle.edge_io.specs.Writing.{TakesFront, Finishes};
@@ -9,8 +10,8 @@ use crate::writing::{WriteFault, write_all};
 use crate::{NoMemory, Sink};
 use std::alloc::Global;
 
-/// Output to a sink through a buffer, which has to be finished. Once a write has failed nothing more is written. `B` is always [`Buffer`]: as a
-/// parameter it lets the contract of [`Out::finish`] say what is left of the sink.
+/// Output to a sink through a buffer, which has to be finished. Once a write has failed nothing more is written. `B` is
+/// always [`Buffer`]: as a parameter it lets the contract of [`Out::finish`] say what is left of the sink.
 pub struct Out<'a, K: Sink, B = Buffer> {
     sink: &'a mut K,
     waiting: B,
@@ -35,8 +36,8 @@ impl<'a, K: Sink> Out<'a, K> {
         }
     }
 
-    /// Output to `sink` through a buffer of its own. Nothing is written: a caller that goes on with the sink after want of
-    /// memory makes the buffer first, and then calls [`Out::over`].
+    /// Output to `sink` through a buffer of its own. Nothing is written: a caller that goes on with the sink after want
+    /// of memory makes the buffer first, and then calls [`Out::over`].
     pub fn new(alloc: Global, sink: &'a mut K) -> Result<Out<'a, K>, NoMemory>
         ensures same_sink { IfOk result (λ out. out.sink.ghost_name ≡ sink.entry.ghost_name) }
         ensures sink { IfOk result (λ out. sink_of out ≡ sink.old) }
@@ -110,11 +111,14 @@ impl<'a, K: Sink> Out<'a, K> {
     /// Writes what waits, and then flushes the sink once.
     pub fn finish(self) -> Result<(), WriteFault>
         // The sink took all that was put, or a front of it.
-        ensures all { OnOk result (Appends (K.taken (sink_of self.entry)) (K.taken self.exit.0.now) (waiting self.entry)) }
-        ensures front { (left : List ℕ) × TakesFront K.taken (sink_of self.entry) self.exit.0.now (waiting self.entry) left }
+        ensures all { OnOk result (Appends (K.taken (sink_of self.entry)) (K.taken self.exit.0.now)
+            (waiting self.entry)) }
+        ensures front { (left : List ℕ) × TakesFront K.taken (sink_of self.entry) self.exit.0.now (waiting self.entry)
+            left }
 
         // A fault of the sink in this call is the only cause, unless a write had failed before.
-        ensures rose { has_failed self.entry ≡ false → OnErr result (Rose (K.faults (sink_of self.entry)) (K.faults self.exit.0.now)) }
+        ensures rose { has_failed self.entry ≡ false → OnErr result
+            (Rose (K.faults (sink_of self.entry)) (K.faults self.exit.0.now)) }
         ensures stopped { has_failed self.entry ≡ true → IsErr result × (self.exit.0.now ≡ sink_of self.entry) }
         ensures never_falls { K.faults (sink_of self.entry) ≤ K.faults self.exit.0.now }
 

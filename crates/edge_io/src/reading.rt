@@ -5,7 +5,7 @@ ghost use Rattle.edge_io.specs.Faults.{Rose};
 ghost use Rattle.edge_io.specs.Reading.{IfTold, ReadsAll};
 
 use crate::{Bytes, Source};
-use std::alloc::Global;
+use std::alloc::{AllocError, Global};
 
 /// The most bytes that an input may have.
 pub const INPUT_LIMIT: usize = 16_777_216;
@@ -22,6 +22,17 @@ pub enum ReadEnd {
     TooLong,
     /// There is no memory for the bytes.
     NoMemory,
+}
+
+impl From<AllocError> for ReadEnd {
+    ghost use Rattle.std.specs.Prelude.{◌≡◌};
+    ghost use Rattle.edge_io.specs.declared.reading.ReadEnd.TheVariants.{NoMemory};
+
+    ghost from_gives = { λ _ end. end ≡ NoMemory };
+
+    fn from(_e: AllocError) -> ReadEnd {
+        ReadEnd::NoMemory
+    }
 }
 
 /// Reads all bytes up to the end of the input. After an error what was read is lost.
@@ -73,8 +84,6 @@ fn read_by<S: Source>(alloc: Global, source: &mut S, piece: &mut [u8]) -> Result
         if INPUT_LIMIT - bytes.len() < count {
             return Err(ReadEnd::TooLong);
         }
-        if bytes.extend_from_slice(&piece[..count]).is_err() {
-            return Err(ReadEnd::NoMemory);
-        }
+        bytes.extend_from_slice(&piece[..count])?;
     }
 }

@@ -1,5 +1,6 @@
 //! What bytes are read from, and what they are written to.
-ghost use Rattle.std.specs.Prelude.{◌≡◌, ℕ, ◌^◌, ◌<◌, ◌≤◌, Bool, List, Option, length, take, ⊤, is_ok, IfOk, OnOk, OnErr};
+ghost use Rattle.std.specs.Prelude.{◌≡◌, ℕ, ◌^◌, ◌<◌, ◌≤◌, Bool, List, Option, length, take, ⊤, is_ok, IfOk, OnOk};
+ghost use Rattle.std.specs.Prelude.{OnErr};
 ghost use Rattle.std.specs.Result.{result_ok};
 ghost use Rattle.std.specs.Io.KnownBytes.{Keeps, Consumes, Appends, IsAtEnd};
 ghost use Rattle.edge_io.specs.Faults.{Rose};

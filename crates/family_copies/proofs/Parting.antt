@@ -20,16 +20,21 @@ module _ (r : ℕ) (parts : Parts) (inner : 2 ≤ r) (unit : IsUnit parts.level)
       → ArePartsOf (map_of s) r parts
   parts_at s sound knows knows_lo knows_hi level is lo_above hi_above = record {
     unit = unit;
-    level = level_in-inner (map_of s) r inner ∙ sym (first_unit-family (map_of s) r sound.closed (node_known (map_of s) r knows inner)) ∙ sym level;
+    level =
+        level_in-inner (map_of s) r inner ∙ sym (first_unit-family (map_of s) r sound.closed
+        (node_known (map_of s) r knows inner)) ∙ sym level;
     knows_lo = knows_lo;
     knows_hi = knows_hi;
     filled = filled;
-    lo_above = level-above (map_of s) parts.level parts.lo sound.closed knows_lo (let u = unit.1 in omega arith) lo_above;
-    hi_above = level-above (map_of s) parts.level parts.hi sound.closed knows_hi (let u = unit.1 in omega arith) hi_above;
+    lo_above =
+        level-above (map_of s) parts.level parts.lo sound.closed knows_lo (let u = unit.1 in omega arith) lo_above;
+    hi_above =
+        level-above (map_of s) parts.level parts.hi sound.closed knows_hi (let u = unit.1 in omega arith) hi_above;
     cut = record { is = is; lo_above = lo_above; hi_above = hi_above };
   }
 
-  pub parts_are : (old new : Seated) → new ≡ old → IsSoundSeat new → Knows (map_of old) r → Knows (map_of new) parts.lo → Knows (map_of new) parts.hi
+  pub parts_are : (old new : Seated) → new ≡ old → IsSoundSeat new → Knows (map_of old) r → Knows (map_of new) parts.lo
+      → Knows (map_of new) parts.hi
       → parts.level ≡ first_unit (family (map_of old) r)
       → family (map_of new) r ≡ branch parts.level (family (map_of new) parts.lo) (family (map_of new) parts.hi)
       → IsAbove parts.level (family (map_of new) parts.lo) → IsAbove parts.level (family (map_of new) parts.hi)
@@ -51,5 +56,6 @@ same_terminal known known' (suc (suc r)) small = absurd (omega arith)
 abbrev pub levels_above : (ℕ → ℕ) → ℕ → ℕ
 levels_above known r = 4096 - level_in known r
 
-pub fewer : (known : ℕ → ℕ) (r q x : ℕ) → IsUnit x → level_in known r ≡ x → x < level_in known q → levels_above known q < levels_above known r
+pub fewer : (known : ℕ → ℕ) (r q x : ℕ) → IsUnit x → level_in known r ≡ x → x < level_in known q
+    → levels_above known q < levels_above known r
 fewer known r q x unit at above = let u = unit.1 in omega arith

@@ -1,5 +1,6 @@
 -- A node of a memory in the store, by copies of its parts.
-use Rattle.std.proofs.Common.{MatchResult, Result, Ok, Err, ◌≡◌, ◌≢◌, ℕ, ◌<◌, List, [], Contains, sym, ◌∙◌, ap, subst, inl}
+use Rattle.std.proofs.Common.{MatchResult, Result, Ok, Err, ◌≡◌, ◌≢◌, ℕ, ◌<◌, List, [], Contains, sym, ◌∙◌, ap, subst}
+use Rattle.std.proofs.Common.{inl}
 use Rattle.std.proofs.lemmas.List.Elements.{All-contains}
 use Rattle.zdd_words.specs.declared.word.Parts.{Parts}
 use Rattle.zdd_families.specs.Family.{IsAbove, branch}
@@ -18,7 +19,8 @@ use Rattle.family_copies.proofs.Parting.{fewer, levels_above, same_terminal}
 
 -- ---- whatever the answer
 
-went_of : {E : Type 0} (is due : List (List ℕ) → Type 0) (before after : Seated) (result : Result ℕ E) → MatchResult result (Gave is due before after) (λ _. WasFull due before after) → Went due before after
+went_of : {E : Type 0} (is due : List (List ℕ) → Type 0) (before after : Seated) (result : Result ℕ E)
+    → MatchResult result (Gave is due before after) (λ _. WasFull due before after) → Went due before after
 went_of is due before after (Ok r) gave = gave.on.went
 went_of is due before after (Err e) full = full.went
 
@@ -27,15 +29,20 @@ went_of is due before after (Err e) full = full.went
 module _ (held : Held) (r : ℕ) (seat : Seated) (sound : IsSoundSeat seat) where
   pub terminal_known : r < 2 → Gave (λ f. f ≡ family_in held r) (IsReached (family_in held r)) seat seat r
   terminal_known small =
-      Gave-known (IsReached (family_in held r)) seat sound (λ f. f ≡ family_in held r) r (inl small, same_terminal (map_of seat) (own_map held) r small)
+      Gave-known (IsReached (family_in held r)) seat sound (λ f. f ≡ family_in held r) r
+      (inl small, same_terminal (map_of seat) (own_map held) r small)
 
-  pub copy_known : (pairs : List Pair) (shared : ℕ) → AreCopies held (map_of seat) pairs → Contains pairs (record { shared = shared; own = r })
+  pub copy_known : (pairs : List Pair) (shared : ℕ) → AreCopies held (map_of seat) pairs
+      → Contains pairs (record { shared = shared; own = r })
       → Gave (λ f. f ≡ family_in held r) (IsReached (family_in held r)) seat seat shared
   copy_known pairs shared are noted =
-      let is : IsCopy held (map_of seat) (record { shared = shared; own = r }) = All-contains (IsCopy held (map_of seat)) pairs (record { shared = shared; own = r }) are noted in
+      let is : IsCopy held (map_of seat) (record { shared = shared; own = r }) =
+      All-contains (IsCopy held (map_of seat)) pairs (record { shared = shared; own = r }) are noted in
       Gave-known (IsReached (family_in held r)) seat sound (λ f. f ≡ family_in held r) shared (is.knows, sym is.same)
 
-pub copy_sent : (held : Held) (due : List (List ℕ) → Type 0) (before after : Seated) (r shared : ℕ) → Has held r → Gave (λ f. f ≡ family_in held r) due before after shared → IsCopy held (map_of after) (record { shared = shared; own = r })
+pub copy_sent : (held : Held) (due : List (List ℕ) → Type 0) (before after : Seated) (r shared : ℕ) → Has held r
+    → Gave (λ f. f ≡ family_in held r) due before after shared
+    → IsCopy held (map_of after) (record { shared = shared; own = r })
 copy_sent held due before after r shared has gave = record { knows = gave.known.0; has = has; same = sym gave.known.1 }
 
 -- ---- the steps
@@ -101,17 +108,24 @@ module _ (held : Held) (r : ℕ) (parts : Parts) (sound : IsSound held) (are : I
       hi_above = subst (IsAbove parts.level) (sym gave_hi.known.1) are.cut.hi_above
 
       branch_is : branch parts.level (family (map_of s2) lo) (family (map_of s2) hi) ≡ family_in held r
-      branch_is = ap (λ f. branch parts.level f (family (map_of s2) hi)) lo_is ∙ ap (branch parts.level (family_in held parts.lo)) gave_hi.known.1 ∙ sym are.cut.is
+      branch_is =
+          ap (λ f. branch parts.level f (family (map_of s2) hi)) lo_is
+          ∙ ap (branch parts.level (family_in held parts.lo)) gave_hi.known.1 ∙ sym are.cut.is
 
       abbrev made : List (List ℕ) → Type 0
       made = IsBranch parts.level (family (map_of s2) lo) (family (map_of s2) hi)
 
-      module _ {E : Type 0} (s3 : Seated) (result : Result ℕ E) (m : MatchResult result (Gave made made s2 s3) (λ _. WasFull made s2 s3)) where
+      module _ {E : Type 0} (s3 : Seated) (result : Result ℕ E)
+          (m : MatchResult result (Gave made made s2 s3) (λ _. WasFull made s2 s3)) where
         pub sent : MatchResult result (Gave (λ f. f ≡ family_in held r) due s0 s3) (λ _. WasFull due s0 s3)
-        sent = made_after made (λ f. f ≡ family_in held r) due (λ f e. e ∙ branch_is) (λ f e. subst due (sym (e ∙ branch_is)) (reached_itself splits)) s0 s2 s3 on2 result m
+        sent =
+            made_after made (λ f. f ≡ family_in held r) due (λ f e. e ∙ branch_is)
+            (λ f e. subst due (sym (e ∙ branch_is)) (reached_itself splits)) s0 s2 s3 on2 result m
 
         went : Went made s2 s3
         went = went_of made made s2 s3 result m
 
         pub copies_kept : (pairs : List Pair) → AreCopies held (map_of s2) pairs → AreCopies held (map_of s3) pairs
-        copies_kept pairs are_copies = copies-grown held (map_of s2) (map_of s3) on2.went.sound.closed went.sound.closed went.keeps pairs are_copies
+        copies_kept pairs are_copies =
+            copies-grown held (map_of s2) (map_of s3) on2.went.sound.closed went.sound.closed went.keeps pairs
+            are_copies

@@ -38,7 +38,8 @@ module _ (before after : Held) (known : ℕ → ℕ) (sound : IsSound before) (w
   copies-went pairs are = All-weaker (IsCopy before known) (IsCopy after known) copy_still pairs are
 
 -- where the map grows
-module _ (held : Held) (known known' : ℕ → ℕ) (closed : IsClosed known) (closed' : IsClosed known') (grown : Grown known known') where
+module _ (held : Held) (known known' : ℕ → ℕ) (closed : IsClosed known) (closed' : IsClosed known')
+    (grown : Grown known known') where
   copy_grown : (pair : Pair) → IsCopy held known pair → IsCopy held known' pair
   copy_grown pair is = record {
     knows = Knows-grown known known' pair.shared grown is.knows;

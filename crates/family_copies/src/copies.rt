@@ -83,7 +83,8 @@ impl Copies {
 
     /// Notes a pair, if there is room for it. Without a note its node may be copied again.
     pub(crate) fn note(&mut self, pair: Pair)
-        ensures { (held : Held) (known : ℕ → ℕ) → IsCopy held known pair → AreCopies held known self.old → AreCopies held known self.new }
+        ensures { (held : Held) (known : ℕ → ℕ) → IsCopy held known pair → AreCopies held known self.old
+            → AreCopies held known self.new }
     {
         if self.pairs.len() == self.pairs.capacity() {
             return;

@@ -25,7 +25,8 @@ pub fn export(
 ) -> Result<NodeRef, Full>
     requires has { Has memory.now r }
     requires copies { AreCopies memory.now (map_of ops.old) copies.old }
-    ensures gives { IfOk result (Gave (λ f. f ≡ family_in memory.now r) (IsReached (family_in memory.now r)) ops.old ops.new) }
+    ensures gives { IfOk result (Gave (λ f. f ≡ family_in memory.now r) (IsReached (family_in memory.now r)) ops.old
+        ops.new) }
     ensures full { IfErr result (λ _. WasFull (IsReached (family_in memory.now r)) ops.old ops.new) }
     ensures copies { AreCopies memory.now (map_of ops.new) copies.new }
 {
@@ -42,7 +43,8 @@ fn send(
 ) -> Result<NodeRef, Full>
     requires has { Has memory.now r }
     requires copies { AreCopies memory.now (map_of ops.old) copies.old }
-    ensures answer { MatchResult result (Gave (λ f. f ≡ family_in memory.now r) (IsReached (family_in memory.now r)) ops.old ops.new) (λ _. WasFull (IsReached (family_in memory.now r)) ops.old ops.new) }
+    ensures answer { MatchResult result (Gave (λ f. f ≡ family_in memory.now r) (IsReached (family_in memory.now r))
+        ops.old ops.new) (λ _. WasFull (IsReached (family_in memory.now r)) ops.old ops.new) }
     ensures copies { AreCopies memory.now (map_of ops.new) copies.new }
 {
     memory.is_sound();
@@ -69,7 +71,8 @@ fn send_node(
     requires has { Has memory.now r }
     requires inner { 2 ≤ r }
     requires copies { AreCopies memory.now (map_of ops.old) copies.old }
-    ensures answer { MatchResult result (Gave (λ f. f ≡ family_in memory.now r) (IsReached (family_in memory.now r)) ops.old ops.new) (λ _. WasFull (IsReached (family_in memory.now r)) ops.old ops.new) }
+    ensures answer { MatchResult result (Gave (λ f. f ≡ family_in memory.now r) (IsReached (family_in memory.now r))
+        ops.old ops.new) (λ _. WasFull (IsReached (family_in memory.now r)) ops.old ops.new) }
     ensures copies { AreCopies memory.now (map_of ops.new) copies.new }
 {
     memory.is_sound();
@@ -87,7 +90,8 @@ fn shared_node(ops: &mut Ops, level: UnitNo, lo: NodeRef, hi: NodeRef) -> Result
     requires filled { hi ≢ 0 }
     requires lo_above { IsAbove level (family (map_of ops.old) lo) }
     requires hi_above { IsAbove level (family (map_of ops.old) hi) }
-    ensures { let made = IsBranch level (family (map_of ops.old) lo) (family (map_of ops.old) hi) in MatchResult result (Gave made made ops.old ops.new) (λ _. WasFull made ops.old ops.new) }
+    ensures { let made = IsBranch level (family (map_of ops.old) lo) (family (map_of ops.old) hi) in
+        MatchResult result (Gave made made ops.old ops.new) (λ _. WasFull made ops.old ops.new) }
 {
     ops.is_sound();
     // Tells the proof that the references fit into a word.

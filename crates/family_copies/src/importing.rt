@@ -43,7 +43,8 @@ fn bring(
     requires knows { Knows (map_of ops.old) r }
     requires antichain { IsAntichain (family (map_of ops.old) r) }
     requires copies { AreCopies memory.old (map_of ops.old) copies.old }
-    ensures answer { MatchResult result (Gave (λ f. f ≡ family (map_of ops.old) r) memory.old memory.new) (λ _. RanOut memory.old memory.new) }
+    ensures answer { MatchResult result (Gave (λ f. f ≡ family (map_of ops.old) r) memory.old memory.new)
+        (λ _. RanOut memory.old memory.new) }
     ensures copies { AreCopies memory.new (map_of ops.old) copies.new }
     ensures seat { ops.new ≡ ops.old }
 {
@@ -72,7 +73,8 @@ fn bring_node(
     requires inner { 2 ≤ r }
     requires antichain { IsAntichain (family (map_of ops.old) r) }
     requires copies { AreCopies memory.old (map_of ops.old) copies.old }
-    ensures answer { MatchResult result (Gave (λ f. f ≡ family (map_of ops.old) r) memory.old memory.new) (λ _. RanOut memory.old memory.new) }
+    ensures answer { MatchResult result (Gave (λ f. f ≡ family (map_of ops.old) r) memory.old memory.new)
+        (λ _. RanOut memory.old memory.new) }
     ensures copies { AreCopies memory.new (map_of ops.old) copies.new }
     ensures seat { ops.new ≡ ops.old }
 {
@@ -110,7 +112,8 @@ fn own_node(
     requires lo_above { IsAbove level (family_in memory.old lo) }
     requires hi_above { IsAbove level (family_in memory.old hi) }
     requires antichain { IsAntichain (branch level (family_in memory.old lo) (family_in memory.old hi)) }
-    ensures { MatchResult result (Gave (λ f. f ≡ branch level (family_in memory.old lo) (family_in memory.old hi)) memory.old memory.new) (λ _. RanOut memory.old memory.new) }
+    ensures { MatchResult result (Gave (λ f. f ≡ branch level (family_in memory.old lo) (family_in memory.old hi))
+        memory.old memory.new) (λ _. RanOut memory.old memory.new) }
 {
     memory.is_sound();
     memory.node(level, lo, hi)

@@ -1,5 +1,6 @@
 -- A node that is added at the end of the words.
-use Rattle.std.proofs.Common.{◌≡◌, ◌≢◌, ℕ, ◌+◌, ◌<◌, ◌≤◌, ◌⊎◌, List, [], ◌∷◌, ◌++◌, length, refl, sym, ◌∙◌, ap, subst, inl, inr, arith, length-append, All}
+use Rattle.std.proofs.Common.{◌≡◌, ◌≢◌, ℕ, ◌+◌, ◌<◌, ◌≤◌, ◌⊎◌, List, [], ◌∷◌, ◌++◌, length, refl, sym, ◌∙◌, ap, subst}
+use Rattle.std.proofs.Common.{inl, inr, arith, length-append, All}
 use Rattle.std.proofs.lemmas.Bool.{cases_lt}
 use Rattle.std.proofs.lemmas.List.{get_or_append_left, get_or_past, get_or_push}
 use Rattle.unit_sets.specs.Unit.{IsUnit}
@@ -18,7 +19,8 @@ use Rattle.family_memory.specs.After.{knows, level_above}
 abbrev pub with_word : Held → ℕ → Held
 with_word held word = record { words = held.words ++ word ∷ []; room = held.room }
 
-module _ (held : Held) (word : ℕ) (sound : IsSound held) (node : IsNode (map_of held) word) (antichain : IsAntichain (word_family held word)) where
+module _ (held : Held) (word : ℕ) (sound : IsSound held) (node : IsNode (map_of held) word)
+    (antichain : IsAntichain (word_family held word)) where
   abbrev more : Held
   more = with_word held word
 
@@ -42,7 +44,8 @@ module _ (held : Held) (word : ℕ) (sound : IsSound held) (node : IsNode (map_o
       ]
 
   word_filled : word ≢ 0
-  word_filled none = let unit = node.unit.0 in let e : level_of word ≡ 0 = ap level_of none ∙ level_of-zero in omega (arith, e, unit)
+  word_filled none =
+      let unit = node.unit.0 in let e : level_of word ≡ 0 = ap level_of none ∙ level_of-zero in omega (arith, e, unit)
 
   more_cases : (r : ℕ) → Has more r → (Has held r) ⊎ (r ≡ length held.words)
   more_cases r has =
@@ -63,11 +66,15 @@ module _ (held : Held) (word : ℕ) (sound : IsSound held) (node : IsNode (map_o
       elim (more_cases r (has_word r has)) [
         | inl there ↦
             let same : map_of more r ≡ map_of held r = earlier r there in
-            let both = sound.closed r (λ none. has (same ∙ none)) in
-            (both.0, subst (IsNode (map_of more)) (sym same) (IsNode-grown (map_of held) (map_of more) (map_of held r) grown both.1))
+            let both = sound.closed r (λ none. has (same ∙ none)) in (
+              both.0,
+              subst (IsNode (map_of more)) (sym same)
+                  (IsNode-grown (map_of held) (map_of more) (map_of held r) grown both.1),
+            )
         | inr here ↦ (
           let few = sound.terminals in omega arith,
-          subst (IsNode (map_of more)) (sym (ap (map_of more) here ∙ last)) (IsNode-grown (map_of held) (map_of more) word grown node),
+          subst (IsNode (map_of more)) (sym (ap (map_of more) here ∙ last))
+              (IsNode-grown (map_of held) (map_of more) word grown node),
         )
       ]
 
@@ -78,8 +85,12 @@ module _ (held : Held) (word : ℕ) (sound : IsSound held) (node : IsNode (map_o
   new_family =
       family-node (map_of more) (length held.words) closed (λ none. word_filled (sym last ∙ none))
       ∙ ap (λ w. branch (level_of w) (family_in more (lo_of w)) (family_in more (hi_of w))) last
-      ∙ ap (λ q. branch (level_of word) q (family_in more (hi_of word))) (family-grown (map_of held) (map_of more) (lo_of word) sound.closed closed grown (lo_known (map_of held) word node))
-      ∙ ap (λ q. branch (level_of word) (family_in held (lo_of word)) q) (family-grown (map_of held) (map_of more) (hi_of word) sound.closed closed grown (hi_known (map_of held) word node))
+      ∙ ap (λ q. branch (level_of word) q (family_in more (hi_of word)))
+      (family-grown (map_of held) (map_of more) (lo_of word) sound.closed closed grown
+      (lo_known (map_of held) word node))
+      ∙ ap (λ q. branch (level_of word) (family_in held (lo_of word)) q)
+      (family-grown (map_of held) (map_of more) (hi_of word) sound.closed closed grown
+      (hi_known (map_of held) word node))
 
   filled : (r : ℕ) → 2 ≤ r → Has more r → map_of more r ≢ 0
   filled r inner has none =
@@ -112,26 +123,36 @@ module _ (held : Held) (word : ℕ) (sound : IsSound held) (node : IsNode (map_o
   }
 
 -- a level and parts above it make a node
-pub node_of : (held : Held) (level lo hi word : ℕ) → IsSound held → IsUnit level → Has held lo → Has held hi → hi ≢ 0 → IsAbove level (family_in held lo) → IsAbove level (family_in held hi) → level_of word ≡ level → lo_of word ≡ lo → hi_of word ≡ hi → IsNode (map_of held) word
+pub node_of : (held : Held) (level lo hi word : ℕ) → IsSound held → IsUnit level → Has held lo → Has held hi → hi ≢ 0
+    → IsAbove level (family_in held lo) → IsAbove level (family_in held hi) → level_of word ≡ level → lo_of word ≡ lo
+    → hi_of word ≡ hi → IsNode (map_of held) word
 node_of held level lo hi word sound unit has_lo has_hi filled above above' e f g =
-    let h : level < level_in (map_of held) lo = level_above held level lo sound has_lo (let u = unit.1 in omega arith) above in
-    let k : level < level_in (map_of held) hi = level_above held level hi sound has_hi (let u = unit.1 in omega arith) above' in
+    let h : level < level_in (map_of held) lo =
+    level_above held level lo sound has_lo (let u = unit.1 in omega arith) above in
+    let k : level < level_in (map_of held) hi =
+    level_above held level hi sound has_hi (let u = unit.1 in omega arith) above' in
     record {
       unit = subst IsUnit (sym e) unit;
-      lo_above = subst (λ q. level_of word < level_in (map_of held) q) (sym f) (subst (λ x. x < level_in (map_of held) lo) (sym e) h);
-      hi_above = subst (λ q. level_of word < level_in (map_of held) q) (sym g) (subst (λ x. x < level_in (map_of held) hi) (sym e) k);
+      lo_above =
+          subst (λ q. level_of word < level_in (map_of held) q) (sym f)
+          (subst (λ x. x < level_in (map_of held) lo) (sym e) h);
+      hi_above =
+          subst (λ q. level_of word < level_in (map_of held) q) (sym g)
+          (subst (λ x. x < level_in (map_of held) hi) (sym e) k);
       filled = λ none. filled (sym g ∙ none);
     }
 
 -- the family of such a word
-pub word_is : (held : Held) (level lo hi word : ℕ) → level_of word ≡ level → lo_of word ≡ lo → hi_of word ≡ hi → word_family held word ≡ branch level (family_in held lo) (family_in held hi)
+pub word_is : (held : Held) (level lo hi word : ℕ) → level_of word ≡ level → lo_of word ≡ lo → hi_of word ≡ hi
+    → word_family held word ≡ branch level (family_in held lo) (family_in held hi)
 word_is held level lo hi word e f g =
     ap (λ x. branch x (family_in held (lo_of word)) (family_in held (hi_of word))) e
     ∙ ap (λ q. branch level (family_in held q) (family_in held (hi_of word))) f
     ∙ ap (λ q. branch level (family_in held lo) (family_in held q)) g
 
 -- a reference with a word stands for the word's family
-pub found_is : (held : Held) (r word : ℕ) → IsSound held → map_of held r ≡ word → word ≢ 0 → family_in held r ≡ word_family held word
+pub found_is : (held : Held) (r word : ℕ) → IsSound held → map_of held r ≡ word → word ≢ 0
+    → family_in held r ≡ word_family held word
 found_is held r word sound same filled =
     family-node (map_of held) r sound.closed (λ none. filled (sym same ∙ none))
     ∙ ap (λ w. branch (level_of w) (family_in held (lo_of w)) (family_in held (hi_of w))) same
@@ -146,27 +167,38 @@ went_added before word after r is = record {
   sound = is.sound;
 }
 
-module _ (inside held : Held) (word : ℕ) (same : inside ≡ held) (sound : IsSound inside) (node : IsNode (map_of held) word) (antichain : IsAntichain (word_family held word)) (room : length inside.words < inside.room + 2) where
+module _ (inside held : Held) (word : ℕ) (same : inside ≡ held) (sound : IsSound inside)
+    (node : IsNode (map_of held) word) (antichain : IsAntichain (word_family held word))
+    (room : length inside.words < inside.room + 2) where
   added_inside : IsAdded inside word (with_word inside word) (length inside.words)
-  added_inside = added inside word sound (subst (λ (h : Held). IsNode (map_of h) word) (sym same) node) (subst (λ (h : Held). IsAntichain (word_family h word)) (sym same) antichain) room
+  added_inside =
+      added inside word sound (subst (λ (h : Held). IsNode (map_of h) word) (sym same) node)
+      (subst (λ (h : Held). IsAntichain (word_family h word)) (sym same) antichain) room
 
-  pub added_to : (after : Held) (r : ℕ) → after.words ≡ inside.words ++ word ∷ [] → after.room ≡ inside.room → r ≡ length inside.words → IsAdded held word after r
+  pub added_to : (after : Held) (r : ℕ) → after.words ≡ inside.words ++ word ∷ [] → after.room ≡ inside.room
+      → r ≡ length inside.words → IsAdded held word after r
   added_to after r words as_before at =
       subst (λ (h : Held). IsAdded h word after r) same
       (subst (IsAdded inside word after) (sym at)
       (subst (λ l. IsAdded inside word (record { words = l; room = after.room }) (length inside.words)) (sym words)
-      (subst (λ n. IsAdded inside word (record { words = inside.words ++ word ∷ []; room = n }) (length inside.words)) (sym as_before) added_inside)))
+      (subst (λ n. IsAdded inside word (record { words = inside.words ++ word ∷ []; room = n }) (length inside.words))
+      (sym as_before) added_inside)))
 
-  pub kept_added : (after : Held) (capacity capacity' : ℕ) (entries entries' : List Entry) → after.words ≡ inside.words ++ word ∷ [] → after.room ≡ inside.room
-      → KeepsNodes inside capacity entries → capacity ≤ capacity' → ((other : Held) → IsSound other → All (IsTold other) entries → All (IsTold other) entries')
+  pub kept_added : (after : Held) (capacity capacity' : ℕ) (entries entries' : List Entry)
+      → after.words ≡ inside.words ++ word ∷ [] → after.room ≡ inside.room
+      → KeepsNodes inside capacity entries → capacity ≤ capacity'
+      → ((other : Held) → IsSound other → All (IsTold other) entries → All (IsTold other) entries')
       → KeepsNodes after capacity' entries'
   kept_added after capacity capacity' entries entries' words as_before kept more follows =
       let is : IsAdded inside word after (length inside.words) =
       subst (λ l. IsAdded inside word (record { words = l; room = after.room }) (length inside.words)) (sym words)
-      (subst (λ n. IsAdded inside word (record { words = inside.words ++ word ∷ []; room = n }) (length inside.words)) (sym as_before) added_inside) in
+      (subst (λ n. IsAdded inside word (record { words = inside.words ++ word ∷ []; room = n }) (length inside.words))
+      (sym as_before) added_inside) in
       record {
         sound = is.sound;
         few = let h = kept.few in omega arith;
         taken = let h = kept.taken in omega arith;
-        told = follows after is.sound (all_told inside after entries sound (went_added inside word after (length inside.words) is) kept.told);
+        told =
+            follows after is.sound (all_told inside after entries sound
+            (went_added inside word after (length inside.words) is) kept.told);
       }

@@ -1,5 +1,6 @@
 -- A memory without nodes.
-use Rattle.std.proofs.Common.{◌≡◌, ℕ, zero, suc, ◌+◌, ◌<◌, ◌≤◌, ◌^◌, List, [], ◌∷◌, length, take, get_or, refl, sym, ◌∙◌, ap, subst, inl, inr, arith, All}
+use Rattle.std.proofs.Common.{◌≡◌, ℕ, zero, suc, ◌+◌, ◌<◌, ◌≤◌, ◌^◌, List, [], ◌∷◌, length, take, get_or, refl, sym}
+use Rattle.std.proofs.Common.{◌∙◌, ap, subst, inl, inr, arith, All}
 use Rattle.std.proofs.lemmas.Bool.{cases_eq}
 use Rattle.zdd_families.specs.Map.{family-empty, family-unit}
 use Rattle.family_operations.specs.Minimal.{minimal-none, minimal-unit}
@@ -31,9 +32,12 @@ sound room = record {
   antichains = antichains room;
 }
 
-pub kept_empty : (held : Held) (capacity : ℕ) (entries : List Entry) → held.words ≡ 0 ∷ 0 ∷ [] → held.room ≤ 2 ^ 25 → held.room + 2 ≤ capacity → ((other : Held) → IsSound other → All (IsTold other) entries) → KeepsNodes held capacity entries
+pub kept_empty : (held : Held) (capacity : ℕ) (entries : List Entry) → held.words ≡ 0 ∷ 0 ∷ [] → held.room ≤ 2 ^ 25
+    → held.room + 2 ≤ capacity → ((other : Held) → IsSound other → All (IsTold other) entries)
+    → KeepsNodes held capacity entries
 kept_empty held capacity entries none few taken told =
-    let is : IsSound held = subst (λ l. IsSound (record { words = l; room = held.room })) (sym none) (sound held.room) in
+    let is : IsSound held =
+    subst (λ l. IsSound (record { words = l; room = held.room })) (sym none) (sound held.room) in
     record { sound = is; few = few; taken = taken; told = told held is }
 
 two : (words : List ℕ) → 2 ≤ length words → get_or words 0 0 ≡ 0 → get_or words 1 0 ≡ 0 → take 2 words ≡ 0 ∷ 0 ∷ []

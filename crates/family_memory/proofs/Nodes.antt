@@ -24,7 +24,12 @@ module _ (held : Held) (r : ℕ) (sound : IsSound held) (has : Has held r) (inne
   node : IsNode (map_of held) (map_of held r)
   node = (sound.closed r filled).1
 
-  word_parts : IsNodeOf held r (record { level = level_of (map_of held r); lo = lo_of (map_of held r); hi = hi_of (map_of held r) })
+  word_parts : IsNodeOf held r (record {
+    level = level_of (map_of held r);
+    lo = lo_of (map_of held r);
+    hi =
+        hi_of (map_of held r);
+  })
   word_parts = record {
     unit = node.unit;
     level = level_in-inner (map_of held) r inner;
@@ -43,14 +48,17 @@ module _ (held : Held) (r : ℕ) (sound : IsSound held) (has : Has held r) (inne
   pub unit_of : 1 ≤ level_of (map_of held r)
   unit_of = node.unit.0
 
-  pub parts_of : (parts : Parts) → parts.level ≡ level_of (map_of held r) → parts.lo ≡ lo_of (map_of held r) → parts.hi ≡ hi_of (map_of held r) → IsNodeOf held r parts
+  pub parts_of : (parts : Parts) → parts.level ≡ level_of (map_of held r) → parts.lo ≡ lo_of (map_of held r)
+      → parts.hi ≡ hi_of (map_of held r) → IsNodeOf held r parts
   parts_of parts e f g =
       subst (λ level. IsNodeOf held r (record { level = level; lo = parts.lo; hi = parts.hi })) (sym e)
       (subst (λ lo. IsNodeOf held r (record { level = level_of (map_of held r); lo = lo; hi = parts.hi })) (sym f)
-      (subst (λ hi. IsNodeOf held r (record { level = level_of (map_of held r); lo = lo_of (map_of held r); hi = hi })) (sym g) word_parts))
+      (subst (λ hi. IsNodeOf held r (record { level = level_of (map_of held r); lo = lo_of (map_of held r); hi = hi }))
+      (sym g) word_parts))
 
 -- a word that was read is the reference's
-pub read_word : (inside held : Held) (n r word : ℕ) → inside ≡ held → n ≡ r → Has held r → word ≡ get_or inside.words n word → word ≡ map_of held r
+pub read_word : (inside held : Held) (n r word : ℕ) → inside ≡ held → n ≡ r → Has held r
+    → word ≡ get_or inside.words n word → word ≡ map_of held r
 read_word inside held n r word same e has read =
     let there : r < length inside.words = subst (λ (h : Held). Has h r) (sym same) has in
     subst (λ (h : Held). word ≡ map_of h r) same

@@ -18,4 +18,5 @@ pub record IsTold (held : Held) (entry : Entry) : Type 0 where
   pub first : Has held entry.question.first
   pub second : Has held entry.question.second
   pub answer : Has held entry.answer
-  pub is : IsAnswer entry.question.operation (family_in held entry.question.first) (family_in held entry.question.second) (family_in held entry.answer)
+  pub is : IsAnswer entry.question.operation (family_in held entry.question.first)
+      (family_in held entry.question.second) (family_in held entry.answer)

@@ -81,7 +81,8 @@ impl Answers {
 
     /// The answer to a question, if it is kept.
     pub(crate) fn answer(&self, question: &Question) -> Option<NodeRef>
-        ensures { IfSome result (λ answer. Contains self.now.entries.items (record { question = question.now; answer = answer })) }
+        ensures { IfSome result (λ answer. Contains self.now.entries.items
+            (record { question = question.now; answer = answer })) }
     {
         let place = place_of(question, self.entries.len());
         if place < self.entries.len() {
@@ -95,7 +96,8 @@ impl Answers {
 
     /// Keeps the answer to a question.
     pub(crate) fn keep(&mut self, entry: Entry)
-        ensures { (held : Held) → IsTold held entry → All (IsTold held) self.old.entries.items → All (IsTold held) self.new.entries.items }
+        ensures { (held : Held) → IsTold held entry → All (IsTold held) self.old.entries.items
+            → All (IsTold held) self.new.entries.items }
     {
         let place = place_of(&entry.question, self.entries.len());
         if place < self.entries.len() {
@@ -105,7 +107,8 @@ impl Answers {
 
     /// Makes the places four times as many within their room, once there are more nodes than places.
     pub(crate) fn follow(&mut self, nodes: usize)
-        ensures { (held : Held) → IsSound held → All (IsTold held) self.old.entries.items → All (IsTold held) self.new.entries.items }
+        ensures { (held : Held) → IsSound held → All (IsTold held) self.old.entries.items
+            → All (IsTold held) self.new.entries.items }
     {
         if nodes > self.entries.len() {
             let more = self

@@ -1,5 +1,6 @@
 //! The memory: node words, an index of them, and answers.
-ghost use Rattle.std.specs.Prelude.{◌≡◌, ◌≢◌, ◌⊎◌, ◌+◌, ◌≤◌, ◌<◌, ◌^◌, [], ◌∷◌, ◌++◌, length, IfOk, IfErr, IfSome, MatchResult};
+ghost use Rattle.std.specs.Prelude.{◌≡◌, ◌≢◌, ◌⊎◌, ◌+◌, ◌≤◌, ◌<◌, ◌^◌, [], ◌∷◌, ◌++◌, length, IfOk, IfErr, IfSome};
+ghost use Rattle.std.specs.Prelude.{MatchResult};
 ghost use Rattle.zdd_words.specs.Word.{packed};
 ghost use Rattle.zdd_families.specs.Family.{IsAbove, branch};
 ghost use Rattle.zdd_families.specs.Map.{Grown, IsNode, level_in};
@@ -51,7 +52,8 @@ impl Model for FamilyMemory {
 
     ghost view = { λ m. record { words = m.words.items; room = m.room } };
 
-    ghost invariant = { λ m. KeepsNodes (record { words = m.words.items; room = m.room }) (vec_capacity m.words) m.answers.entries.items };
+    ghost invariant = { λ m. KeepsNodes (record { words = m.words.items; room = m.room }) (vec_capacity m.words)
+        m.answers.entries.items };
 }
 
 impl FamilyMemory {
@@ -115,11 +117,13 @@ impl FamilyMemory {
         requires antichain { IsAntichain (branch level (family_in self.old lo) (family_in self.old hi)) }
 
         ensures has { IfOk result (λ r. Has self.new r) }
-        ensures family { IfOk result (λ r. family_in self.new r ≡ branch level (family_in self.old lo) (family_in self.old hi)) }
+        ensures family { IfOk result (λ r. family_in self.new r
+            ≡ branch level (family_in self.old lo) (family_in self.old hi)) }
         ensures used_up { IfErr result (λ _. IsUsedUp self.old) }
 
         // At most the one node is added.
-        ensures words { MatchResult result (λ _. (self.new.words ≡ self.old.words) ⊎ (self.new.words ≡ self.old.words ++ packed level lo hi ∷ [])) (λ _. self.new.words ≡ self.old.words) }
+        ensures words { MatchResult result (λ _. (self.new.words ≡ self.old.words)
+            ⊎ (self.new.words ≡ self.old.words ++ packed level lo hi ∷ [])) (λ _. self.new.words ≡ self.old.words) }
         ensures keeps { Grown (map_of self.old) (map_of self.new) }
         ensures room { self.new.room ≡ self.old.room }
         ensures sound { IsSound self.new }
@@ -138,7 +142,8 @@ impl FamilyMemory {
     fn add(&mut self, word: u64, place: Option<usize>) -> Result<NodeRef, Spent>
         requires node { IsNode (map_of self.old) word }
         requires antichain { IsAntichain (word_family self.old word) }
-        ensures { MatchResult result (λ r. IsAdded self.old word self.new r) (λ _. (self.new ≡ self.old) × IsUsedUp self.old) }
+        ensures { MatchResult result (λ r. IsAdded self.old word self.new r)
+            (λ _. (self.new ≡ self.old) × IsUsedUp self.old) }
     {
         let at = self.words.len();
         if at - 2 >= self.room {

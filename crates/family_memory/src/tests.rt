@@ -1,3 +1,4 @@
+//! A memory of nodes that fills and is cleared.
 use super::*;
 use std::test::Fail;
 use unit_sets::UnitNo;

@@ -44,18 +44,21 @@ parted_at (first ∷ xs) x has =
       | inr later ↦ parted_later first x xs (parted_at xs x later)
     ]
 
-pub each_once-length : {K : Type 0} (xs ys : List K) → EachOnce xs → ((x : K) → Contains xs x → Contains ys x) → length xs ≤ length ys
+pub each_once-length : {K : Type 0} (xs ys : List K) → EachOnce xs → ((x : K) → Contains xs x → Contains ys x)
+    → length xs ≤ length ys
 each_once-length [] ys once within = omega arith
 each_once-length (x ∷ xs) ys once within =
     let parted : Parted ys x = parted_at ys x (within x (Contains-cons_first x xs)) in
     let fewer : length xs ≤ length parted.rest =
     each_once-length xs parted.rest once.1
-    (λ y has. parted.others y (each-contains (λ z. x ≢ z) xs y once.0 has) (within y (Contains-cons_other x y xs has))) in
+    (λ y has. parted.others y (each-contains (λ z. x ≢ z) xs y once.0 has)
+    (within y (Contains-cons_other x y xs has))) in
     let e : length ys ≡ suc (length parted.rest) = parted.fewer in
     omega (arith, e, fewer)
 
 -- two lists without repeats and with the same members are equally long
-pub same_length : {K : Type 0} (xs ys : List K) → EachOnce xs → EachOnce ys → ((x : K) → Contains xs x ↔ Contains ys x) → length xs ≡ length ys
+pub same_length : {K : Type 0} (xs ys : List K) → EachOnce xs → EachOnce ys → ((x : K) → Contains xs x ↔ Contains ys x)
+    → length xs ≡ length ys
 same_length xs ys once once' same =
     let h : length xs ≤ length ys = each_once-length xs ys once (λ x has. (same x).0 has) in
     let k : length ys ≤ length xs = each_once-length ys xs once' (λ x has. (same x).1 has) in
@@ -87,12 +90,15 @@ IsImage-from_map f (first ∷ xs) y has =
     ]
 
 -- a function that tells the members apart leaves each once
-pub each_once-map : {K J : Type 0} (f : K → J) (xs : List K) → ((a b : K) → Contains xs a → Contains xs b → f a ≡ f b → a ≡ b) → EachOnce xs → EachOnce (map f xs)
+pub each_once-map : {K J : Type 0} (f : K → J) (xs : List K)
+    → ((a b : K) → Contains xs a → Contains xs b → f a ≡ f b → a ≡ b) → EachOnce xs → EachOnce (map f xs)
 each_once-map f [] apart once = tt
 each_once-map f (x ∷ xs) apart once = (
   each-from_contains (λ y. f x ≢ y) (map f xs) (λ y has same.
       let image = IsImage-from_map f xs y has in
       each-contains (λ z. x ≢ z) xs image.of once.0 image.has
-      (apart x image.of (Contains-cons_first x xs) (Contains-cons_other x image.of xs image.has) (same ∙ sym image.is))),
-  each_once-map f xs (λ a b in_a in_b. apart a b (Contains-cons_other x a xs in_a) (Contains-cons_other x b xs in_b)) once.1,
+      (apart x image.of (Contains-cons_first x xs) (Contains-cons_other x image.of xs image.has)
+      (same ∙ sym image.is))),
+  each_once-map f xs (λ a b in_a in_b. apart a b (Contains-cons_other x a xs in_a) (Contains-cons_other x b xs in_b))
+      once.1,
 )

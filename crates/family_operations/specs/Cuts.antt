@@ -19,9 +19,11 @@ pub record Cuts (x : ℕ) (f lo hi : List (List ℕ)) : Type 0 where
 pub each-contains : {K : Type 0} (P : K → Type 0) (xs : List K) (x : K) → AllByRecursion P xs → Contains xs x → P x
 each-contains P xs x all h = All-contains P xs x (All-from_recursion P xs all) h
 
-pub each-from_contains : {K : Type 0} (P : K → Type 0) (xs : List K) → ((x : K) → Contains xs x → P x) → AllByRecursion P xs
+pub each-from_contains : {K : Type 0} (P : K → Type 0) (xs : List K) → ((x : K) → Contains xs x → P x)
+    → AllByRecursion P xs
 each-from_contains P [] all = tt
-each-from_contains P (x ∷ xs) all = (all x (Contains-cons_first x xs), each-from_contains P xs (λ y h. all y (Contains-cons_other x y xs h)))
+each-from_contains P (x ∷ xs) all =
+    (all x (Contains-cons_first x xs), each-from_contains P xs (λ y h. all y (Contains-cons_other x y xs h)))
 
 pub set_above : (x : ℕ) (f : List (List ℕ)) (set : List ℕ) → IsAbove x f → Contains f set → IsSetAbove x set
 set_above x f set above h = each-contains (IsSetAbove x) f set above h
@@ -31,14 +33,18 @@ set_rises f set is h = each-contains IsRising f set is.rising h
 
 -- ---- the sets of a family that is cut
 
-pub cut_cases : (x : ℕ) (f lo hi : List (List ℕ)) (set : List ℕ) → Cuts x f lo hi → Contains f set → Contains lo set ⊎ HasWith x hi set
+pub cut_cases : (x : ℕ) (f lo hi : List (List ℕ)) (set : List ℕ) → Cuts x f lo hi → Contains f set
+    → Contains lo set ⊎ HasWith x hi set
 cut_cases x f lo hi set cut h = branch-cases x lo hi set (subst (λ (q : List (List ℕ)). Contains q set) cut.is h)
 
 pub cut_has_lo : (x : ℕ) (f lo hi : List (List ℕ)) (set : List ℕ) → Cuts x f lo hi → Contains lo set → Contains f set
-cut_has_lo x f lo hi set cut h = subst (λ (q : List (List ℕ)). Contains q set) (sym cut.is) (branch-has_lo x lo hi set h)
+cut_has_lo x f lo hi set cut h =
+    subst (λ (q : List (List ℕ)). Contains q set) (sym cut.is) (branch-has_lo x lo hi set h)
 
-pub cut_has_hi : (x : ℕ) (f lo hi : List (List ℕ)) (set : List ℕ) → Cuts x f lo hi → Contains hi set → Contains f (x ∷ set)
-cut_has_hi x f lo hi set cut h = subst (λ (q : List (List ℕ)). Contains q (x ∷ set)) (sym cut.is) (branch-has_hi x lo hi set h)
+pub cut_has_hi : (x : ℕ) (f lo hi : List (List ℕ)) (set : List ℕ) → Cuts x f lo hi → Contains hi set
+    → Contains f (x ∷ set)
+cut_has_hi x f lo hi set cut h =
+    subst (λ (q : List (List ℕ)). Contains q (x ∷ set)) (sym cut.is) (branch-has_hi x lo hi set h)
 
 -- a set above x does not begin with x
 pub not_with : {G : Type 0} (x : ℕ) (set rest : List ℕ) → IsSetAbove x set → set ≡ x ∷ rest → G
@@ -46,7 +52,8 @@ not_with x [] rest above same = absurd cc
 not_with x (unit ∷ set) rest above same = let e : unit ≡ x = cc in absurd (let k = above.0 in omega (arith, e))
 
 -- a set of the family that is above x is one of lo
-pub cut_lo : (x : ℕ) (f lo hi : List (List ℕ)) (set : List ℕ) → Cuts x f lo hi → IsSetAbove x set → Contains f set → Contains lo set
+pub cut_lo : (x : ℕ) (f lo hi : List (List ℕ)) (set : List ℕ) → Cuts x f lo hi → IsSetAbove x set → Contains f set
+    → Contains lo set
 cut_lo x f lo hi set cut above h =
     elim (cut_cases x f lo hi set cut h) [
       | inl of_lo ↦ of_lo

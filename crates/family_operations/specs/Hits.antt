@@ -1,8 +1,10 @@
 -- Which sets of units a family hits: those that include a set of it, told as tests of a unit.
-use Rattle.std.specs.Prelude.{◌≡◌, ℕ, zero, suc, ◌+◌, ◌≤◌, Bool, true, false, ◌&&◌, ◌||◌, ◌==◌, nat_le, List, [], ◌∷◌, Contains, if◌then◌else◌}
+use Rattle.std.specs.Prelude.{◌≡◌, ℕ, zero, suc, ◌+◌, ◌≤◌, Bool, true, false, ◌&&◌, ◌||◌, ◌==◌, nat_le, List, [], ◌∷◌}
+use Rattle.std.specs.Prelude.{Contains, if◌then◌else◌}
 use Rattle.std.specs.List.{list_any, list_all}
 use Rattle.std.proofs.Common.{refl, sym, ◌∙◌, ap, inl, inr, arith, eq-eqb}
-use Rattle.std.proofs.lemmas.Bool.{cases_Bool, or_cases, or_left, or_right, and_parts, and_from, eqb-true, cond-true, cond-false, le-leb, leb-true}
+use Rattle.std.proofs.lemmas.Bool.{cases_Bool, or_cases, or_left, or_right, and_parts, and_from, eqb-true, cond-true}
+use Rattle.std.proofs.lemmas.Bool.{cond-false, le-leb, leb-true}
 use Rattle.unit_sets.specs.UnitList.{among, is_within, among-from_is_within}
 use Rattle.unit_sets.specs.Sorted.{Contains-cons_first, Contains-cons_other, Contains-cons_cases, Contains-nil}
 use Rattle.zdd_families.specs.Family.{IsFamily}
@@ -38,7 +40,8 @@ HasHit-from_test (first ∷ others) within h =
           record { set = found.set; has = Contains-cons_other first found.set others found.has; passes = found.passes }
     ]
 
-pub hits-from_set : (family : List (List ℕ)) (within : ℕ → Bool) (set : List ℕ) → Contains family set → list_all within set ≡ true → hits family within ≡ true
+pub hits-from_set : (family : List (List ℕ)) (within : ℕ → Bool) (set : List ℕ) → Contains family set
+    → list_all within set ≡ true → hits family within ≡ true
 hits-from_set [] within set has passes = Contains-nil set has
 hits-from_set (first ∷ others) within set has passes =
     elim (Contains-cons_cases first set others has) [
@@ -48,16 +51,19 @@ hits-from_set (first ∷ others) within set has passes =
 
 -- ---- a test of each unit of a set
 
-pub passes_at : (within : ℕ → Bool) (set : List ℕ) (unit : ℕ) → list_all within set ≡ true → among set unit ≡ true → within unit ≡ true
+pub passes_at : (within : ℕ → Bool) (set : List ℕ) (unit : ℕ) → list_all within set ≡ true → among set unit ≡ true
+    → within unit ≡ true
 passes_at within [] unit passes h = absurd cc
 passes_at within (first ∷ set) unit passes h =
-    let both : (within first ≡ true) × (list_all within set ≡ true) = and_parts (within first) (list_all within set) passes in
+    let both : (within first ≡ true) × (list_all within set ≡ true) =
+    and_parts (within first) (list_all within set) passes in
     elim (or_cases (first == unit) (among set unit) h) [
       | inl here ↦ ap within (sym (eqb-true first unit here)) ∙ both.0
       | inr later ↦ passes_at within set unit both.1 later
     ]
 
-pub passes_from : (within : ℕ → Bool) (set : List ℕ) → ((unit : ℕ) → among set unit ≡ true → within unit ≡ true) → list_all within set ≡ true
+pub passes_from : (within : ℕ → Bool) (set : List ℕ) → ((unit : ℕ) → among set unit ≡ true → within unit ≡ true)
+    → list_all within set ≡ true
 passes_from within [] each = refl
 passes_from within (first ∷ set) each =
     and_from (within first) (list_all within set)
@@ -65,10 +71,13 @@ passes_from within (first ∷ set) each =
     (passes_from within set (λ unit h. each unit (or_right (first == unit) (among set unit) h)))
 
 -- a set within one whose units pass has units that pass
-pub passes_within : (within : ℕ → Bool) (set part : List ℕ) → is_within set part ≡ true → list_all within set ≡ true → list_all within part ≡ true
-passes_within within set part h passes = passes_from within part (λ unit has. passes_at within set unit passes (among-from_is_within set part unit h has))
+pub passes_within : (within : ℕ → Bool) (set part : List ℕ) → is_within set part ≡ true → list_all within set ≡ true
+    → list_all within part ≡ true
+passes_within within set part h passes =
+    passes_from within part (λ unit has. passes_at within set unit passes (among-from_is_within set part unit h has))
 
-pub passes-joined : (within : ℕ → Bool) (a b : List ℕ) → list_all within a ≡ true → list_all within b ≡ true → list_all within (joined a b) ≡ true
+pub passes-joined : (within : ℕ → Bool) (a b : List ℕ) → list_all within a ≡ true → list_all within b ≡ true
+    → list_all within (joined a b) ≡ true
 passes-joined within a b passes passes' =
     passes_from within (joined a b) (λ unit h.
     elim (or_cases (among a unit) (among b unit) (sym (among-joined a b unit) ∙ h)) [
@@ -78,15 +87,18 @@ passes-joined within a b passes passes' =
 
 pub passes-left : (within : ℕ → Bool) (a b : List ℕ) → list_all within (joined a b) ≡ true → list_all within a ≡ true
 passes-left within a b passes =
-    passes_from within a (λ unit h. passes_at within (joined a b) unit passes (among-joined a b unit ∙ or_left (among a unit) (among b unit) h))
+    passes_from within a (λ unit h. passes_at within (joined a b) unit passes
+    (among-joined a b unit ∙ or_left (among a unit) (among b unit) h))
 
 pub passes-right : (within : ℕ → Bool) (a b : List ℕ) → list_all within (joined a b) ≡ true → list_all within b ≡ true
 passes-right within a b passes =
-    passes_from within b (λ unit h. passes_at within (joined a b) unit passes (among-joined a b unit ∙ or_right (among a unit) (among b unit) h))
+    passes_from within b (λ unit h. passes_at within (joined a b) unit passes
+    (among-joined a b unit ∙ or_right (among a unit) (among b unit) h))
 
 -- ---- a union is hit where either family is
 
-pub hits-union : (f g h : List (List ℕ)) (within : ℕ → Bool) → IsUnion f g h → hits h within ≡ (hits f within || hits g within)
+pub hits-union : (f g h : List (List ℕ)) (within : ℕ → Bool) → IsUnion f g h
+    → hits h within ≡ (hits f within || hits g within)
 hits-union f g h within is =
     same_Bool (hits h within) (hits f within || hits g within)
     (λ t.
@@ -97,53 +109,75 @@ hits-union f g h within is =
     ])
     (λ t.
     elim (or_cases (hits f within) (hits g within) t) [
-      | inl of_f ↦ let found : HasHit f within = HasHit-from_test f within of_f in hits-from_set h within found.set ((is.sets found.set).1 (inl found.has)) found.passes
-      | inr of_g ↦ let found : HasHit g within = HasHit-from_test g within of_g in hits-from_set h within found.set ((is.sets found.set).1 (inr found.has)) found.passes
+      | inl of_f ↦ let found : HasHit f within =
+          HasHit-from_test f within of_f in hits-from_set h within found.set ((is.sets found.set).1 (inl found.has))
+          found.passes
+      | inr of_g ↦ let found : HasHit g within =
+          HasHit-from_test g within of_g in hits-from_set h within found.set ((is.sets found.set).1 (inr found.has))
+          found.passes
     ])
 
 -- ---- a product is hit where both are
 
-join_hit : (f g : List (List ℕ)) (within : ℕ → Bool) (set : List ℕ) → IsJoin f g set → list_all within set ≡ true → (hits f within && hits g within) ≡ true
+join_hit : (f g : List (List ℕ)) (within : ℕ → Bool) (set : List ℕ) → IsJoin f g set → list_all within set ≡ true
+    → (hits f within && hits g within) ≡ true
 join_hit f g within set join passes =
     let both : list_all within (joined join.first join.second) ≡ true = ap (list_all within) (sym join.is) ∙ passes in
     and_from (hits f within) (hits g within)
     (hits-from_set f within join.first join.of_f (passes-left within join.first join.second both))
     (hits-from_set g within join.second join.of_g (passes-right within join.first join.second both))
 
-hit_join : (f g h : List (List ℕ)) (within : ℕ → Bool) → IsProduct f g h → HasHit f within → HasHit g within → hits h within ≡ true
+hit_join : (f g h : List (List ℕ)) (within : ℕ → Bool) → IsProduct f g h → HasHit f within → HasHit g within
+    → hits h within ≡ true
 hit_join f g h within is first second =
     hits-from_set h within (joined first.set second.set)
-    ((is.sets (joined first.set second.set)).1 (record { first = first.set; second = second.set; of_f = first.has; of_g = second.has; is = refl }))
+    ((is.sets (joined first.set second.set)).1 (record {
+      first = first.set;
+      second = second.set;
+      of_f = first.has;
+      of_g = second.has;
+      is = refl;
+    }))
     (passes-joined within first.set second.set first.passes second.passes)
 
-pub hits-product : (f g h : List (List ℕ)) (within : ℕ → Bool) → IsProduct f g h → hits h within ≡ (hits f within && hits g within)
+pub hits-product : (f g h : List (List ℕ)) (within : ℕ → Bool) → IsProduct f g h
+    → hits h within ≡ (hits f within && hits g within)
 hits-product f g h within is =
     same_Bool (hits h within) (hits f within && hits g within)
-    (λ t. let found : HasHit h within = HasHit-from_test h within t in join_hit f g within found.set ((is.sets found.set).0 found.has) found.passes)
+    (λ t. let found : HasHit h within = HasHit-from_test h within t in
+    join_hit f g within found.set ((is.sets found.set).0 found.has) found.passes)
     (λ t.
     let both : (hits f within ≡ true) × (hits g within ≡ true) = and_parts (hits f within) (hits g within) t in
     hit_join f g h within is (HasHit-from_test f within both.0) (HasHit-from_test g within both.1))
 
 -- ---- the minimal sets hit what the family hits
 
-covered_hit : (least : List (List ℕ)) (within : ℕ → Bool) (set : List ℕ) → Includes least set → list_all within set ≡ true → hits least within ≡ true
-covered_hit least within set found passes = hits-from_set least within found.part found.has (passes_within within set found.part found.within passes)
+covered_hit : (least : List (List ℕ)) (within : ℕ → Bool) (set : List ℕ) → Includes least set
+    → list_all within set ≡ true → hits least within ≡ true
+covered_hit least within set found passes =
+    hits-from_set least within found.part found.has (passes_within within set found.part found.within passes)
 
-pub hits-minimal : (f least : List (List ℕ)) (within : ℕ → Bool) → IsFamily f → IsMinimal f least → hits least within ≡ hits f within
+pub hits-minimal : (f least : List (List ℕ)) (within : ℕ → Bool) → IsFamily f → IsMinimal f least
+    → hits least within ≡ hits f within
 hits-minimal f least within is_family is =
     same_Bool (hits least within) (hits f within)
-    (λ t. let found : HasHit least within = HasHit-from_test least within t in hits-from_set f within found.set ((is.sets found.set).0 found.has).0 found.passes)
-    (λ t. let found : HasHit f within = HasHit-from_test f within t in covered_hit least within found.set (minimal-covers f least is_family is found.set found.has) found.passes)
+    (λ t. let found : HasHit least within = HasHit-from_test least within t in
+    hits-from_set f within found.set ((is.sets found.set).0 found.has).0 found.passes)
+    (λ t. let found : HasHit f within = HasHit-from_test f within t in
+    covered_hit least within found.set (minimal-covers f least is_family is found.set found.has) found.passes)
 
 -- ---- votes are hit where that many families are
 
-counted : (family : List (List ℕ)) (families : List (List (List ℕ))) (within : ℕ → Bool) → hits family within ≡ true → hit_count (family ∷ families) within ≡ 1 + hit_count families within
+counted : (family : List (List ℕ)) (families : List (List (List ℕ))) (within : ℕ → Bool) → hits family within ≡ true
+    → hit_count (family ∷ families) within ≡ 1 + hit_count families within
 counted family families within h = ap (λ n. n + hit_count families within) (cond-true (hits family within) 1 0 h)
 
-not_fewer : (family : List (List ℕ)) (families : List (List (List ℕ))) (within : ℕ → Bool) → hit_count families within ≤ hit_count (family ∷ families) within
+not_fewer : (family : List (List ℕ)) (families : List (List (List ℕ))) (within : ℕ → Bool)
+    → hit_count families within ≤ hit_count (family ∷ families) within
 not_fewer family families within = omega arith
 
-pub choice_counted : (families : List (List (List ℕ))) (within : ℕ → Bool) (count : ℕ) (set : List ℕ) → IsChoice families count set → list_all within set ≡ true → count ≤ hit_count families within
+pub choice_counted : (families : List (List (List ℕ))) (within : ℕ → Bool) (count : ℕ) (set : List ℕ)
+    → IsChoice families count set → list_all within set ≡ true → count ≤ hit_count families within
 choice_counted families within zero set chosen passes = omega arith
 choice_counted [] within (suc count) set chosen passes = absurd chosen
 choice_counted (family ∷ families) within (suc count) set (inl skipped) passes =
@@ -152,8 +186,10 @@ choice_counted (family ∷ families) within (suc count) set (inl skipped) passes
     omega (arith, k, more)
 choice_counted (family ∷ families) within (suc count) set (inr (first, rest, has, chosen, same)) passes =
     let both : list_all within (joined first rest) ≡ true = ap (list_all within) (sym same) ∙ passes in
-    let k : count ≤ hit_count families within = choice_counted families within count rest chosen (passes-right within first rest both) in
-    let e : hit_count (family ∷ families) within ≡ 1 + hit_count families within = counted family families within (hits-from_set family within first has (passes-left within first rest both)) in
+    let k : count ≤ hit_count families within =
+    choice_counted families within count rest chosen (passes-right within first rest both) in
+    let e : hit_count (family ∷ families) within ≡ 1 + hit_count families within =
+    counted family families within (hits-from_set family within first has (passes-left within first rest both)) in
     omega (arith, k, e)
 
 -- a choice whose units all pass
@@ -162,24 +198,31 @@ pub record HasChoice (families : List (List (List ℕ))) (within : ℕ → Bool)
   pub chosen : IsChoice families count set
   pub passes : list_all within set ≡ true
 
-skip_one : (family : List (List ℕ)) (families : List (List (List ℕ))) (within : ℕ → Bool) (count : ℕ) → HasChoice families within count → HasChoice (family ∷ families) within count
+skip_one : (family : List (List ℕ)) (families : List (List (List ℕ))) (within : ℕ → Bool) (count : ℕ)
+    → HasChoice families within count → HasChoice (family ∷ families) within count
 skip_one family families within zero found = record { set = found.set; chosen = found.chosen; passes = found.passes }
-skip_one family families within (suc count) found = record { set = found.set; chosen = inl found.chosen; passes = found.passes }
+skip_one family families within (suc count) found =
+    record { set = found.set; chosen = inl found.chosen; passes = found.passes }
 
-take_one : (family : List (List ℕ)) (families : List (List (List ℕ))) (within : ℕ → Bool) (count : ℕ) → HasHit family within → HasChoice families within count → HasChoice (family ∷ families) within (suc count)
+take_one : (family : List (List ℕ)) (families : List (List (List ℕ))) (within : ℕ → Bool) (count : ℕ)
+    → HasHit family within → HasChoice families within count → HasChoice (family ∷ families) within (suc count)
 take_one family families within count first rest = record {
   set = joined first.set rest.set;
   chosen = inr (first.set, rest.set, first.has, rest.chosen, refl);
   passes = passes-joined within first.set rest.set first.passes rest.passes;
 }
 
-uncounted : (family : List (List ℕ)) (families : List (List (List ℕ))) (within : ℕ → Bool) → hits family within ≡ false → hit_count (family ∷ families) within ≡ hit_count families within
-uncounted family families within h = ap (λ n. n + hit_count families within) (cond-false (hits family within) 1 0 h) ∙ (omega arith)
+uncounted : (family : List (List ℕ)) (families : List (List (List ℕ))) (within : ℕ → Bool) → hits family within ≡ false
+    → hit_count (family ∷ families) within ≡ hit_count families within
+uncounted family families within h =
+    ap (λ n. n + hit_count families within) (cond-false (hits family within) 1 0 h) ∙ (omega arith)
 
-pub counted_choice : (families : List (List (List ℕ))) (within : ℕ → Bool) (count : ℕ) → count ≤ hit_count families within → HasChoice families within count
+pub counted_choice : (families : List (List (List ℕ))) (within : ℕ → Bool) (count : ℕ)
+    → count ≤ hit_count families within → HasChoice families within count
 counted_choice [] within zero h = record { set = []; chosen = refl; passes = refl }
 counted_choice [] within (suc count) h = absurd (omega arith)
-counted_choice (family ∷ families) within zero h = skip_one family families within zero (counted_choice families within zero (omega arith))
+counted_choice (family ∷ families) within zero h =
+    skip_one family families within zero (counted_choice families within zero (omega arith))
 counted_choice (family ∷ families) within (suc count) h =
     elim (cases_Bool (hits family within)) [
       | inl hit ↦
@@ -187,15 +230,19 @@ counted_choice (family ∷ families) within (suc count) h =
           (counted_choice families within count (let e = counted family families within hit in omega (arith, e, h)))
       | inr missed ↦
           skip_one family families within (suc count)
-          (counted_choice families within (suc count) (let e = uncounted family families within missed in omega (arith, e, h)))
+          (counted_choice families within (suc count) (let e = uncounted family families within missed in
+          omega (arith, e, h)))
     ]
 
-pub hits-votes : (count : ℕ) (families : List (List (List ℕ))) (h : List (List ℕ)) (within : ℕ → Bool) → IsVotes count families h → hits h within ≡ nat_le count (hit_count families within)
+pub hits-votes : (count : ℕ) (families : List (List (List ℕ))) (h : List (List ℕ)) (within : ℕ → Bool)
+    → IsVotes count families h → hits h within ≡ nat_le count (hit_count families within)
 hits-votes count families h within is =
     same_Bool (hits h within) (nat_le count (hit_count families within))
     (λ t.
     let found : HasHit h within = HasHit-from_test h within t in
-    le-leb count (hit_count families within) (choice_counted families within count found.set ((is.sets found.set).0 found.has) found.passes))
+    le-leb count (hit_count families within) (choice_counted families within count found.set
+    ((is.sets found.set).0 found.has) found.passes))
     (λ t.
-    let found : HasChoice families within count = counted_choice families within count (leb-true count (hit_count families within) t) in
+    let found : HasChoice families within count =
+    counted_choice families within count (leb-true count (hit_count families within) t) in
     hits-from_set h within found.set ((is.sets found.set).1 found.chosen) found.passes)

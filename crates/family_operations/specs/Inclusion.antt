@@ -1,5 +1,6 @@
 -- Which sets of a family a set includes.
-use Rattle.std.specs.Prelude.{◌≡◌, ◌⊎◌, ℕ, ◌<◌, ◌≤◌, Bool, true, false, ◌==◌, ◌&&◌, ◌||◌, List, [], ◌∷◌, Contains, length}
+use Rattle.std.specs.Prelude.{◌≡◌, ◌⊎◌, ℕ, ◌<◌, ◌≤◌, Bool, true, false, ◌==◌, ◌&&◌, ◌||◌, List, [], ◌∷◌, Contains}
+use Rattle.std.specs.Prelude.{length}
 use Rattle.std.specs.List.{AllByRecursion, list_any}
 use Rattle.std.specs.List.Sorted.{IsStrictlySortedBy}
 use Rattle.std.specs.Ordering.{nat_cmp}
@@ -35,15 +36,22 @@ Includes-from_test (first ∷ others) set h =
       | inl here ↦ record { part = first; has = Contains-cons_first first others; within = here }
       | inr later ↦
           let found : Includes others set = Includes-from_test others set later in
-          record { part = found.part; has = Contains-cons_other first found.part others found.has; within = found.within }
+          record {
+            part = found.part;
+            has = Contains-cons_other first found.part others found.has;
+            within =
+                found.within;
+          }
     ]
 
-pub test-from_part : (family : List (List ℕ)) (set part : List ℕ) → Contains family part → is_within set part ≡ true → includes_one family set ≡ true
+pub test-from_part : (family : List (List ℕ)) (set part : List ℕ) → Contains family part → is_within set part ≡ true
+    → includes_one family set ≡ true
 test-from_part [] set part has within = Contains-nil part has
 test-from_part (first ∷ others) set part has within =
     elim (Contains-cons_cases first part others has) [
       | inl same ↦ or_left (is_within set first) (includes_one others set) (ap (is_within set) same ∙ within)
-      | inr later ↦ or_right (is_within set first) (includes_one others set) (test-from_part others set part later within)
+      | inr later ↦ or_right (is_within set first) (includes_one others set)
+          (test-from_part others set part later within)
     ]
 
 pub test-from_Includes : (family : List (List ℕ)) (set : List ℕ) → Includes family set → includes_one family set ≡ true
@@ -55,12 +63,14 @@ pub within_itself : (set : List ℕ) → is_within set set ≡ true
 within_itself set = is_within-from_among set set (λ unit h. h)
 
 pub within_trans : (a b c : List ℕ) → is_within a b ≡ true → is_within b c ≡ true → is_within a c ≡ true
-within_trans a b c h k = is_within-from_among a c (λ unit has. among-from_is_within a b unit h (among-from_is_within b c unit k has))
+within_trans a b c h k =
+    is_within-from_among a c (λ unit has. among-from_is_within a b unit h (among-from_is_within b c unit k has))
 
 -- two rising sets that are within each other are equal
 pub same_within : (a b : List ℕ) → IsRising a → IsRising b → is_within a b ≡ true → is_within b a ≡ true → a ≡ b
 same_within a b s t h k =
-    same_set a b s t (λ unit. same_Bool (among a unit) (among b unit) (among-from_is_within b a unit k) (among-from_is_within a b unit h))
+    same_set a b s t (λ unit. same_Bool (among a unit) (among b unit) (among-from_is_within b a unit k)
+    (among-from_is_within a b unit h))
 
 other_first : (x unit : ℕ) (set : List ℕ) → x < unit → among (x ∷ set) unit ≡ among set unit
 other_first x unit set h = ap (λ q. q || among set unit) (ne_eqb x unit (λ e. omega arith))
@@ -72,15 +82,19 @@ ands a b c d e f = ap (λ q. q && c) e ∙ ap (λ q. b && q) f
 pub within-with_first : (x : ℕ) (set part : List ℕ) → IsSetAbove x part → is_within (x ∷ set) part ≡ is_within set part
 within-with_first x set [] above = refl
 within-with_first x set (unit ∷ part) above =
-    ands (among (x ∷ set) unit) (among set unit) (is_within (x ∷ set) part) (is_within set part) (other_first x unit set above.0) (within-with_first x set part above.1)
+    ands (among (x ∷ set) unit) (among set unit) (is_within (x ∷ set) part) (is_within set part)
+    (other_first x unit set above.0) (within-with_first x set part above.1)
 
-pub within-with_both : (x : ℕ) (set part : List ℕ) → IsSetAbove x part → is_within (x ∷ set) (x ∷ part) ≡ is_within set part
+pub within-with_both : (x : ℕ) (set part : List ℕ) → IsSetAbove x part
+    → is_within (x ∷ set) (x ∷ part) ≡ is_within set part
 within-with_both x set part above =
-    ap (λ q. q && is_within (x ∷ set) part) (or_left (x == x) (among set x) (eq-eqb x x refl)) ∙ within-with_first x set part above
+    ap (λ q. q && is_within (x ∷ set) part) (or_left (x == x) (among set x) (eq-eqb x x refl))
+    ∙ within-with_first x set part above
 
 lacks : (x : ℕ) (set : List ℕ) → IsSetAbove x set → among set x ≡ false
 lacks x [] above = refl
-lacks x (unit ∷ set) above = or_from (unit == x) (among set x) (ne_eqb unit x (λ e. let below = above.0 in omega arith)) (lacks x set above.1)
+lacks x (unit ∷ set) above =
+    or_from (unit == x) (among set x) (ne_eqb unit x (λ e. let below = above.0 in omega arith)) (lacks x set above.1)
 
 -- a set above x includes no set with x
 pub within-none : (x : ℕ) (set part : List ℕ) → IsSetAbove x set → is_within set (x ∷ part) ≡ false
@@ -94,7 +108,8 @@ module _ (x : ℕ) (g g0 g1 : List (List ℕ)) (cut : Cuts x g g0 g1) (set : Lis
       let found : Includes g set = Includes-from_test g set h in
       elim (cut_cases x g g0 g1 found.part cut found.has) [
         | inl of_lo ↦ test-from_part g0 set found.part of_lo found.within
-        | inr with_x ↦ absurd (false≢true (sym (within-none x set with_x.0 above) ∙ ap (is_within set) (sym with_x.1) ∙ found.within))
+        | inr with_x ↦ absurd (false≢true (sym (within-none x set with_x.0 above) ∙ ap (is_within set) (sym with_x.1)
+            ∙ found.within))
       ]
 
   lo_from : includes_one g0 set ≡ true → includes_one g set ≡ true
@@ -112,11 +127,13 @@ module _ (x : ℕ) (g g0 g1 : List (List ℕ)) (cut : Cuts x g g0 g1) (set : Lis
       elim (cut_cases x g g0 g1 found.part cut found.has) [
         | inl of_lo ↦
             or_right (includes_one g1 set) (includes_one g0 set)
-            (test-from_part g0 set found.part of_lo (sym (within-with_first x set found.part (set_above x g0 found.part cut.lo_above of_lo)) ∙ found.within))
+            (test-from_part g0 set found.part of_lo (sym (within-with_first x set found.part
+            (set_above x g0 found.part cut.lo_above of_lo)) ∙ found.within))
         | inr with_x ↦
             or_left (includes_one g1 set) (includes_one g0 set)
             (test-from_part g1 set with_x.0 with_x.2
-            (sym (within-with_both x set with_x.0 (set_above x g1 with_x.0 cut.hi_above with_x.2)) ∙ ap (is_within (x ∷ set)) (sym with_x.1) ∙ found.within))
+            (sym (within-with_both x set with_x.0 (set_above x g1 with_x.0 cut.hi_above with_x.2))
+            ∙ ap (is_within (x ∷ set)) (sym with_x.1) ∙ found.within))
       ]
 
   hi_from_lo : includes_one g0 set ≡ true → includes_one g (x ∷ set) ≡ true
@@ -135,7 +152,10 @@ module _ (x : ℕ) (g g0 g1 : List (List ℕ)) (cut : Cuts x g g0 g1) (set : Lis
   pub includes_one-with : includes_one g (x ∷ set) ≡ (includes_one g1 set || includes_one g0 set)
   includes_one-with =
       same_Bool (includes_one g (x ∷ set)) (includes_one g1 set || includes_one g0 set) hi_to
-      (λ h. elim (or_cases (includes_one g1 set) (includes_one g0 set) h) [ inl of_hi ↦ hi_from_hi of_hi | inr of_lo ↦ hi_from_lo of_lo ])
+      (λ h. elim (or_cases (includes_one g1 set) (includes_one g0 set) h) [
+        | inl of_hi ↦ hi_from_hi of_hi
+        | inr of_lo ↦ hi_from_lo of_lo
+      ])
 
 -- ---- a set that includes another and is not included has more units
 
@@ -151,7 +171,9 @@ higher : (b a : ℕ) (part : List ℕ) → b < a → IsSetAbove a part → IsSet
 higher b a part h above = IsSetAbove-lower b a part (omega arith) above
 
 -- the part's first unit is the set's, and the rest within the rest; or all of the part is within the rest
-starts : (b a : ℕ) (set part : List ℕ) → IsRising (b ∷ set) → IsRising (a ∷ part) → is_within (b ∷ set) (a ∷ part) ≡ true → ((b ≡ a) × (is_within set part ≡ true)) ⊎ (is_within set (a ∷ part) ≡ true)
+starts : (b a : ℕ) (set part : List ℕ) → IsRising (b ∷ set) → IsRising (a ∷ part)
+    → is_within (b ∷ set) (a ∷ part) ≡ true → ((b ≡ a) × (is_within set part ≡ true))
+    ⊎ (is_within set (a ∷ part) ≡ true)
 starts b a set part s t h =
     elim (or_cases (b == a) (among set a) (and_parts (among (b ∷ set) a) (is_within (b ∷ set) part) h).0) [
       | inl here ↦
@@ -166,7 +188,8 @@ starts b a set part s t h =
           inr (sym (within-with_first b set (a ∷ part) (below, higher b a part below (above_first a part t))) ∙ h)
     ]
 
-pub within-length : (set part : List ℕ) → IsRising set → IsRising part → is_within set part ≡ true → length part ≤ length set
+pub within-length : (set part : List ℕ) → IsRising set → IsRising part → is_within set part ≡ true
+    → length part ≤ length set
 within-length set [] s t h = omega arith
 within-length [] (a ∷ part) s t h = absurd cc
 within-length (b ∷ set) (a ∷ part) s t h =
@@ -175,16 +198,20 @@ within-length (b ∷ set) (a ∷ part) s t h =
       | inr later ↦ let k = within-length set (a ∷ part) (IsRising-rest b set s) t later in omega arith
     ]
 
-not_back : (b a : ℕ) (set part : List ℕ) → b ≡ a → IsSetAbove b set → is_within (a ∷ part) (b ∷ set) ≡ false → is_within part set ≡ false
+not_back : (b a : ℕ) (set part : List ℕ) → b ≡ a → IsSetAbove b set → is_within (a ∷ part) (b ∷ set) ≡ false
+    → is_within part set ≡ false
 not_back b a set part same above h =
     sym (within-with_both b part set above) ∙ ap (λ q. is_within (q ∷ part) (b ∷ set)) same ∙ h
 
-pub within-shorter : (set part : List ℕ) → IsRising set → IsRising part → is_within set part ≡ true → is_within part set ≡ false → length part < length set
+pub within-shorter : (set part : List ℕ) → IsRising set → IsRising part → is_within set part ≡ true
+    → is_within part set ≡ false → length part < length set
 within-shorter [] [] s t h back = absurd cc
 within-shorter (b ∷ set) [] s t h back = omega arith
 within-shorter [] (a ∷ part) s t h back = absurd cc
 within-shorter (b ∷ set) (a ∷ part) s t h back =
     elim (starts b a set part s t h) [
-      | inl both ↦ let k = within-shorter set part (IsRising-rest b set s) (IsRising-rest a part t) both.1 (not_back b a set part both.0 (above_first b set s) back) in omega arith
+      | inl both ↦ let k =
+          within-shorter set part (IsRising-rest b set s) (IsRising-rest a part t) both.1
+          (not_back b a set part both.0 (above_first b set s) back) in omega arith
       | inr later ↦ let k = within-length set (a ∷ part) (IsRising-rest b set s) t later in omega arith
     ]

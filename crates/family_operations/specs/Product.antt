@@ -4,7 +4,8 @@ use Rattle.std.proofs.Common.{refl, sym, ◌∙◌, ap, subst, inl, inr}
 use Rattle.unit_sets.specs.Sorted.{Contains-nil, Contains-cons_first, Contains-cons_cases}
 use Rattle.zdd_families.specs.Family.{IsFamily, IsAbove, IsSetAbove, branch, IsFamily-branch, IsFamily-nil, same_family}
 use Rattle.zdd_families.specs.Members.{HasWith, branch-has_lo, branch-has_hi, branch-cases}
-use Rattle.family_operations.specs.Cuts.{Cuts, cut_cases, cut_has_lo, cut_has_hi, set_above, set_rises, each-from_contains}
+use Rattle.family_operations.specs.Cuts.{Cuts, cut_cases, cut_has_lo, cut_has_hi, set_above, set_rises}
+use Rattle.family_operations.specs.Cuts.{each-from_contains}
 use Rattle.family_operations.specs.Sets.{joined, joined-left, joined-right, joined-both, joined-nil, IsSetAbove-joined}
 use Rattle.family_operations.specs.Union.{IsUnion, union-above}
 
@@ -29,10 +30,20 @@ product-one f g h h' is is' =
 -- ---- ends
 
 pub product-none : (g : List (List ℕ)) → IsProduct [] g []
-product-none g = record { is_family = IsFamily-nil; sets = λ set. (λ has. Contains-nil set has, λ join. Contains-nil join.first join.of_f) }
+product-none g =
+    record {
+      is_family = IsFamily-nil;
+      sets = λ set.
+          (λ has. Contains-nil set has, λ join. Contains-nil join.first join.of_f);
+    }
 
 pub product-with_none : (f : List (List ℕ)) → IsProduct f [] []
-product-with_none f = record { is_family = IsFamily-nil; sets = λ set. (λ has. Contains-nil set has, λ join. Contains-nil join.second join.of_g) }
+product-with_none f =
+    record {
+      is_family = IsFamily-nil;
+      sets = λ set.
+          (λ has. Contains-nil set has, λ join. Contains-nil join.second join.of_g);
+    }
 
 only_one : (set : List ℕ) → Contains ([] ∷ []) set → set ≡ []
 only_one set h =
@@ -48,19 +59,35 @@ from_unit g set join =
 pub product-unit : (g : List (List ℕ)) → IsFamily g → IsProduct ([] ∷ []) g g
 product-unit g is = record {
   is_family = is;
-  sets = λ set. (λ has. record { first = []; second = set; of_f = Contains-cons_first [] []; of_g = has; is = refl }, from_unit g set);
+  sets =
+      λ set. (
+        λ has. record { first = []; second = set; of_f = Contains-cons_first [] []; of_g = has; is = refl },
+        from_unit g set,
+      );
 }
 
 from_with_unit : (f : List (List ℕ)) (set : List ℕ) → IsFamily f → IsJoin f ([] ∷ []) set → Contains f set
 from_with_unit f set is join =
     subst (Contains f)
-    (sym (join.is ∙ ap (λ q. joined join.first q) (only_one join.second join.of_g) ∙ joined-nil join.first (set_rises f join.first is join.of_f)))
+    (sym (join.is ∙ ap (λ q. joined join.first q) (only_one join.second join.of_g)
+    ∙ joined-nil join.first (set_rises f join.first is join.of_f)))
     join.of_f
 
 pub product-with_unit : (f : List (List ℕ)) → IsFamily f → IsProduct f ([] ∷ []) f
 product-with_unit f is = record {
   is_family = is;
-  sets = λ set. (λ has. record { first = set; second = []; of_f = has; of_g = Contains-cons_first [] []; is = sym (joined-nil set (set_rises f set is has)) }, from_with_unit f set is);
+  sets =
+      λ set. (
+        λ has. record {
+          first = set;
+          second = [];
+          of_f = has;
+          of_g = Contains-cons_first [] [];
+          is =
+              sym (joined-nil set (set_rises f set is has));
+        },
+        from_with_unit f set is,
+      );
 }
 
 -- ---- the product of two families that are cut at one unit
@@ -70,7 +97,8 @@ product-above x f g h is above above' =
     each-from_contains (IsSetAbove x) h (λ set has.
     let join : IsJoin f g set = (is.sets set).0 has in
     subst (IsSetAbove x) (sym join.is)
-    (IsSetAbove-joined x join.first join.second (set_above x f join.first above join.of_f) (set_above x g join.second above' join.of_g)))
+    (IsSetAbove-joined x join.first join.second (set_above x f join.first above join.of_f)
+    (set_above x g join.second above' join.of_g)))
 
 -- the four products of the parts, and the union of the three whose sets have x
 pub record IsProductOfParts (f0 f1 g0 g1 h0 h1 : List (List ℕ)) : Type 0 where
@@ -85,7 +113,8 @@ pub record IsProductOfParts (f0 f1 g0 g1 h0 h1 : List (List ℕ)) : Type 0 where
   pub some_is : IsUnion both_with first_with some_with
   pub all_is : IsUnion some_with second_with h1
 
-module _ (x : ℕ) (f f0 f1 g g0 g1 h0 h1 : List (List ℕ)) (cut : Cuts x f f0 f1) (cut' : Cuts x g g0 g1) (lo_family : IsFamily g0) (hi_family : IsFamily g1) (parts : IsProductOfParts f0 f1 g0 g1 h0 h1) where
+module _ (x : ℕ) (f f0 f1 g g0 g1 h0 h1 : List (List ℕ)) (cut : Cuts x f f0 f1) (cut' : Cuts x g g0 g1)
+    (lo_family : IsFamily g0) (hi_family : IsFamily g1) (parts : IsProductOfParts f0 f1 g0 g1 h0 h1) where
   -- ---- each set of the branch is a union
 
   both_to : (rest : List ℕ) → IsJoin f1 g1 rest → IsJoin f g (x ∷ rest)
@@ -94,7 +123,10 @@ module _ (x : ℕ) (f f0 f1 g g0 g1 h0 h1 : List (List ℕ)) (cut : Cuts x f f0 
     second = x ∷ join.second;
     of_f = cut_has_hi x f f0 f1 join.first cut join.of_f;
     of_g = cut_has_hi x g g0 g1 join.second cut' join.of_g;
-    is = ap (λ q. x ∷ q) join.is ∙ sym (joined-both x join.first join.second (set_above x f1 join.first cut.hi_above join.of_f) (set_above x g1 join.second cut'.hi_above join.of_g) (set_rises g1 join.second hi_family join.of_g));
+    is =
+        ap (λ q. x ∷ q) join.is ∙ sym (joined-both x join.first join.second
+        (set_above x f1 join.first cut.hi_above join.of_f) (set_above x g1 join.second cut'.hi_above join.of_g)
+        (set_rises g1 join.second hi_family join.of_g));
   }
 
   first_to : (rest : List ℕ) → IsJoin f1 g0 rest → IsJoin f g (x ∷ rest)
@@ -103,7 +135,10 @@ module _ (x : ℕ) (f f0 f1 g g0 g1 h0 h1 : List (List ℕ)) (cut : Cuts x f f0 
     second = join.second;
     of_f = cut_has_hi x f f0 f1 join.first cut join.of_f;
     of_g = cut_has_lo x g g0 g1 join.second cut' join.of_g;
-    is = ap (λ q. x ∷ q) join.is ∙ sym (joined-left x join.first join.second (set_above x f1 join.first cut.hi_above join.of_f) (set_above x g0 join.second cut'.lo_above join.of_g) (set_rises g0 join.second lo_family join.of_g));
+    is =
+        ap (λ q. x ∷ q) join.is ∙ sym (joined-left x join.first join.second
+        (set_above x f1 join.first cut.hi_above join.of_f) (set_above x g0 join.second cut'.lo_above join.of_g)
+        (set_rises g0 join.second lo_family join.of_g));
   }
 
   second_to : (rest : List ℕ) → IsJoin f0 g1 rest → IsJoin f g (x ∷ rest)
@@ -112,7 +147,10 @@ module _ (x : ℕ) (f f0 f1 g g0 g1 h0 h1 : List (List ℕ)) (cut : Cuts x f f0 
     second = x ∷ join.second;
     of_f = cut_has_lo x f f0 f1 join.first cut join.of_f;
     of_g = cut_has_hi x g g0 g1 join.second cut' join.of_g;
-    is = ap (λ q. x ∷ q) join.is ∙ sym (joined-right x join.first join.second (set_above x f0 join.first cut.lo_above join.of_f) (set_above x g1 join.second cut'.hi_above join.of_g) (set_rises g1 join.second hi_family join.of_g));
+    is =
+        ap (λ q. x ∷ q) join.is ∙ sym (joined-right x join.first join.second
+        (set_above x f0 join.first cut.lo_above join.of_f) (set_above x g1 join.second cut'.hi_above join.of_g)
+        (set_rises g1 join.second hi_family join.of_g));
   }
 
   none_to : (set : List ℕ) → IsJoin f0 g0 set → IsJoin f g set
@@ -149,29 +187,60 @@ module _ (x : ℕ) (f f0 f1 g g0 g1 h0 h1 : List (List ℕ)) (cut : Cuts x f f0 
   both_from : (a b : List ℕ) → Contains f1 a → Contains g1 b → Contains (branch x h0 h1) (joined (x ∷ a) (x ∷ b))
   both_from a b of_f of_g =
       subst (Contains (branch x h0 h1))
-      (sym (joined-both x a b (set_above x f1 a cut.hi_above of_f) (set_above x g1 b cut'.hi_above of_g) (set_rises g1 b hi_family of_g)))
-      (some_into (joined a b) ((parts.some_is.sets (joined a b)).1 (inl ((parts.both_is.sets (joined a b)).1 (record { first = a; second = b; of_f = of_f; of_g = of_g; is = refl })))))
+      (sym (joined-both x a b (set_above x f1 a cut.hi_above of_f) (set_above x g1 b cut'.hi_above of_g)
+      (set_rises g1 b hi_family of_g)))
+      (some_into (joined a b) ((parts.some_is.sets (joined a b)).1
+      (inl ((parts.both_is.sets (joined a b)).1 (record {
+        first = a;
+        second = b;
+        of_f = of_f;
+        of_g = of_g;
+        is =
+            refl;
+      })))))
 
   first_from : (a b : List ℕ) → Contains f1 a → Contains g0 b → Contains (branch x h0 h1) (joined (x ∷ a) b)
   first_from a b of_f of_g =
       subst (Contains (branch x h0 h1))
-      (sym (joined-left x a b (set_above x f1 a cut.hi_above of_f) (set_above x g0 b cut'.lo_above of_g) (set_rises g0 b lo_family of_g)))
-      (some_into (joined a b) ((parts.some_is.sets (joined a b)).1 (inr ((parts.first_is.sets (joined a b)).1 (record { first = a; second = b; of_f = of_f; of_g = of_g; is = refl })))))
+      (sym (joined-left x a b (set_above x f1 a cut.hi_above of_f) (set_above x g0 b cut'.lo_above of_g)
+      (set_rises g0 b lo_family of_g)))
+      (some_into (joined a b) ((parts.some_is.sets (joined a b)).1
+      (inr ((parts.first_is.sets (joined a b)).1 (record {
+        first = a;
+        second = b;
+        of_f = of_f;
+        of_g = of_g;
+        is =
+            refl;
+      })))))
 
   second_from : (a b : List ℕ) → Contains f0 a → Contains g1 b → Contains (branch x h0 h1) (joined a (x ∷ b))
   second_from a b of_f of_g =
       subst (Contains (branch x h0 h1))
-      (sym (joined-right x a b (set_above x f0 a cut.lo_above of_f) (set_above x g1 b cut'.hi_above of_g) (set_rises g1 b hi_family of_g)))
-      (branch-has_hi x h0 h1 (joined a b) ((parts.all_is.sets (joined a b)).1 (inr ((parts.second_is.sets (joined a b)).1 (record { first = a; second = b; of_f = of_f; of_g = of_g; is = refl })))))
+      (sym (joined-right x a b (set_above x f0 a cut.lo_above of_f) (set_above x g1 b cut'.hi_above of_g)
+      (set_rises g1 b hi_family of_g)))
+      (branch-has_hi x h0 h1 (joined a b) ((parts.all_is.sets (joined a b)).1
+      (inr ((parts.second_is.sets (joined a b)).1 (record {
+        first = a;
+        second = b;
+        of_f = of_f;
+        of_g = of_g;
+        is =
+            refl;
+      })))))
 
   none_from : (a b : List ℕ) → Contains f0 a → Contains g0 b → Contains (branch x h0 h1) (joined a b)
   none_from a b of_f of_g =
-      branch-has_lo x h0 h1 (joined a b) ((parts.none_is.sets (joined a b)).1 (record { first = a; second = b; of_f = of_f; of_g = of_g; is = refl }))
+      branch-has_lo x h0 h1 (joined a b) ((parts.none_is.sets (joined a b)).1
+      (record { first = a; second = b; of_f = of_f; of_g = of_g; is = refl }))
 
-  joins : (a b : List ℕ) → Contains f0 a ⊎ HasWith x f1 a → Contains g0 b ⊎ HasWith x g1 b → Contains (branch x h0 h1) (joined a b)
+  joins : (a b : List ℕ) → Contains f0 a ⊎ HasWith x f1 a → Contains g0 b ⊎ HasWith x g1 b
+      → Contains (branch x h0 h1) (joined a b)
   joins a b (inl of_f) (inl of_g) = none_from a b of_f of_g
-  joins a b (inl of_f) (inr (b', same, of_g)) = subst (λ (q : List ℕ). Contains (branch x h0 h1) (joined a q)) (sym same) (second_from a b' of_f of_g)
-  joins a b (inr (a', same, of_f)) (inl of_g) = subst (λ (q : List ℕ). Contains (branch x h0 h1) (joined q b)) (sym same) (first_from a' b of_f of_g)
+  joins a b (inl of_f) (inr (b', same, of_g)) =
+      subst (λ (q : List ℕ). Contains (branch x h0 h1) (joined a q)) (sym same) (second_from a b' of_f of_g)
+  joins a b (inr (a', same, of_f)) (inl of_g) =
+      subst (λ (q : List ℕ). Contains (branch x h0 h1) (joined q b)) (sym same) (first_from a' b of_f of_g)
   joins a b (inr (a', same, of_f)) (inr (b', same', of_g)) =
       subst (λ (q : List ℕ). Contains (branch x h0 h1) (joined q b)) (sym same)
       (subst (λ (q : List ℕ). Contains (branch x h0 h1) (joined (x ∷ a') q)) (sym same') (both_from a' b' of_f of_g))
@@ -179,7 +248,8 @@ module _ (x : ℕ) (f f0 f1 g g0 g1 h0 h1 : List (List ℕ)) (cut : Cuts x f f0 
   from : (set : List ℕ) → IsJoin f g set → Contains (branch x h0 h1) set
   from set join =
       subst (Contains (branch x h0 h1)) (sym join.is)
-      (joins join.first join.second (cut_cases x f f0 f1 join.first cut join.of_f) (cut_cases x g g0 g1 join.second cut' join.of_g))
+      (joins join.first join.second (cut_cases x f f0 f1 join.first cut join.of_f)
+      (cut_cases x g g0 g1 join.second cut' join.of_g))
 
   lo_above : IsAbove x h0
   lo_above = product-above x f0 g0 h0 parts.none_is cut.lo_above cut'.lo_above

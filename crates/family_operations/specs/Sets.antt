@@ -90,17 +90,21 @@ module _ (x : ℕ) (a b : List ℕ) (above : IsSetAbove x a) (above' : IsSetAbov
   pub joined-left : joined (x ∷ a) b ≡ x ∷ joined a b
   joined-left =
       same_set (joined (x ∷ a) b) (x ∷ joined a b) (IsRising-joined (x ∷ a) b s) rises
-      (λ unit. among-joined (x ∷ a) b unit ∙ with_left (x == unit) (among a unit) (among b unit) ∙ ap (λ q. (x == unit) || q) (sym (among-joined a b unit)))
+      (λ unit. among-joined (x ∷ a) b unit ∙ with_left (x == unit) (among a unit) (among b unit)
+      ∙ ap (λ q. (x == unit) || q) (sym (among-joined a b unit)))
 
   pub joined-right : joined a (x ∷ b) ≡ x ∷ joined a b
   joined-right =
       same_set (joined a (x ∷ b)) (x ∷ joined a b) (IsRising-joined a (x ∷ b) (IsRising-with_first x b above' s)) rises
-      (λ unit. among-joined a (x ∷ b) unit ∙ with_right (x == unit) (among a unit) (among b unit) ∙ ap (λ q. (x == unit) || q) (sym (among-joined a b unit)))
+      (λ unit. among-joined a (x ∷ b) unit ∙ with_right (x == unit) (among a unit) (among b unit)
+      ∙ ap (λ q. (x == unit) || q) (sym (among-joined a b unit)))
 
   pub joined-both : joined (x ∷ a) (x ∷ b) ≡ x ∷ joined a b
   joined-both =
-      same_set (joined (x ∷ a) (x ∷ b)) (x ∷ joined a b) (IsRising-joined (x ∷ a) (x ∷ b) (IsRising-with_first x b above' s)) rises
-      (λ unit. among-joined (x ∷ a) (x ∷ b) unit ∙ with_both (x == unit) (among a unit) (among b unit) ∙ ap (λ q. (x == unit) || q) (sym (among-joined a b unit)))
+      same_set (joined (x ∷ a) (x ∷ b)) (x ∷ joined a b)
+      (IsRising-joined (x ∷ a) (x ∷ b) (IsRising-with_first x b above' s)) rises
+      (λ unit. among-joined (x ∷ a) (x ∷ b) unit ∙ with_both (x == unit) (among a unit) (among b unit)
+      ∙ ap (λ q. (x == unit) || q) (sym (among-joined a b unit)))
 
 nil_rises : IsRising []
 unfolding IsStrictlySortedBy
@@ -112,4 +116,5 @@ or_none false = refl
 
 pub joined-nil : (a : List ℕ) → IsRising a → joined a [] ≡ a
 joined-nil a s =
-    same_set (joined a []) a (IsRising-joined a [] nil_rises) s (λ unit. among-joined a [] unit ∙ or_none (among a unit))
+    same_set (joined a []) a (IsRising-joined a [] nil_rises) s
+    (λ unit. among-joined a [] unit ∙ or_none (among a unit))

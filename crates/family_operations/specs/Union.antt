@@ -48,7 +48,8 @@ union-above x f g h is above above' =
       | inr of_g ↦ set_above x g set above' of_g
     ])
 
-module _ (x : ℕ) (f f0 f1 g g0 g1 h0 h1 : List (List ℕ)) (cut : Cuts x f f0 f1) (cut' : Cuts x g g0 g1) (lo : IsUnion f0 g0 h0) (hi : IsUnion f1 g1 h1) where
+module _ (x : ℕ) (f f0 f1 g g0 g1 h0 h1 : List (List ℕ)) (cut : Cuts x f f0 f1) (cut' : Cuts x g g0 g1)
+    (lo : IsUnion f0 g0 h0) (hi : IsUnion f1 g1 h1) where
   with_to : (set : List ℕ) → HasWith x h1 set → Contains f set ⊎ Contains g set
   with_to set (rest, same, has) =
       subst (λ (q : List ℕ). Contains f q ⊎ Contains g q) (sym same)
@@ -67,8 +68,10 @@ module _ (x : ℕ) (f f0 f1 g g0 g1 h0 h1 : List (List ℕ)) (cut : Cuts x f f0 
         | inr with_x ↦ with_to set with_x
       ]
 
-  with_from : (set : List ℕ) (f1' : List (List ℕ)) → HasWith x f1' set → ((rest : List ℕ) → Contains f1' rest → Contains h1 rest) → Contains (branch x h0 h1) set
-  with_from set f1' (rest, same, has) into = subst (λ (q : List ℕ). Contains (branch x h0 h1) q) (sym same) (branch-has_hi x h0 h1 rest (into rest has))
+  with_from : (set : List ℕ) (f1' : List (List ℕ)) → HasWith x f1' set
+      → ((rest : List ℕ) → Contains f1' rest → Contains h1 rest) → Contains (branch x h0 h1) set
+  with_from set f1' (rest, same, has) into =
+      subst (λ (q : List ℕ). Contains (branch x h0 h1) q) (sym same) (branch-has_hi x h0 h1 rest (into rest has))
 
   from : (set : List ℕ) → Contains f set ⊎ Contains g set → Contains (branch x h0 h1) set
   from set (inl of_f) =
@@ -84,6 +87,8 @@ module _ (x : ℕ) (f f0 f1 g g0 g1 h0 h1 : List (List ℕ)) (cut : Cuts x f f0 
 
   pub union-step : IsUnion f g (branch x h0 h1)
   union-step = record {
-    is_family = IsFamily-branch x h0 h1 lo.is_family hi.is_family (union-above x f0 g0 h0 lo cut.lo_above cut'.lo_above) (union-above x f1 g1 h1 hi cut.hi_above cut'.hi_above);
+    is_family =
+        IsFamily-branch x h0 h1 lo.is_family hi.is_family (union-above x f0 g0 h0 lo cut.lo_above cut'.lo_above)
+        (union-above x f1 g1 h1 hi cut.hi_above cut'.hi_above);
     sets = λ set. (to set, from set);
   }

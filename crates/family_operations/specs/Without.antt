@@ -3,7 +3,8 @@ use Rattle.std.specs.Prelude.{◌≡◌, ◌↔◌, ℕ, false, List, [], ◌∷
 use Rattle.std.proofs.Common.{refl, sym, ◌∙◌, ap, subst, inl, inr}
 use Rattle.std.proofs.lemmas.Bool.{or_parts, or_from, false≢true, true≢false}
 use Rattle.unit_sets.specs.Sorted.{Contains-nil, Contains-cons_cases}
-use Rattle.zdd_families.specs.Family.{IsFamily, IsAbove, IsSetAbove, branch, IsFamily-branch, IsFamily-nil, IsFamily-unit, same_family}
+use Rattle.zdd_families.specs.Family.{IsFamily, IsAbove, IsSetAbove, branch, IsFamily-branch, IsFamily-nil}
+use Rattle.zdd_families.specs.Family.{IsFamily-unit, same_family}
 use Rattle.zdd_families.specs.Members.{branch-has_lo, branch-has_hi, branch-cases}
 use Rattle.family_operations.specs.Cuts.{Cuts, cut_cases, cut_has_lo, cut_has_hi, set_above, each-from_contains}
 use Rattle.family_operations.specs.Inclusion.{includes_one, includes_one-above, includes_one-with, test-from_part}
@@ -21,7 +22,8 @@ without-one f g h h' is is' =
 -- ---- ends
 
 pub without-none : (g : List (List ℕ)) → IsWithout [] g []
-without-none g = record { is_family = IsFamily-nil; sets = λ set. (λ has. Contains-nil set has, λ both. Contains-nil set both.0) }
+without-none g =
+    record { is_family = IsFamily-nil; sets = λ set. (λ has. Contains-nil set has, λ both. Contains-nil set both.0) }
 
 pub without-nothing : (f : List (List ℕ)) → IsFamily f → IsWithout f [] f
 without-nothing f is = record { is_family = is; sets = λ set. (λ has. (has, refl), λ both. both.0) }
@@ -46,7 +48,8 @@ unit-without g has = record {
   is_family = IsFamily-nil;
   sets = λ set. (
     λ none. Contains-nil set none,
-    λ both. absurd (false≢true (sym both.1 ∙ ap (includes_one g) (sym (only_one set both.0)) ∙ test-from_part g [] [] has refl)),
+    λ both. absurd (false≢true (sym both.1 ∙ ap (includes_one g) (sym (only_one set both.0))
+        ∙ test-from_part g [] [] has refl)),
   );
 }
 
@@ -59,49 +62,67 @@ unit-without_other g none = record {
 -- ---- steps
 
 pub without-above : (x : ℕ) (f g h : List (List ℕ)) → IsWithout f g h → IsAbove x f → IsAbove x h
-without-above x f g h is above = each-from_contains (IsSetAbove x) h (λ set has. set_above x f set above ((is.sets set).0 has).0)
+without-above x f g h is above =
+    each-from_contains (IsSetAbove x) h (λ set has. set_above x f set above ((is.sets set).0 has).0)
 
 -- where f is above x, only the sets of g without x matter
-pub without-lower : (x : ℕ) (f g g0 g1 h : List (List ℕ)) → Cuts x g g0 g1 → IsAbove x f → IsWithout f g0 h → IsWithout f g h
+pub without-lower : (x : ℕ) (f g g0 g1 h : List (List ℕ)) → Cuts x g g0 g1 → IsAbove x f → IsWithout f g0 h
+    → IsWithout f g h
 without-lower x f g g0 g1 h cut above is = record {
   is_family = is.is_family;
   sets = λ set. (
-    λ has. let both = (is.sets set).0 has in (both.0, includes_one-above x g g0 g1 cut set (set_above x f set above both.0) ∙ both.1),
-    λ both. (is.sets set).1 (both.0, sym (includes_one-above x g g0 g1 cut set (set_above x f set above both.0)) ∙ both.1),
+    λ has. let both =
+        (is.sets set).0 has in (both.0, includes_one-above x g g0 g1 cut set (set_above x f set above both.0) ∙ both.1),
+    λ both. (is.sets set).1 (
+      both.0,
+      sym (includes_one-above x g g0 g1 cut set (set_above x f set above both.0))
+          ∙ both.1,
+    ),
   );
 }
 
-module _ (x : ℕ) (f f0 f1 g g0 g1 h0 w h1 : List (List ℕ)) (cut : Cuts x f f0 f1) (cut' : Cuts x g g0 g1) (lo : IsWithout f0 g0 h0) (some : IsWithout f1 g1 w) (hi : IsWithout w g0 h1) where
+module _ (x : ℕ) (f f0 f1 g g0 g1 h0 w h1 : List (List ℕ)) (cut : Cuts x f f0 f1) (cut' : Cuts x g g0 g1)
+    (lo : IsWithout f0 g0 h0) (some : IsWithout f1 g1 w) (hi : IsWithout w g0 h1) where
   lo_to : (set : List ℕ) → Contains h0 set → Contains f set × (includes_one g set ≡ false)
   lo_to set has =
-      let both = (lo.sets set).0 has in
-      (cut_has_lo x f f0 f1 set cut both.0, includes_one-above x g g0 g1 cut' set (set_above x f0 set cut.lo_above both.0) ∙ both.1)
+      let both = (lo.sets set).0 has in (
+        cut_has_lo x f f0 f1 set cut both.0,
+        includes_one-above x g g0 g1 cut' set
+            (set_above x f0 set cut.lo_above both.0) ∙ both.1,
+      )
 
   hi_to : (rest : List ℕ) → Contains h1 rest → Contains f (x ∷ rest) × (includes_one g (x ∷ rest) ≡ false)
   hi_to rest has =
       let outer = (hi.sets rest).0 has in
       let inner = (some.sets rest).0 outer.0 in (
         cut_has_hi x f f0 f1 rest cut inner.0,
-        includes_one-with x g g0 g1 cut' rest (set_above x f1 rest cut.hi_above inner.0) ∙ or_from (includes_one g1 rest) (includes_one g0 rest) inner.1 outer.1,
+        includes_one-with x g g0 g1 cut' rest (set_above x f1 rest cut.hi_above inner.0)
+            ∙ or_from (includes_one g1 rest) (includes_one g0 rest) inner.1 outer.1,
       )
 
   to : (set : List ℕ) → Contains (branch x h0 h1) set → Contains f set × (includes_one g set ≡ false)
   to set has =
       elim (branch-cases x h0 h1 set has) [
         | inl of_lo ↦ lo_to set of_lo
-        | inr with_x ↦ subst (λ (q : List ℕ). Contains f q × (includes_one g q ≡ false)) (sym with_x.1) (hi_to with_x.0 with_x.2)
+        | inr with_x ↦ subst (λ (q : List ℕ). Contains f q × (includes_one g q ≡ false)) (sym with_x.1)
+            (hi_to with_x.0 with_x.2)
       ]
 
-  hi_from : (rest : List ℕ) → Contains f1 rest → includes_one g (x ∷ rest) ≡ false → Contains (branch x h0 h1) (x ∷ rest)
+  hi_from : (rest : List ℕ) → Contains f1 rest → includes_one g (x ∷ rest) ≡ false
+      → Contains (branch x h0 h1) (x ∷ rest)
   hi_from rest has none =
-      let parts = or_parts (includes_one g1 rest) (includes_one g0 rest) (sym (includes_one-with x g g0 g1 cut' rest (set_above x f1 rest cut.hi_above has)) ∙ none) in
+      let parts =
+      or_parts (includes_one g1 rest) (includes_one g0 rest)
+      (sym (includes_one-with x g g0 g1 cut' rest (set_above x f1 rest cut.hi_above has)) ∙ none) in
       branch-has_hi x h0 h1 rest ((hi.sets rest).1 ((some.sets rest).1 (has, parts.0), parts.1))
 
   from : (set : List ℕ) → Contains f set → includes_one g set ≡ false → Contains (branch x h0 h1) set
   from set has none =
       elim (cut_cases x f f0 f1 set cut has) [
-        | inl of_lo ↦ branch-has_lo x h0 h1 set ((lo.sets set).1 (of_lo, sym (includes_one-above x g g0 g1 cut' set (set_above x f0 set cut.lo_above of_lo)) ∙ none))
-        | inr with_x ↦ subst (Contains (branch x h0 h1)) (sym with_x.1) (hi_from with_x.0 with_x.2 (ap (includes_one g) (sym with_x.1) ∙ none))
+        | inl of_lo ↦ branch-has_lo x h0 h1 set ((lo.sets set).1
+            (of_lo, sym (includes_one-above x g g0 g1 cut' set (set_above x f0 set cut.lo_above of_lo)) ∙ none))
+        | inr with_x ↦ subst (Contains (branch x h0 h1)) (sym with_x.1)
+            (hi_from with_x.0 with_x.2 (ap (includes_one g) (sym with_x.1) ∙ none))
       ]
 
   pub without-step : IsWithout f g (branch x h0 h1)

@@ -46,9 +46,13 @@ tied : (f : List (List ℕ)) → slice_cmp set_cmp f f ≡ Equal
 tied f = tied_itself (lists_total nat_list_cmp_total) f
 
 same_by : (f g : List (List ℕ)) (o : Ordering) → slice_cmp set_cmp f g ≡ o → (f ≡ g) ⊎ (f ≢ g)
-same_by f g Less h = inr (λ same. let e : slice_cmp set_cmp f g ≡ Equal = subst (λ (q : List (List ℕ)). slice_cmp set_cmp f q ≡ Equal) same (tied f) in absurd cc)
+same_by f g Less h =
+    inr (λ same. let e : slice_cmp set_cmp f g ≡ Equal =
+    subst (λ (q : List (List ℕ)). slice_cmp set_cmp f q ≡ Equal) same (tied f) in absurd cc)
 same_by f g Equal h = inl (slice_cmp-IsAntisymmetric (slice_cmp-IsAntisymmetric nat_cmp-IsAntisymmetric) f g h)
-same_by f g Greater h = inr (λ same. let e : slice_cmp set_cmp f g ≡ Equal = subst (λ (q : List (List ℕ)). slice_cmp set_cmp f q ≡ Equal) same (tied f) in absurd cc)
+same_by f g Greater h =
+    inr (λ same. let e : slice_cmp set_cmp f g ≡ Equal =
+    subst (λ (q : List (List ℕ)). slice_cmp set_cmp f q ≡ Equal) same (tied f) in absurd cc)
 
 pub same_or_other : (f g : List (List ℕ)) → (f ≡ g) ⊎ (f ≢ g)
 same_or_other f g = same_by f g (slice_cmp set_cmp f g) refl
@@ -82,7 +86,8 @@ none_in_unit unit set has =
 pub empty_unit : {G : Type 0} (set : List ℕ) (unit : ℕ) → Contains ([] ∷ []) set → among set unit ≡ true → G
 empty_unit set unit has member =
     elim (Contains-cons_cases [] set [] has) [
-      | inl same ↦ let clash : among [] unit ≡ true = subst (λ (q : List ℕ). among q unit ≡ true) (sym same) member in absurd cc
+      | inl same ↦ let clash : among [] unit ≡ true =
+          subst (λ (q : List ℕ). among q unit ≡ true) (sym same) member in absurd cc
       | inr later ↦ Contains-nil set later
     ]
 
@@ -91,17 +96,24 @@ pub inner-from_split : (x : ℕ) (f lo hi : List (List ℕ)) → Splits x f lo h
 inner-from_split x f lo hi split =
     let found = split_set x f lo hi split in
     record {
-      not_none = λ none. Contains-nil (found.0 ∷ found.1) (subst (λ (q : List (List ℕ)). Contains q (found.0 ∷ found.1)) none found.2);
-      not_unit = λ unit. none_in_unit found.0 found.1 (subst (λ (q : List (List ℕ)). Contains q (found.0 ∷ found.1)) unit found.2);
+      not_none =
+          λ none. Contains-nil (found.0 ∷ found.1) (subst (λ (q : List (List ℕ)). Contains q (found.0 ∷ found.1)) none
+          found.2);
+      not_unit =
+          λ unit. none_in_unit found.0 found.1 (subst (λ (q : List (List ℕ)). Contains q (found.0 ∷ found.1)) unit
+          found.2);
     }
 
 -- so a family within the empty set alone has no parts
-pub reached-unit : {G : Type 0} (f part : List (List ℕ)) → ((set : List ℕ) → Contains f set → Contains ([] ∷ []) set) → IsReached f part → G
-reached-unit f part within reached = let found = reached-set f part reached in none_in_unit found.0 found.1 (within (found.0 ∷ found.1) found.2)
+pub reached-unit : {G : Type 0} (f part : List (List ℕ)) → ((set : List ℕ) → Contains f set → Contains ([] ∷ []) set)
+    → IsReached f part → G
+reached-unit f part within reached =
+    let found = reached-set f part reached in none_in_unit found.0 found.1 (within (found.0 ∷ found.1) found.2)
 
 -- ---- parts by cuts
 
-splits : (x : ℕ) (f lo : List (List ℕ)) (set : List ℕ) (hi : List (List ℕ)) → Cuts x f lo (set ∷ hi) → Splits x f lo (set ∷ hi)
+splits : (x : ℕ) (f lo : List (List ℕ)) (set : List ℕ) (hi : List (List ℕ)) → Cuts x f lo (set ∷ hi)
+    → Splits x f lo (set ∷ hi)
 splits x f lo set hi cut = record { cut = cut; some_with = λ e. cc }
 
 -- without sets with the unit a family is its own lo
@@ -130,7 +142,8 @@ at_split x f lo hi part split (reached_hi {x = y} {lo = lo'} {hi = hi'} split' d
     of_hi (subst (λ (q : List (List ℕ)). IsReached q part) (split-hi y x f lo' hi' lo hi split' split) deeper)
 
 pub part_at : (x : ℕ) (f lo hi part : List (List ℕ)) → Cuts x f lo hi → IsReached f part → PartAt f lo hi part
-part_at x f lo [] part cut reached = of_lo (subst (λ (q : List (List ℕ)). IsReached q part) (cut-none x f lo cut) reached)
+part_at x f lo [] part cut reached =
+    of_lo (subst (λ (q : List (List ℕ)). IsReached q part) (cut-none x f lo cut) reached)
 part_at x f lo (set ∷ hi) part cut reached = at_split x f lo (set ∷ hi) part (splits x f lo set hi cut) reached
 
 pub cut-splits : (x : ℕ) (f lo hi : List (List ℕ)) → Cuts x f lo hi → hi ≢ [] → Splits x f lo hi
@@ -152,12 +165,15 @@ pub data Origin (Due : Type 0) (f g part : List (List ℕ)) : Type 0 where
   of_first : IsReached f part → Origin Due f g part
   of_second : IsReached g part → Origin Due f g part
 
-pub origin-map : (Due Due' : Type 0) (f g f' g' part : List (List ℕ)) → (Due → Due') → (IsReached f part → IsReached f' part) → (IsReached g part → IsReached g' part) → Origin Due f g part → Origin Due' f' g' part
+pub origin-map : (Due Due' : Type 0) (f g f' g' part : List (List ℕ)) → (Due → Due')
+    → (IsReached f part → IsReached f' part) → (IsReached g part → IsReached g' part) → Origin Due f g part
+    → Origin Due' f' g' part
 origin-map Due Due' f g f' g' part to first second (is_due h) = is_due (to h)
 origin-map Due Due' f g f' g' part to first second (of_first h) = of_first (first h)
 origin-map Due Due' f g f' g' part to first second (of_second h) = of_second (second h)
 
-pub origin-cases : (Due : Type 0) (f g part : List (List ℕ)) → Origin Due f g part → Due ⊎ (IsReached f part ⊎ IsReached g part)
+pub origin-cases : (Due : Type 0) (f g part : List (List ℕ)) → Origin Due f g part
+    → Due ⊎ (IsReached f part ⊎ IsReached g part)
 origin-cases Due f g part (is_due h) = inl h
 origin-cases Due f g part (of_first h) = inr (inl h)
 origin-cases Due f g part (of_second h) = inr (inr h)

@@ -46,16 +46,19 @@ family_rest : (first : List ℕ) (others : List (List ℕ)) → IsFamily (first 
 unfolding IsStrictlySortedBy
 family_rest first others is = record { ordered = is.ordered.1; rising = is.rising.1 }
 
-family_first : (first : List ℕ) (others : List (List ℕ)) → IsFamily (first ∷ others) → AllByRecursion (λ set. set_cmp first set ≡ Less) others
+family_first : (first : List ℕ) (others : List (List ℕ)) → IsFamily (first ∷ others)
+    → AllByRecursion (λ set. set_cmp first set ≡ Less) others
 unfolding IsStrictlySortedBy
 family_first first others is = is.ordered.0
 
-family_with : (first : List ℕ) (others : List (List ℕ)) → AllByRecursion (λ set. set_cmp first set ≡ Less) others → IsRising first → IsFamily others → IsFamily (first ∷ others)
+family_with : (first : List ℕ) (others : List (List ℕ)) → AllByRecursion (λ set. set_cmp first set ≡ Less) others
+    → IsRising first → IsFamily others → IsFamily (first ∷ others)
 unfolding IsStrictlySortedBy
 family_with first others before rises is = record { ordered = (before, is.ordered); rising = (rises, is.rising) }
 
 -- a set after one that begins above x is above x
-after_above : (x unit : ℕ) (set other : List ℕ) → x < unit → IsRising other → set_cmp (unit ∷ set) other ≡ Less → IsSetAbove x other
+after_above : (x unit : ℕ) (set other : List ℕ) → x < unit → IsRising other → set_cmp (unit ∷ set) other ≡ Less
+    → IsSetAbove x other
 after_above x unit set [] h rises before = absurd cc
 after_above x unit set (first ∷ other) h rises before =
     let low : unit ≤ first = no_greater unit first (set_cmp set other) before in
@@ -64,49 +67,73 @@ after_above x unit set (first ∷ other) h rises before =
     no_greater : (a b : ℕ) (o : _) → ordering_then (nat_cmp a b) o ≡ Less → a ≤ b
     no_greater a b o e = grind (arith, nat_tests)
 
-all_after : (x unit : ℕ) (set : List ℕ) (others : List (List ℕ)) → x < unit → AllByRecursion IsRising others → AllByRecursion (λ other. set_cmp (unit ∷ set) other ≡ Less) others → IsAbove x others
+all_after : (x unit : ℕ) (set : List ℕ) (others : List (List ℕ)) → x < unit → AllByRecursion IsRising others
+    → AllByRecursion (λ other. set_cmp (unit ∷ set) other ≡ Less) others → IsAbove x others
 all_after x unit set [] h rise before = tt
-all_after x unit set (other ∷ others) h rise before = (after_above x unit set other h rise.0 before.0, all_after x unit set others h rise.1 before.1)
+all_after x unit set (other ∷ others) h rise before =
+    (after_above x unit set other h rise.0 before.0, all_after x unit set others h rise.1 before.1)
 
 same_first : (x : ℕ) (a b : List ℕ) → set_cmp (x ∷ a) (x ∷ b) ≡ Less → set_cmp a b ≡ Less
 same_first x a b h = ap (λ o. ordering_then o (set_cmp a b)) (sym (tied_itself nat_cmp_total x)) ∙ h
 
 -- what is after x and a set has its sets with x after the set
-each_after : (x : ℕ) (set : List ℕ) (hi lo : List (List ℕ)) → AllByRecursion (λ other. set_cmp (x ∷ set) other ≡ Less) (each_with x hi ++ lo) → AllByRecursion (λ other. set_cmp set other ≡ Less) hi
+each_after : (x : ℕ) (set : List ℕ) (hi lo : List (List ℕ))
+    → AllByRecursion (λ other. set_cmp (x ∷ set) other ≡ Less) (each_with x hi ++ lo)
+    → AllByRecursion (λ other. set_cmp set other ≡ Less) hi
 each_after x set [] lo after = tt
 each_after x set (other ∷ hi) lo after = (same_first x set other after.0, each_after x set hi lo after.1)
 
-filled_after : (unit : ℕ) (set : List ℕ) (others : List (List ℕ)) → AllByRecursion (λ other. set_cmp (unit ∷ set) other ≡ Less) others → AreFilled others
+filled_after : (unit : ℕ) (set : List ℕ) (others : List (List ℕ))
+    → AllByRecursion (λ other. set_cmp (unit ∷ set) other ≡ Less) others → AreFilled others
 filled_after unit set [] after = tt
 filled_after unit set ([] ∷ others) after = absurd (let e = after.0 in cc)
 filled_after unit set ((first ∷ other) ∷ others) after = (refl, filled_after unit set others after.1)
 
 module _ (low : ℕ) where
-  with_first : (unit : ℕ) (set : List ℕ) (others : List (List ℕ)) → suc low ≡ unit → IsFamily ((unit ∷ set) ∷ others) → Divided (suc low) others → Divided (suc low) ((unit ∷ set) ∷ others)
+  with_first : (unit : ℕ) (set : List ℕ) (others : List (List ℕ)) → suc low ≡ unit → IsFamily ((unit ∷ set) ∷ others)
+      → Divided (suc low) others → Divided (suc low) ((unit ∷ set) ∷ others)
   with_first unit set others same is rest =
       let x : ℕ = suc low in
       let rises : IsRising (suc low ∷ set) = subst (λ (q : ℕ). IsRising (q ∷ set)) (sym same) is.rising.0 in
-      let after : AllByRecursion (λ other. set_cmp (suc low ∷ set) other ≡ Less) (each_with (suc low) rest.hi ++ rest.lo) =
+      let after : AllByRecursion (λ other. set_cmp (suc low ∷ set) other ≡ Less)
+      (each_with (suc low) rest.hi ++ rest.lo) =
       subst (λ (q : List (List ℕ)). AllByRecursion (λ other. set_cmp (suc low ∷ set) other ≡ Less) q) rest.divides.is
-      (subst (λ (q : ℕ). AllByRecursion (λ other. set_cmp (q ∷ set) other ≡ Less) others) (sym same) (family_first (unit ∷ set) others is)) in
+      (subst (λ (q : ℕ). AllByRecursion (λ other. set_cmp (q ∷ set) other ≡ Less) others) (sym same)
+      (family_first (unit ∷ set) others is)) in
       record {
         lo = rest.lo;
         hi = set ∷ rest.hi;
         divides = record {
           is = ap (λ q. (q ∷ set) ∷ others) (sym same) ∙ ap (λ q. (suc low ∷ set) ∷ q) rest.divides.is;
           lo_is = rest.divides.lo_is;
-          hi_is = family_with set rest.hi (each_after (suc low) set rest.hi rest.lo after) (IsRising-rest (suc low) set rises) rest.divides.hi_is;
+          hi_is =
+              family_with set rest.hi (each_after (suc low) set rest.hi rest.lo after)
+              (IsRising-rest (suc low) set rises) rest.divides.hi_is;
           lo_above = rest.divides.lo_above;
           hi_above = (above_first (suc low) set rises, rest.divides.hi_above);
         };
       }
 
-  divided : (family : List (List ℕ)) → IsFamily family → AreFilled family → IsAbove low family → Divided (suc low) family
-  divided [] is filled above = record { lo = []; hi = []; divides = record { is = refl; lo_is = IsFamily-nil; hi_is = IsFamily-nil; lo_above = tt; hi_above = tt } }
+  divided : (family : List (List ℕ)) → IsFamily family → AreFilled family → IsAbove low family
+      → Divided (suc low) family
+  divided [] is filled above =
+      record {
+        lo = [];
+        hi = [];
+        divides = record {
+          is = refl;
+          lo_is = IsFamily-nil;
+          hi_is = IsFamily-nil;
+          lo_above =
+              tt;
+          hi_above = tt;
+        };
+      }
   divided ([] ∷ others) is filled above = absurd (let e = filled.0 in cc)
   divided ((unit ∷ set) ∷ others) is filled above =
       elim (cases_eq (suc low) unit) [
-        | inl same ↦ with_first unit set others same is (divided others (family_rest (unit ∷ set) others is) filled.1 above.1)
+        | inl same ↦ with_first unit set others same is
+            (divided others (family_rest (unit ∷ set) others is) filled.1 above.1)
         | inr other ↦
             let high : suc low < unit = (let k = above.0.0 in omega (arith, other)) in
             record {
@@ -117,7 +144,11 @@ module _ (low : ℕ) where
                 lo_is = is;
                 hi_is = IsFamily-nil;
                 lo_above = (
-                  (high, each-weaker (λ u. unit < u) (λ u. suc low < u) set (λ u k. omega (arith, high)) (above_first unit set is.rising.0)),
+                  (
+                    high,
+                    each-weaker (λ u. unit < u) (λ u. suc low < u) set (λ u k. omega (arith, high))
+                        (above_first unit set is.rising.0),
+                  ),
                   all_after (suc low) unit set others high is.rising.1 (family_first (unit ∷ set) others is),
                 );
                 hi_above = tt;
@@ -145,7 +176,8 @@ filled_lo : (x : ℕ) (hi lo : List (List ℕ)) → AreFilled (each_with x hi ++
 filled_lo x [] lo filled = filled
 filled_lo x (set ∷ hi) lo filled = filled_lo x hi lo filled.1
 
-cut_filled : (low : ℕ) (family : List (List ℕ)) → IsFamily family → AreFilled family → IsAbove low family → CutAt (suc low) family
+cut_filled : (low : ℕ) (family : List (List ℕ)) → IsFamily family → AreFilled family → IsAbove low family
+    → CutAt (suc low) family
 cut_filled low family is filled above =
     let parts : Divided (suc low) family = divided low family is filled above in
     let rest : AreFilled parts.lo = filled_lo (suc low) parts.hi parts.lo (subst AreFilled parts.divides.is filled) in
@@ -164,7 +196,8 @@ cut_filled low family is filled above =
 with_empty : (x : ℕ) (lo hi : List (List ℕ)) → AreFilled lo → branch x ([] ∷ lo) hi ≡ [] ∷ branch x lo hi
 with_empty x lo hi filled = ap (λ q. [] ∷ q) (sym (branch_filled x lo hi filled))
 
-cut_empty : (low : ℕ) (others : List (List ℕ)) → IsFamily ([] ∷ others) → IsAbove low others → CutAt (suc low) ([] ∷ others)
+cut_empty : (low : ℕ) (others : List (List ℕ)) → IsFamily ([] ∷ others) → IsAbove low others
+    → CutAt (suc low) ([] ∷ others)
 cut_empty low others is above =
     let filled : AreFilled others = family_first [] others is in
     let parts : Divided (suc low) others = divided low others (family_rest [] others is) filled above in
@@ -185,7 +218,8 @@ pub cut_at : (low : ℕ) (family : List (List ℕ)) → IsFamily family → IsAb
 cut_at low [] is above = cut_filled low [] is tt above
 cut_at low ([] ∷ others) is above = cut_empty low others is above.1
 cut_at low ((unit ∷ set) ∷ others) is above =
-    cut_filled low ((unit ∷ set) ∷ others) is (refl, filled_after unit set others (family_first (unit ∷ set) others is)) above
+    cut_filled low ((unit ∷ set) ∷ others) is (refl, filled_after unit set others (family_first (unit ∷ set) others is))
+    above
 
 -- ---- the parts span one number less
 
@@ -194,7 +228,9 @@ module _ (low size : ℕ) (f lo hi : List (List ℕ)) (cut : Cuts (suc low) f lo
   Spans-lo is = record {
     is_family = is;
     above = cut.lo_above;
-    below = λ set has unit member. let k = spans.below set (cut_has_lo (suc low) f lo hi set cut has) unit member in omega (arith, k);
+    below =
+        λ set has unit member. let k = spans.below set (cut_has_lo (suc low) f lo hi set cut has) unit member in
+        omega (arith, k);
   }
 
   pub Spans-hi : IsFamily hi → Spans (suc low) size hi
@@ -202,14 +238,18 @@ module _ (low size : ℕ) (f lo hi : List (List ℕ)) (cut : Cuts (suc low) f lo
     is_family = is;
     above = cut.hi_above;
     below = λ set has unit member.
-        let k = spans.below (suc low ∷ set) (cut_has_hi (suc low) f lo hi set cut has) unit (or_right (suc low == unit) (among set unit) member) in
+        let k =
+        spans.below (suc low ∷ set) (cut_has_hi (suc low) f lo hi set cut has) unit
+        (or_right (suc low == unit) (among set unit) member) in
         omega (arith, k);
   }
 
 -- a family that spans no numbers has no units
-no_units : (low unit : ℕ) (set : List ℕ) (f : List (List ℕ)) → Spans low zero f → Contains f (unit ∷ set) → IsSetAbove low (unit ∷ set) → ⊥
+no_units : (low unit : ℕ) (set : List ℕ) (f : List (List ℕ)) → Spans low zero f → Contains f (unit ∷ set)
+    → IsSetAbove low (unit ∷ set) → ⊥
 no_units low unit set f spans has above =
-    let k : unit ≤ low + zero = spans.below (unit ∷ set) has unit (or_left (unit == unit) (among set unit) (eq-eqb unit unit refl)) in
+    let k : unit ≤ low + zero =
+    spans.below (unit ∷ set) has unit (or_left (unit == unit) (among set unit) (eq-eqb unit unit refl)) in
     let h : low < unit = above.0 in
     omega (arith, k, h)
 
@@ -218,8 +258,11 @@ no_span low [] spans = inl refl
 no_span low ([] ∷ []) spans = inr refl
 no_span low ([] ∷ [] ∷ others) spans = absurd (let e = (family_first [] ([] ∷ others) spans.is_family).0 in cc)
 no_span low ([] ∷ (unit ∷ set) ∷ others) spans =
-    absurd (no_units low unit set ([] ∷ (unit ∷ set) ∷ others) spans (Contains-cons_other [] (unit ∷ set) ((unit ∷ set) ∷ others) (Contains-cons_first (unit ∷ set) others)) spans.above.1.0)
-no_span low ((unit ∷ set) ∷ others) spans = absurd (no_units low unit set ((unit ∷ set) ∷ others) spans (Contains-cons_first (unit ∷ set) others) spans.above.0)
+    absurd (no_units low unit set ([] ∷ (unit ∷ set) ∷ others) spans
+    (Contains-cons_other [] (unit ∷ set) ((unit ∷ set) ∷ others) (Contains-cons_first (unit ∷ set) others))
+    spans.above.1.0)
+no_span low ((unit ∷ set) ∷ others) spans =
+    absurd (no_units low unit set ((unit ∷ set) ∷ others) spans (Contains-cons_first (unit ∷ set) others) spans.above.0)
 
 -- both parts of a family that is cut at its first number
 pub record Halves (low size : ℕ) (f : List (List ℕ)) : Type 0 where
@@ -245,14 +288,19 @@ halves low size f spans =
 family_of_both : (x : ℕ) (hi lo : List (List ℕ)) → IsFamily (each_with x hi ++ lo) → IsFamily lo × IsFamily hi
 family_of_both x [] lo is = (is, IsFamily-nil)
 family_of_both x (set ∷ hi) lo is =
-    let rest = family_of_both x hi lo (family_rest (x ∷ set) (each_with x hi ++ lo) is) in
-    (rest.0, family_with set hi (each_after x set hi lo (family_first (x ∷ set) (each_with x hi ++ lo) is)) (IsRising-rest x set is.rising.0) rest.1)
+    let rest = family_of_both x hi lo (family_rest (x ∷ set) (each_with x hi ++ lo) is) in (
+      rest.0,
+      family_with set hi (each_after x set hi lo (family_first (x ∷ set) (each_with x hi ++ lo) is))
+          (IsRising-rest x set is.rising.0) rest.1,
+    )
 
 branch_families : (x : ℕ) (lo hi : List (List ℕ)) → IsFamily (branch x lo hi) → IsFamily lo × IsFamily hi
 branch_families x [] hi is = family_of_both x hi [] (subst IsFamily (sym (append-nil (each_with x hi))) is)
 branch_families x ([] ∷ others) hi is =
-    let rest = family_of_both x hi others (family_rest [] (each_with x hi ++ others) is) in
-    (family_with [] others (filled_lo x hi others (family_first [] (each_with x hi ++ others) is)) is.rising.0 rest.0, rest.1)
+    let rest = family_of_both x hi others (family_rest [] (each_with x hi ++ others) is) in (
+      family_with [] others (filled_lo x hi others (family_first [] (each_with x hi ++ others) is)) is.rising.0 rest.0,
+      rest.1,
+    )
 branch_families x ((unit ∷ set) ∷ others) hi is = family_of_both x hi ((unit ∷ set) ∷ others) is
 
 -- both parts span what the family spans
@@ -263,13 +311,19 @@ module _ (low size x : ℕ) (f lo hi : List (List ℕ)) (cut : Cuts x f lo hi) (
   pub Spans-cut_lo : Spans low size lo
   Spans-cut_lo = record {
     is_family = families.0;
-    above = each-from_contains (IsSetAbove low) lo (λ set has. set_above low f set spans.above (cut_has_lo x f lo hi set cut has));
+    above =
+        each-from_contains (IsSetAbove low) lo (λ set has.
+        set_above low f set spans.above (cut_has_lo x f lo hi set cut has));
     below = λ set has. spans.below set (cut_has_lo x f lo hi set cut has);
   }
 
   pub Spans-cut_hi : Spans low size hi
   Spans-cut_hi = record {
     is_family = families.1;
-    above = each-from_contains (IsSetAbove low) hi (λ set has. (set_above low f (x ∷ set) spans.above (cut_has_hi x f lo hi set cut has)).1);
-    below = λ set has unit member. spans.below (x ∷ set) (cut_has_hi x f lo hi set cut has) unit (or_right (x == unit) (among set unit) member);
+    above =
+        each-from_contains (IsSetAbove low) hi (λ set has.
+        (set_above low f (x ∷ set) spans.above (cut_has_hi x f lo hi set cut has)).1);
+    below =
+        λ set has unit member. spans.below (x ∷ set) (cut_has_hi x f lo hi set cut has) unit
+        (or_right (x == unit) (among set unit) member);
   }

@@ -1,5 +1,6 @@
 -- Names that all differ: each goes into the table once, and is found at its own place.
-use Rattle.std.proofs.Common.{◌≡◌, ◌≢◌, ℕ, zero, suc, ◌+◌, ◌-◌, ◌<◌, ◌≤◌, false, List, [], ◌∷◌, ◌++◌, length, get_or, All, AllPairs, refl, sym, ◌∙◌, ap, subst, arith, append_assoc, length-append}
+use Rattle.std.proofs.Common.{◌≡◌, ◌≢◌, ℕ, zero, suc, ◌+◌, ◌-◌, ◌<◌, ◌≤◌, false, List, [], ◌∷◌, ◌++◌, length, get_or}
+use Rattle.std.proofs.Common.{All, AllPairs, refl, sym, ◌∙◌, ap, subst, arith, append_assoc, length-append}
 use Rattle.std.specs.Prelude.{if◌then◌else◌, nat_eq, position, Option, Some, None, IfSome, IsNone, IsSome, ◌↔◌}
 use Rattle.std.proofs.lemmas.List.Quantifiers.{position-Some}
 use Rattle.std.specs.List.{list_any}
@@ -13,61 +14,80 @@ use lib.Pointwise.{pointwise, bytes_decides}
 abbrev pub Differ : List (List ℕ) → Type 0
 Differ names = AllPairs (λ earlier later. earlier ≢ later) names
 
-no_such : (name : List ℕ) (names : List (List ℕ)) → All (λ other. other ≢ name) names → list_any (pointwise nat_eq name) names ≡ false
+no_such : (name : List ℕ) (names : List (List ℕ)) → All (λ other. other ≢ name) names
+    → list_any (pointwise nat_eq name) names ≡ false
 no_such name [] apart = refl
 no_such name (other ∷ names) apart =
     or_from (pointwise nat_eq name other) (list_any (pointwise nat_eq name) names)
-    (false_from_ne_true (pointwise nat_eq name other) (λ same. All-head (λ o. o ≢ name) other names apart (sym ((bytes_decides name other).0 same))))
+    (false_from_ne_true (pointwise nat_eq name other)
+    (λ same. All-head (λ o. o ≢ name) other names apart (sym ((bytes_decides name other).0 same))))
     (no_such name names (All-tail (λ o. o ≢ name) other names apart))
 
-earlier_differ : (names : List (List ℕ)) (name : List ℕ) (rest : List (List ℕ)) → Differ (names ++ name ∷ rest) → All (λ other. other ≢ name) names
+earlier_differ : (names : List (List ℕ)) (name : List ℕ) (rest : List (List ℕ)) → Differ (names ++ name ∷ rest)
+    → All (λ other. other ≢ name) names
 earlier_differ names name rest differ k d short =
     let long : length names < length (names ++ name ∷ rest) = omega (arith, length-append names (name ∷ rest)) in
     let at_last : get_or (names ++ name ∷ rest) (length names) d ≡ name = get_or_middle names name rest d in
-    let at_k : get_or (names ++ name ∷ rest) k d ≡ get_or names k d = get_or_append_left names (name ∷ rest) d k short in
+    let at_k : get_or (names ++ name ∷ rest) k d ≡ get_or names k d =
+    get_or_append_left names (name ∷ rest) d k short in
     λ same. differ k (length names) d short long (at_k ∙ same ∙ sym at_last)
   where
-    get_or_middle : (xs : List (List ℕ)) (x : List ℕ) (ys : List (List ℕ)) (e : List ℕ) → get_or (xs ++ x ∷ ys) (length xs) e ≡ x
+    get_or_middle : (xs : List (List ℕ)) (x : List ℕ) (ys : List (List ℕ)) (e : List ℕ)
+        → get_or (xs ++ x ∷ ys) (length xs) e ≡ x
     get_or_middle [] x ys e = refl
     get_or_middle (y ∷ xs) x ys e = get_or_middle xs x ys e
 
 -- the next name goes to the end of the table
-pub insert_next : (names keys rest keys' rest' : List (List ℕ)) (name : List ℕ) → Differ names → keys ++ rest ≡ names → rest ≡ name ∷ rest'
+pub insert_next : (names keys rest keys' rest' : List (List ℕ)) (name : List ℕ) → Differ names → keys ++ rest ≡ names
+    → rest ≡ name ∷ rest'
     → keys' ≡ (if list_any (pointwise nat_eq name) keys then keys else keys ++ name ∷ []) → keys' ++ rest' ≡ names
 insert_next names keys rest keys' rest' name differ before next inserted =
     let whole : keys ++ name ∷ rest' ≡ names = ap (λ r. keys ++ r) (sym next) ∙ before in
-    let fresh : list_any (pointwise nat_eq name) keys ≡ false = no_such name keys (earlier_differ keys name rest' (subst Differ (sym whole) differ)) in
-    let pushed : keys' ≡ keys ++ name ∷ [] = inserted ∙ cond-false (list_any (pointwise nat_eq name) keys) keys (keys ++ name ∷ []) fresh in
+    let fresh : list_any (pointwise nat_eq name) keys ≡ false =
+    no_such name keys (earlier_differ keys name rest' (subst Differ (sym whole) differ)) in
+    let pushed : keys' ≡ keys ++ name ∷ [] =
+    inserted ∙ cond-false (list_any (pointwise nat_eq name) keys) keys (keys ++ name ∷ []) fresh in
     ap (λ k. k ++ rest') pushed ∙ append_assoc keys (name ∷ []) rest' ∙ whole
 
 -- ---- a unit by its name: the names of the units are the first ones
 
-no_such_at : (name : List ℕ) (names : List (List ℕ)) (place : ℕ) → list_any (pointwise nat_eq name) names ≡ false → place < length names → get_or names place [] ≡ name → ⊥
+no_such_at : (name : List ℕ) (names : List (List ℕ)) (place : ℕ) → list_any (pointwise nat_eq name) names ≡ false
+    → place < length names → get_or names place [] ≡ name → ⊥
 no_such_at name [] place none short same = absurd (omega arith)
 no_such_at name (first ∷ names) zero none short same =
     let apart = (or_parts (pointwise nat_eq name first) (list_any (pointwise nat_eq name) names) none).0 in
     let met = (bytes_decides name first).1 (sym same) in
     absurd cc
 no_such_at name (first ∷ names) (suc place) none short same =
-    no_such_at name names place (or_parts (pointwise nat_eq name first) (list_any (pointwise nat_eq name) names) none).1 (omega arith) same
+    no_such_at name names place (or_parts (pointwise nat_eq name first) (list_any (pointwise nat_eq name) names) none).1
+    (omega arith) same
 
-module _ (tree : FaultTree) (kept : IsTree tree) (names : List (List ℕ)) (same_names : tree.names ≡ names) (name : List ℕ) where
+module _ (tree : FaultTree) (kept : IsTree tree) (names : List (List ℕ)) (same_names : tree.names ≡ names)
+    (name : List ℕ) where
   reach : (unit : ℕ) → IsUnitOf tree unit → unit - 1 < length names
   reach unit is_unit = let all = kept.names_all in let e = ap length same_names in omega (arith, is_unit.0, is_unit.1)
 
   -- no name in the table, no unit
-  pub unnamed : list_any (pointwise nat_eq name) names ≡ false → (unit : ℕ) → IsUnitOf tree unit → name_of tree unit ≡ name → ⊥
-  unnamed none unit is_unit same = no_such_at name names (unit - 1) none (reach unit is_unit) (ap (λ l. get_or l (unit - 1) []) (sym same_names) ∙ same)
+  pub unnamed : list_any (pointwise nat_eq name) names ≡ false → (unit : ℕ) → IsUnitOf tree unit
+      → name_of tree unit ≡ name → ⊥
+  unnamed none unit is_unit same =
+      no_such_at name names (unit - 1) none (reach unit is_unit)
+      (ap (λ l. get_or l (unit - 1) []) (sym same_names) ∙ same)
 
   module _ (place : ℕ) (found : position (pointwise nat_eq name) names ≡ Some place) where
     name_there : (place < length names) × (get_or names place [] ≡ name)
-    name_there = let there = position-Some (pointwise nat_eq name) names place [] found in (there.0, sym ((bytes_decides name (get_or names place [])).0 there.1))
+    name_there =
+        let there = position-Some (pointwise nat_eq name) names place [] found in
+        (there.0, sym ((bytes_decides name (get_or names place [])).0 there.1))
 
     -- one of the first names, a unit
     pub named_unit : place < unit_count tree → IsUnitOf tree (place + 1) × (name_of tree (place + 1) ≡ name)
     named_unit unit =
-        let at : place + 1 - 1 ≡ place = omega arith in
-        ((omega arith, omega arith), ap (λ l. get_or l (place + 1 - 1) []) same_names ∙ ap (λ i. get_or names i []) at ∙ name_there.1)
+        let at : place + 1 - 1 ≡ place = omega arith in (
+          (omega arith, omega arith),
+          ap (λ l. get_or l (place + 1 - 1) []) same_names ∙ ap (λ i. get_or names i []) at
+              ∙ name_there.1,
+        )
 
     -- one of the others, no unit
     pub named_gate : unit_count tree ≤ place → (unit : ℕ) → IsUnitOf tree unit → name_of tree unit ≡ name → ⊥
@@ -75,7 +95,8 @@ module _ (tree : FaultTree) (kept : IsTree tree) (names : List (List ℕ)) (same
         subst Differ same_names kept.names_differ (unit - 1) place [] (omega (arith, is_unit.0, is_unit.1)) name_there.0
         (ap (λ l. get_or l (unit - 1) []) (sym same_names) ∙ same ∙ sym name_there.1)
 
-pub some_named : (made : Option ℕ) (P : ℕ → Type 0) (number : ℕ) → IfSome made (λ u. u ≡ number) → P number → IfSome made P
+pub some_named : (made : Option ℕ) (P : ℕ → Type 0) (number : ℕ) → IfSome made (λ u. u ≡ number) → P number
+    → IfSome made P
 some_named None P number is holds = tt
 some_named (Some u) P number is holds = subst P (sym is) holds
 

@@ -1,5 +1,6 @@
 -- Units one after another: what was seen so far, and whether a unit stands twice.
-use Rattle.std.proofs.Common.{◌≡◌, ℕ, ◌+◌, ◌<◌, Bool, true, false, List, [], ◌∷◌, ◌++◌, length, take, get_or, Contains, sym, ◌∙◌, ap, subst, arith}
+use Rattle.std.proofs.Common.{◌≡◌, ℕ, ◌+◌, ◌<◌, Bool, true, false, List, [], ◌∷◌, ◌++◌, length, take, get_or, Contains}
+use Rattle.std.proofs.Common.{sym, ◌∙◌, ap, subst, arith}
 use Rattle.std.specs.Prelude.{◌||◌, ◌==◌, IsTrue}
 use Rattle.std.proofs.lemmas.List.{get_or-take, get_or_default, length-take, take_more}
 use Rattle.std.proofs.lemmas.List.Quantifiers.{all_pairs_push}
@@ -12,9 +13,11 @@ module _ (units : List ℕ) (i unit : ℕ) (short : i < length units) (is : unit
   pushed : take (i + 1) units ≡ take i units ++ unit ∷ []
   pushed = take_more units i unit short ∙ ap (λ u. take i units ++ u ∷ []) (sym is)
 
-  pub seen_more : (seen seen' : List ℕ) → ((u : ℕ) → among seen u ≡ among (take i units) u) → seen' ≡ with_unit unit seen → (u : ℕ) → among seen' u ≡ among (take (i + 1) units) u
+  pub seen_more : (seen seen' : List ℕ) → ((u : ℕ) → among seen u ≡ among (take i units) u)
+      → seen' ≡ with_unit unit seen → (u : ℕ) → among seen' u ≡ among (take (i + 1) units) u
   seen_more seen seen' same with u =
-      ap (λ s. among s u) with ∙ among-with_unit unit seen u ∙ turned (unit == u) (among seen u) (among (take i units) u) (same u)
+      ap (λ s. among s u) with ∙ among-with_unit unit seen u
+      ∙ turned (unit == u) (among seen u) (among (take i units) u) (same u)
       ∙ sym (ap (λ l. among l u) pushed ∙ among-push (take i units) unit u)
     where
       turned : (a b c : Bool) → b ≡ c → (a || b) ≡ (c || (a || false))
@@ -25,8 +28,10 @@ module _ (units : List ℕ) (i unit : ℕ) (short : i < length units) (is : unit
 
   pub distinct_more : AreDistinct (take i units) → among (take i units) unit ≡ false → AreDistinct (take (i + 1) units)
   distinct_more distinct fresh =
-      subst AreDistinct (sym pushed) (all_pairs_push (λ earlier later. earlier ≡ later → ⊥) (take i units) unit distinct (λ k d within same.
-      let met : among (take i units) unit ≡ true = among-from_Contains (take i units) unit (k, within, get_or_default (take i units) k unit d within ∙ same) in
+      subst AreDistinct (sym pushed) (all_pairs_push (λ earlier later. earlier ≡ later → ⊥) (take i units) unit distinct
+      (λ k d within same.
+      let met : among (take i units) unit ≡ true =
+      among-from_Contains (take i units) unit (k, within, get_or_default (take i units) k unit d within ∙ same) in
       absurd cc))
 
   pub stands_twice : among (take i units) unit ≡ true → AreDistinct units → IsTrue false

@@ -6,7 +6,8 @@ use Rattle.std.specs.Ordering.{nat_cmp}
 use Rattle.fault_model.specs.Cut.{IsMinimalFor}
 use Rattle.fault_model.specs.Tree.{FaultTree}
 
--- exactly the sets that fail the node and no longer do without any one of their members, each once, in lexicographic order
+-- exactly the sets that fail the node and no longer do without any one of their members, each once, in lexicographic
+-- order
 pub record IsCutFamily (tree : FaultTree) (node : ℕ) (family : List (List ℕ)) : Type 0 where
   pub sound : All (IsMinimalFor tree node) family
   pub complete : (set : List ℕ) → IsMinimalFor tree node set → Contains family set

@@ -12,23 +12,30 @@ use Rattle.fault_model.specs.ReadingLaws.{Within, reads-rises}
 use Rattle.fault_model.specs.Cut.{IsMinimalFor, IsMinimalCut, IsCutList}
 
 -- A set that lacks a member of a minimal one, and has none besides, does not fail the node.
-pub smaller_fails_not : (tree : FaultTree) (node : ℕ) (set smaller : List ℕ) (member : ℕ) → IsMinimalFor tree node set → Within (among smaller) (among set) → among set member ≡ true → among smaller member ≡ false → reads tree (among smaller) node ≡ false
+pub smaller_fails_not : (tree : FaultTree) (node : ℕ) (set smaller : List ℕ) (member : ℕ) → IsMinimalFor tree node set
+    → Within (among smaller) (among set) → among set member ≡ true → among smaller member ≡ false
+    → reads tree (among smaller) node ≡ false
 smaller_fails_not tree node set smaller member minimal within has lacks =
     let rest : List ℕ = without_unit member set in
     let inside : Within (among smaller) (among rest) = record {
       kept = λ n here.
           among-without_unit member set n ∙ and_from (among set n) (not (n == member)) (within.kept n here)
-          (not_from_false (n == member) (ne_eqb n member (λ same. let clash : among smaller member ≡ true = subst (λ q. among smaller q ≡ true) same here in absurd cc)));
+          (not_from_false (n == member) (ne_eqb n member
+          (λ same. let clash : among smaller member ≡ true = subst (λ q. among smaller q ≡ true) same here in
+          absurd cc)));
     } in
     let needed : reads tree (among rest) node ≡ false =
-    All-contains (λ m. reads tree (among (without_unit m set)) node ≡ false) set member minimal.needed (Contains-from_among set member has) in
+    All-contains (λ m. reads tree (among (without_unit m set)) node ≡ false) set member minimal.needed
+    (Contains-from_among set member has) in
     elim (cases_Bool (reads tree (among smaller) node)) [
-      | inl fails ↦ let clash : reads tree (among rest) node ≡ true = reads-rises tree (among smaller) (among rest) inside node fails in absurd cc
+      | inl fails ↦ let clash : reads tree (among rest) node ≡ true =
+          reads-rises tree (among smaller) (among rest) inside node fails in absurd cc
       | inr lives ↦ lives
     ]
 
 -- Two cut lists of a tree are equal.
-pub same_cut_list : (tree : FaultTree) (cuts others : List (List ℕ)) → IsCutList tree cuts → IsCutList tree others → cuts ≡ others
+pub same_cut_list : (tree : FaultTree) (cuts others : List (List ℕ)) → IsCutList tree cuts → IsCutList tree others
+    → cuts ≡ others
 same_cut_list tree cuts others list other =
     same_from_members cut_cmp_total cuts others list.ordered other.ordered
     (λ set in_cuts. other.complete set (All-contains (IsMinimalCut tree) cuts set list.sound in_cuts))

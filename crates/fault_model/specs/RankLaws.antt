@@ -1,5 +1,6 @@
 -- What follows from the ranks: what a node reads are nodes of lower rank, and a rule reaches all the way down.
-use Rattle.std.specs.Prelude.{◌≡◌, ℕ, zero, suc, ◌-◌, ◌<◌, true, List, [], ◌∷◌, Option, Some, None, IfSome, length, All, filter_map, get_or}
+use Rattle.std.specs.Prelude.{◌≡◌, ℕ, zero, suc, ◌-◌, ◌<◌, true, List, [], ◌∷◌, Option, Some, None, IfSome, length, All}
+use Rattle.std.specs.Prelude.{filter_map, get_or}
 use Rattle.std.specs.List.{cons_option}
 use Rattle.std.proofs.Common.{sym, subst, inl, inr, arith}
 use Rattle.std.proofs.lemmas.Bool.{cond_both, cases_lt, ltb-true}
@@ -9,7 +10,8 @@ use Rattle.std.proofs.lemmas.Slice.Zip.{length-zip, get_or-zip}
 use Rattle.unit_sets.specs.UnitList.{among}
 use Rattle.fault_model.specs.declared.node.GateKind.{GateKind}
 use Rattle.fault_model.specs.declared.node.GateKind.TheVariants.{And, Or, Votes, Pand, Por, Seq, Fdep, Csp, Wsp, Hsp}
-use Rattle.fault_model.specs.Tree.{FaultTree, IsNodeOf, IsGateOf, gates, kind_of, inputs_of, is_above_units, rank_of, unit_count, gate_count}
+use Rattle.fault_model.specs.Tree.{FaultTree, IsNodeOf, IsGateOf, gates, kind_of, inputs_of, is_above_units, rank_of}
+use Rattle.fault_model.specs.Tree.{unit_count, gate_count}
 use Rattle.fault_model.specs.Trigger.{below, trigger_by, triggers_of}
 use Rattle.fault_model.specs.Rank.{rank_over, within, by_rank}
 use Rattle.fault_model.specs.WellFormed.{IsTree, IsSoundGate}
@@ -26,7 +28,8 @@ module _ (tree : FaultTree) (kept : IsTree tree) where
       let inputs_reach : at < length tree.inputs = omega arith in
       let reach : at < length (gates tree) = omega (arith, length-zip tree.kinds tree.inputs) in
       let P : GateKind × List ℕ → Type 0 = IsSoundGate tree in
-      subst P (get_or-zip tree.kinds tree.inputs at (Fdep, []) kinds_reach inputs_reach) (All-get_or P (gates tree) at (Fdep, []) reach kept.gates_sound)
+      subst P (get_or-zip tree.kinds tree.inputs at (Fdep, []) kinds_reach inputs_reach)
+      (All-get_or P (gates tree) at (Fdep, []) reach kept.gates_sound)
 
   pub inputs_are_nodes : (gate : ℕ) → is_above_units tree gate ≡ true → All (IsNodeOf tree) (inputs_of tree gate)
   inputs_are_nodes gate above =
@@ -38,10 +41,12 @@ module _ (tree : FaultTree) (kept : IsTree tree) where
         | inr past ↦ subst (All (IsNodeOf tree)) (sym (get_or_past tree.inputs at [] past)) (All-nil (IsNodeOf tree))
       ]
 
-  trigger_is_node : (unit : ℕ) (gate : GateKind × List ℕ) → All (IsNodeOf tree) gate.1 → IfSome (trigger_by unit gate) (IsNodeOf tree)
+  trigger_is_node : (unit : ℕ) (gate : GateKind × List ℕ) → All (IsNodeOf tree) gate.1
+      → IfSome (trigger_by unit gate) (IsNodeOf tree)
   trigger_is_node unit (Fdep, []) nodes = tt
   trigger_is_node unit (Fdep, trigger ∷ dependents) nodes =
-      cond_both (among dependents unit) (Some trigger) None (λ found. IfSome found (IsNodeOf tree)) (λ _. All-head (IsNodeOf tree) trigger dependents nodes) (λ _. tt)
+      cond_both (among dependents unit) (Some trigger) None (λ found. IfSome found (IsNodeOf tree))
+      (λ _. All-head (IsNodeOf tree) trigger dependents nodes) (λ _. tt)
   trigger_is_node unit (And, inputs) nodes = tt
   trigger_is_node unit (Or, inputs) nodes = tt
   trigger_is_node unit (Votes least of, inputs) nodes = tt
@@ -52,11 +57,13 @@ module _ (tree : FaultTree) (kept : IsTree tree) where
   trigger_is_node unit (Wsp, inputs) nodes = tt
   trigger_is_node unit (Hsp, inputs) nodes = tt
 
-  with_trigger : (found : Option ℕ) (others : List ℕ) → IfSome found (IsNodeOf tree) → All (IsNodeOf tree) others → All (IsNodeOf tree) (cons_option found others)
+  with_trigger : (found : Option ℕ) (others : List ℕ) → IfSome found (IsNodeOf tree) → All (IsNodeOf tree) others
+      → All (IsNodeOf tree) (cons_option found others)
   with_trigger None others node nodes = nodes
   with_trigger (Some trigger) others node nodes = All-cons (IsNodeOf tree) trigger others node nodes
 
-  triggers_among : (unit : ℕ) (some_gates : List (GateKind × List ℕ)) → All (IsSoundGate tree) some_gates → All (IsNodeOf tree) (filter_map (trigger_by unit) some_gates)
+  triggers_among : (unit : ℕ) (some_gates : List (GateKind × List ℕ)) → All (IsSoundGate tree) some_gates
+      → All (IsNodeOf tree) (filter_map (trigger_by unit) some_gates)
   triggers_among unit [] sound = All-nil (IsNodeOf tree)
   triggers_among unit (gate ∷ others) sound =
       with_trigger (trigger_by unit gate) (filter_map (trigger_by unit) others)
@@ -68,7 +75,8 @@ module _ (tree : FaultTree) (kept : IsTree tree) where
 
   pub below_are_nodes : (node : ℕ) → All (IsNodeOf tree) (below tree node)
   below_are_nodes node =
-      cond_both (is_above_units tree node) (inputs_of tree node) (triggers_of tree node) (All (IsNodeOf tree)) (inputs_are_nodes node) (λ _. triggers_are_nodes node)
+      cond_both (is_above_units tree node) (inputs_of tree node) (triggers_of tree node) (All (IsNodeOf tree))
+      (inputs_are_nodes node) (λ _. triggers_are_nodes node)
 
 -- ---- ranks fall
 
@@ -76,22 +84,28 @@ pub rank_over-all : (tree : FaultTree) (nodes : List ℕ) → All (λ node. rank
 rank_over-all tree [] = All-nil _
 rank_over-all tree (node ∷ nodes) =
     All-cons (λ n. rank_of tree n < rank_over tree (node ∷ nodes)) node nodes (omega arith)
-    (All-weaker (λ n. rank_of tree n < rank_over tree nodes) (λ n. rank_of tree n < rank_over tree (node ∷ nodes)) (λ n h. omega arith) nodes (rank_over-all tree nodes))
+    (All-weaker (λ n. rank_of tree n < rank_over tree nodes) (λ n. rank_of tree n < rank_over tree (node ∷ nodes))
+    (λ n h. omega arith) nodes (rank_over-all tree nodes))
 
 -- what a node reads has a lower rank
-pub below_ranks : (tree : FaultTree) → IsTree tree → (node : ℕ) → IsNodeOf tree node → All (λ n. rank_of tree n < rank_of tree node) (below tree node)
+pub below_ranks : (tree : FaultTree) → IsTree tree → (node : ℕ) → IsNodeOf tree node
+    → All (λ n. rank_of tree n < rank_of tree node) (below tree node)
 below_ranks tree kept node is_node =
-    subst (λ rank. All (λ n. rank_of tree n < rank) (below tree node)) (sym (kept.ranked node is_node)) (rank_over-all tree (below tree node))
+    subst (λ rank. All (λ n. rank_of tree n < rank) (below tree node)) (sym (kept.ranked node is_node))
+    (rank_over-all tree (below tree node))
 
 -- ---- rules by rank
 
 -- values that agree on what a node reads give the node one value
 abbrev pub AgreesBelow : {V : Type 0} → FaultTree → ((ℕ → V) → ℕ → V) → Type 0
-AgreesBelow {V} tree rule = (f g : ℕ → V) (node : ℕ) → All (λ n. f n ≡ g n) (below tree node) → rule f node ≡ rule g node
+AgreesBelow {V} tree rule =
+    (f g : ℕ → V) (node : ℕ) → All (λ n. f n ≡ g n) (below tree node) → rule f node ≡ rule g node
 
-module _ {V : Type 0} (tree : FaultTree) (kept : IsTree tree) (lowest : V) (rule : (ℕ → V) → ℕ → V) (agrees : AgreesBelow tree rule) where
+module _ {V : Type 0} (tree : FaultTree) (kept : IsTree tree) (lowest : V) (rule : (ℕ → V) → ℕ → V)
+    (agrees : AgreesBelow tree rule) where
   -- any depth beyond the rank gives the same value
-  within-deep : (depth other node : ℕ) → IsNodeOf tree node → rank_of tree node < depth → rank_of tree node < other → within lowest rule depth node ≡ within lowest rule other node
+  within-deep : (depth other node : ℕ) → IsNodeOf tree node → rank_of tree node < depth → rank_of tree node < other
+      → within lowest rule depth node ≡ within lowest rule other node
   within-deep zero other node is_node deep deep' = absurd (omega arith)
   within-deep (suc depth) zero node is_node deep deep' = absurd (omega arith)
   within-deep (suc depth) (suc other) node is_node deep deep' =
@@ -101,10 +115,12 @@ module _ {V : Type 0} (tree : FaultTree) (kept : IsTree tree) (lowest : V) (rule
       (let lower = below_ranks tree kept node is_node k d short in omega arith))
 
   -- the value of a node is by its rule from the values of what it reads
-  pub by_rank-node : (node : ℕ) → IsNodeOf tree node → by_rank tree lowest rule node ≡ rule (by_rank tree lowest rule) node
+  pub by_rank-node : (node : ℕ) → IsNodeOf tree node
+      → by_rank tree lowest rule node ≡ rule (by_rank tree lowest rule) node
   unfolding by_rank
   by_rank-node node is_node =
       agrees (within lowest rule (rank_of tree node)) (λ n. within lowest rule (suc (rank_of tree n)) n) node
       (λ k d short.
       let n : ℕ = get_or (below tree node) k d in
-      within-deep (rank_of tree node) (suc (rank_of tree n)) n (below_are_nodes tree kept node k d short) (below_ranks tree kept node is_node k d short) (omega arith))
+      within-deep (rank_of tree node) (suc (rank_of tree n)) n (below_are_nodes tree kept node k d short)
+      (below_ranks tree kept node is_node k d short) (omega arith))

@@ -1,4 +1,5 @@
--- The static reading, after Tang and Dugan's logic alone: whether a node fails once a set of units has failed, in whatever order.
+-- The static reading, after Tang and Dugan's logic alone: whether a node fails once a set of units has failed, in
+-- whatever order.
 use Rattle.std.specs.Prelude.{ℕ, ◌+◌, Bool, false, ◌||◌, List, [], ◌∷◌, if◌then◌else◌, nat_le}
 use Rattle.std.specs.List.{list_any, list_all}
 use Rattle.fault_model.specs.declared.node.GateKind.{GateKind}

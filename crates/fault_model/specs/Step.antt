@@ -1,5 +1,6 @@
 -- The step at which a node fails when the units of an order fail one after another, after the Galileo manual's gates.
-use Rattle.std.specs.Prelude.{ℕ, suc, Bool, true, false, ◌&&◌, ◌==◌, not, List, [], ◌∷◌, Option, Some, None, filter, if◌then◌else◌, nat_le}
+use Rattle.std.specs.Prelude.{ℕ, suc, Bool, true, false, ◌&&◌, ◌==◌, not, List, [], ◌∷◌, Option, Some, None, filter}
+use Rattle.std.specs.Prelude.{if◌then◌else◌, nat_le}
 use Rattle.std.specs.List.{list_all}
 use Rattle.fault_model.specs.declared.node.GateKind.{GateKind}
 use Rattle.fault_model.specs.declared.node.GateKind.TheVariants.{And, Or, Votes, Pand, Por, Seq, Fdep, Csp, Wsp, Hsp}
@@ -62,12 +63,14 @@ failed_by step_of nodes step = true_count (λ node. no_later (step_of node) step
 
 -- the K-th smallest step over the positions: the first of their steps by which K of them have failed
 abbrev pub kth_step : ℕ → (ℕ → Step) → List ℕ → Step
-kth_step least step_of nodes = earliest step_of (filter (λ node. nat_le least (failed_by step_of nodes (step_of node))) nodes)
+kth_step least step_of nodes =
+    earliest step_of (filter (λ node. nat_le least (failed_by step_of nodes (step_of node))) nodes)
 
 -- the first node's step, where no other has a smaller one
 abbrev pub first_step : (ℕ → Step) → List ℕ → Step
 first_step step_of [] = never
-first_step step_of (node ∷ nodes) = if list_all (λ other. no_later (step_of node) (step_of other)) nodes then step_of node else never
+first_step step_of (node ∷ nodes) =
+    if list_all (λ other. no_later (step_of node) (step_of other)) nodes then step_of node else never
 
 -- ---- steps in a tree
 

@@ -1,5 +1,6 @@
 -- How the table of triggers is filled, one `fdep` after another.
-use Rattle.std.specs.Prelude.{◌≡◌, ℕ, ◌-◌, ◌<◌, ◌≤◌, List, [], ◌++◌, length, filter_map, option_to_list, slice_index, slice_index_or}
+use Rattle.std.specs.Prelude.{◌≡◌, ℕ, ◌-◌, ◌<◌, ◌≤◌, List, [], ◌++◌, length, filter_map, option_to_list, slice_index}
+use Rattle.std.specs.Prelude.{slice_index_or}
 use Rattle.fault_model.specs.declared.node.GateKind.{GateKind}
 use Rattle.fault_model.specs.declared.trigger.TriggerTable.{TriggerTable}
 use Rattle.fault_model.specs.Trigger.{trigger_by}
@@ -23,4 +24,5 @@ pub record AreMarks (units limit : ℕ) (table : TriggerTable) : Type 0 where
 -- each unit has the trigger more that the gate is to it, if it is one
 pub record AddsTriggers (units : ℕ) (gate : GateKind × List ℕ) (old new : TriggerTable) : Type 0 where
   pub all : length new.lists.items ≡ units
-  pub triggers : (unit : ℕ) → IsUnitBelow units unit → noted new unit ≡ noted old unit ++ option_to_list (trigger_by unit gate)
+  pub triggers : (unit : ℕ) → IsUnitBelow units unit
+      → noted new unit ≡ noted old unit ++ option_to_list (trigger_by unit gate)

@@ -1,5 +1,6 @@
 -- Nodes that read others, and a walk that closes each after what it reads.
-use Rattle.std.specs.Prelude.{◌≡◌, ℕ, suc, ◌+◌, ◌-◌, ◌<◌, ◌≤◌, max, nat_lt, List, [], ◌∷◌, length, take, All, AllPairs, Contains, slice_index, slice_index_or, if◌then◌else◌}
+use Rattle.std.specs.Prelude.{◌≡◌, ℕ, suc, ◌+◌, ◌-◌, ◌<◌, ◌≤◌, max, nat_lt, List, [], ◌∷◌, length, take, All, AllPairs}
+use Rattle.std.specs.Prelude.{Contains, slice_index, slice_index_or, if◌then◌else◌}
 
 -- ---- the nodes
 
@@ -33,7 +34,8 @@ tallest heights (node ∷ nodes) = max (at_node heights node) (tallest heights n
 
 -- the height of each node is one more than the greatest of what it reads
 abbrev pub AreHeights : List (List ℕ) → List ℕ → Type 0
-AreHeights graph heights = (node : ℕ) → IsNodeIn graph node → at_node heights node ≡ suc (tallest heights (below_in graph node))
+AreHeights graph heights =
+    (node : ℕ) → IsNodeIn graph node → at_node heights node ≡ suc (tallest heights (below_in graph node))
 
 -- each node stands after all that it reads
 pub record IsBottomUp (graph : List (List ℕ)) (order : List ℕ) : Type 0 where
@@ -64,9 +66,12 @@ pub record IsWalk (graph : List (List ℕ)) (heights places path closed : List �
   pub begun : (node : ℕ) → IsNodeIn graph node → at_node heights node ≡ 0 → 1 ≤ at_node places node → Contains path node
   pub within : (node : ℕ) → IsNodeIn graph node → at_node places node ≤ suc (length (below_in graph node))
   -- what a node has passed is closed, and a closed node has passed everything
-  pub passed : (node k : ℕ) → IsNodeIn graph node → k + 1 < at_node places node → 1 ≤ at_node heights (slice_index (below_in graph node) k)
-  pub through : (node : ℕ) → IsNodeIn graph node → 1 ≤ at_node heights node → at_node places node ≡ suc (length (below_in graph node))
-  pub high : (node : ℕ) → IsNodeIn graph node → 1 ≤ at_node heights node → at_node heights node ≡ suc (tallest heights (below_in graph node))
+  pub passed : (node k : ℕ) → IsNodeIn graph node → k + 1 < at_node places node
+      → 1 ≤ at_node heights (slice_index (below_in graph node) k)
+  pub through : (node : ℕ) → IsNodeIn graph node → 1 ≤ at_node heights node
+      → at_node places node ≡ suc (length (below_in graph node))
+  pub high : (node : ℕ) → IsNodeIn graph node → 1 ≤ at_node heights node
+      → at_node heights node ≡ suc (tallest heights (below_in graph node))
   pub listed : (node : ℕ) → IsNodeIn graph node → 1 ≤ at_node heights node → Contains closed node
   pub bottom_up : IsBottomUp graph closed
   pub counted : length closed ≡ closed_count heights

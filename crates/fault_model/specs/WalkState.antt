@@ -8,7 +8,8 @@ IsWalkOf graph walk = IsWalk graph walk.heights.items walk.places.items walk.pat
 
 -- the node was just taken from the end of the path
 abbrev pub IsWalkAt : List (List ℕ) → Walk → ℕ → Type 0
-IsWalkAt graph walk node = IsWalk graph walk.heights.items walk.places.items (walk.path.items ++ node ∷ []) walk.closed.items
+IsWalkAt graph walk node =
+    IsWalk graph walk.heights.items walk.places.items (walk.path.items ++ node ∷ []) walk.closed.items
 
 -- what is not 0 for a node stays so
 abbrev pub Rises : List (List ℕ) → List ℕ → List ℕ → Type 0

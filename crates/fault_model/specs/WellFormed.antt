@@ -1,5 +1,6 @@
 -- What every tree keeps: the rules for a Galileo text that stands for a tree, and the rank of each node.
-use Rattle.std.specs.Prelude.{◌≡◌, ◌≢◌, ℕ, ◌≤◌, false, IsTrue, List, [], length, drop, take, flat_map, All, AllPairs, Contains, codes}
+use Rattle.std.specs.Prelude.{◌≡◌, ◌≢◌, ℕ, ◌≤◌, false, IsTrue, List, [], length, drop, take, flat_map, All, AllPairs}
+use Rattle.std.specs.Prelude.{Contains, codes}
 use Rattle.std.specs.Str.{str_to_ascii_lowercase}
 use Rattle.fault_model.specs.declared.list.Attribute.{Attribute}
 use Rattle.fault_model.specs.declared.node.GateKind.{GateKind}

@@ -34,7 +34,8 @@ pub fn all_units_are_a_cut()
 
 /// No proper subset of a minimal cut is a cut.
 pub fn less_than_minimal_is_no_cut()
-    ensures { (tree : FaultTree) (set smaller : List ℕ) (member : ℕ) → IsMinimalCut tree set → Within (among smaller) (among set)
+    ensures { (tree : FaultTree) (set smaller : List ℕ) (member : ℕ) → IsMinimalCut tree set
+        → Within (among smaller) (among set)
         → among set member ≡ true → among smaller member ≡ false → is_cut tree smaller ≡ false }
 {}
 
@@ -47,7 +48,8 @@ pub fn each_cut_includes_a_minimal_one()
 /// A tree has exactly one cut list.
 pub fn each_tree_has_one_cut_list()
     ensures one { (tree : FaultTree) → (cuts : List (List ℕ)) × IsCutList tree cuts }
-    ensures unique { (tree : FaultTree) (cuts others : List (List ℕ)) → IsCutList tree cuts → IsCutList tree others → cuts ≡ others }
+    ensures unique { (tree : FaultTree) (cuts others : List (List ℕ)) → IsCutList tree cuts → IsCutList tree others
+        → cuts ≡ others }
 {}
 
 /// The step of a node is by the steps of what it reads.
@@ -56,9 +58,10 @@ pub fn step_by_inputs()
         → step tree order node ≡ node_step tree order (step tree order) node }
 {}
 
-/// The static bound: where the top event has a step under an order, the units of the order are a cut. So are those of an order that
-/// fails the top event.
+/// The static bound: where the top event has a step under an order, the units of the order are a cut. So are those of
+/// an order that fails the top event.
 pub fn failing_order_is_a_cut()
-    ensures step { (tree : FaultTree) (order : List ℕ) → is_some (step tree order tree.top) ≡ true → is_cut tree order ≡ true }
+    ensures step { (tree : FaultTree) (order : List ℕ) → is_some (step tree order tree.top) ≡ true
+        → is_cut tree order ≡ true }
     ensures failing { (tree : FaultTree) (order : List ℕ) → is_failing tree order ≡ true → is_cut tree order ≡ true }
 {}

@@ -53,8 +53,8 @@ impl Name {
         Name::front(alloc, bytes, bytes.len())
     }
 
-    /// The name of the first bytes of a text, which have the form of one. Where more of the text follows them, a short name is
-    /// copied without a call.
+    /// The name of the first bytes of a text, which have the form of one. Where more of the text follows them, a short
+    /// name is copied without a call.
     #[inline(always)]
     pub fn front(alloc: Global, text: &[u8], count: usize) -> Result<Name, NoMemory>
         requires inside { count ≤ length text.now }
@@ -66,8 +66,8 @@ impl Name {
         })
     }
 
-    /// The name of the first bytes of a text that has at least [`SHORT_NAME`] bytes, where the name has at most so many. It takes no
-    /// memory, so that a reader of many names can make each where it is to stay.
+    /// The name of the first bytes of a text that has at least [`SHORT_NAME`] bytes, where the name has at most so
+    /// many. It takes no memory, so that a reader of many names can make each where it is to stay.
     #[inline(always)]
     pub fn short(text: &[u8], count: usize) -> Name
         requires few { count ≤ SHORT_NAME }
@@ -136,8 +136,8 @@ fn all_bare_bytes(bytes: &[u8]) -> bool
     bytes.iter().all(|byte| is_bare_byte(*byte))
 }
 
-// Each byte of a bare name behind its first stands at its own place, and a comma at every other place: one load tells a byte's
-// class.
+// Each byte of a bare name behind its first stands at its own place, and a comma at every other place: one load tells a
+// byte's class.
 static BARE_BYTES: [u8; 256] = *b"\
     ,,,,,,,,,,,,,,,,,,,,,,,,,,,,,,,,\
     ,,,,,,,,,,,,,-.,0123456789,,,,,,\

@@ -1,5 +1,5 @@
-//! The bytes of a name: up to 22 in the value itself, and more in memory of their own. Most names are short, and a text may have
-//! millions of them.
+//! The bytes of a name: up to 22 in the value itself, and more in memory of their own. Most names are short, and a text
+//! may have millions of them.
 ghost use Rattle.std.specs.Prelude.{◌≡◌, ◌≤◌, length, take, IfOk};
 ghost use Rattle.fault_model.specs.declared.name_bytes.TheConstants.{SHORT_NAME};
 
@@ -29,8 +29,8 @@ impl Model for FewBytes {
 }
 
 impl FewBytes {
-    // The first bytes of a text. What stands behind them fills the rest of the room, so that a number of bytes known beforehand
-    // is copied: that takes a few moves and no call.
+    // The first bytes of a text. What stands behind them fills the rest of the room, so that a number of bytes known
+    // beforehand is copied: that takes a few moves and no call.
     #[inline(always)]
     fn short(text: &[u8], count: usize) -> FewBytes
         requires few { count ≤ SHORT_NAME }

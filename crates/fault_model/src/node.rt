@@ -3,8 +3,8 @@ ghost use Rattle.std.specs.Prelude.{◌≡◌, ◌-◌, ◌≤◌};
 
 use std::marker::Model;
 
-/// The number of a node of a tree. The units are 1 to U in the order of their definitions, and the gates U+1 to U+G in the order
-/// of theirs. A contract sees it as that number.
+/// The number of a node of a tree. The units are 1 to U in the order of their definitions, and the gates U+1 to U+G in
+/// the order of theirs. A contract sees it as that number.
 #[derive(Clone, Copy, Debug, PartialEq, Eq, PartialOrd, Ord, Hash)]
 pub struct NodeNo(pub u32);
 

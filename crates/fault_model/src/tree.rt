@@ -1,7 +1,8 @@
 //! The fault tree that every crate above reads, and what it keeps.
 ghost use Rattle.std.specs.Prelude.{◌≡◌, ◌≢◌, ◌↔◌, ℕ, ◌-◌, ◌<◌, ◌≤◌, false, List, ◌++◌, map, All, IfOk, IfSome, IsNone};
 ghost use Rattle.fault_model.specs.Rank.{rank_over};
-ghost use Rattle.fault_model.specs.Tree.{ranked, unit_count, gate_count, kind_of, inputs_of, rank_of, name_of, attributes_of, is_fdep, IsGateOf, IsNodeOf, IsUnitOf};
+ghost use Rattle.fault_model.specs.Tree.{ranked, unit_count, gate_count, kind_of, inputs_of, rank_of, name_of};
+ghost use Rattle.fault_model.specs.Tree.{attributes_of, is_fdep, IsGateOf, IsNodeOf, IsUnitOf};
 ghost use Rattle.fault_model.specs.TreeTables.{IsFromBelow};
 ghost use Rattle.fault_model.specs.Trigger.{below, triggers_of};
 ghost use Rattle.fault_model.specs.WellFormed.{IsTree};
@@ -153,7 +154,8 @@ impl Tree {
         self.below(gate)
     }
 
-    /// The triggers of a unit: the first input of each `fdep` that has the unit among its others, in the order of the gates.
+    /// The triggers of a unit: the first input of each `fdep` that has the unit among its others, in the order of the
+    /// gates.
     pub fn triggers(&self, unit: UnitNo) -> &[NodeNo]
         requires { IsUnitOf self.now unit }
         ensures triggers { result.now ≡ triggers_of self.now unit }
@@ -162,7 +164,8 @@ impl Tree {
         self.below(NodeNo(u32::from(unit.number())))
     }
 
-    /// The rank of a node: 0 of a unit without triggers, and of every other one more than the greatest of what it reads.
+    /// The rank of a node: 0 of a unit without triggers, and of every other one more than the greatest of what it
+    /// reads.
     pub fn rank(&self, node: NodeNo) -> u32
         requires { IsNodeOf self.now node }
         ensures rank { result ≡ rank_of self.now node }

@@ -1,5 +1,6 @@
 //! The table of triggers: one pass over the inputs of the `fdep` gates.
-ghost use Rattle.std.specs.Prelude.{◌≡◌, ◌≢◌, suc, ◌-◌, ◌^◌, ◌<◌, [], ◌∷◌, ◌++◌, length, drop, zip, All, IfOk, OnOk, slice_set};
+ghost use Rattle.std.specs.Prelude.{◌≡◌, ◌≢◌, suc, ◌-◌, ◌^◌, ◌<◌, [], ◌∷◌, ◌++◌, length, drop, zip, All, IfOk, OnOk};
+ghost use Rattle.std.specs.Prelude.{slice_set};
 ghost use Rattle.fault_model.specs.Trigger.{dependents_in};
 ghost use Rattle.fault_model.specs.TriggerTable.{IsUnitBelow, IsTableOf, AddsTriggers, AreMarks, noted};
 ghost use Rattle.fault_model.specs.Walk.{at_node};
@@ -39,8 +40,10 @@ impl TriggerTable {
         requires marks { length self.old.marks.items ≡ units }
         requires unit { IsUnitBelow units unit }
         ensures known { OnOk result (at_node self.old.marks.items unit ≡ mark → self.new ≡ self.old) }
-        ensures lists { OnOk result (at_node self.old.marks.items unit ≢ mark → self.new.lists.items ≡ slice_set self.old.lists.items (unit - 1) (noted self.old unit ++ trigger ∷ [])) }
-        ensures marks { OnOk result (at_node self.old.marks.items unit ≢ mark → self.new.marks.items ≡ slice_set self.old.marks.items (unit - 1) mark) }
+        ensures lists { OnOk result (at_node self.old.marks.items unit ≢ mark
+            → self.new.lists.items ≡ slice_set self.old.lists.items (unit - 1) (noted self.old unit ++ trigger ∷ [])) }
+        ensures marks { OnOk result (at_node self.old.marks.items unit ≢ mark
+            → self.new.marks.items ≡ slice_set self.old.marks.items (unit - 1) mark) }
     {
         if self.marks[unit.index()] == mark {
             return Ok(());

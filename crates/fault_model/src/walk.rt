@@ -1,12 +1,14 @@
 //! A walk over all nodes from below: each node is closed after what it reads, and its height is one more than theirs.
-ghost use Rattle.std.specs.Prelude.{◌≡◌, ℕ, suc, ◌+◌, ◌-◌, ◌*◌, ◌^◌, ◌<◌, ◌≤◌, [], ◌∷◌, ◌++◌, length, All, Contains, IfOk, OnOk, slice_index};
+ghost use Rattle.std.specs.Prelude.{◌≡◌, ℕ, suc, ◌+◌, ◌-◌, ◌*◌, ◌^◌, ◌<◌, ◌≤◌, [], ◌∷◌, ◌++◌, length, All, Contains};
+ghost use Rattle.std.specs.Prelude.{IfOk, OnOk, slice_index};
 ghost use Rattle.fault_model.specs.Walk.{AreHeights, Falls, IsBottomUp, IsGraph, IsNodeIn, at_node, below_in, tallest};
 ghost use Rattle.fault_model.specs.WalkState.{IsWalkOf, IsWalkAt, Rises, work_of};
 
 use crate::{NoMemory, NodeList, NodeNo};
 use std::alloc::Global;
 
-/// How far a walk has come. It has no recursion: the nodes begun and not yet closed stand on a path, each read by the one before.
+/// How far a walk has come. It has no recursion: the nodes begun and not yet closed stand on a path, each read by the
+/// one before.
 #[derive(Drop)]
 pub(crate) struct Walk {
     // of each node: one more than its rank, or 0 before it is closed
@@ -64,7 +66,8 @@ impl Walk {
         requires node { IsNodeIn below.now node }
         requires unclosed { at_node self.old.heights.items node ≡ 0 }
         requires fresh { at_node self.old.places.items node ≡ 0 }
-        requires read { (rank : ℕ → ℕ) → Falls below.now rank → All (λ upper. rank node < rank upper) self.old.path.items }
+        requires read { (rank : ℕ → ℕ) → Falls below.now rank
+            → All (λ upper. rank node < rank upper) self.old.path.items }
         ensures walk { OnOk result (IsWalkOf below.now self.new) }
         ensures begun { OnOk result (1 ≤ at_node self.new.places.items node) }
         ensures heights { OnOk result (self.new.heights.items ≡ self.old.heights.items) }
@@ -83,7 +86,8 @@ impl Walk {
         requires begun { 1 ≤ at_node self.old.places.items node }
         requires more { at_node self.old.places.items node < suc (length (below_in below.now node)) }
         requires short { length (below_in below.now node) < 2 ^ 63 }
-        requires closed { 1 ≤ at_node self.old.heights.items (slice_index (below_in below.now node) (at_node self.old.places.items node - 1)) }
+        requires closed { 1 ≤ at_node self.old.heights.items
+            (slice_index (below_in below.now node) (at_node self.old.places.items node - 1)) }
         ensures walk { OnOk result (IsWalkOf below.now self.new) }
         ensures heights { OnOk result (self.new.heights.items ≡ self.old.heights.items) }
         ensures places { OnOk result (Rises below.now self.old.places.items self.new.places.items) }

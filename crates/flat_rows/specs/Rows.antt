@@ -24,7 +24,8 @@ Rise from [] total = from ≡ total
 Rise from (e ∷ es) total = (from ≤ e) × Rise e es total
 
 -- there are as many rows as ends
-pub length-rows_from : {X : Type 0} (from : ℕ) (ends : List ℕ) (items : List X) → length (rows_from from ends items) ≡ length ends
+pub length-rows_from : {X : Type 0} (from : ℕ) (ends : List ℕ) (items : List X)
+    → length (rows_from from ends items) ≡ length ends
 length-rows_from from [] items = refl
 length-rows_from from (e ∷ es) items = ap suc (length-rows_from e es items)
 
@@ -67,13 +68,15 @@ between-append from to items more below within =
     let room : to - from ≤ length (drop from items) = rw length-drop (omega arith) in
     rw (drop-append-le from items more start, take-append-le (to - from) (drop from items) more room)
 
-pub between-rest : {X : Type 0} (items more : List X) → between (length items) (length items + length more) (items ++ more) ≡ more
+pub between-rest : {X : Type 0} (items more : List X)
+    → between (length items) (length items + length more) (items ++ more) ≡ more
 between-rest items more =
     let rest : drop (length items) (items ++ more) ≡ more = drop_at items more (length items) refl in
     let all : take (length items + length more - length items) more ≡ more = take_all _ more (omega arith) in
     rw (rest, all) refl
 
-pub Rise-push : (from : ℕ) (ends : List ℕ) (total more : ℕ) → Rise from ends total → Rise from (ends ++ (total + more) ∷ []) (total + more)
+pub Rise-push : (from : ℕ) (ends : List ℕ) (total more : ℕ) → Rise from ends total
+    → Rise from (ends ++ (total + more) ∷ []) (total + more)
 Rise-push from [] total more h = (omega (arith, h), refl)
 Rise-push from (e ∷ es) total more h = (h.0, Rise-push e es total more h.1)
 

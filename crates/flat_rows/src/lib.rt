@@ -70,12 +70,9 @@ impl<T: Copy> Rows<T> {
         ensures ok { OnOk result (self.new ≡ self.old ++ row.now ∷ []) }
         ensures err { OnErr result (self.new ≡ self.old) }
     {
-        let before = self.items.len();
+        self.ends.reserve(1)?;
         self.items.extend_from_slice(row)?;
-        if self.ends.push(self.items.len()).is_err() {
-            self.items.truncate(before);
-            return Err(AllocError);
-        }
+        self.ends.push_reserved(self.items.len());
         Ok(())
     }
 }

@@ -1,3 +1,4 @@
+//! Rows, put in and given back.
 use super::*;
 use std::test::Fail;
 

@@ -1,5 +1,6 @@
 -- The reading runs over each piece, and stops at each fault.
-use Rattle.std.proofs.Common.{◌≡◌, ℕ, ◌+◌, ◌-◌, ◌<◌, Bool, true, false, eqb, leb, List, [], ◌∷◌, ◌++◌, length, Result, Ok, Err, sym, refl, ap, ◌∙◌, subst, arith, append_assoc, add-zero, le-leb}
+use Rattle.std.proofs.Common.{◌≡◌, ℕ, ◌+◌, ◌-◌, ◌<◌, Bool, true, false, eqb, leb, List, [], ◌∷◌, ◌++◌, length, Result}
+use Rattle.std.proofs.Common.{Ok, Err, sym, refl, ap, ◌∙◌, subst, arith, append_assoc, add-zero, le-leb}
 use Rattle.std.specs.Prelude.{◌==◌, ◌&&◌, not}
 use Rattle.std.specs.List.{list_all, flat_map}
 use Rattle.std.proofs.lemmas.Bool.{eqb-true, eq-eqb, ne_eqb, lt-leb}
@@ -13,8 +14,12 @@ use Rattle.galileo_lexer.specs.declared.token.LexCode.TheVariants.{BadByte, Empt
 use Rattle.galileo_lexer.specs.declared.token.TokenKind.TheVariants.{Word, Quoted}
 use Rattle.galileo_lexer.specs.Bytes.{is_blank, is_word_byte, is_quotable, begins_with}
 use Rattle.galileo_lexer.specs.Spot.{along, step, walk}
-use Rattle.galileo_lexer.specs.Lexed.{Lexed, Mode, failed, Between, InQuotes, InLine, InBlock, lexed, name_ends, proceed, with_token, token_from}
-use Rattle.galileo_lexer.specs.Pieces.{Piece, Blank, LineComment, BlockComment, AWord, AQuoted, AnEquals, ASemicolon, bytes_of, token_of, tokens_from, has_close, IsPiece, ArePieces, IsNameText, IsFault, bad_byte, bad_slash, bad_quoted, open_quote, open_comment, empty_name, long_word, long_quoted, EndsAs, IsReadAs, begins_nothing}
+use Rattle.galileo_lexer.specs.Lexed.{Lexed, Mode, failed, Between, InQuotes, InLine, InBlock, lexed, name_ends}
+use Rattle.galileo_lexer.specs.Lexed.{proceed, with_token, token_from}
+use Rattle.galileo_lexer.specs.Pieces.{Piece, Blank, LineComment, BlockComment, AWord, AQuoted, AnEquals, ASemicolon}
+use Rattle.galileo_lexer.specs.Pieces.{bytes_of, token_of, tokens_from, has_close, IsPiece, ArePieces, IsNameText}
+use Rattle.galileo_lexer.specs.Pieces.{IsFault, bad_byte, bad_slash, bad_quoted, open_quote, open_comment, empty_name}
+use Rattle.galileo_lexer.specs.Pieces.{long_word, long_quoted, EndsAs, IsReadAs, begins_nothing}
 use Rattle.galileo_lexer.proofs.Bools.{and_left, and_right, or_left, or_right, not_true, not_false}
 use Rattle.galileo_lexer.proofs.Walks.{walk-append, walk-offset, ends_starred, walk-along}
 use Rattle.galileo_lexer.proofs.Steps.{word_from, word_step, word_first, word_no_feed}
@@ -42,7 +47,8 @@ word_whole spot (byte ∷ bytes) rest some each =
     ∙ ap (λ n. word_from spot n rest) there
 
 word_over : (start : Spot) (stop : ℕ) (rest : List ℕ) → begins_with is_word_byte rest ≡ false →
-    word_from start stop rest ≡ proceed (name_ends Word start stop (stop - start.offset)) (λ mode. lexed mode (along start stop) rest)
+    word_from start stop rest ≡ proceed (name_ends Word start stop (stop - start.offset))
+    (λ mode. lexed mode (along start stop) rest)
 word_over start stop rest over = rw over refl
 
 quotable_no_quote : (byte : ℕ) → is_quotable byte ≡ true → eqb byte 34 ≡ false
@@ -72,7 +78,8 @@ line_stop at (byte ∷ rest) over =
 
 block_run : (start at : Spot) (starred : Bool) (bytes rest : List ℕ) → has_close bytes ≡ false →
     (starred && begins_with (λ next. next == 47) bytes) ≡ false →
-    lexed (InBlock start starred) at (bytes ++ rest) ≡ lexed (InBlock start (ends_starred starred bytes)) (walk at bytes) rest
+    lexed (InBlock start starred) at (bytes ++ rest)
+    ≡ lexed (InBlock start (ends_starred starred bytes)) (walk at bytes) rest
 block_run start at starred [] rest open_still apart = refl
 block_run start at starred (byte ∷ bytes) rest open_still apart =
     rw apart (block_run start (step at byte) (byte == 42) bytes rest (or_right _ _ open_still) (or_left _ _ open_still))
@@ -98,7 +105,8 @@ quoted_whole spot bytes rest each = after_quote spot (bytes ++ rest) ∙ quoted_
 -- a closing quote behind a text that isn't empty
 closed : (spot : Spot) (bytes rest : List ℕ) → 0 < length bytes →
     lexed (InQuotes spot) (walk spot (34 ∷ bytes)) (34 ∷ rest)
-    ≡ proceed (name_ends Quoted spot (spot.offset + length bytes + 2) (length bytes)) (λ mode. lexed mode (walk spot (34 ∷ bytes ++ 34 ∷ [])) rest)
+    ≡ proceed (name_ends Quoted spot (spot.offset + length bytes + 2) (length bytes))
+    (λ mode. lexed mode (walk spot (34 ∷ bytes ++ 34 ∷ [])) rest)
 closed spot bytes rest some =
     let at = walk spot (34 ∷ bytes) in
     let far : at.offset ≡ spot.offset + length (34 ∷ bytes) = walk-offset spot (34 ∷ bytes) in
@@ -106,13 +114,17 @@ closed spot bytes rest some =
     let stop : at.offset + 1 ≡ spot.offset + length bytes + 2 = omega arith in
     let size : at.offset - (spot.offset + 1) ≡ length bytes = omega arith in
     rw apart
-    (ap (λ n. proceed (name_ends Quoted spot n (at.offset - (spot.offset + 1))) (λ mode. lexed mode (step at 34) rest)) stop
-    ∙ ap (λ n. proceed (name_ends Quoted spot (spot.offset + length bytes + 2) n) (λ mode. lexed mode (step at 34) rest)) size
-    ∙ ap (λ s. proceed (name_ends Quoted spot (spot.offset + length bytes + 2) (length bytes)) (λ mode. lexed mode s rest)) (sym (walk-append (step spot 34) bytes (34 ∷ []))))
+    (ap (λ n. proceed (name_ends Quoted spot n (at.offset - (spot.offset + 1))) (λ mode. lexed mode (step at 34) rest))
+    stop
+    ∙ ap (λ n. proceed (name_ends Quoted spot (spot.offset + length bytes + 2) n)
+    (λ mode. lexed mode (step at 34) rest)) size
+    ∙ ap (λ s. proceed (name_ends Quoted spot (spot.offset + length bytes + 2) (length bytes))
+    (λ mode. lexed mode s rest)) (sym (walk-append (step spot 34) bytes (34 ∷ []))))
 
 quoted_runs : (spot : Spot) (bytes text : List ℕ) → IsNameText is_quotable bytes →
     lexed Between spot ((34 ∷ bytes ++ 34 ∷ []) ++ text)
-    ≡ with_token (token_from Quoted spot (spot.offset + length bytes + 2)) (lexed Between (walk spot (34 ∷ bytes ++ 34 ∷ [])) text)
+    ≡ with_token (token_from Quoted spot (spot.offset + length bytes + 2))
+    (lexed Between (walk spot (34 ∷ bytes ++ 34 ∷ [])) text)
 quoted_runs spot bytes text is =
     let few : leb (length bytes) 255 ≡ true = le-leb _ _ is.few in
     ap (λ t. lexed Between spot (34 ∷ t)) (append_assoc bytes (34 ∷ []) text)
@@ -122,7 +134,8 @@ quoted_runs spot bytes text is =
 
 -- a piece is read to its end, and gives its token
 pub piece_runs : (spot : Spot) (piece : Piece) (text : List ℕ) → IsPiece piece text →
-    lexed Between spot (bytes_of piece ++ text) ≡ with_tokens (token_of spot piece) (lexed Between (walk spot (bytes_of piece)) text)
+    lexed Between spot (bytes_of piece ++ text) ≡ with_tokens (token_of spot piece)
+    (lexed Between (walk spot (bytes_of piece)) text)
 unfolding is_blank
 piece_runs spot (Blank byte) text is = blank_runs spot byte text is
 piece_runs spot (LineComment bytes) text is =
@@ -138,7 +151,8 @@ piece_runs spot (AWord bytes) text is =
     let few : leb (stop - spot.offset) 255 ≡ true = le-leb _ _ (omega (arith, is.0.few)) in
     word_whole spot bytes text is.0.some is.0.each
     ∙ word_over spot stop text is.1
-    ∙ rw few (ap (λ s. with_token (token_from Word spot stop) (lexed Between s text)) (sym (walk-along spot bytes (λ byte. word_no_feed byte) is.0.each)))
+    ∙ rw few (ap (λ s. with_token (token_from Word spot stop) (lexed Between s text))
+    (sym (walk-along spot bytes (λ byte. word_no_feed byte) is.0.each)))
 piece_runs spot (AQuoted bytes) text is = quoted_runs spot bytes text is
 piece_runs spot AnEquals text is = refl
 piece_runs spot ASemicolon text is = refl
@@ -148,14 +162,25 @@ bad_runs : (spot : Spot) (byte : ℕ) (more : List ℕ) → begins_nothing byte 
     lexed Between spot (byte ∷ more) ≡ failed BadByte spot
 bad_runs spot byte more bad =
     let a = not_true (is_blank byte) (and_left _ _ (and_left _ _ (and_left _ _ (and_left _ _ (and_left _ _ bad))))) in
-    let b = not_true (byte == 47) (and_right (not (is_blank byte)) _ (and_left _ _ (and_left _ _ (and_left _ _ (and_left _ _ bad))))) in
-    let c = not_true (byte == 34) (and_right (not (is_blank byte) && not (byte == 47)) _ (and_left _ _ (and_left _ _ (and_left _ _ bad)))) in
-    let d = not_true (byte == 61) (and_right ((not (is_blank byte) && not (byte == 47)) && not (byte == 34)) _ (and_left _ _ (and_left _ _ bad))) in
-    let e = not_true (byte == 59) (and_right (((not (is_blank byte) && not (byte == 47)) && not (byte == 34)) && not (byte == 61)) _ (and_left _ _ bad)) in
-    let f = not_true (is_word_byte byte) (and_right ((((not (is_blank byte) && not (byte == 47)) && not (byte == 34)) && not (byte == 61)) && not (byte == 59)) _ bad) in
+    let b =
+    not_true (byte == 47) (and_right (not (is_blank byte)) _
+    (and_left _ _ (and_left _ _ (and_left _ _ (and_left _ _ bad))))) in
+    let c =
+    not_true (byte == 34) (and_right (not (is_blank byte) && not (byte == 47)) _
+    (and_left _ _ (and_left _ _ (and_left _ _ bad)))) in
+    let d =
+    not_true (byte == 61) (and_right ((not (is_blank byte) && not (byte == 47)) && not (byte == 34)) _
+    (and_left _ _ (and_left _ _ bad))) in
+    let e =
+    not_true (byte == 59) (and_right (((not (is_blank byte) && not (byte == 47)) && not (byte == 34))
+    && not (byte == 61)) _ (and_left _ _ bad)) in
+    let f =
+    not_true (is_word_byte byte) (and_right ((((not (is_blank byte) && not (byte == 47)) && not (byte == 34))
+    && not (byte == 61)) && not (byte == 59)) _ bad) in
     rw (a, b, c, d, e, f) refl
 
-slash_runs : (spot : Spot) (more : List ℕ) → begins_with (λ byte. byte == 47) more ≡ false → begins_with (λ byte. byte == 42) more ≡ false →
+slash_runs : (spot : Spot) (more : List ℕ) → begins_with (λ byte. byte == 47) more ≡ false
+    → begins_with (λ byte. byte == 42) more ≡ false →
     lexed Between spot (47 ∷ more) ≡ failed BadByte spot
 unfolding is_blank
 slash_runs spot more no_slash no_star = rw (no_slash, no_star) refl
@@ -181,13 +206,16 @@ fault_runs : (spot : Spot) (rest : List ℕ) (fault : LexFault) → IsFault spot
     lexed Between spot rest ≡ record { tokens = []; ending = Err fault }
 unfolding is_blank
 fault_runs spot rest fault (bad_byte byte more text bad is) = rw (text, is) (bad_runs spot byte more bad)
-fault_runs spot rest fault (bad_slash more text no_slash no_star is) = rw (text, is) (slash_runs spot more no_slash no_star)
+fault_runs spot rest fault (bad_slash more text no_slash no_star is) =
+    rw (text, is) (slash_runs spot more no_slash no_star)
 fault_runs spot rest fault (bad_quoted bytes byte more text each bad no_quote is) =
-    rw (text, is) (quoted_whole spot bytes (byte ∷ more) each ∙ quoted_stops spot (walk spot (34 ∷ bytes)) byte more bad no_quote)
+    rw (text, is) (quoted_whole spot bytes (byte ∷ more) each
+    ∙ quoted_stops spot (walk spot (34 ∷ bytes)) byte more bad no_quote)
 fault_runs spot rest fault (open_quote bytes text each is) =
     rw (text, is) (ap (λ t. lexed Between spot (34 ∷ t)) (sym (append-nil bytes)) ∙ quoted_whole spot bytes [] each)
 fault_runs spot rest fault (open_comment bytes text unclosed is) =
-    rw (text, is) (ap (λ t. lexed Between spot (47 ∷ 42 ∷ t)) (sym (append-nil bytes)) ∙ block_run spot (walk spot (47 ∷ 42 ∷ [])) false bytes [] unclosed refl)
+    rw (text, is) (ap (λ t. lexed Between spot (47 ∷ 42 ∷ t)) (sym (append-nil bytes))
+    ∙ block_run spot (walk spot (47 ∷ 42 ∷ [])) false bytes [] unclosed refl)
 fault_runs spot rest fault (empty_name more text is) = rw (text, is) (empty_runs spot more)
 fault_runs spot rest fault (long_word bytes more text each over long is) =
     let stop = spot.offset + length bytes in
@@ -199,7 +227,8 @@ fault_runs spot rest fault (long_quoted bytes more text each long is) =
     rw (text, is)
     (quoted_whole spot bytes (34 ∷ more) each
     ∙ closed spot bytes more (omega arith)
-    ∙ long_stops Quoted spot (spot.offset + length bytes + 2) (length bytes) (λ mode. lexed mode (walk spot (34 ∷ bytes ++ 34 ∷ [])) more) long)
+    ∙ long_stops Quoted spot (spot.offset + length bytes + 2) (length bytes)
+    (λ mode. lexed mode (walk spot (34 ∷ bytes ++ 34 ∷ [])) more) long)
 
 -- so is the end
 ending_runs : (spot : Spot) (rest : List ℕ) (ending : Result LexPlace LexFault) → EndsAs spot rest ending →
@@ -208,7 +237,9 @@ ending_runs spot rest (Ok place) ends = rw (ends.0, ends.1) refl
 ending_runs spot rest (Err fault) ends = fault_runs spot rest fault ends
 
 regroup : (a b : List Token) (read : Lexed) → with_tokens a (with_tokens b read) ≡ with_tokens (a ++ b) read
-regroup a b read = ap (λ tokens. let r : Lexed = record { tokens = tokens; ending = read.ending } in r) (sym (append_assoc a b read.tokens))
+regroup a b read =
+    ap (λ tokens. let r : Lexed = record { tokens = tokens; ending = read.ending } in r)
+    (sym (append_assoc a b read.tokens))
 
 -- pieces are read one after the other
 pieces_run : (spot : Spot) (pieces : List Piece) (rest : List ℕ) → ArePieces pieces rest →
@@ -223,7 +254,8 @@ pieces_run spot (piece ∷ pieces) rest each =
     ap (lexed Between spot) (append_assoc bytes more rest)
     ∙ piece_runs spot piece (more ++ rest) each.0
     ∙ ap (with_tokens tokens) (pieces_run then_spot pieces rest each.1)
-    ∙ ap (λ s. with_tokens tokens (with_tokens (tokens_from then_spot pieces) (lexed Between s rest))) (sym (walk-append spot bytes more))
+    ∙ ap (λ s. with_tokens tokens (with_tokens (tokens_from then_spot pieces) (lexed Between s rest)))
+    (sym (walk-append spot bytes more))
     ∙ regroup tokens (tokens_from then_spot pieces) (lexed Between (walk spot (bytes ++ more)) rest)
 
 -- a text that is read in this way is read in no other
@@ -232,5 +264,7 @@ pub only : (spot : Spot) (text : List ℕ) (pieces : List Piece) (rest : List �
 only spot text pieces rest read is =
     ap (lexed Between spot) is.spelled
     ∙ pieces_run spot pieces rest is.each
-    ∙ ap (with_tokens (tokens_from spot pieces)) (ending_runs (walk spot (flat_map bytes_of pieces)) rest read.ending is.ending)
-    ∙ ap (λ tokens. let r : Lexed = record { tokens = tokens; ending = read.ending } in r) (append-nil (tokens_from spot pieces) ∙ sym is.tokens)
+    ∙ ap (with_tokens (tokens_from spot pieces)) (ending_runs (walk spot (flat_map bytes_of pieces)) rest read.ending
+    is.ending)
+    ∙ ap (λ tokens. let r : Lexed = record { tokens = tokens; ending = read.ending } in r)
+    (append-nil (tokens_from spot pieces) ∙ sym is.tokens)

@@ -1,5 +1,6 @@
 -- What is read from left to right is a sequence of pieces, and its fault is a fault of the rest.
-use Rattle.std.proofs.Common.{◌≡◌, ℕ, zero, suc, ◌+◌, ◌-◌, ◌<◌, ◌≤◌, Bool, true, false, cond, eqb, List, [], ◌∷◌, ◌++◌, length, Err, sym, refl, ap, ◌∙◌, subst, arith, append_assoc, length-append}
+use Rattle.std.proofs.Common.{◌≡◌, ℕ, zero, suc, ◌+◌, ◌-◌, ◌<◌, ◌≤◌, Bool, true, false, cond, eqb, List, [], ◌∷◌, ◌++◌}
+use Rattle.std.proofs.Common.{length, Err, sym, refl, ap, ◌∙◌, subst, arith, append_assoc, length-append}
 use Rattle.std.specs.Prelude.{◌==◌, ◌&&◌, not, nat_le}
 use Rattle.std.specs.List.{list_all, flat_map}
 use Rattle.std.proofs.lemmas.Bool.{eqb-true, eqb-false, leb-true, leb-false}
@@ -10,11 +11,15 @@ use Rattle.galileo_lexer.specs.declared.token.TokenKind.TheVariants.{Word, Quote
 use Rattle.galileo_lexer.specs.declared.token.LexCode.TheVariants.{BadByte, OpenQuote, OpenComment, EmptyName}
 use Rattle.galileo_lexer.specs.Bytes.{is_blank, is_word_byte, is_quotable, begins_with}
 use Rattle.galileo_lexer.specs.Spot.{step, walk}
-use Rattle.galileo_lexer.specs.Lexed.{Lexed, Mode, Between, InWord, InQuotes, InLine, Opening, InBlock, Go, lexed, in_word, at_slash, at_close, proceed, with_token, token_from, finished, failed}
+use Rattle.galileo_lexer.specs.Lexed.{Lexed, Mode, Between, InWord, InQuotes, InLine, Opening, InBlock, Go, lexed}
+use Rattle.galileo_lexer.specs.Lexed.{in_word, at_slash, at_close, proceed, with_token, token_from, finished, failed}
 use Rattle.galileo_lexer.specs.Found.{fault_at}
-use Rattle.galileo_lexer.specs.Pieces.{Piece, Blank, LineComment, BlockComment, AWord, AQuoted, AnEquals, ASemicolon, bytes_of, token_of, has_close, IsPiece, IsFault, bad_byte, bad_slash, bad_quoted, open_quote, open_comment, empty_name, long_word, long_quoted, EndsAs, ReadsFrom}
+use Rattle.galileo_lexer.specs.Pieces.{Piece, Blank, LineComment, BlockComment, AWord, AQuoted, AnEquals, ASemicolon}
+use Rattle.galileo_lexer.specs.Pieces.{bytes_of, token_of, has_close, IsPiece, IsFault, bad_byte, bad_slash, bad_quoted}
+use Rattle.galileo_lexer.specs.Pieces.{open_quote, open_comment, empty_name, long_word, long_quoted, EndsAs, ReadsFrom}
 use Rattle.galileo_lexer.proofs.Bools.{by_test, and_left, and_right, not_false}
-use Rattle.galileo_lexer.proofs.Walks.{walk-append, walk-offset, ends_starred, list_all-push, push-append, has_close-push, has_close-front, ends_starred-push, star_last}
+use Rattle.galileo_lexer.proofs.Walks.{walk-append, walk-offset, ends_starred, list_all-push, push-append}
+use Rattle.galileo_lexer.proofs.Walks.{has_close-push, has_close-front, ends_starred-push, star_last}
 use Rattle.galileo_lexer.proofs.Runs.{with_tokens}
 
 -- a piece in front of what is read
@@ -32,7 +37,9 @@ prepend spot piece text read is reads =
         spelled = ap (λ t. bytes ++ t) as_read.spelled ∙ sym (append_assoc bytes (flat_map bytes_of pieces) rest);
         each = (subst (IsPiece piece) as_read.spelled is, as_read.each);
         tokens = ap (λ ts. token_of spot piece ++ ts) as_read.tokens;
-        ending = subst (λ s. EndsAs s rest read.ending) (sym (walk-append spot bytes (flat_map bytes_of pieces))) as_read.ending;
+        ending =
+            subst (λ s. EndsAs s rest read.ending) (sym (walk-append spot bytes (flat_map bytes_of pieces)))
+            as_read.ending;
       },
     )
 
@@ -54,13 +61,16 @@ Claim (InQuotes start) spot text =
     (front : List ℕ) → list_all is_quotable front ≡ true → spot ≡ walk start (34 ∷ front) →
     ReadsFrom start (34 ∷ front ++ text) (lexed (InQuotes start) spot text)
 Claim InLine spot text =
-    (start : Spot) (front : List ℕ) → list_all (λ byte. not (byte == 10)) front ≡ true → spot ≡ walk start (47 ∷ front) →
-    begins_with (λ byte. byte == 47) (front ++ text) ≡ true → ReadsFrom start (47 ∷ front ++ text) (lexed InLine spot text)
+    (start : Spot) (front : List ℕ) → list_all (λ byte. not (byte == 10)) front ≡ true → spot ≡ walk start (47 ∷ front)
+    →
+    begins_with (λ byte. byte == 47) (front ++ text) ≡ true
+    → ReadsFrom start (47 ∷ front ++ text) (lexed InLine spot text)
 Claim (Opening start) spot text =
     spot ≡ walk start (47 ∷ []) → begins_with (λ byte. byte == 42) text ≡ true →
     ReadsFrom start (47 ∷ text) (lexed (Opening start) spot text)
 Claim (InBlock start starred) spot text =
-    (front : List ℕ) → has_close front ≡ false → ends_starred false front ≡ starred → spot ≡ walk start (47 ∷ 42 ∷ front) →
+    (front : List ℕ) → has_close front ≡ false → ends_starred false front ≡ starred
+    → spot ≡ walk start (47 ∷ 42 ∷ front) →
     ReadsFrom start (47 ∷ 42 ∷ front ++ text) (lexed (InBlock start starred) spot text)
 
 -- what is claimed of each mode behind a byte
@@ -70,14 +80,18 @@ Behind spot byte rest = (mode : Mode) → Claim mode (step spot byte) rest
 -- one more byte of a word
 word_on : (start spot : Spot) (front : List ℕ) (byte : ℕ) (rest : List ℕ) → Behind spot byte rest →
     list_all is_word_byte front ≡ true → spot ≡ walk start front → is_word_byte byte ≡ true →
-    ReadsFrom start (front ++ byte ∷ rest) (proceed (in_word start (spot.offset + 1) rest) (λ mode. lexed mode (step spot byte) rest))
+    ReadsFrom start (front ++ byte ∷ rest) (proceed (in_word start (spot.offset + 1) rest)
+    (λ mode. lexed mode (step spot byte) rest))
 word_on start spot front byte rest behind each there in_a_word =
     let longer = front ++ byte ∷ [] in
     let all_longer : list_all is_word_byte longer ≡ true = list_all-push is_word_byte front byte each in_a_word in
-    let there_longer : step spot byte ≡ walk start longer = ap (λ s. step s byte) there ∙ sym (walk-append start front (byte ∷ [])) in
+    let there_longer : step spot byte ≡ walk start longer =
+    ap (λ s. step s byte) there ∙ sym (walk-append start front (byte ∷ [])) in
     let size : length longer ≡ length front + 1 = length-append front (byte ∷ []) in
-    let reached : spot.offset ≡ start.offset + length front = ap (λ (s : Spot). s.offset) there ∙ walk-offset start front in
-    subst (λ t. ReadsFrom start t (proceed (in_word start (spot.offset + 1) rest) (λ mode. lexed mode (step spot byte) rest)))
+    let reached : spot.offset ≡ start.offset + length front =
+    ap (λ (s : Spot). s.offset) there ∙ walk-offset start front in
+    subst (λ t. ReadsFrom start t (proceed (in_word start (spot.offset + 1) rest)
+    (λ mode. lexed mode (step spot byte) rest)))
     (push-append front byte rest)
     (by_test (begins_with is_word_byte rest)
     (λ on. rw on (behind (InWord start) longer (omega arith) all_longer there_longer on))
@@ -89,8 +103,10 @@ word_on start spot front byte rest behind each there in_a_word =
     (λ few.
     let fits : spot.offset + 1 - start.offset ≤ 255 = leb-true _ _ few in
     rw few
-    (subst (λ n. ReadsFrom start (longer ++ rest) (with_token (token_from Word start n) (lexed Between (step spot byte) rest))) (sym stop)
-    (prepend start (AWord longer) rest (lexed Between (step spot byte) rest) (record { some = omega arith; few = omega arith; each = all_longer }, off)
+    (subst (λ n. ReadsFrom start (longer ++ rest)
+    (with_token (token_from Word start n) (lexed Between (step spot byte) rest))) (sym stop)
+    (prepend start (AWord longer) rest (lexed Between (step spot byte) rest)
+    (record { some = omega arith; few = omega arith; each = all_longer }, off)
     (subst (λ s. ReadsFrom s rest (lexed Between (step spot byte) rest)) there_longer (behind Between)))))
     (λ many.
     let long : 255 < spot.offset + 1 - start.offset = leb-false _ _ many in
@@ -109,7 +125,8 @@ closes : (start spot : Spot) (front rest : List ℕ) → ReadsFrom (step spot 34
     list_all is_quotable front ≡ true → spot ≡ walk start (34 ∷ front) →
     ReadsFrom start (34 ∷ front ++ 34 ∷ rest) (proceed (at_close start spot) (λ mode. lexed mode (step spot 34) rest))
 closes start spot front rest behind each there =
-    let reached : spot.offset ≡ start.offset + length (34 ∷ front) = ap (λ (s : Spot). s.offset) there ∙ walk-offset start (34 ∷ front) in
+    let reached : spot.offset ≡ start.offset + length (34 ∷ front) =
+    ap (λ (s : Spot). s.offset) there ∙ walk-offset start (34 ∷ front) in
     by_test (spot.offset == start.offset + 1)
     (λ here.
     let none : spot.offset ≡ start.offset + 1 = eqb-true _ _ here in
@@ -125,10 +142,13 @@ closes start spot front rest behind each there =
     (λ few.
     let fits : spot.offset - (start.offset + 1) ≤ 255 = leb-true _ _ few in
     rw few
-    (subst (λ n. ReadsFrom start (34 ∷ front ++ 34 ∷ rest) (with_token (token_from Quoted start n) (lexed Between (step spot 34) rest))) (sym stop)
-    (subst (λ t. ReadsFrom start (34 ∷ t) (with_token (token_from Quoted start (start.offset + length front + 2)) (lexed Between (step spot 34) rest)))
+    (subst (λ n. ReadsFrom start (34 ∷ front ++ 34 ∷ rest)
+    (with_token (token_from Quoted start n) (lexed Between (step spot 34) rest))) (sym stop)
+    (subst (λ t. ReadsFrom start (34 ∷ t) (with_token (token_from Quoted start (start.offset + length front + 2))
+    (lexed Between (step spot 34) rest)))
     (append_assoc front (34 ∷ []) rest)
-    (prepend start (AQuoted front) rest (lexed Between (step spot 34) rest) (record { some = some; few = omega arith; each = each })
+    (prepend start (AQuoted front) rest (lexed Between (step spot 34) rest)
+    (record { some = some; few = omega arith; each = each })
     (subst (λ s. ReadsFrom s rest (lexed Between (step spot 34) rest))
     (ap (λ s. step s 34) there ∙ sym (walk-append start (34 ∷ front) (34 ∷ []))) behind)))))
     (λ many.
@@ -144,7 +164,8 @@ quoted_on start spot front byte rest behind each there =
     (λ quote.
     let is : byte ≡ 34 = eqb-true _ _ quote in
     subst (λ b. ReadsFrom start (34 ∷ front ++ b ∷ rest) (lexed (InQuotes start) spot (b ∷ rest))) (sym is)
-    (closes start spot front rest (subst (λ b. ReadsFrom (step spot b) rest (lexed Between (step spot b) rest)) is (behind Between)) each there))
+    (closes start spot front rest (subst (λ b. ReadsFrom (step spot b) rest (lexed Between (step spot b) rest)) is
+    (behind Between)) each there))
     (λ other. rw other
     (by_test (is_quotable byte)
     (λ quotable. rw quotable
@@ -152,7 +173,8 @@ quoted_on start spot front byte rest behind each there =
     (behind (InQuotes start) (front ++ byte ∷ []) (list_all-push is_quotable front byte each quotable)
     (ap (λ s. step s byte) there ∙ sym (walk-append start (34 ∷ front) (byte ∷ []))))))
     (λ bad. rw bad
-    (faulty start (34 ∷ front ++ byte ∷ rest) _ (bad_quoted front byte rest refl each bad other (ap (fault_at BadByte) there))))))
+    (faulty start (34 ∷ front ++ byte ∷ rest) _ (bad_quoted front byte rest refl each bad other
+    (ap (fault_at BadByte) there))))))
 
 -- a comment of a line is over in front of a line feed, and at the end
 line_closes : (start spot : Spot) (front text : List ℕ) (read : Lexed) → ReadsFrom spot text read →
@@ -170,8 +192,10 @@ line_closes start spot (b ∷ bytes) text read reads each there slashed over =
     (prepend start (LineComment bytes) text read (and_right (not (b == 10)) _ each, over)
     (subst (λ s. ReadsFrom s text read) (there ∙ ap (λ c. walk start (47 ∷ c ∷ bytes)) is) reads))
 
-line_goes : (spot : Spot) (byte : ℕ) (rest : List ℕ) → eqb byte 10 ≡ false → lexed InLine spot (byte ∷ rest) ≡ lexed InLine (step spot byte) rest
-line_goes spot byte rest other = ap (λ b. proceed (cond b (Go Between) (Go InLine)) (λ mode. lexed mode (step spot byte) rest)) other
+line_goes : (spot : Spot) (byte : ℕ) (rest : List ℕ) → eqb byte 10 ≡ false
+    → lexed InLine spot (byte ∷ rest) ≡ lexed InLine (step spot byte) rest
+line_goes spot byte rest other =
+    ap (λ b. proceed (cond b (Go Between) (Go InLine)) (λ mode. lexed mode (step spot byte) rest)) other
 
 -- one more byte of a comment of a line, or the line feed behind it
 line_on : (start spot : Spot) (front : List ℕ) (byte : ℕ) (rest : List ℕ) → Behind spot byte rest →
@@ -204,15 +228,18 @@ block_closes start spot front rest read reads unclosed ends there =
     let inner = last.0 in
     let close : List ℕ = 42 ∷ 47 ∷ [] in
     let text_is : (inner ++ 42 ∷ 47 ∷ []) ++ rest ≡ front ++ 47 ∷ rest =
-    append_assoc inner (42 ∷ 47 ∷ []) rest ∙ sym (push-append inner 42 (47 ∷ rest)) ∙ ap (λ t. t ++ 47 ∷ rest) (sym last.1) in
+    append_assoc inner (42 ∷ 47 ∷ []) rest ∙ sym (push-append inner 42 (47 ∷ rest))
+    ∙ ap (λ t. t ++ 47 ∷ rest) (sym last.1) in
     let bytes_are : inner ++ 42 ∷ 47 ∷ [] ≡ front ++ 47 ∷ [] =
     sym (push-append inner 42 (47 ∷ [])) ∙ ap (λ t. t ++ 47 ∷ []) (sym last.1) in
     let there_closed : step spot 47 ≡ walk start (47 ∷ 42 ∷ inner ++ 42 ∷ 47 ∷ []) =
-    ap (λ s. step s 47) there ∙ sym (walk-append start (47 ∷ 42 ∷ front) (47 ∷ [])) ∙ ap (λ t. walk start (47 ∷ 42 ∷ t)) (sym bytes_are) in
+    ap (λ s. step s 47) there ∙ sym (walk-append start (47 ∷ 42 ∷ front) (47 ∷ []))
+    ∙ ap (λ t. walk start (47 ∷ 42 ∷ t)) (sym bytes_are) in
     let inner_unclosed : has_close inner ≡ false =
     has_close-front inner (42 ∷ []) (ap has_close (sym last.1) ∙ unclosed) in
     subst (λ t. ReadsFrom start (47 ∷ 42 ∷ t) read) text_is
-    (prepend start (BlockComment inner) rest read inner_unclosed (subst (λ s. ReadsFrom s rest read) there_closed reads))
+    (prepend start (BlockComment inner) rest read inner_unclosed
+    (subst (λ s. ReadsFrom s rest read) there_closed reads))
 
 -- one more byte of a comment in `/*` and `*/`
 block_on : (start spot : Spot) (starred : Bool) (front : List ℕ) (byte : ℕ) (rest : List ℕ) → Behind spot byte rest →
@@ -228,7 +255,8 @@ block_on start spot starred front byte rest behind unclosed ends there =
     (subst (λ b. ReadsFrom (step spot b) rest (lexed Between (step spot byte) rest)) is (behind Between))
     unclosed (ends ∙ and_left starred (byte == 47) closed) there)))
     (λ still. rw still
-    (subst (λ t. ReadsFrom start (47 ∷ 42 ∷ t) (lexed (InBlock start (byte == 42)) (step spot byte) rest)) (push-append front byte rest)
+    (subst (λ t. ReadsFrom start (47 ∷ 42 ∷ t) (lexed (InBlock start (byte == 42)) (step spot byte) rest))
+    (push-append front byte rest)
     (behind (InBlock start (byte == 42)) (front ++ byte ∷ [])
     (has_close-push false front byte unclosed refl (ap (λ s. s && byte == 47) ends ∙ still))
     (ends_starred-push false front byte)
@@ -254,24 +282,30 @@ known_on spot byte known rest is behind at_known =
     subst (λ b. ReadsFrom spot (b ∷ rest) (lexed Between spot (b ∷ rest))) (sym same)
     (at_known (subst (λ b. Behind spot b rest) same behind))
 
-at_known_slash : (spot : Spot) (rest : List ℕ) → Behind spot 47 rest → ReadsFrom spot (47 ∷ rest) (lexed Between spot (47 ∷ rest))
+at_known_slash : (spot : Spot) (rest : List ℕ) → Behind spot 47 rest
+    → ReadsFrom spot (47 ∷ rest) (lexed Between spot (47 ∷ rest))
 unfolding is_blank
 at_known_slash spot rest behind = slash_on spot rest behind
 
-at_known_quote : (spot : Spot) (rest : List ℕ) → Behind spot 34 rest → ReadsFrom spot (34 ∷ rest) (lexed Between spot (34 ∷ rest))
+at_known_quote : (spot : Spot) (rest : List ℕ) → Behind spot 34 rest
+    → ReadsFrom spot (34 ∷ rest) (lexed Between spot (34 ∷ rest))
 unfolding is_blank
 at_known_quote spot rest behind = behind (InQuotes spot) [] refl refl
 
-at_known_equals : (spot : Spot) (rest : List ℕ) → Behind spot 61 rest → ReadsFrom spot (61 ∷ rest) (lexed Between spot (61 ∷ rest))
+at_known_equals : (spot : Spot) (rest : List ℕ) → Behind spot 61 rest
+    → ReadsFrom spot (61 ∷ rest) (lexed Between spot (61 ∷ rest))
 unfolding is_blank
 at_known_equals spot rest behind = prepend spot AnEquals rest (lexed Between (step spot 61) rest) tt (behind Between)
 
-at_known_semicolon : (spot : Spot) (rest : List ℕ) → Behind spot 59 rest → ReadsFrom spot (59 ∷ rest) (lexed Between spot (59 ∷ rest))
+at_known_semicolon : (spot : Spot) (rest : List ℕ) → Behind spot 59 rest
+    → ReadsFrom spot (59 ∷ rest) (lexed Between spot (59 ∷ rest))
 unfolding is_blank
-at_known_semicolon spot rest behind = prepend spot ASemicolon rest (lexed Between (step spot 59) rest) tt (behind Between)
+at_known_semicolon spot rest behind =
+    prepend spot ASemicolon rest (lexed Between (step spot 59) rest) tt (behind Between)
 
 -- a byte where a piece begins
-start_on : (spot : Spot) (byte : ℕ) (rest : List ℕ) → Behind spot byte rest → ReadsFrom spot (byte ∷ rest) (lexed Between spot (byte ∷ rest))
+start_on : (spot : Spot) (byte : ℕ) (rest : List ℕ) → Behind spot byte rest
+    → ReadsFrom spot (byte ∷ rest) (lexed Between spot (byte ∷ rest))
 start_on spot byte rest behind =
     by_test (is_blank byte)
     (λ blank. rw blank (prepend spot (Blank byte) rest (lexed Between (step spot byte) rest) blank (behind Between)))
@@ -309,7 +343,8 @@ claims (Opening start) spot [] = λ there starred. absurd (cc)
 claims (Opening start) spot (byte ∷ rest) = λ there starred.
     let is : byte ≡ 42 = eqb-true _ _ starred in
     subst (λ b. ReadsFrom start (47 ∷ b ∷ rest) (lexed (InBlock start false) (step spot byte) rest)) (sym is)
-    (claims (InBlock start false) (step spot byte) rest [] refl refl (ap (λ s. step s byte) there ∙ ap (λ b. walk start (47 ∷ b ∷ [])) is))
+    (claims (InBlock start false) (step spot byte) rest [] refl refl
+    (ap (λ s. step s byte) there ∙ ap (λ b. walk start (47 ∷ b ∷ [])) is))
 claims (InBlock start starred) spot [] = λ front unclosed ends there.
     subst (λ t. ReadsFrom start (47 ∷ 42 ∷ t) (failed OpenComment start)) (sym (append-nil front))
     (faulty start (47 ∷ 42 ∷ front) _ (open_comment front refl unclosed refl))

@@ -1,5 +1,6 @@
 -- Each token of a text lies in it and is spelled there.
-use Rattle.std.proofs.Common.{◌≡◌, ℕ, ◌+◌, ◌-◌, ◌<◌, List, [], ◌∷◌, ◌++◌, length, sym, refl, ap, ◌∙◌, subst, arith, append_assoc, length-append}
+use Rattle.std.proofs.Common.{◌≡◌, ℕ, ◌+◌, ◌-◌, ◌<◌, List, [], ◌∷◌, ◌++◌, length, sym, refl, ap, ◌∙◌, subst, arith}
+use Rattle.std.proofs.Common.{append_assoc, length-append}
 use Rattle.std.specs.Prelude.{slice_range, take}
 use Rattle.std.specs.List.{flat_map, AllByRecursion}
 use Rattle.std.proofs.lemmas.List.{drop_at, take_at}
@@ -9,15 +10,18 @@ use Rattle.galileo_lexer.specs.declared.token.TokenKind.{TokenKind}
 use Rattle.galileo_lexer.specs.declared.token.TokenKind.TheVariants.{Word, Quoted, Equals, Semicolon}
 use Rattle.galileo_lexer.specs.Spot.{origin, walk, place_of, place_behind}
 use Rattle.galileo_lexer.specs.Lexed.{tokens_of, token_from}
-use Rattle.galileo_lexer.specs.Pieces.{Piece, Blank, LineComment, BlockComment, AWord, AQuoted, AnEquals, ASemicolon, bytes_of, token_of, tokens_from, IsPiece, ArePieces}
+use Rattle.galileo_lexer.specs.Pieces.{Piece, Blank, LineComment, BlockComment, AWord, AQuoted, AnEquals, ASemicolon}
+use Rattle.galileo_lexer.specs.Pieces.{bytes_of, token_of, tokens_from, IsPiece, ArePieces}
 use Rattle.galileo_lexer.specs.Spelling.{Spells, IsSpelled}
 use Rattle.galileo_lexer.proofs.Walks.{walk-append, walk-offset}
 use Rattle.galileo_lexer.proofs.Sound.{reads}
 
 -- the bytes in the middle
-middle : (front bytes rest : List ℕ) → slice_range (front ++ bytes ++ rest) (length front) (length front + length bytes) ≡ bytes
+middle : (front bytes rest : List ℕ) → slice_range (front ++ bytes ++ rest) (length front) (length front + length bytes)
+    ≡ bytes
 middle front bytes rest =
-    rw (append_assoc front bytes rest, drop_at front (bytes ++ rest) (length front) refl) (take_at bytes rest (length front + length bytes - length front) (omega arith))
+    rw (append_assoc front bytes rest, drop_at front (bytes ++ rest) (length front) refl)
+    (take_at bytes rest (length front + length bytes - length front) (omega arith))
 
 reached : (spot : Spot) (front : List ℕ) → spot ≡ walk origin front → spot.offset ≡ length front
 reached spot front walked = ap (λ (s : Spot). s.offset) walked ∙ walk-offset origin front ∙ omega arith
@@ -28,12 +32,19 @@ here : (front bytes rest text : List ℕ) (kind : TokenKind) (spot : Spot) (stop
     IsSpelled text (token_from kind spot stop)
 here front bytes rest text kind spot stop is walked ends some spells =
     let at : spot.offset ≡ length front = reached spot front walked in
-    let before : take spot.offset text ≡ front = ap (take spot.offset) (is ∙ append_assoc front bytes rest) ∙ take_at front (bytes ++ rest) spot.offset (sym at) in
-    let whole : length text ≡ length front + length bytes + length rest = ap length is ∙ length-append (front ++ bytes) rest ∙ ap (λ n. n + length rest) (length-append front bytes) in
+    let before : take spot.offset text ≡ front =
+    ap (take spot.offset) (is ∙ append_assoc front bytes rest)
+    ∙ take_at front (bytes ++ rest) spot.offset (sym at) in
+    let whole : length text ≡ length front + length bytes + length rest =
+    ap length is ∙ length-append (front ++ bytes) rest ∙ ap (λ n. n + length rest) (length-append front bytes) in
     record {
       some = omega arith;
       in_text = omega arith;
-      spelling = subst (Spells kind) (sym (ap (λ t. slice_range t spot.offset stop) is ∙ ap (λ i. slice_range (front ++ bytes ++ rest) i stop) at ∙ ap (slice_range (front ++ bytes ++ rest) (length front)) (ends ∙ ap (λ i. i + length bytes) at) ∙ middle front bytes rest)) spells;
+      spelling =
+          subst (Spells kind) (sym (ap (λ t. slice_range t spot.offset stop) is
+          ∙ ap (λ i. slice_range (front ++ bytes ++ rest) i stop) at
+          ∙ ap (slice_range (front ++ bytes ++ rest) (length front)) (ends ∙ ap (λ i. i + length bytes) at)
+          ∙ middle front bytes rest)) spells;
       place = ap place_of walked ∙ sym (ap place_behind before);
     }
 
@@ -46,14 +57,18 @@ piece_spelled text front rest spot (BlockComment bytes) is at piece more each = 
 piece_spelled text front rest spot (AWord bytes) is at piece more each =
     (here front bytes rest text Word spot (spot.offset + length bytes) is at refl piece.0.some piece.0, each)
 piece_spelled text front rest spot (AQuoted bytes) is at piece more each =
-    let size : length (34 ∷ bytes ++ 34 ∷ []) ≡ length bytes + 2 = omega (arith, length-append bytes (34 ∷ [])) in
-    (here front (34 ∷ bytes ++ 34 ∷ []) rest text Quoted spot (spot.offset + length bytes + 2) is at (omega arith) (omega arith) (bytes, piece, refl), each)
+    let size : length (34 ∷ bytes ++ 34 ∷ []) ≡ length bytes + 2 = omega (arith, length-append bytes (34 ∷ [])) in (
+      here front (34 ∷ bytes ++ 34 ∷ []) rest text Quoted spot (spot.offset + length bytes + 2) is at (omega arith)
+          (omega arith) (bytes, piece, refl),
+      each,
+    )
 piece_spelled text front rest spot AnEquals is at piece more each =
     (here front (61 ∷ []) rest text Equals spot (spot.offset + 1) is at refl (omega arith) refl, each)
 piece_spelled text front rest spot ASemicolon is at piece more each =
     (here front (59 ∷ []) rest text Semicolon spot (spot.offset + 1) is at refl (omega arith) refl, each)
 
-pieces_spelled : (text front rest : List ℕ) (spot : Spot) (pieces : List Piece) → text ≡ front ++ (flat_map bytes_of pieces ++ rest) →
+pieces_spelled : (text front rest : List ℕ) (spot : Spot) (pieces : List Piece)
+    → text ≡ front ++ (flat_map bytes_of pieces ++ rest) →
     spot ≡ walk origin front → ArePieces pieces rest → AllByRecursion (IsSpelled text) (tokens_from spot pieces)
 pieces_spelled text front rest spot [] is at each = tt
 pieces_spelled text front rest spot (piece ∷ pieces) is at each =
@@ -61,7 +76,8 @@ pieces_spelled text front rest spot (piece ∷ pieces) is at each =
     let more = flat_map bytes_of pieces in
     let split : text ≡ front ++ bytes ++ (more ++ rest) =
     is ∙ ap (λ t. front ++ t) (append_assoc bytes more rest) ∙ sym (append_assoc front bytes (more ++ rest)) in
-    let behind : walk spot bytes ≡ walk origin (front ++ bytes) = ap (λ s. walk s bytes) at ∙ sym (walk-append origin front bytes) in
+    let behind : walk spot bytes ≡ walk origin (front ++ bytes) =
+    ap (λ s. walk s bytes) at ∙ sym (walk-append origin front bytes) in
     piece_spelled text front (more ++ rest) spot piece split at each.0 (tokens_from (walk spot bytes) pieces)
     (pieces_spelled text (front ++ bytes) rest (walk spot bytes) pieces split behind each.1)
 

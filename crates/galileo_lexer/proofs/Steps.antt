@@ -1,12 +1,14 @@
 -- One byte's step of the reading, in the middle of a text.
-use Rattle.std.proofs.Common.{◌≡◌, ℕ, zero, suc, ◌+◌, ◌<◌, ◌≤◌, true, false, eqb, List, [], ◌∷◌, length, get_or, drop, sym, refl, ap, ◌∙◌, arith}
+use Rattle.std.proofs.Common.{◌≡◌, ℕ, zero, suc, ◌+◌, ◌<◌, ◌≤◌, true, false, eqb, List, [], ◌∷◌, length, get_or, drop}
+use Rattle.std.proofs.Common.{sym, refl, ap, ◌∙◌, arith}
 use Rattle.std.specs.Prelude.{◌==◌}
 use Rattle.std.proofs.lemmas.Bool.{ne_eqb}
 use Rattle.std.proofs.lemmas.List.{at_drop_more, at_drop_all, drop_more}
 use Rattle.galileo_lexer.specs.declared.spot.Spot.{Spot}
 use Rattle.galileo_lexer.specs.Bytes.{is_word_byte, is_quotable, is_blank, begins_with}
 use Rattle.galileo_lexer.specs.Spot.{along, step}
-use Rattle.galileo_lexer.specs.Lexed.{Lexed, Mode, Between, InQuotes, InLine, InBlock, at_start, in_word, proceed, lexed, ended, failed}
+use Rattle.galileo_lexer.specs.Lexed.{Lexed, Mode, Between, InQuotes, InLine, InBlock, at_start, in_word, proceed}
+use Rattle.galileo_lexer.specs.Lexed.{lexed, ended, failed}
 use Rattle.galileo_lexer.specs.declared.token.LexCode.TheVariants.{BadByte}
 
 -- what a text gives from a spot inside it is what its byte there makes of the rest
@@ -63,32 +65,45 @@ pub word_step : (start : Spot) (stop byte : ℕ) (rest : List ℕ) → is_word_b
     word_from start stop (byte ∷ rest) ≡ word_from start (stop + 1) rest
 word_step start stop byte rest in_a_word = rw (in_a_word, word_no_feed byte in_a_word) refl
 
-pub word_more : (start : Spot) (stop : ℕ) (text : List ℕ) → stop < length text → is_word_byte (get_or text stop 0) ≡ true →
+pub word_more : (start : Spot) (stop : ℕ) (text : List ℕ) → stop < length text
+    → is_word_byte (get_or text stop 0) ≡ true →
     word_from start stop (drop stop text) ≡ word_from start (stop + 1) (drop (stop + 1) text)
 word_more start stop text inside in_a_word =
-    at_drop_more (word_from start stop) text stop 0 inside ∙ word_step start stop (get_or text stop 0) (drop (stop + 1) text) in_a_word
+    at_drop_more (word_from start stop) text stop 0 inside
+    ∙ word_step start stop (get_or text stop 0) (drop (stop + 1) text) in_a_word
 
 -- a byte of a word begins a word and nothing else
 pub word_starts : (spot : Spot) (byte : ℕ) (rest : List ℕ) → is_word_byte byte ≡ true →
     at_start spot byte rest ≡ in_word spot (spot.offset + 1) rest
 word_starts spot byte rest in_a_word =
-    rw (word_no_blank byte in_a_word, word_is_not byte 47 in_a_word no_word_slash, word_is_not byte 34 in_a_word no_word_quote, word_is_not byte 61 in_a_word no_word_equals, word_is_not byte 59 in_a_word no_word_semicolon, in_a_word) refl
+    rw (
+      word_no_blank byte in_a_word,
+      word_is_not byte 47 in_a_word no_word_slash,
+      word_is_not byte 34 in_a_word no_word_quote,
+      word_is_not byte 61 in_a_word no_word_equals,
+      word_is_not byte 59 in_a_word no_word_semicolon,
+      in_a_word,
+    ) refl
 
 -- the first byte of a word
 pub word_first : (start : Spot) (byte : ℕ) (rest : List ℕ) → is_word_byte byte ≡ true →
     lexed Between start (byte ∷ rest) ≡ word_from start (start.offset + 1) rest
 word_first start byte rest in_a_word =
     ap (λ a. proceed a (λ mode. lexed mode (step start byte) rest)) (word_starts start byte rest in_a_word)
-    ∙ ap (λ s. proceed (in_word start (start.offset + 1) rest) (λ mode. lexed mode s rest)) (step_along start byte (word_no_feed byte in_a_word))
+    ∙ ap (λ s. proceed (in_word start (start.offset + 1) rest) (λ mode. lexed mode s rest))
+    (step_along start byte (word_no_feed byte in_a_word))
 
-pub word_begins : (start : Spot) (text : List ℕ) → start.offset < length text → is_word_byte (get_or text start.offset 0) ≡ true →
+pub word_begins : (start : Spot) (text : List ℕ) → start.offset < length text
+    → is_word_byte (get_or text start.offset 0) ≡ true →
     lexed Between start (drop start.offset text) ≡ word_from start (start.offset + 1) (drop (start.offset + 1) text)
 word_begins start text inside in_a_word =
-    lexed_here Between start text inside ∙ word_first start (get_or text start.offset 0) (drop (start.offset + 1) text) in_a_word
+    lexed_here Between start text inside ∙ word_first start (get_or text start.offset 0) (drop (start.offset + 1) text)
+    in_a_word
 
 -- a quote begins a quoted token
 pub quotes_begin : (start : Spot) (text : List ℕ) → start.offset < length text → get_or text start.offset 0 ≡ 34 →
-    lexed Between start (drop start.offset text) ≡ lexed (InQuotes start) (along start (start.offset + 1)) (drop (start.offset + 1) text)
+    lexed Between start (drop start.offset text) ≡ lexed (InQuotes start) (along start (start.offset + 1))
+    (drop (start.offset + 1) text)
 unfolding is_blank
 quotes_begin start text inside quote =
     lexed_here Between start text inside
@@ -96,7 +111,8 @@ quotes_begin start text inside quote =
 
 pub quotes_more : (start : Spot) (stop : ℕ) (text : List ℕ) → stop < length text →
     eqb (get_or text stop 0) 34 ≡ false → is_quotable (get_or text stop 0) ≡ true →
-    lexed (InQuotes start) (along start stop) (drop stop text) ≡ lexed (InQuotes start) (along start (stop + 1)) (drop (stop + 1) text)
+    lexed (InQuotes start) (along start stop) (drop stop text)
+    ≡ lexed (InQuotes start) (along start (stop + 1)) (drop (stop + 1) text)
 quotes_more start stop text inside no_quote quotable =
     lexed_here (InQuotes start) (along start stop) text inside
     ∙ rw (no_quote, quotable, quotable_no_feed (get_or text stop 0) quotable) refl
@@ -121,34 +137,41 @@ slash_here : (start : Spot) (text : List ℕ) → start.offset < length text →
 slash_here start text inside slash =
     lexed_here Between start text inside ∙ ap (λ b. lexed Between start (b ∷ drop (start.offset + 1) text)) slash
 
-second_here : (start : Spot) (text : List ℕ) (second : ℕ) → start.offset + 1 < length text → get_or text (start.offset + 1) 0 ≡ second →
+second_here : (start : Spot) (text : List ℕ) (second : ℕ) → start.offset + 1 < length text
+    → get_or text (start.offset + 1) 0 ≡ second →
     drop (start.offset + 1) text ≡ second ∷ drop (start.offset + 1 + 1) text
 second_here start text second inside is =
     drop_more text (start.offset + 1) 0 inside ∙ ap (λ b. b ∷ drop (start.offset + 1 + 1) text) is
 
-pub line_begins : (start : Spot) (text : List ℕ) → start.offset + 1 < length text → get_or text start.offset 0 ≡ 47 → get_or text (start.offset + 1) 0 ≡ 47 →
-    lexed Between start (drop start.offset text) ≡ lexed InLine (along start (start.offset + 1)) (drop (start.offset + 1) text)
+pub line_begins : (start : Spot) (text : List ℕ) → start.offset + 1 < length text → get_or text start.offset 0 ≡ 47
+    → get_or text (start.offset + 1) 0 ≡ 47 →
+    lexed Between start (drop start.offset text) ≡ lexed InLine (along start (start.offset + 1))
+    (drop (start.offset + 1) text)
 unfolding is_blank
 line_begins start text inside slash again =
     slash_here start text (omega arith) slash
     ∙ ap (λ rest. lexed Between start (47 ∷ rest)) (second_here start text 47 inside again)
     ∙ sym (ap (lexed InLine (along start (start.offset + 1))) (second_here start text 47 inside again))
 
-pub block_begins : (start : Spot) (text : List ℕ) → start.offset + 1 < length text → get_or text start.offset 0 ≡ 47 → get_or text (start.offset + 1) 0 ≡ 42 →
-    lexed Between start (drop start.offset text) ≡ lexed (InBlock start false) (along start (start.offset + 1 + 1)) (drop (start.offset + 1 + 1) text)
+pub block_begins : (start : Spot) (text : List ℕ) → start.offset + 1 < length text → get_or text start.offset 0 ≡ 47
+    → get_or text (start.offset + 1) 0 ≡ 42 →
+    lexed Between start (drop start.offset text) ≡ lexed (InBlock start false) (along start (start.offset + 1 + 1))
+    (drop (start.offset + 1 + 1) text)
 unfolding is_blank
 block_begins start text inside slash star =
     slash_here start text (omega arith) slash
     ∙ ap (λ rest. lexed Between start (47 ∷ rest)) (second_here start text 42 inside star)
 
 -- no byte that isn't at its place begins the rest
-no_second : (text : List ℕ) (i byte : ℕ) → (i < length text → get_or text i 0 ≡ byte → ⊥) → begins_with (λ b. b == byte) (drop i text) ≡ false
+no_second : (text : List ℕ) (i byte : ℕ) → (i < length text → get_or text i 0 ≡ byte → ⊥)
+    → begins_with (λ b. b == byte) (drop i text) ≡ false
 no_second [] zero byte not = refl
 no_second (x ∷ text) zero byte not = ne_eqb x byte (λ is. not (omega arith) is)
 no_second [] (suc i) byte not = refl
 no_second (x ∷ text) (suc i) byte not = no_second text i byte (λ inside is. not (omega arith) is)
 
-alone : (start : Spot) (rest : List ℕ) → begins_with (λ b. b == 47) rest ≡ false → begins_with (λ b. b == 42) rest ≡ false →
+alone : (start : Spot) (rest : List ℕ) → begins_with (λ b. b == 47) rest ≡ false
+    → begins_with (λ b. b == 42) rest ≡ false →
     lexed Between start (47 ∷ rest) ≡ failed BadByte start
 unfolding is_blank
 alone start [] no_slash no_star = refl
@@ -161,4 +184,5 @@ pub slash_alone : (start : Spot) (text : List ℕ) → start.offset < length tex
     lexed Between start (drop start.offset text) ≡ failed BadByte start
 unfolding is_blank
 slash_alone start text inside slash no_slash no_star =
-    slash_here start text inside slash ∙ alone start (drop (start.offset + 1) text) (no_second _ _ _ no_slash) (no_second _ _ _ no_star)
+    slash_here start text inside slash ∙ alone start (drop (start.offset + 1) text) (no_second _ _ _ no_slash)
+    (no_second _ _ _ no_star)

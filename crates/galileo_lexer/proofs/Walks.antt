@@ -1,5 +1,6 @@
 -- Walks over bytes, and the tests of lists that end with one more byte.
-use Rattle.std.proofs.Common.{◌≡◌, ℕ, ◌+◌, Bool, true, false, List, [], ◌∷◌, ◌++◌, length, cond, eqb, sym, refl, ap, ◌∙◌, arith, append_assoc, add-zero, eqb-true}
+use Rattle.std.proofs.Common.{◌≡◌, ℕ, ◌+◌, Bool, true, false, List, [], ◌∷◌, ◌++◌, length, cond, eqb, sym, refl, ap}
+use Rattle.std.proofs.Common.{◌∙◌, arith, append_assoc, add-zero, eqb-true}
 use Rattle.galileo_lexer.proofs.Bools.{and_left, and_right, and_none, or_left, or_right, or_false}
 use Rattle.std.specs.Prelude.{◌==◌, ◌&&◌}
 use Rattle.std.specs.List.{list_all}
@@ -13,7 +14,13 @@ walk-append spot [] b = refl
 walk-append spot (x ∷ a) b = walk-append (step spot x) a b
 
 step-offset : (spot : Spot) (byte : ℕ) → (step spot byte).offset ≡ spot.offset + 1
-step-offset spot byte = elim (byte == 10) as (λ b. (cond b (let s : Spot = record { offset = spot.offset + 1; line = spot.line + 1; line_start = spot.offset + 1 } in s) (let s : Spot = record spot { offset = spot.offset + 1 } in s)).offset ≡ spot.offset + 1) [ true ↦ refl | false ↦ refl ]
+step-offset spot byte =
+    elim (byte == 10) as (λ b. (cond b (let s : Spot =
+    record { offset = spot.offset + 1; line = spot.line + 1; line_start = spot.offset + 1 } in s)
+    (let s : Spot = record spot { offset = spot.offset + 1 } in s)).offset ≡ spot.offset + 1) [
+      | true ↦ refl
+      | false ↦ refl
+    ]
 
 pub walk-offset : (spot : Spot) (bytes : List ℕ) → (walk spot bytes).offset ≡ spot.offset + length bytes
 walk-offset spot [] = omega arith
@@ -33,16 +40,19 @@ ends_starred starred [] = starred
 ends_starred starred (byte ∷ bytes) = ends_starred (byte == 42) bytes
 
 -- on one line
-pub walk-along : (spot : Spot) {test : ℕ → Bool} (bytes : List ℕ) → ((byte : ℕ) → test byte ≡ true → eqb byte 10 ≡ false) →
+pub walk-along : (spot : Spot) {test : ℕ → Bool} (bytes : List ℕ)
+    → ((byte : ℕ) → test byte ≡ true → eqb byte 10 ≡ false) →
     list_all test bytes ≡ true → walk spot bytes ≡ along spot (spot.offset + length bytes)
 walk-along spot [] one_line each = ap (along spot) (sym (add-zero spot.offset))
 walk-along spot {test} (byte ∷ bytes) one_line each =
     let there : spot.offset + 1 + length bytes ≡ spot.offset + length (byte ∷ bytes) = omega arith in
     rw (one_line byte (and_left _ _ each))
-    (walk-along (along spot (spot.offset + 1)) {test = test} bytes one_line (and_right (test byte) _ each) ∙ ap (along spot) there)
+    (walk-along (along spot (spot.offset + 1)) {test = test} bytes one_line (and_right (test byte) _ each)
+    ∙ ap (along spot) there)
 
 -- one more byte tells by itself whether it ends them with a star
-pub ends_starred-push : (starred : Bool) (bytes : List ℕ) (byte : ℕ) → ends_starred starred (bytes ++ byte ∷ []) ≡ (byte == 42)
+pub ends_starred-push : (starred : Bool) (bytes : List ℕ) (byte : ℕ)
+    → ends_starred starred (bytes ++ byte ∷ []) ≡ (byte == 42)
 ends_starred-push starred [] byte = refl
 ends_starred-push starred (b ∷ bytes) byte = ends_starred-push (b == 42) bytes byte
 
@@ -51,7 +61,8 @@ pub has_close-push : (starred : Bool) (bytes : List ℕ) (byte : ℕ) → has_cl
     (starred && begins_with (λ next. next == 47) bytes) ≡ false →
     (ends_starred starred bytes && byte == 47) ≡ false → has_close (bytes ++ byte ∷ []) ≡ false
 has_close-push starred [] byte unclosed apart still = or_false _ _ (and_none (byte == 42)) refl
-has_close-push starred (b ∷ []) byte unclosed apart still = or_false _ _ still (or_false _ _ (and_none (byte == 42)) refl)
+has_close-push starred (b ∷ []) byte unclosed apart still =
+    or_false _ _ still (or_false _ _ (and_none (byte == 42)) refl)
 has_close-push starred (b ∷ c ∷ bytes) byte unclosed apart still =
     or_false _ _ (or_left _ _ unclosed)
     (has_close-push (b == 42) (c ∷ bytes) byte (or_right _ _ unclosed) (or_left _ _ unclosed) still)

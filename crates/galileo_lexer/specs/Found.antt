@@ -16,13 +16,15 @@ fault_at code spot = record { code = code; place = place_of spot }
 -- the token of a name, or that it is too long
 abbrev pub named : TokenKind → Spot → ℕ → ℕ → Found
 named kind start stop size =
-    if nat_le size 255 then Token (token_from kind start stop) (along start stop) else Fault (fault_at NameTooLong start)
+    if nat_le size 255 then Token (token_from kind start stop) (along start stop)
+    else Fault (fault_at NameTooLong start)
 
 -- what is given from a spot on begins with what was found
 abbrev pub Finds : List ℕ → Lexed → Found → Type 0
 Finds text given (Token token spot) =
     (given ≡ with_token token (lexed Between spot (drop spot.offset text))) × IsSpot spot text
-Finds text given (End spot) = (given ≡ finished spot) × (lexed Between spot (drop spot.offset text) ≡ finished spot) × IsSpot spot text
+Finds text given (End spot) =
+    (given ≡ finished spot) × (lexed Between spot (drop spot.offset text) ≡ finished spot) × IsSpot spot text
 Finds text given (Fault fault) = given ≡ record { tokens = []; ending = Err fault }
 
 -- a comment is passed over, or never ends

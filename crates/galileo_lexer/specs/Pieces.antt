@@ -1,13 +1,15 @@
 -- The text as a sequence of pieces: what the notation says of blanks, comments and token spellings, with no
 -- reading from left to right.
-use Rattle.std.specs.Prelude.{◌≡◌, ℕ, ◌+◌, ◌<◌, ◌≤◌, Bool, true, false, ◌&&◌, ◌||◌, ◌==◌, not, List, [], ◌∷◌, ◌++◌, length, Result, Ok, Err}
+use Rattle.std.specs.Prelude.{◌≡◌, ℕ, ◌+◌, ◌<◌, ◌≤◌, Bool, true, false, ◌&&◌, ◌||◌, ◌==◌, not, List, [], ◌∷◌, ◌++◌}
+use Rattle.std.specs.Prelude.{length, Result, Ok, Err}
 use Rattle.std.specs.List.{flat_map, list_all}
 use Rattle.galileo_lexer.specs.declared.spot.Spot.{Spot}
 use Rattle.galileo_lexer.specs.declared.token.Token.{Token}
 use Rattle.galileo_lexer.specs.declared.token.TokenKind.TheVariants.{Word, Quoted, Equals, Semicolon}
 use Rattle.galileo_lexer.specs.declared.token.LexFault.{LexFault}
 use Rattle.galileo_lexer.specs.declared.token.LexPlace.{LexPlace}
-use Rattle.galileo_lexer.specs.declared.token.LexCode.TheVariants.{BadByte, OpenQuote, OpenComment, EmptyName, NameTooLong}
+use Rattle.galileo_lexer.specs.declared.token.LexCode.TheVariants.{BadByte, OpenQuote, OpenComment, EmptyName}
+use Rattle.galileo_lexer.specs.declared.token.LexCode.TheVariants.{NameTooLong}
 use Rattle.galileo_lexer.specs.Bytes.{is_blank, is_word_byte, is_quotable, begins_with}
 use Rattle.galileo_lexer.specs.Spot.{origin, walk, place_of}
 use Rattle.galileo_lexer.specs.Lexed.{Lexed, token_from}
@@ -81,7 +83,8 @@ tokens_from spot (piece ∷ pieces) = token_of spot piece ++ tokens_from (walk s
 -- no blank, no slash, no quote, no `=`, no `;` and no byte of a word
 abbrev pub begins_nothing : ℕ → Bool
 begins_nothing byte =
-    not (is_blank byte) && not (byte == 47) && not (byte == 34) && not (byte == 61) && not (byte == 59) && not (is_word_byte byte)
+    not (is_blank byte) && not (byte == 47) && not (byte == 34) && not (byte == 61) && not (byte == 59)
+    && not (is_word_byte byte)
 
 -- The faults of a rest where a piece is to begin at a spot.
 pub data IsFault (spot : Spot) (rest : List ℕ) (fault : LexFault) : Type 0 where
@@ -105,7 +108,8 @@ pub data IsFault (spot : Spot) (rest : List ℕ) (fault : LexFault) : Type 0 whe
   empty_name : (more : List ℕ) → rest ≡ 34 ∷ 34 ∷ more → fault ≡ fault_at EmptyName spot → IsFault spot rest fault
   -- a word of more than 255 bytes
   long_word : (bytes more : List ℕ) → rest ≡ bytes ++ more → list_all is_word_byte bytes ≡ true →
-      begins_with is_word_byte more ≡ false → 255 < length bytes → fault ≡ fault_at NameTooLong spot → IsFault spot rest fault
+      begins_with is_word_byte more ≡ false → 255 < length bytes → fault ≡ fault_at NameTooLong spot
+      → IsFault spot rest fault
   -- a quoted text of more than 255 bytes
   long_quoted : (bytes more : List ℕ) → rest ≡ 34 ∷ bytes ++ 34 ∷ more → list_all is_quotable bytes ≡ true →
       255 < length bytes → fault ≡ fault_at NameTooLong spot → IsFault spot rest fault

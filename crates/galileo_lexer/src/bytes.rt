@@ -1,4 +1,4 @@
-// The classes of bytes.
+//! The classes of bytes.
 ghost use Rattle.std.specs.Prelude.{◌≡◌};
 ghost use Rattle.galileo_lexer.specs.Bytes.{is_blank, is_word_byte, is_quotable};
 
@@ -21,8 +21,8 @@ pub(crate) fn is_blank(byte: u8) -> bool
     (9 <= byte && byte <= 13) || byte == 32
 }
 
-// Each byte of a word stands at its own place, and a comma at every other place: most of a text is words, and one load tells a
-// byte's class where the tests of the definition would take up to six comparisons.
+// Each byte of a word stands at its own place, and a comma at every other place: most of a text is words, and one load
+// tells a byte's class where the tests of the definition would take up to six comparisons.
 static WORD_BYTES: [u8; 256] = *b"\
     ,,,,,,,,,,,,,,,,,,,,,,,,,,,,,,,,\
     ,,,,,,,,,,,+,-.,0123456789,,,,,,\

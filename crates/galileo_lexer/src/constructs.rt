@@ -1,4 +1,4 @@
-// Comments and tokens, each read from its first byte on.
+//! Comments and tokens, each read from its first byte on.
 ghost use Rattle.std.specs.Prelude.{◌≡◌, ◌<◌, ◌≤◌, ◌+◌, length, drop, slice_index, true, false, MatchResult};
 ghost use Rattle.galileo_lexer.specs.Bytes.{is_word_byte};
 ghost use Rattle.galileo_lexer.specs.Spot.{IsSpot, step, along};
@@ -130,7 +130,8 @@ pub(crate) fn comment_end(text: &[u8], start: Spot) -> Result<Spot, LexFault>
 fn line_end(text: &[u8], start: Spot) -> Spot
     requires small { length text.now ≤ 16777216 }
     requires spot { IsSpot start text.now }
-    ensures same { lexed InLine start (drop start.offset text.now) ≡ lexed Between result (drop result.offset text.now) }
+    ensures same { lexed InLine start (drop start.offset text.now)
+        ≡ lexed Between result (drop result.offset text.now) }
     ensures onward { start.offset ≤ result.offset }
     ensures spot { IsSpot result text.now }
 {

@@ -22,8 +22,8 @@ pub fn tokens_are_spelled()
     ensures { (text : List ℕ) → All (IsSpelled text) (tokens_of text).tokens }
 {}
 
-/// A line is 1 more than the line feeds before the place, and a column 1 more than the bytes since the last of them, or since the
-/// start.
+/// A line is 1 more than the line feeds before the place, and a column 1 more than the bytes since the last of them, or
+/// since the start.
 pub fn places_count_line_feeds()
     ensures line { (before : List ℕ) → (place_behind before).line ≡ 1 + line_feeds before }
     ensures column { (before line : List ℕ) → IsLastLine before line → (place_behind before).column ≡ 1 + length line }

@@ -1,5 +1,5 @@
-// The lexer: the next token of a text, or its first fault. What reads a token is inlined into its reader, so that the token's parts
-// stay in registers: through memory a token of one byte takes twice the time.
+//! The lexer: the next token of a text, or its first fault. What reads a token is inlined into its reader, so that the
+//! token's parts stay in registers: through memory a token of one byte takes twice the time.
 ghost use Rattle.std.specs.Prelude.{◌≡◌, ◌≢◌, ◌<◌, ◌≤◌, false, length, drop, slice_index, Ok, None};
 ghost use Rattle.galileo_lexer.specs.Lexed.{Between, lexed, tokens_of, next_of, after};
 ghost use Rattle.galileo_lexer.specs.Bytes.{is_blank};

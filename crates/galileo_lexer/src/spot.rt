@@ -1,4 +1,4 @@
-// Where the next byte stands.
+//! Where the next byte stands.
 ghost use Rattle.std.specs.Prelude.{◌≡◌, ◌+◌, ◌<◌, ◌≤◌};
 ghost use Rattle.galileo_lexer.specs.Spot.{step, along, place_of};
 

@@ -1,4 +1,4 @@
-// The traps of the notation's tokens, and each fault once, as texts with what they read as.
+//! The traps of the notation's tokens, and each fault once, as texts with what they read as.
 ghost use Rattle.std.specs.Prelude.{◌≤◌, ◌<◌, length};
 
 use super::*;

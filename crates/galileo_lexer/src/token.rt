@@ -1,4 +1,4 @@
-// What the lexer gives: tokens, faults and their places in the text.
+//! What the lexer gives: tokens, faults and their places in the text.
 
 /// The last number of bytes that a word, or the text of a quoted token, may have.
 pub const LONGEST_NAME: usize = 255;

@@ -11,7 +11,8 @@ digit_value byte digit = (grind arith, grind arith)
 -- a byte among digits is one
 pub digit_at : (bytes : List ℕ) (i : ℕ) → list_all is_ascii_digit bytes ≡ true → i < length bytes →
     (48 ≤ get_or bytes i 0) × (get_or bytes i 0 ≤ 57)
-digit_at bytes i each inside = digit_value (get_or bytes i 0) (AllPass-from_list_all is_ascii_digit bytes each i 0 inside)
+digit_at bytes i each inside =
+    digit_value (get_or bytes i 0) (AllPass-from_list_all is_ascii_digit bytes each i 0 inside)
 
 -- in front of the ninth digit there is room for one more
 pub room : (number i size : ℕ) → number < 10 ^ i → i < size → size ≤ 9 → number < 100000000
@@ -20,7 +21,8 @@ room number i size small inside few =
     let is : 10 ^ 8 ≡ 100000000 = refl in
     omega arith
 
-pub small_more : (number i digit : ℕ) → number < 10 ^ i → 48 ≤ digit → digit ≤ 57 → 10 * number + (digit - 48) < 10 ^ (i + 1)
+pub small_more : (number i digit : ℕ) → number < 10 ^ i → 48 ≤ digit → digit ≤ 57
+    → 10 * number + (digit - 48) < 10 ^ (i + 1)
 small_more number i digit small low high = rw (add-one, pow-suc) (omega arith)
 
 -- nine digits write less than a milliard

@@ -1,5 +1,6 @@
 -- What the open statement has had in each state, and what a further lexeme makes of it.
-use Rattle.std.proofs.Common.{◌≡◌, ℕ, Bool, true, false, List, [], ◌∷◌, ◌++◌, Option, Some, None, refl, sym, ap, ◌∙◌, subst, append_assoc}
+use Rattle.std.proofs.Common.{◌≡◌, ℕ, Bool, true, false, List, [], ◌∷◌, ◌++◌, Option, Some, None, refl, sym, ap, ◌∙◌}
+use Rattle.std.proofs.Common.{subst, append_assoc}
 use Rattle.std.specs.Prelude.{map, ◌&&◌}
 use Rattle.std.specs.List.{list_all, flat_map}
 use Rattle.std.proofs.lemmas.List.{append-nil}
@@ -9,12 +10,17 @@ use Rattle.galileo_tree.specs.declared.raw.Placed.{Placed}
 use Rattle.galileo_tree.specs.declared.raw.RawAttribute.{RawAttribute}
 use Rattle.galileo_tree.specs.Lexeme.{Lexeme, is_equals, is_semicolon, is_bare, is_name, is_value, is_top_word, placed}
 use Rattle.galileo_tree.specs.GateWord.{kind_said}
-use Rattle.galileo_tree.specs.Parsed.{State, Outside, TopWord, TopName, Defined, GateWord, Inputs, AttributeWord, AttributeEquals, Attributes, Step, On, Whole, Stop, step, expected, defined_step, attribute_of}
-use Rattle.galileo_tree.specs.Grammar.{IsDefinedName, Written, lexemes_in, IsAttribute, attribute_in, AreAttributes, Spells, Stands, at_start, behind_top_word, behind_top_name, behind_name, behind_first_word, behind_inputs, behind_equals, behind_value, behind_next_word}
+use Rattle.galileo_tree.specs.Parsed.{State, Outside, TopWord, TopName, Defined, GateWord, Inputs, AttributeWord}
+use Rattle.galileo_tree.specs.Parsed.{AttributeEquals, Attributes, Step, On, Whole, Stop, step, expected, defined_step}
+use Rattle.galileo_tree.specs.Parsed.{attribute_of}
+use Rattle.galileo_tree.specs.Grammar.{IsDefinedName, Written, lexemes_in, IsAttribute, attribute_in, AreAttributes}
+use Rattle.galileo_tree.specs.Grammar.{Spells, Stands, at_start, behind_top_word, behind_top_name, behind_name}
+use Rattle.galileo_tree.specs.Grammar.{behind_first_word, behind_inputs, behind_equals, behind_value, behind_next_word}
 use Rattle.galileo_tree.proofs.LexemeKinds.{by_test}
 
 -- a gate's name, its word and its inputs
-pub record HadGate (name : Placed) (place : Place) (kind : GateKind) (inputs : List Placed) (had : List Lexeme) : Type 0 where
+pub record HadGate (name : Placed) (place : Place) (kind : GateKind) (inputs : List Placed)
+    (had : List Lexeme) : Type 0 where
   pub first : Lexeme
   pub word : Lexeme
   pub rest : List Lexeme
@@ -27,7 +33,8 @@ pub record HadGate (name : Placed) (place : Place) (kind : GateKind) (inputs : L
   pub inputs_are : inputs ≡ map placed rest
 
 -- a basic event's name, its attributes, and the lexemes of one that has begun
-pub record HadBasic (name : Placed) (attributes : List RawAttribute) (begun : List Lexeme) (had : List Lexeme) (whole : List Written) : Type 0 where
+pub record HadBasic (name : Placed) (attributes : List RawAttribute) (begun : List Lexeme) (had : List Lexeme)
+    (whole : List Written) : Type 0 where
   pub first : Lexeme
   pub is : had ≡ first ∷ flat_map lexemes_in whole ++ begun
   pub defined : IsDefinedName first
@@ -48,24 +55,30 @@ abbrev pub Had : State → List Lexeme → Type 0
 Had Outside had = had ≡ []
 Had (TopWord place) had = (word : Lexeme) × (had ≡ word ∷ []) × (is_top_word word ≡ true) × (place ≡ word.place)
 Had (TopName place name) had =
-    (word : Lexeme) × (second : Lexeme) × (had ≡ word ∷ second ∷ []) × (is_top_word word ≡ true) × (is_name second ≡ true)
+    (word : Lexeme) × (second : Lexeme) × (had ≡ word ∷ second ∷ []) × (is_top_word word ≡ true)
+    × (is_name second ≡ true)
     × (place ≡ word.place) × (name ≡ placed second)
 Had (Defined name) had = (first : Lexeme) × (had ≡ first ∷ []) × IsDefinedName first × (name ≡ placed first)
 Had (GateWord name word kind) had =
-    (first : Lexeme) × (had ≡ first ∷ word ∷ []) × IsDefinedName first × (kind_said word ≡ Some kind) × (name ≡ placed first)
+    (first : Lexeme) × (had ≡ first ∷ word ∷ []) × IsDefinedName first × (kind_said word ≡ Some kind)
+    × (name ≡ placed first)
 Had (Inputs name place kind inputs) had = HadGate name place kind inputs had
 Had (AttributeWord name attributes word) had =
     (whole : List Written) × (begun : Lexeme) × HadBasic name attributes (begun ∷ []) had whole × (is_bare begun ≡ true)
     × (word ≡ begun.text) × IsNextWord whole begun
 Had (AttributeEquals name attributes word) had =
-    (whole : List Written) × (begun : Lexeme) × (equals : Lexeme) × HadBasic name attributes (begun ∷ equals ∷ []) had whole
+    (whole : List Written) × (begun : Lexeme) × (equals : Lexeme)
+    × HadBasic name attributes (begun ∷ equals ∷ []) had whole
     × (is_bare begun ≡ true) × (word ≡ begun.text) × (is_equals equals ≡ true)
 Had (Attributes name attributes) had = (whole : List Written) × HadBasic name attributes [] had whole × IsSome whole
 
 -- what has been had stands before what the state expects
-word_stands : (name : Placed) (attributes : List RawAttribute) (had : List Lexeme) (whole : List Written) (begun : Lexeme) →
-    HadBasic name attributes (begun ∷ []) had whole → is_bare begun ≡ true → IsNextWord whole begun → Stands had (expected (AttributeWord name attributes begun.text))
-word_stands name attributes had [] begun basic bare next = behind_first_word basic.first begun basic.is basic.defined bare next refl
+word_stands : (name : Placed) (attributes : List RawAttribute) (had : List Lexeme) (whole : List Written)
+    (begun : Lexeme) →
+    HadBasic name attributes (begun ∷ []) had whole → is_bare begun ≡ true → IsNextWord whole begun
+    → Stands had (expected (AttributeWord name attributes begun.text))
+word_stands name attributes had [] begun basic bare next =
+    behind_first_word basic.first begun basic.is basic.defined bare next refl
 word_stands name attributes had (written ∷ whole) begun basic bare next =
     behind_next_word basic.first written whole begun basic.is basic.defined basic.each bare refl
 
@@ -73,7 +86,8 @@ value_stands : (name : Placed) (attributes : List RawAttribute) (had : List Lexe
     HadBasic name attributes [] had whole → IsSome whole → Stands had (expected (Attributes name attributes))
 value_stands name attributes had [] basic some = absurd some
 value_stands name attributes had (written ∷ whole) basic some =
-    behind_value basic.first written whole (basic.is ∙ ap (λ l. basic.first ∷ l) (append-nil (flat_map lexemes_in (written ∷ whole)))) basic.defined basic.each refl
+    behind_value basic.first written whole (basic.is
+    ∙ ap (λ l. basic.first ∷ l) (append-nil (flat_map lexemes_in (written ∷ whole)))) basic.defined basic.each refl
 
 pub stands : (state : State) (had : List Lexeme) → Had state had → Stands had (expected state)
 stands Outside had is = at_start is refl
@@ -81,7 +95,8 @@ stands (TopWord place) had is = behind_top_word is.0 is.1 is.2 refl
 stands (TopName place name) had is = behind_top_name is.0 is.1 is.2 is.3 is.4 refl
 stands (Defined name) had is = behind_name is.0 is.1 is.2 refl
 stands (GateWord name word kind) had is = behind_inputs is.0 word kind [] is.1 is.2 is.3 refl refl
-stands (Inputs name place kind inputs) had is = behind_inputs is.first is.word kind is.rest is.is is.defined is.said is.named refl
+stands (Inputs name place kind inputs) had is =
+    behind_inputs is.first is.word kind is.rest is.is is.defined is.said is.named refl
 stands (AttributeWord name attributes word) had is = word_stands name attributes had is.0 is.1 is.2 is.3 is.5
 stands (AttributeEquals name attributes word) had is =
     behind_equals is.3.first is.0 is.1 is.2 is.3.is is.3.defined is.3.each is.4 is.6 refl
@@ -109,17 +124,20 @@ list_all-push : (lexemes : List Lexeme) (lexeme : Lexeme) → list_all is_name l
     list_all is_name (lexemes ++ lexeme ∷ []) ≡ true
 list_all-push [] lexeme each last = rw last refl
 list_all-push (first ∷ lexemes) lexeme each last =
-    both (is_name first) _ (left (is_name first) _ each) (list_all-push lexemes lexeme (right (is_name first) _ each) last)
+    both (is_name first) _ (left (is_name first) _ each)
+    (list_all-push lexemes lexeme (right (is_name first) _ each) last)
 
 map-push : {A B : Type 0} (f : A → B) (xs : List A) (x : A) → map f (xs ++ x ∷ []) ≡ map f xs ++ f x ∷ []
 map-push f [] x = refl
 map-push f (y ∷ xs) x = ap (λ l. f y ∷ l) (map-push f xs x)
 
-attributes-push : (whole : List Written) (last : Written) → AreAttributes whole → IsAttribute last → AreAttributes (whole ++ last ∷ [])
+attributes-push : (whole : List Written) (last : Written) → AreAttributes whole → IsAttribute last
+    → AreAttributes (whole ++ last ∷ [])
 attributes-push [] last each is = (is, tt)
 attributes-push (first ∷ whole) last each is = (each.0, attributes-push whole last each.1 is)
 
-flat_map-push : (whole : List Written) (last : Written) → flat_map lexemes_in (whole ++ last ∷ []) ≡ flat_map lexemes_in whole ++ lexemes_in last
+flat_map-push : (whole : List Written) (last : Written)
+    → flat_map lexemes_in (whole ++ last ∷ []) ≡ flat_map lexemes_in whole ++ lexemes_in last
 flat_map-push [] last = append-nil (lexemes_in last)
 flat_map-push (first ∷ whole) last = ap (λ l. lexemes_in first ++ l) (flat_map-push whole last)
 
@@ -133,8 +151,14 @@ defined_makes : (name : Placed) (first : Lexeme) (lexeme : Lexeme) (said : Optio
 defined_makes name first lexeme (Some kind) said defined is = (first, refl, defined, said, is)
 defined_makes name first lexeme None said defined is =
     by_test (is_bare lexeme)
-    (λ bare. rw bare
-    ([], lexeme, record { first = first; is = refl; defined = defined; each = tt; name_is = is; attributes_are = refl }, bare, refl, said))
+    (λ bare. rw bare (
+      [],
+      lexeme,
+      record { first = first; is = refl; defined = defined; each = tt; name_is = is; attributes_are = refl },
+      bare,
+      refl,
+      said,
+    ))
     (λ other. rw other tt)
 
 outside_makes : (lexeme : Lexeme) → Makes (lexeme ∷ []) (step Outside lexeme)
@@ -153,12 +177,22 @@ top_word_makes place word lexeme top is =
     (λ named. rw named (word, lexeme, refl, top, named, is, refl))
     (λ other. rw other tt)
 
-top_name_makes : (place : Place) (name : Placed) (word second lexeme : Lexeme) → is_top_word word ≡ true → is_name second ≡ true →
+top_name_makes : (place : Place) (name : Placed) (word second lexeme : Lexeme) → is_top_word word ≡ true
+    → is_name second ≡ true →
     place ≡ word.place → name ≡ placed second → Makes (word ∷ second ∷ lexeme ∷ []) (step (TopName place name) lexeme)
 top_name_makes place name word second lexeme top named place_is name_is =
     by_test (is_semicolon lexeme)
     (λ close. rw (close, place_is, name_is)
-    (record { word = word; name = second; close = lexeme; spelled = refl; is_top = top; named = named; closed = close; is = refl }))
+    (record {
+      word = word;
+      name = second;
+      close = lexeme;
+      spelled = refl;
+      is_top = top;
+      named = named;
+      closed = close;
+      is = refl;
+    }))
     (λ other. rw other tt)
 
 name_makes : (name : Placed) (first lexeme : Lexeme) → IsDefinedName first → name ≡ placed first →
@@ -166,35 +200,97 @@ name_makes : (name : Placed) (first lexeme : Lexeme) → IsDefinedName first →
 name_makes name first lexeme defined name_is =
     by_test (is_semicolon lexeme)
     (λ close. rw (close, name_is)
-    (record { name = first; attributes = []; close = lexeme; spelled = refl; defined = defined; each = tt; closed = close; is = refl }))
+    (record {
+      name = first;
+      attributes = [];
+      close = lexeme;
+      spelled = refl;
+      defined = defined;
+      each = tt;
+      closed =
+          close;
+      is = refl;
+    }))
     (λ open_still. rw open_still (defined_makes name first lexeme (kind_said lexeme) refl defined name_is))
 
-gate_word_makes : (name : Placed) (word : Lexeme) (kind : GateKind) (first lexeme : Lexeme) → IsDefinedName first → kind_said word ≡ Some kind →
+gate_word_makes : (name : Placed) (word : Lexeme) (kind : GateKind) (first lexeme : Lexeme) → IsDefinedName first
+    → kind_said word ≡ Some kind →
     name ≡ placed first → Makes (first ∷ word ∷ lexeme ∷ []) (step (GateWord name word kind) lexeme)
 gate_word_makes name word kind first lexeme defined said name_is =
     by_test (is_semicolon lexeme)
     (λ close. rw (close, name_is)
-    (record { name = first; word = word; inputs = []; close = lexeme; spelled = refl; defined = defined; said = said; named = refl; closed = close; is = refl }))
+    (record {
+      name = first;
+      word = word;
+      inputs = [];
+      close = lexeme;
+      spelled = refl;
+      defined = defined;
+      said = said;
+      named = refl;
+      closed = close;
+      is = refl;
+    }))
     (λ open_still. rw open_still
     (by_test (is_name lexeme)
     (λ named. rw named
-    (record { first = first; word = word; rest = lexeme ∷ []; is = refl; defined = defined; said = said; named = rw named refl; name_is = name_is; place_is = refl; inputs_are = refl }))
+    (record {
+      first = first;
+      word = word;
+      rest = lexeme ∷ [];
+      is = refl;
+      defined = defined;
+      said = said;
+      named =
+          rw named refl;
+      name_is = name_is;
+      place_is = refl;
+      inputs_are = refl;
+    }))
     (λ no_name. rw no_name
     (by_test (is_equals lexeme)
     (λ equals. rw equals
     (by_test (is_bare word)
-    (λ bare. rw bare
-    ([], word, lexeme, record { first = first; is = refl; defined = defined; each = tt; name_is = name_is; attributes_are = refl }, bare, refl, equals))
+    (λ bare. rw bare (
+      [],
+      word,
+      lexeme,
+      record {
+        first = first;
+        is = refl;
+        defined = defined;
+        each = tt;
+        name_is = name_is;
+        attributes_are = refl;
+      },
+      bare,
+      refl,
+      equals,
+    ))
     (λ other. rw other tt)))
     (λ other. rw other tt)))))
 
-inputs_make : (name : Placed) (place : Place) (kind : GateKind) (inputs : List Placed) (had : List Lexeme) (lexeme : Lexeme) → HadGate name place kind inputs had →
+inputs_make : (name : Placed) (place : Place) (kind : GateKind) (inputs : List Placed) (had : List Lexeme)
+    (lexeme : Lexeme) → HadGate name place kind inputs had →
     Makes (had ++ lexeme ∷ []) (step (Inputs name place kind inputs) lexeme)
 inputs_make name place kind inputs had lexeme gate =
-    let longer : had ++ lexeme ∷ [] ≡ gate.first ∷ gate.word ∷ gate.rest ++ lexeme ∷ [] = ap (λ l. l ++ lexeme ∷ []) gate.is in
+    let longer : had ++ lexeme ∷ [] ≡ gate.first ∷ gate.word ∷ gate.rest ++ lexeme ∷ [] =
+    ap (λ l. l ++ lexeme ∷ []) gate.is in
     by_test (is_semicolon lexeme)
     (λ close. rw (close, gate.name_is, gate.place_is, gate.inputs_are)
-    (record { name = gate.first; word = gate.word; inputs = gate.rest; close = lexeme; spelled = longer; defined = gate.defined; said = gate.said; named = gate.named; closed = close; is = refl }))
+    (record {
+      name = gate.first;
+      word = gate.word;
+      inputs = gate.rest;
+      close = lexeme;
+      spelled = longer;
+      defined =
+          gate.defined;
+      said = gate.said;
+      named = gate.named;
+      closed = close;
+      is = refl;
+    }))
     (λ open_still. rw open_still
     (by_test (is_name lexeme)
     (λ named. rw named
@@ -213,27 +309,42 @@ inputs_make name place kind inputs had lexeme gate =
     (λ other. rw other tt)))
 
 -- one more lexeme of an attribute that has begun
-basic_longer : (name : Placed) (attributes : List RawAttribute) (begun had : List Lexeme) (whole : List Written) (lexeme : Lexeme) →
-    HadBasic name attributes begun had whole → HadBasic name attributes (begun ++ lexeme ∷ []) (had ++ lexeme ∷ []) whole
+basic_longer : (name : Placed) (attributes : List RawAttribute) (begun had : List Lexeme) (whole : List Written)
+    (lexeme : Lexeme) →
+    HadBasic name attributes begun had whole → HadBasic name attributes (begun ++ lexeme ∷ []) (had ++ lexeme ∷ [])
+    whole
 basic_longer name attributes begun had whole lexeme basic = record {
   first = basic.first;
-  is = ap (λ l. l ++ lexeme ∷ []) basic.is ∙ ap (λ l. basic.first ∷ l) (append_assoc (flat_map lexemes_in whole) begun (lexeme ∷ []));
+  is =
+      ap (λ l. l ++ lexeme ∷ []) basic.is ∙ ap (λ l. basic.first ∷ l)
+      (append_assoc (flat_map lexemes_in whole) begun (lexeme ∷ []));
   defined = basic.defined;
   each = basic.each;
   name_is = basic.name_is;
   attributes_are = basic.attributes_are;
 }
 
-word_makes : (name : Placed) (attributes : List RawAttribute) (word : List ℕ) (had : List Lexeme) (whole : List Written) (begun lexeme : Lexeme) →
+word_makes : (name : Placed) (attributes : List RawAttribute) (word : List ℕ) (had : List Lexeme) (whole : List Written)
+    (begun lexeme : Lexeme) →
     HadBasic name attributes (begun ∷ []) had whole → is_bare begun ≡ true → word ≡ begun.text →
     Makes (had ++ lexeme ∷ []) (step (AttributeWord name attributes word) lexeme)
 word_makes name attributes word had whole begun lexeme basic bare word_is =
     by_test (is_equals lexeme)
-    (λ equals. rw equals (whole, begun, lexeme, basic_longer name attributes (begun ∷ []) had whole lexeme basic, bare, word_is, equals))
+    (λ equals. rw equals (
+      whole,
+      begun,
+      lexeme,
+      basic_longer name attributes (begun ∷ []) had whole lexeme basic,
+      bare,
+      word_is,
+      equals,
+    ))
     (λ other. rw other tt)
 
-equals_makes : (name : Placed) (attributes : List RawAttribute) (word : List ℕ) (had : List Lexeme) (whole : List Written) (begun equals lexeme : Lexeme) →
-    HadBasic name attributes (begun ∷ equals ∷ []) had whole → is_bare begun ≡ true → word ≡ begun.text → is_equals equals ≡ true →
+equals_makes : (name : Placed) (attributes : List RawAttribute) (word : List ℕ) (had : List Lexeme)
+    (whole : List Written) (begun equals lexeme : Lexeme) →
+    HadBasic name attributes (begun ∷ equals ∷ []) had whole → is_bare begun ≡ true → word ≡ begun.text
+    → is_equals equals ≡ true →
     Makes (had ++ lexeme ∷ []) (step (AttributeEquals name attributes word) lexeme)
 unfolding basic_longer
 equals_makes name attributes word had whole begun equals lexeme basic bare word_is equals_is =
@@ -245,12 +356,15 @@ equals_makes name attributes word had whole begun equals lexeme basic bare word_
       whole ++ last ∷ [],
       record {
         first = basic.first;
-        is = longer.is ∙ ap (λ l. basic.first ∷ l) (sym (flat_map-push whole last) ∙ sym (append-nil (flat_map lexemes_in (whole ++ last ∷ []))));
+        is =
+            longer.is ∙ ap (λ l. basic.first ∷ l) (sym (flat_map-push whole last)
+            ∙ sym (append-nil (flat_map lexemes_in (whole ++ last ∷ []))));
         defined = basic.defined;
         each = attributes-push whole last basic.each (record { bare = bare; equals = equals_is; value = valued });
         name_is = basic.name_is;
         attributes_are = ap (λ l. l ++ attribute_of word lexeme ∷ []) basic.attributes_are
-            ∙ ap (λ w. map attribute_in whole ++ attribute_of w lexeme ∷ []) word_is ∙ sym (map-push attribute_in whole last);
+            ∙ ap (λ w. map attribute_in whole ++ attribute_of w lexeme ∷ []) word_is
+            ∙ sym (map-push attribute_in whole last);
       },
       some_pushed whole last,
     ))
@@ -260,32 +374,50 @@ next_word_is : (whole : List Written) (lexeme : Lexeme) → IsSome whole → IsN
 next_word_is [] lexeme some = absurd some
 next_word_is (written ∷ whole) lexeme some = tt
 
-value_makes : (name : Placed) (attributes : List RawAttribute) (had : List Lexeme) (whole : List Written) (lexeme : Lexeme) →
-    HadBasic name attributes [] had whole → IsSome whole → Makes (had ++ lexeme ∷ []) (step (Attributes name attributes) lexeme)
+value_makes : (name : Placed) (attributes : List RawAttribute) (had : List Lexeme) (whole : List Written)
+    (lexeme : Lexeme) →
+    HadBasic name attributes [] had whole → IsSome whole
+    → Makes (had ++ lexeme ∷ []) (step (Attributes name attributes) lexeme)
 unfolding basic_longer
 value_makes name attributes had whole lexeme basic some =
     let longer = basic_longer name attributes [] had whole lexeme basic in
     by_test (is_semicolon lexeme)
     (λ close. rw (close, basic.name_is, basic.attributes_are)
-    (record { name = basic.first; attributes = whole; close = lexeme; spelled = longer.is; defined = basic.defined; each = basic.each; closed = close; is = refl }))
+    (record {
+      name = basic.first;
+      attributes = whole;
+      close = lexeme;
+      spelled = longer.is;
+      defined = basic.defined;
+      each = basic.each;
+      closed = close;
+      is = refl;
+    }))
     (λ open_still. rw open_still
     (by_test (is_bare lexeme)
     (λ bare. rw bare (whole, lexeme, longer, bare, refl, next_word_is whole lexeme some))
     (λ other. rw other tt)))
 
 -- what a lexeme makes of what has been had
-pub makes : (state : State) (had : List Lexeme) (lexeme : Lexeme) → Had state had → Makes (had ++ lexeme ∷ []) (step state lexeme)
+pub makes : (state : State) (had : List Lexeme) (lexeme : Lexeme) → Had state had
+    → Makes (had ++ lexeme ∷ []) (step state lexeme)
 makes Outside had lexeme is =
     subst (λ l. Makes (l ++ lexeme ∷ []) (step Outside lexeme)) (sym is) (outside_makes lexeme)
 makes (TopWord place) had lexeme is =
-    subst (λ l. Makes (l ++ lexeme ∷ []) (step (TopWord place) lexeme)) (sym is.1) (top_word_makes place is.0 lexeme is.2 is.3)
+    subst (λ l. Makes (l ++ lexeme ∷ []) (step (TopWord place) lexeme)) (sym is.1)
+    (top_word_makes place is.0 lexeme is.2 is.3)
 makes (TopName place name) had lexeme is =
-    subst (λ l. Makes (l ++ lexeme ∷ []) (step (TopName place name) lexeme)) (sym is.2) (top_name_makes place name is.0 is.1 lexeme is.3 is.4 is.5 is.6)
+    subst (λ l. Makes (l ++ lexeme ∷ []) (step (TopName place name) lexeme)) (sym is.2)
+    (top_name_makes place name is.0 is.1 lexeme is.3 is.4 is.5 is.6)
 makes (Defined name) had lexeme is =
-    subst (λ l. Makes (l ++ lexeme ∷ []) (step (Defined name) lexeme)) (sym is.1) (name_makes name is.0 lexeme is.2 is.3)
+    subst (λ l. Makes (l ++ lexeme ∷ []) (step (Defined name) lexeme)) (sym is.1)
+    (name_makes name is.0 lexeme is.2 is.3)
 makes (GateWord name word kind) had lexeme is =
-    subst (λ l. Makes (l ++ lexeme ∷ []) (step (GateWord name word kind) lexeme)) (sym is.1) (gate_word_makes name word kind is.0 lexeme is.2 is.3 is.4)
+    subst (λ l. Makes (l ++ lexeme ∷ []) (step (GateWord name word kind) lexeme)) (sym is.1)
+    (gate_word_makes name word kind is.0 lexeme is.2 is.3 is.4)
 makes (Inputs name place kind inputs) had lexeme is = inputs_make name place kind inputs had lexeme is
-makes (AttributeWord name attributes word) had lexeme is = word_makes name attributes word had is.0 is.1 lexeme is.2 is.3 is.4
-makes (AttributeEquals name attributes word) had lexeme is = equals_makes name attributes word had is.0 is.1 is.2 lexeme is.3 is.4 is.5 is.6
+makes (AttributeWord name attributes word) had lexeme is =
+    word_makes name attributes word had is.0 is.1 lexeme is.2 is.3 is.4
+makes (AttributeEquals name attributes word) had lexeme is =
+    equals_makes name attributes word had is.0 is.1 is.2 lexeme is.3 is.4 is.5 is.6
 makes (Attributes name attributes) had lexeme is = value_makes name attributes had is.0 lexeme is.1 is.2

@@ -1,5 +1,7 @@
 -- The text of a word and of a quoted token has the form of a name.
-use Rattle.std.proofs.Common.{◌≡◌, ℕ, ◌+◌, ◌-◌, ◌<◌, ◌≤◌, ◌⊎◌, inl, inr, Bool, true, false, List, [], ◌∷◌, ◌++◌, length, take, drop, sym, refl, ap, ◌∙◌, arith, append_assoc, le-leb, take-append-drop, length-drop, length-append, length-take-le}
+use Rattle.std.proofs.Common.{◌≡◌, ℕ, ◌+◌, ◌-◌, ◌<◌, ◌≤◌, ◌⊎◌, inl, inr, Bool, true, false, List, [], ◌∷◌, ◌++◌, length}
+use Rattle.std.proofs.Common.{take, drop, sym, refl, ap, ◌∙◌, arith, append_assoc, le-leb, take-append-drop}
+use Rattle.std.proofs.Common.{length-drop, length-append, length-take-le}
 use Rattle.std.proofs.lemmas.List.{take_at, drop-drop, take_rest}
 use Rattle.std.specs.Prelude.{◌&&◌, slice_range}
 use Rattle.std.specs.List.{list_all}
@@ -38,7 +40,8 @@ quotable_named byte is = is
 name_text : (allowed : ℕ → Bool) → ((byte : ℕ) → allowed byte ≡ true → is_name_byte byte ≡ true) →
     (bytes : List ℕ) → IsNameText allowed bytes → is_name bytes ≡ true
 name_text allowed widens bytes is =
-    both_hold _ _ (both_hold _ _ (le-leb _ _ is.some) (le-leb _ _ is.few)) (list_all-wider allowed is_name_byte widens bytes is.each)
+    both_hold _ _ (both_hold _ _ (le-leb _ _ is.some) (le-leb _ _ is.few))
+    (list_all-wider allowed is_name_byte widens bytes is.each)
 
 quoted_length : (name : List ℕ) → length (34 ∷ name ++ 34 ∷ []) ≡ length name + 2
 quoted_length name = omega (arith, length-append name (34 ∷ []))
@@ -75,15 +78,18 @@ pub rest_reaches : (text : List ℕ) (start stop : ℕ) → stop ≤ length text
 rest_reaches text start stop in_text some =
     omega (arith, ap length (take_rest text start), length-drop start text)
 
-pub quoted_rest : (text : List ℕ) (kind : TokenKind) (start stop : ℕ) → kind ≡ Quoted → stop ≤ length text → start < stop →
-    Spells kind (slice_range text start stop) → HasNameText kind (take (stop - 1 - (start + 1)) (slice_range text (start + 1) (length text)))
+pub quoted_rest : (text : List ℕ) (kind : TokenKind) (start stop : ℕ) → kind ≡ Quoted → stop ≤ length text
+    → start < stop →
+    Spells kind (slice_range text start stop) → HasNameText kind
+    (take (stop - 1 - (start + 1)) (slice_range text (start + 1) (length text)))
 quoted_rest text Quoted start stop is in_text some spells =
     rw (take_rest text (start + 1)) (spelled_name text Quoted start stop in_text some spells)
 quoted_rest text Word start stop is in_text some spells = absurd cc
 quoted_rest text Equals start stop is in_text some spells = absurd cc
 quoted_rest text Semicolon start stop is in_text some spells = absurd cc
 
-pub plain_rest : (text : List ℕ) (kind : TokenKind) (start stop : ℕ) → (kind ≡ Word) ⊎ ((kind ≡ Equals) ⊎ (kind ≡ Semicolon)) →
+pub plain_rest : (text : List ℕ) (kind : TokenKind) (start stop : ℕ)
+    → (kind ≡ Word) ⊎ ((kind ≡ Equals) ⊎ (kind ≡ Semicolon)) →
     stop ≤ length text → start < stop → Spells kind (slice_range text start stop) →
     HasNameText kind (take (stop - start) (slice_range text start (length text)))
 plain_rest text Word start stop is in_text some spells named =

@@ -1,5 +1,6 @@
 -- Steps of the parser, one after the other.
-use Rattle.std.proofs.Common.{◌≡◌, List, [], ◌∷◌, ◌++◌, length, Result, Ok, Err, refl, sym, ap, ◌∙◌, subst, arith, append_assoc}
+use Rattle.std.proofs.Common.{◌≡◌, List, [], ◌∷◌, ◌++◌, length, Result, Ok, Err, refl, sym, ap, ◌∙◌, subst, arith}
+use Rattle.std.proofs.Common.{append_assoc}
 use Rattle.galileo_tree.specs.declared.raw.Statement.{Statement}
 use Rattle.galileo_tree.specs.declared.fault.ParseFault.{ParseFault}
 use Rattle.galileo_tree.specs.declared.fault.ParseFault.TheVariants.{Expected}
@@ -9,12 +10,14 @@ use Rattle.std.proofs.Common.{None}
 use Rattle.galileo_tree.specs.declared.raw.RawBasic.{RawBasic}
 use Rattle.galileo_tree.specs.declared.raw.Statement.TheVariants.{Basic}
 use Rattle.galileo_tree.specs.Lexeme.{Lexeme, Stream}
-use Rattle.galileo_tree.specs.Parsed.{State, Outside, Attributes, On, step, expected, proceed, parsed, parsed_from, with_statement}
+use Rattle.galileo_tree.specs.Parsed.{State, Outside, Attributes, On, step, expected, proceed, parsed, parsed_from}
+use Rattle.galileo_tree.specs.Parsed.{with_statement}
 use Rattle.galileo_tree.specs.Reads.{TakesFirst, GoesOn, Reads, Closes, FailsAs, NextWord, before}
 
 -- a lexeme that was taken does its step
 pub taken : (state : State) (old new : Stream) (lexeme : Lexeme) → TakesFirst old lexeme new →
-    parsed_from state old ≡ proceed (step state lexeme) (Expected (expected state) lexeme.place) (λ later. parsed_from later new)
+    parsed_from state old ≡ proceed (step state lexeme) (Expected (expected state) lexeme.place)
+    (λ later. parsed_from later new)
 taken state old new lexeme takes =
     ap (λ lexemes. parsed state lexemes old.ending) takes.first
     ∙ ap (λ ending. parsed state (lexeme ∷ new.lexemes) ending) (sym takes.same_ending)
@@ -22,11 +25,14 @@ taken state old new lexeme takes =
 pub goes_by : (state later : State) (old new : Stream) (lexeme : Lexeme) → TakesFirst old lexeme new →
     step state lexeme ≡ On later → GoesOn state old later new
 goes_by state later old new lexeme takes does = record {
-  same = taken state old new lexeme takes ∙ ap (λ s. proceed s (Expected (expected state) lexeme.place) (λ next. parsed_from next new)) does;
+  same =
+      taken state old new lexeme takes ∙ ap (λ s. proceed s (Expected (expected state) lexeme.place)
+      (λ next. parsed_from next new)) does;
   fewer = omega (arith, ap length takes.first);
 }
 
-pub goes_then : (first second third : State) (old middle new : Stream) → GoesOn first old second middle → GoesOn second middle third new → GoesOn first old third new
+pub goes_then : (first second third : State) (old middle new : Stream) → GoesOn first old second middle
+    → GoesOn second middle third new → GoesOn first old third new
 goes_then first second third old middle new a b = record { same = a.same ∙ b.same; fewer = omega arith }
 
 -- statements in front of what is read behind them
@@ -37,7 +43,8 @@ with_front front (Err fault) = Err fault
 pub with_front-push : (front : List Statement) (statement : Statement) (read : Result ReadTree ParseFault) →
     with_front front (with_statement statement read) ≡ with_front (front ++ statement ∷ []) read
 with_front-push front statement (Ok tree) =
-    ap (λ all. let t : Result ReadTree ParseFault = Ok (record { statements = all; end = tree.end }) in t) (sym (append_assoc front (statement ∷ []) tree.statements))
+    ap (λ all. let t : Result ReadTree ParseFault = Ok (record { statements = all; end = tree.end }) in t)
+    (sym (append_assoc front (statement ∷ []) tree.statements))
 with_front-push front statement (Err fault) = refl
 
 pub with_front-none : (read : Result ReadTree ParseFault) → read ≡ with_front [] read
@@ -52,10 +59,12 @@ put_back state old new lexeme takes =
     ∙ ap (λ ending. parsed state (lexeme ∷ new.lexemes) ending) (sym takes.same_ending)
 
 -- what is read behind a step is what is read from the step on
-fails_after : (read then_read : Result ReadTree ParseFault) → read ≡ then_read → (fault : ParseFault) → FailsAs fault then_read → FailsAs fault read
+fails_after : (read then_read : Result ReadTree ParseFault) → read ≡ then_read → (fault : ParseFault)
+    → FailsAs fault then_read → FailsAs fault read
 fails_after read then_read same fault fails = subst (FailsAs fault) (sym same) fails
 
-pub reads_after : (first second : State) (old middle new : Stream) → GoesOn first old second middle → (result : Result Statement ParseFault) →
+pub reads_after : (first second : State) (old middle new : Stream) → GoesOn first old second middle
+    → (result : Result Statement ParseFault) →
     Reads second middle result new → Reads first old result new
 reads_after first second old middle new goes (Ok statement) reads =
     record { same = goes.same ∙ reads.same; fewer = omega arith; form = reads.form }
@@ -63,14 +72,18 @@ reads_after first second old middle new goes (Err fault) reads =
     fails_after (parsed_from first old) (parsed_from second middle) goes.same fault reads
 
 -- the last value of a basic event's attributes, and then the end
-pub closes_basic : (first : State) (old middle new : Stream) (basic : RawBasic) → GoesOn first old (Attributes basic.name basic.attributes) middle →
-    NextWord basic.name basic.attributes middle (Ok None) new → All HasBareWord basic.attributes → Closes first old (Basic basic) new
+pub closes_basic : (first : State) (old middle new : Stream) (basic : RawBasic)
+    → GoesOn first old (Attributes basic.name basic.attributes) middle →
+    NextWord basic.name basic.attributes middle (Ok None) new → All HasBareWord basic.attributes
+    → Closes first old (Basic basic) new
 closes_basic first old middle new basic goes next form =
     record { same = goes.same ∙ next.0; fewer = omega (arith, goes.fewer, next.1); form = form }
 
 -- a statement that was read stands behind those before it
-pub front_grows : (all : Result ReadTree ParseFault) (front : List Statement) (old middle new : Stream) (lexeme : Lexeme) (statement : Statement) →
-    all ≡ with_front front (parsed_from Outside old) → TakesFirst old lexeme middle → Closes Outside (before lexeme middle) statement new →
+pub front_grows : (all : Result ReadTree ParseFault) (front : List Statement) (old middle new : Stream)
+    (lexeme : Lexeme) (statement : Statement) →
+    all ≡ with_front front (parsed_from Outside old) → TakesFirst old lexeme middle
+    → Closes Outside (before lexeme middle) statement new →
     all ≡ with_front (front ++ statement ∷ []) (parsed_from Outside new)
 front_grows all front old middle new lexeme statement same takes closes =
     same

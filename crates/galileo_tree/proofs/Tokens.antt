@@ -32,10 +32,13 @@ abbrev pub stream_of : List ℕ → Lexed → Stream
 stream_of text read = record { lexemes = map (lexeme_of text) read.tokens; ending = read.ending }
 
 -- what the lexer answers, as lexemes
-pub nexts_token : (text : List ℕ) (old new : Lexed) (token : Token) → Ok (Some token) ≡ next_of old.tokens old.ending → new ≡ after old →
+pub nexts_token : (text : List ℕ) (old new : Lexed) (token : Token) → Ok (Some token) ≡ next_of old.tokens old.ending
+    → new ≡ after old →
     TakesFirst (stream_of text old) (lexeme_of text token) (stream_of text new)
 nexts_token text old new token answer rest = record {
-  first = ap (map (lexeme_of text)) (answered_token old.tokens old.ending token (sym answer)) ∙ ap (λ (l : Lexed). lexeme_of text token ∷ map (lexeme_of text) l.tokens) (sym rest);
+  first =
+      ap (map (lexeme_of text)) (answered_token old.tokens old.ending token (sym answer))
+      ∙ ap (λ (l : Lexed). lexeme_of text token ∷ map (lexeme_of text) l.tokens) (sym rest);
   same_ending = ap (λ (l : Lexed). l.ending) rest;
 }
 
@@ -45,7 +48,9 @@ nexts_none text old new answer rest =
     let ended = answered_none old.tokens old.ending (sym answer) in (
       ended.0,
       record { none_left = ap (map (lexeme_of text)) ended.1; ending = ended.2 },
-      ap (stream_of text) rest ∙ ap (λ tokens. let s : Stream = record { lexemes = map (lexeme_of text) tokens; ending = old.ending } in s) (ap (drop 1) ended.1 ∙ sym ended.1),
+      ap (stream_of text) rest ∙ ap (λ tokens. let s : Stream =
+          record { lexemes = map (lexeme_of text) tokens; ending = old.ending } in s)
+          (ap (drop 1) ended.1 ∙ sym ended.1),
     )
 
 pub nexts_fault : (text : List ℕ) (old new : Lexed) (fault : LexFault) → Err fault ≡ next_of old.tokens old.ending →

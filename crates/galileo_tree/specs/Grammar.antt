@@ -16,7 +16,8 @@ use Rattle.galileo_tree.specs.declared.fault.What.TheVariants as what
 use Rattle.galileo_tree.specs.declared.fault.ParseFault.{ParseFault}
 use Rattle.galileo_tree.specs.declared.fault.ParseFault.TheVariants.{Lex, Expected}
 use Rattle.galileo_tree.specs.ReadTree.{ReadTree}
-use Rattle.galileo_tree.specs.Lexeme.{Lexeme, Stream, place_at, is_equals, is_semicolon, is_bare, is_name, is_value, is_top_word, placed}
+use Rattle.galileo_tree.specs.Lexeme.{Lexeme, Stream, place_at, is_equals, is_semicolon, is_bare, is_name, is_value}
+use Rattle.galileo_tree.specs.Lexeme.{is_top_word, placed}
 use Rattle.galileo_tree.specs.GateWord.{kind_said}
 use Rattle.galileo_tree.specs.Parsed.{attribute_of}
 
@@ -94,7 +95,8 @@ Spells (Basic basic) lexemes = SpellsBasic basic lexemes
 abbrev pub SpellsAll : List Statement → List Lexeme → Type 0
 SpellsAll [] lexemes = lexemes ≡ []
 SpellsAll (statement ∷ more) lexemes =
-    (front : List Lexeme) × (back : List Lexeme) × (lexemes ≡ front ++ back) × Spells statement front × SpellsAll more back
+    (front : List Lexeme) × (back : List Lexeme) × (lexemes ≡ front ++ back) × Spells statement front
+    × SpellsAll more back
 
 -- ---- viable lexemes, and what may stand next
 
@@ -160,5 +162,6 @@ pub data IsFirstFault (stream : Stream) (fault : ParseFault) : Type 0 where
 -- the lexemes spell these statements and the text ends without a fault, or the fault is the first
 abbrev pub IsReading : Stream → Result ReadTree ParseFault → Type 0
 IsReading stream (Ok tree) =
-    SpellsAll tree.statements stream.lexemes × (place : LexPlace) × (stream.ending ≡ Ok place) × (tree.end ≡ place_at place)
+    SpellsAll tree.statements stream.lexemes × (place : LexPlace) × (stream.ending ≡ Ok place)
+    × (tree.end ≡ place_at place)
 IsReading stream (Err fault) = IsFirstFault stream fault

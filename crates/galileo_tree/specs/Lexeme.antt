@@ -28,7 +28,12 @@ text_between Semicolon text start stop = slice_range text start stop
 
 abbrev pub lexeme_of : List ℕ → Token → Lexeme
 lexeme_of text token =
-    record { kind = token.kind; text = text_between token.kind text token.start token.end; place = place_at token.place }
+    record {
+      kind = token.kind;
+      text = text_between token.kind text token.start token.end;
+      place =
+          place_at token.place;
+    }
 
 -- the lexemes that are still to come, and then the place of the text's end or a fault
 pub record Stream : Type 0 where

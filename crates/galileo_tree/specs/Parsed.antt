@@ -15,7 +15,8 @@ use Rattle.galileo_tree.specs.declared.fault.What.TheVariants as what
 use Rattle.galileo_tree.specs.declared.fault.ParseFault.{ParseFault}
 use Rattle.galileo_tree.specs.declared.fault.ParseFault.TheVariants.{Lex, Expected}
 use Rattle.galileo_tree.specs.ReadTree.{ReadTree}
-use Rattle.galileo_tree.specs.Lexeme.{Lexeme, Stream, lexeme_of, place_at, is_equals, is_semicolon, is_bare, is_name, is_value, is_top_word, placed}
+use Rattle.galileo_tree.specs.Lexeme.{Lexeme, Stream, lexeme_of, place_at, is_equals, is_semicolon, is_bare, is_name}
+use Rattle.galileo_tree.specs.Lexeme.{is_value, is_top_word, placed}
 use Rattle.galileo_tree.specs.GateWord.{kind_said}
 
 -- what stands before, of the open statement
@@ -134,11 +135,13 @@ proceed Stop fault next = Err fault
 abbrev pub parsed : State → List Lexeme → Result LexPlace LexFault → Result ReadTree ParseFault
 parsed state [] ending = ended state ending
 parsed state (lexeme ∷ lexemes) ending =
-    proceed (step state lexeme) (Expected (expected state) lexeme.place) (λ then_state. parsed then_state lexemes ending)
+    proceed (step state lexeme) (Expected (expected state) lexeme.place)
+    (λ then_state. parsed then_state lexemes ending)
 
 -- the lexemes of a text
 abbrev pub lexemes_of : List ℕ → Stream
-lexemes_of text = let read = tokens_of text in record { lexemes = map (lexeme_of text) read.tokens; ending = read.ending }
+lexemes_of text =
+    let read = tokens_of text in record { lexemes = map (lexeme_of text) read.tokens; ending = read.ending }
 
 abbrev pub parsed_from : State → Stream → Result ReadTree ParseFault
 parsed_from state stream = parsed state stream.lexemes stream.ending

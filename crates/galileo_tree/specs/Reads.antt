@@ -11,7 +11,8 @@ use Rattle.galileo_tree.specs.declared.fault.ParseFault.TheVariants.{Lex, Expect
 use Rattle.galileo_tree.specs.ReadTree.{ReadTree, KeepsForm}
 use Rattle.galileo_tree.specs.Lexeme.{Lexeme, Stream, place_at}
 use Rattle.fault_model.specs.declared.node.Place.{Place}
-use Rattle.galileo_tree.specs.Parsed.{State, Outside, AttributeEquals, Attributes, basic_of, missing, with_statement, parsed_from}
+use Rattle.galileo_tree.specs.Parsed.{State, Outside, AttributeEquals, Attributes, basic_of, missing, with_statement}
+use Rattle.galileo_tree.specs.Parsed.{parsed_from}
 
 -- a lexeme was taken from the front
 pub record TakesFirst (old : Stream) (lexeme : Lexeme) (new : Stream) : Type 0 where

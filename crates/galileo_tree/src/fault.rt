@@ -1,4 +1,4 @@
-// Why a text is not in the grammar.
+//! Why a text is not in the grammar.
 ghost use Rattle.std.specs.Prelude.{◌≡◌};
 
 use crate::NoMemory;

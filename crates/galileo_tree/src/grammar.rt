@@ -1,4 +1,4 @@
-// Statements from lexemes. Each function reads a part of a statement, from what the lexeme before has begun.
+//! Statements from lexemes. Each function reads a part of a statement, from what the lexeme before has begun.
 ghost use Rattle.std.specs.Prelude.{◌≡◌, ◌≤◌, ℕ, List, [], ◌∷◌, ◌++◌, length, true, Ok, IfOk, IfErr, IfSome, OnOk, All};
 ghost use Rattle.fault_model.specs.Name.{is_bare_name};
 ghost use Rattle.galileo_tree.specs.declared.raw.Placed.{Placed};
@@ -6,7 +6,8 @@ ghost use Rattle.galileo_tree.specs.declared.raw.RawAttribute.{RawAttribute};
 ghost use Rattle.galileo_tree.specs.declared.fault.ParseFault.TheVariants.{NoMemory};
 ghost use Rattle.galileo_tree.specs.ReadTree.{HasShortNumbers, HasBareWord};
 ghost use Rattle.galileo_tree.specs.Lexeme.{is_value, placed};
-ghost use Rattle.galileo_tree.specs.Parsed.{Outside, TopWord, TopName, Defined, GateWord, Inputs, AttributeWord, AttributeEquals, parsed_text};
+ghost use Rattle.galileo_tree.specs.Parsed.{Outside, TopWord, TopName, Defined, GateWord, Inputs, AttributeWord};
+ghost use Rattle.galileo_tree.specs.Parsed.{AttributeEquals, parsed_text};
 ghost use Rattle.galileo_tree.specs.Reads.{Reads, Moves, Steps, Values, NextWord, FailsAs, before};
 
 use crate::fault::{ParseFault, What};
@@ -221,7 +222,8 @@ fn attributes(
 // The attribute of this word, whose value is read.
 fn attribute(alloc: Global, reader: &mut Reader, word: Name) -> Result<RawAttribute, ParseFault>
     requires { is_bare_name word ≡ true }
-    ensures value { (name : Placed) (attributes : List RawAttribute) → Values name attributes word reader.old result reader.new }
+    ensures value { (name : Placed) (attributes : List RawAttribute)
+        → Values name attributes word reader.old result reader.new }
     ensures form { IfOk result HasBareWord }
 {
     let lexeme = match reader.want(What::Value) {
@@ -243,7 +245,8 @@ fn attribute(alloc: Global, reader: &mut Reader, word: Name) -> Result<RawAttrib
 
 // Behind a value: the word of the next attribute, with its `=` read, or None behind the `;`.
 fn next_word(alloc: Global, reader: &mut Reader) -> Result<Option<Name>, ParseFault>
-    ensures next { (name : Placed) (attributes : List RawAttribute) → NextWord name attributes reader.old result reader.new }
+    ensures next { (name : Placed) (attributes : List RawAttribute)
+        → NextWord name attributes reader.old result reader.new }
     ensures bare { IfOk result (λ found. IfSome found (λ word. is_bare_name word ≡ true)) }
 {
     let lexeme = match reader.want(What::Attribute) {

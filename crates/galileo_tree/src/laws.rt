@@ -1,4 +1,4 @@
-// The laws that say what parsing is in the grammar's own terms. Their bodies are empty: each is its clause.
+//! The laws that say what parsing is in the grammar's own terms. Their bodies are empty: each is its clause.
 ghost use Rattle.std.specs.Prelude.{◌≡◌, ℕ, List, All, Result, Ok};
 ghost use Rattle.galileo_tree.specs.declared.fault.ParseFault.{ParseFault};
 ghost use Rattle.galileo_tree.specs.ReadTree.{KeepsForm, ReadTree};
@@ -17,5 +17,6 @@ pub fn parses_its_text()
 
 /// A text has one reading.
 pub fn parses_one_way()
-    ensures { (text : List ℕ) (read : Result ReadTree ParseFault) → IsReading (lexemes_of text) read → parsed_text text ≡ read }
+    ensures { (text : List ℕ) (read : Result ReadTree ParseFault) → IsReading (lexemes_of text) read
+        → parsed_text text ≡ read }
 {}

@@ -1,7 +1,8 @@
-// A token with its text.
+//! A token with its text.
 ghost use Rattle.std.specs.Prelude.{◌≡◌, ◌≤◌, [], ◌∷◌, ◌++◌, length, take, true, IfOk, IfErr, IfSome, OnOk};
 ghost use Rattle.fault_model.specs.Name.{is_bare_name};
-ghost use Rattle.galileo_tree.specs.Lexeme.{is_equals, is_semicolon, is_bare, is_name, is_value, is_top_word, is_word_kind, is_quoted_kind};
+ghost use Rattle.galileo_tree.specs.Lexeme.{is_equals, is_semicolon, is_bare, is_name, is_value, is_top_word};
+ghost use Rattle.galileo_tree.specs.Lexeme.{is_word_kind, is_quoted_kind};
 ghost use Rattle.galileo_tree.specs.ReadTree.{HasShortNumbers};
 ghost use Rattle.galileo_tree.specs.GateWord.{kind_said};
 ghost use Rattle.galileo_tree.specs.declared.fault.ParseFault.TheVariants.{NoMemory};
@@ -18,7 +19,8 @@ use std::marker::Model;
 #[derive(Drop)]
 pub(crate) struct Lexeme<'a> {
     kind: TokenKind,
-    // the whole text from the first byte of the lexeme's own on, which `Name::front` copies faster than a slice of its length
+    // the whole text from the first byte of the lexeme's own on, which `Name::front` copies faster than a slice of its
+    // length
     behind: &'a [u8],
     count: usize,
     place: Place,
@@ -30,7 +32,11 @@ impl<'a> Model for Lexeme<'a> {
 
     ghost Value = { Seen };
 
-    ghost view = { λ lexeme. record { kind = lexeme.kind; text = take lexeme.count lexeme.behind.now; place = lexeme.place } };
+    ghost view = { λ lexeme. record {
+      kind = lexeme.kind;
+      text = take lexeme.count lexeme.behind.now;
+      place = lexeme.place;
+    } };
 
     ghost invariant = { λ lexeme.
         (lexeme.count ≤ length lexeme.behind.now)
@@ -162,8 +168,8 @@ impl<'a> Lexeme<'a> {
         })
     }
 
-    /// Puts the name that the lexeme writes, with its place, behind a list. A short name is made where it is to stay: a text may have
-    /// millions of them, and to build each apart and then move it takes longer than to read it.
+    /// Puts the name that the lexeme writes, with its place, behind a list. A short name is made where it is to stay: a
+    /// text may have millions of them, and to build each apart and then move it takes longer than to read it.
     #[inline(always)]
     pub(crate) fn add_to(&self, alloc: Global, list: &mut PlacedList) -> Result<(), ParseFault>
         requires { is_value self.now ≡ true }

@@ -1,8 +1,8 @@
-// The statements of a fault tree in the Galileo notation, read from its text.
-//
-// Stands on galileo_lexer for the tokens and on fault_model for names, kinds, places and lists. `parse` reads
-// token by token into statements and keeps no list of tokens. Its contract gives the layer above exactly the
-// statements that the text spells, with the places of their tokens, or the first fault.
+//! The statements of a fault tree in the Galileo notation, read from its text.
+//!
+//! Stands on galileo_lexer for the tokens and on fault_model for names, kinds, places and lists. `parse` reads
+//! token by token into statements and keeps no list of tokens. Its contract gives the layer above exactly the
+//! statements that the text spells, with the places of their tokens, or the first fault.
 #![tactic(auto)]
 
 mod bytes;

@@ -1,4 +1,4 @@
-// Statements as they stand in a text, with the places of their tokens.
+//! Statements as they stand in a text, with the places of their tokens.
 use fault_model::{Attribute, GateKind, GrowingList, Name, Place};
 
 /// A name and the place of its token.

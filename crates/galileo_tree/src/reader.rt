@@ -1,4 +1,4 @@
-// The lexemes of a text, one after the other.
+//! The lexemes of a text, one after the other.
 ghost use Rattle.std.specs.Prelude.{◌≡◌, ◌≤◌, length};
 ghost use Rattle.galileo_tree.specs.Lexeme.{place_at, lexeme_of};
 ghost use Rattle.galileo_tree.specs.Parsed.{lexemes_of};

@@ -1,4 +1,4 @@
-// The statements of a text that is in the grammar.
+//! The statements of a text that is in the grammar.
 ghost use Rattle.std.specs.Prelude.{◌≡◌, ◌^◌, ◌<◌, length, slice_get, Some};
 
 use crate::raw::Statement;

@@ -1,5 +1,6 @@
 -- One more edge of a node on the path is accounted for.
-use Rattle.std.proofs.Common.{◌≡◌, ◌≢◌, ℕ, ◌+◌, ◌<◌, ◌⊎◌, Bool, false, List, [], ◌∷◌, length, take, get_or, IsTrue, sym, ap, ◌∙◌, subst, inl, inr, arith}
+use Rattle.std.proofs.Common.{◌≡◌, ◌≢◌, ℕ, ◌+◌, ◌<◌, ◌⊎◌, Bool, false, List, [], ◌∷◌, length, take, get_or, IsTrue, sym}
+use Rattle.std.proofs.Common.{ap, ◌∙◌, subst, inl, inr, arith}
 use Rattle.std.specs.Prelude.{slice_index, slice_set, ◌==◌, ◌||◌}
 use Rattle.std.proofs.lemmas.List.{take_more, length-set, get_or-set_same, get_or-set_other}
 use Rattle.std.proofs.lemmas.List.Folds.{list_any-append}
@@ -20,13 +21,16 @@ has-take_more xs i y l h =
       | inr other ↦ inl (grind (arith, more, h, other))
     ]
 
-pub IsSound-explored : (graph : List (List ℕ)) (stages : List Stage) (explored unclosed pieces path : List ℕ) (marks : List Bool)
+pub IsSound-explored : (graph : List (List ℕ)) (stages : List Stage) (explored unclosed pieces path : List ℕ)
+    (marks : List Bool)
     (t : ℕ)
     → IsSound graph stages explored unclosed pieces path marks
     → IsOn path t
     → slice_index explored (slice_index unclosed t) < length (successors graph (slice_index unclosed t))
-    → IsKnown stages pieces t (slice_index (successors graph (slice_index unclosed t)) (slice_index explored (slice_index unclosed t)))
-    → IsSound graph stages (slice_set explored (slice_index unclosed t) (slice_index explored (slice_index unclosed t) + 1)) unclosed pieces path marks
+    → IsKnown stages pieces t (slice_index (successors graph (slice_index unclosed t))
+    (slice_index explored (slice_index unclosed t)))
+    → IsSound graph stages (slice_set explored (slice_index unclosed t)
+    (slice_index explored (slice_index unclosed t) + 1)) unclosed pieces path marks
 IsSound-explored graph stages explored unclosed pieces path marks t s on more next = record {
   stages_all = s.stages_all;
   explored_all = length-set explored node (e + 1) ∙ s.explored_all;
@@ -39,8 +43,11 @@ IsSound-explored graph stages explored unclosed pieces path marks t s on more ne
   marked = s.marked;
   together = s.together;
   known = λ i y l seen. elim (cases_eq i t) [
-    | inl same ↦ subst (λ k. IsKnown stages pieces k y) (sym same) (at_top y (subst (λ k. IsTrue (has (take (slice_index after (slice_index unclosed k)) (successors graph (slice_index unclosed k))) y)) same seen))
-    | inr other ↦ s.known i y l (subst (λ k. IsTrue (has (take k (successors graph (slice_index unclosed i))) y)) (unchanged i l other) seen)
+    | inl same ↦ subst (λ k. IsKnown stages pieces k y) (sym same)
+        (at_top y (subst (λ k. IsTrue (has (take (slice_index after (slice_index unclosed k))
+        (successors graph (slice_index unclosed k))) y)) same seen))
+    | inr other ↦ s.known i y l (subst (λ k. IsTrue (has (take k (successors graph (slice_index unclosed i))) y))
+        (unchanged i l other) seen)
   ];
   left_done = λ i l. elim (cases_eq i t) [
     | inl same ↦ inl (subst (IsOn path) (sym same) on)
@@ -76,7 +83,8 @@ IsSound-explored graph stages explored unclosed pieces path marks t s on more ne
         let both : Open i ≡ Open t = cc in
         other (cc)
 
-    unchanged : (i : ℕ) → i < length unclosed → i ≢ t → slice_index after (slice_index unclosed i) ≡ slice_index explored (slice_index unclosed i)
+    unchanged : (i : ℕ) → i < length unclosed → i ≢ t
+        → slice_index after (slice_index unclosed i) ≡ slice_index explored (slice_index unclosed i)
     unchanged i l other = get_or-set_other explored node (slice_index unclosed i) (e + 1) 0 (apart i l other)
 
     other_fresh : (x : ℕ) → stage_at stages x ≡ New → slice_index after x ≡ 0
@@ -88,10 +96,12 @@ IsSound-explored graph stages explored unclosed pieces path marks t s on more ne
       | inr apart_x ↦ get_or-set_other explored node x (e + 1) 0 apart_x ∙ s.fresh x new
     ]
 
-    at_top : (y : ℕ) → IsTrue (has (take (slice_index after node) (successors graph node)) y) → IsKnown stages pieces t y
+    at_top : (y : ℕ) → IsTrue (has (take (slice_index after node) (successors graph node)) y)
+        → IsKnown stages pieces t y
     at_top y seen =
         let is_after : slice_index after node ≡ e + 1 = get_or-set_same explored node (e + 1) 0 node_in in
-        elim (has-take_more (successors graph node) e y more (subst (λ k. IsTrue (has (take k (successors graph node)) y)) is_after seen)) [
+        elim (has-take_more (successors graph node) e y more
+        (subst (λ k. IsTrue (has (take k (successors graph node)) y)) is_after seen)) [
           | inl before ↦ s.known t y open_top before
           | inr same ↦ subst (IsKnown stages pieces t) same next
         ]

@@ -1,5 +1,6 @@
 -- The walk leaves the node at the end of the path, all of whose edges are explored.
-use Rattle.std.proofs.Common.{◌≡◌, ◌≢◌, ℕ, ◌-◌, ◌<◌, ◌≤◌, Bool, List, length, take, sym, ap, ◌∙◌, subst, inl, inr, arith}
+use Rattle.std.proofs.Common.{◌≡◌, ◌≢◌, ℕ, ◌-◌, ◌<◌, ◌≤◌, Bool, List, length, take, sym, ap, ◌∙◌, subst, inl, inr}
+use Rattle.std.proofs.Common.{arith}
 use Rattle.std.specs.Prelude.{slice_index}
 use Rattle.std.proofs.lemmas.List.{get_or-take, length-take-le}
 use Rattle.std.proofs.lemmas.Bool.{cases_lt, cases_eq}
@@ -30,7 +31,8 @@ module _ (xs : List ℕ) where
             absurd (other (sym is ∙ (ap (slice_index xs) place ∙ top.1)))
       ]
 
-pub IsSound-left : (graph : List (List ℕ)) (stages : List Stage) (explored unclosed pieces path : List ℕ) (marks : List Bool)
+pub IsSound-left : (graph : List (List ℕ)) (stages : List Stage) (explored unclosed pieces path : List ℕ)
+    (marks : List Bool)
     (t : ℕ)
     → IsSound graph stages explored unclosed pieces path marks
     → IsTop path t
@@ -50,7 +52,8 @@ IsSound-left graph stages explored unclosed pieces path marks t s top full no_ro
   together = s.together;
   known = s.known;
   left_done = λ i l. elim (cases_eq i t) [
-    | inl same ↦ inr (subst (λ k. length (successors graph (slice_index unclosed k)) ≤ slice_index explored (slice_index unclosed k)) (sym same) full)
+    | inl same ↦ inr (subst (λ k. length (successors graph (slice_index unclosed k))
+        ≤ slice_index explored (slice_index unclosed k)) (sym same) full)
     | inr other ↦ elim (s.left_done i l) [ inl on ↦ inl (IsOn-less path t i top other on) | inr done ↦ inr done ]
   ];
   roots = λ c l. IsOn-less path t (slice_index pieces c) top (no_root c l) (s.roots c l);

@@ -1,5 +1,6 @@
 -- An edge back to an open node makes one piece of all pieces from that node's on.
-use Rattle.std.proofs.Common.{◌≡◌, ℕ, ◌-◌, ◌<◌, ◌≤◌, Bool, List, length, take, get_or, sym, ap, ◌∙◌, subst, inl, inr, arith}
+use Rattle.std.proofs.Common.{◌≡◌, ℕ, ◌-◌, ◌<◌, ◌≤◌, Bool, List, length, take, get_or, sym, ap, ◌∙◌, subst, inl, inr}
+use Rattle.std.proofs.Common.{arith}
 use Rattle.std.specs.Prelude.{slice_index}
 use Rattle.std.proofs.lemmas.List.{get_or-take}
 use Rattle.std.proofs.lemmas.Bool.{cases_lt}
@@ -24,14 +25,20 @@ module _ (old new : List ℕ) (at : ℕ) (h : Keeps old new at) where
       omega (arith, same_at c l, w c (omega (arith, h.shorter)) (omega (arith, same_at c l)))
 
   known_front : (stages : List Stage) (i y : ℕ) → IsKnown stages old i y → IsKnown stages new i y
-  known_front stages i y k = elim k [ inl done ↦ inl done | inr found ↦ inr (found.0, found.1, within_front i found.0 found.2) ]
+  known_front stages i y k =
+      elim k [ inl done ↦ inl done | inr found ↦ inr (found.0, found.1, within_front i found.0 found.2) ]
 
   -- where a kept piece begins after j, i and j lay in order before
   within_back : (i j c : ℕ) → c < length new → j < get_or new c 0 → Within new i j → Within old i j
   within_back i j c l above w d below le =
       elim (cases_lt d (length new)) [
         | inl kept ↦ omega (arith, same_at d kept, w d kept (omega (arith, same_at d kept)))
-        | inr gone ↦ absurd (omega (arith, h.dropped d gone below, h.kept c l, w c l (omega (arith, h.dropped d gone below, h.kept c l))))
+        | inr gone ↦ absurd (omega (
+          arith,
+          h.dropped d gone below,
+          h.kept c l,
+          w c l (omega (arith, h.dropped d gone below, h.kept c l)),
+        ))
       ]
 
   -- where every kept piece begins at or before j, so does every piece that begins at or before the place
@@ -42,7 +49,8 @@ module _ (old new : List ℕ) (at : ℕ) (h : Keeps old new at) where
         | inr gone ↦ absurd (omega (arith, h.dropped d gone below))
       ]
 
-pub IsSound-merged : (graph : List (List ℕ)) (stages : List Stage) (explored unclosed pieces path : List ℕ) (marks : List Bool)
+pub IsSound-merged : (graph : List (List ℕ)) (stages : List Stage) (explored unclosed pieces path : List ℕ)
+    (marks : List Bool)
     (t at : ℕ) (fewer : List ℕ)
     → IsSound graph stages explored unclosed pieces path marks
     → IsTop path t → at < length unclosed → Goes graph (slice_index unclosed t) (slice_index unclosed at)
@@ -61,7 +69,8 @@ IsSound-merged graph stages explored unclosed pieces path marks t at fewer s top
   together = λ i j li lj w. elim (some_above_or_none fewer j) [
     | inl found ↦ s.together i j li lj (within_back pieces fewer at h i j found.0 found.1 found.2 w)
     | inr none ↦
-        let to_top : Reaches graph (slice_index unclosed i) (slice_index unclosed t) = s.together i t li open_top (λ c l _. all_before c l) in
+        let to_top : Reaches graph (slice_index unclosed i) (slice_index unclosed t) =
+        s.together i t li open_top (λ c l _. all_before c l) in
         Reaches_then (slice_index unclosed i) (slice_index unclosed at) (slice_index unclosed j)
         (inr (Reaches-edge (slice_index unclosed i) (slice_index unclosed t) (slice_index unclosed at) to_top goes))
         (s.together at j met lj (within_all pieces fewer at h j none))
@@ -73,7 +82,12 @@ IsSound-merged graph stages explored unclosed pieces path marks t at fewer s top
   path_open = s.path_open;
   path_rises = s.path_rises;
   pieces_rise = λ p q less l.
-      omega (arith, same_at pieces fewer at h p (omega arith), same_at pieces fewer at h q l, s.pieces_rise p q less (omega (arith, h.shorter)));
+      omega (
+        arith,
+        same_at pieces fewer at h p (omega arith),
+        same_at pieces fewer at h q l,
+        s.pieces_rise p q less (omega (arith, h.shorter)),
+      );
 }
   where
     open_top : t < length unclosed

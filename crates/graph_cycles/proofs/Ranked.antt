@@ -1,5 +1,6 @@
 -- The ranks of closed nodes.
-use Rattle.std.proofs.Common.{◌≡◌, ◌≢◌, ℕ, suc, ◌<◌, ◌≤◌, Bool, false, List, [], ◌∷◌, length, IsTrue, refl, sym, ap, ◌∙◌, subst, inl, inr, arith}
+use Rattle.std.proofs.Common.{◌≡◌, ◌≢◌, ℕ, suc, ◌<◌, ◌≤◌, Bool, false, List, [], ◌∷◌, length, IsTrue, refl, sym, ap}
+use Rattle.std.proofs.Common.{◌∙◌, subst, inl, inr, arith}
 use Rattle.std.specs.Prelude.{slice_index, slice_set, ◌==◌}
 use Rattle.std.proofs.lemmas.List.{length-set, get_or-set_same, get_or-set_other}
 use Rattle.std.proofs.lemmas.Bool.{cases_eq, or_left, or_right, eq-eqb}
@@ -9,19 +10,24 @@ use Rattle.graph_cycles.specs.declared.walk.Stage.TheVariants.{Closed}
 use Rattle.graph_cycles.specs.Walk.{HasRanks, stage_at, mark_at}
 
 -- ranks that agree on these nodes give one rank above them
-pub rank_over-agree : (r r' nodes : List ℕ) → ((y : ℕ) → IsTrue (has nodes y) → slice_index r y ≡ slice_index r' y) → rank_over r nodes ≡ rank_over r' nodes
+pub rank_over-agree : (r r' nodes : List ℕ) → ((y : ℕ) → IsTrue (has nodes y) → slice_index r y ≡ slice_index r' y)
+    → rank_over r nodes ≡ rank_over r' nodes
 rank_over-agree r r' [] same = refl
 rank_over-agree r r' (node ∷ nodes) same =
-    let first : slice_index r node ≡ slice_index r' node = same node (or_left (node == node) (has nodes node) (eq-eqb node node refl)) in
-    let rest : rank_over r nodes ≡ rank_over r' nodes = rank_over-agree r r' nodes (λ y h. same y (or_right (node == y) (has nodes y) h)) in
+    let first : slice_index r node ≡ slice_index r' node =
+    same node (or_left (node == node) (has nodes node) (eq-eqb node node refl)) in
+    let rest : rank_over r nodes ≡ rank_over r' nodes =
+    rank_over-agree r r' nodes (λ y h. same y (or_right (node == y) (has nodes y) h)) in
     cc
 
-pub rank_over-bounded : (ranks nodes : List ℕ) (count : ℕ) → ((x : ℕ) → slice_index ranks x ≤ count) → rank_over ranks nodes ≤ suc count
+pub rank_over-bounded : (ranks nodes : List ℕ) (count : ℕ) → ((x : ℕ) → slice_index ranks x ≤ count)
+    → rank_over ranks nodes ≤ suc count
 rank_over-bounded ranks [] count h = omega arith
 rank_over-bounded ranks (node ∷ nodes) count h = omega (arith, h node, rank_over-bounded ranks nodes count h)
 
 -- where no more nodes are closed, the ranks serve
-pub HasRanks-fewer : (graph : List (List ℕ)) (stages stages' : List Stage) (ranks : List ℕ) (marks : List Bool) (count : ℕ)
+pub HasRanks-fewer : (graph : List (List ℕ)) (stages stages' : List Stage) (ranks : List ℕ) (marks : List Bool)
+    (count : ℕ)
     → ((x : ℕ) → stage_at stages' x ≡ Closed → stage_at stages x ≡ Closed)
     → HasRanks graph stages ranks marks count → HasRanks graph stages' ranks marks count
 HasRanks-fewer graph stages stages' ranks marks count was h = record {
@@ -31,8 +37,10 @@ HasRanks-fewer graph stages stages' ranks marks count was h = record {
 }
 
 -- a closed node that is marked needs no rank
-pub HasRanks-marked : (graph : List (List ℕ)) (stages stages' : List Stage) (ranks : List ℕ) (marks marks' : List Bool) (count count' : ℕ)
-    → ((x : ℕ) → stage_at stages' x ≡ Closed → mark_at marks' x ≡ false → (stage_at stages x ≡ Closed) × (mark_at marks x ≡ false))
+pub HasRanks-marked : (graph : List (List ℕ)) (stages stages' : List Stage) (ranks : List ℕ) (marks marks' : List Bool)
+    (count count' : ℕ)
+    → ((x : ℕ) → stage_at stages' x ≡ Closed → mark_at marks' x ≡ false
+    → (stage_at stages x ≡ Closed) × (mark_at marks x ≡ false))
     → count ≤ count'
     → HasRanks graph stages ranks marks count → HasRanks graph stages' ranks marks' count'
 HasRanks-marked graph stages stages' ranks marks marks' count count' was more h = record {
@@ -42,31 +50,42 @@ HasRanks-marked graph stages stages' ranks marks marks' count count' was more h 
 }
 
 -- one node more is closed, with its rank
-pub HasRanks-one : (graph : List (List ℕ)) (stages stages' : List Stage) (ranks : List ℕ) (marks marks' : List Bool) (count count' v : ℕ)
+pub HasRanks-one : (graph : List (List ℕ)) (stages stages' : List Stage) (ranks : List ℕ) (marks marks' : List Bool)
+    (count count' v : ℕ)
     → v < length ranks
     → stage_at stages v ≢ Closed
     → ((x y : ℕ) → stage_at stages x ≡ Closed → Goes graph x y → stage_at stages y ≡ Closed)
-    → ((x : ℕ) → stage_at stages' x ≡ Closed → x ≢ v → (stage_at stages x ≡ Closed) × (mark_at marks' x ≡ mark_at marks x))
+    → ((x : ℕ) → stage_at stages' x ≡ Closed → x ≢ v
+    → (stage_at stages x ≡ Closed) × (mark_at marks' x ≡ mark_at marks x))
     → ¬ Goes graph v v
     → count < count'
     → HasRanks graph stages ranks marks count
     → HasRanks graph stages' (slice_set ranks v (rank_over ranks (successors graph v))) marks' count'
-HasRanks-one graph stages stages' ranks marks marks' count count' v in_ranks opened closed was loopless more h = record {
-  ranks_all = length-set ranks v (rank_over ranks (successors graph v)) ∙ h.ranks_all;
-  ranked = λ x now unmarked. elim (cases_eq x v) [
-    | inl same ↦ subst (λ k. slice_index after k ≡ rank_over after (successors graph k)) (sym same)
-        (at_v ∙ rank_over-agree ranks after (successors graph v) (λ y goes. sym (elsewhere y (λ e. loopless (subst (λ k. Goes graph v k) e goes)))))
-    | inr other ↦
-        let before : (stage_at stages x ≡ Closed) × (mark_at marks' x ≡ mark_at marks x) = was x now other in
-        let unmarked_before : mark_at marks x ≡ false = sym before.1 ∙ unmarked in
-        elsewhere x other ∙ (h.ranked x before.0 unmarked_before
-        ∙ rank_over-agree ranks after (successors graph x) (λ y goes. sym (elsewhere y (λ e. opened (subst (λ k. stage_at stages k ≡ Closed) e (closed x y before.0 goes))))))
-  ];
-  bounded = λ x. elim (cases_eq x v) [
-    | inl same ↦ omega (arith, ap (slice_index after) same, at_v, rank_over-bounded ranks (successors graph v) count h.bounded)
-    | inr other ↦ omega (arith, elsewhere x other, h.bounded x)
-  ];
-}
+HasRanks-one graph stages stages' ranks marks marks' count count' v in_ranks opened closed was loopless more h =
+    record {
+      ranks_all = length-set ranks v (rank_over ranks (successors graph v)) ∙ h.ranks_all;
+      ranked = λ x now unmarked. elim (cases_eq x v) [
+        | inl same ↦ subst (λ k. slice_index after k ≡ rank_over after (successors graph k)) (sym same)
+            (at_v ∙ rank_over-agree ranks after (successors graph v)
+            (λ y goes. sym (elsewhere y (λ e. loopless (subst (λ k. Goes graph v k) e goes)))))
+        | inr other ↦
+            let before : (stage_at stages x ≡ Closed) × (mark_at marks' x ≡ mark_at marks x) = was x now other in
+            let unmarked_before : mark_at marks x ≡ false = sym before.1 ∙ unmarked in
+            elsewhere x other ∙ (h.ranked x before.0 unmarked_before
+            ∙ rank_over-agree ranks after (successors graph x)
+            (λ y goes. sym (elsewhere y (λ e. opened (subst (λ k. stage_at stages k ≡ Closed) e
+            (closed x y before.0 goes))))))
+      ];
+      bounded = λ x. elim (cases_eq x v) [
+        | inl same ↦ omega (
+          arith,
+          ap (slice_index after) same,
+          at_v,
+          rank_over-bounded ranks (successors graph v) count h.bounded,
+        )
+        | inr other ↦ omega (arith, elsewhere x other, h.bounded x)
+      ];
+    }
   where
     after : List ℕ
     after = slice_set ranks v (rank_over ranks (successors graph v))

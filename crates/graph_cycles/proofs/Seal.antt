@@ -1,7 +1,9 @@
 -- Closing some nodes, one after the other.
-use Rattle.std.proofs.Common.{◌≡◌, ◌≢◌, ℕ, zero, suc, ◌+◌, ◌<◌, max, Bool, false, List, [], ◌∷◌, length, take, drop, IsTrue, refl, sym, ap, ◌∙◌, inl, inr, arith}
+use Rattle.std.proofs.Common.{◌≡◌, ◌≢◌, ℕ, zero, suc, ◌+◌, ◌<◌, max, Bool, false, List, [], ◌∷◌, length, take, drop}
+use Rattle.std.proofs.Common.{IsTrue, refl, sym, ap, ◌∙◌, inl, inr, arith}
 use Rattle.std.specs.Prelude.{slice_index, slice_set, ◌==◌}
-use Rattle.std.proofs.lemmas.List.{length-set, get_or-set_same, get_or-set_other, get_or-take, length-take-le, drop_more}
+use Rattle.std.proofs.lemmas.List.{length-set, get_or-set_same, get_or-set_other, get_or-take, length-take-le}
+use Rattle.std.proofs.lemmas.List.{drop_more}
 use Rattle.std.proofs.lemmas.Bool.{cases_lt, cases_eq, or_left, or_right, eq-eqb}
 use Rattle.graph_cycles.specs.Graph.{has, rank_over}
 use Rattle.graph_cycles.specs.declared.walk.Stage.{Stage}
@@ -16,9 +18,11 @@ has-at (x ∷ xs) (suc i) l = or_right (x == slice_index xs i) (has xs (slice_in
 
 -- a rank above the rest, one node on
 pub rank_over_more : (ranks nodes : List ℕ) (i rank : ℕ) → i < length nodes
-    → max (max rank (slice_index ranks (slice_index nodes i) + 1)) (rank_over ranks (drop (i + 1) nodes)) ≡ max rank (rank_over ranks (drop i nodes))
+    → max (max rank (slice_index ranks (slice_index nodes i) + 1)) (rank_over ranks (drop (i + 1) nodes))
+    ≡ max rank (rank_over ranks (drop i nodes))
 rank_over_more ranks nodes i rank l =
-    let step : rank_over ranks (drop i nodes) ≡ max (suc (slice_index ranks (slice_index nodes i))) (rank_over ranks (drop (i + 1) nodes)) = ap (rank_over ranks) (drop_more nodes i 0 l) in
+    let step : rank_over ranks (drop i nodes) ≡ max (suc (slice_index ranks (slice_index nodes i)))
+    (rank_over ranks (drop (i + 1) nodes)) = ap (rank_over ranks) (drop_more nodes i 0 l) in
     omega (arith, step)
 
 pub Closes-none : (mark : Bool) (stages : List Stage) (marks : List Bool) → Closes [] mark stages stages marks marks
@@ -34,12 +38,14 @@ Closes-none mark stages marks = record {
 pub Closes-more : (nodes : List ℕ) (i : ℕ) (mark : Bool) (stages stages' : List Stage) (marks marks' : List Bool)
     → i < length nodes → slice_index nodes i < length stages' → slice_index nodes i < length marks'
     → Closes (take i nodes) mark stages stages' marks marks'
-    → Closes (take (i + 1) nodes) mark stages (slice_set stages' (slice_index nodes i) Closed) marks (slice_set marks' (slice_index nodes i) mark)
+    → Closes (take (i + 1) nodes) mark stages (slice_set stages' (slice_index nodes i) Closed) marks
+    (slice_set marks' (slice_index nodes i) mark)
 Closes-more nodes i mark stages stages' marks marks' l in_stages in_marks h = record {
   stages_same = length-set stages' v Closed ∙ h.stages_same;
   marks_same = length-set marks' v mark ∙ h.marks_same;
   inside_stage = λ k below. elim (cases_eq (slice_index nodes k) v) [
-    | inl same ↦ ap (stage_at (slice_set stages' v Closed)) (front k below ∙ same) ∙ get_or-set_same stages' v Closed New in_stages
+    | inl same ↦ ap (stage_at (slice_set stages' v Closed)) (front k below ∙ same)
+        ∙ get_or-set_same stages' v Closed New in_stages
     | inr other ↦
         let earlier : k < i = before k below other in
         ap (stage_at (slice_set stages' v Closed)) (front k below)
@@ -47,7 +53,8 @@ Closes-more nodes i mark stages stages' marks marks' l in_stages in_marks h = re
         ∙ (sym (ap (stage_at stages') (get_or-take i nodes k 0 earlier)) ∙ h.inside_stage k (omega (arith, short))))
   ];
   inside_mark = λ k below. elim (cases_eq (slice_index nodes k) v) [
-    | inl same ↦ ap (mark_at (slice_set marks' v mark)) (front k below ∙ same) ∙ get_or-set_same marks' v mark false in_marks
+    | inl same ↦ ap (mark_at (slice_set marks' v mark)) (front k below ∙ same)
+        ∙ get_or-set_same marks' v mark false in_marks
     | inr other ↦
         let earlier : k < i = before k below other in
         ap (mark_at (slice_set marks' v mark)) (front k below)
@@ -55,11 +62,15 @@ Closes-more nodes i mark stages stages' marks marks' l in_stages in_marks h = re
         ∙ (sym (ap (mark_at marks') (get_or-take i nodes k 0 earlier)) ∙ h.inside_mark k (omega (arith, short))))
   ];
   outside_stage = λ x apart.
-      get_or-set_other stages' v x Closed New (λ same. apart i (omega (arith, long)) (front i (omega (arith, long)) ∙ sym same))
-      ∙ h.outside_stage x (λ k below is. apart k (omega (arith, short, long)) (front k (omega (arith, short, long)) ∙ (sym (get_or-take i nodes k 0 (omega (arith, short))) ∙ is)));
+      get_or-set_other stages' v x Closed New (λ same.
+      apart i (omega (arith, long)) (front i (omega (arith, long)) ∙ sym same))
+      ∙ h.outside_stage x (λ k below is. apart k (omega (arith, short, long))
+      (front k (omega (arith, short, long)) ∙ (sym (get_or-take i nodes k 0 (omega (arith, short))) ∙ is)));
   outside_mark = λ x apart.
-      get_or-set_other marks' v x mark false (λ same. apart i (omega (arith, long)) (front i (omega (arith, long)) ∙ sym same))
-      ∙ h.outside_mark x (λ k below is. apart k (omega (arith, short, long)) (front k (omega (arith, short, long)) ∙ (sym (get_or-take i nodes k 0 (omega (arith, short))) ∙ is)));
+      get_or-set_other marks' v x mark false (λ same.
+      apart i (omega (arith, long)) (front i (omega (arith, long)) ∙ sym same))
+      ∙ h.outside_mark x (λ k below is. apart k (omega (arith, short, long))
+      (front k (omega (arith, short, long)) ∙ (sym (get_or-take i nodes k 0 (omega (arith, short))) ∙ is)));
 }
   where
     v : ℕ

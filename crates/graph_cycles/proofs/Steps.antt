@@ -25,24 +25,29 @@ pub record Followed (graph : List (List ℕ)) (old new : Walk) (t x : ℕ) : Typ
   pub met : StaysMet old new
   pub steps : steps_left graph new ≤ steps_left graph old
 
-open_top : (graph : List (List ℕ)) (w : Walk) (t : ℕ) → Stands graph w → IsTop w.path.items t → t < length w.unclosed.items
+open_top : (graph : List (List ℕ)) (w : Walk) (t : ℕ) → Stands graph w → IsTop w.path.items t
+    → t < length w.unclosed.items
 open_top graph w t s top = omega (arith, s.sound.path_open (length w.path.items - 1) (omega (arith, top.0)), top.1)
 
 IsOn-top : (path : List ℕ) (t : ℕ) → IsTop path t → IsOn path t
 IsOn-top path t top = (length path - 1, omega (arith, top.0), top.1)
 
-not_new : (stages : List Stage) (x n y : ℕ) → x < length stages → (stage_at (slice_set stages x (Open n)) y ≡ New) → stage_at stages y ≡ New
+not_new : (stages : List Stage) (x n y : ℕ) → x < length stages → (stage_at (slice_set stages x (Open n)) y ≡ New)
+    → stage_at stages y ≡ New
 not_new stages x n y l is = elim (cases_eq y x) [
   | inl same ↦
-      let at_x : stage_at (slice_set stages x (Open n)) y ≡ Open n = ap (stage_at (slice_set stages x (Open n))) same ∙ get_or-set_same stages x (Open n) New l in
+      let at_x : stage_at (slice_set stages x (Open n)) y ≡ Open n =
+      ap (stage_at (slice_set stages x (Open n))) same ∙ get_or-set_same stages x (Open n) New l in
       absurd cc
   | inr other ↦ sym (get_or-set_other stages x y (Open n) New other) ∙ is
 ]
 
-not_closed : (stages : List Stage) (x n y : ℕ) → x < length stages → (stage_at (slice_set stages x (Open n)) y ≡ Closed) → stage_at stages y ≡ Closed
+not_closed : (stages : List Stage) (x n y : ℕ) → x < length stages → (stage_at (slice_set stages x (Open n)) y ≡ Closed)
+    → stage_at stages y ≡ Closed
 not_closed stages x n y l is = elim (cases_eq y x) [
   | inl same ↦
-      let at_x : stage_at (slice_set stages x (Open n)) y ≡ Open n = ap (stage_at (slice_set stages x (Open n))) same ∙ get_or-set_same stages x (Open n) New l in
+      let at_x : stage_at (slice_set stages x (Open n)) y ≡ Open n =
+      ap (stage_at (slice_set stages x (Open n))) same ∙ get_or-set_same stages x (Open n) New l in
       absurd cc
   | inr other ↦ sym (get_or-set_other stages x y (Open n) New other) ∙ is
 ]
@@ -61,17 +66,21 @@ pub Met-Meets : (graph : List (List ℕ)) (old new : Walk) (x : ℕ)
 Met-Meets graph old new x s in_graph is_new ahead m = record {
   stands = record {
     sound = rw (m.stages, m.keeps.explored, m.unclosed, m.pieces, m.path, m.keeps.on_cycle)
-        (IsSound-visited graph old.stages.items old.explored.items old.unclosed.items old.pieces.items old.path.items old.on_cycle.items x s.sound is_new in_graph ahead);
+        (IsSound-visited graph old.stages.items old.explored.items old.unclosed.items old.pieces.items old.path.items
+        old.on_cycle.items x s.sound is_new in_graph ahead);
     ranks = rw (m.keeps.ranks, m.keeps.on_cycle, m.keeps.closed)
-        (HasRanks-fewer graph old.stages.items new.stages.items old.ranks.items old.on_cycle.items (length old.closed.items)
+        (HasRanks-fewer graph old.stages.items new.stages.items old.ranks.items old.on_cycle.items
+        (length old.closed.items)
         (λ y is. not_closed old.stages.items x n y x_in (subst (λ ss. stage_at ss y ≡ Closed) m.stages is)) s.ranks);
   };
   is_open = ap (λ ss. stage_at ss x) m.stages ∙ get_or-set_same old.stages.items x (Open n) New x_in;
   met = λ y is. not_new old.stages.items x n y x_in (subst (λ ss. stage_at ss y ≡ New) m.stages is);
   steps =
       let paths : length new.path.items ≡ length old.path.items + 1 = ap length m.path ∙ length_push old.path.items n in
-      let works : work_left graph new.explored.items new.stages.items + 2 ≡ work_left graph old.explored.items old.stages.items =
-      rw (m.stages, m.keeps.explored) (work-visited graph old.explored.items old.stages.items x n s.sound.explored_all s.sound.stages_all in_graph is_new) in
+      let works : work_left graph new.explored.items new.stages.items + 2
+      ≡ work_left graph old.explored.items old.stages.items =
+      rw (m.stages, m.keeps.explored) (work-visited graph old.explored.items old.stages.items x n s.sound.explored_all
+      s.sound.stages_all in_graph is_new) in
       omega arith;
 }
   where
@@ -82,20 +91,24 @@ Met-Meets graph old new x s in_graph is_new ahead m = record {
     x_in = omega (arith, s.sound.stages_all, in_graph)
 
 module _ (graph : List (List ℕ)) (old new : Walk) (t x : ℕ)
-    (whole : IsGraph graph) (s : Stands graph old) (top : IsTop old.path.items t) (goes : Goes graph (slice_index old.unclosed.items t) x)
+    (whole : IsGraph graph) (s : Stands graph old) (top : IsTop old.path.items t)
+    (goes : Goes graph (slice_index old.unclosed.items t) x)
     (f : Follows old new x) where
   followed_new : stage_at old.stages.items x ≡ New → Followed graph old new t x
   followed_new is =
       let m : Meets old new x = f.to_new is in
       let l : t < length old.unclosed.items = open_top graph old t s top in
       let below : (c : ℕ) → c < length old.pieces.items → slice_index old.pieces.items c ≤ t =
-      λ c lc. top_most old.path.items t (slice_index old.pieces.items c) s.sound.path_rises top.0 top.1 (s.sound.roots c lc) in
+      λ c lc. top_most old.path.items t (slice_index old.pieces.items c) s.sound.path_rises top.0 top.1
+      (s.sound.roots c lc) in
       let done : Met graph old new x = Met-Meets graph old new x s (whole (slice_index old.unclosed.items t) x goes) is
       (λ t' top'. subst (λ k. Goes graph (slice_index old.unclosed.items k) x) (sym top.1 ∙ top'.1) goes) m in
       record {
         stands = done.stands;
         known = inr (length old.unclosed.items, done.is_open, λ c lc le. omega (arith, l));
-        on = subst (λ p. IsOn p t) (sym m.path) (IsOn-more old.path.items (length old.unclosed.items) t (IsOn-top old.path.items t top));
+        on =
+            subst (λ p. IsOn p t) (sym m.path) (IsOn-more old.path.items (length old.unclosed.items) t
+            (IsOn-top old.path.items t top));
         node = ap (λ us. slice_index us t) m.unclosed ∙ at_old old.unclosed.items x t l;
         explored = m.keeps.explored;
         met = done.met;
@@ -106,12 +119,15 @@ module _ (graph : List (List ℕ)) (old new : Walk) (t x : ℕ)
   followed_open i is =
       let j : Joins old new i = f.to_open i is in
       let at_i : (i < length old.unclosed.items) × (slice_index old.unclosed.items i ≡ x) = s.sound.placed x i is in
-      let keeps : KeepsPieces old.pieces.items new.pieces.items i = record { front = j.front; shorter = j.shorter; kept = j.kept; dropped = j.dropped } in
+      let keeps : KeepsPieces old.pieces.items new.pieces.items i =
+      record { front = j.front; shorter = j.shorter; kept = j.kept; dropped = j.dropped } in
       record {
         stands = record {
           sound = rw (j.stages, j.keeps.explored, j.unclosed, j.path, j.keeps.on_cycle)
-              (IsSound-merged graph old.stages.items old.explored.items old.unclosed.items old.pieces.items old.path.items old.on_cycle.items t i new.pieces.items
-              s.sound top at_i.0 (subst (λ y. Goes graph (slice_index old.unclosed.items t) y) (sym at_i.1) goes) keeps);
+              (IsSound-merged graph old.stages.items old.explored.items old.unclosed.items old.pieces.items
+              old.path.items old.on_cycle.items t i new.pieces.items
+              s.sound top at_i.0 (subst (λ y. Goes graph (slice_index old.unclosed.items t) y) (sym at_i.1) goes)
+              keeps);
           ranks = rw (j.stages, j.keeps.ranks, j.keeps.on_cycle, j.keeps.closed) s.ranks;
         };
         known = inr (i, ap (λ ss. stage_at ss x) j.stages ∙ is, λ c lc le. j.kept c lc);
@@ -121,7 +137,8 @@ module _ (graph : List (List ℕ)) (old new : Walk) (t x : ℕ)
         met = λ y is'. subst (λ ss. stage_at ss y ≡ New) j.stages is';
         steps =
             let paths : length new.path.items ≡ length old.path.items = ap length j.path in
-            let works : work_left graph new.explored.items new.stages.items ≡ work_left graph old.explored.items old.stages.items = rw (j.stages, j.keeps.explored) refl in
+            let works : work_left graph new.explored.items new.stages.items
+            ≡ work_left graph old.explored.items old.stages.items = rw (j.stages, j.keeps.explored) refl in
             omega arith;
       }
 

@@ -1,7 +1,9 @@
 -- A new node is met: it is open, a piece of its own, and the end of the path.
-use Rattle.std.proofs.Common.{◌≡◌, ◌≢◌, ℕ, ◌-◌, ◌<◌, ◌≤◌, ◌⊎◌, Bool, true, false, List, [], ◌∷◌, ◌++◌, length, take, IsTrue, refl, sym, ap, ◌∙◌, subst, inl, inr, arith}
+use Rattle.std.proofs.Common.{◌≡◌, ◌≢◌, ℕ, ◌-◌, ◌<◌, ◌≤◌, ◌⊎◌, Bool, true, false, List, [], ◌∷◌, ◌++◌, length, take}
+use Rattle.std.proofs.Common.{IsTrue, refl, sym, ap, ◌∙◌, subst, inl, inr, arith}
 use Rattle.std.specs.Prelude.{slice_index, slice_set}
-use Rattle.std.proofs.lemmas.List.{length-set, get_or-set_same, get_or-set_other, get_or_append_left, get_or_push, length_push}
+use Rattle.std.proofs.lemmas.List.{length-set, get_or-set_same, get_or-set_other, get_or_append_left, get_or_push}
+use Rattle.std.proofs.lemmas.List.{length_push}
 use Rattle.std.proofs.lemmas.Bool.{cases_lt, cases_eq}
 use Rattle.graph_cycles.specs.Graph.{Goes, has, successors}
 use Rattle.graph_cycles.specs.declared.walk.Stage.{Stage}
@@ -21,7 +23,8 @@ module _ (xs : List ℕ) (y : ℕ) where
   at_new = get_or_push xs y 0 (length xs) refl
 
   pub old_or_new : (i : ℕ) → i < length (xs ++ y ∷ []) → (i < length xs) ⊎ (i ≡ length xs)
-  old_or_new i l = elim (cases_lt i (length xs)) [ inl below ↦ inl below | inr not_below ↦ inr (omega (arith, length_push xs y)) ]
+  old_or_new i l =
+      elim (cases_lt i (length xs)) [ inl below ↦ inl below | inr not_below ↦ inr (omega (arith, length_push xs y)) ]
 
   pub IsOn-more : (i : ℕ) → IsOn xs i → IsOn (xs ++ y ∷ []) i
   IsOn-more i (p, l, is) = (p, omega (arith, length_push xs y), at_old p l ∙ is)
@@ -38,12 +41,14 @@ module _ (xs : List ℕ) (y : ℕ) where
             omega (arith, at_old p (omega arith), same, below p (omega arith))
       ]
 
-pub IsSound-visited : (graph : List (List ℕ)) (stages : List Stage) (explored unclosed pieces path : List ℕ) (marks : List Bool)
+pub IsSound-visited : (graph : List (List ℕ)) (stages : List Stage) (explored unclosed pieces path : List ℕ)
+    (marks : List Bool)
     (x : ℕ)
     → IsSound graph stages explored unclosed pieces path marks
     → stage_at stages x ≡ New → x < length graph
     → ((t : ℕ) → IsTop path t → Goes graph (slice_index unclosed t) x)
-    → IsSound graph (slice_set stages x (Open (length unclosed))) explored (unclosed ++ x ∷ []) (pieces ++ length unclosed ∷ []) (path ++ length unclosed ∷ []) marks
+    → IsSound graph (slice_set stages x (Open (length unclosed))) explored (unclosed ++ x ∷ [])
+    (pieces ++ length unclosed ∷ []) (path ++ length unclosed ∷ []) marks
 IsSound-visited graph stages explored unclosed pieces path marks x s new in_graph ahead = record {
   stages_all = length-set stages x (Open n) ∙ s.stages_all;
   explored_all = s.explored_all;
@@ -57,7 +62,8 @@ IsSound-visited graph stages explored unclosed pieces path marks x s new in_grap
     | inr last ↦ omega (arith, last_is i last, in_graph)
   ];
   opened = λ i l. elim (old_or_new unclosed x i l) [
-    | inl old ↦ ap (stage_at after) (at_old unclosed x i old) ∙ (elsewhere (slice_index unclosed i) (open_is_other i old) ∙ s.opened i old)
+    | inl old ↦ ap (stage_at after) (at_old unclosed x i old)
+        ∙ (elsewhere (slice_index unclosed i) (open_is_other i old) ∙ s.opened i old)
     | inr last ↦ ap (stage_at after) (last_is i last) ∙ (here ∙ ap Open (sym last))
   ];
   placed = λ y i is_open. elim (cases_eq y x) [
@@ -67,7 +73,8 @@ IsSound-visited graph stages explored unclosed pieces path marks x s new in_grap
         let place : n ≡ i = cc in
         (omega (arith, length_push unclosed x, place), last_is i (sym place) ∙ sym same)
     | inr other ↦
-        let before : (i < length unclosed) × (slice_index unclosed i ≡ y) = s.placed y i (sym (elsewhere y other) ∙ is_open) in
+        let before : (i < length unclosed) × (slice_index unclosed i ≡ y) =
+        s.placed y i (sym (elsewhere y other) ∙ is_open) in
         (omega (arith, length_push unclosed x, before.0), at_old unclosed x i before.0 ∙ before.1)
   ];
   closed = λ y z is_closed goes.
@@ -76,21 +83,27 @@ IsSound-visited graph stages explored unclosed pieces path marks x s new in_grap
   marked = λ y is_closed. s.marked y (was_closed y is_closed);
   together = λ i j li lj w. together_more i j (old_or_new unclosed x i li) (old_or_new unclosed x j lj) w;
   known = λ i y l seen. elim (old_or_new unclosed x i l) [
-    | inl old ↦ known_more i y old (s.known i y old (subst (λ k. IsTrue (has (seen_of graph explored k) y)) (at_old unclosed x i old) seen))
+    | inl old ↦ known_more i y old (s.known i y old
+        (subst (λ k. IsTrue (has (seen_of graph explored k) y)) (at_old unclosed x i old) seen))
     | inr last ↦
-        let unseen : slice_index explored (slice_index (unclosed ++ x ∷ []) i) ≡ 0 = ap (slice_index explored) (last_is i last) ∙ s.fresh x new in
-        absurd (nothing (slice_index explored (slice_index (unclosed ++ x ∷ []) i)) (successors graph (slice_index (unclosed ++ x ∷ []) i)) y unseen seen)
+        let unseen : slice_index explored (slice_index (unclosed ++ x ∷ []) i) ≡ 0 =
+        ap (slice_index explored) (last_is i last) ∙ s.fresh x new in
+        absurd (nothing (slice_index explored (slice_index (unclosed ++ x ∷ []) i))
+        (successors graph (slice_index (unclosed ++ x ∷ []) i)) y unseen seen)
   ];
   left_done = λ i l. elim (old_or_new unclosed x i l) [
     | inl old ↦ elim (s.left_done i old) [
       | inl on ↦ inl (IsOn-more path n i on)
-      | inr full ↦ inr (subst (λ k. length (successors graph k) ≤ slice_index explored k) (sym (at_old unclosed x i old)) full)
+      | inr full ↦ inr (subst (λ k. length (successors graph k) ≤ slice_index explored k)
+          (sym (at_old unclosed x i old)) full)
     ]
     | inr last ↦ inl (subst (IsOn (path ++ n ∷ [])) (sym last) (IsOn-new path n))
   ];
   roots = λ c l. elim (old_or_new pieces n c l) [
-    | inl old ↦ subst (IsOn (path ++ n ∷ [])) (sym (at_old pieces n c old)) (IsOn-more path n (slice_index pieces c) (s.roots c old))
-    | inr last ↦ subst (IsOn (path ++ n ∷ [])) (sym (ap (slice_index (pieces ++ n ∷ [])) last ∙ at_new pieces n)) (IsOn-new path n)
+    | inl old ↦ subst (IsOn (path ++ n ∷ [])) (sym (at_old pieces n c old))
+        (IsOn-more path n (slice_index pieces c) (s.roots c old))
+    | inr last ↦ subst (IsOn (path ++ n ∷ [])) (sym (ap (slice_index (pieces ++ n ∷ [])) last ∙ at_new pieces n))
+        (IsOn-new path n)
   ];
   first = λ _. first_more;
   path_open = λ p l. elim (old_or_new path n p l) [
@@ -146,7 +159,12 @@ IsSound-visited graph stages explored unclosed pieces path marks x s new in_grap
 
     within_before : (i j : ℕ) → Within (pieces ++ n ∷ []) i j → Within pieces i j
     within_before i j w c l le =
-        omega (arith, at_old pieces n c l, w c (omega (arith, length_push pieces n)) (omega (arith, at_old pieces n c l)))
+        omega (
+          arith,
+          at_old pieces n c l,
+          w c (omega (arith, length_push pieces n))
+              (omega (arith, at_old pieces n c l)),
+        )
 
     within_more : (i j : ℕ) → i < n → Within pieces i j → Within (pieces ++ n ∷ []) i j
     within_more i j below w c l le = elim (old_or_new pieces n c l) [
@@ -160,7 +178,8 @@ IsSound-visited graph stages explored unclosed pieces path marks x s new in_grap
     known_more i y below k = elim k [
       | inl done ↦ inl (elsewhere y (closed_is_other y done) ∙ done)
       | inr (j, is_open, w) ↦
-          let other : y ≢ x = λ same. (let moved : stage_at stages y ≡ stage_at stages x = ap (stage_at stages) same in cc) in
+          let other : y ≢ x =
+          λ same. (let moved : stage_at stages y ≡ stage_at stages x = ap (stage_at stages) same in cc) in
           inr (j, elsewhere y other ∙ is_open, within_more i j below w)
     ]
 
@@ -178,19 +197,26 @@ IsSound-visited graph stages explored unclosed pieces path marks x s new in_grap
         let t : ℕ = slice_index path (length path - 1) in
         let open_top : t < n = s.path_open (length path - 1) (omega arith) in
         inr (Reaches-edge (slice_index unclosed i) (slice_index unclosed t) x
-        (s.together i t l open_top (λ c lc _. top_most path t (slice_index pieces c) s.path_rises some refl (s.roots c lc)))
+        (s.together i t l open_top (λ c lc _. top_most path t (slice_index pieces c) s.path_rises some refl
+        (s.roots c lc)))
         (ahead t (some, refl)))
 
     together_more : (i j : ℕ) → (i < n) ⊎ (i ≡ n) → (j < n) ⊎ (j ≡ n) → Within (pieces ++ n ∷ []) i j
         → Reaches graph (slice_index (unclosed ++ x ∷ []) i) (slice_index (unclosed ++ x ∷ []) j)
     together_more i j (inl old) (inl old') w =
         subst (λ a. Reaches graph a (slice_index (unclosed ++ x ∷ []) j)) (sym (at_old unclosed x i old))
-        (subst (λ b. Reaches graph (slice_index unclosed i) b) (sym (at_old unclosed x j old')) (s.together i j old old' (within_before i j w)))
+        (subst (λ b. Reaches graph (slice_index unclosed i) b) (sym (at_old unclosed x j old'))
+        (s.together i j old old' (within_before i j w)))
     together_more i j (inl old) (inr last) w =
         subst (λ a. Reaches graph a (slice_index (unclosed ++ x ∷ []) j)) (sym (at_old unclosed x i old))
         (subst (λ b. Reaches graph (slice_index unclosed i) b) (sym (last_is j last)) (reaches_new i old))
     together_more i j (inr last) (inl old) w =
-        absurd (omega (arith, at_new pieces n, w (length pieces) (omega (arith, length_push pieces n)) (omega (arith, at_new pieces n))))
+        absurd (omega (
+          arith,
+          at_new pieces n,
+          w (length pieces) (omega (arith, length_push pieces n))
+              (omega (arith, at_new pieces n)),
+        ))
     together_more i j (inr last) (inr last') w =
         inl (last_is i last ∙ sym (last_is j last'))
 
@@ -204,7 +230,8 @@ IsSound-visited graph stages explored unclosed pieces path marks x s new in_grap
         ]
         | inr none ↦
             let no_pieces : 0 ≡ length pieces = omega arith in
-            let is : slice_index (pieces ++ n ∷ []) 0 ≡ n = ap (slice_index (pieces ++ n ∷ [])) no_pieces ∙ at_new pieces n in
+            let is : slice_index (pieces ++ n ∷ []) 0 ≡ n =
+            ap (slice_index (pieces ++ n ∷ [])) no_pieces ∙ at_new pieces n in
             elim (cases_lt 0 n) [
               | inl open_some ↦ absurd (omega (arith, (s.first open_some).0))
               | inr no_open ↦ omega arith

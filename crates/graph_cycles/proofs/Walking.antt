@@ -38,7 +38,8 @@ pub record Visited (graph : List (List ℕ)) (w : Walk) (n : ℕ) : Type 0 where
   pub rests : length w.path.items ≡ 0
   pub met : (x : ℕ) → x < n → stage_at w.stages.items x ≢ New
 
-pub Visited-more : (graph : List (List ℕ)) (old new : Walk) (n : ℕ) → Visited graph old n → Walks graph old new n → Visited graph new (n + 1)
+pub Visited-more : (graph : List (List ℕ)) (old new : Walk) (n : ℕ) → Visited graph old n → Walks graph old new n
+    → Visited graph new (n + 1)
 Visited-more graph old new n v w = record {
   stands = w.stands;
   rests = w.rests;
@@ -48,7 +49,8 @@ Visited-more graph old new n v w = record {
   ];
 }
 
-no_unclosed : (graph : List (List ℕ)) (w : Walk) → Stands graph w → length w.path.items ≡ 0 → length w.unclosed.items ≡ 0
+no_unclosed : (graph : List (List ℕ)) (w : Walk) → Stands graph w → length w.path.items ≡ 0
+    → length w.unclosed.items ≡ 0
 no_unclosed graph w s none = elim (cases_lt 0 (length w.unclosed.items)) [
   | inl some ↦
       let first : 0 < length w.pieces.items = (s.sound.first some).0 in
@@ -57,13 +59,15 @@ no_unclosed graph w s none = elim (cases_lt 0 (length w.unclosed.items)) [
   | inr empty ↦ omega arith
 ]
 
-closed_by : (graph : List (List ℕ)) (w : Walk) (x : ℕ) (stage : Stage) → Stands graph w → length w.unclosed.items ≡ 0 → stage_at w.stages.items x ≢ New
+closed_by : (graph : List (List ℕ)) (w : Walk) (x : ℕ) (stage : Stage) → Stands graph w → length w.unclosed.items ≡ 0
+    → stage_at w.stages.items x ≢ New
     → stage_at w.stages.items x ≡ stage → stage_at w.stages.items x ≡ Closed
 closed_by graph w x New s none met is = absurd (met is)
 closed_by graph w x Closed s none met is = is
 closed_by graph w x (Open i) s none met is = absurd (omega (arith, (s.sound.placed x i is).0))
 
 -- once all nodes are met and the walk rests, all are closed
-pub all_closed : (graph : List (List ℕ)) (w : Walk) (n : ℕ) → Visited graph w n → (x : ℕ) → x < n → stage_at w.stages.items x ≡ Closed
+pub all_closed : (graph : List (List ℕ)) (w : Walk) (n : ℕ) → Visited graph w n → (x : ℕ) → x < n
+    → stage_at w.stages.items x ≡ Closed
 all_closed graph w n v x l =
     closed_by graph w x (stage_at w.stages.items x) v.stands (no_unclosed graph w v.stands v.rests) (v.met x l) refl

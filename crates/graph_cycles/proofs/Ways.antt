@@ -1,5 +1,6 @@
 -- Ways through a graph, and where a position stands among others.
-use Rattle.std.proofs.Common.{◌≡◌, ℕ, zero, suc, ◌-◌, ◌<◌, ◌≤◌, ◌⊎◌, List, [], ◌∷◌, length, get_or, sym, ap, subst, inl, inr, arith}
+use Rattle.std.proofs.Common.{◌≡◌, ℕ, zero, suc, ◌-◌, ◌<◌, ◌≤◌, ◌⊎◌, List, [], ◌∷◌, length, get_or, sym, ap, subst, inl}
+use Rattle.std.proofs.Common.{inr, arith}
 use Rattle.std.proofs.lemmas.Bool.{cases_lt}
 use Rattle.graph_cycles.specs.Graph.{Goes, Leads}
 use Rattle.graph_cycles.specs.Graph.Leads.{edge}
@@ -31,12 +32,14 @@ some_above_or_none (x ∷ xs) j =
       ]
     ]
   where
-    at_front : (x : ℕ) (xs : List ℕ) (j : ℕ) → x ≤ j → ((c : ℕ) → c < length xs → get_or xs c 0 ≤ j) → (c : ℕ) → c < suc (length xs) → get_or (x ∷ xs) c 0 ≤ j
+    at_front : (x : ℕ) (xs : List ℕ) (j : ℕ) → x ≤ j → ((c : ℕ) → c < length xs → get_or xs c 0 ≤ j) → (c : ℕ)
+        → c < suc (length xs) → get_or (x ∷ xs) c 0 ≤ j
     at_front x xs j h none zero l = h
     at_front x xs j h none (suc c) l = none c (omega arith)
 
 -- every place that rises with the path is at most the one at its end
-pub top_most : (path : List ℕ) (t i : ℕ) → Rises path → 0 < length path → get_or path (length path - 1) 0 ≡ t → IsOn path i → i ≤ t
+pub top_most : (path : List ℕ) (t i : ℕ) → Rises path → 0 < length path → get_or path (length path - 1) 0 ≡ t
+    → IsOn path i → i ≤ t
 top_most path t i rises some top (p, below, is) =
     elim (cases_lt p (length path - 1)) [
       | inl before ↦ omega (arith, rises p (length path - 1) before (omega arith))

@@ -17,7 +17,8 @@ work-visited (row ∷ rows) (e ∷ explored) (stage ∷ stages) (suc x) n same s
     omega (arith, work-visited rows explored stages x n (omega arith) (omega arith) (omega arith) new)
 
 pub work-explored : (graph : List (List ℕ)) (explored : List ℕ) (stages : List Stage) (x : ℕ)
-    → length explored ≡ length graph → length stages ≡ length graph → x < length graph → slice_index explored x < length (successors graph x)
+    → length explored ≡ length graph → length stages ≡ length graph → x < length graph
+    → slice_index explored x < length (successors graph x)
     → work_left graph (slice_set explored x (slice_index explored x + 1)) stages + 1 ≡ work_left graph explored stages
 work-explored [] explored stages x same same' l more = absurd (omega arith)
 work-explored (row ∷ rows) [] stages x same same' l more = absurd (omega arith)

@@ -1,12 +1,14 @@
 -- The walk as it stands between two steps.
-use Rattle.std.specs.Prelude.{◌≡◌, ◌≢◌, ℕ, ◌+◌, ◌-◌, ◌<◌, ◌≤◌, true, false, List, [], ◌∷◌, ◌++◌, length, take, drop, slice_index, slice_set}
+use Rattle.std.specs.Prelude.{◌≡◌, ◌≢◌, ℕ, ◌+◌, ◌-◌, ◌<◌, ◌≤◌, true, false, List, [], ◌∷◌, ◌++◌, length, take, drop}
+use Rattle.std.specs.Prelude.{slice_index, slice_set}
 use Rattle.graph_cycles.specs.declared.walk.Walk.{Walk}
 use Rattle.graph_cycles.specs.declared.walk.Stage.TheVariants.{New, Open, Closed}
 use Rattle.graph_cycles.specs.Graph.{successors, rank_over}
 use Rattle.graph_cycles.specs.Walk.{IsSound, HasRanks, Closes, piece_cycles, stage_at, work_left}
 
 pub record Stands (graph : List (List ℕ)) (w : Walk) : Type 0 where
-  pub sound : IsSound graph w.stages.items w.explored.items w.unclosed.items w.pieces.items w.path.items w.on_cycle.items
+  pub sound : IsSound graph w.stages.items w.explored.items w.unclosed.items w.pieces.items w.path.items
+      w.on_cycle.items
   pub ranks : HasRanks graph w.stages.items w.ranks.items w.on_cycle.items (length w.closed.items)
 
 -- a node that was met stays met
@@ -41,7 +43,8 @@ pub record Joins (old new : Walk) (at : ℕ) : Type 0 where
   pub front : new.pieces.items ≡ take (length new.pieces.items) old.pieces.items
   pub shorter : length new.pieces.items ≤ length old.pieces.items
   pub kept : (c : ℕ) → c < length new.pieces.items → slice_index new.pieces.items c ≤ at
-  pub dropped : (c : ℕ) → length new.pieces.items ≤ c → c < length old.pieces.items → at < slice_index old.pieces.items c
+  pub dropped : (c : ℕ) → length new.pieces.items ≤ c → c < length old.pieces.items
+      → at < slice_index old.pieces.items c
 
 -- an edge to a node is followed: a new node is met, an open one joins pieces, and a closed one changes nothing
 pub record Follows (old new : Walk) (x : ℕ) : Type 0 where
@@ -66,7 +69,8 @@ edges_at graph w at = successors graph (slice_index w.unclosed.items at)
 -- one more edge of the node at a position counts as explored
 pub record Counts (old new : Walk) (at : ℕ) : Type 0 where
   pub stages : new.stages ≡ old.stages
-  pub explored : new.explored.items ≡ slice_set old.explored.items (slice_index old.unclosed.items at) (explored_at old at + 1)
+  pub explored : new.explored.items ≡ slice_set old.explored.items (slice_index old.unclosed.items at)
+      (explored_at old at + 1)
   pub unclosed : new.unclosed ≡ old.unclosed
   pub pieces : new.pieces ≡ old.pieces
   pub path : new.path ≡ old.path
@@ -87,14 +91,16 @@ pub record IsRankedAlone (old new : Walk) : Type 0 where
 
 -- the piece that begins at a position is closed: its nodes are marked, and a node that lies on no cycle has its rank
 pub record Shuts (graph : List (List ℕ)) (old new : Walk) (at : ℕ) : Type 0 where
-  pub sealed : Closes (drop at old.unclosed.items) (piece_cycles graph old.unclosed.items at) old.stages.items new.stages.items old.on_cycle.items new.on_cycle.items
+  pub sealed : Closes (drop at old.unclosed.items) (piece_cycles graph old.unclosed.items at) old.stages.items
+      new.stages.items old.on_cycle.items new.on_cycle.items
   pub explored : new.explored.items ≡ old.explored.items
   pub unclosed : new.unclosed.items ≡ take at old.unclosed.items
   pub pieces : new.pieces.items ≡ take (length old.pieces.items - 1) old.pieces.items
   pub path : new.path.items ≡ take (length old.path.items - 1) old.path.items
   pub closed : length old.closed.items < length new.closed.items
   pub ranked : piece_cycles graph old.unclosed.items at ≡ false
-      → new.ranks.items ≡ slice_set old.ranks.items (slice_index old.unclosed.items at) (rank_over old.ranks.items (edges_at graph old at))
+      → new.ranks.items ≡ slice_set old.ranks.items (slice_index old.unclosed.items at)
+      (rank_over old.ranks.items (edges_at graph old at))
   pub unranked : piece_cycles graph old.unclosed.items at ≡ true → new.ranks.items ≡ old.ranks.items
 
 -- a walk from a node is done: the walk stands and rests, every node that was met stays met, and the root is met

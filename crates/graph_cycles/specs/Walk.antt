@@ -1,5 +1,6 @@
 -- What is true of the walk between two steps.
-use Rattle.std.specs.Prelude.{◌≡◌, ◌≢◌, ℕ, ◌+◌, ◌-◌, ◌<◌, ◌≤◌, ◌↔◌, ◌⊎◌, ◌||◌, nat_lt, Bool, false, List, [], ◌∷◌, length, take, IsTrue, slice_index, slice_index_or}
+use Rattle.std.specs.Prelude.{◌≡◌, ◌≢◌, ℕ, ◌+◌, ◌-◌, ◌<◌, ◌≤◌, ◌↔◌, ◌⊎◌, ◌||◌, nat_lt, Bool, false, List, [], ◌∷◌}
+use Rattle.std.specs.Prelude.{length, take, IsTrue, slice_index, slice_index_or}
 use Rattle.graph_cycles.specs.Graph.{successors, has, Goes, Leads, rank_over}
 use Rattle.graph_cycles.specs.declared.walk.Stage.{Stage}
 use Rattle.graph_cycles.specs.declared.walk.Stage.TheVariants.{New, Open, Closed}
@@ -34,7 +35,8 @@ IsKnown stages pieces i y = (stage_at stages y ≡ Closed) ⊎ ((j : ℕ) × (st
 abbrev pub seen_of : List (List ℕ) → List ℕ → ℕ → List ℕ
 seen_of graph explored x = take (slice_index explored x) (successors graph x)
 
-pub record IsSound (graph : List (List ℕ)) (stages : List Stage) (explored unclosed pieces path : List ℕ) (marks : List Bool) : Type 0 where
+pub record IsSound (graph : List (List ℕ)) (stages : List Stage) (explored unclosed pieces path : List ℕ)
+    (marks : List Bool) : Type 0 where
   pub stages_all : length stages ≡ length graph
   pub explored_all : length explored ≡ length graph
   pub marks_all : length marks ≡ length graph
@@ -46,9 +48,11 @@ pub record IsSound (graph : List (List ℕ)) (stages : List Stage) (explored unc
   pub marked : (x : ℕ) → stage_at stages x ≡ Closed → IsTrue (mark_at marks x) ↔ Leads graph x x
   pub together : (i j : ℕ) → i < length unclosed → j < length unclosed → Within pieces i j
       → Reaches graph (slice_index unclosed i) (slice_index unclosed j)
-  pub known : (i y : ℕ) → i < length unclosed → IsTrue (has (seen_of graph explored (slice_index unclosed i)) y) → IsKnown stages pieces i y
+  pub known : (i y : ℕ) → i < length unclosed → IsTrue (has (seen_of graph explored (slice_index unclosed i)) y)
+      → IsKnown stages pieces i y
   pub left_done : (i : ℕ) → i < length unclosed
-      → IsOn path i ⊎ (length (successors graph (slice_index unclosed i)) ≤ slice_index explored (slice_index unclosed i))
+      → IsOn path i ⊎ (length (successors graph (slice_index unclosed i))
+      ≤ slice_index explored (slice_index unclosed i))
   pub roots : (c : ℕ) → c < length pieces → IsOn path (slice_index pieces c)
   pub first : 0 < length unclosed → (0 < length pieces) × (slice_index pieces 0 ≡ 0)
   pub path_open : (p : ℕ) → p < length path → slice_index path p < length unclosed
@@ -65,13 +69,17 @@ pub record Closes (nodes : List ℕ) (mark : Bool) (stages stages' : List Stage)
   pub marks_same : length marks' ≡ length marks
   pub inside_stage : (k : ℕ) → k < length nodes → stage_at stages' (slice_index nodes k) ≡ Closed
   pub inside_mark : (k : ℕ) → k < length nodes → mark_at marks' (slice_index nodes k) ≡ mark
-  pub outside_stage : (x : ℕ) → ((k : ℕ) → k < length nodes → slice_index nodes k ≢ x) → stage_at stages' x ≡ stage_at stages x
-  pub outside_mark : (x : ℕ) → ((k : ℕ) → k < length nodes → slice_index nodes k ≢ x) → mark_at marks' x ≡ mark_at marks x
+  pub outside_stage : (x : ℕ) → ((k : ℕ) → k < length nodes → slice_index nodes k ≢ x)
+      → stage_at stages' x ≡ stage_at stages x
+  pub outside_mark : (x : ℕ) → ((k : ℕ) → k < length nodes → slice_index nodes k ≢ x)
+      → mark_at marks' x ≡ mark_at marks x
 
 -- the closed nodes that lie on no cycle have their ranks, none of which exceeds the number of closed nodes
-pub record HasRanks (graph : List (List ℕ)) (stages : List Stage) (ranks : List ℕ) (marks : List Bool) (count : ℕ) : Type 0 where
+pub record HasRanks (graph : List (List ℕ)) (stages : List Stage) (ranks : List ℕ) (marks : List Bool)
+    (count : ℕ) : Type 0 where
   pub ranks_all : length ranks ≡ length graph
-  pub ranked : (x : ℕ) → stage_at stages x ≡ Closed → mark_at marks x ≡ false → slice_index ranks x ≡ rank_over ranks (successors graph x)
+  pub ranked : (x : ℕ) → stage_at stages x ≡ Closed → mark_at marks x ≡ false
+      → slice_index ranks x ≡ rank_over ranks (successors graph x)
   pub bounded : (x : ℕ) → slice_index ranks x ≤ count
 
 -- what is left to do at a stage
@@ -85,9 +93,11 @@ abbrev pub work_left : List (List ℕ) → List ℕ → List Stage → ℕ
 work_left [] explored stages = 0
 work_left (row ∷ rows) [] stages = 0
 work_left (row ∷ rows) (e ∷ explored) [] = 0
-work_left (row ∷ rows) (e ∷ explored) (stage ∷ stages) = (length row - e) + stage_work stage + work_left rows explored stages
+work_left (row ∷ rows) (e ∷ explored) (stage ∷ stages) =
+    (length row - e) + stage_work stage + work_left rows explored stages
 
--- whether the nodes of the piece that begins at a position and is explored lie on a cycle: there are two of them, or one
--- that has an edge to itself
+-- whether the nodes of the piece that begins at a position and is explored lie on a cycle: there are two of them, or
+-- one that has an edge to itself
 abbrev pub piece_cycles : List (List ℕ) → List ℕ → ℕ → Bool
-piece_cycles graph unclosed t = nat_lt 1 (length unclosed - t) || has (successors graph (slice_index unclosed t)) (slice_index unclosed t)
+piece_cycles graph unclosed t =
+    nat_lt 1 (length unclosed - t) || has (successors graph (slice_index unclosed t)) (slice_index unclosed t)

@@ -6,7 +6,8 @@
 //! recursion, so that chains of any depth are walked.
 #![tactic(auto)]
 
-ghost use Rattle.std.specs.Prelude.{◌≡◌, ◌<◌, ◌≤◌, ◌↔◌, ◌^◌, ℕ, false, length, IsTrue, IfOk, slice_index, slice_index_or, vec_len, nat_lt};
+ghost use Rattle.std.specs.Prelude.{◌≡◌, ◌<◌, ◌≤◌, ◌↔◌, ◌^◌, ℕ, false, length, IsTrue, IfOk, slice_index};
+ghost use Rattle.std.specs.Prelude.{slice_index_or, vec_len, nat_lt};
 ghost use Rattle.std.specs.List.{list_all};
 ghost use Rattle.graph_cycles.specs.Graph.{IsGraph, Leads, successors, rank_over};
 
@@ -23,7 +24,8 @@ use walk::{Stage, Walk};
 pub struct Survey {
     /// Whether the node leads back to itself over one or more edges.
     pub on_cycle: Vec<bool>,
-    /// The rank of a node that lies on no cycle: 0 of one without successors, else one more than the greatest rank of those.
+    /// The rank of a node that lies on no cycle: 0 of one without successors, else one more than the greatest rank of
+    /// those.
     pub ranks: Vec<usize>,
 }
 
@@ -32,8 +34,10 @@ pub fn find_cycles(alloc: Global, graph: &Rows<usize>) -> Result<Survey, AllocEr
     requires { IsGraph graph.now }
     ensures marks { IfOk result (λ s. vec_len s.on_cycle ≡ length graph.now) }
     ensures all_ranks { IfOk result (λ s. vec_len s.ranks ≡ length graph.now) }
-    ensures exact { IfOk result (λ s. (x : ℕ) → x < length graph.now → IsTrue (slice_index_or s.on_cycle.items x false) ↔ Leads graph.now x x) }
-    ensures ranked { IfOk result (λ s. (x : ℕ) → x < length graph.now → slice_index_or s.on_cycle.items x false ≡ false → slice_index s.ranks.items x ≡ rank_over s.ranks.items (successors graph.now x)) }
+    ensures exact { IfOk result (λ s. (x : ℕ) → x < length graph.now
+        → IsTrue (slice_index_or s.on_cycle.items x false) ↔ Leads graph.now x x) }
+    ensures ranked { IfOk result (λ s. (x : ℕ) → x < length graph.now → slice_index_or s.on_cycle.items x false ≡ false
+        → slice_index s.ranks.items x ≡ rank_over s.ranks.items (successors graph.now x)) }
 {
     let mut walk = Walk::new(alloc, graph)?;
     for node in 0..graph.len() {

@@ -1,3 +1,4 @@
+//! Graphs with cycles and without.
 use super::*;
 use flat_rows::Rows;
 use std::test::Fail;

@@ -1,9 +1,12 @@
 //! The walk. Open nodes lie in pieces, each of which is strongly connected as far as it is known; an edge back into an
 //! earlier piece makes one piece of all pieces from there on. A piece is closed once all its edges are explored.
-ghost use Rattle.std.specs.Prelude.{◌≡◌, ◌≢◌, ◌+◌, ◌-◌, ◌<◌, ◌≤◌, ◌↔◌, ◌||◌, ◌⊎◌, ℕ, suc, true, false, [], length, take, drop, IsTrue, IfOk, OnOk, slice_index, slice_index_or, slice_set, nat_lt, vec_len};
+ghost use Rattle.std.specs.Prelude.{◌≡◌, ◌≢◌, ◌+◌, ◌-◌, ◌<◌, ◌≤◌, ◌↔◌, ◌||◌, ◌⊎◌, ℕ, suc, true, false, [], length};
+ghost use Rattle.std.specs.Prelude.{take, drop, IsTrue, IfOk, OnOk, slice_index, slice_index_or, slice_set, nat_lt};
+ghost use Rattle.std.specs.Prelude.{vec_len};
 ghost use Rattle.graph_cycles.specs.Graph.{IsGraph, Goes, has, successors, rank_over};
 ghost use Rattle.graph_cycles.specs.Walk.{Rises, IsTop, Closes, piece_cycles, stage_at};
-ghost use Rattle.graph_cycles.specs.State.{Stands, Steps, Meets, Follows, Counts, Shuts, IsRankedAlone, Walks, explored_at, edges_at};
+ghost use Rattle.graph_cycles.specs.State.{Stands, Steps, Meets, Follows, Counts, Shuts, IsRankedAlone, Walks};
+ghost use Rattle.graph_cycles.specs.State.{explored_at, edges_at};
 
 use flat_rows::Rows;
 use std::alloc::{AllocError, Global};
@@ -205,7 +208,8 @@ impl Walk {
         requires edges { (y : ℕ) → IsTrue (has edges.now y) → y < length self.old.ranks.items }
         requires small { (y : ℕ) → slice_index self.old.ranks.items y + 1 < 18446744073709551616 }
         ensures rest { IsRankedAlone self.old self.new }
-        ensures ranked { cycles ≡ false → self.new.ranks.items ≡ slice_set self.old.ranks.items node (rank_over self.old.ranks.items edges.now) }
+        ensures ranked { cycles ≡ false → self.new.ranks.items
+            ≡ slice_set self.old.ranks.items node (rank_over self.old.ranks.items edges.now) }
         ensures unranked { cycles ≡ true → self.new.ranks.items ≡ self.old.ranks.items }
     {
         if !cycles {

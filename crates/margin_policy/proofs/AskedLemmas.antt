@@ -1,5 +1,7 @@
 -- Units that stand once, and how an array takes them up.
-use Rattle.std.proofs.Common.{◌≡◌, ℕ, zero, suc, ◌+◌, ◌-◌, ◌<◌, ◌≤◌, Bool, true, false, ◌==◌, List, [], ◌∷◌, ◌++◌, length, take, drop, set, replicate, get_or, refl, sym, ◌∙◌, ap, arith, inl, inr, eq-eqb, eqb-true, length-set, get_or-set_same, drop-drop, drop-set-lt}
+use Rattle.std.proofs.Common.{◌≡◌, ℕ, zero, suc, ◌+◌, ◌-◌, ◌<◌, ◌≤◌, Bool, true, false, ◌==◌, List, [], ◌∷◌, ◌++◌}
+use Rattle.std.proofs.Common.{length, take, drop, set, replicate, get_or, refl, sym, ◌∙◌, ap, arith, inl, inr, eq-eqb}
+use Rattle.std.proofs.Common.{eqb-true, length-set, get_or-set_same, drop-drop, drop-set-lt}
 use Rattle.std.proofs.lemmas.Bool.{or_parts, or_from, or_left, or_right, cases_Bool}
 use Rattle.std.proofs.lemmas.Bool.Decides.{nat_tests}
 use Rattle.std.proofs.lemmas.List.{take_more, take_all, take-set, drop-replicate, length-replicate}
@@ -25,12 +27,15 @@ apart-at xs x i none short = elim (cases_Bool (x == get_or xs i 0)) [
     clash false h k = absurd cc
 
 -- a unit of a list without repeats doesn't stand before itself
-pub once_at : (units : List ℕ) (i : ℕ) → has_repeat units ≡ false → i < length units → among (take i units) (get_or units i 0) ≡ false
+pub once_at : (units : List ℕ) (i : ℕ) → has_repeat units ≡ false → i < length units
+    → among (take i units) (get_or units i 0) ≡ false
 once_at [] i once short = absurd (omega arith)
 once_at (unit ∷ units) zero once short = refl
 once_at (unit ∷ units) (suc i) once short =
-    let parts : (among units unit ≡ false) × (has_repeat units ≡ false) = or_parts (among units unit) (has_repeat units) once in
-    or_from (unit == get_or units i 0) (among (take i units) (get_or units i 0)) (apart-at units unit i parts.0 (omega arith)) (once_at units i parts.1 (omega arith))
+    let parts : (among units unit ≡ false) × (has_repeat units ≡ false) =
+    or_parts (among units unit) (has_repeat units) once in
+    or_from (unit == get_or units i 0) (among (take i units) (get_or units i 0))
+    (apart-at units unit i parts.0 (omega arith)) (once_at units i parts.1 (omega arith))
 
 -- ---- an array is filled
 
@@ -43,7 +48,8 @@ pub record IsFillingPlaces (units places : List ℕ) (i : ℕ) : Type 0 where
 pub filling-first : (units : List ℕ) → IsFillingPlaces units (replicate asked_limit 1) 0
 filling-first units = record { all = length-replicate {A = ℕ} asked_limit 1; front = refl; rest = refl }
 
-pub filling-more : (units places : List ℕ) (i unit : ℕ) → i < length units → i < asked_limit → unit ≡ get_or units i 0 → IsFillingPlaces units places i → IsFillingPlaces units (set places i unit) (i + 1)
+pub filling-more : (units places : List ℕ) (i unit : ℕ) → i < length units → i < asked_limit → unit ≡ get_or units i 0
+    → IsFillingPlaces units places i → IsFillingPlaces units (set places i unit) (i + 1)
 filling-more units places i unit short inside at was =
     let there : i < length places = omega (arith, was.all) in
     let same_front : take i (set places i unit) ≡ take i places = take-set places i unit in
@@ -66,7 +72,8 @@ filling-more units places i unit short inside at was =
     fewer i = omega arith
 
 -- all units stand in the array
-pub filled : (units places : List ℕ) (count : ℕ) (unknown : Bool) → length units ≡ count → count ≤ asked_limit → can_be_asked units unknown ≡ true → IsFillingPlaces units places count → HoldsAsked places count unknown
+pub filled : (units places : List ℕ) (count : ℕ) (unknown : Bool) → length units ≡ count → count ≤ asked_limit
+    → can_be_asked units unknown ≡ true → IsFillingPlaces units places count → HoldsAsked places count unknown
 filled units places count unknown long few asked was = record {
   all = was.all;
   few = few;

@@ -1,5 +1,6 @@
 -- What a reply tells, and the first tight cut set by number and by place.
-use Rattle.std.proofs.Common.{◌≡◌, ℕ, suc, ◌+◌, ◌<◌, ◌^◌, ◌++◌, Bool, true, false, List, [], ◌∷◌, slice_get, Option, Some, None, is_none, if◌then◌else◌, refl, sym, ◌∙◌, ap, arith, add-one}
+use Rattle.std.proofs.Common.{◌≡◌, ℕ, suc, ◌+◌, ◌<◌, ◌^◌, ◌++◌, Bool, true, false, List, [], ◌∷◌, slice_get, Option}
+use Rattle.std.proofs.Common.{Some, None, is_none, if◌then◌else◌, refl, sym, ◌∙◌, ap, arith, add-one}
 use Rattle.std.specs.List.{position}
 use Rattle.std.specs.Option.{option_map}
 use Rattle.std.proofs.lemmas.List.Quantifiers.{position-Some}
@@ -19,39 +20,51 @@ abbrev pub granted_at : Option ℕ → Reply
 granted_at None = Granted
 granted_at (Some place) = Denied (suc place)
 
-by_first : (numbers : List ℕ) (place : Option ℕ) → slice_get numbers 0 ≡ option_map suc place → granted_at place ≡ granted_unless numbers
+by_first : (numbers : List ℕ) (place : Option ℕ) → slice_get numbers 0 ≡ option_map suc place
+    → granted_at place ≡ granted_unless numbers
 by_first [] None h = refl
 by_first [] (Some place) h = absurd cc
 by_first (number ∷ numbers) None h = absurd cc
 by_first (number ∷ numbers) (Some place) h = let same : number ≡ suc place = cc in ap Denied (sym same)
 
 -- the first tight cut set decides, told by its place or by its number
-pub granted_at-first : (out : List ℕ) (most : ℕ) (cuts : List (List ℕ)) → granted_at (position (is_tight out most) cuts) ≡ granted_unless (tight out most cuts)
-granted_at-first out most cuts = by_first (tight out most cuts) (position (is_tight out most) cuts) (tight-first out most cuts)
+pub granted_at-first : (out : List ℕ) (most : ℕ) (cuts : List (List ℕ))
+    → granted_at (position (is_tight out most) cuts) ≡ granted_unless (tight out most cuts)
+granted_at-first out most cuts =
+    by_first (tight out most cuts) (position (is_tight out most) cuts) (tight-first out most cuts)
 
 -- the reply at a first tight cut set, and where there is none
-pub denied_at : (out : List ℕ) (most : ℕ) (cuts : List (List ℕ)) (first : Option ℕ) (place : ℕ) → first ≡ position (is_tight out most) cuts → first ≡ Some place → Denied (place + 1) ≡ granted_unless (tight out most cuts)
+pub denied_at : (out : List ℕ) (most : ℕ) (cuts : List (List ℕ)) (first : Option ℕ) (place : ℕ)
+    → first ≡ position (is_tight out most) cuts → first ≡ Some place
+    → Denied (place + 1) ≡ granted_unless (tight out most cuts)
 denied_at out most cuts first place is some =
     ap Denied (add-one place) ∙ ap granted_at (sym some ∙ is) ∙ granted_at-first out most cuts
 
-pub granted_where_none : (out : List ℕ) (most : ℕ) (cuts : List (List ℕ)) (first : Option ℕ) → first ≡ position (is_tight out most) cuts → first ≡ None → Granted ≡ granted_unless (tight out most cuts)
+pub granted_where_none : (out : List ℕ) (most : ℕ) (cuts : List (List ℕ)) (first : Option ℕ)
+    → first ≡ position (is_tight out most) cuts → first ≡ None → Granted ≡ granted_unless (tight out most cuts)
 granted_where_none out most cuts first is none =
     ap granted_at (sym none ∙ is) ∙ granted_at-first out most cuts
 
 -- a place of a cut set is no large number
-pub few_places : (cuts : List (List ℕ)) (test : List ℕ → Bool) (first : Option ℕ) (place : ℕ) → IsOrderedCuts cuts → first ≡ position test cuts → first ≡ Some place → place < 2 ^ 31
+pub few_places : (cuts : List (List ℕ)) (test : List ℕ → Bool) (first : Option ℕ) (place : ℕ) → IsOrderedCuts cuts
+    → first ≡ position test cuts → first ≡ Some place → place < 2 ^ 31
 few_places cuts test first place ordered is some =
     let found = position-Some test cuts place [] (sym is ∙ some) in
     omega (arith, found.0, few_cuts cuts, ordered.within)
 
-pub take_granted : (cuts : List (List ℕ)) (held : Held) (margin : ℕ) (asked : AskedView) → decide_take cuts held margin asked ≡ Granted → first_holder held asked.units ≡ None
-take_granted cuts held margin asked granted = by_cases asked.unknown (first_holder held asked.units) (granted_unless (tight (asked.units ++ units_out held) margin cuts)) granted
+pub take_granted : (cuts : List (List ℕ)) (held : Held) (margin : ℕ) (asked : AskedView)
+    → decide_take cuts held margin asked ≡ Granted → first_holder held asked.units ≡ None
+take_granted cuts held margin asked granted =
+    by_cases asked.unknown (first_holder held asked.units)
+    (granted_unless (tight (asked.units ++ units_out held) margin cuts)) granted
   where
-    by_cases : (unknown : Bool) (first : Option CrewNo) (reply : Reply) → (if unknown then UnknownUnit else unless_held first reply) ≡ Granted → first ≡ None
+    by_cases : (unknown : Bool) (first : Option CrewNo) (reply : Reply)
+        → (if unknown then UnknownUnit else unless_held first reply) ≡ Granted → first ≡ None
     by_cases true first reply h = absurd cc
     by_cases false None reply h = refl
     by_cases false (Some holder) reply h = absurd cc
 
-pub return_granted : (crew : CrewNo) (holder : Option CrewNo) → decide_return crew holder ≡ Granted → is_none holder ≡ false
+pub return_granted : (crew : CrewNo) (holder : Option CrewNo) → decide_return crew holder ≡ Granted
+    → is_none holder ≡ false
 return_granted crew None h = absurd cc
 return_granted crew (Some holder) h = refl

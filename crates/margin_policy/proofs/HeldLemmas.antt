@@ -1,12 +1,17 @@
 -- Which units are out when holders change.
-use Rattle.std.proofs.Common.{◌≡◌, ℕ, zero, suc, ◌+◌, ◌<◌, ◌≤◌, Bool, true, false, not, ◌&&◌, ◌||◌, ◌==◌, List, [], ◌∷◌, ◌++◌, length, take, drop, replicate, get_or, All, Option, Some, None, is_some, refl, sym, ◌∙◌, ap, arith, inl, inr, eq-eqb, get_or-set_same, get_or-set_other}
+use Rattle.std.proofs.Common.{◌≡◌, ℕ, zero, suc, ◌+◌, ◌<◌, ◌≤◌, Bool, true, false, not, ◌&&◌, ◌||◌, ◌==◌, List, [], ◌∷◌}
+use Rattle.std.proofs.Common.{◌++◌, length, take, drop, replicate, get_or, All, Option, Some, None, is_some, refl, sym}
+use Rattle.std.proofs.Common.{◌∙◌, ap, arith, inl, inr, eq-eqb, get_or-set_same, get_or-set_other}
 use Rattle.std.specs.List.Sorted.{IsStrictlySortedBy}
 use Rattle.std.proofs.lemmas.Bool.{cases_eq, cases_lt, ne_eqb, or_parts}
-use Rattle.std.proofs.lemmas.List.{get_or_past, get_or-replicate, length-replicate, take_more, drop_more, drop_all, get_or_default}
-use Rattle.unit_sets.specs.UnitList.{among, IsRising, with_unit, without_unit, same_set, IsRising-with_unit, IsRising-without_unit, among-with_unit, among-without_unit}
+use Rattle.std.proofs.lemmas.List.{get_or_past, get_or-replicate, length-replicate, take_more, drop_more, drop_all}
+use Rattle.std.proofs.lemmas.List.{get_or_default}
+use Rattle.unit_sets.specs.UnitList.{among, IsRising, with_unit, without_unit, same_set, IsRising-with_unit}
+use Rattle.unit_sets.specs.UnitList.{IsRising-without_unit, among-with_unit, among-without_unit}
 use Rattle.unit_sets.specs.declared.request.CrewNo.{CrewNo}
 use Rattle.margin_policy.specs.Asked.{has_repeat}
-use Rattle.margin_policy.specs.Held.{Held, holder_of, units_out, with_held, with_all_held, without_held, or_else, first_holder}
+use Rattle.margin_policy.specs.Held.{Held, holder_of, units_out, with_held, with_all_held, without_held, or_else}
+use Rattle.margin_policy.specs.Held.{first_holder}
 use Rattle.margin_policy.specs.HeldLaws.{is_held, IsRising-units_out, among-units_out, is_held-with_held}
 use Rattle.margin_policy.specs.Standing.{nothing_held}
 use Rattle.margin_policy.proofs.AskedLemmas.{once_at}
@@ -16,7 +21,8 @@ use Rattle.margin_policy.proofs.AskedLemmas.{once_at}
 no_holder : (count unit : ℕ) → holder_of (replicate count None) unit ≡ None
 no_holder count unit = elim (cases_lt unit count) [
   | inl short ↦ get_or-replicate count unit None None short
-  | inr past ↦ get_or_past (replicate count None) unit None (omega (arith, past, length-replicate {A = Option CrewNo} count None))
+  | inr past ↦ get_or_past (replicate count None) unit None
+      (omega (arith, past, length-replicate {A = Option CrewNo} count None))
 ]
 
 none_rises : IsRising []
@@ -30,15 +36,25 @@ nothing_out units =
 
 -- ---- a unit goes out, or comes back
 
-pub taken : (held : Held) (crew : CrewNo) (unit : ℕ) → unit < length held → units_out (with_held crew unit held) ≡ with_unit unit (units_out held)
+pub taken : (held : Held) (crew : CrewNo) (unit : ℕ) → unit < length held
+    → units_out (with_held crew unit held) ≡ with_unit unit (units_out held)
 taken held crew unit short =
-    same_set (units_out (with_held crew unit held)) (with_unit unit (units_out held)) (IsRising-units_out (with_held crew unit held)) (IsRising-with_unit unit (units_out held) (IsRising-units_out held))
-    (λ other. among-units_out (with_held crew unit held) other ∙ is_held-with_held held crew unit short other ∙ sym (among-with_unit unit (units_out held) other ∙ ap (λ b. (unit == other) || b) (among-units_out held other)))
+    same_set (units_out (with_held crew unit held)) (with_unit unit (units_out held))
+    (IsRising-units_out (with_held crew unit held))
+    (IsRising-with_unit unit (units_out held) (IsRising-units_out held))
+    (λ other. among-units_out (with_held crew unit held) other ∙ is_held-with_held held crew unit short other
+    ∙ sym (among-with_unit unit (units_out held) other
+    ∙ ap (λ b. (unit == other) || b) (among-units_out held other)))
 
-pub returned : (held : Held) (unit : ℕ) → unit < length held → units_out (without_held unit held) ≡ without_unit unit (units_out held)
+pub returned : (held : Held) (unit : ℕ) → unit < length held
+    → units_out (without_held unit held) ≡ without_unit unit (units_out held)
 returned held unit short =
-    same_set (units_out (without_held unit held)) (without_unit unit (units_out held)) (IsRising-units_out (without_held unit held)) (IsRising-without_unit unit (units_out held) (IsRising-units_out held))
-    (λ other. among-units_out (without_held unit held) other ∙ each other ∙ sym (among-without_unit unit (units_out held) other ∙ ap (λ b. b && not (other == unit)) (among-units_out held other)))
+    same_set (units_out (without_held unit held)) (without_unit unit (units_out held))
+    (IsRising-units_out (without_held unit held))
+    (IsRising-without_unit unit (units_out held) (IsRising-units_out held))
+    (λ other. among-units_out (without_held unit held) other ∙ each other
+    ∙ sym (among-without_unit unit (units_out held) other
+    ∙ ap (λ b. b && not (other == unit)) (among-units_out held other)))
   where
     gone : (a b : Bool) → b ≡ true → false ≡ (a && not b)
     gone true true h = refl
@@ -56,55 +72,75 @@ returned held unit short =
           ap (is_held (without_held unit held)) same ∙ ap is_some (get_or-set_same held unit None None short)
           ∙ gone (is_held held other) (other == unit) (eq-eqb other unit same)
       | inr apart ↦
-          ap is_some (get_or-set_other held unit other None None apart) ∙ kept (is_held held other) (other == unit) (ne_eqb other unit apart)
+          ap is_some (get_or-set_other held unit other None None apart)
+          ∙ kept (is_held held other) (other == unit) (ne_eqb other unit apart)
     ]
 
 -- ---- some units, one after another
 
-pub first_holder-none : (held : Held) (units : List ℕ) → first_holder held units ≡ None → (i : ℕ) → i < length units → holder_of held (get_or units i 0) ≡ None
+pub first_holder-none : (held : Held) (units : List ℕ) → first_holder held units ≡ None → (i : ℕ) → i < length units
+    → holder_of held (get_or units i 0) ≡ None
 first_holder-none held [] none i short = absurd (omega arith)
 first_holder-none held (unit ∷ units) none zero short = first_of (holder_of held unit) (first_holder held units) none
   where
     first_of : (first later : Option CrewNo) → or_else first later ≡ None → first ≡ None
     first_of None later h = refl
     first_of (Some holder) later h = absurd cc
-first_holder-none held (unit ∷ units) none (suc i) short = first_holder-none held units (later_of (holder_of held unit) (first_holder held units) none) i (omega arith)
+first_holder-none held (unit ∷ units) none (suc i) short =
+    first_holder-none held units (later_of (holder_of held unit) (first_holder held units) none) i (omega arith)
   where
     later_of : (first later : Option CrewNo) → or_else first later ≡ None → later ≡ None
     later_of None later h = h
     later_of (Some holder) later h = absurd cc
 
-pub all_in_service : (held : Held) (units : List ℕ) → first_holder held units ≡ None → All (λ unit. among (units_out held) unit ≡ false) units
+pub all_in_service : (held : Held) (units : List ℕ) → first_holder held units ≡ None
+    → All (λ unit. among (units_out held) unit ≡ false) units
 all_in_service held units none k d short =
     ap (among (units_out held)) (get_or_default units k d 0 short)
     ∙ among-units_out held (get_or units k 0)
     ∙ ap is_some (first_holder-none held units none k short)
 
 -- the units before a place are in service
-pub holder-passed : (held : Held) (units : List ℕ) (i unit : ℕ) → i < length units → unit ≡ get_or units i 0 → holder_of held unit ≡ None → first_holder held units ≡ first_holder held (drop i units) → first_holder held units ≡ first_holder held (drop (i + 1) units)
+pub holder-passed : (held : Held) (units : List ℕ) (i unit : ℕ) → i < length units → unit ≡ get_or units i 0
+    → holder_of held unit ≡ None → first_holder held units ≡ first_holder held (drop i units)
+    → first_holder held units ≡ first_holder held (drop (i + 1) units)
 holder-passed held units i unit short at none was =
-    was ∙ ap (first_holder held) (drop_more units i 0 short) ∙ ap (λ (holder : Option CrewNo). or_else holder (first_holder held (drop (i + 1) units))) (ap (holder_of held) (sym at) ∙ none)
+    was ∙ ap (first_holder held) (drop_more units i 0 short)
+    ∙ ap (λ (holder : Option CrewNo). or_else holder (first_holder held (drop (i + 1) units)))
+    (ap (holder_of held) (sym at) ∙ none)
 
-pub holder-found : (held : Held) (units : List ℕ) (i unit : ℕ) (holder : CrewNo) → i < length units → unit ≡ get_or units i 0 → holder_of held unit ≡ Some holder → first_holder held units ≡ first_holder held (drop i units) → first_holder held units ≡ Some holder
+pub holder-found : (held : Held) (units : List ℕ) (i unit : ℕ) (holder : CrewNo) → i < length units
+    → unit ≡ get_or units i 0 → holder_of held unit ≡ Some holder
+    → first_holder held units ≡ first_holder held (drop i units) → first_holder held units ≡ Some holder
 holder-found held units i unit holder short at some was =
-    was ∙ ap (first_holder held) (drop_more units i 0 short) ∙ ap (λ (first : Option CrewNo). or_else first (first_holder held (drop (i + 1) units))) (ap (holder_of held) (sym at) ∙ some)
+    was ∙ ap (first_holder held) (drop_more units i 0 short)
+    ∙ ap (λ (first : Option CrewNo). or_else first (first_holder held (drop (i + 1) units)))
+    (ap (holder_of held) (sym at) ∙ some)
 
-pub holder-none : (held : Held) (units : List ℕ) (i : ℕ) → length units ≤ i → first_holder held units ≡ first_holder held (drop i units) → first_holder held units ≡ None
+pub holder-none : (held : Held) (units : List ℕ) (i : ℕ) → length units ≤ i
+    → first_holder held units ≡ first_holder held (drop i units) → first_holder held units ≡ None
 holder-none held units i past was = was ∙ ap (first_holder held) (drop_all i units past)
 
-with_all_held-append : (crew : CrewNo) (units more : List ℕ) (held : Held) → with_all_held crew (units ++ more) held ≡ with_all_held crew more (with_all_held crew units held)
+with_all_held-append : (crew : CrewNo) (units more : List ℕ) (held : Held)
+    → with_all_held crew (units ++ more) held ≡ with_all_held crew more (with_all_held crew units held)
 with_all_held-append crew [] more held = refl
 with_all_held-append crew (unit ∷ units) more held = with_all_held-append crew units more (with_held crew unit held)
 
-pub with_all_held-more : (crew : CrewNo) (units : List ℕ) (held : Held) (i unit : ℕ) → i < length units → unit ≡ get_or units i 0 → with_held crew unit (with_all_held crew (take i units) held) ≡ with_all_held crew (take (i + 1) units) held
+pub with_all_held-more : (crew : CrewNo) (units : List ℕ) (held : Held) (i unit : ℕ) → i < length units
+    → unit ≡ get_or units i 0 → with_held crew unit (with_all_held crew (take i units) held)
+    ≡ with_all_held crew (take (i + 1) units) held
 with_all_held-more crew units held i unit short at =
-    sym (ap (λ some. with_all_held crew some held) (take_more units i 0 short ∙ ap (λ (u : ℕ). take i units ++ u ∷ []) (sym at)) ∙ with_all_held-append crew (take i units) (unit ∷ []) held)
+    sym (ap (λ some. with_all_held crew some held)
+    (take_more units i 0 short ∙ ap (λ (u : ℕ). take i units ++ u ∷ []) (sym at))
+    ∙ with_all_held-append crew (take i units) (unit ∷ []) held)
 
 -- a unit that isn't among those taken is held as before
-held_as_before : (crew : CrewNo) (units : List ℕ) (held : Held) (unit : ℕ) → among units unit ≡ false → holder_of (with_all_held crew units held) unit ≡ holder_of held unit
+held_as_before : (crew : CrewNo) (units : List ℕ) (held : Held) (unit : ℕ) → among units unit ≡ false
+    → holder_of (with_all_held crew units held) unit ≡ holder_of held unit
 held_as_before crew [] held unit none = refl
 held_as_before crew (first ∷ units) held unit none =
-    let parts : ((first == unit) ≡ false) × (among units unit ≡ false) = or_parts (first == unit) (among units unit) none in
+    let parts : ((first == unit) ≡ false) × (among units unit ≡ false) =
+    or_parts (first == unit) (among units unit) none in
     held_as_before crew units (with_held crew first held) unit parts.1
     ∙ get_or-set_other held first unit (Some crew) None (λ e. clash (first == unit) parts.0 (eq-eqb first unit (sym e)))
   where
@@ -113,7 +149,9 @@ held_as_before crew (first ∷ units) held unit none =
     clash false h k = absurd cc
 
 -- the unit whose turn it is is still in service
-pub still_free : (crew : CrewNo) (units : List ℕ) (held : Held) (i unit : ℕ) → has_repeat units ≡ false → first_holder held units ≡ None → i < length units → unit ≡ get_or units i 0 → holder_of (with_all_held crew (take i units) held) unit ≡ None
+pub still_free : (crew : CrewNo) (units : List ℕ) (held : Held) (i unit : ℕ) → has_repeat units ≡ false
+    → first_holder held units ≡ None → i < length units → unit ≡ get_or units i 0
+    → holder_of (with_all_held crew (take i units) held) unit ≡ None
 still_free crew units held i unit once none short at =
     held_as_before crew (take i units) held unit (ap (among (take i units)) at ∙ once_at units i once short)
     ∙ ap (holder_of held) at ∙ first_holder-none held units none i short

@@ -7,7 +7,9 @@ use Rattle.margin_policy.specs.Held.{Held, with_held, without_held}
 use Rattle.margin_policy.specs.Standing.{KeepsStanding}
 use Rattle.margin_policy.proofs.HeldLemmas.{taken, returned}
 
-pub keeps-taken : (ledger : LedgerView) (margin : ℕ) (held : Held) (crew : CrewNo) (unit : ℕ) → unit ≤ ledger.units → KeepsStanding ledger margin held → KeepsStanding (record ledger { out = with_unit unit ledger.out }) margin (with_held crew unit held)
+pub keeps-taken : (ledger : LedgerView) (margin : ℕ) (held : Held) (crew : CrewNo) (unit : ℕ) → unit ≤ ledger.units
+    → KeepsStanding ledger margin held → KeepsStanding (record ledger { out = with_unit unit ledger.out }) margin
+    (with_held crew unit held)
 keeps-taken ledger margin held crew unit known was = record {
   whole = was.whole;
   all = length-set held unit (Some crew) ∙ was.all;
@@ -15,7 +17,9 @@ keeps-taken ledger margin held crew unit known was = record {
   within = was.within;
 }
 
-pub keeps-returned : (ledger : LedgerView) (margin : ℕ) (held : Held) (unit : ℕ) → unit ≤ ledger.units → KeepsStanding ledger margin held → KeepsStanding (record ledger { out = without_unit unit ledger.out }) margin (without_held unit held)
+pub keeps-returned : (ledger : LedgerView) (margin : ℕ) (held : Held) (unit : ℕ) → unit ≤ ledger.units
+    → KeepsStanding ledger margin held → KeepsStanding (record ledger { out = without_unit unit ledger.out }) margin
+    (without_held unit held)
 keeps-returned ledger margin held unit known was = record {
   whole = was.whole;
   all = length-set held unit None ∙ was.all;

@@ -1,5 +1,6 @@
 -- What the tests need of lists that they make.
-use Rattle.std.proofs.Common.{◌≡◌, ℕ, zero, suc, ◌+◌, ◌-◌, ◌<◌, ◌≤◌, true, List, [], ◌∷◌, ◌++◌, length, get_or, slice_get, Some, All, refl, sym, ◌∙◌, ap, subst, arith, inl, inr, length-append}
+use Rattle.std.proofs.Common.{◌≡◌, ℕ, zero, suc, ◌+◌, ◌-◌, ◌<◌, ◌≤◌, true, List, [], ◌∷◌, ◌++◌, length, get_or}
+use Rattle.std.proofs.Common.{slice_get, Some, All, refl, sym, ◌∙◌, ap, subst, arith, inl, inr, length-append}
 use Rattle.std.specs.Ordering.{nat_cmp, is_lt}
 use Rattle.std.specs.List.Sorted.{IsStrictlySortedBy}
 use Rattle.std.specs.declared.cmp.Ordering.{Ordering}
@@ -21,21 +22,25 @@ pub record RisesSoFar (units : List ℕ) (i : ℕ) : Type 0 where
 less_from : (a b : ℕ) → a < b → nat_cmp a b ≡ Less
 less_from a b h = grind (arith, nat_tests)
 
-pub rises-more : (units : List ℕ) (i : ℕ) → 1 ≤ i → get_or units (i - 1) 0 < get_or units i 0 → RisesSoFar units i → RisesSoFar units (i + 1)
+pub rises-more : (units : List ℕ) (i : ℕ) → 1 ≤ i → get_or units (i - 1) 0 < get_or units i 0 → RisesSoFar units i
+    → RisesSoFar units (i + 1)
 rises-more units i some up was = record {
   below = λ k h. elim (cases_eq (k + 1) i) [
     | inl same ↦
         let before : k ≡ i - 1 = omega arith in
-        subst (λ (n : ℕ). get_or units k 0 < get_or units n 0) (sym same) (subst (λ (n : ℕ). get_or units n 0 < get_or units i 0) (sym before) up)
+        subst (λ (n : ℕ). get_or units k 0 < get_or units n 0) (sym same)
+        (subst (λ (n : ℕ). get_or units n 0 < get_or units i 0) (sym before) up)
     | inr apart ↦ was.below k (omega arith)
   ];
 }
 
 pub rises-all : (units : List ℕ) (i : ℕ) → length units ≤ i → RisesSoFar units i → IsRising units
 rises-all units i full was =
-    sorted_from_all_adjacent nat_cmp_total units 0 (λ k h. less_from (get_or units k 0) (get_or units (k + 1) 0) (was.below k (omega arith)))
+    sorted_from_all_adjacent nat_cmp_total units 0
+    (λ k h. less_from (get_or units k 0) (get_or units (k + 1) 0) (was.below k (omega arith)))
 
-set_at : (cuts : List (List ℕ)) (place : ℕ) (set : List ℕ) → slice_get cuts place ≡ Some set → get_or cuts place [] ≡ set
+set_at : (cuts : List (List ℕ)) (place : ℕ) (set : List ℕ) → slice_get cuts place ≡ Some set
+    → get_or cuts place [] ≡ set
 set_at [] place set at = absurd cc
 set_at (first ∷ cuts) zero set at = cc
 set_at (first ∷ cuts) (suc place) set at = set_at cuts place set at
@@ -45,7 +50,8 @@ pub first_set : (set : List ℕ) → IsInCutOrder (set ∷ [])
 unfolding IsStrictlySortedBy
 first_set set = (tt, tt)
 
-pub next_set : (cuts : List (List ℕ)) (last set : List ℕ) (place : ℕ) → length cuts ≡ suc place → slice_get cuts place ≡ Some last → IsInCutOrder cuts → cut_cmp last set ≡ Less → IsInCutOrder (cuts ++ set ∷ [])
+pub next_set : (cuts : List (List ℕ)) (last set : List ℕ) (place : ℕ) → length cuts ≡ suc place
+    → slice_get cuts place ≡ Some last → IsInCutOrder cuts → cut_cmp last set ≡ Less → IsInCutOrder (cuts ++ set ∷ [])
 next_set cuts last set place long at ordered less =
     sorted_from_all_adjacent cut_cmp_total (cuts ++ set ∷ []) []
     (λ k h.
@@ -57,10 +63,14 @@ next_set cuts last set place long at ordered less =
           let is_place : k ≡ place = omega arith in
           let here : get_or cuts k [] ≡ last = ap (λ n. get_or cuts n []) is_place ∙ set_at cuts place last at in
           let new : get_or (cuts ++ set ∷ []) (k + 1) [] ≡ set = get_or_push cuts set [] (k + 1) (sym end) in
-          ap (λ (x : List ℕ). cut_cmp x (get_or (cuts ++ set ∷ []) (k + 1) [])) (front ∙ here) ∙ ap (cut_cmp last) new ∙ less
+          ap (λ (x : List ℕ). cut_cmp x (get_or (cuts ++ set ∷ []) (k + 1) [])) (front ∙ here) ∙ ap (cut_cmp last) new
+          ∙ less
       | inr earlier ↦
-          let next : get_or (cuts ++ set ∷ []) (k + 1) [] ≡ get_or cuts (k + 1) [] = get_or_append_left cuts (set ∷ []) [] (k + 1) (omega arith) in
-          ap (λ (x : List ℕ). cut_cmp x (get_or (cuts ++ set ∷ []) (k + 1) [])) front ∙ ap (cut_cmp (get_or cuts k [])) next ∙ Less-from_sorted cut_cmp cuts k (k + 1) [] ordered (omega arith) (omega arith)
+          let next : get_or (cuts ++ set ∷ []) (k + 1) [] ≡ get_or cuts (k + 1) [] =
+          get_or_append_left cuts (set ∷ []) [] (k + 1) (omega arith) in
+          ap (λ (x : List ℕ). cut_cmp x (get_or (cuts ++ set ∷ []) (k + 1) [])) front
+          ∙ ap (cut_cmp (get_or cuts k [])) next ∙ Less-from_sorted cut_cmp cuts k (k + 1) [] ordered (omega arith)
+          (omega arith)
     ])
 
 -- no unit of a cut set is above the greatest number that a unit can have

@@ -29,10 +29,14 @@ and_swap false true = refl
 and_swap false false = refl
 
 pub least_union-swap : (f g h : List (List ℕ)) → IsLeastUnion f g h → IsLeastUnion g f h
-least_union-swap f g h is = IsLeastFor-same (λ within. hits f within || hits g within) _ h is (λ within. or_swap (hits f within) (hits g within))
+least_union-swap f g h is =
+    IsLeastFor-same (λ within. hits f within || hits g within) _ h is
+    (λ within. or_swap (hits f within) (hits g within))
 
 pub least_product-swap : (f g h : List (List ℕ)) → IsLeastProduct f g h → IsLeastProduct g f h
-least_product-swap f g h is = IsLeastFor-same (λ within. hits f within && hits g within) _ h is (λ within. and_swap (hits f within) (hits g within))
+least_product-swap f g h is =
+    IsLeastFor-same (λ within. hits f within && hits g within) _ h is
+    (λ within. and_swap (hits f within) (hits g within))
 
 -- ---- unions
 
@@ -79,7 +83,8 @@ without-itself f = record {
 some_set : (x : ℕ) (f lo hi : List (List ℕ)) → Cuts x f lo hi → IsAntichain f → hi ≢ [] → Contains lo [] → ⊥
 some_set x f lo [] cut is filled has = filled refl
 some_set x f lo (set ∷ hi) cut is filled has =
-    false≢true (sym (hi_includes_none x f lo (set ∷ hi) cut is set (Contains-cons_first set hi)) ∙ test-from_part lo set [] has refl)
+    false≢true (sym (hi_includes_none x f lo (set ∷ hi) cut is set (Contains-cons_first set hi))
+    ∙ test-from_part lo set [] has refl)
 
 -- a minimal family with a unit lacks the empty set
 pub no_empty_set : (x : ℕ) (f lo hi : List (List ℕ)) → Cuts x f lo hi → IsAntichain f → hi ≢ [] → Contains f [] → ⊥

@@ -11,9 +11,11 @@ use Rattle.family_operations.specs.Inclusion.{same_Bool}
 use Rattle.family_operations.specs.Sets.{unit_above}
 
 module _ (x : ℕ) (f lo hi : List (List ℕ)) (cut : Cuts x f lo hi) (within : ℕ → Bool) where
-  with_hit : (set : List ℕ) → HasWith x hi set → list_all within set ≡ true → (hits lo within || (within x && hits hi within)) ≡ true
+  with_hit : (set : List ℕ) → HasWith x hi set → list_all within set ≡ true
+      → (hits lo within || (within x && hits hi within)) ≡ true
   with_hit set (rest, same, has) passes =
-      let both : (within x ≡ true) × (list_all within rest ≡ true) = and_parts (within x) (list_all within rest) (ap (list_all within) (sym same) ∙ passes) in
+      let both : (within x ≡ true) × (list_all within rest ≡ true) =
+      and_parts (within x) (list_all within rest) (ap (list_all within) (sym same) ∙ passes) in
       or_right (hits lo within) (within x && hits hi within)
       (and_from (within x) (hits hi within) both.0 (hits-from_set hi within rest has both.1))
 
@@ -21,20 +23,25 @@ module _ (x : ℕ) (f lo hi : List (List ℕ)) (cut : Cuts x f lo hi) (within : 
   cut_to t =
       let found : HasHit f within = HasHit-from_test f within t in
       elim (cut_cases x f lo hi found.set cut found.has) [
-        | inl of_lo ↦ or_left (hits lo within) (within x && hits hi within) (hits-from_set lo within found.set of_lo found.passes)
+        | inl of_lo ↦ or_left (hits lo within) (within x && hits hi within)
+            (hits-from_set lo within found.set of_lo found.passes)
         | inr with_x ↦ with_hit found.set with_x found.passes
       ]
 
   hi_from : within x ≡ true → hits hi within ≡ true → hits f within ≡ true
   hi_from passes t =
       let found : HasHit hi within = HasHit-from_test hi within t in
-      hits-from_set f within (x ∷ found.set) (cut_has_hi x f lo hi found.set cut found.has) (and_from (within x) (list_all within found.set) passes found.passes)
+      hits-from_set f within (x ∷ found.set) (cut_has_hi x f lo hi found.set cut found.has)
+      (and_from (within x) (list_all within found.set) passes found.passes)
 
   cut_from : (hits lo within || (within x && hits hi within)) ≡ true → hits f within ≡ true
   cut_from t =
       elim (or_cases (hits lo within) (within x && hits hi within) t) [
-        | inl of_lo ↦ let found : HasHit lo within = HasHit-from_test lo within of_lo in hits-from_set f within found.set (cut_has_lo x f lo hi found.set cut found.has) found.passes
-        | inr of_hi ↦ let both : (within x ≡ true) × (hits hi within ≡ true) = and_parts (within x) (hits hi within) of_hi in hi_from both.0 both.1
+        | inl of_lo ↦ let found : HasHit lo within =
+            HasHit-from_test lo within of_lo in hits-from_set f within found.set
+            (cut_has_lo x f lo hi found.set cut found.has) found.passes
+        | inr of_hi ↦ let both : (within x ≡ true) × (hits hi within ≡ true) =
+            and_parts (within x) (hits hi within) of_hi in hi_from both.0 both.1
       ]
 
   -- a family that is cut is hit where lo is, and with x where hi is
@@ -45,17 +52,26 @@ module _ (x : ℕ) (f lo hi : List (List ℕ)) (cut : Cuts x f lo hi) (within : 
 abbrev pub above_only : ℕ → (ℕ → Bool) → ℕ → Bool
 above_only x within unit = within unit && nat_lt x unit
 
-pub passes_above : (x : ℕ) (within : ℕ → Bool) (set : List ℕ) → IsSetAbove x set → list_all within set ≡ true → list_all (above_only x within) set ≡ true
+pub passes_above : (x : ℕ) (within : ℕ → Bool) (set : List ℕ) → IsSetAbove x set → list_all within set ≡ true
+    → list_all (above_only x within) set ≡ true
 passes_above x within set above passes =
-    passes_from (above_only x within) set (λ unit h. and_from (within unit) (nat_lt x unit) (passes_at within set unit passes h) (lt-ltb x unit (unit_above x unit set above h)))
+    passes_from (above_only x within) set (λ unit h.
+    and_from (within unit) (nat_lt x unit) (passes_at within set unit passes h)
+    (lt-ltb x unit (unit_above x unit set above h)))
 
-pub passes_anyway : (x : ℕ) (within : ℕ → Bool) (set : List ℕ) → list_all (above_only x within) set ≡ true → list_all within set ≡ true
+pub passes_anyway : (x : ℕ) (within : ℕ → Bool) (set : List ℕ) → list_all (above_only x within) set ≡ true
+    → list_all within set ≡ true
 passes_anyway x within set passes =
-    passes_from within set (λ unit h. (and_parts (within unit) (nat_lt x unit) (passes_at (above_only x within) set unit passes h)).0)
+    passes_from within set (λ unit h. (and_parts (within unit) (nat_lt x unit)
+    (passes_at (above_only x within) set unit passes h)).0)
 
 -- a family above x asks of no other unit
-pub hits-above : (x : ℕ) (f : List (List ℕ)) (within : ℕ → Bool) → IsAbove x f → hits f (above_only x within) ≡ hits f within
+pub hits-above : (x : ℕ) (f : List (List ℕ)) (within : ℕ → Bool) → IsAbove x f
+    → hits f (above_only x within) ≡ hits f within
 hits-above x f within above =
     same_Bool (hits f (above_only x within)) (hits f within)
-    (λ t. let found : HasHit f (above_only x within) = HasHit-from_test f (above_only x within) t in hits-from_set f within found.set found.has (passes_anyway x within found.set found.passes))
-    (λ t. let found : HasHit f within = HasHit-from_test f within t in hits-from_set f (above_only x within) found.set found.has (passes_above x within found.set (set_above x f found.set above found.has) found.passes))
+    (λ t. let found : HasHit f (above_only x within) = HasHit-from_test f (above_only x within) t in
+    hits-from_set f within found.set found.has (passes_anyway x within found.set found.passes))
+    (λ t. let found : HasHit f within = HasHit-from_test f within t in
+    hits-from_set f (above_only x within) found.set found.has
+    (passes_above x within found.set (set_above x f found.set above found.has) found.passes))

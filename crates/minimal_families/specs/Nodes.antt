@@ -6,7 +6,8 @@ use Rattle.unit_sets.specs.UnitList.{is_within}
 use Rattle.zdd_families.specs.Family.{IsFamily, IsAbove, IsSetAbove, branch}
 use Rattle.family_operations.specs.Cuts.{Cuts, cut_has_lo, cut_has_hi, set_above, not_with}
 use Rattle.family_operations.specs.Hits.{hits, HasHit, HasHit-from_test, hits-from_set, passes_within}
-use Rattle.family_operations.specs.Inclusion.{includes_one, Includes, Includes-from_test, same_Bool, within-with_first, within-with_both}
+use Rattle.family_operations.specs.Inclusion.{includes_one, Includes, Includes-from_test, same_Bool, within-with_first}
+use Rattle.family_operations.specs.Inclusion.{within-with_both}
 use Rattle.family_operations.specs.Minimal.{minimal-step}
 use Rattle.family_operations.specs.Without.{IsWithout, without-above}
 use Rattle.family_parts.specs.Antichains.{IsAntichain}
@@ -25,7 +26,8 @@ pub none_left : (f g h : List (List ℕ)) → IsWithout f g h → IncludesNoneOf
 none_left f g h is set has = ((is.sets set).0 has).1
 
 -- a branch of antichains is one, where no set of hi includes a set of lo
-pub antichain-branch : (x : ℕ) (lo hi : List (List ℕ)) → IsAbove x lo → IsAbove x hi → IsAntichain lo → IsAntichain hi → IncludesNoneOf lo hi → IsAntichain (branch x lo hi)
+pub antichain-branch : (x : ℕ) (lo hi : List (List ℕ)) → IsAbove x lo → IsAbove x hi → IsAntichain lo → IsAntichain hi
+    → IncludesNoneOf lo hi → IsAntichain (branch x lo hi)
 antichain-branch x lo hi above above' is is' none =
     minimal-step x (branch x lo hi) lo hi lo hi hi (record { is = refl; lo_above = above; hi_above = above' })
     is.is_family is is' (without-all lo hi is'.is_family none)
@@ -42,7 +44,11 @@ module _ (x : ℕ) (f lo hi : List (List ℕ)) (cut : Cuts x f lo hi) (is : IsAn
   antichain-lo is_family = record {
     is_family = is_family;
     sets = λ set. (
-      λ has. (has, λ other has' within. no_other set other (cut_has_lo x f lo hi set cut has) (cut_has_lo x f lo hi other cut has') within),
+      λ has. (
+        has,
+        λ other has' within. no_other set other (cut_has_lo x f lo hi set cut has)
+            (cut_has_lo x f lo hi other cut has') within,
+      ),
       λ both. both.0,
     );
   }
@@ -66,7 +72,8 @@ module _ (x : ℕ) (f lo hi : List (List ℕ)) (cut : Cuts x f lo hi) (is : IsAn
       let found : Includes lo set = Includes-from_test lo set t in
       let above : IsSetAbove x found.part = set_above x lo found.part cut.lo_above found.has in
       not_with x found.part set above
-      (no_other (x ∷ set) found.part (cut_has_hi x f lo hi set cut has) (cut_has_lo x f lo hi found.part cut found.has) (within-with_first x set found.part above ∙ found.within))
+      (no_other (x ∷ set) found.part (cut_has_hi x f lo hi set cut has) (cut_has_lo x f lo hi found.part cut found.has)
+      (within-with_first x set found.part above ∙ found.within))
 
   pub hi_includes_none : IncludesNoneOf lo hi
   hi_includes_none set has = false_from_ne_true (includes_one lo set) (not_included set has)
@@ -77,13 +84,18 @@ pub antichain-without : (f g h : List (List ℕ)) → IsAntichain f → IsWithou
 antichain-without f g h is without = record {
   is_family = without.is_family;
   sets = λ set. (
-    λ has. (has, λ other has' within. ((is.sets set).0 ((without.sets set).0 has).0).1 other ((without.sets other).0 has').0 within),
+    λ has. (
+      has,
+      λ other has' within. ((is.sets set).0 ((without.sets set).0 has).0).1 other
+          ((without.sets other).0 has').0 within,
+    ),
     λ both. both.0,
   );
 }
 
 -- only what the other family says of the sets of the first matters
-pub without-same : (f g g' h : List (List ℕ)) → ((set : List ℕ) → Contains f set → includes_one g set ≡ includes_one g' set) → IsWithout f g h → IsWithout f g' h
+pub without-same : (f g g' h : List (List ℕ))
+    → ((set : List ℕ) → Contains f set → includes_one g set ≡ includes_one g' set) → IsWithout f g h → IsWithout f g' h
 without-same f g g' h same is = record {
   is_family = is.is_family;
   sets = λ set. (
@@ -94,13 +106,16 @@ without-same f g g' h same is = record {
 
 -- ---- hits of what is left, beside what it was rid of
 
-left_or_hit : (f g h : List (List ℕ)) (within : ℕ → Bool) → IsWithout f g h → HasHit f within → (hits g within || hits h within) ≡ true
+left_or_hit : (f g h : List (List ℕ)) (within : ℕ → Bool) → IsWithout f g h → HasHit f within
+    → (hits g within || hits h within) ≡ true
 left_or_hit f g h within is found =
     elim (cases_Bool (includes_one g found.set)) [
       | inl t ↦
           let part : Includes g found.set = Includes-from_test g found.set t in
-          or_left (hits g within) (hits h within) (hits-from_set g within part.part part.has (passes_within within found.set part.part part.within found.passes))
-      | inr none ↦ or_right (hits g within) (hits h within) (hits-from_set h within found.set ((is.sets found.set).1 (found.has, none)) found.passes)
+          or_left (hits g within) (hits h within) (hits-from_set g within part.part part.has
+          (passes_within within found.set part.part part.within found.passes))
+      | inr none ↦ or_right (hits g within) (hits h within)
+          (hits-from_set h within found.set ((is.sets found.set).1 (found.has, none)) found.passes)
     ]
 
 module _ (f g h : List (List ℕ)) (is : IsWithout f g h) (within : ℕ → Bool) where
@@ -131,11 +146,20 @@ absorbed false false h t e = refl
 
 -- The minimal family of what is hit without x where the first test says, and with x where the second says
 -- too: hi is the second's without the sets that include one of lo.
-pub least-node : (x : ℕ) (lo all hi : List (List ℕ)) (p q : (ℕ → Bool) → Bool) → IsAbove x lo → IsAbove x all → IsLeastFor p lo → IsLeastFor q all → IsWithout all lo hi → IsLeastFor (λ within. p within || (within x && q within)) (branch x lo hi)
+pub least-node : (x : ℕ) (lo all hi : List (List ℕ)) (p q : (ℕ → Bool) → Bool) → IsAbove x lo → IsAbove x all
+    → IsLeastFor p lo → IsLeastFor q all → IsWithout all lo hi
+    → IsLeastFor (λ within. p within || (within x && q within)) (branch x lo hi)
 least-node x lo all hi p q above above' is is' left = record {
-  antichain = antichain-branch x lo hi above (without-above x all lo hi left above') is.antichain (antichain-without all lo hi is'.antichain left) (none_left all lo hi left);
+  antichain =
+      antichain-branch x lo hi above (without-above x all lo hi left above') is.antichain
+      (antichain-without all lo hi is'.antichain left) (none_left all lo hi left);
   hit = λ within.
-      hits-cut x (branch x lo hi) lo hi (record { is = refl; lo_above = above; hi_above = without-above x all lo hi left above' }) within
+      hits-cut x (branch x lo hi) lo hi (record {
+        is = refl;
+        lo_above = above;
+        hi_above =
+            without-above x all lo hi left above';
+      }) within
       ∙ absorbed (hits lo within) (within x) (hits hi within) (hits all within) (hits-left all lo hi left within)
       ∙ ap (λ b. b || (within x && hits all within)) (is.hit within)
       ∙ ap (λ b. p within || (within x && b)) (is'.hit within);

@@ -14,7 +14,8 @@ or_first true b h = sym (h refl)
 or_first false b h = refl
 
 -- A family is what is left of it without the other, and the common part: its sets that include one of the other.
-module _ (f g rest common : List (List ℕ)) (left : IsWithout f g rest) (split : IsWithout f rest common) (within : ℕ → Bool) where
+module _ (f g rest common : List (List ℕ)) (left : IsWithout f g rest) (split : IsWithout f rest common)
+    (within : ℕ → Bool) where
   rest_hits : hits rest within ≡ true → hits f within ≡ true
   rest_hits t =
       let found : HasHit rest within = HasHit-from_test rest within t in
@@ -29,7 +30,8 @@ module _ (f g rest common : List (List ℕ)) (left : IsWithout f g rest) (split 
         | inl t ↦ t
         | inr none ↦
             let both = (split.sets found.set).0 found.has in
-            absurd (false≢true (sym both.1 ∙ test-from_part rest found.set found.set ((left.sets found.set).1 (both.0, none)) (within_itself found.set)))
+            absurd (false≢true (sym both.1 ∙ test-from_part rest found.set found.set
+            ((left.sets found.set).1 (both.0, none)) (within_itself found.set)))
       ]
 
   pub common_hits_other : hits common within ≡ true → hits g within ≡ true
@@ -38,7 +40,8 @@ module _ (f g rest common : List (List ℕ)) (left : IsWithout f g rest) (split 
       let part : Includes g found.set = Includes-from_test g found.set (includes_other found) in
       hits-from_set g within part.part part.has (passes_within within found.set part.part part.within found.passes)
 
-split_cases : (r s r' s' : Bool) → (s ≡ true → (r' || s') ≡ true) → (s' ≡ true → (r || s) ≡ true) → ((s || s') || (r && r')) ≡ ((r || s) && (r' || s'))
+split_cases : (r s r' s' : Bool) → (s ≡ true → (r' || s') ≡ true) → (s' ≡ true → (r || s) ≡ true)
+    → ((s || s') || (r && r')) ≡ ((r || s) && (r' || s'))
 split_cases true true true s' h k = refl
 split_cases true true false true h k = refl
 split_cases true true false false h k = absurd (false≢true (h refl))
@@ -61,10 +64,14 @@ pub least_product-split : (f g rest rest' common common' alone joined least : Li
     → IsLeastProduct f g least
 least_product-split f g rest rest' common common' alone joined least left left' split split' alone_is joined_is is =
     IsLeastFor-same _ (λ within. hits f within && hits g within) least is (λ within.
-    let of_f : hits f within ≡ (hits rest within || hits common within) = hits-split f g rest common left split within in
-    let of_g : hits g within ≡ (hits rest' within || hits common' within) = hits-split g f rest' common' left' split' within in
-    or_of (hits alone within) (hits common within || hits common' within) (hits joined within) (hits rest within && hits rest' within) (alone_is.hit within) (joined_is.hit within)
+    let of_f : hits f within ≡ (hits rest within || hits common within) =
+    hits-split f g rest common left split within in
+    let of_g : hits g within ≡ (hits rest' within || hits common' within) =
+    hits-split g f rest' common' left' split' within in
+    or_of (hits alone within) (hits common within || hits common' within) (hits joined within)
+    (hits rest within && hits rest' within) (alone_is.hit within) (joined_is.hit within)
     ∙ split_cases (hits rest within) (hits common within) (hits rest' within) (hits common' within)
     (λ t. sym of_g ∙ common_hits_other f g rest common left split within t)
     (λ t. sym of_f ∙ common_hits_other g f rest' common' left' split' within t)
-    ∙ and_of (hits rest within || hits common within) (hits f within) (hits rest' within || hits common' within) (hits g within) (sym of_f) (sym of_g))
+    ∙ and_of (hits rest within || hits common within) (hits f within) (hits rest' within || hits common' within)
+    (hits g within) (sym of_f) (sym of_g))

@@ -1,5 +1,6 @@
 -- What the calls for a gate and for a unit give.
-use Rattle.std.proofs.Common.{Result, IfOk, IfErr, Ok, Err, ◌≡◌, ◌⊎◌, ℕ, ◌||◌, nat_lt, List, [], ◌∷◌, All, get_or, length, map, if◌then◌else◌, refl, sym, ◌∙◌, ap, subst, inl, inr, arith}
+use Rattle.std.proofs.Common.{Result, IfOk, IfErr, Ok, Err, ◌≡◌, ◌⊎◌, ℕ, ◌||◌, nat_lt, List, [], ◌∷◌, All, get_or}
+use Rattle.std.proofs.Common.{length, map, if◌then◌else◌, refl, sym, ◌∙◌, ap, subst, inl, inr, arith}
 use Rattle.std.specs.List.{list_any}
 use Rattle.std.proofs.lemmas.Bool.{cond-true, lt-ltb}
 use Rattle.fault_model.specs.declared.node.GateKind.{GateKind}
@@ -7,7 +8,8 @@ use Rattle.fault_model.specs.declared.node.GateKind.TheVariants.{And, Pand, Por,
 use Rattle.zdd_families.specs.Map.{family-empty}
 use Rattle.family_operations.specs.Hits.{hits}
 use Rattle.family_operations.specs.Minimal.{minimal-none}
-use Rattle.minimal_families.specs.Least.{IsLeastFor, IsLeastFor-same, IsLeastFor-itself, IsLeastOfAll, IsLeastProductOfAll, IsLeastUnion}
+use Rattle.minimal_families.specs.Least.{IsLeastFor, IsLeastFor-same, IsLeastFor-itself, IsLeastOfAll}
+use Rattle.minimal_families.specs.Least.{IsLeastProductOfAll, IsLeastUnion}
 use Rattle.minimal_families.specs.Steps.{or_of}
 use Rattle.family_memory.specs.Memory.{Held, Has, IsSound, Went, Gave, RanOut, family_in, map_of}
 use Rattle.family_memory.specs.After.{Gave-there, Went-then, still}
@@ -21,83 +23,118 @@ use Rattle.minimal_nodes.specs.NodeLaws.{gate_cut_family, unit_cut_family}
 use Rattle.tree_families.specs.Recipe.{StandFor, alone}
 
 -- what a call gave for the kind
-pub gate_gives : {E : Type 0} (kind other : GateKind) (same : kind ≡ other) (fs : List (List (List ℕ))) (before after : Held) (result : Result ℕ E) → IfOk result (Gave (IsLeastOfGate other fs) before after) → IfOk result (Gave (IsLeastOfGate kind fs) before after)
-gate_gives kind other same fs before after result gave = subst (λ (k : GateKind). IfOk result (Gave (IsLeastOfGate k fs) before after)) (sym same) gave
+pub gate_gives : {E : Type 0} (kind other : GateKind) (same : kind ≡ other) (fs : List (List (List ℕ)))
+    (before after : Held) (result : Result ℕ E) → IfOk result (Gave (IsLeastOfGate other fs) before after)
+    → IfOk result (Gave (IsLeastOfGate kind fs) before after)
+gate_gives kind other same fs before after result gave =
+    subst (λ (k : GateKind). IfOk result (Gave (IsLeastOfGate k fs) before after)) (sym same) gave
 
-pub gate_given : (kind other : GateKind) (same : kind ≡ other) (fs : List (List (List ℕ))) (before after : Held) (r : ℕ) → Gave (IsLeastOfGate other fs) before after r → Gave (IsLeastOfGate kind fs) before after r
-gate_given kind other same fs before after r gave = subst (λ (k : GateKind). Gave (IsLeastOfGate k fs) before after r) (sym same) gave
+pub gate_given : (kind other : GateKind) (same : kind ≡ other) (fs : List (List (List ℕ))) (before after : Held) (r : ℕ)
+    → Gave (IsLeastOfGate other fs) before after r → Gave (IsLeastOfGate kind fs) before after r
+gate_given kind other same fs before after r gave =
+    subst (λ (k : GateKind). Gave (IsLeastOfGate k fs) before after r) (sym same) gave
 
 -- the kinds that need all of their inputs
-pub all_of_kinds : {E : Type 0} (kind : GateKind) (fs : List (List (List ℕ))) (before after : Held) (result : Result ℕ E) → (kind ≡ And) ⊎ ((kind ≡ Pand) ⊎ ((kind ≡ Seq) ⊎ ((kind ≡ Csp) ⊎ ((kind ≡ Wsp) ⊎ (kind ≡ Hsp)))))
+pub all_of_kinds : {E : Type 0} (kind : GateKind) (fs : List (List (List ℕ))) (before after : Held)
+    (result : Result ℕ E) → (kind ≡ And) ⊎ ((kind ≡ Pand)
+    ⊎ ((kind ≡ Seq) ⊎ ((kind ≡ Csp) ⊎ ((kind ≡ Wsp) ⊎ (kind ≡ Hsp)))))
     → IfOk result (Gave (IsLeastProductOfAll fs) before after) → IfOk result (Gave (IsLeastOfGate kind fs) before after)
 all_of_kinds kind fs before after result (inl same) gave = gate_gives kind And same fs before after result gave
 all_of_kinds kind fs before after result (inr (inl same)) gave = gate_gives kind Pand same fs before after result gave
-all_of_kinds kind fs before after result (inr (inr (inl same))) gave = gate_gives kind Seq same fs before after result gave
-all_of_kinds kind fs before after result (inr (inr (inr (inl same)))) gave = gate_gives kind Csp same fs before after result gave
-all_of_kinds kind fs before after result (inr (inr (inr (inr (inl same))))) gave = gate_gives kind Wsp same fs before after result gave
-all_of_kinds kind fs before after result (inr (inr (inr (inr (inr same))))) gave = gate_gives kind Hsp same fs before after result gave
+all_of_kinds kind fs before after result (inr (inr (inl same))) gave =
+    gate_gives kind Seq same fs before after result gave
+all_of_kinds kind fs before after result (inr (inr (inr (inl same)))) gave =
+    gate_gives kind Csp same fs before after result gave
+all_of_kinds kind fs before after result (inr (inr (inr (inr (inl same))))) gave =
+    gate_gives kind Wsp same fs before after result gave
+all_of_kinds kind fs before after result (inr (inr (inr (inr (inr same))))) gave =
+    gate_gives kind Hsp same fs before after result gave
 
 -- no sets, where nothing is hit
 pub never_given : (held : Held) (fs : List (List (List ℕ))) → IsSound held → Gave (IsLeastOfGate Fdep fs) held held 0
 never_given held fs sound =
     Gave-there (IsLeastOfGate Fdep fs) held 0 sound (let few = sound.terminals in omega arith)
-    (subst (IsLeastOfGate Fdep fs) (sym (family-empty (map_of held))) record { antichain = minimal-none; hit = λ within. refl })
+    (subst (IsLeastOfGate Fdep fs) (sym (family-empty (map_of held)))
+    record { antichain = minimal-none; hit = λ within. refl })
 
 -- the first family alone
-first_is : (held : Held) (list : List ℕ) (r : ℕ) → IsSound held → All (Has held) list → r ≡ (if nat_lt 0 (length list) then get_or list 0 0 else 0) → Gave (IsLeastOfGate Por (map (family_in held) list)) held held r
+first_is : (held : Held) (list : List ℕ) (r : ℕ) → IsSound held → All (Has held) list
+    → r ≡ (if nat_lt 0 (length list) then get_or list 0 0 else 0)
+    → Gave (IsLeastOfGate Por (map (family_in held) list)) held held r
 first_is held [] r sound has is =
     subst (Gave (IsLeastOfGate Por []) held held) (sym is)
     (Gave-there (IsLeastOfGate Por []) held 0 sound (let few = sound.terminals in omega arith)
-    (subst (IsLeastOfGate Por []) (sym (family-empty (map_of held))) record { antichain = minimal-none; hit = λ within. refl }))
+    (subst (IsLeastOfGate Por []) (sym (family-empty (map_of held)))
+    record { antichain = minimal-none; hit = λ within. refl }))
 first_is held (q ∷ list) r sound has is =
     let here : r ≡ q = is ∙ cond-true (nat_lt 0 (length (q ∷ list))) q 0 (lt-ltb 0 (length (q ∷ list)) (omega arith)) in
     let there : Has held q = has 0 0 (omega arith) in
     subst (Gave (IsLeastOfGate Por (family_in held q ∷ map (family_in held) list)) held held) (sym here)
     (Gave-there (IsLeastOfGate Por (family_in held q ∷ map (family_in held) list)) held q sound there
-    (IsLeastFor-same (hits (family_in held q)) _ (family_in held q) (IsLeastFor-itself (family_in held q) (sound.antichains q there)) (λ within. refl)))
+    (IsLeastFor-same (hits (family_in held q)) _ (family_in held q)
+    (IsLeastFor-itself (family_in held q) (sound.antichains q there)) (λ within. refl)))
 
-pub first_given : (held : Held) (list : List ℕ) (r : ℕ) → IsSound held → All (Has held) list → r ≡ (if nat_lt 0 (length list) then get_or list 0 0 else 0) → Gave (IsLeastOfGate Por (families held list)) held held r
+pub first_given : (held : Held) (list : List ℕ) (r : ℕ) → IsSound held → All (Has held) list
+    → r ≡ (if nat_lt 0 (length list) then get_or list 0 0 else 0)
+    → Gave (IsLeastOfGate Por (families held list)) held held r
 first_given held list r sound has is = first_is held list r sound has is
 
 -- ---- a unit
 
-module _ (s0 : Held) (unit : ℕ) (list : List ℕ) (sound : IsSound s0) (s1 : Held) (others : ℕ) (gave1 : Gave (IsLeastOfAll (families s0 list)) s0 s1 others) (s2 : Held) (own : ℕ) (gave2 : Gave (λ f. f ≡ alone unit) s1 s2 own) where
+module _ (s0 : Held) (unit : ℕ) (list : List ℕ) (sound : IsSound s0) (s1 : Held) (others : ℕ)
+    (gave1 : Gave (IsLeastOfAll (families s0 list)) s0 s1 others) (s2 : Held) (own : ℕ)
+    (gave2 : Gave (λ f. f ≡ alone unit) s1 s2 own) where
   pub went_unit : Went s0 s2
   went_unit = Went-then s0 s1 s2 gave1.went gave2.went
 
   others_is : IsLeastOfAll (families s0 list) (family_in s2 others)
-  others_is = subst (IsLeastOfAll (families s0 list)) (sym (still s1 s2 gave1.went.sound gave2.went others gave1.has)) gave1.is
+  others_is =
+      subst (IsLeastOfAll (families s0 list)) (sym (still s1 s2 gave1.went.sound gave2.went others gave1.has)) gave1.is
 
-  pub unit_gives : {E : Type 0} (s3 : Held) (result : Result ℕ E) → IfOk result (Gave (IsLeastUnion (family_in s2 own) (family_in s2 others)) s2 s3)
-      → IfOk result (Gave (IsLeastFor (λ within. hits (alone unit) within || list_any (λ family. hits family within) (families s0 list))) s0 s3)
+  pub unit_gives : {E : Type 0} (s3 : Held) (result : Result ℕ E)
+      → IfOk result (Gave (IsLeastUnion (family_in s2 own) (family_in s2 others)) s2 s3)
+      → IfOk result (Gave (IsLeastFor (λ within. hits (alone unit) within
+      || list_any (λ family. hits family within) (families s0 list))) s0 s3)
   unit_gives s3 (Ok r) gave = record {
     went = Went-then s0 s2 s3 went_unit gave.went;
     has = gave.has;
-    is = IsLeastFor-same (λ within. hits (family_in s2 own) within || hits (family_in s2 others) within) _ (family_in s3 r) gave.is
+    is =
+        IsLeastFor-same (λ within. hits (family_in s2 own) within || hits (family_in s2 others) within) _
+        (family_in s3 r) gave.is
         (λ within. or_of _ _ _ _ (ap (λ f. hits f within) gave2.is) (others_is.hit within));
   }
   unit_gives s3 (Err e) gave = tt
 
-  pub unit_spent : {E : Type 0} (s3 : Held) (result : Result ℕ E) → IfErr result (λ _. RanOut s2 s3) → IfErr result (λ _. RanOut s0 s3)
+  pub unit_spent : {E : Type 0} (s3 : Held) (result : Result ℕ E) → IfErr result (λ _. RanOut s2 s3)
+      → IfErr result (λ _. RanOut s0 s3)
   unit_spent s3 (Ok r) out = tt
   unit_spent s3 (Err e) out = record { went = Went-then s0 s2 s3 went_unit out.went; used_up = out.used_up }
 
 -- ---- a node's cut family
 
-module _ {E : Type 0} (tree : FaultTree) (kept : IsTree tree) (node : ℕ) (is_node : IsNodeOf tree node) (fs : List (List (List ℕ))) (stand : StandFor (IsCutFamily tree) (below tree node) fs) (before after : Held) where
-  pub gate_node : (kind : GateKind) → kind ≡ kind_of tree node → IsGateOf tree node → (result : Result ℕ E) → IfOk result (Gave (IsLeastOfGate kind fs) before after) → IfOk result (Gave (IsCutFamily tree node) before after)
+module _ {E : Type 0} (tree : FaultTree) (kept : IsTree tree) (node : ℕ) (is_node : IsNodeOf tree node)
+    (fs : List (List (List ℕ))) (stand : StandFor (IsCutFamily tree) (below tree node) fs) (before after : Held) where
+  pub gate_node : (kind : GateKind) → kind ≡ kind_of tree node → IsGateOf tree node → (result : Result ℕ E)
+      → IfOk result (Gave (IsLeastOfGate kind fs) before after)
+      → IfOk result (Gave (IsCutFamily tree node) before after)
   gate_node kind same is_gate (Ok r) gave = record {
     went = gave.went;
     has = gave.has;
-    is = gate_cut_family tree kept node is_node fs stand is_gate (family_in after r) (subst (λ (k : GateKind). IsLeastOfGate k fs (family_in after r)) same gave.is);
+    is =
+        gate_cut_family tree kept node is_node fs stand is_gate (family_in after r)
+        (subst (λ (k : GateKind). IsLeastOfGate k fs (family_in after r)) same gave.is);
   }
   gate_node kind same is_gate (Err e) gave = tt
 
-  pub unit_node : (unit : ℕ) → unit ≡ node → IsUnitOf tree node → (result : Result ℕ E) → IfOk result (Gave (IsLeastFor (λ within. hits (alone unit) within || list_any (λ family. hits family within) fs)) before after) → IfOk result (Gave (IsCutFamily tree node) before after)
+  pub unit_node : (unit : ℕ) → unit ≡ node → IsUnitOf tree node → (result : Result ℕ E)
+      → IfOk result (Gave (IsLeastFor (λ within. hits (alone unit) within
+      || list_any (λ family. hits family within) fs)) before after)
+      → IfOk result (Gave (IsCutFamily tree node) before after)
   unit_node unit same is_unit (Ok r) gave = record {
     went = gave.went;
     has = gave.has;
     is = unit_cut_family tree kept node is_node fs stand is_unit (family_in after r)
-        (subst (λ n. IsLeastFor (λ within. hits (alone n) within || list_any (λ family. hits family within) fs) (family_in after r)) same gave.is);
+        (subst (λ n. IsLeastFor (λ within. hits (alone n) within || list_any (λ family. hits family within) fs)
+        (family_in after r)) same gave.is);
   }
   unit_node unit same is_unit (Err e) gave = tt

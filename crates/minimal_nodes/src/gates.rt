@@ -49,7 +49,9 @@ pub(crate) fn make_unit(
     triggers: &[NodeRef],
 ) -> Result<NodeRef, Spent>
     requires { All (Has memory.old) triggers.now }
-    ensures gives { IfOk result (Gave (IsLeastFor (λ within. hits (alone unit) within || list_any (λ family. hits family within) (families memory.old triggers.now))) memory.old memory.new) }
+    ensures gives { IfOk result (Gave (IsLeastFor
+        (λ within. hits (alone unit) within || list_any (λ family. hits family within)
+        (families memory.old triggers.now))) memory.old memory.new) }
     ensures spent { IfErr result (λ _. RanOut memory.old memory.new) }
 {
     memory.is_sound();

@@ -1,5 +1,6 @@
 -- The steps of a tree are the one solution of the rule that each node's step is by those of what it reads.
-use Rattle.std.proofs.Common.{◌≡◌, ◌≢◌, ℕ, zero, suc, ◌<◌, Bool, true, false, List, [], ◌∷◌, length, get_or, Some, None, is_some, if◌then◌else◌, refl, arith, ap, sym, ◌∙◌}
+use Rattle.std.proofs.Common.{◌≡◌, ◌≢◌, ℕ, zero, suc, ◌<◌, Bool, true, false, List, [], ◌∷◌, length, get_or, Some, None}
+use Rattle.std.proofs.Common.{is_some, if◌then◌else◌, refl, arith, ap, sym, ◌∙◌}
 use Rattle.std.proofs.lemmas.Bool.{or_left, or_right, cond-false}
 use Rattle.unit_sets.specs.UnitList.{among, among-from_Contains}
 use Rattle.fault_model.specs.Tree.{FaultTree, IsNodeOf, kind_of, inputs_of, is_above_units, rank_of}
@@ -12,8 +13,10 @@ use Rattle.fault_model.specs.StepLaws.{node_step-agree, step-node}
 use Rattle.replay_semantics.specs.Failing.{earlier-some, node_fails}
 use Rattle.replay_semantics.specs.Table.{step_in, HoldsSteps}
 
-module _ (tree : FaultTree) (kept : IsTree tree) (order : List ℕ) (f : ℕ → Step) (fixed : (node : ℕ) → IsNodeOf tree node → f node ≡ node_step tree order f node) where
-  fixed-within : (depth node : ℕ) → IsNodeOf tree node → rank_of tree node < depth → f node ≡ within never (node_step tree order) depth node
+module _ (tree : FaultTree) (kept : IsTree tree) (order : List ℕ) (f : ℕ → Step)
+    (fixed : (node : ℕ) → IsNodeOf tree node → f node ≡ node_step tree order f node) where
+  fixed-within : (depth node : ℕ) → IsNodeOf tree node → rank_of tree node < depth
+      → f node ≡ within never (node_step tree order) depth node
   fixed-within zero node is_node deep = absurd (omega arith)
   fixed-within (suc depth) node is_node deep =
       fixed node is_node
@@ -26,20 +29,26 @@ module _ (tree : FaultTree) (kept : IsTree tree) (order : List ℕ) (f : ℕ →
   fixed-step node is_node = fixed-within (suc (rank_of tree node)) node is_node (omega arith)
 
 -- a table that holds the steps has for each node what its rule gives
-pub settled_table : (tree : FaultTree) → IsTree tree → (order : List ℕ) (steps : List Step) → HoldsSteps tree order steps → (node : ℕ) → IsNodeOf tree node → step_in steps node ≡ node_step tree order (step_in steps) node
+pub settled_table : (tree : FaultTree) → IsTree tree → (order : List ℕ) (steps : List Step)
+    → HoldsSteps tree order steps → (node : ℕ) → IsNodeOf tree node
+    → step_in steps node ≡ node_step tree order (step_in steps) node
 settled_table tree kept order steps holds node is_node =
     holds node is_node ∙ step-node tree kept order node is_node
-    ∙ sym (node_step-agree tree order (step_in steps) (step tree order) node (λ k d short. holds (get_or (below tree node) k d) (below_are_nodes tree kept node k d short)))
+    ∙ sym (node_step-agree tree order (step_in steps) (step tree order) node
+    (λ k d short. holds (get_or (below tree node) k d) (below_are_nodes tree kept node k d short)))
 
 -- ---- a node's rule
 
 module _ (tree : FaultTree) (f : ℕ → Step) (node : ℕ) where
   -- a node goes by its own place alone
-  pub node_step-place : (order other : List ℕ) → place order node ≡ place other node → node_step tree order f node ≡ node_step tree other f node
+  pub node_step-place : (order other : List ℕ) → place order node ≡ place other node
+      → node_step tree order f node ≡ node_step tree other f node
   node_step-place order other same =
-      ap (λ (at : Step). if is_above_units tree node then gate_step (kind_of tree node) f (inputs_of tree node) else earlier at (earliest f (triggers_of tree node))) same
+      ap (λ (at : Step). if is_above_units tree node then gate_step (kind_of tree node) f (inputs_of tree node)
+      else earlier at (earliest f (triggers_of tree node))) same
 
-  choice_some : (above : Bool) (gate own triggered : Step) → (if above then is_some gate else is_some triggered) ≡ true → is_some (if above then gate else earlier own triggered) ≡ true
+  choice_some : (above : Bool) (gate own triggered : Step) → (if above then is_some gate else is_some triggered) ≡ true
+      → is_some (if above then gate else earlier own triggered) ≡ true
   choice_some true gate own triggered h = h
   choice_some false gate own triggered h = earlier-some own triggered ∙ or_right (is_some own) (is_some triggered) h
 
@@ -52,31 +61,41 @@ module _ (tree : FaultTree) (f : ℕ → Step) (node : ℕ) where
   is_none None h = refl
   is_none (Some n) h = absurd cc
 
-  choice_none : (above : Bool) (gate own triggered : Step) → (if above then is_some gate else is_some triggered) ≡ false → (above ≡ false → is_some own ≡ false)
+  choice_none : (above : Bool) (gate own triggered : Step) → (if above then is_some gate else is_some triggered) ≡ false
+      → (above ≡ false → is_some own ≡ false)
       → (if above then gate else earlier own triggered) ≡ never
   choice_none true gate own triggered h k = is_none gate h
   choice_none false gate own triggered h k = none_both own triggered (k refl) h
 
   pub node_step-some : (order : List ℕ) → node_fails tree f node ≡ true → is_some (node_step tree order f node) ≡ true
   node_step-some order h =
-      choice_some (is_above_units tree node) (gate_step (kind_of tree node) f (inputs_of tree node)) (place order node) (earliest f (triggers_of tree node)) h
+      choice_some (is_above_units tree node) (gate_step (kind_of tree node) f (inputs_of tree node)) (place order node)
+      (earliest f (triggers_of tree node)) h
 
-  pub node_step-none : (order : List ℕ) → node_fails tree f node ≡ false → (is_above_units tree node ≡ false → is_some (place order node) ≡ false) → node_step tree order f node ≡ never
+  pub node_step-none : (order : List ℕ) → node_fails tree f node ≡ false
+      → (is_above_units tree node ≡ false → is_some (place order node) ≡ false) → node_step tree order f node ≡ never
   node_step-none order h k =
-      choice_none (is_above_units tree node) (gate_step (kind_of tree node) f (inputs_of tree node)) (place order node) (earliest f (triggers_of tree node)) h k
+      choice_none (is_above_units tree node) (gate_step (kind_of tree node) f (inputs_of tree node)) (place order node)
+      (earliest f (triggers_of tree node)) h k
 
   -- a unit that has a place has a step
-  pub node_step-placed : (order : List ℕ) → is_above_units tree node ≡ false → is_some (place order node) ≡ true → is_some (node_step tree order f node) ≡ true
+  pub node_step-placed : (order : List ℕ) → is_above_units tree node ≡ false → is_some (place order node) ≡ true
+      → is_some (node_step tree order f node) ≡ true
   node_step-placed order unit placed =
-      ap is_some (cond-false (is_above_units tree node) (gate_step (kind_of tree node) f (inputs_of tree node)) (earlier (place order node) (earliest f (triggers_of tree node))) unit)
-      ∙ earlier-some (place order node) (earliest f (triggers_of tree node)) ∙ or_left (is_some (place order node)) _ placed
+      ap is_some (cond-false (is_above_units tree node) (gate_step (kind_of tree node) f (inputs_of tree node))
+      (earlier (place order node) (earliest f (triggers_of tree node))) unit)
+      ∙ earlier-some (place order node) (earliest f (triggers_of tree node))
+      ∙ or_left (is_some (place order node)) _ placed
 
 -- a node that does not read another goes by the others alone
-pub node_step-others : (tree : FaultTree) (order : List ℕ) (f g : ℕ → Step) (node other : ℕ) → ((n : ℕ) → n ≢ other → f n ≡ g n) → among (below tree node) other ≡ false → node_step tree order f node ≡ node_step tree order g node
+pub node_step-others : (tree : FaultTree) (order : List ℕ) (f g : ℕ → Step) (node other : ℕ)
+    → ((n : ℕ) → n ≢ other → f n ≡ g n) → among (below tree node) other ≡ false
+    → node_step tree order f node ≡ node_step tree order g node
 node_step-others tree order f g node other same lacks =
     node_step-agree tree order f g node
     (λ k d short. same (get_or (below tree node) k d)
-    (λ e. let has : among (below tree node) other ≡ true = among-from_Contains (below tree node) other (k, short, at (below tree node) k d other short e) in absurd cc))
+    (λ e. let has : among (below tree node) other ≡ true =
+    among-from_Contains (below tree node) other (k, short, at (below tree node) k d other short e) in absurd cc))
   where
     at : (xs : List ℕ) (k d x : ℕ) → k < length xs → get_or xs k d ≡ x → get_or xs k x ≡ x
     at [] k d x short e = absurd (omega arith)

@@ -1,5 +1,7 @@
 -- How the lists of readers are filled.
-use Rattle.std.proofs.Common.{◌≡◌, ℕ, suc, ◌+◌, ◌<◌, ◌≤◌, true, false, ◌==◌, List, [], ◌∷◌, ◌++◌, length, set, get_or, All, replicate, refl, arith, ap, sym, subst, ◌∙◌, inl, inr, length-set, get_or-set_same, get_or-set_other}
+use Rattle.std.proofs.Common.{◌≡◌, ℕ, suc, ◌+◌, ◌<◌, ◌≤◌, true, false, ◌==◌, List, [], ◌∷◌, ◌++◌, length, set, get_or}
+use Rattle.std.proofs.Common.{All, replicate, refl, arith, ap, sym, subst, ◌∙◌, inl, inr, length-set, get_or-set_same}
+use Rattle.std.proofs.Common.{get_or-set_other}
 use Rattle.std.proofs.lemmas.Bool.{cases_eq, cases_lt, or_cases, or_left, or_right, eq-eqb, eqb-true}
 use Rattle.std.proofs.lemmas.List.{length-replicate, get_or-replicate, get_or_past}
 use Rattle.std.proofs.lemmas.List.Elements.{Contains-get_or}
@@ -11,41 +13,55 @@ use Rattle.replay_semantics.specs.Places.{among-append, or_nothing}
 
 -- what holds of each member holds of all
 pub All-from_among : (P : ℕ → Type 0) (xs : List ℕ) → ((x : ℕ) → among xs x ≡ true → P x) → All P xs
-All-from_among P xs each k d short = each (get_or xs k d) (among-from_Contains xs (get_or xs k d) (Contains-get_or xs k d short))
+All-from_among P xs each k d short =
+    each (get_or xs k d) (among-from_Contains xs (get_or xs k d) (Contains-get_or xs k d short))
 
 -- the last of some nodes is among them
 pub among-at : (xs : List ℕ) (k d : ℕ) → k < length xs → among xs (get_or xs k d) ≡ true
 among-at xs k d short = among-from_Contains xs (get_or xs k d) (Contains-get_or xs k d short)
 
-pub no_more : (rows : List (List ℕ)) (node reader : ℕ) → among (readers_in rows node) reader ≡ true → MoreReaders rows rows (node ∷ []) reader
+pub no_more : (rows : List (List ℕ)) (node reader : ℕ) → among (readers_in rows node) reader ≡ true
+    → MoreReaders rows rows (node ∷ []) reader
 no_more rows node reader has = record {
   all = refl;
-  added = λ n one. let same : node ≡ n = eqb-true node n (sym (or_nothing (node == n)) ∙ one) in subst (λ (m : ℕ). among (readers_in rows m) reader ≡ true) same has;
+  added =
+      λ n one. let same : node ≡ n = eqb-true node n (sym (or_nothing (node == n)) ∙ one) in
+      subst (λ (m : ℕ). among (readers_in rows m) reader ≡ true) same has;
   kept = λ n other h. h;
   only = λ n other h. inl h;
 }
 
-pub one_more : (rows : List (List ℕ)) (node reader : ℕ) → node < length rows → MoreReaders rows (set rows node (readers_in rows node ++ reader ∷ [])) (node ∷ []) reader
+pub one_more : (rows : List (List ℕ)) (node reader : ℕ) → node < length rows
+    → MoreReaders rows (set rows node (readers_in rows node ++ reader ∷ [])) (node ∷ []) reader
 one_more rows node reader short =
     let row : List ℕ = readers_in rows node ++ reader ∷ [] in
     let here : readers_in (set rows node row) node ≡ row = get_or-set_same rows node row [] short in
-    let last : among row reader ≡ true = among-append (readers_in rows node) (reader ∷ []) reader ∙ or_right (among (readers_in rows node) reader) _ (or_left (reader == reader) false (eq-eqb reader reader refl)) in
+    let last : among row reader ≡ true =
+    among-append (readers_in rows node) (reader ∷ []) reader
+    ∙ or_right (among (readers_in rows node) reader) _
+    (or_left (reader == reader) false (eq-eqb reader reader refl)) in
     record {
       all = length-set rows node row;
       added = λ n one.
           let same : node ≡ n = eqb-true node n (sym (or_nothing (node == n)) ∙ one) in
-          subst (λ (m : ℕ). among (readers_in (set rows node row) m) reader ≡ true) same (ap (λ xs. among xs reader) here ∙ last);
+          subst (λ (m : ℕ). among (readers_in (set rows node row) m) reader ≡ true) same
+          (ap (λ xs. among xs reader) here ∙ last);
       kept = λ n other h. elim (cases_eq n node) [
         | inl same ↦
-            let was : among (readers_in rows node) other ≡ true = subst (λ (m : ℕ). among (readers_in rows m) other ≡ true) same h in
+            let was : among (readers_in rows node) other ≡ true =
+            subst (λ (m : ℕ). among (readers_in rows m) other ≡ true) same h in
             subst (λ (m : ℕ). among (readers_in (set rows node row) m) other ≡ true) (sym same)
-            (ap (λ xs. among xs other) here ∙ among-append (readers_in rows node) (reader ∷ []) other ∙ or_left (among (readers_in rows node) other) _ was)
+            (ap (λ xs. among xs other) here ∙ among-append (readers_in rows node) (reader ∷ []) other
+            ∙ or_left (among (readers_in rows node) other) _ was)
         | inr apart ↦ ap (λ xs. among xs other) (get_or-set_other rows node n row [] apart) ∙ h
       ];
       only = λ n other h. elim (cases_eq n node) [
         | inl same ↦
-            let is : among row other ≡ true = sym (ap (λ xs. among xs other) here) ∙ subst (λ (m : ℕ). among (readers_in (set rows node row) m) other ≡ true) same h in
-            elim (or_cases (among (readers_in rows node) other) (among (reader ∷ []) other) (sym (among-append (readers_in rows node) (reader ∷ []) other) ∙ is)) [
+            let is : among row other ≡ true =
+            sym (ap (λ xs. among xs other) here) ∙ subst (λ (m : ℕ). among (readers_in (set rows node row) m) other
+            ≡ true) same h in
+            elim (or_cases (among (readers_in rows node) other) (among (reader ∷ []) other)
+            (sym (among-append (readers_in rows node) (reader ∷ []) other) ∙ is)) [
               | inl was ↦ inl (subst (λ (m : ℕ). among (readers_in rows m) other ≡ true) (sym same) was)
               | inr new ↦ inr (sym (eqb-true reader other (sym (or_nothing (reader == other)) ∙ new)))
             ]
@@ -61,7 +77,9 @@ none_more rows reader = record {
   only = λ n other h. inl h;
 }
 
-pub then_more : (rows rows' rows'' : List (List ℕ)) (nodes more : List ℕ) (reader : ℕ) → MoreReaders rows rows' nodes reader → MoreReaders rows' rows'' more reader → MoreReaders rows rows'' (nodes ++ more) reader
+pub then_more : (rows rows' rows'' : List (List ℕ)) (nodes more : List ℕ) (reader : ℕ)
+    → MoreReaders rows rows' nodes reader → MoreReaders rows' rows'' more reader
+    → MoreReaders rows rows'' (nodes ++ more) reader
 then_more rows rows' rows'' nodes more reader first second = record {
   all = second.all ∙ first.all;
   added = λ n one. elim (or_cases (among nodes n) (among more n) (sym (among-append nodes more n) ∙ one)) [
@@ -79,23 +97,29 @@ then_more rows rows' rows'' nodes more reader first second = record {
 pub record HaveReaders (tree : FaultTree) (rows : List (List ℕ)) (count : ℕ) : Type 0 where
   pub all : length rows ≡ suc (node_count tree)
   pub nodes : (node reader : ℕ) → among (readers_in rows node) reader ≡ true → IsNodeOf tree reader
-  pub listed : (node reader : ℕ) → IsNodeOf tree reader → reader ≤ count → among (below tree reader) node ≡ true → among (readers_in rows node) reader ≡ true
+  pub listed : (node reader : ℕ) → IsNodeOf tree reader → reader ≤ count → among (below tree reader) node ≡ true
+      → among (readers_in rows node) reader ≡ true
 
 no_row : (count node : ℕ) → readers_in (replicate count []) node ≡ []
 no_row count node =
     elim (cases_lt node count) [
       | inl short ↦ get_or-replicate count node [] [] short
-      | inr past ↦ get_or_past (replicate count []) node [] (omega (arith, past, length-replicate {A = List ℕ} count []))
+      | inr past ↦ get_or_past (replicate count []) node []
+          (omega (arith, past, length-replicate {A = List ℕ} count []))
     ]
 
 pub no_readers : (tree : FaultTree) → HaveReaders tree (replicate (suc (node_count tree)) []) 0
 no_readers tree = record {
   all = length-replicate (suc (node_count tree)) [];
-  nodes = λ node reader h. let none : among (readers_in (replicate (suc (node_count tree)) []) node) reader ≡ false = ap (λ xs. among xs reader) (no_row (suc (node_count tree)) node) in absurd cc;
+  nodes =
+      λ node reader h. let none : among (readers_in (replicate (suc (node_count tree)) []) node) reader ≡ false =
+      ap (λ xs. among xs reader) (no_row (suc (node_count tree)) node) in absurd cc;
   listed = λ node reader is_node low h. absurd (omega (arith, is_node.0, low));
 }
 
-pub next_reader : (tree : FaultTree) (rows rows' : List (List ℕ)) (count : ℕ) → count < node_count tree → HaveReaders tree rows count → MoreReaders rows rows' (below tree (count + 1)) (count + 1) → HaveReaders tree rows' (count + 1)
+pub next_reader : (tree : FaultTree) (rows rows' : List (List ℕ)) (count : ℕ) → count < node_count tree
+    → HaveReaders tree rows count → MoreReaders rows rows' (below tree (count + 1)) (count + 1)
+    → HaveReaders tree rows' (count + 1)
 next_reader tree rows rows' count short have more = record {
   all = more.all ∙ have.all;
   nodes = λ node reader h. elim (more.only node reader h) [
@@ -110,7 +134,8 @@ next_reader tree rows rows' count short have more = record {
   ];
 }
 
-pub all_readers : (tree : FaultTree) (rows : List (List ℕ)) (count : ℕ) → node_count tree ≤ count → HaveReaders tree rows count → AreReaders tree rows
+pub all_readers : (tree : FaultTree) (rows : List (List ℕ)) (count : ℕ) → node_count tree ≤ count
+    → HaveReaders tree rows count → AreReaders tree rows
 all_readers tree rows count full have = record {
   all = have.all;
   nodes = λ node. All-from_among (IsNodeOf tree) (readers_in rows node) (have.nodes node);

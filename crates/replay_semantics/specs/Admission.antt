@@ -42,11 +42,14 @@ gate_in_turn step_of Hsp inputs = true
 
 -- the same of a node; a unit asks for nothing
 abbrev pub node_awaits : FaultTree → (ℕ → Step) → ℕ → ℕ → Bool
-node_awaits tree step_of unit node = if is_above_units tree node then gate_awaits step_of unit (kind_of tree node) (inputs_of tree node) else true
+node_awaits tree step_of unit node =
+    if is_above_units tree node then gate_awaits step_of unit (kind_of tree node) (inputs_of tree node) else true
 
 abbrev pub node_in_turn : FaultTree → (ℕ → Step) → ℕ → Bool
-node_in_turn tree step_of node = if is_above_units tree node then gate_in_turn step_of (kind_of tree node) (inputs_of tree node) else true
+node_in_turn tree step_of node =
+    if is_above_units tree node then gate_in_turn step_of (kind_of tree node) (inputs_of tree node) else true
 
 -- all readers of some nodes have failed in turn
 abbrev pub all_in_turn : FaultTree → List (List ℕ) → List Step → List ℕ → Bool
-all_in_turn tree rows steps nodes = list_all (λ node. list_all (node_in_turn tree (step_in steps)) (readers_in rows node)) nodes
+all_in_turn tree rows steps nodes =
+    list_all (λ node. list_all (node_in_turn tree (step_in steps)) (readers_in rows node)) nodes

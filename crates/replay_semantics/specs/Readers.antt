@@ -11,11 +11,13 @@ readers_in rows node = slice_index_or rows node []
 pub record AreReaders (tree : FaultTree) (rows : List (List ℕ)) : Type 0 where
   pub all : length rows ≡ suc (node_count tree)
   pub nodes : (node : ℕ) → All (IsNodeOf tree) (readers_in rows node)
-  pub listed : (node reader : ℕ) → IsNodeOf tree reader → among (below tree reader) node ≡ true → among (readers_in rows node) reader ≡ true
+  pub listed : (node reader : ℕ) → IsNodeOf tree reader → among (below tree reader) node ≡ true
+      → among (readers_in rows node) reader ≡ true
 
 -- some nodes have one reader more, if they did not have it; the other rows stay
 pub record MoreReaders (rows rows' : List (List ℕ)) (nodes : List ℕ) (reader : ℕ) : Type 0 where
   pub all : length rows' ≡ length rows
   pub added : (node : ℕ) → among nodes node ≡ true → among (readers_in rows' node) reader ≡ true
   pub kept : (node other : ℕ) → among (readers_in rows node) other ≡ true → among (readers_in rows' node) other ≡ true
-  pub only : (node other : ℕ) → among (readers_in rows' node) other ≡ true → (among (readers_in rows node) other ≡ true) ⊎ (other ≡ reader)
+  pub only : (node other : ℕ) → among (readers_in rows' node) other ≡ true
+      → (among (readers_in rows node) other ≡ true) ⊎ (other ≡ reader)

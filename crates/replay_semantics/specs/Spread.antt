@@ -1,5 +1,6 @@
 -- How a failure spreads to all that reads a failed node, and what has been reached on the way.
-use Rattle.std.specs.Prelude.{◌≡◌, ◌⊎◌, ℕ, ◌≤◌, Bool, true, false, ◌||◌, List, length, take, drop, is_some, All, if◌then◌else◌}
+use Rattle.std.specs.Prelude.{◌≡◌, ◌⊎◌, ℕ, ◌≤◌, Bool, true, false, ◌||◌, List, length, take, drop, is_some, All}
+use Rattle.std.specs.Prelude.{if◌then◌else◌}
 use Rattle.std.specs.List.{list_any}
 use Rattle.unit_sets.specs.UnitList.{among}
 use Rattle.fault_model.specs.Order.{AreDistinct}
@@ -34,23 +35,26 @@ pub record Turn : Type 0 where
   pub front : List ℕ
 
 -- the steps on the way: `todo` and what reads a failed node from `next` on are still to be looked at
-pub record IsSpreading (tree : FaultTree) (turn : Turn) (steps : List Step) (log : List ℕ) (todo : List ℕ) (next : ℕ) : Type 0 where
+pub record IsSpreading (tree : FaultTree) (turn : Turn) (steps : List Step) (log : List ℕ) (todo : List ℕ)
+    (next : ℕ) : Type 0 where
   pub places : AllGrow turn.last (place turn.order) (place turn.longer)
-  pub settled : (node : ℕ) → IsNodeOf tree node → step_in turn.before node ≡ node_step tree turn.order (step_in turn.before) node
+  pub settled : (node : ℕ) → IsNodeOf tree node
+      → step_in turn.before node ≡ node_step tree turn.order (step_in turn.before) node
   pub low : length turn.front ≤ next
   pub high : next ≤ length log
   pub front : take (length turn.front) log ≡ turn.front
   pub grown : AllGrow turn.last (step_in turn.before) (step_in steps)
   pub undone : (node : ℕ) → step_without (drop (length turn.front) log) steps node ≡ step_in turn.before node
   -- every unit of the order has a step
-  pub placed : (node : ℕ) → IsNodeOf tree node → is_above_units tree node ≡ false → is_some (place turn.longer node) ≡ true → has_step steps node ≡ true
+  pub placed : (node : ℕ) → IsNodeOf tree node → is_above_units tree node ≡ false
+      → is_some (place turn.longer node) ≡ true → has_step steps node ≡ true
   -- a node has the step that what it reads gives, or it has none and is still to be looked at
   pub right : (node : ℕ) → IsNodeOf tree node
       → (step_in steps node ≡ node_step tree turn.longer (step_in steps) node)
       ⊎ ((step_in steps node ≡ never) × ((among todo node || reads_some tree (drop next log) node) ≡ true))
 
--- a unit has failed, with all that fails by it: the table has the steps under the longer order, and without those of the nodes
--- that failed now it is as before
+-- a unit has failed, with all that fails by it: the table has the steps under the longer order, and without those of
+-- the nodes that failed now it is as before
 pub record HaveFailed (tree : FaultTree) (longer : List ℕ) (before after : List Step) (log log' : List ℕ) : Type 0 where
   pub holds : HoldsSteps tree longer after
   pub front : take (length log) log' ≡ log

@@ -1,8 +1,10 @@
-//! Whether an order that can happen still can with one unit more: what a cold spare waits for, and gates whose inputs fail in turn.
+//! Whether an order that can happen still can with one unit more: what a cold spare waits for, and gates whose inputs
+//! fail in turn.
 ghost use Rattle.std.specs.Prelude.{◌≡◌, ◌<◌, ℕ, true, length, All};
 ghost use Rattle.std.specs.List.{list_all};
 ghost use Rattle.fault_model.specs.Tree.{IsNodeOf};
-ghost use Rattle.replay_semantics.specs.Admission.{is_awaited, gate_awaits, gate_in_turn, node_awaits, node_in_turn, all_in_turn};
+ghost use Rattle.replay_semantics.specs.Admission.{is_awaited, gate_awaits, gate_in_turn, node_awaits, node_in_turn};
+ghost use Rattle.replay_semantics.specs.Admission.{all_in_turn};
 ghost use Rattle.replay_semantics.specs.Readers.{AreReaders};
 ghost use Rattle.replay_semantics.specs.Table.{step_in, AreIn, IsTableFor};
 

@@ -1,5 +1,6 @@
 //! The steps of all nodes, and how a failure spreads and is undone.
-ghost use Rattle.std.specs.Prelude.{◌≡◌, ℕ, suc, ◌<◌, ◌≤◌, true, false, [], ◌∷◌, ◌++◌, length, take, drop, All, IfOk, vec_len, vec_capacity, slice_set, Some, None, List, ◌+◌, ◌^◌, replicate};
+ghost use Rattle.std.specs.Prelude.{◌≡◌, ℕ, suc, ◌<◌, ◌≤◌, true, false, [], ◌∷◌, ◌++◌, length, take, drop, All, IfOk};
+ghost use Rattle.std.specs.Prelude.{vec_len, vec_capacity, slice_set, Some, None, List, ◌+◌, ◌^◌, replicate};
 ghost use Rattle.unit_sets.specs.UnitList.{among};
 ghost use Rattle.fault_model.specs.Tree.{IsNodeOf, IsUnitOf, node_count};
 ghost use Rattle.fault_model.specs.WellFormed.{IsTree};
@@ -129,8 +130,10 @@ impl Failures {
         ensures kept { AreFailed tree.now self.new.steps.items self.new.log.items }
         ensures room { vec_capacity self.new.log ≡ vec_capacity self.old.log }
         ensures longer { length self.old.log.items ≤ length self.new.log.items }
-        ensures failed { (order : List ℕ) → IsUnitOf tree.now unit → suc (length order) ≡ at → HoldsSteps tree.now order self.old.steps.items
-            → HaveFailed tree.now (order ++ unit ∷ []) self.old.steps.items self.new.steps.items self.old.log.items self.new.log.items }
+        ensures failed { (order : List ℕ) → IsUnitOf tree.now unit → suc (length order) ≡ at
+            → HoldsSteps tree.now order self.old.steps.items
+            → HaveFailed tree.now (order ++ unit ∷ []) self.old.steps.items self.new.steps.items self.old.log.items
+            self.new.log.items }
     {
         let start = self.log.len();
         if has_failed(&self.steps, unit) {
@@ -140,7 +143,8 @@ impl Failures {
         self.spread(tree, readers, start, at);
     }
 
-    /// Whether the inputs of every gate that reads a node of the log from a place on have failed in turn, where the gate asks for that.
+    /// Whether the inputs of every gate that reads a node of the log from a place on have failed in turn, where the
+    /// gate asks for that.
     pub fn keep_turns(&self, tree: &Tree, readers: &Rows<NodeNo>, start: usize) -> bool
         requires readers { AreReaders tree.now readers.now }
         requires kept { AreFailed tree.now self.now.steps.items self.now.log.items }
@@ -154,7 +158,8 @@ impl Failures {
     pub fn undo(&mut self, start: usize)
         requires start { start ≤ length self.old.log.items }
         requires nodes { AreIn self.old.steps.items self.old.log.items }
-        ensures steps { (node : ℕ) → step_in self.new.steps.items node ≡ step_without (drop start self.old.log.items) self.old.steps.items node }
+        ensures steps { (node : ℕ) → step_in self.new.steps.items node
+            ≡ step_without (drop start self.old.log.items) self.old.steps.items node }
         ensures table { length self.new.steps.items ≡ length self.old.steps.items }
         ensures log { self.new.log.items ≡ take start self.old.log.items }
         ensures room { vec_capacity self.new.log ≡ vec_capacity self.old.log }

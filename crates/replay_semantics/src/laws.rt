@@ -15,7 +15,8 @@ pub fn failures_stay()
 /// What has not failed before and fails with one unit more fails at that unit's place.
 pub fn new_failures_are_last()
     ensures { (tree : FaultTree) (order : List ℕ) (unit node : ℕ) → step tree order node ≡ None
-        → is_some (step tree (order ++ unit ∷ []) node) ≡ true → step tree (order ++ unit ∷ []) node ≡ Some (suc (length order)) }
+        → is_some (step tree (order ++ unit ∷ []) node) ≡ true
+        → step tree (order ++ unit ∷ []) node ≡ Some (suc (length order)) }
 {}
 
 /// The beginnings of an admissible order are admissible.

@@ -17,7 +17,8 @@ fn ends_with(nodes: &[NodeNo], node: NodeNo) -> bool
     }
 }
 
-// One more node reads some node. A node that reads it more than once is listed once, since its readings come one after another.
+// One more node reads some node. A node that reads it more than once is listed once, since its readings come one after
+// another.
 fn add(lists: &mut [NodeList], node: NodeNo, reader: NodeNo) -> Result<(), NoMemory>
     requires { node < length lists.old }
     ensures { OnOk result (MoreReaders lists.old lists.new (node ∷ []) reader) }

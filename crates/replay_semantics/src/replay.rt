@@ -1,5 +1,6 @@
 //! Replay: the units of an order fail one after another, and the last one can be taken back.
-ghost use Rattle.std.specs.Prelude.{◌≡◌, ℕ, suc, ◌-◌, ◌^◌, ◌<◌, ◌≤◌, ◌&&◌, true, false, List, [], ◌∷◌, ◌++◌, length, take, All, IfOk, is_some, vec_capacity};
+ghost use Rattle.std.specs.Prelude.{◌≡◌, ℕ, suc, ◌-◌, ◌^◌, ◌<◌, ◌≤◌, ◌&&◌, true, false, List, [], ◌∷◌, ◌++◌, length};
+ghost use Rattle.std.specs.Prelude.{take, All, IfOk, is_some, vec_capacity};
 ghost use Rattle.unit_sets.specs.UnitList.{among};
 ghost use Rattle.fault_model.specs.Cut.{is_cut};
 ghost use Rattle.fault_model.specs.FailingOrder.{is_admissible, is_failing};
@@ -32,8 +33,8 @@ pub struct Pushed {
 
 /// The units of an order fail one after another. A contract sees it as its tree and its order.
 ///
-/// The steps of all nodes are kept, and which nodes failed at which unit, so that a push and a pop touch only what changes.
-/// Only `new` takes memory.
+/// The steps of all nodes are kept, and which nodes failed at which unit, so that a push and a pop touch only what
+/// changes. Only `new` takes memory.
 #[derive(Drop)]
 pub struct Replay<'t> {
     tree: &'t Tree,
@@ -57,13 +58,15 @@ impl<'t> Model for Replay<'t> {
     ghost view = { λ replay. record { tree = replay.tree.now; order = replay.order.items } };
 
     ghost invariant = { λ replay.
-        HoldsReplay replay.tree.now replay.readers replay.failures.steps.items replay.failures.log.items replay.order.items replay.starts.items replay.admitted
+        HoldsReplay replay.tree.now replay.readers replay.failures.steps.items replay.failures.log.items
+        replay.order.items replay.starts.items replay.admitted
         × (node_count replay.tree.now ≤ vec_capacity replay.failures.log)
         × (unit_count replay.tree.now ≤ vec_capacity replay.order)
         × (unit_count replay.tree.now ≤ vec_capacity replay.starts) };
 }
 
-// Lets a unit fail at a place after the units of an order, and says whether the longer order can happen where the shorter one can.
+// Lets a unit fail at a place after the units of an order, and says whether the longer order can happen where the
+// shorter one can.
 fn fail_next(
     failures: &mut Failures,
     tree: &Tree,
@@ -79,8 +82,10 @@ fn fail_next(
     ensures kept { AreFailed tree.now failures.new.steps.items failures.new.log.items }
     ensures room { vec_capacity failures.new.log ≡ vec_capacity failures.old.log }
     ensures failed { (order : List ℕ) → suc (length order) ≡ at → HoldsSteps tree.now order failures.old.steps.items
-        → HaveFailed tree.now (order ++ unit ∷ []) failures.old.steps.items failures.new.steps.items failures.old.log.items failures.new.log.items }
-    ensures fits { (order : List ℕ) → suc (length order) ≡ at → among order unit ≡ false → HoldsSteps tree.now order failures.old.steps.items
+        → HaveFailed tree.now (order ++ unit ∷ []) failures.old.steps.items failures.new.steps.items
+        failures.old.log.items failures.new.log.items }
+    ensures fits { (order : List ℕ) → suc (length order) ≡ at → among order unit ≡ false
+        → HoldsSteps tree.now order failures.old.steps.items
         → is_admissible tree.now (order ++ unit ∷ []) ≡ (is_admissible tree.now order && result) }
 {
     let node = NodeNo(u32::from(unit.number()));
@@ -178,7 +183,8 @@ impl<'t> Replay<'t> {
 
         ensures failing { result ≡ is_failing self.old.tree order.now }
         ensures replay { self.new ≡ self.old }
-        ensures bound { is_some (step self.old.tree order.now self.old.tree.top) ≡ true → is_cut self.old.tree order.now ≡ true }
+        ensures bound { is_some (step self.old.tree order.now self.old.tree.top) ≡ true
+            → is_cut self.old.tree order.now ≡ true }
     {
         let _ = &self.tree;
         let mut failing = false;

@@ -1,5 +1,6 @@
 -- The least count of each block, and a place where it stands.
-use Rattle.std.proofs.Common.{◌≡◌, ◌≢◌, ℕ, suc, ◌+◌, ◌-◌, ◌*◌, ◌/◌, ◌^◌, ◌<◌, ◌≤◌, min, true, false, List, [], ◌∷◌, ◌++◌}
+use Rattle.std.proofs.Common.{◌≡◌, ◌≢◌, ℕ, suc, ◌+◌, ◌-◌, ◌*◌, ◌/◌, ◌^◌, ◌<◌, ◌≤◌, min, true, false, List, [], ◌∷◌}
+use Rattle.std.proofs.Common.{◌++◌}
 use Rattle.std.proofs.Common.{length, take, set, get_or, All, refl, sym, ◌∙◌, ap, subst, arith, inl, inr, length-append}
 use Rattle.std.proofs.Common.{Bool, ◌==◌, length-set, get_or-set_same, get_or-set_other}
 use Rattle.std.specs.Ordering.{nat_cmp}
@@ -157,7 +158,8 @@ pub lowering-low : (row old counts least lowest : List ℕ) (i place left : ℕ)
     → IsLowering row old (set counts place left) (set least (place / block_size) left)
     (set lowest (place / block_size) place) (i + 1)
 lowering-low row old counts least lowest i place left falls less was = record {
-  fallen = one_more-lower_at row counts old i place left falls.rising falls.short falls.at was.fallen falls.there falls.is;
+  fallen =
+      one_more-lower_at row counts old i place left falls.rising falls.short falls.at was.fallen falls.there falls.is;
   blocks = lowered-low counts least lowest place left was.blocks falls.there less;
 }
 
@@ -165,7 +167,8 @@ pub lowering-high : (row old counts least lowest : List ℕ) (i place left : ℕ
     → get_or least (place / block_size) 0 ≤ left → IsLowering row old counts least lowest i
     → IsLowering row old (set counts place left) least lowest (i + 1)
 lowering-high row old counts least lowest i place left falls most was = record {
-  fallen = one_more-lower_at row counts old i place left falls.rising falls.short falls.at was.fallen falls.there falls.is;
+  fallen =
+      one_more-lower_at row counts old i place left falls.rising falls.short falls.at was.fallen falls.there falls.is;
   blocks = lowered-high counts least lowest place left was.blocks falls.there falls.is most;
 }
 

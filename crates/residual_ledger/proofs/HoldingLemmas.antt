@@ -12,5 +12,6 @@ holds cuts unit place = among (cut_at cuts place) unit
 pub IsRising-holding : (cuts : List (List ℕ)) (unit : ℕ) → IsRising (holding cuts unit)
 IsRising-holding cuts unit = IsRising-passing (holds cuts unit) (length cuts)
 
-pub among-holding : (cuts : List (List ℕ)) (unit place : ℕ) → among (holding cuts unit) place ≡ (nat_lt place (length cuts) && among (cut_at cuts place) unit)
+pub among-holding : (cuts : List (List ℕ)) (unit place : ℕ)
+    → among (holding cuts unit) place ≡ (nat_lt place (length cuts) && among (cut_at cuts place) unit)
 among-holding cuts unit place = among-passing (holds cuts unit) (length cuts) place

@@ -1,5 +1,7 @@
 -- How the residual of a cut set changes with the set of units that are out.
-use Rattle.std.proofs.Common.{◌≡◌, ℕ, suc, ◌+◌, ◌<◌, ◌≤◌, Bool, true, false, not, cond, ◌||◌, ◌==◌, List, [], ◌∷◌, ◌++◌, length, take, get_or, filter, refl, sym, ◌∙◌, ap, subst, arith, eqb-true, eq-eqb, zero-add, inl, inr, length-take}
+use Rattle.std.proofs.Common.{◌≡◌, ℕ, suc, ◌+◌, ◌<◌, ◌≤◌, Bool, true, false, not, cond, ◌||◌, ◌==◌, List, [], ◌∷◌, ◌++◌}
+use Rattle.std.proofs.Common.{length, take, get_or, filter, refl, sym, ◌∙◌, ap, subst, arith, eqb-true, eq-eqb}
+use Rattle.std.proofs.Common.{zero-add, inl, inr, length-take}
 use Rattle.std.specs.List.{list_any, AllByRecursion}
 use Rattle.std.specs.declared.cmp.Ordering.TheVariants.{Less}
 use Rattle.std.specs.List.Sorted.{IsStrictlySortedBy}
@@ -29,7 +31,8 @@ residual-le out (x ∷ xs) = omega (arith, residual-cons out x xs, residual-le o
 -- ---- one unit more out
 
 -- a unit that a cut set does not have changes nothing
-pub residual-apart : (unit : ℕ) (out cut : List ℕ) → among cut unit ≡ false → residual (unit ∷ out) cut ≡ residual out cut
+pub residual-apart : (unit : ℕ) (out cut : List ℕ) → among cut unit ≡ false
+    → residual (unit ∷ out) cut ≡ residual out cut
 residual-apart unit out [] none = refl
 residual-apart unit out (x ∷ xs) none =
     let parts : ((x == unit) ≡ false) × (among xs unit ≡ false) = or_parts (x == unit) (among xs unit) none in
@@ -55,22 +58,29 @@ swapped : (x unit : ℕ) → (x == unit) ≡ false → (unit == x) ≡ false
 swapped x unit h = grind (arith, nat_tests)
 
 -- a unit that was in service is one member less of each cut set that has it
-pub residual-taken : (unit : ℕ) (out cut : List ℕ) → IsRising cut → among out unit ≡ false → among cut unit ≡ true → residual out cut ≡ suc (residual (unit ∷ out) cut)
+pub residual-taken : (unit : ℕ) (out cut : List ℕ) → IsRising cut → among out unit ≡ false → among cut unit ≡ true
+    → residual out cut ≡ suc (residual (unit ∷ out) cut)
 residual-taken unit out [] rising free has = absurd cc
 residual-taken unit out (x ∷ xs) rising free has =
     elim (cases_Bool (x == unit)) [
       | inl here ↦
           let same : x ≡ unit = eqb-true x unit here in
-          let later : among xs unit ≡ false = subst (λ (q : ℕ). among xs q ≡ false) same (first_not_later x xs rising) in
+          let later : among xs unit ≡ false =
+          subst (λ (q : ℕ). among xs q ≡ false) same (first_not_later x xs rising) in
           let was : among out x ≡ false = subst (λ (q : ℕ). among out q ≡ false) (sym same) free in
           let now : (unit == x) ≡ true = eq-eqb unit x (sym same) in
-          let left : residual out (x ∷ xs) ≡ 1 + residual out xs = residual-cons out x xs ∙ ap (λ b. cond (not b) 1 0 + residual out xs) was in
-          let right : residual (unit ∷ out) (x ∷ xs) ≡ residual (unit ∷ out) xs = residual-cons (unit ∷ out) x xs ∙ ap (λ b. cond (not (b || among out x)) 1 0 + residual (unit ∷ out) xs) now ∙ zero-add (residual (unit ∷ out) xs) in
+          let left : residual out (x ∷ xs) ≡ 1 + residual out xs =
+          residual-cons out x xs ∙ ap (λ b. cond (not b) 1 0 + residual out xs) was in
+          let right : residual (unit ∷ out) (x ∷ xs) ≡ residual (unit ∷ out) xs =
+          residual-cons (unit ∷ out) x xs ∙ ap (λ b. cond (not (b || among out x)) 1 0 + residual (unit ∷ out) xs)
+          now ∙ zero-add (residual (unit ∷ out) xs) in
           omega (arith, left, right, residual-apart unit out xs later)
       | inr other ↦
           let later : among xs unit ≡ true = second_of (x == unit) (among xs unit) other has in
           let left : residual out (x ∷ xs) ≡ cond (not (among out x)) 1 0 + residual out xs = residual-cons out x xs in
-          let right : residual (unit ∷ out) (x ∷ xs) ≡ cond (not (among out x)) 1 0 + residual (unit ∷ out) xs = residual-cons (unit ∷ out) x xs ∙ ap (λ b. cond (not (b || among out x)) 1 0 + residual (unit ∷ out) xs) (swapped x unit other) in
+          let right : residual (unit ∷ out) (x ∷ xs) ≡ cond (not (among out x)) 1 0 + residual (unit ∷ out) xs =
+          residual-cons (unit ∷ out) x xs ∙ ap (λ b. cond (not (b || among out x)) 1 0 + residual (unit ∷ out) xs)
+          (swapped x unit other) in
           omega (arith, left, right, residual-taken unit out xs (IsRising-tail x xs rising) free later)
     ]
   where
@@ -96,16 +106,19 @@ one_more_at_most unit out cut rising =
     absorbed false a h = refl
 
     again : (v : ℕ) → among out unit ≡ true → among (unit ∷ out) v ≡ among out v
-    again v already = absorbed (unit == v) (among out v) (λ e. subst (λ (q : ℕ). among out q ≡ true) (eqb-true unit v e) already)
+    again v already =
+        absorbed (unit == v) (among out v) (λ e. subst (λ (q : ℕ). among out q ≡ true) (eqb-true unit v e) already)
 
 -- so many units take no more than so many members of a cut set
-pub residual-asked-le : (asked out cut : List ℕ) → IsRising cut → residual out cut ≤ residual (asked ++ out) cut + length asked
+pub residual-asked-le : (asked out cut : List ℕ) → IsRising cut
+    → residual out cut ≤ residual (asked ++ out) cut + length asked
 residual-asked-le [] out cut rising = omega arith
 residual-asked-le (unit ∷ asked) out cut rising =
     omega (arith, residual-asked-le asked out cut rising, one_more_at_most unit (asked ++ out) cut rising)
 
 -- the members that are asked, where none of them was out, are the ones that go
-pub residual-asked : (asked out : List ℕ) → ((unit : ℕ) → among asked unit ≡ true → among out unit ≡ false) → (cut : List ℕ) → residual out cut ≡ residual (asked ++ out) cut + length (filter (among asked) cut)
+pub residual-asked : (asked out : List ℕ) → ((unit : ℕ) → among asked unit ≡ true → among out unit ≡ false)
+    → (cut : List ℕ) → residual out cut ≡ residual (asked ++ out) cut + length (filter (among asked) cut)
 residual-asked asked out free [] = refl
 residual-asked asked out free (x ∷ xs) =
     omega (
@@ -117,25 +130,30 @@ residual-asked asked out free (x ∷ xs) =
       one (among asked x) (among out x) (among (asked ++ out) x) (among-append asked out x) (free x),
     )
   where
-    one : (a o both : Bool) → both ≡ (a || o) → (a ≡ true → o ≡ false) → cond (not o) 1 0 ≡ cond (not both) 1 0 + cond a 1 0
+    one : (a o both : Bool) → both ≡ (a || o) → (a ≡ true → o ≡ false)
+        → cond (not o) 1 0 ≡ cond (not both) 1 0 + cond a 1 0
     one true o both e free = let none : o ≡ false = free refl in rw (e, none) refl
     one false true both e free = rw e refl
     one false false both e free = rw e refl
 
 -- asked units that a cut set does not have change nothing
-pub residual-asked-apart : (asked out cut : List ℕ) → list_any (among cut) asked ≡ false → residual (asked ++ out) cut ≡ residual out cut
+pub residual-asked-apart : (asked out cut : List ℕ) → list_any (among cut) asked ≡ false
+    → residual (asked ++ out) cut ≡ residual out cut
 residual-asked-apart [] out cut none = refl
 residual-asked-apart (unit ∷ asked) out cut none =
-    let parts : (among cut unit ≡ false) × (list_any (among cut) asked ≡ false) = or_parts (among cut unit) (list_any (among cut) asked) none in
+    let parts : (among cut unit ≡ false) × (list_any (among cut) asked ≡ false) =
+    or_parts (among cut unit) (list_any (among cut) asked) none in
     residual-apart unit (asked ++ out) cut parts.0 ∙ residual-asked-apart asked out cut parts.1
 
 -- an asked unit that a cut set has
-pub met_unit : (asked cut : List ℕ) → list_any (among cut) asked ≡ true → (unit : ℕ) × (among asked unit ≡ true) × (among cut unit ≡ true)
+pub met_unit : (asked cut : List ℕ) → list_any (among cut) asked ≡ true
+    → (unit : ℕ) × (among asked unit ≡ true) × (among cut unit ≡ true)
 met_unit [] cut some = absurd cc
 met_unit (unit ∷ asked) cut some =
     elim (or_cases (among cut unit) (list_any (among cut) asked) some) [
       | inl here ↦ (unit, or_left (unit == unit) (among asked unit) (eq-eqb unit unit refl), here)
-      | inr later ↦ let found = met_unit asked cut later in (found.0, or_right (unit == found.0) (among asked found.0) found.1, found.2)
+      | inr later ↦ let found =
+          met_unit asked cut later in (found.0, or_right (unit == found.0) (among asked found.0) found.1, found.2)
     ]
 
 -- ---- counting the members that are asked
@@ -148,11 +166,14 @@ length-filter-le p (x ∷ xs) = omega (arith, length-filter-cons p x xs, length-
     at_most_one true = omega arith
     at_most_one false = omega arith
 
-pub asked_so_far-le : (asked members : List ℕ) (i count : ℕ) → count ≡ length (filter (among asked) (take i members)) → count ≤ i
+pub asked_so_far-le : (asked members : List ℕ) (i count : ℕ) → count ≡ length (filter (among asked) (take i members))
+    → count ≤ i
 asked_so_far-le asked members i count is =
     omega (arith, is, length-filter-le (among asked) (take i members), length-take i members)
 
-pub asked-more : (asked members : List ℕ) (i item count more : ℕ) → i < length members → item ≡ get_or members i item → count ≡ length (filter (among asked) (take i members)) → more ≡ count + cond (among asked item) 1 0 → more ≡ length (filter (among asked) (take (i + 1) members))
+pub asked-more : (asked members : List ℕ) (i item count more : ℕ) → i < length members → item ≡ get_or members i item
+    → count ≡ length (filter (among asked) (take i members)) → more ≡ count + cond (among asked item) 1 0
+    → more ≡ length (filter (among asked) (take (i + 1) members))
 asked-more asked members i item count more short at is next =
     let same : get_or members i 0 ≡ item = sym (get_or_read members i item short at 0) in
     let told : ℕ → ℕ = λ x. cond (among asked x) 1 0 in

@@ -1,5 +1,7 @@
 -- Rising rows of places, and lists that differ by one at the places of a row.
-use Rattle.std.proofs.Common.{◌≡◌, ◌≢◌, ℕ, zero, suc, ◌+◌, ◌<◌, Bool, true, false, ◌||◌, ◌==◌, List, [], ◌∷◌, ◌++◌, length, take, set, get_or, All, refl, sym, ◌∙◌, ap, subst, arith, inl, inr, add-one, length-set, get_or-set_same, get_or-set_other, eq-eqb}
+use Rattle.std.proofs.Common.{◌≡◌, ◌≢◌, ℕ, zero, suc, ◌+◌, ◌<◌, Bool, true, false, ◌||◌, ◌==◌, List, [], ◌∷◌, ◌++◌}
+use Rattle.std.proofs.Common.{length, take, set, get_or, All, refl, sym, ◌∙◌, ap, subst, arith, inl, inr, add-one}
+use Rattle.std.proofs.Common.{length-set, get_or-set_same, get_or-set_other, eq-eqb}
 use Rattle.std.specs.List.Sorted.{IsStrictlySortedBy}
 use Rattle.std.specs.Ordering.{nat_cmp}
 use Rattle.std.specs.declared.cmp.Ordering.TheVariants.{Less}
@@ -37,7 +39,8 @@ pub All-among : (P : ℕ → Type 0) (xs : List ℕ) (x : ℕ) → All P xs → 
 All-among P xs x all has = All-contains P xs x all (Contains-from_among xs x has)
 
 pub All-from_among : (P : ℕ → Type 0) (xs : List ℕ) → ((x : ℕ) → among xs x ≡ true → P x) → All P xs
-All-from_among P xs each k d short = each (get_or xs k d) (among-from_Contains xs (get_or xs k d) (Contains-get_or xs k d short))
+All-from_among P xs each k d short =
+    each (get_or xs k d) (among-from_Contains xs (get_or xs k d) (Contains-get_or xs k d short))
 
 pub among-at : (xs : List ℕ) (k d : ℕ) → k < length xs → among xs (get_or xs k d) ≡ true
 among-at xs k d short = among-from_Contains xs (get_or xs k d) (Contains-get_or xs k d short)
@@ -69,22 +72,27 @@ one_more-none low = record {
   same = λ place none. refl;
 }
 
-pub one_more-lower : (row low high : List ℕ) (place left : ℕ) → IsOneMore row low high → among row place ≡ false → place < length low → get_or low place 0 ≡ suc left → IsOneMore (row ++ place ∷ []) (set low place left) high
+pub one_more-lower : (row low high : List ℕ) (place left : ℕ) → IsOneMore row low high → among row place ≡ false
+    → place < length low → get_or low place 0 ≡ suc left → IsOneMore (row ++ place ∷ []) (set low place left) high
 one_more-lower row low high place left old fresh short is = record {
   long = length-set low place left ∙ old.long;
   more = λ p has. elim (cases_eq p place) [
     | inl same ↦ subst (λ (q : ℕ). get_or high q 0 ≡ suc (get_or (set low place left) q 0)) (sym same)
         (old.same place fresh ∙ is ∙ ap suc (sym (get_or-set_same low place left 0 short)))
-    | inr apart ↦ old.more p (sym (push-other row place p apart) ∙ has) ∙ ap suc (sym (get_or-set_other low place p left 0 apart))
+    | inr apart ↦ old.more p (sym (push-other row place p apart) ∙ has)
+        ∙ ap suc (sym (get_or-set_other low place p left 0 apart))
   ];
   same = λ p none. elim (cases_eq p place) [
-    | inl same ↦ let has : among (row ++ place ∷ []) place ≡ false = subst (λ (q : ℕ). among (row ++ place ∷ []) q ≡ false) same none in
+    | inl same ↦ let has : among (row ++ place ∷ []) place ≡ false =
+        subst (λ (q : ℕ). among (row ++ place ∷ []) q ≡ false) same none in
         absurd (cc (push-itself row place))
-    | inr apart ↦ old.same p (sym (push-other row place p apart) ∙ none) ∙ sym (get_or-set_other low place p left 0 apart)
+    | inr apart ↦ old.same p (sym (push-other row place p apart) ∙ none)
+        ∙ sym (get_or-set_other low place p left 0 apart)
   ];
 }
 
-pub one_more-raise : (row low high : List ℕ) (place : ℕ) → IsOneMore row low high → among row place ≡ false → place < length high → IsOneMore (row ++ place ∷ []) low (set high place (suc (get_or high place 0)))
+pub one_more-raise : (row low high : List ℕ) (place : ℕ) → IsOneMore row low high → among row place ≡ false
+    → place < length high → IsOneMore (row ++ place ∷ []) low (set high place (suc (get_or high place 0)))
 one_more-raise row low high place old fresh short =
     let new : List ℕ = set high place (suc (get_or high place 0)) in
     record {
@@ -92,26 +100,35 @@ one_more-raise row low high place old fresh short =
       more = λ p has. elim (cases_eq p place) [
         | inl same ↦ subst (λ (q : ℕ). get_or new q 0 ≡ suc (get_or low q 0)) (sym same)
             (get_or-set_same high place (suc (get_or high place 0)) 0 short ∙ ap suc (old.same place fresh))
-        | inr apart ↦ get_or-set_other high place p (suc (get_or high place 0)) 0 apart ∙ old.more p (sym (push-other row place p apart) ∙ has)
+        | inr apart ↦ get_or-set_other high place p (suc (get_or high place 0)) 0 apart
+            ∙ old.more p (sym (push-other row place p apart) ∙ has)
       ];
       same = λ p none. elim (cases_eq p place) [
-        | inl same ↦ let has : among (row ++ place ∷ []) place ≡ false = subst (λ (q : ℕ). among (row ++ place ∷ []) q ≡ false) same none in
+        | inl same ↦ let has : among (row ++ place ∷ []) place ≡ false =
+            subst (λ (q : ℕ). among (row ++ place ∷ []) q ≡ false) same none in
             absurd (cc (push-itself row place))
-        | inr apart ↦ get_or-set_other high place p (suc (get_or high place 0)) 0 apart ∙ old.same p (sym (push-other row place p apart) ∙ none)
+        | inr apart ↦ get_or-set_other high place p (suc (get_or high place 0)) 0 apart
+            ∙ old.same p (sym (push-other row place p apart) ∙ none)
       ];
     }
 
 -- the same along a row that is gone through from its first place on
-pub one_more-lower_at : (row low high : List ℕ) (i place left : ℕ) → IsRising row → i < length row → place ≡ get_or row i 0 → IsOneMore (take i row) low high → place < length low → get_or low place 0 ≡ suc left → IsOneMore (take (i + 1) row) (set low place left) high
+pub one_more-lower_at : (row low high : List ℕ) (i place left : ℕ) → IsRising row → i < length row
+    → place ≡ get_or row i 0 → IsOneMore (take i row) low high → place < length low → get_or low place 0 ≡ suc left
+    → IsOneMore (take (i + 1) row) (set low place left) high
 one_more-lower_at row low high i place left rising short at old there is =
     rw (take_more row i 0 short, ← at)
-    (one_more-lower (take i row) low high place left old (ap (among (take i row)) at ∙ fresh_at row i rising short) there is)
+    (one_more-lower (take i row) low high place left old (ap (among (take i row)) at ∙ fresh_at row i rising short)
+    there is)
 
-pub one_more-raise_at : (row low high : List ℕ) (i place : ℕ) → IsRising row → i < length row → place ≡ get_or row i 0 → IsOneMore (take i row) low high → place < length high → IsOneMore (take (i + 1) row) low (set high place (get_or high place 0 + 1))
+pub one_more-raise_at : (row low high : List ℕ) (i place : ℕ) → IsRising row → i < length row → place ≡ get_or row i 0
+    → IsOneMore (take i row) low high → place < length high
+    → IsOneMore (take (i + 1) row) low (set high place (get_or high place 0 + 1))
 one_more-raise_at row low high i place rising short at old there =
     rw (take_more row i 0 short, ← at, add-one)
     (one_more-raise (take i row) low high place old (ap (among (take i row)) at ∙ fresh_at row i rising short) there)
 
 -- a place that is gone through later is as it was
-pub one_more-later : (row low high : List ℕ) (i : ℕ) → IsRising row → i < length row → IsOneMore (take i row) low high → get_or high (get_or row i 0) 0 ≡ get_or low (get_or row i 0) 0
+pub one_more-later : (row low high : List ℕ) (i : ℕ) → IsRising row → i < length row → IsOneMore (take i row) low high
+    → get_or high (get_or row i 0) 0 ≡ get_or low (get_or row i 0) 0
 one_more-later row low high i rising short old = old.same (get_or row i 0) (fresh_at row i rising short)

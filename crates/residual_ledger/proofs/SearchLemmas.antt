@@ -1,5 +1,7 @@
 -- The first cut set that is tight: no block and no row that is passed over has an earlier one.
-use Rattle.std.proofs.Common.{◌≡◌, ℕ, suc, ◌+◌, ◌-◌, ◌<◌, ◌≤◌, Bool, true, false, ◌||◌, ◌==◌, nat_lt, nat_le, cond, List, [], ◌∷◌, ◌++◌, length, take, get_or, filter, All, Some, None, refl, sym, ◌∙◌, ap, subst, arith, inl, inr, eqb-true}
+use Rattle.std.proofs.Common.{◌≡◌, ℕ, suc, ◌+◌, ◌-◌, ◌<◌, ◌≤◌, Bool, true, false, ◌||◌, ◌==◌, nat_lt, nat_le, cond}
+use Rattle.std.proofs.Common.{List, [], ◌∷◌, ◌++◌, length, take, get_or, filter, All, Some, None, refl, sym, ◌∙◌, ap}
+use Rattle.std.proofs.Common.{subst, arith, inl, inr, eqb-true}
 use Rattle.std.specs.List.{list_any, position, position_or_len}
 use Rattle.std.specs.Ordering.{nat_cmp}
 use Rattle.std.specs.declared.cmp.Ordering.TheVariants.{Less}
@@ -30,15 +32,18 @@ leb-not a b h = not_tight-from a b (omega arith)
 -- ---- one cut set
 
 -- none of the asked units is out
-pub all_free : (asked out : List ℕ) → All (λ unit. among out unit ≡ false) asked → (unit : ℕ) → among asked unit ≡ true → among out unit ≡ false
+pub all_free : (asked out : List ℕ) → All (λ unit. among out unit ≡ false) asked → (unit : ℕ) → among asked unit ≡ true
+    → among out unit ≡ false
 all_free asked out free unit has =
     let found = Contains-from_among asked unit has in
     subst (λ (q : ℕ). among out q ≡ false) found.2 (free found.0 unit found.1)
 
 -- what is kept of a cut set
-pub left_is : (out : List ℕ) (cuts : List (List ℕ)) (counts : List ℕ) (place left : ℕ) → counts ≡ residuals out cuts → place < length cuts → left ≡ get_or counts place left → left ≡ residual out (cut_at cuts place)
+pub left_is : (out : List ℕ) (cuts : List (List ℕ)) (counts : List ℕ) (place left : ℕ) → counts ≡ residuals out cuts
+    → place < length cuts → left ≡ get_or counts place left → left ≡ residual out (cut_at cuts place)
 left_is out cuts counts place left counted short is =
-    get_or_read counts place left (omega (arith, as_many out cuts counts counted)) is 0 ∙ count_at out cuts counts place counted short
+    get_or_read counts place left (omega (arith, as_many out cuts counts counted)) is 0
+    ∙ count_at out cuts counts place counted short
 
 -- what a look at the members of a cut set tells, and what it need not tell
 pub record IsLookedAt (out asked cut : List ℕ) (left : ℕ) : Type 0 where
@@ -46,17 +51,23 @@ pub record IsLookedAt (out asked cut : List ℕ) (left : ℕ) : Type 0 where
   pub rising : IsRising cut
   pub free : All (λ unit. among out unit ≡ false) asked
 
-pub asked-le : (out asked cut : List ℕ) (left count : ℕ) → IsLookedAt out asked cut left → count ≡ length (filter (among asked) cut) → count ≤ left
-asked-le out asked cut left count look is = omega (arith, look.counted, is, residual-asked asked out (all_free asked out look.free) cut)
+pub asked-le : (out asked cut : List ℕ) (left count : ℕ) → IsLookedAt out asked cut left
+    → count ≡ length (filter (among asked) cut) → count ≤ left
+asked-le out asked cut left count look is =
+    omega (arith, look.counted, is, residual-asked asked out (all_free asked out look.free) cut)
 
-pub tight-counted : (out asked cut : List ℕ) (left count most : ℕ) → IsLookedAt out asked cut left → count ≡ length (filter (among asked) cut) → nat_le (left - count) most ≡ is_tight (asked ++ out) most cut
+pub tight-counted : (out asked cut : List ℕ) (left count most : ℕ) → IsLookedAt out asked cut left
+    → count ≡ length (filter (among asked) cut) → nat_le (left - count) most ≡ is_tight (asked ++ out) most cut
 tight-counted out asked cut left count most look is =
-    let new : left - count ≡ residual (asked ++ out) cut = omega (arith, look.counted, is, residual-asked asked out (all_free asked out look.free) cut) in
+    let new : left - count ≡ residual (asked ++ out) cut =
+    omega (arith, look.counted, is, residual-asked asked out (all_free asked out look.free) cut) in
     ap (λ n. nat_le n most) new
 
-pub not_tight-counted : (out asked cut : List ℕ) (left most : ℕ) → IsLookedAt out asked cut left → length asked < left - most → is_tight (asked ++ out) most cut ≡ false
+pub not_tight-counted : (out asked cut : List ℕ) (left most : ℕ) → IsLookedAt out asked cut left
+    → length asked < left - most → is_tight (asked ++ out) most cut ≡ false
 not_tight-counted out asked cut left most look much =
-    not_tight-from (residual (asked ++ out) cut) most (omega (arith, look.counted, residual-asked-le asked out cut look.rising))
+    not_tight-from (residual (asked ++ out) cut) most
+    (omega (arith, look.counted, residual-asked-le asked out cut look.rising))
 
 -- ---- along the row of a unit
 
@@ -67,11 +78,15 @@ pub record IsPassed (row : List ℕ) (cuts : List (List ℕ)) (test : List ℕ �
 less : (a b : ℕ) → nat_cmp a b ≡ Less → a < b
 less a b h = grind (arith, nat_tests)
 
--- a place before a bound stands in the part of the row that has been gone through, where the rest is not below the bound
-pub passed : (row : List ℕ) (cuts : List (List ℕ)) (unit i bound : ℕ) (test : List ℕ → Bool) → row ≡ holding cuts unit → ((k : ℕ) → k < i → test (cut_at cuts (get_or row k 0)) ≡ false) → bound ≤ length cuts → (i < length row → bound ≤ get_or row i 0)
+-- a place before a bound stands in the part of the row that has been gone through, where the rest is not below the
+-- bound
+pub passed : (row : List ℕ) (cuts : List (List ℕ)) (unit i bound : ℕ) (test : List ℕ → Bool) → row ≡ holding cuts unit
+    → ((k : ℕ) → k < i → test (cut_at cuts (get_or row k 0)) ≡ false) → bound ≤ length cuts
+    → (i < length row → bound ≤ get_or row i 0)
     → (place : ℕ) → place < bound → among (cut_at cuts place) unit ≡ true → test (cut_at cuts place) ≡ false
 passed row cuts unit i bound test is fails inside rest place before has =
-    let in_row : among row place ≡ true = ap (λ xs. among xs place) is ∙ place_held cuts unit place (omega arith) ∙ has in
+    let in_row : among row place ≡ true =
+    ap (λ xs. among xs place) is ∙ place_held cuts unit place (omega arith) ∙ has in
     let found = Contains-from_among row place in_row in
     let k : ℕ = found.0 in
     let at : get_or row k 0 ≡ place = get_or_default row k 0 place found.1 ∙ found.2 in
@@ -80,27 +95,39 @@ passed row cuts unit i bound test is fails inside rest place before has =
       | inr ahead ↦ absurd (too_late row i k bound place (row_rises cuts unit row is) found.1 ahead at rest before)
     ]
   where
-    too_late : (row : List ℕ) (i k bound place : ℕ) → IsRising row → k < length row → i ≤ k → get_or row k 0 ≡ place → (i < length row → bound ≤ get_or row i 0) → place < bound → ⊥
+    too_late : (row : List ℕ) (i k bound place : ℕ) → IsRising row → k < length row → i ≤ k → get_or row k 0 ≡ place
+        → (i < length row → bound ≤ get_or row i 0) → place < bound → ⊥
     too_late row i k bound place rising short ahead at rest before = elim (cases_eq i k) [
       | inl same ↦ omega (arith, at, rest (omega arith), ap (λ n. get_or row n 0) same)
-      | inr apart ↦ omega (arith, at, rest (omega arith), less (get_or row i 0) (get_or row k 0) (Less-from_sorted nat_cmp row i k 0 rising (omega arith) short))
+      | inr apart ↦ omega (
+        arith,
+        at,
+        rest (omega arith),
+        less (get_or row i 0) (get_or row k 0) (Less-from_sorted nat_cmp row i k 0 rising (omega arith) short),
+      )
     ]
 
-pub holding-stopped : (row : List ℕ) (cuts : List (List ℕ)) (unit i end : ℕ) (test : List ℕ → Bool) → row ≡ holding cuts unit → IsPassed row cuts test end i → end ≤ length cuts → (i < length row → end ≤ get_or row i 0) → IsFirstHolding unit test cuts end end
+pub holding-stopped : (row : List ℕ) (cuts : List (List ℕ)) (unit i end : ℕ) (test : List ℕ → Bool)
+    → row ≡ holding cuts unit → IsPassed row cuts test end i → end ≤ length cuts
+    → (i < length row → end ≤ get_or row i 0) → IsFirstHolding unit test cuts end end
 holding-stopped row cuts unit i end test is was inside rest = record {
   inside = omega arith;
   before = passed row cuts unit i end test is was.fails inside rest;
   here = λ h. absurd (omega arith);
 }
 
-pub holding-found : (row : List ℕ) (cuts : List (List ℕ)) (unit i end : ℕ) (test : List ℕ → Bool) → row ≡ holding cuts unit → IsPassed row cuts test end i → end ≤ length cuts → get_or row i 0 < end → test (cut_at cuts (get_or row i 0)) ≡ true → IsFirstHolding unit test cuts end (get_or row i 0)
+pub holding-found : (row : List ℕ) (cuts : List (List ℕ)) (unit i end : ℕ) (test : List ℕ → Bool)
+    → row ≡ holding cuts unit → IsPassed row cuts test end i → end ≤ length cuts → get_or row i 0 < end
+    → test (cut_at cuts (get_or row i 0)) ≡ true → IsFirstHolding unit test cuts end (get_or row i 0)
 holding-found row cuts unit i end test is was inside below passes = record {
   inside = omega arith;
   before = passed row cuts unit i (get_or row i 0) test is was.fails (omega arith) (λ _. omega arith);
   here = λ _. passes;
 }
 
-pub passed-more : (row : List ℕ) (cuts : List (List ℕ)) (test : List ℕ → Bool) (end i place : ℕ) → place ≡ get_or row i 0 → test (cut_at cuts place) ≡ false → IsPassed row cuts test end i → IsPassed row cuts test end (i + 1)
+pub passed-more : (row : List ℕ) (cuts : List (List ℕ)) (test : List ℕ → Bool) (end i place : ℕ)
+    → place ≡ get_or row i 0 → test (cut_at cuts place) ≡ false → IsPassed row cuts test end i
+    → IsPassed row cuts test end (i + 1)
 passed-more row cuts test end i place at fails was = record {
   fails = λ k h. elim (cases_eq k i) [
     | inl same ↦ ap (λ n. test (cut_at cuts (get_or row n 0))) same ∙ ap (λ p. test (cut_at cuts p)) (sym at) ∙ fails
@@ -114,31 +141,46 @@ passed-more row cuts test end i place at fails was = record {
 pub record IsNarrowed (cuts : List (List ℕ)) (out asked : List ℕ) (most count first : ℕ) : Type 0 where
   pub inside : first ≤ length cuts
   pub low : (place : ℕ) → place < first → suc most ≤ residual out (cut_at cuts place)
-  pub held : (place unit : ℕ) → place < first → among (take count asked) unit ≡ true → among (cut_at cuts place) unit ≡ true → is_tight (asked ++ out) most (cut_at cuts place) ≡ false
+  pub held : (place unit : ℕ) → place < first → among (take count asked) unit ≡ true
+      → among (cut_at cuts place) unit ≡ true → is_tight (asked ++ out) most (cut_at cuts place) ≡ false
   pub here : first < length cuts → is_tight (asked ++ out) most (cut_at cuts first) ≡ true
 
-pub narrowed-first : (cuts : List (List ℕ)) (out asked counts : List ℕ) (most first : ℕ) → counts ≡ residuals out cuts → All (λ unit. among out unit ≡ false) asked → IsFirstAtMost counts most first → IsNarrowed cuts out asked most 0 first
+pub narrowed-first : (cuts : List (List ℕ)) (out asked counts : List ℕ) (most first : ℕ) → counts ≡ residuals out cuts
+    → All (λ unit. among out unit ≡ false) asked → IsFirstAtMost counts most first
+    → IsNarrowed cuts out asked most 0 first
 narrowed-first cuts out asked counts most first counted free found =
     let many : length counts ≡ length cuts = as_many out cuts counts counted in
     record {
       inside = omega (arith, found.inside);
-      low = λ place h. let short : place < length cuts = omega (arith, found.inside) in omega (arith, found.before place (omega arith) h, count_at out cuts counts place counted short);
+      low =
+          λ place h. let short : place < length cuts = omega (arith, found.inside) in
+          omega (arith, found.before place (omega arith) h, count_at out cuts counts place counted short);
       held = λ place unit h has _. absurd cc;
       here = λ h.
           let cut : List ℕ = cut_at cuts first in
           tight-from (residual (asked ++ out) cut) most
-          (omega (arith, found.here (omega arith), count_at out cuts counts first counted h, residual-asked asked out (all_free asked out free) cut));
+          (omega (
+            arith,
+            found.here (omega arith),
+            count_at out cuts counts first counted h,
+            residual-asked asked out (all_free asked out free) cut,
+          ));
     }
 
-pub narrowed-more : (cuts : List (List ℕ)) (out asked : List ℕ) (most i unit first new : ℕ) → i < length asked → unit ≡ get_or asked i 0 → IsFirstHolding unit (is_tight (asked ++ out) most) cuts first new → IsNarrowed cuts out asked most i first → IsNarrowed cuts out asked most (i + 1) new
+pub narrowed-more : (cuts : List (List ℕ)) (out asked : List ℕ) (most i unit first new : ℕ) → i < length asked
+    → unit ≡ get_or asked i 0 → IsFirstHolding unit (is_tight (asked ++ out) most) cuts first new
+    → IsNarrowed cuts out asked most i first → IsNarrowed cuts out asked most (i + 1) new
 narrowed-more cuts out asked most i unit first new short at found was = record {
   inside = omega (arith, was.inside, found.inside);
   low = λ place h. was.low place (omega (arith, found.inside));
   held = λ place other h has in_cut.
       elim (or_cases (among (take i asked) other) (among (unit ∷ []) other)
-      (sym (among-append (take i asked) (unit ∷ []) other) ∙ ap (λ xs. among (take i asked ++ xs) other) (ap (λ (u : ℕ). u ∷ []) at) ∙ ap (λ xs. among xs other) (sym (take_more asked i 0 short)) ∙ has)) [
+      (sym (among-append (take i asked) (unit ∷ []) other)
+      ∙ ap (λ xs. among (take i asked ++ xs) other) (ap (λ (u : ℕ). u ∷ []) at)
+      ∙ ap (λ xs. among xs other) (sym (take_more asked i 0 short)) ∙ has)) [
         | inl earlier ↦ was.held place other (omega (arith, found.inside)) earlier in_cut
-        | inr this ↦ found.before place h (subst (λ (u : ℕ). among (cut_at cuts place) u ≡ true) (sym (eqb-true unit other (sym (or_nothing (unit == other)) ∙ this))) in_cut)
+        | inr this ↦ found.before place h (subst (λ (u : ℕ). among (cut_at cuts place) u ≡ true)
+            (sym (eqb-true unit other (sym (or_nothing (unit == other)) ∙ this))) in_cut)
       ];
   here = λ h. elim (cases_lt new first) [
     | inl earlier ↦ found.here earlier
@@ -153,7 +195,9 @@ narrowed-more cuts out asked most i unit first new short at found was = record {
     or_nothing false = refl
 
 -- every cut set before the first one keeps enough
-none_before : (cuts : List (List ℕ)) (out asked : List ℕ) (most count first place : ℕ) → length asked ≤ count → IsNarrowed cuts out asked most count first → place < first → is_tight (asked ++ out) most (cut_at cuts place) ≡ false
+none_before : (cuts : List (List ℕ)) (out asked : List ℕ) (most count first place : ℕ) → length asked ≤ count
+    → IsNarrowed cuts out asked most count first → place < first
+    → is_tight (asked ++ out) most (cut_at cuts place) ≡ false
 none_before cuts out asked most count first place full was before =
     let cut : List ℕ = cut_at cuts place in
     elim (cases_Bool (list_any (among cut) asked)) [
@@ -161,17 +205,26 @@ none_before cuts out asked most count first place full was before =
           let met = met_unit asked cut some in
           was.held place met.0 before (ap (λ xs. among xs met.0) (take_all count asked full) ∙ met.1) met.2
       | inr apart ↦
-          not_tight-from (residual (asked ++ out) cut) most (omega (arith, was.low place before, residual-asked-apart asked out cut apart))
+          not_tight-from (residual (asked ++ out) cut) most
+          (omega (arith, was.low place before, residual-asked-apart asked out cut apart))
     ]
 
-pub narrowed-found : (cuts : List (List ℕ)) (out asked : List ℕ) (most count first : ℕ) → length asked ≤ count → first < length cuts → IsNarrowed cuts out asked most count first → Some first ≡ position (is_tight (asked ++ out) most) cuts
+pub narrowed-found : (cuts : List (List ℕ)) (out asked : List ℕ) (most count first : ℕ) → length asked ≤ count
+    → first < length cuts → IsNarrowed cuts out asked most count first
+    → Some first ≡ position (is_tight (asked ++ out) most) cuts
 narrowed-found cuts out asked most count first full short was =
     let is : position_or_len (is_tight (asked ++ out) most) cuts ≡ first =
-    position_or_len_is (is_tight (asked ++ out) most) cuts first [] was.inside (λ k h. none_before cuts out asked most count first k full was h) was.here in
-    sym (ap (λ n. cond (nat_lt n (length cuts)) (Some n) None) is ∙ cond-true (nat_lt first (length cuts)) (Some first) None (lt-ltb first (length cuts) short))
+    position_or_len_is (is_tight (asked ++ out) most) cuts first [] was.inside
+    (λ k h. none_before cuts out asked most count first k full was h) was.here in
+    sym (ap (λ n. cond (nat_lt n (length cuts)) (Some n) None) is
+    ∙ cond-true (nat_lt first (length cuts)) (Some first) None (lt-ltb first (length cuts) short))
 
-pub narrowed-none : (cuts : List (List ℕ)) (out asked : List ℕ) (most count first : ℕ) → length asked ≤ count → length cuts ≤ first → IsNarrowed cuts out asked most count first → None ≡ position (is_tight (asked ++ out) most) cuts
+pub narrowed-none : (cuts : List (List ℕ)) (out asked : List ℕ) (most count first : ℕ) → length asked ≤ count
+    → length cuts ≤ first → IsNarrowed cuts out asked most count first
+    → None ≡ position (is_tight (asked ++ out) most) cuts
 narrowed-none cuts out asked most count first full past was =
     let is : position_or_len (is_tight (asked ++ out) most) cuts ≡ first =
-    position_or_len_is (is_tight (asked ++ out) most) cuts first [] was.inside (λ k h. none_before cuts out asked most count first k full was h) was.here in
-    sym (ap (λ n. cond (nat_lt n (length cuts)) (Some n) None) is ∙ cond-false (nat_lt first (length cuts)) (Some first) None (le-ltb first (length cuts) past))
+    position_or_len_is (is_tight (asked ++ out) most) cuts first [] was.inside
+    (λ k h. none_before cuts out asked most count first k full was h) was.here in
+    sym (ap (λ n. cond (nat_lt n (length cuts)) (Some n) None) is
+    ∙ cond-false (nat_lt first (length cuts)) (Some first) None (le-ltb first (length cuts) past))

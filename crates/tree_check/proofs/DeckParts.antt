@@ -38,15 +38,19 @@ module _ (statements : List Statement) (deck : Deck) (is : IsDeckOf (names state
   pub deck_within : AreWithin (deck.units + length deck.gates.items) deck.gates.items
   deck_within =
       subst (λ nodes. AreWithin nodes deck.gates.items) names_total
-      (subst (λ gs. AreWithin (length (names statements)) gs) (sym is.gates_all) (gates_low (names statements) (gates statements)))
+      (subst (λ gs. AreWithin (length (names statements)) gs) (sym is.gates_all)
+      (gates_low (names statements) (gates statements)))
 
   -- and so does the top event, where each name that is used is defined
-  pub deck_top : undefined (names statements) (uses statements) ≡ [] → first_number deck.tops.items ≤ deck.units + length deck.gates.items
+  pub deck_top : undefined (names statements) (uses statements) ≡ []
+      → first_number deck.tops.items ≤ deck.units + length deck.gates.items
   deck_top none =
       subst (λ nodes. first_number deck.tops.items ≤ nodes) names_total
-      (subst (λ ts. first_number ts ≤ length (names statements)) (sym is.tops_all) (low (tops statements) (tops_known statements none)))
+      (subst (λ ts. first_number ts ≤ length (names statements)) (sym is.tops_all)
+      (low (tops statements) (tops_known statements none)))
     where
-      low : (ts : List RawTop) → All (IsAmong (length (names statements))) (map (λ (top : RawTop). numbered (names statements) top.name) ts)
+      low : (ts : List RawTop) → All (IsAmong (length (names statements)))
+          (map (λ (top : RawTop). numbered (names statements) top.name) ts)
           → first_number (map (λ (top : RawTop). numbered (names statements) top.name) ts) ≤ length (names statements)
       low [] known = omega arith
       low (t ∷ ts) known = (known 0 (numbered (names statements) t.name) (omega arith)).1
@@ -55,12 +59,20 @@ module _ (statements : List Statement) (deck : Deck) (is : IsDeckOf (names state
   deck_some end some =
       subst (λ ts. 1 ≤ length ts) (sym is.tops_all) (by (tops statements) some)
     where
-      by : (ts : List RawTop) → (if is_empty ts then end ∷ [] else []) ≡ [] → 1 ≤ length (map (λ (top : RawTop). numbered (names statements) top.name) ts)
+      by : (ts : List RawTop) → (if is_empty ts then end ∷ [] else []) ≡ []
+          → 1 ≤ length (map (λ (top : RawTop). numbered (names statements) top.name) ts)
       by [] none = absurd cc
       by (t ∷ ts) none = omega arith
 
   pub deck_few_units : units_beyond (basics statements) ≡ [] → deck.units ≤ 4095
-  deck_few_units none = omega (arith, is.units, none_beyond (λ (basic : RawBasic). basic.name.place) 4095 (basics statements) none)
+  deck_few_units none =
+      omega (arith, is.units, none_beyond (λ (basic : RawBasic). basic.name.place) 4095 (basics statements) none)
 
   pub deck_few_gates : gates_beyond (numbered_gates statements) ≡ [] → length deck.gates.items ≤ 16383
-  deck_few_gates none = omega (arith, ap length is.gates_all, none_beyond (λ (gate : NumberedGate). gate.name) 16383 (numbered_gates statements) none)
+  deck_few_gates none =
+      omega (
+        arith,
+        ap length is.gates_all,
+        none_beyond (λ (gate : NumberedGate). gate.name) 16383
+            (numbered_gates statements) none,
+      )

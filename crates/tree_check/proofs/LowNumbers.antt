@@ -17,7 +17,10 @@ number_low names name = elim (cases_Bool (has_name names name)) [
   | inr none ↦ let is = number_none names name none in omega arith
 ]
 
-pub gates_low : (names : List (List ℕ)) (gates : List RawGate) → AreWithin (length names) (map (numbered_gate names) gates)
+pub gates_low : (names : List (List ℕ)) (gates : List RawGate)
+    → AreWithin (length names) (map (numbered_gate names) gates)
 gates_low names gates =
-    All-map (λ (gate : NumberedGate). All (λ input. input.number ≤ length names) gate.inputs) (numbered_gate names) gates
-    (λ k d short. All-map (λ (input : Numbered). input.number ≤ length names) (numbered names) (get_or gates k d).inputs (λ j e short'. number_low names (get_or (get_or gates k d).inputs j e).name))
+    All-map (λ (gate : NumberedGate). All (λ input. input.number ≤ length names) gate.inputs) (numbered_gate names)
+    gates
+    (λ k d short. All-map (λ (input : Numbered). input.number ≤ length names) (numbered names) (get_or gates k d).inputs
+    (λ j e short'. number_low names (get_or (get_or gates k d).inputs j e).name))

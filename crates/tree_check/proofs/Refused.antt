@@ -13,16 +13,21 @@ pub no_places : (places : List Place) → first places ≡ None → places ≡ [
 no_places [] none = refl
 no_places (place ∷ places) none = absurd cc
 
-pub found_as : (code : CheckCode) (places : List Place) (found : Option Place) (fault : CheckFault) → found ≡ first places → IsRefusedBy code found fault → IsFoundAs code places fault
+pub found_as : (code : CheckCode) (places : List Place) (found : Option Place) (fault : CheckFault)
+    → found ≡ first places → IsRefusedBy code found fault → IsFoundAs code places fault
 found_as code places found (Fault refused place) is h = (h.0, sym is ∙ h.1)
 found_as code places found NoMemory is h = tt
 
-pub two_none : (a b : List Place) (found found' : Option Place) (r : Result (Unit {0}) CheckFault) → found ≡ first a → found ≡ None → found' ≡ first b → OnOk r (found' ≡ None)
+pub two_none : (a b : List Place) (found found' : Option Place) (r : Result (Unit {0}) CheckFault) → found ≡ first a
+    → found ≡ None → found' ≡ first b → OnOk r (found' ≡ None)
     → OnOk r ((a ≡ []) × ((b ≡ []) × Unit {0}))
 two_none a b found found' (Ok u) is none is' h = (no_places a (sym is ∙ none), (no_places b (sym is' ∙ h), tt))
 two_none a b found found' (Err e) is none is' h = tt
 
-pub two_fault : (code code' : CheckCode) (a b : List Place) (found found' : Option Place) (r : Result (Unit {0}) CheckFault) → found ≡ first a → found ≡ None → found' ≡ first b → IfErr r (IsRefusedBy code' found')
+pub two_fault : (code code' : CheckCode) (a b : List Place) (found found' : Option Place)
+    (r : Result (Unit {0}) CheckFault) → found ≡ first a → found ≡ None → found' ≡ first b
+    → IfErr r (IsRefusedBy code' found')
     → IfErr r (FirstIn ((code, a) ∷ (code', b) ∷ []))
 two_fault code code' a b found found' (Ok u) is none is' h = tt
-two_fault code code' a b found found' (Err e) is none is' h = inr (no_places a (sym is ∙ none), inl (found_as code' b found' e is' h))
+two_fault code code' a b found found' (Err e) is none is' h =
+    inr (no_places a (sym is ∙ none), inl (found_as code' b found' e is' h))

@@ -1,5 +1,6 @@
 -- Statements that keep their form stand for a tree, or one of the classes of faults occurs first.
-use Rattle.std.proofs.Common.{◌≡◌, ℕ, ◌+◌, ◌-◌, ◌<◌, ◌≤◌, ◌⊎◌, Bool, true, false, List, [], ◌∷◌, ◌++◌, map, drop, refl, sym, ap, ◌∙◌, inl, inr, arith}
+use Rattle.std.proofs.Common.{◌≡◌, ℕ, ◌+◌, ◌-◌, ◌<◌, ◌≤◌, ◌⊎◌, Bool, true, false, List, [], ◌∷◌, ◌++◌, map, drop, refl}
+use Rattle.std.proofs.Common.{sym, ap, ◌∙◌, inl, inr, arith}
 use Rattle.std.specs.Prelude.{◌==◌, All, Option, Some, None, filter_map}
 use Rattle.std.specs.List.{cons_option, range_with_len}
 use Rattle.std.proofs.lemmas.Bool.{cases_lt, cond-false, or_from}
@@ -16,7 +17,10 @@ use Rattle.fault_model.specs.WellFormed.{IsTree}
 use Rattle.graph_cycles.specs.Surveys.{survey_exists}
 use Rattle.galileo_tree.specs.ReadTree.{ReadTree, KeepsForm}
 use Rattle.tree_check.specs.declared.fault.CheckCode.{CheckCode}
-use Rattle.tree_check.specs.declared.fault.CheckCode.TheVariants.{NoToplevel, TwoToplevels, DuplicateName, Undefined, Votes as WrongVotes, DummyInput, NoInputs, FdepShape, DependentGate, SpareNotBasic, SharedSpare, Replicated, TopIsFdep, Cycle, TooManyUnits, TooManyGates}
+use Rattle.tree_check.specs.declared.fault.CheckCode.TheVariants.{NoToplevel, TwoToplevels, DuplicateName, Undefined}
+use Rattle.tree_check.specs.declared.fault.CheckCode.TheVariants.{Votes as WrongVotes, DummyInput, NoInputs, FdepShape}
+use Rattle.tree_check.specs.declared.fault.CheckCode.TheVariants.{DependentGate, SpareNotBasic, SharedSpare, Replicated}
+use Rattle.tree_check.specs.declared.fault.CheckCode.TheVariants.{TopIsFdep, Cycle, TooManyUnits, TooManyGates}
 use Rattle.tree_check.specs.declared.numbered.Numbered.{Numbered}
 use Rattle.tree_check.specs.declared.numbered.NumberedGate.{NumberedGate}
 use Rattle.tree_check.specs.Checked.{IsFirstFault, NoneOf, Stands, before_cycles, places}
@@ -35,14 +39,17 @@ use Rattle.tree_check.proofs.Surveyed.{IsGraph-of, Surveyed, are_ranks, cycle_fo
 
 -- ---- the graph of what each node reads
 
-none_among : (units unit : ℕ) (inputs : List Numbered) → All (λ input. input.number ≤ units) inputs → units < unit → among (numbers inputs) unit ≡ false
+none_among : (units unit : ℕ) (inputs : List Numbered) → All (λ input. input.number ≤ units) inputs → units < unit
+    → among (numbers inputs) unit ≡ false
 none_among units unit [] low above = refl
 none_among units unit (input ∷ inputs) low above =
     let here : input.number ≤ units = All-head (λ (i : Numbered). i.number ≤ units) input inputs low in
     let differs : (input.number == unit) ≡ false = grind arith in
-    or_from (input.number == unit) (among (numbers inputs) unit) differs (none_among units unit inputs (All-tail (λ (i : Numbered). i.number ≤ units) input inputs low) above)
+    or_from (input.number == unit) (among (numbers inputs) unit) differs
+    (none_among units unit inputs (All-tail (λ (i : Numbered). i.number ≤ units) input inputs low) above)
 
-none_triggers : (units unit : ℕ) (kind : GateKind) (inputs : List Numbered) → All (λ input. input.number ≤ units) (dependents_by (is_fdep_kind kind) inputs) → units < unit
+none_triggers : (units unit : ℕ) (kind : GateKind) (inputs : List Numbered)
+    → All (λ input. input.number ≤ units) (dependents_by (is_fdep_kind kind) inputs) → units < unit
     → trigger_by unit (kind, numbers inputs) ≡ None
 none_triggers units unit Fdep [] low above = refl
 none_triggers units unit Fdep (trigger ∷ dependents) low above =
@@ -57,12 +64,16 @@ none_triggers units unit Csp inputs low above = refl
 none_triggers units unit Wsp inputs low above = refl
 none_triggers units unit Hsp inputs low above = refl
 
-untriggered : (units unit : ℕ) (gates : List NumberedGate) → HasUnitDependents units gates → units < unit → filter_map (trigger_by unit) (map written_gate gates) ≡ []
+untriggered : (units unit : ℕ) (gates : List NumberedGate) → HasUnitDependents units gates → units < unit
+    → filter_map (trigger_by unit) (map written_gate gates) ≡ []
 untriggered units unit [] low above = refl
 untriggered units unit (gate ∷ gates) low above =
     ap (λ t. cons_option t (filter_map (trigger_by unit) (map written_gate gates)))
-    (none_triggers units unit gate.kind gate.inputs (All-head (λ (g : NumberedGate). All (λ (d : Numbered). d.number ≤ units) (dependents_by (is_fdep_kind g.kind) g.inputs)) gate gates low) above)
-    ∙ untriggered units unit gates (All-tail (λ (g : NumberedGate). All (λ (d : Numbered). d.number ≤ units) (dependents_by (is_fdep_kind g.kind) g.inputs)) gate gates low) above
+    (none_triggers units unit gate.kind gate.inputs
+    (All-head (λ (g : NumberedGate). All (λ (d : Numbered). d.number ≤ units)
+    (dependents_by (is_fdep_kind g.kind) g.inputs)) gate gates low) above)
+    ∙ untriggered units unit gates (All-tail (λ (g : NumberedGate). All (λ (d : Numbered). d.number ≤ units)
+    (dependents_by (is_fdep_kind g.kind) g.inputs)) gate gates low) above
 
 module _ (units : ℕ) (gates : List NumberedGate) (low : HasUnitDependents units gates) where
   abbrev triggers_at : ℕ → List ℕ
@@ -120,20 +131,135 @@ module _ (read : ReadTree) where
                 | inl none4 ↦ elim (some_or_none (places read DummyInput)) [
                   | inr (place, is) ↦ inr (DummyInput, place, ((none0, (none1, (none2, (none3, (none4, tt))))), is))
                   | inl none5 ↦ elim (some_or_none (places read NoInputs)) [
-                    | inr (place, is) ↦ inr (NoInputs, place, ((none0, (none1, (none2, (none3, (none4, (none5, tt)))))), is))
+                    | inr (place, is) ↦ inr (
+                      NoInputs,
+                      place,
+                      (
+                        (none0, (none1, (none2, (none3, (none4, (none5, tt)))))),
+                        is,
+                      ),
+                    )
                     | inl none6 ↦ elim (some_or_none (places read FdepShape)) [
-                      | inr (place, is) ↦ inr (FdepShape, place, ((none0, (none1, (none2, (none3, (none4, (none5, (none6, tt))))))), is))
+                      | inr (place, is) ↦ inr (
+                        FdepShape,
+                        place,
+                        (
+                          (
+                            none0,
+                            (none1, (none2, (none3, (none4, (none5, (none6, tt)))))),
+                          ),
+                          is,
+                        ),
+                      )
                       | inl none7 ↦ elim (some_or_none (places read DependentGate)) [
-                        | inr (place, is) ↦ inr (DependentGate, place, ((none0, (none1, (none2, (none3, (none4, (none5, (none6, (none7, tt)))))))), is))
+                        | inr (place, is) ↦ inr (
+                          DependentGate,
+                          place,
+                          ((none0, (none1, (none2, (none3, (none4, (none5, (none6, (none7, tt)))))))), is),
+                        )
                         | inl none8 ↦ elim (some_or_none (places read SpareNotBasic)) [
-                          | inr (place, is) ↦ inr (SpareNotBasic, place, ((none0, (none1, (none2, (none3, (none4, (none5, (none6, (none7, (none8, tt))))))))), is))
+                          | inr (place, is) ↦ inr (
+                            SpareNotBasic,
+                            place,
+                            ((none0, (none1, (none2, (none3, (none4, (none5, (none6, (none7, (none8, tt))))))))), is),
+                          )
                           | inl none9 ↦ elim (some_or_none (places read SharedSpare)) [
-                            | inr (place, is) ↦ inr (SharedSpare, place, ((none0, (none1, (none2, (none3, (none4, (none5, (none6, (none7, (none8, (none9, tt)))))))))), is))
+                            | inr (place, is) ↦ inr (
+                              SharedSpare,
+                              place,
+                              (
+                                (
+                                  none0,
+                                  (
+                                    none1,
+                                    (
+                                      none2,
+                                      (
+                                        none3,
+                                        (
+                                          none4,
+                                          (none5, (none6, (none7, (none8, (none9, tt))))),
+                                        ),
+                                      ),
+                                    ),
+                                  ),
+                                ),
+                                is,
+                              ),
+                            )
                             | inl none10 ↦ elim (some_or_none (places read Replicated)) [
-                              | inr (place, is) ↦ inr (Replicated, place, ((none0, (none1, (none2, (none3, (none4, (none5, (none6, (none7, (none8, (none9, (none10, tt))))))))))), is))
+                              | inr (place, is) ↦ inr (
+                                Replicated,
+                                place,
+                                (
+                                  (
+                                    none0,
+                                    (
+                                      none1,
+                                      (
+                                        none2,
+                                        (
+                                          none3,
+                                          (
+                                            none4,
+                                            (none5, (none6, (none7, (none8, (none9, (none10, tt)))))),
+                                          ),
+                                        ),
+                                      ),
+                                    ),
+                                  ),
+                                  is,
+                                ),
+                              )
                               | inl none11 ↦ elim (some_or_none (places read TopIsFdep)) [
-                                | inr (place, is) ↦ inr (TopIsFdep, place, ((none0, (none1, (none2, (none3, (none4, (none5, (none6, (none7, (none8, (none9, (none10, (none11, tt)))))))))))), is))
-                                | inl none12 ↦ inl (none0, (none1, (none2, (none3, (none4, (none5, (none6, (none7, (none8, (none9, (none10, (none11, (none12, tt)))))))))))))
+                                | inr (place, is) ↦ inr (
+                                  TopIsFdep,
+                                  place,
+                                  (
+                                    (
+                                      none0,
+                                      (
+                                        none1,
+                                        (
+                                          none2,
+                                          (
+                                            none3,
+                                            (
+                                              none4,
+                                              (none5, (none6, (none7, (none8, (none9, (none10, (none11, tt))))))),
+                                            ),
+                                          ),
+                                        ),
+                                      ),
+                                    ),
+                                    is,
+                                  ),
+                                )
+                                | inl none12 ↦ inl (
+                                  none0,
+                                  (
+                                    none1,
+                                    (
+                                      none2,
+                                      (
+                                        none3,
+                                        (
+                                          none4,
+                                          (
+                                            none5,
+                                            (
+                                              none6,
+                                              (
+                                                none7,
+                                                (none8, (none9, (none10, (none11, (none12, tt))))),
+                                              ),
+                                            ),
+                                          ),
+                                        ),
+                                      ),
+                                    ),
+                                  ),
+                                )
                               ]
                             ]
                           ]
@@ -166,14 +292,23 @@ module _ (read : ReadTree) where
         let (marks, ranks, survey) = survey_exists read_graph (IsGraph-of read.statements read_graph is known) in (
           marks,
           ranks,
-          record { graph_is = is; each = known; once = once; exact = survey.exact; ranked = survey.ranked; ranks_all = survey.all },
+          record {
+            graph_is = is;
+            each = known;
+            once = once;
+            exact = survey.exact;
+            ranked = survey.ranked;
+            ranks_all =
+                survey.all;
+          },
         )
 
     some_place : (found : Option Place) → (found ≡ None) ⊎ ((place : Place) × (found ≡ Some place))
     some_place None = inl refl
     some_place (Some place) = inr (place, refl)
 
-    cycles : (HasNoCycle read.statements × (ranks : List ℕ) × AreRanks read.statements ranks) ⊎ ((place : Place) × FirstOnCycle read.statements place)
+    cycles : (HasNoCycle read.statements × (ranks : List ℕ) × AreRanks read.statements ranks)
+        ⊎ ((place : Place) × FirstOnCycle read.statements place)
     cycles =
         let (marks, ranks, survey) = surveyed in
         elim (some_place (first (marked_places marks (names read.statements) (definitions read.statements)))) [
@@ -185,7 +320,8 @@ module _ (read : ReadTree) where
           | inr (place, found) ↦ inr (place, cycle_found read.statements read_graph marks ranks survey place found)
         ]
 
-  tree_of_ranks : All KeepsForm read.statements → (none : NoneOf read before_cycles) → HasNoCycle read.statements → (ranks : List ℕ) → AreRanks read.statements ranks
+  tree_of_ranks : All KeepsForm read.statements → (none : NoneOf read before_cycles) → HasNoCycle read.statements
+      → (ranks : List ℕ) → AreRanks read.statements ranks
       → HasTree read ⊎ HasFault read
   tree_of_ranks form none acyclic ranks are =
       elim (some_or_none (places read TooManyUnits)) [
@@ -194,7 +330,11 @@ module _ (read : ReadTree) where
           | inr (place, is) ↦ inr (TooManyGates, place, (none, acyclic, ((few_units, tt), is)))
           | inl few_gates ↦ inl (
             tree_of read.statements ranks,
-            record { faultless = record { before = none; acyclic = acyclic; after = (few_units, (few_gates, tt)) }; is = refl },
+            record {
+              faultless = record { before = none; acyclic = acyclic; after = (few_units, (few_gates, tt)) };
+              is =
+                  refl;
+            },
             IsTree-faultless read ranks form (once none) none (few_units, (few_gates, tt)) are.all are.ranked,
           )
         ]

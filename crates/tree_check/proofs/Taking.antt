@@ -16,11 +16,13 @@ pub record IsTaking (all rest : List Statement) (taken : Taken) : Type 0 where
 
 -- ---- inputs
 
-no_filter : (is_fdep : ℕ → Bool) (inputs : List Numbered) → filter (λ input. not (false && is_fdep input.number)) inputs ≡ inputs
+no_filter : (is_fdep : ℕ → Bool) (inputs : List Numbered)
+    → filter (λ input. not (false && is_fdep input.number)) inputs ≡ inputs
 no_filter is_fdep [] = refl
 no_filter is_fdep (input ∷ inputs) = ap (λ rest. input ∷ rest) (no_filter is_fdep inputs)
 
 -- the inputs that are left, by one test of each
-pub kept_as : (drops : Bool) (is_fdep : ℕ → Bool) (inputs : List Numbered) → filter (λ input. not (drops && is_fdep input.number)) inputs ≡ kept_by drops is_fdep inputs
+pub kept_as : (drops : Bool) (is_fdep : ℕ → Bool) (inputs : List Numbered)
+    → filter (λ input. not (drops && is_fdep input.number)) inputs ≡ kept_by drops is_fdep inputs
 kept_as true is_fdep inputs = refl
 kept_as false is_fdep inputs = no_filter is_fdep inputs

@@ -1,5 +1,6 @@
 -- What triggers a unit among more and more gates.
-use Rattle.std.proofs.Common.{◌≡◌, ℕ, ◌+◌, ◌<◌, List, [], ◌∷◌, ◌++◌, length, map, take, get_or, refl, sym, ap, ◌∙◌, subst}
+use Rattle.std.proofs.Common.{◌≡◌, ℕ, ◌+◌, ◌<◌, List, [], ◌∷◌, ◌++◌, length, map, take, get_or, refl, sym, ap, ◌∙◌}
+use Rattle.std.proofs.Common.{subst}
 use Rattle.std.specs.Prelude.{◌||◌, ◌==◌, Option, Some, None, filter_map, option_to_list}
 use Rattle.std.specs.List.{cons_option}
 use Rattle.std.proofs.lemmas.List.{map_more}
@@ -15,16 +16,20 @@ one_option : {X : Type 0} (o : Option X) → cons_option o [] ≡ option_to_list
 one_option None = refl
 one_option (Some x) = refl
 
-pub HasTriggers-more : (units : ℕ) (gates : List (GateKind × List ℕ)) (gate : GateKind × List ℕ) (old new : List (List ℕ))
+pub HasTriggers-more : (units : ℕ) (gates : List (GateKind × List ℕ)) (gate : GateKind × List ℕ)
+    (old new : List (List ℕ))
     → HasTriggers units gates old → AddsTriggers gate old new → HasTriggers units (gates ++ gate ∷ []) new
 HasTriggers-more units gates gate old new h a = record {
   all = a.all ∙ h.all;
   triggers = λ unit other.
-      let apart : filter_map (trigger_by unit) (gates ++ gate ∷ []) ≡ filter_map (trigger_by unit) gates ++ option_to_list (trigger_by unit gate) =
-      filter_map-append (trigger_by unit) gates (gate ∷ []) ∙ ap (λ t. filter_map (trigger_by unit) gates ++ t) (one_option (trigger_by unit gate)) in
+      let apart : filter_map (trigger_by unit) (gates ++ gate ∷ [])
+      ≡ filter_map (trigger_by unit) gates ++ option_to_list (trigger_by unit gate) =
+      filter_map-append (trigger_by unit) gates (gate ∷ [])
+      ∙ ap (λ t. filter_map (trigger_by unit) gates ++ t) (one_option (trigger_by unit gate)) in
       a.triggers unit other
       ∙ (ap (λ b. b || among (option_to_list (trigger_by unit gate)) other) (h.triggers unit other)
-      ∙ (sym (list_any-append (λ v. v == other) (filter_map (trigger_by unit) gates) (option_to_list (trigger_by unit gate)))
+      ∙ (sym (list_any-append (λ v. v == other) (filter_map (trigger_by unit) gates)
+      (option_to_list (trigger_by unit gate)))
       ∙ ap (λ ts. among ts other) (sym apart)));
 }
 
@@ -34,5 +39,6 @@ pub HasTriggers-next : (units : ℕ) (gates : List NumberedGate) (i : ℕ) (gate
     → HasTriggers units (map written_gate (take (i + 1) gates)) new
 HasTriggers-next units gates i gate old new l is h a =
     subst (λ gs. HasTriggers units gs new)
-    (sym (map_more written_gate gates i gate l ∙ ap (λ (g : NumberedGate). map written_gate (take i gates) ++ written_gate g ∷ []) (sym is)))
+    (sym (map_more written_gate gates i gate l ∙ ap
+    (λ (g : NumberedGate). map written_gate (take i gates) ++ written_gate g ∷ []) (sym is)))
     (HasTriggers-more units (map written_gate (take i gates)) (written_gate gate) old new h a)

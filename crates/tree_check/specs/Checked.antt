@@ -1,5 +1,5 @@
--- Whether statements stand for a tree, or which fault is the first. The classes are tried in one order, and of the first
--- class that occurs the first place in the text is answered.
+-- Whether statements stand for a tree, or which fault is the first. The classes are tried in one order, and of the
+-- first class that occurs the first place in the text is answered.
 use Rattle.std.specs.Prelude.{◌≡◌, ◌⊎◌, List, [], ◌∷◌, take, Option, Some}
 use Rattle.fault_model.specs.Tree.{FaultTree}
 use Rattle.tree_check.specs.Found.{IsFoundAs}
@@ -10,7 +10,10 @@ use Rattle.tree_check.specs.Numbered.{numbered_gates, numbered_tops, unit_total}
 use Rattle.tree_check.specs.Classes as classes
 use Rattle.tree_check.specs.TreeOf.{FirstOnCycle, HasNoCycle, tree_of}
 use Rattle.tree_check.specs.declared.fault.CheckCode.{CheckCode}
-use Rattle.tree_check.specs.declared.fault.CheckCode.TheVariants.{NoToplevel, TwoToplevels, DuplicateName, Undefined, Votes, DummyInput, NoInputs, FdepShape, DependentGate, SpareNotBasic, SharedSpare, Replicated, TopIsFdep, Cycle, TooManyUnits, TooManyGates}
+use Rattle.tree_check.specs.declared.fault.CheckCode.TheVariants.{NoToplevel, TwoToplevels, DuplicateName, Undefined}
+use Rattle.tree_check.specs.declared.fault.CheckCode.TheVariants.{Votes, DummyInput, NoInputs, FdepShape, DependentGate}
+use Rattle.tree_check.specs.declared.fault.CheckCode.TheVariants.{SpareNotBasic, SharedSpare, Replicated, TopIsFdep}
+use Rattle.tree_check.specs.declared.fault.CheckCode.TheVariants.{Cycle, TooManyUnits, TooManyGates}
 use Rattle.tree_check.specs.declared.fault.CheckFault.{CheckFault}
 use Rattle.tree_check.specs.declared.fault.CheckFault.TheVariants.{Fault, NoMemory}
 
@@ -28,7 +31,8 @@ places read DependentGate = classes.dependent_gates (unit_total read.statements)
 places read SpareNotBasic = classes.spare_gates (unit_total read.statements) (numbered_gates read.statements)
 places read SharedSpare = classes.shared_spares (numbered_gates read.statements)
 places read Replicated = classes.replicated (basics read.statements)
-places read TopIsFdep = classes.fdep_tops (unit_total read.statements) (numbered_gates read.statements) (numbered_tops read.statements)
+places read TopIsFdep =
+    classes.fdep_tops (unit_total read.statements) (numbered_gates read.statements) (numbered_tops read.statements)
 places read Cycle = []
 places read TooManyUnits = classes.units_beyond (basics read.statements)
 places read TooManyGates = classes.gates_beyond (numbered_gates read.statements)
@@ -41,7 +45,8 @@ NoneOf read (code ∷ codes) = (places read code ≡ []) × NoneOf read codes
 -- the classes that come before the cycles and after them
 abbrev pub before_cycles : List CheckCode
 before_cycles =
-    NoToplevel ∷ TwoToplevels ∷ DuplicateName ∷ Undefined ∷ Votes ∷ DummyInput ∷ NoInputs ∷ FdepShape ∷ DependentGate ∷ SpareNotBasic ∷ SharedSpare ∷ Replicated ∷ TopIsFdep ∷ []
+    NoToplevel ∷ TwoToplevels ∷ DuplicateName ∷ Undefined ∷ Votes ∷ DummyInput ∷ NoInputs ∷ FdepShape ∷ DependentGate
+    ∷ SpareNotBasic ∷ SharedSpare ∷ Replicated ∷ TopIsFdep ∷ []
 
 abbrev pub after_cycles : List CheckCode
 after_cycles = TooManyUnits ∷ TooManyGates ∷ []
@@ -57,7 +62,8 @@ abbrev pub FirstOf : ReadTree → List CheckCode → CheckCode → Place → Typ
 FirstOf read earlier code place = NoneOf read earlier × (classes.first (places read code) ≡ Some place)
 
 abbrev pub FirstAfter : ReadTree → List CheckCode → CheckCode → Place → Type 0
-FirstAfter read earlier code place = NoneOf read before_cycles × HasNoCycle read.statements × FirstOf read earlier code place
+FirstAfter read earlier code place =
+    NoneOf read before_cycles × HasNoCycle read.statements × FirstOf read earlier code place
 
 abbrev pub IsFirstFault : ReadTree → CheckCode → Place → Type 0
 IsFirstFault read NoToplevel place = FirstOf read (take 0 before_cycles) NoToplevel place

@@ -1,5 +1,6 @@
 -- The classes of faults of a text whose statements are read. Each is the list of its places in the order of the text.
-use Rattle.std.specs.Prelude.{ℕ, Bool, true, false, nat_lt, ◌==◌, ◌&&◌, ◌||◌, not, List, [], ◌∷◌, ◌++◌, length, drop, map, filter, Option, Some, None, if◌then◌else◌, codes}
+use Rattle.std.specs.Prelude.{ℕ, Bool, true, false, nat_lt, ◌==◌, ◌&&◌, ◌||◌, not, List, [], ◌∷◌, ◌++◌, length, drop}
+use Rattle.std.specs.Prelude.{map, filter, Option, Some, None, if◌then◌else◌, codes}
 use Rattle.std.specs.List.{flat_map, list_any}
 use Rattle.std.specs.Str.{str_eq_ignore_ascii_case}
 use Rattle.fault_model.specs.declared.node.Place.{Place}
@@ -38,7 +39,8 @@ further_tops statements = map (λ top. top.word) (drop 1 (tops statements))
 abbrev pub repeats_after : List (List ℕ) → List Placed → List Place
 repeats_after earlier [] = []
 repeats_after earlier (definition ∷ definitions) =
-    (if has_name earlier definition.name then definition.place ∷ [] else []) ++ repeats_after (earlier ++ definition.name ∷ []) definitions
+    (if has_name earlier definition.name then definition.place ∷ [] else [])
+    ++ repeats_after (earlier ++ definition.name ∷ []) definitions
 
 abbrev pub repeats : List Statement → List Place
 repeats statements = repeats_after [] (definitions statements)
@@ -108,7 +110,8 @@ short_fdeps gates = map (λ gate. gate.word) (filter is_short_fdep gates)
 
 -- an input after the first that is a gate, of the gates of some kinds
 abbrev pub gates_after_first : (GateKind → Bool) → ℕ → NumberedGate → List Place
-gates_after_first is_kind units gate = if is_kind gate.kind then places_where (is_gate units) (drop 1 gate.inputs) else []
+gates_after_first is_kind units gate =
+    if is_kind gate.kind then places_where (is_gate units) (drop 1 gate.inputs) else []
 
 abbrev pub dependent_gates : ℕ → List NumberedGate → List Place
 dependent_gates units gates = flat_map (gates_after_first is_fdep_kind units) gates
@@ -143,7 +146,8 @@ clash earlier later = earlier.input.number == later.input.number && not (earlier
 abbrev pub shared_after : List SpareUse → List SpareUse → List Place
 shared_after earlier [] = []
 shared_after earlier (later ∷ uses) =
-    (if list_any (λ e. clash e later) earlier then later.input.place ∷ [] else []) ++ shared_after (later ∷ earlier) uses
+    (if list_any (λ e. clash e later) earlier then later.input.place ∷ [] else [])
+    ++ shared_after (later ∷ earlier) uses
 
 abbrev pub shared_spares : List NumberedGate → List Place
 shared_spares gates = shared_after [] (spare_uses gates)

@@ -3,25 +3,32 @@ use Rattle.std.specs.Prelude.{ℕ, List, [], ◌∷◌}
 use Rattle.fault_model.specs.declared.node.Place.{Place}
 use Rattle.galileo_tree.specs.declared.raw.Statement.{Statement}
 use Rattle.tree_check.specs.Said.{basics}
-use Rattle.tree_check.specs.Classes.{missing_tops, further_tops, wrong_votes, dummies, inputless, short_fdeps, dependent_gates, spare_gates, shared_spares, replicated, fdep_tops, units_beyond, gates_beyond}
+use Rattle.tree_check.specs.Classes.{missing_tops, further_tops, wrong_votes, dummies, inputless, short_fdeps}
+use Rattle.tree_check.specs.Classes.{dependent_gates, spare_gates, shared_spares, replicated, fdep_tops, units_beyond}
+use Rattle.tree_check.specs.Classes.{gates_beyond}
 use Rattle.tree_check.specs.declared.numbered.Numbered.{Numbered}
 use Rattle.tree_check.specs.declared.numbered.NumberedGate.{NumberedGate}
 use Rattle.tree_check.specs.declared.fault.CheckCode.{CheckCode}
-use Rattle.tree_check.specs.declared.fault.CheckCode.TheVariants.{NoToplevel, TwoToplevels, Votes, DummyInput, NoInputs, FdepShape, DependentGate, SpareNotBasic, SharedSpare, Replicated, TopIsFdep, TooManyUnits, TooManyGates}
+use Rattle.tree_check.specs.declared.fault.CheckCode.TheVariants.{NoToplevel, TwoToplevels, Votes, DummyInput, NoInputs}
+use Rattle.tree_check.specs.declared.fault.CheckCode.TheVariants.{FdepShape, DependentGate, SpareNotBasic, SharedSpare}
+use Rattle.tree_check.specs.declared.fault.CheckCode.TheVariants.{Replicated, TopIsFdep, TooManyUnits, TooManyGates}
 
 abbrev pub top_classes : List Statement → Place → List (CheckCode × List Place)
 top_classes text end = (NoToplevel, missing_tops text end) ∷ (TwoToplevels, further_tops text) ∷ []
 
 abbrev pub kind_classes : ℕ → List NumberedGate → List (CheckCode × List Place)
 kind_classes units gates =
-    (Votes, wrong_votes gates) ∷ (DummyInput, dummies units gates) ∷ (NoInputs, inputless units gates) ∷ (FdepShape, short_fdeps gates) ∷ []
+    (Votes, wrong_votes gates) ∷ (DummyInput, dummies units gates) ∷ (NoInputs, inputless units gates)
+    ∷ (FdepShape, short_fdeps gates) ∷ []
 
 abbrev pub later_classes : ℕ → List NumberedGate → List (CheckCode × List Place)
 later_classes units gates =
-    (DependentGate, dependent_gates units gates) ∷ (SpareNotBasic, spare_gates units gates) ∷ (SharedSpare, shared_spares gates) ∷ []
+    (DependentGate, dependent_gates units gates) ∷ (SpareNotBasic, spare_gates units gates)
+    ∷ (SharedSpare, shared_spares gates) ∷ []
 
 abbrev pub rest_classes : ℕ → List NumberedGate → List Numbered → List Statement → List (CheckCode × List Place)
-rest_classes units gates tops text = (Replicated, replicated (basics text)) ∷ (TopIsFdep, fdep_tops units gates tops) ∷ []
+rest_classes units gates tops text =
+    (Replicated, replicated (basics text)) ∷ (TopIsFdep, fdep_tops units gates tops) ∷ []
 
 abbrev pub limit_classes : List NumberedGate → List Statement → List (CheckCode × List Place)
 limit_classes gates text = (TooManyUnits, units_beyond (basics text)) ∷ (TooManyGates, gates_beyond gates) ∷ []

@@ -15,4 +15,5 @@ is_marked marks names definition = slice_index_or marks (number_in names definit
 
 -- the places of the definitions that are marked
 abbrev pub marked_places : List Bool → List (List ℕ) → List Placed → List Place
-marked_places marks names definitions = map (λ definition. definition.place) (filter (is_marked marks names) definitions)
+marked_places marks names definitions =
+    map (λ definition. definition.place) (filter (is_marked marks names) definitions)

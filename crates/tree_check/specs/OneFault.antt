@@ -12,7 +12,10 @@ use Rattle.tree_check.specs.Classes.{first}
 use Rattle.tree_check.specs.TreeOf.{FirstOnCycle, HasNoCycle}
 use Rattle.tree_check.specs.Checked.{IsFaultless, IsFirstFault, NoneOf, places, before_cycles, after_cycles}
 use Rattle.tree_check.specs.declared.fault.CheckCode.{CheckCode}
-use Rattle.tree_check.specs.declared.fault.CheckCode.TheVariants.{NoToplevel, TwoToplevels, DuplicateName, Undefined, Votes, DummyInput, NoInputs, FdepShape, DependentGate, SpareNotBasic, SharedSpare, Replicated, TopIsFdep, Cycle, TooManyUnits, TooManyGates}
+use Rattle.tree_check.specs.declared.fault.CheckCode.TheVariants.{NoToplevel, TwoToplevels, DuplicateName, Undefined}
+use Rattle.tree_check.specs.declared.fault.CheckCode.TheVariants.{Votes, DummyInput, NoInputs, FdepShape, DependentGate}
+use Rattle.tree_check.specs.declared.fault.CheckCode.TheVariants.{SpareNotBasic, SharedSpare, Replicated, TopIsFdep}
+use Rattle.tree_check.specs.declared.fault.CheckCode.TheVariants.{Cycle, TooManyUnits, TooManyGates}
 
 -- a class and its first place, or what the classes behind it give where it has none
 abbrev or_later : CheckCode → Option Place → Option (CheckCode × Place) → Option (CheckCode × Place)
@@ -30,10 +33,12 @@ none_in read (code ∷ codes) none =
     ap (λ l. or_later code (first l) (first_in read codes)) none.0 ∙ none_in read codes none.1
 
 found_in : (read : ReadTree) (earlier : List CheckCode) (code : CheckCode) (later : List CheckCode) (place : Place)
-    → NoneOf read earlier → first (places read code) ≡ Some place → first_in read (earlier ++ code ∷ later) ≡ Some (code, place)
+    → NoneOf read earlier → first (places read code) ≡ Some place
+    → first_in read (earlier ++ code ∷ later) ≡ Some (code, place)
 found_in read [] code later place none found = ap (λ f. or_later code f (first_in read later)) found
 found_in read (before ∷ earlier) code later place none found =
-    ap (λ l. or_later before (first l) (first_in read (earlier ++ code ∷ later))) none.0 ∙ found_in read earlier code later place none.1 found
+    ap (λ l. or_later before (first l) (first_in read (earlier ++ code ∷ later))) none.0
+    ∙ found_in read earlier code later place none.1 found
 
 -- ---- a first fault by what comes before the cycles, on them and after them
 
@@ -48,27 +53,70 @@ pub record AfterCycles (read : ReadTree) (code : CheckCode) (place : Place) : Ty
   pub found : first_in read after_cycles ≡ Some (code, place)
 
 abbrev Decides : ReadTree → CheckCode → Place → Type 0
-Decides read code place = (first_in read before_cycles ≡ Some (code, place)) ⊎ (OnCycle read code place ⊎ AfterCycles read code place)
+Decides read code place =
+    (first_in read before_cycles ≡ Some (code, place)) ⊎ (OnCycle read code place ⊎ AfterCycles read code place)
 
 decides : (read : ReadTree) (code : CheckCode) (place : Place) → IsFirstFault read code place → Decides read code place
-decides read NoToplevel place (none, found) = inl (found_in read ([]) NoToplevel (TwoToplevels ∷ DuplicateName ∷ Undefined ∷ Votes ∷ DummyInput ∷ NoInputs ∷ FdepShape ∷ DependentGate ∷ SpareNotBasic ∷ SharedSpare ∷ Replicated ∷ TopIsFdep ∷ []) place none found)
-decides read TwoToplevels place (none, found) = inl (found_in read (NoToplevel ∷ []) TwoToplevels (DuplicateName ∷ Undefined ∷ Votes ∷ DummyInput ∷ NoInputs ∷ FdepShape ∷ DependentGate ∷ SpareNotBasic ∷ SharedSpare ∷ Replicated ∷ TopIsFdep ∷ []) place none found)
-decides read DuplicateName place (none, found) = inl (found_in read (NoToplevel ∷ TwoToplevels ∷ []) DuplicateName (Undefined ∷ Votes ∷ DummyInput ∷ NoInputs ∷ FdepShape ∷ DependentGate ∷ SpareNotBasic ∷ SharedSpare ∷ Replicated ∷ TopIsFdep ∷ []) place none found)
-decides read Undefined place (none, found) = inl (found_in read (NoToplevel ∷ TwoToplevels ∷ DuplicateName ∷ []) Undefined (Votes ∷ DummyInput ∷ NoInputs ∷ FdepShape ∷ DependentGate ∷ SpareNotBasic ∷ SharedSpare ∷ Replicated ∷ TopIsFdep ∷ []) place none found)
-decides read Votes place (none, found) = inl (found_in read (NoToplevel ∷ TwoToplevels ∷ DuplicateName ∷ Undefined ∷ []) Votes (DummyInput ∷ NoInputs ∷ FdepShape ∷ DependentGate ∷ SpareNotBasic ∷ SharedSpare ∷ Replicated ∷ TopIsFdep ∷ []) place none found)
-decides read DummyInput place (none, found) = inl (found_in read (NoToplevel ∷ TwoToplevels ∷ DuplicateName ∷ Undefined ∷ Votes ∷ []) DummyInput (NoInputs ∷ FdepShape ∷ DependentGate ∷ SpareNotBasic ∷ SharedSpare ∷ Replicated ∷ TopIsFdep ∷ []) place none found)
-decides read NoInputs place (none, found) = inl (found_in read (NoToplevel ∷ TwoToplevels ∷ DuplicateName ∷ Undefined ∷ Votes ∷ DummyInput ∷ []) NoInputs (FdepShape ∷ DependentGate ∷ SpareNotBasic ∷ SharedSpare ∷ Replicated ∷ TopIsFdep ∷ []) place none found)
-decides read FdepShape place (none, found) = inl (found_in read (NoToplevel ∷ TwoToplevels ∷ DuplicateName ∷ Undefined ∷ Votes ∷ DummyInput ∷ NoInputs ∷ []) FdepShape (DependentGate ∷ SpareNotBasic ∷ SharedSpare ∷ Replicated ∷ TopIsFdep ∷ []) place none found)
-decides read DependentGate place (none, found) = inl (found_in read (NoToplevel ∷ TwoToplevels ∷ DuplicateName ∷ Undefined ∷ Votes ∷ DummyInput ∷ NoInputs ∷ FdepShape ∷ []) DependentGate (SpareNotBasic ∷ SharedSpare ∷ Replicated ∷ TopIsFdep ∷ []) place none found)
-decides read SpareNotBasic place (none, found) = inl (found_in read (NoToplevel ∷ TwoToplevels ∷ DuplicateName ∷ Undefined ∷ Votes ∷ DummyInput ∷ NoInputs ∷ FdepShape ∷ DependentGate ∷ []) SpareNotBasic (SharedSpare ∷ Replicated ∷ TopIsFdep ∷ []) place none found)
-decides read SharedSpare place (none, found) = inl (found_in read (NoToplevel ∷ TwoToplevels ∷ DuplicateName ∷ Undefined ∷ Votes ∷ DummyInput ∷ NoInputs ∷ FdepShape ∷ DependentGate ∷ SpareNotBasic ∷ []) SharedSpare (Replicated ∷ TopIsFdep ∷ []) place none found)
-decides read Replicated place (none, found) = inl (found_in read (NoToplevel ∷ TwoToplevels ∷ DuplicateName ∷ Undefined ∷ Votes ∷ DummyInput ∷ NoInputs ∷ FdepShape ∷ DependentGate ∷ SpareNotBasic ∷ SharedSpare ∷ []) Replicated (TopIsFdep ∷ []) place none found)
-decides read TopIsFdep place (none, found) = inl (found_in read (NoToplevel ∷ TwoToplevels ∷ DuplicateName ∷ Undefined ∷ Votes ∷ DummyInput ∷ NoInputs ∷ FdepShape ∷ DependentGate ∷ SpareNotBasic ∷ SharedSpare ∷ Replicated ∷ []) TopIsFdep ([]) place none found)
-decides read Cycle place (none, on_cycle) = inr (inl (record { none_before = none_in read before_cycles none; is = refl; first_cyclic = on_cycle }))
+decides read NoToplevel place (none, found) =
+    inl (found_in read ([]) NoToplevel (TwoToplevels ∷ DuplicateName ∷ Undefined ∷ Votes ∷ DummyInput ∷ NoInputs
+    ∷ FdepShape ∷ DependentGate ∷ SpareNotBasic ∷ SharedSpare ∷ Replicated ∷ TopIsFdep ∷ []) place none found)
+decides read TwoToplevels place (none, found) =
+    inl (found_in read (NoToplevel ∷ []) TwoToplevels
+    (DuplicateName ∷ Undefined ∷ Votes ∷ DummyInput ∷ NoInputs ∷ FdepShape ∷ DependentGate ∷ SpareNotBasic
+    ∷ SharedSpare ∷ Replicated ∷ TopIsFdep ∷ []) place none found)
+decides read DuplicateName place (none, found) =
+    inl (found_in read (NoToplevel ∷ TwoToplevels ∷ []) DuplicateName
+    (Undefined ∷ Votes ∷ DummyInput ∷ NoInputs ∷ FdepShape ∷ DependentGate ∷ SpareNotBasic ∷ SharedSpare
+    ∷ Replicated ∷ TopIsFdep ∷ []) place none found)
+decides read Undefined place (none, found) =
+    inl (found_in read (NoToplevel ∷ TwoToplevels ∷ DuplicateName ∷ []) Undefined
+    (Votes ∷ DummyInput ∷ NoInputs ∷ FdepShape ∷ DependentGate ∷ SpareNotBasic ∷ SharedSpare ∷ Replicated
+    ∷ TopIsFdep ∷ []) place none found)
+decides read Votes place (none, found) =
+    inl (found_in read (NoToplevel ∷ TwoToplevels ∷ DuplicateName ∷ Undefined ∷ []) Votes
+    (DummyInput ∷ NoInputs ∷ FdepShape ∷ DependentGate ∷ SpareNotBasic ∷ SharedSpare ∷ Replicated ∷ TopIsFdep ∷ [])
+    place none found)
+decides read DummyInput place (none, found) =
+    inl (found_in read (NoToplevel ∷ TwoToplevels ∷ DuplicateName ∷ Undefined ∷ Votes ∷ []) DummyInput
+    (NoInputs ∷ FdepShape ∷ DependentGate ∷ SpareNotBasic ∷ SharedSpare ∷ Replicated ∷ TopIsFdep ∷ []) place none
+    found)
+decides read NoInputs place (none, found) =
+    inl (found_in read (NoToplevel ∷ TwoToplevels ∷ DuplicateName ∷ Undefined ∷ Votes ∷ DummyInput ∷ []) NoInputs
+    (FdepShape ∷ DependentGate ∷ SpareNotBasic ∷ SharedSpare ∷ Replicated ∷ TopIsFdep ∷ []) place none found)
+decides read FdepShape place (none, found) =
+    inl (found_in read (NoToplevel ∷ TwoToplevels ∷ DuplicateName ∷ Undefined ∷ Votes ∷ DummyInput ∷ NoInputs ∷ [])
+    FdepShape (DependentGate ∷ SpareNotBasic ∷ SharedSpare ∷ Replicated ∷ TopIsFdep ∷ []) place none found)
+decides read DependentGate place (none, found) =
+    inl (found_in read (NoToplevel ∷ TwoToplevels ∷ DuplicateName ∷ Undefined ∷ Votes ∷ DummyInput ∷ NoInputs
+    ∷ FdepShape ∷ []) DependentGate (SpareNotBasic ∷ SharedSpare ∷ Replicated ∷ TopIsFdep ∷ []) place none found)
+decides read SpareNotBasic place (none, found) =
+    inl (found_in read (NoToplevel ∷ TwoToplevels ∷ DuplicateName ∷ Undefined ∷ Votes ∷ DummyInput ∷ NoInputs
+    ∷ FdepShape ∷ DependentGate ∷ []) SpareNotBasic (SharedSpare ∷ Replicated ∷ TopIsFdep ∷ []) place none found)
+decides read SharedSpare place (none, found) =
+    inl (found_in read (NoToplevel ∷ TwoToplevels ∷ DuplicateName ∷ Undefined ∷ Votes ∷ DummyInput ∷ NoInputs
+    ∷ FdepShape ∷ DependentGate ∷ SpareNotBasic ∷ []) SharedSpare (Replicated ∷ TopIsFdep ∷ []) place none found)
+decides read Replicated place (none, found) =
+    inl (found_in read (NoToplevel ∷ TwoToplevels ∷ DuplicateName ∷ Undefined ∷ Votes ∷ DummyInput ∷ NoInputs
+    ∷ FdepShape ∷ DependentGate ∷ SpareNotBasic ∷ SharedSpare ∷ []) Replicated (TopIsFdep ∷ []) place none found)
+decides read TopIsFdep place (none, found) =
+    inl (found_in read (NoToplevel ∷ TwoToplevels ∷ DuplicateName ∷ Undefined ∷ Votes ∷ DummyInput ∷ NoInputs
+    ∷ FdepShape ∷ DependentGate ∷ SpareNotBasic ∷ SharedSpare ∷ Replicated ∷ []) TopIsFdep ([]) place none found)
+decides read Cycle place (none, on_cycle) =
+    inr (inl (record { none_before = none_in read before_cycles none; is = refl; first_cyclic = on_cycle }))
 decides read TooManyUnits place (none, acyclic, here) =
-    inr (inr (record { none_before = none_in read before_cycles none; acyclic = acyclic; found = found_in read [] TooManyUnits (TooManyGates ∷ []) place here.0 here.1 }))
+    inr (inr (record {
+      none_before = none_in read before_cycles none;
+      acyclic = acyclic;
+      found =
+          found_in read [] TooManyUnits (TooManyGates ∷ []) place here.0 here.1;
+    }))
 decides read TooManyGates place (none, acyclic, here) =
-    inr (inr (record { none_before = none_in read before_cycles none; acyclic = acyclic; found = found_in read (TooManyUnits ∷ []) TooManyGates [] place here.0 here.1 }))
+    inr (inr (record {
+      none_before = none_in read before_cycles none;
+      acyclic = acyclic;
+      found =
+          found_in read (TooManyUnits ∷ []) TooManyGates [] place here.0 here.1;
+    }))
 
 -- ---- one first fault
 
@@ -82,14 +130,16 @@ place_in place (Some found) = found.1
 
 -- a search finds one class and one place
 module _ (code other : CheckCode) (place there : Place) where
-  found_once : (found : Option (CheckCode × Place)) → found ≡ Some (code, place) → found ≡ Some (other, there) → (code ≡ other) × (place ≡ there)
+  found_once : (found : Option (CheckCode × Place)) → found ≡ Some (code, place) → found ≡ Some (other, there)
+      → (code ≡ other) × (place ≡ there)
   found_once found one two = (ap (code_in code) (sym one ∙ two), ap (place_in place) (sym one ∙ two))
 
   found_and_not : {P : Type 0} (found : Option (CheckCode × Place)) → found ≡ Some (code, place) → found ≡ None → P
   found_and_not found one none = let clash = sym one ∙ none in absurd cc
 
 -- a definition that leads to itself is first at one place
-one_cycle : (statements : List Statement) (place there : Place) → FirstOnCycle statements place → FirstOnCycle statements there → place ≡ there
+one_cycle : (statements : List Statement) (place there : Place) → FirstOnCycle statements place
+    → FirstOnCycle statements there → place ≡ there
 one_cycle statements place there one two =
     let at : List Place = map (λ definition. definition.place) (definitions statements) in
     let same_index : one.index ≡ two.index =
@@ -103,20 +153,25 @@ one_cycle statements place there one two =
     let same : Some place ≡ Some there = sym one.at ∙ ap (slice_get at) same_index ∙ two.at in
     ap (λ o. unwrap_or o place) same
 
-not_both : {P : Type 0} (statements : List Statement) (place : Place) → HasNoCycle statements → FirstOnCycle statements place → P
+not_both : {P : Type 0} (statements : List Statement) (place : Place) → HasNoCycle statements
+    → FirstOnCycle statements place → P
 not_both statements place acyclic on_cycle =
     absurd (acyclic on_cycle.index
     (subst (λ n. on_cycle.index < n) (length-map (definitions statements) (λ definition. definition.place))
     (slice_get_within (map (λ definition. definition.place) (definitions statements)) on_cycle.index place on_cycle.at))
     on_cycle.cyclic)
 
-one_decides : (read : ReadTree) (code other : CheckCode) (place there : Place) → Decides read code place → Decides read other there → (code ≡ other) × (place ≡ there)
+one_decides : (read : ReadTree) (code other : CheckCode) (place there : Place) → Decides read code place
+    → Decides read other there → (code ≡ other) × (place ≡ there)
 one_decides read code other place there one two =
     let before = first_in read before_cycles in
     elim one [
       | inl a ↦ elim two [
         | inl b ↦ found_once code other place there before a b
-        | inr b ↦ elim b [ inl c ↦ found_and_not code other place there before a c.none_before | inr c ↦ found_and_not code other place there before a c.none_before ]
+        | inr b ↦ elim b [
+          | inl c ↦ found_and_not code other place there before a c.none_before
+          | inr c ↦ found_and_not code other place there before a c.none_before
+        ]
       ]
       | inr a ↦ elim a [
         | inl c ↦ elim two [
@@ -137,16 +192,20 @@ one_decides read code other place there one two =
     ]
 
 -- two first faults of statements are one
-pub same_fault : (read : ReadTree) (code other : CheckCode) (place there : Place) → IsFirstFault read code place → IsFirstFault read other there → (code ≡ other) × (place ≡ there)
-same_fault read code other place there one two = one_decides read code other place there (decides read code place one) (decides read other there two)
+pub same_fault : (read : ReadTree) (code other : CheckCode) (place there : Place) → IsFirstFault read code place
+    → IsFirstFault read other there → (code ≡ other) × (place ≡ there)
+same_fault read code other place there one two =
+    one_decides read code other place there (decides read code place one) (decides read other there two)
 
 -- statements without a fault have no first one
 pub no_fault : (read : ReadTree) (code : CheckCode) (place : Place) → IsFaultless read → ¬ IsFirstFault read code place
 no_fault read code place faultless fault =
     elim (decides read code place fault) [
-      | inl found ↦ found_and_not code code place place (first_in read before_cycles) found (none_in read before_cycles faultless.before)
+      | inl found ↦ found_and_not code code place place (first_in read before_cycles) found
+          (none_in read before_cycles faultless.before)
       | inr later ↦ elim later [
         | inl cycle ↦ not_both read.statements place faultless.acyclic cycle.first_cyclic
-        | inr after ↦ found_and_not code code place place (first_in read after_cycles) after.found (none_in read after_cycles faultless.after)
+        | inr after ↦ found_and_not code code place place (first_in read after_cycles) after.found
+            (none_in read after_cycles faultless.after)
       ]
     ]

@@ -14,15 +14,20 @@ use Rattle.tree_check.specs.Checked.{Stands}
 use Rattle.tree_check.specs.TreeOf.{tree_of}
 
 -- nodes that have the same ranks in two trees have the same one above them
-same_over : (tree other : FaultTree) (nodes : List ℕ) → All (λ node. rank_of tree node ≡ rank_of other node) nodes → rank_over tree nodes ≡ rank_over other nodes
+same_over : (tree other : FaultTree) (nodes : List ℕ) → All (λ node. rank_of tree node ≡ rank_of other node) nodes
+    → rank_over tree nodes ≡ rank_over other nodes
 same_over tree other [] same = refl
 same_over tree other (node ∷ nodes) same =
-    ap (λ rank. max (suc rank) (rank_over tree nodes)) (All-head (λ n. rank_of tree n ≡ rank_of other n) node nodes same)
-    ∙ ap (max (suc (rank_of other node))) (same_over tree other nodes (All-tail (λ n. rank_of tree n ≡ rank_of other n) node nodes same))
+    ap (λ rank. max (suc rank) (rank_over tree nodes))
+    (All-head (λ n. rank_of tree n ≡ rank_of other n) node nodes same)
+    ∙ ap (max (suc (rank_of other node))) (same_over tree other nodes
+    (All-tail (λ n. rank_of tree n ≡ rank_of other n) node nodes same))
 
-module _ (statements : List Statement) (ranks others : List ℕ) (one : IsTree (tree_of statements ranks)) (two : IsTree (tree_of statements others)) where
+module _ (statements : List Statement) (ranks others : List ℕ) (one : IsTree (tree_of statements ranks))
+    (two : IsTree (tree_of statements others)) where
   -- a node below a rank has the same rank by both
-  same_rank : (height node : ℕ) → IsNodeOf (tree_of statements ranks) node → rank_of (tree_of statements ranks) node < height
+  same_rank : (height node : ℕ) → IsNodeOf (tree_of statements ranks) node
+      → rank_of (tree_of statements ranks) node < height
       → rank_of (tree_of statements ranks) node ≡ rank_of (tree_of statements others) node
   same_rank zero node is_node low = absurd (omega (arith, low))
   same_rank (suc height) node is_node low =
@@ -44,7 +49,9 @@ module _ (statements : List Statement) (ranks others : List ℕ) (one : IsTree (
       ∙ get_or_default others k 0 d (omega (arith, short, one.ranks_all, two.ranks_all)))
 
 -- two trees of the same statements are equal
-pub same_tree : (read : ReadTree) (tree other : FaultTree) → Stands read tree → IsTree tree → Stands read other → IsTree other → tree ≡ other
+pub same_tree : (read : ReadTree) (tree other : FaultTree) → Stands read tree → IsTree tree → Stands read other
+    → IsTree other → tree ≡ other
 same_tree read tree other one kept two kept' =
-    let same : tree.ranks ≡ other.ranks = same_ranks read.statements tree.ranks other.ranks (subst IsTree one.is kept) (subst IsTree two.is kept') in
+    let same : tree.ranks ≡ other.ranks =
+    same_ranks read.statements tree.ranks other.ranks (subst IsTree one.is kept) (subst IsTree two.is kept') in
     one.is ∙ ap (tree_of read.statements) same ∙ sym two.is

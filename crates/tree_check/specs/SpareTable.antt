@@ -1,5 +1,6 @@
 -- A table that knows of each event how it was used before, by which a clash shows in one look.
-use Rattle.std.specs.Prelude.{ℕ, ◌≤◌, Bool, true, false, not, List, [], ◌∷◌, ◌++◌, slice_index_or, slice_set, if◌then◌else◌, All}
+use Rattle.std.specs.Prelude.{ℕ, ◌≤◌, Bool, true, false, not, List, [], ◌∷◌, ◌++◌, slice_index_or, slice_set}
+use Rattle.std.specs.Prelude.{if◌then◌else◌, All}
 use Rattle.fault_model.specs.declared.node.Place.{Place}
 use Rattle.tree_check.specs.Classes.{SpareUse}
 use Rattle.tree_check.specs.declared.numbered.NumberedGate.{NumberedGate}
@@ -30,7 +31,8 @@ earlier_uses table number = slice_index_or table number Unused
 
 -- the table after a use, and after some
 abbrev pub table_with : List EarlierUses → SpareUse → List EarlierUses
-table_with table later = slice_set table later.input.number (noted (earlier_uses table later.input.number) later.is_first)
+table_with table later =
+    slice_set table later.input.number (noted (earlier_uses table later.input.number) later.is_first)
 
 abbrev pub table_after : List EarlierUses → List SpareUse → List EarlierUses
 table_after table [] = table
@@ -40,4 +42,5 @@ table_after table (later ∷ uses) = table_after (table_with table later) uses
 abbrev pub clashes_by : List EarlierUses → List SpareUse → List Place
 clashes_by table [] = []
 clashes_by table (later ∷ uses) =
-    (if clashes_with (earlier_uses table later.input.number) later.is_first then later.input.place ∷ [] else []) ++ clashes_by (table_with table later) uses
+    (if clashes_with (earlier_uses table later.input.number) later.is_first then later.input.place ∷ [] else [])
+    ++ clashes_by (table_with table later) uses

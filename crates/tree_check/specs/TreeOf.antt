@@ -7,7 +7,8 @@ use Rattle.fault_model.specs.Trigger.{below}
 use Rattle.fault_model.specs.Rank.{IsRanked}
 use Rattle.galileo_tree.specs.declared.raw.Statement.{Statement}
 use Rattle.tree_check.specs.Said.{basics, definitions, names}
-use Rattle.tree_check.specs.Numbered.{kinds, kept_inputs, numbered_gates, numbered_definitions, numbered_tops, unit_total}
+use Rattle.tree_check.specs.Numbered.{kinds, kept_inputs, numbered_gates, numbered_definitions, numbered_tops}
+use Rattle.tree_check.specs.Numbered.{unit_total}
 use Rattle.tree_check.specs.declared.numbered.Numbered.{Numbered}
 use Rattle.tree_check.specs.declared.numbered.NumberedGate.{NumberedGate}
 
@@ -23,8 +24,8 @@ abbrev pub first_number : List Numbered → ℕ
 first_number [] = 0
 first_number (top ∷ tops) = top.number
 
--- The tree of the statements, with these ranks. Its units are the basic events and its gates the gates of the text, each in
--- the order of their definitions.
+-- The tree of the statements, with these ranks. Its units are the basic events and its gates the gates of the text,
+-- each in the order of their definitions.
 abbrev pub tree_of : List Statement → List ℕ → FaultTree
 tree_of statements ranks = record {
   names = names statements;
@@ -35,8 +36,8 @@ tree_of statements ranks = record {
   ranks = ranks;
 }
 
--- A node leads to another over one or more edges: from a gate to its inputs, dropped ones left out, and from a unit to its
--- triggers.
+-- A node leads to another over one or more edges: from a gate to its inputs, dropped ones left out, and from a unit to
+-- its triggers.
 pub data LeadsTo (tree : FaultTree) : ℕ → ℕ → Type 0 where
   edge : {x y : ℕ} → IsTrue (among (below tree x) y) → LeadsTo tree x y
   way : {x y z : ℕ} → IsTrue (among (below tree x) y) → LeadsTo tree y z → LeadsTo tree x z
@@ -48,7 +49,8 @@ number_at definitions i = slice_index (numbers definitions) i
 -- a definition leads to itself
 abbrev pub IsCyclic : List Statement → ℕ → Type 0
 IsCyclic statements i =
-    LeadsTo (tree_of statements []) (number_at (numbered_definitions statements) i) (number_at (numbered_definitions statements) i)
+    LeadsTo (tree_of statements []) (number_at (numbered_definitions statements) i)
+    (number_at (numbered_definitions statements) i)
 
 -- the first definition of the text that leads to itself, at its name
 pub record FirstOnCycle (statements : List Statement) (place : Place) : Type 0 where

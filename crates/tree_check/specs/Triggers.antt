@@ -1,5 +1,6 @@
 -- How the table of triggers is filled.
-use Rattle.std.specs.Prelude.{◌≡◌, ℕ, ◌+◌, ◌≤◌, Bool, true, false, ◌||◌, ◌&&◌, ◌==◌, List, [], ◌++◌, length, map, drop, All, filter_map, option_to_list, slice_index_or}
+use Rattle.std.specs.Prelude.{◌≡◌, ℕ, ◌+◌, ◌≤◌, Bool, true, false, ◌||◌, ◌&&◌, ◌==◌, List, [], ◌++◌, length, map, drop}
+use Rattle.std.specs.Prelude.{All, filter_map, option_to_list, slice_index_or}
 use Rattle.fault_model.specs.declared.node.GateKind.{GateKind}
 use Rattle.fault_model.specs.Tree.{is_fdep_kind}
 use Rattle.fault_model.specs.Trigger.{trigger_by}
@@ -14,7 +15,8 @@ row_at rows i = slice_index_or rows i []
 -- the trigger is added at each of the dependents, and nothing else
 pub record Notes (trigger : ℕ) (dependents : List ℕ) (old new : List (List ℕ)) : Type 0 where
   pub all : length new ≡ length old
-  pub triggers : (unit other : ℕ) → among (row_at new unit) other ≡ (among (row_at old unit) other || (among dependents unit && trigger == other))
+  pub triggers : (unit other : ℕ) → among (row_at new unit) other
+      ≡ (among (row_at old unit) other || (among dependents unit && trigger == other))
 
 -- a gate as it stands in the text: its kind and the numbers of its inputs
 abbrev pub written_gate : NumberedGate → GateKind × List ℕ
@@ -35,7 +37,8 @@ HasUnitDependents units gates = All (λ gate. All (λ dependent. dependent.numbe
 -- what a gate triggers is added, and nothing else
 pub record AddsTriggers (gate : GateKind × List ℕ) (old new : List (List ℕ)) : Type 0 where
   pub all : length new ≡ length old
-  pub triggers : (unit other : ℕ) → among (row_at new unit) other ≡ (among (row_at old unit) other || among (option_to_list (trigger_by unit gate)) other)
+  pub triggers : (unit other : ℕ) → among (row_at new unit) other
+      ≡ (among (row_at old unit) other || among (option_to_list (trigger_by unit gate)) other)
 
 -- the row of each number has exactly what triggers it among some gates
 pub record HasTriggers (units : ℕ) (gates : List (GateKind × List ℕ)) (rows : List (List ℕ)) : Type 0 where

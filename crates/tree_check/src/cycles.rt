@@ -1,5 +1,6 @@
 //! Definitions that lead to themselves.
-ghost use Rattle.std.specs.Prelude.{◌≡◌, ◌+◌, ◌<◌, ◌≤◌, ◌||◌, ◌&&◌, ◌==◌, ◌∷◌, ◌++◌, ℕ, [], length, map, All, IfOk, IfErr, OnOk, slice_index_or, filter_map, replicate, true, false, drop};
+ghost use Rattle.std.specs.Prelude.{◌≡◌, ◌+◌, ◌<◌, ◌≤◌, ◌||◌, ◌&&◌, ◌==◌, ◌∷◌, ◌++◌, ℕ, [], length, map, All, IfOk};
+ghost use Rattle.std.specs.Prelude.{IfErr, OnOk, slice_index_or, filter_map, replicate, true, false, drop};
 ghost use Rattle.tree_check.specs.Said.{definitions, definition_in, names, uses};
 ghost use Rattle.tree_check.specs.Naming.{differ};
 ghost use Rattle.tree_check.specs.Numbering.{IsDeckOf};
@@ -9,7 +10,8 @@ ghost use Rattle.tree_check.specs.Marked.{marked_places, placed_list};
 ghost use Rattle.unit_sets.specs.UnitList.{among};
 ghost use Rattle.tree_check.specs.TreeOf.{numbers, input_lists, HasNoCycle, AreRanks};
 ghost use Rattle.tree_check.specs.Numbered.{kinds, kept_inputs, kept_by, is_fdep_in, unit_total, numbered_gates};
-ghost use Rattle.tree_check.specs.Triggers.{Notes, AddsTriggers, HasTriggers, HasUnitDependents, IsGraphOf, dependents_of, written_gate};
+ghost use Rattle.tree_check.specs.Triggers.{Notes, AddsTriggers, HasTriggers, HasUnitDependents, IsGraphOf};
+ghost use Rattle.tree_check.specs.Triggers.{dependents_of, written_gate};
 
 use crate::gates::{drops_fdeps, is_fdep};
 use crate::name_index::NameIndex;
@@ -109,7 +111,8 @@ fn keep_read(
     gates: &[NumberedGate],
     inputs: &[Numbered],
 ) -> Result<(), AllocError>
-    ensures { OnOk result (row.new.items ≡ row.old.items ++ numbers (kept_by true (is_fdep_in units (kinds gates.now)) inputs.now)) }
+    ensures { OnOk result (row.new.items ≡ row.old.items
+        ++ numbers (kept_by true (is_fdep_in units (kinds gates.now)) inputs.now)) }
 {
     for input in inputs {
         if !is_fdep(units, gates, input.number) {

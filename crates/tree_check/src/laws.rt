@@ -9,12 +9,14 @@ ghost use Rattle.tree_check.specs.declared.fault.CheckCode.{CheckCode};
 
 /// The statements of a text stand for at most one tree.
 pub fn statements_have_one_tree()
-    ensures { (read : ReadTree) (tree other : FaultTree) → Stands read tree → IsTree tree → Stands read other → IsTree other → tree ≡ other }
+    ensures { (read : ReadTree) (tree other : FaultTree) → Stands read tree → IsTree tree → Stands read other
+        → IsTree other → tree ≡ other }
 {}
 
 /// They have at most one first fault.
 pub fn statements_have_one_first_fault()
-    ensures { (read : ReadTree) (code other : CheckCode) (place there : Place) → IsFirstFault read code place → IsFirstFault read other there
+    ensures { (read : ReadTree) (code other : CheckCode) (place there : Place) → IsFirstFault read code place
+        → IsFirstFault read other there
         → (code ≡ other) × (place ≡ there) }
 {}
 
@@ -26,5 +28,6 @@ pub fn tree_or_fault()
 /// Statements that keep the form of their spelling stand for a tree, or have a first fault.
 pub fn some_tree_or_some_fault()
     ensures { (read : ReadTree) → All KeepsForm read.statements
-        → ((tree : FaultTree) × Stands read tree × IsTree tree) ⊎ ((code : CheckCode) × (place : Place) × IsFirstFault read code place) }
+        → ((tree : FaultTree) × Stands read tree × IsTree tree)
+        ⊎ ((code : CheckCode) × (place : Place) × IsFirstFault read code place) }
 {}

@@ -1,5 +1,6 @@
 //! Names into numbers: each name is defined once, and each name that is used is defined.
-ghost use Rattle.std.specs.Prelude.{◌≡◌, ◌++◌, ◌∷◌, ℕ, [], true, false, length, map, IfOk, IfErr, IfSome, IfNone, is_some, OnOk, IsTrue};
+ghost use Rattle.std.specs.Prelude.{◌≡◌, ◌++◌, ◌∷◌, ℕ, [], true, false, length, map, IfOk, IfErr, IfSome, IfNone};
+ghost use Rattle.std.specs.Prelude.{is_some, OnOk, IsTrue};
 ghost use Rattle.tree_check.specs.Said.{names, definitions, uses, basic_names, gate_names};
 ghost use Rattle.tree_check.specs.Classes.{first, repeats, undefined};
 ghost use Rattle.tree_check.specs.Naming.{differ, Adds, name_list};

@@ -1,7 +1,8 @@
 //! Spares that serve two gates, or one gate twice.
 ghost use Rattle.std.specs.Prelude.{◌≡◌, ◌+◌, ◌<◌, length, replicate, All, IfOk};
 ghost use Rattle.tree_check.specs.Classes.{first, later_uses, uses_of, spare_uses_in, shared_spares};
-ghost use Rattle.tree_check.specs.SpareTable.{AreWithin, noted, clashes_with, earlier_uses, table_with, table_after, clashes_by};
+ghost use Rattle.tree_check.specs.SpareTable.{AreWithin, noted, clashes_with, earlier_uses, table_with, table_after};
+ghost use Rattle.tree_check.specs.SpareTable.{clashes_by};
 
 use crate::gates::is_spare_kind;
 use crate::numbered::{Numbered, NumberedGate};
@@ -60,7 +61,8 @@ impl SpareTable {
     fn note(&mut self, input: Numbered, is_first: bool) -> bool
         requires { input.number < length self.old.uses.items }
         ensures clash { result ≡ clashes_with (earlier_uses self.old.uses.items input.number) is_first }
-        ensures table { self.new.uses.items ≡ table_with self.old.uses.items (record { input = input; is_first = is_first }) }
+        ensures table { self.new.uses.items ≡ table_with self.old.uses.items
+            (record { input = input; is_first = is_first }) }
         ensures room { length self.new.uses.items ≡ length self.old.uses.items }
     {
         let earlier = self.uses[input.number];

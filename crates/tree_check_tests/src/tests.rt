@@ -232,7 +232,8 @@ fn digit(number: u32) -> u8 {
     digits[number as usize % 64]
 }
 
-// A chain of so many gates below the top event, each on a line of its own behind the one that it reads. A line has 14 bytes.
+// A chain of so many gates below the top event, each on a line of its own behind the one that it reads. A line has 14
+// bytes.
 fn chain(alloc: Global, gates: u32) -> Result<Vec<u8>, Fail> {
     let mut text = Vec::from_slice(alloc, b"B;\nAAAA or B;")?;
     let mut last = short_name(0);

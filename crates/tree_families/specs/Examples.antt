@@ -1,5 +1,6 @@
 -- Two small trees, and the cut families of their gates.
-use Rattle.std.specs.Prelude.{◌≡◌, ℕ, ◌+◌, Bool, true, false, not, ◌&&◌, ◌||◌, nat_le, List, [], ◌∷◌, Contains, if◌then◌else◌}
+use Rattle.std.specs.Prelude.{◌≡◌, ℕ, ◌+◌, Bool, true, false, not, ◌&&◌, ◌||◌, nat_le, List, [], ◌∷◌, Contains}
+use Rattle.std.specs.Prelude.{if◌then◌else◌}
 use Rattle.std.specs.List.{list_all}
 use Rattle.std.specs.List.Sorted.{IsStrictlySortedBy}
 use Rattle.std.proofs.Common.{refl, sym, ◌∙◌, ap, inl, inr}
@@ -52,7 +53,8 @@ one_and_two = (1 ∷ 2 ∷ []) ∷ []
 
 -- ---- facts of given families, by tests
 
-passes_of : {K : Type 0} (test : K → Bool) (xs : List K) (x : K) → list_all test xs ≡ true → Contains xs x → test x ≡ true
+passes_of : {K : Type 0} (test : K → Bool) (xs : List K) (x : K) → list_all test xs ≡ true → Contains xs x
+    → test x ≡ true
 passes_of test [] x all has = Contains-nil x has
 passes_of test (first ∷ others) x all has =
     let both = and_parts (test first) (list_all test others) all in
@@ -72,7 +74,9 @@ minimal_itself f is anti = record {
     λ has. (
       has,
       λ other has' within.
-          elim (or_cases (not (is_within set other)) (is_within other set) (passes_of (λ q. not (is_within set q) || is_within q set) f other (passes_of (λ s. list_all (λ q. not (is_within s q) || is_within q s) f) f set anti has) has')) [
+          elim (or_cases (not (is_within set other)) (is_within other set)
+          (passes_of (λ q. not (is_within set q) || is_within q set) f other
+          (passes_of (λ s. list_all (λ q. not (is_within s q) || is_within q s) f) f set anti has) has')) [
             | inl outside ↦ absurd (false≢true (sym (not_from_true (is_within set other) within) ∙ outside))
             | inr back ↦ same_within other set (set_rises f other is has') (set_rises f set is has) back within
           ],
@@ -84,11 +88,14 @@ minimal_itself f is anti = record {
 abbrev is_unit_of : FaultTree → ℕ → Bool
 is_unit_of tree unit = nat_le 1 unit && nat_le unit (unit_count tree)
 
-of_tree : (tree : FaultTree) (f : List (List ℕ)) → IsFamily f → list_all (list_all (is_unit_of tree)) f ≡ true → IsFamilyOf tree f
+of_tree : (tree : FaultTree) (f : List (List ℕ)) → IsFamily f → list_all (list_all (is_unit_of tree)) f ≡ true
+    → IsFamilyOf tree f
 of_tree tree f is units = record {
   is_family = is;
   units = λ set has unit member.
-      let both = and_parts (nat_le 1 unit) (nat_le unit (unit_count tree)) (passes_at (is_unit_of tree) set unit (passes_of (list_all (is_unit_of tree)) f set units has) member) in
+      let both =
+      and_parts (nat_le 1 unit) (nat_le unit (unit_count tree))
+      (passes_at (is_unit_of tree) set unit (passes_of (list_all (is_unit_of tree)) f set units has) member) in
       (leb-true 1 unit both.0, leb-true unit (unit_count tree) both.1);
 }
 
@@ -96,7 +103,12 @@ of_tree tree f is units = record {
 
 pairs_family : IsFamily pairs_of_three
 unfolding IsStrictlySortedBy
-pairs_family = record { ordered = ((refl, (refl, tt)), ((refl, tt), (tt, tt))); rising = (((refl, tt), (tt, tt)), (((refl, tt), (tt, tt)), (((refl, tt), (tt, tt)), tt))) }
+pairs_family =
+    record {
+      ordered = ((refl, (refl, tt)), ((refl, tt), (tt, tt)));
+      rising =
+          (((refl, tt), (tt, tt)), (((refl, tt), (tt, tt)), (((refl, tt), (tt, tt)), tt)));
+    }
 
 one_family : IsFamily one_alone
 unfolding IsStrictlySortedBy
@@ -106,7 +118,8 @@ both_family : IsFamily one_and_two
 unfolding IsStrictlySortedBy
 both_family = record { ordered = (tt, tt); rising = (((refl, tt), (tt, tt)), tt) }
 
-two_fail : (a b c : Bool) → ((a && (b && true)) || ((a && (c && true)) || ((b && (c && true)) || false))) ≡ nat_le 2 ((if a || false then 1 else 0) + ((if b || false then 1 else 0) + ((if c || false then 1 else 0) + 0)))
+two_fail : (a b c : Bool) → ((a && (b && true)) || ((a && (c && true)) || ((b && (c && true)) || false)))
+    ≡ nat_le 2 ((if a || false then 1 else 0) + ((if b || false then 1 else 0) + ((if c || false then 1 else 0) + 0)))
 two_fail true true true = refl
 two_fail true true false = refl
 two_fail true false true = refl
@@ -116,7 +129,8 @@ two_fail false true false = refl
 two_fail false false true = refl
 two_fail false false false = refl
 
-one_fails : (a b : Bool) → ((a && true) || false) ≡ ((a || false) || (((a || false) && ((b || false) && true)) || false))
+one_fails : (a b : Bool) → ((a && true) || false)
+    ≡ ((a || false) || (((a || false) && ((b || false) && true)) || false))
 one_fails true true = refl
 one_fails true false = refl
 one_fails false true = refl
@@ -140,9 +154,12 @@ gate_hit : (within : ℕ → Bool) → hits one_and_two within ≡ reads superse
 unfolding reads by_rank
 gate_hit within = both_fail (within 1) (within 2)
 
-family_by : (tree : FaultTree) (node : ℕ) (f : List (List ℕ)) → IsFamily f → list_all (list_all (is_unit_of tree)) f ≡ true → is_antichain f ≡ true → ((within : ℕ → Bool) → hits f within ≡ reads tree within node) → IsCutFamily tree node f
+family_by : (tree : FaultTree) (node : ℕ) (f : List (List ℕ)) → IsFamily f
+    → list_all (list_all (is_unit_of tree)) f ≡ true → is_antichain f ≡ true
+    → ((within : ℕ → Bool) → hits f within ≡ reads tree within node) → IsCutFamily tree node f
 family_by tree node f is units anti hit =
-    cut_family-minimal tree node f f (record { of_tree = of_tree tree f is units; hit = hit }) (minimal_itself f is anti)
+    cut_family-minimal tree node f f (record { of_tree = of_tree tree f is units; hit = hit })
+    (minimal_itself f is anti)
 
 pub two_of_three-top : IsCutFamily two_of_three 4 pairs_of_three
 two_of_three-top = family_by two_of_three 4 pairs_of_three pairs_family refl refl votes_hit

@@ -14,25 +14,37 @@ use Rattle.family_operations.specs.Hits.{hits, HasHit, HasHit-from_test, hits-fr
 use Rattle.family_operations.specs.Inclusion.{same_Bool}
 use Rattle.tree_families.specs.Generation.{Generates}
 
-module _ (tree : FaultTree) (kept : IsTree tree) (node : ℕ) (is_node : IsNodeOf tree node) (family : List (List ℕ)) (is : IsCutFamily tree node family) where
+module _ (tree : FaultTree) (kept : IsTree tree) (node : ℕ) (is_node : IsNodeOf tree node) (family : List (List ℕ))
+    (is : IsCutFamily tree node family) where
   minimal_at : (set : List ℕ) → Contains family set → IsMinimalFor tree node set
   minimal_at set has = All-contains (IsMinimalFor tree node) family set is.sound has
 
   hit_to : (within : ℕ → Bool) → hits family within ≡ true → reads tree within node ≡ true
   hit_to within hit =
       let found : HasHit family within = HasHit-from_test family within hit in
-      reads-rises tree (among found.set) within (record { kept = λ n has. passes_at within found.set n found.passes has }) node (minimal_at found.set found.has).fails
+      reads-rises tree (among found.set) within (record {
+        kept =
+            λ n has. passes_at within found.set n found.passes has;
+      }) node (minimal_at found.set found.has).fails
 
   hit_from : (within : ℕ → Bool) → reads tree within node ≡ true → hits family within ≡ true
   hit_from within fails =
       let found = part_of_failing tree kept node is_node within fails in
-      hits-from_set family within found.0.part (is.complete found.0.part found.0.minimal) (passes_from within found.0.part found.1)
+      hits-from_set family within found.0.part (is.complete found.0.part found.0.minimal)
+      (passes_from within found.0.part found.1)
 
   pub Generates-cut_family : Generates tree node family
   Generates-cut_family = record {
     of_tree = record {
-      is_family = record { ordered = is.ordered; rising = each-from_contains IsRising family (λ set has. (minimal_at set has).rising) };
-      units = λ set has unit member. All-contains (IsUnitOf tree) set unit (minimal_at set has).units (Contains-from_among set unit member);
+      is_family =
+          record {
+            ordered = is.ordered;
+            rising = each-from_contains IsRising family
+                (λ set has. (minimal_at set has).rising);
+          };
+      units =
+          λ set has unit member. All-contains (IsUnitOf tree) set unit (minimal_at set has).units
+          (Contains-from_among set unit member);
     };
     hit = λ within. same_Bool (hits family within) (reads tree within node) (hit_to within) (hit_from within);
   }

@@ -28,7 +28,8 @@ IsUnionOfAll first (family ∷ others) made =
 abbrev pub IsProductOfAll : List (List ℕ) → List (List (List ℕ)) → List (List ℕ) → Type 0
 IsProductOfAll first [] made = made ≡ first
 IsProductOfAll first (family ∷ others) made =
-    (product : List (List ℕ)) × (least : List (List ℕ)) × IsProduct first family product × IsMinimal product least × IsProductOfAll least others made
+    (product : List (List ℕ)) × (least : List (List ℕ)) × IsProduct first family product × IsMinimal product least
+    × IsProductOfAll least others made
 
 abbrev pub IsMadeBy : Recipe → List (List ℕ) → Type 0
 IsMadeBy (unions first others) made = IsUnionOfAll first others made

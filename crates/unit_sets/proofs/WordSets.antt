@@ -1,18 +1,25 @@
 -- Lemmas on the units that words hold.
-use Rattle.std.proofs.Common.{◌≡◌, ◌≢◌, ℕ, zero, suc, ◌+◌, ◌*◌, ◌/◌, ◌%◌, ◌^◌, ◌-◌, ◌<◌, min, Bool, true, false, not, ◌&&◌, ◌||◌, ◌==◌, nat_lt, List, [], ◌∷◌, length, replicate, slice_index, slice_set, bit_and, count_ones, if◌then◌else◌, refl, sym, ◌∙◌, ap, subst, inl, inr, arith, eq-eqb, add_comm}
+use Rattle.std.proofs.Common.{◌≡◌, ◌≢◌, ℕ, zero, suc, ◌+◌, ◌*◌, ◌/◌, ◌%◌, ◌^◌, ◌-◌, ◌<◌, min, Bool, true, false, not}
+use Rattle.std.proofs.Common.{◌&&◌, ◌||◌, ◌==◌, nat_lt, List, [], ◌∷◌, length, replicate, slice_index, slice_set}
+use Rattle.std.proofs.Common.{bit_and, count_ones, if◌then◌else◌, refl, sym, ◌∙◌, ap, subst, inl, inr, arith, eq-eqb}
+use Rattle.std.proofs.Common.{add_comm}
 use Rattle.std.specs.Int.{bit_at, bit_not, w64}
 use Rattle.std.proofs.lemmas.Bool.{cases_eq, ne_eqb, and_parts}
 use Rattle.std.proofs.lemmas.Nat.{ones-le, ones_cat, mod_below, pow_pos, shr_below, div-add-mod', and_le_l}
-use Rattle.std.proofs.lemmas.Nat.Bits.{bit_at_cat_low, bit_at_and, bit_at-lt, bit_at-zero, bit_at_not, same_from_bits_below}
+use Rattle.std.proofs.lemmas.Nat.Bits.{bit_at_cat_low, bit_at_and, bit_at-lt, bit_at-zero, bit_at_not}
+use Rattle.std.proofs.lemmas.Nat.Bits.{same_from_bits_below}
 use lib.Count.{ones, ones_in}
 use native.Mathlib.Nat.{lt_of_le_of_lt}
 use Rattle.std.proofs.lemmas.Bool.Decides.{nat_tests}
 use Rattle.std.proofs.lemmas.List.{length-append, get_or-set_same, get_or-set_other}
-use Rattle.unit_sets.specs.UnitList.{IsUnitSet, among, with_unit, without_unit, outside, is_within, same_set, among-with_unit, among-without_unit, among-from_is_within, is_within-from_among, IsRising-with_unit, IsRising-without_unit}
+use Rattle.unit_sets.specs.UnitList.{IsUnitSet, among, with_unit, without_unit, outside, is_within, same_set}
+use Rattle.unit_sets.specs.UnitList.{among-with_unit, among-without_unit, among-from_is_within, is_within-from_among}
+use Rattle.unit_sets.specs.UnitList.{IsRising-with_unit, IsRising-without_unit}
 use Rattle.std.proofs.lemmas.List.Elements.{All-from_recursion}
 use Rattle.unit_sets.specs.Unit.{IsUnit}
 use Rattle.unit_sets.specs.Words.{passing_below, has_bit, units_of, HoldsUnits}
-use Rattle.unit_sets.proofs.Passing.{all_passing, among-passing_below, IsRising-passing_below, passing_below-same, filter-passing_below, length-passing_below-add, passing_below-none, same_by_test}
+use Rattle.unit_sets.proofs.Passing.{all_passing, among-passing_below, IsRising-passing_below, passing_below-same}
+use Rattle.unit_sets.proofs.Passing.{filter-passing_below, length-passing_below-add, passing_below-none, same_by_test}
 
 -- ---- the bits of one word
 
@@ -23,7 +30,8 @@ one_bit (suc zero) n h = refl
 one_bit (suc (suc bit)) n h = absurd (omega arith)
 
 -- a number of n bits has as many ones as bits that are set
-pub ones-passing_below : (n word : ℕ) → word < 2 ^ n → count_ones word ≡ length (passing_below (λ k. bit_at word k == 1) n)
+pub ones-passing_below : (n word : ℕ) → word < 2 ^ n
+    → count_ones word ≡ length (passing_below (λ k. bit_at word k == 1) n)
 unfolding passing_below
 ones-passing_below zero word small = omega (arith, ones-le 0 word small)
 ones-passing_below (suc n) word small =
@@ -38,14 +46,16 @@ ones-passing_below (suc n) word small =
     ap count_ones (sym split)
     ∙ ones_cat n high low low_small
     ∙ add_comm (count_ones high) (count_ones low)
-    ∙ ap (λ x. x + count_ones high) (ones-passing_below n low low_small ∙ ap length (passing_below-same _ _ n same_bits))
+    ∙ ap (λ x. x + count_ones high) (ones-passing_below n low low_small
+    ∙ ap length (passing_below-same _ _ n same_bits))
     ∙ ap (λ x. length (passing_below (λ k. bit_at word k == 1) n) + x) (sym (one_bit high n high_small))
     ∙ sym (length-append (passing_below (λ k. bit_at word k == 1) n) (if high % 2 == 1 then n ∷ [] else []))
 
 -- ---- the units that words hold
 
 -- the word and the bit of a number are its quotient and remainder
-pub has_bit-at : (words : List ℕ) (k i : ℕ) → i < 64 → has_bit words (64 * k + i) ≡ (bit_at (slice_index words k) i == 1)
+pub has_bit-at : (words : List ℕ) (k i : ℕ) → i < 64
+    → has_bit words (64 * k + i) ≡ (bit_at (slice_index words k) i == 1)
 has_bit-at words k i h =
     let quotient : (64 * k + i) / 64 ≡ k = omega arith in
     let rest : (64 * k + i) % 64 ≡ i = omega arith in
@@ -62,14 +72,17 @@ among-units_of words unit small =
 
 -- the words with one of them replaced
 has_bit-other_word : (words : List ℕ) (k word v : ℕ) → v / 64 ≢ k → has_bit (slice_set words k word) v ≡ has_bit words v
-has_bit-other_word words k word v other = ap (λ x. bit_at x (v % 64) == 1) (get_or-set_other words k (v / 64) word 0 other)
+has_bit-other_word words k word v other =
+    ap (λ x. bit_at x (v % 64) == 1) (get_or-set_other words k (v / 64) word 0 other)
 
-has_bit-same_word : (words : List ℕ) (k word v : ℕ) → v / 64 ≡ k → k < length words → has_bit (slice_set words k word) v ≡ (bit_at word (v % 64) == 1)
+has_bit-same_word : (words : List ℕ) (k word v : ℕ) → v / 64 ≡ k → k < length words
+    → has_bit (slice_set words k word) v ≡ (bit_at word (v % 64) == 1)
 has_bit-same_word words k word v same within =
     ap (λ x. bit_at (slice_index (slice_set words k word) x) (v % 64) == 1) same
     ∙ ap (λ x. bit_at x (v % 64) == 1) (get_or-set_same words k word 0 within)
 
-has_bit-old_word : (words : List ℕ) (k v : ℕ) → v / 64 ≡ k → has_bit words v ≡ (bit_at (slice_index words k) (v % 64) == 1)
+has_bit-old_word : (words : List ℕ) (k v : ℕ) → v / 64 ≡ k
+    → has_bit words v ≡ (bit_at (slice_index words k) (v % 64) == 1)
 has_bit-old_word words k v same = ap (λ x. bit_at (slice_index words x) (v % 64) == 1) same
 
 apart : (u v : ℕ) → (u ≡ v → ⊥) → (u == v) ≡ false
@@ -83,7 +96,9 @@ and-true : (a : Bool) → (a && true) ≡ a
 and-true true = refl
 and-true false = refl
 
-has_bit-kept : (words : List ℕ) (unit word v : ℕ) → unit / 64 < length words → ((i : ℕ) → i < 64 → i ≢ unit % 64 → bit_at word i ≡ bit_at (slice_index words (unit / 64)) i) → v ≢ unit → has_bit (slice_set words (unit / 64) word) v ≡ has_bit words v
+has_bit-kept : (words : List ℕ) (unit word v : ℕ) → unit / 64 < length words
+    → ((i : ℕ) → i < 64 → i ≢ unit % 64 → bit_at word i ≡ bit_at (slice_index words (unit / 64)) i) → v ≢ unit
+    → has_bit (slice_set words (unit / 64) word) v ≡ has_bit words v
 has_bit-kept words unit word v within others other =
     elim (cases_eq (v / 64) (unit / 64)) [
       | inl same ↦
@@ -94,7 +109,9 @@ has_bit-kept words unit word v within others other =
     ]
 
 -- a word whose bit of the unit is set, and whose other bits are as before
-pub has_bit-set : (words : List ℕ) (unit word : ℕ) → unit / 64 < length words → bit_at word (unit % 64) ≡ 1 → ((i : ℕ) → i < 64 → i ≢ unit % 64 → bit_at word i ≡ bit_at (slice_index words (unit / 64)) i) → (v : ℕ) → has_bit (slice_set words (unit / 64) word) v ≡ ((unit == v) || has_bit words v)
+pub has_bit-set : (words : List ℕ) (unit word : ℕ) → unit / 64 < length words → bit_at word (unit % 64) ≡ 1
+    → ((i : ℕ) → i < 64 → i ≢ unit % 64 → bit_at word i ≡ bit_at (slice_index words (unit / 64)) i) → (v : ℕ)
+    → has_bit (slice_set words (unit / 64) word) v ≡ ((unit == v) || has_bit words v)
 has_bit-set words unit word within set others v =
     elim (cases_eq v unit) [
       | inl same ↦
@@ -108,11 +125,14 @@ has_bit-set words unit word within set others v =
     ]
 
 -- a word whose bit of the unit is clear, and whose other bits are as before
-pub has_bit-clear : (words : List ℕ) (unit word : ℕ) → unit / 64 < length words → bit_at word (unit % 64) ≡ 0 → ((i : ℕ) → i < 64 → i ≢ unit % 64 → bit_at word i ≡ bit_at (slice_index words (unit / 64)) i) → (v : ℕ) → has_bit (slice_set words (unit / 64) word) v ≡ (has_bit words v && not (v == unit))
+pub has_bit-clear : (words : List ℕ) (unit word : ℕ) → unit / 64 < length words → bit_at word (unit % 64) ≡ 0
+    → ((i : ℕ) → i < 64 → i ≢ unit % 64 → bit_at word i ≡ bit_at (slice_index words (unit / 64)) i) → (v : ℕ)
+    → has_bit (slice_set words (unit / 64) word) v ≡ (has_bit words v && not (v == unit))
 has_bit-clear words unit word within clear others v =
     elim (cases_eq v unit) [
       | inl same ↦
-          subst (λ (q : ℕ). has_bit (slice_set words (unit / 64) word) q ≡ (has_bit words q && not (q == unit))) (sym same)
+          subst (λ (q : ℕ). has_bit (slice_set words (unit / 64) word) q ≡ (has_bit words q && not (q == unit)))
+          (sym same)
           (has_bit-same_word words (unit / 64) word unit refl within
           ∙ ap (λ x. x == 1) clear
           ∙ sym (and-false (has_bit words unit))
@@ -156,11 +176,14 @@ unit_by_bit words holds (suc k) h set = (omega arith, omega arith)
 pub IsUnitSet-units_of : (words : List ℕ) → HoldsUnits words → IsUnitSet (units_of words)
 IsUnitSet-units_of words holds = record {
   rising = IsRising-passing_below (has_bit words) 4096;
-  units = All-from_recursion IsUnit (units_of words) (all_passing IsUnit (has_bit words) 4096 (unit_by_bit words holds));
+  units =
+      All-from_recursion IsUnit (units_of words) (all_passing IsUnit (has_bit words) 4096 (unit_by_bit words holds));
 }
 
 -- words with one bit more hold one unit more
-pub units_of-with : (words words' : List ℕ) (unit : ℕ) → unit < 4096 → ((v : ℕ) → has_bit words' v ≡ ((unit == v) || has_bit words v)) → units_of words' ≡ with_unit unit (units_of words)
+pub units_of-with : (words words' : List ℕ) (unit : ℕ) → unit < 4096
+    → ((v : ℕ) → has_bit words' v ≡ ((unit == v) || has_bit words v))
+    → units_of words' ≡ with_unit unit (units_of words)
 units_of-with words words' unit small bits =
     same_set (units_of words') (with_unit unit (units_of words))
     (IsRising-passing_below (has_bit words') 4096)
@@ -172,7 +195,8 @@ units_of-with words words' unit small bits =
     ∙ sym (among-with_unit unit (units_of words) v))
 
 -- a unit's bit is its membership, where the words and the number are seen through what equals them
-pub member_by_bit : (items seen value : List ℕ) (number unit : ℕ) → seen ≡ items → number ≡ unit → IsUnit unit → units_of items ≡ value → has_bit seen number ≡ among value unit
+pub member_by_bit : (items seen value : List ℕ) (number unit : ℕ) → seen ≡ items → number ≡ unit → IsUnit unit
+    → units_of items ≡ value → has_bit seen number ≡ among value unit
 member_by_bit items seen value number unit same_words same_number is_unit is_value =
     ap (λ words. has_bit words number) same_words
     ∙ ap (λ n. has_bit items n) same_number
@@ -180,7 +204,9 @@ member_by_bit items seen value number unit same_words same_number is_unit is_val
     ∙ ap (λ set. among set unit) is_value
 
 -- words with one bit less hold one unit less
-pub units_of-without : (words words' : List ℕ) (unit : ℕ) → ((v : ℕ) → has_bit words' v ≡ (has_bit words v && not (v == unit))) → units_of words' ≡ without_unit unit (units_of words)
+pub units_of-without : (words words' : List ℕ) (unit : ℕ)
+    → ((v : ℕ) → has_bit words' v ≡ (has_bit words v && not (v == unit)))
+    → units_of words' ≡ without_unit unit (units_of words)
 units_of-without words words' unit bits =
     same_set (units_of words') (without_unit unit (units_of words))
     (IsRising-passing_below (has_bit words') 4096)
@@ -210,40 +236,49 @@ one_in_cover a b i covered one =
     let small : bit_at b i < 2 = bit_at-lt b i in
     omega arith
 
-one_from_has_bit : (words : List ℕ) (unit : ℕ) → has_bit words unit ≡ true → bit_at (slice_index words (unit / 64)) (unit % 64) ≡ 1
+one_from_has_bit : (words : List ℕ) (unit : ℕ) → has_bit words unit ≡ true
+    → bit_at (slice_index words (unit / 64)) (unit % 64) ≡ 1
 one_from_has_bit words unit h = same_by_test _ 1 h
 
 below_from_test : (a b : ℕ) → nat_lt a b ≡ true → a < b
 below_from_test a b h = grind (arith, nat_tests)
 
 -- where each word's ones are ones of the other's, each unit is in the other
-pub is_within-from_words : (words others : List ℕ) → ((k : ℕ) → k < 64 → bit_and (slice_index words k) (slice_index others k) ≡ slice_index words k) → is_within (units_of others) (units_of words) ≡ true
+pub is_within-from_words : (words others : List ℕ)
+    → ((k : ℕ) → k < 64 → bit_and (slice_index words k) (slice_index others k) ≡ slice_index words k)
+    → is_within (units_of others) (units_of words) ≡ true
 is_within-from_words words others covered =
     is_within-from_among (units_of others) (units_of words) (λ unit h.
-    let both : (nat_lt unit 4096 ≡ true) × (has_bit words unit ≡ true) = and_parts (nat_lt unit 4096) (has_bit words unit) (sym (among-passing_below (has_bit words) 4096 unit) ∙ h) in
+    let both : (nat_lt unit 4096 ≡ true) × (has_bit words unit ≡ true) =
+    and_parts (nat_lt unit 4096) (has_bit words unit) (sym (among-passing_below (has_bit words) 4096 unit) ∙ h) in
     let small : unit < 4096 = below_from_test unit 4096 both.0 in
     let place : unit / 64 < 64 = omega arith in
     among-units_of others unit small
     ∙ ap (λ b. b == 1) (one_in_cover _ _ (unit % 64) (covered (unit / 64) place) (one_from_has_bit words unit both.1)))
 
 -- where each unit is in the other, each word's ones are ones of the other's
-pub covered-from_is_within : (words others : List ℕ) (k : ℕ) → k < 64 → slice_index words k < 2 ^ 64 → is_within (units_of others) (units_of words) ≡ true → bit_and (slice_index words k) (slice_index others k) ≡ slice_index words k
+pub covered-from_is_within : (words others : List ℕ) (k : ℕ) → k < 64 → slice_index words k < 2 ^ 64
+    → is_within (units_of others) (units_of words) ≡ true
+    → bit_and (slice_index words k) (slice_index others k) ≡ slice_index words k
 covered-from_is_within words others k h small within =
     covered_word (slice_index words k) (slice_index others k) small (λ i below one.
     let unit_small : 64 * k + i < 4096 = omega arith in
     let here : among (units_of words) (64 * k + i) ≡ true =
     among-units_of words (64 * k + i) unit_small ∙ has_bit-at words k i below ∙ ap (λ b. b == 1) one in
-    let there : among (units_of others) (64 * k + i) ≡ true = among-from_is_within (units_of others) (units_of words) (64 * k + i) within here in
+    let there : among (units_of others) (64 * k + i) ≡ true =
+    among-from_is_within (units_of others) (units_of words) (64 * k + i) within here in
     same_by_test _ 1 (sym (has_bit-at others k i below) ∙ sym (among-units_of others (64 * k + i) unit_small) ∙ there))
 
 -- whether a number's bit is set in the words and not in the others
 abbrev pub only_in : List ℕ → List ℕ → ℕ → Bool
 only_in words others number = has_bit words number && not (has_bit others number)
 
-pub length-outside : (words others : List ℕ) → length (outside (units_of others) (units_of words)) ≡ length (passing_below (only_in words others) 4096)
+pub length-outside : (words others : List ℕ) → length (outside (units_of others) (units_of words))
+    ≡ length (passing_below (only_in words others) 4096)
 length-outside words others =
     ap length (filter-passing_below (λ member. not (among (units_of others) member)) (has_bit words) 4096
-    ∙ passing_below-same _ (only_in words others) 4096 (λ unit h. ap (λ b. has_bit words unit && not b) (among-units_of others unit h)))
+    ∙ passing_below-same _ (only_in words others) 4096
+    (λ unit h. ap (λ b. has_bit words unit && not b) (among-units_of others unit h)))
 
 only_bit : (a b : ℕ) → a < 2 → b < 2 → ((a == 1) && not (b == 1)) ≡ (min a (1 - b) == 1)
 only_bit zero zero h k = refl
@@ -255,7 +290,10 @@ only_bit (suc zero) (suc (suc b)) h k = absurd (omega arith)
 only_bit (suc (suc a)) b h k = absurd (omega arith)
 
 -- one word more counts its ones that are none of the other's
-pub count_more : (words others : List ℕ) (k : ℕ) → slice_index words k < 2 ^ 64 → slice_index others k < 2 ^ 64 → length (passing_below (only_in words others) (64 * (k + 1))) ≡ length (passing_below (only_in words others) (64 * k)) + count_ones (bit_and (slice_index words k) (bit_not w64 (slice_index others k)))
+pub count_more : (words others : List ℕ) (k : ℕ) → slice_index words k < 2 ^ 64 → slice_index others k < 2 ^ 64
+    → length (passing_below (only_in words others) (64 * (k + 1)))
+    ≡ length (passing_below (only_in words others) (64 * k))
+    + count_ones (bit_and (slice_index words k) (bit_not w64 (slice_index others k)))
 count_more words others k small small' =
     let a : ℕ = slice_index words k in
     let b : ℕ = slice_index others k in
@@ -269,28 +307,45 @@ count_more words others k small small' =
     ∙ ap (λ x. x == 1) (sym (bit_at_and a (bit_not w64 b) i)) in
     ap (λ x. length (passing_below (only_in words others) x)) next
     ∙ length-passing_below-add (only_in words others) (64 * k) 64
-    ∙ ap (λ x. length (passing_below (only_in words others) (64 * k)) + x) (ap length (passing_below-same _ _ 64 same) ∙ sym (ones-passing_below 64 (bit_and a (bit_not w64 b)) word_small))
+    ∙ ap (λ x. length (passing_below (only_in words others) (64 * k)) + x)
+    (ap length (passing_below-same _ _ 64 same) ∙ sym
+    (ones-passing_below 64 (bit_and a (bit_not w64 b)) word_small))
 
 -- ---- what a write of one bit leaves
 
-pub HoldsUnits-with : (items seen new : List ℕ) (number unit : ℕ) → seen ≡ items → number ≡ unit → IsUnit unit → length new ≡ length seen → ((v : ℕ) → has_bit new v ≡ ((number == v) || has_bit seen v)) → HoldsUnits items → HoldsUnits new
+pub HoldsUnits-with : (items seen new : List ℕ) (number unit : ℕ) → seen ≡ items → number ≡ unit → IsUnit unit
+    → length new ≡ length seen → ((v : ℕ) → has_bit new v ≡ ((number == v) || has_bit seen v)) → HoldsUnits items
+    → HoldsUnits new
 HoldsUnits-with items seen new number unit same_words same_number is_unit same_length bits holds = record {
   all_units = same_length ∙ ap length same_words ∙ holds.all_units;
-  not_zero = bits 0 ∙ ap (λ n. (n == 0) || has_bit seen 0) same_number ∙ ap (λ words. (unit == 0) || has_bit words 0) same_words ∙ ap (λ b. (unit == 0) || b) holds.not_zero ∙ ap (λ b. b || false) (apart unit 0 (λ e. absurd (omega (arith, is_unit.0))));
+  not_zero =
+      bits 0 ∙ ap (λ n. (n == 0) || has_bit seen 0) same_number
+      ∙ ap (λ words. (unit == 0) || has_bit words 0) same_words ∙ ap (λ b. (unit == 0) || b) holds.not_zero
+      ∙ ap (λ b. b || false) (apart unit 0 (λ e. absurd (omega (arith, is_unit.0))));
 }
 
-pub units_of-inserted : (items seen new value : List ℕ) (number unit : ℕ) → seen ≡ items → number ≡ unit → IsUnit unit → ((v : ℕ) → has_bit new v ≡ ((number == v) || has_bit seen v)) → units_of items ≡ value → units_of new ≡ with_unit unit value
+pub units_of-inserted : (items seen new value : List ℕ) (number unit : ℕ) → seen ≡ items → number ≡ unit → IsUnit unit
+    → ((v : ℕ) → has_bit new v ≡ ((number == v) || has_bit seen v)) → units_of items ≡ value
+    → units_of new ≡ with_unit unit value
 units_of-inserted items seen new value number unit same_words same_number is_unit bits is_value =
-    units_of-with items new unit (omega (arith, is_unit.1)) (λ v. bits v ∙ ap (λ n. (n == v) || has_bit seen v) same_number ∙ ap (λ words. (unit == v) || has_bit words v) same_words)
+    units_of-with items new unit (omega (arith, is_unit.1))
+    (λ v. bits v ∙ ap (λ n. (n == v) || has_bit seen v) same_number
+    ∙ ap (λ words. (unit == v) || has_bit words v) same_words)
     ∙ ap (with_unit unit) is_value
 
-pub HoldsUnits-without : (items seen new : List ℕ) (number : ℕ) → seen ≡ items → length new ≡ length seen → ((v : ℕ) → has_bit new v ≡ (has_bit seen v && not (v == number))) → HoldsUnits items → HoldsUnits new
+pub HoldsUnits-without : (items seen new : List ℕ) (number : ℕ) → seen ≡ items → length new ≡ length seen
+    → ((v : ℕ) → has_bit new v ≡ (has_bit seen v && not (v == number))) → HoldsUnits items → HoldsUnits new
 HoldsUnits-without items seen new number same_words same_length bits holds = record {
   all_units = same_length ∙ ap length same_words ∙ holds.all_units;
-  not_zero = bits 0 ∙ ap (λ words. has_bit words 0 && not (0 == number)) same_words ∙ ap (λ b. b && not (0 == number)) holds.not_zero;
+  not_zero =
+      bits 0 ∙ ap (λ words. has_bit words 0 && not (0 == number)) same_words
+      ∙ ap (λ b. b && not (0 == number)) holds.not_zero;
 }
 
-pub units_of-removed : (items seen new value : List ℕ) (number unit : ℕ) → seen ≡ items → number ≡ unit → ((v : ℕ) → has_bit new v ≡ (has_bit seen v && not (v == number))) → units_of items ≡ value → units_of new ≡ without_unit unit value
+pub units_of-removed : (items seen new value : List ℕ) (number unit : ℕ) → seen ≡ items → number ≡ unit
+    → ((v : ℕ) → has_bit new v ≡ (has_bit seen v && not (v == number))) → units_of items ≡ value
+    → units_of new ≡ without_unit unit value
 units_of-removed items seen new value number unit same_words same_number bits is_value =
-    units_of-without items new unit (λ v. bits v ∙ ap (λ n. has_bit seen v && not (v == n)) same_number ∙ ap (λ words. has_bit words v && not (v == unit)) same_words)
+    units_of-without items new unit (λ v. bits v ∙ ap (λ n. has_bit seen v && not (v == n)) same_number
+    ∙ ap (λ words. has_bit words v && not (v == unit)) same_words)
     ∙ ap (without_unit unit) is_value

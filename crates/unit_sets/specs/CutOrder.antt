@@ -29,7 +29,9 @@ second_ties Greater second h = absurd cc
 
 -- only equal sets tie
 pub cut_cmp-same : (x y : List ℕ) → cut_cmp x y ≡ Equal → x ≡ y
-cut_cmp-same x y h = slice_cmp-IsAntisymmetric nat_cmp-IsAntisymmetric x y (second_ties (nat_cmp (length x) (length y)) (slice_cmp nat_cmp x y) h)
+cut_cmp-same x y h =
+    slice_cmp-IsAntisymmetric nat_cmp-IsAntisymmetric x y
+    (second_ties (nat_cmp (length x) (length y)) (slice_cmp nat_cmp x y) h)
 
 -- each set is below those after it
 abbrev pub IsInCutOrder : List (List ℕ) → Type 0
@@ -65,10 +67,12 @@ pub weight-take-le : (cuts : List (List ℕ)) (n : ℕ) → weight (take n cuts)
 weight-take-le cuts n = sum_by-take-le (λ (c : List ℕ). 1 + length c) cuts n
 
 -- the sets before a place, and then the set there, are in order
-pub in_order_up_to : (cuts : List (List ℕ)) (i : ℕ) (cut : List ℕ) → IsInCutOrder cuts → slice_get cuts i ≡ Some cut → IsInCutOrder (take i cuts ++ cut ∷ [])
+pub in_order_up_to : (cuts : List (List ℕ)) (i : ℕ) (cut : List ℕ) → IsInCutOrder cuts → slice_get cuts i ≡ Some cut
+    → IsInCutOrder (take i cuts ++ cut ∷ [])
 in_order_up_to cuts i cut ordered at =
     subst IsInCutOrder (sym (take-slice_get cuts i cut at)) (sorted-take cut_cmp (i + 1) cuts ordered)
 
 -- each set of a list is one that a list may have
-pub cut_at : (cuts : List (List ℕ)) (i : ℕ) (cut : List ℕ) → IsOrderedCuts cuts → slice_get cuts i ≡ Some cut → IsCutSet cut
+pub cut_at : (cuts : List (List ℕ)) (i : ℕ) (cut : List ℕ) → IsOrderedCuts cuts → slice_get cuts i ≡ Some cut
+    → IsCutSet cut
 cut_at cuts i cut ordered at = All-slice_get IsCutSet cuts i cut ordered.sets at

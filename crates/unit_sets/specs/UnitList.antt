@@ -1,5 +1,6 @@
 -- Sets of units, each written as the rising list of its members.
-use Rattle.std.specs.Prelude.{◌≡◌, ℕ, Bool, true, false, not, ◌&&◌, ◌||◌, ◌==◌, nat_lt, List, [], ◌∷◌, filter, All, Contains, if◌then◌else◌}
+use Rattle.std.specs.Prelude.{◌≡◌, ℕ, Bool, true, false, not, ◌&&◌, ◌||◌, ◌==◌, nat_lt, List, [], ◌∷◌, filter, All}
+use Rattle.std.specs.Prelude.{Contains, if◌then◌else◌}
 use Rattle.std.specs.List.{list_any, list_all, AllByRecursion}
 use Rattle.std.specs.List.Sorted.{IsStrictlySortedBy}
 use Rattle.std.specs.Ordering.{nat_cmp}
@@ -50,7 +51,9 @@ pub Contains-from_among : (set : List ℕ) (unit : ℕ) → among set unit ≡ t
 Contains-from_among [] unit h = absurd cc
 Contains-from_among (first ∷ others) unit h =
     elim (or_cases (first == unit) (among others unit) h) [
-      | inl here ↦ let same : first ≡ unit = grind (arith, nat_tests) in subst (λ (q : ℕ). Contains (first ∷ others) q) same (Contains-cons_first first others)
+      | inl here ↦ let same : first ≡ unit =
+          grind (arith, nat_tests) in subst (λ (q : ℕ). Contains (first ∷ others) q) same
+          (Contains-cons_first first others)
       | inr later ↦ Contains-cons_other first unit others (Contains-from_among others unit later)
     ]
 
@@ -99,7 +102,8 @@ or_swap true true a = refl
 or_swap true false a = refl
 or_swap false u a = refl
 
-pub among-filter : (keep : ℕ → Bool) (set : List ℕ) (unit : ℕ) → among (filter keep set) unit ≡ (among set unit && keep unit)
+pub among-filter : (keep : ℕ → Bool) (set : List ℕ) (unit : ℕ)
+    → among (filter keep set) unit ≡ (among set unit && keep unit)
 among-filter keep [] unit = refl
 among-filter keep (first ∷ others) unit =
     let ih : among (filter keep others) unit ≡ (among others unit && keep unit) = among-filter keep others unit in
@@ -108,19 +112,24 @@ among-filter keep (first ∷ others) unit =
     (λ yes. kept_first (first == unit) (among others unit) (keep unit) _ ih (test_of_same first unit keep true yes))
     (λ no. dropped_first (first == unit) (among others unit) (keep unit) _ ih (test_of_same first unit keep false no))
 
-pub among-with_unit : (unit : ℕ) (set : List ℕ) (other : ℕ) → among (with_unit unit set) other ≡ ((unit == other) || among set other)
+pub among-with_unit : (unit : ℕ) (set : List ℕ) (other : ℕ)
+    → among (with_unit unit set) other ≡ ((unit == other) || among set other)
 among-with_unit unit [] other = refl
 among-with_unit unit (first ∷ others) other =
-    let ih : among (with_unit unit others) other ≡ ((unit == other) || among others other) = among-with_unit unit others other in
-    cond_both (nat_lt unit first) (unit ∷ first ∷ others) (if first == unit then first ∷ others else first ∷ with_unit unit others)
+    let ih : among (with_unit unit others) other ≡ ((unit == other) || among others other) =
+    among-with_unit unit others other in
+    cond_both (nat_lt unit first) (unit ∷ first ∷ others)
+    (if first == unit then first ∷ others else first ∷ with_unit unit others)
     (λ new. among new other ≡ ((unit == other) || among (first ∷ others) other))
     (λ below. refl)
     (λ _. cond_both (first == unit) (first ∷ others) (first ∷ with_unit unit others)
     (λ new. among new other ≡ ((unit == other) || among (first ∷ others) other))
-    (λ same. already (unit == other) (first == other) (among others other) (ap (λ q. q == other) (sym (same_by_test first unit same))))
+    (λ same. already (unit == other) (first == other) (among others other)
+    (ap (λ q. q == other) (sym (same_by_test first unit same))))
     (λ _. ap (λ b. (first == other) || b) ih ∙ or_swap (first == other) (unit == other) (among others other)))
 
-pub among-without_unit : (unit : ℕ) (set : List ℕ) (other : ℕ) → among (without_unit unit set) other ≡ (among set other && not (other == unit))
+pub among-without_unit : (unit : ℕ) (set : List ℕ) (other : ℕ)
+    → among (without_unit unit set) other ≡ (among set other && not (other == unit))
 among-without_unit unit set other = among-filter (λ member. not (member == unit)) set other
 
 pub IsRising-without_unit : (unit : ℕ) (set : List ℕ) → IsRising set → IsRising (without_unit unit set)
@@ -132,27 +141,34 @@ less_from_below a b h = grind (arith, nat_tests)
 less_from_above : (a b : ℕ) → nat_lt a b ≡ false → (b == a) ≡ false → nat_cmp b a ≡ Less
 less_from_above a b h k = grind (arith, nat_tests)
 
-below_later : (unit first : ℕ) (others : List ℕ) → nat_cmp unit first ≡ Less → AllByRecursion (λ y. nat_cmp first y ≡ Less) others → AllByRecursion (λ y. nat_cmp unit y ≡ Less) others
+below_later : (unit first : ℕ) (others : List ℕ) → nat_cmp unit first ≡ Less
+    → AllByRecursion (λ y. nat_cmp first y ≡ Less) others → AllByRecursion (λ y. nat_cmp unit y ≡ Less) others
 below_later unit first [] below s = tt
-below_later unit first (next ∷ others) below s = (nat_cmp_total.trans unit first next below s.0, below_later unit first others below s.1)
+below_later unit first (next ∷ others) below s =
+    (nat_cmp_total.trans unit first next below s.0, below_later unit first others below s.1)
 
 -- what holds of the unit and of each member holds of each member afterwards
-all_with_unit : (P : ℕ → Type 0) (unit : ℕ) (set : List ℕ) → P unit → AllByRecursion P set → AllByRecursion P (with_unit unit set)
+all_with_unit : (P : ℕ → Type 0) (unit : ℕ) (set : List ℕ) → P unit → AllByRecursion P set
+    → AllByRecursion P (with_unit unit set)
 all_with_unit P unit [] one all = (one, tt)
 all_with_unit P unit (first ∷ others) one all =
-    cond_both (nat_lt unit first) (unit ∷ first ∷ others) (if first == unit then first ∷ others else first ∷ with_unit unit others) (AllByRecursion P)
+    cond_both (nat_lt unit first) (unit ∷ first ∷ others)
+    (if first == unit then first ∷ others else first ∷ with_unit unit others) (AllByRecursion P)
     (λ _. (one, all))
     (λ _. cond_both (first == unit) (first ∷ others) (first ∷ with_unit unit others) (AllByRecursion P)
     (λ _. all)
     (λ _. (all.0, all_with_unit P unit others one all.1)))
 
-below_all : (unit first : ℕ) (others : List ℕ) → nat_lt unit first ≡ true → IsRising (first ∷ others) → AllByRecursion (λ y. nat_cmp unit y ≡ Less) (first ∷ others)
+below_all : (unit first : ℕ) (others : List ℕ) → nat_lt unit first ≡ true → IsRising (first ∷ others)
+    → AllByRecursion (λ y. nat_cmp unit y ≡ Less) (first ∷ others)
 unfolding IsStrictlySortedBy
 below_all unit first others below s =
     let less : nat_cmp unit first ≡ Less = less_from_below unit first below in
     (less, below_later unit first others less s.0)
 
-still_first : (unit first : ℕ) (others : List ℕ) → nat_lt unit first ≡ false → (first == unit) ≡ false → AllByRecursion (λ y. nat_cmp first y ≡ Less) others → AllByRecursion (λ y. nat_cmp first y ≡ Less) (with_unit unit others)
+still_first : (unit first : ℕ) (others : List ℕ) → nat_lt unit first ≡ false → (first == unit) ≡ false
+    → AllByRecursion (λ y. nat_cmp first y ≡ Less) others
+    → AllByRecursion (λ y. nat_cmp first y ≡ Less) (with_unit unit others)
 still_first unit first others not_below other s =
     all_with_unit (λ y. nat_cmp first y ≡ Less) unit others (less_from_above unit first not_below other) s
 
@@ -160,7 +176,8 @@ pub IsRising-with_unit : (unit : ℕ) (set : List ℕ) → IsRising set → IsRi
 unfolding IsStrictlySortedBy
 IsRising-with_unit unit [] s = (tt, tt)
 IsRising-with_unit unit (first ∷ others) s =
-    cond_both (nat_lt unit first) (unit ∷ first ∷ others) (if first == unit then first ∷ others else first ∷ with_unit unit others) IsRising
+    cond_both (nat_lt unit first) (unit ∷ first ∷ others)
+    (if first == unit then first ∷ others else first ∷ with_unit unit others) IsRising
     (λ below. (below_all unit first others below s, s))
     (λ not_below. cond_both (first == unit) (first ∷ others) (first ∷ with_unit unit others) IsRising
     (λ _. s)
@@ -168,16 +185,19 @@ IsRising-with_unit unit (first ∷ others) s =
 
 -- ---- a set within another, by its members
 
-pub among-from_is_within : (other set : List ℕ) (unit : ℕ) → is_within other set ≡ true → among set unit ≡ true → among other unit ≡ true
+pub among-from_is_within : (other set : List ℕ) (unit : ℕ) → is_within other set ≡ true → among set unit ≡ true
+    → among other unit ≡ true
 among-from_is_within other [] unit within h = absurd cc
 among-from_is_within other (first ∷ others) unit within h =
-    let both : (among other first ≡ true) × (is_within other others ≡ true) = and_parts (among other first) (is_within other others) within in
+    let both : (among other first ≡ true) × (is_within other others ≡ true) =
+    and_parts (among other first) (is_within other others) within in
     elim (or_cases (first == unit) (among others unit) h) [
       | inl here ↦ subst (λ (q : ℕ). among other q ≡ true) (same_by_test first unit here) both.0
       | inr later ↦ among-from_is_within other others unit both.1 later
     ]
 
-pub is_within-from_among : (other set : List ℕ) → ((unit : ℕ) → among set unit ≡ true → among other unit ≡ true) → is_within other set ≡ true
+pub is_within-from_among : (other set : List ℕ) → ((unit : ℕ) → among set unit ≡ true → among other unit ≡ true)
+    → is_within other set ≡ true
 is_within-from_among other [] each = refl
 is_within-from_among other (first ∷ others) each =
     and_from (among other first) (is_within other others)

@@ -1,5 +1,6 @@
 -- How words of 64 bits hold a set of units: the bit u % 64 of the word u / 64 stands for the unit u.
-use Rattle.std.specs.Prelude.{ℕ, ◌/◌, ◌%◌, Bool, zero, suc, ◌==◌, List, [], ◌∷◌, ◌++◌, slice_index, if◌then◌else◌, ◌≡◌, false, length}
+use Rattle.std.specs.Prelude.{ℕ, ◌/◌, ◌%◌, Bool, zero, suc, ◌==◌, List, [], ◌∷◌, ◌++◌, slice_index, if◌then◌else◌, ◌≡◌}
+use Rattle.std.specs.Prelude.{false, length}
 use Rattle.std.specs.Int.{bit_at}
 
 -- whether the words have the bit of a number set

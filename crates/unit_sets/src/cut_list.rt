@@ -1,4 +1,6 @@
-ghost use Rattle.std.specs.Prelude.{◌≡◌, ◌-◌, ◌<◌, ◌≤◌, ◌↔◌, [], ◌∷◌, ◌++◌, length, take, drop, slice_index, OnOk, OnErr, IsErrOf, slice_get, Some};
+//! Lists of cut sets, by size and then by unit numbers.
+ghost use Rattle.std.specs.Prelude.{◌≡◌, ◌-◌, ◌<◌, ◌≤◌, ◌↔◌, [], ◌∷◌, ◌++◌, length, take, drop, slice_index, OnOk};
+ghost use Rattle.std.specs.Prelude.{OnErr, IsErrOf, slice_get, Some};
 ghost use Rattle.unit_sets.specs.UnitList.{IsRising};
 ghost use Rattle.unit_sets.specs.CutOrder.{cut_cmp, IsInCutOrder, IsOrderedCuts, weight, weight_limit};
 ghost use Rattle.unit_sets.specs.Row.{start_at};
@@ -111,13 +113,10 @@ impl CutList {
             return Err(PushEnd::ListLimit);
         }
         UnitNo::are_units(set);
-        let before = self.row.len();
+        self.ends.reserve(1)?;
         self.row.extend_from_slice(set)?;
         let end = self.row.len() as u32;
-        if self.ends.push(end).is_err() {
-            self.row.truncate(before);
-            return Err(PushEnd::NoMemory);
-        }
+        self.ends.push_reserved(end);
         Ok(())
     }
 }

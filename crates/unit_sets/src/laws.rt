@@ -1,3 +1,4 @@
+//! Laws of sets and of lists of sets.
 ghost use Rattle.std.specs.Prelude.{◌≡◌, ◌↔◌, ℕ, List, Contains};
 ghost use Rattle.std.specs.Cmp.{IsTotalOrder};
 ghost use Rattle.std.specs.declared.cmp.Ordering.TheVariants.{Equal};
@@ -17,5 +18,6 @@ pub fn members_tell_a_set()
 
 /// Two lists in cut order with the same sets are equal, so there is one list of given cut sets.
 pub fn sets_tell_a_list()
-    ensures { (xs ys : List (List ℕ)) → IsInCutOrder xs → IsInCutOrder ys → ((cut : List ℕ) → Contains xs cut ↔ Contains ys cut) → xs ≡ ys }
+    ensures { (xs ys : List (List ℕ)) → IsInCutOrder xs → IsInCutOrder ys
+        → ((cut : List ℕ) → Contains xs cut ↔ Contains ys cut) → xs ≡ ys }
 {}

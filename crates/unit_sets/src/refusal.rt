@@ -1,3 +1,4 @@
+//! Why a list was not made or did not grow.
 use std::alloc::{AllocError, AllocFailed};
 
 /// Why a cut set was not added to a list.

@@ -1,3 +1,4 @@
+//! Crews, and what is done with a unit.
 /// The number of a crew: its place, from 0, among the crews of a deck.
 #[derive(Clone, Copy, Debug, PartialEq, Eq, Hash, PartialOrd, Ord)]
 pub struct CrewNo(pub u32);

@@ -1,3 +1,4 @@
+//! Units, sets and lists, each once.
 use super::*;
 use std::cmp::Ordering;
 use std::test::Fail;

@@ -1,3 +1,4 @@
+//! The number of a unit.
 ghost use Rattle.std.specs.Prelude.{◌≡◌, ◌↔◌, All, IsSome, IfSome};
 ghost use Rattle.unit_sets.specs.Unit.{IsUnit};
 

@@ -1,3 +1,4 @@
+//! Sets of units, a bit for each.
 ghost use Rattle.std.specs.Prelude.{◌≡◌, ℕ, ◌/◌, ◌<◌, ◌==◌, ◌&&◌, ◌||◌, [], length, not, IfOk};
 ghost use Rattle.unit_sets.specs.UnitList.{among, is_within, IsUnitSet, outside, with_unit, without_unit};
 ghost use Rattle.unit_sets.specs.Words.{has_bit, units_of};

@@ -1,5 +1,7 @@
 -- Cut families in a worker's own memory, and that of an `fdep`.
-use Rattle.std.proofs.Common.{◌≡◌, ℕ, zero, suc, ◌+◌, ◌<◌, ◌≤◌, set, inl, inr, get_or-set_same, get_or-set_other, Bool, true, false, List, [], ◌∷◌, length, map, take, get_or, All, Contains, Result, Ok, Err, IfOk, IfErr, refl, sym, ◌∙◌, ap, subst, arith}
+use Rattle.std.proofs.Common.{◌≡◌, ℕ, zero, suc, ◌+◌, ◌<◌, ◌≤◌, set, inl, inr, get_or-set_same, get_or-set_other, Bool}
+use Rattle.std.proofs.Common.{true, false, List, [], ◌∷◌, length, map, take, get_or, All, Contains, Result, Ok, Err}
+use Rattle.std.proofs.Common.{IfOk, IfErr, refl, sym, ◌∙◌, ap, subst, arith}
 use Rattle.std.specs.List.Sorted.{IsStrictlySortedBy}
 use Rattle.std.proofs.lemmas.Bool.{cases_eq, cond-true, and_parts}
 use Rattle.std.proofs.lemmas.List.{get_or_default, get_or-take}
@@ -12,7 +14,8 @@ use Rattle.fault_model.specs.Cut.{IsMinimalFor}
 use Rattle.fault_model.specs.CutFamily.{IsCutFamily}
 use Rattle.fault_model.specs.Reading.{reads, node_reads, gate_reads}
 use Rattle.fault_model.specs.ReadingLaws.{reads-node}
-use Rattle.fault_model.specs.Tree.{FaultTree, IsNodeOf, inputs_of, is_above_units, is_fdep, is_fdep_kind, kind_of, unit_count}
+use Rattle.fault_model.specs.Tree.{FaultTree, IsNodeOf, inputs_of, is_above_units, is_fdep, is_fdep_kind, kind_of}
+use Rattle.fault_model.specs.Tree.{unit_count}
 use Rattle.fault_model.specs.WellFormed.{IsTree}
 use Rattle.family_operations.specs.Minimal.{IsMinimal}
 use Rattle.family_parts.specs.Antichains.{IsAntichain}
@@ -29,16 +32,21 @@ use Rattle.zdd_build.specs.Own.{AreRead}
 
 -- ---- a cut family is an antichain
 
-pub cut_family_antichain : (tree : FaultTree) → IsTree tree → (node : ℕ) → IsNodeOf tree node → (family : List (List ℕ)) → IsCutFamily tree node family → IsAntichain family
+pub cut_family_antichain : (tree : FaultTree) → IsTree tree → (node : ℕ) → IsNodeOf tree node → (family : List (List ℕ))
+    → IsCutFamily tree node family → IsAntichain family
 cut_family_antichain tree kept node is_node family is =
     let generates : Generates tree node family = Generates-cut_family tree kept node is_node family is in
-    let found : HasLeast 0 (unit_count tree) family = minimal-exists (unit_count tree) 0 family (Spans-of_tree tree family generates.of_tree) in
-    let same : found.least ≡ family = cut_family-one tree node found.least family (cut_family-minimal tree node family found.least generates found.is) is in
+    let found : HasLeast 0 (unit_count tree) family =
+    minimal-exists (unit_count tree) 0 family (Spans-of_tree tree family generates.of_tree) in
+    let same : found.least ≡ family =
+    cut_family-one tree node found.least family (cut_family-minimal tree node family found.least generates found.is)
+    is in
     subst (λ (q : List (List ℕ)). IsMinimal family q) same found.is
 
 -- ---- an `fdep` never fails
 
-fdep_reads : (kind : GateKind) (read : ℕ → Bool) (inputs : List ℕ) → is_fdep_kind kind ≡ true → gate_reads kind read inputs ≡ false
+fdep_reads : (kind : GateKind) (read : ℕ → Bool) (inputs : List ℕ) → is_fdep_kind kind ≡ true
+    → gate_reads kind read inputs ≡ false
 fdep_reads And read inputs fdep = absurd cc
 fdep_reads Or read inputs fdep = absurd cc
 fdep_reads (Votes least of) read inputs fdep = absurd cc
@@ -50,11 +58,13 @@ fdep_reads Csp read inputs fdep = absurd cc
 fdep_reads Wsp read inputs fdep = absurd cc
 fdep_reads Hsp read inputs fdep = absurd cc
 
-module _ (tree : FaultTree) (kept : IsTree tree) (node : ℕ) (is_node : IsNodeOf tree node) (fdep : is_fdep tree node ≡ true) where
+module _ (tree : FaultTree) (kept : IsTree tree) (node : ℕ) (is_node : IsNodeOf tree node)
+    (fdep : is_fdep tree node ≡ true) where
   never : (set : ℕ → Bool) → reads tree set node ≡ false
   never set =
       let both = and_parts (is_above_units tree node) (is_fdep_kind (kind_of tree node)) fdep in
-      reads-node tree kept set node is_node ∙ cond-true (is_above_units tree node) _ _ both.0 ∙ fdep_reads (kind_of tree node) (reads tree set) (inputs_of tree node) both.1
+      reads-node tree kept set node is_node ∙ cond-true (is_above_units tree node) _ _ both.0
+      ∙ fdep_reads (kind_of tree node) (reads tree set) (inputs_of tree node) both.1
 
   none_fails : {G : Type 0} (set : List ℕ) → IsMinimalFor tree node set → G
   none_fails set is = absurd (let e : false ≡ true = sym (never (among set)) ∙ is.fails in cc)
@@ -70,13 +80,16 @@ module _ (tree : FaultTree) (kept : IsTree tree) (node : ℕ) (is_node : IsNodeO
 -- ---- what was read of the nodes that a node reads
 
 module _ (held : Held) (tree : FaultTree) where
-  pub read_has : (nodes references : List ℕ) → length references ≡ length nodes → AreRead held tree nodes references (length nodes) → All (Has held) references
-  read_has nodes references same read k d within = subst (Has held) (default k within) (read k (omega (arith, same, within))).0
+  pub read_has : (nodes references : List ℕ) → length references ≡ length nodes
+      → AreRead held tree nodes references (length nodes) → All (Has held) references
+  read_has nodes references same read k d within =
+      subst (Has held) (default k within) (read k (omega (arith, same, within))).0
     where
       default : (k : ℕ) → k < length references → get_or references k 0 ≡ get_or references k d
       default k within = get_or_default references k 0 d within
 
-  pub read_stand : (nodes references : List ℕ) → length references ≡ length nodes → AreRead held tree nodes references (length nodes) → StandFor (IsCutFamily tree) nodes (families held references)
+  pub read_stand : (nodes references : List ℕ) → length references ≡ length nodes
+      → AreRead held tree nodes references (length nodes) → StandFor (IsCutFamily tree) nodes (families held references)
   read_stand [] [] same read = tt
   read_stand [] (r ∷ references) same read = absurd (omega (arith, same))
   read_stand (node ∷ nodes) [] same read = absurd (omega (arith, same))
@@ -86,41 +99,57 @@ module _ (held : Held) (tree : FaultTree) where
   )
 
 -- the memory goes on
-pub read_still : (before after : Held) (tree : FaultTree) → IsSound before → Went before after → (nodes references : List ℕ) (count : ℕ) → AreRead before tree nodes references count → AreRead after tree nodes references count
+pub read_still : (before after : Held) (tree : FaultTree) → IsSound before → Went before after
+    → (nodes references : List ℕ) (count : ℕ) → AreRead before tree nodes references count
+    → AreRead after tree nodes references count
 read_still before after tree sound went nodes references count read k within = (
   still_has before after sound went (get_or references k 0) (read k within).0,
-  subst (IsCutFamily tree (get_or nodes k 0)) (sym (still before after sound went (get_or references k 0) (read k within).0)) (read k within).1,
+  subst (IsCutFamily tree (get_or nodes k 0)) (sym
+      (still before after sound went (get_or references k 0) (read k within).0)) (read k within).1,
 )
 
 -- an operation went on, whatever its answer
-pub went_of : {E : Type 0} (Is : List (List ℕ) → Type 0) (before after : Held) (result : Result ℕ E) → IfOk result (Gave Is before after) → IfErr result (λ _. RanOut before after) → Went before after
+pub went_of : {E : Type 0} (Is : List (List ℕ) → Type 0) (before after : Held) (result : Result ℕ E)
+    → IfOk result (Gave Is before after) → IfErr result (λ _. RanOut before after) → Went before after
 went_of Is before after (Ok r) gave out = gave.went
 went_of Is before after (Err e) gave out = out.went
 
 -- what is read, in a list's front
-pub read_front : (held : Held) (tree : FaultTree) (nodes references : List ℕ) (count : ℕ) → count ≤ length references → AreRead held tree nodes references count → AreRead held tree nodes (take count references) count
+pub read_front : (held : Held) (tree : FaultTree) (nodes references : List ℕ) (count : ℕ) → count ≤ length references
+    → AreRead held tree nodes references count → AreRead held tree nodes (take count references) count
 read_front held tree nodes references count fits read k within =
-    subst (λ (r : ℕ). Has held r × IsCutFamily tree (get_or nodes k 0) (family_in held r)) (sym (get_or-take count references k 0 within)) (read k within)
+    subst (λ (r : ℕ). Has held r × IsCutFamily tree (get_or nodes k 0) (family_in held r))
+    (sym (get_or-take count references k 0 within)) (read k within)
 
 -- so many of a list's first members, where it has as many
 pub front_length : (count : ℕ) (list : List ℕ) → count ≤ length list → length (take count list) ≡ count
 front_length zero list fits = refl
 front_length (suc count) [] fits = absurd (omega (arith, fits))
-front_length (suc count) (x ∷ list) fits = let rest = front_length count list (omega (arith, fits)) in omega (arith, rest)
+front_length (suc count) (x ∷ list) fits =
+    let rest = front_length count list (omega (arith, fits)) in omega (arith, rest)
 
 -- one more is read
-pub read_more : (before after : Held) (tree : FaultTree) → IsSound before → Went before after → (nodes references : List ℕ) (count r : ℕ) → count < length references → AreRead before tree nodes references count → Has after r → IsCutFamily tree (get_or nodes count 0) (family_in after r) → AreRead after tree nodes (set references count r) (count + 1)
+pub read_more : (before after : Held) (tree : FaultTree) → IsSound before → Went before after
+    → (nodes references : List ℕ) (count r : ℕ) → count < length references → AreRead before tree nodes references count
+    → Has after r → IsCutFamily tree (get_or nodes count 0) (family_in after r)
+    → AreRead after tree nodes (set references count r) (count + 1)
 read_more before after tree sound went nodes references count r within read has is k below =
     elim (cases_eq k count) [
       | inl same ↦
-          subst (λ (q : ℕ). Has after (get_or (set references count r) q 0) × IsCutFamily tree (get_or nodes q 0) (family_in after (get_or (set references count r) q 0))) (sym same)
-          (subst (λ (s : ℕ). Has after s × IsCutFamily tree (get_or nodes count 0) (family_in after s)) (sym (get_or-set_same references count r 0 within)) (has, is))
+          subst (λ (q : ℕ). Has after (get_or (set references count r) q 0)
+          × IsCutFamily tree (get_or nodes q 0) (family_in after (get_or (set references count r) q 0))) (sym same)
+          (subst (λ (s : ℕ). Has after s × IsCutFamily tree (get_or nodes count 0) (family_in after s))
+          (sym (get_or-set_same references count r 0 within)) (has, is))
       | inr differs ↦
-          subst (λ (s : ℕ). Has after s × IsCutFamily tree (get_or nodes k 0) (family_in after s)) (sym (get_or-set_other references count k r 0 differs))
+          subst (λ (s : ℕ). Has after s × IsCutFamily tree (get_or nodes k 0) (family_in after s))
+          (sym (get_or-set_other references count k r 0 differs))
           (read_still before after tree sound went nodes references count read k (omega (arith, below, differs)))
     ]
 
 -- what was brought into the memory is the cut family that it was
-pub gave_cut : (tree : FaultTree) (node : ℕ) (family : List (List ℕ)) → IsCutFamily tree node family → (before after : Held) → {E : Type 0} (result : Result ℕ E) → IfOk result (Gave (λ f. f ≡ family) before after) → IfOk result (Gave (IsCutFamily tree node) before after)
-gave_cut tree node family is before after (Ok r) gave = record { went = gave.went; has = gave.has; is = subst (IsCutFamily tree node) (sym gave.is) is }
+pub gave_cut : (tree : FaultTree) (node : ℕ) (family : List (List ℕ)) → IsCutFamily tree node family
+    → (before after : Held) → {E : Type 0} (result : Result ℕ E) → IfOk result (Gave (λ f. f ≡ family) before after)
+    → IfOk result (Gave (IsCutFamily tree node) before after)
+gave_cut tree node family is before after (Ok r) gave =
+    record { went = gave.went; has = gave.has; is = subst (IsCutFamily tree node) (sym gave.is) is }
 gave_cut tree node family is before after (Err e) gave = tt

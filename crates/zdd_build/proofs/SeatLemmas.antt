@@ -1,5 +1,6 @@
 -- Seats that learn, and what a worker is after its seat has learned.
-use Rattle.std.proofs.Common.{◌≡◌, ℕ, ◌+◌, ◌≤◌, List, [], ◌++◌, length, Contains, All, refl, sym, ◌∙◌, ap, subst, add-zero}
+use Rattle.std.proofs.Common.{◌≡◌, ℕ, ◌+◌, ◌≤◌, List, [], ◌++◌, length, Contains, All, refl, sym, ◌∙◌, ap, subst}
+use Rattle.std.proofs.Common.{add-zero}
 use Rattle.std.proofs.lemmas.List.{append-nil}
 use Rattle.std.proofs.lemmas.List.Elements.{All-weaker}
 use Rattle.unit_sets.specs.Sorted.{Contains-nil}
@@ -45,43 +46,80 @@ Learned-then a b c first second = record {
 }
 
 -- nothing was filled and no search was refused
-pub WentAll-learned : (due : List (List ℕ) → Type 0) (before after : Seated) → Learned before after → WentAll due before after
+pub WentAll-learned : (due : List (List ℕ) → Type 0) (before after : Seated) → Learned before after
+    → WentAll due before after
 WentAll-learned due before after learned = record {
   store = learned.store;
   keeps = learned.keeps;
   sound = learned.sound;
-  fills = record { gained = []; fills = learned.counts.fills ∙ sym (append-nil before.fills); each = λ r none. Contains-nil r none };
-  missed = record { gained = []; missed = learned.counts.missed ∙ sym (append-nil before.missed); each = λ word none. Contains-nil word none };
+  fills =
+      record {
+        gained = [];
+        fills = learned.counts.fills ∙ sym (append-nil before.fills);
+        each =
+            λ r none. Contains-nil r none;
+      };
+  missed =
+      record {
+        gained = [];
+        missed = learned.counts.missed ∙ sym (append-nil before.missed);
+        each =
+            λ word none. Contains-nil word none;
+      };
   fulls = learned.counts.fulls ∙ sym (add-zero before.fulls);
 }
 
 -- a known reference stays so
-pub one_grown : (known known' : ℕ → ℕ) → IsClosed known → IsClosed known' → Grown known known' → (is : List (List ℕ) → Type 0) (r : ℕ) → KnowsOne known r is → KnowsOne known' r is
+pub one_grown : (known known' : ℕ → ℕ) → IsClosed known → IsClosed known' → Grown known known'
+    → (is : List (List ℕ) → Type 0) (r : ℕ) → KnowsOne known r is → KnowsOne known' r is
 one_grown known known' closed closed' grown is r one = (
   Knows-grown known known' r grown one.0,
   subst is (sym (family-grown known known' r closed closed' grown one.0)) one.1,
 )
 
 -- a worker whose seat has learned
-pub can_learned : (store : TableId) (tree : FaultTree) (worker : Worker) (after : Seated) → CanWork store tree worker → Learned worker.ops after → CanWork store tree (record worker { ops = after })
+pub can_learned : (store : TableId) (tree : FaultTree) (worker : Worker) (after : Seated) → CanWork store tree worker
+    → Learned worker.ops after → CanWork store tree (record worker { ops = after })
 can_learned store tree worker after can learned = record {
   own = learned.store ∙ can.own;
   share = learned.share ∙ can.share;
-  counts = CountsDue-went (IsDueToTree tree) worker.ops after can.counts (WentAll-learned (IsDueToTree tree) worker.ops after learned);
-  copies = copies-grown worker.memory (map_of worker.ops) (map_of after) can.counts.sound.closed learned.sound.closed learned.keeps worker.copies can.copies;
+  counts =
+      CountsDue-went (IsDueToTree tree) worker.ops after can.counts
+      (WentAll-learned (IsDueToTree tree) worker.ops after learned);
+  copies =
+      copies-grown worker.memory (map_of worker.ops) (map_of after) can.counts.sound.closed learned.sound.closed
+      learned.keeps worker.copies can.copies;
   rooms = can.rooms;
   full = λ is. subst (λ n. 1 ≤ n) (sym learned.counts.fulls) (can.full is);
 }
 
 -- what was found stays so
-pub found_grown : (known known' : ℕ → ℕ) → IsClosed known → IsClosed known' → Grown known known' → (tree : FaultTree) (places : List Place) (findings : List Finding) → AreFound known tree places findings → AreFound known' tree places findings
+pub found_grown : (known known' : ℕ → ℕ) → IsClosed known → IsClosed known' → Grown known known'
+    → (tree : FaultTree) (places : List Place) (findings : List Finding) → AreFound known tree places findings
+    → AreFound known' tree places findings
 found_grown known known' closed closed' grown tree places findings found =
     All-weaker (IsFound known tree places) (IsFound known' tree places)
-    (λ finding is. (is.0, one_grown known known' closed closed' grown (IsCutFamily tree (node_at places finding.place)) finding.family is.1))
+    (λ finding is. (
+      is.0,
+      one_grown known known' closed closed' grown (IsCutFamily tree (node_at places finding.place))
+          finding.family is.1,
+    ))
     findings found
 
 -- workers that were split off have counted nothing with the seat
-pub split_went : (due : List (List ℕ) → Type 0) (count : ℕ) (before after : Seated) → HasSplit count before after → WentAll due before after
+pub split_went : (due : List (List ℕ) → Type 0) (count : ℕ) (before after : Seated) → HasSplit count before after
+    → WentAll due before after
 split_went due count before after split =
-    let went : WentAll due (record before { share = after.share }) after = WentAll-learned due (record before { share = after.share }) after split.learned in
-    record { store = went.store; keeps = went.keeps; sound = went.sound; fills = record { gained = went.fills.gained; fills = went.fills.fills; each = went.fills.each }; missed = record { gained = went.missed.gained; missed = went.missed.missed; each = went.missed.each }; fulls = went.fulls }
+    let went : WentAll due (record before { share = after.share }) after =
+    WentAll-learned due (record before { share = after.share }) after split.learned in
+    record {
+      store = went.store;
+      keeps = went.keeps;
+      sound = went.sound;
+      fills =
+          record { gained = went.fills.gained; fills = went.fills.fills; each = went.fills.each };
+      missed =
+          record { gained = went.missed.gained; missed = went.missed.missed; each = went.missed.each };
+      fulls =
+          went.fulls;
+    }

@@ -1,5 +1,6 @@
 -- Workers that join their seat.
-use Rattle.std.proofs.Common.{◌≡◌, ℕ, ◌+◌, ◌<◌, ◌≤◌, true, List, [], ◌∷◌, ◌++◌, All, length, take, drop, refl, sym, ◌∙◌, ap, subst, arith}
+use Rattle.std.proofs.Common.{◌≡◌, ℕ, ◌+◌, ◌<◌, ◌≤◌, true, List, [], ◌∷◌, ◌++◌, All, length, take, drop, refl, sym, ◌∙◌}
+use Rattle.std.proofs.Common.{ap, subst, arith}
 use Rattle.std.proofs.lemmas.List.{append-nil, drop_all, take_all, get_or_append_left, get_or_push, length_push}
 use Rattle.fault_model.specs.Tree.{FaultTree}
 use Rattle.zdd_shared_table.specs.Seats.{Seated, TableId, map_of}
@@ -10,17 +11,21 @@ use Rattle.zdd_product.specs.After.{grown_then}
 use Rattle.zdd_build.specs.Workers.{CanWork, CountsAsBefore, FindsFull, HasSplit}
 
 -- the first of a list is the first of what stands before its last, or is the last
-pub first_or_last : (workers : List Worker) (last : Worker) {G : Type 0} → FindsFull (workers ++ last ∷ []) → (FindsFull workers → G) → (last.full ≡ true → G) → G
+pub first_or_last : (workers : List Worker) (last : Worker) {G : Type 0} → FindsFull (workers ++ last ∷ [])
+    → (FindsFull workers → G) → (last.full ≡ true → G) → G
 first_or_last [] last finds first alone = alone finds
 first_or_last (worker ∷ workers) last finds first alone = first finds
 
 -- ---- a worker's seat is joined, and then those of the others
 
 module _ (before other mid after : Seated) (joined : Joined before other mid) where
-  pub close_went : (due : List (List ℕ) → Type 0) → CountsDue due other → WentAll due mid after → WentAll due before after
-  close_went due counts later = WentAll-then due before mid after (WentAll-joined due before other mid counts joined) later
+  pub close_went : (due : List (List ℕ) → Type 0) → CountsDue due other → WentAll due mid after
+      → WentAll due before after
+  close_went due counts later =
+      WentAll-then due before mid after (WentAll-joined due before other mid counts joined) later
 
-  pub close_new : other.fulls ≡ 0 → other.missed ≡ [] → other.fills ≡ [] → CountsAsBefore mid after → CountsAsBefore before after
+  pub close_new : other.fulls ≡ 0 → other.missed ≡ [] → other.fills ≡ [] → CountsAsBefore mid after
+      → CountsAsBefore before after
   close_new fulls missed fills later = record {
     fulls = later.fulls ∙ (let j = joined.fulls in omega (arith, j, fulls));
     missed = later.missed ∙ joined.missed ∙ ap (λ l. before.missed ++ l) missed ∙ append-nil before.missed;
@@ -28,18 +33,27 @@ module _ (before other mid after : Seated) (joined : Joined before other mid) wh
   }
 
   -- the first worker that found the store full has counted it
-  pub close_full : (store : TableId) (tree : FaultTree) (due : List (List ℕ) → Type 0) (rest : List Worker) (worker : Worker) → worker.ops ≡ other → CanWork store tree worker → WentAll due mid after → (FindsFull rest → mid.fulls < after.fulls) → FindsFull (rest ++ worker ∷ []) → before.fulls < after.fulls
+  pub close_full : (store : TableId) (tree : FaultTree) (due : List (List ℕ) → Type 0) (rest : List Worker)
+      (worker : Worker) → worker.ops ≡ other → CanWork store tree worker → WentAll due mid after
+      → (FindsFull rest → mid.fulls < after.fulls) → FindsFull (rest ++ worker ∷ []) → before.fulls < after.fulls
   close_full store tree due rest worker same can later first finds =
       first_or_last rest worker finds
       (λ f. let more = first f in let j = joined.fulls in omega (arith, more, j))
-      (λ full. let one : 1 ≤ other.fulls = subst (λ (s : Seated). 1 ≤ s.fulls) same (can.full full) in let j = joined.fulls in let l = later.fulls in omega (arith, one, j, l))
+      (λ full. let one : 1 ≤ other.fulls = subst (λ (s : Seated). 1 ≤ s.fulls) same (can.full full) in
+      let j = joined.fulls in let l = later.fulls in omega (arith, one, j, l))
 
 -- the last of some workers, and those before it
-pub last_is : (P : Worker → Type 0) (workers rest : List Worker) (last : Worker) → workers ≡ rest ++ last ∷ [] → All P workers → P last
-last_is P workers rest last e all = subst P (get_or_push rest last last (length rest) refl) (subst (All P) e all (length rest) last (omega (arith, length_push rest last)))
+pub last_is : (P : Worker → Type 0) (workers rest : List Worker) (last : Worker) → workers ≡ rest ++ last ∷ []
+    → All P workers → P last
+last_is P workers rest last e all =
+    subst P (get_or_push rest last last (length rest) refl)
+    (subst (All P) e all (length rest) last (omega (arith, length_push rest last)))
 
-pub others_are : (P : Worker → Type 0) (workers rest : List Worker) (last : Worker) → workers ≡ rest ++ last ∷ [] → All P workers → All P rest
-others_are P workers rest last e all k d within = subst P (get_or_append_left rest (last ∷ []) d k within) (subst (All P) e all k d (omega (arith, within, length_push rest last)))
+pub others_are : (P : Worker → Type 0) (workers rest : List Worker) (last : Worker) → workers ≡ rest ++ last ∷ []
+    → All P workers → All P rest
+others_are P workers rest last e all k d within =
+    subst P (get_or_append_left rest (last ∷ []) d k within)
+    (subst (All P) e all k d (omega (arith, within, length_push rest last)))
 
 -- one worker more is split off
 pub split_then : (count : ℕ) (a b c : Seated) → HasSplit count a b → HasSplit 1 b c → HasSplit (count + 1) a c
@@ -59,6 +73,8 @@ split_then count a b c first second = record {
 }
 
 -- a slice of all workers, written over
-pub whole_slice : (new old : List Worker) (count : ℕ) → length new ≡ length old → count ≡ length old → take count (new ++ drop (length new) old) ≡ new
+pub whole_slice : (new old : List Worker) (count : ℕ) → length new ≡ length old → count ≡ length old
+    → take count (new ++ drop (length new) old) ≡ new
 whole_slice new old count same all =
-    ap (λ (rest : List Worker). take count (new ++ rest)) (drop_all (length new) old (omega (arith, same))) ∙ ap (take count) (append-nil new) ∙ take_all count new (omega (arith, same, all))
+    ap (λ (rest : List Worker). take count (new ++ rest)) (drop_all (length new) old (omega (arith, same)))
+    ∙ ap (take count) (append-nil new) ∙ take_all count new (omega (arith, same, all))

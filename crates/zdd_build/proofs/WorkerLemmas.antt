@@ -1,5 +1,6 @@
 -- A worker after it has made a node, and lists of workers.
-use Rattle.std.proofs.Common.{◌≡◌, ◌⊎◌, ℕ, suc, ◌+◌, ◌<◌, ◌≤◌, true, List, [], ◌∷◌, All, length, set, get_or, sym, ◌∙◌, ap, subst, inl, inr, arith}
+use Rattle.std.proofs.Common.{◌≡◌, ◌⊎◌, ℕ, suc, ◌+◌, ◌<◌, ◌≤◌, true, List, [], ◌∷◌, All, length, set, get_or, sym, ◌∙◌}
+use Rattle.std.proofs.Common.{ap, subst, inl, inr, arith}
 use Rattle.std.proofs.Common.{get_or-set_same, get_or-set_other, Result, Ok, Err, IfOk, IfErr}
 use Rattle.std.proofs.lemmas.Bool.{cases_eq}
 use Rattle.std.proofs.lemmas.List.Elements.{All-nil}
@@ -23,13 +24,17 @@ use Rattle.zdd_build.specs.declared.places.Place.{Place}
 use Rattle.zdd_build.specs.Workers.{AreFound, CanWork, FindsFull, HasNone, IsAtWork, IsFound, Learned}
 use Rattle.zdd_build.proofs.SeatLemmas.{can_learned}
 
-module _ (store : TableId) (tree : FaultTree) (before after : Worker) (can : CanWork store tree before) (copies : AreCopies after.memory (map_of after.ops) after.copies) (rooms : HaveRoomFor tree after.rooms) where
+module _ (store : TableId) (tree : FaultTree) (before after : Worker) (can : CanWork store tree before)
+    (copies : AreCopies after.memory (map_of after.ops) after.copies) (rooms : HaveRoomFor tree after.rooms) where
   -- it made a node
-  pub can_gave : (is : List (List ℕ) → Type 0) (r : ℕ) → Gave is (IsDueToTree tree) before.ops after.ops r → after.full ≡ before.full → CanWork store tree after
+  pub can_gave : (is : List (List ℕ) → Type 0) (r : ℕ) → Gave is (IsDueToTree tree) before.ops after.ops r
+      → after.full ≡ before.full → CanWork store tree after
   can_gave is r gave same = record {
     own = gave.on.went.store ∙ can.own;
     share = gave.on.went.share ∙ can.share;
-    counts = CountsDue-went (IsDueToTree tree) before.ops after.ops can.counts (WentAll-on (IsDueToTree tree) before.ops after.ops gave.on);
+    counts =
+        CountsDue-went (IsDueToTree tree) before.ops after.ops can.counts
+        (WentAll-on (IsDueToTree tree) before.ops after.ops gave.on);
     copies = copies;
     rooms = rooms;
     full = λ full. subst (λ n. 1 ≤ n) (sym gave.on.fulls) (can.full (sym same ∙ full));
@@ -40,7 +45,9 @@ module _ (store : TableId) (tree : FaultTree) (before after : Worker) (can : Can
   can_full full = record {
     own = full.went.store ∙ can.own;
     share = full.went.share ∙ can.share;
-    counts = CountsDue-went (IsDueToTree tree) before.ops after.ops can.counts (WentAll-full (IsDueToTree tree) before.ops after.ops full);
+    counts =
+        CountsDue-went (IsDueToTree tree) before.ops after.ops can.counts
+        (WentAll-full (IsDueToTree tree) before.ops after.ops full);
     copies = copies;
     rooms = rooms;
     full = λ _. let e = full.fulls in omega (arith, e);
@@ -49,15 +56,20 @@ module _ (store : TableId) (tree : FaultTree) (before after : Worker) (can : Can
 -- ---- workers up to a place, and from one on
 
 module _ (P : Worker → Type 0) (workers : List Worker) (i : ℕ) (worker : Worker) where
-  pub below_set : i < length workers → ((k : ℕ) (d : Worker) → k < i → P (get_or workers k d)) → P worker → (k : ℕ) (d : Worker) → k < i + 1 → P (get_or (set workers i worker) k d)
+  pub below_set : i < length workers → ((k : ℕ) (d : Worker) → k < i → P (get_or workers k d)) → P worker
+      → (k : ℕ) (d : Worker) → k < i + 1 → P (get_or (set workers i worker) k d)
   below_set within below one k d low =
       elim (cases_eq k i) [
-        | inl same ↦ subst (λ (q : ℕ). P (get_or (set workers i worker) q d)) (sym same) (subst P (sym (get_or-set_same workers i worker d within)) one)
+        | inl same ↦ subst (λ (q : ℕ). P (get_or (set workers i worker) q d)) (sym same)
+            (subst P (sym (get_or-set_same workers i worker d within)) one)
         | inr differs ↦ subst P (sym (get_or-set_other workers i k worker d differs)) (below k d (omega arith))
       ]
 
-  pub above_set : ((k : ℕ) (d : Worker) → i ≤ k → k < length workers → P (get_or workers k d)) → (k : ℕ) (d : Worker) → i + 1 ≤ k → k < length workers → P (get_or (set workers i worker) k d)
-  above_set above k d high within = subst P (sym (get_or-set_other workers i k worker d (λ same. omega (arith, same, high)))) (above k d (omega arith) within)
+  pub above_set : ((k : ℕ) (d : Worker) → i ≤ k → k < length workers → P (get_or workers k d)) → (k : ℕ) (d : Worker)
+      → i + 1 ≤ k → k < length workers → P (get_or (set workers i worker) k d)
+  above_set above k d high within =
+      subst P (sym (get_or-set_other workers i k worker d (λ same. omega (arith, same, high))))
+      (above k d (omega arith) within)
 
 -- no notes are left
 pub copies_gone : (held : Held) (known : ℕ → ℕ) (pairs : List Pair) → pairs ≡ [] → AreCopies held known pairs
@@ -65,18 +77,22 @@ copies_gone held known pairs none = subst (AreCopies held known) (sym none) (cop
 
 -- ---- a cut family that was copied into the store
 
-module _ (tree : FaultTree) (kept : IsTree tree) (node : ℕ) (is_node : IsNodeOf tree node) (family : List (List ℕ)) (is : IsCutFamily tree node family) (before after : Seated) where
+module _ (tree : FaultTree) (kept : IsTree tree) (node : ℕ) (is_node : IsNodeOf tree node) (family : List (List ℕ))
+    (is : IsCutFamily tree node family) (before after : Seated) where
   to_tree : (part : List (List ℕ)) → IsReached family part → IsDueToTree tree part
   to_tree part reached = cut_family-parts tree kept node is_node family part is reached
 
-  pub copied_gives : {E : Type 0} (result : Result ℕ E) → IfOk result (Gave (λ f. f ≡ family) (IsReached family) before after) → IfOk result (Gave (IsCutFamily tree node) (IsDueToTree tree) before after)
+  pub copied_gives : {E : Type 0} (result : Result ℕ E)
+      → IfOk result (Gave (λ f. f ≡ family) (IsReached family) before after)
+      → IfOk result (Gave (IsCutFamily tree node) (IsDueToTree tree) before after)
   copied_gives (Ok r) gave = record {
     on = WentOn-as (IsReached family) (IsDueToTree tree) to_tree before after gave.on;
     known = (gave.known.0, subst (IsCutFamily tree node) (sym gave.known.1) is);
   }
   copied_gives (Err e) gave = tt
 
-  pub copied_full : {E : Type 0} (result : Result ℕ E) → IfErr result (λ _. WasFull (IsReached family) before after) → IfErr result (λ _. WasFull (IsDueToTree tree) before after)
+  pub copied_full : {E : Type 0} (result : Result ℕ E) → IfErr result (λ _. WasFull (IsReached family) before after)
+      → IfErr result (λ _. WasFull (IsDueToTree tree) before after)
   copied_full (Ok r) full = tt
   copied_full (Err e) full = WasFull-as (IsReached family) (IsDueToTree tree) to_tree before after full
 
@@ -89,22 +105,35 @@ module _ (store : TableId) (tree : FaultTree) (before after : Worker) (can : Can
   pub can_taken : after ≡ record before { found = after.found } → CanWork store tree after
   can_taken rest =
       subst (CanWork store tree) (sym rest)
-      (record { own = can.own; share = can.share; counts = can.counts; copies = can.copies; rooms = can.rooms; full = can.full })
+      (record {
+        own = can.own;
+        share = can.share;
+        counts = can.counts;
+        copies = can.copies;
+        rooms = can.rooms;
+        full =
+            can.full;
+      })
 
 -- nothing is found that is not taken yet: so all that was found is known
-pub none_found : (store : TableId) (tree : FaultTree) (places : List Place) (worker : Worker) → CanWork store tree worker → HasNone worker → IsAtWork store tree places worker
+pub none_found : (store : TableId) (tree : FaultTree) (places : List Place) (worker : Worker)
+    → CanWork store tree worker → HasNone worker → IsAtWork store tree places worker
 none_found store tree places worker can none = record {
   can = can;
-  found = subst (AreFound (map_of worker.ops) tree places) (sym none) (All-nil (IsFound (map_of worker.ops) tree places));
+  found =
+      subst (AreFound (map_of worker.ops) tree places) (sym none) (All-nil (IsFound (map_of worker.ops) tree places));
 }
 
-pub can_own : (store : TableId) (tree : FaultTree) (worker : Worker) → CanWork store tree worker → CanWork worker.ops.store tree worker
+pub can_own : (store : TableId) (tree : FaultTree) (worker : Worker) → CanWork store tree worker
+    → CanWork worker.ops.store tree worker
 can_own store tree worker can = subst (λ (s : TableId). CanWork s tree worker) (sym can.own) can
 
 -- the first of some workers found the store full
-pub finds_first : (workers : List Worker) (worker : Worker) → 1 ≤ length workers → worker.full ≡ true → FindsFull (set workers 0 worker)
+pub finds_first : (workers : List Worker) (worker : Worker) → 1 ≤ length workers → worker.full ≡ true
+    → FindsFull (set workers 0 worker)
 finds_first [] worker some full = absurd (omega (arith, some))
 finds_first (first ∷ others) worker some full = full
 
-pub at_own : (store : TableId) (tree : FaultTree) (places : List Place) (worker : Worker) → IsAtWork store tree places worker → IsAtWork worker.ops.store tree places worker
+pub at_own : (store : TableId) (tree : FaultTree) (places : List Place) (worker : Worker)
+    → IsAtWork store tree places worker → IsAtWork worker.ops.store tree places worker
 at_own store tree places worker at_work = record { can = can_own store tree worker at_work.can; found = at_work.found }

@@ -15,7 +15,8 @@ pub record KnowsSome (known : ℕ → ℕ) (is : List (List ℕ) → Type 0) : T
 
 -- the map knows a reference of each node of the tree other than an `fdep` as the node's cut family
 abbrev pub KnowsCutFamilies : (ℕ → ℕ) → FaultTree → Type 0
-KnowsCutFamilies known tree = (node : ℕ) → IsNodeOf tree node → is_fdep tree node ≡ false → KnowsSome known (IsCutFamily tree node)
+KnowsCutFamilies known tree =
+    (node : ℕ) → IsNodeOf tree node → is_fdep tree node ≡ false → KnowsSome known (IsCutFamily tree node)
 
 -- of a list with a reference for each node, that of one node is known as its cut family
 abbrev pub HasFamily : (ℕ → ℕ) → FaultTree → List ℕ → ℕ → Type 0
@@ -26,7 +27,8 @@ abbrev pub is_made : List Bool → ℕ → Bool
 is_made made k = slice_index_or made k false
 
 -- the references of all nodes that are made, and of each `fdep`, are known as their cut families
-pub record AreBuilt (known : ℕ → ℕ) (tree : FaultTree) (places : List Place) (references : List ℕ) (made : List Bool) : Type 0 where
+pub record AreBuilt (known : ℕ → ℕ) (tree : FaultTree) (places : List Place) (references : List ℕ)
+    (made : List Bool) : Type 0 where
   pub all_nodes : length references ≡ node_count tree
   pub all_places : length made ≡ length places
   pub each : (k : ℕ) → k < length places → is_made made k ≡ true → HasFamily known tree references (node_at places k)
@@ -42,7 +44,9 @@ KeepsMade before after = (k : ℕ) → is_made before k ≡ true → is_made aft
 
 -- what each node at the places from one to another reads is known
 abbrev pub CanMake : (ℕ → ℕ) → FaultTree → List Place → List ℕ → ℕ → ℕ → Type 0
-CanMake known tree places references from to = (node_count tree ≤ length references) × ((k : ℕ) → from ≤ k → k < to → KnowsBelow known tree references (node_at places k))
+CanMake known tree places references from to =
+    (node_count tree ≤ length references) × ((k : ℕ) → from ≤ k → k < to
+    → KnowsBelow known tree references (node_at places k))
 
 -- the lists have an item for the node at each place, and for the place
 pub record HasRoomFor (places : List Place) (references : List ℕ) (made : List Bool) : Type 0 where

@@ -21,7 +21,8 @@ pub record IsPlace (tree : FaultTree) (place : Place) : Type 0 where
 -- exactly the nodes below a number that have a family
 pub record HasPlacesTo (tree : FaultTree) (to : ℕ) (places : List Place) : Type 0 where
   pub sound : All (IsPlace tree) places
-  pub all : (node : ℕ) → 1 ≤ node → node < to → is_fdep tree node ≡ false → Contains places (record { rank = rank_of tree node; node = node })
+  pub all : (node : ℕ) → 1 ≤ node → node < to → is_fdep tree node ≡ false
+      → Contains places (record { rank = rank_of tree node; node = node })
 
 -- exactly the nodes that have a family
 abbrev pub HasPlaces : FaultTree → List Place → Type 0

@@ -56,7 +56,8 @@ pub record CanWork (store : TableId) (tree : FaultTree) (worker : Worker) : Type
 
 -- the reference that was found for a place is known as the cut family of the node there
 abbrev pub IsFound : (ℕ → ℕ) → FaultTree → List Place → Finding → Type 0
-IsFound known tree places finding = (finding.place < length places) × KnowsOne known finding.family (IsCutFamily tree (node_at places finding.place))
+IsFound known tree places finding =
+    (finding.place < length places) × KnowsOne known finding.family (IsCutFamily tree (node_at places finding.place))
 
 abbrev pub AreFound : (ℕ → ℕ) → FaultTree → List Place → List Finding → Type 0
 AreFound known tree places findings = All (IsFound known tree places) findings

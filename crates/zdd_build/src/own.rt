@@ -57,8 +57,10 @@ fn read_below(
     requires copies { AreCopies worker.old.memory (map_of worker.old.ops) worker.old.copies }
     requires room { length (below tree.now node) ≤ length worker.old.rooms.list.items }
     ensures went { Went worker.old.memory worker.new.memory }
-    ensures has { OnOk result (All (Has worker.new.memory) (take (length (below tree.now node)) worker.new.rooms.list.items)) }
-    ensures stand { OnOk result (StandFor (IsCutFamily tree.now) (below tree.now node) (families worker.new.memory (take (length (below tree.now node)) worker.new.rooms.list.items))) }
+    ensures has { OnOk result (All (Has worker.new.memory)
+        (take (length (below tree.now node)) worker.new.rooms.list.items)) }
+    ensures stand { OnOk result (StandFor (IsCutFamily tree.now) (below tree.now node)
+        (families worker.new.memory (take (length (below tree.now node)) worker.new.rooms.list.items))) }
     ensures spent { IfErr result (λ _. RanOut worker.old.memory worker.new.memory) }
     ensures copies { AreCopies worker.new.memory (map_of worker.new.ops) worker.new.copies }
     ensures ops { worker.new.ops ≡ worker.old.ops }

@@ -34,12 +34,14 @@ fn make_rest<P: Pace>(
     requires within { (run.from ≤ run.to) × (run.to ≤ length places.now) }
     requires run { IsRunTo places.now run.from run.to }
     requires can { CanWork worker.old.ops.store tree.now worker.old }
-    requires built { AreBuilt (map_of worker.old.ops) tree.now places.now table.old.references.items table.old.made.items }
+    requires built { AreBuilt (map_of worker.old.ops) tree.now places.now table.old.references.items
+        table.old.made.items }
     requires below { AreMadeTo table.old.made.items run.from }
     ensures place { IfOk result (λ place. (run.from ≤ place) × (place ≤ run.to)) }
     ensures all { limit ≡ None → IfOk result (λ place. place ≡ run.to) }
     ensures made { IfOk result (AreMadeTo table.new.made.items) }
-    ensures built { AreBuilt (map_of worker.new.ops) tree.now places.now table.new.references.items table.new.made.items }
+    ensures built { AreBuilt (map_of worker.new.ops) tree.now places.now table.new.references.items
+        table.new.made.items }
     ensures full { IfErr result (λ _. worker.new.full ≡ true) }
     ensures can { CanWork worker.old.ops.store tree.now worker.new }
     ensures found { worker.new.found ≡ worker.old.found }
@@ -117,7 +119,8 @@ fn make_first<P: Pace>(
     ensures place { IfOk result (λ place. (run.from ≤ place) × (place ≤ run.to)) }
     ensures all { limit ≡ None → IfOk result (λ place. place ≡ run.to) }
     ensures made { IfOk result (AreMadeTo table.new.made.items) }
-    ensures built { OnOk result (AreBuilt (map_of seat.new) tree.now places.now table.new.references.items table.new.made.items) }
+    ensures built { OnOk result (AreBuilt (map_of seat.new) tree.now places.now table.new.references.items
+        table.new.made.items) }
 {
     seat.is_sound();
     let first = &mut team[0];
@@ -156,7 +159,8 @@ fn make_rank<R: Threads + Sync, P: Pace>(
     ensures none { All HasNone team.new }
     ensures full { IfErr result (λ _. FindsFull team.new) }
     ensures made { OnOk result (AreMadeTo table.new.made.items run.to) }
-    ensures built { OnOk result (AreBuilt (map_of seat.new) tree.now places.now table.new.references.items table.new.made.items) }
+    ensures built { OnOk result (AreBuilt (map_of seat.new) tree.now places.now table.new.references.items
+        table.new.made.items) }
 {
     seat.is_sound();
     let place = make_first(store, seat, team, tree, places, table, run, limit, pace)?;
@@ -191,7 +195,8 @@ pub(crate) fn make_ranks<R: Threads + Sync, P: Pace>(
     ensures size { length team.new ≡ length team.old }
     ensures full { IfErr result (λ _. FindsFull team.new) }
     ensures made { OnOk result (AreMadeTo table.new.made.items (length places.now)) }
-    ensures built { OnOk result (AreBuilt (map_of seat.new) tree.now places.now table.new.references.items table.new.made.items) }
+    ensures built { OnOk result (AreBuilt (map_of seat.new) tree.now places.now table.new.references.items
+        table.new.made.items) }
 {
     seat.is_sound();
     let mut spread_before = false;

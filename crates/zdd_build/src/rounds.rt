@@ -45,7 +45,8 @@ pub(crate) fn make_at<P: Pace>(
     requires from { run.from ≤ place }
     requires within { place < run.to }
     requires can { CanWork worker.old.ops.store tree.now worker.old }
-    ensures gives { IfOk result (λ r. KnowsOne (map_of worker.new.ops) r (IsCutFamily tree.now (node_at places.now place))) }
+    ensures gives { IfOk result (λ r. KnowsOne (map_of worker.new.ops) r
+        (IsCutFamily tree.now (node_at places.now place))) }
     ensures full { IfErr result (λ _. worker.new.full ≡ true) }
     ensures keeps { Grown (map_of worker.old.ops) (map_of worker.new.ops) }
     ensures can { CanWork worker.old.ops.store tree.now worker.new }
@@ -142,7 +143,8 @@ fn make_all<R: Threads + Sync, P: Pace>(
     requires places { ArePlaces tree.now places.now }
     requires to { run.to ≤ length places.now }
     requires some { 1 ≤ length team.old }
-    requires can_make { All (λ worker. CanMake (map_of worker.ops) tree.now places.now references.now run.from run.to) team.old }
+    requires can_make { All (λ worker. CanMake (map_of worker.ops) tree.now places.now references.now run.from run.to)
+        team.old }
     requires at_work { All (IsAtWork store.now tree.now places.now) team.old }
     ensures size { length team.new ≡ length team.old }
     ensures at_work { All (IsAtWork store.now tree.now places.now) team.new }
@@ -153,7 +155,9 @@ fn make_all<R: Threads + Sync, P: Pace>(
         team,
         threads,
         &|_i: usize, worker: &mut Worker|
-            requires { ArePlaces tree.now places.now × (run.to ≤ length places.now) × CanMake (map_of worker.now.ops) tree.now places.now references.now run.from run.to × IsAtWork worker.now.ops.store tree.now places.now worker.now }
+            requires { ArePlaces tree.now places.now × (run.to ≤ length places.now)
+                × CanMake (map_of worker.now.ops) tree.now places.now references.now run.from run.to
+                × IsAtWork worker.now.ops.store tree.now places.now worker.now }
             ensures { IsAtWork worker.entry.now.ops.store tree.entry.now places.entry.now worker.exit.now }
         { make_some(worker, tree, places, references, run, next, pace) },
     );
@@ -163,7 +167,10 @@ fn make_all<R: Threads + Sync, P: Pace>(
 fn take_found(worker: &mut Worker, table: &mut Table, places: &[Place])
     requires within { All (λ finding. finding.place < length places.now) worker.old.found.items }
     requires sizes { HasRoomFor places.now table.old.references.items table.old.made.items }
-    ensures built { (known : ℕ → ℕ) (tree : FaultTree) → ArePlaces tree places.now → AreFound known tree places.now worker.old.found.items → AreBuilt known tree places.now table.old.references.items table.old.made.items → AreBuilt known tree places.now table.new.references.items table.new.made.items }
+    ensures built { (known : ℕ → ℕ) (tree : FaultTree) → ArePlaces tree places.now
+        → AreFound known tree places.now worker.old.found.items
+        → AreBuilt known tree places.now table.old.references.items table.old.made.items
+        → AreBuilt known tree places.now table.new.references.items table.new.made.items }
     ensures keeps { KeepsMade table.old.made.items table.new.made.items }
     ensures none { HasNone worker.new }
     ensures rest { worker.new ≡ record worker.old { found = worker.new.found } }

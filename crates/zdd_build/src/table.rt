@@ -18,7 +18,8 @@ pub(crate) struct Table {
 impl Table {
     /// Nothing is made yet. An `fdep` has the empty family.
     pub fn new(alloc: Global, tree: &Tree, places: &[Place]) -> Result<Table, NoMemory>
-        ensures { (known : ℕ → ℕ) → IfOk result (λ table. AreBuilt known tree.now places.now table.references.items table.made.items) }
+        ensures { (known : ℕ → ℕ) → IfOk result (λ table.
+            AreBuilt known tree.now places.now table.references.items table.made.items) }
     {
         let nodes = (tree.units() + tree.gates()) as usize;
         Ok(Table {
@@ -33,7 +34,8 @@ impl Table {
         requires places { length places.now ≤ length self.old.made.items }
         requires low { 1 ≤ node_at places.now place }
         requires high { node_at places.now place ≤ length self.old.references.items }
-        ensures references { self.new.references.items ≡ set self.old.references.items (node_at places.now place - 1) family }
+        ensures references { self.new.references.items
+            ≡ set self.old.references.items (node_at places.now place - 1) family }
         ensures made { self.new.made.items ≡ set self.old.made.items place true }
     {
         self.references[places[place].node.index()] = family;

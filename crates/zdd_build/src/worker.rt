@@ -99,7 +99,8 @@ fn forget(worker: &mut Worker)
 
 // Forgets what the memory holds where that is much.
 fn keep_few(worker: &mut Worker)
-    ensures copies { (known : ℕ → ℕ) → AreCopies worker.old.memory known worker.old.copies → AreCopies worker.new.memory known worker.new.copies }
+    ensures copies { (known : ℕ → ℕ) → AreCopies worker.old.memory known worker.old.copies
+        → AreCopies worker.new.memory known worker.new.copies }
     ensures ops { worker.new.ops ≡ worker.old.ops }
     ensures rooms { worker.new.rooms ≡ worker.old.rooms }
     ensures found { worker.new.found ≡ worker.old.found }
@@ -124,7 +125,8 @@ fn shared_family(
     requires below { KnowsBelow (map_of worker.old.ops) tree.now references.now node }
     requires copies { AreCopies worker.old.memory (map_of worker.old.ops) worker.old.copies }
     requires rooms { HaveRoomFor tree.now worker.old.rooms }
-    ensures gives { IfOk result (Gave (IsCutFamily tree.now node) (IsDueToTree tree.now) worker.old.ops worker.new.ops) }
+    ensures gives { IfOk result (Gave (IsCutFamily tree.now node) (IsDueToTree tree.now) worker.old.ops
+        worker.new.ops) }
     ensures full { IfErr result (λ _. WasFull (IsDueToTree tree.now) worker.old.ops worker.new.ops) }
     ensures copies { AreCopies worker.new.memory (map_of worker.new.ops) worker.new.copies }
     ensures rooms { HaveRoomFor tree.now worker.new.rooms }

@@ -1,8 +1,10 @@
 -- Maps from references to node words, and the family for which a reference stands over such a map.
 -- A map is a function: the word of a reference, or 0 where the map lacks the reference.
-use Rattle.std.specs.Prelude.{◌≡◌, ◌≢◌, ◌⊎◌, ℕ, zero, suc, ◌+◌, ◌-◌, ◌<◌, ◌≤◌, Bool, true, false, not, ◌&&◌, ◌==◌, nat_lt, List, [], ◌∷◌, if◌then◌else◌}
+use Rattle.std.specs.Prelude.{◌≡◌, ◌≢◌, ◌⊎◌, ℕ, zero, suc, ◌+◌, ◌-◌, ◌<◌, ◌≤◌, Bool, true, false, not, ◌&&◌, ◌==◌}
+use Rattle.std.specs.Prelude.{nat_lt, List, [], ◌∷◌, if◌then◌else◌}
 use Rattle.std.proofs.Common.{refl, sym, ◌∙◌, ap, subst, inl, inr, arith, eq-eqb}
-use Rattle.std.proofs.lemmas.Bool.{cases_lt, cases_eq, cases_Bool, and_parts, and_from, and_right, cond-true, cond-false, lt-ltb, le-ltb, ltb-true, ne_eqb, eqb-false, not_from_false, not-true}
+use Rattle.std.proofs.lemmas.Bool.{cases_lt, cases_eq, cases_Bool, and_parts, and_from, and_right, cond-true}
+use Rattle.std.proofs.lemmas.Bool.{cond-false, lt-ltb, le-ltb, ltb-true, ne_eqb, eqb-false, not_from_false, not-true}
 use Rattle.std.proofs.lemmas.Bool.Decides.{nat_tests}
 use Rattle.unit_sets.specs.Unit.{IsUnit}
 use Rattle.zdd_words.specs.Word.{level_of, lo_of, hi_of, level_of-zero}
@@ -43,7 +45,8 @@ Grown known known' = (r : ℕ) → known r ≢ 0 → known' r ≡ known r
 abbrev pub is_inner : (ℕ → ℕ) → ℕ → Bool
 is_inner known r =
     (not (nat_lt r 2) && not (known r == 0))
-    && (nat_lt (level_of (known r)) (level_in known (lo_of (known r))) && nat_lt (level_of (known r)) (level_in known (hi_of (known r))))
+    && (nat_lt (level_of (known r)) (level_in known (lo_of (known r)))
+    && nat_lt (level_of (known r)) (level_in known (hi_of (known r))))
 
 -- the family of a terminal: the reference 1 has the empty set alone, any other none
 abbrev pub terminal : ℕ → List (List ℕ)
@@ -83,7 +86,8 @@ Knows-from_level known x r h =
           omega (arith, e, h))
     ]
 
-pub level_in-grown : (known known' : ℕ → ℕ) (r : ℕ) → Grown known known' → Knows known r → level_in known' r ≡ level_in known r
+pub level_in-grown : (known known' : ℕ → ℕ) (r : ℕ) → Grown known known' → Knows known r
+    → level_in known' r ≡ level_in known r
 level_in-grown known known' r grown knows =
     elim (cases_lt r 2) [
       | inl below ↦ level_in-terminal known' r below ∙ sym (level_in-terminal known r below)
@@ -102,8 +106,12 @@ Knows-grown known known' r grown knows =
 
 pub IsNode-grown : (known known' : ℕ → ℕ) (word : ℕ) → Grown known known' → IsNode known word → IsNode known' word
 IsNode-grown known known' word grown node =
-    let e : level_in known' (lo_of word) ≡ level_in known (lo_of word) = level_in-grown known known' (lo_of word) grown (Knows-from_level known (level_of word) (lo_of word) node.lo_above) in
-    let e' : level_in known' (hi_of word) ≡ level_in known (hi_of word) = level_in-grown known known' (hi_of word) grown (Knows-from_level known (level_of word) (hi_of word) node.hi_above) in
+    let e : level_in known' (lo_of word) ≡ level_in known (lo_of word) =
+    level_in-grown known known' (lo_of word) grown
+    (Knows-from_level known (level_of word) (lo_of word) node.lo_above) in
+    let e' : level_in known' (hi_of word) ≡ level_in known (hi_of word) =
+    level_in-grown known known' (hi_of word) grown
+    (Knows-from_level known (level_of word) (hi_of word) node.hi_above) in
     record {
       unit = node.unit;
       lo_above = subst (λ n. level_of word < n) (sym e) node.lo_above;
@@ -128,9 +136,14 @@ pub record IsInner (known : ℕ → ℕ) (r : ℕ) : Type 0 where
 
 pub IsInner-from_test : (known : ℕ → ℕ) (r : ℕ) → is_inner known r ≡ true → IsInner known r
 IsInner-from_test known r h =
-    let both = and_parts (not (nat_lt r 2) && not (known r == 0)) (nat_lt (level_of (known r)) (level_in known (lo_of (known r))) && nat_lt (level_of (known r)) (level_in known (hi_of (known r)))) h in
+    let both =
+    and_parts (not (nat_lt r 2) && not (known r == 0))
+    (nat_lt (level_of (known r)) (level_in known (lo_of (known r)))
+    && nat_lt (level_of (known r)) (level_in known (hi_of (known r)))) h in
     let here = and_parts (not (nat_lt r 2)) (not (known r == 0)) both.0 in
-    let there = and_parts (nat_lt (level_of (known r)) (level_in known (lo_of (known r)))) (nat_lt (level_of (known r)) (level_in known (hi_of (known r)))) both.1 in
+    let there =
+    and_parts (nat_lt (level_of (known r)) (level_in known (lo_of (known r))))
+    (nat_lt (level_of (known r)) (level_in known (hi_of (known r)))) both.1 in
     record {
       above = grind (arith, nat_tests, here.0);
       has = eqb-false (known r) 0 (not-true (known r == 0) here.1);
@@ -140,9 +153,14 @@ IsInner-from_test known r h =
 
 pub test-from_IsInner : (known : ℕ → ℕ) (r : ℕ) → IsInner known r → is_inner known r ≡ true
 test-from_IsInner known r is =
-    and_from (not (nat_lt r 2) && not (known r == 0)) (nat_lt (level_of (known r)) (level_in known (lo_of (known r))) && nat_lt (level_of (known r)) (level_in known (hi_of (known r))))
-    (and_from (not (nat_lt r 2)) (not (known r == 0)) (not_from_false (nat_lt r 2) (le-ltb r 2 is.above)) (not_from_false (known r == 0) (ne_eqb (known r) 0 is.has)))
-    (and_from (nat_lt (level_of (known r)) (level_in known (lo_of (known r)))) (nat_lt (level_of (known r)) (level_in known (hi_of (known r)))) (lt-ltb _ _ is.lo_above) (lt-ltb _ _ is.hi_above))
+    and_from (not (nat_lt r 2) && not (known r == 0))
+    (nat_lt (level_of (known r)) (level_in known (lo_of (known r)))
+    && nat_lt (level_of (known r)) (level_in known (hi_of (known r))))
+    (and_from (not (nat_lt r 2)) (not (known r == 0)) (not_from_false (nat_lt r 2) (le-ltb r 2 is.above))
+    (not_from_false (known r == 0) (ne_eqb (known r) 0 is.has)))
+    (and_from (nat_lt (level_of (known r)) (level_in known (lo_of (known r))))
+    (nat_lt (level_of (known r)) (level_in known (hi_of (known r)))) (lt-ltb _ _ is.lo_above)
+    (lt-ltb _ _ is.hi_above))
 
 -- a reference of a closed map is an inner one
 IsInner-closed : (known : ℕ → ℕ) (r : ℕ) → IsClosed known → known r ≢ 0 → IsInner known r
@@ -153,7 +171,9 @@ IsInner-closed known r closed has = record {
   hi_above = (closed r has).1.hi_above;
 }
 
-within_inner : (n : ℕ) (known : ℕ → ℕ) (r : ℕ) → is_inner known r ≡ true → family_within (suc n) known r ≡ branch (level_of (known r)) (family_within n known (lo_of (known r))) (family_within n known (hi_of (known r)))
+within_inner : (n : ℕ) (known : ℕ → ℕ) (r : ℕ) → is_inner known r ≡ true
+    → family_within (suc n) known r ≡ branch (level_of (known r)) (family_within n known (lo_of (known r)))
+    (family_within n known (hi_of (known r)))
 within_inner n known r h = cond-true (is_inner known r) _ (terminal r) h
 
 within_other : (n : ℕ) (known : ℕ → ℕ) (r : ℕ) → is_inner known r ≡ false → family_within n known r ≡ terminal r
@@ -175,13 +195,16 @@ branches : (x : ℕ) (lo lo' hi hi' : List (List ℕ)) → lo ≡ lo' → hi ≡
 branches x lo lo' hi hi' e f = ap (λ q. branch x q hi) e ∙ ap (λ q. branch x lo' q) f
 
 none_left : {G : Type 0} (known : ℕ → ℕ) (r : ℕ) → IsBounded known → IsInner known r → 4096 ≤ level_in known r → G
-none_left known r bounded is h = absurd (let e = level_in-inner known r is.above in let b = bounded r in omega (arith, e, b, h))
+none_left known r bounded is h =
+    absurd (let e = level_in-inner known r is.above in let b = bounded r in omega (arith, e, b, h))
 
-one_less : (known : ℕ → ℕ) (n r q : ℕ) → IsInner known r → level_of (known r) < level_in known q → 4096 ≤ suc n + level_in known r → 4096 ≤ n + level_in known q
+one_less : (known : ℕ → ℕ) (n r q : ℕ) → IsInner known r → level_of (known r) < level_in known q
+    → 4096 ≤ suc n + level_in known r → 4096 ≤ n + level_in known q
 one_less known n r q is above h = let e = level_in-inner known r is.above in omega (arith, e)
 
 -- as many levels as are left suffice
-enough : (known : ℕ → ℕ) → IsBounded known → (n k r : ℕ) → 4096 ≤ n + level_in known r → 4096 ≤ k + level_in known r → family_within n known r ≡ family_within k known r
+enough : (known : ℕ → ℕ) → IsBounded known → (n k r : ℕ) → 4096 ≤ n + level_in known r → 4096 ≤ k + level_in known r
+    → family_within n known r ≡ family_within k known r
 enough known bounded zero k r h h' =
     elim (cases_Bool (is_inner known r)) [
       | inl inner ↦ none_left known r bounded (IsInner-from_test known r inner) (omega arith)
@@ -198,8 +221,10 @@ enough known bounded (suc n) (suc k) r h h' =
           let is : IsInner known r = IsInner-from_test known r inner in
           within_inner n known r inner
           ∙ branches (level_of (known r)) _ _ _ _
-          (enough known bounded n k (lo_of (known r)) (one_less known n r (lo_of (known r)) is is.lo_above h) (one_less known k r (lo_of (known r)) is is.lo_above h'))
-          (enough known bounded n k (hi_of (known r)) (one_less known n r (hi_of (known r)) is is.hi_above h) (one_less known k r (hi_of (known r)) is is.hi_above h'))
+          (enough known bounded n k (lo_of (known r)) (one_less known n r (lo_of (known r)) is is.lo_above h)
+          (one_less known k r (lo_of (known r)) is is.lo_above h'))
+          (enough known bounded n k (hi_of (known r)) (one_less known n r (hi_of (known r)) is is.hi_above h)
+          (one_less known k r (hi_of (known r)) is is.hi_above h'))
           ∙ sym (within_inner k known r inner)
       | inr other ↦ within_other (suc n) known r other ∙ sym (within_other (suc k) known r other)
     ]
@@ -218,9 +243,11 @@ family-unit known = refl
 pub family-improper : (known : ℕ → ℕ) (r : ℕ) → 2 ≤ r → is_inner known r ≡ false → family known r ≡ []
 unfolding family
 family-improper known r above other =
-    within_other (4096 - level_in known r) known r other ∙ cond-false (r == 1) ([] ∷ []) [] (ne_eqb r 1 (λ e. omega arith))
+    within_other (4096 - level_in known r) known r other
+    ∙ cond-false (r == 1) ([] ∷ []) [] (ne_eqb r 1 (λ e. omega arith))
 
-pub family-inner : (known : ℕ → ℕ) (r : ℕ) → IsBounded known → is_inner known r ≡ true → family known r ≡ branch (level_of (known r)) (family known (lo_of (known r))) (family known (hi_of (known r)))
+pub family-inner : (known : ℕ → ℕ) (r : ℕ) → IsBounded known → is_inner known r ≡ true
+    → family known r ≡ branch (level_of (known r)) (family known (lo_of (known r))) (family known (hi_of (known r)))
 unfolding family
 family-inner known r bounded inner =
     let is : IsInner known r = IsInner-from_test known r inner in
@@ -229,34 +256,46 @@ family-inner known r bounded inner =
     enough known bounded (4096 - level_in known r) (suc (4095 - level_in known r)) r (omega arith) (omega arith)
     ∙ within_inner (4095 - level_in known r) known r inner
     ∙ branches (level_of (known r)) _ _ _ _
-    (enough known bounded (4095 - level_in known r) (4096 - level_in known (lo_of (known r))) (lo_of (known r)) (let k = is.lo_above in omega (arith, e)) (omega arith))
-    (enough known bounded (4095 - level_in known r) (4096 - level_in known (hi_of (known r))) (hi_of (known r)) (let k = is.hi_above in omega (arith, e)) (omega arith))
+    (enough known bounded (4095 - level_in known r) (4096 - level_in known (lo_of (known r))) (lo_of (known r))
+    (let k = is.lo_above in omega (arith, e)) (omega arith))
+    (enough known bounded (4095 - level_in known r) (4096 - level_in known (hi_of (known r))) (hi_of (known r))
+    (let k = is.hi_above in omega (arith, e)) (omega arith))
 
 pub family-absent : (known : ℕ → ℕ) (r : ℕ) → 2 ≤ r → known r ≡ 0 → family known r ≡ []
 family-absent known r above absent =
     family-improper known r above
-    (ap (λ b. b && (nat_lt (level_of (known r)) (level_in known (lo_of (known r))) && nat_lt (level_of (known r)) (level_in known (hi_of (known r)))))
+    (ap (λ b. b && (nat_lt (level_of (known r)) (level_in known (lo_of (known r)))
+    && nat_lt (level_of (known r)) (level_in known (hi_of (known r)))))
     (ap (λ b. not (nat_lt r 2) && not b) (eq-eqb (known r) 0 absent) ∙ and_right (not (nat_lt r 2)) false refl))
 
 -- over a closed map a known reference has the branch of its lo and hi
-pub family-node : (known : ℕ → ℕ) (r : ℕ) → IsClosed known → known r ≢ 0 → family known r ≡ branch (level_of (known r)) (family known (lo_of (known r))) (family known (hi_of (known r)))
+pub family-node : (known : ℕ → ℕ) (r : ℕ) → IsClosed known → known r ≢ 0
+    → family known r ≡ branch (level_of (known r)) (family known (lo_of (known r))) (family known (hi_of (known r)))
 family-node known r closed has =
     family-inner known r (IsBounded-closed known closed) (test-from_IsInner known r (IsInner-closed known r closed has))
 
 -- what holds of the terminals, and of a reference where it holds of its lo and hi, holds of each known reference
-by_levels_within : (known : ℕ → ℕ) → IsClosed known → (P : ℕ → Type 0) → P 0 → P 1 → ((r : ℕ) → known r ≢ 0 → P (lo_of (known r)) → P (hi_of (known r)) → P r) → (n r : ℕ) → 4096 ≤ n + level_in known r → Knows known r → P r
+by_levels_within : (known : ℕ → ℕ) → IsClosed known → (P : ℕ → Type 0) → P 0 → P 1
+    → ((r : ℕ) → known r ≢ 0 → P (lo_of (known r)) → P (hi_of (known r)) → P r) → (n r : ℕ)
+    → 4096 ≤ n + level_in known r → Knows known r → P r
 by_levels_within known closed P none one step n zero h knows = none
 by_levels_within known closed P none one step n (suc zero) h knows = one
 by_levels_within known closed P none one step zero (suc (suc r)) h (inl below) = absurd (omega arith)
 by_levels_within known closed P none one step zero (suc (suc r)) h (inr has) =
-    absurd (let e = level_in-inner known (suc (suc r)) (omega arith) in let b = IsBounded-closed known closed (suc (suc r)) in omega (arith, e, b, h))
+    absurd (let e = level_in-inner known (suc (suc r)) (omega arith) in
+    let b = IsBounded-closed known closed (suc (suc r)) in omega (arith, e, b, h))
 by_levels_within known closed P none one step (suc n) (suc (suc r)) h (inl below) = absurd (omega arith)
 by_levels_within known closed P none one step (suc n) (suc (suc r)) h (inr has) =
     let node : IsNode known (known (suc (suc r))) = (closed (suc (suc r)) has).1 in
-    let e : level_in known (suc (suc r)) ≡ level_of (known (suc (suc r))) = level_in-inner known (suc (suc r)) (omega arith) in
+    let e : level_in known (suc (suc r)) ≡ level_of (known (suc (suc r))) =
+    level_in-inner known (suc (suc r)) (omega arith) in
     step (suc (suc r)) has
-    (by_levels_within known closed P none one step n (lo_of (known (suc (suc r)))) (let k = node.lo_above in omega (arith, e)) (lo_known known (known (suc (suc r))) node))
-    (by_levels_within known closed P none one step n (hi_of (known (suc (suc r)))) (let k = node.hi_above in omega (arith, e)) (hi_known known (known (suc (suc r))) node))
+    (by_levels_within known closed P none one step n (lo_of (known (suc (suc r))))
+    (let k = node.lo_above in omega (arith, e)) (lo_known known (known (suc (suc r))) node))
+    (by_levels_within known closed P none one step n (hi_of (known (suc (suc r))))
+    (let k = node.hi_above in omega (arith, e)) (hi_known known (known (suc (suc r))) node))
 
-pub by_levels : (known : ℕ → ℕ) → IsClosed known → (P : ℕ → Type 0) → P 0 → P 1 → ((r : ℕ) → known r ≢ 0 → P (lo_of (known r)) → P (hi_of (known r)) → P r) → (r : ℕ) → Knows known r → P r
-by_levels known closed P none one step r knows = by_levels_within known closed P none one step 4096 r (omega arith) knows
+pub by_levels : (known : ℕ → ℕ) → IsClosed known → (P : ℕ → Type 0) → P 0 → P 1
+    → ((r : ℕ) → known r ≢ 0 → P (lo_of (known r)) → P (hi_of (known r)) → P r) → (r : ℕ) → Knows known r → P r
+by_levels known closed P none one step r knows =
+    by_levels_within known closed P none one step 4096 r (omega arith) knows

@@ -7,13 +7,22 @@ use Rattle.zdd_product.specs.Seats.{WentOn, Gave, WasFull}
 use Rattle.zdd_product.specs.After.{WentOn-as, WasFull-as, Gave-then, WasFull-then}
 
 -- what was given and what is due imply more
-pub answer_as : {E : Type 0} (is due is' due' : List (List ℕ) → Type 0) → ((h : List (List ℕ)) → is h → is' h) → ((h : List (List ℕ)) → due h → due' h) → (before after : Seated) (result : Result ℕ E) → MatchResult result (Gave is due before after) (λ _. WasFull due before after) → MatchResult result (Gave is' due' before after) (λ _. WasFull due' before after)
+pub answer_as : {E : Type 0} (is due is' due' : List (List ℕ) → Type 0) → ((h : List (List ℕ)) → is h → is' h)
+    → ((h : List (List ℕ)) → due h → due' h) → (before after : Seated) (result : Result ℕ E)
+    → MatchResult result (Gave is due before after) (λ _. WasFull due before after)
+    → MatchResult result (Gave is' due' before after) (λ _. WasFull due' before after)
 answer_as is due is' due' to_is to_due before after result m =
     MatchResult-weaker result m
-    (λ r gave. record { on = WentOn-as due due' to_due before after gave.on; known = (gave.known.0, to_is (family (map_of after) r) gave.known.1) })
+    (λ r gave. record {
+      on = WentOn-as due due' to_due before after gave.on;
+      known =
+          (gave.known.0, to_is (family (map_of after) r) gave.known.1);
+    })
     (λ _ full. WasFull-as due due' to_due before after full)
 
 -- after what was done before
-pub answer_then : {E : Type 0} (is due : List (List ℕ) → Type 0) (a b c : Seated) → WentOn due a b → (result : Result ℕ E) → MatchResult result (Gave is due b c) (λ _. WasFull due b c) → MatchResult result (Gave is due a c) (λ _. WasFull due a c)
+pub answer_then : {E : Type 0} (is due : List (List ℕ) → Type 0) (a b c : Seated) → WentOn due a b
+    → (result : Result ℕ E) → MatchResult result (Gave is due b c) (λ _. WasFull due b c)
+    → MatchResult result (Gave is due a c) (λ _. WasFull due a c)
 answer_then is due a b c on result m =
     MatchResult-weaker result m (λ r gave. Gave-then due a b c on is r gave) (λ _ full. WasFull-then due a b c on full)

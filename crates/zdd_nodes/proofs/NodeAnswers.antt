@@ -20,51 +20,75 @@ use Rattle.zdd_nodes.proofs.NodeParts.{node_due}
 use Rattle.zdd_nodes.proofs.Staying.{families_stay}
 
 -- an answer, by what was made and what is due
-abbrev pub Answer : {E : Type 0} → (List (List ℕ) → Type 0) → (List (List ℕ) → Type 0) → Seated → Seated → Result ℕ E → Type 0
+abbrev pub Answer : {E : Type 0} → (List (List ℕ) → Type 0) → (List (List ℕ) → Type 0) → Seated → Seated → Result ℕ E
+    → Type 0
 Answer is due before after result = MatchResult result (Gave is due before after) (λ _. WasFull due before after)
 
 abbrev pub FollowsRecipe : {E : Type 0} → Recipe → Seated → Seated → Result ℕ E → Type 0
 FollowsRecipe recipe before after result = Answer (IsMadeBy recipe) (IsDueToRecipe recipe) before after result
 
 -- an equal recipe
-pub at_recipe : {E : Type 0} (recipe recipe' : Recipe) → recipe ≡ recipe' → (before after : Seated) (result : Result ℕ E) → FollowsRecipe recipe' before after result → FollowsRecipe recipe before after result
-at_recipe recipe recipe' same before after result m = subst (λ (q : Recipe). FollowsRecipe q before after result) (sym same) m
+pub at_recipe : {E : Type 0} (recipe recipe' : Recipe) → recipe ≡ recipe'
+    → (before after : Seated) (result : Result ℕ E) → FollowsRecipe recipe' before after result
+    → FollowsRecipe recipe before after result
+at_recipe recipe recipe' same before after result m =
+    subst (λ (q : Recipe). FollowsRecipe q before after result) (sym same) m
 
 -- the family of a unit alone, and then the unions with others
-pub unit_made : {E : Type 0} (start mid after : Seated) (unit own : ℕ) (triggers : List ℕ) → IsSoundSeat start → All (Knows (map_of start)) triggers
+pub unit_made : {E : Type 0} (start mid after : Seated) (unit own : ℕ) (triggers : List ℕ) → IsSoundSeat start
+    → All (Knows (map_of start)) triggers
     → Gave (λ h. h ≡ alone unit) (λ h. h ≡ alone unit) start mid own
-    → (result : Result ℕ E) → Answer (IsUnionOfAll (family (map_of mid) own) (families (map_of mid) triggers)) (IsDueToUnions (family (map_of mid) own) (families (map_of mid) triggers)) mid after result
-    → Answer (IsUnionOfAll (alone unit) (families (map_of start) triggers)) (IsDueToUnit unit (families (map_of start) triggers)) start after result
+    → (result : Result ℕ E) → Answer (IsUnionOfAll (family (map_of mid) own) (families (map_of mid) triggers))
+    (IsDueToUnions (family (map_of mid) own) (families (map_of mid) triggers)) mid after result
+    → Answer (IsUnionOfAll (alone unit) (families (map_of start) triggers))
+    (IsDueToUnit unit (families (map_of start) triggers)) start after result
 unit_made start mid after unit own triggers sound knows gave result m =
     let fs = families (map_of start) triggers in
-    let stay : families (map_of mid) triggers ≡ fs = families_stay start mid sound gave.on.went.sound gave.on.went.keeps triggers knows in
+    let stay : families (map_of mid) triggers ≡ fs =
+    families_stay start mid sound gave.on.went.sound gave.on.went.keeps triggers knows in
     let m' : Answer (IsUnionOfAll (alone unit) fs) (IsDueToUnions (alone unit) fs) mid after result =
-    subst (λ (q : List (List (List ℕ))). Answer (IsUnionOfAll (alone unit) q) (IsDueToUnions (alone unit) q) mid after result) stay
-    (subst (λ (q : List (List ℕ)). Answer (IsUnionOfAll q (families (map_of mid) triggers)) (IsDueToUnions q (families (map_of mid) triggers)) mid after result) gave.known.1 m) in
-    answer_then (IsUnionOfAll (alone unit) fs) (IsDueToUnit unit fs) start mid after (WentOn-as (λ h. h ≡ alone unit) (IsDueToUnit unit fs) (λ h same. inl same) start mid gave.on) result
-    (answer_as (IsUnionOfAll (alone unit) fs) (IsDueToUnions (alone unit) fs) (IsUnionOfAll (alone unit) fs) (IsDueToUnit unit fs) (λ h is. is) (λ h due. inr due) mid after result m')
+    subst (λ (q : List (List (List ℕ))). Answer (IsUnionOfAll (alone unit) q) (IsDueToUnions (alone unit) q) mid after
+    result) stay
+    (subst (λ (q : List (List ℕ)). Answer (IsUnionOfAll q (families (map_of mid) triggers))
+    (IsDueToUnions q (families (map_of mid) triggers)) mid after result) gave.known.1 m) in
+    answer_then (IsUnionOfAll (alone unit) fs) (IsDueToUnit unit fs) start mid after
+    (WentOn-as (λ h. h ≡ alone unit) (IsDueToUnit unit fs) (λ h same. inl same) start mid gave.on) result
+    (answer_as (IsUnionOfAll (alone unit) fs) (IsDueToUnions (alone unit) fs) (IsUnionOfAll (alone unit) fs)
+    (IsDueToUnit unit fs) (λ h is. is) (λ h due. inr due) mid after result m')
 
-module _ (tree : FaultTree) (node : ℕ) (is_node : IsNodeOf tree node) (read : is_fdep tree node ≡ false) (fs : List (List (List ℕ))) (stand : StandFor (IsCutFamily tree) (below tree node) fs) where
+module _ (tree : FaultTree) (node : ℕ) (is_node : IsNodeOf tree node) (read : is_fdep tree node ≡ false)
+    (fs : List (List (List ℕ))) (stand : StandFor (IsCutFamily tree) (below tree node) fs) where
   -- what the recipe of a node makes
-  pub node_made : {E : Type 0} (recipe : Recipe) → node_recipe tree node fs ≡ recipe → (before after : Seated) (result : Result ℕ E) → FollowsRecipe recipe before after result → Answer (IsMadeBy (node_recipe tree node fs)) (IsDueToTree tree) before after result
+  pub node_made : {E : Type 0} (recipe : Recipe) → node_recipe tree node fs ≡ recipe
+      → (before after : Seated) (result : Result ℕ E) → FollowsRecipe recipe before after result
+      → Answer (IsMadeBy (node_recipe tree node fs)) (IsDueToTree tree) before after result
   node_made recipe same before after result m =
-      answer_as (IsMadeBy (node_recipe tree node fs)) (IsDueToRecipe (node_recipe tree node fs)) (IsMadeBy (node_recipe tree node fs)) (IsDueToTree tree) (λ h is. is) (λ h due. node_due tree node is_node read fs stand h due) before after result
+      answer_as (IsMadeBy (node_recipe tree node fs)) (IsDueToRecipe (node_recipe tree node fs))
+      (IsMadeBy (node_recipe tree node fs)) (IsDueToTree tree) (λ h is. is)
+      (λ h due. node_due tree node is_node read fs stand h due) before after result
       (at_recipe (node_recipe tree node fs) recipe same before after result m)
 
   unit_due : IsUnitOf tree node → (h : List (List ℕ)) → IsDueToUnit node fs h → IsDueToTree tree h
   unit_due is_unit h (inl same) = subst (IsDueToTree tree) (sym same) (one_unit is_unit)
-  unit_due is_unit h (inr due) = node_due tree node is_node read fs stand h (subst (λ (q : Recipe). IsDueToRecipe q h) (sym (unit_recipe_is tree node fs is_unit)) (due_to_unions due))
+  unit_due is_unit h (inr due) =
+      node_due tree node is_node read fs stand h (subst (λ (q : Recipe). IsDueToRecipe q h)
+      (sym (unit_recipe_is tree node fs is_unit)) (due_to_unions due))
 
   -- and of a unit
-  pub unit_node_made : {E : Type 0} → IsUnitOf tree node → (before after : Seated) (result : Result ℕ E) → Answer (IsUnionOfAll (alone node) fs) (IsDueToUnit node fs) before after result → Answer (IsMadeBy (node_recipe tree node fs)) (IsDueToTree tree) before after result
+  pub unit_node_made : {E : Type 0} → IsUnitOf tree node → (before after : Seated) (result : Result ℕ E)
+      → Answer (IsUnionOfAll (alone node) fs) (IsDueToUnit node fs) before after result
+      → Answer (IsMadeBy (node_recipe tree node fs)) (IsDueToTree tree) before after result
   unit_node_made is_unit before after result m =
-      answer_as (IsUnionOfAll (alone node) fs) (IsDueToUnit node fs) (IsMadeBy (node_recipe tree node fs)) (IsDueToTree tree)
+      answer_as (IsUnionOfAll (alone node) fs) (IsDueToUnit node fs) (IsMadeBy (node_recipe tree node fs))
+      (IsDueToTree tree)
       (λ h is. subst (λ (q : Recipe). IsMadeBy q h) (sym (unit_recipe_is tree node fs is_unit)) is)
       (unit_due is_unit) before after result m
 
   -- its minimal sets are the cut family of the node
-  pub node_ends : {E : Type 0} → IsTree tree → (start mid after : Seated) (made : ℕ) → Gave (IsMadeBy (node_recipe tree node fs)) (IsDueToTree tree) start mid made → (result : Result ℕ E)
-      → Answer (IsMinimal (family (map_of mid) made)) (IsDueToMinimal (family (map_of mid) made)) mid after result → Answer (IsCutFamily tree node) (IsDueToTree tree) start after result
+  pub node_ends : {E : Type 0} → IsTree tree → (start mid after : Seated) (made : ℕ)
+      → Gave (IsMadeBy (node_recipe tree node fs)) (IsDueToTree tree) start mid made → (result : Result ℕ E)
+      → Answer (IsMinimal (family (map_of mid) made)) (IsDueToMinimal (family (map_of mid) made)) mid after result
+      → Answer (IsCutFamily tree node) (IsDueToTree tree) start after result
   node_ends kept start mid after made gave result m =
       let had = family (map_of mid) made in
       answer_then (IsCutFamily tree node) (IsDueToTree tree) start mid after gave.on result

@@ -14,7 +14,8 @@ reference_of references node = slice_index references (node - 1)
 
 -- the map knows the reference of each node that this one reads as that node's cut family
 abbrev pub KnowsBelow : (ℕ → ℕ) → FaultTree → List ℕ → ℕ → Type 0
-KnowsBelow known tree references node = All (λ input. KnowsOne known (reference_of references input) (IsCutFamily tree input)) (below tree node)
+KnowsBelow known tree references node =
+    All (λ input. KnowsOne known (reference_of references input) (IsCutFamily tree input)) (below tree node)
 
 -- the families of what a node reads, in its order
 abbrev pub families_below : (ℕ → ℕ) → FaultTree → List ℕ → ℕ → List (List (List ℕ))

@@ -15,7 +15,8 @@ pub record IsLeastProduct (f g least : List (List ℕ)) : Type 0 where
 -- due to the product, or to its minimal sets
 pub data IsDueToLeastProduct : List (List ℕ) → List (List ℕ) → List (List ℕ) → Type 0 where
   due_to_product : {f g due : List (List ℕ)} → IsDueToProduct f g due → IsDueToLeastProduct f g due
-  due_to_least : {f g product due : List (List ℕ)} → IsProduct f g product → IsDueToMinimal product due → IsDueToLeastProduct f g due
+  due_to_least : {f g product due : List (List ℕ)} → IsProduct f g product → IsDueToMinimal product due
+      → IsDueToLeastProduct f g due
 
 -- the family of the unit alone, or due to its unions with the families of the triggers
 abbrev pub IsDueToUnit : ℕ → List (List (List ℕ)) → List (List ℕ) → Type 0

@@ -59,7 +59,10 @@ fn follow(
     requires all { node_count tree.now ≤ length families.now }
     requires below { KnowsBelow (map_of ops.old) tree.now families.now node }
     requires room { HaveRoomFor tree.now rooms.old }
-    ensures made { let recipe = node_recipe tree.now node (families_below (map_of ops.old) tree.now families.now node) in MatchResult result (Gave (IsMadeBy recipe) (IsDueToTree tree.now) ops.old ops.new) (λ _. WasFull (IsDueToTree tree.now) ops.old ops.new) }
+    ensures made { let recipe = node_recipe tree.now node
+        (families_below (map_of ops.old) tree.now families.now node) in
+        MatchResult result (Gave (IsMadeBy recipe) (IsDueToTree tree.now) ops.old ops.new)
+        (λ _. WasFull (IsDueToTree tree.now) ops.old ops.new) }
     ensures room { HaveRoomFor tree.now rooms.new }
 {
     let nodes = tree.below(node);
@@ -86,7 +89,9 @@ fn make(
     requires room { length (below tree.now node) ≤ length room.old }
     requires knows { All (Knows (map_of ops.old)) list.now }
     requires stand { StandFor (IsCutFamily tree.now) (below tree.now node) (families (map_of ops.old) list.now) }
-    ensures made { let recipe = node_recipe tree.now node (families (map_of ops.old) list.now) in MatchResult result (Gave (IsMadeBy recipe) (IsDueToTree tree.now) ops.old ops.new) (λ _. WasFull (IsDueToTree tree.now) ops.old ops.new) }
+    ensures made { let recipe = node_recipe tree.now node (families (map_of ops.old) list.now) in
+        MatchResult result (Gave (IsMadeBy recipe) (IsDueToTree tree.now) ops.old ops.new)
+        (λ _. WasFull (IsDueToTree tree.now) ops.old ops.new) }
     ensures size { length room.new ≡ length room.old }
 {
     if node.number() > tree.units() {

@@ -20,7 +20,9 @@ use zdd_words::NodeRef;
 fn unite_all(ops: &mut Ops, first: NodeRef, others: &[NodeRef]) -> Result<NodeRef, Full>
     requires first { Knows (map_of ops.old) first }
     requires others { All (Knows (map_of ops.old)) others.now }
-    ensures { let f = family (map_of ops.old) first in let fs = families (map_of ops.old) others.now in MatchResult result (Gave (IsUnionOfAll f fs) (IsDueToUnions f fs) ops.old ops.new) (λ _. WasFull (IsDueToUnions f fs) ops.old ops.new) }
+    ensures { let f = family (map_of ops.old) first in let fs = families (map_of ops.old) others.now in
+        MatchResult result (Gave (IsUnionOfAll f fs) (IsDueToUnions f fs) ops.old ops.new)
+        (λ _. WasFull (IsDueToUnions f fs) ops.old ops.new) }
 {
     ops.is_sound();
     let mut made = first;
@@ -34,7 +36,9 @@ fn unite_all(ops: &mut Ops, first: NodeRef, others: &[NodeRef]) -> Result<NodeRe
 fn multiply_all(ops: &mut Ops, first: NodeRef, others: &[NodeRef]) -> Result<NodeRef, Full>
     requires first { Knows (map_of ops.old) first }
     requires others { All (Knows (map_of ops.old)) others.now }
-    ensures { let f = family (map_of ops.old) first in let fs = families (map_of ops.old) others.now in MatchResult result (Gave (IsProductOfAll f fs) (IsDueToProducts f fs) ops.old ops.new) (λ _. WasFull (IsDueToProducts f fs) ops.old ops.new) }
+    ensures { let f = family (map_of ops.old) first in let fs = families (map_of ops.old) others.now in
+        MatchResult result (Gave (IsProductOfAll f fs) (IsDueToProducts f fs) ops.old ops.new)
+        (λ _. WasFull (IsDueToProducts f fs) ops.old ops.new) }
 {
     ops.is_sound();
     let mut made = first;
@@ -47,7 +51,9 @@ fn multiply_all(ops: &mut Ops, first: NodeRef, others: &[NodeRef]) -> Result<Nod
 // The family of the unit alone, united with its triggers' families.
 pub(crate) fn make_unit(ops: &mut Ops, unit: UnitNo, triggers: &[NodeRef]) -> Result<NodeRef, Full>
     requires { All (Knows (map_of ops.old)) triggers.now }
-    ensures { let fs = families (map_of ops.old) triggers.now in MatchResult result (Gave (IsUnionOfAll (alone unit) fs) (IsDueToUnit unit fs) ops.old ops.new) (λ _. WasFull (IsDueToUnit unit fs) ops.old ops.new) }
+    ensures { let fs = families (map_of ops.old) triggers.now in
+        MatchResult result (Gave (IsUnionOfAll (alone unit) fs) (IsDueToUnit unit fs) ops.old ops.new)
+        (λ _. WasFull (IsDueToUnit unit fs) ops.old ops.new) }
 {
     ops.is_sound();
     let own = single(ops, unit)?;
@@ -64,7 +70,9 @@ pub(crate) fn make_gate(
     requires some { 1 ≤ length inputs.now }
     requires votes { CanVote kind (length room.old) }
     requires knows { All (Knows (map_of ops.old)) inputs.now }
-    ensures { let recipe = gate_recipe kind (families (map_of ops.old) inputs.now) in MatchResult result (Gave (IsMadeBy recipe) (IsDueToRecipe recipe) ops.old ops.new) (λ _. WasFull (IsDueToRecipe recipe) ops.old ops.new) }
+    ensures { let recipe = gate_recipe kind (families (map_of ops.old) inputs.now) in
+        MatchResult result (Gave (IsMadeBy recipe) (IsDueToRecipe recipe) ops.old ops.new)
+        (λ _. WasFull (IsDueToRecipe recipe) ops.old ops.new) }
 {
     ops.is_sound();
     match kind {

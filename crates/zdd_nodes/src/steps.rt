@@ -13,7 +13,8 @@ use zdd_words::NodeRef;
 
 // The family of the set of a unit alone.
 pub(crate) fn single(ops: &mut Ops, unit: UnitNo) -> Result<NodeRef, Full>
-    ensures { MatchResult result (Gave (λ h. h ≡ alone unit) (λ h. h ≡ alone unit) ops.old ops.new) (λ _. WasFull (λ h. h ≡ alone unit) ops.old ops.new) }
+    ensures { MatchResult result (Gave (λ h. h ≡ alone unit) (λ h. h ≡ alone unit) ops.old ops.new)
+        (λ _. WasFull (λ h. h ≡ alone unit) ops.old ops.new) }
 {
     ops.is_sound();
     ops.node(unit, NodeRef::EMPTY, NodeRef::UNIT)
@@ -23,7 +24,9 @@ pub(crate) fn single(ops: &mut Ops, unit: UnitNo) -> Result<NodeRef, Full>
 pub(crate) fn multiply_least(ops: &mut Ops, a: NodeRef, b: NodeRef) -> Result<NodeRef, Full>
     requires knows_a { Knows (map_of ops.old) a }
     requires knows_b { Knows (map_of ops.old) b }
-    ensures { let f = family (map_of ops.old) a in let g = family (map_of ops.old) b in MatchResult result (Gave (IsLeastProduct f g) (IsDueToLeastProduct f g) ops.old ops.new) (λ _. WasFull (IsDueToLeastProduct f g) ops.old ops.new) }
+    ensures { let f = family (map_of ops.old) a in let g = family (map_of ops.old) b in
+        MatchResult result (Gave (IsLeastProduct f g) (IsDueToLeastProduct f g) ops.old ops.new)
+        (λ _. WasFull (IsDueToLeastProduct f g) ops.old ops.new) }
 {
     let product = ops.product(a, b)?;
     ops.minimal(product)

@@ -13,21 +13,28 @@ use Rattle.zdd_shared_table.specs.Seats.{Seated, IsSoundSeat, map_of}
 use Rattle.zdd_product.specs.Seats.{Gave}
 use Rattle.zdd_product.specs.After.{stays, at_both}
 
-told_grown : (known known' : ℕ → ℕ) → IsClosed known → IsClosed known' → Grown known known' → (entry : Entry) → IsTold known entry → IsTold known' entry
+told_grown : (known known' : ℕ → ℕ) → IsClosed known → IsClosed known' → Grown known known' → (entry : Entry)
+    → IsTold known entry → IsTold known' entry
 told_grown known known' closed closed' grown entry told =
-    let same : (r : ℕ) → Knows known r → family known r ≡ family known' r = λ r knows. sym (family-grown known known' r closed closed' grown knows) in
+    let same : (r : ℕ) → Knows known r → family known r ≡ family known' r =
+    λ r knows. sym (family-grown known known' r closed closed' grown knows) in
     record {
       first = Knows-grown known known' entry.question.first grown told.first;
       second = Knows-grown known known' entry.question.second grown told.second;
       answer = Knows-grown known known' entry.answer grown told.answer;
       is =
-          subst (λ h. IsResult entry.question.operation (family known' entry.question.first) (family known' entry.question.second) h) (same entry.answer told.answer)
-          (subst (λ g. IsResult entry.question.operation (family known' entry.question.first) g (family known entry.answer)) (same entry.question.second told.second)
-          (subst (λ f. IsResult entry.question.operation f (family known entry.question.second) (family known entry.answer)) (same entry.question.first told.first) told.is));
+          subst (λ h. IsResult entry.question.operation (family known' entry.question.first)
+          (family known' entry.question.second) h) (same entry.answer told.answer)
+          (subst (λ g. IsResult entry.question.operation (family known' entry.question.first) g
+          (family known entry.answer)) (same entry.question.second told.second)
+          (subst (λ f. IsResult entry.question.operation f (family known entry.question.second)
+          (family known entry.answer)) (same entry.question.first told.first) told.is));
     }
 
-pub all_told : (known known' : ℕ → ℕ) (entries : List Entry) → IsClosed known → IsClosed known' → Grown known known' → All (IsTold known) entries → All (IsTold known') entries
-all_told known known' entries closed closed' grown all = All-weaker (IsTold known) (IsTold known') (told_grown known known' closed closed' grown) entries all
+pub all_told : (known known' : ℕ → ℕ) (entries : List Entry) → IsClosed known → IsClosed known' → Grown known known'
+    → All (IsTold known) entries → All (IsTold known') entries
+all_told known known' entries closed closed' grown all =
+    All-weaker (IsTold known) (IsTold known') (told_grown known known' closed closed' grown) entries all
 
 -- what stands in each place before the first answer
 abbrev pub first_entry : Entry
@@ -44,7 +51,8 @@ told_first known =
     }
 
 -- what an operation on two references gave is true as an entry
-pub told_made : (operation : Operation) (due : List (List ℕ) → Type 0) (before after : Seated) (a b r : ℕ) → IsSoundSeat before → Knows (map_of before) a → Knows (map_of before) b
+pub told_made : (operation : Operation) (due : List (List ℕ) → Type 0) (before after : Seated) (a b r : ℕ)
+    → IsSoundSeat before → Knows (map_of before) a → Knows (map_of before) b
     → Gave (IsResult operation (family (map_of before) a) (family (map_of before) b)) due before after r
     → IsTold (map_of after) (record { question = record { operation = operation; first = a; second = b }; answer = r })
 told_made operation due before after a b r sound knows_a knows_b gave =
@@ -55,5 +63,7 @@ told_made operation due before after a b r sound knows_a knows_b gave =
       first = first.0;
       second = second.0;
       answer = gave.known.0;
-      is = at_both (λ f g. IsResult operation f g (family (map_of after) r)) _ _ _ _ (sym first.1) (sym second.1) gave.known.1;
+      is =
+          at_both (λ f g. IsResult operation f g (family (map_of after) r)) _ _ _ _ (sym first.1) (sym second.1)
+          gave.known.1;
     }

@@ -1,10 +1,12 @@
 -- The minimal sets of a node: those of its lo, and those of its hi without the sets that include one of lo.
-use Rattle.std.proofs.Common.{Result, MatchResult, ◌≡◌, ◌≢◌, ℕ, zero, suc, ◌-◌, ◌<◌, List, [], ◌∷◌, Contains, refl, sym, ◌∙◌, subst, inl, inr, arith}
+use Rattle.std.proofs.Common.{Result, MatchResult, ◌≡◌, ◌≢◌, ℕ, zero, suc, ◌-◌, ◌<◌, List, [], ◌∷◌, Contains, refl, sym}
+use Rattle.std.proofs.Common.{◌∙◌, subst, inl, inr, arith}
 use Rattle.std.proofs.lemmas.Bool.{cases_Bool}
 use Rattle.unit_sets.specs.Unit.{IsUnit}
 use Rattle.unit_sets.specs.Sorted.{Contains-nil, Contains-cons_first, Contains-cons_cases}
 use Rattle.zdd_families.specs.Family.{IsAbove, branch, IsFamily-unit, same_family}
-use Rattle.zdd_families.specs.Map.{Knows, KnowsAs, IsClosed, IsUnique, family, family-empty, family-unit, level_in, level_in-grown}
+use Rattle.zdd_families.specs.Map.{Knows, KnowsAs, IsClosed, IsUnique, family, family-empty, family-unit, level_in}
+use Rattle.zdd_families.specs.Map.{level_in-grown}
 use Rattle.zdd_families.specs.Canonical.{IsFamily-family, family-same}
 use Rattle.family_operations.specs.Inclusion.{includes_one}
 use Rattle.family_operations.specs.Without.{IsWithout, without-above}
@@ -28,7 +30,8 @@ minimal_ends known (suc (suc a)) small = absurd (omega arith)
 -- minimal sets with the empty set among them are the empty set alone
 module _ (f least : List (List ℕ)) (is : IsMinimal f least) (empty : Contains least []) where
   to_empty : (set : List ℕ) → Contains least set → Contains ([] ∷ []) set
-  to_empty set has = subst (Contains ([] ∷ [])) (((is.sets set).0 has).1 [] ((is.sets []).0 empty).0 refl) (Contains-cons_first [] [])
+  to_empty set has =
+      subst (Contains ([] ∷ [])) (((is.sets set).0 has).1 [] ((is.sets []).0 empty).0 refl) (Contains-cons_first [] [])
 
   from_empty : (set : List ℕ) → Contains ([] ∷ []) set → Contains least set
   from_empty set has = elim (Contains-cons_cases [] set [] has) [
@@ -39,10 +42,13 @@ module _ (f least : List (List ℕ)) (is : IsMinimal f least) (empty : Contains 
   least_empty : least ≡ [] ∷ []
   least_empty = same_family least ([] ∷ []) is.is_family IsFamily-unit (λ set. (to_empty set, from_empty set))
 
-pub unit_of_least : (known : ℕ → ℕ) (high low : ℕ) (f : List (List ℕ)) → IsClosed known → IsUnique known → Knows known low → IsMinimal f (family known low) → high ≡ 1 → low ≢ 1 → KnowsOne known high (IsWithout (family known high) (family known low))
+pub unit_of_least : (known : ℕ → ℕ) (high low : ℕ) (f : List (List ℕ)) → IsClosed known → IsUnique known
+    → Knows known low → IsMinimal f (family known low) → high ≡ 1 → low ≢ 1
+    → KnowsOne known high (IsWithout (family known high) (family known low))
 unit_of_least known high low f closed unique knows is unit other =
     elim (cases_Bool (includes_one (family known low) [])) [
-      | inl test ↦ absurd (other (family-same known low 1 closed unique knows (inl (omega arith)) (least_empty f (family known low) is (has_empty (family known low) test) ∙ sym (family-unit known))))
+      | inl test ↦ absurd (other (family-same known low 1 closed unique knows (inl (omega arith))
+          (least_empty f (family known low) is (has_empty (family known low) test) ∙ sym (family-unit known))))
       | inr test ↦ unit_stays known high low high unit unit test
     ]
 
@@ -51,12 +57,15 @@ unit_of_least known high low f closed unique knows is unit other =
 abbrev pub levels_above : (ℕ → ℕ) → ℕ → ℕ
 levels_above known a = 4096 - level_in known a
 
-pub fewer_alone : (known known' : ℕ → ℕ) (x a r : ℕ) → x < 4096 → level_in known a ≡ x → x < level_in known' r → levels_above known' r < levels_above known a
+pub fewer_alone : (known known' : ℕ → ℕ) (x a r : ℕ) → x < 4096 → level_in known a ≡ x → x < level_in known' r
+    → levels_above known' r < levels_above known a
 fewer_alone known known' x a r unit here above = omega arith
 
 -- ---- the steps
 
-module _ (s : Seated) (a x : ℕ) (half : Half) (sound : IsSoundSeat s) (unit : IsUnit x) (is_half : IsHalf (map_of s) x a half) (split : IsSplit (map_of s) x a half) (inner : IsInnerFamily (family (map_of s) a)) where
+module _ (s : Seated) (a x : ℕ) (half : Half) (sound : IsSoundSeat s) (unit : IsUnit x)
+    (is_half : IsHalf (map_of s) x a half) (split : IsSplit (map_of s) x a half)
+    (inner : IsInnerFamily (family (map_of s) a)) where
   abbrev all : List (List ℕ) → Type 0
   all = IsMadeByMinimal (family (map_of s) a)
 
@@ -82,7 +91,8 @@ module _ (s : Seated) (a x : ℕ) (half : Half) (sound : IsSoundSeat s) (unit : 
     pub minimal_hi_fewer : levels_above (map_of s1) half.hi < levels_above (map_of s) a
     minimal_hi_fewer =
         fewer_alone (map_of s) (map_of s1) x a half.hi (let u = unit.1 in omega arith) split.level
-        (subst (λ n. x < n) (sym (level_in-grown (map_of s) (map_of s1) half.hi on1.went.keeps is_half.knows_hi)) is_half.hi_above)
+        (subst (λ n. x < n) (sym (level_in-grown (map_of s) (map_of s1) half.hi on1.went.keeps is_half.knows_hi))
+        is_half.hi_above)
 
     abbrev hi_due : List (List ℕ) → Type 0
     hi_due = IsMadeByMinimal (family (map_of s1) half.hi)
@@ -120,7 +130,8 @@ module _ (s : Seated) (a x : ℕ) (half : Half) (sound : IsSoundSeat s) (unit : 
       pub minimal_rest_full : (s3 : Seated) → WasFull rest_due s2 s3 → WasFull all s s3
       minimal_rest_full s3 full = WasFull-next all rest_due s s2 s3 on2 to_rest full
 
-      module _ (s3 : Seated) (hi : ℕ) (gave3 : Gave (IsWithout (family (map_of s2) high) (family (map_of s2) lo)) rest_due s2 s3 hi) where
+      module _ (s3 : Seated) (hi : ℕ) (gave3 : Gave (IsWithout (family (map_of s2) high) (family (map_of s2) lo))
+          rest_due s2 s3 hi) where
         lo_at3 : KnowsAs (map_of s3) lo (family (map_of s2) lo)
         lo_at3 = stays s2 s3 lo gave2.on.went.sound gave3.on.went.sound gave3.on.went.keeps lo_at2.0
 
@@ -128,7 +139,9 @@ module _ (s : Seated) (a x : ℕ) (half : Half) (sound : IsSoundSeat s) (unit : 
         minimal_lo_knows = lo_at3.0
 
         pub minimal_lo_above : IsAbove x (family (map_of s3) lo)
-        minimal_lo_above = subst (IsAbove x) (sym lo_at3.1) (minimal-above x (family (map_of s) half.lo) (family (map_of s2) lo) lo_is split.splits.cut.lo_above)
+        minimal_lo_above =
+            subst (IsAbove x) (sym lo_at3.1) (minimal-above x (family (map_of s) half.lo) (family (map_of s2) lo) lo_is
+            split.splits.cut.lo_above)
 
         pub minimal_hi_above : IsAbove x (family (map_of s3) hi)
         minimal_hi_above =
@@ -142,11 +155,14 @@ module _ (s : Seated) (a x : ℕ) (half : Half) (sound : IsSoundSeat s) (unit : 
         to_is h is =
             subst (IsMinimal (family (map_of s) a)) (sym is)
             (subst (λ l. IsMinimal (family (map_of s) a) (branch x l (family (map_of s3) hi))) (sym lo_at3.1)
-            (minimal-step x (family (map_of s) a) (family (map_of s) half.lo) (family (map_of s) half.hi) (family (map_of s2) lo) (family (map_of s2) high) (family (map_of s3) hi) split.splits.cut
+            (minimal-step x (family (map_of s) a) (family (map_of s) half.lo) (family (map_of s) half.hi)
+            (family (map_of s2) lo) (family (map_of s2) high) (family (map_of s3) hi) split.splits.cut
             (IsFamily-family (map_of s) half.lo sound.closed is_half.knows_lo) lo_is high_is gave3.known.1))
 
-        pub minimal_made : {E : Type 0} (s4 : Seated) (result : Result ℕ E) → MatchResult result (Gave made made s3 s4) (λ _. WasFull made s3 s4)
+        pub minimal_made : {E : Type 0} (s4 : Seated) (result : Result ℕ E)
+            → MatchResult result (Gave made made s3 s4) (λ _. WasFull made s3 s4)
             → MatchResult result (Gave (IsMinimal (family (map_of s) a)) all s s4) (λ _. WasFull all s s4)
         minimal_made s4 result m =
-            made_after made (IsMinimal (family (map_of s) a)) all to_is (λ h is. (inner, minimal_itself (to_is h is))) s s3 s4
+            made_after made (IsMinimal (family (map_of s) a)) all to_is (λ h is. (inner, minimal_itself (to_is h is))) s
+            s3 s4
             (WentOn-next all rest_due s s2 s3 on2 to_rest gave3.on) result m

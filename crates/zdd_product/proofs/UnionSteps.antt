@@ -14,7 +14,8 @@ use Rattle.zdd_product.proofs.Halving.{Cuts-halved, one_split, levels_left, fewe
 use Rattle.zdd_product.specs.After.{stays, WentOn-as, WasFull-as, WentOn-then, WasFull-then, made_after}
 use Rattle.zdd_product.proofs.UnionParts.{union_makes_lo, union_makes_hi}
 
-module _ (s : Seated) (a b : ℕ) (halves : Halves) (sound : IsSoundSeat s) (are : AreHalves (map_of s) a b halves) (goes : GoesOn (family (map_of s) a) (family (map_of s) b)) where
+module _ (s : Seated) (a b : ℕ) (halves : Halves) (sound : IsSoundSeat s) (are : AreHalves (map_of s) a b halves)
+    (goes : GoesOn (family (map_of s) a) (family (map_of s) b)) where
   abbrev due : List (List ℕ) → Type 0
   due = IsMadeByUnion (family (map_of s) a) (family (map_of s) b)
 
@@ -22,7 +23,9 @@ module _ (s : Seated) (a b : ℕ) (halves : Halves) (sound : IsSoundSeat s) (are
   lo_due = IsMadeByUnion (family (map_of s) halves.first.lo) (family (map_of s) halves.second.lo)
 
   to_lo_due : (h : List (List ℕ)) → lo_due h → due h
-  to_lo_due = union_makes_lo halves.level _ _ _ _ _ _ goes (one_split (map_of s) a b halves are) are.first.halved are.second.halved
+  to_lo_due =
+      union_makes_lo halves.level _ _ _ _ _ _ goes (one_split (map_of s) a b halves are) are.first.halved
+      are.second.halved
 
   pub union_lo_on : (s1 : Seated) → WentOn lo_due s s1 → WentOn due s s1
   union_lo_on s1 on = WentOn-as lo_due due to_lo_due s s1 on
@@ -30,7 +33,8 @@ module _ (s : Seated) (a b : ℕ) (halves : Halves) (sound : IsSoundSeat s) (are
   pub union_lo_full : (s1 : Seated) → WasFull lo_due s s1 → WasFull due s s1
   union_lo_full s1 full = WasFull-as lo_due due to_lo_due s s1 full
 
-  module _ (s1 : Seated) (lo : ℕ) (gave_lo : Gave (IsUnion (family (map_of s) halves.first.lo) (family (map_of s) halves.second.lo)) lo_due s s1 lo) where
+  module _ (s1 : Seated) (lo : ℕ) (gave_lo : Gave
+      (IsUnion (family (map_of s) halves.first.lo) (family (map_of s) halves.second.lo)) lo_due s s1 lo) where
     abbrev hi_due : List (List ℕ) → Type 0
     hi_due = IsMadeByUnion (family (map_of s1) halves.first.hi) (family (map_of s1) halves.second.hi)
 
@@ -46,38 +50,55 @@ module _ (s : Seated) (a b : ℕ) (halves : Halves) (sound : IsSoundSeat s) (are
     pub union_hi_fewer : levels_left (map_of s1) halves.first.hi halves.second.hi < levels_left (map_of s) a b
     union_hi_fewer =
         fewer_left (map_of s) (map_of s1) a b halves.first.hi halves.second.hi halves are
-        (subst (λ n. halves.level < n) (sym (level_in-grown (map_of s) (map_of s1) halves.first.hi gave_lo.on.went.keeps are.first.knows_hi)) are.first.hi_above)
-        (subst (λ n. halves.level < n) (sym (level_in-grown (map_of s) (map_of s1) halves.second.hi gave_lo.on.went.keeps are.second.knows_hi)) are.second.hi_above)
+        (subst (λ n. halves.level < n) (sym (level_in-grown (map_of s) (map_of s1) halves.first.hi gave_lo.on.went.keeps
+        are.first.knows_hi)) are.first.hi_above)
+        (subst (λ n. halves.level < n) (sym (level_in-grown (map_of s) (map_of s1) halves.second.hi
+        gave_lo.on.went.keeps are.second.knows_hi)) are.second.hi_above)
 
     to_hi_due : (h : List (List ℕ)) → hi_due h → due h
     to_hi_due h made =
-        union_makes_hi halves.level _ _ _ _ _ _ goes (one_split (map_of s) a b halves are) are.first.halved are.second.halved h
-        (subst (λ g1. IsMadeByUnion (family (map_of s) halves.first.hi) g1 h) (same halves.second.hi are.second.knows_hi)
-        (subst (λ f1. IsMadeByUnion f1 (family (map_of s1) halves.second.hi) h) (same halves.first.hi are.first.knows_hi) made))
+        union_makes_hi halves.level _ _ _ _ _ _ goes (one_split (map_of s) a b halves are) are.first.halved
+        are.second.halved h
+        (subst (λ g1. IsMadeByUnion (family (map_of s) halves.first.hi) g1 h)
+        (same halves.second.hi are.second.knows_hi)
+        (subst (λ f1. IsMadeByUnion f1 (family (map_of s1) halves.second.hi) h)
+        (same halves.first.hi are.first.knows_hi) made))
 
     pub union_hi_on : (s2 : Seated) → WentOn hi_due s1 s2 → WentOn due s s2
     union_hi_on s2 on = WentOn-then due s s1 s2 (union_lo_on s1 gave_lo.on) (WentOn-as hi_due due to_hi_due s1 s2 on)
 
     pub union_hi_full : (s2 : Seated) → WasFull hi_due s1 s2 → WasFull due s s2
-    union_hi_full s2 full = WasFull-then due s s1 s2 (union_lo_on s1 gave_lo.on) (WasFull-as hi_due due to_hi_due s1 s2 full)
+    union_hi_full s2 full =
+        WasFull-then due s s1 s2 (union_lo_on s1 gave_lo.on) (WasFull-as hi_due due to_hi_due s1 s2 full)
 
-    module _ (s2 : Seated) (hi : ℕ) (gave_hi : Gave (IsUnion (family (map_of s1) halves.first.hi) (family (map_of s1) halves.second.hi)) hi_due s1 s2 hi) where
+    module _ (s2 : Seated) (hi : ℕ) (gave_hi : Gave
+        (IsUnion (family (map_of s1) halves.first.hi) (family (map_of s1) halves.second.hi)) hi_due s1 s2 hi) where
       pub union_lo_known : Knows (map_of s2) lo × (family (map_of s2) lo ≡ family (map_of s1) lo)
       union_lo_known = stays s1 s2 lo gave_lo.on.went.sound gave_hi.on.went.sound gave_hi.on.went.keeps gave_lo.known.0
 
       hi_is : IsUnion (family (map_of s) halves.first.hi) (family (map_of s) halves.second.hi) (family (map_of s2) hi)
       hi_is =
-          subst (λ g1. IsUnion (family (map_of s) halves.first.hi) g1 (family (map_of s2) hi)) (same halves.second.hi are.second.knows_hi)
-          (subst (λ f1. IsUnion f1 (family (map_of s1) halves.second.hi) (family (map_of s2) hi)) (same halves.first.hi are.first.knows_hi) gave_hi.known.1)
+          subst (λ g1. IsUnion (family (map_of s) halves.first.hi) g1 (family (map_of s2) hi))
+          (same halves.second.hi are.second.knows_hi)
+          (subst (λ f1. IsUnion f1 (family (map_of s1) halves.second.hi) (family (map_of s2) hi))
+          (same halves.first.hi are.first.knows_hi) gave_hi.known.1)
 
       lo_is : IsUnion (family (map_of s) halves.first.lo) (family (map_of s) halves.second.lo) (family (map_of s2) lo)
-      lo_is = subst (IsUnion (family (map_of s) halves.first.lo) (family (map_of s) halves.second.lo)) (sym union_lo_known.1) gave_lo.known.1
+      lo_is =
+          subst (IsUnion (family (map_of s) halves.first.lo) (family (map_of s) halves.second.lo))
+          (sym union_lo_known.1) gave_lo.known.1
 
-      cut_a : Cuts halves.level (family (map_of s) a) (family (map_of s) halves.first.lo) (family (map_of s) halves.first.hi)
-      cut_a = Cuts-halved halves.level (family (map_of s) a) (family (map_of s) halves.first.lo) (family (map_of s) halves.first.hi) are.first.halved
+      cut_a : Cuts halves.level (family (map_of s) a) (family (map_of s) halves.first.lo)
+          (family (map_of s) halves.first.hi)
+      cut_a =
+          Cuts-halved halves.level (family (map_of s) a) (family (map_of s) halves.first.lo)
+          (family (map_of s) halves.first.hi) are.first.halved
 
-      cut_b : Cuts halves.level (family (map_of s) b) (family (map_of s) halves.second.lo) (family (map_of s) halves.second.hi)
-      cut_b = Cuts-halved halves.level (family (map_of s) b) (family (map_of s) halves.second.lo) (family (map_of s) halves.second.hi) are.second.halved
+      cut_b : Cuts halves.level (family (map_of s) b) (family (map_of s) halves.second.lo)
+          (family (map_of s) halves.second.hi)
+      cut_b =
+          Cuts-halved halves.level (family (map_of s) b) (family (map_of s) halves.second.lo)
+          (family (map_of s) halves.second.hi) are.second.halved
 
       pub union_lo_above : IsAbove halves.level (family (map_of s2) lo)
       union_lo_above = union-above halves.level _ _ (family (map_of s2) lo) lo_is cut_a.lo_above cut_b.lo_above
@@ -89,10 +110,15 @@ module _ (s : Seated) (a b : ℕ) (halves : Halves) (sound : IsSoundSeat s) (are
       made = IsBranch halves.level (family (map_of s2) lo) (family (map_of s2) hi)
 
       to_is : (h : List (List ℕ)) → made h → IsUnion (family (map_of s) a) (family (map_of s) b) h
-      to_is h is = subst (IsUnion (family (map_of s) a) (family (map_of s) b)) (sym is) (union-step halves.level _ _ _ _ _ _ _ _ cut_a cut_b lo_is hi_is)
+      to_is h is =
+          subst (IsUnion (family (map_of s) a) (family (map_of s) b)) (sym is)
+          (union-step halves.level _ _ _ _ _ _ _ _ cut_a cut_b lo_is hi_is)
 
-      pub union_made : {E : Type 0} (s3 : Seated) (result : Result ℕ E) → MatchResult result (Gave made made s2 s3) (λ _. WasFull made s2 s3)
-          → MatchResult result (Gave (IsUnion (family (map_of s) a) (family (map_of s) b)) due s s3) (λ _. WasFull due s s3)
+      pub union_made : {E : Type 0} (s3 : Seated) (result : Result ℕ E)
+          → MatchResult result (Gave made made s2 s3) (λ _. WasFull made s2 s3)
+          → MatchResult result (Gave (IsUnion (family (map_of s) a) (family (map_of s) b)) due s s3)
+          (λ _. WasFull due s s3)
       union_made s3 result m =
-          made_after made (IsUnion (family (map_of s) a) (family (map_of s) b)) due to_is (λ h is. (goes, union_itself (to_is h is))) s s2 s3
+          made_after made (IsUnion (family (map_of s) a) (family (map_of s) b)) due to_is
+          (λ h is. (goes, union_itself (to_is h is))) s s2 s3
           (union_hi_on s2 gave_hi.on) result m

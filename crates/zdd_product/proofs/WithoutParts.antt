@@ -1,12 +1,15 @@
 -- The ends of what is left without the sets that include another, and what is due to the inner operations of it.
-use Rattle.std.proofs.Common.{◌≡◌, ◌≢◌, ◌⊎◌, ℕ, zero, suc, ◌==◌, ◌<◌, true, false, List, [], ◌∷◌, Contains, refl, sym, ◌∙◌, ap, subst, inl, inr, arith}
+use Rattle.std.proofs.Common.{◌≡◌, ◌≢◌, ◌⊎◌, ℕ, zero, suc, ◌==◌, ◌<◌, true, false, List, [], ◌∷◌, Contains, refl, sym}
+use Rattle.std.proofs.Common.{◌∙◌, ap, subst, inl, inr, arith}
 use Rattle.zdd_families.specs.Family.{IsFamily}
 use Rattle.zdd_families.specs.Map.{Knows, IsClosed, family, family-empty, family-unit}
 use Rattle.zdd_families.specs.Canonical.{IsFamily-family}
 use Rattle.unit_sets.specs.UnitList.{is_within}
 use Rattle.family_operations.specs.Inclusion.{includes_one, includes_one-above, Includes, Includes-from_test}
-use Rattle.family_operations.specs.Without.{IsWithout, without-none, without-nothing, without-unit, without-one, unit-without, unit-without_other}
-use Rattle.family_operations.specs.Due.{IsInnerFamily, IsDueToWithout, without_both_lo, without_both_hi, without_both_rest, without_first_lo, without_first_hi, without_second}
+use Rattle.family_operations.specs.Without.{IsWithout, without-none, without-nothing, without-unit, without-one}
+use Rattle.family_operations.specs.Without.{unit-without, unit-without_other}
+use Rattle.family_operations.specs.Due.{IsInnerFamily, IsDueToWithout, without_both_lo, without_both_hi}
+use Rattle.family_operations.specs.Due.{without_both_rest, without_first_lo, without_first_hi, without_second}
 use Rattle.zdd_product.specs.Due.{IsMadeByWithout}
 use Rattle.zdd_product.specs.Halves.{IsHalved}
 use Rattle.zdd_product.specs.Seats.{KnowsOne}
@@ -23,7 +26,8 @@ module _ (known : ℕ → ℕ) (a b r : ℕ) (closed : IsClosed known) (knows_a 
   end_known (inr (inl (none, is))) = subst (Knows known) (sym is) knows_a
   end_known (inr (inr (unit, is))) = inl (omega arith)
 
-  end_by : (f g h : List (List ℕ)) → family known a ≡ f → family known b ≡ g → family known r ≡ h → IsWithout f g h → IsWithout (family known a) (family known b) (family known r)
+  end_by : (f g h : List (List ℕ)) → family known a ≡ f → family known b ≡ g → family known r ≡ h → IsWithout f g h
+      → IsWithout (family known a) (family known b) (family known r)
   end_by f g h at_a at_b at_r is =
       subst (λ h. IsWithout (family known a) (family known b) h) (sym at_r)
       (subst (λ g. IsWithout (family known a) g h) (sym at_b)
@@ -34,9 +38,11 @@ module _ (known : ℕ → ℕ) (a b r : ℕ) (closed : IsClosed known) (knows_a 
       let at : family known a ≡ [] = ap (family known) none ∙ family-empty known in
       end_by [] (family known b) [] at refl (ap (family known) is ∙ at) (without-none (family known b))
   end_is (inr (inl (none, is))) =
-      end_by (family known a) [] (family known a) refl (ap (family known) none ∙ family-empty known) (ap (family known) is) (without-nothing (family known a) (IsFamily-family known a closed knows_a))
+      end_by (family known a) [] (family known a) refl (ap (family known) none ∙ family-empty known)
+      (ap (family known) is) (without-nothing (family known a) (IsFamily-family known a closed knows_a))
   end_is (inr (inr (unit, is))) =
-      end_by (family known a) ([] ∷ []) [] refl (ap (family known) unit ∙ family-unit known) (ap (family known) is ∙ family-empty known) (without-unit (family known a))
+      end_by (family known a) ([] ∷ []) [] refl (ap (family known) unit ∙ family-unit known)
+      (ap (family known) is ∙ family-empty known) (without-unit (family known a))
 
   pub without_ends : IsWithoutEnd a b r → KnowsOne known r (IsWithout (family known a) (family known b))
   without_ends end = (end_known end, end_is end)
@@ -53,18 +59,22 @@ has_empty g test =
     let found : Includes g [] = Includes-from_test g [] test in
     subst (Contains g) (only_empty found.part found.within) found.has
 
-pub unit_empty : (known : ℕ → ℕ) (a b r : ℕ) → a ≡ 1 → r ≡ 0 → includes_one (family known b) [] ≡ true → KnowsOne known r (IsWithout (family known a) (family known b))
+pub unit_empty : (known : ℕ → ℕ) (a b r : ℕ) → a ≡ 1 → r ≡ 0 → includes_one (family known b) [] ≡ true
+    → KnowsOne known r (IsWithout (family known a) (family known b))
 unit_empty known a b r unit is test = (
   inl (omega arith),
   subst (λ h. IsWithout (family known a) (family known b) h) (sym (ap (family known) is ∙ family-empty known))
-      (subst (λ f. IsWithout f (family known b) []) (sym (ap (family known) unit ∙ family-unit known)) (unit-without (family known b) (has_empty (family known b) test))),
+      (subst (λ f. IsWithout f (family known b) []) (sym (ap (family known) unit ∙ family-unit known))
+      (unit-without (family known b) (has_empty (family known b) test))),
 )
 
-pub unit_stays : (known : ℕ → ℕ) (a b r : ℕ) → a ≡ 1 → r ≡ 1 → includes_one (family known b) [] ≡ false → KnowsOne known r (IsWithout (family known a) (family known b))
+pub unit_stays : (known : ℕ → ℕ) (a b r : ℕ) → a ≡ 1 → r ≡ 1 → includes_one (family known b) [] ≡ false
+    → KnowsOne known r (IsWithout (family known a) (family known b))
 unit_stays known a b r unit is test = (
   inl (omega arith),
   subst (λ h. IsWithout (family known a) (family known b) h) (sym (ap (family known) is ∙ family-unit known))
-      (subst (λ f. IsWithout f (family known b) ([] ∷ [])) (sym (ap (family known) unit ∙ family-unit known)) (unit-without_other (family known b) test)),
+      (subst (λ f. IsWithout f (family known b) ([] ∷ [])) (sym (ap (family known) unit ∙ family-unit known))
+      (unit-without_other (family known b) test)),
 )
 
 -- a family has the empty set where its lo has it
@@ -79,34 +89,42 @@ empty_at_end known (suc (suc r)) small = absurd (omega arith)
 -- ---- what is due to the inner operations
 
 all_left : (f g w : List (List ℕ)) → IsFamily f → g ≡ [] → IsWithout f g w → w ≡ f
-all_left f g w is_family none is = without-one f [] w f (subst (λ q. IsWithout f q w) none is) (without-nothing f is_family)
+all_left f g w is_family none is =
+    without-one f [] w f (subst (λ q. IsWithout f q w) none is) (without-nothing f is_family)
 
 none_left : (f g w : List (List ℕ)) → f ≡ [] → IsWithout f g w → w ≡ []
 none_left f g w none is = without-one [] g w [] (subst (λ q. IsWithout q g w) none is) (without-none g)
 
-module _ (x : ℕ) (f f0 f1 g g0 g1 : List (List ℕ)) (inner : IsInnerFamily f) (inner' : IsInnerFamily g) (one : (f1 ≢ []) ⊎ (g1 ≢ [])) (hi_family : IsFamily f1) where
+module _ (x : ℕ) (f f0 f1 g g0 g1 : List (List ℕ)) (inner : IsInnerFamily f) (inner' : IsInnerFamily g)
+    (one : (f1 ≢ []) ⊎ (g1 ≢ [])) (hi_family : IsFamily f1) where
   neither : {G : Type 0} → f1 ≡ [] → g1 ≡ [] → G
   neither none none' = elim one [
     | inl some ↦ absurd (some none)
     | inr some ↦ absurd (some none')
   ]
 
-  due_lo : (due : List (List ℕ)) → IsHalved x f f0 f1 → IsHalved x g g0 g1 → IsDueToWithout f0 g0 due → IsDueToWithout f g due
+  due_lo : (due : List (List ℕ)) → IsHalved x f f0 f1 → IsHalved x g g0 g1 → IsDueToWithout f0 g0 due
+      → IsDueToWithout f g due
   due_lo due (inl splits) (inl splits') d = without_both_lo inner inner' splits splits' d
-  due_lo due (inl splits) (inr higher) d = without_first_lo inner inner' splits higher.above (subst (λ q. IsDueToWithout f0 q due) higher.lo_is d)
-  due_lo due (inr higher) (inl splits) d = without_second inner inner' splits higher.above (subst (λ q. IsDueToWithout q g0 due) higher.lo_is d)
+  due_lo due (inl splits) (inr higher) d =
+      without_first_lo inner inner' splits higher.above (subst (λ q. IsDueToWithout f0 q due) higher.lo_is d)
+  due_lo due (inr higher) (inl splits) d =
+      without_second inner inner' splits higher.above (subst (λ q. IsDueToWithout q g0 due) higher.lo_is d)
   due_lo due (inr higher) (inr higher') d = neither higher.hi_is higher'.hi_is
 
-  due_hi : (due : List (List ℕ)) → IsHalved x f f0 f1 → IsHalved x g g0 g1 → IsMadeByWithout f1 g1 due → IsDueToWithout f g due
+  due_hi : (due : List (List ℕ)) → IsHalved x f f0 f1 → IsHalved x g g0 g1 → IsMadeByWithout f1 g1 due
+      → IsDueToWithout f g due
   due_hi due (inl splits) (inl splits') made = without_both_hi inner inner' splits splits' made.2
   due_hi due (inl splits) (inr higher) made = absurd (made.1.not_none higher.hi_is)
   due_hi due (inr higher) halved made = absurd (made.0.not_none higher.hi_is)
 
-  due_rest : (due w : List (List ℕ)) → IsHalved x f f0 f1 → IsHalved x g g0 g1 → IsWithout f1 g1 w → IsMadeByWithout w g0 due → IsDueToWithout f g due
+  due_rest : (due w : List (List ℕ)) → IsHalved x f f0 f1 → IsHalved x g g0 g1 → IsWithout f1 g1 w
+      → IsMadeByWithout w g0 due → IsDueToWithout f g due
   due_rest due w (inl splits) (inl splits') some made = without_both_rest inner inner' splits splits' some made.2
   due_rest due w (inl splits) (inr higher) some made =
       without_first_hi inner inner' splits higher.above
-      (subst (λ q. IsDueToWithout q g due) (all_left f1 g1 w hi_family higher.hi_is some) (subst (λ q. IsDueToWithout w q due) higher.lo_is made.2))
+      (subst (λ q. IsDueToWithout q g due) (all_left f1 g1 w hi_family higher.hi_is some)
+      (subst (λ q. IsDueToWithout w q due) higher.lo_is made.2))
   due_rest due w (inr higher) halved some made = absurd (made.0.not_none (none_left f1 g1 w higher.hi_is some))
 
   module _ (halved : IsHalved x f f0 f1) (halved' : IsHalved x g g0 g1) where
@@ -116,5 +134,6 @@ module _ (x : ℕ) (f f0 f1 g g0 g1 : List (List ℕ)) (inner : IsInnerFamily f)
     pub without_makes_hi : (due : List (List ℕ)) → IsMadeByWithout f1 g1 due → IsMadeByWithout f g due
     without_makes_hi due made = (inner, inner', due_hi due halved halved' made)
 
-    pub without_makes_rest : (w : List (List ℕ)) → IsWithout f1 g1 w → (due : List (List ℕ)) → IsMadeByWithout w g0 due → IsMadeByWithout f g due
+    pub without_makes_rest : (w : List (List ℕ)) → IsWithout f1 g1 w → (due : List (List ℕ)) → IsMadeByWithout w g0 due
+        → IsMadeByWithout f g due
     without_makes_rest w some due made = (inner, inner', due_rest due w halved halved' some made)

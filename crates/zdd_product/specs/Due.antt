@@ -2,7 +2,8 @@
 use Rattle.std.specs.Prelude.{ℕ, List}
 use Rattle.family_operations.specs.Union.{IsUnion}
 use Rattle.family_operations.specs.Product.{IsProduct}
-use Rattle.family_operations.specs.Due.{GoesOn, IsInnerFamily, IsDueToUnion, IsDueToProduct, IsDueToWithout, IsDueToMinimal}
+use Rattle.family_operations.specs.Due.{GoesOn, IsInnerFamily, IsDueToUnion, IsDueToProduct, IsDueToWithout}
+use Rattle.family_operations.specs.Due.{IsDueToMinimal}
 
 abbrev pub IsMadeByUnion : List (List ℕ) → List (List ℕ) → List (List ℕ) → Type 0
 IsMadeByUnion f g due = GoesOn f g × IsDueToUnion f g due
@@ -32,6 +33,8 @@ pub record IsProductWith (f0 f1 g0 g1 result : List (List ℕ)) : Type 0 where
 pub data IsMadeWith : List (List ℕ) → List (List ℕ) → List (List ℕ) → List (List ℕ) → List (List ℕ) → Type 0 where
   with_both : {f0 f1 g0 g1 due : List (List ℕ)} → IsMadeByProduct f1 g1 due → IsMadeWith f0 f1 g0 g1 due
   with_first : {f0 f1 g0 g1 due : List (List ℕ)} → IsMadeByProduct f1 g0 due → IsMadeWith f0 f1 g0 g1 due
-  with_some : {f0 f1 g0 g1 due p q : List (List ℕ)} → IsProduct f1 g1 p → IsProduct f1 g0 q → IsMadeByUnion p q due → IsMadeWith f0 f1 g0 g1 due
+  with_some : {f0 f1 g0 g1 due p q : List (List ℕ)} → IsProduct f1 g1 p → IsProduct f1 g0 q → IsMadeByUnion p q due
+      → IsMadeWith f0 f1 g0 g1 due
   with_second : {f0 f1 g0 g1 due : List (List ℕ)} → IsMadeByProduct f0 g1 due → IsMadeWith f0 f1 g0 g1 due
-  with_all : {f0 f1 g0 g1 due p q u r : List (List ℕ)} → IsProduct f1 g1 p → IsProduct f1 g0 q → IsUnion p q u → IsProduct f0 g1 r → IsMadeByUnion u r due → IsMadeWith f0 f1 g0 g1 due
+  with_all : {f0 f1 g0 g1 due p q u r : List (List ℕ)} → IsProduct f1 g1 p → IsProduct f1 g0 q → IsUnion p q u
+      → IsProduct f0 g1 r → IsMadeByUnion u r due → IsMadeWith f0 f1 g0 g1 due

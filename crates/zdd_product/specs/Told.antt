@@ -21,4 +21,5 @@ pub record IsTold (known : ℕ → ℕ) (entry : Entry) : Type 0 where
   pub first : Knows known entry.question.first
   pub second : Knows known entry.question.second
   pub answer : Knows known entry.answer
-  pub is : IsResult entry.question.operation (family known entry.question.first) (family known entry.question.second) (family known entry.answer)
+  pub is : IsResult entry.question.operation (family known entry.question.first) (family known entry.question.second)
+      (family known entry.answer)

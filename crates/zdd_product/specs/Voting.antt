@@ -12,7 +12,8 @@ families known list = map (family known) list
 -- at the first place one vote, and at each later place one more.
 abbrev pub HoldsVotes : (ℕ → ℕ) → List ℕ → ℕ → ℕ → ℕ → List ℕ → Type 0
 HoldsVotes known list members from to room =
-    (place : ℕ) → from ≤ place → place < to → KnowsOne known (slice_index room place) (IsVotes (suc place) (take members (families known list)))
+    (place : ℕ) → from ≤ place → place < to → KnowsOne known (slice_index room place)
+    (IsVotes (suc place) (take members (families known list)))
 
 -- below a place the votes are those over the first members, and from it on one member more has its votes
 pub record IsVoting (known : ℕ → ℕ) (list : List ℕ) (k members place : ℕ) (room : List ℕ) : Type 0 where

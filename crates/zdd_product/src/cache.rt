@@ -77,7 +77,8 @@ impl Cache {
 
     /// The answer to a question, if it is kept.
     pub(crate) fn answer(&self, question: &Question) -> Option<NodeRef>
-        ensures { IfSome result (λ answer. Contains self.now.entries.items (record { question = question.now; answer = answer })) }
+        ensures { IfSome result (λ answer. Contains self.now.entries.items
+            (record { question = question.now; answer = answer })) }
     {
         let place = place_of(question);
         if place < self.entries.len() {

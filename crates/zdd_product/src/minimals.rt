@@ -32,7 +32,9 @@ impl<'s> Ops<'s> {
     #[cycle(least)]
     fn least(&mut self, a: NodeRef) -> Result<NodeRef, Full>
         requires { Knows (map_of self.old) a }
-        ensures { let f = family (map_of self.old) a in MatchResult result (Gave (IsMinimal f) (IsMadeByMinimal f) self.old self.new) (λ _. WasFull (IsMadeByMinimal f) self.old self.new) }
+        ensures { let f = family (map_of self.old) a in
+            MatchResult result (Gave (IsMinimal f) (IsMadeByMinimal f) self.old self.new)
+            (λ _. WasFull (IsMadeByMinimal f) self.old self.new) }
     {
         self.is_sound();
         if a.number() < 2 {
@@ -59,7 +61,9 @@ impl<'s> Ops<'s> {
     fn least_halves(&mut self, a: NodeRef) -> Result<NodeRef, Full>
         requires knows { Knows (map_of self.old) a }
         requires inner { 2 ≤ a }
-        ensures { let f = family (map_of self.old) a in MatchResult result (Gave (IsMinimal f) (IsMadeByMinimal f) self.old self.new) (λ _. WasFull (IsMadeByMinimal f) self.old self.new) }
+        ensures { let f = family (map_of self.old) a in
+            MatchResult result (Gave (IsMinimal f) (IsMadeByMinimal f) self.old self.new)
+            (λ _. WasFull (IsMadeByMinimal f) self.old self.new) }
     {
         let Split { level, half } = self.split_node(a);
         let lo = self.least(half.lo)?;
@@ -73,7 +77,9 @@ impl<'s> Ops<'s> {
         requires knows_high { Knows (map_of self.old) high }
         requires knows_low { Knows (map_of self.old) low }
         requires least { (f : List (List ℕ)) × IsMinimal f (family (map_of self.old) low) }
-        ensures { let f = family (map_of self.old) high in let g = family (map_of self.old) low in MatchResult result (Gave (IsWithout f g) (IsMadeByWithout f g) self.old self.new) (λ _. WasFull (IsMadeByWithout f g) self.old self.new) }
+        ensures { let f = family (map_of self.old) high in let g = family (map_of self.old) low in
+            MatchResult result (Gave (IsWithout f g) (IsMadeByWithout f g) self.old self.new)
+            (λ _. WasFull (IsMadeByWithout f g) self.old self.new) }
     {
         self.is_sound();
         // Minimal sets with the empty set are the empty set alone, so there is no need to look for it in a long chain.

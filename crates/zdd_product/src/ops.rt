@@ -86,15 +86,21 @@ impl<'s> Ops<'s> {
         requires lo_above { IsAbove level (family (map_of self.old) lo) }
         requires hi_above { IsAbove level (family (map_of self.old) hi) }
 
-        ensures family { IfOk result (λ r. KnowsAs (map_of self.new) r (branch level (family (map_of self.old) lo) (family (map_of self.old) hi))) }
+        ensures family { IfOk result (λ r. KnowsAs (map_of self.new) r
+            (branch level (family (map_of self.old) lo) (family (map_of self.old) hi))) }
         ensures keeps { Grown (map_of self.old) (map_of self.new) }
-        ensures known { MatchResult result (λ r. self.new.known ≡ self.old.known ++ (r, packed level lo hi) ∷ []) (λ _. self.new.known ≡ self.old.known) }
+        ensures known { MatchResult result (λ r. self.new.known ≡ self.old.known ++ (r, packed level lo hi) ∷ [])
+            (λ _. self.new.known ≡ self.old.known) }
 
         // A refused search passed every slot of the store and is counted, and no other is.
-        ensures fulls { MatchResult result (λ _. self.new.fulls ≡ self.old.fulls) (λ _. self.new.fulls ≡ self.old.fulls + 1) }
-        ensures missed { MatchResult result (λ _. self.new.missed ≡ self.old.missed) (λ _. self.new.missed ≡ self.old.missed ++ packed level lo hi ∷ []) }
-        ensures passed { IfErr result (λ _. self.new.probe ≡ record { word = packed level lo hi; passed = self.old.store.words }) }
-        ensures fills { MatchResult result (λ r. (self.new.fills ≡ self.old.fills) ⊎ (self.new.fills ≡ self.old.fills ++ r ∷ [])) (λ _. self.new.fills ≡ self.old.fills) }
+        ensures fulls { MatchResult result (λ _. self.new.fulls ≡ self.old.fulls)
+            (λ _. self.new.fulls ≡ self.old.fulls + 1) }
+        ensures missed { MatchResult result (λ _. self.new.missed ≡ self.old.missed)
+            (λ _. self.new.missed ≡ self.old.missed ++ packed level lo hi ∷ []) }
+        ensures passed { IfErr result (λ _. self.new.probe
+            ≡ record { word = packed level lo hi; passed = self.old.store.words }) }
+        ensures fills { MatchResult result (λ r. (self.new.fills ≡ self.old.fills)
+            ⊎ (self.new.fills ≡ self.old.fills ++ r ∷ [])) (λ _. self.new.fills ≡ self.old.fills) }
         ensures share { self.new.share ≡ self.old.share }
         ensures store { self.new.store ≡ self.old.store }
         ensures sound { IsSoundSeat self.new }
@@ -111,7 +117,8 @@ impl<'s> Ops<'s> {
         ensures hi { KnowsAs (map_of self.new) result.hi (sets_with result.level (family (map_of self.old) r)) }
 
         // What an operation needs to make such a node again.
-        ensures branch { family (map_of self.new) r ≡ branch result.level (family (map_of self.new) result.lo) (family (map_of self.new) result.hi) }
+        ensures branch { family (map_of self.new) r ≡ branch result.level (family (map_of self.new) result.lo)
+            (family (map_of self.new) result.hi) }
         ensures filled { result.hi ≢ 0 }
         ensures lo_above { IsAbove result.level (family (map_of self.new) result.lo) }
         ensures hi_above { IsAbove result.level (family (map_of self.new) result.hi) }
@@ -157,7 +164,8 @@ impl<'s> Ops<'s> {
 
     // The answer to a question, if it is kept.
     pub(crate) fn recall(&self, question: &Question) -> Option<NodeRef>
-        ensures answer { IfSome result (λ answer. IsTold (map_of self.now) (record { question = question.now; answer = answer })) }
+        ensures answer { IfSome result (λ answer. IsTold (map_of self.now)
+            (record { question = question.now; answer = answer })) }
         ensures sound { IsSoundSeat self.now }
     {
         self.cache.answer(question)
@@ -177,7 +185,8 @@ impl<'s> Ops<'s> {
         requires knows_hi { Knows (map_of self.old) hi }
         requires lo_above { IsAbove level (family (map_of self.old) lo) }
         requires hi_above { IsAbove level (family (map_of self.old) hi) }
-        ensures { let made = IsBranch level (family (map_of self.old) lo) (family (map_of self.old) hi) in MatchResult result (Gave made made self.old self.new) (λ _. WasFull made self.old self.new) }
+        ensures { let made = IsBranch level (family (map_of self.old) lo) (family (map_of self.old) hi) in
+            MatchResult result (Gave made made self.old self.new) (λ _. WasFull made self.old self.new) }
     {
         self.is_sound();
         if hi == NodeRef::EMPTY {

@@ -15,7 +15,8 @@ use zdd_words::NodeRef;
 
 // The product, where one of both families has no sets or the empty set alone.
 fn product_end(a: NodeRef, b: NodeRef) -> Option<NodeRef>
-    ensures { MatchOption result ((2 ≤ a) × (2 ≤ b)) (λ r. ((a ≡ 0) × (r ≡ a)) ⊎ ((b ≡ 1) × (r ≡ a)) ⊎ ((b ≡ 0) × (r ≡ b)) ⊎ ((a ≡ 1) × (r ≡ b))) }
+    ensures { MatchOption result ((2 ≤ a) × (2 ≤ b))
+        (λ r. ((a ≡ 0) × (r ≡ a)) ⊎ ((b ≡ 1) × (r ≡ a)) ⊎ ((b ≡ 0) × (r ≡ b)) ⊎ ((a ≡ 1) × (r ≡ b))) }
 {
     if a == NodeRef::EMPTY || b == NodeRef::UNIT {
         return Some(a);
@@ -46,7 +47,9 @@ impl<'s> Ops<'s> {
     pub(crate) fn multiply(&mut self, a: NodeRef, b: NodeRef) -> Result<NodeRef, Full>
         requires knows_a { Knows (map_of self.old) a }
         requires knows_b { Knows (map_of self.old) b }
-        ensures { let f = family (map_of self.old) a in let g = family (map_of self.old) b in MatchResult result (Gave (IsProduct f g) (IsMadeByProduct f g) self.old self.new) (λ _. WasFull (IsMadeByProduct f g) self.old self.new) }
+        ensures { let f = family (map_of self.old) a in let g = family (map_of self.old) b in
+            MatchResult result (Gave (IsProduct f g) (IsMadeByProduct f g) self.old self.new)
+            (λ _. WasFull (IsMadeByProduct f g) self.old self.new) }
     {
         self.is_sound();
         if let Some(end) = product_end(a, b) {
@@ -74,7 +77,9 @@ impl<'s> Ops<'s> {
         requires knows_a { Knows (map_of self.old) a }
         requires knows_b { Knows (map_of self.old) b }
         requires inner { (2 ≤ a) × (2 ≤ b) }
-        ensures { let f = family (map_of self.old) a in let g = family (map_of self.old) b in MatchResult result (Gave (IsProduct f g) (IsMadeByProduct f g) self.old self.new) (λ _. WasFull (IsMadeByProduct f g) self.old self.new) }
+        ensures { let f = family (map_of self.old) a in let g = family (map_of self.old) b in
+            MatchResult result (Gave (IsProduct f g) (IsMadeByProduct f g) self.old self.new)
+            (λ _. WasFull (IsMadeByProduct f g) self.old self.new) }
     {
         let Halves {
             level,
@@ -91,7 +96,10 @@ impl<'s> Ops<'s> {
     fn multiply_with(&mut self, first: &Half, second: &Half) -> Result<NodeRef, Full>
         requires first { Knows (map_of self.old) first.now.lo × Knows (map_of self.old) first.now.hi }
         requires second { Knows (map_of self.old) second.now.lo × Knows (map_of self.old) second.now.hi }
-        ensures { let f0 = family (map_of self.old) first.now.lo in let f1 = family (map_of self.old) first.now.hi in let g0 = family (map_of self.old) second.now.lo in let g1 = family (map_of self.old) second.now.hi in MatchResult result (Gave (IsProductWith f0 f1 g0 g1) (IsMadeWith f0 f1 g0 g1) self.old self.new) (λ _. WasFull (IsMadeWith f0 f1 g0 g1) self.old self.new) }
+        ensures { let f0 = family (map_of self.old) first.now.lo in let f1 = family (map_of self.old) first.now.hi in
+            let g0 = family (map_of self.old) second.now.lo in let g1 = family (map_of self.old) second.now.hi in
+            MatchResult result (Gave (IsProductWith f0 f1 g0 g1) (IsMadeWith f0 f1 g0 g1) self.old self.new)
+            (λ _. WasFull (IsMadeWith f0 f1 g0 g1) self.old self.new) }
     {
         self.is_sound();
         let both = self.multiply(first.hi, second.hi)?;

@@ -1,3 +1,4 @@
+//! Operations in the shared store.
 ghost use Rattle.std.specs.Prelude.{◌≡◌, [], ◌∷◌, IfOk, OnOk};
 ghost use Rattle.zdd_families.specs.Map.{Knows, KnowsAs, Grown};
 ghost use Rattle.zdd_shared_table.specs.Seats.{map_of};

@@ -15,7 +15,8 @@ use zdd_words::NodeRef;
 
 // The union, where one of both families has no sets or both are one.
 fn union_end(a: NodeRef, b: NodeRef) -> Option<NodeRef>
-    ensures { MatchOption result ((a ≢ 0) × (b ≢ 0) × (a ≢ b)) (λ r. ((a ≡ 0) × (r ≡ b)) ⊎ ((b ≡ 0) × (r ≡ a)) ⊎ ((a ≡ b) × (r ≡ a))) }
+    ensures { MatchOption result ((a ≢ 0) × (b ≢ 0) × (a ≢ b))
+        (λ r. ((a ≡ 0) × (r ≡ b)) ⊎ ((b ≡ 0) × (r ≡ a)) ⊎ ((a ≡ b) × (r ≡ a))) }
 {
     if a == NodeRef::EMPTY {
         return Some(b);
@@ -46,7 +47,9 @@ impl<'s> Ops<'s> {
     pub(crate) fn unite(&mut self, a: NodeRef, b: NodeRef) -> Result<NodeRef, Full>
         requires knows_a { Knows (map_of self.old) a }
         requires knows_b { Knows (map_of self.old) b }
-        ensures { let f = family (map_of self.old) a in let g = family (map_of self.old) b in MatchResult result (Gave (IsUnion f g) (IsMadeByUnion f g) self.old self.new) (λ _. WasFull (IsMadeByUnion f g) self.old self.new) }
+        ensures { let f = family (map_of self.old) a in let g = family (map_of self.old) b in
+            MatchResult result (Gave (IsUnion f g) (IsMadeByUnion f g) self.old self.new)
+            (λ _. WasFull (IsMadeByUnion f g) self.old self.new) }
     {
         self.is_sound();
         if let Some(end) = union_end(a, b) {
@@ -74,7 +77,9 @@ impl<'s> Ops<'s> {
         requires knows_a { Knows (map_of self.old) a }
         requires knows_b { Knows (map_of self.old) b }
         requires goes_on { (a ≢ 0) × (b ≢ 0) × (a ≢ b) }
-        ensures { let f = family (map_of self.old) a in let g = family (map_of self.old) b in MatchResult result (Gave (IsUnion f g) (IsMadeByUnion f g) self.old self.new) (λ _. WasFull (IsMadeByUnion f g) self.old self.new) }
+        ensures { let f = family (map_of self.old) a in let g = family (map_of self.old) b in
+            MatchResult result (Gave (IsUnion f g) (IsMadeByUnion f g) self.old self.new)
+            (λ _. WasFull (IsMadeByUnion f g) self.old self.new) }
     {
         let Halves {
             level,

@@ -1,5 +1,6 @@
 //! Votes over a list of families.
-ghost use Rattle.std.specs.Prelude.{◌≡◌, ◌+◌, ◌-◌, ◌<◌, ◌≤◌, ℕ, ◌==◌, if◌then◌else◌, All, IfErr, IfOk, MatchResult, length, slice_index};
+ghost use Rattle.std.specs.Prelude.{◌≡◌, ◌+◌, ◌-◌, ◌<◌, ◌≤◌, ℕ, ◌==◌, if◌then◌else◌, All, IfErr, IfOk, MatchResult};
+ghost use Rattle.std.specs.Prelude.{length, slice_index};
 ghost use Rattle.family_operations.specs.Due.{IsDueToVotes};
 ghost use Rattle.family_operations.specs.Votes.{IsVotes};
 ghost use Rattle.zdd_families.specs.Map.{Knows, family};
@@ -59,7 +60,9 @@ impl<'s> Ops<'s> {
         requires room { k ≤ length room.old }
         requires knows { All (Knows (map_of self.old)) list.now }
         requires held { HoldsVotes (map_of self.old) list.now 0 0 k room.old }
-        ensures { MatchResult result (λ _. WentOn (IsDueToVotes k (families (map_of self.old) list.now)) self.old self.new × HoldsVotes (map_of self.new) list.now (length list.now) 0 k room.new) (λ _. WasFull (IsDueToVotes k (families (map_of self.old) list.now)) self.old self.new) }
+        ensures { MatchResult result (λ _. WentOn (IsDueToVotes k (families (map_of self.old) list.now)) self.old
+            self.new × HoldsVotes (map_of self.new) list.now (length list.now) 0 k room.new)
+            (λ _. WasFull (IsDueToVotes k (families (map_of self.old) list.now)) self.old self.new) }
     {
         self.is_sound();
         for i in 0..list.len() {
@@ -80,7 +83,9 @@ impl<'s> Ops<'s> {
         requires room { k ≤ length room.old }
         requires knows { All (Knows (map_of self.old)) list.now }
         requires held { HoldsVotes (map_of self.old) list.now i 0 k room.old }
-        ensures { MatchResult result (λ _. WentOn (IsDueToVotes k (families (map_of self.old) list.now)) self.old self.new × HoldsVotes (map_of self.new) list.now (i + 1) 0 k room.new) (λ _. WasFull (IsDueToVotes k (families (map_of self.old) list.now)) self.old self.new) }
+        ensures { MatchResult result (λ _. WentOn (IsDueToVotes k (families (map_of self.old) list.now)) self.old
+            self.new × HoldsVotes (map_of self.new) list.now (i + 1) 0 k room.new)
+            (λ _. WasFull (IsDueToVotes k (families (map_of self.old) list.now)) self.old self.new) }
     {
         self.is_sound();
         // From the most votes down, since each number of votes is made from those one fewer before this member.
@@ -106,7 +111,9 @@ impl<'s> Ops<'s> {
         requires room { k ≤ length room.old }
         requires knows { All (Knows (map_of self.old)) list.now }
         requires held { IsVoting (map_of self.old) list.now k i (place + 1) room.old }
-        ensures { MatchResult result (λ _. WentOn (IsDueToVotes k (families (map_of self.old) list.now)) self.old self.new × IsVoting (map_of self.new) list.now k i place room.new) (λ _. WasFull (IsDueToVotes k (families (map_of self.old) list.now)) self.old self.new) }
+        ensures { MatchResult result (λ _. WentOn (IsDueToVotes k (families (map_of self.old) list.now)) self.old
+            self.new × IsVoting (map_of self.new) list.now k i place room.new)
+            (λ _. WasFull (IsDueToVotes k (families (map_of self.old) list.now)) self.old self.new) }
     {
         self.is_sound();
         let fewer = fewer_votes(room, place);

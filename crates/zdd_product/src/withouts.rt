@@ -16,7 +16,8 @@ use zdd_words::NodeRef;
 
 // What is left, where one of both families has no sets or the other has the empty set alone, which every set includes.
 fn without_end(a: NodeRef, b: NodeRef) -> Option<NodeRef>
-    ensures { MatchOption result ((1 ≤ a) × (2 ≤ b)) (λ r. ((a ≡ 0) × (r ≡ a)) ⊎ ((b ≡ 0) × (r ≡ a)) ⊎ ((b ≡ 1) × (r ≡ 0))) }
+    ensures { MatchOption result ((1 ≤ a) × (2 ≤ b))
+        (λ r. ((a ≡ 0) × (r ≡ a)) ⊎ ((b ≡ 0) × (r ≡ a)) ⊎ ((b ≡ 1) × (r ≡ 0))) }
 {
     if a == NodeRef::EMPTY || b == NodeRef::EMPTY {
         return Some(a);
@@ -47,7 +48,9 @@ impl<'s> Ops<'s> {
     pub(crate) fn strip(&mut self, a: NodeRef, b: NodeRef) -> Result<NodeRef, Full>
         requires knows_a { Knows (map_of self.old) a }
         requires knows_b { Knows (map_of self.old) b }
-        ensures { let f = family (map_of self.old) a in let g = family (map_of self.old) b in MatchResult result (Gave (IsWithout f g) (IsMadeByWithout f g) self.old self.new) (λ _. WasFull (IsMadeByWithout f g) self.old self.new) }
+        ensures { let f = family (map_of self.old) a in let g = family (map_of self.old) b in
+            MatchResult result (Gave (IsWithout f g) (IsMadeByWithout f g) self.old self.new)
+            (λ _. WasFull (IsMadeByWithout f g) self.old self.new) }
     {
         self.is_sound();
         if let Some(end) = without_end(a, b) {
@@ -78,7 +81,9 @@ impl<'s> Ops<'s> {
         requires knows_a { Knows (map_of self.old) a }
         requires knows_b { Knows (map_of self.old) b }
         requires inner { (2 ≤ a) × (2 ≤ b) }
-        ensures { let f = family (map_of self.old) a in let g = family (map_of self.old) b in MatchResult result (Gave (IsWithout f g) (IsMadeByWithout f g) self.old self.new) (λ _. WasFull (IsMadeByWithout f g) self.old self.new) }
+        ensures { let f = family (map_of self.old) a in let g = family (map_of self.old) b in
+            MatchResult result (Gave (IsWithout f g) (IsMadeByWithout f g) self.old self.new)
+            (λ _. WasFull (IsMadeByWithout f g) self.old self.new) }
     {
         let Halves {
             level,
@@ -109,7 +114,8 @@ impl<'s> Ops<'s> {
     fn strip_unit(&mut self, a: NodeRef, b: NodeRef) -> NodeRef
         requires unit { a ≡ 1 }
         requires knows { Knows (map_of self.old) b }
-        ensures known { KnowsOne (map_of self.old) result (IsWithout (family (map_of self.old) a) (family (map_of self.old) b)) }
+        ensures known { KnowsOne (map_of self.old) result
+            (IsWithout (family (map_of self.old) a) (family (map_of self.old) b)) }
         ensures seat { self.new ≡ self.old }
     {
         if self.has_empty_set(b) {

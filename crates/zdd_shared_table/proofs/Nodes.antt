@@ -1,11 +1,13 @@
 -- What a sound seat's calls on one node give.
-use Rattle.std.proofs.Common.{◌≡◌, ◌≢◌, ℕ, ◌+◌, ◌<◌, ◌≤◌, List, [], ◌∷◌, ◌++◌, sym, ◌∙◌, ap, subst, arith, Contains, inl, inr}
+use Rattle.std.proofs.Common.{◌≡◌, ◌≢◌, ℕ, ◌+◌, ◌<◌, ◌≤◌, List, [], ◌∷◌, ◌++◌, sym, ◌∙◌, ap, subst, arith, Contains}
+use Rattle.std.proofs.Common.{inl, inr}
 use Rattle.std.proofs.lemmas.List.Elements.{Contains-append_left, Contains-push}
 use Rattle.unit_sets.specs.Unit.{IsUnit}
 use Rattle.zdd_words.specs.Word.{level_of, lo_of, hi_of}
 use Rattle.zdd_families.specs.Family.{branch, IsAbove, first_unit, sets_with, sets_without}
 use Rattle.zdd_families.specs.Map.{Knows, KnowsAs, IsNode, IsClosed, Grown, family, family-node, lo_known, hi_known}
-use Rattle.zdd_families.specs.Canonical.{family-grown, level-above, first_unit-family, sets_without-family, sets_with-family, lo_units, hi_units}
+use Rattle.zdd_families.specs.Canonical.{family-grown, level-above, first_unit-family, sets_without-family}
+use Rattle.zdd_families.specs.Canonical.{sets_with-family, lo_units, hi_units}
 use Rattle.zdd_shared_table.specs.Known.{find}
 use Rattle.zdd_shared_table.specs.Seats.{IsSound, IsSoundView}
 use Rattle.zdd_shared_table.specs.Search.{HasEnded}
@@ -18,8 +20,10 @@ inner_known known r (inl small) inner = absurd (omega arith)
 inner_known known r (inr has) inner = has
 
 -- the word of a node whose parts a closed map knows, above its level
-pub asked_node : (known : ℕ → ℕ) (word level lo hi : ℕ) → IsClosed known → level_of word ≡ level → lo_of word ≡ lo → hi_of word ≡ hi → IsUnit level
-    → Knows known lo → Knows known hi → hi ≢ 0 → IsAbove level (family known lo) → IsAbove level (family known hi) → IsNode known word
+pub asked_node : (known : ℕ → ℕ) (word level lo hi : ℕ) → IsClosed known → level_of word ≡ level → lo_of word ≡ lo
+    → hi_of word ≡ hi → IsUnit level
+    → Knows known lo → Knows known hi → hi ≢ 0 → IsAbove level (family known lo) → IsAbove level (family known hi)
+    → IsNode known word
 asked_node known word level lo hi closed level_is lo_is hi_is unit knows_lo knows_hi filled lo_above hi_above =
     let P : ℕ → ℕ → Type 0 = λ x r. x < Rattle.zdd_families.specs.Map.level_in known r in
     let below : level < 4096 = let u = unit.1 in omega arith in
@@ -33,17 +37,23 @@ asked_node known word level lo hi closed level_is lo_is hi_is unit knows_lo know
     }
 
 -- a sound list has each shorter list's map
-pub grown_sound : (size : ℕ) (pairs more : List (ℕ × ℕ)) (asked gained : List ℕ) → IsSound size more asked gained → ((pair : ℕ × ℕ) → Contains pairs pair → Contains more pair) → Grown (find pairs) (find more)
-grown_sound size pairs more asked gained sound within reference known = sound.agree reference (find pairs reference) (within (reference, find pairs reference) (find-stands pairs reference known))
+pub grown_sound : (size : ℕ) (pairs more : List (ℕ × ℕ)) (asked gained : List ℕ) → IsSound size more asked gained
+    → ((pair : ℕ × ℕ) → Contains pairs pair → Contains more pair) → Grown (find pairs) (find more)
+grown_sound size pairs more asked gained sound within reference known =
+    sound.agree reference (find pairs reference) (within (reference, find pairs reference)
+    (find-stands pairs reference known))
 
 -- a larger closed map knows the new reference as the branch of the parts' families
-pub node_family : (old new : ℕ → ℕ) (r word level lo hi : ℕ) → IsClosed old → IsClosed new → Grown old new → new r ≡ word → word ≢ 0 → level_of word ≡ level → lo_of word ≡ lo → hi_of word ≡ hi
+pub node_family : (old new : ℕ → ℕ) (r word level lo hi : ℕ) → IsClosed old → IsClosed new → Grown old new
+    → new r ≡ word → word ≢ 0 → level_of word ≡ level → lo_of word ≡ lo → hi_of word ≡ hi
     → Knows old lo → Knows old hi → KnowsAs new r (branch level (family old lo) (family old hi))
 node_family old new r word level lo hi closed closed' grown stands some level_is lo_is hi_is knows_lo knows_hi =
     let has : new r ≢ 0 = λ none. some (sym stands ∙ none) in
     let at : level_of (new r) ≡ level = ap level_of stands ∙ level_is in
-    let l : family new (lo_of (new r)) ≡ family old lo = ap (λ k. family new k) (ap lo_of stands ∙ lo_is) ∙ family-grown old new lo closed closed' grown knows_lo in
-    let h : family new (hi_of (new r)) ≡ family old hi = ap (λ k. family new k) (ap hi_of stands ∙ hi_is) ∙ family-grown old new hi closed closed' grown knows_hi in (
+    let l : family new (lo_of (new r)) ≡ family old lo =
+    ap (λ k. family new k) (ap lo_of stands ∙ lo_is) ∙ family-grown old new lo closed closed' grown knows_lo in
+    let h : family new (hi_of (new r)) ≡ family old hi =
+    ap (λ k. family new k) (ap hi_of stands ∙ hi_is) ∙ family-grown old new hi closed closed' grown knows_hi in (
       inr has,
       family-node new r closed' has
           ∙ ap (λ x. branch x (family new (lo_of (new r))) (family new (hi_of (new r)))) at
@@ -61,7 +71,8 @@ pub record HasParts (before after : ℕ → ℕ) (r level lo hi : ℕ) : Type 0 
   pub lo_above : IsAbove level (family after lo)
   pub hi_above : IsAbove level (family after hi)
 
-own_parts : (known : ℕ → ℕ) (r : ℕ) → IsClosed known → known r ≢ 0 → HasParts known known r (level_of (known r)) (lo_of (known r)) (hi_of (known r))
+own_parts : (known : ℕ → ℕ) (r : ℕ) → IsClosed known → known r ≢ 0
+    → HasParts known known r (level_of (known r)) (lo_of (known r)) (hi_of (known r))
 own_parts known r closed has =
     let node = (closed r has).1 in record {
       least = sym (first_unit-family known r closed has);
@@ -73,7 +84,9 @@ own_parts known r closed has =
       hi_above = hi_units known (known r) closed node;
     }
 
-pub has_parts : (known before after : ℕ → ℕ) (r word level lo hi : ℕ) → IsClosed known → known r ≢ 0 → known ≡ before → known ≡ after → word ≡ known r → level ≡ level_of word → lo ≡ lo_of word → hi ≡ hi_of word → HasParts before after r level lo hi
+pub has_parts : (known before after : ℕ → ℕ) (r word level lo hi : ℕ) → IsClosed known → known r ≢ 0 → known ≡ before
+    → known ≡ after → word ≡ known r → level ≡ level_of word → lo ≡ lo_of word → hi ≡ hi_of word
+    → HasParts before after r level lo hi
 has_parts known before after r word level lo hi closed has is is' at level_is lo_is hi_is =
     let own = own_parts known r closed has in
     let one : HasParts known known r level lo hi =
@@ -86,15 +99,20 @@ pub known_ended : (word slot : ℕ) (v w : View) → HasEnded word slot v w → 
 known_ended word slot v w (inl is) = ap (λ u. u.known) is
 known_ended word slot v w (inr is) = ap (λ u. u.known) is
 
-pub grown_ended : (word slot : ℕ) (v w : View) → HasEnded word slot v w → IsSoundView w → Grown (find v.known) (find w.known)
+pub grown_ended : (word slot : ℕ) (v w : View) → HasEnded word slot v w → IsSoundView w
+    → Grown (find v.known) (find w.known)
 grown_ended word slot v w end sound =
     grown_sound w.size v.known w.known w.missed w.fills sound
-    (λ pair h. subst (λ l. Contains l pair) (sym (known_ended word slot v w end)) (Contains-append_left v.known ((slot + 2, word) ∷ []) pair h))
+    (λ pair h. subst (λ l. Contains l pair) (sym (known_ended word slot v w end))
+    (Contains-append_left v.known ((slot + 2, word) ∷ []) pair h))
 
-pub node_ended : (word slot level lo hi : ℕ) (v w : View) → HasEnded word slot v w → IsSoundView v → IsSoundView w → word ≢ 0
+pub node_ended : (word slot level lo hi : ℕ) (v w : View) → HasEnded word slot v w → IsSoundView v → IsSoundView w
+    → word ≢ 0
     → level_of word ≡ level → lo_of word ≡ lo → hi_of word ≡ hi → Knows (find v.known) lo → Knows (find v.known) hi
     → KnowsAs (find w.known) (slot + 2) (branch level (family (find v.known) lo) (family (find v.known) hi))
 node_ended word slot level lo hi v w end sound sound' some level_is lo_is hi_is knows_lo knows_hi =
     let at : find w.known (slot + 2) ≡ word = sound'.agree (slot + 2) word
-    (subst (λ (l : List (ℕ × ℕ)). Contains l (slot + 2, word)) (sym (known_ended word slot v w end)) (Contains-push v.known (slot + 2, word))) in
-    node_family (find v.known) (find w.known) (slot + 2) word level lo hi sound.closed sound'.closed (grown_ended word slot v w end sound') at some level_is lo_is hi_is knows_lo knows_hi
+    (subst (λ (l : List (ℕ × ℕ)). Contains l (slot + 2, word)) (sym (known_ended word slot v w end))
+    (Contains-push v.known (slot + 2, word))) in
+    node_family (find v.known) (find w.known) (slot + 2) word level lo hi sound.closed sound'.closed
+    (grown_ended word slot v w end sound') at some level_is lo_is hi_is knows_lo knows_hi

@@ -1,5 +1,6 @@
 -- Each filled slot stays known to some seat, whatever step is made; so a filled word stays.
-use Rattle.std.proofs.Common.{◌≡◌, ◌≢◌, ℕ, zero, suc, ◌+◌, ◌^◌, ◌==◌, List, [], ◌∷◌, ◌++◌, get_or, set, sym, ◌∙◌, ap, subst, refl, if◌then◌else◌}
+use Rattle.std.proofs.Common.{◌≡◌, ◌≢◌, ℕ, zero, suc, ◌+◌, ◌^◌, ◌==◌, List, [], ◌∷◌, ◌++◌, get_or, set, sym, ◌∙◌, ap}
+use Rattle.std.proofs.Common.{subst, refl, if◌then◌else◌}
 use mathlib.Core.Logic.{dite}
 use mathlib.Core.Option.{some, some-ne-none, some-injective}
 use native.Mathlib.Decide.{ℕ_discrete}
@@ -20,28 +21,35 @@ abbrev pub Keeps : View → View → Type 0
 Keeps v w = (reference : ℕ) → find v.known reference ≢ 0 → find w.known reference ≢ 0
 
 -- a seat's new view stands among the views
-pub stands : (views : List View) (seat : ℕ) (v w : View) → get_elem? views seat ≡ some v → get_elem? (set views seat w) seat ≡ some w
+pub stands : (views : List View) (seat : ℕ) (v w : View) → get_elem? views seat ≡ some v
+    → get_elem? (set views seat w) seat ≡ some w
 stands [] seat v w at = absurd (some-ne-none v (sym at))
 stands (x ∷ views) zero v w at = refl
 stands (x ∷ views) (suc seat) v w at = stands views seat v w at
 
-same_view : (views : List View) (seat other : ℕ) (v w : View) → get_elem? views seat ≡ some v → get_elem? views other ≡ some w → other ≡ seat → w ≡ v
+same_view : (views : List View) (seat other : ℕ) (v w : View) → get_elem? views seat ≡ some v
+    → get_elem? views other ≡ some w → other ≡ seat → w ≡ v
 same_view views seat other v w at there same = some-injective w v (sym there ∙ (ap (get_elem? views) same ∙ at))
 
 -- a pair more at the end forgets nothing
-find-front : (pairs more : List (ℕ × ℕ)) (reference : ℕ) → find pairs reference ≢ 0 → find (pairs ++ more) reference ≡ find pairs reference
+find-front : (pairs more : List (ℕ × ℕ)) (reference : ℕ) → find pairs reference ≢ 0
+    → find (pairs ++ more) reference ≡ find pairs reference
 find-front [] more reference known = absurd (known refl)
 find-front (pair ∷ pairs) more reference known =
     dite (ℕ_discrete pair.0 reference)
     (λ is. find-first pair (pairs ++ more) reference is ∙ sym (find-first pair pairs reference is))
     (λ other. let later = find-later pair pairs reference other in
-    find-later pair (pairs ++ more) reference other ∙ (find-front pairs more reference (λ none. known (later ∙ none)) ∙ sym later))
+    find-later pair (pairs ++ more) reference other
+    ∙ (find-front pairs more reference (λ none. known (later ∙ none)) ∙ sym later))
 
-keeps_front : (pairs more : List (ℕ × ℕ)) (reference : ℕ) → find pairs reference ≢ 0 → find (pairs ++ more) reference ≢ 0
+keeps_front : (pairs more : List (ℕ × ℕ)) (reference : ℕ) → find pairs reference ≢ 0
+    → find (pairs ++ more) reference ≢ 0
 keeps_front pairs more reference known none = known (sym (find-front pairs more reference known) ∙ none)
 
 keeps_passed : (word before : ℕ) (v : View) → Keeps v (passed_on word before v)
-keeps_passed word before v = by_test (Keeps v) (before + 1) v.size (searched_all word v) (searching word (before + 1) v) (λ _ reference known. known) (λ _ reference known. known)
+keeps_passed word before v =
+    by_test (Keeps v) (before + 1) v.size (searched_all word v) (searching word (before + 1) v)
+    (λ _ reference known. known) (λ _ reference known. known)
 
 pub keeps_loaded : (word before slot found : ℕ) (v : View) → Keeps v (loaded word before slot found v)
 keeps_loaded word before slot found v =
@@ -53,7 +61,8 @@ keeps_loaded word before slot found v =
 
 pub keeps_exchanged : (word before slot found : ℕ) (v : View) → Keeps v (exchanged word before slot found v)
 keeps_exchanged word before slot found v =
-    by_test (Keeps v) found 0 (filled word slot v) (if found == word then learned word slot v else passed_on word before v)
+    by_test (Keeps v) found 0 (filled word slot v)
+    (if found == word then learned word slot v else passed_on word before v)
     (λ _ reference known. keeps_front v.known ((slot + 2, word) ∷ []) reference known)
     (λ _. by_test (Keeps v) found word (learned word slot v) (passed_on word before v)
     (λ _ reference known. keeps_front v.known ((slot + 2, word) ∷ []) reference known)
@@ -66,20 +75,31 @@ pub keeps_joined : (v w : View) → Keeps v (joined v w)
 keeps_joined v w reference known = keeps_front v.known w.known reference known
 
 -- a seat's view becomes one that keeps what it knew
-pub still_known : (views : List View) (seat : ℕ) (v w : View) → get_elem? views seat ≡ some v → Keeps v w → (slot : ℕ) → IsKnownBySome views slot → IsKnownBySome (set views seat w) slot
+pub still_known : (views : List View) (seat : ℕ) (v w : View) → get_elem? views seat ≡ some v → Keeps v w → (slot : ℕ)
+    → IsKnownBySome views slot → IsKnownBySome (set views seat w) slot
 still_known views seat v w mine keeps slot by =
     dite (ℕ_discrete by.seat seat)
     (λ same. record {
       seat = seat;
       view = w;
       at = stands views seat v w mine;
-      knows = keeps (slot + 2) (subst (λ (u : View). find u.known (slot + 2) ≢ 0) (same_view views seat by.seat v by.view mine by.at same) by.knows);
+      knows =
+          keeps (slot + 2) (subst (λ (u : View). find u.known (slot + 2) ≢ 0)
+          (same_view views seat by.seat v by.view mine by.at same) by.knows);
     })
-    (λ other. record { seat = by.seat; view = by.view; at = set_else views seat by.seat w other ∙ by.at; knows = by.knows })
+    (λ other. record {
+      seat = by.seat;
+      view = by.view;
+      at = set_else views seat by.seat w other ∙ by.at;
+      knows =
+          by.knows;
+    })
 
 -- one view more at the end
-pub known_among_more : (views : List View) (more : View) (slot : ℕ) → IsKnownBySome views slot → IsKnownBySome (views ++ more ∷ []) slot
-known_among_more views more slot by = record { seat = by.seat; view = by.view; at = front views by.seat by.at; knows = by.knows }
+pub known_among_more : (views : List View) (more : View) (slot : ℕ) → IsKnownBySome views slot
+    → IsKnownBySome (views ++ more ∷ []) slot
+known_among_more views more slot by =
+    record { seat = by.seat; view = by.view; at = front views by.seat by.at; knows = by.knows }
   where
     front : (vs : List View) (k : ℕ) → get_elem? vs k ≡ some by.view → get_elem? (vs ++ more ∷ []) k ≡ some by.view
     front [] k at = absurd (some-ne-none by.view (sym at))
@@ -87,24 +107,38 @@ known_among_more views more slot by = record { seat = by.seat; view = by.view; a
     front (x ∷ vs) (suc k) at = front vs k at
 
 -- what a spent seat knew, the one that took it in knows
-pub known_after_join : (views : List View) (seat other : ℕ) (w both left : View) → other ≢ seat → get_elem? views seat ≡ some both → get_elem? views other ≡ some w
-    → ((reference : ℕ) → find w.known reference ≢ 0 → find both.known reference ≢ 0) → (slot : ℕ) → IsKnownBySome views slot → IsKnownBySome (set views other left) slot
+pub known_after_join : (views : List View) (seat other : ℕ) (w both left : View) → other ≢ seat
+    → get_elem? views seat ≡ some both → get_elem? views other ≡ some w
+    → ((reference : ℕ) → find w.known reference ≢ 0 → find both.known reference ≢ 0) → (slot : ℕ)
+    → IsKnownBySome views slot → IsKnownBySome (set views other left) slot
 known_after_join views seat other w both left differ mine theirs takes slot by =
     dite (ℕ_discrete by.seat other)
     (λ same. record {
       seat = seat;
       view = both;
       at = set_else views other seat left (λ e. differ (sym e)) ∙ mine;
-      knows = takes (slot + 2) (subst (λ (u : View). find u.known (slot + 2) ≢ 0) (same_view views other by.seat w by.view theirs by.at same) by.knows);
+      knows =
+          takes (slot + 2) (subst (λ (u : View). find u.known (slot + 2) ≢ 0)
+          (same_view views other by.seat w by.view theirs by.at same) by.knows);
     })
-    (λ different. record { seat = by.seat; view = by.view; at = set_else views other by.seat left different ∙ by.at; knows = by.knows })
+    (λ different. record {
+      seat = by.seat;
+      view = by.view;
+      at = set_else views other by.seat left different ∙ by.at;
+      knows = by.knows;
+    })
 
 -- a filled word stays as long as no seat's knowledge is lost
-pub filled_stays : (bits : ℕ) (before after : State (Unit {0}) View) → IsStore bits before → IsStore bits after → ForgetsNothing before.views after.views
+pub filled_stays : (bits : ℕ) (before after : State (Unit {0}) View) → IsStore bits before → IsStore bits after
+    → ForgetsNothing before.views after.views
     → (slot : ℕ) → get_or before.words slot 0 ≢ 0 → get_or after.words slot 0 ≡ get_or before.words slot 0
 filled_stays bits before after rule rule' remembers slot full =
     let by = rule.owned slot full in
     let later = remembers by.seat (slot + 2) by.view by.at by.knows in
-    let earlier = IsGrown-placed (λ w. home_of w bits) (2 ^ bits) before.words by.view (rule.views by.seat by.view by.at) (slot + 2) by.knows in
-    let now = IsGrown-placed (λ w. home_of w bits) (2 ^ bits) after.words later.1 (rule'.views later.0 later.1 later.2) (slot + 2) (λ none. by.knows (sym later.3 ∙ none)) in
+    let earlier =
+    IsGrown-placed (λ w. home_of w bits) (2 ^ bits) before.words by.view (rule.views by.seat by.view by.at)
+    (slot + 2) by.knows in
+    let now =
+    IsGrown-placed (λ w. home_of w bits) (2 ^ bits) after.words later.1 (rule'.views later.0 later.1 later.2)
+    (slot + 2) (λ none. by.knows (sym later.3 ∙ none)) in
     sym (placed-slot after.words slot) ∙ (now ∙ (later.3 ∙ (sym earlier ∙ placed-slot before.words slot)))

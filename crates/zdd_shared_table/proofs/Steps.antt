@@ -1,5 +1,6 @@
 -- Each kind of step keeps the rule, whatever the other seats did before.
-use Rattle.std.proofs.Common.{◌≡◌, ◌≢◌, ℕ, ◌+◌, ◌<◌, ◌^◌, ◌==◌, List, ◌++◌, get_or, set, get_or-set_other, sym, ◌∙◌, ap, subst, refl, arith, ⊎_elim, if◌then◌else◌}
+use Rattle.std.proofs.Common.{◌≡◌, ◌≢◌, ℕ, ◌+◌, ◌<◌, ◌^◌, ◌==◌, List, ◌++◌, get_or, set, get_or-set_other, sym, ◌∙◌, ap}
+use Rattle.std.proofs.Common.{subst, refl, arith, ⊎_elim, if◌then◌else◌}
 use Rattle.zdd_shared_table.proofs.Maps.{placed-slot}
 use mathlib.Core.Logic.{dite}
 use native.Mathlib.Decide.{ℕ_discrete}
@@ -12,21 +13,27 @@ use Rattle.atomic_table.proofs.Lists.{at_set, at_snoc, set_else, exchanged as by
 use Rattle.zdd_words.specs.Word.{home_of, home_of-below}
 use Rattle.zdd_families.specs.Map.{IsNode, Grown, IsNode-grown}
 use Rattle.zdd_shared_table.specs.Known.{find, placed}
-use Rattle.zdd_shared_table.specs.Views.{spent, learned, filled, searching, searched_all, passed_on, loaded, exchanged, kept_back, split_off, joined}
+use Rattle.zdd_shared_table.specs.Views.{spent, learned, filled, searching, searched_all, passed_on, loaded, exchanged}
+use Rattle.zdd_shared_table.specs.Views.{kept_back, split_off, joined}
 use Rattle.zdd_shared_table.specs.Rule.{round, HoldsNodes, Fits, IsKnownBySome, IsStore}
 use Rattle.zdd_shared_table.specs.Search.{IsSearch}
 use Rattle.zdd_shared_table.specs.Seats.{IsSoundView}
 use Rattle.zdd_shared_table.proofs.Told.{told}
-use Rattle.zdd_shared_table.proofs.Filling.{HasAll, HasPassed, IsNode-filled, Fits-filled, IsGrown-placed, filled_holds, filled_stay, filled_there}
-use Rattle.zdd_shared_table.proofs.Owned.{Keeps, stands, still_known, keeps_loaded, keeps_exchanged, keeps_filled, keeps_joined, known_among_more, known_after_join}
-use Rattle.zdd_shared_table.proofs.Views.{by_test, found, right, Fits-learned, Fits-filling, Fits-passed, Fits-kept, Fits-split, Fits-joined, Fits-spent}
+use Rattle.zdd_shared_table.proofs.Filling.{HasAll, HasPassed, IsNode-filled, Fits-filled, IsGrown-placed, filled_holds}
+use Rattle.zdd_shared_table.proofs.Filling.{filled_stay, filled_there}
+use Rattle.zdd_shared_table.proofs.Owned.{Keeps, stands, still_known, keeps_loaded, keeps_exchanged, keeps_filled}
+use Rattle.zdd_shared_table.proofs.Owned.{keeps_joined, known_among_more, known_after_join}
+use Rattle.zdd_shared_table.proofs.Views.{by_test, found, right, Fits-learned, Fits-filling, Fits-passed, Fits-kept}
+use Rattle.zdd_shared_table.proofs.Views.{Fits-split, Fits-joined, Fits-spent}
 use Rattle.zdd_shared_table.specs.declared.view.View.{View}
 
 abbrev Seats : Type 0
 Seats = State (Unit {0}) View
 
 -- where the words become others with all that stood there, and one seat's view fits them, the rule holds
-replaced : (bits : ℕ) (s : Seats) (more : List ℕ) (homes : List (Option (Unit {0}))) (seat : ℕ) (v : View) → IsStore bits s → HoldsNodes (λ word. home_of word bits) (2 ^ bits) more → HasAll s.words more → Fits (λ word. home_of word bits) (2 ^ bits) more v
+replaced : (bits : ℕ) (s : Seats) (more : List ℕ) (homes : List (Option (Unit {0}))) (seat : ℕ) (v : View)
+    → IsStore bits s → HoldsNodes (λ word. home_of word bits) (2 ^ bits) more → HasAll s.words more
+    → Fits (λ word. home_of word bits) (2 ^ bits) more v
     → ((slot : ℕ) → get_or more slot 0 ≢ 0 → IsKnownBySome (set s.views seat v) slot)
     → IsStore bits record { words = more; homes = homes; views = set s.views seat v }
 replaced bits s more homes seat v rule nodes all fits owned = record {
@@ -34,18 +41,23 @@ replaced bits s more homes seat v rule nodes all fits owned = record {
   nodes = nodes;
   views = λ other w at. ⊎_elim
       (λ (t : (other ≡ seat) × (v ≡ w)). subst (Fits (λ word. home_of word bits) (2 ^ bits) more) t.1 fits)
-      (λ (t : (other ≢ seat) × (get_elem? s.views other ≡ some w)). Fits-filled (λ word. home_of word bits) (2 ^ bits) s.words more w all (rule.views other w t.1))
+      (λ (t : (other ≢ seat) × (get_elem? s.views other ≡ some w)). Fits-filled (λ word. home_of word bits) (2 ^ bits)
+      s.words more w all (rule.views other w t.1))
       (at_set s.views seat other v w at);
 }
 
 -- a load changes no word
-same_words : (bits : ℕ) (s : Seats) (slot seat : ℕ) (u v : View) (cs : List (ℕ × Unit {0})) → IsStore bits s → get_elem? s.views seat ≡ some u → Keeps u v → Fits (λ word. home_of word bits) (2 ^ bits) s.words v
+same_words : (bits : ℕ) (s : Seats) (slot seat : ℕ) (u v : View) (cs : List (ℕ × Unit {0})) → IsStore bits s
+    → get_elem? s.views seat ≡ some u → Keeps u v → Fits (λ word. home_of word bits) (2 ^ bits) s.words v
     → IsStore bits (stepped s slot (get_or s.words slot 0) seat cs v keeps)
 same_words bits s slot seat u v cs rule mine kept fits =
-    subst (λ (ws : List ℕ). IsStore bits record { words = ws; homes = s.homes; views = set s.views seat v }) (sym (set-get_or s.words slot 0))
-    (replaced bits s s.words s.homes seat v rule rule.nodes (λ at full. refl) fits (λ at full. still_known s.views seat u v mine kept at (rule.owned at full)))
+    subst (λ (ws : List ℕ). IsStore bits record { words = ws; homes = s.homes; views = set s.views seat v })
+    (sym (set-get_or s.words slot 0))
+    (replaced bits s s.words s.homes seat v rule rule.nodes (λ at full. refl) fits
+    (λ at full. still_known s.views seat u v mine kept at (rule.owned at full)))
 
-module _ (bits seat : ℕ) (v : View) (word before slot : ℕ) (search : IsSearch bits v word before slot) (s : Seats) (rule : IsStore bits s) (mine : get_elem? s.views seat ≡ some v) where
+module _ (bits seat : ℕ) (v : View) (word before slot : ℕ) (search : IsSearch bits v word before slot) (s : Seats)
+    (rule : IsStore bits s) (mine : get_elem? s.views seat ≡ some v) where
   abbrev home : ℕ → ℕ
   home w = home_of w bits
 
@@ -60,7 +72,9 @@ module _ (bits seat : ℕ) (v : View) (word before slot : ℕ) (search : IsSearc
       (λ (none : before ≡ 0). absurd (omega arith))
       (λ (at : v.probe ≡ record { word = word; passed = before }).
       let h : place < v.probe.passed = let e = ap (λ p. p.passed) at in omega arith in
-      let P : ℕ → Type 0 = λ w. (get_or s.words (round size (home w + place)) 0 ≢ 0) × (get_or s.words (round size (home w + place)) 0 ≢ w) in
+      let P : ℕ → Type 0 =
+      λ w. (get_or s.words (round size (home w + place)) 0 ≢ 0)
+      × (get_or s.words (round size (home w + place)) 0 ≢ w) in
       subst P (ap (λ p. p.word) at) (fits.passed place h))
       search.goes_on
 
@@ -68,98 +82,151 @@ module _ (bits seat : ℕ) (v : View) (word before slot : ℕ) (search : IsSearc
   in_home = home_of-below word bits search.few
 
   -- where the slot holds some word, the seat has learned its place or goes on
-  pub Fits-met : get_or s.words slot 0 ≢ 0 → Fits home size s.words (if get_or s.words slot 0 == word then learned word slot v else passed_on word before v)
-  Fits-met full = by_test (Fits home size s.words) (get_or s.words slot 0) word (learned word slot v) (passed_on word before v)
+  pub Fits-met : get_or s.words slot 0 ≢ 0 → Fits home size s.words
+      (if get_or s.words slot 0 == word then learned word slot v else passed_on word before v)
+  Fits-met full =
+      by_test (Fits home size s.words) (get_or s.words slot 0) word (learned word slot v) (passed_on word before v)
       (λ is. Fits-learned home size s.words v fits word slot is search.node)
-      (λ differs. let P : ℕ → Type 0 = λ k. (get_or s.words k 0 ≢ 0) × (get_or s.words k 0 ≢ word) in let at = subst P search.here (full, differs) in
+      (λ differs. let P : ℕ → Type 0 = λ k. (get_or s.words k 0 ≢ 0) × (get_or s.words k 0 ≢ word) in
+      let at = subst P search.here (full, differs) in
       Fits-passed home size s.words v fits word before in_home search.sized search.node passed at.0 at.1)
 
   pub Fits-loaded : Fits home size s.words (loaded word before slot (get_or s.words slot 0) v)
-  Fits-loaded = by_test (Fits home size s.words) (get_or s.words slot 0) 0 v (if get_or s.words slot 0 == word then learned word slot v else passed_on word before v)
+  Fits-loaded =
+      by_test (Fits home size s.words) (get_or s.words slot 0) 0 v
+      (if get_or s.words slot 0 == word then learned word slot v else passed_on word before v)
       (λ _. fits) (λ full. Fits-met full)
 
   node' : IsNode (placed s.words) word
   node' = IsNode-grown (find v.known) (placed s.words) word (IsGrown-placed home size s.words v fits) search.node
 
   -- the slot that the seat fills is known to it, and the others are known as before
-  owned-filled : Fits home size (set s.words slot word) v → get_or (set s.words slot word) slot 0 ≡ word → (at : ℕ) → get_or (set s.words slot word) at 0 ≢ 0 → IsKnownBySome (set s.views seat (filled word slot v)) at
+  owned-filled : Fits home size (set s.words slot word) v → get_or (set s.words slot word) slot 0 ≡ word → (at : ℕ)
+      → get_or (set s.words slot word) at 0 ≢ 0 → IsKnownBySome (set s.views seat (filled word slot v)) at
   owned-filled fits' there at full =
       dite (ℕ_discrete at slot)
       (λ same. record {
         seat = seat;
         view = filled word slot v;
         at = stands s.views seat v (filled word slot v) mine;
-        knows = λ none. IsNode-filled (find v.known) word search.node (sym (found home size (set s.words slot word) v fits' word slot there search.node) ∙ (ap (λ k. find (filled word slot v).known (k + 2)) (sym same) ∙ none));
+        knows =
+            λ none. IsNode-filled (find v.known) word search.node
+            (sym (found home size (set s.words slot word) v fits' word slot there search.node)
+            ∙ (ap (λ k. find (filled word slot v).known (k + 2)) (sym same) ∙ none));
       })
       (λ other. still_known s.views seat v (filled word slot v) mine (keeps_filled word slot v) at
       (rule.owned at (λ none. full (get_or-set_other s.words slot at word 0 other ∙ none))))
 
   -- where the slot was empty, the seat fills it
-  pub store-filled : get_or s.words slot 0 ≡ 0 → IsStore bits record { words = set s.words slot word; homes = s.homes; views = set s.views seat (filled word slot v) }
+  pub store-filled : get_or s.words slot 0 ≡ 0 → IsStore bits
+      record { words = set s.words slot word; homes = s.homes; views = set s.views seat (filled word slot v) }
   store-filled empty =
-      let all = filled_stay home size s.words word before slot in_home rule.nodes node' search.inside search.here passed empty in
-      let there = filled_there home size s.words word before slot in_home rule.nodes node' search.inside search.here passed empty in
-      let nodes = filled_holds home size s.words word before slot in_home rule.nodes node' search.inside search.here passed empty in
+      let all =
+      filled_stay home size s.words word before slot in_home rule.nodes node' search.inside search.here passed
+      empty in
+      let there =
+      filled_there home size s.words word before slot in_home rule.nodes node' search.inside search.here passed
+      empty in
+      let nodes =
+      filled_holds home size s.words word before slot in_home rule.nodes node' search.inside search.here passed
+      empty in
       replaced bits s (set s.words slot word) s.homes seat (filled word slot v) rule nodes all
-      (Fits-filling home size (set s.words slot word) v (Fits-filled home size s.words (set s.words slot word) v all fits) word slot there search.node)
+      (Fits-filling home size (set s.words slot word) v
+      (Fits-filled home size s.words (set s.words slot word) v all fits) word slot there search.node)
       (λ at full. owned-filled (Fits-filled home size s.words (set s.words slot word) v all fits) there at full)
 
 -- a view of the right size that fits the rule is sound
-sound_after : (bits seat : ℕ) (s : Seats) (w : View) → IsStore bits s → get_elem? s.views seat ≡ some w → w.size ≡ 2 ^ bits → IsSoundView w
-sound_after bits seat s w rule at sized = told (λ word. home_of word bits) (2 ^ bits) s.words w rule.nodes (rule.views seat w at) sized
+sound_after : (bits seat : ℕ) (s : Seats) (w : View) → IsStore bits s → get_elem? s.views seat ≡ some w
+    → w.size ≡ 2 ^ bits → IsSoundView w
+sound_after bits seat s w rule at sized =
+    told (λ word. home_of word bits) (2 ^ bits) s.words w rule.nodes (rule.views seat w at) sized
 
-sized_loaded : (bits word before slot found : ℕ) (v : View) → v.size ≡ 2 ^ bits → (loaded word before slot found v).size ≡ 2 ^ bits
+sized_loaded : (bits word before slot found : ℕ) (v : View) → v.size ≡ 2 ^ bits
+    → (loaded word before slot found v).size ≡ 2 ^ bits
 sized_loaded bits word before slot found v sized =
     let P : View → Type 0 = λ w. w.size ≡ 2 ^ bits in
     by_test P found 0 v (if found == word then learned word slot v else passed_on word before v) (λ _. sized)
     (λ _. by_test P found word (learned word slot v) (passed_on word before v) (λ _. sized)
-    (λ _. by_test P (before + 1) v.size (searched_all word v) (searching word (before + 1) v) (λ _. sized) (λ _. sized)))
+    (λ _. by_test P (before + 1) v.size (searched_all word v) (searching word (before + 1) v) (λ _. sized)
+    (λ _. sized)))
 
-sized_exchanged : (bits word before slot found : ℕ) (v : View) → v.size ≡ 2 ^ bits → (exchanged word before slot found v).size ≡ 2 ^ bits
+sized_exchanged : (bits word before slot found : ℕ) (v : View) → v.size ≡ 2 ^ bits
+    → (exchanged word before slot found v).size ≡ 2 ^ bits
 sized_exchanged bits word before slot found v sized =
     let P : View → Type 0 = λ w. w.size ≡ 2 ^ bits in
-    by_test P found 0 (filled word slot v) (if found == word then learned word slot v else passed_on word before v) (λ _. sized)
+    by_test P found 0 (filled word slot v) (if found == word then learned word slot v else passed_on word before v)
+    (λ _. sized)
     (λ _. by_test P found word (learned word slot v) (passed_on word before v) (λ _. sized)
-    (λ _. by_test P (before + 1) v.size (searched_all word v) (searching word (before + 1) v) (λ _. sized) (λ _. sized)))
+    (λ _. by_test P (before + 1) v.size (searched_all word v) (searching word (before + 1) v) (λ _. sized)
+    (λ _. sized)))
 
 -- a load in a search
-pub allows_load : (bits slots seat : ℕ) (v : View) (cs : List (ℕ × Unit {0})) (word before slot : ℕ) → IsSearch bits v word before slot
-    → Allows (IsStore bits) slots seat (v, cs) slot (λ n. n) (λ found after. (after.0 ≡ loaded word before slot found v) × (after.1 ≡ cs) × IsSoundView after.0)
+pub allows_load : (bits slots seat : ℕ) (v : View) (cs : List (ℕ × Unit {0})) (word before slot : ℕ)
+    → IsSearch bits v word before slot
+    → Allows (IsStore bits) slots seat (v, cs) slot (λ n. n)
+    (λ found after. (after.0 ≡ loaded word before slot found v) × (after.1 ≡ cs) × IsSoundView after.0)
 allows_load bits slots seat v cs word before slot search s rule homes mine in_range =
     let w = loaded word before slot (get_or s.words slot 0) v in
-    let kept : IsStore bits (stepped s slot (get_or s.words slot 0) seat cs w keeps) = same_words bits s slot seat v w cs rule mine (keeps_loaded word before slot (get_or s.words slot 0) v) (Fits-loaded bits seat v word before slot search s rule mine) in (
+    let kept : IsStore bits (stepped s slot (get_or s.words slot 0) seat cs w keeps) =
+    same_words bits s slot seat v w cs rule mine (keeps_loaded word before slot (get_or s.words slot 0) v)
+    (Fits-loaded bits seat v word before slot search s rule mine) in (
       w,
       keeps,
       tt,
       kept,
-      (refl, refl, sound_after bits seat (stepped s slot (get_or s.words slot 0) seat cs w keeps) w kept (stands s.views seat v w mine) (sized_loaded bits word before slot (get_or s.words slot 0) v search.sized)),
+      (
+        refl,
+        refl,
+        sound_after bits seat (stepped s slot (get_or s.words slot 0) seat cs w keeps) w kept
+            (stands s.views seat v w mine) (sized_loaded bits word before slot (get_or s.words slot 0) v search.sized),
+      ),
     )
 
 -- an exchange in a search, of an empty slot for the word
-pub allows_exchange : (bits slots seat : ℕ) (v : View) (cs : List (ℕ × Unit {0})) (word before slot : ℕ) → IsSearch bits v word before slot
-    → Allows (IsStore bits) slots seat (v, cs) slot (λ n. either (n == 0) word n) (λ found after. (after.0 ≡ exchanged word before slot found v) × (after.1 ≡ cs) × IsSoundView after.0)
+pub allows_exchange : (bits slots seat : ℕ) (v : View) (cs : List (ℕ × Unit {0})) (word before slot : ℕ)
+    → IsSearch bits v word before slot
+    → Allows (IsStore bits) slots seat (v, cs) slot (λ n. either (n == 0) word n)
+    (λ found after. (after.0 ≡ exchanged word before slot found v) × (after.1 ≡ cs) × IsSoundView after.0)
 allows_exchange bits slots seat v cs word before slot search s rule homes mine in_range =
     let found : ℕ = get_or s.words slot 0 in
     let w = exchanged word before slot found v in
     let kept : IsStore bits (stepped s slot (either (found == 0) word found) seat cs w keeps) =
-    by_exchange found 0 word (λ n. IsStore bits record { words = set s.words slot n; homes = s.homes; views = set s.views seat w })
-    (λ empty. by_test (λ w. IsStore bits record { words = set s.words slot word; homes = s.homes; views = set s.views seat w }) found 0 (filled word slot v) (if found == word then learned word slot v else passed_on word before v)
+    by_exchange found 0 word (λ n. IsStore bits record {
+      words = set s.words slot n;
+      homes = s.homes;
+      views =
+          set s.views seat w;
+    })
+    (λ empty. by_test (λ w. IsStore bits record {
+      words = set s.words slot word;
+      homes = s.homes;
+      views =
+          set s.views seat w;
+    }) found 0 (filled word slot v)
+    (if found == word then learned word slot v else passed_on word before v)
     (λ _. store-filled bits seat v word before slot search s rule mine empty)
     (λ full. absurd (full empty)))
     (λ full. same_words bits s slot seat v w cs rule mine (keeps_exchanged word before slot found v)
-    (by_test (Fits (λ w. home_of w bits) (2 ^ bits) s.words) found 0 (filled word slot v) (if found == word then learned word slot v else passed_on word before v)
+    (by_test (Fits (λ w. home_of w bits) (2 ^ bits) s.words) found 0 (filled word slot v)
+    (if found == word then learned word slot v else passed_on word before v)
     (λ empty. absurd (full empty))
     (λ _. Fits-met bits seat v word before slot search s rule mine full))) in (
       w,
       keeps,
       tt,
       kept,
-      (refl, refl, sound_after bits seat (stepped s slot (either (found == 0) word found) seat cs w keeps) w kept (stands s.views seat v w mine) (sized_exchanged bits word before slot found v search.sized)),
+      (
+        refl,
+        refl,
+        sound_after bits seat (stepped s slot (either (found == 0) word found) seat cs w keeps) w kept
+            (stands s.views seat v w mine) (sized_exchanged bits word before slot found v search.sized),
+      ),
     )
 
 -- a load that tells what the rule says of the seat
 pub allows_look : (bits slots seat : ℕ) (v : View) (cs : List (ℕ × Unit {0})) (slot : ℕ) → v.size ≡ 2 ^ bits
-    → Allows (IsStore bits) slots seat (v, cs) slot (λ n. n) (λ found after. (after.0 ≡ v) × (after.1 ≡ cs) × IsSoundView after.0)
+    → Allows (IsStore bits) slots seat (v, cs) slot (λ n. n)
+    (λ found after. (after.0 ≡ v) × (after.1 ≡ cs) × IsSoundView after.0)
 allows_look bits slots seat v cs slot sized s rule homes mine in_range = (
   v,
   keeps,
@@ -170,40 +237,61 @@ allows_look bits slots seat v cs slot sized s rule homes mine in_range = (
 
 -- a load of a known reference's slot
 pub allows_read : (bits slots seat : ℕ) (v : View) (cs : List (ℕ × Unit {0})) (slot : ℕ)
-    → Allows (IsStore bits) slots seat (v, cs) slot (λ n. n) (λ found after. (after.0 ≡ v) × (after.1 ≡ cs) × (find v.known (slot + 2) ≢ 0 → found ≡ find v.known (slot + 2)))
+    → Allows (IsStore bits) slots seat (v, cs) slot (λ n. n)
+    (λ found after. (after.0 ≡ v) × (after.1 ≡ cs)
+    × (find v.known (slot + 2) ≢ 0 → found ≡ find v.known (slot + 2)))
 allows_read bits slots seat v cs slot s rule homes mine in_range =
     let fits = rule.views seat v mine in (
       v,
       keeps,
       tt,
       same_words bits s slot seat v v cs rule mine (λ reference known. known) fits,
-      (refl, refl, λ known. sym (placed-slot s.words slot) ∙ IsGrown-placed (λ w. home_of w bits) (2 ^ bits) s.words v fits (slot + 2) known),
+      (
+        refl,
+        refl,
+        λ known. sym (placed-slot s.words slot)
+            ∙ IsGrown-placed (λ w. home_of w bits) (2 ^ bits) s.words v fits (slot + 2) known,
+      ),
     )
 
 -- a seat splits
-pub allows_split : (bits seat : ℕ) (v : View) (share : ℕ) → Splits (IsStore bits) seat v (kept_back share v) (split_off share v)
+pub allows_split : (bits seat : ℕ) (v : View) (share : ℕ)
+    → Splits (IsStore bits) seat v (kept_back share v) (split_off share v)
 allows_split bits seat v share s rule mine =
     let home = λ (w : ℕ). home_of w bits in
-    let left = replaced bits s s.words s.homes seat (kept_back share v) rule rule.nodes (λ at full. refl) (Fits-kept home (2 ^ bits) s.words v (rule.views seat v mine) share)
-    (λ at full. still_known s.views seat v (kept_back share v) mine (λ reference known. known) at (rule.owned at full)) in
+    let left =
+    replaced bits s s.words s.homes seat (kept_back share v) rule rule.nodes (λ at full. refl)
+    (Fits-kept home (2 ^ bits) s.words v (rule.views seat v mine) share)
+    (λ at full. still_known s.views seat v (kept_back share v) mine (λ reference known. known) at
+    (rule.owned at full)) in
     record {
-      owned = λ at full. known_among_more (set s.views seat (kept_back share v)) (split_off share v) at (left.owned at full);
+      owned =
+          λ at full. known_among_more (set s.views seat (kept_back share v)) (split_off share v) at
+          (left.owned at full);
       nodes = rule.nodes;
       views = λ other w at. ⊎_elim (left.views other w)
-          (λ (same : split_off share v ≡ w). subst (Fits home (2 ^ bits) s.words) same (Fits-split home (2 ^ bits) s.words v (rule.views seat v mine) share))
+          (λ (same : split_off share v ≡ w). subst (Fits home (2 ^ bits) s.words) same
+          (Fits-split home (2 ^ bits) s.words v (rule.views seat v mine) share))
           (at_snoc (set s.views seat (kept_back share v)) (split_off share v) w other at);
     }
 
 -- a seat takes in another, which is spent
-pub allows_join : (bits seat : ℕ) (v : View) (other : ℕ) (w : View) → Joins (IsStore bits) seat v other w (joined v w) spent
+pub allows_join : (bits seat : ℕ) (v : View) (other : ℕ) (w : View)
+    → Joins (IsStore bits) seat v other w (joined v w) spent
 allows_join bits seat v other w s rule mine differ theirs =
     let home = λ (k : ℕ). home_of k bits in
     let fits : Fits home (2 ^ bits) s.words v = rule.views seat v mine in
     let at : get_elem? s.views other ≡ some w = sym (set_else s.views seat other (joined v w) differ) ∙ theirs in
-    let one = replaced bits s s.words s.homes seat (joined v w) rule rule.nodes (λ slot full. refl) (Fits-joined home (2 ^ bits) s.words v fits w (rule.views other w at))
+    let one =
+    replaced bits s s.words s.homes seat (joined v w) rule rule.nodes (λ slot full. refl)
+    (Fits-joined home (2 ^ bits) s.words v fits w (rule.views other w at))
     (λ slot full. still_known s.views seat v (joined v w) mine (keeps_joined v w) slot (rule.owned slot full)) in
-    let both : State (Unit {0}) View = record { words = s.words; homes = s.homes; views = set s.views seat (joined v w) } in
-    let takes : Grown (find w.known) (find (v.known ++ w.known)) = right home (2 ^ bits) s.words v fits w (rule.views other w at) in
-    replaced bits both s.words s.homes other spent one rule.nodes (λ slot full. refl) (Fits-spent home (2 ^ bits) s.words)
-    (λ slot full. known_after_join (set s.views seat (joined v w)) seat other w (joined v w) spent differ (stands s.views seat v (joined v w) mine) theirs
+    let both : State (Unit {0}) View =
+    record { words = s.words; homes = s.homes; views = set s.views seat (joined v w) } in
+    let takes : Grown (find w.known) (find (v.known ++ w.known)) =
+    right home (2 ^ bits) s.words v fits w (rule.views other w at) in
+    replaced bits both s.words s.homes other spent one rule.nodes (λ slot full. refl)
+    (Fits-spent home (2 ^ bits) s.words)
+    (λ slot full. known_after_join (set s.views seat (joined v w)) seat other w (joined v w) spent differ
+    (stands s.views seat v (joined v w) mine) theirs
     (λ reference known none. known (sym (takes reference known) ∙ none)) slot (one.owned slot full))

@@ -9,16 +9,22 @@ use Rattle.zdd_shared_table.proofs.Filling.{IsOf-known, IsGrown-placed}
 use Rattle.zdd_shared_table.specs.declared.view.View.{View}
 
 -- what a view knows is closed
-pub closed_view : (home : ℕ → ℕ) (size : ℕ) (words : List ℕ) (v : View) → HoldsNodes home size words → Fits home size words v → IsClosed (find v.known)
+pub closed_view : (home : ℕ → ℕ) (size : ℕ) (words : List ℕ) (v : View) → HoldsNodes home size words
+    → Fits home size words v → IsClosed (find v.known)
 closed_view home size words v rule fits r known =
-    let at : placed words r ≡ find v.known r = IsGrown-placed home size words v fits r known in
-    ((placed-inside words r (λ none. known (sym at ∙ none))).0, (fits.known r (find v.known r) (find-stands v.known r known)).1)
+    let at : placed words r ≡ find v.known r = IsGrown-placed home size words v fits r known in (
+      (placed-inside words r (λ none. known (sym at ∙ none))).0,
+      (fits.known r (find v.known r) (find-stands v.known r known)).1,
+    )
 
-module _ (home : ℕ → ℕ) (size : ℕ) (words : List ℕ) (v : View) (rule : HoldsNodes home size words) (fits : Fits home size words v) (sized : v.size ≡ size) where
+module _ (home : ℕ → ℕ) (size : ℕ) (words : List ℕ) (v : View) (rule : HoldsNodes home size words)
+    (fits : Fits home size words v) (sized : v.size ≡ size) where
   -- a known reference has a slot, which holds its word
-  pub slot_of : (reference : ℕ) → find v.known reference ≢ 0 → (2 ≤ reference) × (get_or words (reference - 2) 0 ≡ find v.known reference)
+  pub slot_of : (reference : ℕ) → find v.known reference ≢ 0
+      → (2 ≤ reference) × (get_or words (reference - 2) 0 ≡ find v.known reference)
   slot_of reference known =
-      let at : placed words reference ≡ find v.known reference = IsGrown-placed home size words v fits reference known in
+      let at : placed words reference ≡ find v.known reference =
+      IsGrown-placed home size words v fits reference known in
       let inside = placed-inside words reference (λ none. known (sym at ∙ none)) in
       (inside.0, sym inside.1 ∙ at)
 
@@ -28,18 +34,21 @@ module _ (home : ℕ → ℕ) (size : ℕ) (words : List ℕ) (v : View) (rule :
       let h = inside-slot words (reference - 2) (λ none. known (sym slot.1 ∙ none)) in
       let s = rule.sized in let large = slot.0 in omega arith
 
-  unique : (reference other : ℕ) → find v.known reference ≢ 0 → find v.known reference ≡ find v.known other → reference ≡ other
+  unique : (reference other : ℕ) → find v.known reference ≢ 0 → find v.known reference ≡ find v.known other
+      → reference ≡ other
   unique reference other known same =
       let slot = slot_of reference known in
       let slot' = slot_of other (λ none. known (same ∙ none)) in
-      let e : reference - 2 ≡ other - 2 = rule.once (reference - 2) (other - 2) (λ none. known (sym slot.1 ∙ none)) (slot.1 ∙ (same ∙ sym slot'.1)) in
+      let e : reference - 2 ≡ other - 2 =
+      rule.once (reference - 2) (other - 2) (λ none. known (sym slot.1 ∙ none)) (slot.1 ∙ (same ∙ sym slot'.1)) in
       let large = slot.0 in let large' = slot'.0 in omega arith
 
   pub told : IsSoundView v
   told = record {
     closed = closed_view home size words v rule fits;
     unique = unique;
-    agree = λ reference word h. find-standing (placed words) v.known reference word (IsOf-known home size words v fits) h;
+    agree =
+        λ reference word h. find-standing (placed words) v.known reference word (IsOf-known home size words v fits) h;
     within = within;
     missed = fits.missed;
     fills = fits.fills;

@@ -19,7 +19,8 @@ pub record IsSearch (bits : ℕ) (v : View) (word before slot : ℕ) : Type 0 wh
 
 -- the view of a seat whose search has passed some slots
 abbrev pub after_passing : ℕ → ℕ → View → View
-after_passing word passed v = if passed == 0 then v else (if passed == v.size then searched_all word v else searching word passed v)
+after_passing word passed v =
+    if passed == 0 then v else (if passed == v.size then searched_all word v else searching word passed v)
 
 -- the search ended at a slot that holds the word, which the seat may have filled
 abbrev pub HasEnded : ℕ → ℕ → View → View → Type 0

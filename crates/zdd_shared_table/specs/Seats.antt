@@ -38,7 +38,17 @@ pub record Seated : Type 0 where
 
 -- what the table's view of a seat is to contracts
 abbrev pub seated : TableId → View → Seated
-seated id v = record { store = id; known = v.known; fulls = v.fulls; missed = v.missed; fills = v.fills; share = v.share; probe = v.probe }
+seated id v =
+    record {
+      store = id;
+      known = v.known;
+      fulls = v.fulls;
+      missed = v.missed;
+      fills = v.fills;
+      share = v.share;
+      probe =
+          v.probe;
+    }
 
 -- the map of what a seat knows
 abbrev pub map_of : Seated → ℕ → ℕ

@@ -40,7 +40,9 @@ impl<A: Asked> Play<(), View> for Loads<A> {
     ghost use Rattle.zdd_shared_table.specs.Views.{loaded};
     ghost use Rattle.zdd_shared_table.specs.Seats.{IsSoundView};
 
-    ghost then = { λ step before found after. (after.0 ≡ loaded A.word A.passed step.word found before.0) × (after.1 ≡ before.1) × IsSoundView after.0 };
+    ghost then = { λ step before found after. (after.0 ≡ loaded A.word A.passed step.word found before.0)
+        × (after.1 ≡ before.1)
+        × IsSoundView after.0 };
 }
 
 /// An exchange of an empty slot in a search.
@@ -53,7 +55,8 @@ impl<A: Asked> Play<(), View> for Exchanges<A> {
     ghost use Rattle.zdd_shared_table.specs.Views.{exchanged};
     ghost use Rattle.zdd_shared_table.specs.Seats.{IsSoundView};
 
-    ghost then = { λ step before found after. (after.0 ≡ exchanged A.word A.passed step.word found before.0) × (after.1 ≡ before.1) × IsSoundView after.0 };
+    ghost then = { λ step before found after. (after.0 ≡ exchanged A.word A.passed step.word found before.0)
+        × (after.1 ≡ before.1) × IsSoundView after.0 };
 }
 
 /// A load of the slot of a known reference.
@@ -63,7 +66,8 @@ impl Play<(), View> for Reads {
     ghost use Rattle.std.specs.Prelude.{◌≡◌, ◌+◌, ◌≢◌};
     ghost use Rattle.zdd_shared_table.specs.Known.{find};
 
-    ghost then = { λ step before found after. (after.0 ≡ before.0) × (after.1 ≡ before.1) × (find before.0.known (step.word + 2) ≢ 0 → found ≡ find before.0.known (step.word + 2)) };
+    ghost then = { λ step before found after. (after.0 ≡ before.0) × (after.1 ≡ before.1)
+        × (find before.0.known (step.word + 2) ≢ 0 → found ≡ find before.0.known (step.word + 2)) };
 }
 
 /// A load that tells what the rule says of the seat.

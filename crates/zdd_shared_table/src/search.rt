@@ -52,7 +52,8 @@ fn ends_at(words: &Words, seat: &mut Place, word: u64, passed: usize, slot: usiz
     requires inside { slot < words.now.table_id.words }
     requires search { IsSearch words.now.key seat.old.me.0 word passed slot }
     ensures stays { StaysSeat seat.old seat.new }
-    ensures view { MatchBool result (HasEnded word slot seat.old.me.0 seat.new.me.0) (seat.new.me.0 ≡ passed_on word passed seat.old.me.0) }
+    ensures view { MatchBool result (HasEnded word slot seat.old.me.0 seat.new.me.0)
+        (seat.new.me.0 ≡ passed_on word passed seat.old.me.0) }
     ensures sound { IsSoundView seat.new.me.0 }
 {
     let met = load::<Brand>(words, seat, word, passed, slot);

@@ -1,3 +1,4 @@
+//! A seat at the store: what a caller knows of its nodes.
 ghost use Rattle.std.specs.Prelude.{◌≤◌};
 ghost use Rattle.zdd_shared_table.specs.Seats.{IsSoundSeat};
 

@@ -1,4 +1,6 @@
-ghost use Rattle.std.specs.Prelude.{◌≡◌, ◌≢◌, ◌+◌, ◌-◌, ◌<◌, ◌≤◌, ◌^◌, ◌↔◌, ◌⊎◌, [], ◌∷◌, ◌++◌, IfOk, IfErr, MatchResult, IsTrue};
+//! The store of nodes that threads share.
+ghost use Rattle.std.specs.Prelude.{◌≡◌, ◌≢◌, ◌+◌, ◌-◌, ◌<◌, ◌≤◌, ◌^◌, ◌↔◌, ◌⊎◌, [], ◌∷◌, ◌++◌, IfOk, IfErr};
+ghost use Rattle.std.specs.Prelude.{MatchResult, IsTrue};
 ghost use Rattle.zdd_words.specs.Word.{packed};
 ghost use Rattle.zdd_families.specs.Family.{IsAbove, branch, first_unit, sets_with, sets_without};
 ghost use Rattle.zdd_families.specs.Map.{Knows, KnowsAs, Grown, family};
@@ -36,7 +38,8 @@ impl Model for NodeStore {
 
     ghost view = { λ s. s.table.shared.table_id };
 
-    ghost invariant = { λ s. (10 ≤ s.bits) × (s.bits ≤ 25) × (s.table.shared.key ≡ s.bits) × (s.table.shared.table_id.words ≡ 2 ^ s.bits) };
+    ghost invariant = { λ s. (10 ≤ s.bits) × (s.bits ≤ 25) × (s.table.shared.key ≡ s.bits)
+        × (s.table.shared.table_id.words ≡ 2 ^ s.bits) };
 }
 
 /// An empty store, and its first seat.
@@ -82,15 +85,21 @@ impl NodeStore {
         requires lo_above { IsAbove level (family (map_of seat.old) lo) }
         requires hi_above { IsAbove level (family (map_of seat.old) hi) }
 
-        ensures family { IfOk result (λ r. KnowsAs (map_of seat.new) r (branch level (family (map_of seat.old) lo) (family (map_of seat.old) hi))) }
+        ensures family { IfOk result (λ r. KnowsAs (map_of seat.new) r
+            (branch level (family (map_of seat.old) lo) (family (map_of seat.old) hi))) }
         ensures keeps { Grown (map_of seat.old) (map_of seat.new) }
-        ensures known { MatchResult result (λ r. seat.new.known ≡ seat.old.known ++ (r, packed level lo hi) ∷ []) (λ _. seat.new.known ≡ seat.old.known) }
+        ensures known { MatchResult result (λ r. seat.new.known ≡ seat.old.known ++ (r, packed level lo hi) ∷ [])
+            (λ _. seat.new.known ≡ seat.old.known) }
 
         // A refused search passed every slot of the store and is counted, and no other is.
-        ensures fulls { MatchResult result (λ _. seat.new.fulls ≡ seat.old.fulls) (λ _. seat.new.fulls ≡ seat.old.fulls + 1) }
-        ensures missed { MatchResult result (λ _. seat.new.missed ≡ seat.old.missed) (λ _. seat.new.missed ≡ seat.old.missed ++ packed level lo hi ∷ []) }
-        ensures passed { IfErr result (λ _. seat.new.probe ≡ record { word = packed level lo hi; passed = self.now.words }) }
-        ensures fills { MatchResult result (λ r. (seat.new.fills ≡ seat.old.fills) ⊎ (seat.new.fills ≡ seat.old.fills ++ r ∷ [])) (λ _. seat.new.fills ≡ seat.old.fills) }
+        ensures fulls { MatchResult result (λ _. seat.new.fulls ≡ seat.old.fulls)
+            (λ _. seat.new.fulls ≡ seat.old.fulls + 1) }
+        ensures missed { MatchResult result (λ _. seat.new.missed ≡ seat.old.missed)
+            (λ _. seat.new.missed ≡ seat.old.missed ++ packed level lo hi ∷ []) }
+        ensures passed { IfErr result (λ _. seat.new.probe
+            ≡ record { word = packed level lo hi; passed = self.now.words }) }
+        ensures fills { MatchResult result (λ r. (seat.new.fills ≡ seat.old.fills)
+            ⊎ (seat.new.fills ≡ seat.old.fills ++ r ∷ [])) (λ _. seat.new.fills ≡ seat.old.fills) }
         ensures share { seat.new.share ≡ seat.old.share }
         ensures store { seat.new.store ≡ seat.old.store }
         ensures sound { IsSoundSeat seat.new }
@@ -116,7 +125,8 @@ impl NodeStore {
         ensures hi { KnowsAs (map_of seat.new) result.hi (sets_with result.level (family (map_of seat.old) r)) }
 
         // What an operation needs to make such a node again.
-        ensures branch { family (map_of seat.new) r ≡ branch result.level (family (map_of seat.new) result.lo) (family (map_of seat.new) result.hi) }
+        ensures branch { family (map_of seat.new) r ≡ branch result.level (family (map_of seat.new) result.lo)
+            (family (map_of seat.new) result.hi) }
         ensures filled { result.hi ≢ 0 }
         ensures lo_above { IsAbove result.level (family (map_of seat.new) result.lo) }
         ensures hi_above { IsAbove result.level (family (map_of seat.new) result.hi) }

@@ -1,3 +1,4 @@
+//! The store by one thread and by several.
 ghost use Rattle.std.specs.Prelude.{◌≡◌, ◌+◌, ◌<◌, ◌≤◌, ◌∷◌, [], IfOk, IfSome, All};
 ghost use Rattle.zdd_families.specs.Map.{Knows, Grown, KnowsAs};
 ghost use Rattle.zdd_shared_table.specs.Seats.{map_of};

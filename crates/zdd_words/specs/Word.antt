@@ -37,7 +37,8 @@ upper level lo hi small = rw by_halves (shr_high (level * 2 ^ 26 + lo) 26 hi sma
 pub level_of-packed : (level lo hi : ℕ) → IsReference lo → IsReference hi → level_of (packed level lo hi) ≡ level
 unfolding level_of
 level_of-packed level lo hi small small' =
-    sym (shr-shr (packed level lo hi) 26 26) ∙ ap (λ n. n / 2 ^ 26) (upper level lo hi small') ∙ shr_high level 26 lo small
+    sym (shr-shr (packed level lo hi) 26 26) ∙ ap (λ n. n / 2 ^ 26) (upper level lo hi small')
+    ∙ shr_high level 26 lo small
 
 pub lo_of-packed : (level lo hi : ℕ) → IsReference lo → IsReference hi → lo_of (packed level lo hi) ≡ lo
 unfolding lo_of
@@ -61,7 +62,8 @@ packed-parts word =
     ∙ all
 
 -- two words with the same parts are equal
-pub same_word : (word other : ℕ) → level_of word ≡ level_of other → lo_of word ≡ lo_of other → hi_of word ≡ hi_of other → word ≡ other
+pub same_word : (word other : ℕ) → level_of word ≡ level_of other → lo_of word ≡ lo_of other → hi_of word ≡ hi_of other
+    → word ≡ other
 same_word word other at below above =
     sym (packed-parts word)
     ∙ ap (λ n. packed n (lo_of word) (hi_of word)) at
@@ -105,4 +107,5 @@ unfolding home_of
 home_of-below word bits few =
     shr_below ((word * 11400714819323198485) % 2 ^ 64) bits (64 - bits)
     (let whole : bits + (64 - bits) ≡ 64 = omega arith in
-    subst (λ n. (word * 11400714819323198485) % 2 ^ 64 < 2 ^ n) (sym whole) (mod_below (word * 11400714819323198485) (2 ^ 64) (pow_pos 64)))
+    subst (λ n. (word * 11400714819323198485) % 2 ^ 64 < 2 ^ n) (sym whole)
+    (mod_below (word * 11400714819323198485) (2 ^ 64) (pow_pos 64)))

@@ -1,3 +1,4 @@
+//! References to nodes.
 ghost use Rattle.std.specs.Prelude.{◌≡◌, ◌+◌, ◌<◌, ◌^◌};
 ghost use Rattle.zdd_words.specs.Reference.{IsReference};
 ghost use Rattle.zdd_words.specs.Word.{hi_of};

@@ -1,3 +1,4 @@
+//! Words and homes of some nodes, computed by hand.
 use super::*;
 use std::test::Fail;
 use unit_sets::UnitNo;

@@ -1,3 +1,4 @@
+//! A node as a word of 64 bits, and where its search begins.
 ghost use Rattle.std.specs.Prelude.{◌≡◌, ◌<◌, ◌≤◌, ◌^◌};
 ghost use Rattle.zdd_words.specs.Word.{hi_of, home_of, level_of, lo_of, packed};
 

@@ -4,7 +4,8 @@ use Rattle.flat_rows.proofs.part.Goals as goal
 
 pub cut-requires-clause-order : goal.cut-requires-clause-order
 cut-requires-clause-order g c =
-    rw c.start.ensures (Rise-at 0 c.args.ends.now (length c.args.items.now) c.args.i c.requires.rise c.requires.within).0
+    rw c.start.ensures (Rise-at 0 c.args.ends.now (length c.args.items.now) c.args.i c.requires.rise
+    c.requires.within).0
 
 pub cut-requires-clause-within : goal.cut-requires-clause-within
 cut-requires-clause-within g c =

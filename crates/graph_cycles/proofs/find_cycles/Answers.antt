@@ -4,8 +4,10 @@ use Rattle.graph_cycles.proofs.find_cycles.Goals as goal
 
 pub returns-clause-exact : goal.returns-clause-exact
 returns-clause-exact c = λ x l.
-    c.loop-node.invariant.stands.sound.marked x (all_closed c.args.graph.now c.loop-node.walk c.loop-node.node c.loop-node.invariant x (omega arith))
+    c.loop-node.invariant.stands.sound.marked x (all_closed c.args.graph.now c.loop-node.walk c.loop-node.node
+    c.loop-node.invariant x (omega arith))
 
 pub returns-clause-ranked : goal.returns-clause-ranked
 returns-clause-ranked c = λ x l.
-    c.loop-node.invariant.stands.ranks.ranked x (all_closed c.args.graph.now c.loop-node.walk c.loop-node.node c.loop-node.invariant x (omega arith))
+    c.loop-node.invariant.stands.ranks.ranked x (all_closed c.args.graph.now c.loop-node.walk c.loop-node.node
+    c.loop-node.invariant x (omega arith))

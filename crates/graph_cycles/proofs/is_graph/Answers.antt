@@ -10,8 +10,10 @@ pub returns-then-not-all_below : goal.returns-then-not-all_below
 returns-then-not-all_below c = (
   (λ never. absurd (let e : false ≡ true = never in cc)),
   (λ whole.
-      let found : list_all (λ node. nat_lt node (length c.args.graph.now)) (successors c.args.graph.now c.loop-x.x) ≡ true =
-      all_below (successors c.args.graph.now c.loop-x.x) (length c.args.graph.now) (λ y goes. whole c.loop-x.x y goes) in
+      let found : list_all (λ node. nat_lt node (length c.args.graph.now)) (successors c.args.graph.now c.loop-x.x)
+      ≡ true =
+      all_below (successors c.args.graph.now c.loop-x.x) (length c.args.graph.now)
+      (λ y goes. whole c.loop-x.x y goes) in
       grind (arith, common_steps, found)),
 )
 

@@ -8,12 +8,15 @@ use Rattle.cut_sequences.proofs.RoundLemmas.{shares_at_end}
 use Rattle.cut_sequences.proofs.rounds.all_shares.Goals as goal
 
 pub all_rounds-requires-clause-at_work : goal.all_rounds-requires-clause-at_work
-all_rounds-requires-clause-at_work g c κs within = c.in_ok-works.ensures.at_work (order_lists c.args.tree.now c.args.cuts.now c.args.most)
+all_rounds-requires-clause-at_work g c κs within =
+    c.in_ok-works.ensures.at_work (order_lists c.args.tree.now c.args.cuts.now c.args.most)
 
 pub returns-clause-shares : goal.returns-clause-shares
 returns-clause-shares g c =
     let lists : Share = order_lists c.args.tree.now c.args.cuts.now c.args.most in
     let works : List Work = c.in_ok-all_rounds.field-0.items in
     let done : All (λ (work : Work). length lists ≤ work.next) works =
-    subst (λ (n : ℕ). All (λ (work : Work). n ≤ work.next) works) (sym (length-map c.args.cuts.now (orders_of c.args.tree.now c.args.most))) c.in_ok-all_rounds.ensures.done in
-    IfOk-weaker c.shares_of.result _ _ (λ shares is. shares_at_end lists works shares.items c.in_ok-all_rounds.ensures.at_work done is) c.shares_of.ensures.shares
+    subst (λ (n : ℕ). All (λ (work : Work). n ≤ work.next) works)
+    (sym (length-map c.args.cuts.now (orders_of c.args.tree.now c.args.most))) c.in_ok-all_rounds.ensures.done in
+    IfOk-weaker c.shares_of.result _ _ (λ shares is.
+    shares_at_end lists works shares.items c.in_ok-all_rounds.ensures.at_work done is) c.shares_of.ensures.shares

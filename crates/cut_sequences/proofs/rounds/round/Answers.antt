@@ -12,23 +12,32 @@ pub returns-in_err-works-clause-limit : goal.returns-in_err-works-clause-limit
 returns-in_err-works-clause-limit g c =
     let p = err_from_is_err_and c.from_residual-in_err-works.result c.from_residual-in_err-works.ensures.1 in
     rw (p.1, p.2)
-    (λ limit. round_over (order_lists c.args.tree.now c.args.cuts.now c.args.most) c.args.stop c.args.works.items c.in_ok-answers_of.field-0.items c.requires.at_work c.in_ok-answers_of.ensures.all c.in_ok-answers_of.ensures.each
+    (λ limit. round_over (order_lists c.args.tree.now c.args.cuts.now c.args.most) c.args.stop c.args.works.items
+    c.in_ok-answers_of.field-0.items c.requires.at_work c.in_ok-answers_of.ensures.all
+    c.in_ok-answers_of.ensures.each
     (c.in_err-works.ensures.limit limit))
 
 pub returns-then-orders_so_far-gt-ORDER_LIMIT-clause-limit : goal.returns-then-orders_so_far-gt-ORDER_LIMIT-clause-limit
 returns-then-orders_so_far-gt-ORDER_LIMIT-clause-limit g c =
     let lists : Share = order_lists c.args.tree.now c.args.cuts.now c.args.most in
     let later : List Work = c.in_ok-works.works.items in
-    let at_work : AreAtWork lists later = still_at_work lists c.args.stop c.args.works.items c.in_ok-answers_of.field-0.items c.requires.at_work c.in_ok-answers_of.ensures.all c.in_ok-answers_of.ensures.each later c.in_ok-works.ensures.works in
-    let total : c.orders_so_far.result ≡ sum_by orders_of_work later = c.orders_so_far.ensures ∙ ap (sum_by orders_of_work) c.as_slice.ensures.value in
+    let at_work : AreAtWork lists later =
+    still_at_work lists c.args.stop c.args.works.items c.in_ok-answers_of.field-0.items c.requires.at_work
+    c.in_ok-answers_of.ensures.all c.in_ok-answers_of.ensures.each later c.in_ok-works.ensures.works in
+    let total : c.orders_so_far.result ≡ sum_by orders_of_work later =
+    c.orders_so_far.ensures ∙ ap (sum_by orders_of_work) c.as_slice.ensures.value in
     λ limit. omega (arith, total, works_le lists later at_work)
 
 pub returns-clause-at_work : goal.returns-clause-at_work
 returns-clause-at_work g c =
-    still_at_work (order_lists c.args.tree.now c.args.cuts.now c.args.most) c.args.stop c.args.works.items c.in_ok-answers_of.field-0.items c.requires.at_work c.in_ok-answers_of.ensures.all c.in_ok-answers_of.ensures.each
+    still_at_work (order_lists c.args.tree.now c.args.cuts.now c.args.most) c.args.stop c.args.works.items
+    c.in_ok-answers_of.field-0.items c.requires.at_work c.in_ok-answers_of.ensures.all
+    c.in_ok-answers_of.ensures.each
     c.in_ok-works.works.items c.in_ok-works.ensures.works
 
 pub returns-clause-stopped : goal.returns-clause-stopped
 returns-clause-stopped g c =
-    have_stopped (order_lists c.args.tree.now c.args.cuts.now c.args.most) c.args.stop c.args.works.items c.in_ok-answers_of.field-0.items c.requires.at_work c.in_ok-answers_of.ensures.all c.in_ok-answers_of.ensures.each
+    have_stopped (order_lists c.args.tree.now c.args.cuts.now c.args.most) c.args.stop c.args.works.items
+    c.in_ok-answers_of.field-0.items c.requires.at_work c.in_ok-answers_of.ensures.all
+    c.in_ok-answers_of.ensures.each
     c.in_ok-works.works.items c.in_ok-works.ensures.works

@@ -5,5 +5,6 @@ use Rattle.cut_sequences.proofs.rounds.starts.Given as goal
 abbrev pub invariant-loop-next : goal.invariant-loop-next
 invariant-loop-next l = record {
   many : length l.works.items ≡ l.next;
-  each : (worker : ℕ) (d : Work) → worker < length l.works.items → get_or l.works.items worker d ≡ record { share = []; next = worker };
+  each : (worker : ℕ) (d : Work) → worker < length l.works.items
+      → get_or l.works.items worker d ≡ record { share = []; next = worker };
 }

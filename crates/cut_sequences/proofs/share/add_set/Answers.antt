@@ -8,10 +8,14 @@ pub returns-clause-added : goal.returns-clause-added
 returns-clause-added c =
     rw c.in_ok-push.ensures.items (elim c.if-listed.branch [
       | then-listed+in_ok-list_set w ↦
-          let ends : c.len.result ≡ length w.list_set.new.self.orders = c.len.ensures ∙ ap (λ (s : Search). length s.orders) w.search-is in
-          rw w.search-is (adds_listed c.args.search.now.replay.tree c.args.most c.args.set.now c.args.marks.now.items c.args.search.now.orders w.list_set.new.self.orders _
-          c.requires.held w.if-listed.true refl w.in_ok-list_set.ensures.listed.0 w.in_ok-list_set.ensures.listed.1 ends)
+          let ends : c.len.result ≡ length w.list_set.new.self.orders =
+          c.len.ensures ∙ ap (λ (s : Search). length s.orders) w.search-is in
+          rw w.search-is (adds_listed c.args.search.now.replay.tree c.args.most c.args.set.now c.args.marks.now.items
+          c.args.search.now.orders w.list_set.new.self.orders _
+          c.requires.held w.if-listed.true refl w.in_ok-list_set.ensures.listed.0 w.in_ok-list_set.ensures.listed.1
+          ends)
       | else-listed w ↦
-          adds_unlisted c.args.search.now.replay.tree c.args.most c.args.set.now c.args.marks.now.items c.args.search.now.orders c.if-listed.search.orders _
+          adds_unlisted c.args.search.now.replay.tree c.args.most c.args.set.now c.args.marks.now.items
+          c.args.search.now.orders c.if-listed.search.orders _
           c.requires.held w.if-listed.false refl (ap (λ (s : Search). s.orders) w.search-is) c.len.ensures
     ])

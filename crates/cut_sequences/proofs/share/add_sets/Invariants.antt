@@ -10,8 +10,10 @@ invariant-loop-next l = record {
   order : l.search.replay.order ≡ [];
   held : HoldsShare l.marks.items l.search.orders;
   listed :
-      whole (order_lists l.initial.search.replay.tree l.cuts l.most) l.workers (work_of l.marks.items l.search.orders l.next)
-      ≡ whole (order_lists l.initial.search.replay.tree l.cuts l.most) l.workers (work_of l.initial.marks.items l.initial.search.orders l.from);
+      whole (order_lists l.initial.search.replay.tree l.cuts l.most) l.workers
+      (work_of l.marks.items l.search.orders l.next)
+      ≡ whole (order_lists l.initial.search.replay.tree l.cuts l.most) l.workers
+      (work_of l.initial.marks.items l.initial.search.orders l.from);
 }
 
 abbrev pub decreases-loop-next : goal.decreases-loop-next

@@ -15,25 +15,32 @@ cut_list-requires-clause-filled c = joined-filled c.in_ok-found.found _ c.in_ok-
 
 pub cut_list-requires-clause-rising : goal.cut_list-requires-clause-rising
 cut_list-requires-clause-rising c =
-    joined-rising c.in_ok-found.found _ c.in_ok-found.ensures.sets (IsFamily-family _ c.args.root c.is_sound.ensures.sound.closed c.requires.knows)
+    joined-rising c.in_ok-found.found _ c.in_ok-found.ensures.sets
+    (IsFamily-family _ c.args.root c.is_sound.ensures.sound.closed c.requires.knows)
 
 pub cut_list-requires-clause-ordered : goal.cut_list-requires-clause-ordered
 cut_list-requires-clause-ordered c =
-    joined-in_order c.in_ok-found.found _ c.in_ok-found.ensures.sets (IsFamily-family _ c.args.root c.is_sound.ensures.sound.closed c.requires.knows)
+    joined-in_order c.in_ok-found.found _ c.in_ok-found.ensures.sets
+    (IsFamily-family _ c.args.root c.is_sound.ensures.sound.closed c.requires.knows)
 
 -- the sets of all sizes are those of the family
 pub returns-clause-sets : goal.returns-clause-sets
 returns-clause-sets c =
-    IfOk-weaker c.cut_list.result (λ cuts. cuts ≡ joined c.in_ok-found.found) (HasSetsOf (family (map_of c.args.seat.now) c.args.root))
-    (λ cuts same. subst (HasSetsOf (family (map_of c.args.seat.now) c.args.root)) (sym same) (joined-sets c.in_ok-found.found _ c.in_ok-found.ensures.sets)) c.cut_list.ensures.cuts
+    IfOk-weaker c.cut_list.result (λ cuts. cuts ≡ joined c.in_ok-found.found)
+    (HasSetsOf (family (map_of c.args.seat.now) c.args.root))
+    (λ cuts same. subst (HasSetsOf (family (map_of c.args.seat.now) c.args.root)) (sym same)
+    (joined-sets c.in_ok-found.found _ c.in_ok-found.ensures.sets)) c.cut_list.ensures.cuts
 
 pub returns-clause-limit : goal.returns-clause-limit
 returns-clause-limit c = λ refused.
-    let same = weight-joined c.in_ok-found.found (family (map_of c.args.seat.now) c.args.root) c.in_ok-found.ensures.sets in
+    let same =
+    weight-joined c.in_ok-found.found (family (map_of c.args.seat.now) c.args.root) c.in_ok-found.ensures.sets in
     let heavy = c.cut_list.ensures.limit refused in
-    heavy_list (family (map_of c.args.seat.now) c.args.root) (IsFamily-family _ c.args.root c.is_sound.ensures.sound.closed c.requires.knows) (omega (arith, same, heavy))
+    heavy_list (family (map_of c.args.seat.now) c.args.root)
+    (IsFamily-family _ c.args.root c.is_sound.ensures.sound.closed c.requires.knows) (omega (arith, same, heavy))
 
 pub returns-in_err-found-clause-limit : goal.returns-in_err-found-clause-limit
 returns-in_err-found-clause-limit c = λ refused.
     let heavy : weight_limit < weight (family (map_of c.args.seat.now) c.args.root) = grind arith in
-    heavy_list (family (map_of c.args.seat.now) c.args.root) (IsFamily-family _ c.args.root c.is_sound.ensures.sound.closed c.requires.knows) heavy
+    heavy_list (family (map_of c.args.seat.now) c.args.root)
+    (IsFamily-family _ c.args.root c.is_sound.ensures.sound.closed c.requires.knows) heavy

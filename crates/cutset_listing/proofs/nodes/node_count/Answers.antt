@@ -8,7 +8,9 @@ use Rattle.cutset_listing.proofs.nodes.node_count.Goals as goal
 
 pub loop-place-init : goal.loop-place-init
 loop-place-init c = record {
-  met = rw (c.in_ok-add.ensures, c.new-met.ensures) (meets_root _ c.is_sound.ensures.sound.closed c.args.root c.requires.knows);
+  met =
+      rw (c.in_ok-add.ensures, c.new-met.ensures) (meets_root _ c.is_sound.ensures.sound.closed c.args.root
+      c.requires.knows);
   within = omega arith;
   seat = refl;
 }
@@ -18,14 +20,16 @@ parts-parts-requires-clause-knows c =
     let test = c.loop-place-test.true in
     let len = c.len.ensures in
     rw c.loop-place.invariant.seat
-    (inr (inner _ c.is_sound.ensures.sound.closed c.args.root c.loop-place.met c.loop-place.place c.node.result c.loop-place.invariant.met (omega (arith, test, len)) c.node.ensures))
+    (inr (inner _ c.is_sound.ensures.sound.closed c.args.root c.loop-place.met c.loop-place.place c.node.result
+    c.loop-place.invariant.met (omega (arith, test, len)) c.node.ensures))
 
 pub parts-parts-requires-clause-inner : goal.parts-parts-requires-clause-inner
 parts-parts-requires-clause-inner c =
     let test = c.loop-place-test.true in
     let len = c.len.ensures in
     let closed = c.is_sound.ensures.sound.closed in
-    (closed c.node.result (inner _ closed c.args.root c.loop-place.met c.loop-place.place c.node.result c.loop-place.invariant.met (omega (arith, test, len)) c.node.ensures)).0
+    (closed c.node.result (inner _ closed c.args.root c.loop-place.met c.loop-place.place c.node.result
+    c.loop-place.invariant.met (omega (arith, test, len)) c.node.ensures)).0
 
 -- no place is behind the references of the store
 pub loop-place-smaller : goal.loop-place-smaller
@@ -33,7 +37,8 @@ loop-place-smaller c =
     let test = c.loop-place-test.true in
     let len = c.len.ensures in
     let few : length c.loop-place.met ≤ c.args.store.now.words + 2 =
-    few_nodes _ c.is_sound.ensures.sound.closed c.args.root (c.args.store.now.words + 2) c.loop-place.met c.loop-place.place c.loop-place.invariant.met
+    few_nodes _ c.is_sound.ensures.sound.closed c.args.root (c.args.store.now.words + 2) c.loop-place.met
+    c.loop-place.place c.loop-place.invariant.met
     (rw c.requires.own at c.is_sound.ensures.sound.within) in
     omega (arith, test, len, few)
 
@@ -42,10 +47,14 @@ loop-place-preserved c =
     let test = c.loop-place-test.true in
     let len = c.len.ensures in
     let word = rw c.loop-place.invariant.seat at c.parts-parts.ensures.word in
-    let both = meets_parts _ c.is_sound.ensures.sound.closed c.args.root c.loop-place.met c.loop-place.place c.node.result c.loop-place.invariant.met (omega (arith, test, len)) c.node.ensures
+    let both =
+    meets_parts _ c.is_sound.ensures.sound.closed c.args.root c.loop-place.met c.loop-place.place c.node.result
+    c.loop-place.invariant.met (omega (arith, test, len)) c.node.ensures
     c.parts-parts.result.lo c.parts-parts.result.hi c.add-in-loop-place-2.new.self
-    (lo_of_word _ c.parts-parts.result.level c.parts-parts.result.lo c.parts-parts.result.hi word c.number.ensures.small c.number-in-loop-place.ensures.small)
-    (hi_of_word _ c.parts-parts.result.level c.parts-parts.result.lo c.parts-parts.result.hi word c.number-in-loop-place.ensures.small)
+    (lo_of_word _ c.parts-parts.result.level c.parts-parts.result.lo c.parts-parts.result.hi word c.number.ensures.small
+    c.number-in-loop-place.ensures.small)
+    (hi_of_word _ c.parts-parts.result.level c.parts-parts.result.lo c.parts-parts.result.hi word
+    c.number-in-loop-place.ensures.small)
     (c.in_ok-add-3.ensures ∙ ap (with_node c.parts-parts.result.hi) c.in_ok-add-2.ensures) in
     record { met = both.0; within = both.1; seat = c.parts-parts.ensures.seat ∙ c.loop-place.invariant.seat }
 
@@ -56,5 +65,7 @@ returns-clause-count c =
     let len = c.len.ensures in
     let sound = c.is_sound.ensures.sound in
     subst (IsNodeCount (family (map_of c.args.seat.now) c.args.root)) (sym c.len-2.ensures)
-    (node_count-references _ sound.closed sound.unique c.args.root c.requires.knows c.loop-place.met c.loop-place.invariant.met.once
-    (met_all _ sound.closed c.args.root c.loop-place.met c.loop-place.place c.loop-place.invariant.met (omega (arith, test, len))))
+    (node_count-references _ sound.closed sound.unique c.args.root c.requires.knows c.loop-place.met
+    c.loop-place.invariant.met.once
+    (met_all _ sound.closed c.args.root c.loop-place.met c.loop-place.place c.loop-place.invariant.met
+    (omega (arith, test, len))))

@@ -4,6 +4,12 @@ use Rattle.cutset_lists.proofs.combine.add_all_unions.Goals as goal
 
 pub loop-i-preserved : goal.loop-i-preserved
 loop-i-preserved c = record {
-  hits = AddsBoth-step c.row.result.now c.args.left.now c.args.right.now c.args.sets.now c.loop-i.sets c.add_unions.new.sets c.loop-i.i (omega arith) c.row.ensures c.loop-i.invariant.hits c.in_ok-add_unions.ensures.hits;
-  sets = AddsSetsOf-step c.row.result.now c.args.left.now c.args.right.now c.args.sets.now c.loop-i.sets c.add_unions.new.sets c.loop-i.i (omega arith) c.row.ensures c.loop-i.invariant.sets c.in_ok-add_unions.ensures.sets;
+  hits =
+      AddsBoth-step c.row.result.now c.args.left.now c.args.right.now c.args.sets.now c.loop-i.sets
+      c.add_unions.new.sets c.loop-i.i (omega arith) c.row.ensures c.loop-i.invariant.hits
+      c.in_ok-add_unions.ensures.hits;
+  sets =
+      AddsSetsOf-step c.row.result.now c.args.left.now c.args.right.now c.args.sets.now c.loop-i.sets
+      c.add_unions.new.sets c.loop-i.i (omega arith) c.row.ensures c.loop-i.invariant.sets
+      c.in_ok-add_unions.ensures.sets;
 }

@@ -5,16 +5,27 @@ use Rattle.cutset_lists.proofs.CutLemmas.{all_filled, all_rising, IsCutList-mini
 use Rattle.cutset_lists.proofs.cut_list.mcs_by_lists.Goals as goal
 
 pub cut_list-requires-clause-filled : goal.cut_list-requires-clause-filled
-cut_list-requires-clause-filled c = all_filled c.args.tree.now c.top_list.ensures.kept c.in_ok-top_list.field-0 c.in_ok-sets.sets c.in_ok-top_list.ensures.list c.in_ok-sets.ensures
+cut_list-requires-clause-filled c =
+    all_filled c.args.tree.now c.top_list.ensures.kept c.in_ok-top_list.field-0 c.in_ok-sets.sets
+    c.in_ok-top_list.ensures.list c.in_ok-sets.ensures
 
 pub cut_list-requires-clause-rising : goal.cut_list-requires-clause-rising
-cut_list-requires-clause-rising c = all_rising c.args.tree.now c.top_list.ensures.kept c.in_ok-top_list.field-0 c.in_ok-sets.sets c.in_ok-top_list.ensures.list c.in_ok-sets.ensures
+cut_list-requires-clause-rising c =
+    all_rising c.args.tree.now c.top_list.ensures.kept c.in_ok-top_list.field-0 c.in_ok-sets.sets
+    c.in_ok-top_list.ensures.list c.in_ok-sets.ensures
 
 pub returns-clause-cut_list : goal.returns-clause-cut_list
 returns-clause-cut_list c =
     IfOk-weaker c.cut_list.result (λ cuts. cuts ≡ c.in_ok-sets.sets) (IsCutList c.args.tree.now)
-    (λ cuts same. subst (IsCutList c.args.tree.now) (sym same) (IsCutList-minimal c.args.tree.now c.top_list.ensures.kept c.in_ok-top_list.field-0 c.in_ok-sets.sets c.in_ok-top_list.ensures.list c.in_ok-sets.ensures)) c.cut_list.ensures.cuts
+    (λ cuts same. subst (IsCutList c.args.tree.now) (sym same)
+    (IsCutList-minimal c.args.tree.now c.top_list.ensures.kept c.in_ok-top_list.field-0 c.in_ok-sets.sets
+    c.in_ok-top_list.ensures.list c.in_ok-sets.ensures)) c.cut_list.ensures.cuts
 
 pub returns-clause-limit : goal.returns-clause-limit
 returns-clause-limit c =
-    λ refused. (c.in_ok-sets.sets, IsCutList-minimal c.args.tree.now c.top_list.ensures.kept c.in_ok-top_list.field-0 c.in_ok-sets.sets c.in_ok-top_list.ensures.list c.in_ok-sets.ensures, c.cut_list.ensures.limit refused)
+    λ refused. (
+      c.in_ok-sets.sets,
+      IsCutList-minimal c.args.tree.now c.top_list.ensures.kept c.in_ok-top_list.field-0
+          c.in_ok-sets.sets c.in_ok-top_list.ensures.list c.in_ok-sets.ensures,
+      c.cut_list.ensures.limit refused,
+    )

@@ -9,6 +9,8 @@ use Rattle.cutset_lists.proofs.gate.gate_list.Goals as goal
 
 pub returns-in-Or : goal.returns-in-Or
 returns-in-Or c =
-    subst (λ (k : GateKind). IfOk c.some_of.result (Follows c.args.lists.now (gate_rule k c.args.inputs.now))) (sym c.in-Or.is)
-    (IfOk-weaker c.some_of.result (AddsSome c.args.lists.now c.args.inputs.now c.new.result) (Follows c.args.lists.now (gate_rule Or c.args.inputs.now))
+    subst (λ (k : GateKind). IfOk c.some_of.result (Follows c.args.lists.now (gate_rule k c.args.inputs.now)))
+    (sym c.in-Or.is)
+    (IfOk-weaker c.some_of.result (AddsSome c.args.lists.now c.args.inputs.now c.new.result)
+    (Follows c.args.lists.now (gate_rule Or c.args.inputs.now))
     (λ made adds. or_list c.args.lists.now c.args.inputs.now c.new.result made c.new.ensures adds) c.some_of.ensures)

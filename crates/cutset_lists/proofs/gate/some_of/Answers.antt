@@ -7,11 +7,14 @@ use Rattle.cutset_lists.proofs.gate.some_of.Goals as goal
 
 pub loop-node-preserved : goal.loop-node-preserved
 loop-node-preserved c =
-    AddsSome-step c.args.lists.now c.args.nodes.now c.loop-node.node-index c.node-item.result c.index.result c.index-lists-index.result (omega arith) c.node-item.is c.requires c.index.ensures c.index-lists-index.is
+    AddsSome-step c.args.lists.now c.args.nodes.now c.loop-node.node-index c.node-item.result c.index.result
+    c.index-lists-index.result (omega arith) c.node-item.is c.requires c.index.ensures c.index-lists-index.is
     c.args.sets c.loop-node.sets c.append.new.sets c.in_ok-append.ensures c.loop-node.invariant
 
 pub returns : goal.returns
 returns c =
-    IfOk-weaker c.reduced.result (IsReducedFrom c.loop-node.sets) (AddsSome c.args.lists.now c.args.nodes.now c.args.sets)
-    (λ made less. AddsSome-reduced c.args.lists.now c.args.nodes.now c.args.sets c.loop-node.sets made c.loop-node.node-index (omega arith) less c.loop-node.invariant)
+    IfOk-weaker c.reduced.result (IsReducedFrom c.loop-node.sets)
+    (AddsSome c.args.lists.now c.args.nodes.now c.args.sets)
+    (λ made less. AddsSome-reduced c.args.lists.now c.args.nodes.now c.args.sets c.loop-node.sets made
+    c.loop-node.node-index (omega arith) less c.loop-node.invariant)
     c.reduced.ensures

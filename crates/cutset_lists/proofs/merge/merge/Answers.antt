@@ -10,16 +10,29 @@ loop-i-preserved-then-number c =
     record {
       left_short = omega arith;
       right_short = omega arith;
-      merging = left_next c.args.left.now c.args.right.now c.loop-i.i c.loop-i.j c.loop-i.union.items c.push.new.self.items x y (omega arith) (omega arith) c.index-left-i.is c.index-right-j.is c.loop-i.invariant.merging c.in_ok-push.ensures.items below;
+      merging =
+          left_next c.args.left.now c.args.right.now c.loop-i.i c.loop-i.j c.loop-i.union.items c.push.new.self.items x
+          y (omega arith) (omega arith) c.index-left-i.is c.index-right-j.is c.loop-i.invariant.merging
+          c.in_ok-push.ensures.items below;
     }
 
 pub loop-i-preserved : goal.loop-i-preserved
 loop-i-preserved c =
     let x : ℕ = c.index-left-i.result in
     let y : ℕ = c.index-right-j.result in
-    let below : y < x = omega (arith, c.number.ensures.value, c.number-in-loop-i.ensures.value, c.number-else-number.ensures.value, c.number-else-number-2.ensures.value) in
+    let below : y < x =
+    omega (
+      arith,
+      c.number.ensures.value,
+      c.number-in-loop-i.ensures.value,
+      c.number-else-number.ensures.value,
+      c.number-else-number-2.ensures.value,
+    ) in
     record {
       left_short = omega arith;
       right_short = omega arith;
-      merging = right_next c.args.left.now c.args.right.now c.loop-i.i c.loop-i.j c.loop-i.union.items c.push-else-number.new.self.items x y (omega arith) (omega arith) c.index-left-i.is c.index-right-j.is c.loop-i.invariant.merging c.in_ok-push-2.ensures.items below;
+      merging =
+          right_next c.args.left.now c.args.right.now c.loop-i.i c.loop-i.j c.loop-i.union.items
+          c.push-else-number.new.self.items x y (omega arith) (omega arith) c.index-left-i.is c.index-right-j.is
+          c.loop-i.invariant.merging c.in_ok-push-2.ensures.items below;
     }

@@ -11,8 +11,12 @@ loop-cut-init c = subst (IsMinimalFrom []) (sym c.new-kept.ensures) (IsMinimalFr
 
 pub loop-cut-preserved : goal.loop-cut-preserved
 loop-cut-preserved c =
-    sifts_one units_of c.args.cuts.now c.loop-cut.kept c.keep_unless.new.kept c.cut-item.result c.loop-cut.cut-index c.has_smaller_within-found.result c.loop-cut-test.true c.cut-item.is c.requires c.loop-cut.invariant
+    sifts_one units_of c.args.cuts.now c.loop-cut.kept c.keep_unless.new.kept c.cut-item.result c.loop-cut.cut-index
+    c.has_smaller_within-found.result c.loop-cut-test.true c.cut-item.is c.requires c.loop-cut.invariant
     c.has_smaller_within-found.ensures c.in_ok-keep_unless.ensures
 
 pub returns : goal.returns
-returns c = subst (λ (l : List (List ℕ)). IsMinimalFrom l c.loop-cut.kept) (take_all c.loop-cut.cut-index (map units_of c.args.cuts.now) (omega (arith, length-map c.args.cuts.now units_of))) c.loop-cut.invariant
+returns c =
+    subst (λ (l : List (List ℕ)). IsMinimalFrom l c.loop-cut.kept)
+    (take_all c.loop-cut.cut-index (map units_of c.args.cuts.now)
+    (omega (arith, length-map c.args.cuts.now units_of))) c.loop-cut.invariant

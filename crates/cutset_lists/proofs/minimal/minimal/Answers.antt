@@ -9,4 +9,5 @@ use Rattle.cutset_lists.proofs.minimal.minimal.Goals as goal
 pub returns : goal.returns
 returns c =
     IsMinimalFrom-kept c.args.sets.now (map units_of c.in_ok-cuts.cuts.items) c.minimal_of.result c.in_ok-cuts.ensures
-    (subst (λ (l : List Cut). IfOk c.minimal_of.result (IsMinimalFrom (map units_of l))) c.as_slice.ensures.value c.minimal_of.ensures)
+    (subst (λ (l : List Cut). IfOk c.minimal_of.result (IsMinimalFrom (map units_of l))) c.as_slice.ensures.value
+    c.minimal_of.ensures)

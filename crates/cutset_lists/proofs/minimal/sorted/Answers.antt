@@ -12,7 +12,11 @@ use Rattle.cutset_lists.proofs.minimal.sorted.Goals as goal
 
 pub returns : goal.returns
 returns c =
-    let all : map units_of c.loop-i.cuts.items ≡ c.args.sets.now = c.loop-i.invariant ∙ take_all c.loop-i.i c.args.sets.now (omega arith) in
-    let left : c.dedup.new.self.items ≡ dedup (eq_by_cmp (on units_of cut_cmp)) c.sort.new.self.items = dedup_is (eq_by_cmp (on units_of cut_cmp)) c.sort.new.self.items c.dedup.new.self.items c.dedup.ensures.filtered in
+    let all : map units_of c.loop-i.cuts.items ≡ c.args.sets.now =
+    c.loop-i.invariant ∙ take_all c.loop-i.i c.args.sets.now (omega arith) in
+    let left : c.dedup.new.self.items ≡ dedup (eq_by_cmp (on units_of cut_cmp)) c.sort.new.self.items =
+    dedup_is (eq_by_cmp (on units_of cut_cmp)) c.sort.new.self.items c.dedup.new.self.items
+    c.dedup.ensures.filtered in
     subst (λ (l : List Cut). IsSortedFrom c.args.sets.now (map units_of l)) (sym left)
-    (IsSortedFrom-dedup units_of c.args.sets.now c.loop-i.cuts.items c.sort.new.self.items all c.in_ok-sort.ensures.permutation c.in_ok-sort.ensures.sorted)
+    (IsSortedFrom-dedup units_of c.args.sets.now c.loop-i.cuts.items c.sort.new.self.items all
+    c.in_ok-sort.ensures.permutation c.in_ok-sort.ensures.sorted)

@@ -2,7 +2,11 @@ use Rattle.cutset_lists.proofs.SetLemmas.{HitsBoth-alone, AreSetsAs-alone}
 use Rattle.cutset_lists.proofs.product.product.Goals as goal
 
 pub returns-clause-hits : goal.returns-clause-hits
-returns-clause-hits c = HitsBoth-alone c.args.left.now c.args.right.now c.new-sets.result c.add_product.new.sets c.new-sets.ensures c.in_ok-add_product.ensures.hits
+returns-clause-hits c =
+    HitsBoth-alone c.args.left.now c.args.right.now c.new-sets.result c.add_product.new.sets c.new-sets.ensures
+    c.in_ok-add_product.ensures.hits
 
 pub returns-clause-sets : goal.returns-clause-sets
-returns-clause-sets c = AreSetsAs-alone c.args.left.now c.args.right.now c.new-sets.result c.add_product.new.sets c.new-sets.ensures c.in_ok-add_product.ensures.sets
+returns-clause-sets c =
+    AreSetsAs-alone c.args.left.now c.args.right.now c.new-sets.result c.add_product.new.sets c.new-sets.ensures
+    c.in_ok-add_product.ensures.sets

@@ -15,8 +15,11 @@ loop-cut-init c = record {
 pub loop-cut-preserved : goal.loop-cut-preserved
 loop-cut-preserved c = record {
   minimal =
-      sifts_one units_of c.args.cuts.now c.loop-cut.kept c.keep_unless.new.kept c.cut-item.result c.loop-cut.cut-index c.in_ok-found.found c.loop-cut-test.true c.cut-item.is c.requires c.loop-cut.invariant.minimal
+      sifts_one units_of c.args.cuts.now c.loop-cut.kept c.keep_unless.new.kept c.cut-item.result c.loop-cut.cut-index
+      c.in_ok-found.found c.loop-cut-test.true c.cut-item.is c.requires c.loop-cut.invariant.minimal
       c.in_ok-found.ensures.found c.in_ok-keep_unless.ensures;
-  waiting = waits_on c.loop-cut.kept c.keep_unless.new.kept c.has_smaller.new.waiting.count c.has_smaller.new.waiting.at.items c.cut-item.result.units.now c.in_ok-found.found c.in_ok-found.ensures.waiting c.in_ok-keep_unless.ensures;
+  waiting =
+      waits_on c.loop-cut.kept c.keep_unless.new.kept c.has_smaller.new.waiting.count c.has_smaller.new.waiting.at.items
+      c.cut-item.result.units.now c.in_ok-found.found c.in_ok-found.ensures.waiting c.in_ok-keep_unless.ensures;
   marked = c.in_ok-found.ensures.marked;
 }

@@ -4,7 +4,8 @@ use Rattle.cutset_lists.proofs.sifting.unmark.Goals as goal
 
 pub loop-unit-preserved : goal.loop-unit-preserved
 loop-unit-preserved c =
-    marks_fewer c.args.set.now c.loop-unit.marked c.remove-there.new.self c.unit-item.result c.loop-unit.unit-index c.unit-item.result c.loop-unit-test.true c.unit-item.is c.loop-unit.invariant c.remove-there.ensures.after
+    marks_fewer c.args.set.now c.loop-unit.marked c.remove-there.new.self c.unit-item.result c.loop-unit.unit-index
+    c.unit-item.result c.loop-unit-test.true c.unit-item.is c.loop-unit.invariant c.remove-there.ensures.after
 
 pub returns : goal.returns
 returns c = all_taken_out c.args.set.now c.loop-unit.marked c.loop-unit.unit-index (omega arith) c.loop-unit.invariant

@@ -4,4 +4,5 @@ use Rattle.unit_sets.specs.UnitList.{among}
 use Rattle.cutset_lists.proofs.sifting.unmark.Given as goal
 
 abbrev pub invariant-loop-unit : goal.invariant-loop-unit
-invariant-loop-unit l = (other : ℕ) → among l.marked other ≡ (among l.set other && not (among (take l.unit-index l.set) other))
+invariant-loop-unit l =
+    (other : ℕ) → among l.marked other ≡ (among l.set other && not (among (take l.unit-index l.set) other))

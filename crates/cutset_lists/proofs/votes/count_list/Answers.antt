@@ -6,5 +6,8 @@ pub loop-at-preserved : goal.loop-at-preserved
 loop-at-preserved c = record {
   above = omega arith;
   within = omega arith;
-  counted = CountsList-step c.args.list.now c.args.counts.now.items c.loop-at.counts.items c.count_more.new.counts.items c.loop-at.at _ (omega arith) (omega arith) (omega arith) c.loop-at.invariant.counted c.in_ok-count_more.ensures;
+  counted =
+      CountsList-step c.args.list.now c.args.counts.now.items c.loop-at.counts.items c.count_more.new.counts.items
+      c.loop-at.at _ (omega arith) (omega arith) (omega arith) c.loop-at.invariant.counted
+      c.in_ok-count_more.ensures;
 }

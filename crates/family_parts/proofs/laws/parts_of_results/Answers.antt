@@ -8,10 +8,14 @@ use Rattle.family_parts.specs.VotesParts.{votes-parts}
 use Rattle.family_parts.proofs.laws.parts_of_results.Goals as goal
 
 pub returns-clause-union : goal.returns-clause-union
-returns-clause-union c = λ low size f g h part s t is reached. origin-cases (IsDueToUnion f g part) f g part (union-parts size low f g h part s t is reached)
+returns-clause-union c =
+    λ low size f g h part s t is reached. origin-cases (IsDueToUnion f g part) f g part
+    (union-parts size low f g h part s t is reached)
 
 pub returns-clause-product : goal.returns-clause-product
-returns-clause-product c = λ low size f g h part s t is reached. origin-cases (IsDueToProduct f g part) f g part (product-parts size low f g h part s t is reached)
+returns-clause-product c =
+    λ low size f g h part s t is reached. origin-cases (IsDueToProduct f g part) f g part
+    (product-parts size low f g h part s t is reached)
 
 pub returns-clause-without : goal.returns-clause-without
 returns-clause-without c = λ low size f g h part s t is reached. without-parts size low f g h part s t is reached
@@ -20,4 +24,5 @@ pub returns-clause-minimal : goal.returns-clause-minimal
 returns-clause-minimal c = λ low size f least part s is reached. minimal-parts size low f least part s is reached
 
 pub returns-clause-votes : goal.returns-clause-votes
-returns-clause-votes c = λ low size count families h part each is reached. votes-parts low size count families part h each is reached
+returns-clause-votes c =
+    λ low size count families h part each is reached. votes-parts low size count families part h each is reached

@@ -18,4 +18,5 @@ pub returns-clause-minimal : goal.returns-clause-minimal
 returns-clause-minimal c = λ low size f s. let found = minimal-exists size low f s in (found.least, found.is)
 
 pub returns-clause-votes : goal.returns-clause-votes
-returns-clause-votes c = λ low size count families each. let found = votes-exist low size families each count in (found.votes, found.is)
+returns-clause-votes c =
+    λ low size count families each. let found = votes-exist low size families each count in (found.votes, found.is)

@@ -9,4 +9,6 @@ pub returns-clause-step : goal.returns-clause-step
 returns-clause-step c = λ tree order. step-reads tree order tree.top
 
 pub returns-clause-failing : goal.returns-clause-failing
-returns-clause-failing c = λ tree order fails. step-reads tree order tree.top (and_parts (is_admissible tree order) (is_some (step tree order tree.top)) fails).1
+returns-clause-failing c =
+    λ tree order fails. step-reads tree order tree.top
+    (and_parts (is_admissible tree order) (is_some (step tree order tree.top)) fails).1

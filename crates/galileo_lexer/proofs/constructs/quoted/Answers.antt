@@ -14,5 +14,7 @@ pub loop-end-preserved : goal.loop-end-preserved
 loop-end-preserved c = record {
   in_text = omega arith;
   begun = omega arith;
-  same = c.loop-end.invariant.same ∙ quotes_more c.args.start c.loop-end.end c.args.text.now c.loop-end-test.true (ne_eqb _ _ c.if-byte-eq-QUOTE.false) (sym c.if-not-is_quotable.ensures);
+  same =
+      c.loop-end.invariant.same ∙ quotes_more c.args.start c.loop-end.end c.args.text.now c.loop-end-test.true
+      (ne_eqb _ _ c.if-byte-eq-QUOTE.false) (sym c.if-not-is_quotable.ensures);
 }

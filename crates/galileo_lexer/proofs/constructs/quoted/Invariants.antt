@@ -7,7 +7,8 @@ abbrev pub invariant-loop-end : goal.invariant-loop-end
 invariant-loop-end l = record {
   in_text : l.end ≤ length l.text;
   begun : l.start.offset < l.end;
-  same : lexed Between l.start (drop l.start.offset l.text) ≡ lexed (InQuotes l.start) (along l.start l.end) (drop l.end l.text);
+  same : lexed Between l.start (drop l.start.offset l.text)
+      ≡ lexed (InQuotes l.start) (along l.start l.end) (drop l.end l.text);
 }
 
 abbrev pub decreases-loop-end : goal.decreases-loop-end

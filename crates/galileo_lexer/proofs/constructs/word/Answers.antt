@@ -13,5 +13,7 @@ pub loop-end-preserved : goal.loop-end-preserved
 loop-end-preserved c = record {
   in_text = omega arith;
   begun = omega arith;
-  same = c.loop-end.invariant.same ∙ word_more c.args.start c.loop-end.end c.args.text.now c.loop-end-test.true (sym c.if-is_word_byte.ensures);
+  same =
+      c.loop-end.invariant.same ∙ word_more c.args.start c.loop-end.end c.args.text.now c.loop-end-test.true
+      (sym c.if-is_word_byte.ensures);
 }

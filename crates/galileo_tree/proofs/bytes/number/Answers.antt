@@ -6,4 +6,9 @@ pub overflow_mul-number : goal.overflow_mul-number
 overflow_mul-number c = omega (arith, room _ _ _ c.loop-digit.invariant.small c.loop-digit-test.true c.requires.few)
 
 pub overflow_add-number : goal.overflow_add-number
-overflow_add-number c = omega (arith, room _ _ _ c.loop-digit.invariant.small c.loop-digit-test.true c.requires.few, digit_at _ _ c.requires.digits c.loop-digit-test.true)
+overflow_add-number c =
+    omega (
+      arith,
+      room _ _ _ c.loop-digit.invariant.small c.loop-digit-test.true c.requires.few,
+      digit_at _ _ c.requires.digits c.loop-digit-test.true,
+    )

@@ -13,7 +13,11 @@ returns-in-Ok-None c =
     let next = rw c.in-Ok-None.field-0-is at (c.in-Ok-None.ensures.next name (before ++ c.in-Ok.read ∷ [])) in
     rw c.in_ok-push.ensures.added
     (closes_basic _ _ c.attribute.new.reader _ (record { name = name; attributes = before ++ c.in-Ok.read ∷ [] })
-    (record { same = c.loop-read.invariant.same ∙ value.same; fewer = omega (arith, value.fewer, c.loop-read.invariant.fewer) })
+    (record {
+      same = c.loop-read.invariant.same ∙ value.same;
+      fewer =
+          omega (arith, value.fewer, c.loop-read.invariant.fewer);
+    })
     next
     (All-push HasBareWord before c.in-Ok.read c.loop-read.invariant.form c.in-Ok.ensures.form))
 

@@ -16,6 +16,7 @@ returns-then-is_bare c =
     elim c.match-name.branch [
       | in-Ok-name w ↦
           rw (w.result-is, w.reader-is)
-          (reads_after first (AttributeEquals c.args.name [] word.text) _ _ _ goes _ (rw (w.basic.ensures, w.in-Ok-name.ensures.name) at w.attributes.ensures))
+          (reads_after first (AttributeEquals c.args.name [] word.text) _ _ _ goes _
+          (rw (w.basic.ensures, w.in-Ok-name.ensures.name) at w.attributes.ensures))
       | in-Err-name w ↦ rw (w.result-is, w.in-Err-name.ensures.memory) tt
     ]

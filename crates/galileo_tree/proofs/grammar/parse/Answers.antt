@@ -10,6 +10,8 @@ loop-first-preserved c =
     let takes = rw c.in-Ok-Some.field-0-is at c.in-Ok-Some.ensures in
     rw c.in_ok-push.ensures.added
     (record {
-      same = front_grows (parsed_text c.args.text.now) c.loop-first.statements _ _ _ c.in-Ok-Some.first c.in-Ok.read c.loop-first.invariant.same takes c.in-Ok.ensures;
+      same =
+          front_grows (parsed_text c.args.text.now) c.loop-first.statements _ _ _ c.in-Ok-Some.first c.in-Ok.read
+          c.loop-first.invariant.same takes c.in-Ok.ensures;
       form = All-push KeepsForm c.loop-first.statements c.in-Ok.read c.loop-first.invariant.form c.in-Ok.ensures.form;
     })

@@ -10,4 +10,5 @@ returns-clause-reading c = λ text. sound (lexemes_of text)
 
 pub returns-clause-form : goal.returns-clause-form
 returns-clause-form c = λ text read parsed.
-    kept_forms read.statements (lexemes_of text).lexemes (subst (IsReading (lexemes_of text)) parsed (sound (lexemes_of text))).0
+    kept_forms read.statements (lexemes_of text).lexemes
+    (subst (IsReading (lexemes_of text)) parsed (sound (lexemes_of text))).0

@@ -12,5 +12,7 @@ new-requires-in-Word c =
     let token = c.args.token in
     record {
       inside = rest_reaches text token.start token.end c.requires.in_text c.requires.some;
-      form = plain_rest text token.kind token.start token.end c.in-Word.is c.requires.in_text c.requires.some c.requires.spelling;
+      form =
+          plain_rest text token.kind token.start token.end c.in-Word.is c.requires.in_text c.requires.some
+          c.requires.spelling;
     }

@@ -7,4 +7,5 @@ returns-clause-both c = λ x f f0 f1 g g0 g1 lo all hi a b cut cut' left is of_f
 
 pub returns-clause-first : goal.returns-clause-first
 returns-clause-first c = λ x f f0 f1 g lo all hi cut above is is' left.
-    least_product-first x f f0 f1 g lo cut hi above all is is' (least_product-rest x f f0 f1 g lo cut all is is' hi left)
+    least_product-first x f f0 f1 g lo cut hi above all is is'
+    (least_product-rest x f f0 f1 g lo cut all is is' hi left)

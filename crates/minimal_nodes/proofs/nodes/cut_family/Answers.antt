@@ -7,7 +7,8 @@ use Rattle.minimal_nodes.proofs.nodes.cut_family.Goals as goal
 pub returns-then-number-units-clause-gives : goal.returns-then-number-units-clause-gives
 returns-then-number-units-clause-gives c =
     let is_gate : IsGateOf c.args.tree.now c.args.node = (omega arith, c.requires.node.1) in
-    gate_node c.args.tree.now c.units.ensures.kept c.args.node c.requires.node (families c.args.memory.now c.args.list.now) c.requires.stand c.args.memory.now c.make_gate.new.memory
+    gate_node c.args.tree.now c.units.ensures.kept c.args.node c.requires.node
+    (families c.args.memory.now c.args.list.now) c.requires.stand c.args.memory.now c.make_gate.new.memory
     c.kind.result c.kind.ensures is_gate c.make_gate.result c.make_gate.ensures.gives
 
 pub returns-clause-gives : goal.returns-clause-gives
@@ -16,5 +17,6 @@ returns-clause-gives c =
     let is_unit : IsUnitOf c.args.tree.now node = (c.requires.node.0, omega arith) in
     let few = c.units.ensures.kept.few_units in
     let same : c.in-Some.unit ≡ node = let value = c.in-Some.ensures.value in omega (arith, few, value) in
-    unit_node c.args.tree.now c.units.ensures.kept node c.requires.node (families c.args.memory.now c.args.list.now) c.requires.stand c.args.memory.now c.make_unit.new.memory
+    unit_node c.args.tree.now c.units.ensures.kept node c.requires.node (families c.args.memory.now c.args.list.now)
+    c.requires.stand c.args.memory.now c.make_unit.new.memory
     c.in-Some.unit same is_unit c.make_unit.result c.make_unit.ensures.gives

@@ -5,4 +5,6 @@ use Rattle.replay_semantics.specs.StepGrowth.{step-grows}
 use Rattle.replay_semantics.proofs.laws.failures_stay.Goals as goal
 
 pub returns : goal.returns
-returns c = λ tree order unit node number is. grows-stays (suc (length order)) number (step tree order node) (step tree (order ++ unit ∷ []) node) ((step-grows tree order unit).each node) is
+returns c =
+    λ tree order unit node number is. grows-stays (suc (length order)) number (step tree order node)
+    (step tree (order ++ unit ∷ []) node) ((step-grows tree order unit).each node) is

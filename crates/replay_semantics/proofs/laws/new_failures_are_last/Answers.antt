@@ -5,4 +5,6 @@ use Rattle.replay_semantics.specs.StepGrowth.{step-grows}
 use Rattle.replay_semantics.proofs.laws.new_failures_are_last.Goals as goal
 
 pub returns : goal.returns
-returns c = λ tree order unit node was some. grows-new (suc (length order)) (step tree order node) (step tree (order ++ unit ∷ []) node) ((step-grows tree order unit).each node) was some
+returns c =
+    λ tree order unit node was some. grows-new (suc (length order)) (step tree order node)
+    (step tree (order ++ unit ∷ []) node) ((step-grows tree order unit).each node) was some

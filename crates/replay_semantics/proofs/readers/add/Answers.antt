@@ -11,6 +11,7 @@ returns c =
     on_ok_weaker c.push.result (λ (pushed : c.push.new.self ≡ row ++ c.args.reader ∷ []).
     let short : c.number-place.result < length c.args.lists.now = omega arith in
     let is : row ≡ readers_in c.args.lists.now c.args.node =
-    get_or_default c.args.lists.now c.number-place.result c.index-lists-place-2.result [] short ∙ ap (readers_in c.args.lists.now) c.number-place.ensures in
+    get_or_default c.args.lists.now c.number-place.result c.index-lists-place-2.result [] short
+    ∙ ap (readers_in c.args.lists.now) c.number-place.ensures in
     rw (pushed, is, c.number-place.ensures)
     (one_more c.args.lists.now c.args.node c.args.reader c.requires)) c.push.ensures.added

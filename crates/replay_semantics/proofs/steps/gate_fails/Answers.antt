@@ -28,5 +28,6 @@ returns-in-Or c =
 pub returns-in-Votes : goal.returns-in-Votes
 returns-in-Votes c =
     ap (nat_le c.in-Votes.least) c.count_failed.ensures
-    ∙ sym (votes-some (step_in c.args.steps.now) c.in-Votes.least c.args.inputs.now (subst AsksSome c.in-Votes.is c.requires.some))
+    ∙ sym (votes-some (step_in c.args.steps.now) c.in-Votes.least c.args.inputs.now
+    (subst AsksSome c.in-Votes.is c.requires.some))
     ∙ ap (λ (kind : GateKind). gate_fails kind (step_in c.args.steps.now) c.args.inputs.now) (sym c.in-Votes.is)

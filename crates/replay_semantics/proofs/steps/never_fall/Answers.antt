@@ -10,5 +10,7 @@ pub returns-in-len1-up : goal.returns-in-len1-up
 returns-in-len1-up c =
     c.fall_not_after.ensures
     ∙ ap (falls_not_after (step_in c.args.steps.now) c.step_of.result) (take_rest c.args.nodes.now 1)
-    ∙ ap (λ (before : Step). falls_not_after (step_in c.args.steps.now) before (drop 1 c.args.nodes.now)) c.step_of.ensures
-    ∙ sym (never_falls-first (step_in c.args.steps.now) c.args.nodes.now c.first-item.result c.in-len1-up.len_at_least c.first-item.is)
+    ∙ ap (λ (before : Step). falls_not_after (step_in c.args.steps.now) before (drop 1 c.args.nodes.now))
+    c.step_of.ensures
+    ∙ sym (never_falls-first (step_in c.args.steps.now) c.args.nodes.now c.first-item.result c.in-len1-up.len_at_least
+    c.first-item.is)

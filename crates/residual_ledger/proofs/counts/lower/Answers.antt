@@ -38,7 +38,9 @@ loop-place-preserved c =
     get_or_read least (place / block_size) c.index.result.now there c.index.ensures 0 in
     elim c.if-left-index.branch [
       | then-left-index w ↦ rw w.blocks-is
-          (lowering-low row c.args.counts.now counts least lowest i place left falls (omega (arith, value)) c.loop-place.invariant)
+          (lowering-low row c.args.counts.now counts least lowest i place left falls (omega (arith, value))
+          c.loop-place.invariant)
       | else-left-index w ↦ rw w.blocks-is
-          (lowering-high row c.args.counts.now counts least lowest i place left falls (omega (arith, value)) c.loop-place.invariant)
+          (lowering-high row c.args.counts.now counts least lowest i place left falls (omega (arith, value))
+          c.loop-place.invariant)
     ]

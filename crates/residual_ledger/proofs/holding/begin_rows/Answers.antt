@@ -8,8 +8,12 @@ loop-number-init c = beginning-first c.args.ends.now
 pub overflow_add-start : goal.overflow_add-start
 overflow_add-start c =
     let l = c.loop-number in
-    let low : l.start + get_or l.ends l.number 0 ≤ 68719476736 = beginning-room c.args.ends.now l.ends l.start l.number (omega arith) c.requires.few c.requires.small l.invariant in
+    let low : l.start + get_or l.ends l.number 0 ≤ 68719476736 =
+    beginning-room c.args.ends.now l.ends l.start l.number (omega arith) c.requires.few c.requires.small
+    l.invariant in
     omega arith
 
 pub loop-number-preserved : goal.loop-number-preserved
-loop-number-preserved c = beginning-more c.args.ends.now c.loop-number.ends c.loop-number.start c.loop-number.number (omega arith) c.loop-number.invariant
+loop-number-preserved c =
+    beginning-more c.args.ends.now c.loop-number.ends c.loop-number.start c.loop-number.number (omega arith)
+    c.loop-number.invariant

@@ -4,30 +4,39 @@ use Rattle.unit_sets.specs.CutOrder.{cut_at as set_at}
 use Rattle.residual_ledger.specs.Kept.{IsOneMore}
 use Rattle.residual_ledger.proofs.CutLemmas.{cut_at-is}
 use Rattle.residual_ledger.specs.Ledger.{few_cuts}
-use Rattle.residual_ledger.proofs.FillingLemmas.{IsCountingFor, counting-first, counting-le, counting_for-more, known_members}
+use Rattle.residual_ledger.proofs.FillingLemmas.{IsCountingFor, counting-first, counting-le, counting_for-more}
+use Rattle.residual_ledger.proofs.FillingLemmas.{known_members}
 use Rattle.residual_ledger.proofs.holding.count_sets.Goals as goal
 
 pub loop-place-init : goal.loop-place-init
 loop-place-init c =
     let zeros : c.in_ok-sizes.sizes.items ≡ replicate (c.args.units + 1) 0 = search rules in
     subst (IsCountingFor c.args.units c.args.cuts.now 0) (sym zeros)
-    (record { long = length-replicate (c.args.units + 1) 0; counted = counting-first c.args.cuts.now (c.args.units + 1) })
+    (record {
+      long = length-replicate (c.args.units + 1) 0;
+      counted =
+          counting-first c.args.cuts.now (c.args.units + 1);
+    })
 
 pub count_members-requires-clause-rising : goal.count_members-requires-clause-rising
-count_members-requires-clause-rising c = (set_at c.args.cuts.now c.loop-place.place c.members.result.now c.members.ensures.ordered c.members.ensures.value).rising
+count_members-requires-clause-rising c =
+    (set_at c.args.cuts.now c.loop-place.place c.members.result.now c.members.ensures.ordered
+    c.members.ensures.value).rising
 
 pub count_members-requires-clause-known : goal.count_members-requires-clause-known
 count_members-requires-clause-known c =
     let cuts = c.args.cuts.now in
     let long : length c.as_mut_slice.result.now ≡ c.args.units + 1 = omega (arith, c.loop-place.invariant.long) in
-    known_members c.args.units cuts c.loop-place.place c.members.result.now c.as_mut_slice.result.now c.requires.known (omega arith)
+    known_members c.args.units cuts c.loop-place.place c.members.result.now c.as_mut_slice.result.now c.requires.known
+    (omega arith)
     (cut_at-is cuts c.loop-place.place c.members.result.now c.members.ensures.value) long
 
 pub count_members-requires-clause-room : goal.count_members-requires-clause-room
 count_members-requires-clause-room c =
     let cuts = c.args.cuts.now in
     rw c.as_mut_slice.ensures.value
-    (counting-le cuts c.loop-place.place 16777216 c.loop-place.sizes.items (omega (arith, few_cuts cuts, c.requires.ordered.within)) c.loop-place.invariant.counted)
+    (counting-le cuts c.loop-place.place 16777216 c.loop-place.sizes.items
+    (omega (arith, few_cuts cuts, c.requires.ordered.within)) c.loop-place.invariant.counted)
 
 pub loop-place-preserved : goal.loop-place-preserved
 loop-place-preserved c =
@@ -36,8 +45,11 @@ loop-place-preserved c =
     let new : List ℕ = c.count_members.new.sizes in
     let old : List ℕ = c.loop-place.sizes.items in
     let size = c.loop-place.sizes.len in
-    let more : IsOneMore c.members.result.now old new = subst (λ (was : List ℕ). IsOneMore c.members.result.now was new) c.as_mut_slice.ensures.value c.count_members.ensures in
+    let more : IsOneMore c.members.result.now old new =
+    subst (λ (was : List ℕ). IsOneMore c.members.result.now was new) c.as_mut_slice.ensures.value
+    c.count_members.ensures in
     let long : length new ≡ size = omega (arith, more.long) in
     let whole : take size (new ++ drop (length new) old) ≡ new = take_at new (drop (length new) old) size long in
     subst (IsCountingFor c.args.units cuts (place + 1)) (sym whole)
-    (counting_for-more c.args.units cuts place c.members.result.now old new (cut_at-is cuts place c.members.result.now c.members.ensures.value) more c.loop-place.invariant)
+    (counting_for-more c.args.units cuts place c.members.result.now old new
+    (cut_at-is cuts place c.members.result.now c.members.ensures.value) more c.loop-place.invariant)

@@ -4,4 +4,5 @@ use Rattle.tree_check.specs.TreeOf.{numbers}
 use Rattle.tree_check.proofs.assembly.input_lists.Given as goal
 
 abbrev pub invariant-loop-gate : goal.invariant-loop-gate
-invariant-loop-gate l = l.lists ≡ map (λ gate. numbers (kept_inputs l.units (kinds l.gates) gate)) (take l.gate-index l.gates)
+invariant-loop-gate l =
+    l.lists ≡ map (λ gate. numbers (kept_inputs l.units (kinds l.gates) gate)) (take l.gate-index l.gates)

@@ -6,4 +6,5 @@ use Rattle.tree_check.proofs.assembly.kept_inputs.Given as goal
 
 abbrev pub invariant-loop-input : goal.invariant-loop-input
 invariant-loop-input l =
-    l.list ≡ numbers (filter (λ input. not (l.drops && is_fdep_in l.units (kinds l.gates) input.number)) (take l.input-index l.gate.inputs))
+    l.list ≡ numbers (filter (λ input. not (l.drops && is_fdep_in l.units (kinds l.gates) input.number))
+    (take l.input-index l.gate.inputs))

@@ -11,26 +11,33 @@ pub assemble-requires-clause-deck : goal.assemble-requires-clause-deck
 assemble-requires-clause-deck c = rw c.into_statements.ensures.statements c.in_ok-examined.ensures.examined.deck
 
 pub assemble-requires-clause-inputs : goal.assemble-requires-clause-inputs
-assemble-requires-clause-inputs c = deck_within c.args.raw.statements c.in_ok-examined.examined.deck c.in_ok-examined.ensures.examined.deck
+assemble-requires-clause-inputs c =
+    deck_within c.args.raw.statements c.in_ok-examined.examined.deck c.in_ok-examined.ensures.examined.deck
 
 pub assemble-requires-clause-top : goal.assemble-requires-clause-top
 assemble-requires-clause-top c =
-    deck_top c.args.raw.statements c.in_ok-examined.examined.deck c.in_ok-examined.ensures.examined.deck c.in_ok-examined.ensures.examined.before.1.1.1.0
+    deck_top c.args.raw.statements c.in_ok-examined.examined.deck c.in_ok-examined.ensures.examined.deck
+    c.in_ok-examined.ensures.examined.before.1.1.1.0
 
 pub assemble-requires-clause-few_units : goal.assemble-requires-clause-few_units
 assemble-requires-clause-few_units c =
-    deck_few_units c.args.raw.statements c.in_ok-examined.examined.deck c.in_ok-examined.ensures.examined.deck c.in_ok-examined.ensures.examined.after.0
+    deck_few_units c.args.raw.statements c.in_ok-examined.examined.deck c.in_ok-examined.ensures.examined.deck
+    c.in_ok-examined.ensures.examined.after.0
 
 pub assemble-requires-clause-few_gates : goal.assemble-requires-clause-few_gates
 assemble-requires-clause-few_gates c =
-    deck_few_gates c.args.raw.statements c.in_ok-examined.examined.deck c.in_ok-examined.ensures.examined.deck c.in_ok-examined.ensures.examined.after.1.0
+    deck_few_gates c.args.raw.statements c.in_ok-examined.examined.deck c.in_ok-examined.ensures.examined.deck
+    c.in_ok-examined.ensures.examined.after.1.0
 
 pub new-requires : goal.new-requires
 new-requires c =
-    let form : All KeepsForm c.args.raw.statements = subst (λ r. All KeepsForm r.statements) c.raw.view_is c.raw.invariant in (
+    let form : All KeepsForm c.args.raw.statements =
+    subst (λ r. All KeepsForm r.statements) c.raw.view_is c.raw.invariant in (
       drop 1 c.in_ok-examined.examined.ranks.items,
-      subst IsTree (sym (c.in_ok-parts.ensures (drop 1 c.in_ok-examined.examined.ranks.items) ∙ ap (λ s. tree_of s (drop 1 c.in_ok-examined.examined.ranks.items)) c.into_statements.ensures.statements))
-          (IsTree-faultless c.args.raw (drop 1 c.in_ok-examined.examined.ranks.items) form c.in_ok-examined.ensures.examined.once
+      subst IsTree (sym (c.in_ok-parts.ensures (drop 1 c.in_ok-examined.examined.ranks.items)
+          ∙ ap (λ s. tree_of s (drop 1 c.in_ok-examined.examined.ranks.items)) c.into_statements.ensures.statements))
+          (IsTree-faultless c.args.raw (drop 1 c.in_ok-examined.examined.ranks.items) form
+          c.in_ok-examined.ensures.examined.once
           c.in_ok-examined.ensures.examined.before c.in_ok-examined.ensures.examined.after
           c.in_ok-examined.ensures.examined.ranks.all c.in_ok-examined.ensures.examined.ranks.ranked),
     )
@@ -42,5 +49,7 @@ returns-clause-tree c = record {
     acyclic = c.in_ok-examined.ensures.examined.acyclic;
     after = c.in_ok-examined.ensures.examined.after;
   };
-  is = c.in_ok-tree.ensures ∙ (c.in_ok-parts.ensures c.in_ok-tree.tree.ranks ∙ ap (λ s. tree_of s c.in_ok-tree.tree.ranks) c.into_statements.ensures.statements);
+  is =
+      c.in_ok-tree.ensures ∙ (c.in_ok-parts.ensures c.in_ok-tree.tree.ranks
+      ∙ ap (λ s. tree_of s c.in_ok-tree.tree.ranks) c.into_statements.ensures.statements);
 }

@@ -8,4 +8,5 @@ pub returns-in-Err-clause-fault : goal.returns-in-Err-clause-fault
 returns-in-Err-clause-fault c =
     top_refused c.args.raw.now c.in-Err.fault
     (subst (λ e. FirstIn (top_classes c.args.raw.now.statements e) c.in-Err.fault) c.end.ensures
-    (subst (λ t. FirstIn (top_classes t c.end.result) c.in-Err.fault) c.statements.ensures.statements c.in-Err.ensures.fault))
+    (subst (λ t. FirstIn (top_classes t c.end.result) c.in-Err.fault) c.statements.ensures.statements
+    c.in-Err.ensures.fault))

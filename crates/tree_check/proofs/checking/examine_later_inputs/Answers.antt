@@ -8,4 +8,5 @@ check_later_inputs-requires-clause-numbers c =
 
 pub returns-in-Err-clause-fault : goal.returns-in-Err-clause-fault
 returns-in-Err-clause-fault c =
-    later_refused c.args.raw.now c.args.deck c.requires.deck.is c.deref.result.now c.deref.ensures.value c.requires.passed c.in-Err.fault c.in-Err.ensures.fault
+    later_refused c.args.raw.now c.args.deck c.requires.deck.is c.deref.result.now c.deref.ensures.value
+    c.requires.passed c.in-Err.fault c.in-Err.ensures.fault

@@ -5,4 +5,5 @@ use Rattle.tree_check.proofs.gates.are_fdeps.Given as goal
 
 abbrev pub invariant-loop-input : goal.invariant-loop-input
 invariant-loop-input l =
-    is_empty (kept_by true (is_fdep_in l.units (kinds l.gates)) (drop l.input-index l.inputs)) ≡ is_empty (kept_by true (is_fdep_in l.units (kinds l.gates)) l.inputs)
+    is_empty (kept_by true (is_fdep_in l.units (kinds l.gates)) (drop l.input-index l.inputs))
+    ≡ is_empty (kept_by true (is_fdep_in l.units (kinds l.gates)) l.inputs)

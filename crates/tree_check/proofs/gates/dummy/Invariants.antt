@@ -6,4 +6,5 @@ use Rattle.tree_check.proofs.gates.dummy.Given as goal
 
 abbrev pub invariant-loop-gate : goal.invariant-loop-gate
 invariant-loop-gate l =
-    first (flat_map (dummies_in (is_fdep_in l.units (kinds l.gates))) (drop l.gate-index l.gates)) ≡ first (dummies l.units l.gates)
+    first (flat_map (dummies_in (is_fdep_in l.units (kinds l.gates))) (drop l.gate-index l.gates))
+    ≡ first (dummies l.units l.gates)

@@ -5,4 +5,5 @@ use Rattle.tree_check.proofs.gates.inputless.Given as goal
 
 abbrev pub invariant-loop-gate : goal.invariant-loop-gate
 invariant-loop-gate l =
-    first (map (λ gate. gate.word) (filter (reads_nothing l.units (kinds l.gates)) (drop l.gate-index l.gates))) ≡ first (inputless l.units l.gates)
+    first (map (λ gate. gate.word) (filter (reads_nothing l.units (kinds l.gates)) (drop l.gate-index l.gates)))
+    ≡ first (inputless l.units l.gates)

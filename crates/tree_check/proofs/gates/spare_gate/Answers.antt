@@ -6,6 +6,7 @@ use Rattle.tree_check.proofs.gates.spare_gate.Goals as goal
 
 pub loop-gate-preserved : goal.loop-gate-preserved
 loop-gate-preserved c =
-    none_of c.args.gates.now c.loop-gate.gate-index c.gate-item.result (gates_after_first is_spare_kind c.args.units) c.loop-gate-test.true c.gate-item.is
+    none_of c.args.gates.now c.loop-gate.gate-index c.gate-item.result (gates_after_first is_spare_kind c.args.units)
+    c.loop-gate-test.true c.gate-item.is
     (sym c.spare_in.ensures ∙ none_from_no_some c.spare_in.result c.in_default.not-Some)
     ∙ c.loop-gate.invariant

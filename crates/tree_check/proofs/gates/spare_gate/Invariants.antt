@@ -6,4 +6,5 @@ use Rattle.tree_check.proofs.gates.spare_gate.Given as goal
 
 abbrev pub invariant-loop-gate : goal.invariant-loop-gate
 invariant-loop-gate l =
-    first (flat_map (gates_after_first is_spare_kind l.units) (drop l.gate-index l.gates)) ≡ first (flat_map (gates_after_first is_spare_kind l.units) l.gates)
+    first (flat_map (gates_after_first is_spare_kind l.units) (drop l.gate-index l.gates))
+    ≡ first (flat_map (gates_after_first is_spare_kind l.units) l.gates)

@@ -11,4 +11,5 @@ returns-then-number-eq0-clause-fault c =
     (refl, ap first (unknown c.args.index.now c.args.used.now zero_number))
 
 pub returns-clause-known : goal.returns-clause-known
-returns-clause-known c = known c.args.index.now c.args.used.now (λ none. c.if-number-eq0.false (c.number-number.ensures ∙ none))
+returns-clause-known c =
+    known c.args.index.now c.args.used.now (λ none. c.if-number-eq0.false (c.number-number.ensures ∙ none))

@@ -13,7 +13,8 @@ loop-gate-init c = record {
 
 pub returns-in-Some : goal.returns-in-Some
 returns-in-Some c =
-    sym (clash_here c.args.gates.now c.loop-gate.gate-index c.gate-item.result c.loop-gate-test.true c.gate-item.is c.loop-gate.table.uses.items c.in-Some.place (sym c.in-Some.ensures.clash))
+    sym (clash_here c.args.gates.now c.loop-gate.gate-index c.gate-item.result c.loop-gate-test.true c.gate-item.is
+    c.loop-gate.table.uses.items c.in-Some.place (sym c.in-Some.ensures.clash))
     ∙ c.loop-gate.invariant.rest
 
 pub loop-gate-preserved : goal.loop-gate-preserved
@@ -21,5 +22,8 @@ loop-gate-preserved c =
     let none = none_from_no_some c.clash_at.result c.in_default.not-Some in
     record {
       room = c.clash_at.ensures.room ∙ c.loop-gate.invariant.room;
-      rest = next_gate c.args.gates.now c.loop-gate.gate-index c.gate-item.result c.loop-gate-test.true c.gate-item.is c.loop-gate.table.uses.items c.clash_at.new.self.uses.items (sym c.clash_at.ensures.clash ∙ none) (c.clash_at.ensures.table none) ∙ c.loop-gate.invariant.rest;
+      rest =
+          next_gate c.args.gates.now c.loop-gate.gate-index c.gate-item.result c.loop-gate-test.true c.gate-item.is
+          c.loop-gate.table.uses.items c.clash_at.new.self.uses.items (sym c.clash_at.ensures.clash ∙ none)
+          (c.clash_at.ensures.table none) ∙ c.loop-gate.invariant.rest;
     }

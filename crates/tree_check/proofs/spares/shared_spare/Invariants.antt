@@ -7,5 +7,6 @@ abbrev pub invariant-loop-gate : goal.invariant-loop-gate
 invariant-loop-gate l =
     record {
       room : length l.table.uses.items ≡ l.nodes + 1;
-      rest : first (clashes_by l.table.uses.items (spare_uses (drop l.gate-index l.gates))) ≡ first (shared_spares l.gates);
+      rest : first (clashes_by l.table.uses.items (spare_uses (drop l.gate-index l.gates)))
+          ≡ first (shared_spares l.gates);
     }

@@ -5,4 +5,5 @@ use Rattle.tree_check.proofs.statements.further_top.Given as goal
 
 abbrev pub invariant-loop-statement : goal.invariant-loop-statement
 invariant-loop-statement l =
-    first (map (λ top. top.word) (drop l.to_pass (tops (drop l.statement-index l.statements)))) ≡ first (further_tops l.statements)
+    first (map (λ top. top.word) (drop l.to_pass (tops (drop l.statement-index l.statements))))
+    ≡ first (further_tops l.statements)

@@ -39,5 +39,7 @@ push-requires-2-clause-rising g c =
 pub push-requires-2-clause-after_last : goal.push-requires-2-clause-after_last
 push-requires-2-clause-after_last g c =
     let none : c.new-cuts.result ≡ [] = c.new-cuts.ensures in
-    let one : c.push.new.self ≡ (c.in_ok-a.a ∷ []) ∷ [] = c.in_ok-push.ensures.added ∙ ap (λ cuts. cuts ++ (c.in_ok-a.a ∷ []) ∷ []) none in
-    subst (λ cuts. IsInCutOrder (cuts ++ (c.in_ok-a.a ∷ c.in_ok-b.b ∷ []) ∷ [])) (sym one) (one_before_two c.in_ok-a.a c.in_ok-b.b)
+    let one : c.push.new.self ≡ (c.in_ok-a.a ∷ []) ∷ [] =
+    c.in_ok-push.ensures.added ∙ ap (λ cuts. cuts ++ (c.in_ok-a.a ∷ []) ∷ []) none in
+    subst (λ cuts. IsInCutOrder (cuts ++ (c.in_ok-a.a ∷ c.in_ok-b.b ∷ []) ∷ [])) (sym one)
+    (one_before_two c.in_ok-a.a c.in_ok-b.b)

@@ -7,5 +7,7 @@ use Rattle.unit_sets.proofs.WordSets.{has_bit-clear}
 pub returns : goal.returns
 returns c =
     has_bit-clear c.args.words.now c.args.number _ c.requires
-    (bit_at_clear_same w64 (slice_index c.args.words.now (c.args.number / 64)) (c.args.number % 64) (mod_below c.args.number 64 (omega arith)))
-    (λ i h other. bit_at_clear_other w64 (slice_index c.args.words.now (c.args.number / 64)) (c.args.number % 64) (mod_below c.args.number 64 (omega arith)) i h other)
+    (bit_at_clear_same w64 (slice_index c.args.words.now (c.args.number / 64)) (c.args.number % 64)
+    (mod_below c.args.number 64 (omega arith)))
+    (λ i h other. bit_at_clear_other w64 (slice_index c.args.words.now (c.args.number / 64)) (c.args.number % 64)
+    (mod_below c.args.number 64 (omega arith)) i h other)

@@ -14,14 +14,18 @@ loop-k-init c = refl
 pub overflow_add-count : goal.overflow_add-count
 overflow_add-count c =
     let next : length (passing_below (only_in c.args.words.now c.args.others.now) (64 * (c.loop-k.k + 1))) ≡ _ =
-    count_more c.args.words.now c.args.others.now c.loop-k.k (Fits-lt-pow {w = w64} (c.type_inv.words c.loop-k.k)) (Fits-lt-pow {w = w64} (c.type_inv.others c.loop-k.k)) in
-    let few : length (passing_below (only_in c.args.words.now c.args.others.now) (64 * (c.loop-k.k + 1))) ≤ 64 * (c.loop-k.k + 1) = length-passing_below-le _ _ in
+    count_more c.args.words.now c.args.others.now c.loop-k.k (Fits-lt-pow {w = w64} (c.type_inv.words c.loop-k.k))
+    (Fits-lt-pow {w = w64} (c.type_inv.others c.loop-k.k)) in
+    let few : length (passing_below (only_in c.args.words.now c.args.others.now) (64 * (c.loop-k.k + 1)))
+    ≤ 64 * (c.loop-k.k + 1) = length-passing_below-le _ _ in
     omega (arith, c.loop-k.invariant)
 
 pub loop-k-preserved : goal.loop-k-preserved
 loop-k-preserved c =
-    ap (λ x. x + count_ones (bit_and (slice_index c.args.words.now c.loop-k.k) (bit_not w64 (slice_index c.args.others.now c.loop-k.k)))) c.loop-k.invariant
-    ∙ sym (count_more c.args.words.now c.args.others.now c.loop-k.k (Fits-lt-pow {w = w64} (c.type_inv.words c.loop-k.k)) (Fits-lt-pow {w = w64} (c.type_inv.others c.loop-k.k)))
+    ap (λ x. x + count_ones (bit_and (slice_index c.args.words.now c.loop-k.k)
+    (bit_not w64 (slice_index c.args.others.now c.loop-k.k)))) c.loop-k.invariant
+    ∙ sym (count_more c.args.words.now c.args.others.now c.loop-k.k
+    (Fits-lt-pow {w = w64} (c.type_inv.words c.loop-k.k)) (Fits-lt-pow {w = w64} (c.type_inv.others c.loop-k.k)))
 
 pub returns : goal.returns
 returns c =

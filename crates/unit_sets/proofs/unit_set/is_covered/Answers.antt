@@ -6,7 +6,9 @@ use Rattle.unit_sets.proofs.WordSets.{is_within-from_words, covered-from_is_with
 
 pub returns-then-word-others : goal.returns-then-word-others
 returns-then-word-others c =
-    sym (false_from_ne_true _ (λ within. c.if-word-others.true (covered-from_is_within c.args.words.now c.args.others.now c.loop-k.k c.loop-k-test.true (Fits-lt-pow {w = w64} (c.type_inv.words c.loop-k.k)) within)))
+    sym (false_from_ne_true _ (λ within. c.if-word-others.true
+    (covered-from_is_within c.args.words.now c.args.others.now c.loop-k.k c.loop-k-test.true
+    (Fits-lt-pow {w = w64} (c.type_inv.words c.loop-k.k)) within)))
 
 pub returns : goal.returns
 returns c =

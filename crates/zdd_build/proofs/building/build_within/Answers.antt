@@ -17,36 +17,49 @@ use Rattle.zdd_build.proofs.TeamLemmas.{whole_slice}
 use Rattle.zdd_build.proofs.building.build_within.Goals as goal
 
 pub returns-in_err-places-clause-went : goal.returns-in_err-places-clause-went
-returns-in_err-places-clause-went g c = WentAll-nowhere (IsDueToTree c.args.tree.now) c.args.seat.now c.is_sound.ensures.sound
+returns-in_err-places-clause-went g c =
+    WentAll-nowhere (IsDueToTree c.args.tree.now) c.args.seat.now c.is_sound.ensures.sound
 
 pub returns-in_err-table-clause-went : goal.returns-in_err-table-clause-went
-returns-in_err-table-clause-went g c = WentAll-nowhere (IsDueToTree c.args.tree.now) c.args.seat.now c.is_sound.ensures.sound
+returns-in_err-table-clause-went g c =
+    WentAll-nowhere (IsDueToTree c.args.tree.now) c.args.seat.now c.is_sound.ensures.sound
 
 pub returns-in_err-team-clause-went : goal.returns-in_err-team-clause-went
-returns-in_err-team-clause-went g c = WentAll-nowhere (IsDueToTree c.args.tree.now) c.args.seat.now c.is_sound.ensures.sound
+returns-in_err-team-clause-went g c =
+    WentAll-nowhere (IsDueToTree c.args.tree.now) c.args.seat.now c.is_sound.ensures.sound
 
 pub returns-in-Err-clause-went : goal.returns-in-Err-clause-went
 returns-in-Err-clause-went g c =
     let due = IsDueToTree c.args.tree.now in
-    WentAll-then due c.args.seat.now c.open.new.seat c.close.new.seat (split_went due (length c.open.new.team.items) c.args.seat.now c.open.new.seat c.open.ensures.split) c.close.ensures.went
+    WentAll-then due c.args.seat.now c.open.new.seat c.close.new.seat
+    (split_went due (length c.open.new.team.items) c.args.seat.now c.open.new.seat c.open.ensures.split)
+    c.close.ensures.went
 
 pub make_ranks-ended-requires-clause-built : goal.make_ranks-ended-requires-clause-built
 make_ranks-ended-requires-clause-built g c κs within =
-    subst (λ (places : List Place). AreBuilt (map_of c.open.new.seat) c.args.tree.now places c.in_ok-table.table.references.items c.in_ok-table.table.made.items) (c.as_slice.ensures.value ∙ sym c.as_slice-2.ensures.value)
+    subst (λ (places : List Place). AreBuilt (map_of c.open.new.seat) c.args.tree.now places
+    c.in_ok-table.table.references.items c.in_ok-table.table.made.items)
+    (c.as_slice.ensures.value ∙ sym c.as_slice-2.ensures.value)
     (c.in_ok-table.ensures (map_of c.open.new.seat))
 
 pub close-requires-2-clause-can : goal.close-requires-2-clause-can
 close-requires-2-clause-can g c =
     let new = c.make_ranks-ended.new.team in
     let old = c.open.new.team.items in
-    let same : length new ≡ length old = c.make_ranks-ended.ensures.size ∙ ap (λ (l : List Worker). length l) c.as_mut_slice.ensures.value in
-    subst (All (CanWork c.args.store.now c.args.tree.now)) (sym (whole_slice new old c.open.new.team.len same (let e = c.open.new.team.ok.0 in omega (arith, e)))) c.make_ranks-ended.ensures.can
+    let same : length new ≡ length old =
+    c.make_ranks-ended.ensures.size ∙ ap (λ (l : List Worker). length l) c.as_mut_slice.ensures.value in
+    subst (All (CanWork c.args.store.now c.args.tree.now))
+    (sym (whole_slice new old c.open.new.team.len same (let e = c.open.new.team.ok.0 in omega (arith, e))))
+    c.make_ranks-ended.ensures.can
 
 pub returns-in_err-ended-clause-went : goal.returns-in_err-ended-clause-went
 returns-in_err-ended-clause-went g c =
     let due = IsDueToTree c.args.tree.now in
-    WentAll-then due c.args.seat.now c.open.new.seat c.close-2.new.seat (split_went due (length c.open.new.team.items) c.args.seat.now c.open.new.seat c.open.ensures.split)
-    (WentAll-then due c.open.new.seat c.make_ranks-ended.new.seat c.close-2.new.seat (WentAll-learned due c.open.new.seat c.make_ranks-ended.new.seat c.make_ranks-ended.ensures.seat) c.close-2.ensures.went)
+    WentAll-then due c.args.seat.now c.open.new.seat c.close-2.new.seat
+    (split_went due (length c.open.new.team.items) c.args.seat.now c.open.new.seat c.open.ensures.split)
+    (WentAll-then due c.open.new.seat c.make_ranks-ended.new.seat c.close-2.new.seat
+    (WentAll-learned due c.open.new.seat c.make_ranks-ended.new.seat c.make_ranks-ended.ensures.seat)
+    c.close-2.ensures.went)
 
 pub returns-clause-top : goal.returns-clause-top
 returns-clause-top g c =
@@ -59,12 +72,19 @@ returns-clause-top g c =
     let are : ArePlaces tree places = subst (ArePlaces tree) (sym c.as_slice-2.ensures.value) c.in_ok-places.ensures in
     let is_node = subst (λ (n : ℕ). IsNodeOf tree n) c.top.ensures.top c.top.ensures.node in
     let read = subst (λ (n : ℕ). is_fdep tree n ≡ false) c.top.ensures.top c.top.ensures.read in
-    let one = all_made known tree are.kept places are references made c.in_ok-ended.ensures.built c.in_ok-ended.ensures.made tree.top is_node read in
+    let one =
+    all_made known tree are.kept places are references made c.in_ok-ended.ensures.built c.in_ok-ended.ensures.made
+    tree.top is_node read in
     let place : c.index.result ≡ tree.top - 1 = c.index.ensures ∙ ap (λ n. n - 1) c.top.ensures.top in
-    let fits : c.index.result < length references = (let l = is_node.0 in let h = is_node.1 in let e = c.in_ok-ended.ensures.built.all_nodes in omega (arith, l, h, e, place)) in
-    let read_at : c.index-2.result.now ≡ get_or references (tree.top - 1) 0 = get_or_read references c.index.result c.index-2.result.now fits c.index-2.ensures 0 ∙ ap (λ n. get_or references n 0) place in
+    let fits : c.index.result < length references =
+    (let l = is_node.0 in let h = is_node.1 in let e = c.in_ok-ended.ensures.built.all_nodes in
+    omega (arith, l, h, e, place)) in
+    let read_at : c.index-2.result.now ≡ get_or references (tree.top - 1) 0 =
+    get_or_read references c.index.result c.index-2.result.now fits c.index-2.ensures 0
+    ∙ ap (λ n. get_or references n 0) place in
     subst (λ (r : ℕ). KnowsOne known' r (IsCutFamily tree tree.top)) (sym read_at)
-    (one_grown known known' c.make_ranks-ended.ensures.seat.sound.closed c.close-2.ensures.went.sound.closed c.close-2.ensures.went.keeps (IsCutFamily tree tree.top) (get_or references (tree.top - 1) 0) one)
+    (one_grown known known' c.make_ranks-ended.ensures.seat.sound.closed c.close-2.ensures.went.sound.closed
+    c.close-2.ensures.went.keeps (IsCutFamily tree tree.top) (get_or references (tree.top - 1) 0) one)
 
 pub returns-clause-nodes : goal.returns-clause-nodes
 returns-clause-nodes g c node is_node read =
@@ -78,12 +98,17 @@ returns-clause-nodes g c node is_node read =
     record {
       reference = get_or references (node - 1) 0;
       stands =
-          one_grown known known' c.make_ranks-ended.ensures.seat.sound.closed c.close-2.ensures.went.sound.closed c.close-2.ensures.went.keeps (IsCutFamily tree node) (get_or references (node - 1) 0)
-          (all_made known tree are.kept places are references made c.in_ok-ended.ensures.built c.in_ok-ended.ensures.made node is_node read);
+          one_grown known known' c.make_ranks-ended.ensures.seat.sound.closed c.close-2.ensures.went.sound.closed
+          c.close-2.ensures.went.keeps (IsCutFamily tree node) (get_or references (node - 1) 0)
+          (all_made known tree are.kept places are references made c.in_ok-ended.ensures.built
+          c.in_ok-ended.ensures.made node is_node read);
     }
 
 pub returns-clause-went : goal.returns-clause-went
 returns-clause-went g c =
     let due = IsDueToTree c.args.tree.now in
-    WentAll-then due c.args.seat.now c.open.new.seat c.close-2.new.seat (split_went due (length c.open.new.team.items) c.args.seat.now c.open.new.seat c.open.ensures.split)
-    (WentAll-then due c.open.new.seat c.make_ranks-ended.new.seat c.close-2.new.seat (WentAll-learned due c.open.new.seat c.make_ranks-ended.new.seat c.make_ranks-ended.ensures.seat) c.close-2.ensures.went)
+    WentAll-then due c.args.seat.now c.open.new.seat c.close-2.new.seat
+    (split_went due (length c.open.new.team.items) c.args.seat.now c.open.new.seat c.open.ensures.split)
+    (WentAll-then due c.open.new.seat c.make_ranks-ended.new.seat c.close-2.new.seat
+    (WentAll-learned due c.open.new.seat c.make_ranks-ended.new.seat c.make_ranks-ended.ensures.seat)
+    c.close-2.ensures.went)

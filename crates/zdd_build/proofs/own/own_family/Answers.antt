@@ -9,5 +9,6 @@ returns-clause-copies c =
     let before = c.read_below.new.worker.memory in
     let after = c.cut_family.new.memory in
     copies-went before after (map_of c.read_below.new.worker.ops) c.read_below.ensures.went.sound
-    (went_of (IsCutFamily c.args.tree.now c.args.node) before after c.cut_family.result c.cut_family.ensures.gives c.cut_family.ensures.spent)
+    (went_of (IsCutFamily c.args.tree.now c.args.node) before after c.cut_family.result c.cut_family.ensures.gives
+    c.cut_family.ensures.spent)
     c.read_below.new.worker.copies c.read_below.ensures.copies

@@ -5,7 +5,9 @@ use Rattle.zdd_build.proofs.ranks.make_ranks.Goals as goal
 pub loop-from-preserved-then-spread_before : goal.loop-from-preserved-then-spread_before
 loop-from-preserved-then-spread_before g c = record {
   within = c.end_of_rank-to.ensures.within;
-  seat = Learned-then c.args.seat.now c.loop-from.seat c.make_rank.new.seat c.loop-from.invariant.seat c.make_rank.ensures.seat;
+  seat =
+      Learned-then c.args.seat.now c.loop-from.seat c.make_rank.new.seat c.loop-from.invariant.seat
+      c.make_rank.ensures.seat;
   size = c.make_rank.ensures.size ∙ c.loop-from.invariant.size;
   can = c.make_rank.ensures.can;
   none = c.make_rank.ensures.none;
@@ -16,7 +18,9 @@ loop-from-preserved-then-spread_before g c = record {
 pub loop-from-preserved-then-rank-gt0 : goal.loop-from-preserved-then-rank-gt0
 loop-from-preserved-then-rank-gt0 g c = record {
   within = c.end_of_rank-to.ensures.within;
-  seat = Learned-then c.args.seat.now c.loop-from.seat c.make_rank.new.seat c.loop-from.invariant.seat c.make_rank.ensures.seat;
+  seat =
+      Learned-then c.args.seat.now c.loop-from.seat c.make_rank.new.seat c.loop-from.invariant.seat
+      c.make_rank.ensures.seat;
   size = c.make_rank.ensures.size ∙ c.loop-from.invariant.size;
   can = c.make_rank.ensures.can;
   none = c.make_rank.ensures.none;
@@ -27,7 +31,9 @@ loop-from-preserved-then-rank-gt0 g c = record {
 pub loop-from-preserved : goal.loop-from-preserved
 loop-from-preserved g c = record {
   within = c.end_of_rank-to.ensures.within;
-  seat = Learned-then c.args.seat.now c.loop-from.seat c.make_rank.new.seat c.loop-from.invariant.seat c.make_rank.ensures.seat;
+  seat =
+      Learned-then c.args.seat.now c.loop-from.seat c.make_rank.new.seat c.loop-from.invariant.seat
+      c.make_rank.ensures.seat;
   size = c.make_rank.ensures.size ∙ c.loop-from.invariant.size;
   can = c.make_rank.ensures.can;
   none = c.make_rank.ensures.none;
@@ -36,4 +42,6 @@ loop-from-preserved g c = record {
 }
 
 pub returns-in_err-make_rank-clause-seat : goal.returns-in_err-make_rank-clause-seat
-returns-in_err-make_rank-clause-seat g c = Learned-then c.args.seat.now c.loop-from.seat c.make_rank.new.seat c.loop-from.invariant.seat c.make_rank.ensures.seat
+returns-in_err-make_rank-clause-seat g c =
+    Learned-then c.args.seat.now c.loop-from.seat c.make_rank.new.seat c.loop-from.invariant.seat
+    c.make_rank.ensures.seat

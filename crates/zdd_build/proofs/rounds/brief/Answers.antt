@@ -22,9 +22,12 @@ loop-i-preserved c =
     record {
       seat = Learned-then c.args.seat.now c.loop-i.seat c.meet.new.seat inv.seat c.meet.ensures.seat;
       size = length-set team i met ∙ inv.size;
-      can = All-set (CanWork c.args.store.now c.args.tree.now) team i met (can_met c.args.store.now c.args.tree.now old met can c.meet.ensures.ops c.meet.ensures.rest) inv.can;
+      can =
+          All-set (CanWork c.args.store.now c.args.tree.now) team i met
+          (can_met c.args.store.now c.args.tree.now old met can c.meet.ensures.ops c.meet.ensures.rest) inv.can;
       none = All-set HasNone team i met (ap (λ (w : Worker). w.found.items) c.meet.ensures.rest ∙ none) inv.none;
       learns =
           below_set (λ (w : Worker). Grown (map_of c.args.seat.now) (map_of w.ops)) team i met inside inv.learns
-          (grown_then (map_of c.args.seat.now) (map_of c.loop-i.seat) (map_of met.ops) inv.seat.keeps c.meet.ensures.learns);
+          (grown_then (map_of c.args.seat.now) (map_of c.loop-i.seat) (map_of met.ops) inv.seat.keeps
+          c.meet.ensures.learns);
     }

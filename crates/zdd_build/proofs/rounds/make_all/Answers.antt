@@ -12,8 +12,11 @@ for_each_mut-requires-clause-accepts g c κs within i p inside same = (
   (
     c.requires.places,
     c.requires.to,
-    subst (λ (w : Worker). CanMake (map_of w.ops) c.args.tree.now c.args.places.now c.args.references.now c.args.run.from c.args.run.to) (sym same) (c.requires.can_make i p.now inside),
-    at_own c.args.store.now c.args.tree.now c.args.places.now p.now (subst (IsAtWork c.args.store.now c.args.tree.now c.args.places.now) (sym same) (c.requires.at_work i p.now inside)),
+    subst (λ (w : Worker). CanMake (map_of w.ops) c.args.tree.now c.args.places.now c.args.references.now
+        c.args.run.from c.args.run.to) (sym same) (c.requires.can_make i p.now inside),
+    at_own c.args.store.now c.args.tree.now c.args.places.now p.now
+        (subst (IsAtWork c.args.store.now c.args.tree.now c.args.places.now) (sym same)
+        (c.requires.at_work i p.now inside)),
   ),
   search sendable depth 20,
 )

@@ -12,13 +12,16 @@ make-made-requires-clause-below g c =
     let inside = c.requires.within in
     let all = c.requires.to in
     subst (λ (p : Place). KnowsBelow (map_of c.args.worker.now.ops) c.args.tree.now c.args.references.now p.node)
-    (get_or_default c.args.places.now c.args.place (record { rank = 0; node = 0 }) c.index-places-place-2.result (omega (arith, inside, all)))
+    (get_or_default c.args.places.now c.args.place (record { rank = 0; node = 0 }) c.index-places-place-2.result
+    (omega (arith, inside, all)))
     (c.requires.can_make.1 c.args.place c.requires.from c.requires.within)
 
 pub returns-clause-gives : goal.returns-clause-gives
 returns-clause-gives g c =
     let inside = c.requires.within in
     let all = c.requires.to in
-    subst (λ (p : Place). IfOk c.make-made.result (λ r. KnowsOne (map_of c.make-made.new.worker.ops) r (IsCutFamily c.args.tree.now p.node)))
-    (sym (get_or_default c.args.places.now c.args.place (record { rank = 0; node = 0 }) c.index-places-place-2.result (omega (arith, inside, all))))
+    subst (λ (p : Place). IfOk c.make-made.result
+    (λ r. KnowsOne (map_of c.make-made.new.worker.ops) r (IsCutFamily c.args.tree.now p.node)))
+    (sym (get_or_default c.args.places.now c.args.place (record { rank = 0; node = 0 }) c.index-places-place-2.result
+    (omega (arith, inside, all))))
     c.make-made.ensures.gives

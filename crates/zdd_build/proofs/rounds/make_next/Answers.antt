@@ -12,7 +12,9 @@ returns-in-Ok-clause-at_work g c =
     let known = map_of c.args.worker.now.ops in
     let known' = map_of c.make_at.new.worker.ops in
     let before : AreFound known' c.args.tree.now c.args.places.now c.args.worker.now.found.items =
-    found_grown known known' c.requires.at_work.can.counts.sound.closed c.make_at.ensures.can.counts.sound.closed c.make_at.ensures.keeps c.args.tree.now c.args.places.now c.args.worker.now.found.items c.requires.at_work.found in
+    found_grown known known' c.requires.at_work.can.counts.sound.closed c.make_at.ensures.can.counts.sound.closed
+    c.make_at.ensures.keeps c.args.tree.now c.args.places.now c.args.worker.now.found.items
+    c.requires.at_work.found in
     record {
       can = record {
         own = c.make_at.ensures.can.own;
@@ -23,9 +25,13 @@ returns-in-Ok-clause-at_work g c =
         full = c.make_at.ensures.can.full;
       };
       found =
-          found_pushed known' c.args.tree.now c.args.places.now c.make_at.new.worker.found.items c.push.new.self.items (record { place = c.fetch_add-place.result; family = c.in-Ok.family }) (is_ok c.push.result)
-          (subst (λ (v : Vec Finding Global). AreFound known' c.args.tree.now c.args.places.now v.items) (sym c.make_at.ensures.found) before)
-          ((let low = c.if-place-run-2.false in let all = c.requires.to in omega (arith, low, all)), c.in-Ok.ensures.gives)
+          found_pushed known' c.args.tree.now c.args.places.now c.make_at.new.worker.found.items c.push.new.self.items
+          (record { place = c.fetch_add-place.result; family = c.in-Ok.family }) (is_ok c.push.result)
+          (subst (λ (v : Vec Finding Global). AreFound known' c.args.tree.now c.args.places.now v.items)
+          (sym c.make_at.ensures.found) before) (
+            (let low = c.if-place-run-2.false in let all = c.requires.to in omega (arith, low, all)),
+            c.in-Ok.ensures.gives,
+          )
           c.push.ensures.items;
     }
 
@@ -36,6 +42,9 @@ returns-in-Err-clause-at_work g c =
     record {
       can = c.make_at.ensures.can;
       found =
-          subst (λ (v : Vec Finding Global). AreFound known' c.args.tree.now c.args.places.now v.items) (sym c.make_at.ensures.found)
-          (found_grown known known' c.requires.at_work.can.counts.sound.closed c.make_at.ensures.can.counts.sound.closed c.make_at.ensures.keeps c.args.tree.now c.args.places.now c.args.worker.now.found.items c.requires.at_work.found);
+          subst (λ (v : Vec Finding Global). AreFound known' c.args.tree.now c.args.places.now v.items)
+          (sym c.make_at.ensures.found)
+          (found_grown known known' c.requires.at_work.can.counts.sound.closed c.make_at.ensures.can.counts.sound.closed
+          c.make_at.ensures.keeps c.args.tree.now c.args.places.now c.args.worker.now.found.items
+          c.requires.at_work.found);
     }

@@ -4,5 +4,6 @@ use Rattle.zdd_build.proofs.rounds.make_some.Goals as goal
 
 pub make_next-requires-clause-can_make : goal.make_next-requires-clause-can_make
 make_next-requires-clause-can_make g c κs within =
-    can_make_grown (map_of c.args.worker.now.ops) (map_of c.loop.worker.ops) c.requires.at_work.can.counts.sound.closed c.loop.invariant.at_work.can.counts.sound.closed c.loop.invariant.keeps
+    can_make_grown (map_of c.args.worker.now.ops) (map_of c.loop.worker.ops) c.requires.at_work.can.counts.sound.closed
+    c.loop.invariant.at_work.can.counts.sound.closed c.loop.invariant.keeps
     c.args.tree.now c.args.places.now c.args.references.now c.args.run.from c.args.run.to c.requires.can_make

@@ -11,9 +11,18 @@ loop-preserved c =
     let inv = c.loop.invariant in
     let pushed = c.push_reserved.ensures.items in
     record {
-      count = ap (λ (l : List Worker). length l) pushed ∙ length_push c.loop.team.items c.in_ok-worker.worker ∙ ap (λ n. n + 1) inv.count;
+      count =
+          ap (λ (l : List Worker). length l) pushed ∙ length_push c.loop.team.items c.in_ok-worker.worker
+          ∙ ap (λ n. n + 1) inv.count;
       room = let e = c.push_reserved.ensures.capacity in let h = inv.room in omega (arith, e, h);
-      split = split_then c.loop.counter c.args.seat.now c.loop.seat c.open_one.new.seat inv.split c.in_ok-worker.ensures.split;
-      can = subst (All (CanWork c.args.store.now c.args.tree.now)) (sym pushed) (All-push (CanWork c.args.store.now c.args.tree.now) c.loop.team.items c.in_ok-worker.worker inv.can c.in_ok-worker.ensures.can);
-      new = subst (All IsNew) (sym pushed) (All-push IsNew c.loop.team.items c.in_ok-worker.worker inv.new c.in_ok-worker.ensures.new);
+      split =
+          split_then c.loop.counter c.args.seat.now c.loop.seat c.open_one.new.seat inv.split
+          c.in_ok-worker.ensures.split;
+      can =
+          subst (All (CanWork c.args.store.now c.args.tree.now)) (sym pushed)
+          (All-push (CanWork c.args.store.now c.args.tree.now) c.loop.team.items c.in_ok-worker.worker inv.can
+          c.in_ok-worker.ensures.can);
+      new =
+          subst (All IsNew) (sym pushed) (All-push IsNew c.loop.team.items c.in_ok-worker.worker inv.new
+          c.in_ok-worker.ensures.new);
     }

@@ -6,4 +6,6 @@ pub returns-clause-inner : goal.returns-clause-inner
 returns-clause-inner c = λ known r bounded is. family-inner known r bounded (test-from_IsInner known r is)
 
 pub returns-clause-improper : goal.returns-clause-improper
-returns-clause-improper c = λ known r above other. family-improper known r above (false_from_ne_true (is_inner known r) (λ test. other (IsInner-from_test known r test)))
+returns-clause-improper c =
+    λ known r above other. family-improper known r above
+    (false_from_ne_true (is_inner known r) (λ test. other (IsInner-from_test known r test)))

@@ -23,10 +23,13 @@ returns-clause-gives c =
     let after = c.minimal.new.self in
     let made = family (map_of mid) c.in_ok-made.made in
     let ends : Answer (IsCutFamily tree node) (IsDueToTree tree) c.args.ops.now after c.minimal.result =
-    node_ends tree node c.requires.node c.requires.read (families_below known tree references node) (stand_of known tree references (below tree node) c.requires.below) c.units.ensures.kept
+    node_ends tree node c.requires.node c.requires.read (families_below known tree references node)
+    (stand_of known tree references (below tree node) c.requires.below) c.units.ensures.kept
     c.args.ops.now mid after c.in_ok-made.made c.in_ok-made.ensures.made c.minimal.result
-    (MatchResult-from_both c.minimal.result (Gave (IsMinimal made) (IsDueToMinimal made) mid after) (λ _. WasFull (IsDueToMinimal made) mid after) c.minimal.ensures.gives c.minimal.ensures.full) in
-    gave_of (IsCutFamily tree node) (IsDueToTree tree) (IsDueToTree tree) (λ h due. due) c.args.ops.now after c.minimal.result ends
+    (MatchResult-from_both c.minimal.result (Gave (IsMinimal made) (IsDueToMinimal made) mid after)
+    (λ _. WasFull (IsDueToMinimal made) mid after) c.minimal.ensures.gives c.minimal.ensures.full) in
+    gave_of (IsCutFamily tree node) (IsDueToTree tree) (IsDueToTree tree) (λ h due. due) c.args.ops.now after
+    c.minimal.result ends
 
 pub returns-clause-full : goal.returns-clause-full
 returns-clause-full c =
@@ -38,7 +41,10 @@ returns-clause-full c =
     let after = c.minimal.new.self in
     let made = family (map_of mid) c.in_ok-made.made in
     let ends : Answer (IsCutFamily tree node) (IsDueToTree tree) c.args.ops.now after c.minimal.result =
-    node_ends tree node c.requires.node c.requires.read (families_below known tree references node) (stand_of known tree references (below tree node) c.requires.below) c.units.ensures.kept
+    node_ends tree node c.requires.node c.requires.read (families_below known tree references node)
+    (stand_of known tree references (below tree node) c.requires.below) c.units.ensures.kept
     c.args.ops.now mid after c.in_ok-made.made c.in_ok-made.ensures.made c.minimal.result
-    (MatchResult-from_both c.minimal.result (Gave (IsMinimal made) (IsDueToMinimal made) mid after) (λ _. WasFull (IsDueToMinimal made) mid after) c.minimal.ensures.gives c.minimal.ensures.full) in
-    full_of (IsCutFamily tree node) (IsDueToTree tree) (IsDueToTree tree) (λ h due. due) c.args.ops.now after c.minimal.result ends
+    (MatchResult-from_both c.minimal.result (Gave (IsMinimal made) (IsDueToMinimal made) mid after)
+    (λ _. WasFull (IsDueToMinimal made) mid after) c.minimal.ensures.gives c.minimal.ensures.full) in
+    full_of (IsCutFamily tree node) (IsDueToTree tree) (IsDueToTree tree) (λ h due. due) c.args.ops.now after
+    c.minimal.result ends

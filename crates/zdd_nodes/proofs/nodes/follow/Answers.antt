@@ -17,7 +17,12 @@ make-requires-clause-knows c =
     let nodes = c.below-nodes.result.now in
     let gathered : take (length nodes) c.deref.result.now ≡ map (reference_of references) (below tree c.args.node) =
     ap (take (length nodes)) c.deref.ensures.value
-    ∙ front_of (length nodes) c.args.rooms.now.list.len c.gather.new.list (drop (length c.gather.new.list) c.args.rooms.now.list.items) (let fits = c.requires.room.list c.args.node c.requires.node in let reads = ap (λ q. length q) c.below-nodes.ensures.below in omega (arith, fits, reads)) (let fits = c.requires.room.list c.args.node c.requires.node in let reads = ap (λ q. length q) c.below-nodes.ensures.below in omega (arith, fits, reads, c.gather.ensures.size))
+    ∙ front_of (length nodes) c.args.rooms.now.list.len c.gather.new.list
+    (drop (length c.gather.new.list) c.args.rooms.now.list.items)
+    (let fits = c.requires.room.list c.args.node c.requires.node in
+    let reads = ap (λ q. length q) c.below-nodes.ensures.below in omega (arith, fits, reads))
+    (let fits = c.requires.room.list c.args.node c.requires.node in
+    let reads = ap (λ q. length q) c.below-nodes.ensures.below in omega (arith, fits, reads, c.gather.ensures.size))
     ∙ c.gather.ensures.list ∙ ap (map (reference_of references)) c.below-nodes.ensures.below in
     subst (All (Knows known)) (sym gathered) (known_of known tree references (below tree c.args.node) c.requires.below)
 
@@ -29,6 +34,12 @@ make-requires-clause-stand c =
     let nodes = c.below-nodes.result.now in
     let gathered : take (length nodes) c.deref.result.now ≡ map (reference_of references) (below tree c.args.node) =
     ap (take (length nodes)) c.deref.ensures.value
-    ∙ front_of (length nodes) c.args.rooms.now.list.len c.gather.new.list (drop (length c.gather.new.list) c.args.rooms.now.list.items) (let fits = c.requires.room.list c.args.node c.requires.node in let reads = ap (λ q. length q) c.below-nodes.ensures.below in omega (arith, fits, reads)) (let fits = c.requires.room.list c.args.node c.requires.node in let reads = ap (λ q. length q) c.below-nodes.ensures.below in omega (arith, fits, reads, c.gather.ensures.size))
+    ∙ front_of (length nodes) c.args.rooms.now.list.len c.gather.new.list
+    (drop (length c.gather.new.list) c.args.rooms.now.list.items)
+    (let fits = c.requires.room.list c.args.node c.requires.node in
+    let reads = ap (λ q. length q) c.below-nodes.ensures.below in omega (arith, fits, reads))
+    (let fits = c.requires.room.list c.args.node c.requires.node in
+    let reads = ap (λ q. length q) c.below-nodes.ensures.below in omega (arith, fits, reads, c.gather.ensures.size))
     ∙ c.gather.ensures.list ∙ ap (map (reference_of references)) c.below-nodes.ensures.below in
-    subst (λ q. StandFor (IsCutFamily tree) (below tree c.args.node) (families known q)) (sym gathered) (stand_of known tree references (below tree c.args.node) c.requires.below)
+    subst (λ q. StandFor (IsCutFamily tree) (below tree c.args.node) (families known q)) (sym gathered)
+    (stand_of known tree references (below tree c.args.node) c.requires.below)

@@ -20,10 +20,16 @@ make_gate-requires-clause-some c =
     let tree = c.args.tree.now in
     let gate = c.args.node in
     let is_gate : IsGateOf tree gate = (omega arith, c.requires.node.1) in
-    let some : 1 ≤ length (inputs_of tree gate) = sound_some tree (kind_of tree gate) (inputs_of tree gate) (gate_sound tree c.units.ensures.kept gate is_gate).kind in
-    let as_many : length (families (map_of c.args.ops.now) c.args.list.now) ≡ length (below tree gate) = StandFor-length (IsCutFamily tree) (below tree gate) (families (map_of c.args.ops.now) c.args.list.now) c.requires.stand in
-    let reads : length (below tree gate) ≡ length (inputs_of tree gate) = ap (λ q. length q) (gate_below tree gate is_gate) in
-    let listed : length (families (map_of c.args.ops.now) c.args.list.now) ≡ length c.args.list.now = length-map c.args.list.now (family (map_of c.args.ops.now)) in
+    let some : 1 ≤ length (inputs_of tree gate) =
+    sound_some tree (kind_of tree gate) (inputs_of tree gate)
+    (gate_sound tree c.units.ensures.kept gate is_gate).kind in
+    let as_many : length (families (map_of c.args.ops.now) c.args.list.now) ≡ length (below tree gate) =
+    StandFor-length (IsCutFamily tree) (below tree gate) (families (map_of c.args.ops.now) c.args.list.now)
+    c.requires.stand in
+    let reads : length (below tree gate) ≡ length (inputs_of tree gate) =
+    ap (λ q. length q) (gate_below tree gate is_gate) in
+    let listed : length (families (map_of c.args.ops.now) c.args.list.now) ≡ length c.args.list.now =
+    length-map c.args.list.now (family (map_of c.args.ops.now)) in
     omega (arith, some, as_many, reads, listed)
 
 pub make_gate-requires-clause-votes : goal.make_gate-requires-clause-votes
@@ -31,10 +37,13 @@ make_gate-requires-clause-votes c =
     let tree = c.args.tree.now in
     let gate = c.args.node in
     let is_gate : IsGateOf tree gate = (omega arith, c.requires.node.1) in
-    let reads : length (below tree gate) ≡ length (inputs_of tree gate) = ap (λ q. length q) (gate_below tree gate is_gate) in
-    let room : length (inputs_of tree gate) ≤ length c.args.room.now = let some = c.requires.room in omega (arith, reads, some) in
+    let reads : length (below tree gate) ≡ length (inputs_of tree gate) =
+    ap (λ q. length q) (gate_below tree gate is_gate) in
+    let room : length (inputs_of tree gate) ≤ length c.args.room.now =
+    let some = c.requires.room in omega (arith, reads, some) in
     subst (λ kind. CanVote kind (length c.args.room.now)) (sym c.kind.ensures)
-    (sound_votes tree (kind_of tree gate) (inputs_of tree gate) (length c.args.room.now) (gate_sound tree c.units.ensures.kept gate is_gate).kind room)
+    (sound_votes tree (kind_of tree gate) (inputs_of tree gate) (length c.args.room.now)
+    (gate_sound tree c.units.ensures.kept gate is_gate).kind room)
 
 pub returns-then-number-units-clause-made : goal.returns-then-number-units-clause-made
 returns-then-number-units-clause-made c =
@@ -42,7 +51,8 @@ returns-then-number-units-clause-made c =
     let gate = c.args.node in
     let fs = families (map_of c.args.ops.now) c.args.list.now in
     let is_gate : IsGateOf tree gate = (omega arith, c.requires.node.1) in
-    node_made tree gate c.requires.node c.requires.read fs c.requires.stand (gate_recipe c.kind.result fs) (gate_recipe_is tree gate fs is_gate ∙ ap (λ kind. gate_recipe kind fs) (sym c.kind.ensures))
+    node_made tree gate c.requires.node c.requires.read fs c.requires.stand (gate_recipe c.kind.result fs)
+    (gate_recipe_is tree gate fs is_gate ∙ ap (λ kind. gate_recipe kind fs) (sym c.kind.ensures))
     c.args.ops.now c.make_gate.new.ops c.make_gate.result c.make_gate.ensures
 
 pub returns-clause-made : goal.returns-clause-made
@@ -53,5 +63,7 @@ returns-clause-made c =
     let is_unit : IsUnitOf tree node = (c.requires.node.0, omega arith) in
     let few = c.units.ensures.kept.few_units in
     let same : c.in-Some.unit ≡ node = let value = c.in-Some.ensures.value in omega (arith, few, value) in
-    unit_node_made tree node c.requires.node c.requires.read fs c.requires.stand is_unit c.args.ops.now c.make_unit.new.ops c.make_unit.result
-    (subst (λ unit. Answer (IsUnionOfAll (alone unit) fs) (IsDueToUnit unit fs) c.args.ops.now c.make_unit.new.ops c.make_unit.result) same c.make_unit.ensures)
+    unit_node_made tree node c.requires.node c.requires.read fs c.requires.stand is_unit c.args.ops.now
+    c.make_unit.new.ops c.make_unit.result
+    (subst (λ unit. Answer (IsUnionOfAll (alone unit) fs) (IsDueToUnit unit fs) c.args.ops.now c.make_unit.new.ops
+    c.make_unit.result) same c.make_unit.ensures)

@@ -13,8 +13,10 @@ returns-in_err-own c =
     let unit = c.args.unit in
     let fs = families (map_of c.args.ops.now) c.args.triggers.now in
     let p = err_from_is_err_and c.from_residual.result c.from_residual.ensures.1 in
-    rw p.1 (WasFull-as (λ h. h ≡ alone unit) (IsDueToUnit unit fs) (λ h same. inl same) c.args.ops.now c.single.new.ops c.in_err-own.ensures)
+    rw p.1 (WasFull-as (λ h. h ≡ alone unit) (IsDueToUnit unit fs) (λ h same. inl same) c.args.ops.now c.single.new.ops
+    c.in_err-own.ensures)
 
 pub returns : goal.returns
 returns c =
-    unit_made c.args.ops.now c.single.new.ops c.unite_all.new.ops c.args.unit c.in_ok-own.own c.args.triggers.now c.is_sound.ensures.sound c.requires c.in_ok-own.ensures c.unite_all.result c.unite_all.ensures
+    unit_made c.args.ops.now c.single.new.ops c.unite_all.new.ops c.args.unit c.in_ok-own.own c.args.triggers.now
+    c.is_sound.ensures.sound c.requires c.in_ok-own.ensures c.unite_all.result c.unite_all.ensures

@@ -14,7 +14,8 @@ returns-in_err-product c =
     let f = family (map_of c.args.ops.now) c.args.a in
     let g = family (map_of c.args.ops.now) c.args.b in
     let p = err_from_is_err_and c.from_residual.result c.from_residual.ensures.1 in
-    rw p.1 (WasFull-as (IsDueToProduct f g) (IsDueToLeastProduct f g) (λ h due. due_to_product due) c.args.ops.now c.product.new.self c.in_err-product.ensures.full)
+    rw p.1 (WasFull-as (IsDueToProduct f g) (IsDueToLeastProduct f g) (λ h due. due_to_product due) c.args.ops.now
+    c.product.new.self c.in_err-product.ensures.full)
 
 pub returns : goal.returns
 returns c =
@@ -30,4 +31,5 @@ returns c =
     (λ h least. record { product = product; product_is = gave.known.1; least_is = least })
     (λ h due. due_to_least gave.known.1 due)
     mid c.minimal.new.self c.minimal.result
-    (MatchResult-from_both c.minimal.result (Gave (IsMinimal product) (IsDueToMinimal product) mid c.minimal.new.self) (λ _. WasFull (IsDueToMinimal product) mid c.minimal.new.self) c.minimal.ensures.gives c.minimal.ensures.full))
+    (MatchResult-from_both c.minimal.result (Gave (IsMinimal product) (IsDueToMinimal product) mid c.minimal.new.self)
+    (λ _. WasFull (IsDueToMinimal product) mid c.minimal.new.self) c.minimal.ensures.gives c.minimal.ensures.full))

@@ -23,7 +23,13 @@ returns c =
     let unit = c.args.unit in
     let none : IsReference 0 = omega arith in
     let empty : IsReference 1 = omega arith in
-    let word : word_family new (packed unit 0 1) ≡ alone unit = word_family-packed new unit 0 1 none empty ∙ (λ i. branch unit (family-empty new i) (family-unit new i)) in
-    node_made c.args.ops.now c.node.new.self (alone unit) (packed unit 0 1) c.node.ensures.store c.node.ensures.share c.node.ensures.keeps c.node.ensures.sound word c.node.result
-    (IfOk-weaker c.node.result (λ r. KnowsAs new r (branch unit (family old 0) (family old 1))) (λ r. KnowsAs new r (alone unit)) (λ r h. (h.0, h.1 ∙ (λ i. branch unit (family-empty old i) (family-unit old i)))) c.node.ensures.family)
+    let word : word_family new (packed unit 0 1) ≡ alone unit =
+    word_family-packed new unit 0 1 none empty ∙ (λ i. branch unit (family-empty new i) (family-unit new i)) in
+    node_made c.args.ops.now c.node.new.self (alone unit) (packed unit 0 1) c.node.ensures.store c.node.ensures.share
+    c.node.ensures.keeps c.node.ensures.sound word c.node.result
+    (IfOk-weaker c.node.result (λ r. KnowsAs new r (branch unit (family old 0) (family old 1)))
+    (λ r. KnowsAs new r (alone unit)) (λ r h. (
+      h.0,
+      h.1 ∙ (λ i. branch unit (family-empty old i) (family-unit old i)),
+    )) c.node.ensures.family)
     c.node.ensures.fills c.node.ensures.fulls c.node.ensures.missed

@@ -15,6 +15,9 @@ compare_exchange-requires g c =
     let slot : ℕ = c.args.slot in (
       c.requires.own,
       c.requires.inside,
-      subst (λ (p : ℕ × ℕ). Allows (IsStore bits) c.args.words.now.table_id.slots seat.id seat.me slot (λ n. either (n == 0) c.args.word n) (λ found after. (after.0 ≡ exchanged p.0 p.1 slot found seat.me.0) × (after.1 ≡ seat.me.1) × IsSoundView after.0)) (λ i. (asked.0 i, asked.1 i))
-          (allows_exchange bits c.args.words.now.table_id.slots seat.id seat.me.0 seat.me.1 c.args.word c.args.passed slot c.requires.search),
+      subst (λ (p : ℕ × ℕ). Allows (IsStore bits) c.args.words.now.table_id.slots seat.id seat.me slot
+          (λ n. either (n == 0) c.args.word n) (λ found after. (after.0 ≡ exchanged p.0 p.1 slot found seat.me.0)
+          × (after.1 ≡ seat.me.1) × IsSoundView after.0)) (λ i. (asked.0 i, asked.1 i))
+          (allows_exchange bits c.args.words.now.table_id.slots seat.id seat.me.0 seat.me.1 c.args.word c.args.passed
+          slot c.requires.search),
     )

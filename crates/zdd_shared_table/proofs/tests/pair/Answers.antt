@@ -5,7 +5,8 @@ use Rattle.zdd_shared_table.specs.Seats.{map_of}
 use Rattle.zdd_shared_table.proofs.tests.pair.Goals as goal
 
 pub node-requires-clause-lo_above : goal.node-requires-clause-lo_above
-node-requires-clause-lo_above c = subst (IsAbove c.args.low) (sym c.in-Ok.ensures.known.1) ((c.requires.ordered, tt), tt)
+node-requires-clause-lo_above c =
+    subst (IsAbove c.args.low) (sym c.in-Ok.ensures.known.1) ((c.requires.ordered, tt), tt)
 
 pub node-requires-clause-hi_above : goal.node-requires-clause-hi_above
 node-requires-clause-hi_above c = subst (IsAbove c.args.low) (sym (family-unit (map_of c.single.new.seat))) (tt, tt)

@@ -8,5 +8,6 @@ returns-clause-lo c = c.in_lowest_bits.ensures ∙ hi_of-shifted c.args.word
 
 pub returns-clause-word_comes_back : goal.returns-clause-word_comes_back
 returns-clause-word_comes_back c =
-    same_packed (level_of c.args.word) (lo_of c.args.word) (hi_of c.args.word) _ _ _ c.level_in.ensures (returns-clause-lo c) c.in_lowest_bits-2.ensures
+    same_packed (level_of c.args.word) (lo_of c.args.word) (hi_of c.args.word) _ _ _ c.level_in.ensures
+    (returns-clause-lo c) c.in_lowest_bits-2.ensures
     ∙ packed-parts c.args.word

@@ -11,9 +11,12 @@ invariant_of-result c =
     let closed = c.self.inside.closed in
     let total = c.self.inside.total in
     let crew = c.in-Some.crew in
-    let old : IsReading keys closed (Some crew) total = subst (λ l. IsReading keys closed l total) c.in-Some.is c.self.invariant in
-    let none : request_fault (closed ++ crew ∷ []) ≡ None = grind (arith, c.self.view_is, c.in-Some.is, c.requires.faultless) in
-    subst (λ more. IsReading keys closed (Some more) (total + 1)) (sym c.in_ok-asked-in-Some.ensures) (reading_request keys closed crew total c.args.ask old none c.requires.margin)
+    let old : IsReading keys closed (Some crew) total =
+    subst (λ l. IsReading keys closed l total) c.in-Some.is c.self.invariant in
+    let none : request_fault (closed ++ crew ∷ []) ≡ None =
+    grind (arith, c.self.view_is, c.in-Some.is, c.requires.faultless) in
+    subst (λ more. IsReading keys closed (Some more) (total + 1)) (sym c.in_ok-asked-in-Some.ensures)
+    (reading_request keys closed crew total c.args.ask old none c.requires.margin)
 
 pub returns : goal.returns
 returns c =

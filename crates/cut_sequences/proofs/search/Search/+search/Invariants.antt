@@ -21,5 +21,6 @@ invariant-go_through-loop-i l = record {
   order : l.self.replay.order ≡ l.initial.self.replay.order;
   left : l.self.left.items ≡ l.initial.self.left.items;
   few : length l.self.orders ≤ order_limit;
-  listed : l.self.orders ≡ l.initial.self.orders ++ failing_below l.initial.self.replay.tree l.initial.self.replay.order l.initial.self.left.items l.i;
+  listed : l.self.orders ≡ l.initial.self.orders
+      ++ failing_below l.initial.self.replay.tree l.initial.self.replay.order l.initial.self.left.items l.i;
 }

@@ -8,7 +8,10 @@ pub returns-clause-listed : goal.returns-clause-listed
 returns-clause-listed c =
     let tree = c.args.self.now.replay.tree in
     let set : List ℕ = c.args.set.now in
-    let left : c.extend_from_slice.new.self.items ≡ set = c.in_ok-extend_from_slice.ensures.items ∙ ap (λ (l : List ℕ). l ++ set) c.clear.ensures.items in
-    let due : failing_from tree c.args.self.now.replay.order c.extend_from_slice.new.self.items ≡ failing_orders tree set =
-    ap (λ (o : List ℕ). failing_from tree o c.extend_from_slice.new.self.items) c.requires.start ∙ ap (failing_from tree []) left ∙ failing_from-start tree set in
+    let left : c.extend_from_slice.new.self.items ≡ set =
+    c.in_ok-extend_from_slice.ensures.items ∙ ap (λ (l : List ℕ). l ++ set) c.clear.ensures.items in
+    let due : failing_from tree c.args.self.now.replay.order c.extend_from_slice.new.self.items
+    ≡ failing_orders tree set =
+    ap (λ (o : List ℕ). failing_from tree o c.extend_from_slice.new.self.items) c.requires.start
+    ∙ ap (failing_from tree []) left ∙ failing_from-start tree set in
     rw (← due) c.go_through.ensures.listed

@@ -7,12 +7,16 @@ use Rattle.cut_sequences.proofs.share.Share.listed.Goals as goal
 
 pub index-requires : goal.index-requires
 index-requires c =
-    let here : MarksList c.args.self.now c.self.inside.marks.items c.self.inside.orders c.args.i = marks_list c.args.self.now c.self.inside.marks.items c.self.inside.orders c.args.i c.self.invariant c.self.view_is c.requires in
+    let here : MarksList c.args.self.now c.self.inside.marks.items c.self.inside.orders c.args.i =
+    marks_list c.args.self.now c.self.inside.marks.items c.self.inside.orders c.args.i c.self.invariant
+    c.self.view_is c.requires in
     omega (arith, here.short, c.self.inside.marks.ok.0)
 
 pub returns : goal.returns
 returns c =
     let marks : List Mark = c.self.inside.marks.items in
-    let here : MarksList c.args.self.now marks c.self.inside.orders c.args.i = marks_list c.args.self.now marks c.self.inside.orders c.args.i c.self.invariant c.self.view_is c.requires in
-    let mark : c.index.result.now ≡ mark_at marks c.args.i = get_or_read marks c.args.i c.index.result.now here.short c.index.ensures _ in
+    let here : MarksList c.args.self.now marks c.self.inside.orders c.args.i =
+    marks_list c.args.self.now marks c.self.inside.orders c.args.i c.self.invariant c.self.view_is c.requires in
+    let mark : c.index.result.now ≡ mark_at marks c.args.i =
+    get_or_read marks c.args.i c.index.result.now here.short c.index.ensures _ in
     ap (λ (m : Mark). m.listed) mark ∙ sym here.listed

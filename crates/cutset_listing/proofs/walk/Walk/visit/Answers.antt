@@ -5,10 +5,14 @@ use Rattle.cutset_listing.proofs.walk.Walk.visit.Goals as goal
 -- the path counts up to the last node
 pub returns-in-Ok-clause-on : goal.returns-in-Ok-clause-on
 returns-in-Ok-clause-on c = λ sets on.
-    let popped : c.args.self.now.pending.items ≡ c.pop.new.self.items ++ c.in-Some.last ∷ [] = c.in-Some.ensures.items in
-    c.in-Ok.ensures.on sets (rw c.truncate.ensures.items (truncated _ sets _ c.pop.new.self.items c.in-Some.last _ _ (rw popped at on)))
+    let popped : c.args.self.now.pending.items ≡ c.pop.new.self.items ++ c.in-Some.last ∷ [] =
+    c.in-Some.ensures.items in
+    c.in-Ok.ensures.on sets (rw c.truncate.ensures.items
+    (truncated _ sets _ c.pop.new.self.items c.in-Some.last _ _ (rw popped at on)))
 
 pub returns-in-Err-clause-limit : goal.returns-in-Err-clause-limit
 returns-in-Err-clause-limit c = λ refused sets on.
-    let popped : c.args.self.now.pending.items ≡ c.pop.new.self.items ++ c.in-Some.last ∷ [] = c.in-Some.ensures.items in
-    c.in-Err.ensures.limit (refused_so c.in-Err.end _ refused) sets (rw c.truncate.ensures.items (truncated _ sets _ c.pop.new.self.items c.in-Some.last _ _ (rw popped at on)))
+    let popped : c.args.self.now.pending.items ≡ c.pop.new.self.items ++ c.in-Some.last ∷ [] =
+    c.in-Some.ensures.items in
+    c.in-Err.ensures.limit (refused_so c.in-Err.end _ refused) sets
+    (rw c.truncate.ensures.items (truncated _ sets _ c.pop.new.self.items c.in-Some.last _ _ (rw popped at on)))

@@ -7,15 +7,24 @@ pub invariant_of-self : goal.invariant_of-self
 invariant_of-self c =
     let inside : Held = record { words = c.self.inside.words.items; room = c.self.inside.room } in
     let after : Held = record { words = c.push.new.self.items; room = c.self.inside.room } in
-    let room : length inside.words < inside.room + 2 = let e = c.len-at.ensures in let h = c.if-at-self.false in let few = c.self.invariant.sound.terminals in omega arith in
-    kept_added inside c.args.self.now c.args.word c.self.view_is c.self.invariant.sound c.requires.node c.requires.antichain room
-    after (vec_capacity c.self.inside.words) (vec_capacity c.push.new.self) c.self.inside.answers.entries.items c.follow-2.new.self.entries.items
+    let room : length inside.words < inside.room + 2 =
+    let e = c.len-at.ensures in let h = c.if-at-self.false in let few = c.self.invariant.sound.terminals in
+    omega arith in
+    kept_added inside c.args.self.now c.args.word c.self.view_is c.self.invariant.sound c.requires.node
+    c.requires.antichain room
+    after (vec_capacity c.self.inside.words) (vec_capacity c.push.new.self) c.self.inside.answers.entries.items
+    c.follow-2.new.self.entries.items
     c.in-Ok.ensures.items refl c.self.invariant c.push.ensures.capacity c.follow-2.ensures
 
 pub returns : goal.returns
 returns c =
     let inside : Held = record { words = c.self.inside.words.items; room = c.self.inside.room } in
     let after : Held = record { words = c.push.new.self.items; room = c.self.inside.room } in
-    let room : length inside.words < inside.room + 2 = let e = c.len-at.ensures in let h = c.if-at-self.false in let few = c.self.invariant.sound.terminals in omega arith in
-    added_to inside c.args.self.now c.args.word c.self.view_is c.self.invariant.sound c.requires.node c.requires.antichain room
-    after c.at_slot-r.result c.in-Ok.ensures.items refl (let e = c.at_slot-r.ensures in let f = c.len-at.ensures in let few = c.self.invariant.sound.terminals in omega arith)
+    let room : length inside.words < inside.room + 2 =
+    let e = c.len-at.ensures in let h = c.if-at-self.false in let few = c.self.invariant.sound.terminals in
+    omega arith in
+    added_to inside c.args.self.now c.args.word c.self.view_is c.self.invariant.sound c.requires.node
+    c.requires.antichain room
+    after c.at_slot-r.result c.in-Ok.ensures.items refl
+    (let e = c.at_slot-r.ensures in let f = c.len-at.ensures in let few = c.self.invariant.sound.terminals in
+    omega arith)

@@ -15,5 +15,6 @@ invariant_of-self c =
 pub returns : goal.returns
 returns c =
     let inside : Held = record { words = c.self.inside.words.items; room = c.self.inside.room } in
-    ap (λ l. let held : Held = record { words = l; room = c.self.inside.room } in held) (c.truncate.ensures.items ∙ first_two inside c.self.invariant.sound)
+    ap (λ l. let held : Held = record { words = l; room = c.self.inside.room } in held)
+    (c.truncate.ensures.items ∙ first_two inside c.self.invariant.sound)
     ∙ ap (λ (held : Held). no_nodes held.room) c.self.view_is

@@ -7,5 +7,7 @@ pub returns : goal.returns
 returns c =
     let held = c.args.self.now in
     let inside : Held = record { words = c.self.inside.words.items; room = c.self.inside.room } in
-    let word : c.index.result.now ≡ map_of held c.args.r = read_word inside held c.number-2.result c.args.r c.index.result.now c.self.view_is c.number-2.ensures.value c.requires c.index.ensures in
+    let word : c.index.result.now ≡ map_of held c.args.r =
+    read_word inside held c.number-2.result c.args.r c.index.result.now c.self.view_is c.number-2.ensures.value
+    c.requires c.index.ensures in
     level_read held c.args.r c.index.result.now word (let e = c.number.ensures.value in omega arith)

@@ -7,7 +7,9 @@ pub invariant_of-result : goal.invariant_of-result
 invariant_of-result c =
     let held : Held = record { words = c.push-2.new.self.items; room = c.args.room.nodes } in
     let words : c.push-2.new.self.items ≡ 0 ∷ 0 ∷ [] =
-    c.in_ok-push-2.ensures.items ∙ ap (λ l. l ++ 0 ∷ []) (c.in_ok-push.ensures.items ∙ ap (λ l. l ++ 0 ∷ []) c.in_ok-words.ensures.items) in
+    c.in_ok-push-2.ensures.items ∙ ap (λ l. l ++ 0 ∷ [])
+    (c.in_ok-push.ensures.items ∙ ap (λ l. l ++ 0 ∷ []) c.in_ok-words.ensures.items) in
     kept_empty held (vec_capacity c.push-2.new.self) c.in_ok-new-2.field-0.entries.items words c.requires
-    (let e = c.in_ok-words.ensures.exact in let h = c.push.ensures.capacity in let k = c.push-2.ensures.capacity in omega arith)
+    (let e = c.in_ok-words.ensures.exact in let h = c.push.ensures.capacity in let k = c.push-2.ensures.capacity in
+    omega arith)
     c.in_ok-new-2.ensures

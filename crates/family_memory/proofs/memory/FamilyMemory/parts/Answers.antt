@@ -9,6 +9,9 @@ returns c =
     let held = c.args.self.now in
     let inside : Held = record { words = c.self.inside.words.items; room = c.self.inside.room } in
     let sound : IsSound held = subst IsSound c.self.view_is c.self.invariant.sound in
-    let word : c.index.result.now ≡ map_of held c.args.r = read_word inside held c.number.result c.args.r c.index.result.now c.self.view_is c.number.ensures.value c.requires.has c.index.ensures in
+    let word : c.index.result.now ≡ map_of held c.args.r =
+    read_word inside held c.number.result c.args.r c.index.result.now c.self.view_is c.number.ensures.value
+    c.requires.has c.index.ensures in
     parts_of held c.args.r sound c.requires.has c.requires.inner c.unpack.result
-    (c.unpack.ensures.level ∙ ap level_of word) (c.unpack.ensures.lo ∙ ap lo_of word) (c.unpack.ensures.hi ∙ ap hi_of word)
+    (c.unpack.ensures.level ∙ ap level_of word) (c.unpack.ensures.lo ∙ ap lo_of word)
+    (c.unpack.ensures.hi ∙ ap hi_of word)

@@ -10,5 +10,7 @@ invariant_of-self c =
       sound = c.self.invariant.sound;
       few = c.self.invariant.few;
       taken = c.self.invariant.taken;
-      told = c.keep.ensures held (subst (λ (m : Held). IsTold m c.args.entry) (sym c.self.view_is) c.requires) c.self.invariant.told;
+      told =
+          c.keep.ensures held (subst (λ (m : Held). IsTold m c.args.entry) (sym c.self.view_is) c.requires)
+          c.self.invariant.told;
     }

@@ -5,4 +5,6 @@ use Rattle.fault_model.proofs.name_bytes.FewBytes.short.Goals as goal
 
 -- what stands behind the first bytes doesn't count
 pub returns : goal.returns
-returns c = ap (take c.args.count) c.copy_from_slice.ensures.after ∙ take-take c.args.count SHORT_NAME c.args.text.now c.requires.few
+returns c =
+    ap (take c.args.count) c.copy_from_slice.ensures.after
+    ∙ take-take c.args.count SHORT_NAME c.args.text.now c.requires.few

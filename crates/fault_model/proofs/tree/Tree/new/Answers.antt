@@ -5,13 +5,16 @@ use Rattle.fault_model.proofs.tree.Tree.new.Goals as goal
 
 pub over-requires-2-clause-graph : goal.over-requires-2-clause-graph
 over-requires-2-clause-graph c =
-    rw c.as_slice-3.ensures.value (parts_graph c.args.parts c.requires.0 c.requires.1 c.in_ok-table.table c.in_ok-below.below.items
-    (table_for c.args.parts c.requires.0 _ _ _ _ c.in_ok-table.table refl c.as_slice-units.ensures.items c.as_slice.ensures.items c.as_slice-2.ensures.items c.in_ok-table.ensures) c.in_ok-below.ensures)
+    rw c.as_slice-3.ensures.value (parts_graph c.args.parts c.requires.0 c.requires.1 c.in_ok-table.table
+    c.in_ok-below.below.items
+    (table_for c.args.parts c.requires.0 _ _ _ _ c.in_ok-table.table refl c.as_slice-units.ensures.items
+    c.as_slice.ensures.items c.as_slice-2.ensures.items c.in_ok-table.ensures) c.in_ok-below.ensures)
 
 pub invariant_of-result : goal.invariant_of-result
 invariant_of-result c =
     made_holds c.args.parts c.requires.0 c.requires.1 c.in_ok-table.table c.in_ok-below.below.items
-    (table_for c.args.parts c.requires.0 _ _ _ _ c.in_ok-table.table refl c.as_slice-units.ensures.items c.as_slice.ensures.items c.as_slice-2.ensures.items c.in_ok-table.ensures) c.in_ok-below.ensures
+    (table_for c.args.parts c.requires.0 _ _ _ _ c.in_ok-table.table refl c.as_slice-units.ensures.items
+    c.as_slice.ensures.items c.as_slice-2.ensures.items c.in_ok-table.ensures) c.in_ok-below.ensures
     c.in_ok-walk.walk.heights.items c.in_ok-ranks_of.field-0.items c.in_ok-walk.walk.closed.items
     (rw (← c.as_slice-3.ensures.value) c.in_ok-walk.ensures.heights)
     (rw (← c.as_slice-3.ensures.value) c.in_ok-walk.ensures.heights_all)

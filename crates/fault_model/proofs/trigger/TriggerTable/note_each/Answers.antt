@@ -7,8 +7,14 @@ use Rattle.fault_model.proofs.trigger.TriggerTable.note_each.Goals as goal
 
 pub loop-unit-preserved : goal.loop-unit-preserved
 loop-unit-preserved c =
-    rw (take_more c.args.dependents.now c.loop-unit.unit-index c.unit-item.result c.loop-unit-test.true, ← c.unit-item.is)
-    (noted_one c.args.units c.args.mark c.args.trigger _ _ c.requires.marks.low _ _ _ c.unit-item.result (subst (IsUnitBelow c.args.units) (sym c.unit-item.is) (c.requires.units c.loop-unit.unit-index c.unit-item.result c.loop-unit-test.true)) c.loop-unit.invariant _ _
+    rw (
+      take_more c.args.dependents.now c.loop-unit.unit-index c.unit-item.result c.loop-unit-test.true,
+      ←
+          c.unit-item.is,
+    )
+    (noted_one c.args.units c.args.mark c.args.trigger _ _ c.requires.marks.low _ _ _ c.unit-item.result
+    (subst (IsUnitBelow c.args.units) (sym c.unit-item.is)
+    (c.requires.units c.loop-unit.unit-index c.unit-item.result c.loop-unit-test.true)) c.loop-unit.invariant _ _
     (λ known. ap (λ (t : TriggerTable). t.lists.items) (c.in_ok-note_one.ensures.known known))
     (λ known. ap (λ (t : TriggerTable). t.marks.items) (c.in_ok-note_one.ensures.known known))
     c.in_ok-note_one.ensures.lists c.in_ok-note_one.ensures.marks)

@@ -15,5 +15,7 @@ index-requires c = (end_is_node c.args.below.now c.requires.graph _ _ _ _ c.args
 
 pub returns-clause-walk : goal.returns-clause-walk
 returns-clause-walk c =
-    close_by c.args.below.now c.requires.graph _ _ _ _ _ c.args.node c.index.result c.tallest-height.result c.requires.walk c.index.ensures c.requires.through
-    (c.tallest-height.ensures ∙ ap (tallest c.args.self.now.heights.items) c.lower.ensures.nodes) c.in_ok-push.ensures.items
+    close_by c.args.below.now c.requires.graph _ _ _ _ _ c.args.node c.index.result c.tallest-height.result
+    c.requires.walk c.index.ensures c.requires.through
+    (c.tallest-height.ensures ∙ ap (tallest c.args.self.now.heights.items) c.lower.ensures.nodes)
+    c.in_ok-push.ensures.items

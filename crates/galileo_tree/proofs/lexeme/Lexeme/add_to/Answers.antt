@@ -5,4 +5,5 @@ use Rattle.galileo_tree.proofs.lexeme.Lexeme.add_to.Goals as goal
 -- a word or a quoted text has the form of a name
 pub short-requires-clause-form : goal.short-requires-clause-form
 unfolding is_value
-short-requires-clause-form c = c.self.invariant.1 (subst (λ (l : Lexeme). is_value l ≡ true) (sym c.self.view_is) c.requires)
+short-requires-clause-form c =
+    c.self.invariant.1 (subst (λ (l : Lexeme). is_value l ≡ true) (sym c.self.view_is) c.requires)

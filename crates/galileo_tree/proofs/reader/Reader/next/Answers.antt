@@ -14,7 +14,8 @@ returns c =
     (elim c.match-next.branch [
       | in-Ok-Some w ↦
           rw (w.result-is, w.lexeme.ensures)
-          (nexts_token text old new w.in-Ok-Some.token (rw w.in-Ok-Some.field-0-is at w.in-Ok-Some.ensures.answer) c.next.ensures.rest)
+          (nexts_token text old new w.in-Ok-Some.token (rw w.in-Ok-Some.field-0-is at w.in-Ok-Some.ensures.answer)
+          c.next.ensures.rest)
       | in-Ok-None w ↦
           rw w.result-is
           (nexts_none text old new (rw w.in-Ok-None.field-0-is at w.in-Ok-None.ensures.answer) c.next.ensures.rest)

@@ -8,17 +8,21 @@ pub returns-then-has_failed-clause-failed : goal.returns-then-has_failed-clause-
 returns-then-has_failed-clause-failed c = λ order is_unit last holds.
     let steps : List Step = c.args.self.now.steps.items in
     let has : has_step steps c.args.unit ≡ true =
-    ap (λ (s : List Step). has_step s c.args.unit) (sym c.deref.ensures.value) ∙ sym c.has_failed.ensures ∙ c.if-has_failed.true in
-    nothing_failed c.args.tree.now c.requires.tree order c.args.unit steps c.args.self.now.log.items c.requires.kept is_unit holds has
+    ap (λ (s : List Step). has_step s c.args.unit) (sym c.deref.ensures.value) ∙ sym c.has_failed.ensures
+    ∙ c.if-has_failed.true in
+    nothing_failed c.args.tree.now c.requires.tree order c.args.unit steps c.args.self.now.log.items c.requires.kept
+    is_unit holds has
 
 pub returns-clause-failed : goal.returns-clause-failed
 returns-clause-failed c = λ order is_unit last holds.
     let steps : List Step = c.args.self.now.steps.items in
     let has : has_step steps c.args.unit ≡ false =
-    ap (λ (s : List Step). has_step s c.args.unit) (sym c.deref.ensures.value) ∙ sym c.has_failed.ensures ∙ c.if-has_failed.false in
+    ap (λ (s : List Step). has_step s c.args.unit) (sym c.deref.ensures.value) ∙ sym c.has_failed.ensures
+    ∙ c.if-has_failed.false in
     all_failed c.args.tree.now c.requires.tree order c.args.unit steps c.args.self.now.log.items
     c.spread.new.self.steps.items c.spread.new.self.log.items
     (c.spread.ensures.spreads (turn_of order c.args.unit steps c.args.self.now.log.items) last
     (let start : c.len-start.result ≡ length c.args.self.now.log.items = omega arith in
     rw (c.fail_first.ensures.steps, c.fail_first.ensures.log, start, ← last)
-    (first_fails c.args.tree.now c.requires.tree order c.args.unit steps c.args.self.now.log.items c.requires.kept is_unit holds has)))
+    (first_fails c.args.tree.now c.requires.tree order c.args.unit steps c.args.self.now.log.items c.requires.kept
+    is_unit holds has)))

@@ -9,8 +9,11 @@ pub returns-then-node_fails-clause-spreads : goal.returns-then-node_fails-clause
 returns-then-node_fails-clause-spreads c = λ turn todo next last spreading.
     let steps : List Step = c.args.self.now.steps.items in
     let has : has_step steps c.args.node ≡ false =
-    ap (λ (s : List Step). has_step s c.args.node) (sym c.deref.ensures.value) ∙ sym c.has_failed.ensures ∙ c.if-has_failed.false in
+    ap (λ (s : List Step). has_step s c.args.node) (sym c.deref.ensures.value) ∙ sym c.has_failed.ensures
+    ∙ c.if-has_failed.false in
     let fails : node_fails c.args.tree.now (step_in steps) c.args.node ≡ true =
-    ap (λ (s : List Step). node_fails c.args.tree.now (step_in s) c.args.node) (sym c.deref-2.ensures.value) ∙ sym c.node_fails.ensures ∙ c.if-node_fails.true in
+    ap (λ (s : List Step). node_fails c.args.tree.now (step_in s) c.args.node) (sym c.deref-2.ensures.value)
+    ∙ sym c.node_fails.ensures ∙ c.if-node_fails.true in
     rw (c.fail_first.ensures.steps, c.fail_first.ensures.log, ← last)
-    (fails_more c.args.tree.now turn steps c.args.self.now.log.items todo next c.args.node c.requires.kept.table c.requires.node spreading has fails)
+    (fails_more c.args.tree.now turn steps c.args.self.now.log.items todo next c.args.node c.requires.kept.table
+    c.requires.node spreading has fails)

@@ -10,13 +10,16 @@ loop-node-preserved c = record {
   longer = omega (arith, c.reach.ensures.longer, c.loop-node.invariant.longer);
   spreads = λ turn next last spreading.
       c.reach.ensures.spreads turn (drop (c.loop-node.node-index + 1) c.args.nodes.now) next last
-      (subst (λ (todo : List ℕ). IsSpreading c.args.tree.now turn c.loop-node.self.steps.items c.loop-node.self.log.items todo next)
-      (drop_more c.args.nodes.now c.loop-node.node-index c.node-item.result c.loop-node-test.true ∙ ap (λ (n : ℕ). n ∷ drop (c.loop-node.node-index + 1) c.args.nodes.now) (sym c.node-item.is))
+      (subst (λ (todo : List ℕ). IsSpreading c.args.tree.now turn c.loop-node.self.steps.items
+      c.loop-node.self.log.items todo next)
+      (drop_more c.args.nodes.now c.loop-node.node-index c.node-item.result c.loop-node-test.true
+      ∙ ap (λ (n : ℕ). n ∷ drop (c.loop-node.node-index + 1) c.args.nodes.now) (sym c.node-item.is))
       (c.loop-node.invariant.spreads turn next last spreading));
 }
 
 pub returns-clause-spreads : goal.returns-clause-spreads
 returns-clause-spreads c = λ turn next last spreading.
-    subst (λ (todo : List ℕ). IsSpreading c.args.tree.now turn c.loop-node.self.steps.items c.loop-node.self.log.items todo next)
+    subst (λ (todo : List ℕ). IsSpreading c.args.tree.now turn c.loop-node.self.steps.items c.loop-node.self.log.items
+    todo next)
     (drop_all c.loop-node.node-index c.args.nodes.now c.loop-node-test.false)
     (c.loop-node.invariant.spreads turn next last spreading)

@@ -6,7 +6,8 @@ use Rattle.replay_semantics.proofs.failures.Failures.spread.Goals as goal
 
 pub loop-next-smaller : goal.loop-next-smaller
 loop-next-smaller c =
-    let few = few_failed c.args.tree.now c.loop-next.self.steps.items c.loop-next.self.log.items c.loop-next.invariant.kept in
+    let few =
+    few_failed c.args.tree.now c.loop-next.self.steps.items c.loop-next.self.log.items c.loop-next.invariant.kept in
     omega arith
 
 pub loop-next-preserved : goal.loop-next-preserved
@@ -17,8 +18,10 @@ loop-next-preserved c = record {
   spreads = λ turn last spreading.
       let short : c.loop-next.next < length c.loop-next.self.log.items = omega arith in
       c.reach_each.ensures.spreads turn (c.loop-next.next + 1) last
-      (subst (λ (row : List ℕ). IsSpreading c.args.tree.now turn c.loop-next.self.steps.items c.loop-next.self.log.items row (c.loop-next.next + 1))
+      (subst (λ (row : List ℕ). IsSpreading c.args.tree.now turn c.loop-next.self.steps.items c.loop-next.self.log.items
+      row (c.loop-next.next + 1))
       (sym (c.row.ensures ∙ ap (readers_in c.args.readers.now) c.number.ensures))
-      (enter c.args.tree.now c.args.readers.now c.requires.readers turn c.loop-next.self.steps.items c.loop-next.self.log.items c.loop-next.next c.index-node.result.now short c.index-node.ensures
+      (enter c.args.tree.now c.args.readers.now c.requires.readers turn c.loop-next.self.steps.items
+      c.loop-next.self.log.items c.loop-next.next c.index-node.result.now short c.index-node.ensures
       (c.loop-next.invariant.spreads turn last spreading)));
 }

@@ -13,14 +13,17 @@ loop-unit-init c =
     record {
       tree = refl;
       order = c.requires.empty;
-      failing = sym (ap (λ t. is_failing t c.args.self.now.order) (sym tree) ∙ failing-none c.self.inside.tree.now c.self.invariant.0.kept c.args.self.now.order c.requires.empty);
+      failing =
+          sym (ap (λ t. is_failing t c.args.self.now.order) (sym tree)
+          ∙ failing-none c.self.inside.tree.now c.self.invariant.0.kept c.args.self.now.order c.requires.empty);
     }
 
 pub push-pushed-requires-clause-fresh : goal.push-pushed-requires-clause-fresh
 push-pushed-requires-clause-fresh c =
     ap (λ (units : List ℕ). among units c.unit-item.result) c.loop-unit.invariant.order
     ∙ fresh_next c.as_slice-unit-items.result.now c.loop-unit.unit-index c.unit-item.result
-    (subst AreDistinct (sym c.as_slice-unit-items.ensures.units) c.as_slice-unit-items.ensures.distinct) c.loop-unit-test.true c.unit-item.is
+    (subst AreDistinct (sym c.as_slice-unit-items.ensures.units) c.as_slice-unit-items.ensures.distinct)
+    c.loop-unit-test.true c.unit-item.is
 
 pub returns-clause-bound : goal.returns-clause-bound
 returns-clause-bound c = step-reads c.args.self.now.tree c.args.order.now c.args.self.now.tree.top

@@ -4,8 +4,14 @@ use Rattle.replay_semantics.proofs.replay.Replay.new.Goals as goal
 
 pub invariant_of-result : goal.invariant_of-result
 invariant_of-result c = (
-  rw (c.in_ok-new.ensures.steps, c.in_ok-new.ensures.log, c.in_ok-with_capacity.ensures.items, c.in_ok-with_capacity-2.ensures.items)
-      (holds_none c.args.tree.now c.units-units.ensures.kept c.in_ok-readers_of.field-0 c.in_ok-readers_of.ensures _ (omega arith)),
+  rw (
+    c.in_ok-new.ensures.steps,
+    c.in_ok-new.ensures.log,
+    c.in_ok-with_capacity.ensures.items,
+    c.in_ok-with_capacity-2.ensures.items,
+  )
+      (holds_none c.args.tree.now c.units-units.ensures.kept c.in_ok-readers_of.field-0 c.in_ok-readers_of.ensures _
+      (omega arith)),
   omega (arith, c.in_ok-new.ensures.room),
   omega (arith, c.in_ok-with_capacity.ensures.exact),
   omega (arith, c.in_ok-with_capacity-2.ensures.exact),

@@ -11,36 +11,65 @@ use Rattle.replay_semantics.proofs.replay.Replay.push.Goals as goal
 
 pub overflow_cast-at : goal.overflow_cast-at
 overflow_cast-at c =
-    let held : HoldsReplay c.self.inside.tree.now c.self.inside.readers c.self.inside.failures.steps.items c.self.inside.failures.log.items c.self.inside.order.items c.self.inside.starts.items c.self.inside.admitted = c.self.invariant.0 in
-    let few = few_units c.self.inside.tree.now c.self.inside.readers c.self.inside.failures.steps.items c.self.inside.failures.log.items c.self.inside.order.items c.self.inside.starts.items c.self.inside.admitted held in
+    let held : HoldsReplay c.self.inside.tree.now c.self.inside.readers c.self.inside.failures.steps.items
+    c.self.inside.failures.log.items c.self.inside.order.items c.self.inside.starts.items c.self.inside.admitted =
+    c.self.invariant.0 in
+    let few =
+    few_units c.self.inside.tree.now c.self.inside.readers c.self.inside.failures.steps.items
+    c.self.inside.failures.log.items c.self.inside.order.items c.self.inside.starts.items c.self.inside.admitted
+    held in
     omega (arith, few, held.kept.few_units)
 
 pub overflow_add-at : goal.overflow_add-at
 overflow_add-at c =
-    let held : HoldsReplay c.self.inside.tree.now c.self.inside.readers c.self.inside.failures.steps.items c.self.inside.failures.log.items c.self.inside.order.items c.self.inside.starts.items c.self.inside.admitted = c.self.invariant.0 in
-    let few = few_units c.self.inside.tree.now c.self.inside.readers c.self.inside.failures.steps.items c.self.inside.failures.log.items c.self.inside.order.items c.self.inside.starts.items c.self.inside.admitted held in
+    let held : HoldsReplay c.self.inside.tree.now c.self.inside.readers c.self.inside.failures.steps.items
+    c.self.inside.failures.log.items c.self.inside.order.items c.self.inside.starts.items c.self.inside.admitted =
+    c.self.invariant.0 in
+    let few =
+    few_units c.self.inside.tree.now c.self.inside.readers c.self.inside.failures.steps.items
+    c.self.inside.failures.log.items c.self.inside.order.items c.self.inside.starts.items c.self.inside.admitted
+    held in
     omega (arith, few, held.kept.few_units)
 
 pub admitted_after-self-inside-requires : goal.admitted_after-self-inside-requires
 admitted_after-self-inside-requires c =
-    let held : HoldsReplay c.self.inside.tree.now c.self.inside.readers c.self.inside.failures.steps.items c.self.inside.failures.log.items c.self.inside.order.items c.self.inside.starts.items c.self.inside.admitted = c.self.invariant.0 in
-    let few = few_units c.self.inside.tree.now c.self.inside.readers c.self.inside.failures.steps.items c.self.inside.failures.log.items c.self.inside.order.items c.self.inside.starts.items c.self.inside.admitted held in
+    let held : HoldsReplay c.self.inside.tree.now c.self.inside.readers c.self.inside.failures.steps.items
+    c.self.inside.failures.log.items c.self.inside.order.items c.self.inside.starts.items c.self.inside.admitted =
+    c.self.invariant.0 in
+    let few =
+    few_units c.self.inside.tree.now c.self.inside.readers c.self.inside.failures.steps.items
+    c.self.inside.failures.log.items c.self.inside.order.items c.self.inside.starts.items c.self.inside.admitted
+    held in
     omega (arith, few, held.kept.few_units)
 
 pub push_reserved-requires : goal.push_reserved-requires
 push_reserved-requires c =
-    let held : HoldsReplay c.self.inside.tree.now c.self.inside.readers c.self.inside.failures.steps.items c.self.inside.failures.log.items c.self.inside.order.items c.self.inside.starts.items c.self.inside.admitted = c.self.invariant.0 in
-    let is_unit : IsUnitOf c.self.inside.tree.now c.args.unit = subst (λ (v : Replayed). IsUnitOf v.tree c.args.unit) (sym c.self.view_is) c.requires.unit in
-    let fresh : among c.self.inside.order.items c.args.unit ≡ false = subst (λ (v : Replayed). among v.order c.args.unit ≡ false) (sym c.self.view_is) c.requires.fresh in
-    let room = room_for_unit c.self.inside.tree.now c.self.inside.readers c.self.inside.failures.steps.items c.self.inside.failures.log.items c.self.inside.order.items c.self.inside.starts.items c.self.inside.admitted held c.args.unit is_unit fresh in
+    let held : HoldsReplay c.self.inside.tree.now c.self.inside.readers c.self.inside.failures.steps.items
+    c.self.inside.failures.log.items c.self.inside.order.items c.self.inside.starts.items c.self.inside.admitted =
+    c.self.invariant.0 in
+    let is_unit : IsUnitOf c.self.inside.tree.now c.args.unit =
+    subst (λ (v : Replayed). IsUnitOf v.tree c.args.unit) (sym c.self.view_is) c.requires.unit in
+    let fresh : among c.self.inside.order.items c.args.unit ≡ false =
+    subst (λ (v : Replayed). among v.order c.args.unit ≡ false) (sym c.self.view_is) c.requires.fresh in
+    let room =
+    room_for_unit c.self.inside.tree.now c.self.inside.readers c.self.inside.failures.steps.items
+    c.self.inside.failures.log.items c.self.inside.order.items c.self.inside.starts.items c.self.inside.admitted
+    held c.args.unit is_unit fresh in
     omega (arith, room, c.self.invariant.2)
 
 pub push_reserved-requires-2 : goal.push_reserved-requires-2
 push_reserved-requires-2 c =
-    let held : HoldsReplay c.self.inside.tree.now c.self.inside.readers c.self.inside.failures.steps.items c.self.inside.failures.log.items c.self.inside.order.items c.self.inside.starts.items c.self.inside.admitted = c.self.invariant.0 in
-    let is_unit : IsUnitOf c.self.inside.tree.now c.args.unit = subst (λ (v : Replayed). IsUnitOf v.tree c.args.unit) (sym c.self.view_is) c.requires.unit in
-    let fresh : among c.self.inside.order.items c.args.unit ≡ false = subst (λ (v : Replayed). among v.order c.args.unit ≡ false) (sym c.self.view_is) c.requires.fresh in
-    let room = room_for_unit c.self.inside.tree.now c.self.inside.readers c.self.inside.failures.steps.items c.self.inside.failures.log.items c.self.inside.order.items c.self.inside.starts.items c.self.inside.admitted held c.args.unit is_unit fresh in
+    let held : HoldsReplay c.self.inside.tree.now c.self.inside.readers c.self.inside.failures.steps.items
+    c.self.inside.failures.log.items c.self.inside.order.items c.self.inside.starts.items c.self.inside.admitted =
+    c.self.invariant.0 in
+    let is_unit : IsUnitOf c.self.inside.tree.now c.args.unit =
+    subst (λ (v : Replayed). IsUnitOf v.tree c.args.unit) (sym c.self.view_is) c.requires.unit in
+    let fresh : among c.self.inside.order.items c.args.unit ≡ false =
+    subst (λ (v : Replayed). among v.order c.args.unit ≡ false) (sym c.self.view_is) c.requires.fresh in
+    let room =
+    room_for_unit c.self.inside.tree.now c.self.inside.readers c.self.inside.failures.steps.items
+    c.self.inside.failures.log.items c.self.inside.order.items c.self.inside.starts.items c.self.inside.admitted
+    held c.args.unit is_unit fresh in
     omega (arith, room, held.starts_all, c.self.invariant.3)
 
 pub invariant_of-self : goal.invariant_of-self
@@ -50,16 +79,28 @@ invariant_of-self c =
     let log : List ℕ = c.self.inside.failures.log.items in
     let order : List ℕ = c.self.inside.order.items in
     let starts : List ℕ = c.self.inside.starts.items in
-    let held : HoldsReplay tree c.self.inside.readers steps log order starts c.self.inside.admitted = c.self.invariant.0 in
-    let is_unit : IsUnitOf tree c.args.unit = subst (λ (v : Replayed). IsUnitOf v.tree c.args.unit) (sym c.self.view_is) c.requires.unit in
-    let fresh : among order c.args.unit ≡ false = subst (λ (v : Replayed). among v.order c.args.unit ≡ false) (sym c.self.view_is) c.requires.fresh in
-    let holds : HoldsSteps tree order steps = holds_now tree c.self.inside.readers steps log order starts c.self.inside.admitted held in
+    let held : HoldsReplay tree c.self.inside.readers steps log order starts c.self.inside.admitted =
+    c.self.invariant.0 in
+    let is_unit : IsUnitOf tree c.args.unit =
+    subst (λ (v : Replayed). IsUnitOf v.tree c.args.unit) (sym c.self.view_is) c.requires.unit in
+    let fresh : among order c.args.unit ≡ false =
+    subst (λ (v : Replayed). among v.order c.args.unit ≡ false) (sym c.self.view_is) c.requires.fresh in
+    let holds : HoldsSteps tree order steps =
+    holds_now tree c.self.inside.readers steps log order starts c.self.inside.admitted held in
     let last : suc (length order) ≡ c.len.result + 1 = omega arith in
     let start : c.len-start.result ≡ length log = omega arith in
     let units : c.len-2.result ≡ length order = omega arith in (
-      rw (c.push_reserved.ensures.items, c.push_reserved-2.ensures.items, c.admitted_after-self-inside.ensures, start, units)
-          (holds_more tree c.self.inside.readers steps log order starts c.self.inside.admitted held c.args.unit is_unit fresh c.fail_next-fits.new.failures.steps.items c.fail_next-fits.new.failures.log.items
-          c.fail_next-fits.result c.fail_next-fits.ensures.kept (c.fail_next-fits.ensures.failed order last holds) (c.fail_next-fits.ensures.fits order last fresh holds)),
+      rw (
+        c.push_reserved.ensures.items,
+        c.push_reserved-2.ensures.items,
+        c.admitted_after-self-inside.ensures,
+        start,
+        units,
+      )
+          (holds_more tree c.self.inside.readers steps log order starts c.self.inside.admitted held c.args.unit is_unit
+          fresh c.fail_next-fits.new.failures.steps.items c.fail_next-fits.new.failures.log.items
+          c.fail_next-fits.result c.fail_next-fits.ensures.kept (c.fail_next-fits.ensures.failed order last holds)
+          (c.fail_next-fits.ensures.fits order last fresh holds)),
       omega (arith, c.fail_next-fits.ensures.room, c.self.invariant.1),
       omega (arith, c.push_reserved.ensures.capacity, c.self.invariant.2),
       omega (arith, c.push_reserved-2.ensures.capacity, c.self.invariant.3),
@@ -69,7 +110,8 @@ pub returns-clause-admissible : goal.returns-clause-admissible
 returns-clause-admissible c =
     let units : c.len-3.result ≡ length c.push_reserved.new.self.items = omega arith in
     ap (eqb c.admitted_after-self-inside.result) units
-    ∙ admitted-all c.self.inside.tree.now c.self.inside.readers c.fail_next-fits.new.failures.steps.items c.fail_next-fits.new.failures.log.items c.push_reserved.new.self.items c.push_reserved-2.new.self.items
+    ∙ admitted-all c.self.inside.tree.now c.self.inside.readers c.fail_next-fits.new.failures.steps.items
+    c.fail_next-fits.new.failures.log.items c.push_reserved.new.self.items c.push_reserved-2.new.self.items
     c.admitted_after-self-inside.result (invariant_of-self c).0
 
 pub returns-clause-top_failed : goal.returns-clause-top_failed
@@ -77,10 +119,12 @@ returns-clause-top_failed c =
     let steps : List Step = c.fail_next-fits.new.failures.steps.items in
     c.has_failed.ensures
     ∙ ap (λ (s : List Step). has_step s c.top.result) c.as_slice.ensures.value
-    ∙ ap is_some (holds_now c.self.inside.tree.now c.self.inside.readers steps c.fail_next-fits.new.failures.log.items c.push_reserved.new.self.items c.push_reserved-2.new.self.items
+    ∙ ap is_some (holds_now c.self.inside.tree.now c.self.inside.readers steps c.fail_next-fits.new.failures.log.items
+    c.push_reserved.new.self.items c.push_reserved-2.new.self.items
     c.admitted_after-self-inside.result (invariant_of-self c).0 c.top.result c.top.ensures.node)
     ∙ ap (λ (n : ℕ). is_some (step c.self.inside.tree.now c.push_reserved.new.self.items n)) c.top.ensures.top
 
 pub returns-clause-bound : goal.returns-clause-bound
 returns-clause-bound c = λ fails.
-    step-reads c.self.inside.tree.now c.push_reserved.new.self.items c.self.inside.tree.now.top (sym (returns-clause-top_failed c) ∙ fails)
+    step-reads c.self.inside.tree.now c.push_reserved.new.self.items c.self.inside.tree.now.top
+    (sym (returns-clause-top_failed c) ∙ fails)

@@ -20,8 +20,10 @@ loop-block-preserved c =
     let near = c.loop-block.invariant.near block there in
     elim c.if-counts-place.branch [
       | then-counts-place w ↦ rw w.self-is
-          (refreshed-new end counts least lowest block (get_or counts w.lowest_again-place.result 0) w.lowest_again-place.result
+          (refreshed-new end counts least lowest block (get_or counts w.lowest_again-place.result 0)
+          w.lowest_again-place.result
           there w.lowest_again-place.ensures c.loop-block.invariant)
       | else-counts-place w ↦ rw w.self-is
-          (refreshed-same end counts least lowest block (omega (arith, value, ap (λ p. get_or counts p 0) place, w.if-counts-place.false)) c.loop-block.invariant)
+          (refreshed-same end counts least lowest block
+          (omega (arith, value, ap (λ p. get_or counts p 0) place, w.if-counts-place.false)) c.loop-block.invariant)
     ]

@@ -9,7 +9,8 @@ pub begin_rows-total-requires-clause-small : goal.begin_rows-total-requires-clau
 begin_rows-total-requires-clause-small c =
     let cuts = c.args.cuts.now in
     rw c.as_mut_slice.ensures.value
-    (sizes-le c.args.units 16777216 cuts c.in_ok-ends.ends.items (omega (arith, few_cuts cuts, c.requires.ordered.within)) c.in_ok-ends.ensures)
+    (sizes-le c.args.units 16777216 cuts c.in_ok-ends.ends.items
+    (omega (arith, few_cuts cuts, c.requires.ordered.within)) c.in_ok-ends.ensures)
 
 pub put_sets-requires-clause-first : goal.put_sets-requires-clause-first
 put_sets-requires-clause-first c =
@@ -18,22 +19,29 @@ put_sets-requires-clause-first c =
     let begins : List ℕ = c.begin_rows-total.new.ends in
     let ends : List ℕ = c.as_mut_slice-3.result.now in
     let rows : List ℕ = c.as_mut_slice-2.result.now in
-    let has : HasSizes c.args.units cuts sizes = subst (HasSizes c.args.units cuts) (sym c.as_mut_slice.ensures.value) c.in_ok-ends.ensures in
+    let has : HasSizes c.args.units cuts sizes =
+    subst (HasSizes c.args.units cuts) (sym c.as_mut_slice.ensures.value) c.in_ok-ends.ensures in
     let same : ends ≡ begins = grind (arith, common_steps) in
     let long : length begins ≡ length sizes = c.begin_rows-total.auto.ends in
     let starts : HasStarts (λ k. get_or sizes k 0) begins = c.begin_rows-total.ensures.begins in
-    let room : length rows ≡ start_of (λ k. get_or sizes k 0) (length sizes) = c.as_mut_slice-2.ensures.len ∙ c.in_ok-rows.ensures.len ∙ c.begin_rows-total.ensures.total in
-    subst (λ (e : List ℕ). HoldsFirst cuts 0 e rows) (sym same) (begun c.args.units cuts sizes begins rows has long starts room)
+    let room : length rows ≡ start_of (λ k. get_or sizes k 0) (length sizes) =
+    c.as_mut_slice-2.ensures.len ∙ c.in_ok-rows.ensures.len ∙ c.begin_rows-total.ensures.total in
+    subst (λ (e : List ℕ). HoldsFirst cuts 0 e rows) (sym same)
+    (begun c.args.units cuts sizes begins rows has long starts room)
 
 -- the two vectors as they are read again
-written : (units : ℕ) (cuts : List (List ℕ)) (ends rows ends' rows' : List ℕ) → ends' ≡ ends → rows' ≡ rows → HasRows units cuts ends rows → HasRows units cuts ends' rows'
+written : (units : ℕ) (cuts : List (List ℕ)) (ends rows ends' rows' : List ℕ) → ends' ≡ ends → rows' ≡ rows
+    → HasRows units cuts ends rows → HasRows units cuts ends' rows'
 written units cuts ends rows ends' rows' same_ends same_rows has = rw (same_ends, same_rows) has
 
 pub returns : goal.returns
 returns c =
     let ends : List ℕ = c.put_sets.new.ends in
     let rows : List ℕ = c.put_sets.new.rows in
-    let long_ends : length ends ≡ c.in_ok-ends.ends.len = omega (arith, c.put_sets.auto.ends, c.as_mut_slice-3.ensures.len) in
-    let long_rows : length rows ≡ c.in_ok-rows.rows.len = omega (arith, c.put_sets.auto.rows, c.as_mut_slice-2.ensures.len) in
+    let long_ends : length ends ≡ c.in_ok-ends.ends.len =
+    omega (arith, c.put_sets.auto.ends, c.as_mut_slice-3.ensures.len) in
+    let long_rows : length rows ≡ c.in_ok-rows.rows.len =
+    omega (arith, c.put_sets.auto.rows, c.as_mut_slice-2.ensures.len) in
     let all : length ends ≡ c.args.units + 1 = omega (arith, c.in_ok-ends.ensures.all) in
-    written c.args.units c.args.cuts.now ends rows _ _ (take_at ends _ _ long_ends) (take_at rows _ _ long_rows) (all_filled c.args.units c.args.cuts.now ends rows all c.put_sets.ensures)
+    written c.args.units c.args.cuts.now ends rows _ _ (take_at ends _ _ long_ends) (take_at rows _ _ long_rows)
+    (all_filled c.args.units c.args.cuts.now ends rows all c.put_sets.ensures)

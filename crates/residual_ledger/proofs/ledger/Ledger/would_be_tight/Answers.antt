@@ -5,13 +5,17 @@ use Rattle.residual_ledger.specs.Residual.{cut_at}
 use Rattle.residual_ledger.specs.Kept.{residuals}
 use Rattle.residual_ledger.proofs.CutLemmas.{cut_at-is, cut_fits}
 use Rattle.residual_ledger.proofs.LedgerLemmas.{cut_rises}
-use Rattle.residual_ledger.proofs.SearchLemmas.{IsLookedAt, left_is, asked-le, tight-counted, not_tight-counted, leb-not}
+use Rattle.residual_ledger.proofs.SearchLemmas.{IsLookedAt, left_is, asked-le, tight-counted, not_tight-counted}
+use Rattle.residual_ledger.proofs.SearchLemmas.{leb-not}
 use Rattle.residual_ledger.proofs.ledger.Ledger.would_be_tight.Goals as goal
 
 pub count_asked-requires : goal.count_asked-requires
 count_asked-requires c =
-    let inside : c.args.place < length c.self.inside.cuts = subst (λ (n : ℕ). c.args.place < n) (ap (λ v. length v.cuts) (sym c.self.view_is)) c.requires.there in
-    let short : length c.members.result.now < 2 ^ 31 = cut_fits c.self.inside.cuts c.args.place c.members.result.now c.members.ensures.ordered inside c.members.ensures.value in
+    let inside : c.args.place < length c.self.inside.cuts =
+    subst (λ (n : ℕ). c.args.place < n) (ap (λ v. length v.cuts) (sym c.self.view_is)) c.requires.there in
+    let short : length c.members.result.now < 2 ^ 31 =
+    cut_fits c.self.inside.cuts c.args.place c.members.result.now c.members.ensures.ordered inside
+    c.members.ensures.value in
     record { few = omega arith }
 
 pub overflow_sub-result : goal.overflow_sub-result
@@ -19,12 +23,23 @@ overflow_sub-result c =
     let view = c.self.view_is in
     let cuts = c.args.self.now.cuts in
     let out = c.args.self.now.out in
-    let counted : c.self.inside.counts.items ≡ residuals out cuts = c.self.invariant.counted ∙ ap (λ v. residuals v.out v.cuts) view in
+    let counted : c.self.inside.counts.items ≡ residuals out cuts =
+    c.self.invariant.counted ∙ ap (λ v. residuals v.out v.cuts) view in
     let ordered : IsOrderedCuts cuts = subst IsOrderedCuts (ap (λ v. v.cuts) view) c.self.invariant.whole.ordered in
     let look : IsLookedAt out c.args.asked.now (cut_at cuts c.args.place) c.index-left.result.now =
-    record { counted = left_is out cuts c.self.inside.counts.items c.args.place c.index-left.result.now counted c.requires.there c.index-left.ensures; rising = cut_rises cuts c.args.place ordered c.requires.there; free = c.requires.in_service } in
-    let same : c.members.result.now ≡ cut_at cuts c.args.place = sym (cut_at-is cuts c.args.place c.members.result.now (subst (λ (list : List (List ℕ)). slice_get list c.args.place ≡ Some c.members.result.now) (ap (λ v. v.cuts) view) c.members.ensures.value)) in
-    let count : c.count_asked.result ≡ length (filter (among c.args.asked.now) (cut_at cuts c.args.place)) = c.count_asked.ensures ∙ ap (λ xs. length (filter (among c.args.asked.now) xs)) same in
+    record {
+      counted = left_is out cuts c.self.inside.counts.items c.args.place c.index-left.result.now counted
+          c.requires.there c.index-left.ensures;
+      rising = cut_rises cuts c.args.place ordered c.requires.there;
+      free =
+          c.requires.in_service;
+    } in
+    let same : c.members.result.now ≡ cut_at cuts c.args.place =
+    sym (cut_at-is cuts c.args.place c.members.result.now
+    (subst (λ (list : List (List ℕ)). slice_get list c.args.place ≡ Some c.members.result.now)
+    (ap (λ v. v.cuts) view) c.members.ensures.value)) in
+    let count : c.count_asked.result ≡ length (filter (among c.args.asked.now) (cut_at cuts c.args.place)) =
+    c.count_asked.ensures ∙ ap (λ xs. length (filter (among c.args.asked.now) xs)) same in
     asked-le out c.args.asked.now (cut_at cuts c.args.place) c.index-left.result.now c.count_asked.result look count
 
 pub returns-then-saturating_sub-asked : goal.returns-then-saturating_sub-asked
@@ -32,23 +47,43 @@ returns-then-saturating_sub-asked c =
     let view = c.self.view_is in
     let cuts = c.args.self.now.cuts in
     let out = c.args.self.now.out in
-    let counted : c.self.inside.counts.items ≡ residuals out cuts = c.self.invariant.counted ∙ ap (λ v. residuals v.out v.cuts) view in
+    let counted : c.self.inside.counts.items ≡ residuals out cuts =
+    c.self.invariant.counted ∙ ap (λ v. residuals v.out v.cuts) view in
     let ordered : IsOrderedCuts cuts = subst IsOrderedCuts (ap (λ v. v.cuts) view) c.self.invariant.whole.ordered in
     let look : IsLookedAt out c.args.asked.now (cut_at cuts c.args.place) c.index-left.result.now =
-    record { counted = left_is out cuts c.self.inside.counts.items c.args.place c.index-left.result.now counted c.requires.there c.index-left.ensures; rising = cut_rises cuts c.args.place ordered c.requires.there; free = c.requires.in_service } in
-    let same : c.members.result.now ≡ cut_at cuts c.args.place = sym (cut_at-is cuts c.args.place c.members.result.now (subst (λ (list : List (List ℕ)). slice_get list c.args.place ≡ Some c.members.result.now) (ap (λ v. v.cuts) view) c.members.ensures.value)) in
-    let count : c.count_asked.result ≡ length (filter (among c.args.asked.now) (cut_at cuts c.args.place)) = c.count_asked.ensures ∙ ap (λ xs. length (filter (among c.args.asked.now) xs)) same in
-    tight-counted out c.args.asked.now (cut_at cuts c.args.place) c.index-left.result.now c.count_asked.result c.args.most look count
+    record {
+      counted = left_is out cuts c.self.inside.counts.items c.args.place c.index-left.result.now counted
+          c.requires.there c.index-left.ensures;
+      rising = cut_rises cuts c.args.place ordered c.requires.there;
+      free =
+          c.requires.in_service;
+    } in
+    let same : c.members.result.now ≡ cut_at cuts c.args.place =
+    sym (cut_at-is cuts c.args.place c.members.result.now
+    (subst (λ (list : List (List ℕ)). slice_get list c.args.place ≡ Some c.members.result.now)
+    (ap (λ v. v.cuts) view) c.members.ensures.value)) in
+    let count : c.count_asked.result ≡ length (filter (among c.args.asked.now) (cut_at cuts c.args.place)) =
+    c.count_asked.ensures ∙ ap (λ xs. length (filter (among c.args.asked.now) xs)) same in
+    tight-counted out c.args.asked.now (cut_at cuts c.args.place) c.index-left.result.now c.count_asked.result
+    c.args.most look count
 
 pub returns-else-saturating_sub-asked : goal.returns-else-saturating_sub-asked
 returns-else-saturating_sub-asked c =
     let view = c.self.view_is in
     let cuts = c.args.self.now.cuts in
     let out = c.args.self.now.out in
-    let counted : c.self.inside.counts.items ≡ residuals out cuts = c.self.invariant.counted ∙ ap (λ v. residuals v.out v.cuts) view in
+    let counted : c.self.inside.counts.items ≡ residuals out cuts =
+    c.self.invariant.counted ∙ ap (λ v. residuals v.out v.cuts) view in
     let ordered : IsOrderedCuts cuts = subst IsOrderedCuts (ap (λ v. v.cuts) view) c.self.invariant.whole.ordered in
     let look : IsLookedAt out c.args.asked.now (cut_at cuts c.args.place) c.index-left.result.now =
-    record { counted = left_is out cuts c.self.inside.counts.items c.args.place c.index-left.result.now counted c.requires.there c.index-left.ensures; rising = cut_rises cuts c.args.place ordered c.requires.there; free = c.requires.in_service } in
+    record {
+      counted = left_is out cuts c.self.inside.counts.items c.args.place c.index-left.result.now counted
+          c.requires.there c.index-left.ensures;
+      rising = cut_rises cuts c.args.place ordered c.requires.there;
+      free =
+          c.requires.in_service;
+    } in
     let much : length c.args.asked.now < c.index-left.result.now - c.args.most = omega arith in
     leb-not c.saturating_sub.result (length c.args.asked.now) (omega arith)
-    ∙ sym (not_tight-counted out c.args.asked.now (cut_at cuts c.args.place) c.index-left.result.now c.args.most look much)
+    ∙ sym (not_tight-counted out c.args.asked.now (cut_at cuts c.args.place) c.index-left.result.now c.args.most look
+    much)

@@ -7,6 +7,8 @@ abbrev pub invariant-loop-input : goal.invariant-loop-input
 invariant-loop-input l =
     record {
       room : length l.self.uses.items ≡ length l.fn.self.uses.items;
-      clash : first (clashes_by l.self.uses.items (later_uses (drop l.input-index l.inputs))) ≡ first (clashes_by l.fn.self.uses.items (later_uses l.inputs));
-      table : table_after l.self.uses.items (later_uses (drop l.input-index l.inputs)) ≡ table_after l.fn.self.uses.items (later_uses l.inputs);
+      clash : first (clashes_by l.self.uses.items (later_uses (drop l.input-index l.inputs)))
+          ≡ first (clashes_by l.fn.self.uses.items (later_uses l.inputs));
+      table : table_after l.self.uses.items (later_uses (drop l.input-index l.inputs))
+          ≡ table_after l.fn.self.uses.items (later_uses l.inputs);
     }

@@ -6,7 +6,8 @@ use Rattle.std.proofs.lemmas.List.Elements.{All-more}
 
 pub loop-unit-preserved : goal.loop-unit-preserved
 loop-unit-preserved c =
-    All-more IsUnit c.args.units.now c.loop-unit.unit-index c.unit-item.result c.loop-unit-test.true c.loop-unit.invariant
+    All-more IsUnit c.args.units.now c.loop-unit.unit-index c.unit-item.result c.loop-unit-test.true
+    c.loop-unit.invariant
     (subst IsUnit c.unit-item.is c.number.ensures.unit)
 
 pub returns : goal.returns

@@ -6,5 +6,6 @@ use Rattle.zdd_product.proofs.cache.Cache.new.Goals as goal
 
 pub returns : goal.returns
 returns c = λ known.
-    let items : c.in_ok-vec.field-0.items ≡ replicate c.args.size first_entry = c.in_ok-vec.ensures.items_if_clones_equal (λ y h. h) in
+    let items : c.in_ok-vec.field-0.items ≡ replicate c.args.size first_entry =
+    c.in_ok-vec.ensures.items_if_clones_equal (λ y h. h) in
     subst (All (IsTold known)) (sym items) (All-replicate (IsTold known) c.args.size first_entry (told_first known))

@@ -11,25 +11,30 @@ use Rattle.zdd_product.proofs.Entries.{told_made}
 use Rattle.zdd_product.proofs.Halving.{levels_left}
 use Rattle.zdd_product.specs.After.{Gave-known}
 use Rattle.zdd_product.proofs.UnionParts.{union_ends, union_goes_on}
-use Rattle.zdd_product.proofs.UnionSteps.{union_lo_full, union_hi_full, union_hi_knows, union_hi_fewer, union_lo_known, union_lo_above, union_hi_above, union_made}
+use Rattle.zdd_product.proofs.UnionSteps.{union_lo_full, union_hi_full, union_hi_knows, union_hi_fewer, union_lo_known}
+use Rattle.zdd_product.proofs.UnionSteps.{union_lo_above, union_hi_above, union_made}
 use Rattle.zdd_product.proofs.ops.Ops.+unite.Goals as goal
 
 pub unite-returns-in-Some : goal.unite-returns-in-Some
 unite-returns-in-Some t c =
     let known = map_of c.args.self.now in
-    Gave-known (IsMadeByUnion (family known c.args.a) (family known c.args.b)) c.args.self.now c.is_sound.ensures.sound (IsUnion (family known c.args.a) (family known c.args.b)) c.in-Some.end
-    (union_ends known c.args.a c.args.b c.in-Some.end c.is_sound.ensures.sound.closed c.requires.knows_a c.requires.knows_b c.in-Some.ensures)
+    Gave-known (IsMadeByUnion (family known c.args.a) (family known c.args.b)) c.args.self.now c.is_sound.ensures.sound
+    (IsUnion (family known c.args.a) (family known c.args.b)) c.in-Some.end
+    (union_ends known c.args.a c.args.b c.in-Some.end c.is_sound.ensures.sound.closed c.requires.knows_a
+    c.requires.knows_b c.in-Some.ensures)
 
 pub unite-returns-in-Some-recall : goal.unite-returns-in-Some-recall
 unite-returns-in-Some-recall t c =
     let known = map_of c.args.self.now in
-    Gave-known (IsMadeByUnion (family known c.args.a) (family known c.args.b)) c.args.self.now c.is_sound.ensures.sound (IsUnion (family known c.args.a) (family known c.args.b)) c.in-Some-recall.answer
+    Gave-known (IsMadeByUnion (family known c.args.a) (family known c.args.b)) c.args.self.now c.is_sound.ensures.sound
+    (IsUnion (family known c.args.a) (family known c.args.b)) c.in-Some-recall.answer
     (c.in-Some-recall.ensures.answer.answer, c.in-Some-recall.ensures.answer.is)
 
 pub unite-remember-requires : goal.unite-remember-requires
 unite-remember-requires t c =
     let known = map_of c.args.self.now in
-    told_made Union (IsMadeByUnion (family known c.args.a) (family known c.args.b)) c.args.self.now c.unite_halves.new.self c.args.a c.args.b c.in_ok-made.made
+    told_made Union (IsMadeByUnion (family known c.args.a) (family known c.args.b)) c.args.self.now
+    c.unite_halves.new.self c.args.a c.args.b c.in_ok-made.made
     c.is_sound.ensures.sound c.requires.knows_a c.requires.knows_b c.in_ok-made.ensures
 
 pub unite_halves-returns-in_err-lo : goal.unite_halves-returns-in_err-lo
@@ -39,8 +44,12 @@ unite_halves-returns-in_err-lo t c =
     let same = c.halves-level.ensures.seat in
     let sound : IsSoundSeat s = subst IsSoundSeat same c.halves-level.ensures.sound in
     let are = c.halves-level.ensures.halves in
-    let goes : GoesOn (family (map_of s) c.args.a) (family (map_of s) c.args.b) = union_goes_on (map_of s) c.args.a c.args.b sound.closed sound.unique c.requires.knows_a c.requires.knows_b c.requires.goes_on.0 c.requires.goes_on.1 c.requires.goes_on.2 in
-    let full = subst (λ (q : Seated). WasFull (IsMadeByUnion (family (map_of q) cut.first.lo) (family (map_of q) cut.second.lo)) q c.unite.new.self) same c.in_err-lo.ensures in
+    let goes : GoesOn (family (map_of s) c.args.a) (family (map_of s) c.args.b) =
+    union_goes_on (map_of s) c.args.a c.args.b sound.closed sound.unique c.requires.knows_a c.requires.knows_b
+    c.requires.goes_on.0 c.requires.goes_on.1 c.requires.goes_on.2 in
+    let full =
+    subst (λ (q : Seated). WasFull (IsMadeByUnion (family (map_of q) cut.first.lo)
+    (family (map_of q) cut.second.lo)) q c.unite.new.self) same c.in_err-lo.ensures in
     let p = err_from_is_err_and c.from_residual.result c.from_residual.ensures.1 in
     rw p.1 (union_lo_full s c.args.a c.args.b cut sound are goes c.unite.new.self full)
 
@@ -51,9 +60,16 @@ unite_halves-unite-requires-2 t c =
     let same = c.halves-level.ensures.seat in
     let sound : IsSoundSeat s = subst IsSoundSeat same c.halves-level.ensures.sound in
     let are = c.halves-level.ensures.halves in
-    let goes : GoesOn (family (map_of s) c.args.a) (family (map_of s) c.args.b) = union_goes_on (map_of s) c.args.a c.args.b sound.closed sound.unique c.requires.knows_a c.requires.knows_b c.requires.goes_on.0 c.requires.goes_on.1 c.requires.goes_on.2 in
-    let gave = subst (λ (q : Seated). Gave (IsUnion (family (map_of q) cut.first.lo) (family (map_of q) cut.second.lo)) (IsMadeByUnion (family (map_of q) cut.first.lo) (family (map_of q) cut.second.lo)) q c.unite.new.self c.in_ok-lo.lo) same c.in_ok-lo.ensures in
-    let fewer : levels_left (map_of c.unite.new.self) cut.first.hi cut.second.hi < levels_left (map_of s) c.args.a c.args.b = union_hi_fewer s c.args.a c.args.b cut sound are goes c.unite.new.self c.in_ok-lo.lo gave in
+    let goes : GoesOn (family (map_of s) c.args.a) (family (map_of s) c.args.b) =
+    union_goes_on (map_of s) c.args.a c.args.b sound.closed sound.unique c.requires.knows_a c.requires.knows_b
+    c.requires.goes_on.0 c.requires.goes_on.1 c.requires.goes_on.2 in
+    let gave =
+    subst (λ (q : Seated). Gave (IsUnion (family (map_of q) cut.first.lo) (family (map_of q) cut.second.lo))
+    (IsMadeByUnion (family (map_of q) cut.first.lo) (family (map_of q) cut.second.lo)) q c.unite.new.self
+    c.in_ok-lo.lo) same c.in_ok-lo.ensures in
+    let fewer : levels_left (map_of c.unite.new.self) cut.first.hi cut.second.hi
+    < levels_left (map_of s) c.args.a c.args.b = union_hi_fewer s c.args.a c.args.b cut sound are goes
+    c.unite.new.self c.in_ok-lo.lo gave in
     (omega (arith, fewer), union_hi_knows s c.args.a c.args.b cut sound are goes c.unite.new.self c.in_ok-lo.lo gave)
 
 pub unite_halves-returns-in_err-hi : goal.unite_halves-returns-in_err-hi
@@ -63,10 +79,16 @@ unite_halves-returns-in_err-hi t c =
     let same = c.halves-level.ensures.seat in
     let sound : IsSoundSeat s = subst IsSoundSeat same c.halves-level.ensures.sound in
     let are = c.halves-level.ensures.halves in
-    let goes : GoesOn (family (map_of s) c.args.a) (family (map_of s) c.args.b) = union_goes_on (map_of s) c.args.a c.args.b sound.closed sound.unique c.requires.knows_a c.requires.knows_b c.requires.goes_on.0 c.requires.goes_on.1 c.requires.goes_on.2 in
-    let gave = subst (λ (q : Seated). Gave (IsUnion (family (map_of q) cut.first.lo) (family (map_of q) cut.second.lo)) (IsMadeByUnion (family (map_of q) cut.first.lo) (family (map_of q) cut.second.lo)) q c.unite.new.self c.in_ok-lo.lo) same c.in_ok-lo.ensures in
+    let goes : GoesOn (family (map_of s) c.args.a) (family (map_of s) c.args.b) =
+    union_goes_on (map_of s) c.args.a c.args.b sound.closed sound.unique c.requires.knows_a c.requires.knows_b
+    c.requires.goes_on.0 c.requires.goes_on.1 c.requires.goes_on.2 in
+    let gave =
+    subst (λ (q : Seated). Gave (IsUnion (family (map_of q) cut.first.lo) (family (map_of q) cut.second.lo))
+    (IsMadeByUnion (family (map_of q) cut.first.lo) (family (map_of q) cut.second.lo)) q c.unite.new.self
+    c.in_ok-lo.lo) same c.in_ok-lo.ensures in
     let p = err_from_is_err_and c.from_residual-in_err-hi.result c.from_residual-in_err-hi.ensures.1 in
-    rw p.1 (union_hi_full s c.args.a c.args.b cut sound are goes c.unite.new.self c.in_ok-lo.lo gave c.unite-2.new.self c.in_err-hi.ensures)
+    rw p.1 (union_hi_full s c.args.a c.args.b cut sound are goes c.unite.new.self c.in_ok-lo.lo gave c.unite-2.new.self
+    c.in_err-hi.ensures)
 
 pub unite_halves-make-requires-clause-knows_lo : goal.unite_halves-make-requires-clause-knows_lo
 unite_halves-make-requires-clause-knows_lo t c =
@@ -75,9 +97,15 @@ unite_halves-make-requires-clause-knows_lo t c =
     let same = c.halves-level.ensures.seat in
     let sound : IsSoundSeat s = subst IsSoundSeat same c.halves-level.ensures.sound in
     let are = c.halves-level.ensures.halves in
-    let goes : GoesOn (family (map_of s) c.args.a) (family (map_of s) c.args.b) = union_goes_on (map_of s) c.args.a c.args.b sound.closed sound.unique c.requires.knows_a c.requires.knows_b c.requires.goes_on.0 c.requires.goes_on.1 c.requires.goes_on.2 in
-    let gave = subst (λ (q : Seated). Gave (IsUnion (family (map_of q) cut.first.lo) (family (map_of q) cut.second.lo)) (IsMadeByUnion (family (map_of q) cut.first.lo) (family (map_of q) cut.second.lo)) q c.unite.new.self c.in_ok-lo.lo) same c.in_ok-lo.ensures in
-    (union_lo_known s c.args.a c.args.b cut sound are goes c.unite.new.self c.in_ok-lo.lo gave c.unite-2.new.self c.in_ok-hi.hi c.in_ok-hi.ensures).0
+    let goes : GoesOn (family (map_of s) c.args.a) (family (map_of s) c.args.b) =
+    union_goes_on (map_of s) c.args.a c.args.b sound.closed sound.unique c.requires.knows_a c.requires.knows_b
+    c.requires.goes_on.0 c.requires.goes_on.1 c.requires.goes_on.2 in
+    let gave =
+    subst (λ (q : Seated). Gave (IsUnion (family (map_of q) cut.first.lo) (family (map_of q) cut.second.lo))
+    (IsMadeByUnion (family (map_of q) cut.first.lo) (family (map_of q) cut.second.lo)) q c.unite.new.self
+    c.in_ok-lo.lo) same c.in_ok-lo.ensures in
+    (union_lo_known s c.args.a c.args.b cut sound are goes c.unite.new.self c.in_ok-lo.lo gave c.unite-2.new.self
+    c.in_ok-hi.hi c.in_ok-hi.ensures).0
 
 pub unite_halves-make-requires-clause-lo_above : goal.unite_halves-make-requires-clause-lo_above
 unite_halves-make-requires-clause-lo_above t c =
@@ -86,9 +114,15 @@ unite_halves-make-requires-clause-lo_above t c =
     let same = c.halves-level.ensures.seat in
     let sound : IsSoundSeat s = subst IsSoundSeat same c.halves-level.ensures.sound in
     let are = c.halves-level.ensures.halves in
-    let goes : GoesOn (family (map_of s) c.args.a) (family (map_of s) c.args.b) = union_goes_on (map_of s) c.args.a c.args.b sound.closed sound.unique c.requires.knows_a c.requires.knows_b c.requires.goes_on.0 c.requires.goes_on.1 c.requires.goes_on.2 in
-    let gave = subst (λ (q : Seated). Gave (IsUnion (family (map_of q) cut.first.lo) (family (map_of q) cut.second.lo)) (IsMadeByUnion (family (map_of q) cut.first.lo) (family (map_of q) cut.second.lo)) q c.unite.new.self c.in_ok-lo.lo) same c.in_ok-lo.ensures in
-    union_lo_above s c.args.a c.args.b cut sound are goes c.unite.new.self c.in_ok-lo.lo gave c.unite-2.new.self c.in_ok-hi.hi c.in_ok-hi.ensures
+    let goes : GoesOn (family (map_of s) c.args.a) (family (map_of s) c.args.b) =
+    union_goes_on (map_of s) c.args.a c.args.b sound.closed sound.unique c.requires.knows_a c.requires.knows_b
+    c.requires.goes_on.0 c.requires.goes_on.1 c.requires.goes_on.2 in
+    let gave =
+    subst (λ (q : Seated). Gave (IsUnion (family (map_of q) cut.first.lo) (family (map_of q) cut.second.lo))
+    (IsMadeByUnion (family (map_of q) cut.first.lo) (family (map_of q) cut.second.lo)) q c.unite.new.self
+    c.in_ok-lo.lo) same c.in_ok-lo.ensures in
+    union_lo_above s c.args.a c.args.b cut sound are goes c.unite.new.self c.in_ok-lo.lo gave c.unite-2.new.self
+    c.in_ok-hi.hi c.in_ok-hi.ensures
 
 pub unite_halves-make-requires-clause-hi_above : goal.unite_halves-make-requires-clause-hi_above
 unite_halves-make-requires-clause-hi_above t c =
@@ -97,9 +131,15 @@ unite_halves-make-requires-clause-hi_above t c =
     let same = c.halves-level.ensures.seat in
     let sound : IsSoundSeat s = subst IsSoundSeat same c.halves-level.ensures.sound in
     let are = c.halves-level.ensures.halves in
-    let goes : GoesOn (family (map_of s) c.args.a) (family (map_of s) c.args.b) = union_goes_on (map_of s) c.args.a c.args.b sound.closed sound.unique c.requires.knows_a c.requires.knows_b c.requires.goes_on.0 c.requires.goes_on.1 c.requires.goes_on.2 in
-    let gave = subst (λ (q : Seated). Gave (IsUnion (family (map_of q) cut.first.lo) (family (map_of q) cut.second.lo)) (IsMadeByUnion (family (map_of q) cut.first.lo) (family (map_of q) cut.second.lo)) q c.unite.new.self c.in_ok-lo.lo) same c.in_ok-lo.ensures in
-    union_hi_above s c.args.a c.args.b cut sound are goes c.unite.new.self c.in_ok-lo.lo gave c.unite-2.new.self c.in_ok-hi.hi c.in_ok-hi.ensures
+    let goes : GoesOn (family (map_of s) c.args.a) (family (map_of s) c.args.b) =
+    union_goes_on (map_of s) c.args.a c.args.b sound.closed sound.unique c.requires.knows_a c.requires.knows_b
+    c.requires.goes_on.0 c.requires.goes_on.1 c.requires.goes_on.2 in
+    let gave =
+    subst (λ (q : Seated). Gave (IsUnion (family (map_of q) cut.first.lo) (family (map_of q) cut.second.lo))
+    (IsMadeByUnion (family (map_of q) cut.first.lo) (family (map_of q) cut.second.lo)) q c.unite.new.self
+    c.in_ok-lo.lo) same c.in_ok-lo.ensures in
+    union_hi_above s c.args.a c.args.b cut sound are goes c.unite.new.self c.in_ok-lo.lo gave c.unite-2.new.self
+    c.in_ok-hi.hi c.in_ok-hi.ensures
 
 pub unite_halves-returns : goal.unite_halves-returns
 unite_halves-returns t c =
@@ -108,6 +148,12 @@ unite_halves-returns t c =
     let same = c.halves-level.ensures.seat in
     let sound : IsSoundSeat s = subst IsSoundSeat same c.halves-level.ensures.sound in
     let are = c.halves-level.ensures.halves in
-    let goes : GoesOn (family (map_of s) c.args.a) (family (map_of s) c.args.b) = union_goes_on (map_of s) c.args.a c.args.b sound.closed sound.unique c.requires.knows_a c.requires.knows_b c.requires.goes_on.0 c.requires.goes_on.1 c.requires.goes_on.2 in
-    let gave = subst (λ (q : Seated). Gave (IsUnion (family (map_of q) cut.first.lo) (family (map_of q) cut.second.lo)) (IsMadeByUnion (family (map_of q) cut.first.lo) (family (map_of q) cut.second.lo)) q c.unite.new.self c.in_ok-lo.lo) same c.in_ok-lo.ensures in
-    union_made s c.args.a c.args.b cut sound are goes c.unite.new.self c.in_ok-lo.lo gave c.unite-2.new.self c.in_ok-hi.hi c.in_ok-hi.ensures c.make.new.self c.make.result c.make.ensures
+    let goes : GoesOn (family (map_of s) c.args.a) (family (map_of s) c.args.b) =
+    union_goes_on (map_of s) c.args.a c.args.b sound.closed sound.unique c.requires.knows_a c.requires.knows_b
+    c.requires.goes_on.0 c.requires.goes_on.1 c.requires.goes_on.2 in
+    let gave =
+    subst (λ (q : Seated). Gave (IsUnion (family (map_of q) cut.first.lo) (family (map_of q) cut.second.lo))
+    (IsMadeByUnion (family (map_of q) cut.first.lo) (family (map_of q) cut.second.lo)) q c.unite.new.self
+    c.in_ok-lo.lo) same c.in_ok-lo.ensures in
+    union_made s c.args.a c.args.b cut sound are goes c.unite.new.self c.in_ok-lo.lo gave c.unite-2.new.self
+    c.in_ok-hi.hi c.in_ok-hi.ensures c.make.new.self c.make.result c.make.ensures

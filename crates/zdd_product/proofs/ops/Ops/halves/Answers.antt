@@ -9,20 +9,26 @@ use Rattle.zdd_product.proofs.ops.Ops.halves.Goals as goal
 closed_before : (before after : Seated) → after ≡ before → IsSoundSeat after → IsClosed (map_of before)
 closed_before before after same sound = subst (λ (s : Seated). IsClosed (map_of s)) same sound.closed
 
-half_before : (before after : Seated) → after ≡ before → (x r : ℕ) (half : Half) → IsHalf (map_of after) x r half → IsHalf (map_of before) x r half
+half_before : (before after : Seated) → after ≡ before → (x r : ℕ) (half : Half) → IsHalf (map_of after) x r half
+    → IsHalf (map_of before) x r half
 half_before before after same x r half is = subst (λ (s : Seated). IsHalf (map_of s) x r half) same is
 
-split_before : (before after : Seated) → after ≡ before → (x r : ℕ) (half : Half) → IsSplit (map_of after) x r half → IsSplit (map_of before) x r half
+split_before : (before after : Seated) → after ≡ before → (x r : ℕ) (half : Half) → IsSplit (map_of after) x r half
+    → IsSplit (map_of before) x r half
 split_before before after same x r half is = subst (λ (s : Seated). IsSplit (map_of s) x r half) same is
 
 pub returns-then-number-lt2-clause-halves : goal.returns-then-number-lt2-clause-halves
 returns-then-number-lt2-clause-halves c =
     let other = c.split_node-other.ensures in
     let small : c.args.a < 2 = let e = c.number.ensures.value in let h = c.if-number-lt2.true in omega (arith, e, h) in
-    let closed : IsClosed (map_of c.args.self.now) = closed_before c.args.self.now c.split_node-other.new.self other.seat other.sound in
+    let closed : IsClosed (map_of c.args.self.now) =
+    closed_before c.args.self.now c.split_node-other.new.self other.seat other.sound in
     record {
       unit = other.unit;
-      first = IsHalf-whole (map_of c.args.self.now) c.split_node-other.result.level c.args.a c.whole.result closed other.unit c.requires.knows_a (terminal_above (map_of c.args.self.now) c.split_node-other.result.level c.args.a other.unit small) c.whole.ensures;
+      first =
+          IsHalf-whole (map_of c.args.self.now) c.split_node-other.result.level c.args.a c.whole.result closed
+          other.unit c.requires.knows_a (terminal_above (map_of c.args.self.now) c.split_node-other.result.level
+          c.args.a other.unit small) c.whole.ensures;
       second = other.half;
       least = inr other.split;
     }
@@ -30,12 +36,17 @@ returns-then-number-lt2-clause-halves c =
 pub returns-then-number-lt2-2-clause-halves : goal.returns-then-number-lt2-2-clause-halves
 returns-then-number-lt2-2-clause-halves c =
     let one = c.split_node-one.ensures in
-    let small : c.args.b < 2 = let e = c.number-2.ensures.value in let h = c.if-number-lt2-2.true in omega (arith, e, h) in
-    let closed : IsClosed (map_of c.args.self.now) = closed_before c.args.self.now c.split_node-one.new.self one.seat one.sound in
+    let small : c.args.b < 2 =
+    let e = c.number-2.ensures.value in let h = c.if-number-lt2-2.true in omega (arith, e, h) in
+    let closed : IsClosed (map_of c.args.self.now) =
+    closed_before c.args.self.now c.split_node-one.new.self one.seat one.sound in
     record {
       unit = one.unit;
       first = one.half;
-      second = IsHalf-whole (map_of c.args.self.now) c.split_node-one.result.level c.args.b c.whole-then-number-lt2-2.result closed one.unit c.requires.knows_b (terminal_above (map_of c.args.self.now) c.split_node-one.result.level c.args.b one.unit small) c.whole-then-number-lt2-2.ensures;
+      second =
+          IsHalf-whole (map_of c.args.self.now) c.split_node-one.result.level c.args.b c.whole-then-number-lt2-2.result
+          closed one.unit c.requires.knows_b (terminal_above (map_of c.args.self.now) c.split_node-one.result.level
+          c.args.b one.unit small) c.whole-then-number-lt2-2.ensures;
       least = inl one.split;
     }
 
@@ -44,10 +55,14 @@ returns-then-first-second-clause-halves c =
     let one = c.split_node-one.ensures in
     let other = c.split_node-other-2.ensures in
     let lower : c.split_node-one.result.level < c.split_node-other-2.result.level = omega arith in
-    first_lower (map_of c.args.self.now) c.args.a c.args.b c.split_node-one.result.level c.split_node-other-2.result.level c.split_node-one.result.half c.split_node-other-2.result.half
-    (closed_before c.args.self.now c.split_node-one.new.self one.seat one.sound) c.requires.knows_a c.requires.knows_b one.unit other.unit one.half one.split
-    (half_before c.args.self.now c.split_node-one.new.self one.seat c.split_node-other-2.result.level c.args.b c.split_node-other-2.result.half other.half)
-    (split_before c.args.self.now c.split_node-one.new.self one.seat c.split_node-other-2.result.level c.args.b c.split_node-other-2.result.half other.split)
+    first_lower (map_of c.args.self.now) c.args.a c.args.b c.split_node-one.result.level
+    c.split_node-other-2.result.level c.split_node-one.result.half c.split_node-other-2.result.half
+    (closed_before c.args.self.now c.split_node-one.new.self one.seat one.sound) c.requires.knows_a c.requires.knows_b
+    one.unit other.unit one.half one.split
+    (half_before c.args.self.now c.split_node-one.new.self one.seat c.split_node-other-2.result.level c.args.b
+    c.split_node-other-2.result.half other.half)
+    (split_before c.args.self.now c.split_node-one.new.self one.seat c.split_node-other-2.result.level c.args.b
+    c.split_node-other-2.result.half other.split)
     c.whole-then-first-second.result c.whole-then-first-second.ensures lower
 
 pub returns-then-second-first-clause-halves : goal.returns-then-second-first-clause-halves
@@ -55,10 +70,14 @@ returns-then-second-first-clause-halves c =
     let one = c.split_node-one.ensures in
     let other = c.split_node-other-2.ensures in
     let lower : c.split_node-other-2.result.level < c.split_node-one.result.level = omega arith in
-    second_lower (map_of c.args.self.now) c.args.a c.args.b c.split_node-one.result.level c.split_node-other-2.result.level c.split_node-one.result.half c.split_node-other-2.result.half
-    (closed_before c.args.self.now c.split_node-one.new.self one.seat one.sound) c.requires.knows_a c.requires.knows_b one.unit other.unit one.half one.split
-    (half_before c.args.self.now c.split_node-one.new.self one.seat c.split_node-other-2.result.level c.args.b c.split_node-other-2.result.half other.half)
-    (split_before c.args.self.now c.split_node-one.new.self one.seat c.split_node-other-2.result.level c.args.b c.split_node-other-2.result.half other.split)
+    second_lower (map_of c.args.self.now) c.args.a c.args.b c.split_node-one.result.level
+    c.split_node-other-2.result.level c.split_node-one.result.half c.split_node-other-2.result.half
+    (closed_before c.args.self.now c.split_node-one.new.self one.seat one.sound) c.requires.knows_a c.requires.knows_b
+    one.unit other.unit one.half one.split
+    (half_before c.args.self.now c.split_node-one.new.self one.seat c.split_node-other-2.result.level c.args.b
+    c.split_node-other-2.result.half other.half)
+    (split_before c.args.self.now c.split_node-one.new.self one.seat c.split_node-other-2.result.level c.args.b
+    c.split_node-other-2.result.half other.split)
     c.whole-then-second-first.result c.whole-then-second-first.ensures lower
 
 pub returns-clause-halves : goal.returns-clause-halves
@@ -66,8 +85,12 @@ returns-clause-halves c =
     let one = c.split_node-one.ensures in
     let other = c.split_node-other-2.ensures in
     let same : c.split_node-other-2.result.level ≡ c.split_node-one.result.level = omega arith in
-    same_level (map_of c.args.self.now) c.args.a c.args.b c.split_node-one.result.level c.split_node-other-2.result.level c.split_node-one.result.half c.split_node-other-2.result.half
-    (closed_before c.args.self.now c.split_node-one.new.self one.seat one.sound) c.requires.knows_a c.requires.knows_b one.unit other.unit one.half one.split
-    (half_before c.args.self.now c.split_node-one.new.self one.seat c.split_node-other-2.result.level c.args.b c.split_node-other-2.result.half other.half)
-    (split_before c.args.self.now c.split_node-one.new.self one.seat c.split_node-other-2.result.level c.args.b c.split_node-other-2.result.half other.split)
+    same_level (map_of c.args.self.now) c.args.a c.args.b c.split_node-one.result.level
+    c.split_node-other-2.result.level c.split_node-one.result.half c.split_node-other-2.result.half
+    (closed_before c.args.self.now c.split_node-one.new.self one.seat one.sound) c.requires.knows_a c.requires.knows_b
+    one.unit other.unit one.half one.split
+    (half_before c.args.self.now c.split_node-one.new.self one.seat c.split_node-other-2.result.level c.args.b
+    c.split_node-other-2.result.half other.half)
+    (split_before c.args.self.now c.split_node-one.new.self one.seat c.split_node-other-2.result.level c.args.b
+    c.split_node-other-2.result.half other.split)
     same

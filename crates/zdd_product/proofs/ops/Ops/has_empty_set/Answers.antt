@@ -18,10 +18,12 @@ loop-self-preserved c =
       empty =
           c.loop-self.invariant.empty
           ∙ empty_in_lo split.level (family known lowest) (family known split.half.lo) (family known split.half.hi)
-          (subst (λ (q : Seated). IsHalved split.level (family (map_of q) lowest) (family (map_of q) split.half.lo) (family (map_of q) split.half.hi)) same cut.half.halved);
+          (subst (λ (q : Seated). IsHalved split.level (family (map_of q) lowest) (family (map_of q) split.half.lo)
+          (family (map_of q) split.half.hi)) same cut.half.halved);
     }
 
 pub returns-clause-empty : goal.returns-clause-empty
 returns-clause-empty c =
-    let small : c.loop-self.lowest < 2 = let e = c.number.ensures.value in let h = c.loop-self-test.false in omega (arith, e, h) in
+    let small : c.loop-self.lowest < 2 =
+    let e = c.number.ensures.value in let h = c.loop-self-test.false in omega (arith, e, h) in
     c.eq.ensures ∙ (empty_at_end (map_of c.args.self.now) c.loop-self.lowest small ∙ sym c.loop-self.invariant.empty)

@@ -8,7 +8,8 @@ abbrev pub invariant-loop-self : goal.invariant-loop-self
 invariant-loop-self l = record {
   seat : l.self ≡ l.initial.self;
   knows : Knows (map_of l.initial.self) l.lowest;
-  empty : includes_one (family (map_of l.initial.self) l.fn.r) [] ≡ includes_one (family (map_of l.initial.self) l.lowest) [];
+  empty : includes_one (family (map_of l.initial.self) l.fn.r) []
+      ≡ includes_one (family (map_of l.initial.self) l.lowest) [];
 }
 
 abbrev pub decreases-loop-self : goal.decreases-loop-self

@@ -7,5 +7,7 @@ pub invariant_of-self : goal.invariant_of-self
 invariant_of-self c = record {
   own = c.join.ensures.store ∙ c.self.invariant.own;
   sound = c.join.ensures.sound;
-  told = all_told (map_of c.self.inside.seat) (map_of c.join.new.seat) c.self.inside.cache.entries.items c.self.invariant.sound.closed c.join.ensures.sound.closed c.join.ensures.keeps c.self.invariant.told;
+  told =
+      all_told (map_of c.self.inside.seat) (map_of c.join.new.seat) c.self.inside.cache.entries.items
+      c.self.invariant.sound.closed c.join.ensures.sound.closed c.join.ensures.keeps c.self.invariant.told;
 }

@@ -12,14 +12,21 @@ returns-then-eq c =
     let known = map_of c.args.self.now in
     let made = IsBranch c.args.level (family known c.args.lo) (family known c.args.hi) in
     let none : c.args.hi ≡ 0 = grind arith in
-    Gave-known made c.args.self.now c.is_sound.ensures.sound made c.args.lo (c.requires.knows_lo, lo_alone known c.args.level c.args.lo c.args.hi none)
+    Gave-known made c.args.self.now c.is_sound.ensures.sound made c.args.lo
+    (c.requires.knows_lo, lo_alone known c.args.level c.args.lo c.args.hi none)
 
 pub returns : goal.returns
 returns c =
     let old = map_of c.args.self.now in
     let new = map_of c.node.new.self in
-    let at : (r : ℕ) → Knows old r → family new r ≡ family old r = λ r knows. (stays c.args.self.now c.node.new.self r c.is_sound.ensures.sound c.node.ensures.sound c.node.ensures.keeps knows).1 in
-    let packed_is : word_family new (packed c.args.level c.args.lo c.args.hi) ≡ branch c.args.level (family old c.args.lo) (family old c.args.hi) =
-    word_family-packed new c.args.level c.args.lo c.args.hi c.number.ensures.small c.number-2.ensures.small ∙ (λ i. branch c.args.level (at c.args.lo c.requires.knows_lo i) (at c.args.hi c.requires.knows_hi i)) in
-    node_made c.args.self.now c.node.new.self (branch c.args.level (family old c.args.lo) (family old c.args.hi)) (packed c.args.level c.args.lo c.args.hi)
-    c.node.ensures.store c.node.ensures.share c.node.ensures.keeps c.node.ensures.sound packed_is c.node.result c.node.ensures.family c.node.ensures.fills c.node.ensures.fulls c.node.ensures.missed
+    let at : (r : ℕ) → Knows old r → family new r ≡ family old r =
+    λ r knows. (stays c.args.self.now c.node.new.self r c.is_sound.ensures.sound c.node.ensures.sound
+    c.node.ensures.keeps knows).1 in
+    let packed_is : word_family new (packed c.args.level c.args.lo c.args.hi)
+    ≡ branch c.args.level (family old c.args.lo) (family old c.args.hi) =
+    word_family-packed new c.args.level c.args.lo c.args.hi c.number.ensures.small c.number-2.ensures.small
+    ∙ (λ i. branch c.args.level (at c.args.lo c.requires.knows_lo i) (at c.args.hi c.requires.knows_hi i)) in
+    node_made c.args.self.now c.node.new.self (branch c.args.level (family old c.args.lo) (family old c.args.hi))
+    (packed c.args.level c.args.lo c.args.hi)
+    c.node.ensures.store c.node.ensures.share c.node.ensures.keeps c.node.ensures.sound packed_is c.node.result
+    c.node.ensures.family c.node.ensures.fills c.node.ensures.fulls c.node.ensures.missed

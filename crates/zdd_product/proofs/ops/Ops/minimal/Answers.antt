@@ -9,9 +9,11 @@ use Rattle.zdd_product.proofs.ops.Ops.minimal.Goals as goal
 pub returns-clause-gives : goal.returns-clause-gives
 returns-clause-gives c =
     let f = family (map_of c.args.self.now) c.args.a in
-    gave_of (IsMinimal f) (IsMadeByMinimal f) (IsDueToMinimal f) (λ h made. made.1) c.args.self.now c.least.new.self c.least.result c.least.ensures
+    gave_of (IsMinimal f) (IsMadeByMinimal f) (IsDueToMinimal f) (λ h made. made.1) c.args.self.now c.least.new.self
+    c.least.result c.least.ensures
 
 pub returns-clause-full : goal.returns-clause-full
 returns-clause-full c =
     let f = family (map_of c.args.self.now) c.args.a in
-    full_of (IsMinimal f) (IsMadeByMinimal f) (IsDueToMinimal f) (λ h made. made.1) c.args.self.now c.least.new.self c.least.result c.least.ensures
+    full_of (IsMinimal f) (IsMadeByMinimal f) (IsDueToMinimal f) (λ h made. made.1) c.args.self.now c.least.new.self
+    c.least.result c.least.ensures

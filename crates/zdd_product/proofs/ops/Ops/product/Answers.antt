@@ -10,10 +10,12 @@ pub returns-clause-gives : goal.returns-clause-gives
 returns-clause-gives c =
     let f = family (map_of c.args.self.now) c.args.a in
     let g = family (map_of c.args.self.now) c.args.b in
-    gave_of (IsProduct f g) (IsMadeByProduct f g) (IsDueToProduct f g) (λ h made. made.2) c.args.self.now c.multiply.new.self c.multiply.result c.multiply.ensures
+    gave_of (IsProduct f g) (IsMadeByProduct f g) (IsDueToProduct f g) (λ h made. made.2) c.args.self.now
+    c.multiply.new.self c.multiply.result c.multiply.ensures
 
 pub returns-clause-full : goal.returns-clause-full
 returns-clause-full c =
     let f = family (map_of c.args.self.now) c.args.a in
     let g = family (map_of c.args.self.now) c.args.b in
-    full_of (IsProduct f g) (IsMadeByProduct f g) (IsDueToProduct f g) (λ h made. made.2) c.args.self.now c.multiply.new.self c.multiply.result c.multiply.ensures
+    full_of (IsProduct f g) (IsMadeByProduct f g) (IsDueToProduct f g) (λ h made. made.2) c.args.self.now
+    c.multiply.new.self c.multiply.result c.multiply.ensures

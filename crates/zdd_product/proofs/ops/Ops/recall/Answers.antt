@@ -11,4 +11,5 @@ returns-clause-answer c =
     IfSome_then c.answer.result c.answer.ensures
     (λ answer has.
     subst (λ m. IsTold m (record { question = c.args.question.now; answer = answer })) (ap map_of c.self.view_is)
-    (All-contains (IsTold (map_of c.self.inside.seat)) entries (record { question = c.args.question.now; answer = answer }) c.self.invariant.told has))
+    (All-contains (IsTold (map_of c.self.inside.seat)) entries
+    (record { question = c.args.question.now; answer = answer }) c.self.invariant.told has))

@@ -13,5 +13,7 @@ returns-then-ne c =
     let unit : c.args.high ≡ 1 = grind arith in
     let other : c.args.low ≢ 1 = grind arith in
     let sound = c.is_sound.ensures.sound in
-    Gave-known (IsMadeByWithout (family known c.args.high) (family known c.args.low)) c.args.self.now sound (IsWithout (family known c.args.high) (family known c.args.low)) c.args.high
-    (unit_of_least known c.args.high c.args.low c.requires.least.0 sound.closed sound.unique c.requires.knows_low c.requires.least.1 unit other)
+    Gave-known (IsMadeByWithout (family known c.args.high) (family known c.args.low)) c.args.self.now sound
+    (IsWithout (family known c.args.high) (family known c.args.low)) c.args.high
+    (unit_of_least known c.args.high c.args.low c.requires.least.0 sound.closed sound.unique c.requires.knows_low
+    c.requires.least.1 unit other)

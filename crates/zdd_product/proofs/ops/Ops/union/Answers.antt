@@ -10,10 +10,12 @@ pub returns-clause-gives : goal.returns-clause-gives
 returns-clause-gives c =
     let f = family (map_of c.args.self.now) c.args.a in
     let g = family (map_of c.args.self.now) c.args.b in
-    gave_of (IsUnion f g) (IsMadeByUnion f g) (IsDueToUnion f g) (λ h made. made.1) c.args.self.now c.unite.new.self c.unite.result c.unite.ensures
+    gave_of (IsUnion f g) (IsMadeByUnion f g) (IsDueToUnion f g) (λ h made. made.1) c.args.self.now c.unite.new.self
+    c.unite.result c.unite.ensures
 
 pub returns-clause-full : goal.returns-clause-full
 returns-clause-full c =
     let f = family (map_of c.args.self.now) c.args.a in
     let g = family (map_of c.args.self.now) c.args.b in
-    full_of (IsUnion f g) (IsMadeByUnion f g) (IsDueToUnion f g) (λ h made. made.1) c.args.self.now c.unite.new.self c.unite.result c.unite.ensures
+    full_of (IsUnion f g) (IsMadeByUnion f g) (IsDueToUnion f g) (λ h made. made.1) c.args.self.now c.unite.new.self
+    c.unite.result c.unite.ensures

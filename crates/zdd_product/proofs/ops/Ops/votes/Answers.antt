@@ -27,14 +27,17 @@ returns-clause-gives c =
     let some : 1 ≤ k = c.requires.some in
     let space : k ≤ length room = omega arith in
     let last : suc (k - 1) ≡ k = omega arith in
-    let at : c.index-room-k.result ≡ get_or room (k - 1) 0 = get_or_read room (k - 1) c.index-room-k.result (omega arith) c.index-room-k.is 0 in
+    let at : c.index-room-k.result ≡ get_or room (k - 1) 0 =
+    get_or_read room (k - 1) c.index-room-k.result (omega arith) c.index-room-k.is 0 in
     let all : take (length list) (families new list) ≡ families (map_of c.args.self.now) list =
     ap (λ n. take n (families new list)) (sym (length-map list (family new))) ∙ take-length (families new list)
-    ∙ families_stay c.args.self.now c.vote_all.new.self list c.is_sound.ensures.sound done.0.went.sound done.0.went.keeps c.requires.knows in
+    ∙ families_stay c.args.self.now c.vote_all.new.self list c.is_sound.ensures.sound done.0.went.sound
+    done.0.went.keeps c.requires.knows in
     record {
       on = done.0;
       known =
           subst (λ r. KnowsOne new r (IsVotes k (families (map_of c.args.self.now) list))) (sym at)
           (subst (λ fs. KnowsOne new (get_or room (k - 1) 0) (IsVotes k fs)) all
-          (subst (λ n. KnowsOne new (get_or room (k - 1) 0) (IsVotes n (take (length list) (families new list)))) last (done.1 (k - 1) (omega arith) (omega arith))));
+          (subst (λ n. KnowsOne new (get_or room (k - 1) 0) (IsVotes n (take (length list) (families new list)))) last
+          (done.1 (k - 1) (omega arith) (omega arith))));
     }

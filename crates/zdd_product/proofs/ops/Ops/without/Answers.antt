@@ -10,10 +10,12 @@ pub returns-clause-gives : goal.returns-clause-gives
 returns-clause-gives c =
     let f = family (map_of c.args.self.now) c.args.a in
     let g = family (map_of c.args.self.now) c.args.b in
-    gave_of (IsWithout f g) (IsMadeByWithout f g) (IsDueToWithout f g) (λ h made. made.2) c.args.self.now c.strip.new.self c.strip.result c.strip.ensures
+    gave_of (IsWithout f g) (IsMadeByWithout f g) (IsDueToWithout f g) (λ h made. made.2) c.args.self.now
+    c.strip.new.self c.strip.result c.strip.ensures
 
 pub returns-clause-full : goal.returns-clause-full
 returns-clause-full c =
     let f = family (map_of c.args.self.now) c.args.a in
     let g = family (map_of c.args.self.now) c.args.b in
-    full_of (IsWithout f g) (IsMadeByWithout f g) (IsDueToWithout f g) (λ h made. made.2) c.args.self.now c.strip.new.self c.strip.result c.strip.ensures
+    full_of (IsWithout f g) (IsMadeByWithout f g) (IsDueToWithout f g) (λ h made. made.2) c.args.self.now
+    c.strip.new.self c.strip.result c.strip.ensures

@@ -14,8 +14,10 @@ join_seat-requires c =
     let seat = c.seat.inside.place in
     let other = c.other.inside.place in
     let shared = c.self.inside.table.shared in
-    let own : seat.table_id ≡ shared.table_id = ap (λ s. s.store) c.seat.view_is ∙ (c.requires.own ∙ sym c.self.view_is) in
-    let others : other.table_id ≡ shared.table_id = ap (λ s. s.store) c.other.view_is ∙ (c.requires.others ∙ sym c.self.view_is) in
+    let own : seat.table_id ≡ shared.table_id =
+    ap (λ s. s.store) c.seat.view_is ∙ (c.requires.own ∙ sym c.self.view_is) in
+    let others : other.table_id ≡ shared.table_id =
+    ap (λ s. s.store) c.other.view_is ∙ (c.requires.others ∙ sym c.self.view_is) in
     let some : 0 < shared.table_id.words = omega (arith, pow_pos c.self.inside.bits, c.self.invariant.3) in
     (own, others, c.other.invariant.holds_none, some, allows_join shared.key seat.id seat.me.0 other.id other.me.0)
 
@@ -23,15 +25,19 @@ pub load-requires : goal.load-requires
 load-requires c =
     let seat = c.join_seat.new.seat in
     let shared = c.self.inside.table.shared in
-    let before : c.seat.inside.place.table_id ≡ shared.table_id = ap (λ s. s.store) c.seat.view_is ∙ (c.requires.own ∙ sym c.self.view_is) in
+    let before : c.seat.inside.place.table_id ≡ shared.table_id =
+    ap (λ s. s.store) c.seat.view_is ∙ (c.requires.own ∙ sym c.self.view_is) in
     let own : seat.table_id ≡ shared.table_id = c.join_seat.ensures.0 ∙ before in
     let kept = c.self.invariant in
     let bits : 2 ^ c.self.inside.bits ≡ 2 ^ shared.key = ap (λ k. 2 ^ k) (sym kept.2) in
     let some : 0 < shared.table_id.words = omega (arith, pow_pos c.self.inside.bits, kept.3) in
-    let sized : seat.me.0.size ≡ 2 ^ shared.key = ap (λ m. m.0.size) c.join_seat.ensures.2 ∙ (c.seat.invariant.sized ∙ (ap (λ t. t.words) before ∙ (kept.3 ∙ bits))) in
+    let sized : seat.me.0.size ≡ 2 ^ shared.key =
+    ap (λ m. m.0.size) c.join_seat.ensures.2 ∙ (c.seat.invariant.sized
+    ∙ (ap (λ t. t.words) before ∙ (kept.3 ∙ bits))) in
     (own, some, allows_look shared.key shared.table_id.slots seat.id seat.me.0 seat.me.1 0 sized)
 
-known_after : (c : After-load) → c.load.new.seat.me.0.known ≡ c.seat.inside.place.me.0.known ++ c.other.inside.place.me.0.known
+known_after : (c : After-load) → c.load.new.seat.me.0.known
+    ≡ c.seat.inside.place.me.0.known ++ c.other.inside.place.me.0.known
 known_after c = ap (λ v. v.known) c.load.ensures.2.0 ∙ ap (λ m. m.0.known) c.join_seat.ensures.2
 
 pub returns-clause-keeps : goal.returns-clause-keeps

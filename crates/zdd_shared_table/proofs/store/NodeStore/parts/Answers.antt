@@ -14,23 +14,29 @@ load-word-requires c =
     let own : seat.table_id ≡ id = ap (λ s. s.store) c.seat.view_is ∙ (c.requires.own ∙ sym c.self.view_is) in
     let is : find seat.me.0.known ≡ map_of c.args.seat.now = ap map_of c.seat.view_is in
     let knows : Knows (find seat.me.0.known) c.args.r = subst (λ m. Knows m c.args.r) (sym is) c.requires.knows in
-    let within : c.args.r < seat.me.0.size + 2 = c.seat.invariant.sound.within c.args.r (inner_known (find seat.me.0.known) c.args.r knows c.requires.inner) in
+    let within : c.args.r < seat.me.0.size + 2 =
+    c.seat.invariant.sound.within c.args.r (inner_known (find seat.me.0.known) c.args.r knows c.requires.inner) in
     let sized = c.seat.invariant.sized in
     let words : seat.table_id.words ≡ id.words = ap (λ t. t.words) own in
-    let inside : c.number.result - 2 < id.words = let n = c.number.ensures.value in let large = c.requires.inner in omega arith in
+    let inside : c.number.result - 2 < id.words =
+    let n = c.number.ensures.value in let large = c.requires.inner in omega arith in
     (own, inside, allows_read c.self.inside.table.shared.key id.slots seat.id seat.me.0 seat.me.1 (c.number.result - 2))
 
-parts_of : (c : After-unpack) → HasParts (map_of c.args.seat.now) (find c.load-word.new.seat.me.0.known) c.args.r c.unpack.result.level c.unpack.result.lo c.unpack.result.hi
+parts_of : (c : After-unpack) → HasParts (map_of c.args.seat.now) (find c.load-word.new.seat.me.0.known) c.args.r
+    c.unpack.result.level c.unpack.result.lo c.unpack.result.hi
 parts_of c =
     let seat = c.seat.inside.place in
     let is : find seat.me.0.known ≡ map_of c.args.seat.now = ap map_of c.seat.view_is in
-    let after : find seat.me.0.known ≡ find c.load-word.new.seat.me.0.known = ap (λ v. find v.known) (sym c.load-word.ensures.2.0) in
+    let after : find seat.me.0.known ≡ find c.load-word.new.seat.me.0.known =
+    ap (λ v. find v.known) (sym c.load-word.ensures.2.0) in
     let knows : Knows (find seat.me.0.known) c.args.r = subst (λ m. Knows m c.args.r) (sym is) c.requires.knows in
     let has : find seat.me.0.known c.args.r ≢ 0 = inner_known (find seat.me.0.known) c.args.r knows c.requires.inner in
-    let at : (c.number.result - 2) + 2 ≡ c.args.r = let n = c.number.ensures.value in let large = c.requires.inner in omega arith in
+    let at : (c.number.result - 2) + 2 ≡ c.args.r =
+    let n = c.number.ensures.value in let large = c.requires.inner in omega arith in
     let word : c.load-word.result ≡ find seat.me.0.known c.args.r =
     c.load-word.ensures.2.2 (λ none. has (ap (find seat.me.0.known) (sym at) ∙ none)) ∙ ap (find seat.me.0.known) at in
-    has_parts (find seat.me.0.known) (map_of c.args.seat.now) (find c.load-word.new.seat.me.0.known) c.args.r c.load-word.result c.unpack.result.level c.unpack.result.lo c.unpack.result.hi
+    has_parts (find seat.me.0.known) (map_of c.args.seat.now) (find c.load-word.new.seat.me.0.known) c.args.r
+    c.load-word.result c.unpack.result.level c.unpack.result.lo c.unpack.result.hi
     c.seat.invariant.sound.closed has is after word c.unpack.ensures.level c.unpack.ensures.lo c.unpack.ensures.hi
 
 pub returns-clause-level : goal.returns-clause-level

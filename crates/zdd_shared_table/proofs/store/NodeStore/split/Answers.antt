@@ -8,7 +8,8 @@ use Rattle.zdd_shared_table.specs.declared.view.View.{View}
 use Rattle.zdd_shared_table.proofs.store.NodeStore.split.Goals as goal
 use Rattle.zdd_shared_table.proofs.store.NodeStore.split.Goals.{After-cut}
 
-sound_split : (size : ℕ) (pairs : List (ℕ × ℕ)) (asked gained : List ℕ) → IsSound size pairs asked gained → IsSound size pairs [] []
+sound_split : (size : ℕ) (pairs : List (ℕ × ℕ)) (asked gained : List ℕ) → IsSound size pairs asked gained
+    → IsSound size pairs [] []
 sound_split size pairs asked gained sound = record {
   closed = sound.closed;
   unique = sound.unique;
@@ -18,15 +19,24 @@ sound_split size pairs asked gained sound = record {
   fills = λ reference none. Contains-nil reference none;
 }
 
-split_seat : (id : TableId) (v : View) (share : ℕ) → v.size ≡ id.words → 1 ≤ share → IsSound v.size v.known v.missed v.fills → IsSeat id (split_off share v, [])
-split_seat id v share sized some sound = record { holds_none = λ i. []; sized = sized; shares = some; sound = sound_split v.size v.known v.missed v.fills sound }
+split_seat : (id : TableId) (v : View) (share : ℕ) → v.size ≡ id.words → 1 ≤ share
+    → IsSound v.size v.known v.missed v.fills → IsSeat id (split_off share v, [])
+split_seat id v share sized some sound =
+    record {
+      holds_none = λ i. [];
+      sized = sized;
+      shares = some;
+      sound =
+          sound_split v.size v.known v.missed v.fills sound;
+    }
 
 new_seat : (c : After-cut) → IsSeat c.cut.result.table_id c.cut.result.me
 new_seat c =
     let seat = c.seat.inside.place in
     let own = c.seat.invariant in
     let P : TableId × Me (Unit {0}) View → Type 0 = λ p. IsSeat p.0 p.1 in
-    subst P (λ i. (sym c.cut.ensures.at i, sym c.cut.ensures.right i)) (split_seat seat.table_id seat.me.0 c.args.share own.sized c.requires.some own.sound)
+    subst P (λ i. (sym c.cut.ensures.at i, sym c.cut.ensures.right i))
+    (split_seat seat.table_id seat.me.0 c.args.share own.sized c.requires.some own.sound)
 
 old_seat : (c : After-cut) → IsSeat c.cut.new.seat.table_id c.cut.new.seat.me
 old_seat c =
@@ -35,7 +45,8 @@ old_seat c =
     let P : TableId × Me (Unit {0}) View → Type 0 = λ p. IsSeat p.0 p.1 in
     let has : seat.me.0.share ≡ c.args.seat.now.share = ap (λ s. s.share) c.seat.view_is in
     let left : 1 ≤ seat.me.0.share - c.args.share = let less = c.requires.less in omega arith in
-    subst P (λ i. (sym c.cut.ensures.stays.0 i, sym c.cut.ensures.left i)) record { holds_none = own.holds_none; sized = own.sized; shares = left; sound = own.sound }
+    subst P (λ i. (sym c.cut.ensures.stays.0 i, sym c.cut.ensures.left i))
+    record { holds_none = own.holds_none; sized = own.sized; shares = left; sound = own.sound }
 
 sound_of : (id : TableId) (me : Me (Unit {0}) View) → IsSeat id me → IsSound id.words me.0.known me.0.missed me.0.fills
 sound_of id me seat = subst (λ n. IsSound n me.0.known me.0.missed me.0.fills) seat.sized seat.sound
@@ -44,4 +55,7 @@ pub invariant_of-result : goal.invariant_of-result
 invariant_of-result c = new_seat c
 
 pub returns-clause-sound : goal.returns-clause-sound
-returns-clause-sound c = (sound_of c.cut.result.table_id c.cut.result.me (new_seat c), sound_of c.cut.new.seat.table_id c.cut.new.seat.me (old_seat c))
+returns-clause-sound c = (
+  sound_of c.cut.result.table_id c.cut.result.me (new_seat c),
+  sound_of c.cut.new.seat.table_id c.cut.new.seat.me (old_seat c),
+)
