@@ -1,9 +1,8 @@
 -- What a line of a crew part says, by its words.
-use Rattle.std.specs.Prelude.{ℕ, ◌+◌, ◌-◌, ◌*◌, Bool, true, false, not, ◌==◌, ◌&&◌, ◌||◌, nat_le, nat_lt}
+use Rattle.std.specs.Prelude.{ℕ, ◌+◌, Bool, true, false, not, ◌==◌, ◌&&◌, ◌||◌, nat_le, nat_lt}
 use Rattle.std.specs.Prelude.{if◌then◌else◌, List, [], ◌∷◌, ◌++◌, length, codes, Option, Some, None}
-use Rattle.std.specs.List.{list_all}
-use Rattle.std.specs.Char.{is_ascii_digit}
 use Rattle.std.specs.Str.{str_eq_ignore_ascii_case}
+use Rattle.decimal_numerals.specs.Numeral.{is_numeral, number_from}
 use Rattle.fault_model.specs.Name.{is_name, is_bare_name}
 use Rattle.crew_script.specs.declared.word.WordKind.{WordKind}
 use Rattle.crew_script.specs.declared.word.WordKind.TheVariants.{Bare, Quoted, Broken}
@@ -43,25 +42,9 @@ is_comment word = is_bare_kind word.kind && begins_comment word.text
 
 -- ---- margins
 
--- a zero in front of other digits
-abbrev pub has_leading_zero : List ℕ → Bool
-has_leading_zero [] = false
-has_leading_zero (first ∷ []) = false
-has_leading_zero (first ∷ second ∷ rest) = first == 48
-
--- the number that digits write behind one
-abbrev pub number_from : ℕ → List ℕ → ℕ
-number_from number [] = number
-number_from number (digit ∷ digits) = number_from (10 * number + (digit - 48)) digits
-
--- 1 to 4 digits, without a zero in front of others
-abbrev pub is_numeral : List ℕ → Bool
-is_numeral text = nat_le 1 (length text) && nat_le (length text) 4 && list_all is_ascii_digit text
-    && not (has_leading_zero text)
-
 -- the margin that a text writes
 abbrev pub margin_of : List ℕ → Option ℕ
-margin_of text = if is_numeral text && nat_le (number_from 0 text) 4095 then Some (number_from 0 text) else None
+margin_of text = if is_numeral 4 text && nat_le (number_from 0 text) 4095 then Some (number_from 0 text) else None
 
 -- ---- forms
 

@@ -4,7 +4,8 @@ ghost use Rattle.crew_script.specs.Dockets.{HasMargin, crew_at, ask_at, request_
 
 use crate::copies::copy_of_crews;
 use crate::names::NameList;
-use fault_model::{GrowingList, Name};
+use fault_model::Name;
+use flat_rows::GrowingList;
 use std::alloc::Global;
 use std::marker::Model;
 use unit_sets::{CrewNo, NoMemory};

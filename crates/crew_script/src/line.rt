@@ -1,16 +1,14 @@
 //! What a line says.
 ghost use Rattle.std.specs.Prelude.{◌≡◌, ◌≤◌, IfOk, IfSome, length, true, []};
-ghost use Rattle.std.specs.List.{list_all};
-ghost use Rattle.std.specs.Char.{is_ascii_digit};
 ghost use Rattle.crew_script.specs.Words.{words_of};
 ghost use Rattle.crew_script.specs.Lines.{line_of, request_line, crew_line, return_line, margin_line, take_line};
-ghost use Rattle.crew_script.specs.Lines.{only_name, only_margin, margin_of, number_from, is_numeral};
-ghost use Rattle.crew_script.specs.Lines.{has_leading_zero, SaysMargin};
+ghost use Rattle.crew_script.specs.Lines.{only_name, only_margin, margin_of, SaysMargin};
 ghost use Rattle.crew_script.specs.Names.{has_name};
 
 use crate::dockets::Ask;
 use crate::names::NameList;
 use crate::word::{Word, Words};
+use decimal_numerals::{is_numeral, number};
 use fault_model::Name;
 use std::alloc::{AllocError, Global};
 
@@ -18,6 +16,9 @@ use std::alloc::{AllocError, Global};
 const MOST_TAKEN: usize = 16;
 
 const GREATEST_MARGIN: u32 = 4095;
+
+// The digits of the greatest margin.
+const MARGIN_DIGITS: usize = 4;
 
 /// What a line says: nothing, a new crew, a request of the crew before it, or what is of no form.
 #[derive(Debug, Drop)]
@@ -126,7 +127,7 @@ fn margin_of(text: &[u8]) -> Option<u32>
     ensures margin { result ≡ margin_of text.now }
     ensures small { IfSome result (λ number. number ≤ 4095) }
 {
-    if !is_numeral(text) {
+    if !is_numeral(MARGIN_DIGITS, text) {
         return None;
     }
     let number = number(text);
@@ -135,41 +136,6 @@ fn margin_of(text: &[u8]) -> Option<u32>
     } else {
         None
     }
-}
-
-// Whether a text is 1 to 4 digits, with no zero in front of others.
-fn is_numeral(text: &[u8]) -> bool
-    ensures { result ≡ is_numeral text.now }
-{
-    1 <= text.len() && text.len() <= 4 && all_digits(text) && !has_leading_zero(text)
-}
-
-fn all_digits(text: &[u8]) -> bool
-    ensures { result ≡ list_all is_ascii_digit text.now }
-{
-    text.iter().all(|byte| byte.is_ascii_digit())
-}
-
-fn has_leading_zero(text: &[u8]) -> bool
-    ensures { result ≡ has_leading_zero text.now }
-{
-    match text {
-        [first, _, ..] => *first == b'0',
-        _ => false,
-    }
-}
-
-// The number of up to four digits.
-fn number(text: &[u8]) -> u32
-    requires few { length text.now ≤ 4 }
-    requires digits { list_all is_ascii_digit text.now ≡ true }
-    ensures { result ≡ number_from 0 text.now }
-{
-    let mut number: u32 = 0;
-    for digit in text {
-        number = 10 * number + u32::from(*digit - b'0');
-    }
-    number
 }
 
 // A take, behind its first word.

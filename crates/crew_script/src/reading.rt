@@ -9,7 +9,8 @@ ghost use Rattle.crew_script.specs.declared.line.Line.TheVariants.{Crew as CrewL
 use crate::dockets::{Ask, Crew, Dockets};
 use crate::fault::CrewCode;
 use crate::line::Line;
-use fault_model::{GrowingList, Name};
+use fault_model::Name;
+use flat_rows::GrowingList;
 use indexmap::IndexSet;
 use std::alloc::{AllocError, Global};
 use std::marker::Model;

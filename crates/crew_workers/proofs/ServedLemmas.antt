@@ -7,14 +7,14 @@ use Rattle.std.proofs.lemmas.List.{map-append, length-map}
 use Rattle.std.proofs.lemmas.List.Elements.{All-nil, All-head, All-tail, All-cons, Contains-push_cases}
 use Rattle.std.proofs.lemmas.List.Elements.{Contains-append_cases}
 use Rattle.std.proofs.lemmas.Option.{slice_get_cases}
-use Rattle.unit_sets.specs.Sorted.{Contains-nil}
+use Rattle.unit_sets.proofs.Sorted.{Contains-nil}
 use Rattle.unit_sets.specs.declared.request.CrewNo.{CrewNo}
 use Rattle.margin_policy.specs.declared.request.Request.{Request}
 use Rattle.outage_board.specs.declared.entry.Entry.{Entry}
 use Rattle.outage_board.specs.Histories.{entries_of, served, docket_of, IsWhole}
 use Rattle.outage_board.specs.Boards.{BoardView, Deck, IsBoard}
 use Rattle.outage_board.specs.Passes.{OpenBoard, Pass, AreOf, crews_of, HaveAll, MadeAll}
-use Rattle.outage_board.specs.Whole.{whole_where_used_up}
+use Rattle.outage_board.proofs.Whole.{whole_where_used_up}
 use Rattle.crew_workers.specs.Served.{docket_size, IsServed, AreServed}
 
 -- ---- one request

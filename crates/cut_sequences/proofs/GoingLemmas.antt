@@ -18,8 +18,8 @@ use Rattle.fault_model.specs.Tree.{FaultTree, IsUnitOf}
 use Rattle.fault_model.specs.WellFormed.{IsTree}
 use Rattle.fault_model.specs.FailingOrder.{is_admissible, is_failing}
 use Rattle.fault_model.specs.Step.{step}
-use Rattle.replay_semantics.specs.Places.{among-append}
-use Rattle.replay_semantics.specs.AdmissionLaws.{admissible_before}
+use Rattle.replay_semantics.proofs.Places.{among-append}
+use Rattle.replay_semantics.proofs.AdmissionLaws.{admissible_before}
 use Rattle.cut_sequences.specs.declared.refusal.OrderEnd.{OrderEnd}
 use Rattle.cut_sequences.specs.Orders.{failing_orders, IsOver}
 use Rattle.cut_sequences.proofs.ListLemmas.{IsOver-more}

@@ -5,7 +5,8 @@ use Rattle.std.proofs.Common.{arith, append-nil, length-append, length-drop, ifâ
 use Rattle.std.proofs.lemmas.Bool.{le-leb, lt-leb, both_ways}
 use Rattle.std.proofs.lemmas.List.{length-take-le}
 use Rattle.fault_model.specs.Tree.{FaultTree}
-use Rattle.flat_rows.specs.Rows.{between, between-append, between-rest}
+use Rattle.flat_rows.specs.Rows.{between}
+use Rattle.flat_rows.proofs.RowsLemmas.{between-append, between-rest}
 use Rattle.cut_sequences.specs.declared.mark.Mark.{Mark}
 use Rattle.cut_sequences.specs.Orders.{failing_orders, orders_of, order_count, order_limit, order_total, is_listed}
 use Rattle.cut_sequences.specs.Orders.{orders_at}

@@ -14,7 +14,8 @@ use Rattle.std.proofs.lemmas.List.{get_or-map, length-map, get_or_default}
 use Rattle.std.proofs.lemmas.List.Elements.{All-append, All-nil, All-map, All-cons, All-contains, All-from_get_or}
 use Rattle.std.proofs.lemmas.List.Elements.{recursion_from_All, Contains-append_left, Contains-append_right}
 use Rattle.std.proofs.lemmas.List.Kept.{AllPairs-cons}
-use Rattle.unit_sets.specs.UnitList.{among, IsRising, Contains-from_among}
+use Rattle.unit_sets.specs.UnitList.{among, IsRising}
+use Rattle.unit_sets.proofs.UnitListLemmas.{Contains-from_among}
 use Rattle.fault_model.specs.Order.{AreDistinct}
 use Rattle.cut_sequences.specs.Permutations.{picks, arrangements, permutations, IsOrderOf}
 use Rattle.cut_sequences.proofs.GoingLemmas.{length-picks, get_or-picks, length-remove, rising_remove, among_at, gone}

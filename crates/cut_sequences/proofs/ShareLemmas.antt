@@ -3,8 +3,9 @@ use Rattle.std.proofs.Common.{◌≡◌, ℕ, zero, suc, ◌+◌, ◌-◌, ◌<�
 use Rattle.std.proofs.Common.{Option, None, Some, slice_get, ap, sym, ◌∙◌, arith, append_assoc}
 use Rattle.std.proofs.lemmas.List.{get_or-map, length-map}
 use Rattle.std.proofs.lemmas.List.Sums.{sum_by-cons}
-use Rattle.unit_sets.specs.CutOrder.{IsOrderedCuts, cut_at, weight}
-use Rattle.unit_sets.specs.Sorted.{All-slice_get}
+use Rattle.unit_sets.specs.CutOrder.{IsOrderedCuts, weight}
+use Rattle.unit_sets.proofs.CutOrderLemmas.{cut_at}
+use Rattle.unit_sets.proofs.Sorted.{All-slice_get}
 use Rattle.fault_model.specs.Tree.{FaultTree, IsUnitOf}
 use Rattle.fault_model.specs.WellFormed.{IsTree}
 use Rattle.cut_sequences.specs.declared.mark.Mark.{Mark}

@@ -88,6 +88,7 @@ fn round<R: Threads + Sync>(
     requires units { All (λ cut. All (IsUnitOf tree.now) cut) cuts.now }
     ensures at_work { IfOk result (λ later. AreAtWork (order_lists tree.now cuts.now most) later.items) }
     ensures stopped { IfOk result (λ later. All (HasStopped stop) later.items) }
+    ensures workers { IfOk result (λ later. length later.items ≡ length works.items) }
     ensures limit { IsErrOf result OrderEnd.OrderLimit
         → order_limit < order_total (order_lists tree.now cuts.now most) }
 {
@@ -127,6 +128,7 @@ fn all_rounds<R: Threads + Sync>(
     requires units { All (λ cut. All (IsUnitOf tree.now) cut) cuts.now }
     ensures at_work { IfOk result (λ later. AreAtWork (order_lists tree.now cuts.now most) later.items) }
     ensures done { IfOk result (λ later. All (λ work. length cuts.now ≤ work.next) later.items) }
+    ensures workers { IfOk result (λ later. length later.items ≡ length works.items) }
     ensures limit { IsErrOf result OrderEnd.OrderLimit
         → order_limit < order_total (order_lists tree.now cuts.now most) }
 {
@@ -154,6 +156,7 @@ fn starts(alloc: Global, workers: usize) -> Result<Vec<Work>, OrderEnd>
     requires some { 0 < workers }
     requires few { workers ≤ 16 }
     ensures at_work { IfOk result (λ works. (lists : Lists) → AreAtWork lists works.items) }
+    ensures workers { IfOk result (λ works. length works.items ≡ workers) }
     ensures memory { IsErrOf result OrderEnd.OrderLimit → ⊥ }
 {
     let mut works = Vec::new(alloc);
@@ -191,7 +194,7 @@ pub fn all_shares<R: Threads + Sync>(
     requires few { workers ≤ 16 }
     requires units { All (λ cut. All (IsUnitOf tree.now) cut) cuts.now }
     ensures shares { IfOk result (λ shares. AreShares (order_lists tree.now cuts.now most) shares.items) }
-    ensures few { IfOk result (λ shares. length shares.items ≤ 16) }
+    ensures workers { IfOk result (λ shares. length shares.items ≡ workers) }
     ensures limit { IsErrOf result OrderEnd.OrderLimit
         → order_limit < order_total (order_lists tree.now cuts.now most) }
 {

@@ -3,3 +3,4 @@ mod Meets
 mod Sizes
 mod Walks
 pub mod HeavyLists
+pub mod NodesLemmas

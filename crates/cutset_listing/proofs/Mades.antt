@@ -1,10 +1,12 @@
 -- Diagrams that are made node by node.
 use Rattle.std.proofs.Common.{◌≡◌, ◌≢◌, ℕ, ◌<◌, ◌≤◌, List, [], sym, ◌∙◌, subst, inl, inr, arith}
-use Rattle.unit_sets.specs.Sorted.{Contains-nil}
-use Rattle.zdd_families.specs.Family.{IsAbove, branch, IsAbove-branch, IsAbove-lower, branch-filled}
-use Rattle.zdd_families.specs.Map.{Knows, KnowsAs, Grown, IsClosed, family, family-empty, family-unit, Knows-grown}
-use Rattle.zdd_families.specs.Canonical.{family-grown, family-filled}
-use Rattle.zdd_families.specs.Members.{branch-cases}
+use Rattle.unit_sets.proofs.Sorted.{Contains-nil}
+use Rattle.zdd_families.specs.Family.{IsAbove, branch}
+use Rattle.zdd_families.proofs.FamilyLemmas.{IsAbove-branch, IsAbove-lower, branch-filled}
+use Rattle.zdd_families.specs.Map.{Knows, KnowsAs, Grown, IsClosed, family}
+use Rattle.zdd_families.proofs.MapLemmas.{family-empty, family-unit, Knows-grown}
+use Rattle.zdd_families.proofs.Canonical.{family-grown, family-filled}
+use Rattle.zdd_families.proofs.Members.{branch-cases}
 use Rattle.cutset_listing.specs.Listing.{LacksEmptySet}
 use Rattle.cutset_listing.specs.Made.{IsMade, Keeps}
 

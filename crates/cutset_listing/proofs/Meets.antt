@@ -7,15 +7,19 @@ use Rattle.std.proofs.lemmas.Bool.{cases_Bool, cases_lt, cond-true, cond-false, 
 use Rattle.std.proofs.lemmas.Bool.{le-ltb, eqb-true}
 use Rattle.std.proofs.lemmas.List.{take-append-le, take_more, get_or_append_left}
 use Rattle.std.proofs.lemmas.List.Elements.{Contains-append_left, Contains-append_right}
-use Rattle.unit_sets.specs.Sorted.{Contains-cons_first, Contains-cons_other, Contains-cons_cases, Contains-nil}
-use Rattle.unit_sets.specs.Sorted.{all-push}
+use Rattle.unit_sets.proofs.Sorted.{Contains-cons_first, Contains-cons_other, Contains-cons_cases, Contains-nil}
+use Rattle.unit_sets.proofs.Sorted.{all-push}
 use Rattle.zdd_words.specs.Reference.{IsReference}
-use Rattle.zdd_words.specs.Word.{packed, lo_of, hi_of, lo_of-packed, hi_of-packed}
-use Rattle.zdd_families.specs.Map.{Knows, IsClosed, lo_known, hi_known}
-use Rattle.family_operations.specs.Counting.{EachOnce, each_once-length}
-use Rattle.family_operations.specs.Cuts.{each-contains, each-from_contains}
+use Rattle.zdd_words.specs.Word.{packed, lo_of, hi_of}
+use Rattle.zdd_words.proofs.WordLemmas.{lo_of-packed, hi_of-packed}
+use Rattle.zdd_families.specs.Map.{Knows, IsClosed}
+use Rattle.zdd_families.proofs.MapLemmas.{lo_known, hi_known}
+use Rattle.family_operations.specs.Counting.{EachOnce}
+use Rattle.family_operations.proofs.CountingLemmas.{each_once-length}
+use Rattle.family_operations.proofs.CutsLemmas.{each-contains, each-from_contains}
 use Rattle.family_operations.specs.Nodes.{Reaches, reaches_itself, reaches_lo, reaches_hi}
-use Rattle.cutset_listing.specs.Nodes.{with_node, IsMet, HasParts, HasMet}
+use Rattle.cutset_listing.specs.Nodes.{with_node}
+use Rattle.cutset_listing.proofs.NodesLemmas.{IsMet, HasParts, HasMet}
 
 -- ---- one reference more
 

@@ -14,9 +14,9 @@ use Rattle.std.proofs.lemmas.List.{append-nil, take-append-drop, take_more}
 use Rattle.std.proofs.lemmas.List.Elements.{Contains-append_cases, Contains-append_left, Contains-append_right}
 use Rattle.unit_sets.specs.CutOrder.{cut_cmp, IsInCutOrder, weight}
 use Rattle.unit_sets.specs.UnitList.{IsRising}
-use Rattle.unit_sets.specs.Sorted.{Contains-cons_first, Contains-cons_other, Contains-cons_cases, Contains-nil}
+use Rattle.unit_sets.proofs.Sorted.{Contains-cons_first, Contains-cons_other, Contains-cons_cases, Contains-nil}
 use Rattle.zdd_families.specs.Family.{IsFamily, set_cmp}
-use Rattle.zdd_families.specs.Lists.{each-append, each-weaker, sorted-append, filter-all}
+use Rattle.zdd_families.proofs.Lists.{each-append, each-weaker, sorted-append, filter-all}
 use Rattle.cutset_listing.specs.BySize.{of_size, at_size, joined}
 use Rattle.cutset_listing.specs.Listing.{HasSetsOf, LacksEmptySet}
 use Rattle.cutset_listing.proofs.Walks.{weight-append, weight-cons, each-front}

@@ -10,7 +10,8 @@ use Rattle.std.proofs.lemmas.List.Elements.{filter-append}
 use Rattle.std.proofs.lemmas.List.Sums.{sum_by-append, sum_by-cons}
 use Rattle.unit_sets.specs.CutOrder.{weight, weight_limit}
 use Rattle.zdd_families.specs.Family.{branch, each_with}
-use Rattle.zdd_families.specs.Map.{Knows, family, family-empty, family-unit}
+use Rattle.zdd_families.specs.Map.{Knows, family}
+use Rattle.zdd_families.proofs.MapLemmas.{family-empty, family-unit}
 use Rattle.cutset_listing.specs.declared.walk.Pending.{Pending}
 use Rattle.cutset_listing.specs.declared.walk.Walk.{Walk}
 use Rattle.cutset_listing.specs.BySize.{of_size, at_size}

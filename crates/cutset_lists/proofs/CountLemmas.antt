@@ -8,10 +8,11 @@ use Rattle.std.proofs.lemmas.List.{take_more, take_all, get_or-set_other, get_or
 use Rattle.std.proofs.lemmas.List.{get_or_default}
 use Rattle.std.proofs.lemmas.List.Elements.{All-nil, All-cons, All-get_or, All-replicate, All-set}
 use Rattle.fault_model.specs.Reading.{true_count}
-use Rattle.cutset_lists.specs.Sets.{hits, IsSetOf, AreSetsOf, AddsBoth, AddsSetsOf, IsReducedFrom}
+use Rattle.cutset_lists.specs.Sets.{IsSetOf, AreSetsOf, AddsBoth, AddsSetsOf, IsReducedFrom}
 use Rattle.cutset_lists.specs.Generation.{list_at, HasList, reading_of, Follows, at_least_rule}
 use Rattle.cutset_lists.specs.Counts.{count_at, counts_of_none, IsCounting, CountsMore, CountsList}
 use Rattle.cutset_lists.proofs.GateLemmas.{empty_set_of, has_list, node_read, list_read}
+use Rattle.unit_sets.specs.UnitList.{some_within}
 
 -- ---- counts of no nodes
 
@@ -20,9 +21,10 @@ none_at zero i = refl
 none_at (suc n) zero = refl
 none_at (suc n) (suc i) = none_at n i
 
-none_reached : (most at : ℕ) (within : ℕ → Bool) → hits (count_at (counts_of_none most) at) within ≡ nat_le at 0
+none_reached : (most at : ℕ) (within : ℕ → Bool) → some_within (count_at (counts_of_none most) at) within ≡ nat_le at 0
 none_reached most zero within = refl
-none_reached most (suc at) within = ap (λ s. hits s within) (none_at most at) ∙ sym (lt-leb (suc at) 0 (omega arith))
+none_reached most (suc at) within = ap (λ s. some_within s within) (none_at most at)
+    ∙ sym (lt-leb (suc at) 0 (omega arith))
 
 pub IsCounting-none : (lists : List (List (List ℕ))) (nodes : List ℕ) (most lowest : ℕ) (counts : List (List (List ℕ)))
     → counts ≡ counts_of_none most → IsCounting lists (take 0 nodes) most lowest counts
@@ -60,14 +62,15 @@ module _ (list : List (List ℕ)) (old now new : List (List (List ℕ))) (at : �
   elsewhere : (q : ℕ) → q ≢ at → count_at new q ≡ count_at now q
   elsewhere q other = ap (λ counts. count_at counts q) more.is ∙ get_or-set_other now at q more.grown [] other
 
-  reached_here : (within : ℕ → Bool) → hits (count_at new at) within
-      ≡ (hits (count_at old at) within || (hits (count_at old (at - 1)) within && hits list within))
+  reached_here : (within : ℕ → Bool) → some_within (count_at new at) within
+      ≡ (some_within (count_at old at) within
+      || (some_within (count_at old (at - 1)) within && some_within list within))
   reached_here within =
-      ap (λ s. hits s within) at_place
+      ap (λ s. some_within s within) at_place
       ∙ more.reached within
-      ∙ ap (λ s. hits s within || (hits (count_at now (at - 1)) within && hits list within))
+      ∙ ap (λ s. some_within s within || (some_within (count_at now (at - 1)) within && some_within list within))
       (before.lower at (omega arith))
-      ∙ ap (λ s. hits (count_at old at) within || (hits s within && hits list within))
+      ∙ ap (λ s. some_within (count_at old at) within || (some_within s within && some_within list within))
       (before.lower (at - 1) (omega arith))
 
   pub CountsList-more : CountsList list at old new
@@ -76,10 +79,12 @@ module _ (list : List (List ℕ)) (old now new : List (List (List ℕ))) (at : �
     lower = λ q low. elsewhere q (λ same. omega arith) ∙ before.lower q (omega arith);
     reached = λ q above within_old within.
         elim (cases_eq q at) [
-          | inl same ↦ subst (λ (n : ℕ). hits (count_at new n) within
-              ≡ (hits (count_at old n) within || (hits (count_at old (n - 1)) within && hits list within))) (sym same)
+          | inl same ↦ subst (λ (n : ℕ). some_within (count_at new n) within
+              ≡ (some_within (count_at old n) within
+              || (some_within (count_at old (n - 1)) within && some_within list within))) (sym same)
               (reached_here within)
-          | inr other ↦ ap (λ s. hits s within) (elsewhere q other) ∙ before.reached q (omega arith) within_old within
+          | inr other ↦ ap (λ s. some_within s within) (elsewhere q other)
+              ∙ before.reached q (omega arith) within_old within
         ];
     sets =
         λ passes of each. subst (All (AreSetsOf passes)) (sym more.is)
@@ -121,21 +126,22 @@ module _ (lists : List (List (List ℕ))) (nodes : List ℕ) (i node : ℕ) (sho
             | inl wrong ↦ absurd (omega arith)
             | inr one ↦
                 let none : q ≡ 0 = omega arith in
-                subst (λ (n : ℕ). hits (count_at new n) within
+                subst (λ (n : ℕ). some_within (count_at new n) within
                 ≡ nat_le n (true_count (reading_of lists within) (take (i + 1) nodes))) (sym none)
-                (ap (λ s. hits s within) (grows.lower 0 (omega arith))
+                (ap (λ s. some_within s within) (grows.lower 0 (omega arith))
                 ∙ counting.reached 0 (omega arith) (omega arith) within ∙ le-leb 0 _ (omega arith)
                 ∙ sym (le-leb 0 _ (omega arith)))
           ]
           | inr over ↦
               let e = counting.all in
               grows.reached q over (omega arith) within
-              ∙ ap (λ b. b || (hits (count_at counts (q - 1)) within && hits list within))
+              ∙ ap (λ b. b || (some_within (count_at counts (q - 1)) within && some_within list within))
               (counting.reached q (omega arith) below within)
-              ∙ ap (λ b. nat_le q (true_count (reading_of lists within) (take i nodes)) || (b && hits list within))
+              ∙ ap (λ b. nat_le q (true_count (reading_of lists within) (take i nodes))
+              || (b && some_within list within))
               (counting.reached (q - 1) (omega arith) (omega arith) within)
               ∙ ap (λ s. nat_le q (true_count (reading_of lists within) (take i nodes))
-              || (nat_le (q - 1) (true_count (reading_of lists within) (take i nodes)) && hits s within)) at
+              || (nat_le (q - 1) (true_count (reading_of lists within) (take i nodes)) && some_within s within)) at
               ∙ count_step q (true_count (reading_of lists within) (take i nodes)) (reading_of lists within node)
               (omega arith)
               ∙ ap (nat_le q) (sym (counted within))
@@ -154,7 +160,7 @@ IsCounting-stays lists before after floor floor' counts counting low = record {
   all = counting.all;
   reached = λ q above below within.
       let none : q ≡ 0 = omega arith in
-      subst (λ (n : ℕ). hits (count_at counts n) within ≡ nat_le n (true_count (reading_of lists within) after))
+      subst (λ (n : ℕ). some_within (count_at counts n) within ≡ nat_le n (true_count (reading_of lists within) after))
       (sym none)
       (counting.reached 0 (omega arith) (omega arith) within ∙ le-leb 0 _ (omega arith)
       ∙ sym (le-leb 0 _ (omega arith)));
@@ -165,8 +171,8 @@ pub IsCounting-end : (lists : List (List (List ℕ))) (nodes : List ℕ) (most i
     (made : List (List ℕ)) → length nodes ≤ i → floor ≤ most → made ≡ count_at counts most
     → IsCounting lists (take i nodes) most floor counts → Follows lists (at_least_rule most nodes) made
 IsCounting-end lists nodes most i floor counts made long low made_is counting = record {
-  hits =
-      λ within. ap (λ s. hits s within) made_is ∙ counting.reached most low (omega arith) within
+  some_within =
+      λ within. ap (λ s. some_within s within) made_is ∙ counting.reached most low (omega arith) within
       ∙ ap (λ ns. nat_le most (true_count (reading_of lists within) ns)) (take_all i nodes long);
   sets =
       λ passes each. subst (AreSetsOf passes) (sym made_is)
@@ -197,9 +203,10 @@ CountsMore-from list old at empty read taken below summed grown some short taken
       grown = grown;
       is = set_twice old at empty grown;
       reached = λ within.
-          less.hits within ∙ adds.hits within
-          ∙ ap (λ s. hits s within || (hits below within && hits list within)) taken_is
-          ∙ ap (λ s. hits (count_at old at) within || (hits s within && hits list within)) below_at;
+          less.some_within within ∙ adds.some_within within
+          ∙ ap (λ s. some_within s within || (some_within below within && some_within list within)) taken_is
+          ∙ ap (λ s. some_within (count_at old at) within
+          || (some_within s within && some_within list within)) below_at;
       sets = λ passes of each.
           less.sets passes (adds_sets.sets passes
           (subst (AreSetsOf passes) (sym below_at) (All-get_or (AreSetsOf passes) old (at - 1) [] (omega arith) each))

@@ -12,19 +12,20 @@ use Rattle.std.proofs.lemmas.Bool.{ne_eqb, not_from_true, not_from_false}
 use Rattle.std.proofs.lemmas.Bool.Decides.{nat_tests}
 use Rattle.std.proofs.lemmas.List.Elements.{All-nil, All-cons, All-contains, All-from_recursion, All-weaker}
 use Rattle.std.proofs.lemmas.List.Elements.{All-contains_itself}
-use Rattle.unit_sets.specs.Sorted.{Contains-cons_first, Contains-cons_other, Contains-cons_cases, Contains-nil}
-use Rattle.unit_sets.specs.Sorted.{sorted-take}
-use Rattle.unit_sets.specs.UnitList.{among, IsRising, without_unit, is_within, among-without_unit, Contains-from_among}
-use Rattle.unit_sets.specs.UnitList.{among-from_Contains, among-from_is_within, is_within-from_among, same_set}
-use Rattle.unit_sets.specs.UnitList.{IsRising-without_unit}
+use Rattle.unit_sets.proofs.Sorted.{Contains-cons_first, Contains-cons_other, Contains-cons_cases, Contains-nil}
+use Rattle.unit_sets.proofs.Sorted.{sorted-take}
+use Rattle.unit_sets.specs.UnitList.{among, IsRising, without_unit, is_within, some_within}
+use Rattle.unit_sets.proofs.UnitListLemmas.{among-without_unit, Contains-from_among}
+use Rattle.unit_sets.proofs.UnitListLemmas.{among-from_Contains, among-from_is_within, is_within-from_among, same_set}
+use Rattle.unit_sets.proofs.UnitListLemmas.{IsRising-without_unit}
 use Rattle.unit_sets.specs.CutOrder.{cut_cmp, IsInCutOrder}
 use Rattle.std.proofs.lemmas.List.{take_more}
 use Rattle.fault_model.specs.Tree.{FaultTree, IsUnitOf, unit_count}
 use Rattle.fault_model.specs.WellFormed.{IsTree}
 use Rattle.fault_model.specs.Reading.{reads}
-use Rattle.fault_model.specs.ReadingLaws.{reads-empty}
+use Rattle.fault_model.proofs.ReadingLaws.{reads-empty}
 use Rattle.fault_model.specs.Cut.{IsMinimalCut, IsCutList}
-use Rattle.cutset_lists.specs.Sets.{hits, IsSetOf, AreSetsOf, is_smaller_within, IsSharp, IsMinimalFrom}
+use Rattle.cutset_lists.specs.Sets.{IsSetOf, AreSetsOf, is_smaller_within, IsSharp, IsMinimalFrom}
 use Rattle.cutset_lists.specs.Generation.{is_unit_of, Generates}
 
 -- ---- sizes of rising sets
@@ -129,28 +130,29 @@ shorter_without unit (first ∷ others) here =
           omega arith
     ]
 
--- ---- what hits a list
+-- ---- where a list is true
 
--- a list that is hit has a set within
-hit_by : (sets : List (List ℕ)) (within : ℕ → Bool) → hits sets within ≡ true
+-- a list that is true has a set within
+hit_by : (sets : List (List ℕ)) (within : ℕ → Bool) → some_within sets within ≡ true
     → (set : List ℕ) × Contains sets set × (list_all within set ≡ true)
 hit_by [] within hit = absurd cc
 hit_by (first ∷ others) within hit =
-    elim (or_cases (list_all within first) (hits others within) hit) [
+    elim (or_cases (list_all within first) (some_within others within) hit) [
       | inl here ↦ (first, Contains-cons_first first others, here)
       | inr later ↦ let found =
           hit_by others within later in (found.0, Contains-cons_other first found.0 others found.1, found.2)
     ]
 
--- a set of a list hits it where it lies within
+-- a list is true where a set of it lies within
 hit_from : (sets : List (List ℕ)) (set : List ℕ) (within : ℕ → Bool) → Contains sets set → list_all within set ≡ true
-    → hits sets within ≡ true
+    → some_within sets within ≡ true
 hit_from [] set within here inside = Contains-nil set here
 hit_from (first ∷ others) set within here inside =
     elim (Contains-cons_cases first set others here) [
-      | inl same ↦ or_left (list_all within first) (hits others within)
+      | inl same ↦ or_left (list_all within first) (some_within others within)
           (subst (λ (s : List ℕ). list_all within s ≡ true) (sym same) inside)
-      | inr later ↦ or_right (list_all within first) (hits others within) (hit_from others set within later inside)
+      | inr later ↦ or_right (list_all within first) (some_within others within)
+          (hit_from others set within later inside)
     ]
 
 itself_within : (set : List ℕ) → is_within set set ≡ true
@@ -198,15 +200,15 @@ module _ (tree : FaultTree) (kept : IsTree tree) (made minimal : List (List ℕ)
   set_of : (set : List ℕ) → Contains minimal set → IsSetOf (is_unit_of tree) set
   set_of set here = All-contains (IsSetOf (is_unit_of tree)) minimal set sets_of here
 
-  reads_by : (within : ℕ → Bool) → hits minimal within ≡ reads tree within tree.top
-  reads_by within = is.hits within ∙ generates.hits within
+  reads_by : (within : ℕ → Bool) → some_within minimal within ≡ reads tree within tree.top
+  reads_by within = is.some_within within ∙ generates.some_within within
 
   -- no set of the list lies within a set of it without one unit
   needed : (set : List ℕ) (unit : ℕ) → Contains minimal set → among set unit ≡ true
       → reads tree (among (without_unit unit set)) tree.top ≡ false
   needed set unit here member =
       sym (reads_by (among (without_unit unit set)))
-      ∙ false_from_ne_true (hits minimal (among (without_unit unit set))) (λ hit.
+      ∙ false_from_ne_true (some_within minimal (among (without_unit unit set))) (λ hit.
       let found = hit_by minimal (among (without_unit unit set)) hit in
       let smaller : List ℕ = found.0 in
       let rising : IsRising set = (set_of set here).rising in

@@ -7,21 +7,21 @@ use Rattle.std.proofs.Common.{refl, sym, ◌∙◌, ap, subst, arith}
 use Rattle.std.proofs.lemmas.List.{take_more, take_all, get_or_default}
 use Rattle.std.proofs.lemmas.List.Folds.{list_any-append, list_all-append}
 use Rattle.std.proofs.lemmas.List.Elements.{All-append, All-nil, All-cons, All-get_or, All-weaker, All-contains}
-use Rattle.unit_sets.specs.UnitList.{IsRising}
+use Rattle.unit_sets.specs.UnitList.{IsRising, some_within}
 use Rattle.fault_model.specs.declared.node.GateKind.TheVariants.{Or, Por}
 use Rattle.fault_model.specs.Reading.{first_reads}
-use Rattle.cutset_lists.specs.Sets.{hits, IsSetOf, AreSetsOf, HitsBoth, AreSetsAs, IsMinimalFrom, IsReducedFrom}
+use Rattle.cutset_lists.specs.Sets.{IsSetOf, AreSetsOf, WithinBoth, AreSetsAs, IsMinimalFrom, IsReducedFrom}
 use Rattle.cutset_lists.specs.Generation.{list_at, HasList, reading_of, Follows, AddsSome, each_rule, gate_rule}
-use Rattle.cutset_lists.proofs.SetLemmas.{or-false, hits-append}
+use Rattle.cutset_lists.proofs.SetLemmas.{or-false, some_within-append}
 
 -- ---- fewer sets
 
 pub IsReducedFrom-itself : (sets : List (List ℕ)) → IsReducedFrom sets sets
-IsReducedFrom-itself sets = record { hits = λ _. refl; sets = λ _ s. s }
+IsReducedFrom-itself sets = record { some_within = λ _. refl; sets = λ _ s. s }
 
 pub IsReducedFrom-minimal : (sets minimal : List (List ℕ)) → IsMinimalFrom sets minimal → IsReducedFrom sets minimal
 IsReducedFrom-minimal sets minimal is = record {
-  hits = is.hits;
+  some_within = is.some_within;
   sets =
       λ passes of. All-weaker (λ s. Contains sets s) (IsSetOf passes)
       (λ s here. All-contains (IsSetOf passes) sets s of here) minimal is.members;
@@ -55,7 +55,11 @@ all-more reading nodes i node short is =
 
 pub AddsSome-none : (lists : List (List (List ℕ))) (nodes : List ℕ) (sets : List (List ℕ))
     → AddsSome lists (take 0 nodes) sets sets
-AddsSome-none lists nodes sets = record { hits = λ within. sym (or-false (hits sets within)); sets = λ _ _ old. old }
+AddsSome-none lists nodes sets = record {
+  some_within = λ within. sym
+      (or-false (some_within sets within));
+  sets = λ _ _ old. old;
+}
 
 module _ (lists : List (List (List ℕ))) (nodes : List ℕ) (i node : ℕ) (short : i < length nodes)
     (is : node ≡ get_or nodes i 0) (has : HasList lists node) where
@@ -66,27 +70,27 @@ module _ (lists : List (List (List ℕ))) (nodes : List ℕ) (i node : ℕ) (sho
   pub AddsSome-more : (old sets new list : List (List ℕ)) → list ≡ list_at lists node → new ≡ sets ++ list
       → AddsSome lists (take i nodes) old sets → AddsSome lists (take (i + 1) nodes) old new
   AddsSome-more old sets new list at new_is adds = record {
-    hits = λ within.
-        ap (λ s. hits s within) (new_is ∙ ap (λ l. sets ++ l) at)
-        ∙ hits-append sets (list_at lists node) within
-        ∙ ap (λ b. b || reading_of lists within node) (adds.hits within)
-        ∙ or_of_three (hits old within) (list_any (reading_of lists within) (take i nodes))
+    some_within = λ within.
+        ap (λ s. some_within s within) (new_is ∙ ap (λ l. sets ++ l) at)
+        ∙ some_within-append sets (list_at lists node) within
+        ∙ ap (λ b. b || reading_of lists within node) (adds.some_within within)
+        ∙ or_of_three (some_within old within) (list_any (reading_of lists within) (take i nodes))
         (reading_of lists within node)
-        ∙ ap (λ b. hits old within || b) (sym (any-more (reading_of lists within) nodes i node short is));
+        ∙ ap (λ b. some_within old within || b) (sym (any-more (reading_of lists within) nodes i node short is));
     sets = λ passes each before.
         subst (AreSetsOf passes) (sym (new_is ∙ ap (λ l. sets ++ l) at))
         (All-append (IsSetOf passes) sets (list_at lists node) (adds.sets passes each before) (sets_at passes each));
   }
 
-  pub each-more : (sets both new list : List (List ℕ)) → list ≡ list_at lists node → HitsBoth sets list both
+  pub each-more : (sets both new list : List (List ℕ)) → list ≡ list_at lists node → WithinBoth sets list both
       → AreSetsAs sets list both → IsReducedFrom both new → Follows lists (each_rule (take i nodes)) sets
       → Follows lists (each_rule (take (i + 1) nodes)) new
   each-more sets both new list at hits_both as_both less follows = record {
-    hits = λ within.
-        less.hits within
-        ∙ hits_both.hits within
-        ∙ ap (λ l. hits sets within && hits l within) at
-        ∙ ap (λ b. b && reading_of lists within node) (follows.hits within)
+    some_within = λ within.
+        less.some_within within
+        ∙ hits_both.some_within within
+        ∙ ap (λ l. some_within sets within && some_within l within) at
+        ∙ ap (λ b. b && reading_of lists within node) (follows.some_within within)
         ∙ sym (all-more (reading_of lists within) nodes i node short is);
     sets =
         λ passes each. less.sets passes (as_both.sets passes (follows.sets passes each)
@@ -99,7 +103,7 @@ AddsSome-reduced lists nodes old sets new i long less adds =
     let adds_all : AddsSome lists nodes old sets =
     subst (λ ns. AddsSome lists ns old sets) (take_all i nodes long) adds in
     record {
-      hits = λ within. less.hits within ∙ adds_all.hits within;
+      some_within = λ within. less.some_within within ∙ adds_all.some_within within;
       sets = λ passes each before. less.sets passes (adds_all.sets passes each before);
     }
 
@@ -116,7 +120,7 @@ empty_set_of passes =
 pub each-none : (lists : List (List (List ℕ))) (nodes : List ℕ) (sets : List (List ℕ)) → sets ≡ [] ∷ []
     → Follows lists (each_rule (take 0 nodes)) sets
 each-none lists nodes sets is = record {
-  hits = λ within. ap (λ s. hits s within) is;
+  some_within = λ within. ap (λ s. some_within s within) is;
   sets = λ passes _. subst (AreSetsOf passes) (sym is) (empty_set_of passes);
 }
 
@@ -133,7 +137,8 @@ none_of passes sets none = subst (AreSetsOf passes) (sym none) (All-nil (IsSetOf
 pub or_list : (lists : List (List (List ℕ))) (inputs : List ℕ) (old new : List (List ℕ)) → old ≡ []
     → AddsSome lists inputs old new → Follows lists (gate_rule Or inputs) new
 or_list lists inputs old new none adds = record {
-  hits = λ within. adds.hits within ∙ ap (λ s. hits s within || list_any (reading_of lists within) inputs) none;
+  some_within = λ within. adds.some_within within
+      ∙ ap (λ s. some_within s within || list_any (reading_of lists within) inputs) none;
   sets = λ passes each. adds.sets passes each (none_of passes old none);
 }
 
@@ -144,9 +149,9 @@ any_of_first reading (input ∷ inputs) = or-false (reading input)
 pub por_list : (lists : List (List (List ℕ))) (inputs first : List ℕ) (old new : List (List ℕ)) → old ≡ []
     → first ≡ take 1 inputs → AddsSome lists first old new → Follows lists (gate_rule Por inputs) new
 por_list lists inputs first old new none is adds = record {
-  hits = λ within.
-      adds.hits within
-      ∙ ap (λ s. hits s within || list_any (reading_of lists within) first) none
+  some_within = λ within.
+      adds.some_within within
+      ∙ ap (λ s. some_within s within || list_any (reading_of lists within) first) none
       ∙ ap (list_any (reading_of lists within)) is
       ∙ any_of_first (reading_of lists within) inputs;
   sets = λ passes each. adds.sets passes each (none_of passes old none);
@@ -180,7 +185,7 @@ module _ (lists : List (List (List ℕ))) (nodes : List ℕ) (i node place : ℕ
       AddsSome-more lists nodes i node short (node_read nodes i node short is) has old sets new list
       (list_read lists list node place has place_is read) new_is adds
 
-  pub each-step : (sets both new : List (List ℕ)) → HitsBoth sets list both → AreSetsAs sets list both
+  pub each-step : (sets both new : List (List ℕ)) → WithinBoth sets list both → AreSetsAs sets list both
       → IsReducedFrom both new → Follows lists (each_rule (take i nodes)) sets
       → Follows lists (each_rule (take (i + 1) nodes)) new
   each-step sets both new hits_both as_both less follows =

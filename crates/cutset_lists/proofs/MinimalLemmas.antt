@@ -17,10 +17,10 @@ use Rattle.std.proofs.lemmas.List.Elements.{All-push, All-nil, All-weaker, All-c
 use Rattle.std.proofs.lemmas.List.Elements.{Contains-append_left, Contains-push}
 use Rattle.std.proofs.lemmas.Map.Keys.{Less-from_sorted}
 use Rattle.unit_sets.specs.CutOrder.{cut_cmp, IsInCutOrder}
-use Rattle.unit_sets.specs.Sorted.{sorted-push}
-use Rattle.unit_sets.specs.UnitList.{among, is_within}
-use Rattle.cutset_lists.specs.Sets.{hits, is_smaller_within, IsSortedFrom, IsMinimalFrom}
-use Rattle.cutset_lists.proofs.SetLemmas.{hits-push, hits-more}
+use Rattle.unit_sets.proofs.Sorted.{sorted-push}
+use Rattle.unit_sets.specs.UnitList.{among, is_within, some_within}
+use Rattle.cutset_lists.specs.Sets.{is_smaller_within, IsSortedFrom, IsMinimalFrom}
+use Rattle.cutset_lists.proofs.SetLemmas.{some_within-push, some_within-more}
 
 -- ---- sets within others
 
@@ -47,16 +47,17 @@ all_within within set (first ∷ others) all inside =
     and_from (within first) (list_all within others) (all_at within set first all parts.0)
     (all_within within set others all parts.1)
 
--- where a list has a smaller set within one, it is hit wherever that one lies within
+-- where a list has a smaller set within one, it is true wherever that one lies within
 hit_by_smaller : (within : ℕ → Bool) (set : List ℕ) (kept : List (List ℕ))
-    → list_any (is_smaller_within set) kept ≡ true → list_all within set ≡ true → hits kept within ≡ true
+    → list_any (is_smaller_within set) kept ≡ true → list_all within set ≡ true → some_within kept within ≡ true
 hit_by_smaller within set [] found all = absurd cc
 hit_by_smaller within set (first ∷ others) found all =
     elim (or_cases (is_smaller_within set first) (list_any (is_smaller_within set) others) found) [
-      | inl here ↦ or_left (list_all within first) (hits others within)
+      | inl here ↦ or_left (list_all within first) (some_within others within)
           (all_within within set first all (and_parts (nat_lt (length first) (length set)) (is_within set first)
           here).1)
-      | inr later ↦ or_right (list_all within first) (hits others within) (hit_by_smaller within set others later all)
+      | inr later ↦ or_right (list_all within first) (some_within others within)
+          (hit_by_smaller within set others later all)
     ]
 
 or_absorbed : (a b : Bool) → (b ≡ true → a ≡ true) → a ≡ (a || b)
@@ -136,11 +137,12 @@ none_larger set smaller sets i short ordered is large none =
 module _ (sorted kept : List (List ℕ)) (set : List ℕ) (i : ℕ) (short : i < length sorted)
     (set_is : set ≡ get_or sorted i []) (ordered : IsInCutOrder sorted)
     (before : IsMinimalFrom (take i sorted) kept) where
-  hits_more : (within : ℕ → Bool) → hits (take (i + 1) sorted) within ≡ (hits kept within || list_all within set)
+  hits_more : (within : ℕ → Bool) → some_within (take (i + 1) sorted) within
+      ≡ (some_within kept within || list_all within set)
   hits_more within =
-      hits-more sorted i within short
-      ∙ ap (λ b. b || list_all within (get_or sorted i [])) (sym (before.hits within))
-      ∙ ap (λ s. hits kept within || list_all within s) (sym set_is)
+      some_within-more sorted i within short
+      ∙ ap (λ b. b || list_all within (get_or sorted i [])) (sym (before.some_within within))
+      ∙ ap (λ s. some_within kept within || list_all within s) (sym set_is)
 
   taken : take (i + 1) sorted ≡ take i sorted ++ set ∷ []
   taken = take_more sorted i [] short ∙ ap (λ s. take i sorted ++ s ∷ []) (sym set_is)
@@ -167,8 +169,8 @@ module _ (sorted kept : List (List ℕ)) (set : List ℕ) (i : ℕ) (short : i <
 
   pub keeps_out : list_any (is_smaller_within set) kept ≡ true → IsMinimalFrom (take (i + 1) sorted) kept
   keeps_out found = record {
-    hits =
-        λ within. or_absorbed (hits kept within) (list_all within set) (hit_by_smaller within set kept found)
+    some_within =
+        λ within. or_absorbed (some_within kept within) (list_all within set) (hit_by_smaller within set kept found)
         ∙ sym (hits_more within);
     members = members_more;
     ordered = before.ordered;
@@ -183,7 +185,7 @@ module _ (sorted kept : List (List ℕ)) (set : List ℕ) (i : ℕ) (short : i <
 
   pub keeps : list_any (is_smaller_within set) kept ≡ false → IsMinimalFrom (take (i + 1) sorted) (kept ++ set ∷ [])
   keeps none = record {
-    hits = λ within. hits-push kept set within ∙ sym (hits_more within);
+    some_within = λ within. some_within-push kept set within ∙ sym (hits_more within);
     members =
         All-push (Contains (take (i + 1) sorted)) kept set members_more
         (subst (λ (l : List (List ℕ)). Contains l set) (sym taken) (Contains-push (take i sorted) set));
@@ -200,13 +202,18 @@ unfolding IsStrictlySortedBy
 none_ordered = tt
 
 pub IsMinimalFrom-none : (sorted : List (List ℕ)) → IsMinimalFrom (take 0 sorted) []
-IsMinimalFrom-none sorted = record { hits = λ _. refl; members = All-nil _; ordered = none_ordered; sharp = All-nil _ }
+IsMinimalFrom-none sorted = record {
+  some_within = λ _. refl;
+  members = All-nil _;
+  ordered = none_ordered;
+  sharp = All-nil _;
+}
 
 -- the minimal sets of a sorted list are those of what was sorted
 pub IsMinimalFrom-sorted : (sets sorted minimal : List (List ℕ)) → IsSortedFrom sets sorted
     → IsMinimalFrom sorted minimal → IsMinimalFrom sets minimal
 IsMinimalFrom-sorted sets sorted minimal from is = record {
-  hits = λ within. is.hits within ∙ from.hits within;
+  some_within = λ within. is.some_within within ∙ from.some_within within;
   members =
       All-weaker (Contains sorted) (Contains sets) (λ s here. All-contains (Contains sets) sorted s from.members here)
       minimal is.members;

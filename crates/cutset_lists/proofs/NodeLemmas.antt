@@ -5,12 +5,12 @@ use Rattle.std.specs.List.Sorted.{IsStrictlySortedBy}
 use Rattle.std.proofs.Common.{refl, sym, ◌∙◌, ap, subst, arith}
 use Rattle.std.proofs.lemmas.Bool.{cond-true, cond-false, and_from, le-leb, lt-ltb, le-ltb}
 use Rattle.std.proofs.lemmas.List.Elements.{All-nil, All-cons, All-weaker}
-use Rattle.unit_sets.specs.UnitList.{IsRising}
+use Rattle.unit_sets.specs.UnitList.{IsRising, some_within}
 use Rattle.fault_model.specs.declared.node.GateKind.{GateKind}
 use Rattle.fault_model.specs.Tree.{FaultTree, IsNodeOf, is_above_units, unit_count, node_count, kind_of, inputs_of}
 use Rattle.fault_model.specs.Trigger.{below, triggers_of}
 use Rattle.fault_model.specs.Reading.{gate_reads}
-use Rattle.cutset_lists.specs.Sets.{hits, IsSetOf, AreSetsOf}
+use Rattle.cutset_lists.specs.Sets.{IsSetOf, AreSetsOf}
 use Rattle.cutset_lists.specs.Generation.{HasList, reading_of, Follows, AddsSome, gate_rule, is_unit_of, IsNodeList}
 
 pub nodes_have_lists : (tree : FaultTree) (lists : List (List (List ℕ))) (nodes : List ℕ)
@@ -25,8 +25,8 @@ module _ (tree : FaultTree) (lists : List (List (List ℕ))) (node : ℕ) (list 
   gate_node kind above kind_is follows =
       let over : is_above_units tree node ≡ true = lt-ltb (unit_count tree) node above in
       record {
-        hits = λ within.
-            follows.hits within
+        some_within = λ within.
+            follows.some_within within
             ∙ ap (λ k. gate_reads k (reading_of lists within) list) kind_is
             ∙ ap (gate_reads (kind_of tree node) (reading_of lists within))
             (list_is ∙ cond-true (is_above_units tree node) (inputs_of tree node) (triggers_of tree node) over)
@@ -50,9 +50,9 @@ module _ (tree : FaultTree) (lists : List (List (List ℕ))) (node : ℕ) (list 
       and_from (nat_le 1 node) (nat_le node (unit_count tree)) (le-leb 1 node some)
       (le-leb node (unit_count tree) low) in
       record {
-        hits = λ within.
-            adds.hits within
-            ∙ ap (λ s. hits s within || list_any (reading_of lists within) list) old_is
+        some_within = λ within.
+            adds.some_within within
+            ∙ ap (λ s. some_within s within || list_any (reading_of lists within) list) old_is
             ∙ unit_step (within node) (list_any (reading_of lists within) list)
             ∙ ap (λ l. within node || list_any (reading_of lists within) l)
             (list_is ∙ cond-false (is_above_units tree node) (inputs_of tree node) (triggers_of tree node) under)

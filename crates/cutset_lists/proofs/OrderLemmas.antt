@@ -50,15 +50,16 @@ module _ (lists : List (List (List ℕ))) (nodes order items : List ℕ) (moved 
 
   pub each-order : (made : List (List ℕ)) → Follows lists (each_rule order) made → Follows lists (each_rule nodes) made
   each-order made follows = record {
-    hits = λ within. follows.hits within ∙ list_all-IsPermutation (reading_of lists within) nodes order moved_order;
+    some_within = λ within. follows.some_within within
+        ∙ list_all-IsPermutation (reading_of lists within) nodes order moved_order;
     sets = follows.sets;
   }
 
   pub at_least-order : (least : ℕ) (made : List (List ℕ)) → Follows lists (at_least_rule least order) made
       → Follows lists (at_least_rule least nodes) made
   at_least-order least made follows = record {
-    hits =
-        λ within. follows.hits within ∙ ap (nat_le least)
+    some_within =
+        λ within. follows.some_within within ∙ ap (nat_le least)
         (true_count-IsPermutation (reading_of lists within) nodes order moved_order);
     sets = follows.sets;
   }

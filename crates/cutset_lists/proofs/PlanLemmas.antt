@@ -12,10 +12,11 @@ use Rattle.fault_model.specs.Trigger.{below}
 use Rattle.fault_model.specs.WellFormed.{IsTree}
 use Rattle.fault_model.specs.TreeTables.{IsFromBelow}
 use Rattle.fault_model.specs.Reading.{reads}
-use Rattle.fault_model.specs.ReadingLaws.{node_reads-agree, reads-node}
-use Rattle.cutset_lists.specs.Sets.{hits, IsSetOf, AreSetsOf}
+use Rattle.fault_model.proofs.ReadingLaws.{node_reads-agree, reads-node}
+use Rattle.cutset_lists.specs.Sets.{IsSetOf, AreSetsOf}
 use Rattle.cutset_lists.specs.Generation.{HasList, list_at, reading_of, is_unit_of, IsNodeList, Generates}
 use Rattle.cutset_lists.specs.Plan.{until_of, HasEnd, Keeps, IsPlanFrom, IsPlan, Releases, IsBuiltTo}
+use Rattle.unit_sets.specs.UnitList.{some_within}
 
 -- ---- ends that rise
 
@@ -197,9 +198,9 @@ module _ (tree : FaultTree) (kept : IsTree tree) (order until : List ℕ) (from_
       before.built m (here j d inside) (served j d inside) within
 
   made_reads : (made : List (List ℕ)) → k < until_of until node → IsNodeList tree lists node made → (within : ℕ → Bool)
-      → hits made within ≡ reads tree within node
+      → some_within made within ≡ reads tree within node
   made_reads made needed list within =
-      list.hits within
+      list.some_within within
       ∙ node_reads-agree tree within (reading_of lists within) (reads tree within) node (below_read needed within)
       ∙ sym (reads-node tree kept within node is_node)
 
@@ -209,7 +210,7 @@ module _ (tree : FaultTree) (kept : IsTree tree) (order until : List ℕ) (from_
   IsBuiltTo-more made new needed list releases = record {
     all = releases.all ∙ length-set lists (node - 1) made ∙ before.all;
     built = λ n here still within.
-        ap (λ s. hits s within) (releases.others n still)
+        ap (λ s. some_within s within) (releases.others n still)
         ∙ built_here n here still within;
     sets =
         releases.sets (is_unit_of tree) (All-set (AreSetsOf (is_unit_of tree)) lists (node - 1) made
@@ -222,7 +223,7 @@ module _ (tree : FaultTree) (kept : IsTree tree) (order until : List ℕ) (from_
           elim (cases_eq n node) [
             | inl same ↦
                 subst (λ (m : ℕ). reading_of (set lists (node - 1) made) within m ≡ reads tree within m) (sym same)
-                (ap (λ s. hits s within) (get_or-set_same lists (node - 1) made []
+                (ap (λ s. some_within s within) (get_or-set_same lists (node - 1) made []
                 (let p = is_node.0 in let q = is_node.1 in let a = before.all in omega arith))
                 ∙ made_reads made needed list within)
             | inr other ↦
@@ -231,7 +232,7 @@ module _ (tree : FaultTree) (kept : IsTree tree) (order until : List ℕ) (from_
                       let n_is : IsNodeOf tree n =
                       All-contains (IsNodeOf tree) (take k order) n
                       (All-take (IsNodeOf tree) k order from_below.nodes) earlier in
-                      ap (λ s. hits s within) (get_or-set_other lists (node - 1) (n - 1) made []
+                      ap (λ s. some_within s within) (get_or-set_other lists (node - 1) (n - 1) made []
                       (λ same. other (let p = is_node.0 in let q = n_is.0 in omega arith)))
                       ∙ before.built n earlier (omega arith) within
                   | inr same ↦ absurd (other (sym same))
@@ -243,8 +244,8 @@ pub Generates-top : (tree : FaultTree) (order until : List ℕ) (place : ℕ) (l
     → length order ≤ place → place ≤ length order → made ≡ list_at lists tree.top
     → IsBuiltTo tree order until place lists → Generates tree tree.top made
 Generates-top tree order until place lists made from_below plan top_is long low made_is built = record {
-  hits = λ within.
-      ap (λ s. hits s within) made_is
+  some_within = λ within.
+      ap (λ s. some_within s within) made_is
       ∙ built.built tree.top (subst (λ (l : List ℕ). Contains l tree.top) (sym (take_all place order long))
       (from_below.all tree.top top_is)) (let t = plan.top in omega arith) within;
   sets =

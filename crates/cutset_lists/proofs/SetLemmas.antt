@@ -1,4 +1,4 @@
--- Laws of `hits` and of sets, over plain lists.
+-- Laws of lists of sets and of sets, over plain lists.
 use Rattle.std.specs.Prelude.{◌≡◌, ℕ, ◌+◌, ◌<◌, Bool, true, false, ◌&&◌, ◌||◌, List, [], ◌∷◌, ◌++◌, length, take}
 use Rattle.std.specs.Prelude.{get_or}
 use Rattle.std.specs.List.{list_all}
@@ -6,8 +6,9 @@ use Rattle.std.proofs.Common.{refl, sym, ◌∙◌, ap, subst}
 use Rattle.std.proofs.lemmas.List.{take_more}
 use Rattle.std.proofs.lemmas.List.Folds.{list_any-append}
 use Rattle.std.proofs.lemmas.List.Elements.{All-push, All-get_or, All-nil}
-use Rattle.cutset_lists.specs.Sets.{hits, IsSetOf, AreSetsOf, IsUnion, AddsHits, AddsSets, AddsBoth, AddsSetsOf}
-use Rattle.cutset_lists.specs.Sets.{HitsBoth, AreSetsAs}
+use Rattle.cutset_lists.specs.Sets.{IsSetOf, AreSetsOf, IsUnion, AddsWithin, AddsSets, AddsBoth, AddsSetsOf}
+use Rattle.cutset_lists.specs.Sets.{WithinBoth, AreSetsAs}
+use Rattle.unit_sets.specs.UnitList.{some_within}
 
 pub or-false : (a : Bool) → (a || false) ≡ a
 or-false true = refl
@@ -25,19 +26,20 @@ pub and-over_or : (a b c : Bool) → (a && (b || c)) ≡ ((a && b) || (a && c))
 and-over_or true b c = refl
 and-over_or false b c = refl
 
-pub hits-append : (sets more : List (List ℕ)) (within : ℕ → Bool)
-    → hits (sets ++ more) within ≡ (hits sets within || hits more within)
-hits-append sets more within = list_any-append (list_all within) sets more
+pub some_within-append : (sets more : List (List ℕ)) (within : ℕ → Bool)
+    → some_within (sets ++ more) within ≡ (some_within sets within || some_within more within)
+some_within-append sets more within = list_any-append (list_all within) sets more
 
-pub hits-push : (sets : List (List ℕ)) (set : List ℕ) (within : ℕ → Bool)
-    → hits (sets ++ set ∷ []) within ≡ (hits sets within || list_all within set)
-hits-push sets set within =
-    hits-append sets (set ∷ []) within ∙ ap (λ b. hits sets within || b) (or-false (list_all within set))
+pub some_within-push : (sets : List (List ℕ)) (set : List ℕ) (within : ℕ → Bool)
+    → some_within (sets ++ set ∷ []) within ≡ (some_within sets within || list_all within set)
+some_within-push sets set within =
+    some_within-append sets (set ∷ []) within ∙ ap (λ b. some_within sets within || b) (or-false (list_all within set))
 
-pub hits-more : (sets : List (List ℕ)) (i : ℕ) (within : ℕ → Bool) → i < length sets
-    → hits (take (i + 1) sets) within ≡ (hits (take i sets) within || list_all within (get_or sets i []))
-hits-more sets i within short =
-    ap (λ s. hits s within) (take_more sets i [] short) ∙ hits-push (take i sets) (get_or sets i []) within
+pub some_within-more : (sets : List (List ℕ)) (i : ℕ) (within : ℕ → Bool) → i < length sets
+    → some_within (take (i + 1) sets) within ≡ (some_within (take i sets) within || list_all within (get_or sets i []))
+some_within-more sets i within short =
+    ap (λ s. some_within s within) (take_more sets i [] short)
+    ∙ some_within-push (take i sets) (get_or sets i []) within
 
 -- ---- unions
 
@@ -49,10 +51,11 @@ IsUnion-set passes left right union is l r = record {
 }
 
 -- the unions with no set of a list
-pub AddsHits-none : (set : List ℕ) (list sets : List (List ℕ)) → AddsHits set (take 0 list) sets sets
-AddsHits-none set list sets = record {
-  hits =
-      λ within. sym (ap (λ b. hits sets within || b) (and-false (list_all within set)) ∙ or-false (hits sets within));
+pub AddsWithin-none : (set : List ℕ) (list sets : List (List ℕ)) → AddsWithin set (take 0 list) sets sets
+AddsWithin-none set list sets = record {
+  some_within =
+      λ within. sym (ap (λ b. some_within sets within || b) (and-false (list_all within set))
+      ∙ or-false (some_within sets within));
 }
 
 adds_step : (o s t h n m u : Bool) → n ≡ (o || (s && t)) → m ≡ (n || u) → u ≡ (s && h) → m ≡ (o || (s && (t || h)))
@@ -61,15 +64,16 @@ adds_step false true t h n m u e f g = cc
 adds_step false false t h n m u e f g = cc
 
 -- the union with one set more
-pub AddsHits-more : (set : List ℕ) (list old new : List (List ℕ)) (union : List ℕ) (i : ℕ) → i < length list
-    → AddsHits set (take i list) old new → IsUnion set (get_or list i []) union
-    → AddsHits set (take (i + 1) list) old (new ++ union ∷ [])
-AddsHits-more set list old new union i short adds is = record {
-  hits = λ within.
-      adds_step (hits old within) (list_all within set) (hits (take i list) within) (list_all within (get_or list i []))
-      (hits new within) (hits (new ++ union ∷ []) within) (list_all within union)
-      (adds.hits within) (hits-push new union within) (is.within within)
-      ∙ ap (λ b. hits old within || (list_all within set && b)) (sym (hits-more list i within short));
+pub AddsWithin-more : (set : List ℕ) (list old new : List (List ℕ)) (union : List ℕ) (i : ℕ) → i < length list
+    → AddsWithin set (take i list) old new → IsUnion set (get_or list i []) union
+    → AddsWithin set (take (i + 1) list) old (new ++ union ∷ [])
+AddsWithin-more set list old new union i short adds is = record {
+  some_within = λ within.
+      adds_step (some_within old within) (list_all within set) (some_within (take i list) within)
+      (list_all within (get_or list i []))
+      (some_within new within) (some_within (new ++ union ∷ []) within) (list_all within union)
+      (adds.some_within within) (some_within-push new union within) (is.within within)
+      ∙ ap (λ b. some_within old within || (list_all within set && b)) (sym (some_within-more list i within short));
 }
 
 pub AddsSets-none : (set : List ℕ) (list sets : List (List ℕ)) → AddsSets set list sets sets
@@ -86,7 +90,7 @@ AddsSets-more set list old new union i short adds is = record {
 -- ---- products
 
 pub AddsBoth-none : (left right sets : List (List ℕ)) → AddsBoth (take 0 left) right sets sets
-AddsBoth-none left right sets = record { hits = λ within. sym (or-false (hits sets within)) }
+AddsBoth-none left right sets = record { some_within = λ within. sym (or-false (some_within sets within)) }
 
 product_step : (o l r s n m : Bool) → n ≡ (o || (l && r)) → m ≡ (n || (s && r)) → m ≡ (o || ((l || s) && r))
 product_step true l r s n m e f = cc
@@ -96,14 +100,15 @@ product_step false true false false n m e f = cc
 product_step false false r s n m e f = cc
 
 AddsBoth-more : (left right old sets new : List (List ℕ)) (i : ℕ) → i < length left
-    → AddsBoth (take i left) right old sets → AddsHits (get_or left i []) right sets new
+    → AddsBoth (take i left) right old sets → AddsWithin (get_or left i []) right sets new
     → AddsBoth (take (i + 1) left) right old new
 AddsBoth-more left right old sets new i short both adds = record {
-  hits = λ within.
-      product_step (hits old within) (hits (take i left) within) (hits right within)
-      (list_all within (get_or left i [])) (hits sets within) (hits new within)
-      (both.hits within) (adds.hits within) ∙ ap (λ b. hits old within || (b && hits right within))
-      (sym (hits-more left i within short));
+  some_within = λ within.
+      product_step (some_within old within) (some_within (take i left) within) (some_within right within)
+      (list_all within (get_or left i [])) (some_within sets within) (some_within new within)
+      (both.some_within within) (adds.some_within within)
+      ∙ ap (λ b. some_within old within || (b && some_within right within))
+      (sym (some_within-more left i within short));
 }
 
 pub AddsSetsOf-none : (left right sets : List (List ℕ)) → AddsSetsOf left right sets sets
@@ -118,11 +123,12 @@ AddsSetsOf-more left right old sets new i short both adds = record {
 }
 
 -- a product of its own
-pub HitsBoth-alone : (left right old new : List (List ℕ)) → old ≡ [] → AddsBoth left right old new
-    → HitsBoth left right new
-HitsBoth-alone left right old new none adds =
+pub WithinBoth-alone : (left right old new : List (List ℕ)) → old ≡ [] → AddsBoth left right old new
+    → WithinBoth left right new
+WithinBoth-alone left right old new none adds =
     record {
-      hits = λ within. adds.hits within ∙ ap (λ s. hits s within || (hits left within && hits right within))
+      some_within = λ within. adds.some_within within
+          ∙ ap (λ s. some_within s within || (some_within left within && some_within right within))
           none;
     }
 
@@ -141,10 +147,10 @@ module _ (set row union : List ℕ) (list old sets new : List (List ℕ)) (i : �
   is_at : IsUnion set (get_or list i []) union
   is_at = subst (λ r. IsUnion set r union) row_is is
 
-  pub AddsHits-step : AddsHits set (take i list) old sets → AddsHits set (take (i + 1) list) old new
-  AddsHits-step adds =
-      subst (λ n. AddsHits set (take (i + 1) list) old n) (sym new_is)
-      (AddsHits-more set list old sets union i short adds is_at)
+  pub AddsWithin-step : AddsWithin set (take i list) old sets → AddsWithin set (take (i + 1) list) old new
+  AddsWithin-step adds =
+      subst (λ n. AddsWithin set (take (i + 1) list) old n) (sym new_is)
+      (AddsWithin-more set list old sets union i short adds is_at)
 
   pub AddsSets-step : AddsSets set list old sets → AddsSets set list old new
   AddsSets-step adds =
@@ -152,10 +158,10 @@ module _ (set row union : List ℕ) (list old sets new : List (List ℕ)) (i : �
 
 module _ (row : List ℕ) (left right old sets new : List (List ℕ)) (i : ℕ) (short : i < length left)
     (row_is : row ≡ get_or left i []) where
-  pub AddsBoth-step : AddsBoth (take i left) right old sets → AddsHits row right sets new
+  pub AddsBoth-step : AddsBoth (take i left) right old sets → AddsWithin row right sets new
       → AddsBoth (take (i + 1) left) right old new
   AddsBoth-step both adds =
-      AddsBoth-more left right old sets new i short both (subst (λ r. AddsHits r right sets new) row_is adds)
+      AddsBoth-more left right old sets new i short both (subst (λ r. AddsWithin r right sets new) row_is adds)
 
   pub AddsSetsOf-step : AddsSetsOf left right old sets → AddsSets row right sets new → AddsSetsOf left right old new
   AddsSetsOf-step both adds =

@@ -12,8 +12,10 @@ use Rattle.std.proofs.lemmas.List.Elements.{All-contains_itself, All-map, All-ni
 use Rattle.std.proofs.lemmas.List.Filters.{All-dedup}
 use Rattle.std.proofs.lemmas.List.Kept.{IsStrictlySortedBy-dedup}
 use Rattle.std.proofs.lemmas.List.Sorted.{All-permutation, list_any-IsPermutation}
-use Rattle.unit_sets.specs.CutOrder.{cut_cmp, cut_cmp_total, cut_cmp-same}
-use Rattle.cutset_lists.specs.Sets.{hits, IsSortedFrom}
+use Rattle.unit_sets.specs.CutOrder.{cut_cmp, cut_cmp_total}
+use Rattle.unit_sets.proofs.CutOrderLemmas.{cut_cmp-same}
+use Rattle.cutset_lists.specs.Sets.{IsSortedFrom}
+use Rattle.unit_sets.specs.UnitList.{some_within}
 
 -- ---- what a repeat does not change
 
@@ -71,8 +73,8 @@ module _ {X : Type 0} (units : X → List ℕ) (sets : List (List ℕ)) (rows so
   order : X → X → Ordering
   order = on units cut_cmp
 
-  sorted_hits : (within : ℕ → Bool) → hits (map units (dedup (eq_by_cmp (on units cut_cmp)) sorted)) within
-      ≡ hits sets within
+  sorted_hits : (within : ℕ → Bool) → some_within (map units (dedup (eq_by_cmp (on units cut_cmp)) sorted)) within
+      ≡ some_within sets within
   sorted_hits within =
       let p : X → Bool = λ x. list_all within (units x) in
       any_map units (list_all within) (dedup (eq_by_cmp (on units cut_cmp)) sorted)
@@ -81,7 +83,7 @@ module _ {X : Type 0} (units : X → List ℕ) (sets : List (List ℕ)) (rows so
       sorted
       ∙ sym (list_any-IsPermutation p rows sorted moved)
       ∙ sym (any_map units (list_all within) rows)
-      ∙ ap (λ s. hits s within) rows_are
+      ∙ ap (λ s. some_within s within) rows_are
 
   sorted_members : All (Contains sets) (map units (dedup (eq_by_cmp (on units cut_cmp)) sorted))
   sorted_members =
@@ -94,7 +96,7 @@ module _ {X : Type 0} (units : X → List ℕ) (sets : List (List ℕ)) (rows so
   pub IsSortedFrom-dedup : IsSorted (on units cut_cmp) sorted
       → IsSortedFrom sets (map units (dedup (eq_by_cmp (on units cut_cmp)) sorted))
   IsSortedFrom-dedup s = record {
-    hits = sorted_hits;
+    some_within = sorted_hits;
     members = sorted_members;
     ordered =
         sorted_map units cut_cmp (dedup (eq_by_cmp (on units cut_cmp)) sorted)

@@ -8,10 +8,11 @@ use Rattle.std.proofs.lemmas.Bool.Decides.{nat_tests}
 use Rattle.std.proofs.lemmas.List.{take_more, take_all, get_or-take, length-take}
 use Rattle.std.proofs.lemmas.List.Folds.{Any-from_list_any, list_any-from_Any}
 use Rattle.std.proofs.lemmas.List.Elements.{All-push, All-pop, All-nil, All-append, All-contains}
-use Rattle.unit_sets.specs.UnitList.{is_within}
-use Rattle.cutset_lists.specs.Sets.{hits, IsSetOf, AreSetsOf, AddsBoth, AddsSetsOf, is_short_within, Includes, IsSplit}
+use Rattle.unit_sets.specs.UnitList.{is_within, some_within}
+use Rattle.cutset_lists.specs.Sets.{IsSetOf, AreSetsOf, AddsBoth, AddsSetsOf, is_short_within, Includes}
+use Rattle.cutset_lists.specs.Sets.{IsSplit}
 use Rattle.cutset_lists.specs.Waiting.{AreFilled, set_at}
-use Rattle.cutset_lists.proofs.SetLemmas.{hits-append, hits-push, hits-more}
+use Rattle.cutset_lists.proofs.SetLemmas.{some_within-append, some_within-push, some_within-more}
 use Rattle.cutset_lists.proofs.MinimalLemmas.{all_within}
 use Rattle.cutset_lists.proofs.WaitingLemmas.{some_holds}
 
@@ -31,9 +32,9 @@ included_if_found sets set count size found low is holds_it =
       (and_parts (nat_lt (length smaller) size) (is_within set smaller) holds).1,
     )
 
--- where they are hit the list is
+-- where they are true the list is
 hit_if_included : (within : ℕ → Bool) (other including : List (List ℕ)) → All (Includes other) including
-    → hits including within ≡ true → hits other within ≡ true
+    → some_within including within ≡ true → some_within other within ≡ true
 hit_if_included within other including all hit =
     let (k, set, short, same, holds) = Any-from_list_any (list_all within) including hit in
     let includes : Includes other set = All-contains (Includes other) including set all (k, short, same) in
@@ -62,7 +63,8 @@ AreFilled-all sets i long before place inside = before place (omega arith)
 pub IsSplit-none : (list other including rest : List (List ℕ)) → including ≡ [] → rest ≡ []
     → IsSplit (take 0 list) other including rest
 IsSplit-none list other including rest none none' = record {
-  hits = λ within. let e = ap (λ s. hits s within) none in let f = ap (λ s. hits s within) none' in cc;
+  some_within = λ within. let e = ap (λ s. some_within s within) none in let f = ap
+      (λ s. some_within s within) none' in cc;
   included = subst (All (Includes other)) (sym none) (All-nil (Includes other));
   sets =
       λ passes _. (
@@ -85,9 +87,11 @@ to_second l false false s n m e f g = cc
 
 module _ (list other including rest new new' : List (List ℕ)) (set : List ℕ) (i : ℕ) (short : i < length list)
     (set_is : set ≡ get_or list i []) (before : IsSplit (take i list) other including rest) where
-  hits_next : (within : ℕ → Bool) → hits (take (i + 1) list) within ≡ (hits (take i list) within || list_all within set)
+  hits_next : (within : ℕ → Bool) → some_within (take (i + 1) list) within
+      ≡ (some_within (take i list) within || list_all within set)
   hits_next within =
-      hits-more list i within short ∙ ap (λ s. hits (take i list) within || list_all within s) (sym set_is)
+      some_within-more list i within short
+      ∙ ap (λ s. some_within (take i list) within || list_all within s) (sym set_is)
 
   sets_before : (passes : ℕ → Bool) → AreSetsOf passes (take (i + 1) list) → AreSetsOf passes (take i list)
   sets_before passes all =
@@ -103,11 +107,13 @@ module _ (list other including rest new new' : List (List ℕ)) (set : List ℕ)
       → new ≡ (if not found then including else including ++ set ∷ [])
       → new' ≡ (if found then rest else rest ++ set ∷ []) → IsSplit (take (i + 1) list) other new new'
   IsSplit-more true includes is is' = record {
-    hits = λ within.
-        to_first (hits (take i list) within) (hits including within) (hits rest within) (list_all within set)
-        (hits (take (i + 1) list) within) (hits new within)
-        (before.hits within) (hits_next within) (ap (λ s. hits s within) is ∙ hits-push including set within)
-        ∙ ap (λ s. hits new within || hits s within) (sym is');
+    some_within = λ within.
+        to_first (some_within (take i list) within) (some_within including within) (some_within rest within)
+        (list_all within set)
+        (some_within (take (i + 1) list) within) (some_within new within)
+        (before.some_within within) (hits_next within)
+        (ap (λ s. some_within s within) is ∙ some_within-push including set within)
+        ∙ ap (λ s. some_within new within || some_within s within) (sym is');
     included =
         subst (All (Includes other)) (sym is) (All-push (Includes other) including set before.included (includes refl));
     sets = λ passes all.
@@ -117,11 +123,13 @@ module _ (list other including rest new new' : List (List ℕ)) (set : List ℕ)
         );
   }
   IsSplit-more false includes is is' = record {
-    hits = λ within.
-        to_second (hits (take i list) within) (hits including within) (hits rest within) (list_all within set)
-        (hits (take (i + 1) list) within) (hits new' within)
-        (before.hits within) (hits_next within) (ap (λ s. hits s within) is' ∙ hits-push rest set within)
-        ∙ ap (λ s. hits s within || hits new' within) (sym is);
+    some_within = λ within.
+        to_second (some_within (take i list) within) (some_within including within) (some_within rest within)
+        (list_all within set)
+        (some_within (take (i + 1) list) within) (some_within new' within)
+        (before.some_within within) (hits_next within)
+        (ap (λ s. some_within s within) is' ∙ some_within-push rest set within)
+        ∙ ap (λ s. some_within s within || some_within new' within) (sym is);
     included = subst (All (Includes other)) (sym is) before.included;
     sets = λ passes all.
         let parts = before.sets passes (sets_before passes all) in (
@@ -152,18 +160,21 @@ module _ (left right old sets more new including rest including' rest' : List (L
     (sets_are : sets ≡ old ++ including) (more_are : more ≡ sets ++ including') where
   pub AddsBoth-split : AddsBoth rest rest' more new → AddsBoth left right old new
   AddsBoth-split adds = record {
-    hits = λ within.
-        let before : hits more within ≡ ((hits old within || hits including within) || hits including' within) =
-        ap (λ s. hits s within) more_are ∙ hits-append sets including' within
-        ∙ ap (λ b. b || hits including' within) (ap (λ s. hits s within) sets_are
-        ∙ hits-append old including within) in
-        split_product (hits old within) (hits including within) (hits rest within) (hits including' within)
-        (hits rest' within) (hits more within) (hits new within)
-        (λ hit. sym (other.hits within) ∙ hit_if_included within right including one.included hit)
-        (λ hit. sym (one.hits within) ∙ hit_if_included within left including' other.included hit)
-        before (adds.hits within)
-        ∙ ap (λ b. hits old within || (b && (hits including' within || hits rest' within))) (sym (one.hits within))
-        ∙ ap (λ b. hits old within || (hits left within && b)) (sym (other.hits within));
+    some_within = λ within.
+        let before : some_within more within
+        ≡ ((some_within old within || some_within including within) || some_within including' within) =
+        ap (λ s. some_within s within) more_are ∙ some_within-append sets including' within
+        ∙ ap (λ b. b || some_within including' within) (ap (λ s. some_within s within) sets_are
+        ∙ some_within-append old including within) in
+        split_product (some_within old within) (some_within including within) (some_within rest within)
+        (some_within including' within)
+        (some_within rest' within) (some_within more within) (some_within new within)
+        (λ hit. sym (other.some_within within) ∙ hit_if_included within right including one.included hit)
+        (λ hit. sym (one.some_within within) ∙ hit_if_included within left including' other.included hit)
+        before (adds.some_within within)
+        ∙ ap (λ b. some_within old within || (b && (some_within including' within || some_within rest' within)))
+        (sym (one.some_within within))
+        ∙ ap (λ b. some_within old within || (some_within left within && b)) (sym (other.some_within within));
   }
 
   pub AddsSetsOf-split : AddsSetsOf rest rest' more new → AddsSetsOf left right old new

@@ -11,8 +11,9 @@ use Rattle.std.proofs.lemmas.List.{get_or-set_same, get_or-set_other}
 use Rattle.std.proofs.lemmas.List.Folds.{list_any-append, Any-from_list_any, list_any-from_Any}
 use Rattle.std.proofs.lemmas.List.Elements.{All-push, All-nil, All-weaker, All-contains, Contains-get_or}
 use Rattle.std.proofs.lemmas.List.Elements.{Contains-append_left, Contains-push}
-use Rattle.unit_sets.specs.UnitList.{among, is_within, with_unit, without_unit, among-with_unit, among-without_unit}
-use Rattle.unit_sets.specs.UnitList.{among-from_Contains, Contains-from_among}
+use Rattle.unit_sets.specs.UnitList.{among, is_within, with_unit, without_unit}
+use Rattle.unit_sets.proofs.UnitListLemmas.{among-with_unit, among-without_unit}
+use Rattle.unit_sets.proofs.UnitListLemmas.{among-from_Contains, Contains-from_among}
 use Rattle.unit_sets.specs.CutOrder.{cut_cmp, IsInCutOrder}
 use Rattle.std.specs.Cmp.Lexicographic.{slice_cmp}
 use Rattle.std.specs.Ordering.{nat_cmp}

@@ -6,7 +6,8 @@ use Rattle.fault_model.specs.declared.node.GateKind.{GateKind}
 use Rattle.fault_model.specs.Tree.{FaultTree, unit_count}
 use Rattle.fault_model.specs.Reading.{true_count, gate_reads, node_reads, reads}
 use Rattle.fault_model.specs.Cut.{IsCutList}
-use Rattle.cutset_lists.specs.Sets.{hits, AreSetsOf}
+use Rattle.cutset_lists.specs.Sets.{AreSetsOf}
+use Rattle.unit_sets.specs.UnitList.{some_within}
 
 -- the tree has a cut list, and it weighs more than a list may
 abbrev pub HasHeavyCutList : FaultTree → Type 0
@@ -22,12 +23,12 @@ HasList lists node = (1 ≤ node) × (node ≤ length lists)
 
 -- the reading that the lists stand for
 abbrev pub reading_of : List (List (List ℕ)) → (ℕ → Bool) → ℕ → Bool
-reading_of lists within node = hits (list_at lists node) within
+reading_of lists within node = some_within (list_at lists node) within
 
--- a list is hit where a rule says so, from what is within and from the readings of the nodes
+-- a list is true where a rule says so, from what is within and from the readings of the nodes
 pub record Follows (lists : List (List (List ℕ))) (rule : (ℕ → Bool) → (ℕ → Bool) → Bool)
     (made : List (List ℕ)) : Type 0 where
-  pub hits : (within : ℕ → Bool) → hits made within ≡ rule within (reading_of lists within)
+  pub some_within : (within : ℕ → Bool) → some_within made within ≡ rule within (reading_of lists within)
   pub sets : (passes : ℕ → Bool) → All (AreSetsOf passes) lists → AreSetsOf passes made
 
 -- the rules of nodes
@@ -40,9 +41,10 @@ at_least_rule least nodes within reading = nat_le least (true_count reading node
 abbrev pub gate_rule : GateKind → List ℕ → (ℕ → Bool) → (ℕ → Bool) → Bool
 gate_rule kind inputs within reading = gate_reads kind reading inputs
 
--- a list is now also hit where some node's list is
+-- a list is now also true where some node's list is
 pub record AddsSome (lists : List (List (List ℕ))) (nodes : List ℕ) (old new : List (List ℕ)) : Type 0 where
-  pub hits : (within : ℕ → Bool) → hits new within ≡ (hits old within || list_any (reading_of lists within) nodes)
+  pub some_within : (within : ℕ → Bool) → some_within new within
+      ≡ (some_within old within || list_any (reading_of lists within) nodes)
   pub sets : (passes : ℕ → Bool) → All (AreSetsOf passes) lists → AreSetsOf passes old → AreSetsOf passes new
 
 -- ---- the tree
@@ -50,13 +52,14 @@ pub record AddsSome (lists : List (List (List ℕ))) (nodes : List ℕ) (old new
 abbrev pub is_unit_of : FaultTree → ℕ → Bool
 is_unit_of tree unit = nat_le 1 unit && nat_le unit (unit_count tree)
 
--- a node's list is hit where the node fails by the readings of the lists, and has sets of units of the tree where they
+-- a node's list is true where the node fails by the readings of the lists, and has sets of units of the tree where they
 -- do
 pub record IsNodeList (tree : FaultTree) (lists : List (List (List ℕ))) (node : ℕ) (made : List (List ℕ)) : Type 0 where
-  pub hits : (within : ℕ → Bool) → hits made within ≡ node_reads tree within (reading_of lists within) node
+  pub some_within : (within : ℕ → Bool) → some_within made within
+      ≡ node_reads tree within (reading_of lists within) node
   pub sets : All (AreSetsOf (is_unit_of tree)) lists → AreSetsOf (is_unit_of tree) made
 
--- the list is hit exactly where the node fails, and has sets of units of the tree
+-- the list is true exactly where the node fails, and has sets of units of the tree
 pub record Generates (tree : FaultTree) (node : ℕ) (made : List (List ℕ)) : Type 0 where
-  pub hits : (within : ℕ → Bool) → hits made within ≡ reads tree within node
+  pub some_within : (within : ℕ → Bool) → some_within made within ≡ reads tree within node
   pub sets : AreSetsOf (is_unit_of tree) made

@@ -2,11 +2,7 @@
 use Rattle.std.specs.Prelude.{◌≡◌, ℕ, Bool, true, false, ◌&&◌, ◌||◌, nat_lt, List, length, All, Contains}
 use Rattle.std.specs.List.{list_any, list_all}
 use Rattle.unit_sets.specs.CutOrder.{IsInCutOrder}
-use Rattle.unit_sets.specs.UnitList.{IsRising, is_within}
-
--- some set of the list lies within
-abbrev pub hits : List (List ℕ) → (ℕ → Bool) → Bool
-hits sets within = list_any (list_all within) sets
+use Rattle.unit_sets.specs.UnitList.{IsRising, is_within, some_within}
 
 -- a set of units that pass a test, in rising order
 pub record IsSetOf (passes : ℕ → Bool) (set : List ℕ) : Type 0 where
@@ -21,27 +17,30 @@ pub record IsUnion (left right union : List ℕ) : Type 0 where
   pub within : (within : ℕ → Bool) → list_all within union ≡ (list_all within left && list_all within right)
   pub rising : IsRising left → IsRising right → IsRising union
 
--- a list is now also hit where a set and a list are
-pub record AddsHits (set : List ℕ) (list old new : List (List ℕ)) : Type 0 where
-  pub hits : (within : ℕ → Bool) → hits new within ≡ (hits old within || (list_all within set && hits list within))
+-- a list is now also true where a set and a list are
+pub record AddsWithin (set : List ℕ) (list old new : List (List ℕ)) : Type 0 where
+  pub some_within : (within : ℕ → Bool) → some_within new within
+      ≡ (some_within old within || (list_all within set && some_within list within))
 
 -- it has sets of units as before
 pub record AddsSets (set : List ℕ) (list old new : List (List ℕ)) : Type 0 where
   pub sets : (passes : ℕ → Bool) → IsSetOf passes set → AreSetsOf passes list → AreSetsOf passes old
       → AreSetsOf passes new
 
--- a list is now also hit where both of two are
+-- a list is now also true where both of two are
 pub record AddsBoth (left right old new : List (List ℕ)) : Type 0 where
-  pub hits : (within : ℕ → Bool) → hits new within ≡ (hits old within || (hits left within && hits right within))
+  pub some_within : (within : ℕ → Bool) → some_within new within
+      ≡ (some_within old within || (some_within left within && some_within right within))
 
 -- it has sets of units where both of two do, as before
 pub record AddsSetsOf (left right old new : List (List ℕ)) : Type 0 where
   pub sets : (passes : ℕ → Bool) → AreSetsOf passes left → AreSetsOf passes right → AreSetsOf passes old
       → AreSetsOf passes new
 
--- a list is hit where both of two are
-pub record HitsBoth (left right both : List (List ℕ)) : Type 0 where
-  pub hits : (within : ℕ → Bool) → hits both within ≡ (hits left within && hits right within)
+-- a list is true where both of two are
+pub record WithinBoth (left right both : List (List ℕ)) : Type 0 where
+  pub some_within : (within : ℕ → Bool) → some_within both within
+      ≡ (some_within left within && some_within right within)
 
 -- a list has sets of units where both of two do
 pub record AreSetsAs (left right both : List (List ℕ)) : Type 0 where
@@ -63,20 +62,20 @@ IsSharp sets = All (λ set. list_any (is_smaller_within set) sets ≡ false) set
 
 -- the sets of a list in the order of cut lists, each once
 pub record IsSortedFrom (sets sorted : List (List ℕ)) : Type 0 where
-  pub hits : (within : ℕ → Bool) → hits sorted within ≡ hits sets within
+  pub some_within : (within : ℕ → Bool) → some_within sorted within ≡ some_within sets within
   pub members : All (Contains sets) sorted
   pub ordered : IsInCutOrder sorted
 
--- some sets of a list, in the order of cut lists, that are hit where the list is, and none within another
+-- some sets of a list, in the order of cut lists, that are true where the list is, and none within another
 pub record IsMinimalFrom (sets minimal : List (List ℕ)) : Type 0 where
-  pub hits : (within : ℕ → Bool) → hits minimal within ≡ hits sets within
+  pub some_within : (within : ℕ → Bool) → some_within minimal within ≡ some_within sets within
   pub members : All (Contains sets) minimal
   pub ordered : IsInCutOrder minimal
   pub sharp : IsSharp minimal
 
--- fewer sets of a list, which are hit where it is
+-- fewer sets of a list, which are true where it is
 pub record IsReducedFrom (list reduced : List (List ℕ)) : Type 0 where
-  pub hits : (within : ℕ → Bool) → hits reduced within ≡ hits list within
+  pub some_within : (within : ℕ → Bool) → some_within reduced within ≡ some_within list within
   pub sets : (passes : ℕ → Bool) → AreSetsOf passes list → AreSetsOf passes reduced
 
 -- ---- sets that include one of another list
@@ -87,6 +86,7 @@ Includes list set = list_any (is_within set) list ≡ true
 
 -- a list in two parts, of which the first has sets alone that include one of another list
 pub record IsSplit (list other including rest : List (List ℕ)) : Type 0 where
-  pub hits : (within : ℕ → Bool) → hits list within ≡ (hits including within || hits rest within)
+  pub some_within : (within : ℕ → Bool) → some_within list within
+      ≡ (some_within including within || some_within rest within)
   pub included : All (Includes other) including
   pub sets : (passes : ℕ → Bool) → AreSetsOf passes list → AreSetsOf passes including × AreSetsOf passes rest

@@ -1,6 +1,6 @@
-//! Lists that are hit where some, or all, of others are.
+//! Lists that are true where some, or all, of others are.
 ghost use Rattle.std.specs.Prelude.{◌≡◌, ◌++◌, OnOk};
-ghost use Rattle.cutset_lists.specs.Sets.{AddsHits, AddsSets, AddsBoth, AddsSetsOf};
+ghost use Rattle.cutset_lists.specs.Sets.{AddsWithin, AddsSets, AddsBoth, AddsSetsOf};
 
 use crate::merge::merge;
 use crate::{NoMemory, Sets, UnitNo};
@@ -23,7 +23,7 @@ fn add_unions(
     set: &[UnitNo],
     list: &Sets,
 ) -> Result<(), NoMemory>
-    ensures hits { OnOk result (AddsHits set.now list.now sets.old sets.new) }
+    ensures within { OnOk result (AddsWithin set.now list.now sets.old sets.new) }
     ensures sets { OnOk result (AddsSets set.now list.now sets.old sets.new) }
 {
     for i in 0..list.len() {
@@ -40,7 +40,7 @@ pub fn add_all_unions(
     left: &Sets,
     right: &Sets,
 ) -> Result<(), NoMemory>
-    ensures hits { OnOk result (AddsBoth left.now right.now sets.old sets.new) }
+    ensures within { OnOk result (AddsBoth left.now right.now sets.old sets.new) }
     ensures sets { OnOk result (AddsSetsOf left.now right.now sets.old sets.new) }
 {
     let mut union = Vec::new(alloc);

@@ -4,7 +4,7 @@
 //! include it, so it stands for them all. Where lists share units such sets are split off, and only the rest is
 //! multiplied.
 ghost use Rattle.std.specs.Prelude.{◌≡◌, true, IfOk, OnOk};
-ghost use Rattle.cutset_lists.specs.Sets.{AddsBoth, AddsSetsOf, HitsBoth, AreSetsAs};
+ghost use Rattle.cutset_lists.specs.Sets.{AddsBoth, AddsSetsOf, WithinBoth, AreSetsAs};
 ghost use Rattle.cutset_lists.specs.Waiting.{AreFilled};
 
 use crate::combine::{add_all_unions, append};
@@ -28,7 +28,7 @@ fn are_split(left: &Sets, right: &Sets) -> bool
 pub fn add_split(alloc: Global, sets: &mut Sets, left: &Sets, right: &Sets) -> Result<(), NoMemory>
     requires left { AreFilled left.now }
     requires right { AreFilled right.now }
-    ensures hits { OnOk result (AddsBoth left.now right.now sets.old sets.new) }
+    ensures within { OnOk result (AddsBoth left.now right.now sets.old sets.new) }
     ensures sets { OnOk result (AddsSetsOf left.now right.now sets.old sets.new) }
 {
     let lefts = split(alloc, left, right)?;
@@ -47,7 +47,7 @@ pub fn add_product(
     right: &Sets,
     apart: bool,
 ) -> Result<(), NoMemory>
-    ensures hits { OnOk result (AddsBoth left.now right.now sets.old sets.new) }
+    ensures within { OnOk result (AddsBoth left.now right.now sets.old sets.new) }
     ensures sets { OnOk result (AddsSetsOf left.now right.now sets.old sets.new) }
 {
     if !apart && are_split(left, right) {
@@ -59,7 +59,7 @@ pub fn add_product(
 
 /// The product of two lists.
 pub fn product(alloc: Global, left: &Sets, right: &Sets, apart: bool) -> Result<Sets, NoMemory>
-    ensures hits { IfOk result (HitsBoth left.now right.now) }
+    ensures within { IfOk result (WithinBoth left.now right.now) }
     ensures sets { IfOk result (AreSetsAs left.now right.now) }
 {
     let mut sets = Rows::new(alloc);

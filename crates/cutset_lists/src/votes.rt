@@ -25,7 +25,7 @@ fn none_counted(alloc: Global, most: usize) -> Result<Vec<Sets>, NoMemory>
     Ok(counts)
 }
 
-// One count is also reached from the one below where the list is hit.
+// One count is also reached from the one below where the list is true.
 fn count_more(
     alloc: Global,
     counts: &mut Vec<Sets>,

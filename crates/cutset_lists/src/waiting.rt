@@ -8,7 +8,7 @@ ghost use Rattle.unit_sets.specs.UnitList.{among, is_within};
 ghost use Rattle.cutset_lists.specs.Sets.{is_short_within};
 
 use crate::{NoMemory, Sets, UnitNo};
-use fault_model::GrowingList;
+use flat_rows::GrowingList;
 use std::alloc::Global;
 use unit_sets::UnitSet;
 

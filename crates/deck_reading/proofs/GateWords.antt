@@ -15,7 +15,8 @@ use Rattle.fault_model.specs.declared.node.GateKind.TheVariants.{And, Or, Votes,
 use Rattle.galileo_lexer.specs.Bytes.{is_word_byte}
 use Rattle.galileo_lexer.specs.Pieces.{IsNameText}
 use Rattle.galileo_tree.specs.ReadTree.{HasShortNumbers}
-use Rattle.galileo_tree.specs.GateWord.{number_from, are_digits, votes_behind, votes_if, votes_of, gate_word as kind_in}
+use Rattle.decimal_numerals.specs.Numeral.{number_from, are_digits}
+use Rattle.galileo_tree.specs.GateWord.{votes_behind, votes_if, votes_of, gate_word as kind_in}
 use Rattle.deck_reading.specs.Written.{gate_word}
 
 -- ---- a number's digits
@@ -64,7 +65,7 @@ few_digits n small = (
       (omega arith) (omega arith) (omega arith),
 )
 
-digits_are : (n : ℕ) → n ≤ 999999999 → are_digits (decimal n) ≡ true
+digits_are : (n : ℕ) → n ≤ 999999999 → are_digits 9 (decimal n) ≡ true
 digits_are n small =
     let is = few_digits n small in
     and_from (nat_le 1 (length (decimal n)) && nat_le (length (decimal n)) 9) (list_all is_ascii_digit (decimal n))
@@ -84,10 +85,10 @@ prefix_is (digit ∷ digits) byte rest each other =
     omega (arith, prefix_is digits byte rest parts.1 other) in
     ap (λ b. cond b (1 + prefix_len is_ascii_digit (digits ++ byte ∷ rest)) 0) parts.0 ∙ more
 
-votes_parts : (front back : List ℕ) → are_digits front ≡ true → are_digits back ≡ true
+votes_parts : (front back : List ℕ) → are_digits 9 front ≡ true → are_digits 9 back ≡ true
     → votes_if front (codes "of") back ≡ Some (Votes (number_from 0 front) (number_from 0 back))
 votes_parts front back first second =
-    ap (λ b. if b && true && are_digits back then Some
+    ap (λ b. if b && true && are_digits 9 back then Some
     (Votes (number_from 0 front) (number_from 0 back)) else None) first
     ∙ ap (λ b. if b then Some (Votes (number_from 0 front) (number_from 0 back)) else None) second
 

@@ -10,13 +10,14 @@ use Rattle.std.proofs.lemmas.List.Elements.{All-append, All-cons, All-contains, 
 use Rattle.std.proofs.lemmas.List.Elements.{All-map, All-nil, All-tail, All-weaker}
 use Rattle.std.proofs.lemmas.List.FromFn.{get_or-range_with_len, length-map-range_with_len, length-range_with_len}
 use lib.Pointwise.{bytes_decides}
-use Rattle.unit_sets.specs.UnitList.{Contains-from_among, among}
+use Rattle.unit_sets.specs.UnitList.{among}
+use Rattle.unit_sets.proofs.UnitListLemmas.{Contains-from_among}
 use Rattle.fault_model.specs.declared.list.Attribute.{Attribute}
 use Rattle.fault_model.specs.declared.node.GateKind.{GateKind}
 use Rattle.fault_model.specs.declared.node.GateKind.TheVariants.{And, Or, Votes, Pand, Por, Seq, Fdep, Csp, Wsp, Hsp}
 use Rattle.fault_model.specs.Name.{is_bare_name, is_name}
 use Rattle.fault_model.specs.Rank.{rank_over}
-use Rattle.fault_model.specs.RankLaws.{below_are_nodes, below_ranks, gate_sound, inputs_are_nodes}
+use Rattle.fault_model.proofs.RankLaws.{below_are_nodes, below_ranks, gate_sound, inputs_are_nodes}
 use Rattle.fault_model.specs.Tree.{FaultTree, IsNodeOf, attributes_of, gate_count, inputs_of, is_above_units, kind_of}
 use Rattle.fault_model.specs.Tree.{name_of, node_count, rank_of, unit_count}
 use Rattle.fault_model.specs.Tree as trees

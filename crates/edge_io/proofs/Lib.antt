@@ -1,3 +1,5 @@
 pub mod ListLemmas
 pub mod WritingLemmas
 pub mod ReadingLemmas
+pub mod FaultsLemmas
+pub mod OutLemmas

@@ -4,14 +4,16 @@ use Rattle.std.proofs.Common.{arith}
 use Rattle.std.proofs.lemmas.List.Elements.{All-contains}
 use Rattle.zdd_words.specs.declared.word.Parts.{Parts}
 use Rattle.zdd_families.specs.Family.{IsAbove, branch}
-use Rattle.zdd_families.specs.Map.{IsClosed, Knows, family, family-empty}
-use Rattle.zdd_families.specs.Canonical.{IsFamily-family, family-filled}
+use Rattle.zdd_families.specs.Map.{IsClosed, Knows, family}
+use Rattle.zdd_families.proofs.MapLemmas.{family-empty}
+use Rattle.zdd_families.proofs.Canonical.{IsFamily-family, family-filled}
 use Rattle.family_parts.specs.Antichains.{IsAntichain}
-use Rattle.minimal_families.specs.Nodes.{antichain-lo, antichain-hi}
+use Rattle.minimal_families.proofs.NodesLemmas.{antichain-lo, antichain-hi}
 use Rattle.family_memory.specs.Memory.{Held, Has, IsSound, Went, Gave, RanOut, family_in, map_of}
-use Rattle.family_memory.specs.After.{Gave-there, Went-then, ended, still, still_has}
+use Rattle.family_memory.proofs.After.{Gave-there, Went-then, ended, still, still_has}
 use Rattle.family_copies.specs.declared.copies.Pair.{Pair}
-use Rattle.family_copies.specs.Copies.{AreCopies, IsCopy, copies-went}
+use Rattle.family_copies.specs.Copies.{AreCopies, IsCopy}
+use Rattle.family_copies.proofs.CopiesLemmas.{copies-went}
 use Rattle.family_copies.specs.Parts.{ArePartsOf}
 use Rattle.family_copies.proofs.Parting.{fewer, levels_above, same_terminal}
 

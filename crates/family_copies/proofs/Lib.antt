@@ -1,3 +1,4 @@
 pub mod Parting
 pub mod Bringing
 pub mod Sending
+pub mod CopiesLemmas

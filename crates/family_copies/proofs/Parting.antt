@@ -3,8 +3,9 @@ use Rattle.std.proofs.Common.{◌≡◌, ◌≢◌, ℕ, zero, suc, ◌-◌, ◌
 use Rattle.unit_sets.specs.Unit.{IsUnit}
 use Rattle.zdd_words.specs.declared.word.Parts.{Parts}
 use Rattle.zdd_families.specs.Family.{IsAbove, branch, first_unit}
-use Rattle.zdd_families.specs.Map.{Knows, family, family-empty, family-unit, level_in, level_in-inner}
-use Rattle.zdd_families.specs.Canonical.{first_unit-family, level-above}
+use Rattle.zdd_families.specs.Map.{Knows, family, level_in}
+use Rattle.zdd_families.proofs.MapLemmas.{family-empty, family-unit, level_in-inner}
+use Rattle.zdd_families.proofs.Canonical.{first_unit-family, level-above}
 use Rattle.zdd_shared_table.specs.Seats.{Seated, IsSoundSeat, map_of}
 use Rattle.family_copies.specs.Parts.{ArePartsOf}
 

@@ -4,17 +4,19 @@ use Rattle.std.proofs.Common.{inl}
 use Rattle.std.proofs.lemmas.List.Elements.{All-contains}
 use Rattle.zdd_words.specs.declared.word.Parts.{Parts}
 use Rattle.zdd_families.specs.Family.{IsAbove, branch}
-use Rattle.zdd_families.specs.Map.{Knows, KnowsAs, family, family-empty}
-use Rattle.zdd_families.specs.Canonical.{family-filled}
+use Rattle.zdd_families.specs.Map.{Knows, KnowsAs, family}
+use Rattle.zdd_families.proofs.MapLemmas.{family-empty}
+use Rattle.zdd_families.proofs.Canonical.{family-filled}
 use Rattle.family_operations.specs.Due.{Splits}
 use Rattle.family_operations.specs.Nodes.{IsReached, reached_itself, reached_lo, reached_hi}
 use Rattle.family_memory.specs.Memory.{Held, Has, IsSound, IsNodeOf, family_in, map_of as own_map}
-use Rattle.family_memory.specs.After.{knows as own_known}
+use Rattle.family_memory.proofs.After.{knows as own_known}
 use Rattle.zdd_shared_table.specs.Seats.{Seated, IsSoundSeat, map_of}
 use Rattle.zdd_product.specs.Seats.{IsBranch, Went, WentOn, Gave, WasFull}
-use Rattle.zdd_product.specs.After.{Gave-known, WasFull-as, WasFull-next, WentOn-as, WentOn-next, made_after, stays}
+use Rattle.zdd_product.proofs.After.{Gave-known, WasFull-as, WasFull-next, WentOn-as, WentOn-next, made_after, stays}
 use Rattle.family_copies.specs.declared.copies.Pair.{Pair}
-use Rattle.family_copies.specs.Copies.{AreCopies, IsCopy, copies-grown}
+use Rattle.family_copies.specs.Copies.{AreCopies, IsCopy}
+use Rattle.family_copies.proofs.CopiesLemmas.{copies-grown}
 use Rattle.family_copies.proofs.Parting.{fewer, levels_above, same_terminal}
 
 -- ---- whatever the answer

@@ -4,17 +4,19 @@ use Rattle.std.proofs.Common.{inl, inr, arith, length-append, All}
 use Rattle.std.proofs.lemmas.Bool.{cases_lt}
 use Rattle.std.proofs.lemmas.List.{get_or_append_left, get_or_past, get_or_push}
 use Rattle.unit_sets.specs.Unit.{IsUnit}
-use Rattle.zdd_words.specs.Word.{level_of, lo_of, hi_of, level_of-zero}
+use Rattle.zdd_words.specs.Word.{level_of, lo_of, hi_of}
+use Rattle.zdd_words.proofs.WordLemmas.{level_of-zero}
 use Rattle.zdd_families.specs.Family.{IsAbove, branch}
-use Rattle.zdd_families.specs.Map.{IsNode, IsNode-grown, IsClosed, Grown, family-node, level_in, lo_known, hi_known}
-use Rattle.zdd_families.specs.Canonical.{family-grown}
+use Rattle.zdd_families.specs.Map.{IsNode, IsClosed, Grown, level_in}
+use Rattle.zdd_families.proofs.MapLemmas.{IsNode-grown, family-node, lo_known, hi_known}
+use Rattle.zdd_families.proofs.Canonical.{family-grown}
 use Rattle.family_parts.specs.Antichains.{IsAntichain}
 use Rattle.family_memory.specs.Memory.{Held, Has, IsSound, Went, family_in, map_of, word_family}
 use Rattle.family_memory.specs.declared.answers.Entry.{Entry}
 use Rattle.family_memory.specs.Answers.{IsTold}
 use Rattle.family_memory.specs.Kept.{IsAdded, KeepsNodes}
 use Rattle.family_memory.proofs.Entries.{all_told}
-use Rattle.family_memory.specs.After.{knows, level_above}
+use Rattle.family_memory.proofs.After.{knows, level_above}
 
 abbrev pub with_word : Held → ℕ → Held
 with_word held word = record { words = held.words ++ word ∷ []; room = held.room }

@@ -2,8 +2,8 @@
 use Rattle.std.proofs.Common.{◌≡◌, ℕ, zero, suc, ◌+◌, ◌<◌, ◌≤◌, ◌^◌, List, [], ◌∷◌, length, take, get_or, refl, sym}
 use Rattle.std.proofs.Common.{◌∙◌, ap, subst, inl, inr, arith, All}
 use Rattle.std.proofs.lemmas.Bool.{cases_eq}
-use Rattle.zdd_families.specs.Map.{family-empty, family-unit}
-use Rattle.family_operations.specs.Minimal.{minimal-none, minimal-unit}
+use Rattle.zdd_families.proofs.MapLemmas.{family-empty, family-unit}
+use Rattle.family_operations.proofs.MinimalLemmas.{minimal-none, minimal-unit}
 use Rattle.family_parts.specs.Antichains.{IsAntichain}
 use Rattle.family_memory.specs.declared.answers.Entry.{Entry}
 use Rattle.family_memory.specs.Answers.{IsTold}

@@ -2,10 +2,11 @@
 use Rattle.std.proofs.Common.{◌≡◌, ℕ, ◌≤◌, Bool, true, false, if◌then◌else◌, List, [], ◌++◌, length, take, replicate}
 use Rattle.std.proofs.Common.{sym, subst, All, arith}
 use Rattle.std.proofs.lemmas.List.Elements.{All-weaker, All-append, All-replicate, All-take}
-use Rattle.zdd_families.specs.Map.{family-empty}
-use Rattle.family_operations.specs.Without.{IsWithout, without-none}
+use Rattle.zdd_families.proofs.MapLemmas.{family-empty}
+use Rattle.family_operations.specs.Without.{IsWithout}
+use Rattle.family_operations.proofs.WithoutLemmas.{without-none}
 use Rattle.family_memory.specs.Memory.{Held, Has, IsSound, Went, family_in, map_of}
-use Rattle.family_memory.specs.After.{still, still_has}
+use Rattle.family_memory.proofs.After.{still, still_has}
 use Rattle.family_memory.specs.Answers.{IsTold, IsAnswer}
 use Rattle.family_memory.specs.declared.answers.Entry.{Entry}
 use Rattle.family_memory.specs.declared.answers.Operation.TheVariants.{Without}

@@ -2,3 +2,4 @@ pub mod Adding
 pub mod Empty
 pub mod Entries
 pub mod Nodes
+pub mod After

@@ -4,8 +4,9 @@ use Rattle.std.proofs.lemmas.Bool.{cases_lt}
 use Rattle.std.proofs.lemmas.List.{get_or_past, get_or_read}
 use Rattle.zdd_words.specs.Word.{level_of, lo_of, hi_of}
 use Rattle.zdd_words.specs.declared.word.Parts.{Parts}
-use Rattle.zdd_families.specs.Map.{Knows, IsNode, family-node, level_in, level_in-inner, lo_known, hi_known}
-use Rattle.zdd_families.specs.Canonical.{lo_units, hi_units}
+use Rattle.zdd_families.specs.Map.{Knows, IsNode, level_in}
+use Rattle.zdd_families.proofs.MapLemmas.{family-node, level_in-inner, lo_known, hi_known}
+use Rattle.zdd_families.proofs.Canonical.{lo_units, hi_units}
 use Rattle.family_memory.specs.Memory.{Held, Has, IsSound, IsNodeOf, map_of}
 
 -- a known reference is one that the memory has

@@ -2,4 +2,3 @@ pub mod Memory
 pub mod Answers
 pub mod Kept
 pub mod Search
-pub mod After

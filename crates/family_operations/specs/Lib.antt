@@ -7,7 +7,6 @@ pub mod Without
 pub mod Minimal
 pub mod Votes
 pub mod Due
-pub mod References
-pub mod Hits
+pub mod Within
 pub mod Counting
 pub mod Nodes

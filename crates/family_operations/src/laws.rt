@@ -3,7 +3,7 @@ ghost use Rattle.std.specs.Prelude.{◌≡◌, ◌↔◌, ℕ, length, List, [],
 ghost use Rattle.std.specs.Prelude.{Contains};
 ghost use Rattle.family_operations.specs.Counting.{EachOnce};
 ghost use Rattle.family_operations.specs.Cuts.{Cuts};
-ghost use Rattle.family_operations.specs.Hits.{hit_count, hits};
+ghost use Rattle.family_operations.specs.Within.{count_within};
 ghost use Rattle.family_operations.specs.Inclusion.{Includes, includes_one};
 ghost use Rattle.family_operations.specs.Minimal.{IsMinimal};
 ghost use Rattle.family_operations.specs.Nodes.{IsNodeCount, Reaches};
@@ -13,6 +13,7 @@ ghost use Rattle.family_operations.specs.Votes.{IsVotes};
 ghost use Rattle.family_operations.specs.Without.{IsWithout};
 ghost use Rattle.zdd_families.specs.Family.{IsFamily, IsAbove, branch};
 ghost use Rattle.zdd_families.specs.Map.{IsClosed, IsUnique, Knows, family};
+ghost use Rattle.unit_sets.specs.UnitList.{some_within};
 
 /// Each operation has one result.
 pub fn one_result()
@@ -101,15 +102,15 @@ pub fn votes_by_members()
 
 /// Which sets of units include a set of a result: a union where of either family, a product where of
 /// both, the minimal sets where of the family, and votes where of that many families.
-pub fn hits_of_results()
+pub fn sets_within_results()
     ensures union { (f g h : List (List ℕ)) (within : ℕ → Bool) → IsUnion f g h
-        → hits h within ≡ (hits f within || hits g within) }
+        → some_within h within ≡ (some_within f within || some_within g within) }
     ensures product { (f g h : List (List ℕ)) (within : ℕ → Bool) → IsProduct f g h
-        → hits h within ≡ (hits f within && hits g within) }
+        → some_within h within ≡ (some_within f within && some_within g within) }
     ensures minimal { (f least : List (List ℕ)) (within : ℕ → Bool) → IsFamily f → IsMinimal f least
-        → hits least within ≡ hits f within }
+        → some_within least within ≡ some_within f within }
     ensures votes { (k : ℕ) (families : List (List (List ℕ))) (h : List (List ℕ)) (within : ℕ → Bool)
-        → IsVotes k families h → hits h within ≡ nat_le k (hit_count families within) }
+        → IsVotes k families h → some_within h within ≡ nat_le k (count_within families within) }
 {}
 
 /// A family has one number of nodes.

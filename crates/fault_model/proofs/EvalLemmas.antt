@@ -8,7 +8,7 @@ use Rattle.unit_sets.specs.UnitList.{among}
 use Rattle.fault_model.specs.Tree.{FaultTree, IsNodeOf, node_count}
 use Rattle.fault_model.specs.Trigger.{below}
 use Rattle.fault_model.specs.Reading.{node_reads, reads}
-use Rattle.fault_model.specs.ReadingLaws.{node_reads-agree, reads-node}
+use Rattle.fault_model.proofs.ReadingLaws.{node_reads-agree, reads-node}
 use Rattle.fault_model.specs.Scratch.{value_in}
 use Rattle.fault_model.specs.TreeTables.{IsFromBelow}
 use Rattle.fault_model.specs.WellFormed.{IsTree}

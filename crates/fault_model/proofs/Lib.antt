@@ -4,3 +4,9 @@ pub mod NameLemmas
 pub mod TreeLemmas
 pub mod EvalLemmas
 pub mod OrderLemmas
+pub mod CutLaws
+pub mod CutLists
+pub mod StepLaws
+pub mod MinimalCuts
+pub mod RankLaws
+pub mod ReadingLaws

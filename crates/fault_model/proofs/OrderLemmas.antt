@@ -4,7 +4,8 @@ use Rattle.std.proofs.Common.{sym, ◌∙◌, ap, subst, arith}
 use Rattle.std.specs.Prelude.{◌||◌, ◌==◌, IsTrue}
 use Rattle.std.proofs.lemmas.List.{get_or-take, get_or_default, length-take, take_more}
 use Rattle.std.proofs.lemmas.List.Quantifiers.{all_pairs_push}
-use Rattle.unit_sets.specs.UnitList.{among, with_unit, among-with_unit, among-from_Contains, Contains-from_among}
+use Rattle.unit_sets.specs.UnitList.{among, with_unit}
+use Rattle.unit_sets.proofs.UnitListLemmas.{among-with_unit, among-from_Contains, Contains-from_among}
 use Rattle.fault_model.specs.Order.{AreDistinct}
 use Rattle.fault_model.proofs.TriggerLemmas.{among-push}
 

@@ -15,7 +15,7 @@ use Rattle.fault_model.specs.Tree.{FaultTree, ranked, unit_count, node_count, ga
 use Rattle.fault_model.specs.Tree.{IsNodeOf}
 use Rattle.fault_model.specs.Trigger.{below, dependents_in, triggers_of}
 use Rattle.fault_model.specs.Rank.{rank_over, IsRanked}
-use Rattle.fault_model.specs.RankLaws.{below_are_nodes, below_ranks}
+use Rattle.fault_model.proofs.RankLaws.{below_are_nodes, below_ranks}
 use Rattle.fault_model.specs.WellFormed.{IsTree, IsSoundGate, IsSoundKind}
 use Rattle.fault_model.specs.TriggerTable.{IsUnitBelow, IsTableOf}
 use Rattle.fault_model.specs.Walk.{IsGraph, IsNodeIn, IsBottomUp, AreHeights, at_node, below_in, tallest}

@@ -10,15 +10,8 @@ pub mod Order
 pub mod Step
 pub mod FailingOrder
 pub mod CutFamily
-pub mod RankLaws
-pub mod ReadingLaws
-pub mod StepLaws
-pub mod CutLaws
-pub mod MinimalCuts
-pub mod CutLists
 pub mod Walk
 pub mod WalkState
 pub mod TriggerTable
 pub mod TreeTables
 pub mod Scratch
-pub mod ManyUnits

@@ -1,6 +1,6 @@
 -- The static reading, after Tang and Dugan's logic alone: whether a node fails once a set of units has failed, in
 -- whatever order.
-use Rattle.std.specs.Prelude.{ℕ, ◌+◌, Bool, false, ◌||◌, List, [], ◌∷◌, if◌then◌else◌, nat_le}
+use Rattle.std.specs.Prelude.{◌≡◌, ℕ, ◌+◌, Bool, true, false, ◌||◌, List, [], ◌∷◌, if◌then◌else◌, nat_le}
 use Rattle.std.specs.List.{list_any, list_all}
 use Rattle.fault_model.specs.declared.node.GateKind.{GateKind}
 use Rattle.fault_model.specs.declared.node.GateKind.TheVariants.{And, Or, Votes, Pand, Por, Seq, Fdep, Csp, Wsp, Hsp}
@@ -39,3 +39,7 @@ node_reads tree set reading node =
 -- the static reading of a node
 unfoldable pub reads : FaultTree → (ℕ → Bool) → ℕ → Bool
 reads tree set node = by_rank tree false (node_reads tree set) node
+
+-- what the first reads true the second does
+pub record Within (small large : ℕ → Bool) : Type 0 where
+  pub kept : (n : ℕ) → small n ≡ true → large n ≡ true

@@ -4,7 +4,7 @@ ghost use Rattle.unit_sets.specs.UnitList.{among, is_within};
 ghost use Rattle.fault_model.specs.Cut.{IsCutList, IsMinimalCut, is_cut};
 ghost use Rattle.fault_model.specs.FailingOrder.{is_failing};
 ghost use Rattle.fault_model.specs.Reading.{node_reads, reads};
-ghost use Rattle.fault_model.specs.ReadingLaws.{Within};
+ghost use Rattle.fault_model.specs.Reading.{Within};
 ghost use Rattle.fault_model.specs.Step.{node_step, step};
 ghost use Rattle.fault_model.specs.Tree.{FaultTree, IsNodeOf, IsUnitOf};
 ghost use Rattle.fault_model.specs.WellFormed.{IsTree};

@@ -1,8 +1,6 @@
 -- A list of rows, kept end to end in one list of items beside the places where the rows end.
 use Rattle.std.proofs.Common.{zero}
-use Rattle.std.specs.Prelude.{◌≡◌, ℕ, suc, ◌+◌, ◌-◌, ◌≤◌, ◌<◌, List, [], ◌∷◌, ◌++◌, length, take, drop, get_or, refl}
-use Rattle.std.proofs.Common.{arith, ap, sym, ◌∙◌, length-drop}
-use Rattle.std.proofs.lemmas.List.{take-append-le, drop-append-le, drop_at, take_all}
+use Rattle.std.specs.Prelude.{◌≡◌, ℕ, suc, ◌-◌, ◌≤◌, List, [], ◌∷◌, take, drop, get_or}
 
 -- the items from one place up to another
 abbrev pub between : {X : Type 0} → ℕ → ℕ → List X → List X
@@ -13,77 +11,12 @@ abbrev pub rows_from : {X : Type 0} → ℕ → List ℕ → List X → List (Li
 rows_from from [] items = []
 rows_from from (e ∷ es) items = between from e items ∷ rows_from e es items
 
--- the last end, or the place where the rows begin
-abbrev pub last_end : ℕ → List ℕ → ℕ
-last_end from [] = from
-last_end from (e ∷ es) = last_end e es
-
 -- the ends rise from the beginning up to the number of items
 abbrev pub Rise : ℕ → List ℕ → ℕ → Type 0
 Rise from [] total = from ≡ total
 Rise from (e ∷ es) total = (from ≤ e) × Rise e es total
 
--- there are as many rows as ends
-pub length-rows_from : {X : Type 0} (from : ℕ) (ends : List ℕ) (items : List X)
-    → length (rows_from from ends items) ≡ length ends
-length-rows_from from [] items = refl
-length-rows_from from (e ∷ es) items = ap suc (length-rows_from e es items)
-
 -- the place where the row of a number begins
 abbrev pub start_of : ℕ → List ℕ → ℕ → ℕ
 start_of from ends zero = from
 start_of from ends (suc i) = get_or ends i 0
-
-pub start_of-cons : (from e : ℕ) (es : List ℕ) (i : ℕ) → start_of from (e ∷ es) (suc i) ≡ start_of e es i
-start_of-cons from e es zero = refl
-start_of-cons from e es (suc i) = refl
-
--- ends that rise stay between the beginning and the number of items
-pub Rise-le : (from : ℕ) (ends : List ℕ) (total : ℕ) → Rise from ends total → from ≤ total
-Rise-le from [] total h = omega (arith, h)
-Rise-le from (e ∷ es) total h = omega (arith, h.0, Rise-le e es total h.1)
-
-pub Rise-at : (from : ℕ) (ends : List ℕ) (total i : ℕ) → Rise from ends total → i < length ends
-    → (start_of from ends i ≤ get_or ends i 0) × (get_or ends i 0 ≤ total)
-Rise-at from [] total i h l = absurd (omega arith)
-Rise-at from (e ∷ es) total zero h l = (h.0, Rise-le e es total h.1)
-Rise-at from (e ∷ es) total (suc i) h l =
-    let below : i < length es = omega arith in
-    rw start_of-cons (Rise-at e es total i h.1 below)
-
--- the row of a number is what stands between its beginning and its end
-pub row_at : {X : Type 0} (from : ℕ) (ends : List ℕ) (items : List X) (i : ℕ) → i < length ends
-    → get_or (rows_from from ends items) i [] ≡ between (start_of from ends i) (get_or ends i 0) items
-row_at from [] items i l = absurd (omega arith)
-row_at from (e ∷ es) items zero l = refl
-row_at from (e ∷ es) items (suc i) l =
-    let below : i < length es = omega arith in
-    row_at e es items i below ∙ ap (λ s. between s (get_or es i 0) items) (sym (start_of-cons from e es i))
-
--- a part that ends within a list is the same part of a longer one
-pub between-append : {X : Type 0} (from to : ℕ) (items more : List X) → from ≤ to → to ≤ length items
-    → between from to (items ++ more) ≡ between from to items
-between-append from to items more below within =
-    let start : from ≤ length items = omega arith in
-    let room : to - from ≤ length (drop from items) = rw length-drop (omega arith) in
-    rw (drop-append-le from items more start, take-append-le (to - from) (drop from items) more room)
-
-pub between-rest : {X : Type 0} (items more : List X)
-    → between (length items) (length items + length more) (items ++ more) ≡ more
-between-rest items more =
-    let rest : drop (length items) (items ++ more) ≡ more = drop_at items more (length items) refl in
-    let all : take (length items + length more - length items) more ≡ more = take_all _ more (omega arith) in
-    rw (rest, all) refl
-
-pub Rise-push : (from : ℕ) (ends : List ℕ) (total more : ℕ) → Rise from ends total
-    → Rise from (ends ++ (total + more) ∷ []) (total + more)
-Rise-push from [] total more h = (omega (arith, h), refl)
-Rise-push from (e ∷ es) total more h = (h.0, Rise-push e es total more h.1)
-
--- items at the end, and their end beside the ends, are one more row
-pub rows_from-push : {X : Type 0} (from : ℕ) (ends : List ℕ) (items row : List X) → Rise from ends (length items)
-    → rows_from from (ends ++ (length items + length row) ∷ []) (items ++ row) ≡ rows_from from ends items ++ row ∷ []
-rows_from-push from [] items row h =
-    ap (λ r. r ∷ []) (rw h (between-rest items row))
-rows_from-push from (e ∷ es) items row h =
-    rw (between-append from e items row h.0 (Rise-le e es (length items) h.1), rows_from-push e es items row h.1) refl

@@ -1,15 +1,18 @@
 //! Rows of items, kept end to end in one buffer: a list of lists that takes two allocations and no more.
+//! And lists that grow at their end.
 //!
-//! It stands on std alone. A contract sees a `Rows` as the list of its rows, so the layers above speak of
-//! lists of lists and never of the buffer.
+//! It stands on `unit_sets` for the answer of want of memory alone. A contract sees a `Rows` as the list of its
+//! rows and a `GrowingList` as the list of its items, so the layers above speak of lists and never of a buffer.
 #![tactic(auto)]
 
 ghost use Rattle.std.specs.Prelude.{◌≡◌, ◌<◌, ◌≤◌, [], ◌∷◌, ◌++◌, length, OnOk, OnErr, slice_index_or, ◌==◌};
 ghost use Rattle.flat_rows.specs.Rows.{start_of, rows_from, Rise, between};
 
+mod growing;
 #[cfg(test)]
 mod tests;
 
+pub use growing::GrowingList;
 use std::alloc::{AllocError, Global};
 use std::marker::Model;
 

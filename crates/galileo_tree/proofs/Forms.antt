@@ -14,9 +14,10 @@ use Rattle.galileo_tree.specs.declared.raw.Statement.{Statement}
 use Rattle.galileo_tree.specs.declared.raw.Statement.TheVariants.{Top, Gate, Basic}
 use Rattle.galileo_tree.specs.ReadTree.{HasShortNumbers, HasBareWord, KeepsForm}
 use Rattle.galileo_tree.specs.Lexeme.{Lexeme, is_bare, is_word_kind}
-use Rattle.galileo_tree.specs.GateWord.{number_from, are_digits, votes_if, votes_of, gate_word, kind_said}
+use Rattle.decimal_numerals.specs.Numeral.{number_from, are_digits}
+use Rattle.galileo_tree.specs.GateWord.{votes_if, votes_of, gate_word, kind_said}
 use Rattle.galileo_tree.specs.Grammar.{AreAttributes, Spells, SpellsAll, Written, attribute_in}
-use Rattle.galileo_tree.proofs.Digits.{digit_at, milliard, small_more}
+use Rattle.decimal_numerals.proofs.Digits.{digit_at, milliard, small_more}
 
 -- ---- gate words
 
@@ -32,7 +33,7 @@ number_below number i (digit ∷ digits) each small =
     subst (λ k. number_from (10 * number + (digit - 48)) digits < 10 ^ k)
     (let e : i + 1 + length digits ≡ i + suc (length digits) = omega arith in e) more
 
-short_number : (digits : List ℕ) → are_digits digits ≡ true → number_from 0 digits ≤ 999999999
+short_number : (digits : List ℕ) → are_digits 9 digits ≡ true → number_from 0 digits ≤ 999999999
 short_number digits are =
     let parts = and_parts (nat_le 1 (length digits) && nat_le (length digits) 9) (list_all is_ascii_digit digits) are in
     let few = leb-true (length digits) 9 (and_parts (nat_le 1 (length digits)) (nat_le (length digits) 9) parts.0).1 in
@@ -46,11 +47,11 @@ IsShort kind = IfSome kind HasShortNumbers
 
 votes_if-short : (front of back : List ℕ) → IsShort (votes_if front of back)
 votes_if-short front of back =
-    cond_both (are_digits front && str_eq_ignore_ascii_case of (codes "of") && are_digits back)
+    cond_both (are_digits 9 front && str_eq_ignore_ascii_case of (codes "of") && are_digits 9 back)
     (Some (Votes (number_from 0 front) (number_from 0 back))) None IsShort
     (λ all.
-    let parts = and_parts (are_digits front && str_eq_ignore_ascii_case of (codes "of")) (are_digits back) all in (
-      short_number front (and_parts (are_digits front) (str_eq_ignore_ascii_case of (codes "of")) parts.0).0,
+    let parts = and_parts (are_digits 9 front && str_eq_ignore_ascii_case of (codes "of")) (are_digits 9 back) all in (
+      short_number front (and_parts (are_digits 9 front) (str_eq_ignore_ascii_case of (codes "of")) parts.0).0,
       short_number back parts.1,
     ))
     (λ _. tt)

@@ -1,4 +1,3 @@
-pub mod Digits
 pub mod NameTexts
 pub mod Tokens
 pub mod Parses

@@ -1,26 +1,18 @@
 -- The words that say what a gate does.
-use Rattle.std.specs.Prelude.{ℕ, ◌+◌, ◌-◌, ◌*◌, Bool, ◌&&◌, nat_le, if◌then◌else◌, List, [], ◌∷◌, length, take, drop}
+use Rattle.std.specs.Prelude.{ℕ, ◌&&◌, if◌then◌else◌, List, length, take, drop}
 use Rattle.std.specs.Prelude.{nat_lt, codes, Option, Some, None}
-use Rattle.std.specs.List.{list_all, prefix_len}
+use Rattle.std.specs.List.{prefix_len}
 use Rattle.std.specs.Char.{is_ascii_digit}
 use Rattle.std.specs.Str.{str_eq_ignore_ascii_case}
 use Rattle.fault_model.specs.declared.node.GateKind.{GateKind}
 use Rattle.fault_model.specs.declared.node.GateKind.TheVariants.{And, Or, Votes, Pand, Por, Seq, Fdep, Csp, Wsp, Hsp}
+use Rattle.decimal_numerals.specs.Numeral.{are_digits, number_from}
 use Rattle.galileo_tree.specs.Lexeme.{Lexeme, is_word_kind}
-
--- the number that digits write behind one
-abbrev pub number_from : ℕ → List ℕ → ℕ
-number_from number [] = number
-number_from number (digit ∷ digits) = number_from (10 * number + (digit - 48)) digits
-
--- 1 to 9 digits
-abbrev pub are_digits : List ℕ → Bool
-are_digits bytes = nat_le 1 (length bytes) && nat_le (length bytes) 9 && list_all is_ascii_digit bytes
 
 -- the kind of `KofN`, where these three make one
 abbrev pub votes_if : List ℕ → List ℕ → List ℕ → Option GateKind
 votes_if front of back =
-    if are_digits front && str_eq_ignore_ascii_case of (codes "of") && are_digits back
+    if are_digits 9 front && str_eq_ignore_ascii_case of (codes "of") && are_digits 9 back
     then Some (Votes (number_from 0 front) (number_from 0 back)) else None
 
 -- digits, the two bytes behind them, and the rest

@@ -1,12 +1,16 @@
 //! Tests of the bytes of a word.
-ghost use Rattle.std.specs.Prelude.{◌≡◌, ◌+◌, ◌*◌, ◌<◌, ◌≤◌, IfSome, length, true, Some, None};
-ghost use Rattle.std.specs.List.{list_all, prefix_len};
+ghost use Rattle.std.specs.Prelude.{◌≡◌, ◌≤◌, IfSome, length};
+ghost use Rattle.std.specs.List.{prefix_len};
 ghost use Rattle.std.specs.Char.{is_ascii_digit};
 ghost use Rattle.std.specs.Str.{str_eq_ignore_ascii_case};
 ghost use Rattle.galileo_tree.specs.ReadTree.{HasShortNumbers};
-ghost use Rattle.galileo_tree.specs.GateWord.{number_from, are_digits, votes_if, votes_of, gate_word};
+ghost use Rattle.galileo_tree.specs.GateWord.{votes_if, votes_of, gate_word};
 
+use decimal_numerals::{are_digits, number};
 use fault_model::GateKind;
+
+// The most digits of each number of a `KofN`.
+const MOST_DIGITS: usize = 9;
 
 // The kind of a gate that a word says.
 #[tactic(auto, unfolding(crate::specs::GateWord::gate_word))]
@@ -66,35 +70,12 @@ fn votes_if(front: &[u8], of: &[u8], back: &[u8]) -> Option<GateKind>
     ensures kind { result ≡ votes_if front.now of.now back.now }
     ensures short { IfSome result HasShortNumbers }
 {
-    if are_digits(front) && of.eq_ignore_ascii_case(b"of") && are_digits(back) {
+    if are_digits(MOST_DIGITS, front)
+        && of.eq_ignore_ascii_case(b"of")
+        && are_digits(MOST_DIGITS, back)
+    {
         Some(GateKind::Votes(number(front), number(back)))
     } else {
         None
     }
-}
-
-fn are_digits(bytes: &[u8]) -> bool
-    ensures { result ≡ are_digits bytes.now }
-{
-    1 <= bytes.len() && bytes.len() <= 9 && all_digits(bytes)
-}
-
-fn all_digits(bytes: &[u8]) -> bool
-    ensures { result ≡ list_all is_ascii_digit bytes.now }
-{
-    bytes.iter().all(|byte| byte.is_ascii_digit())
-}
-
-// The number that up to nine digits write.
-fn number(digits: &[u8]) -> u32
-    requires few { length digits.now ≤ 9 }
-    requires digits { list_all is_ascii_digit digits.now ≡ true }
-    ensures value { result ≡ number_from 0 digits.now }
-    ensures small { result ≤ 999999999 }
-{
-    let mut number: u32 = 0;
-    for digit in digits {
-        number = 10 * number + u32::from(*digit - b'0');
-    }
-    number
 }

@@ -17,7 +17,8 @@ use crate::raw::{
 };
 use crate::reader::Reader;
 use crate::tree::RawTree;
-use fault_model::{Attribute, GateKind, GrowingList, Name, Place};
+use fault_model::{Attribute, GateKind, Name, Place};
+use flat_rows::GrowingList;
 use galileo_lexer::LONGEST_TEXT;
 use std::alloc::Global;
 

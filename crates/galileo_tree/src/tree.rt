@@ -2,7 +2,8 @@
 ghost use Rattle.std.specs.Prelude.{◌≡◌, ◌^◌, ◌<◌, length, slice_get, Some};
 
 use crate::raw::Statement;
-use fault_model::{GrowingList, Place};
+use fault_model::Place;
+use flat_rows::GrowingList;
 use std::marker::Model;
 
 /// The statements of a text in their order, and the place of its end. `parse` alone makes one. A contract sees

@@ -10,7 +10,7 @@ use Rattle.graph_cycles.specs.declared.walk.Stage.{Stage}
 use Rattle.graph_cycles.specs.declared.walk.Stage.TheVariants.{Open, Closed}
 use Rattle.graph_cycles.specs.Walk.{IsSound, IsTop, Reaches, seen_of, stage_at}
 use Rattle.graph_cycles.proofs.Ways.{top_most}
-use Rattle.graph_cycles.specs.Surveys.{Leads_then}
+use Rattle.graph_cycles.proofs.Surveys.{Leads_then}
 
 -- the state at which the piece that begins at the end of the path is closed
 pub record IsClosing (graph : List (List ℕ)) (stages : List Stage) (explored unclosed pieces path : List ℕ)

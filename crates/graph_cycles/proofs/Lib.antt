@@ -13,3 +13,5 @@ pub mod Steps
 pub mod Progress
 pub mod Walking
 pub mod Below
+-- each graph has such marks and ranks
+pub mod Surveys

@@ -4,7 +4,7 @@ use Rattle.std.proofs.Common.{inr, arith}
 use Rattle.std.proofs.lemmas.Bool.{cases_lt}
 use Rattle.graph_cycles.specs.Graph.{Goes, Leads}
 use Rattle.graph_cycles.specs.Graph.Leads.{edge}
-use Rattle.graph_cycles.specs.Surveys.{Leads_then}
+use Rattle.graph_cycles.proofs.Surveys.{Leads_then}
 use Rattle.graph_cycles.specs.Walk.{Reaches, Rises, IsOn}
 
 pub Reaches_then : {graph : List (List ℕ)} (x y z : ℕ) → Reaches graph x y → Reaches graph y z → Reaches graph x z

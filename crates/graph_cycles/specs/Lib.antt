@@ -3,5 +3,3 @@ pub mod Graph
 -- the walk that finds them
 pub mod Walk
 pub mod State
--- each graph has such marks and ranks
-pub mod Surveys

@@ -2,14 +2,16 @@
 use Rattle.std.proofs.Common.{Result, MatchResult, IfOk, IfErr, ◌≡◌, ℕ, ◌||◌, [], ◌∷◌, sym, ◌∙◌, ap, subst}
 use Rattle.std.proofs.lemmas.Result.{MatchResult-weaker}
 use Rattle.zdd_families.specs.Family.{branch}
-use Rattle.zdd_families.specs.Map.{family-empty, family-unit}
-use Rattle.family_operations.specs.Cuts.{Cuts, branch-none}
-use Rattle.family_operations.specs.Hits.{hits}
+use Rattle.zdd_families.proofs.MapLemmas.{family-empty, family-unit}
+use Rattle.family_operations.specs.Cuts.{Cuts}
+use Rattle.family_operations.proofs.CutsLemmas.{branch-none}
+use Rattle.unit_sets.specs.UnitList.{some_within}
 use Rattle.family_parts.specs.Antichains.{IsAntichain}
-use Rattle.minimal_families.specs.Least.{IsLeastFor-same, IsLeastUnion, IsLeastProduct}
-use Rattle.minimal_families.specs.Steps.{or_of}
+use Rattle.minimal_families.specs.Least.{IsLeastUnion, IsLeastProduct}
+use Rattle.minimal_families.proofs.LeastLemmas.{IsLeastFor-same}
+use Rattle.minimal_families.proofs.StepsLemmas.{or_of}
 use Rattle.family_memory.specs.Memory.{Held, Has, IsSound, Gave, RanOut, family_in, map_of}
-use Rattle.family_memory.specs.After.{Gave-there, answers_of, ended, still}
+use Rattle.family_memory.proofs.After.{Gave-there, answers_of, ended, still}
 use Rattle.many_families.specs.Joins.{IsJoined, IsBelow}
 use Rattle.many_families.proofs.UnitVotes.{joined_by_node}
 
@@ -25,8 +27,9 @@ joined_any s0 s1 s2 voter same fewer more sound has gave result gives spent =
     ended s0 s1 s2 gave.went (IsLeastUnion (family_in s1 same) (family_in s1 more))
     (IsJoined (family_in s0 voter) (family_in s0 same) (family_in s0 fewer)) result
     (λ h is.
-    IsLeastFor-same (λ within. hits (family_in s1 same) within || hits (family_in s1 more) within) _ h is
-    (λ within. or_of _ _ _ _ (ap (λ f. hits f within) (still s0 s1 sound gave.went same has)) (gave.is.hit within)))
+    IsLeastFor-same (λ within. some_within (family_in s1 same) within || some_within (family_in s1 more) within) _ h is
+    (λ within. or_of _ _ _ _ (ap (λ f. some_within f within) (still s0 s1 sound gave.went same has))
+    (gave.is.hit within)))
     (answers_of (IsLeastUnion (family_in s1 same) (family_in s1 more)) s1 s2 result gives spent)
 
 -- ---- a single unit below all others

@@ -5,10 +5,10 @@ use Rattle.std.proofs.lemmas.Bool.{cond-true, lt-ltb}
 use Rattle.std.proofs.lemmas.List.{take_more, take-append-drop, get_or-map, length-map}
 use Rattle.std.proofs.lemmas.List.Elements.{All-head, All-tail, All-take}
 use Rattle.minimal_families.specs.Least.{IsLeastOfAll, IsLeastProductOfAll, IsLeastProduct}
-use Rattle.minimal_families.specs.Many.{least_of_none, least_of_one, product_of_none, product_of_more}
-use Rattle.zdd_families.specs.Map.{family-empty, family-unit}
+use Rattle.minimal_families.proofs.Many.{least_of_none, least_of_one, product_of_none, product_of_more}
+use Rattle.zdd_families.proofs.MapLemmas.{family-empty, family-unit}
 use Rattle.family_memory.specs.Memory.{Held, Has, IsSound, Went, Gave, family_in, map_of}
-use Rattle.family_memory.specs.After.{Gave-there, still, still_has}
+use Rattle.family_memory.proofs.After.{Gave-there, still, still_has}
 use Rattle.many_families.specs.Lists.{families}
 
 pub families_stay : (before after : Held) (list : List ℕ) → IsSound before → Went before after → All (Has before) list

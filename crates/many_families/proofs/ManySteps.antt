@@ -4,9 +4,9 @@ use Rattle.std.proofs.Common.{◌∙◌, ap, subst, arith, length-drop}
 use Rattle.std.proofs.Math.Seq.{take-length}
 use Rattle.std.proofs.lemmas.List.Elements.{All-drop}
 use Rattle.minimal_families.specs.Least.{IsLeastOfAll, IsLeastProductOfAll, IsLeastUnion, IsLeastProduct}
-use Rattle.minimal_families.specs.Many.{least_of_both}
+use Rattle.minimal_families.proofs.Many.{least_of_both}
 use Rattle.family_memory.specs.Memory.{Held, Has, IsSound, Went, Gave, RanOut, family_in}
-use Rattle.family_memory.specs.After.{Went-then, ended, still, still_has}
+use Rattle.family_memory.proofs.After.{Went-then, ended, still, still_has}
 use Rattle.many_families.specs.Lists.{families}
 use Rattle.many_families.proofs.Lists.{families_parts, families_stay, member_family, many_families, product_goes_on}
 

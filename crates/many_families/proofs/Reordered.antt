@@ -6,31 +6,33 @@ use Rattle.std.specs.List.Sorted.{IsPermutation}
 use Rattle.std.proofs.lemmas.List.Sums.{AllPass-from_list_all, list_all-from_AllPass, sum_by-cons}
 use Rattle.std.proofs.lemmas.List.Sorted.{All-permutation, IsPermutation-map, IsPermutation-sym, list_any-IsPermutation}
 use Rattle.std.proofs.lemmas.List.Sorted.{sum_by-IsPermutation}
-use Rattle.family_operations.specs.Hits.{hits, hit_count}
-use Rattle.family_operations.specs.Inclusion.{same_Bool}
-use Rattle.minimal_families.specs.Least.{IsLeastFor-same, IsLeastOfAll, IsLeastProductOfAll, IsLeastVotes}
+use Rattle.family_operations.specs.Within.{count_within}
+use Rattle.family_operations.proofs.InclusionLemmas.{same_Bool}
+use Rattle.minimal_families.specs.Least.{IsLeastOfAll, IsLeastProductOfAll, IsLeastVotes}
+use Rattle.minimal_families.proofs.LeastLemmas.{IsLeastFor-same}
 use Rattle.family_memory.specs.Memory.{Held, Gave, RanOut, family_in}
 use Rattle.many_families.specs.Lists.{families}
+use Rattle.unit_sets.specs.UnitList.{some_within}
 
 votes_by_sum : (fs : List (List (List ℕ))) (within : ℕ → Bool)
-    → hit_count fs within ≡ sum_by (λ f. if hits f within then 1 else 0) fs
+    → count_within fs within ≡ sum_by (λ f. if some_within f within then 1 else 0) fs
 votes_by_sum [] within = refl
 votes_by_sum (f ∷ fs) within =
-    ap (λ n. (if hits f within then 1 else 0) + n) (votes_by_sum fs within)
-    ∙ sym (sum_by-cons (λ g. if hits g within then 1 else 0) f fs)
+    ap (λ n. (if some_within f within then 1 else 0) + n) (votes_by_sum fs within)
+    ∙ sym (sum_by-cons (λ g. if some_within g within then 1 else 0) f fs)
 
 same_votes : (fs gs : List (List (List ℕ))) (within : ℕ → Bool) → IsPermutation fs gs
-    → hit_count gs within ≡ hit_count fs within
+    → count_within gs within ≡ count_within fs within
 same_votes fs gs within moved =
-    votes_by_sum gs within ∙ sum_by-IsPermutation (λ f. if hits f within then 1 else 0) fs gs moved
+    votes_by_sum gs within ∙ sum_by-IsPermutation (λ f. if some_within f within then 1 else 0) fs gs moved
     ∙ sym (votes_by_sum fs within)
 
 module _ (held after : Held) (list members : List ℕ) (votes : ℕ) (moved : IsPermutation list members) where
   reordered : (least : List (List ℕ)) → IsLeastVotes votes (families held members) least
       → IsLeastVotes votes (families held list) least
   reordered least is =
-      IsLeastFor-same (λ within. nat_le votes (hit_count (families held members) within))
-      (λ within. nat_le votes (hit_count (families held list) within)) least is
+      IsLeastFor-same (λ within. nat_le votes (count_within (families held members) within))
+      (λ within. nat_le votes (count_within (families held list) within)) least is
       (λ within. ap (nat_le votes) (same_votes (families held list) (families held members) within
       (IsPermutation-map (family_in held) list members moved)))
 
@@ -62,8 +64,9 @@ module _ (held after : Held) (list members : List ℕ) (moved : IsPermutation li
   union_reordered (Ok r) gave = record {
     went = gave.went;
     has = gave.has;
-    is = IsLeastFor-same (λ within. list_any (λ f. hits f within) (families held members)) _ (family_in after r) gave.is
-        (λ within. sym (list_any-IsPermutation (λ f. hits f within) (families held list) (families held members)
+    is = IsLeastFor-same (λ within. list_any (λ f. some_within f within) (families held members)) _
+        (family_in after r) gave.is
+        (λ within. sym (list_any-IsPermutation (λ f. some_within f within) (families held list) (families held members)
         moved_families));
   }
   union_reordered (Err e) none = tt
@@ -74,7 +77,8 @@ module _ (held after : Held) (list members : List ℕ) (moved : IsPermutation li
   product_reordered (Ok r) gave = record {
     went = gave.went;
     has = gave.has;
-    is = IsLeastFor-same (λ within. list_all (λ f. hits f within) (families held members)) _ (family_in after r) gave.is
-        (λ within. same_all (λ f. hits f within) (families held list) (families held members) moved_families);
+    is = IsLeastFor-same (λ within. list_all (λ f. some_within f within) (families held members)) _
+        (family_in after r) gave.is
+        (λ within. same_all (λ f. some_within f within) (families held list) (families held members) moved_families);
   }
   product_reordered (Err e) none = tt

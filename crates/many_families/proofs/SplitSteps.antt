@@ -2,9 +2,9 @@
 use Rattle.std.proofs.Common.{Result, MatchResult, ◌≡◌, ℕ, sym, subst}
 use Rattle.family_operations.specs.Without.{IsWithout}
 use Rattle.minimal_families.specs.Least.{IsLeastUnion, IsLeastProduct}
-use Rattle.minimal_families.specs.Splitting.{least_product-split}
+use Rattle.minimal_families.proofs.Splitting.{least_product-split}
 use Rattle.family_memory.specs.Memory.{Held, Has, IsSound, Went, Gave, RanOut, family_in}
-use Rattle.family_memory.specs.After.{Went-then, ended, still, still_has, at_start, of_start}
+use Rattle.family_memory.proofs.After.{Went-then, ended, still, still_has, at_start, of_start}
 
 -- ---- what is left of either family
 

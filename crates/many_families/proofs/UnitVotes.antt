@@ -4,40 +4,46 @@ use Rattle.std.proofs.Common.{◌≡◌, ℕ, suc, ◌+◌, ◌==◌, ◌<◌, �
 use Rattle.std.proofs.Common.{if◌then◌else◌, List, [], ◌∷◌, Contains, refl, sym, ◌∙◌, ap, inl, inr, arith, eq-eqb}
 use Rattle.std.proofs.lemmas.Bool.{cases_eq, and_parts, and_from, false_from_ne_true, false≢true, leb-true, le-leb}
 use Rattle.std.proofs.lemmas.Bool.{lt-ltb, ne_eqb, or_left, or_right, or_cases}
-use Rattle.unit_sets.specs.UnitList.{among, is_within, is_within-from_among}
+use Rattle.unit_sets.specs.UnitList.{among, is_within, some_within}
+use Rattle.unit_sets.proofs.UnitListLemmas.{is_within-from_among}
 use Rattle.zdd_families.specs.Family.{IsAbove, branch}
-use Rattle.family_operations.specs.Hits.{hits, hit_count, HasHit, HasHit-from_test, passes_at}
-use Rattle.family_operations.specs.Inclusion.{includes_one, same_Bool}
+use Rattle.family_operations.specs.Within.{count_within}
+use Rattle.family_operations.proofs.WithinLemmas.{HasWithin, HasWithin-from_test, passes_at}
+use Rattle.family_operations.specs.Inclusion.{includes_one}
+use Rattle.family_operations.proofs.InclusionLemmas.{same_Bool}
 use Rattle.family_parts.specs.Antichains.{IsAntichain}
-use Rattle.minimal_families.specs.Hitting.{above_only}
-use Rattle.minimal_families.specs.Least.{IsLeastFor-same, IsLeastFor-itself, IsLeastVotes, least-above}
-use Rattle.minimal_families.specs.Nodes.{IncludesNoneOf, least-node, without-all}
+use Rattle.minimal_families.proofs.CutAtUnit.{above_only}
+use Rattle.minimal_families.specs.Least.{IsLeastVotes}
+use Rattle.minimal_families.proofs.LeastLemmas.{IsLeastFor-same, IsLeastFor-itself, least-above}
+use Rattle.minimal_families.specs.Nodes.{IncludesNoneOf}
+use Rattle.minimal_families.proofs.NodesLemmas.{least-node, without-all}
 use Rattle.many_families.specs.Lists.{AreUnitsFrom}
 use Rattle.many_families.specs.Joins.{IsJoined, IsBelow}
 
--- ---- which sets of units hit a single unit
+-- ---- of which sets of units a single unit is true
 
 one_unit : (b : Bool) → ((b && true) || false) ≡ b
 one_unit true = refl
 one_unit false = refl
 
-pub unit_hit : (unit : ℕ) (within : ℕ → Bool) → hits ((unit ∷ []) ∷ []) within ≡ within unit
+pub unit_hit : (unit : ℕ) (within : ℕ → Bool) → some_within ((unit ∷ []) ∷ []) within ≡ within unit
 unit_hit unit within = one_unit (within unit)
 
 abbrev votes_of : Bool → ℕ
 votes_of hit = if hit then 1 else 0
 
 family_hit : (f : List (List ℕ)) (unit : ℕ) (within : ℕ → Bool) → f ≡ (unit ∷ []) ∷ []
-    → votes_of (hits f within) ≡ votes_of (within unit)
-family_hit f unit within is = ap (λ g. votes_of (hits g within)) is ∙ ap votes_of (unit_hit unit within)
+    → votes_of (some_within f within) ≡ votes_of (within unit)
+family_hit f unit within is = ap (λ g. votes_of (some_within g within)) is ∙ ap votes_of (unit_hit unit within)
 
 -- units from a floor on ask of no other unit
 pub same_from : (floor : ℕ) (fs : List (List (List ℕ))) (p q : ℕ → Bool) → AreUnitsFrom floor fs
-    → ((unit : ℕ) → floor ≤ unit → p unit ≡ q unit) → hit_count fs p ≡ hit_count fs q
+    → ((unit : ℕ) → floor ≤ unit → p unit ≡ q unit) → count_within fs p ≡ count_within fs q
 same_from floor [] p q are same = refl
 same_from floor (f ∷ fs) p q (unit, (high, is, others)) same =
-    ap (λ n. n + hit_count fs p) (family_hit f unit p is ∙ ap votes_of (same unit high) ∙ sym (family_hit f unit q is))
-    ∙ ap (λ n. votes_of (hits f q) + n) (same_from (suc unit) fs p q others (λ v above. same v (omega arith)))
+    ap (λ n. n + count_within fs p)
+    (family_hit f unit p is ∙ ap votes_of (same unit high) ∙ sym (family_hit f unit q is))
+    ∙ ap (λ n. votes_of (some_within f q) + n) (same_from (suc unit) fs p q others (λ v above. same v (omega arith)))
 
 -- ---- one unit fewer
 
@@ -62,30 +68,30 @@ at_most_one false = omega arith
 
 -- without one unit at most one vote fewer is left
 pub one_fewer : (floor u : ℕ) (fs : List (List (List ℕ))) (within : ℕ → Bool) → AreUnitsFrom floor fs
-    → hit_count fs within ≤ suc (hit_count fs (except u within))
+    → count_within fs within ≤ suc (count_within fs (except u within))
 one_fewer floor u [] within are = omega arith
 one_fewer floor u (f ∷ fs) within (unit, (high, is, others)) =
     elim (cases_eq u unit) [
       | inl here ↦
-          let same : hit_count fs within ≡ hit_count fs (except u within) =
+          let same : count_within fs within ≡ count_within fs (except u within) =
           same_from (suc unit) fs within (except u within) others
           (λ v above. except_other u v within (λ e. omega arith)) in
-          let few : votes_of (hits f within) ≤ 1 = at_most_one (hits f within) in
+          let few : votes_of (some_within f within) ≤ 1 = at_most_one (some_within f within) in
           omega (arith, same, few)
       | inr other ↦
-          let same : votes_of (hits f within) ≡ votes_of (hits f (except u within)) =
+          let same : votes_of (some_within f within) ≡ votes_of (some_within f (except u within)) =
           family_hit f unit within is ∙ ap votes_of (except_other u unit within other)
           ∙ sym (family_hit f unit (except u within) is) in
-          let less : hit_count fs within ≤ suc (hit_count fs (except u within)) =
+          let less : count_within fs within ≤ suc (count_within fs (except u within)) =
           one_fewer (suc unit) u fs within others in
           omega (arith, same, less)
     ]
 
-none_hit : (floor : ℕ) (fs : List (List (List ℕ))) → AreUnitsFrom floor fs → hit_count fs (among []) ≡ 0
+none_hit : (floor : ℕ) (fs : List (List (List ℕ))) → AreUnitsFrom floor fs → count_within fs (among []) ≡ 0
 none_hit floor [] are = refl
 none_hit floor (f ∷ fs) (unit, (high, is, others)) =
-    let first : votes_of (hits f (among [])) ≡ 0 = family_hit f unit (among []) is in
-    let rest : hit_count fs (among []) ≡ 0 = none_hit (suc unit) fs others in
+    let first : votes_of (some_within f (among [])) ≡ 0 = family_hit f unit (among []) is in
+    let rest : count_within fs (among []) ≡ 0 = none_hit (suc unit) fs others in
     omega (arith, first, rest)
 
 -- ---- votes over them
@@ -93,22 +99,22 @@ none_hit floor (f ∷ fs) (unit, (high, is, others)) =
 module _ (floor count : ℕ) (fs : List (List (List ℕ))) (are : AreUnitsFrom floor fs) where
   votes_above : (x wanted : ℕ) (least : List (List ℕ)) → x < floor → IsLeastVotes wanted fs least → IsAbove x least
   votes_above x wanted least low is =
-      least-above (λ within. nat_le wanted (hit_count fs within)) x least is
+      least-above (λ within. nat_le wanted (count_within fs within)) x least is
       (λ within. ap (nat_le wanted) (same_from floor fs (above_only x within) within are
       (λ unit high. ap (λ b. within unit && b) (lt-ltb x unit (omega arith)) ∙ sym (and_yes (within unit)))))
 
   module _ (fewer : List (List ℕ)) (fewer_is : IsLeastVotes count fs fewer) where
     -- a set with more votes would do without any one of its units
-    no_more : (set : List ℕ) → Contains fewer set → count < hit_count fs (among set) → ⊥
+    no_more : (set : List ℕ) → Contains fewer set → count < count_within fs (among set) → ⊥
     no_more [] has more = let none = none_hit floor fs are in omega (arith, none, more)
     no_more (u ∷ rest) has more =
         let set : List ℕ = u ∷ rest in
-        let less : hit_count fs (among set) ≤ suc (hit_count fs (except u (among set))) =
+        let less : count_within fs (among set) ≤ suc (count_within fs (except u (among set))) =
         one_fewer floor u fs (among set) are in
-        let hit : hits fewer (except u (among set)) ≡ true =
-        fewer_is.hit (except u (among set)) ∙ le-leb count (hit_count fs (except u (among set)))
+        let hit : some_within fewer (except u (among set)) ≡ true =
+        fewer_is.hit (except u (among set)) ∙ le-leb count (count_within fs (except u (among set)))
         (omega (arith, less, more)) in
-        let found : HasHit fewer (except u (among set)) = HasHit-from_test fewer (except u (among set)) hit in
+        let found : HasWithin fewer (except u (among set)) = HasWithin-from_test fewer (except u (among set)) hit in
         let passes : (v : ℕ) → among found.set v ≡ true → except u (among set) v ≡ true =
         λ v h. passes_at (except u (among set)) found.set v found.passes h in
         let within : is_within set found.set ≡ true =
@@ -122,7 +128,7 @@ module _ (floor count : ℕ) (fs : List (List (List ℕ))) (are : AreUnitsFrom f
     pub votes_include_none : (same : List (List ℕ)) → IsLeastVotes (suc count) fs same → IncludesNoneOf same fewer
     votes_include_none same same_is set has =
         false_from_ne_true (includes_one same set) (λ t.
-        let more = leb-true (suc count) (hit_count fs (among set)) (sym (same_is.hit (among set)) ∙ t) in
+        let more = leb-true (suc count) (count_within fs (among set)) (sym (same_is.hit (among set)) ∙ t) in
         no_more set has (omega (arith, more)))
 
     pub unit_is_below : (x : ℕ) (voter same : List (List ℕ)) → x < floor → voter ≡ (x ∷ []) ∷ []
@@ -145,12 +151,13 @@ and_turned false false = refl
 pub joined_by_node : (x : ℕ) (voter same fewer : List (List ℕ)) → IsAntichain same → IsAntichain fewer
     → IsBelow x voter same fewer → IsJoined voter same fewer (branch x same fewer)
 joined_by_node x voter same fewer is is' below =
-    IsLeastFor-same (λ within. hits same within || (within x && hits fewer within)) _ (branch x same fewer)
-    (least-node x same fewer fewer (hits same) (hits fewer) below.same_above below.fewer_above
+    IsLeastFor-same (λ within. some_within same within || (within x && some_within fewer within)) _
+    (branch x same fewer)
+    (least-node x same fewer fewer (some_within same) (some_within fewer) below.same_above below.fewer_above
     (IsLeastFor-itself same is) (IsLeastFor-itself fewer is')
     (without-all same fewer is'.is_family below.includes_none))
-    (λ within. ap (λ b. hits same within || b) (and_turned (within x) (hits fewer within)
-    ∙ ap (λ b. hits fewer within && b) (sym (ap (λ f. hits f within) below.is ∙ unit_hit x within))))
+    (λ within. ap (λ b. some_within same within || b) (and_turned (within x) (some_within fewer within)
+    ∙ ap (λ b. some_within fewer within && b) (sym (ap (λ f. some_within f within) below.is ∙ unit_hit x within))))
 
 -- ---- one family more in front
 
@@ -183,6 +190,6 @@ pub votes_joined : (count : ℕ) (f : List (List ℕ)) (fs : List (List (List �
     → IsLeastVotes (suc count) fs same → IsLeastVotes count fs fewer → IsJoined f same fewer h
     → IsLeastVotes (suc count) (f ∷ fs) h
 votes_joined count f fs same fewer h same_is fewer_is is =
-    IsLeastFor-same (λ within. hits same within || (hits fewer within && hits f within)) _ h is
-    (λ within. both_of _ _ _ _ (hits f within) (same_is.hit within) (fewer_is.hit within)
-    ∙ sym (one_vote count (hit_count fs within) (hits f within)))
+    IsLeastFor-same (λ within. some_within same within || (some_within fewer within && some_within f within)) _ h is
+    (λ within. both_of _ _ _ _ (some_within f within) (same_is.hit within) (fewer_is.hit within)
+    ∙ sym (one_vote count (count_within fs within) (some_within f within)))

@@ -6,17 +6,18 @@ use Rattle.std.proofs.lemmas.Bool.{cases_eq, cases_lt, cond-true, cond-false, lt
 use Rattle.std.proofs.lemmas.List.{drop_all, drop_more, get_or-set_same, get_or-set_other, get_or_past, length-set}
 use Rattle.std.proofs.lemmas.List.{get_or-map}
 use Rattle.std.proofs.lemmas.List.Elements.{All-set}
-use Rattle.family_operations.specs.Hits.{hits, hit_count}
-use Rattle.family_operations.specs.Minimal.{minimal-none}
-use Rattle.zdd_families.specs.Map.{family-empty, family-unit}
+use Rattle.family_operations.specs.Within.{count_within}
+use Rattle.family_operations.proofs.MinimalLemmas.{minimal-none}
+use Rattle.zdd_families.proofs.MapLemmas.{family-empty, family-unit}
 use Rattle.minimal_families.specs.Least.{IsLeastVotes}
-use Rattle.minimal_families.specs.Many.{no_votes}
+use Rattle.minimal_families.proofs.Many.{no_votes}
 use Rattle.family_memory.specs.Memory.{Held, Has, IsSound, Went, Gave, family_in, map_of}
-use Rattle.family_memory.specs.After.{Gave-there, still, still_has}
+use Rattle.family_memory.proofs.After.{Gave-there, still, still_has}
 use Rattle.many_families.specs.Lists.{families, AreUnitsFrom, IsVote, IsVoter, IsVoting, HaveVoted}
 use Rattle.many_families.specs.Joins.{IsJoined, IsBelow}
 use Rattle.many_families.proofs.Lists.{many_families, still_all}
 use Rattle.many_families.proofs.UnitVotes.{unit_is_below, votes_joined}
+use Rattle.unit_sets.specs.UnitList.{some_within}
 
 -- ---- no votes, and more votes than members
 
@@ -24,10 +25,10 @@ one_more : (hit : Bool) (n m : ℕ) → n ≤ m → (if hit then 1 else 0) + n �
 one_more true n m h = omega arith
 one_more false n m h = omega arith
 
-hits_few : (fs : List (List (List ℕ))) (within : ℕ → Bool) → hit_count fs within ≤ length fs
+hits_few : (fs : List (List (List ℕ))) (within : ℕ → Bool) → count_within fs within ≤ length fs
 hits_few [] within = omega arith
 hits_few (f ∷ fs) within =
-    let h = one_more (hits f within) (hit_count fs within) (length fs) (hits_few fs within) in omega arith
+    let h = one_more (some_within f within) (count_within fs within) (length fs) (hits_few fs within) in omega arith
 
 too_many : (held : Held) (fs : List (List (List ℕ))) (votes : ℕ) → length fs < votes
     → IsLeastVotes votes fs (family_in held 0)
@@ -35,7 +36,7 @@ too_many held fs votes many =
     subst (IsLeastVotes votes fs) (sym (family-empty (map_of held)))
     record {
       antichain = minimal-none;
-      hit = λ within. sym (lt-leb votes (hit_count fs within) (let h = hits_few fs within in omega arith));
+      hit = λ within. sym (lt-leb votes (count_within fs within) (let h = hits_few fs within in omega arith));
     }
 
 pub given_no_votes : (held : Held) (list : List ℕ) (votes : ℕ) → IsSound held → votes ≡ 0

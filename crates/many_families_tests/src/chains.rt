@@ -37,7 +37,7 @@ fn singles(alloc: Global, memory: &mut FamilyMemory, count: u16) -> Result<Vec<N
 
 // How many nodes a memory has after so many votes over so many units.
 fn nodes_of_votes(alloc: Global, votes: usize, count: u16) -> Result<usize, Fail> {
-    let mut memory = memory_of(alloc, 65_536)?;
+    let mut memory = memory_of(alloc, 65_536, 4_096)?;
     let list = singles(alloc, &mut memory, count)?;
     let mut table = vec![in alloc; NodeRef::EMPTY; list.len()]?;
     votes_of_all(&mut memory, votes, list.as_slice(), table.as_mut_slice())?;
@@ -61,7 +61,7 @@ fn steps(memory: &FamilyMemory, r: NodeRef, with: bool) -> usize
 
 // The steps by the one part and by the other of the union of so many single units, and of their product.
 fn steps_of_union(alloc: Global, count: u16) -> Result<(usize, usize), Fail> {
-    let mut memory = memory_of(alloc, 65_536)?;
+    let mut memory = memory_of(alloc, 65_536, 4_096)?;
     let list = singles(alloc, &mut memory, count)?;
     let mut table = vec![in alloc; NodeRef::EMPTY; list.len()]?;
     let made = union_in_order(&mut memory, list.as_slice(), table.as_mut_slice())?;
@@ -69,7 +69,7 @@ fn steps_of_union(alloc: Global, count: u16) -> Result<(usize, usize), Fail> {
 }
 
 fn steps_of_product(alloc: Global, count: u16) -> Result<(usize, usize), Fail> {
-    let mut memory = memory_of(alloc, 65_536)?;
+    let mut memory = memory_of(alloc, 65_536, 4_096)?;
     let list = singles(alloc, &mut memory, count)?;
     let mut table = vec![in alloc; NodeRef::EMPTY; list.len()]?;
     let made = product_in_order(&mut memory, list.as_slice(), table.as_mut_slice())?;
@@ -115,7 +115,7 @@ fn spends(memory: &mut FamilyMemory, list: &[NodeRef], table: &mut [NodeRef]) ->
 
 // The word of a family that stood before the room was used up.
 fn word_after(alloc: Global, word: u32) -> Result<u32, Fail> {
-    let mut memory = memory_of(alloc, 128)?;
+    let mut memory = memory_of(alloc, 128, 4_096)?;
     memory.is_sound();
     let kept = family_of(&mut memory, word)?;
     let list = singles(alloc, &mut memory, 40)?;

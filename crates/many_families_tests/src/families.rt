@@ -13,17 +13,17 @@ pub(crate) fn unit(number: u16) -> Result<UnitNo, Fail> {
     Ok(UnitNo::new(number).ok_or("no unit")?)
 }
 
-pub(crate) fn memory_of(alloc: Global, nodes: usize) -> Result<FamilyMemory, Fail> {
+pub(crate) fn memory_of(alloc: Global, nodes: usize, answers: usize) -> Result<FamilyMemory, Fail> {
     let room = Room {
         nodes: nodes.min(65_536),
-        slots: 131_072,
-        answers: 4_096,
+        slots: nodes.min(65_536) * 2,
+        answers,
     };
     Ok(FamilyMemory::new(alloc, room)?)
 }
 
-// The sets of a family, each with one unit more where it is wanted.
-fn with_unit(
+/// The sets of a family, each with one unit more where it is wanted.
+pub(crate) fn with_unit(
     memory: &mut FamilyMemory,
     family: NodeRef,
     number: u16,
@@ -52,22 +52,22 @@ fn set_of(memory: &mut FamilyMemory, set: u32) -> Result<NodeRef, Fail>
     Ok(made)
 }
 
-// A family with one set more, where it is wanted.
-fn with_set(
+/// A family with the sets of another, where they are wanted.
+pub(crate) fn with_family(
     memory: &mut FamilyMemory,
     family: NodeRef,
-    set: u32,
+    other: NodeRef,
     wanted: bool,
 ) -> Result<NodeRef, Fail>
-    requires { Has memory.old family }
+    requires first { Has memory.old family }
+    requires second { Has memory.old other }
     ensures { IfOk result (λ r. Has memory.new r × Went memory.old memory.new) }
 {
     memory.is_sound();
     if !wanted {
         return Ok(family);
     }
-    let one = set_of(memory, set)?;
-    Ok(union(memory, one, family)?)
+    Ok(union(memory, other, family)?)
 }
 
 /// The minimal sets of a word.
@@ -77,7 +77,8 @@ pub(crate) fn family_of(memory: &mut FamilyMemory, word: u32) -> Result<NodeRef,
     memory.is_sound();
     let mut family = NodeRef::EMPTY;
     for set in 0..32u32 {
-        family = with_set(memory, family, set, word >> set & 1 == 1)?;
+        let one = set_of(memory, set)?;
+        family = with_family(memory, family, one, word >> set & 1 == 1)?;
     }
     Ok(family)
 }

@@ -1,10 +1,14 @@
-//! Operations on many minimal families, compared with what plain lists of sets say.
+//! Operations on two minimal families and on many, compared with what plain lists of sets say.
 #![tactic(auto)]
 
 #[cfg(test)]
 mod chains;
 #[cfg(test)]
+mod deep;
+#[cfg(test)]
 mod families;
+#[cfg(test)]
+mod pairs;
 #[cfg(test)]
 mod plain;
 #[cfg(test)]

@@ -5,14 +5,14 @@ fn has(word: u32, place: u32) -> bool {
 }
 
 /// The sets of units that include one of the family.
-pub(crate) fn hit_by(word: u32) -> u32 {
-    let mut hit = 0;
+pub(crate) fn supersets_of(word: u32) -> u32 {
+    let mut all = 0;
     for set in 0..32u32 {
         if (0..32u32).any(|part| has(word, part) && part & set == part) {
-            hit |= 1 << set;
+            all |= 1 << set;
         }
     }
-    hit
+    all
 }
 
 /// The sets of units that are in so many of these words.

@@ -3,7 +3,7 @@ ghost use Rattle.std.specs.Prelude.{All, IfOk};
 ghost use Rattle.family_memory.specs.Memory.{Has};
 
 use crate::families::{families_of, family_of, memory_of, word_of};
-use crate::plain::{hit_by, in_many, least_of};
+use crate::plain::{in_many, least_of, supersets_of};
 use family_memory::{FamilyMemory, Spent};
 use many_families::{
     product_by_splitting, product_in_order, product_of_all, union_in_order, union_of_all,
@@ -27,7 +27,7 @@ enum Call {
     Votes(usize),
 }
 
-// How many of five families the sets of the result hit.
+// In how many of five families the sets of the result have a set within.
 fn votes_of(call: Call) -> usize {
     match call {
         Call::Union | Call::UnionInOrder => 1,
@@ -64,13 +64,14 @@ fn word_by_splitting(memory: &mut FamilyMemory, a: u32, b: u32) -> Result<u32, F
     Ok(word_of(memory, made))
 }
 
-// The next number, from the one before.
-fn next(seed: u64) -> u64 {
+/// The next number, from the one before.
+pub(crate) fn next(seed: u64) -> u64 {
     seed.wrapping_mul(6_364_136_223_846_793_005)
         .wrapping_add(1_442_695_040_888_963_407)
 }
 
-fn low_word(number: u64) -> u32 {
+/// The low half of a number.
+pub(crate) fn low_word(number: u64) -> u32 {
     (number & 0xffff_ffff) as u32
 }
 
@@ -113,7 +114,13 @@ fn compare(
     votes: usize,
 ) -> Result<(), Fail> {
     let [a, b, c, d, e] = *words;
-    let hits = [hit_by(a), hit_by(b), hit_by(c), hit_by(d), hit_by(e)];
+    let tables = [
+        supersets_of(a),
+        supersets_of(b),
+        supersets_of(c),
+        supersets_of(d),
+        supersets_of(e),
+    ];
     let calls = [
         Call::Union,
         Call::UnionInOrder,
@@ -122,17 +129,17 @@ fn compare(
         Call::Votes(votes),
     ];
     for call in calls {
-        let wanted = least_of(in_many(&hits, votes_of(call)));
+        let wanted = least_of(in_many(&tables, votes_of(call)));
         assert_eq!(rt; word_by(memory, call, words)?, wanted);
     }
-    let wanted = least_of(hit_by(a) & hit_by(b));
+    let wanted = least_of(supersets_of(a) & supersets_of(b));
     assert_eq!(rt; word_by_splitting(memory, a, b)?, wanted);
     Ok(())
 }
 
 #[test]
 fn calls_agree_with_plain_lists(rt: HostRuntime) -> Result<(), Fail> {
-    let mut memory = memory_of(rt.alloc(), 65_536)?;
+    let mut memory = memory_of(rt.alloc(), 65_536, 4_096)?;
     let mut seed = 1;
     for round in 0..ROUNDS {
         seed = next(seed);

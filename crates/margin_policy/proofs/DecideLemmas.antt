@@ -7,8 +7,8 @@ use Rattle.std.proofs.lemmas.List.Quantifiers.{position-Some}
 use Rattle.unit_sets.specs.CutOrder.{IsOrderedCuts}
 use Rattle.unit_sets.specs.declared.request.CrewNo.{CrewNo}
 use Rattle.residual_ledger.specs.Tight.{is_tight, tight}
-use Rattle.residual_ledger.specs.TightLaws.{tight-first}
-use Rattle.residual_ledger.specs.Ledger.{few_cuts}
+use Rattle.residual_ledger.proofs.TightLaws.{tight-first}
+use Rattle.residual_ledger.proofs.LedgerFacts.{few_cuts}
 use Rattle.margin_policy.specs.declared.request.Reply.{Reply}
 use Rattle.margin_policy.specs.declared.request.Reply.TheVariants.{Granted, Denied, UnknownUnit}
 use Rattle.margin_policy.specs.Asked.{AskedView}

@@ -6,13 +6,14 @@ use Rattle.std.specs.List.Sorted.{IsStrictlySortedBy}
 use Rattle.std.proofs.lemmas.Bool.{cases_eq, cases_lt, ne_eqb, or_parts}
 use Rattle.std.proofs.lemmas.List.{get_or_past, get_or-replicate, length-replicate, take_more, drop_more, drop_all}
 use Rattle.std.proofs.lemmas.List.{get_or_default}
-use Rattle.unit_sets.specs.UnitList.{among, IsRising, with_unit, without_unit, same_set, IsRising-with_unit}
-use Rattle.unit_sets.specs.UnitList.{IsRising-without_unit, among-with_unit, among-without_unit}
+use Rattle.unit_sets.specs.UnitList.{among, IsRising, with_unit, without_unit}
+use Rattle.unit_sets.proofs.UnitListLemmas.{same_set, IsRising-with_unit}
+use Rattle.unit_sets.proofs.UnitListLemmas.{IsRising-without_unit, among-with_unit, among-without_unit}
 use Rattle.unit_sets.specs.declared.request.CrewNo.{CrewNo}
 use Rattle.margin_policy.specs.Asked.{has_repeat}
 use Rattle.margin_policy.specs.Held.{Held, holder_of, units_out, with_held, with_all_held, without_held, or_else}
 use Rattle.margin_policy.specs.Held.{first_holder}
-use Rattle.margin_policy.specs.HeldLaws.{is_held, IsRising-units_out, among-units_out, is_held-with_held}
+use Rattle.margin_policy.proofs.HeldLaws.{is_held, IsRising-units_out, among-units_out, is_held-with_held}
 use Rattle.margin_policy.specs.Standing.{nothing_held}
 use Rattle.margin_policy.proofs.AskedLemmas.{once_at}
 

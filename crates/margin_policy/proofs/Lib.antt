@@ -3,3 +3,8 @@ pub mod HeldLemmas
 pub mod DecideLemmas
 pub mod StandingLemmas
 pub mod TestLemmas
+pub mod AskedFacts
+pub mod DecideLaws
+pub mod GuardLemmas
+pub mod HeldLaws
+pub mod HoldersLemmas

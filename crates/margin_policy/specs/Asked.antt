@@ -1,8 +1,7 @@
 -- The units of a take, as they are asked for.
 use Rattle.std.specs.Prelude.{◌≡◌, ℕ, ◌-◌, ◌≤◌, Bool, true, false, not, ◌&&◌, ◌||◌, nat_le, List, [], ◌∷◌, ◌++◌}
 use Rattle.std.specs.Prelude.{length, take, drop, replicate}
-use Rattle.std.proofs.Common.{refl, ap, sym, ◌∙◌, arith, length-take-le, take-append-drop}
-use Rattle.std.proofs.lemmas.Bool.{and_parts, leb-true}
+use Rattle.std.proofs.Common.{ap, sym, ◌∙◌, arith, length-take-le, take-append-drop}
 use Rattle.unit_sets.specs.UnitList.{among}
 
 -- the units in the order asked, and whether some name of the take names no unit
@@ -52,20 +51,3 @@ padded-take places count unknown holds =
 pub length-asked : (places : List ℕ) (count : ℕ) (unknown : Bool) → HoldsAsked places count unknown
     → length (take count places) ≡ count
 length-asked places count unknown holds = length-take-le count places (omega (arith, holds.all, holds.few))
-
--- ---- what a take that may be asked for has
-
-pub few_asked : (units : List ℕ) (unknown : Bool) → can_be_asked units unknown ≡ true → length units ≤ asked_limit
-few_asked units unknown asked =
-    leb-true (length units) asked_limit (and_parts (nat_le (length units) asked_limit)
-    (not (has_repeat units) && (unknown || not (is_none_asked units))) asked).0
-
-pub asked_once : (units : List ℕ) (unknown : Bool) → can_be_asked units unknown ≡ true → has_repeat units ≡ false
-asked_once units unknown asked =
-    let others = (and_parts (nat_le (length units) asked_limit)
-    (not (has_repeat units) && (unknown || not (is_none_asked units))) asked).1 in
-    turned (has_repeat units) (and_parts (not (has_repeat units)) (unknown || not (is_none_asked units)) others).0
-  where
-    turned : (b : Bool) → not b ≡ true → b ≡ false
-    turned true h = absurd cc
-    turned false h = refl

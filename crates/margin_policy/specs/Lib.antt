@@ -1,9 +1,7 @@
 pub mod Asked
 pub mod AskedInside
 pub mod Held
-pub mod HeldLaws
 pub mod Decide
-pub mod DecideLaws
 pub mod Standing
 pub mod Holders
 pub mod Guard

@@ -1,7 +1,7 @@
 //! Laws of the definitions, each the clause of a function that does nothing.
 ghost use Rattle.std.specs.Prelude.{◌≡◌, ◌↔◌, ℕ, suc, Bool, List, [], ◌∷◌, ◌++◌};
 ghost use Rattle.family_operations.specs.Cuts.{Cuts};
-ghost use Rattle.family_operations.specs.Hits.{hits};
+ghost use Rattle.unit_sets.specs.UnitList.{some_within};
 ghost use Rattle.family_operations.specs.Minimal.{IsMinimal};
 ghost use Rattle.family_operations.specs.Product.{IsProduct};
 ghost use Rattle.family_operations.specs.Union.{IsUnion};
@@ -12,15 +12,15 @@ ghost use Rattle.minimal_families.specs.Least.{IsLeastFor, IsLeastOfAll, IsLeast
 ghost use Rattle.minimal_families.specs.Least.{IsLeastUnion, IsLeastVotes};
 ghost use Rattle.zdd_families.specs.Family.{IsAbove, IsFamily, branch};
 
-/// Two families in which no set includes another, and which the same sets of units hit, are equal.
-pub fn hits_tell_a_minimal_family()
+/// Two families in which no set includes another are equal where the same sets of units include a set of each.
+pub fn sets_within_tell_a_minimal_family()
     ensures { (f g : List (List ℕ)) → IsAntichain f → IsAntichain g
-        → ((within : ℕ → Bool) → hits f within ≡ hits g within) → f ≡ g }
+        → ((within : ℕ → Bool) → some_within f within ≡ some_within g within) → f ≡ g }
 {}
 
-/// The minimal sets of a family are the one family in which no set includes another and which is hit as it is.
-pub fn minimal_sets_by_hits()
-    ensures { (f least : List (List ℕ)) → IsFamily f → (IsLeastFor (hits f) least ↔ IsMinimal f least) }
+/// The minimal sets of a family are the one family in which no set includes another and which is true where it is.
+pub fn minimal_sets_by_sets_within()
+    ensures { (f least : List (List ℕ)) → IsFamily f → (IsLeastFor (some_within f) least ↔ IsMinimal f least) }
 {}
 
 /// What the words of this crate say, in those of the operations: the minimal sets of a union, of a product, of votes.

@@ -5,21 +5,22 @@ use Rattle.std.specs.List.{list_any}
 use Rattle.std.proofs.lemmas.Bool.{cond-true, lt-ltb}
 use Rattle.fault_model.specs.declared.node.GateKind.{GateKind}
 use Rattle.fault_model.specs.declared.node.GateKind.TheVariants.{And, Pand, Por, Seq, Fdep, Csp, Wsp, Hsp}
-use Rattle.zdd_families.specs.Map.{family-empty}
-use Rattle.family_operations.specs.Hits.{hits}
-use Rattle.family_operations.specs.Minimal.{minimal-none}
-use Rattle.minimal_families.specs.Least.{IsLeastFor, IsLeastFor-same, IsLeastFor-itself, IsLeastOfAll}
+use Rattle.zdd_families.proofs.MapLemmas.{family-empty}
+use Rattle.unit_sets.specs.UnitList.{some_within}
+use Rattle.family_operations.proofs.MinimalLemmas.{minimal-none}
+use Rattle.minimal_families.specs.Least.{IsLeastFor, IsLeastOfAll}
+use Rattle.minimal_families.proofs.LeastLemmas.{IsLeastFor-same, IsLeastFor-itself}
 use Rattle.minimal_families.specs.Least.{IsLeastProductOfAll, IsLeastUnion}
-use Rattle.minimal_families.specs.Steps.{or_of}
+use Rattle.minimal_families.proofs.StepsLemmas.{or_of}
 use Rattle.family_memory.specs.Memory.{Held, Has, IsSound, Went, Gave, RanOut, family_in, map_of}
-use Rattle.family_memory.specs.After.{Gave-there, Went-then, still}
+use Rattle.family_memory.proofs.After.{Gave-there, Went-then, still}
 use Rattle.many_families.specs.Lists.{families}
 use Rattle.minimal_nodes.specs.Gates.{IsLeastOfGate}
 use Rattle.fault_model.specs.CutFamily.{IsCutFamily}
 use Rattle.fault_model.specs.Tree.{FaultTree, IsGateOf, IsNodeOf, IsUnitOf, kind_of}
 use Rattle.fault_model.specs.Trigger.{below}
 use Rattle.fault_model.specs.WellFormed.{IsTree}
-use Rattle.minimal_nodes.specs.NodeLaws.{gate_cut_family, unit_cut_family}
+use Rattle.minimal_nodes.proofs.NodeLaws.{gate_cut_family, unit_cut_family}
 use Rattle.tree_families.specs.Recipe.{StandFor, alone}
 
 -- what a call gave for the kind
@@ -50,7 +51,7 @@ all_of_kinds kind fs before after result (inr (inr (inr (inr (inl same))))) gave
 all_of_kinds kind fs before after result (inr (inr (inr (inr (inr same))))) gave =
     gate_gives kind Hsp same fs before after result gave
 
--- no sets, where nothing is hit
+-- no sets, where nothing is true
 pub never_given : (held : Held) (fs : List (List (List ℕ))) → IsSound held → Gave (IsLeastOfGate Fdep fs) held held 0
 never_given held fs sound =
     Gave-there (IsLeastOfGate Fdep fs) held 0 sound (let few = sound.terminals in omega arith)
@@ -71,7 +72,7 @@ first_is held (q ∷ list) r sound has is =
     let there : Has held q = has 0 0 (omega arith) in
     subst (Gave (IsLeastOfGate Por (family_in held q ∷ map (family_in held) list)) held held) (sym here)
     (Gave-there (IsLeastOfGate Por (family_in held q ∷ map (family_in held) list)) held q sound there
-    (IsLeastFor-same (hits (family_in held q)) _ (family_in held q)
+    (IsLeastFor-same (some_within (family_in held q)) _ (family_in held q)
     (IsLeastFor-itself (family_in held q) (sound.antichains q there)) (λ within. refl)))
 
 pub first_given : (held : Held) (list : List ℕ) (r : ℕ) → IsSound held → All (Has held) list
@@ -93,15 +94,15 @@ module _ (s0 : Held) (unit : ℕ) (list : List ℕ) (sound : IsSound s0) (s1 : H
 
   pub unit_gives : {E : Type 0} (s3 : Held) (result : Result ℕ E)
       → IfOk result (Gave (IsLeastUnion (family_in s2 own) (family_in s2 others)) s2 s3)
-      → IfOk result (Gave (IsLeastFor (λ within. hits (alone unit) within
-      || list_any (λ family. hits family within) (families s0 list))) s0 s3)
+      → IfOk result (Gave (IsLeastFor (λ within. some_within (alone unit) within
+      || list_any (λ family. some_within family within) (families s0 list))) s0 s3)
   unit_gives s3 (Ok r) gave = record {
     went = Went-then s0 s2 s3 went_unit gave.went;
     has = gave.has;
     is =
-        IsLeastFor-same (λ within. hits (family_in s2 own) within || hits (family_in s2 others) within) _
+        IsLeastFor-same (λ within. some_within (family_in s2 own) within || some_within (family_in s2 others) within) _
         (family_in s3 r) gave.is
-        (λ within. or_of _ _ _ _ (ap (λ f. hits f within) gave2.is) (others_is.hit within));
+        (λ within. or_of _ _ _ _ (ap (λ f. some_within f within) gave2.is) (others_is.hit within));
   }
   unit_gives s3 (Err e) gave = tt
 
@@ -127,14 +128,15 @@ module _ {E : Type 0} (tree : FaultTree) (kept : IsTree tree) (node : ℕ) (is_n
   gate_node kind same is_gate (Err e) gave = tt
 
   pub unit_node : (unit : ℕ) → unit ≡ node → IsUnitOf tree node → (result : Result ℕ E)
-      → IfOk result (Gave (IsLeastFor (λ within. hits (alone unit) within
-      || list_any (λ family. hits family within) fs)) before after)
+      → IfOk result (Gave (IsLeastFor (λ within. some_within (alone unit) within
+      || list_any (λ family. some_within family within) fs)) before after)
       → IfOk result (Gave (IsCutFamily tree node) before after)
   unit_node unit same is_unit (Ok r) gave = record {
     went = gave.went;
     has = gave.has;
     is = unit_cut_family tree kept node is_node fs stand is_unit (family_in after r)
-        (subst (λ n. IsLeastFor (λ within. hits (alone n) within || list_any (λ family. hits family within) fs)
+        (subst (λ n. IsLeastFor (λ within. some_within (alone n) within
+        || list_any (λ family. some_within family within) fs)
         (family_in after r)) same gave.is);
   }
   unit_node unit same is_unit (Err e) gave = tt

@@ -1,1 +1,2 @@
 pub mod GateSteps
+pub mod NodeLaws

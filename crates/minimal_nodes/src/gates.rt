@@ -2,7 +2,7 @@
 ghost use Rattle.std.specs.Prelude.{◌≤◌, ◌||◌, All, IfErr, IfOk, length};
 ghost use Rattle.std.specs.List.{list_any};
 ghost use Rattle.family_memory.specs.Memory.{Gave, Has, RanOut};
-ghost use Rattle.family_operations.specs.Hits.{hits};
+ghost use Rattle.unit_sets.specs.UnitList.{some_within};
 ghost use Rattle.many_families.specs.Lists.{families};
 ghost use Rattle.minimal_families.specs.Least.{IsLeastFor};
 ghost use Rattle.minimal_nodes.specs.Gates.{IsLeastOfGate};
@@ -50,7 +50,7 @@ pub(crate) fn make_unit(
 ) -> Result<NodeRef, Spent>
     requires { All (Has memory.old) triggers.now }
     ensures gives { IfOk result (Gave (IsLeastFor
-        (λ within. hits (alone unit) within || list_any (λ family. hits family within)
+        (λ within. some_within (alone unit) within || list_any (λ family. some_within family within)
         (families memory.old triggers.now))) memory.old memory.new) }
     ensures spent { IfErr result (λ _. RanOut memory.old memory.new) }
 {

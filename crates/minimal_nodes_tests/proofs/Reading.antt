@@ -6,7 +6,7 @@ use Rattle.std.proofs.lemmas.List.{get_or_append_left, get_or_default, get_or_pu
 use Rattle.fault_model.specs.CutFamily.{IsCutFamily}
 use Rattle.fault_model.specs.Tree.{FaultTree}
 use Rattle.family_memory.specs.Memory.{Held, Has, IsSound, Went, family_in}
-use Rattle.family_memory.specs.After.{still, still_has}
+use Rattle.family_memory.proofs.After.{still, still_has}
 use Rattle.many_families.specs.Lists.{families}
 use Rattle.tree_families.specs.Recipe.{StandFor}
 

@@ -2,15 +2,17 @@
 use Rattle.std.proofs.Common.{◌≡◌, ◌≢◌, ℕ, ◌<◌, ◌≤◌, List, [], ◌∷◌, Contains, refl, sym, ◌∙◌, ap, subst, inl, inr}
 use Rattle.std.proofs.Common.{arith}
 use Rattle.zdd_words.specs.Word.{level_of, lo_of, hi_of}
-use Rattle.zdd_families.specs.Map.{IsNode, family-empty, family-unit, family-node}
-use Rattle.zdd_families.specs.Canonical.{lo_units, hi_units, hi_filled}
-use Rattle.family_operations.specs.Without.{IsWithout, without-none, without-nothing, without-unit}
+use Rattle.zdd_families.specs.Map.{IsNode}
+use Rattle.zdd_families.proofs.MapLemmas.{family-empty, family-unit, family-node}
+use Rattle.zdd_families.proofs.Canonical.{lo_units, hi_units, hi_filled}
+use Rattle.family_operations.specs.Without.{IsWithout}
+use Rattle.family_operations.proofs.WithoutLemmas.{without-none, without-nothing, without-unit}
 use Rattle.minimal_families.specs.Least.{IsLeastUnion, IsLeastProduct}
-use Rattle.minimal_families.specs.Ends.{least_union-swap, least_product-swap, least_union-none, least_union-itself}
-use Rattle.minimal_families.specs.Ends.{least_union-unit, least_product-none, least_product-itself, least_product-unit}
-use Rattle.minimal_families.specs.Ends.{without-itself, unit-left, no_empty_set}
+use Rattle.minimal_families.proofs.Ends.{least_union-swap, least_product-swap, least_union-none, least_union-itself}
+use Rattle.minimal_families.proofs.Ends.{least_union-unit, least_product-none, least_product-itself, least_product-unit}
+use Rattle.minimal_families.proofs.Ends.{without-itself, unit-left, no_empty_set}
 use Rattle.family_memory.specs.Memory.{Held, Has, IsSound, family_in, map_of}
-use Rattle.family_memory.specs.After.{is_family}
+use Rattle.family_memory.proofs.After.{is_family}
 use Rattle.minimal_operations.specs.Ends.{IsWithoutEnd, IsUnionEnd, IsProductEnd}
 
 -- a node's family lacks the empty set

@@ -5,11 +5,14 @@ use Rattle.unit_sets.specs.Unit.{IsUnit}
 use Rattle.zdd_words.specs.Word.{level_of}
 use Rattle.zdd_words.specs.declared.word.Parts.{Parts}
 use Rattle.zdd_families.specs.Family.{branch}
-use Rattle.zdd_families.specs.Map.{level_in, level_in-terminal, level_in-inner, IsBounded-closed, family-empty}
-use Rattle.family_operations.specs.Cuts.{Cuts, cut_above, branch-none}
-use Rattle.family_operations.specs.Without.{IsWithout, without-lower}
+use Rattle.zdd_families.specs.Map.{level_in}
+use Rattle.zdd_families.proofs.MapLemmas.{level_in-terminal, level_in-inner, IsBounded-closed, family-empty}
+use Rattle.family_operations.specs.Cuts.{Cuts}
+use Rattle.family_operations.proofs.CutsLemmas.{cut_above, branch-none}
+use Rattle.family_operations.specs.Without.{IsWithout}
+use Rattle.family_operations.proofs.WithoutLemmas.{without-lower}
 use Rattle.family_memory.specs.Memory.{Held, Has, IsSound, IsNodeOf, Gave, family_in, map_of}
-use Rattle.family_memory.specs.After.{above, Gave-there}
+use Rattle.family_memory.proofs.After.{above, Gave-there}
 use Rattle.minimal_operations.specs.Halves.{IsHalf}
 
 pub half_whole : (held : Held) (x r : ℕ) → IsSound held → IsUnit x → Has held r → x ≤ level_in (map_of held) r

@@ -6,11 +6,12 @@ use Rattle.zdd_words.specs.declared.word.Parts.{Parts}
 use Rattle.family_operations.specs.Cuts.{Cuts}
 use Rattle.family_operations.specs.Without.{IsWithout}
 use Rattle.minimal_families.specs.Least.{IsLeastUnion, IsLeastProduct}
-use Rattle.minimal_families.specs.Steps.{IsLeastSides, least_sides, least_sides-above, least_union-above}
-use Rattle.minimal_families.specs.Steps.{least_product-above, least_product-both, least_product-first}
-use Rattle.minimal_families.specs.Steps.{least_product-rest}
+use Rattle.minimal_families.specs.Steps.{IsLeastSides}
+use Rattle.minimal_families.proofs.StepsLemmas.{least_sides, least_sides-above, least_union-above}
+use Rattle.minimal_families.proofs.StepsLemmas.{least_product-above, least_product-both, least_product-first}
+use Rattle.minimal_families.proofs.StepsLemmas.{least_product-rest}
 use Rattle.family_memory.specs.Memory.{Held, Has, IsSound, IsNodeOf, Went, Gave, RanOut, family_in, map_of}
-use Rattle.family_memory.specs.After.{Went-then, above, ended, level_above, still, still_has, at_start}
+use Rattle.family_memory.proofs.After.{Went-then, above, ended, level_above, still, still_has, at_start}
 use Rattle.minimal_operations.specs.Halves.{ArePartsAbove}
 use Rattle.minimal_operations.specs.Rests.{IsRidBranch}
 use Rattle.minimal_operations.proofs.Steps.{above_still, fewer_of_both, fewer_than_level, levels_of_both}

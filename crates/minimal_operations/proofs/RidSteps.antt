@@ -1,11 +1,12 @@
 -- A node whose sets with the level are rid of those that include one without it.
 use Rattle.std.proofs.Common.{Result, MatchResult, ◌≡◌, ℕ, List, sym, ◌∙◌, ap, subst}
 use Rattle.zdd_families.specs.Family.{IsAbove, branch}
-use Rattle.family_operations.specs.Without.{IsWithout, without-above}
+use Rattle.family_operations.specs.Without.{IsWithout}
+use Rattle.family_operations.proofs.WithoutLemmas.{without-above}
 use Rattle.family_parts.specs.Antichains.{IsAntichain}
-use Rattle.minimal_families.specs.Nodes.{antichain-branch, antichain-without, none_left}
+use Rattle.minimal_families.proofs.NodesLemmas.{antichain-branch, antichain-without, none_left}
 use Rattle.family_memory.specs.Memory.{Held, Has, IsSound, Gave, RanOut, family_in}
-use Rattle.family_memory.specs.After.{ended, still}
+use Rattle.family_memory.proofs.After.{ended, still}
 use Rattle.minimal_operations.specs.Rests.{IsRidBranch}
 
 module _ (s0 : Held) (x lo all other : ℕ) (sound : IsSound s0) (has_lo : Has s0 lo) (has_all : Has s0 all)

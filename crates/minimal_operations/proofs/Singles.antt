@@ -2,10 +2,10 @@
 use Rattle.std.proofs.Common.{Result, MatchResult, IfOk, IfErr, Ok, Err, ◌≡◌, ℕ, [], ◌∷◌, refl, sym, ◌∙◌, ap, subst}
 use Rattle.std.proofs.Common.{arith}
 use Rattle.zdd_families.specs.Family.{IsAbove, branch}
-use Rattle.zdd_families.specs.Map.{family-empty, family-unit}
-use Rattle.family_operations.specs.Minimal.{minimal-none, minimal-unit}
+use Rattle.zdd_families.proofs.MapLemmas.{family-empty, family-unit}
+use Rattle.family_operations.proofs.MinimalLemmas.{minimal-none, minimal-unit}
 use Rattle.family_parts.specs.Antichains.{IsAntichain}
-use Rattle.minimal_families.specs.Nodes.{antichain-branch}
+use Rattle.minimal_families.proofs.NodesLemmas.{antichain-branch}
 use Rattle.family_memory.specs.Memory.{Held, Has, IsSound, Gave, RanOut, family_in, map_of}
 
 module _ (held : Held) (x : ℕ) (sound : IsSound held) where

@@ -3,7 +3,7 @@ use Rattle.std.proofs.Common.{◌≡◌, ℕ, ◌-◌, ◌<◌, ◌≤◌, min, 
 use Rattle.unit_sets.specs.Unit.{IsUnit}
 use Rattle.zdd_families.specs.Map.{level_in}
 use Rattle.family_memory.specs.Memory.{Held, Has, IsSound, Went, map_of}
-use Rattle.family_memory.specs.After.{still_level}
+use Rattle.family_memory.proofs.After.{still_level}
 
 module _ (before after : Held) (sound : IsSound before) (went : Went before after) where
   pub above_still : (x r : ℕ) → Has before r → x < level_in (map_of before) r → x < level_in (map_of after) r

@@ -2,7 +2,7 @@
 use Rattle.std.proofs.Common.{Result, MatchResult, ℕ, List}
 use Rattle.std.proofs.lemmas.Result.{MatchResult-weaker}
 use Rattle.minimal_families.specs.Least.{IsLeastUnion, IsLeastProduct}
-use Rattle.minimal_families.specs.Ends.{least_union-swap, least_product-swap}
+use Rattle.minimal_families.proofs.Ends.{least_union-swap, least_product-swap}
 use Rattle.family_memory.specs.Memory.{Held, Gave, RanOut}
 
 pub united_swapped : {E : Type 0} (f g : List (List ℕ)) (before after : Held) (result : Result ℕ E)

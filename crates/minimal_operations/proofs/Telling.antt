@@ -1,7 +1,7 @@
 -- What an operation gave is true as an entry.
 use Rattle.std.proofs.Common.{ℕ, sym}
 use Rattle.family_memory.specs.Memory.{Held, Has, IsSound, Gave, family_in}
-use Rattle.family_memory.specs.After.{still, still_has, at_both}
+use Rattle.family_memory.proofs.After.{still, still_has, at_both}
 use Rattle.family_memory.specs.Answers.{IsTold, IsAnswer}
 use Rattle.family_memory.specs.declared.answers.Operation.{Operation}
 

@@ -6,9 +6,10 @@ use Rattle.zdd_words.specs.declared.word.Parts.{Parts}
 use Rattle.family_operations.specs.Cuts.{Cuts}
 use Rattle.family_operations.specs.Without.{IsWithout}
 use Rattle.minimal_families.specs.Least.{IsLeastUnion}
-use Rattle.minimal_families.specs.Steps.{least_union-above, least_union-both, least_union-first, least_union-rest}
+use Rattle.minimal_families.proofs.StepsLemmas.{least_union-above, least_union-both, least_union-first}
+use Rattle.minimal_families.proofs.StepsLemmas.{least_union-rest}
 use Rattle.family_memory.specs.Memory.{Held, Has, IsSound, IsNodeOf, Went, Gave, RanOut, family_in, map_of}
-use Rattle.family_memory.specs.After.{Went-then, above, ended, is_family, still, at_both, at_start}
+use Rattle.family_memory.proofs.After.{Went-then, above, ended, is_family, still, at_both, at_start}
 use Rattle.minimal_operations.specs.Rests.{IsRidBranch}
 use Rattle.minimal_operations.proofs.Steps.{above_still, fewer_of_both, levels_of_both}
 

@@ -2,11 +2,12 @@
 use Rattle.std.proofs.Common.{Result, MatchResult, ◌≡◌, ℕ, ◌<◌, sym, subst, arith}
 use Rattle.zdd_families.specs.Family.{IsAbove, branch}
 use Rattle.zdd_words.specs.declared.word.Parts.{Parts}
-use Rattle.family_operations.specs.Without.{IsWithout, without-above, without-step}
+use Rattle.family_operations.specs.Without.{IsWithout}
+use Rattle.family_operations.proofs.WithoutLemmas.{without-above, without-step}
 use Rattle.family_parts.specs.Antichains.{IsAntichain}
-use Rattle.minimal_families.specs.Nodes.{antichain-without}
+use Rattle.minimal_families.proofs.NodesLemmas.{antichain-without}
 use Rattle.family_memory.specs.Memory.{Held, Has, IsSound, IsNodeOf, Went, Gave, RanOut, family_in}
-use Rattle.family_memory.specs.After.{Went-then, ended, level_above, still, still_has, at_start}
+use Rattle.family_memory.proofs.After.{Went-then, ended, level_above, still, still_has, at_start}
 use Rattle.minimal_operations.specs.declared.halves.Half.{Half}
 use Rattle.minimal_operations.specs.Halves.{IsHalf}
 use Rattle.minimal_operations.proofs.Steps.{above_still, fewer_from, levels_from}

@@ -9,8 +9,6 @@
 mod halves;
 mod nodes;
 mod products;
-#[cfg(test)]
-mod tests;
 mod unions;
 mod withouts;
 

@@ -8,7 +8,8 @@ use Rattle.std.proofs.lemmas.Bool.{cases_eq}
 use Rattle.std.proofs.lemmas.List.Elements.{All-push}
 use Rattle.std.proofs.lemmas.Option.{get_or_from_slice_get, slice_get_cases}
 use Rattle.unit_sets.specs.declared.request.CrewNo.{CrewNo}
-use Rattle.margin_policy.specs.Holders.{HoldersBelow, NamesCrewBelow, reply_names_below, holders_after_below}
+use Rattle.margin_policy.specs.Holders.{HoldersBelow, NamesCrewBelow}
+use Rattle.margin_policy.proofs.HoldersLemmas.{reply_names_below, holders_after_below}
 use Rattle.margin_policy.specs.Standing.{StandingView, IsRequestFor, reply_of, after}
 use Rattle.margin_policy.specs.declared.request.Request.{Request}
 use Rattle.outage_board.specs.declared.entry.Entry.{Entry}

@@ -8,3 +8,5 @@ pub mod TimesLemmas
 pub mod StepLemmas
 pub mod PassLemmas
 pub mod ServingLemmas
+-- when a history is whole
+pub mod Whole

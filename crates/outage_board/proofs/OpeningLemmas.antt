@@ -11,7 +11,8 @@ use Rattle.crew_script.specs.Dockets.{IsDockets, HasMargin, HasMargins, request_
 use Rattle.crew_script.specs.declared.dockets.Ask.{Ask}
 use Rattle.crew_script.specs.declared.dockets.Ask.TheVariants as asks
 use Rattle.crew_script.specs.declared.dockets.Crew.{Crew}
-use Rattle.margin_policy.specs.Holders.{NamesCrewBelow, none_held_below}
+use Rattle.margin_policy.specs.Holders.{NamesCrewBelow}
+use Rattle.margin_policy.proofs.HoldersLemmas.{none_held_below}
 use Rattle.margin_policy.specs.Standing.{StandingView, IsRequestFor, nothing_held}
 use Rattle.margin_policy.specs.declared.request.Request.{Request}
 use Rattle.outage_board.specs.declared.entry.Entry.{Entry}

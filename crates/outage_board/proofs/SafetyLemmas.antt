@@ -8,8 +8,9 @@ use Rattle.unit_sets.specs.declared.request.CrewNo.{CrewNo}
 use Rattle.margin_policy.specs.declared.request.Reply.{Reply}
 use Rattle.margin_policy.specs.declared.request.Reply.TheVariants.{Granted}
 use Rattle.margin_policy.specs.Decide.{is_granted}
-use Rattle.margin_policy.specs.Guard.{KeepsMore, HasAllUnits, granted_keeps_more, decided_keeps_more, first_kept}
-use Rattle.margin_policy.specs.Guard.{all_units_after}
+use Rattle.margin_policy.specs.Guard.{KeepsMore, HasAllUnits}
+use Rattle.margin_policy.proofs.GuardLemmas.{granted_keeps_more, decided_keeps_more, first_kept}
+use Rattle.margin_policy.proofs.GuardLemmas.{all_units_after}
 use Rattle.margin_policy.specs.Standing.{StandingView, IsRequestFor, reply_of, after, nothing_held}
 use Rattle.outage_board.specs.declared.entry.Entry.{Entry}
 use Rattle.outage_board.specs.Histories.{after_entry, standing_after, IsLegal}

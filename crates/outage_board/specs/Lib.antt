@@ -18,5 +18,3 @@ pub mod Turns
 pub mod Passes
 -- passes are dealt and gathered
 pub mod Dealing
--- when a history is whole
-pub mod Whole

@@ -11,21 +11,21 @@ use Rattle.fault_model.specs.declared.node.GateKind.{GateKind}
 use Rattle.fault_model.specs.declared.node.GateKind.TheVariants.{And, Or, Votes, Pand, Por, Seq, Fdep, Csp, Wsp, Hsp}
 use Rattle.fault_model.specs.Tree.{FaultTree, IsNodeOf, IsGateOf, kind_of, inputs_of, is_above_units, unit_count}
 use Rattle.fault_model.specs.Trigger.{below, triggers_of}
-use Rattle.fault_model.specs.RankLaws.{inputs_are_nodes}
+use Rattle.fault_model.proofs.RankLaws.{inputs_are_nodes}
 use Rattle.fault_model.specs.WellFormed.{IsTree}
 use Rattle.fault_model.specs.Step.{Step, never, step}
-use Rattle.fault_model.specs.StepLaws.{never_falls-agree}
+use Rattle.fault_model.proofs.StepLaws.{never_falls-agree}
 use Rattle.fault_model.specs.FailingOrder.{gate_admits, is_admissible}
 use Rattle.replay_semantics.specs.Admission.{is_awaited, gate_awaits, gate_in_turn, node_awaits, node_in_turn}
 use Rattle.replay_semantics.specs.Admission.{all_in_turn}
-use Rattle.replay_semantics.specs.Failing.{same_test}
+use Rattle.replay_semantics.proofs.FailingLemmas.{same_test}
 use Rattle.replay_semantics.specs.Growth.{AllGrow}
 use Rattle.replay_semantics.specs.Readers.{readers_in, AreReaders}
 use Rattle.replay_semantics.specs.Spread.{HaveFailed}
-use Rattle.replay_semantics.specs.StepGrowth.{step-grows, step-at_most}
+use Rattle.replay_semantics.proofs.StepGrowth.{step-grows, step-at_most}
 use Rattle.replay_semantics.specs.Table.{step_in, HoldsSteps}
-use Rattle.replay_semantics.specs.AdmissionLaws.{gates-at, gates-from, list_all-among, list_all-from_all, admits_back}
-use Rattle.replay_semantics.specs.AdmissionLaws.{awaits_from, in_turn_from, was_in_turn, admits_next, awaits_elsewhere}
+use Rattle.replay_semantics.proofs.AdmissionLaws.{gates-at, gates-from, list_all-among, list_all-from_all, admits_back}
+use Rattle.replay_semantics.proofs.AdmissionLaws.{awaits_from, in_turn_from, was_in_turn, admits_next, awaits_elsewhere}
 
 -- ---- steps that agree on the inputs
 

@@ -11,23 +11,24 @@ use Rattle.std.proofs.lemmas.List.{length-replicate, take_all, take-take, take-a
 use Rattle.std.proofs.lemmas.List.{drop-append-le, drop_all}
 use Rattle.std.proofs.lemmas.List.Elements.{All-nil, All-push, All-take}
 use Rattle.std.proofs.lemmas.List.Quantifiers.{all_pairs_push}
-use Rattle.unit_sets.specs.UnitList.{among, Contains-from_among, among-from_Contains}
+use Rattle.unit_sets.specs.UnitList.{among}
+use Rattle.unit_sets.proofs.UnitListLemmas.{Contains-from_among, among-from_Contains}
 use Rattle.fault_model.specs.declared.node.GateKind.{GateKind}
 use Rattle.fault_model.specs.declared.node.GateKind.TheVariants.{And, Or, Votes, Pand, Por, Seq, Fdep, Csp, Wsp, Hsp}
 use Rattle.fault_model.specs.Order.{AreDistinct}
 use Rattle.fault_model.specs.Tree.{FaultTree, IsNodeOf, IsUnitOf, node_count, unit_count, kind_of, inputs_of}
 use Rattle.fault_model.specs.WellFormed.{IsTree}
-use Rattle.fault_model.specs.ReadingLaws.{reads-empty}
+use Rattle.fault_model.proofs.ReadingLaws.{reads-empty}
 use Rattle.fault_model.specs.Step.{Step, never, no_later, is_before, never_falls, place, step}
-use Rattle.fault_model.specs.StepLaws.{step-reads}
+use Rattle.fault_model.proofs.StepLaws.{step-reads}
 use Rattle.fault_model.specs.FailingOrder.{spares_wait, gate_admits, is_admissible, is_failing}
-use Rattle.replay_semantics.specs.Failing.{same_test}
+use Rattle.replay_semantics.proofs.FailingLemmas.{same_test}
 use Rattle.replay_semantics.specs.Held.{HoldsReplay, start_of, GoesBack, StartsRise, IsAdmittedUpTo, admitted_after}
-use Rattle.replay_semantics.specs.Places.{among-append}
+use Rattle.replay_semantics.proofs.Places.{among-append}
 use Rattle.replay_semantics.specs.Readers.{AreReaders}
 use Rattle.replay_semantics.specs.Spread.{AreFailed, HaveFailed, step_without}
 use Rattle.replay_semantics.specs.Table.{step_in, has_step, HoldsSteps}
-use Rattle.replay_semantics.specs.AdmissionLaws.{gates-from}
+use Rattle.replay_semantics.proofs.AdmissionLaws.{gates-from}
 use Rattle.replay_semantics.proofs.LogLemmas.{few_distinct}
 
 -- ---- tests

@@ -5,3 +5,9 @@ pub mod SpreadLemmas
 pub mod ReaderLemmas
 pub mod AdmissionLemmas
 pub mod HeldLemmas
+pub mod AdmissionLaws
+pub mod GateGrowth
+pub mod Places
+pub mod StepGrowth
+pub mod FailingLemmas
+pub mod GrowthLemmas

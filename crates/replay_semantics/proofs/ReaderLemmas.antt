@@ -5,11 +5,12 @@ use Rattle.std.proofs.Common.{get_or-set_other}
 use Rattle.std.proofs.lemmas.Bool.{cases_eq, cases_lt, or_cases, or_left, or_right, eq-eqb, eqb-true}
 use Rattle.std.proofs.lemmas.List.{length-replicate, get_or-replicate, get_or_past}
 use Rattle.std.proofs.lemmas.List.Elements.{Contains-get_or}
-use Rattle.unit_sets.specs.UnitList.{among, among-from_Contains}
+use Rattle.unit_sets.specs.UnitList.{among}
+use Rattle.unit_sets.proofs.UnitListLemmas.{among-from_Contains}
 use Rattle.fault_model.specs.Tree.{FaultTree, IsNodeOf, node_count}
 use Rattle.fault_model.specs.Trigger.{below}
 use Rattle.replay_semantics.specs.Readers.{readers_in, AreReaders, MoreReaders}
-use Rattle.replay_semantics.specs.Places.{among-append, or_nothing}
+use Rattle.replay_semantics.proofs.Places.{among-append, or_nothing}
 
 -- what holds of each member holds of all
 pub All-from_among : (P : ℕ → Type 0) (xs : List ℕ) → ((x : ℕ) → among xs x ≡ true → P x) → All P xs

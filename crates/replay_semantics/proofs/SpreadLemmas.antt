@@ -13,10 +13,11 @@ use Rattle.fault_model.specs.Trigger.{below}
 use Rattle.fault_model.specs.WellFormed.{IsTree}
 use Rattle.fault_model.specs.Step.{Step, never, place, node_step}
 use Rattle.replay_semantics.specs.Failing.{node_fails}
-use Rattle.replay_semantics.specs.Growth.{Grows, AllGrow, grows-stays, grows-at_most, grows-new, grows-never}
-use Rattle.replay_semantics.specs.StepGrowth.{node_step-grows, place-grows, step-at_most}
+use Rattle.replay_semantics.specs.Growth.{Grows, AllGrow}
+use Rattle.replay_semantics.proofs.GrowthLemmas.{grows-stays, grows-at_most, grows-new, grows-never}
+use Rattle.replay_semantics.proofs.StepGrowth.{node_step-grows, place-grows, step-at_most}
 use Rattle.replay_semantics.specs.Table.{step_in, has_step, IsTableFor, HoldsSteps}
-use Rattle.replay_semantics.specs.Places.{among-append, or_nothing, place-other, place-itself}
+use Rattle.replay_semantics.proofs.Places.{among-append, or_nothing, place-other, place-itself}
 use Rattle.replay_semantics.specs.Spread.{AreFailed, HaveFailed, IsSpreading, Turn, step_without, reads_some}
 use Rattle.replay_semantics.specs.Readers.{readers_in, AreReaders}
 use Rattle.replay_semantics.proofs.FixedLemmas.{fixed-step, settled_table, node_step-place, node_step-some}

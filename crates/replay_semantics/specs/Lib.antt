@@ -1,12 +1,8 @@
 pub mod Replayed
 pub mod Growth
-pub mod GateGrowth
-pub mod StepGrowth
 pub mod Table
 pub mod Failing
 pub mod Readers
 pub mod Spread
 pub mod Admission
-pub mod Places
-pub mod AdmissionLaws
 pub mod Held

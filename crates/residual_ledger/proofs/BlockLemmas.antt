@@ -9,7 +9,8 @@ use Rattle.std.proofs.lemmas.Bool.{cases_eq, cases_lt, cases_Bool}
 use Rattle.std.proofs.lemmas.Bool.Decides.{nat_tests}
 use Rattle.std.proofs.lemmas.List.{take_all, get_or_push, get_or_append_left, get_or_default}
 use Rattle.std.proofs.lemmas.Map.Keys.{Less-from_sorted}
-use Rattle.unit_sets.specs.UnitList.{among, IsRising, Contains-from_among}
+use Rattle.unit_sets.specs.UnitList.{among, IsRising}
+use Rattle.unit_sets.proofs.UnitListLemmas.{Contains-from_among}
 use Rattle.residual_ledger.specs.Kept.{block_size, blocks_for, HasLeast, IsLowest, HasLowest}
 use Rattle.residual_ledger.specs.Kept.{IsNearLowest, HasLowestOutside, HasLowestApart, IsOneMore, IsFirstBetween}
 use Rattle.residual_ledger.specs.Kept.{IsFirstAtMost}

@@ -15,8 +15,8 @@ use Rattle.residual_ledger.specs.Holding.{HasSizes, HasStarts, HasRows}
 use Rattle.residual_ledger.specs.Kept.{IsOneMore}
 use Rattle.residual_ledger.proofs.RowLemmas.{fresh_at, push-other, push-itself, among-at}
 use Rattle.residual_ledger.proofs.CutLemmas.{cut_at-is}
-use Rattle.residual_ledger.specs.Passing.{passing-more, passing-none, length-passing-more, length-passing-le}
-use Rattle.residual_ledger.specs.Passing.{length-passing-one}
+use Rattle.residual_ledger.proofs.Passing.{passing-more, passing-none, length-passing-more, length-passing-le}
+use Rattle.residual_ledger.proofs.Passing.{length-passing-one}
 use Rattle.residual_ledger.proofs.HoldingLemmas.{holds}
 
 -- ---- where rows begin

@@ -3,7 +3,7 @@ use Rattle.std.proofs.Common.{◌≡◌, ℕ, Bool, ◌&&◌, nat_lt, List, leng
 use Rattle.unit_sets.specs.UnitList.{among, IsRising}
 use Rattle.residual_ledger.specs.Residual.{cut_at}
 use Rattle.residual_ledger.specs.Holding.{holding}
-use Rattle.residual_ledger.specs.Passing.{among-passing, IsRising-passing}
+use Rattle.residual_ledger.proofs.Passing.{among-passing, IsRising-passing}
 
 -- the test whether the cut set at a place holds a unit
 abbrev pub holds : List (List ℕ) → ℕ → ℕ → Bool

@@ -7,8 +7,10 @@ use Rattle.std.proofs.lemmas.Bool.Decides.{nat_tests}
 use Rattle.std.proofs.lemmas.List.{get_or-map, length-map}
 use Rattle.std.proofs.lemmas.List.Sums.{get_or-le-sum_by}
 use Rattle.unit_sets.specs.CutOrder.{IsOrderedCuts, IsCutSet, weight}
-use Rattle.unit_sets.specs.UnitList.{among, IsRising, with_unit, without_unit, among-with_unit, among-without_unit}
-use Rattle.residual_ledger.specs.Residual.{residual, residual-alike, cut_at}
+use Rattle.unit_sets.specs.UnitList.{among, IsRising, with_unit, without_unit}
+use Rattle.unit_sets.proofs.UnitListLemmas.{among-with_unit, among-without_unit}
+use Rattle.residual_ledger.specs.Residual.{residual, cut_at}
+use Rattle.residual_ledger.proofs.ResidualFacts.{residual-alike}
 use Rattle.residual_ledger.specs.Holding.{holding, between, HasRows}
 use Rattle.residual_ledger.specs.Kept.{residuals, IsOneMore}
 use Rattle.residual_ledger.specs.Ledger.{KeepsLedger}

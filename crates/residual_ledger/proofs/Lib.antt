@@ -6,3 +6,7 @@ pub mod HoldingLemmas
 pub mod FillingLemmas
 pub mod LedgerLemmas
 pub mod SearchLemmas
+pub mod LedgerFacts
+pub mod Passing
+pub mod ResidualFacts
+pub mod TightLaws

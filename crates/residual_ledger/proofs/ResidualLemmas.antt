@@ -11,7 +11,8 @@ use Rattle.std.proofs.lemmas.Bool.Decides.{nat_tests}
 use Rattle.std.proofs.lemmas.List.{get_or_read}
 use Rattle.std.proofs.lemmas.List.Filters.{length-filter_more}
 use Rattle.unit_sets.specs.UnitList.{among, IsRising}
-use Rattle.residual_ledger.specs.Residual.{residual, length-filter-cons, residual-cons, residual-alike}
+use Rattle.residual_ledger.specs.Residual.{residual}
+use Rattle.residual_ledger.proofs.ResidualFacts.{length-filter-cons, residual-cons, residual-alike}
 use Rattle.residual_ledger.proofs.RowLemmas.{among-append, IsRising-tail}
 
 -- ---- member by member

@@ -11,7 +11,8 @@ use Rattle.std.proofs.lemmas.List.{take_more}
 use Rattle.std.proofs.lemmas.List.Folds.{list_any-append}
 use Rattle.std.proofs.lemmas.List.Elements.{All-contains, Contains-get_or}
 use Rattle.std.proofs.lemmas.Map.Keys.{Less-from_sorted}
-use Rattle.unit_sets.specs.UnitList.{among, IsRising, Contains-from_among, among-from_Contains}
+use Rattle.unit_sets.specs.UnitList.{among, IsRising}
+use Rattle.unit_sets.proofs.UnitListLemmas.{Contains-from_among, among-from_Contains}
 use Rattle.residual_ledger.specs.Kept.{IsOneMore}
 
 -- ---- members

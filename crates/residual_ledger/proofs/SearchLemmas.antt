@@ -10,7 +10,8 @@ use Rattle.std.proofs.lemmas.Bool.Decides.{nat_tests}
 use Rattle.std.proofs.lemmas.List.{take_more, take_all, get_or_default, get_or_read}
 use Rattle.std.proofs.lemmas.List.Sums.{position_or_len_is}
 use Rattle.std.proofs.lemmas.Map.Keys.{Less-from_sorted}
-use Rattle.unit_sets.specs.UnitList.{among, IsRising, Contains-from_among}
+use Rattle.unit_sets.specs.UnitList.{among, IsRising}
+use Rattle.unit_sets.proofs.UnitListLemmas.{Contains-from_among}
 use Rattle.residual_ledger.specs.Residual.{residual, cut_at}
 use Rattle.residual_ledger.specs.Tight.{is_tight}
 use Rattle.residual_ledger.specs.Holding.{holding}

@@ -1,8 +1,6 @@
 -- A ledger as its callers see it, and what it keeps.
-use Rattle.std.specs.Prelude.{◌≡◌, ℕ, ◌+◌, ◌≤◌, ◌<◌, Bool, true, false, List, [], ◌∷◌, length}
-use Rattle.std.proofs.Common.{arith}
-use Rattle.std.proofs.lemmas.List.Sums.{sum_by-cons}
-use Rattle.unit_sets.specs.CutOrder.{IsOrderedCuts, weight}
+use Rattle.std.specs.Prelude.{◌≡◌, ℕ, ◌≤◌, ◌<◌, Bool, true, false, List}
+use Rattle.unit_sets.specs.CutOrder.{IsOrderedCuts}
 use Rattle.unit_sets.specs.UnitList.{among}
 use Rattle.residual_ledger.specs.Residual.{cut_at, HasUnitsUpTo}
 use Rattle.residual_ledger.specs.Holding.{HasRows}
@@ -32,8 +30,3 @@ pub record IsFirstHolding (unit : ℕ) (test : List ℕ → Bool) (cuts : List (
   pub inside : first ≤ end
   pub before : (place : ℕ) → place < first → among (cut_at cuts place) unit ≡ true → test (cut_at cuts place) ≡ false
   pub here : first < end → test (cut_at cuts first) ≡ true
-
--- there are no more cut sets than the list may weigh
-pub few_cuts : (cuts : List (List ℕ)) → length cuts ≤ weight cuts
-few_cuts [] = omega arith
-few_cuts (cut ∷ cuts) = omega (arith, few_cuts cuts, sum_by-cons (λ (c : List ℕ). 1 + length c) cut cuts)

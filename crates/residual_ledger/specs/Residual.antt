@@ -1,8 +1,7 @@
 -- What is left of a cut set while some units are out of service.
-use Rattle.std.specs.Prelude.{◌≡◌, ℕ, ◌+◌, ◌<◌, Bool, true, false, not, cond, List, [], ◌∷◌, length, filter, All}
+use Rattle.std.specs.Prelude.{ℕ, ◌+◌, ◌<◌, List, [], length, All}
 use Rattle.std.specs.Prelude.{slice_index_or}
-use Rattle.std.proofs.Common.{refl, sym, ◌∙◌, ap, arith}
-use Rattle.unit_sets.specs.UnitList.{among, outside}
+use Rattle.unit_sets.specs.UnitList.{outside}
 
 -- how many members of a cut set are not out
 abbrev pub residual : List ℕ → List ℕ → ℕ
@@ -19,27 +18,3 @@ HasUnitsBelow number cuts = All (λ cut. All (λ unit. unit < number) cut) cuts
 -- no cut set has a unit above a number
 abbrev pub HasUnitsUpTo : ℕ → List (List ℕ) → Type 0
 HasUnitsUpTo units cuts = HasUnitsBelow (units + 1) cuts
-
--- ---- member by member
-
-length-kept : (b : Bool) (x : ℕ) (xs : List ℕ) → length (cond b (x ∷ xs) xs) ≡ cond b 1 0 + length xs
-length-kept true x xs = omega arith
-length-kept false x xs = omega arith
-
-pub length-filter-cons : (p : ℕ → Bool) (x : ℕ) (xs : List ℕ)
-    → length (filter p (x ∷ xs)) ≡ cond (p x) 1 0 + length (filter p xs)
-length-filter-cons p x xs = length-kept (p x) x (filter p xs)
-
-pub residual-cons : (out : List ℕ) (x : ℕ) (xs : List ℕ)
-    → residual out (x ∷ xs) ≡ cond (not (among out x)) 1 0 + residual out xs
-residual-cons out x xs = length-filter-cons (λ member. not (among out member)) x xs
-
--- sets with the same members leave the same
-pub residual-alike : (a b : List ℕ) → ((unit : ℕ) → among a unit ≡ among b unit) → (cut : List ℕ)
-    → residual a cut ≡ residual b cut
-residual-alike a b alike [] = refl
-residual-alike a b alike (x ∷ xs) =
-    residual-cons a x xs
-    ∙ ap (λ o. cond (not o) 1 0 + residual a xs) (alike x)
-    ∙ ap (λ n. cond (not (among b x)) 1 0 + n) (residual-alike a b alike xs)
-    ∙ sym (residual-cons b x xs)

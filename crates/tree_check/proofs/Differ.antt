@@ -11,7 +11,8 @@ use Rattle.std.specs.Prelude.{Option, Some, None}
 use Rattle.galileo_tree.specs.declared.raw.Statement.{Statement}
 use Rattle.galileo_tree.specs.declared.raw.Statement.TheVariants.{Top, Gate, Basic}
 use lib.Pointwise.{bytes_decides}
-use Rattle.tree_check.specs.Said.{same_name, has_name, basic_names, gate_names, names, names_in, definitions}
+use Rattle.tree_check.specs.Said.{same_name, has_name, basic_names, gate_names, names, definitions}
+use Rattle.tree_check.proofs.SaidLemmas.{names_in}
 use Rattle.tree_check.specs.Classes.{repeats, repeats_after, first}
 use Rattle.fault_model.specs.declared.node.Place.{Place}
 use Rattle.galileo_tree.specs.declared.raw.Placed.{Placed}

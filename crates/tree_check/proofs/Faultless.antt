@@ -30,7 +30,7 @@ use Rattle.tree_check.specs.Classes.{reads_nothing, is_short_fdep, gates_after_f
 use Rattle.tree_check.specs.Numbered.{is_spare_kind}
 use Rattle.fault_model.specs.Tree.{is_fdep_kind}
 use Rattle.tree_check.specs.TreeOf.{numbers, tree_of, first_number}
-use Rattle.tree_check.specs.Edges.{kept_gates}
+use Rattle.tree_check.proofs.Edges.{kept_gates}
 use Rattle.tree_check.specs.Checked.{NoneOf, before_cycles, after_cycles}
 use Rattle.tree_check.proofs.Differ.{same_is}
 use Rattle.tree_check.proofs.NonePass.{none_pass, none_each, none_beyond}

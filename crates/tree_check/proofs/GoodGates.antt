@@ -16,7 +16,7 @@ use Rattle.tree_check.specs.Numbered.{is_gate, is_fdep_in, drops_fdeps, is_spare
 use Rattle.tree_check.specs.Classes.{is_empty, wrong_vote, places_where, dummies_in, reads_nothing, is_short_fdep}
 use Rattle.tree_check.specs.Classes.{gates_after_first, dependent_gates}
 use Rattle.tree_check.specs.TreeOf.{numbers}
-use Rattle.tree_check.specs.Edges.{kept_gate, kept_gates}
+use Rattle.tree_check.proofs.Edges.{kept_gate, kept_gates}
 use Rattle.tree_check.specs.Triggers.{HasUnitDependents, dependents_by}
 use Rattle.tree_check.proofs.NonePass.{none_pass, none_each}
 

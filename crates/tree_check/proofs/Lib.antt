@@ -28,3 +28,8 @@ pub mod DeckParts
 pub mod Refusals
 -- statements stand for a tree, or one class occurs first
 pub mod SomeTree
+pub mod Edges
+pub mod OneFault
+-- there is one tree at most, and one first fault
+pub mod OneTree
+pub mod SaidLemmas

@@ -14,7 +14,7 @@ use Rattle.fault_model.specs.declared.node.Place.{Place}
 use Rattle.fault_model.specs.Tree.{FaultTree, is_fdep_kind}
 use Rattle.fault_model.specs.Trigger.{trigger_by}
 use Rattle.fault_model.specs.WellFormed.{IsTree}
-use Rattle.graph_cycles.specs.Surveys.{survey_exists}
+use Rattle.graph_cycles.proofs.Surveys.{survey_exists}
 use Rattle.galileo_tree.specs.ReadTree.{ReadTree, KeepsForm}
 use Rattle.tree_check.specs.declared.fault.CheckCode.{CheckCode}
 use Rattle.tree_check.specs.declared.fault.CheckCode.TheVariants.{NoToplevel, TwoToplevels, DuplicateName, Undefined}

@@ -15,7 +15,7 @@ use Rattle.tree_check.specs.Numbered.{is_spare_kind, is_fdep_in, kept_by, drops_
 use Rattle.tree_check.specs.Classes.{SpareUse, later_uses, uses_of, spare_uses_in, spare_uses, clash, shared_after}
 use Rattle.tree_check.specs.Classes.{shared_spares}
 use Rattle.tree_check.specs.TreeOf.{numbers}
-use Rattle.tree_check.specs.Edges.{kept_gates}
+use Rattle.tree_check.proofs.Edges.{kept_gates}
 
 -- ---- pairs
 

@@ -12,7 +12,8 @@ use Rattle.graph_cycles.specs.Graph.{successors, Leads, IsGraph, rank_over}
 use Rattle.galileo_tree.specs.declared.raw.Placed.{Placed}
 use Rattle.galileo_tree.specs.declared.raw.Statement.{Statement}
 use Rattle.tree_check.specs.declared.numbered.NumberedGate.{NumberedGate}
-use Rattle.tree_check.specs.Said.{basics, gates, names, basic_names, gate_names, definitions, names_in, has_name}
+use Rattle.tree_check.specs.Said.{basics, gates, names, basic_names, gate_names, definitions, has_name}
+use Rattle.tree_check.proofs.SaidLemmas.{names_in}
 use Rattle.tree_check.specs.Said.{same_name, number_in, uses}
 use Rattle.tree_check.specs.Naming.{differ}
 use Rattle.tree_check.specs.Numbered.{numbered_gates, numbered_gate, unit_total, kinds, kept_inputs}

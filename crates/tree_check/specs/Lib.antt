@@ -12,13 +12,9 @@ pub mod TreeOf
 pub mod Found
 -- whether they stand for one, or which fault is the first
 pub mod Checked
--- there is one tree at most, and one first fault
-pub mod OneTree
-pub mod OneFault
 -- what naming gives
 pub mod Naming
 pub mod Numbering
-pub mod Edges
 pub mod Triggers
 pub mod Marked
 pub mod Groups

@@ -58,9 +58,6 @@ same_name a b = pointwise nat_eq a b
 abbrev pub has_name : List (List ℕ) → List ℕ → Bool
 has_name names name = list_any (same_name name) names
 
-abbrev pub names_in : List Placed → List (List ℕ)
-names_in placed = map (λ p. p.name) placed
-
 abbrev pub basic_names : List Statement → List (List ℕ)
 basic_names statements = map (λ basic. basic.name.name) (basics statements)
 

@@ -20,7 +20,7 @@ pub(crate) struct NumberedGate {
 }
 
 /// The inputs of a gate by numbers.
-pub(crate) type InputRow = fault_model::GrowingList<Numbered>;
+pub(crate) type InputRow = flat_rows::GrowingList<Numbered>;
 
 /// A text by numbers.
 #[derive(Drop)]

@@ -1,10 +1,9 @@
 -- Families that stand for nodes: a set of units includes a set of the family exactly where the node fails.
 use Rattle.std.specs.Prelude.{◌≡◌, ℕ, Bool, true, List, [], ◌∷◌, Contains}
-use Rattle.unit_sets.specs.UnitList.{among}
+use Rattle.unit_sets.specs.UnitList.{among, some_within}
 use Rattle.fault_model.specs.Reading.{reads}
 use Rattle.fault_model.specs.Tree.{FaultTree, IsUnitOf}
 use Rattle.zdd_families.specs.Family.{IsFamily}
-use Rattle.family_operations.specs.Hits.{hits}
 
 -- a family whose sets have units of the tree alone
 pub record IsFamilyOf (tree : FaultTree) (family : List (List ℕ)) : Type 0 where
@@ -15,7 +14,7 @@ abbrev pub AreFamiliesOf : FaultTree → List (List (List ℕ)) → Type 0
 AreFamiliesOf tree [] = Unit {0}
 AreFamiliesOf tree (family ∷ families) = IsFamilyOf tree family × AreFamiliesOf tree families
 
--- it is hit exactly where the node reads failed
+-- it is true exactly where the node reads failed
 pub record Generates (tree : FaultTree) (node : ℕ) (family : List (List ℕ)) : Type 0 where
   pub of_tree : IsFamilyOf tree family
-  pub hit : (within : ℕ → Bool) → hits family within ≡ reads tree within node
+  pub hit : (within : ℕ → Bool) → some_within family within ≡ reads tree within node

@@ -1,12 +1,4 @@
 pub mod Recipe
 pub mod Due
 pub mod Generation
-pub mod CutFamilies
-pub mod FailingSets
-pub mod Steps
-pub mod Building
-pub mod DueSteps
-pub mod NodeSteps
-pub mod RecipeParts
-pub mod TreeParts
 pub mod Examples

@@ -7,7 +7,8 @@ use Rattle.std.proofs.lemmas.List.Elements.{All-push, All-nil}
 use Rattle.std.proofs.lemmas.List.Sums.{sum_by-cons}
 use Rattle.std.specs.List.Sorted.{IsStrictlySortedBy}
 use Rattle.unit_sets.specs.Row.{parts, start_at, EndAt, HoldsCuts}
-use Rattle.unit_sets.specs.CutOrder.{weight-push, weight, weight_limit, IsCutSet, IsOrderedCuts, IsInCutOrder}
+use Rattle.unit_sets.specs.CutOrder.{weight, weight_limit, IsCutSet, IsOrderedCuts, IsInCutOrder}
+use Rattle.unit_sets.proofs.CutOrderLemmas.{weight-push}
 
 pub EndAt-le : (from : ℕ) (ends : List ℕ) (size : ℕ) → EndAt from ends size → from ≤ size
 EndAt-le from [] size h = omega arith

@@ -12,9 +12,11 @@ use lib.Count.{ones, ones_in}
 use native.Mathlib.Nat.{lt_of_le_of_lt}
 use Rattle.std.proofs.lemmas.Bool.Decides.{nat_tests}
 use Rattle.std.proofs.lemmas.List.{length-append, get_or-set_same, get_or-set_other}
-use Rattle.unit_sets.specs.UnitList.{IsUnitSet, among, with_unit, without_unit, outside, is_within, same_set}
-use Rattle.unit_sets.specs.UnitList.{among-with_unit, among-without_unit, among-from_is_within, is_within-from_among}
-use Rattle.unit_sets.specs.UnitList.{IsRising-with_unit, IsRising-without_unit}
+use Rattle.unit_sets.specs.UnitList.{IsUnitSet, among, with_unit, without_unit, outside, is_within}
+use Rattle.unit_sets.proofs.UnitListLemmas.{same_set}
+use Rattle.unit_sets.proofs.UnitListLemmas.{among-with_unit, among-without_unit, among-from_is_within}
+use Rattle.unit_sets.proofs.UnitListLemmas.{is_within-from_among}
+use Rattle.unit_sets.proofs.UnitListLemmas.{IsRising-with_unit, IsRising-without_unit}
 use Rattle.std.proofs.lemmas.List.Elements.{All-from_recursion}
 use Rattle.unit_sets.specs.Unit.{IsUnit}
 use Rattle.unit_sets.specs.Words.{passing_below, has_bit, units_of, HoldsUnits}

@@ -1,5 +1,4 @@
 pub mod Unit
-pub mod Sorted
 pub mod UnitList
 pub mod CutOrder
 pub mod Words

@@ -4,3 +4,4 @@ mod PlaceLemmas
 mod OwnLemmas
 mod TeamLemmas
 mod WorkerLemmas
+pub mod OwnReferences

@@ -6,29 +6,29 @@ use Rattle.std.specs.List.Sorted.{IsStrictlySortedBy}
 use Rattle.std.proofs.lemmas.Bool.{cases_eq, cond-true, and_parts}
 use Rattle.std.proofs.lemmas.List.{get_or_default, get_or-take}
 use Rattle.std.proofs.lemmas.List.Elements.{All-nil}
-use Rattle.unit_sets.specs.Sorted.{Contains-nil}
+use Rattle.unit_sets.proofs.Sorted.{Contains-nil}
 use Rattle.unit_sets.specs.UnitList.{among}
 use Rattle.fault_model.specs.declared.node.GateKind.{GateKind}
 use Rattle.fault_model.specs.declared.node.GateKind.TheVariants.{And, Or, Votes, Pand, Por, Seq, Fdep, Csp, Wsp, Hsp}
 use Rattle.fault_model.specs.Cut.{IsMinimalFor}
 use Rattle.fault_model.specs.CutFamily.{IsCutFamily}
 use Rattle.fault_model.specs.Reading.{reads, node_reads, gate_reads}
-use Rattle.fault_model.specs.ReadingLaws.{reads-node}
+use Rattle.fault_model.proofs.ReadingLaws.{reads-node}
 use Rattle.fault_model.specs.Tree.{FaultTree, IsNodeOf, inputs_of, is_above_units, is_fdep, is_fdep_kind, kind_of}
 use Rattle.fault_model.specs.Tree.{unit_count}
 use Rattle.fault_model.specs.WellFormed.{IsTree}
 use Rattle.family_operations.specs.Minimal.{IsMinimal}
 use Rattle.family_parts.specs.Antichains.{IsAntichain}
-use Rattle.family_parts.specs.MinimalParts.{HasLeast, minimal-exists}
+use Rattle.family_parts.proofs.MinimalParts.{HasLeast, minimal-exists}
 use Rattle.family_memory.specs.Memory.{Gave, Held, Has, RanOut, Went, IsSound, family_in}
-use Rattle.family_memory.specs.After.{still, still_has}
+use Rattle.family_memory.proofs.After.{still, still_has}
 use Rattle.many_families.specs.Lists.{families}
-use Rattle.tree_families.specs.CutFamilies.{cut_family-minimal, cut_family-one}
-use Rattle.tree_families.specs.FailingSets.{Generates-cut_family}
+use Rattle.tree_families.proofs.CutFamilies.{cut_family-minimal, cut_family-one}
+use Rattle.tree_families.proofs.FailingSets.{Generates-cut_family}
 use Rattle.tree_families.specs.Generation.{Generates}
 use Rattle.tree_families.specs.Recipe.{StandFor}
-use Rattle.tree_families.specs.TreeParts.{Spans-of_tree}
-use Rattle.zdd_build.specs.Own.{AreRead}
+use Rattle.tree_families.proofs.TreeParts.{Spans-of_tree}
+use Rattle.zdd_build.proofs.OwnReferences.{AreRead}
 
 -- ---- a cut family is an antichain
 

@@ -3,17 +3,19 @@ use Rattle.std.proofs.Common.{◌≡◌, ℕ, ◌+◌, ◌≤◌, List, [], ◌+
 use Rattle.std.proofs.Common.{add-zero}
 use Rattle.std.proofs.lemmas.List.{append-nil}
 use Rattle.std.proofs.lemmas.List.Elements.{All-weaker}
-use Rattle.unit_sets.specs.Sorted.{Contains-nil}
+use Rattle.unit_sets.proofs.Sorted.{Contains-nil}
 use Rattle.fault_model.specs.CutFamily.{IsCutFamily}
 use Rattle.fault_model.specs.Tree.{FaultTree}
 use Rattle.tree_families.specs.Due.{IsDueToTree}
-use Rattle.zdd_families.specs.Map.{Grown, IsClosed, Knows-grown}
-use Rattle.zdd_families.specs.Canonical.{family-grown}
+use Rattle.zdd_families.specs.Map.{Grown, IsClosed}
+use Rattle.zdd_families.proofs.MapLemmas.{Knows-grown}
+use Rattle.zdd_families.proofs.Canonical.{family-grown}
 use Rattle.zdd_shared_table.specs.Seats.{Seated, IsSoundSeat, TableId, map_of}
 use Rattle.zdd_product.specs.Seats.{CountsDue, KnowsOne, WentAll}
-use Rattle.zdd_product.specs.Several.{CountsDue-went}
-use Rattle.zdd_product.specs.After.{grown_then}
-use Rattle.family_copies.specs.Copies.{AreCopies, copies-grown}
+use Rattle.zdd_product.proofs.Several.{CountsDue-went}
+use Rattle.zdd_product.proofs.After.{grown_then}
+use Rattle.family_copies.specs.Copies.{AreCopies}
+use Rattle.family_copies.proofs.CopiesLemmas.{copies-grown}
 use Rattle.zdd_build.specs.declared.places.Place.{Place}
 use Rattle.zdd_build.specs.declared.worker.Finding.{Finding}
 use Rattle.zdd_build.specs.declared.worker.Worker.{Worker}

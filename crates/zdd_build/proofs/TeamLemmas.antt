@@ -5,9 +5,9 @@ use Rattle.std.proofs.lemmas.List.{append-nil, drop_all, take_all, get_or_append
 use Rattle.fault_model.specs.Tree.{FaultTree}
 use Rattle.zdd_shared_table.specs.Seats.{Seated, TableId, map_of}
 use Rattle.zdd_product.specs.Seats.{CountsDue, Joined, WentAll}
-use Rattle.zdd_product.specs.Several.{WentAll-joined, WentAll-then}
+use Rattle.zdd_product.proofs.Several.{WentAll-joined, WentAll-then}
 use Rattle.zdd_build.specs.declared.worker.Worker.{Worker}
-use Rattle.zdd_product.specs.After.{grown_then}
+use Rattle.zdd_product.proofs.After.{grown_then}
 use Rattle.zdd_build.specs.Workers.{CanWork, CountsAsBefore, FindsFull, HasSplit}
 
 -- the first of a list is the first of what stands before its last, or is the last

@@ -8,17 +8,18 @@ use Rattle.fault_model.specs.Tree.{FaultTree}
 use Rattle.tree_families.specs.Due.{IsDueToTree}
 use Rattle.zdd_shared_table.specs.Seats.{Seated, TableId, map_of}
 use Rattle.zdd_product.specs.Seats.{CountsDue, Gave, WasFull, WentAll}
-use Rattle.zdd_product.specs.Several.{CountsDue-went, WentAll-full, WentAll-on}
+use Rattle.zdd_product.proofs.Several.{CountsDue-went, WentAll-full, WentAll-on}
 use Rattle.zdd_nodes.specs.Room.{HaveRoomFor}
 use Rattle.family_memory.specs.Memory.{Held}
-use Rattle.family_copies.specs.Copies.{AreCopies, copies-none}
+use Rattle.family_copies.specs.Copies.{AreCopies}
+use Rattle.family_copies.proofs.CopiesLemmas.{copies-none}
 use Rattle.family_copies.specs.declared.copies.Pair.{Pair}
 use Rattle.fault_model.specs.CutFamily.{IsCutFamily}
 use Rattle.fault_model.specs.Tree.{IsNodeOf}
 use Rattle.fault_model.specs.WellFormed.{IsTree}
 use Rattle.family_operations.specs.Nodes.{IsReached}
-use Rattle.tree_families.specs.TreeParts.{cut_family-parts}
-use Rattle.zdd_product.specs.After.{WasFull-as, WentOn-as}
+use Rattle.tree_families.proofs.TreeParts.{cut_family-parts}
+use Rattle.zdd_product.proofs.After.{WasFull-as, WentOn-as}
 use Rattle.zdd_build.specs.declared.worker.Worker.{Worker}
 use Rattle.zdd_build.specs.declared.places.Place.{Place}
 use Rattle.zdd_build.specs.Workers.{AreFound, CanWork, FindsFull, HasNone, IsAtWork, IsFound, Learned}

@@ -1,4 +1,3 @@
 pub mod Places
 pub mod Building
 pub mod Workers
-pub mod Own

@@ -4,7 +4,7 @@ use Rattle.std.proofs.lemmas.Result.{MatchResult-weaker}
 use Rattle.zdd_families.specs.Map.{family}
 use Rattle.zdd_shared_table.specs.Seats.{Seated, map_of}
 use Rattle.zdd_product.specs.Seats.{WentOn, Gave, WasFull}
-use Rattle.zdd_product.specs.After.{WentOn-as, WasFull-as, Gave-then, WasFull-then}
+use Rattle.zdd_product.proofs.After.{WentOn-as, WasFull-as, Gave-then, WasFull-then}
 
 -- what was given and what is due imply more
 pub answer_as : {E : Type 0} (is due is' due' : List (List ℕ) → Type 0) → ((h : List (List ℕ)) → is h → is' h)

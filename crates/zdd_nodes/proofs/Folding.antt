@@ -5,7 +5,7 @@ use Rattle.zdd_families.specs.Map.{Knows, KnowsAs, family}
 use Rattle.zdd_shared_table.specs.Seats.{Seated, IsSoundSeat, map_of}
 use Rattle.zdd_product.specs.Seats.{Gave, WasFull}
 use Rattle.zdd_product.specs.Voting.{families}
-use Rattle.zdd_product.specs.After.{stays, WentOn-next, WasFull-next}
+use Rattle.zdd_product.proofs.After.{stays, WentOn-next, WasFull-next}
 
 module _ (IsStep DueStep : List (List ℕ) → List (List ℕ) → List (List ℕ) → Type 0)
     (IsAll DueAll : List (List ℕ) → List (List (List ℕ)) → List (List ℕ) → Type 0)

@@ -6,14 +6,14 @@ use Rattle.fault_model.specs.Trigger.{below}
 use Rattle.fault_model.specs.WellFormed.{IsTree}
 use Rattle.family_operations.specs.Due.{IsDueToMinimal}
 use Rattle.family_operations.specs.Minimal.{IsMinimal}
-use Rattle.tree_families.specs.Building.{recipe-cut_family, unit_recipe_is}
+use Rattle.tree_families.proofs.Building.{recipe-cut_family, unit_recipe_is}
 use Rattle.tree_families.specs.Due.{IsDueToRecipe, IsDueToTree, IsDueToUnions, due_to_unions, due_to_end, one_unit}
 use Rattle.tree_families.specs.Recipe.{IsMadeBy, IsUnionOfAll, Recipe, StandFor, alone, node_recipe}
 use Rattle.zdd_families.specs.Map.{Knows, family}
 use Rattle.zdd_shared_table.specs.Seats.{Seated, IsSoundSeat, map_of}
 use Rattle.zdd_product.specs.Seats.{Gave, WasFull}
 use Rattle.zdd_product.specs.Voting.{families}
-use Rattle.zdd_product.specs.After.{WentOn-as}
+use Rattle.zdd_product.proofs.After.{WentOn-as}
 use Rattle.zdd_nodes.specs.Steps.{IsDueToUnit}
 use Rattle.zdd_nodes.proofs.Answers.{answer_as, answer_then}
 use Rattle.zdd_nodes.proofs.NodeParts.{node_due}

@@ -4,7 +4,7 @@ use Rattle.std.proofs.lemmas.List.Elements.{All-head, All-tail}
 use Rattle.zdd_families.specs.Map.{Knows, Grown, family}
 use Rattle.zdd_shared_table.specs.Seats.{Seated, IsSoundSeat, map_of}
 use Rattle.zdd_product.specs.Voting.{families}
-use Rattle.zdd_product.specs.After.{stays}
+use Rattle.zdd_product.proofs.After.{stays}
 
 module _ (before after : Seated) (sound : IsSoundSeat before) (sound' : IsSoundSeat after)
     (keeps : Grown (map_of before) (map_of after)) where

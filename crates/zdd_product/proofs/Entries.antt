@@ -1,17 +1,19 @@
 -- True entries stay true where the map grows.
 use Rattle.std.proofs.Common.{◌≡◌, ℕ, List, [], inl, arith, sym, subst, All}
 use Rattle.std.proofs.lemmas.List.Elements.{All-weaker}
-use Rattle.zdd_families.specs.Family.{IsFamily-nil}
-use Rattle.zdd_families.specs.Map.{Knows, IsClosed, Grown, family, family-empty, Knows-grown}
-use Rattle.zdd_families.specs.Canonical.{family-grown}
-use Rattle.family_operations.specs.Union.{IsUnion, union-none}
+use Rattle.zdd_families.proofs.FamilyLemmas.{IsFamily-nil}
+use Rattle.zdd_families.specs.Map.{Knows, IsClosed, Grown, family}
+use Rattle.zdd_families.proofs.MapLemmas.{family-empty, Knows-grown}
+use Rattle.zdd_families.proofs.Canonical.{family-grown}
+use Rattle.family_operations.specs.Union.{IsUnion}
+use Rattle.family_operations.proofs.UnionLemmas.{union-none}
 use Rattle.zdd_product.specs.Told.{IsTold, IsResult}
 use Rattle.zdd_product.specs.declared.cache.Entry.{Entry}
 use Rattle.zdd_product.specs.declared.cache.Operation.{Operation}
 use Rattle.zdd_product.specs.declared.cache.Operation.TheVariants.{Union}
 use Rattle.zdd_shared_table.specs.Seats.{Seated, IsSoundSeat, map_of}
 use Rattle.zdd_product.specs.Seats.{Gave}
-use Rattle.zdd_product.specs.After.{stays, at_both}
+use Rattle.zdd_product.proofs.After.{stays, at_both}
 
 told_grown : (known known' : ℕ → ℕ) → IsClosed known → IsClosed known' → Grown known known' → (entry : Entry)
     → IsTold known entry → IsTold known' entry

@@ -8,3 +8,5 @@ pub mod WithoutParts
 pub mod WithoutSteps
 pub mod MinimalSteps
 pub mod VoteSteps
+pub mod After
+pub mod Several

@@ -3,21 +3,25 @@ use Rattle.std.proofs.Common.{Result, MatchResult, ◌≡◌, ◌≢◌, ℕ, ze
 use Rattle.std.proofs.Common.{◌∙◌, subst, inl, inr, arith}
 use Rattle.std.proofs.lemmas.Bool.{cases_Bool}
 use Rattle.unit_sets.specs.Unit.{IsUnit}
-use Rattle.unit_sets.specs.Sorted.{Contains-nil, Contains-cons_first, Contains-cons_cases}
-use Rattle.zdd_families.specs.Family.{IsAbove, branch, IsFamily-unit, same_family}
-use Rattle.zdd_families.specs.Map.{Knows, KnowsAs, IsClosed, IsUnique, family, family-empty, family-unit, level_in}
-use Rattle.zdd_families.specs.Map.{level_in-grown}
-use Rattle.zdd_families.specs.Canonical.{IsFamily-family, family-same}
+use Rattle.unit_sets.proofs.Sorted.{Contains-nil, Contains-cons_first, Contains-cons_cases}
+use Rattle.zdd_families.specs.Family.{IsAbove, branch}
+use Rattle.zdd_families.proofs.FamilyLemmas.{IsFamily-unit, same_family}
+use Rattle.zdd_families.specs.Map.{Knows, KnowsAs, IsClosed, IsUnique, family, level_in}
+use Rattle.zdd_families.proofs.MapLemmas.{family-empty, family-unit}
+use Rattle.zdd_families.proofs.MapLemmas.{level_in-grown}
+use Rattle.zdd_families.proofs.Canonical.{IsFamily-family, family-same}
 use Rattle.family_operations.specs.Inclusion.{includes_one}
-use Rattle.family_operations.specs.Without.{IsWithout, without-above}
-use Rattle.family_operations.specs.Minimal.{IsMinimal, minimal-none, minimal-unit, minimal-above, minimal-step}
+use Rattle.family_operations.specs.Without.{IsWithout}
+use Rattle.family_operations.proofs.WithoutLemmas.{without-above}
+use Rattle.family_operations.specs.Minimal.{IsMinimal}
+use Rattle.family_operations.proofs.MinimalLemmas.{minimal-none, minimal-unit, minimal-above, minimal-step}
 use Rattle.family_operations.specs.Due.{IsInnerFamily, minimal_itself, minimal_lo, minimal_hi, minimal_rest}
 use Rattle.zdd_shared_table.specs.Seats.{Seated, IsSoundSeat, map_of}
 use Rattle.zdd_product.specs.declared.halves.Half.{Half}
 use Rattle.zdd_product.specs.Due.{IsMadeByMinimal, IsMadeByWithout}
 use Rattle.zdd_product.specs.Halves.{IsHalf, IsSplit}
 use Rattle.zdd_product.specs.Seats.{IsBranch, KnowsOne, WentOn, Gave, WasFull}
-use Rattle.zdd_product.specs.After.{stays, WentOn-as, WasFull-as, WentOn-next, WasFull-next, made_after}
+use Rattle.zdd_product.proofs.After.{stays, WentOn-as, WasFull-as, WentOn-next, WasFull-next, made_after}
 use Rattle.zdd_product.proofs.WithoutParts.{has_empty, unit_stays}
 
 -- ---- ends

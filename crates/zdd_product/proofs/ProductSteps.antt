@@ -3,10 +3,12 @@ use Rattle.std.proofs.Common.{Result, MatchResult, ℕ, List, sym, subst}
 use Rattle.std.proofs.lemmas.Result.{MatchResult-weaker}
 use Rattle.zdd_families.specs.Family.{IsAbove}
 use Rattle.zdd_families.specs.Map.{Knows, KnowsAs, family}
-use Rattle.zdd_families.specs.Canonical.{IsFamily-family}
+use Rattle.zdd_families.proofs.Canonical.{IsFamily-family}
 use Rattle.family_operations.specs.Cuts.{Cuts}
-use Rattle.family_operations.specs.Union.{IsUnion, union-above}
-use Rattle.family_operations.specs.Product.{IsProduct, IsProductOfParts, product-above, product-step}
+use Rattle.family_operations.specs.Union.{IsUnion}
+use Rattle.family_operations.proofs.UnionLemmas.{union-above}
+use Rattle.family_operations.specs.Product.{IsProduct, IsProductOfParts}
+use Rattle.family_operations.proofs.ProductLemmas.{product-above, product-step}
 use Rattle.family_operations.specs.Due.{IsInnerFamily, product_itself}
 use Rattle.zdd_shared_table.specs.Seats.{Seated, IsSoundSeat, map_of}
 use Rattle.zdd_product.specs.declared.halves.Halves.{Halves}
@@ -15,7 +17,7 @@ use Rattle.zdd_product.specs.Due.{with_some, with_second, with_all}
 use Rattle.zdd_product.specs.Halves.{AreHalves}
 use Rattle.zdd_product.specs.Seats.{IsBranch, WentOn, Gave, WasFull}
 use Rattle.zdd_product.proofs.Halving.{Cuts-halved, one_split}
-use Rattle.zdd_product.specs.After.{stays, at_both, WentOn-as, WasFull-as, WentOn-next, WasFull-next, made_after}
+use Rattle.zdd_product.proofs.After.{stays, at_both, WentOn-as, WasFull-as, WentOn-next, WasFull-next, made_after}
 use Rattle.zdd_product.proofs.ProductParts.{product_makes_lo, product_makes_with}
 
 -- ---- the sets with the unit

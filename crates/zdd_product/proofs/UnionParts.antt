@@ -1,10 +1,12 @@
 -- The steps of the recursion of unions.
 use Rattle.std.proofs.Common.{◌≡◌, ◌≢◌, ◌⊎◌, ℕ, List, [], sym, ◌∙◌, ap, subst, inl, inr}
-use Rattle.zdd_families.specs.Map.{Knows, IsClosed, IsUnique, family, family-empty}
-use Rattle.zdd_families.specs.Canonical.{family-filled, IsFamily-family}
-use Rattle.family_operations.specs.Union.{IsUnion, union-none, union-with_none, union-itself}
+use Rattle.zdd_families.specs.Map.{Knows, IsClosed, IsUnique, family}
+use Rattle.zdd_families.proofs.MapLemmas.{family-empty}
+use Rattle.zdd_families.proofs.Canonical.{family-filled, IsFamily-family}
+use Rattle.family_operations.specs.Union.{IsUnion}
+use Rattle.family_operations.proofs.UnionLemmas.{union-none, union-with_none, union-itself}
 use Rattle.family_operations.specs.Due.{GoesOn, IsDueToUnion, union_both_lo, union_both_hi, union_first, union_second}
-use Rattle.family_operations.specs.References.{different_families}
+use Rattle.family_operations.proofs.References.{different_families}
 use Rattle.zdd_product.specs.Due.{IsMadeByUnion}
 use Rattle.zdd_product.specs.Halves.{IsHalved}
 use Rattle.zdd_product.specs.Seats.{KnowsOne}

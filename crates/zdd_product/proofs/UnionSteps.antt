@@ -1,9 +1,11 @@
 -- A union by the halves of both references: two inner unions, and a node of both.
 use Rattle.std.proofs.Common.{Result, MatchResult, ◌≡◌, ℕ, ◌<◌, List, sym, subst}
 use Rattle.zdd_families.specs.Family.{IsAbove}
-use Rattle.zdd_families.specs.Map.{Knows, family, level_in-grown}
+use Rattle.zdd_families.specs.Map.{Knows, family}
+use Rattle.zdd_families.proofs.MapLemmas.{level_in-grown}
 use Rattle.family_operations.specs.Cuts.{Cuts}
-use Rattle.family_operations.specs.Union.{IsUnion, union-above, union-step}
+use Rattle.family_operations.specs.Union.{IsUnion}
+use Rattle.family_operations.proofs.UnionLemmas.{union-above, union-step}
 use Rattle.family_operations.specs.Due.{GoesOn, union_itself}
 use Rattle.zdd_shared_table.specs.Seats.{Seated, IsSoundSeat, map_of}
 use Rattle.zdd_product.specs.declared.halves.Halves.{Halves}
@@ -11,7 +13,7 @@ use Rattle.zdd_product.specs.Due.{IsMadeByUnion}
 use Rattle.zdd_product.specs.Halves.{AreHalves}
 use Rattle.zdd_product.specs.Seats.{IsBranch, WentOn, Gave, WasFull}
 use Rattle.zdd_product.proofs.Halving.{Cuts-halved, one_split, levels_left, fewer_left}
-use Rattle.zdd_product.specs.After.{stays, WentOn-as, WasFull-as, WentOn-then, WasFull-then, made_after}
+use Rattle.zdd_product.proofs.After.{stays, WentOn-as, WasFull-as, WentOn-then, WasFull-then, made_after}
 use Rattle.zdd_product.proofs.UnionParts.{union_makes_lo, union_makes_hi}
 
 module _ (s : Seated) (a b : ℕ) (halves : Halves) (sound : IsSoundSeat s) (are : AreHalves (map_of s) a b halves)

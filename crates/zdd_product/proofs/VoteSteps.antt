@@ -6,17 +6,19 @@ use Rattle.std.proofs.lemmas.Bool.{cases_eq, cond-true, cond-false, ne_eqb}
 use Rattle.std.proofs.lemmas.List.{take_more, take-append-drop, get_or-map, length-map, get_or-set_same}
 use Rattle.std.proofs.lemmas.List.{get_or-set_other}
 use Rattle.std.proofs.lemmas.List.Elements.{All-head, All-tail}
-use Rattle.zdd_families.specs.Map.{Knows, KnowsAs, Grown, family, family-unit}
-use Rattle.zdd_families.specs.Canonical.{IsFamily-family}
+use Rattle.zdd_families.specs.Map.{Knows, KnowsAs, Grown, family}
+use Rattle.zdd_families.proofs.MapLemmas.{family-unit}
+use Rattle.zdd_families.proofs.Canonical.{IsFamily-family}
 use Rattle.family_operations.specs.Union.{IsUnion}
 use Rattle.family_operations.specs.Product.{IsProduct}
-use Rattle.family_operations.specs.Votes.{IsVotes, no_votes, votes-step}
+use Rattle.family_operations.specs.Votes.{IsVotes}
+use Rattle.family_operations.proofs.VotesLemmas.{no_votes, votes-step}
 use Rattle.family_operations.specs.Due.{IsDueToVotes, votes_product, votes_union}
 use Rattle.zdd_shared_table.specs.Seats.{Seated, IsSoundSeat, map_of}
 use Rattle.zdd_product.specs.Due.{IsMadeByUnion, IsMadeByProduct}
 use Rattle.zdd_product.specs.Seats.{KnowsOne, WentOn, Gave, WasFull}
 use Rattle.zdd_product.specs.Voting.{families, HoldsVotes, IsVoting}
-use Rattle.zdd_product.specs.After.{stays, WentOn-as, WasFull-as, WentOn-next, WasFull-next}
+use Rattle.zdd_product.proofs.After.{stays, WentOn-as, WasFull-as, WentOn-next, WasFull-next}
 
 -- ---- the families of a list stay
 

@@ -2,10 +2,12 @@
 -- other lo.
 use Rattle.std.proofs.Common.{Result, MatchResult, ℕ, ◌<◌, List, sym, ◌∙◌, subst, arith}
 use Rattle.zdd_families.specs.Family.{IsAbove}
-use Rattle.zdd_families.specs.Map.{Knows, KnowsAs, family, level_in-grown}
-use Rattle.zdd_families.specs.Canonical.{IsFamily-family, level-above}
+use Rattle.zdd_families.specs.Map.{Knows, KnowsAs, family}
+use Rattle.zdd_families.proofs.MapLemmas.{level_in-grown}
+use Rattle.zdd_families.proofs.Canonical.{IsFamily-family, level-above}
 use Rattle.family_operations.specs.Cuts.{Cuts}
-use Rattle.family_operations.specs.Without.{IsWithout, without-above, without-step}
+use Rattle.family_operations.specs.Without.{IsWithout}
+use Rattle.family_operations.proofs.WithoutLemmas.{without-above, without-step}
 use Rattle.family_operations.specs.Due.{IsInnerFamily, without_itself}
 use Rattle.zdd_shared_table.specs.Seats.{Seated, IsSoundSeat, map_of}
 use Rattle.zdd_product.specs.declared.halves.Halves.{Halves}
@@ -13,7 +15,7 @@ use Rattle.zdd_product.specs.Due.{IsMadeByWithout}
 use Rattle.zdd_product.specs.Halves.{AreHalves}
 use Rattle.zdd_product.specs.Seats.{IsBranch, WentOn, Gave, WasFull}
 use Rattle.zdd_product.proofs.Halving.{Cuts-halved, one_split, levels_left, fewer_left}
-use Rattle.zdd_product.specs.After.{stays, at_both, WentOn-as, WasFull-as, WentOn-next, WasFull-next, made_after}
+use Rattle.zdd_product.proofs.After.{stays, at_both, WentOn-as, WasFull-as, WentOn-next, WasFull-next, made_after}
 use Rattle.zdd_product.proofs.WithoutParts.{without_makes_lo, without_makes_hi, without_makes_rest}
 
 module _ (s : Seated) (a b : ℕ) (halves : Halves) (sound : IsSoundSeat s) (are : AreHalves (map_of s) a b halves)

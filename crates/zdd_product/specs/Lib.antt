@@ -1,6 +1,4 @@
 pub mod Seats
-pub mod After
-pub mod Several
 pub mod Told
 pub mod Held
 pub mod Due

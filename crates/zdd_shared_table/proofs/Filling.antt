@@ -3,8 +3,10 @@ use Rattle.std.proofs.Common.{◌≡◌, ◌≢◌, ℕ, ◌+◌, ◌<◌, ◌�
 use Rattle.std.proofs.Common.{inr, get_or-set_other, get_or-set_same, length-set}
 use mathlib.Core.Logic.{dite}
 use native.Mathlib.Decide.{dec_lt, ℕ_discrete}
-use Rattle.zdd_words.specs.Word.{level_of, level_of-zero}
-use Rattle.zdd_families.specs.Map.{IsNode, Grown, IsNode-grown}
+use Rattle.zdd_words.specs.Word.{level_of}
+use Rattle.zdd_words.proofs.WordLemmas.{level_of-zero}
+use Rattle.zdd_families.specs.Map.{IsNode, Grown}
+use Rattle.zdd_families.proofs.MapLemmas.{IsNode-grown}
 use Rattle.zdd_shared_table.specs.Known.{find, placed}
 use Rattle.zdd_shared_table.specs.Rule.{round, HoldsNodes, Fits}
 use Rattle.zdd_shared_table.proofs.Rounds.{round-below, round-same, round-onto}

@@ -7,3 +7,4 @@ pub mod Owned
 pub mod Steps
 pub mod Searching
 pub mod Nodes
+pub mod SearchLemmas

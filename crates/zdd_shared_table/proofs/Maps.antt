@@ -1,7 +1,7 @@
 -- What a list of references and the words of the table say as maps.
 use Rattle.std.proofs.Common.{◌≡◌, ◌≢◌, ℕ, zero, suc, ◌+◌, ◌-◌, ◌<◌, ◌≤◌, List, [], ◌∷◌, length, get_or, set, sym, ◌∙◌}
 use Rattle.std.proofs.Common.{ap, subst, refl, arith, Contains, ⊎_elim, get_or-set_other}
-use Rattle.unit_sets.specs.Sorted.{Contains-cons_cases, Contains-cons_first, Contains-cons_other, Contains-nil}
+use Rattle.unit_sets.proofs.Sorted.{Contains-cons_cases, Contains-cons_first, Contains-cons_other, Contains-nil}
 use mathlib.Core.Logic.{dite}
 use native.Mathlib.Decide.{ℕ_discrete}
 use Rattle.std.proofs.Common.{eq-eqb, ne_eqb}

@@ -5,9 +5,10 @@ use Rattle.std.proofs.lemmas.List.Elements.{Contains-append_left, Contains-push}
 use Rattle.unit_sets.specs.Unit.{IsUnit}
 use Rattle.zdd_words.specs.Word.{level_of, lo_of, hi_of}
 use Rattle.zdd_families.specs.Family.{branch, IsAbove, first_unit, sets_with, sets_without}
-use Rattle.zdd_families.specs.Map.{Knows, KnowsAs, IsNode, IsClosed, Grown, family, family-node, lo_known, hi_known}
-use Rattle.zdd_families.specs.Canonical.{family-grown, level-above, first_unit-family, sets_without-family}
-use Rattle.zdd_families.specs.Canonical.{sets_with-family, lo_units, hi_units}
+use Rattle.zdd_families.specs.Map.{Knows, KnowsAs, IsNode, IsClosed, Grown, family}
+use Rattle.zdd_families.proofs.MapLemmas.{family-node, lo_known, hi_known}
+use Rattle.zdd_families.proofs.Canonical.{family-grown, level-above, first_unit-family, sets_without-family}
+use Rattle.zdd_families.proofs.Canonical.{sets_with-family, lo_units, hi_units}
 use Rattle.zdd_shared_table.specs.Known.{find}
 use Rattle.zdd_shared_table.specs.Seats.{IsSound, IsSoundView}
 use Rattle.zdd_shared_table.specs.Search.{HasEnded}

@@ -6,7 +6,8 @@ use Rattle.zdd_families.specs.Map.{IsNode}
 use Rattle.zdd_shared_table.specs.Known.{find}
 use Rattle.zdd_shared_table.specs.Rule.{round}
 use Rattle.zdd_shared_table.specs.Views.{searching, searched_all, passed_on}
-use Rattle.zdd_shared_table.specs.Search.{IsSearch, after_passing, HasEnded}
+use Rattle.zdd_shared_table.specs.Search.{IsSearch, HasEnded}
+use Rattle.zdd_shared_table.proofs.SearchLemmas.{after_passing}
 use Rattle.zdd_shared_table.proofs.Rounds.{round-next}
 use Rattle.zdd_shared_table.proofs.Views.{by_test}
 use Rattle.zdd_shared_table.specs.declared.view.View.{View}

@@ -10,8 +10,10 @@ use lib.Seq.{set-get_or}
 use prog.Atomic.{either}
 use Rattle.atomic_table.specs.Table.{State, keeps, stepped, Allows, Splits, Joins}
 use Rattle.atomic_table.proofs.Lists.{at_set, at_snoc, set_else, exchanged as by_exchange}
-use Rattle.zdd_words.specs.Word.{home_of, home_of-below}
-use Rattle.zdd_families.specs.Map.{IsNode, Grown, IsNode-grown}
+use Rattle.zdd_words.specs.Word.{home_of}
+use Rattle.zdd_words.proofs.WordLemmas.{home_of-below}
+use Rattle.zdd_families.specs.Map.{IsNode, Grown}
+use Rattle.zdd_families.proofs.MapLemmas.{IsNode-grown}
 use Rattle.zdd_shared_table.specs.Known.{find, placed}
 use Rattle.zdd_shared_table.specs.Views.{spent, learned, filled, searching, searched_all, passed_on, loaded, exchanged}
 use Rattle.zdd_shared_table.specs.Views.{kept_back, split_off, joined}

@@ -3,10 +3,11 @@ use Rattle.std.proofs.Common.{◌≡◌, ◌≢◌, ℕ, ◌+◌, ◌<◌, ◌==
 use Rattle.std.proofs.Common.{Contains, ⊎_elim, if◌then◌else◌, eq-eqb, ne_eqb}
 use Rattle.std.proofs.lemmas.List.Elements.{Contains-append_left, Contains-append_right, Contains-append_cases}
 use Rattle.std.proofs.lemmas.List.Elements.{Contains-push, Contains-push_cases}
-use Rattle.unit_sets.specs.Sorted.{Contains-nil}
+use Rattle.unit_sets.proofs.Sorted.{Contains-nil}
 use mathlib.Core.Logic.{dite}
 use native.Mathlib.Decide.{dec_lt, ℕ_discrete}
-use Rattle.zdd_families.specs.Map.{IsNode, Grown, IsNode-grown}
+use Rattle.zdd_families.specs.Map.{IsNode, Grown}
+use Rattle.zdd_families.proofs.MapLemmas.{IsNode-grown}
 use Rattle.zdd_shared_table.specs.Known.{find, placed}
 use Rattle.zdd_shared_table.specs.Views.{spent, learned, filled, searching, searched_all, passed_on, kept_back}
 use Rattle.zdd_shared_table.specs.Views.{split_off, joined}

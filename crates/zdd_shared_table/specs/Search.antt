@@ -1,10 +1,10 @@
 -- A search for a word in the table: from its home slot by slot, round the end.
-use Rattle.std.specs.Prelude.{◌≡◌, ℕ, ◌+◌, ◌<◌, ◌≤◌, ◌^◌, ◌==◌, ◌⊎◌, if◌then◌else◌}
+use Rattle.std.specs.Prelude.{◌≡◌, ℕ, ◌+◌, ◌<◌, ◌≤◌, ◌^◌, ◌⊎◌}
 use Rattle.atomic_table.specs.declared.shared.Seat.{Seat}
 use Rattle.zdd_words.specs.Word.{home_of}
 use Rattle.zdd_families.specs.Map.{IsNode}
 use Rattle.zdd_shared_table.specs.Known.{find}
-use Rattle.zdd_shared_table.specs.Views.{learned, filled, searching, searched_all}
+use Rattle.zdd_shared_table.specs.Views.{learned, filled}
 use Rattle.zdd_shared_table.specs.Rule.{round}
 use Rattle.zdd_shared_table.specs.declared.view.View.{View}
 
@@ -16,11 +16,6 @@ pub record IsSearch (bits : ℕ) (v : View) (word before slot : ℕ) : Type 0 wh
   pub inside : before < 2 ^ bits
   pub here : slot ≡ round (2 ^ bits) (home_of word bits + before)
   pub goes_on : (before ≡ 0) ⊎ (v.probe ≡ record { word = word; passed = before })
-
--- the view of a seat whose search has passed some slots
-abbrev pub after_passing : ℕ → ℕ → View → View
-after_passing word passed v =
-    if passed == 0 then v else (if passed == v.size then searched_all word v else searching word passed v)
 
 -- the search ended at a slot that holds the word, which the seat may have filled
 abbrev pub HasEnded : ℕ → ℕ → View → View → Type 0

@@ -1,5 +1,5 @@
 use Rattle.std.proofs.Common.{length, refl}
-use Rattle.flat_rows.specs.Rows.{row_at, Rise-at}
+use Rattle.flat_rows.proofs.RowsLemmas.{row_at, Rise-at}
 use Rattle.flat_rows.proofs.part.Goals as goal
 
 pub cut-requires-clause-order : goal.cut-requires-clause-order

@@ -1,6 +1,6 @@
 use Rattle.std.proofs.Common.{sym, subst}
 use Rattle.zdd_families.specs.Family.{IsAbove}
-use Rattle.zdd_families.specs.Map.{family-empty, family-unit}
+use Rattle.zdd_families.proofs.MapLemmas.{family-empty, family-unit}
 use Rattle.zdd_shared_table.specs.Seats.{map_of}
 use Rattle.worked_stores.proofs.fill_one.Goals as goal
 

@@ -1,4 +1,4 @@
-use Rattle.std.proofs.Common.{◌≤◌, ℕ, List, All, length, sym, subst}
+use Rattle.std.proofs.Common.{◌≤◌, ◌∙◌, ℕ, List, All, ap, length, sym, subst}
 use Rattle.std.proofs.lemmas.List.{length-map}
 use Rattle.std.proofs.lemmas.Result.{IfOk-weaker}
 use Rattle.cut_sequences.specs.declared.share.Work.{Work}
@@ -20,3 +20,9 @@ returns-clause-shares g c =
     (sym (length-map c.args.cuts.now (orders_of c.args.tree.now c.args.most))) c.in_ok-all_rounds.ensures.done in
     IfOk-weaker c.shares_of.result _ _ (λ shares is.
     shares_at_end lists works shares.items c.in_ok-all_rounds.ensures.at_work done is) c.shares_of.ensures.shares
+
+pub returns-clause-workers : goal.returns-clause-workers
+returns-clause-workers g c =
+    IfOk-weaker c.shares_of.result _ _ (λ shares is.
+    ap length is ∙ length-map c.in_ok-all_rounds.field-0.items (λ (work : Work). work.share)
+    ∙ c.in_ok-all_rounds.ensures.workers ∙ c.in_ok-works.ensures.workers) c.shares_of.ensures.shares

@@ -1,4 +1,5 @@
-use Rattle.std.proofs.Common.{◌≡◌, ◌∙◌, List, ap, arith}
+use Rattle.std.proofs.Common.{◌≡◌, ◌∙◌, List, Ok, ap, arith, length, sym}
+use Rattle.std.proofs.lemmas.List.{length-map}
 use Rattle.std.specs.List.{sum_by}
 use Rattle.std.proofs.lemmas.Result.{err_from_is_err_and}
 use Rattle.cut_sequences.specs.declared.share.Work.{Work}
@@ -41,3 +42,8 @@ returns-clause-stopped g c =
     c.in_ok-answers_of.field-0.items c.requires.at_work c.in_ok-answers_of.ensures.all
     c.in_ok-answers_of.ensures.each
     c.in_ok-works.works.items c.in_ok-works.ensures.works
+
+pub returns-clause-workers : goal.returns-clause-workers
+returns-clause-workers g c =
+    sym (length-map c.in_ok-works.works.items Ok) ∙ ap length (sym c.in_ok-works.ensures.works)
+    ∙ c.in_ok-answers_of.ensures.all

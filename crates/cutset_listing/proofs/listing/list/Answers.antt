@@ -2,7 +2,7 @@ use Rattle.std.proofs.Common.{◌≡◌, ◌<◌, sym, subst, arith}
 use Rattle.std.proofs.lemmas.Result.{IfOk-weaker}
 use Rattle.unit_sets.specs.CutOrder.{weight, weight_limit}
 use Rattle.zdd_families.specs.Map.{family}
-use Rattle.zdd_families.specs.Canonical.{IsFamily-family}
+use Rattle.zdd_families.proofs.Canonical.{IsFamily-family}
 use Rattle.zdd_shared_table.specs.Seats.{map_of}
 use Rattle.cutset_listing.specs.BySize.{joined}
 use Rattle.cutset_listing.specs.Listing.{HasSetsOf}

@@ -1,6 +1,6 @@
 use Rattle.std.proofs.Common.{◌≡◌, ◌≤◌, ◌+◌, ◌-◌, length}
 use Rattle.zdd_shared_table.specs.Seats.{map_of}
-use Rattle.cutset_listing.specs.Nodes.{HasMet}
+use Rattle.cutset_listing.proofs.NodesLemmas.{HasMet}
 use Rattle.cutset_listing.proofs.nodes.node_count.Given as goal
 
 abbrev pub invariant-loop-place : goal.invariant-loop-place

@@ -4,10 +4,10 @@ use Rattle.cutset_lists.proofs.combine.add_all_unions.Goals as goal
 
 pub loop-i-preserved : goal.loop-i-preserved
 loop-i-preserved c = record {
-  hits =
+  some_within =
       AddsBoth-step c.row.result.now c.args.left.now c.args.right.now c.args.sets.now c.loop-i.sets
-      c.add_unions.new.sets c.loop-i.i (omega arith) c.row.ensures c.loop-i.invariant.hits
-      c.in_ok-add_unions.ensures.hits;
+      c.add_unions.new.sets c.loop-i.i (omega arith) c.row.ensures c.loop-i.invariant.some_within
+      c.in_ok-add_unions.ensures.within;
   sets =
       AddsSetsOf-step c.row.result.now c.args.left.now c.args.right.now c.args.sets.now c.loop-i.sets
       c.add_unions.new.sets c.loop-i.i (omega arith) c.row.ensures c.loop-i.invariant.sets

@@ -5,6 +5,6 @@ use Rattle.cutset_lists.proofs.combine.add_all_unions.Given as goal
 abbrev pub invariant-loop-i : goal.invariant-loop-i
 invariant-loop-i l =
     record {
-      hits : AddsBoth (take l.i l.left) l.right l.initial.sets l.sets;
+      some_within : AddsBoth (take l.i l.left) l.right l.initial.sets l.sets;
       sets : AddsSetsOf l.left l.right l.initial.sets l.sets;
     }

@@ -9,5 +9,5 @@ pub loop-node-preserved : goal.loop-node-preserved
 loop-node-preserved c =
     each-step c.args.lists.now c.args.nodes.now c.loop-node.node-index c.node-item.result c.index.result
     c.index-lists-index.result (omega arith) c.node-item.is c.requires c.index.ensures c.index-lists-index.is
-    c.loop-node.sets c.in_ok-both.both c.in_ok-sets-2.sets c.in_ok-both.ensures.hits c.in_ok-both.ensures.sets
+    c.loop-node.sets c.in_ok-both.both c.in_ok-sets-2.sets c.in_ok-both.ensures.within c.in_ok-both.ensures.sets
     c.in_ok-sets-2.ensures c.loop-node.invariant

@@ -1,10 +1,10 @@
-use Rattle.cutset_lists.proofs.SetLemmas.{HitsBoth-alone, AreSetsAs-alone}
+use Rattle.cutset_lists.proofs.SetLemmas.{WithinBoth-alone, AreSetsAs-alone}
 use Rattle.cutset_lists.proofs.product.product.Goals as goal
 
-pub returns-clause-hits : goal.returns-clause-hits
-returns-clause-hits c =
-    HitsBoth-alone c.args.left.now c.args.right.now c.new-sets.result c.add_product.new.sets c.new-sets.ensures
-    c.in_ok-add_product.ensures.hits
+pub returns-clause-within : goal.returns-clause-within
+returns-clause-within c =
+    WithinBoth-alone c.args.left.now c.args.right.now c.new-sets.result c.add_product.new.sets c.new-sets.ensures
+    c.in_ok-add_product.ensures.within
 
 pub returns-clause-sets : goal.returns-clause-sets
 returns-clause-sets c =

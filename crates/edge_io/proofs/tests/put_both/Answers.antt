@@ -1,5 +1,5 @@
 use Rattle.std.proofs.Common.{◌≡◌, arith}
-use Rattle.edge_io.specs.Out.{Puts-trans, Puts-finished}
+use Rattle.edge_io.proofs.OutLemmas.{Puts-trans, Puts-finished}
 use Rattle.edge_io.proofs.tests.put_both.Goals as goal
 
 pub returns : goal.returns

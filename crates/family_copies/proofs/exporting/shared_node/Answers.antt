@@ -4,7 +4,7 @@ use Rattle.zdd_families.specs.Family.{branch}
 use Rattle.zdd_families.specs.Map.{Knows, family}
 use Rattle.zdd_shared_table.specs.Seats.{map_of}
 use Rattle.zdd_product.specs.Seats.{word_family}
-use Rattle.zdd_product.specs.After.{stays, node_made, word_family-packed}
+use Rattle.zdd_product.proofs.After.{stays, node_made, word_family-packed}
 use Rattle.family_copies.proofs.exporting.shared_node.Goals as goal
 
 pub returns : goal.returns

@@ -3,7 +3,7 @@ use Rattle.std.proofs.lemmas.Result.{err_from_is_err_and}
 use Rattle.zdd_families.specs.Map.{Knows, family}
 use Rattle.family_parts.specs.Antichains.{IsAntichain}
 use Rattle.family_memory.specs.Memory.{Gave}
-use Rattle.family_memory.specs.After.{RanOut-then}
+use Rattle.family_memory.proofs.After.{RanOut-then}
 use Rattle.zdd_shared_table.specs.Seats.{Seated, map_of}
 use Rattle.family_copies.specs.Copies.{AreCopies}
 use Rattle.family_copies.proofs.Parting.{levels_above}

@@ -1,4 +1,4 @@
-use Rattle.family_operations.specs.Product.{product-none, product-with_none, product-unit, product-with_unit}
+use Rattle.family_operations.proofs.ProductLemmas.{product-none, product-with_none, product-unit, product-with_unit}
 use Rattle.family_operations.proofs.laws.ends_of_products.Goals as goal
 
 pub returns-clause-none : goal.returns-clause-none

@@ -1,4 +1,4 @@
-use Rattle.family_operations.specs.Union.{union-none, union-with_none, union-itself}
+use Rattle.family_operations.proofs.UnionLemmas.{union-none, union-with_none, union-itself}
 use Rattle.family_operations.proofs.laws.ends_of_unions.Goals as goal
 
 pub returns-clause-none : goal.returns-clause-none

@@ -1,5 +1,5 @@
-use Rattle.family_operations.specs.Without.{without-none, without-nothing, without-unit, unit-without}
-use Rattle.family_operations.specs.Without.{unit-without_other}
+use Rattle.family_operations.proofs.WithoutLemmas.{without-none, without-nothing, without-unit, unit-without}
+use Rattle.family_operations.proofs.WithoutLemmas.{unit-without_other}
 use Rattle.family_operations.proofs.laws.ends_of_withouts.Goals as goal
 
 pub returns-clause-none : goal.returns-clause-none

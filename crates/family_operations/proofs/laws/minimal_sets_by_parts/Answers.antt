@@ -1,4 +1,4 @@
-use Rattle.family_operations.specs.Minimal.{minimal-none, minimal-unit, minimal-step}
+use Rattle.family_operations.proofs.MinimalLemmas.{minimal-none, minimal-unit, minimal-step}
 use Rattle.family_operations.proofs.laws.minimal_sets_by_parts.Goals as goal
 
 pub returns-clause-none : goal.returns-clause-none

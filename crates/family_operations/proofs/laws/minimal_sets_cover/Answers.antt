@@ -1,4 +1,4 @@
-use Rattle.family_operations.specs.Minimal.{minimal-covers}
+use Rattle.family_operations.proofs.MinimalLemmas.{minimal-covers}
 use Rattle.family_operations.proofs.laws.minimal_sets_cover.Goals as goal
 
 pub returns : goal.returns

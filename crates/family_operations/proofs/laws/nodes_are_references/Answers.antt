@@ -1,4 +1,4 @@
-use Rattle.family_operations.specs.Nodes.{node_count-references}
+use Rattle.family_operations.proofs.NodesLemmas.{node_count-references}
 use Rattle.family_operations.proofs.laws.nodes_are_references.Goals as goal
 
 pub returns : goal.returns

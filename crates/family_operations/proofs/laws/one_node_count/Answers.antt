@@ -1,4 +1,4 @@
-use Rattle.family_operations.specs.Nodes.{node_count-one}
+use Rattle.family_operations.proofs.NodesLemmas.{node_count-one}
 use Rattle.family_operations.proofs.laws.one_node_count.Goals as goal
 
 pub returns : goal.returns

@@ -1,8 +1,8 @@
-use Rattle.family_operations.specs.Union.{union-one}
-use Rattle.family_operations.specs.Product.{product-one}
-use Rattle.family_operations.specs.Without.{without-one}
-use Rattle.family_operations.specs.Minimal.{minimal-one}
-use Rattle.family_operations.specs.Votes.{votes-one}
+use Rattle.family_operations.proofs.UnionLemmas.{union-one}
+use Rattle.family_operations.proofs.ProductLemmas.{product-one}
+use Rattle.family_operations.proofs.WithoutLemmas.{without-one}
+use Rattle.family_operations.proofs.MinimalLemmas.{minimal-one}
+use Rattle.family_operations.proofs.VotesLemmas.{votes-one}
 use Rattle.family_operations.proofs.laws.one_result.Goals as goal
 
 pub returns-clause-union : goal.returns-clause-union

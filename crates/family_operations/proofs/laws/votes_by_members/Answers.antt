@@ -1,4 +1,4 @@
-use Rattle.family_operations.specs.Votes.{no_votes, no_more_votes, votes-none_step, votes-step}
+use Rattle.family_operations.proofs.VotesLemmas.{no_votes, no_more_votes, votes-none_step, votes-step}
 use Rattle.family_operations.proofs.laws.votes_by_members.Goals as goal
 
 pub returns-clause-no_votes : goal.returns-clause-no_votes

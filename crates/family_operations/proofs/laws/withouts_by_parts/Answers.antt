@@ -1,4 +1,4 @@
-use Rattle.family_operations.specs.Without.{without-step, without-lower}
+use Rattle.family_operations.proofs.WithoutLemmas.{without-step, without-lower}
 use Rattle.family_operations.proofs.laws.withouts_by_parts.Goals as goal
 
 pub returns-clause-both : goal.returns-clause-both

@@ -1,4 +1,4 @@
-use Rattle.family_parts.specs.Parts.{inner-from_split}
+use Rattle.family_parts.proofs.Parts.{inner-from_split}
 use Rattle.family_parts.proofs.laws.families_that_split_are_inner.Goals as goal
 
 pub returns : goal.returns

@@ -1,10 +1,10 @@
 use Rattle.family_operations.specs.Due.{IsDueToUnion, IsDueToProduct}
-use Rattle.family_parts.specs.Parts.{origin-cases}
-use Rattle.family_parts.specs.UnionParts.{union-parts}
-use Rattle.family_parts.specs.ProductParts.{product-parts}
-use Rattle.family_parts.specs.WithoutParts.{without-parts}
-use Rattle.family_parts.specs.MinimalParts.{minimal-parts}
-use Rattle.family_parts.specs.VotesParts.{votes-parts}
+use Rattle.family_parts.proofs.Parts.{origin-cases}
+use Rattle.family_parts.proofs.UnionParts.{union-parts}
+use Rattle.family_parts.proofs.ProductParts.{product-parts}
+use Rattle.family_parts.proofs.WithoutParts.{without-parts}
+use Rattle.family_parts.proofs.MinimalParts.{minimal-parts}
+use Rattle.family_parts.proofs.VotesPartsLemmas.{votes-parts}
 use Rattle.family_parts.proofs.laws.parts_of_results.Goals as goal
 
 pub returns-clause-union : goal.returns-clause-union

@@ -1,8 +1,8 @@
-use Rattle.family_parts.specs.UnionParts.{union-exists}
-use Rattle.family_parts.specs.ProductParts.{product-exists}
-use Rattle.family_parts.specs.WithoutParts.{without-exists}
-use Rattle.family_parts.specs.MinimalParts.{minimal-exists}
-use Rattle.family_parts.specs.VotesParts.{votes-exist}
+use Rattle.family_parts.proofs.UnionParts.{union-exists}
+use Rattle.family_parts.proofs.ProductParts.{product-exists}
+use Rattle.family_parts.proofs.WithoutParts.{without-exists}
+use Rattle.family_parts.proofs.MinimalParts.{minimal-exists}
+use Rattle.family_parts.proofs.VotesPartsLemmas.{votes-exist}
 use Rattle.family_parts.proofs.laws.results_exist.Goals as goal
 
 pub returns-clause-union : goal.returns-clause-union

@@ -1,5 +1,5 @@
 use Rattle.unit_sets.specs.UnitList.{among}
-use Rattle.fault_model.specs.ReadingLaws.{reads-full}
+use Rattle.fault_model.proofs.ReadingLaws.{reads-full}
 use Rattle.fault_model.proofs.laws.all_units_are_a_cut.Goals as goal
 
 pub returns : goal.returns

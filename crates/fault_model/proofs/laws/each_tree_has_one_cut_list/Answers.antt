@@ -1,5 +1,5 @@
-use Rattle.fault_model.specs.CutLaws.{same_cut_list}
-use Rattle.fault_model.specs.CutLists.{has_cut_list}
+use Rattle.fault_model.proofs.CutLaws.{same_cut_list}
+use Rattle.fault_model.proofs.CutLists.{has_cut_list}
 use Rattle.fault_model.proofs.laws.each_tree_has_one_cut_list.Goals as goal
 
 pub returns-clause-one : goal.returns-clause-one

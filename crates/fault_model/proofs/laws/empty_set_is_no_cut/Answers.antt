@@ -1,6 +1,6 @@
 use Rattle.std.proofs.Common.{refl, []}
 use Rattle.unit_sets.specs.UnitList.{among}
-use Rattle.fault_model.specs.ReadingLaws.{reads-empty}
+use Rattle.fault_model.proofs.ReadingLaws.{reads-empty}
 use Rattle.fault_model.proofs.laws.empty_set_is_no_cut.Goals as goal
 
 pub returns : goal.returns

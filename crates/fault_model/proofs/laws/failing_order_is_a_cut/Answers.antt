@@ -2,7 +2,7 @@ use Rattle.std.specs.Prelude.{is_some}
 use Rattle.std.proofs.lemmas.Bool.{and_parts}
 use Rattle.fault_model.specs.FailingOrder.{is_admissible}
 use Rattle.fault_model.specs.Step.{step}
-use Rattle.fault_model.specs.StepLaws.{step-reads}
+use Rattle.fault_model.proofs.StepLaws.{step-reads}
 use Rattle.fault_model.proofs.laws.failing_order_is_a_cut.Goals as goal
 
 pub returns-clause-step : goal.returns-clause-step

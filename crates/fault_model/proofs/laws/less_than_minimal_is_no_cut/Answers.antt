@@ -1,4 +1,4 @@
-use Rattle.fault_model.specs.CutLaws.{smaller_fails_not}
+use Rattle.fault_model.proofs.CutLaws.{smaller_fails_not}
 use Rattle.fault_model.proofs.laws.less_than_minimal_is_no_cut.Goals as goal
 
 pub returns : goal.returns

@@ -1,4 +1,4 @@
-use Rattle.fault_model.specs.ReadingLaws.{reads-node}
+use Rattle.fault_model.proofs.ReadingLaws.{reads-node}
 use Rattle.fault_model.proofs.laws.reading_by_inputs.Goals as goal
 
 pub returns : goal.returns

@@ -1,4 +1,4 @@
-use Rattle.fault_model.specs.ReadingLaws.{reads-rises}
+use Rattle.fault_model.proofs.ReadingLaws.{reads-rises}
 use Rattle.fault_model.proofs.laws.reading_is_monotone.Goals as goal
 
 pub returns : goal.returns

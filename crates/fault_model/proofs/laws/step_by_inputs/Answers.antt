@@ -1,4 +1,4 @@
-use Rattle.fault_model.specs.StepLaws.{step-node}
+use Rattle.fault_model.proofs.StepLaws.{step-node}
 use Rattle.fault_model.proofs.laws.step_by_inputs.Goals as goal
 
 pub returns : goal.returns

@@ -1,5 +1,5 @@
 use Rattle.std.proofs.Common.{arith}
-use Rattle.flat_rows.specs.Rows.{length-rows_from}
+use Rattle.flat_rows.proofs.RowsLemmas.{length-rows_from}
 use Rattle.flat_rows.proofs.Rows.is_empty.Goals as goal
 
 pub returns : goal.returns

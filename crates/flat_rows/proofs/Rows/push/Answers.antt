@@ -1,6 +1,6 @@
 use Rattle.std.proofs.Common.{arith, length}
 use Rattle.std.proofs.lemmas.Grind.{common_steps}
-use Rattle.flat_rows.specs.Rows.{Rise-push, rows_from-push}
+use Rattle.flat_rows.proofs.RowsLemmas.{Rise-push, rows_from-push}
 use Rattle.flat_rows.proofs.Rows.push.Goals as goal
 
 pub invariant_of-self-2 : goal.invariant_of-self-2

@@ -1,5 +1,5 @@
 use Rattle.std.proofs.Common.{arith}
-use Rattle.flat_rows.specs.Rows.{length-rows_from}
+use Rattle.flat_rows.proofs.RowsLemmas.{length-rows_from}
 use Rattle.flat_rows.proofs.Rows.row.Goals as goal
 
 pub part-requires-clause-within : goal.part-requires-clause-within

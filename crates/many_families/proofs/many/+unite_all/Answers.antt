@@ -3,7 +3,7 @@ use Rattle.std.proofs.lemmas.Result.{err_from_is_err_and}
 use Rattle.minimal_families.specs.Least.{IsLeastOfAll, IsLeastUnion}
 use Rattle.family_memory.specs.Memory.{Gave, family_in}
 use Rattle.many_families.specs.Lists.{families}
-use Rattle.family_memory.specs.After.{RanOut-then, answers_of}
+use Rattle.family_memory.proofs.After.{RanOut-then, answers_of}
 use Rattle.many_families.proofs.Lists.{few_united}
 use Rattle.many_families.proofs.ManySteps.{halves_united, rest_from}
 use Rattle.many_families.proofs.many.+unite_all.Goals as goal

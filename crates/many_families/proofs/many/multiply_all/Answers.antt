@@ -1,7 +1,7 @@
 use Rattle.std.proofs.Common.{◌≡◌, get_or, arith}
 use Rattle.std.proofs.lemmas.List.{get_or_read}
 use Rattle.std.proofs.lemmas.Result.{err_from_is_err_and}
-use Rattle.family_memory.specs.After.{RanOut-then, Went-nowhere}
+use Rattle.family_memory.proofs.After.{RanOut-then, Went-nowhere}
 use Rattle.many_families.proofs.Lists.{product_begun}
 use Rattle.many_families.proofs.ManySteps.{multiplied_more, still_member}
 use Rattle.many_families.proofs.many.multiply_all.Goals as goal

@@ -1,7 +1,7 @@
 use Rattle.minimal_families.specs.Least.{IsLeastUnion}
 use Rattle.family_memory.specs.Memory.{family_in}
 use Rattle.std.proofs.lemmas.Result.{err_from_is_err_and}
-use Rattle.family_memory.specs.After.{RanOut-then, answers_of}
+use Rattle.family_memory.proofs.After.{RanOut-then, answers_of}
 use Rattle.many_families.proofs.SplitSteps.{went2, went3, split_multiplied}
 use Rattle.many_families.proofs.splitting.multiply_rests.Goals as goal
 

@@ -1,5 +1,5 @@
 use Rattle.std.proofs.lemmas.Result.{err_from_is_err_and}
-use Rattle.family_memory.specs.After.{RanOut-then}
+use Rattle.family_memory.proofs.After.{RanOut-then}
 use Rattle.many_families.proofs.SplitSteps.{has_rest, rest_is, other_is, rests_multiplied}
 use Rattle.many_families.proofs.splitting.multiply_split.Goals as goal
 

@@ -1,6 +1,6 @@
 use Rattle.std.proofs.Common.{◌≡◌, get_or, arith}
 use Rattle.std.proofs.lemmas.List.{get_or_read}
-use Rattle.family_memory.specs.After.{Went-nowhere, Went-then}
+use Rattle.family_memory.proofs.After.{Went-nowhere, Went-then}
 use Rattle.many_families.proofs.VoteSteps.{voter_begins, voter_stays, voting_begins}
 use Rattle.many_families.proofs.votes.vote.Goals as goal
 

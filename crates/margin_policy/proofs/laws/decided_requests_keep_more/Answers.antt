@@ -1,4 +1,4 @@
-use Rattle.margin_policy.specs.Guard.{decided_keeps_more}
+use Rattle.margin_policy.proofs.GuardLemmas.{decided_keeps_more}
 use Rattle.margin_policy.proofs.laws.decided_requests_keep_more.Goals as goal
 
 pub returns : goal.returns

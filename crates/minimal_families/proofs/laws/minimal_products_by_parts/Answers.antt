@@ -1,4 +1,5 @@
-use Rattle.minimal_families.specs.Steps.{least_product-both, least_product-first, least_product-rest, least_sides}
+use Rattle.minimal_families.proofs.StepsLemmas.{least_product-both, least_product-first, least_product-rest}
+use Rattle.minimal_families.proofs.StepsLemmas.{least_sides}
 use Rattle.minimal_families.proofs.laws.minimal_products_by_parts.Goals as goal
 
 pub returns-clause-both : goal.returns-clause-both

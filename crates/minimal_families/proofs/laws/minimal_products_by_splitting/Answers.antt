@@ -1,4 +1,4 @@
-use Rattle.minimal_families.specs.Splitting.{least_product-split}
+use Rattle.minimal_families.proofs.Splitting.{least_product-split}
 use Rattle.minimal_families.proofs.laws.minimal_products_by_splitting.Goals as goal
 
 pub returns : goal.returns

@@ -1,4 +1,4 @@
-use Rattle.minimal_families.specs.Many.{least_of_both, product_of_more, votes_of_more}
+use Rattle.minimal_families.proofs.Many.{least_of_both, product_of_more, votes_of_more}
 use Rattle.minimal_families.proofs.laws.minimal_sets_of_many.Goals as goal
 
 pub returns-clause-unions : goal.returns-clause-unions

@@ -1,4 +1,4 @@
-use Rattle.minimal_families.specs.Least.{least-union, least-product, least-votes}
+use Rattle.minimal_families.proofs.LeastLemmas.{least-union, least-product, least-votes}
 use Rattle.minimal_families.proofs.laws.minimal_sets_of_results.Goals as goal
 
 pub returns-clause-union : goal.returns-clause-union

@@ -1,4 +1,4 @@
-use Rattle.minimal_families.specs.Steps.{least_union-both, least_union-first, least_union-rest}
+use Rattle.minimal_families.proofs.StepsLemmas.{least_union-both, least_union-first, least_union-rest}
 use Rattle.minimal_families.proofs.laws.minimal_unions_by_parts.Goals as goal
 
 pub returns-clause-both : goal.returns-clause-both

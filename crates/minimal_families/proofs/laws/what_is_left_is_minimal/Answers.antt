@@ -1,4 +1,4 @@
-use Rattle.minimal_families.specs.Nodes.{antichain-without}
+use Rattle.minimal_families.proofs.NodesLemmas.{antichain-without}
 use Rattle.minimal_families.proofs.laws.what_is_left_is_minimal.Goals as goal
 
 pub returns : goal.returns

@@ -3,7 +3,7 @@ use Rattle.std.proofs.lemmas.List.{get_or_read, length_push}
 use Rattle.fault_model.specs.CutFamily.{IsCutFamily}
 use Rattle.fault_model.specs.Trigger.{below}
 use Rattle.family_memory.specs.Memory.{Has, Gave, family_in}
-use Rattle.family_memory.specs.After.{Went-then}
+use Rattle.family_memory.proofs.After.{Went-then}
 use Rattle.many_families.specs.Lists.{families}
 use Rattle.tree_families.specs.Recipe.{StandFor}
 use Rattle.minimal_nodes_tests.proofs.Reading.{AreRead, read_has, read_more, read_stand, some_of}

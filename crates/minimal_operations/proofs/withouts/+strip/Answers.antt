@@ -2,7 +2,7 @@ use Rattle.std.proofs.Common.{ℕ, ◌<◌, List, subst, sym, arith}
 use Rattle.std.proofs.lemmas.Result.{err_from_is_err_and}
 use Rattle.family_operations.specs.Without.{IsWithout}
 use Rattle.family_memory.specs.Memory.{Held, Gave, family_in}
-use Rattle.family_memory.specs.After.{Gave-there, Gave-then, RanOut-then, Went-nowhere}
+use Rattle.family_memory.proofs.After.{Gave-there, Gave-then, RanOut-then, Went-nowhere}
 use Rattle.family_memory.specs.declared.answers.Operation.TheVariants.{Without}
 use Rattle.minimal_operations.proofs.Ends.{without_ends}
 use Rattle.minimal_operations.proofs.Telling.{told_made}

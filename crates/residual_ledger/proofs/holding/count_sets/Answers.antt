@@ -1,9 +1,9 @@
 use Rattle.std.proofs.Common.{◌≡◌, ◌+◌, ℕ, List, length, replicate, take, drop, take_at, ◌++◌, rules, subst, sym, arith}
 use Rattle.std.proofs.lemmas.List.{length-replicate}
-use Rattle.unit_sets.specs.CutOrder.{cut_at as set_at}
+use Rattle.unit_sets.proofs.CutOrderLemmas.{cut_at as set_at}
 use Rattle.residual_ledger.specs.Kept.{IsOneMore}
 use Rattle.residual_ledger.proofs.CutLemmas.{cut_at-is}
-use Rattle.residual_ledger.specs.Ledger.{few_cuts}
+use Rattle.residual_ledger.proofs.LedgerFacts.{few_cuts}
 use Rattle.residual_ledger.proofs.FillingLemmas.{IsCountingFor, counting-first, counting-le, counting_for-more}
 use Rattle.residual_ledger.proofs.FillingLemmas.{known_members}
 use Rattle.residual_ledger.proofs.holding.count_sets.Goals as goal

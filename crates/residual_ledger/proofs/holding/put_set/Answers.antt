@@ -1,5 +1,5 @@
 use Rattle.std.proofs.Common.{◌≡◌, ◌<◌, ℕ, All, get_or, length, subst, sym, arith}
-use Rattle.unit_sets.specs.CutOrder.{cut_at as set_at}
+use Rattle.unit_sets.proofs.CutOrderLemmas.{cut_at as set_at}
 use Rattle.residual_ledger.specs.Residual.{cut_at}
 use Rattle.residual_ledger.proofs.FillingLemmas.{IsTurn, turn, turn-known, turn-slot, turn-more, turn-last}
 use Rattle.residual_ledger.proofs.holding.put_set.Goals as goal

@@ -1,5 +1,5 @@
 use Rattle.std.proofs.Common.{arith}
-use Rattle.residual_ledger.specs.Ledger.{few_cuts}
+use Rattle.residual_ledger.proofs.LedgerFacts.{few_cuts}
 use Rattle.residual_ledger.proofs.holding.put_sets.Goals as goal
 
 pub overflow_cast-sets : goal.overflow_cast-sets

@@ -1,4 +1,4 @@
-use Rattle.residual_ledger.specs.Residual.{residual-alike}
+use Rattle.residual_ledger.proofs.ResidualFacts.{residual-alike}
 use Rattle.residual_ledger.proofs.laws.residual_goes_by_members.Goals as goal
 
 pub returns : goal.returns

@@ -1,4 +1,4 @@
-use Rattle.tree_check.specs.OneTree.{same_tree}
+use Rattle.tree_check.proofs.OneTree.{same_tree}
 use Rattle.tree_check.proofs.laws.statements_have_one_tree.Goals as goal
 
 pub returns : goal.returns

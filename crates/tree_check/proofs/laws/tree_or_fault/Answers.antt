@@ -1,4 +1,4 @@
-use Rattle.tree_check.specs.OneFault.{no_fault}
+use Rattle.tree_check.proofs.OneFault.{no_fault}
 use Rattle.tree_check.proofs.laws.tree_or_fault.Goals as goal
 
 pub returns : goal.returns

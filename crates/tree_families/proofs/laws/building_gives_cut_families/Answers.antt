@@ -1,4 +1,4 @@
-use Rattle.tree_families.specs.Building.{gate-cut_family, unit-cut_family, recipe-generates}
+use Rattle.tree_families.proofs.Building.{gate-cut_family, unit-cut_family, recipe-generates}
 use Rattle.tree_families.proofs.laws.building_gives_cut_families.Goals as goal
 
 pub returns-clause-unit : goal.returns-clause-unit

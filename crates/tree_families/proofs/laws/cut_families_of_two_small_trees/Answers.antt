@@ -1,4 +1,4 @@
-use Rattle.tree_families.specs.Examples.{two_of_three-top, superset_absorbed-top, superset_absorbed-gate}
+use Rattle.tree_families.proofs.ExamplesLemmas.{two_of_three-top, superset_absorbed-top, superset_absorbed-gate}
 use Rattle.tree_families.proofs.laws.cut_families_of_two_small_trees.Goals as goal
 
 pub returns-clause-votes : goal.returns-clause-votes

@@ -1,4 +1,4 @@
-use Rattle.tree_families.specs.TreeParts.{has_cut_family}
+use Rattle.tree_families.proofs.TreeParts.{has_cut_family}
 use Rattle.tree_families.proofs.laws.each_node_has_a_cut_family.Goals as goal
 
 pub returns : goal.returns

@@ -1,5 +1,5 @@
 use Rattle.fault_model.specs.CutFamily.{IsCutFamily}
-use Rattle.tree_families.specs.Building.{StandFor-table}
+use Rattle.tree_families.proofs.Building.{StandFor-table}
 use Rattle.tree_families.proofs.laws.families_from_a_table.Goals as goal
 
 pub returns : goal.returns

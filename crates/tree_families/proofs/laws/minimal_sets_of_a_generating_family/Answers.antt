@@ -1,4 +1,4 @@
-use Rattle.tree_families.specs.CutFamilies.{cut_family-minimal, Generates-minimal}
+use Rattle.tree_families.proofs.CutFamilies.{cut_family-minimal, Generates-minimal}
 use Rattle.tree_families.proofs.laws.minimal_sets_of_a_generating_family.Goals as goal
 
 pub returns-clause-cut_family : goal.returns-clause-cut_family

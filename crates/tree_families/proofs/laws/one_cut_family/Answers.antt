@@ -1,4 +1,4 @@
-use Rattle.tree_families.specs.CutFamilies.{cut_family-one}
+use Rattle.tree_families.proofs.CutFamilies.{cut_family-one}
 use Rattle.tree_families.proofs.laws.one_cut_family.Goals as goal
 
 pub returns : goal.returns

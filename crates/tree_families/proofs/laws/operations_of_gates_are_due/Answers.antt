@@ -1,4 +1,4 @@
-use Rattle.tree_families.specs.NodeSteps.{or_union-due, all_product-due, all_minimal-due, votes-due, gate_minimal-due}
+use Rattle.tree_families.proofs.NodeSteps.{or_union-due, all_product-due, all_minimal-due, votes-due, gate_minimal-due}
 use Rattle.tree_families.proofs.laws.operations_of_gates_are_due.Goals as goal
 
 pub returns-clause-union : goal.returns-clause-union

@@ -1,4 +1,4 @@
-use Rattle.tree_families.specs.NodeSteps.{unit_union-due, unit_minimal-due}
+use Rattle.tree_families.proofs.NodeSteps.{unit_union-due, unit_minimal-due}
 use Rattle.tree_families.proofs.laws.operations_of_units_are_due.Goals as goal
 
 pub returns-clause-union : goal.returns-clause-union

@@ -1,4 +1,4 @@
-use Rattle.tree_families.specs.TreeParts.{cut_family-parts, recipe-made_parts}
+use Rattle.tree_families.proofs.TreeParts.{cut_family-parts, recipe-made_parts}
 use Rattle.tree_families.proofs.laws.parts_of_cut_families_are_due.Goals as goal
 
 pub returns-clause-cut_family : goal.returns-clause-cut_family

@@ -1,4 +1,4 @@
-use Rattle.tree_families.specs.DueSteps.{products-more, due-to_next_product, due-to_next_minimal}
+use Rattle.tree_families.proofs.DueSteps.{products-more, due-to_next_product, due-to_next_minimal}
 use Rattle.tree_families.proofs.laws.products_one_by_one.Goals as goal
 
 pub returns-clause-more : goal.returns-clause-more

@@ -1,4 +1,4 @@
-use Rattle.tree_families.specs.Building.{gate-due, unit-due}
+use Rattle.tree_families.proofs.Building.{gate-due, unit-due}
 use Rattle.tree_families.proofs.laws.recipes_are_due.Goals as goal
 
 pub returns-clause-unit : goal.returns-clause-unit

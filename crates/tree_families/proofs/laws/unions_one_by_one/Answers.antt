@@ -1,4 +1,4 @@
-use Rattle.tree_families.specs.DueSteps.{unions-more, due-to_next_union}
+use Rattle.tree_families.proofs.DueSteps.{unions-more, due-to_next_union}
 use Rattle.tree_families.proofs.laws.unions_one_by_one.Goals as goal
 
 pub returns-clause-more : goal.returns-clause-more

@@ -1,4 +1,5 @@
-use Rattle.unit_sets.specs.CutOrder.{cut_cmp_total, cut_cmp-same}
+use Rattle.unit_sets.specs.CutOrder.{cut_cmp_total}
+use Rattle.unit_sets.proofs.CutOrderLemmas.{cut_cmp-same}
 use Rattle.unit_sets.proofs.laws.cut_order_is_total.Goals as goal
 
 pub returns-clause-total : goal.returns-clause-total

@@ -1,4 +1,4 @@
-use Rattle.unit_sets.specs.UnitList.{same_set}
+use Rattle.unit_sets.proofs.UnitListLemmas.{same_set}
 use Rattle.unit_sets.proofs.laws.members_tell_a_set.Goals as goal
 
 pub returns : goal.returns

@@ -1,5 +1,5 @@
 use Rattle.unit_sets.specs.CutOrder.{cut_cmp_total}
-use Rattle.unit_sets.specs.Sorted.{same_from_members}
+use Rattle.unit_sets.proofs.Sorted.{same_from_members}
 use Rattle.unit_sets.proofs.laws.sets_tell_a_list.Goals as goal
 
 pub returns : goal.returns

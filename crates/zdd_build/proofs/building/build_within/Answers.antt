@@ -5,7 +5,7 @@ use Rattle.fault_model.specs.Tree.{IsNodeOf, is_fdep}
 use Rattle.tree_families.specs.Due.{IsDueToTree}
 use Rattle.zdd_shared_table.specs.Seats.{map_of}
 use Rattle.zdd_product.specs.Seats.{KnowsOne, WentAll}
-use Rattle.zdd_product.specs.Several.{WentAll-nowhere, WentAll-then}
+use Rattle.zdd_product.proofs.Several.{WentAll-nowhere, WentAll-then}
 use Rattle.zdd_build.specs.declared.places.Place.{Place}
 use Rattle.zdd_build.specs.declared.worker.Worker.{Worker}
 use Rattle.zdd_build.specs.Building.{AreBuilt}

@@ -1,6 +1,6 @@
 use Rattle.fault_model.specs.CutFamily.{IsCutFamily}
 use Rattle.zdd_shared_table.specs.Seats.{map_of}
-use Rattle.family_copies.specs.Copies.{copies-went}
+use Rattle.family_copies.proofs.CopiesLemmas.{copies-went}
 use Rattle.zdd_build.proofs.OwnLemmas.{went_of}
 use Rattle.zdd_build.proofs.own.own_family.Goals as goal
 

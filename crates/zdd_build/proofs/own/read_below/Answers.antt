@@ -4,7 +4,7 @@ use Rattle.std.proofs.lemmas.List.{get_or_read}
 use Rattle.fault_model.specs.Trigger.{below}
 use Rattle.fault_model.specs.CutFamily.{IsCutFamily}
 use Rattle.family_memory.specs.Memory.{family_in}
-use Rattle.family_memory.specs.After.{Went-then}
+use Rattle.family_memory.proofs.After.{Went-then}
 use Rattle.zdd_build.proofs.OwnLemmas.{front_length, read_front, read_has, read_more, read_stand}
 use Rattle.zdd_build.proofs.own.read_below.Goals as goal
 

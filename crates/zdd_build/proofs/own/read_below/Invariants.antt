@@ -3,7 +3,7 @@ use Rattle.fault_model.specs.Trigger.{below}
 use Rattle.family_memory.specs.Memory.{Went}
 use Rattle.zdd_shared_table.specs.Seats.{map_of}
 use Rattle.family_copies.specs.Copies.{AreCopies}
-use Rattle.zdd_build.specs.Own.{AreRead}
+use Rattle.zdd_build.proofs.OwnReferences.{AreRead}
 use Rattle.zdd_build.proofs.own.read_below.Given as goal
 
 abbrev pub invariant-loop-i : goal.invariant-loop-i

@@ -2,7 +2,7 @@ use Rattle.std.proofs.Common.{◌≡◌, ◌∙◌, ◌<◌, ℕ, List, All, set
 use Rattle.std.proofs.lemmas.List.Elements.{All-set}
 use Rattle.zdd_families.specs.Map.{Grown}
 use Rattle.zdd_shared_table.specs.Seats.{map_of}
-use Rattle.zdd_product.specs.After.{grown_then}
+use Rattle.zdd_product.proofs.After.{grown_then}
 use Rattle.zdd_build.specs.declared.worker.Worker.{Worker}
 use Rattle.zdd_build.specs.Workers.{CanWork, HasNone}
 use Rattle.zdd_build.proofs.SeatLemmas.{Learned-then}

@@ -3,7 +3,7 @@ use Rattle.std.proofs.lemmas.List.{length_push}
 use Rattle.tree_families.specs.Due.{IsDueToTree}
 use Rattle.zdd_shared_table.specs.Seats.{Seated}
 use Rattle.zdd_product.specs.Seats.{CountsDue, Joined}
-use Rattle.zdd_product.specs.Several.{WentAll-nowhere}
+use Rattle.zdd_product.proofs.Several.{WentAll-nowhere}
 use Rattle.zdd_build.specs.declared.worker.Worker.{Worker}
 use Rattle.zdd_build.specs.Workers.{CanWork, FindsFull, IsNew}
 use Rattle.zdd_build.proofs.TeamLemmas.{close_full, close_new, close_went, last_is, others_are}

@@ -1,4 +1,4 @@
-use Rattle.tree_families.specs.CutFamilies.{no_empty_set}
+use Rattle.tree_families.proofs.CutFamilies.{no_empty_set}
 use Rattle.zdd_families.specs.Map.{family}
 use Rattle.zdd_shared_table.specs.Seats.{map_of}
 use Rattle.zdd_build_tests.proofs.trees.cuts_built.Goals as goal

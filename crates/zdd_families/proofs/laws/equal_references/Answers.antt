@@ -1,6 +1,6 @@
 use Rattle.std.proofs.Common.{ap}
 use Rattle.zdd_families.specs.Map.{family}
-use Rattle.zdd_families.specs.Canonical.{family-same}
+use Rattle.zdd_families.proofs.Canonical.{family-same}
 use Rattle.zdd_families.proofs.laws.equal_references.Goals as goal
 
 pub returns : goal.returns

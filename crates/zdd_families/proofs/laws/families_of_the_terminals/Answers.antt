@@ -1,4 +1,4 @@
-use Rattle.zdd_families.specs.Map.{family-empty, family-unit}
+use Rattle.zdd_families.proofs.MapLemmas.{family-empty, family-unit}
 use Rattle.zdd_families.proofs.laws.families_of_the_terminals.Goals as goal
 
 pub returns-clause-empty : goal.returns-clause-empty

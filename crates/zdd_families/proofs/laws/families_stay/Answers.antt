@@ -1,4 +1,4 @@
-use Rattle.zdd_families.specs.Canonical.{family-grown}
+use Rattle.zdd_families.proofs.Canonical.{family-grown}
 use Rattle.zdd_families.proofs.laws.families_stay.Goals as goal
 
 pub returns : goal.returns

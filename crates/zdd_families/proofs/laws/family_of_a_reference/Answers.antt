@@ -1,5 +1,6 @@
 use Rattle.std.proofs.lemmas.Bool.{false_from_ne_true}
-use Rattle.zdd_families.specs.Map.{is_inner, family-inner, family-improper, test-from_IsInner, IsInner-from_test}
+use Rattle.zdd_families.specs.Map.{is_inner}
+use Rattle.zdd_families.proofs.MapLemmas.{family-inner, family-improper, test-from_IsInner, IsInner-from_test}
 use Rattle.zdd_families.proofs.laws.family_of_a_reference.Goals as goal
 
 pub returns-clause-inner : goal.returns-clause-inner

@@ -1,4 +1,4 @@
-use Rattle.zdd_families.specs.Family.{sets_without-branch, sets_with-branch, first_unit-branch}
+use Rattle.zdd_families.proofs.FamilyLemmas.{sets_without-branch, sets_with-branch, first_unit-branch}
 use Rattle.zdd_families.proofs.laws.parts_of_a_branch.Goals as goal
 
 pub returns-clause-lo : goal.returns-clause-lo

@@ -1,4 +1,4 @@
-use Rattle.zdd_families.specs.Canonical.{IsFamily-family, family-above, family-filled}
+use Rattle.zdd_families.proofs.Canonical.{IsFamily-family, family-above, family-filled}
 use Rattle.zdd_families.proofs.laws.references_stand_for_families.Goals as goal
 
 pub returns-clause-family : goal.returns-clause-family

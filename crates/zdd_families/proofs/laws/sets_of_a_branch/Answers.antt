@@ -1,4 +1,4 @@
-use Rattle.zdd_families.specs.Members.{branch-members}
+use Rattle.zdd_families.proofs.Members.{branch-members}
 use Rattle.zdd_families.proofs.laws.sets_of_a_branch.Goals as goal
 
 pub returns : goal.returns

@@ -7,7 +7,7 @@ use Rattle.tree_families.specs.Due.{IsDueToTree}
 use Rattle.zdd_families.specs.Map.{family}
 use Rattle.zdd_shared_table.specs.Seats.{map_of}
 use Rattle.zdd_product.specs.Seats.{Gave, WasFull}
-use Rattle.zdd_product.specs.After.{gave_of, full_of}
+use Rattle.zdd_product.proofs.After.{gave_of, full_of}
 use Rattle.zdd_nodes.specs.Reading.{families_below}
 use Rattle.zdd_nodes.proofs.NodeAnswers.{Answer, node_ends}
 use Rattle.zdd_nodes.proofs.NodeParts.{stand_of}

@@ -5,13 +5,14 @@ use Rattle.family_operations.specs.Due.{IsDueToVotes}
 use Rattle.family_operations.specs.Votes.{IsVotes}
 use Rattle.tree_families.specs.Due.{IsDueToProducts, IsDueToRecipe, IsDueToUnions, due_to_products, due_to_unions}
 use Rattle.tree_families.specs.Due.{due_to_votes}
-use Rattle.tree_families.specs.NodeSteps.{needs_all_recipe}
+use Rattle.tree_families.proofs.NodeSteps.{needs_all_recipe}
 use Rattle.tree_families.specs.Recipe.{IsMadeBy, IsProductOfAll, IsUnionOfAll, Recipe, all_multiplied, all_united}
 use Rattle.tree_families.specs.Recipe.{gate_recipe, needs_all, products, unions, votes}
-use Rattle.zdd_families.specs.Map.{family, family-empty}
+use Rattle.zdd_families.specs.Map.{family}
+use Rattle.zdd_families.proofs.MapLemmas.{family-empty}
 use Rattle.zdd_shared_table.specs.Seats.{map_of}
 use Rattle.zdd_product.specs.Seats.{Gave, WasFull}
-use Rattle.zdd_product.specs.After.{Gave-known}
+use Rattle.zdd_product.proofs.After.{Gave-known}
 use Rattle.zdd_product.specs.Voting.{families}
 use Rattle.zdd_nodes.proofs.Answers.{answer_as}
 use Rattle.zdd_nodes.proofs.NodeAnswers.{at_recipe}

@@ -2,7 +2,7 @@ use Rattle.std.proofs.Common.{◌≡◌, inl}
 use Rattle.std.proofs.lemmas.Result.{err_from_is_err_and}
 use Rattle.tree_families.specs.Recipe.{alone}
 use Rattle.zdd_shared_table.specs.Seats.{map_of}
-use Rattle.zdd_product.specs.After.{WasFull-as}
+use Rattle.zdd_product.proofs.After.{WasFull-as}
 use Rattle.zdd_product.specs.Voting.{families}
 use Rattle.zdd_nodes.specs.Steps.{IsDueToUnit}
 use Rattle.zdd_nodes.proofs.NodeAnswers.{unit_made}

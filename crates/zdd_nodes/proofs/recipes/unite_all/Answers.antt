@@ -4,7 +4,7 @@ use Rattle.std.proofs.lemmas.Result.{err_from_is_err_and}
 use Rattle.family_operations.specs.Due.{IsDueToUnion}
 use Rattle.family_operations.specs.Union.{IsUnion}
 use Rattle.tree_families.specs.Due.{IsDueToUnions}
-use Rattle.tree_families.specs.DueSteps.{unions-more, due-to_next_union}
+use Rattle.tree_families.proofs.DueSteps.{unions-more, due-to_next_union}
 use Rattle.tree_families.specs.Recipe.{IsUnionOfAll}
 use Rattle.zdd_families.specs.Map.{family}
 use Rattle.zdd_shared_table.specs.Seats.{map_of}

@@ -4,7 +4,7 @@ use Rattle.family_operations.specs.Minimal.{IsMinimal}
 use Rattle.zdd_families.specs.Map.{family}
 use Rattle.zdd_shared_table.specs.Seats.{map_of}
 use Rattle.zdd_product.specs.Seats.{Gave, WasFull}
-use Rattle.zdd_product.specs.After.{WentOn-as, WasFull-as}
+use Rattle.zdd_product.proofs.After.{WentOn-as, WasFull-as}
 use Rattle.zdd_nodes.specs.Steps.{IsLeastProduct, IsDueToLeastProduct, due_to_product, due_to_least}
 use Rattle.zdd_nodes.proofs.Answers.{answer_as, answer_then}
 use Rattle.zdd_nodes.proofs.steps.multiply_least.Goals as goal

@@ -4,10 +4,11 @@ use Rattle.tree_families.specs.Recipe.{alone}
 use Rattle.zdd_words.specs.Reference.{IsReference}
 use Rattle.zdd_words.specs.Word.{packed}
 use Rattle.zdd_families.specs.Family.{IsAbove, branch}
-use Rattle.zdd_families.specs.Map.{KnowsAs, family, family-empty, family-unit}
+use Rattle.zdd_families.specs.Map.{KnowsAs, family}
+use Rattle.zdd_families.proofs.MapLemmas.{family-empty, family-unit}
 use Rattle.zdd_shared_table.specs.Seats.{map_of}
 use Rattle.zdd_product.specs.Seats.{word_family}
-use Rattle.zdd_product.specs.After.{node_made, word_family-packed}
+use Rattle.zdd_product.proofs.After.{node_made, word_family-packed}
 use Rattle.zdd_nodes.proofs.steps.single.Goals as goal
 
 pub node-requires-clause-lo_above : goal.node-requires-clause-lo_above

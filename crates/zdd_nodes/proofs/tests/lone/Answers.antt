@@ -1,7 +1,8 @@
 use Rattle.std.proofs.Common.{[], ◌∷◌, sym, ◌∙◌, subst}
 use Rattle.std.proofs.lemmas.Result.{IfOk-weaker}
 use Rattle.zdd_families.specs.Family.{IsAbove, branch}
-use Rattle.zdd_families.specs.Map.{KnowsAs, family, family-empty, family-unit}
+use Rattle.zdd_families.specs.Map.{KnowsAs, family}
+use Rattle.zdd_families.proofs.MapLemmas.{family-empty, family-unit}
 use Rattle.zdd_shared_table.specs.Seats.{map_of}
 use Rattle.zdd_nodes.proofs.tests.lone.Goals as goal
 

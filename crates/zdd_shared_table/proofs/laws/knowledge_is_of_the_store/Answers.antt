@@ -1,5 +1,5 @@
 use Rattle.std.proofs.Common.{sym}
-use Rattle.zdd_families.specs.Canonical.{family-grown}
+use Rattle.zdd_families.proofs.Canonical.{family-grown}
 use Rattle.zdd_shared_table.specs.Known.{find, placed}
 use Rattle.zdd_shared_table.proofs.Filling.{IsGrown-placed}
 use Rattle.zdd_shared_table.proofs.Told.{closed_words, closed_view}

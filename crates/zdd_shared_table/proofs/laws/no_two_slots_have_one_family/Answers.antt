@@ -1,5 +1,5 @@
 use Rattle.std.proofs.Common.{inr}
-use Rattle.zdd_families.specs.Canonical.{family-same}
+use Rattle.zdd_families.proofs.Canonical.{family-same}
 use Rattle.zdd_shared_table.specs.Known.{placed}
 use Rattle.zdd_shared_table.proofs.Told.{closed_words, unique_words}
 use Rattle.zdd_shared_table.proofs.laws.no_two_slots_have_one_family.Goals as goal

@@ -1,5 +1,6 @@
 use Rattle.std.proofs.Common.{ℕ, ◌+◌, ◌<◌, sym, ◌∙◌, ap, subst, refl, arith, add-zero}
-use Rattle.zdd_words.specs.Word.{home_of, home_of-below}
+use Rattle.zdd_words.specs.Word.{home_of}
+use Rattle.zdd_words.proofs.WordLemmas.{home_of-below}
 use Rattle.zdd_shared_table.specs.Views.{passed_on}
 use Rattle.zdd_shared_table.proofs.Rounds.{round-here, round-step}
 use Rattle.zdd_shared_table.proofs.Searching.{search_here, next_here, passing-more}

@@ -1,5 +1,6 @@
 use Rattle.std.proofs.Common.{refl, arith}
-use Rattle.zdd_words.specs.Word.{home_of, home_of-below}
+use Rattle.zdd_words.specs.Word.{home_of}
+use Rattle.zdd_words.proofs.WordLemmas.{home_of-below}
 use Rattle.zdd_words.proofs.word.home.Goals as goal
 
 pub returns-clause-value : goal.returns-clause-value

@@ -1,5 +1,6 @@
 use Rattle.std.proofs.Common.{◌∙◌, ap}
-use Rattle.zdd_words.specs.Word.{hi_of, level_of, lo_of, level_of-packed, lo_of-packed, hi_of-packed}
+use Rattle.zdd_words.specs.Word.{hi_of, level_of, lo_of}
+use Rattle.zdd_words.proofs.WordLemmas.{level_of-packed, lo_of-packed, hi_of-packed}
 use Rattle.zdd_words.proofs.Bits.{joined_bits_of}
 use Rattle.zdd_words.proofs.word.pack.Goals as goal
 

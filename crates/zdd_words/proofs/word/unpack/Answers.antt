@@ -1,5 +1,6 @@
 use Rattle.std.proofs.Common.{◌∙◌}
-use Rattle.zdd_words.specs.Word.{hi_of, level_of, lo_of, packed-parts}
+use Rattle.zdd_words.specs.Word.{hi_of, level_of, lo_of}
+use Rattle.zdd_words.proofs.WordLemmas.{packed-parts}
 use Rattle.zdd_words.proofs.Bits.{hi_of-shifted, same_packed}
 use Rattle.zdd_words.proofs.word.unpack.Goals as goal
 

@@ -1,7 +1,7 @@
 use Rattle.std.proofs.Common.{◌+◌, sym}
 use Rattle.std.proofs.lemmas.Bool.{eqb-true}
 use Rattle.std.proofs.lemmas.Result.{on_ok_weaker}
-use Rattle.zdd_families.specs.Canonical.{family-filled}
+use Rattle.zdd_families.proofs.Canonical.{family-filled}
 use Rattle.cutset_listing.proofs.Walks.{skips, keeps_on, keeps_fewer, too_heavy, opens, fewer_left, parts_left}
 use Rattle.cutset_listing.proofs.Walks.{pushed_twice}
 use Rattle.cutset_listing.proofs.walk.Walk.enter.Goals as goal

@@ -1,5 +1,5 @@
 use Rattle.std.proofs.Common.{[], refl, sym}
-use Rattle.edge_io.specs.Out.{Puts-held, Puts-failed, Puts-trans}
+use Rattle.edge_io.proofs.OutLemmas.{Puts-held, Puts-failed, Puts-trans}
 use Rattle.edge_io.proofs.out.Out+K.put_long.Goals as goal
 
 pub returns-in_err-write_waiting-clause-puts : goal.returns-in_err-write_waiting-clause-puts

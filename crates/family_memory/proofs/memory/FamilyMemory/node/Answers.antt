@@ -1,5 +1,5 @@
 use Rattle.std.proofs.Common.{◌≡◌, ◌∙◌, sym, ap, subst, get_or}
-use Rattle.zdd_words.specs.Word.{packed-filled}
+use Rattle.zdd_words.proofs.WordLemmas.{packed-filled}
 use Rattle.family_memory.specs.Memory.{Held, IsSound, map_of}
 use Rattle.family_memory.proofs.Adding.{node_of, word_is, found_is}
 use Rattle.family_memory.proofs.memory.FamilyMemory.node.Goals as goal

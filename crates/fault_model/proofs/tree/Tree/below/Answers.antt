@@ -1,6 +1,6 @@
 use Rattle.std.proofs.Common.{All, subst, sym}
 use Rattle.fault_model.specs.Tree.{IsNodeOf}
-use Rattle.fault_model.specs.RankLaws.{below_are_nodes}
+use Rattle.fault_model.proofs.RankLaws.{below_are_nodes}
 use Rattle.fault_model.specs.WellFormed.{IsTree}
 use Rattle.fault_model.proofs.tree.Tree.below.Goals as goal
 

@@ -1,6 +1,7 @@
 use Rattle.std.proofs.Common.{◌≡◌, ◌≤◌, ℕ, true, length, refl, subst, sym, ◌∙◌, arith}
 use Rattle.std.proofs.lemmas.List.{get_or_read}
-use Rattle.margin_policy.specs.Asked.{can_be_asked, few_asked}
+use Rattle.margin_policy.specs.Asked.{can_be_asked}
+use Rattle.margin_policy.proofs.AskedFacts.{few_asked}
 use Rattle.margin_policy.proofs.AskedLemmas.{IsFillingPlaces, filling-more, filled}
 use Rattle.margin_policy.proofs.asked.AskedUnits.new.Goals as goal
 

@@ -2,7 +2,7 @@ use Rattle.std.proofs.Common.{◌≡◌, Option, Some, None, true, false, ap, �
 use Rattle.unit_sets.specs.UnitList.{among}
 use Rattle.unit_sets.specs.declared.request.CrewNo.{CrewNo}
 use Rattle.margin_policy.specs.Held.{holder_of}
-use Rattle.margin_policy.specs.HeldLaws.{among-units_out}
+use Rattle.margin_policy.proofs.HeldLaws.{among-units_out}
 use Rattle.margin_policy.proofs.StandingLemmas.{keeps-returned}
 use Rattle.margin_policy.proofs.standing.Standing.put_back.Goals as goal
 

@@ -1,7 +1,7 @@
 use Rattle.std.proofs.Common.{◌≡◌, ap, ◌∙◌, is_some, None, arith}
 use Rattle.unit_sets.specs.UnitList.{among}
 use Rattle.margin_policy.specs.Held.{holder_of}
-use Rattle.margin_policy.specs.HeldLaws.{among-units_out}
+use Rattle.margin_policy.proofs.HeldLaws.{among-units_out}
 use Rattle.margin_policy.proofs.StandingLemmas.{keeps-taken}
 use Rattle.margin_policy.proofs.standing.Standing.take.Goals as goal
 

@@ -1,7 +1,7 @@
 use Rattle.std.proofs.Common.{◌≡◌, ◌∙◌, ◌+◌, suc, false, ℕ, List, length, eqb, is_some, ap, sym, subst, arith}
 use Rattle.unit_sets.specs.UnitList.{among}
 use Rattle.fault_model.specs.Step.{Step, step}
-use Rattle.fault_model.specs.StepLaws.{step-reads}
+use Rattle.fault_model.proofs.StepLaws.{step-reads}
 use Rattle.fault_model.specs.Tree.{IsUnitOf}
 use Rattle.replay_semantics.specs.Held.{HoldsReplay}
 use Rattle.replay_semantics.specs.Replayed.{Replayed}

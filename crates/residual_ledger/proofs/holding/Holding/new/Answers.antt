@@ -1,7 +1,7 @@
 use Rattle.std.proofs.Common.{◌≡◌, ◌+◌, ℕ, List, length, get_or, take_at, subst, sym, ◌∙◌, arith}
 use Rattle.std.proofs.lemmas.Grind.{common_steps}
 use Rattle.residual_ledger.specs.Holding.{HasSizes, HoldsFirst, HasStarts, HasRows, start_of}
-use Rattle.residual_ledger.specs.Ledger.{few_cuts}
+use Rattle.residual_ledger.proofs.LedgerFacts.{few_cuts}
 use Rattle.residual_ledger.proofs.FillingLemmas.{sizes-le, begun, all_filled}
 use Rattle.residual_ledger.proofs.holding.Holding.new.Goals as goal
 

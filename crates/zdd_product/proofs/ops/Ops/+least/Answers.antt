@@ -2,14 +2,14 @@ use Rattle.std.proofs.Common.{◌<◌, sym, subst, inl, arith}
 use Rattle.std.proofs.lemmas.Result.{err_from_is_err_and}
 use Rattle.family_operations.specs.Due.{IsInnerFamily}
 use Rattle.family_operations.specs.Minimal.{IsMinimal}
-use Rattle.family_operations.specs.References.{IsInnerFamily-reference}
+use Rattle.family_operations.proofs.References.{IsInnerFamily-reference}
 use Rattle.zdd_families.specs.Map.{Knows, family}
 use Rattle.zdd_shared_table.specs.Seats.{Seated, IsSoundSeat, map_of}
 use Rattle.zdd_product.specs.declared.cache.Operation.TheVariants.{Minimal}
 use Rattle.zdd_product.specs.Due.{IsMadeByMinimal}
 use Rattle.zdd_product.specs.Seats.{Gave, WasFull}
 use Rattle.zdd_product.proofs.Entries.{told_made}
-use Rattle.zdd_product.specs.After.{Gave-known}
+use Rattle.zdd_product.proofs.After.{Gave-known}
 use Rattle.zdd_product.proofs.MinimalSteps.{minimal_ends, levels_above, fewer_alone, minimal_lo_full, minimal_hi_knows}
 use Rattle.zdd_product.proofs.MinimalSteps.{minimal_hi_fewer, minimal_hi_full, minimal_lo_known, minimal_rest_full}
 use Rattle.zdd_product.proofs.MinimalSteps.{minimal_lo_knows, minimal_lo_above, minimal_hi_above, minimal_made}

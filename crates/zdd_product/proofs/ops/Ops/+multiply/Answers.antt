@@ -2,7 +2,7 @@ use Rattle.std.proofs.Common.{◌<◌, ◌≤◌, refl, subst, inl, inr, arith}
 use Rattle.std.proofs.lemmas.Result.{err_from_is_err_and}
 use Rattle.family_operations.specs.Due.{IsInnerFamily}
 use Rattle.family_operations.specs.Product.{IsProduct}
-use Rattle.family_operations.specs.References.{IsInnerFamily-reference}
+use Rattle.family_operations.proofs.References.{IsInnerFamily-reference}
 use Rattle.zdd_families.specs.Map.{family}
 use Rattle.zdd_shared_table.specs.Seats.{Seated, IsSoundSeat, map_of}
 use Rattle.zdd_product.specs.declared.cache.Operation.TheVariants.{Product}
@@ -10,7 +10,7 @@ use Rattle.zdd_product.specs.Due.{IsMadeByProduct}
 use Rattle.zdd_product.specs.Seats.{Gave, WasFull}
 use Rattle.zdd_product.proofs.Entries.{told_made}
 use Rattle.zdd_product.proofs.Halving.{levels_left, levels_with, fewer_with, fewer_of_halves}
-use Rattle.zdd_product.specs.After.{Gave-known}
+use Rattle.zdd_product.proofs.After.{Gave-known}
 use Rattle.zdd_product.proofs.ProductParts.{product_ends}
 use Rattle.zdd_product.proofs.ProductSteps.{both_full, with_on1, with_known1, first_full, with_known2, some_full}
 use Rattle.zdd_product.proofs.ProductSteps.{with_on3, with_known3, second_full, with_known4, product_with}

@@ -2,7 +2,7 @@ use Rattle.std.proofs.Common.{◌<◌, sym, subst, arith}
 use Rattle.std.proofs.lemmas.Result.{err_from_is_err_and}
 use Rattle.family_operations.specs.Due.{IsInnerFamily}
 use Rattle.family_operations.specs.Without.{IsWithout}
-use Rattle.family_operations.specs.References.{IsInnerFamily-reference}
+use Rattle.family_operations.proofs.References.{IsInnerFamily-reference}
 use Rattle.zdd_families.specs.Map.{family}
 use Rattle.zdd_shared_table.specs.Seats.{Seated, IsSoundSeat, map_of}
 use Rattle.zdd_product.specs.declared.cache.Operation.TheVariants.{Without}
@@ -10,7 +10,7 @@ use Rattle.zdd_product.specs.Due.{IsMadeByWithout}
 use Rattle.zdd_product.specs.Seats.{Gave, WasFull}
 use Rattle.zdd_product.proofs.Entries.{told_made}
 use Rattle.zdd_product.proofs.Halving.{levels_left}
-use Rattle.zdd_product.specs.After.{Gave-known}
+use Rattle.zdd_product.proofs.After.{Gave-known}
 use Rattle.zdd_product.proofs.WithoutParts.{without_ends}
 use Rattle.zdd_product.proofs.WithoutSteps.{without_lo_full, without_known1, without_hi_fewer, without_hi_full}
 use Rattle.zdd_product.proofs.WithoutSteps.{without_known2, without_rest_fewer, without_rest_full, without_lo_knows}

@@ -9,7 +9,7 @@ use Rattle.zdd_product.specs.Due.{IsMadeByUnion}
 use Rattle.zdd_product.specs.Seats.{Gave, WasFull}
 use Rattle.zdd_product.proofs.Entries.{told_made}
 use Rattle.zdd_product.proofs.Halving.{levels_left}
-use Rattle.zdd_product.specs.After.{Gave-known}
+use Rattle.zdd_product.proofs.After.{Gave-known}
 use Rattle.zdd_product.proofs.UnionParts.{union_ends, union_goes_on}
 use Rattle.zdd_product.proofs.UnionSteps.{union_lo_full, union_hi_full, union_hi_knows, union_hi_fewer, union_lo_known}
 use Rattle.zdd_product.proofs.UnionSteps.{union_lo_above, union_hi_above, union_made}

@@ -4,7 +4,7 @@ use Rattle.zdd_families.specs.Family.{branch}
 use Rattle.zdd_families.specs.Map.{Knows, family}
 use Rattle.zdd_shared_table.specs.Seats.{map_of}
 use Rattle.zdd_product.specs.Seats.{IsBranch, word_family}
-use Rattle.zdd_product.specs.After.{Gave-known, lo_alone, stays, node_made, word_family-packed}
+use Rattle.zdd_product.proofs.After.{Gave-known, lo_alone, stays, node_made, word_family-packed}
 use Rattle.zdd_product.proofs.ops.Ops.make.Goals as goal
 
 pub returns-then-eq : goal.returns-then-eq

@@ -3,7 +3,7 @@ use Rattle.family_operations.specs.Minimal.{IsMinimal}
 use Rattle.zdd_families.specs.Map.{family}
 use Rattle.zdd_shared_table.specs.Seats.{map_of}
 use Rattle.zdd_product.specs.Due.{IsMadeByMinimal}
-use Rattle.zdd_product.specs.After.{gave_of, full_of}
+use Rattle.zdd_product.proofs.After.{gave_of, full_of}
 use Rattle.zdd_product.proofs.ops.Ops.minimal.Goals as goal
 
 pub returns-clause-gives : goal.returns-clause-gives

@@ -3,7 +3,7 @@ use Rattle.family_operations.specs.Without.{IsWithout}
 use Rattle.zdd_families.specs.Map.{family}
 use Rattle.zdd_shared_table.specs.Seats.{map_of}
 use Rattle.zdd_product.specs.Due.{IsMadeByWithout}
-use Rattle.zdd_product.specs.After.{Gave-known}
+use Rattle.zdd_product.proofs.After.{Gave-known}
 use Rattle.zdd_product.proofs.MinimalSteps.{unit_of_least}
 use Rattle.zdd_product.proofs.ops.Ops.strip_least.Goals as goal
 

@@ -1,6 +1,6 @@
 use Rattle.std.proofs.Common.{sym, subst}
 use Rattle.zdd_families.specs.Family.{IsAbove}
-use Rattle.zdd_families.specs.Map.{family-unit}
+use Rattle.zdd_families.proofs.MapLemmas.{family-unit}
 use Rattle.zdd_shared_table.specs.Seats.{map_of}
 use Rattle.zdd_product.proofs.tests.tables.union_and_node.Goals as goal
 

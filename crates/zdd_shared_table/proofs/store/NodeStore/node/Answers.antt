@@ -1,5 +1,5 @@
 use Rattle.std.proofs.Common.{pow_mono, ◌≡◌, ◌≢◌, ℕ, ◌+◌, ◌≤◌, ◌^◌, sym, ◌∙◌, ap, subst, arith}
-use Rattle.zdd_words.specs.Word.{packed-filled}
+use Rattle.zdd_words.proofs.WordLemmas.{packed-filled}
 use Rattle.zdd_families.specs.Family.{branch, IsAbove}
 use Rattle.zdd_families.specs.Map.{Knows, KnowsAs, Grown, family}
 use Rattle.zdd_shared_table.specs.Known.{find}

@@ -1,5 +1,5 @@
 use Rattle.std.proofs.Common.{◌≡◌, ℕ, ◌-◌, ◌≤◌, List, [], sym, subst, ap, arith}
-use Rattle.unit_sets.specs.Sorted.{Contains-nil}
+use Rattle.unit_sets.proofs.Sorted.{Contains-nil}
 use Rattle.atomic_table.specs.Table.{Me}
 use Rattle.atomic_table.specs.Seated.{TableId}
 use Rattle.zdd_shared_table.specs.Seats.{IsSound, IsSeat}

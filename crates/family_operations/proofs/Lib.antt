@@ -1,0 +1,12 @@
+pub mod CountingLemmas
+pub mod CutsLemmas
+pub mod WithinLemmas
+pub mod InclusionLemmas
+pub mod MinimalLemmas
+pub mod NodesLemmas
+pub mod ProductLemmas
+pub mod References
+pub mod SetsLemmas
+pub mod UnionLemmas
+pub mod VotesLemmas
+pub mod WithoutLemmas

@@ -1,0 +1,7 @@
+pub mod MinimalParts
+pub mod WithoutParts
+pub mod Parts
+pub mod ProductParts
+pub mod SpansLemmas
+pub mod UnionParts
+pub mod VotesPartsLemmas

@@ -1,0 +1,73 @@
+//! Lists that grow at their end.
+ghost use Rattle.std.specs.Prelude.{◌≡◌, ◌^◌, ◌<◌, [], ◌∷◌, ◌++◌, length, IfOk, OnOk, OnErr};
+
+use std::alloc::Global;
+use std::marker::Model;
+use unit_sets::NoMemory;
+
+/// A list that grows at its end. A contract sees it as the list of its items.
+#[derive(Debug, Drop)]
+pub struct GrowingList<T> {
+    items: Vec<T>,
+}
+
+impl<T> Model for GrowingList<T> {
+    ghost use Rattle.std.specs.Prelude.{List};
+
+    ghost Value = { List T };
+
+    ghost view = { λ list. list.items.items };
+}
+
+impl<T> GrowingList<T> {
+    /// The empty list, which takes no memory.
+    pub fn new(alloc: Global) -> Self
+        ensures { result ≡ [] }
+    {
+        GrowingList {
+            items: Vec::new(alloc),
+        }
+    }
+
+    /// The empty list, with room for some items.
+    pub fn with_room(alloc: Global, items: usize) -> Result<Self, NoMemory>
+        ensures { IfOk result (λ list. list ≡ []) }
+    {
+        Ok(GrowingList {
+            items: Vec::with_capacity(alloc, items)?,
+        })
+    }
+
+    /// Adds an item at the end. For want of memory the list stays, and the item is dropped.
+    pub fn push(&mut self, item: T) -> Result<(), NoMemory>
+    where
+        T: Drop,
+        ensures added { OnOk result (self.new ≡ self.old ++ item ∷ []) }
+        ensures unchanged { OnErr result (self.new ≡ self.old) }
+    {
+        self.items.push(item)?;
+        Ok(())
+    }
+
+    /// The list of a vector's items, in the same memory.
+    pub fn from_items(items: Vec<T>) -> Self
+        ensures { result ≡ items.items }
+    {
+        GrowingList { items }
+    }
+
+    /// The items in a vector, in the same memory.
+    pub fn into_items(self) -> Vec<T>
+        ensures { result.items ≡ self }
+    {
+        self.items
+    }
+
+    /// The items, in order.
+    pub fn as_slice(&self) -> &[T]
+        ensures items { result.now ≡ self.now }
+        ensures short { length self.now < 2 ^ 63 }
+    {
+        self.items.as_slice()
+    }
+}

@@ -1,0 +1,52 @@
+-- Each set of units that fails a node includes a minimal one, so the cut family of a node generates it.
+use Rattle.std.specs.Prelude.{◌≡◌, ℕ, Bool, true, List, Contains}
+use Rattle.std.proofs.lemmas.List.Elements.{All-contains}
+use Rattle.unit_sets.specs.UnitList.{among, IsRising, some_within}
+use Rattle.unit_sets.proofs.UnitListLemmas.{Contains-from_among}
+use Rattle.fault_model.specs.Cut.{IsMinimalFor}
+use Rattle.fault_model.specs.CutFamily.{IsCutFamily}
+use Rattle.fault_model.proofs.MinimalCuts.{part_of_failing}
+use Rattle.fault_model.specs.Reading.{reads}
+use Rattle.fault_model.proofs.ReadingLaws.{reads-rises}
+use Rattle.fault_model.specs.Tree.{FaultTree, IsNodeOf, IsUnitOf}
+use Rattle.fault_model.specs.WellFormed.{IsTree}
+use Rattle.family_operations.proofs.CutsLemmas.{each-from_contains}
+use Rattle.family_operations.proofs.WithinLemmas.{HasWithin, HasWithin-from_test, some_within-from_set, passes_at}
+use Rattle.family_operations.proofs.WithinLemmas.{passes_from}
+use Rattle.family_operations.proofs.InclusionLemmas.{same_Bool}
+use Rattle.tree_families.specs.Generation.{Generates}
+
+module _ (tree : FaultTree) (kept : IsTree tree) (node : ℕ) (is_node : IsNodeOf tree node) (family : List (List ℕ))
+    (is : IsCutFamily tree node family) where
+  minimal_at : (set : List ℕ) → Contains family set → IsMinimalFor tree node set
+  minimal_at set has = All-contains (IsMinimalFor tree node) family set is.sound has
+
+  hit_to : (within : ℕ → Bool) → some_within family within ≡ true → reads tree within node ≡ true
+  hit_to within hit =
+      let found : HasWithin family within = HasWithin-from_test family within hit in
+      reads-rises tree (among found.set) within (record {
+        kept =
+            λ n has. passes_at within found.set n found.passes has;
+      }) node (minimal_at found.set found.has).fails
+
+  hit_from : (within : ℕ → Bool) → reads tree within node ≡ true → some_within family within ≡ true
+  hit_from within fails =
+      let found = part_of_failing tree kept node is_node within fails in
+      some_within-from_set family within found.0.part (is.complete found.0.part found.0.minimal)
+      (passes_from within found.0.part found.1)
+
+  pub Generates-cut_family : Generates tree node family
+  Generates-cut_family = record {
+    of_tree = record {
+      is_family =
+          record {
+            ordered = is.ordered;
+            rising = each-from_contains IsRising family
+                (λ set has. (minimal_at set has).rising);
+          };
+      units =
+          λ set has unit member. All-contains (IsUnitOf tree) set unit (minimal_at set has).units
+          (Contains-from_among set unit member);
+    };
+    hit = λ within. same_Bool (some_within family within) (reads tree within node) (hit_to within) (hit_from within);
+  }

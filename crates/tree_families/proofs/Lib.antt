@@ -1,0 +1,9 @@
+pub mod Building
+pub mod DueSteps
+pub mod FailingSets
+pub mod NodeSteps
+pub mod RecipeParts
+pub mod Steps
+pub mod TreeParts
+pub mod CutFamilies
+pub mod ExamplesLemmas

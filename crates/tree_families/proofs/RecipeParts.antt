@@ -1,0 +1,158 @@
+-- A recipe makes a family, and each part of that family's minimal sets is due to the recipe or a part of
+-- one of the families that it is given.
+use Rattle.std.specs.Prelude.{◌⊎◌, ℕ, List, [], ◌∷◌}
+use Rattle.std.proofs.Common.{refl, subst, inl, inr}
+use Rattle.unit_sets.proofs.Sorted.{Contains-cons_first, Contains-cons_other}
+use Rattle.family_operations.specs.Due.{IsDueToUnion, IsDueToProduct}
+use Rattle.family_operations.specs.Minimal.{IsMinimal}
+use Rattle.family_operations.specs.Nodes.{IsReached}
+use Rattle.tree_families.specs.Recipe.{Recipe, unions, products, votes, IsUnionOfAll, IsProductOfAll, IsMadeBy}
+use Rattle.tree_families.specs.Due.{IsDueToUnions, next_union, later_union, IsDueToProducts, next_product, next_minimal}
+use Rattle.tree_families.specs.Due.{later_product, IsDueToRecipe, due_to_unions, due_to_products, due_to_votes}
+use Rattle.tree_families.specs.Due.{due_to_end}
+use Rattle.family_parts.proofs.Parts.{Origin, is_due, of_first, of_second}
+use Rattle.family_parts.specs.Spans.{Spans}
+use Rattle.family_parts.proofs.UnionParts.{HasUnion, Spans-union, union-exists, union-parts}
+use Rattle.family_parts.proofs.ProductParts.{HasProduct, Spans-product, product-exists, product-parts}
+use Rattle.family_parts.proofs.MinimalParts.{HasLeast, Spans-minimal, minimal-exists, minimal-parts}
+use Rattle.family_parts.specs.VotesParts.{SpanEach, PartOfOne}
+use Rattle.family_parts.proofs.VotesPartsLemmas.{HasVotes, votes-exist, votes-parts}
+
+-- the families that the recipe is given
+abbrev pub given : Recipe → List (List (List ℕ))
+given (unions first others) = first ∷ others
+given (products first others) = first ∷ others
+given (votes least families) = families
+
+-- ---- a recipe makes a family
+
+pub record HasMade (low size : ℕ) (recipe : Recipe) : Type 0 where
+  pub made : List (List ℕ)
+  pub is : IsMadeBy recipe made
+  pub spans : Spans low size made
+
+module _ (low size : ℕ) where
+  all_united : (first : List (List ℕ)) (others : List (List (List ℕ))) → Spans low size first → SpanEach low size others
+      → HasMade low size (unions first others)
+  all_united first [] s each = record { made = first; is = refl; spans = s }
+  all_united first (family ∷ others) s each =
+      let next : HasUnion low size first family = union-exists size low first family s each.0 in
+      let rest : HasMade low size (unions next.union others) = all_united next.union others next.spans each.1 in
+      record { made = rest.made; is = (next.union, next.is, rest.is); spans = rest.spans }
+
+  all_multiplied : (first : List (List ℕ)) (others : List (List (List ℕ))) → Spans low size first
+      → SpanEach low size others → HasMade low size (products first others)
+  all_multiplied first [] s each = record { made = first; is = refl; spans = s }
+  all_multiplied first (family ∷ others) s each =
+      let next : HasProduct low size first family = product-exists size low first family s each.0 in
+      let least : HasLeast low size next.product = minimal-exists size low next.product next.spans in
+      let rest : HasMade low size (products least.least others) =
+      all_multiplied least.least others least.spans each.1 in
+      record { made = rest.made; is = (next.product, least.least, next.is, least.is, rest.is); spans = rest.spans }
+
+  pub recipe-makes : (recipe : Recipe) → SpanEach low size (given recipe) → HasMade low size recipe
+  recipe-makes (unions first others) each = all_united first others each.0 each.1
+  recipe-makes (products first others) each = all_multiplied first others each.0 each.1
+  recipe-makes (votes least families) each =
+      let found : HasVotes low size least families = votes-exist low size families each least in
+      record { made = found.votes; is = found.is; spans = found.spans }
+
+-- ---- its parts
+
+module _ (low size : ℕ) (part : List (List ℕ)) where
+  later : (first : List (List ℕ)) (others : List (List (List ℕ))) → PartOfOne others part
+      → PartOfOne (first ∷ others) part
+  later first others found =
+      record {
+        family = found.family;
+        has = Contains-cons_other first found.family others found.has;
+        reached =
+            found.reached;
+      }
+
+  at_first : (first : List (List ℕ)) (others : List (List (List ℕ))) → IsReached first part
+      → PartOfOne (first ∷ others) part
+  at_first first others reached = record { family = first; has = Contains-cons_first first others; reached = reached }
+
+  -- of the first family or of a later one
+  abbrev Comes : Type 0 → List (List ℕ) → List (List (List ℕ)) → Type 0
+  Comes Due first others = Due ⊎ (IsReached first part ⊎ PartOfOne others part)
+
+  joined_comes : (Due : Type 0) (first : List (List ℕ)) (others : List (List (List ℕ))) → Comes Due first others
+      → Due ⊎ PartOfOne (first ∷ others) part
+  joined_comes Due first others (inl due) = inl due
+  joined_comes Due first others (inr (inl reached)) = inr (at_first first others reached)
+  joined_comes Due first others (inr (inr found)) = inr (later first others found)
+
+  of_next_union : (first family : List (List ℕ)) (others : List (List (List ℕ)))
+      → Origin (IsDueToUnion first family part) first family part
+      → Comes (IsDueToUnions first (family ∷ others) part) first (family ∷ others)
+  of_next_union first family others (is_due due) = inl (next_union due)
+  of_next_union first family others (of_first reached) = inr (inl reached)
+  of_next_union first family others (of_second reached) = inr (inr (at_first family others reached))
+
+  unions_parts : (first : List (List ℕ)) (others : List (List (List ℕ))) (made : List (List ℕ)) → Spans low size first
+      → SpanEach low size others → IsUnionOfAll first others made → IsReached made part
+      → Comes (IsDueToUnions first others part) first others
+  unions_parts first [] made s each same reached =
+      inr (inl (subst (λ (q : List (List ℕ)). IsReached q part) same reached))
+  unions_parts first (family ∷ others) made s each (union, is, rest) reached =
+      elim (unions_parts union others made (Spans-union low size first family union s each.0 is) each.1 rest reached) [
+        | inl due ↦ inl (later_union is due)
+        | inr (inl of_union) ↦ of_next_union first family others
+            (union-parts size low first family union part s each.0 is of_union)
+        | inr (inr found) ↦ inr (inr (later family others found))
+      ]
+
+  of_next_product : (first family : List (List ℕ)) (others : List (List (List ℕ)))
+      → Origin (IsDueToProduct first family part) first family part
+      → Comes (IsDueToProducts first (family ∷ others) part) first (family ∷ others)
+  of_next_product first family others (is_due due) = inl (next_product due)
+  of_next_product first family others (of_first reached) = inr (inl reached)
+  of_next_product first family others (of_second reached) = inr (inr (at_first family others reached))
+
+  products_parts : (first : List (List ℕ)) (others : List (List (List ℕ))) (made : List (List ℕ)) → Spans low size first
+      → SpanEach low size others → IsProductOfAll first others made → IsReached made part
+      → Comes (IsDueToProducts first others part) first others
+  products_parts first [] made s each same reached =
+      inr (inl (subst (λ (q : List (List ℕ)). IsReached q part) same reached))
+  products_parts first (family ∷ others) made s each (product, least, is, minimal, rest) reached =
+      let s' : Spans low size product = Spans-product low size first family product s each.0 is in
+      elim (products_parts least others made (Spans-minimal low size product least s' minimal) each.1 rest reached) [
+        | inl due ↦ inl (later_product is minimal due)
+        | inr (inl of_least) ↦ elim (minimal-parts size low product least part s' minimal of_least) [
+          | inl due ↦ inl (next_minimal is due)
+          | inr of_product ↦ of_next_product first family others
+              (product-parts size low first family product part s each.0 is of_product)
+        ]
+        | inr (inr found) ↦ inr (inr (later family others found))
+      ]
+
+  pub made_parts : (recipe : Recipe) (made : List (List ℕ)) → SpanEach low size (given recipe) → IsMadeBy recipe made
+      → IsReached made part → IsDueToRecipe recipe part ⊎ PartOfOne (given recipe) part
+  made_parts (unions first others) made each is reached =
+      elim (joined_comes (IsDueToUnions first others part) first others
+      (unions_parts first others made each.0 each.1 is reached)) [
+        | inl due ↦ inl (due_to_unions due)
+        | inr found ↦ inr found
+      ]
+  made_parts (products first others) made each is reached =
+      elim (joined_comes (IsDueToProducts first others part) first others
+      (products_parts first others made each.0 each.1 is reached)) [
+        | inl due ↦ inl (due_to_products due)
+        | inr found ↦ inr found
+      ]
+  made_parts (votes least families) made each is reached =
+      elim (votes-parts low size least families part made each is reached) [
+        | inl due ↦ inl (due_to_votes due)
+        | inr found ↦ inr found
+      ]
+
+  pub recipe-parts : (recipe : Recipe) (made least : List (List ℕ)) → SpanEach low size (given recipe)
+      → Spans low size made → IsMadeBy recipe made → IsMinimal made least → IsReached least part
+      → IsDueToRecipe recipe part ⊎ PartOfOne (given recipe) part
+  recipe-parts recipe made least each s is minimal reached =
+      elim (minimal-parts size low made least part s minimal reached) [
+        | inl due ↦ inl (due_to_end is due)
+        | inr of_made ↦ made_parts recipe made each is of_made
+      ]

@@ -1,0 +1,349 @@
+-- What the recipe of a node makes from families that generate what the node reads: it generates the node.
+use Rattle.std.specs.Prelude.{◌≡◌, ℕ, zero, suc, Bool, true, false, ◌&&◌, ◌||◌, ◌==◌, nat_le, List, [], ◌∷◌, Contains}
+use Rattle.std.specs.List.{list_any, list_all}
+use Rattle.std.specs.List.Sorted.{IsStrictlySortedBy}
+use Rattle.std.proofs.Common.{refl, sym, ◌∙◌, ap, subst, inl, inr}
+use Rattle.std.proofs.lemmas.Bool.{cases_Bool, or_cases, cond-true, cond-false, eqb-true, ltb-false}
+use Rattle.unit_sets.specs.UnitList.{among, some_within}
+use Rattle.unit_sets.proofs.Sorted.{Contains-nil, Contains-cons_cases}
+use Rattle.fault_model.specs.declared.node.GateKind.{GateKind}
+use Rattle.fault_model.specs.declared.node.GateKind.TheVariants.{And, Or, Votes, Pand, Por, Seq, Fdep, Csp, Wsp, Hsp}
+use Rattle.fault_model.specs.Reading.{reads, true_count, first_reads, gate_reads}
+use Rattle.fault_model.proofs.ReadingLaws.{reads-node}
+use Rattle.fault_model.specs.Tree.{FaultTree, IsNodeOf, IsUnitOf, kind_of, inputs_of, is_above_units, unit_count}
+use Rattle.fault_model.specs.Trigger.{below, triggers_of}
+use Rattle.fault_model.specs.WellFormed.{IsTree}
+use Rattle.zdd_families.specs.Family.{IsFamily}
+use Rattle.zdd_families.proofs.FamilyLemmas.{IsFamily-nil, IsFamily-unit}
+use Rattle.family_operations.specs.Within.{count_within}
+use Rattle.family_operations.proofs.WithinLemmas.{some_within-union, some_within-product, some_within-minimal}
+use Rattle.family_operations.proofs.WithinLemmas.{some_within-votes}
+use Rattle.family_operations.specs.Minimal.{IsMinimal}
+use Rattle.family_operations.specs.Product.{IsProduct, IsJoin}
+use Rattle.family_operations.specs.Sets.{joined}
+use Rattle.family_operations.proofs.SetsLemmas.{among-joined}
+use Rattle.family_operations.specs.Union.{IsUnion}
+use Rattle.family_operations.specs.Votes.{IsVotes, IsChoice}
+use Rattle.tree_families.specs.Generation.{IsFamilyOf, AreFamiliesOf, Generates}
+use Rattle.family_parts.proofs.Parts.{empty_unit}
+use Rattle.tree_families.specs.Recipe.{Recipe, unions, IsUnionOfAll, IsProductOfAll, IsMadeBy, all_united}
+use Rattle.tree_families.specs.Recipe.{all_multiplied, first_alone, gate_recipe, alone, node_recipe, StandFor}
+
+-- ---- what results are true by
+
+or_three : (a b c : Bool) → ((a || b) || c) ≡ (a || (b || c))
+or_three true b c = refl
+or_three false b c = refl
+
+and_three : (a b c : Bool) → ((a && b) && c) ≡ (a && (b && c))
+and_three true b c = refl
+and_three false b c = refl
+
+or_none : (a : Bool) → (a || false) ≡ a
+or_none true = refl
+or_none false = refl
+
+and_all : (a : Bool) → (a && true) ≡ a
+and_all true = refl
+and_all false = refl
+
+-- whether all units of some set of the family pass a test
+abbrev hit_by : (ℕ → Bool) → List (List ℕ) → Bool
+hit_by within family = some_within family within
+
+some_within-unions : (within : ℕ → Bool) (first : List (List ℕ)) (others : List (List (List ℕ))) (made : List (List ℕ))
+    → IsUnionOfAll first others made → some_within made within
+    ≡ (some_within first within || list_any (hit_by within) others)
+some_within-unions within first [] made same = ap (hit_by within) same ∙ sym (or_none (some_within first within))
+some_within-unions within first (family ∷ others) made (union, is, rest) =
+    some_within-unions within union others made rest
+    ∙ ap (λ b. b || list_any (hit_by within) others) (some_within-union first family union within is)
+    ∙ or_three (some_within first within) (some_within family within) (list_any (hit_by within) others)
+
+some_within-products : (within : ℕ → Bool) (first : List (List ℕ)) (others : List (List (List ℕ)))
+    (made : List (List ℕ))
+    → IsProductOfAll first others made → some_within made within
+    ≡ (some_within first within && list_all (hit_by within) others)
+some_within-products within first [] made same = ap (hit_by within) same ∙ sym (and_all (some_within first within))
+some_within-products within first (family ∷ others) made (product, least, is, minimal, rest) =
+    some_within-products within least others made rest
+    ∙ ap (λ b. b && list_all (hit_by within) others)
+    (some_within-minimal product least within is.is_family minimal ∙ some_within-product first family product within is)
+    ∙ and_three (some_within first within) (some_within family within) (list_all (hit_by within) others)
+
+-- ---- families of units of the tree
+
+module _ (tree : FaultTree) where
+  of_none : IsFamilyOf tree []
+  of_none = record { is_family = IsFamily-nil; units = λ set has. Contains-nil set has }
+
+  no_unit : {G : Type 0} (set : List ℕ) (unit : ℕ) → set ≡ [] → among set unit ≡ true → G
+  no_unit set unit same has =
+      let clash : among [] unit ≡ true = subst (λ (q : List ℕ). among q unit ≡ true) same has in absurd cc
+
+  of_empty_set : IsFamilyOf tree ([] ∷ [])
+  of_empty_set = record { is_family = IsFamily-unit; units = λ set has unit member. empty_unit set unit has member }
+
+  of_union : (f g h : List (List ℕ)) → IsFamilyOf tree f → IsFamilyOf tree g → IsUnion f g h → IsFamilyOf tree h
+  of_union f g h of of' is = record {
+    is_family = is.is_family;
+    units = λ set has. elim ((is.sets set).0 has) [
+      | inl of_f ↦ of.units set of_f
+      | inr of_g ↦ of'.units set of_g
+    ];
+  }
+
+  joined_units : (a b set : List ℕ) → set ≡ joined a b → ((unit : ℕ) → among a unit ≡ true → IsUnitOf tree unit)
+      → ((unit : ℕ) → among b unit ≡ true → IsUnitOf tree unit) → (unit : ℕ) → among set unit ≡ true
+      → IsUnitOf tree unit
+  joined_units a b set same of_a of_b unit has =
+      elim (or_cases (among a unit) (among b unit) (sym (among-joined a b unit)
+      ∙ subst (λ (q : List ℕ). among q unit ≡ true) same has)) [
+        | inl here ↦ of_a unit here
+        | inr there ↦ of_b unit there
+      ]
+
+  of_product : (f g h : List (List ℕ)) → IsFamilyOf tree f → IsFamilyOf tree g → IsProduct f g h → IsFamilyOf tree h
+  of_product f g h of of' is = record {
+    is_family = is.is_family;
+    units = λ set has.
+        let join : IsJoin f g set = (is.sets set).0 has in
+        joined_units join.first join.second set join.is (of.units join.first join.of_f)
+        (of'.units join.second join.of_g);
+  }
+
+  of_minimal : (f least : List (List ℕ)) → IsFamilyOf tree f → IsMinimal f least → IsFamilyOf tree least
+  of_minimal f least of is =
+      record { is_family = is.is_family; units = λ set has. of.units set ((is.sets set).0 has).0 }
+
+  choice_units : (families : List (List (List ℕ))) → AreFamiliesOf tree families → (count : ℕ) (set : List ℕ)
+      → IsChoice families count set → (unit : ℕ) → among set unit ≡ true → IsUnitOf tree unit
+  choice_units [] of zero set same unit has = no_unit set unit same has
+  choice_units [] of (suc count) set chosen unit has = absurd chosen
+  choice_units (family ∷ families) of zero set chosen unit has = choice_units families of.1 zero set chosen unit has
+  choice_units (family ∷ families) of (suc count) set (inl skipped) unit has =
+      choice_units families of.1 (suc count) set skipped unit has
+  choice_units (family ∷ families) of (suc count) set (inr (first, rest, of_first, chosen, same)) unit has =
+      joined_units first rest set same (of.0.units first of_first) (choice_units families of.1 count rest chosen) unit
+      has
+
+  of_votes : (count : ℕ) (families : List (List (List ℕ))) (made : List (List ℕ)) → AreFamiliesOf tree families
+      → IsVotes count families made → IsFamilyOf tree made
+  of_votes count families made of is =
+      record { is_family = is.is_family; units = λ set has. choice_units families of count set ((is.sets set).0 has) }
+
+  of_unions : (first : List (List ℕ)) (others : List (List (List ℕ))) (made : List (List ℕ)) → IsFamilyOf tree first
+      → AreFamiliesOf tree others → IsUnionOfAll first others made → IsFamilyOf tree made
+  of_unions first [] made of all same = subst (IsFamilyOf tree) (sym same) of
+  of_unions first (family ∷ others) made of all (union, is, rest) =
+      of_unions union others made (of_union first family union of all.0 is) all.1 rest
+
+  of_products : (first : List (List ℕ)) (others : List (List (List ℕ))) (made : List (List ℕ)) → IsFamilyOf tree first
+      → AreFamiliesOf tree others → IsProductOfAll first others made → IsFamilyOf tree made
+  of_products first [] made of all same = subst (IsFamilyOf tree) (sym same) of
+  of_products first (family ∷ others) made of all (product, least, is, minimal, rest) =
+      of_products least others made (of_minimal product least (of_product first family product of all.0 is) minimal)
+      all.1 rest
+
+-- ---- families that generate the nodes that are read
+
+module _ (tree : FaultTree) where
+  all_of_tree : (nodes : List ℕ) (families : List (List (List ℕ))) → StandFor (Generates tree) nodes families
+      → AreFamiliesOf tree families
+  all_of_tree [] [] stand = tt
+  all_of_tree [] (family ∷ families) stand = absurd stand
+  all_of_tree (node ∷ nodes) [] stand = tt
+  all_of_tree (node ∷ nodes) (family ∷ families) stand = (stand.0.of_tree, all_of_tree nodes families stand.1)
+
+  module _ (within : ℕ → Bool) where
+    some_hit : (nodes : List ℕ) (families : List (List (List ℕ))) → StandFor (Generates tree) nodes families
+        → list_any (hit_by within) families ≡ list_any (reads tree within) nodes
+    some_hit [] [] stand = refl
+    some_hit [] (family ∷ families) stand = absurd stand
+    some_hit (node ∷ nodes) [] stand = absurd stand
+    some_hit (node ∷ nodes) (family ∷ families) stand =
+        let e = stand.0.hit within in let rest = some_hit nodes families stand.1 in cc
+
+    pub all_hit : (nodes : List ℕ) (families : List (List (List ℕ))) → StandFor (Generates tree) nodes families
+        → list_all (hit_by within) families ≡ list_all (reads tree within) nodes
+    all_hit [] [] stand = refl
+    all_hit [] (family ∷ families) stand = absurd stand
+    all_hit (node ∷ nodes) [] stand = absurd stand
+    all_hit (node ∷ nodes) (family ∷ families) stand =
+        let e = stand.0.hit within in let rest = all_hit nodes families stand.1 in cc
+
+    count_hit : (nodes : List ℕ) (families : List (List (List ℕ))) → StandFor (Generates tree) nodes families
+        → count_within families within ≡ true_count (reads tree within) nodes
+    count_hit [] [] stand = refl
+    count_hit [] (family ∷ families) stand = absurd stand
+    count_hit (node ∷ nodes) [] stand = absurd stand
+    count_hit (node ∷ nodes) (family ∷ families) stand =
+        let e = stand.0.hit within in let rest = count_hit nodes families stand.1 in cc
+
+-- ---- gates
+
+-- a family that is true where a test of sets says so
+record IsTrueWhere (tree : FaultTree) (test : (ℕ → Bool) → Bool) (made : List (List ℕ)) : Type 0 where
+  of_tree : IsFamilyOf tree made
+  hit : (within : ℕ → Bool) → some_within made within ≡ test within
+
+module _ (tree : FaultTree) where
+  united : (nodes : List ℕ) (families : List (List (List ℕ))) (made : List (List ℕ))
+      → StandFor (Generates tree) nodes families → IsMadeBy (all_united families) made
+      → IsTrueWhere tree (λ within. list_any (reads tree within) nodes) made
+  united [] [] made stand same =
+      record { of_tree = subst (IsFamilyOf tree) (sym same) (of_none tree); hit = λ within. ap (hit_by within) same }
+  united [] (family ∷ families) made stand is = absurd stand
+  united (node ∷ nodes) [] made stand is = absurd stand
+  united (node ∷ nodes) (family ∷ families) made stand is = record {
+    of_tree = of_unions tree family families made stand.0.of_tree (all_of_tree tree nodes families stand.1) is;
+    hit =
+        λ within. some_within-unions within family families made is
+        ∙ some_hit tree within (node ∷ nodes) (family ∷ families) stand;
+  }
+
+  multiplied : (nodes : List ℕ) (families : List (List (List ℕ))) (made : List (List ℕ))
+      → StandFor (Generates tree) nodes families → IsMadeBy (all_multiplied families) made
+      → IsTrueWhere tree (λ within. list_all (reads tree within) nodes) made
+  multiplied [] [] made stand same =
+      record {
+        of_tree = subst (IsFamilyOf tree) (sym same) (of_empty_set tree);
+        hit =
+            λ within. ap (hit_by within) same;
+      }
+  multiplied [] (family ∷ families) made stand is = absurd stand
+  multiplied (node ∷ nodes) [] made stand is = absurd stand
+  multiplied (node ∷ nodes) (family ∷ families) made stand is = record {
+    of_tree = of_products tree family families made stand.0.of_tree (all_of_tree tree nodes families stand.1) is;
+    hit =
+        λ within. some_within-products within family families made is
+        ∙ all_hit tree within (node ∷ nodes) (family ∷ families) stand;
+  }
+
+  voted : (least : ℕ) (nodes : List ℕ) (families : List (List (List ℕ))) (made : List (List ℕ))
+      → StandFor (Generates tree) nodes families → IsVotes least families made
+      → IsTrueWhere tree (λ within. nat_le least (true_count (reads tree within) nodes)) made
+  voted least nodes families made stand is = record {
+    of_tree = of_votes tree least families made (all_of_tree tree nodes families stand) is;
+    hit =
+        λ within. some_within-votes least families made within is
+        ∙ ap (nat_le least) (count_hit tree within nodes families stand);
+  }
+
+  first : (nodes : List ℕ) (families : List (List (List ℕ))) (made : List (List ℕ))
+      → StandFor (Generates tree) nodes families → IsMadeBy (first_alone families) made
+      → IsTrueWhere tree (λ within. first_reads (reads tree within) nodes) made
+  first [] [] made stand same =
+      record { of_tree = subst (IsFamilyOf tree) (sym same) (of_none tree); hit = λ within. ap (hit_by within) same }
+  first [] (family ∷ families) made stand is = absurd stand
+  first (node ∷ nodes) [] made stand is = absurd stand
+  first (node ∷ nodes) (family ∷ families) made stand same = record {
+    of_tree = subst (IsFamilyOf tree) (sym same) stand.0.of_tree;
+    hit = λ within. ap (hit_by within) same ∙ stand.0.hit within;
+  }
+
+  never : (made : List (List ℕ)) → made ≡ [] → IsTrueWhere tree (λ within. false) made
+  never made same =
+      record { of_tree = subst (IsFamilyOf tree) (sym same) (of_none tree); hit = λ within. ap (hit_by within) same }
+
+  gate : (kind : GateKind) (nodes : List ℕ) (families : List (List (List ℕ))) (made : List (List ℕ))
+      → StandFor (Generates tree) nodes families → IsMadeBy (gate_recipe kind families) made
+      → IsTrueWhere tree (λ within. gate_reads kind (reads tree within) nodes) made
+  gate And nodes families made stand is = multiplied nodes families made stand is
+  gate Or nodes families made stand is = united nodes families made stand is
+  gate (Votes least of) nodes families made stand is = voted least nodes families made stand is
+  gate Pand nodes families made stand is = multiplied nodes families made stand is
+  gate Por nodes families made stand is = first nodes families made stand is
+  gate Seq nodes families made stand is = multiplied nodes families made stand is
+  gate Fdep nodes families made stand is = never made is
+  gate Csp nodes families made stand is = multiplied nodes families made stand is
+  gate Wsp nodes families made stand is = multiplied nodes families made stand is
+  gate Hsp nodes families made stand is = multiplied nodes families made stand is
+
+  -- ---- units
+
+  pub alone_rises : (unit : ℕ) → IsFamily (alone unit)
+  unfolding IsStrictlySortedBy
+  alone_rises unit = record { ordered = (tt, tt); rising = ((tt, tt), tt) }
+
+  pub alone_set : (unit : ℕ) (set : List ℕ) → Contains (alone unit) set → set ≡ unit ∷ []
+  alone_set unit set has =
+      elim (Contains-cons_cases (unit ∷ []) set [] has) [
+        | inl same ↦ sym same
+        | inr later ↦ Contains-nil set later
+      ]
+
+  pub alone_member : (unit other : ℕ) → among (unit ∷ []) other ≡ true → unit ≡ other
+  alone_member unit other has = eqb-true unit other (sym (or_none (unit == other)) ∙ has)
+
+  pub of_alone : (unit : ℕ) → IsUnitOf tree unit → IsFamilyOf tree (alone unit)
+  of_alone unit is_unit = record {
+    is_family = alone_rises unit;
+    units =
+        λ set has other member. subst (IsUnitOf tree)
+        (alone_member unit other (subst (λ (q : List ℕ). among q other ≡ true) (alone_set unit set has) member))
+        is_unit;
+  }
+
+  alone_hit : (u l : Bool) → (((u && true) || false) || l) ≡ (u || l)
+  alone_hit true l = refl
+  alone_hit false l = refl
+
+  unit : (node : ℕ) (nodes : List ℕ) (families : List (List (List ℕ))) (made : List (List ℕ)) → IsUnitOf tree node
+      → StandFor (Generates tree) nodes families → IsUnionOfAll (alone node) families made
+      → IsTrueWhere tree (λ within. within node || list_any (reads tree within) nodes) made
+  unit node nodes families made is_unit stand is = record {
+    of_tree =
+        of_unions tree (alone node) families made (of_alone node is_unit) (all_of_tree tree nodes families stand) is;
+    hit = λ within.
+        some_within-unions within (alone node) families made is
+        ∙ ap (λ b. some_within (alone node) within || b) (some_hit tree within nodes families stand)
+        ∙ alone_hit (within node) (list_any (reads tree within) nodes);
+  }
+
+  -- ---- nodes
+
+  module _ (kept : IsTree tree) (node : ℕ) (is_node : IsNodeOf tree node) (families : List (List (List ℕ)))
+      (made : List (List ℕ)) (stand : StandFor (Generates tree) (below tree node) families)
+      (is : IsMadeBy (node_recipe tree node families) made) where
+    gate_made : is_above_units tree node ≡ true → Generates tree node made
+    gate_made above =
+        let stand' : StandFor (Generates tree) (inputs_of tree node) families =
+        subst (λ (q : List ℕ). StandFor (Generates tree) q families)
+        (cond-true (is_above_units tree node) (inputs_of tree node) (triggers_of tree node) above) stand in
+        let is' : IsMadeBy (gate_recipe (kind_of tree node) families) made =
+        subst (λ (q : Recipe). IsMadeBy q made) (cond-true (is_above_units tree node)
+        (gate_recipe (kind_of tree node) families) (unions (alone node) families) above) is in
+        let here = gate (kind_of tree node) (inputs_of tree node) families made stand' is' in
+        record {
+          of_tree = here.of_tree;
+          hit =
+              λ within. here.hit within ∙ sym (reads-node tree kept within node is_node
+              ∙ cond-true (is_above_units tree node) _ _ above);
+        }
+
+    unit_made : is_above_units tree node ≡ false → Generates tree node made
+    unit_made low =
+        let stand' : StandFor (Generates tree) (triggers_of tree node) families =
+        subst (λ (q : List ℕ). StandFor (Generates tree) q families)
+        (cond-false (is_above_units tree node) (inputs_of tree node) (triggers_of tree node) low) stand in
+        let is' : IsUnionOfAll (alone node) families made =
+        subst (λ (q : Recipe). IsMadeBy q made) (cond-false (is_above_units tree node)
+        (gate_recipe (kind_of tree node) families) (unions (alone node) families) low) is in
+        let here =
+        unit node (triggers_of tree node) families made (is_node.0, ltb-false (unit_count tree) node low) stand'
+        is' in
+        record {
+          of_tree = here.of_tree;
+          hit =
+              λ within. here.hit within ∙ sym (reads-node tree kept within node is_node
+              ∙ cond-false (is_above_units tree node) _ _ low);
+        }
+
+    -- what a node's recipe makes generates the node, where the families of what it reads do
+    pub Generates-made : Generates tree node made
+    Generates-made =
+        elim (cases_Bool (is_above_units tree node)) [
+          | inl above ↦ gate_made above
+          | inr low ↦ unit_made low
+        ]

@@ -1,0 +1,5 @@
+pub mod Canonical
+pub mod FamilyLemmas
+pub mod Lists
+pub mod MapLemmas
+pub mod Members
