@@ -6,18 +6,19 @@ use Rattle.std.proofs.Common.{refl, sym, ap, ◌∙◌, subst, arith, inl, inr, 
 use Rattle.std.proofs.lemmas.Bool.{cases_lt}
 use Rattle.std.proofs.lemmas.List.{length-map, drop_more, drop_all}
 use Rattle.std.proofs.lemmas.List.Concat.{flat_map-append}
-use Rattle.edge_io.specs.Out.{Output, Puts, Puts-none, Puts-trans, has_failed}
+use Rattle.edge_io.specs.Out.{Output, Puts, has_failed}
+use Rattle.edge_io.proofs.OutLemmas.{Puts-none, Puts-trans}
 use Rattle.unit_sets.specs.Unit.{IsUnit}
-use Rattle.unit_sets.specs.UnitList.{Contains-from_among}
+use Rattle.unit_sets.proofs.UnitListLemmas.{Contains-from_among}
 use Rattle.unit_sets.specs.Words.{passing_below}
 use Rattle.unit_sets.specs.declared.request.CrewNo.{CrewNo}
-use Rattle.residual_ledger.specs.Passing.{passing-more, passing-none, length-passing-more}
+use Rattle.residual_ledger.proofs.Passing.{passing-more, passing-none, length-passing-more}
 use Rattle.residual_ledger.specs.Residual.{residual, cut_at}
 use Rattle.fault_model.specs.Tree.{FaultTree, unit_count}
 use Rattle.crew_script.specs.Dockets.{crew_at}
 use Rattle.crew_script.specs.declared.dockets.Crew.{Crew}
 use Rattle.margin_policy.specs.Held.{Held, holder_of, units_out}
-use Rattle.margin_policy.specs.HeldLaws.{is_held, among-units_out}
+use Rattle.margin_policy.proofs.HeldLaws.{is_held, among-units_out}
 use Rattle.margin_policy.specs.Standing.{StandingView}
 use Rattle.outage_board.specs.declared.entry.Entry.{Entry}
 use Rattle.outage_board.specs.Requests.{requests_of}
@@ -26,7 +27,7 @@ use Rattle.outage_board.specs.Boards.{BoardView, IsBoard, standing_of}
 use Rattle.board_report.specs.BoardText.{IsDeckOf, left_line, left_lines}
 use Rattle.board_report.specs.LogText.{entry_line, entry_lines}
 use Rattle.board_report.specs.Logged.{IsLogged}
-use Rattle.board_report.proofs.Putting.{first_short}
+use Rattle.text_pieces.proofs.Putting.{first_short}
 
 -- ---- the entries of a board
 

@@ -1,4 +1,3 @@
-mod Putting
 mod Listing
 mod ShownNames
 mod CrewNames
@@ -6,3 +5,5 @@ mod LogLemmas
 mod BoardLemmas
 mod PrintLemmas
 mod PrintedTrees
+pub mod OrdersOfUnitsLemmas
+mod SummaryLemmas

@@ -1,32 +1,10 @@
--- Lines of so many numbers, from a number on, and the members of cut sets.
-use Rattle.std.specs.Prelude.{◌≡◌, ℕ, suc, ◌+◌, ◌-◌, ◌<◌, ◌≤◌, List, [], ◌∷◌, ◌++◌, length}
-use Rattle.std.specs.List.{flat_map, range_with_len}
+-- What holds of the numbers of nodes one after another, and the members of cut sets.
+use Rattle.std.specs.Prelude.{◌≡◌, ℕ, ◌+◌, ◌<◌, ◌≤◌, List, [], ◌∷◌, length}
 use Rattle.std.proofs.lemmas.List.Sums.{sum_by-cons}
 use Rattle.unit_sets.specs.CutOrder.{weight}
 use Rattle.board_report.specs.DiagramText.{member_count}
-use Rattle.std.proofs.Common.{refl, sym, ap, ◌∙◌, inl, inr, subst, arith}
+use Rattle.std.proofs.Common.{refl, inl, inr, subst, arith}
 use Rattle.std.proofs.lemmas.Bool.{cases_lt}
-
-module _ (line : ℕ → List ℕ) (start count : ℕ) where
-  pub all_numbers : flat_map line (range_with_len start count) ≡ flat_map line (range_with_len (start + 0) (count - 0))
-  all_numbers =
-      let from : start ≡ start + 0 = omega arith in
-      let all : count ≡ count - 0 = omega arith in
-      ap (λ n. flat_map line (range_with_len n count)) from ∙ ap (λ n. flat_map line (range_with_len (start + 0) n)) all
-
-  pub no_number : (i : ℕ) → count ≤ i → flat_map line (range_with_len (start + i) (count - i)) ≡ []
-  no_number i all = let none : count - i ≡ 0 = omega (arith, all) in
-      ap (λ n. flat_map line (range_with_len (start + i) n)) none
-
-  pub next_number : (i number : ℕ) → i < count → number ≡ start + i
-      → flat_map line (range_with_len (start + i) (count - i)) ≡ line number
-      ++ flat_map line (range_with_len (start + (i + 1)) (count - (i + 1)))
-  next_number i number short is =
-      let more : count - i ≡ suc (count - (i + 1)) = omega (arith, short) in
-      let later : start + i + 1 ≡ start + (i + 1) = omega arith in
-      ap (λ n. flat_map line (range_with_len (start + i) n)) more
-      ∙ ap (λ n. line (start + i) ++ flat_map line (range_with_len n (count - (i + 1)))) later
-      ∙ ap (λ n. line n ++ flat_map line (range_with_len (start + (i + 1)) (count - (i + 1)))) (sym is)
 
 -- 1 for each set and 1 for each member
 pub weight_parts : (cuts : List (List ℕ)) → weight cuts ≡ length cuts + member_count cuts

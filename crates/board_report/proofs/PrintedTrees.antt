@@ -1,5 +1,5 @@
 -- The text of a tree is that of its statements.
-use Rattle.std.proofs.Common.{◌≡◌, ℕ, ◌+◌, ◌-◌, ◌<◌, ◌≤◌, true, List, [], ◌∷◌, ◌++◌, length, get_or, map, refl, sym, ap}
+use Rattle.std.proofs.Common.{◌≡◌, ℕ, ◌+◌, ◌-◌, true, List, [], ◌∷◌, ◌++◌, get_or, map, refl, sym, ap}
 use Rattle.std.proofs.Common.{◌∙◌, subst, inl, inr, arith}
 use Rattle.std.specs.Prelude.{All, OnOk, Result, Ok, Err, codes}
 use Rattle.std.specs.List.{flat_map}
@@ -11,9 +11,9 @@ use Rattle.fault_model.specs.Name.{is_name}
 use Rattle.fault_model.specs.Tree.{FaultTree, IsGateOf, IsUnitOf, inputs_of, kind_of, name_of, unit_count}
 use Rattle.fault_model.specs.WellFormed.{IsTree}
 use Rattle.deck_reading.specs.TreeStatements.{HasNames, IsNamed, gate_numbers, gate_statement, node_name, statements_of}
-use Rattle.deck_reading.specs.TreeStatements.{top_statement, unit_numbers, unit_statement}
+use Rattle.deck_reading.specs.TreeStatements.{unit_numbers, unit_statement}
 use Rattle.deck_reading.specs.Written.{gate_word, input_text as written_input, quoted, statement_text, written}
-use Rattle.board_report.specs.PrintText.{IsNamedUnit, gate_line, input_text, print_text, top_line, unit_line}
+use Rattle.board_report.specs.PrintText.{IsNamedUnit, gate_line, print_text, top_line, unit_line}
 
 flat_map_same : {A B : Type 0} (f g : A → List B) → ((x : A) → f x ≡ g x) → (xs : List A)
     → flat_map f xs ≡ flat_map g xs

@@ -16,5 +16,7 @@ pub mod CheckText
 pub mod DiagramText
 -- the text of `print`
 pub mod PrintText
+-- the summary of a made deck
+pub mod SummaryText
 -- the lines of refusals
 pub mod Refusals

@@ -16,13 +16,13 @@ ghost use Rattle.board_report.specs.BoardText.{out_text};
 use crate::holders::put_out;
 use crate::left::put_left;
 use crate::log::put_log;
-use crate::pieces::put_all;
 use crew_script::Dockets;
 use edge_io::{Out, Sink, WriteFault};
 use fault_model::Tree;
 use itoa::Buffer;
 use margin_policy::{Reply, Request, Standing};
 use outage_board::{BoardState, Entry};
+use text_pieces::put_all;
 
 /// Puts what follows the text of cut sets for a board over this tree: the opening margin, the log, the margin in
 /// force where some margin request was granted, the units that are out with their holders, and what is left of each

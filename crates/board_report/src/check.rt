@@ -4,11 +4,11 @@ ghost use Rattle.edge_io.specs.Out.{has_failed, Puts};
 ghost use Rattle.board_report.specs.CheckText.{check_text, crews_line};
 
 use crate::cuts::put_titled_line;
-use crate::pieces::put_all;
 use crew_script::Dockets;
 use edge_io::{Out, Sink, WriteFault};
 use fault_model::Tree;
 use itoa::Buffer;
+use text_pieces::put_all;
 
 /// Puts the text of `check` over a tree, and over the crews of the deck where it has a crew part.
 pub fn put_check<K: Sink>(

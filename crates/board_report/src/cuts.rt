@@ -8,11 +8,12 @@ ghost use Rattle.board_report.specs.CutsText.{listed_with, titled_line, tree_cou
 ghost use Rattle.board_report.specs.OrdersOfUnits.{AreOrdersOf};
 
 use crate::orders::put_order_lines;
-use crate::pieces::{put_all, put_shown, put_spaced};
+use crate::pieces::{put_shown, put_spaced};
 use cut_sequences::OrderLists;
 use edge_io::{Out, Sink, WriteFault};
 use fault_model::{Name, Tree};
 use itoa::Buffer;
+use text_pieces::put_all;
 use unit_sets::{CutList, UnitNo};
 
 /// Puts the text of `cuts` over cut sets of units of the tree and the orders that are listed for them.
@@ -82,7 +83,11 @@ pub(crate) fn top_name(tree: &Tree) -> &Name
     tree.name(tree.top())
 }
 
-fn put_count_line<K: Sink>(out: &mut Out<K>, cuts: usize, orders: u64) -> Result<(), WriteFault>
+pub(crate) fn put_count_line<K: Sink>(
+    out: &mut Out<K>,
+    cuts: usize,
+    orders: u64,
+) -> Result<(), WriteFault>
     ensures puts { Puts K.taken K.faults out.old out.new (count_line cuts orders) }
     ensures answer { is_err result ≡ has_failed out.new }
 {

@@ -4,10 +4,10 @@ ghost use Rattle.edge_io.specs.Out.{has_failed, Puts};
 ghost use Rattle.board_report.specs.DiagramText.{diagram_text, member_count, method_text, sizes_text};
 
 use crate::cuts::put_tree_line;
-use crate::pieces::put_all;
 use edge_io::{Out, Sink, WriteFault};
 use fault_model::Tree;
 use itoa::Buffer;
+use text_pieces::put_all;
 use unit_sets::CutList;
 
 /// Puts the text of `diagram` over a tree and its cut sets. `nodes` is how many nodes their diagram has, and `None`

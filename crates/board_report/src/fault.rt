@@ -3,13 +3,13 @@ ghost use Rattle.std.specs.Prelude.{◌≡◌, is_err};
 ghost use Rattle.edge_io.specs.Out.{has_failed, Puts};
 ghost use Rattle.board_report.specs.Refusals.{check_text, code_text, crew_text, fault_line, lex_text, what_text};
 
-use crate::pieces::put_all;
 use crew_script::CrewCode;
 use edge_io::{Out, Sink, WriteFault};
 use fault_model::Place;
 use galileo_lexer::LexCode;
 use galileo_tree::What;
 use itoa::Buffer;
+use text_pieces::put_all;
 use tree_check::CheckCode;
 
 /// What a fault of a deck is.

@@ -10,12 +10,13 @@ ghost use Rattle.board_report.specs.Shown.{show};
 ghost use Rattle.board_report.specs.BoardText.{holder_text, out_head, out_line, out_text};
 
 use crate::log::put_with_crew;
-use crate::pieces::{put_all, put_shown};
+use crate::pieces::put_shown;
 use crew_script::Dockets;
 use edge_io::{Out, Sink, WriteFault};
 use fault_model::{NodeNo, Tree};
 use itoa::Buffer;
 use margin_policy::Standing;
+use text_pieces::put_all;
 use unit_sets::{CrewNo, UnitNo};
 
 // Puts how many units are out, and then each with its holder.
@@ -63,15 +64,15 @@ fn holder_at(standing: &Standing, number: u16) -> Option<CrewNo>
     standing.holder(unit)
 }
 
-// How many units are out.
-fn count_out(standing: &Standing, units: u16) -> u32
-    requires units { standing.now.units ≡ units }
-    requires limit { units ≤ 4095 }
+// How many units are out. No unit has a number above the last one.
+pub(crate) fn count_out(standing: &Standing, last: u16) -> u32
+    requires units { standing.now.units ≤ last }
+    requires limit { last ≤ 4095 }
     ensures { result ≡ length (units_out standing.now.held) }
 {
     holds_units_alone(standing);
     let mut count = 0;
-    for number in 1..units + 1 {
+    for number in 1..last + 1 {
         count += count_at(standing, number);
     }
     count
@@ -90,7 +91,7 @@ fn count_at(standing: &Standing, number: u16) -> u32
     }
 }
 
-fn put_out_head<K: Sink>(out: &mut Out<K>, count: u32) -> Result<(), WriteFault>
+pub(crate) fn put_out_head<K: Sink>(out: &mut Out<K>, count: u32) -> Result<(), WriteFault>
     ensures puts { Puts K.taken K.faults out.old out.new (out_head count) }
     ensures answer { is_err result ≡ has_failed out.new }
 {

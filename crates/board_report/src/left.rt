@@ -4,10 +4,10 @@ ghost use Rattle.edge_io.specs.Out.{has_failed, Puts};
 ghost use Rattle.residual_ledger.specs.Residual.{cut_at, residual};
 ghost use Rattle.board_report.specs.BoardText.{left_line, left_lines};
 
-use crate::pieces::put_all;
 use edge_io::{Out, Sink, WriteFault};
 use itoa::Buffer;
 use residual_ledger::Ledger;
+use text_pieces::put_all;
 
 // Puts a line for each cut set: how many of its members are not out, and how many it has.
 pub(crate) fn put_left<K: Sink>(out: &mut Out<K>, ledger: &Ledger) -> Result<(), WriteFault>

@@ -9,13 +9,14 @@ ghost use Rattle.board_report.specs.LogText.{ask_text, crew_shown, entry_end, en
 ghost use Rattle.board_report.specs.LogText.{log_head, log_text, reply_text};
 ghost use Rattle.board_report.specs.Logged.{IsLogged};
 
-use crate::pieces::{put_all, put_named, put_shown};
+use crate::pieces::{put_named, put_shown};
 use crew_script::{Ask, Dockets};
 use edge_io::{Out, Sink, WriteFault};
 use fault_model::Name;
 use itoa::Buffer;
 use margin_policy::Reply;
 use outage_board::Entry;
+use text_pieces::put_all;
 use unit_sets::CrewNo;
 
 // Puts the log of these entries of the crews.

@@ -7,19 +7,8 @@ ghost use Rattle.board_report.specs.Shown.{named, show, spaced, unit_text};
 
 use edge_io::{Out, Sink, WriteFault};
 use fault_model::{Name, NodeNo, Tree};
+use text_pieces::put_all;
 use unit_sets::UnitNo;
-
-// Puts pieces one after another, of which there are some.
-pub(crate) fn put_all<K: Sink>(out: &mut Out<K>, pieces: &[&[u8]]) -> Result<(), WriteFault>
-    requires some { 0 < length pieces.now }
-    ensures puts { Puts K.taken K.faults out.old out.new (flat_map (λ piece. piece.now) pieces.now) }
-    ensures answer { is_err result ≡ has_failed out.new }
-{
-    for piece in pieces {
-        out.put(piece)?;
-    }
-    Ok(())
-}
 
 // Puts a name as texts show it: in quotes where it is not bare.
 pub(crate) fn put_shown<K: Sink>(out: &mut Out<K>, name: &Name) -> Result<(), WriteFault>

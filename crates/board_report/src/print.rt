@@ -15,10 +15,10 @@ ghost use Rattle.board_report.specs.PrintText.{IsNamedUnit, gate_line, input_tex
 
 use crate::cuts::top_name;
 use crate::laws::printed_trees_are_read;
-use crate::pieces::put_all;
 use edge_io::{Out, Sink, WriteFault};
 use fault_model::{Attribute, GateKind, Name, NodeNo, Tree};
 use itoa::Buffer;
+use text_pieces::{put_all, put_gate_word};
 use unit_sets::UnitNo;
 
 /// Puts a tree as a text: the top event, then the gates and the units by number. Every name stands in quotes. Where all
@@ -84,40 +84,6 @@ fn put_gate_line<K: Sink>(out: &mut Out<K>, tree: &Tree, gate: NodeNo) -> Result
     put_gate_word(out, tree.kind(gate))?;
     put_inputs(out, tree, tree.inputs(gate))?;
     out.put(b";\n")
-}
-
-fn put_gate_word<K: Sink>(out: &mut Out<K>, kind: GateKind) -> Result<(), WriteFault>
-    ensures puts { Puts K.taken K.faults out.old out.new (gate_word kind) }
-    ensures answer { is_err result ≡ has_failed out.new }
-{
-    match kind {
-        GateKind::And => out.put(b"and"),
-        GateKind::Or => out.put(b"or"),
-        GateKind::Votes(least, inputs) => put_votes(out, least, inputs),
-        GateKind::Pand => out.put(b"pand"),
-        GateKind::Por => out.put(b"por"),
-        GateKind::Seq => out.put(b"seq"),
-        GateKind::Fdep => out.put(b"fdep"),
-        GateKind::Csp => out.put(b"csp"),
-        GateKind::Wsp => out.put(b"wsp"),
-        GateKind::Hsp => out.put(b"hsp"),
-    }
-}
-
-fn put_votes<K: Sink>(out: &mut Out<K>, least: u32, inputs: u32) -> Result<(), WriteFault>
-    ensures puts { Puts K.taken K.faults out.old out.new (gate_word (Votes least inputs)) }
-    ensures answer { is_err result ≡ has_failed out.new }
-{
-    let mut least_digits = Buffer::new();
-    let mut input_digits = Buffer::new();
-    put_all(
-        out,
-        &[
-            least_digits.format(least).as_bytes(),
-            b"of",
-            input_digits.format(inputs).as_bytes(),
-        ],
-    )
 }
 
 // Puts the names of inputs, each behind a blank.

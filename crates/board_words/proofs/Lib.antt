@@ -1,4 +1,4 @@
 mod OptionLemmas
-mod Numerals
+pub mod Numerals
 mod OptionWords
 mod SpellingLemmas

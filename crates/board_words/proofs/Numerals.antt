@@ -8,7 +8,8 @@ use Rattle.std.proofs.lemmas.Bool.{and_parts, and_from, leb-true, le-leb, eqb-fa
 use Rattle.std.proofs.lemmas.Str.Parse.{IsNumeralModel, IsDigitsTest, FoldsDigits, numerals_by_fold, digits_value_short}
 use Rattle.std.proofs.lemmas.Fmt.{decimal-digits_value, digits_decimal, digits_value-decimal, decimal_nonempty}
 use Rattle.std.proofs.lemmas.Fmt.{first_decimal, length-decimal-le, decimal_digit}
-use Rattle.board_words.specs.Number.{has_leading_zero, is_numeral, number_from, number_within}
+use Rattle.decimal_numerals.specs.Numeral.{has_leading_zero, is_numeral, number_from}
+use Rattle.board_words.specs.Number.{number_within}
 
 pub some_if : {X : Type 0} (b : Bool) (o : Option X) (x : X) → (if b then o else None) ≡ Some x
     → (b ≡ true) × (o ≡ Some x)
@@ -61,7 +62,7 @@ record Numeral (word : List ℕ) : Type 0 where
   few : length word ≤ 6
   first : has_leading_zero word ≡ false
 
-numeral_parts : (word : List ℕ) → is_numeral word ≡ true → Numeral word
+numeral_parts : (word : List ℕ) → is_numeral 6 word ≡ true → Numeral word
 unfolding AreDigits
 numeral_parts word e =
     let last =
@@ -76,7 +77,7 @@ numeral_parts word e =
       first = not-true (has_leading_zero word) last.1;
     }
 
-written : (word : List ℕ) → is_numeral word ≡ true → decimal (number_from 0 word) ≡ word
+written : (word : List ℕ) → is_numeral 6 word ≡ true → decimal (number_from 0 word) ≡ word
 written word e =
     let parts = numeral_parts word e in
     let small = digits_value_short own word 6 parts.digits parts.few in
@@ -97,7 +98,7 @@ one_long zero small long =
     absurd (omega (arith, long, short))
 one_long (suc n) small long = omega arith
 
-decimal_numeral : (n : ℕ) → n < 1000000 → is_numeral (decimal n) ≡ true
+decimal_numeral : (n : ℕ) → n < 1000000 → is_numeral 6 (decimal n) ≡ true
 unfolding AreDigits
 decimal_numeral n few =
     let small : n < 2 ^ 64 = omega (arith, few) in
@@ -123,7 +124,7 @@ pub record Says (least most : ℕ) (word : List ℕ) (n : ℕ) : Type 0 where
 pub says : (least most : ℕ) (word : List ℕ) (n : ℕ) → number_within least most word ≡ Some n → Says least most word n
 says least most word n e =
     let m = number_from 0 word in
-    let numeral = some_if (is_numeral word) (if nat_le least m && nat_le m most then Some m else None) n e in
+    let numeral = some_if (is_numeral 6 word) (if nat_le least m && nat_le m most then Some m else None) n e in
     let within = some_if (nat_le least m && nat_le m most) (Some m) n numeral.1 in
     let bounds = and_parts (nat_le least m) (nat_le m most) within.0 in
     let same : m ≡ n = some_is m n within.1 in
@@ -144,7 +145,7 @@ pub said_within : (least most n : ℕ) → most < 1000000 → least ≤ n → n 
 said_within least most n few low high =
     let under : n < 1000000 = omega (arith, few, high) in
     let same : number_from 0 (decimal n) ≡ n = digits_value-decimal own n (omega (arith, under)) in
-    within_if (is_numeral (decimal n)) (nat_le least (number_from 0 (decimal n))
+    within_if (is_numeral 6 (decimal n)) (nat_le least (number_from 0 (decimal n))
     && nat_le (number_from 0 (decimal n)) most) n (number_from 0 (decimal n))
     (decimal_numeral n under)
     (and_from (nat_le least (number_from 0 (decimal n))) (nat_le (number_from 0 (decimal n)) most)

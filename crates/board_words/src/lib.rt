@@ -2,7 +2,8 @@
 //!
 //! It stands on std alone. Its contract gives the layer above the command of the words exactly where they are one. A
 //! list of words is one command at most. Two laws tell the spellings of the commands: each is read as its command, and
-//! nothing else is read as one.
+//! nothing else is read as one. A program with words of its own reads its options by [`are_options`], [`value_of`] and
+//! [`number_within`].
 #![tactic(auto)]
 
 mod command;
@@ -15,4 +16,6 @@ mod word;
 
 pub use command::{Command, Show, read};
 pub use laws::{numbers_are_within_bounds, only_spellings_are_read, spellings_are_read};
+pub use number::number_within;
+pub use options::{are_options, value_of};
 pub use word::{NoMemory, Word};

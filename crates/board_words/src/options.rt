@@ -7,8 +7,8 @@ ghost use Rattle.board_words.specs.Options.{value_of};
 use crate::Word;
 use crate::number::number_within;
 
-// Whether the words are known options, each with a value behind it, and none twice.
-pub(crate) fn are_options(known: &[&[u8]], words: &[Word]) -> bool
+/// Whether the words are known options, each with a value behind it, and none twice.
+pub fn are_options(known: &[&[u8]], words: &[Word]) -> bool
     ensures { result ≡ are_options (map (λ word. word.now) known.now) words.now }
 {
     let mut rest = words;
@@ -51,8 +51,8 @@ fn is_option(option: &[u8], words: &[Word]) -> bool
     false
 }
 
-// The value behind an option, where the option is said.
-pub(crate) fn value_of<'a>(option: &[u8], words: &'a [Word]) -> Option<&'a Word>
+/// The value behind an option, where the option is said.
+pub fn value_of<'a>(option: &[u8], words: &'a [Word]) -> Option<&'a Word>
     ensures { MatchOption result (value_of option.now words.now ≡ None)
         (λ value. value_of option.now words.now ≡ Some value.now) }
 {

@@ -10,6 +10,7 @@ use Rattle.cutset_lists.specs.Generation.{HasHeavyCutList}
 use Rattle.cut_sequences.specs.Orders.{order_limit, order_lists, order_total}
 use Rattle.crew_script.specs.declared.dockets.Crew.{Crew}
 use Rattle.edge_io.specs.declared.reading.TheConstants.{INPUT_LIMIT}
+use Rattle.board_words.specs.Command.{command_of}
 use Rattle.board_report.specs.CheckText.{check_text}
 use Rattle.board_report.specs.CutsText.{cuts_text, listed_with}
 use Rattle.board_report.specs.DiagramText.{diagram_text}
@@ -23,12 +24,12 @@ use Rattle.outage_engine.specs.declared.refusal.Refusal.TheVariants.{OrderLimit}
 use Rattle.outage_engine.specs.declared.refusal.RunEnd.{RunEnd}
 use Rattle.outage_engine.specs.declared.refusal.RunEnd.TheVariants.{Refused, NoMemory}
 use Rattle.outage_engine.specs.Answers.{AreSizesOf, IfRefused, IsLimitOf, IsListingOf, IsReadRefusal, IsRefusalBy}
-use Rattle.outage_engine.specs.Answers.{IsRefusalFor, IsWeightLimitOf, found_in, listing_text}
+use Rattle.outage_engine.specs.Answers.{IsDeckRefusal, IsRefusalFor, IsWeightLimitOf, found_in, listing_text}
 use Rattle.outage_engine.specs.Deck.{IsDeckFault, IsWellFormed}
 use Rattle.outage_engine.specs.Finding.{Finds, Found, Faulty, Ready, TooHeavy, TooManyOrders, Wants, WithOrders}
 use Rattle.outage_engine.specs.Finding.{bad_deck, judged, well_formed}
 use Rattle.outage_engine.specs.Gives as gives
-use Rattle.outage_engine.specs.Gives.{OfInput, wanted}
+use Rattle.outage_engine.specs.Gives.{OfDeckOr, OfInput, own_deck, wanted}
 use Rattle.outage_engine.specs.Store.{method_by}
 use Rattle.outage_engine.specs.Texts.{IsCheckText, IsCutsText, IsDiagramText, IsPrintText, cuts_said, for_diagram}
 use Rattle.outage_engine.proofs.Clauses.{of_input}
@@ -68,11 +69,11 @@ module _ (part : CrewPart) (most : ℕ) (bytes : List ℕ) (tree : FaultTree) (c
   abbrev as_found : List (List ℕ) → Found
   as_found cuts = record { tree = tree; cuts = cuts; crews = crews }
 
-  finds_heavy : HasHeavyCutList tree → Finds with_orders bytes TooHeavy
+  pub finds_heavy : HasHeavyCutList tree → Finds with_orders bytes TooHeavy
   finds_heavy (cuts, list, heavy) =
       well_formed (as_found cuts) deck list (sym (judged-heavy most (as_found cuts) heavy))
 
-  finds_many : IsLimitOf most tree OrderLimit → Finds with_orders bytes TooManyOrders
+  pub finds_many : IsLimitOf most tree OrderLimit → Finds with_orders bytes TooManyOrders
   finds_many (cuts, list, light, many) =
       well_formed (as_found cuts) deck list (sym (judged-many most (as_found cuts) light many))
 
@@ -236,13 +237,38 @@ module _ (held left : Option (List ℕ)) (rose : Type 0) where
   refused_for wants (Refused Usage) never = absurd never
   refused_for wants NoMemory free = tt
 
+  -- of words whose run is about the input
   pub refused_by : (words : List (List ℕ)) (wants : Wants) (end : RunEnd) → wanted words ≡ Some wants
-      → IfRefused (IsRefusalFor wants held left rose) end
+      → own_deck (command_of words) ≡ None → IfRefused (IsRefusalFor wants held left rose) end
       → IfRefused (IsRefusalBy words held left rose) end
-  refused_by words wants (Refused (Fault fault)) at holds = gives.refused wants fault at holds refl refl
-  refused_by words wants (Refused ReadFault) at rises = gives.read_fault wants at rises refl refl
-  refused_by words wants (Refused TooLong) at beyond = gives.too_long wants at beyond refl refl
-  refused_by words wants (Refused ListLimit) at holds = gives.list_limit wants at holds refl refl
-  refused_by words wants (Refused OrderLimit) at holds = gives.order_limit wants at holds refl refl
-  refused_by words wants (Refused Usage) at never = absurd never
-  refused_by words wants NoMemory at free = tt
+  refused_by words wants (Refused (Fault fault)) at none holds =
+      gives.refused wants fault at (subst (λ own. OfDeckOr own held left (λ bytes. Finds wants bytes (Faulty fault)))
+      (sym none) holds) refl refl
+  refused_by words wants (Refused ReadFault) at none rises = gives.read_fault (wants, at, none) rises refl refl
+  refused_by words wants (Refused TooLong) at none beyond = gives.too_long (wants, at, none) beyond refl refl
+  refused_by words wants (Refused ListLimit) at none holds =
+      gives.list_limit wants at
+      (subst (λ own. OfDeckOr own held left (λ bytes. Finds wants bytes TooHeavy)) (sym none) holds) refl refl
+  refused_by words wants (Refused OrderLimit) at none holds =
+      gives.order_limit wants at
+      (subst (λ own. OfDeckOr own held left (λ bytes. Finds wants bytes TooManyOrders)) (sym none) holds) refl refl
+  refused_by words wants (Refused Usage) at none never = absurd never
+  refused_by words wants NoMemory at none free = tt
+
+  -- of words whose run is about a deck that it makes
+  pub refused_by_own : (words : List (List ℕ)) (wants : Wants) (own : List ℕ) (end : RunEnd)
+      → wanted words ≡ Some wants → own_deck (command_of words) ≡ Some own
+      → IfRefused (IsDeckRefusal wants own) end → IfRefused (IsRefusalBy words held left rose) end
+  refused_by_own words wants own (Refused (Fault fault)) at makes holds =
+      gives.refused wants fault at (subst (λ o. OfDeckOr o held left (λ bytes. Finds wants bytes (Faulty fault)))
+      (sym makes) holds) refl refl
+  refused_by_own words wants own (Refused ListLimit) at makes holds =
+      gives.list_limit wants at
+      (subst (λ o. OfDeckOr o held left (λ bytes. Finds wants bytes TooHeavy)) (sym makes) holds) refl refl
+  refused_by_own words wants own (Refused OrderLimit) at makes holds =
+      gives.order_limit wants at
+      (subst (λ o. OfDeckOr o held left (λ bytes. Finds wants bytes TooManyOrders)) (sym makes) holds) refl refl
+  refused_by_own words wants own (Refused ReadFault) at makes never = absurd never
+  refused_by_own words wants own (Refused TooLong) at makes never = absurd never
+  refused_by_own words wants own (Refused Usage) at makes never = absurd never
+  refused_by_own words wants own NoMemory at makes free = tt

@@ -10,15 +10,16 @@ use Rattle.std.proofs.lemmas.Bool.{false≢true, cond-true, cond-false, cond_bot
 use Rattle.std.proofs.lemmas.List.Elements.{All-contains, All-from_recursion}
 use Rattle.std.proofs.lemmas.List.Kept.{IsStrictlySortedBy-filter}
 use Rattle.std.specs.declared.cmp.Ordering.TheVariants.{Less}
-use Rattle.unit_sets.specs.UnitList.{among, outside, is_within, without_unit, IsRising, among-filter}
-use Rattle.unit_sets.specs.UnitList.{among-without_unit, among-from_is_within, Contains-from_among}
-use Rattle.unit_sets.specs.Sorted.{Contains-nil, Contains-cons_cases}
+use Rattle.unit_sets.specs.UnitList.{among, outside, is_within, without_unit, IsRising}
+use Rattle.unit_sets.proofs.UnitListLemmas.{among-filter}
+use Rattle.unit_sets.proofs.UnitListLemmas.{among-without_unit, among-from_is_within, Contains-from_among}
+use Rattle.unit_sets.proofs.Sorted.{Contains-nil, Contains-cons_cases}
 use Rattle.fault_model.specs.Tree.{FaultTree}
 use Rattle.fault_model.specs.Cut.{IsCutList, is_cut}
 use Rattle.fault_model.specs.FailingOrder.{is_admissible, is_failing}
-use Rattle.fault_model.specs.MinimalCuts.{includes_minimal}
+use Rattle.fault_model.proofs.MinimalCuts.{includes_minimal}
 use Rattle.fault_model.specs.Step.{step}
-use Rattle.fault_model.specs.StepLaws.{step-reads}
+use Rattle.fault_model.proofs.StepLaws.{step-reads}
 use Rattle.fault_model.specs.WellFormed.{IsTree}
 use Rattle.residual_ledger.specs.Residual.{residual}
 use Rattle.residual_ledger.specs.Tight.{is_tight, numbers_from, tight}

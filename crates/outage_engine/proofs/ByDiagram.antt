@@ -6,7 +6,7 @@ use Rattle.fault_model.specs.Cut.{IsCutList}
 use Rattle.fault_model.specs.Tree.{FaultTree}
 use Rattle.fault_model.specs.WellFormed.{IsTree}
 use Rattle.cutset_lists.specs.Generation.{HasHeavyCutList}
-use Rattle.tree_families.specs.CutFamilies.{cut_list-from_family, no_empty_set}
+use Rattle.tree_families.proofs.CutFamilies.{cut_list-from_family, no_empty_set}
 use Rattle.family_operations.specs.Nodes.{IsNodeCount}
 use Rattle.zdd_families.specs.Map.{family}
 use Rattle.zdd_shared_table.specs.Seats.{Seated, map_of}

@@ -3,6 +3,8 @@ use Rattle.std.specs.Prelude.{◌≡◌, ◌⊎◌, ℕ, ◌<◌, ◌≤◌, Lis
 use Rattle.std.specs.Io.KnownBytes.{Appends}
 use Rattle.std.proofs.Common.{sym, subst, ◌∙◌, refl, inl, inr, arith}
 use Rattle.edge_io.specs.declared.reading.TheConstants.{INPUT_LIMIT}
+use Rattle.board_words.specs.Command.{command_of}
+use Rattle.tree_maker.specs.MadeDeck.{made_deck}
 use Rattle.board_words.specs.declared.command.Command.{Command}
 use Rattle.board_words.specs.declared.command.Command.TheVariants.{Cuts, Board, Check, Print, Diagram, Make, Help}
 use Rattle.board_words.specs.declared.command.Show.TheVariants as shown
@@ -13,13 +15,14 @@ use Rattle.outage_engine.specs.declared.status.Status.TheVariants.{Done, Refused
 use Rattle.outage_engine.specs.declared.status.Status.TheVariants.{ReadFault, TooLong, WriteFault, NoMemory}
 use Rattle.outage_engine.specs.declared.status.Method.{Method}
 use Rattle.outage_engine.specs.Finding.{Finding, Finds, Found, Faulty, TooHeavy, TooManyOrders, Ready, Wants}
-use Rattle.outage_engine.specs.Gives.{Gives, IsBeyond, IsMethodOf, IsTextOf, OfInput, asked, wanted, wants_of, done}
+use Rattle.outage_engine.specs.Gives.{AreReading, Gives, IsBeyond, IsDeckOr, IsMethodOf, IsRunDeck, IsTextOf, OfDeck}
+use Rattle.outage_engine.specs.Gives.{OfDeckOr, OfInput, done, own_deck, wanted, wants_of}
 use Rattle.outage_engine.specs.Gives.{usage, read_fault, too_long, refused, list_limit, order_limit}
 use Rattle.outage_engine.specs.Runs as runs
-use Rattle.outage_engine.specs.Runs.{Answers, AreReading, Fails, HasFound, IsDone, Runs}
+use Rattle.outage_engine.specs.Runs.{Answers, Fails, HasFound, IsDone, Runs}
 use Rattle.outage_engine.specs.Safety.{IsSafeText}
 use Rattle.outage_engine.specs.Texts.{IsBoardText, IsCheckText, IsCutsText, IsDiagramText, IsPrintText, for_board}
-use Rattle.outage_engine.specs.Texts.{for_check, for_cuts, for_diagram, for_print}
+use Rattle.outage_engine.specs.Texts.{for_check, for_cuts, for_diagram, for_print, for_summary}
 use Rattle.outage_engine.proofs.OneFinding.{one_finding}
 
 -- ---- inputs
@@ -44,6 +47,19 @@ of_input None left P Q weaker fact = tt
 of_input (Some bytes) None P Q weaker fact = absurd fact
 of_input (Some bytes) (Some rest) P Q weaker fact = (fact.0, fact.1, weaker bytes fact.2)
 
+-- the same of a deck
+pub of_deck : (own held left : Option (List ℕ)) (P Q : List ℕ → Type 0) → ((bytes : List ℕ) → P bytes → Q bytes)
+    → OfDeckOr own held left P → OfDeckOr own held left Q
+of_deck None held left P Q weaker fact = of_input held left P Q weaker fact
+of_deck (Some own) held left P Q weaker fact = weaker own fact
+
+-- a fact of a deck holds of its bytes
+fact_of_deck : (own held left : Option (List ℕ)) (P : List ℕ → Type 0) (bytes : List ℕ) → IsDeckOr own held bytes
+    → OfDeckOr own held left P → P bytes
+fact_of_deck (Some own) held left P bytes same fact = subst P same fact
+fact_of_deck None held left P bytes (holds, short) fact =
+    (input bytes left P (subst (λ h. OfInput h left P) holds fact)).1
+
 plain_text : (margin most : ℕ) (bytes text : List ℕ) → IsSafeText margin most bytes text
     → IsBoardText margin most bytes text
 plain_text margin most bytes text is =
@@ -51,16 +67,18 @@ plain_text margin most bytes text is =
 
 -- ---- words are of one kind
 
-wanted_by : {P : Type 0} (words : List (List ℕ)) (wants : Wants) → wanted words ≡ Some wants → asked words ≡ None → P
+wanted_by : {P : Type 0} (words : List (List ℕ)) (wants : Wants) → wanted words ≡ Some wants → command_of words ≡ None
+    → P
 wanted_by words wants some none =
     let clash : wants_of None ≡ Some wants = subst (λ c. wants_of c ≡ Some wants) none some in absurd cc
 
 wanted_by_other : {P : Type 0} (words : List (List ℕ)) (wants : Wants) (command : Command) → wanted words ≡ Some wants
-    → asked words ≡ Some command → wants_of (Some command) ≡ None → P
+    → command_of words ≡ Some command → wants_of (Some command) ≡ None → P
 wanted_by_other words wants command some asks none =
     let clash : None ≡ Some wants = sym none ∙ subst (λ c. wants_of c ≡ Some wants) asks some in absurd cc
 
-same_command : (words : List (List ℕ)) (one two : Command) → asked words ≡ Some one → asked words ≡ Some two → one ≡ two
+same_command : (words : List (List ℕ)) (one two : Command) → command_of words ≡ Some one → command_of words ≡ Some two
+    → one ≡ two
 same_command words one two at at' = let same : Some one ≡ Some two = sym at ∙ at' in cc
 
 same_some : (one two : Wants) → Some one ≡ Some two → one ≡ two
@@ -74,7 +92,7 @@ same_wants words one two at at' = let same : Some one ≡ Some two = sym at ∙ 
 -- a text that ends well is that of the command
 abbrev IsDoneText : List (List ℕ) → Option (List ℕ) → Option (List ℕ) → Method → List ℕ → Type 0
 IsDoneText words held left method text =
-    (command : Command) × (asked words ≡ Some command) × IsMethodOf command method
+    (command : Command) × (command_of words ≡ Some command) × IsMethodOf command method
     × IsTextOf command method held left text
 
 abbrev Cause : List (List ℕ) → Option (List ℕ) → Option (List ℕ) → Type 0 → Status → List ℕ → Type 0
@@ -83,7 +101,7 @@ Cause words held left rose (Refused fault) text = HasFound words held left (Faul
 Cause words held left rose ListLimit text = HasFound words held left TooHeavy × (text ≡ notice_line notice.ListLimit)
 Cause words held left rose OrderLimit text =
     HasFound words held left TooManyOrders × (text ≡ notice_line notice.OrderLimit)
-Cause words held left rose Usage text = (asked words ≡ None) × (text ≡ notice_line notice.Usage)
+Cause words held left rose Usage text = (command_of words ≡ None) × (text ≡ notice_line notice.Usage)
 Cause words held left rose ReadFault text = AreReading words × rose × (text ≡ notice_line notice.ReadFault)
 Cause words held left rose TooLong text = AreReading words × IsBeyond held left × (text ≡ notice_line notice.TooLong)
 Cause words held left rose WriteFault text = ⊥
@@ -96,127 +114,161 @@ module _ (words : List (List ℕ)) (held left : Option (List ℕ)) (rose : Type 
   cause : (status : Status) → Gives words held left rose status text → Caused status
   cause status (done command method at is_method is_text is) = subst Caused (sym is) (command, at, is_method, is_text)
   cause status (usage none is line) = subst Caused (sym is) (none, line)
-  cause status (read_fault wants at rises is line) = subst Caused (sym is) ((wants, at), rises, line)
-  cause status (too_long wants at beyond is line) = subst Caused (sym is) ((wants, at), beyond, line)
+  cause status (read_fault reading rises is line) = subst Caused (sym is) (reading, rises, line)
+  cause status (too_long reading beyond is line) = subst Caused (sym is) (reading, beyond, line)
   cause status (refused wants fault at found is line) = subst Caused (sym is) ((wants, at, found), line)
   cause status (list_limit wants at found is line) = subst Caused (sym is) ((wants, at, found), line)
   cause status (order_limit wants at found is line) = subst Caused (sym is) ((wants, at, found), line)
 
-  text_of_command : (method : Method) (command : Command) → asked words ≡ Some command
+  text_of_command : (method : Method) (command : Command) → command_of words ≡ Some command
       → IsDoneText words held left method text → IsTextOf command method held left text
   text_of_command method command asks (other, at, is_method, is_text) =
       subst (λ c. IsTextOf c method held left text) (same_command words other command at asks) is_text
 
 -- ---- the status that is due
 
-module _ (words : List (List ℕ)) (bytes : List ℕ) (left : Option (List ℕ)) (rose : Type 0) (text : List ℕ) where
-  -- of a deck that was read, the status goes with its finding
-  goes_with : (wants : Wants) (finding other : Finding) (status : Status) → wanted words ≡ Some wants
-      → Finds wants bytes finding → HasFound words (Some bytes) left other
+-- what the text of a command was found of
+module _ (held left : Option (List ℕ)) (text : List ℕ) (wants : Wants) where
+  abbrev IsReady : List ℕ → Type 0
+  IsReady bytes = (found : Found) × Finds wants bytes (Ready found)
+
+  ready_for : (command : Command) (method : Method) → wants_of (Some command) ≡ Some wants
+      → IsTextOf command method held left text → OfDeckOr (own_deck (Some command)) held left IsReady
+  ready_for (Cuts most workers) method at is_text =
+      let same : for_cuts most ≡ wants = same_some (for_cuts most) wants at in
+      of_input held left (λ b. IsCutsText most b text) IsReady
+      (λ b whole. (whole.found, subst (λ w. Finds w b (Ready whole.found)) same whole.finds)) is_text
+  ready_for (Board margin most workers) method at is_text =
+      let same : for_board most ≡ wants = same_some (for_board most) wants at in
+      of_input held left (λ b. IsSafeText margin most b text) IsReady
+      (λ b whole. (whole.found, subst (λ w. Finds w b (Ready whole.found)) same whole.finds)) is_text
+  ready_for Check method at is_text =
+      let same : for_check ≡ wants = same_some for_check wants at in
+      of_input held left (λ b. IsCheckText b text) IsReady
+      (λ b whole. (whole.found, subst (λ w. Finds w b (Ready whole.found)) same whole.finds)) is_text
+  ready_for Print method at is_text =
+      let same : for_print ≡ wants = same_some for_print wants at in
+      of_input held left (λ b. IsPrintText b text) IsReady
+      (λ b whole. (whole.found, subst (λ w. Finds w b (Ready whole.found)) same whole.finds)) is_text
+  ready_for Help method at is_text = absurd cc
+  ready_for (Diagram workers) method at is_text =
+      let same : for_diagram ≡ wants = same_some for_diagram wants at in
+      of_input held left (λ b. IsDiagramText method b text) IsReady
+      (λ b whole. (whole.found, subst (λ w. Finds w b (Ready whole.found)) same whole.finds)) is_text
+  ready_for (Make number shown.Deck) method at is_text = absurd cc
+  ready_for (Make number shown.Summary) method at is_text =
+      let same : for_summary ≡ wants = same_some for_summary wants at in
+      (is_text.found, subst (λ w. Finds w (made_deck number) (Ready is_text.found)) same is_text.finds)
+
+  -- of a run that is done
+  ready_of : (words : List (List ℕ)) (method : Method) → wanted words ≡ Some wants
+      → IsDoneText words held left method text → OfDeck words held left IsReady
+  ready_of words method at (command, asks, is_method, is_text) =
+      subst (λ c. OfDeckOr (own_deck c) held left IsReady) (sym asks)
+      (ready_for command method (subst (λ c. wants_of c ≡ Some wants) asks at) is_text)
+
+module _ (words : List (List ℕ)) (bytes : List ℕ) (held left : Option (List ℕ)) (rose : Type 0)
+    (text : List ℕ) where
+  -- of a deck, the status goes with its finding
+  goes_with : IsRunDeck words held bytes → (wants : Wants) (finding other : Finding) (status : Status)
+      → wanted words ≡ Some wants → Finds wants bytes finding → HasFound words held left other
       → (Answers other status) → Answers finding status
-  goes_with wants finding other status at finds (wants', at', found) answers =
+  goes_with deck wants finding other status at finds (wants', at', found) answers =
       let same : wants' ≡ wants = same_wants words wants' wants at' at in
       let found' : Finds wants bytes other =
-      subst (λ w. Finds w bytes other) same (input bytes left (λ b. Finds wants' b other) found).1 in
+      subst (λ w. Finds w bytes other) same
+      (fact_of_deck (own_deck (command_of words)) held left (λ b. Finds wants' b other) bytes deck found) in
       subst (λ f. Answers f status) (one_finding wants bytes other finding found' finds) answers
 
-  -- what the text of a command was found of
-  ready_for : (wants : Wants) (command : Command) (method : Method) → wants_of (Some command) ≡ Some wants
-      → IsTextOf command method (Some bytes) left text
-      → (length bytes ≤ INPUT_LIMIT) × (found : Found) × Finds wants bytes (Ready found)
-  ready_for wants (Cuts most workers) method at is_text =
-      let whole = input bytes left (λ b. IsCutsText most b text) is_text in
-      let same : for_cuts most ≡ wants = same_some (for_cuts most) wants at in
-      (whole.0, whole.1.found, subst (λ w. Finds w bytes (Ready whole.1.found)) same whole.1.finds)
-  ready_for wants (Board margin most workers) method at is_text =
-      let whole = input bytes left (λ b. IsSafeText margin most b text) is_text in
-      let same : for_board most ≡ wants = same_some (for_board most) wants at in
-      (whole.0, whole.1.found, subst (λ w. Finds w bytes (Ready whole.1.found)) same whole.1.finds)
-  ready_for wants Check method at is_text =
-      let whole = input bytes left (λ b. IsCheckText b text) is_text in
-      let same : for_check ≡ wants = same_some for_check wants at in
-      (whole.0, whole.1.found, subst (λ w. Finds w bytes (Ready whole.1.found)) same whole.1.finds)
-  ready_for wants Print method at is_text =
-      let whole = input bytes left (λ b. IsPrintText b text) is_text in
-      let same : for_print ≡ wants = same_some for_print wants at in
-      (whole.0, whole.1.found, subst (λ w. Finds w bytes (Ready whole.1.found)) same whole.1.finds)
-  ready_for wants Help method at is_text = absurd cc
-  ready_for wants (Diagram workers) method at is_text =
-      let whole = input bytes left (λ b. IsDiagramText method b text) is_text in
-      let same : for_diagram ≡ wants = same_some for_diagram wants at in
-      (whole.0, whole.1.found, subst (λ w. Finds w bytes (Ready whole.1.found)) same whole.1.finds)
-  ready_for wants (Make number show) method at is_text = absurd cc
-
-  deck_due : (wants : Wants) (finding : Finding) → length bytes ≤ INPUT_LIMIT → wanted words ≡ Some wants
+  deck_due : IsRunDeck words held bytes → (wants : Wants) (finding : Finding) → wanted words ≡ Some wants
       → Finds wants bytes finding
-      → (status : Status) → Cause words (Some bytes) left rose status text → Answers finding status ⊎ Fails status
-  deck_due wants finding short at finds (Done method) (command, asks, is_method, is_text) =
-      let ready = ready_for wants command method (subst (λ c. wants_of c ≡ Some wants) asks at) is_text in
-      inl (subst (λ f. Answers f (Done method)) (one_finding wants bytes (Ready ready.1) finding ready.2 finds)
+      → (status : Status) → Cause words held left rose status text → Answers finding status ⊎ Fails status
+  deck_due deck wants finding at finds (Done method) is_done =
+      let ready =
+      fact_of_deck (own_deck (command_of words)) held left (IsReady held left text wants) bytes deck
+      (ready_of held left text wants words method at is_done) in
+      inl (subst (λ f. Answers f (Done method)) (one_finding wants bytes (Ready ready.0) finding ready.1 finds)
       (method, refl))
-  deck_due wants finding short at finds (Refused fault) (found, line) =
-      inl (goes_with wants finding (Faulty fault) (Refused fault) at finds found refl)
-  deck_due wants finding short at finds ListLimit (found, line) =
-      inl (goes_with wants finding TooHeavy ListLimit at finds found refl)
-  deck_due wants finding short at finds OrderLimit (found, line) =
-      inl (goes_with wants finding TooManyOrders OrderLimit at finds found refl)
-  deck_due wants finding short at finds Usage (none, line) = wanted_by words wants at none
-  deck_due wants finding short at finds ReadFault failed = inr (inl refl)
-  deck_due wants finding short at finds TooLong (reading, beyond, line) =
-      not_short_and_long bytes short (long_input bytes left beyond)
-  deck_due wants finding short at finds WriteFault none = absurd none
-  deck_due wants finding short at finds NoMemory none = absurd none
+  deck_due deck wants finding at finds (Refused fault) (found, line) =
+      inl (goes_with deck wants finding (Faulty fault) (Refused fault) at finds found refl)
+  deck_due deck wants finding at finds ListLimit (found, line) =
+      inl (goes_with deck wants finding TooHeavy ListLimit at finds found refl)
+  deck_due deck wants finding at finds OrderLimit (found, line) =
+      inl (goes_with deck wants finding TooManyOrders OrderLimit at finds found refl)
+  deck_due deck wants finding at finds Usage (none, line) = wanted_by words wants at none
+  deck_due deck wants finding at finds ReadFault failed = inr (inl refl)
+  deck_due deck wants finding at finds TooLong (reading, beyond, line) =
+      let whole : (held ≡ Some bytes) × (length bytes ≤ INPUT_LIMIT) =
+      subst (λ own. IsDeckOr own held bytes) reading.2 deck in
+      not_short_and_long bytes whole.1 (long_input bytes left (subst (λ h. IsBeyond h left) whole.0 beyond))
+  deck_due deck wants finding at finds WriteFault none = absurd none
+  deck_due deck wants finding at finds NoMemory none = absurd none
 
-  found_short : (finding : Finding) → HasFound words (Some bytes) left finding → length bytes ≤ INPUT_LIMIT
-  found_short finding (wants, at, found) = (input bytes left (λ b. Finds wants b finding) found).0
+module _ (words : List (List ℕ)) (bytes : List ℕ) (left : Option (List ℕ)) (rose : Type 0) (text : List ℕ) where
+  -- an input of which something is known is not too long
+  known_short : (P : List ℕ → Type 0) → own_deck (command_of words) ≡ None → OfDeck words (Some bytes) left P
+      → length bytes ≤ INPUT_LIMIT
+  known_short P none fact = (input bytes left P (subst (λ own. OfDeckOr own (Some bytes) left P) none fact)).0
+
+  found_short : (finding : Finding) → own_deck (command_of words) ≡ None → HasFound words (Some bytes) left finding
+      → length bytes ≤ INPUT_LIMIT
+  found_short finding none (wants, at, found) = known_short (λ b. Finds wants b finding) none found
 
   length_due : INPUT_LIMIT < length bytes → AreReading words → (status : Status)
       → Cause words (Some bytes) left rose status text → (status ≡ TooLong) ⊎ Fails status
-  length_due long (wants, at) (Done method) (command, asks, is_method, is_text) =
-      not_short_and_long bytes (ready_for wants command method (subst (λ c. wants_of c ≡ Some wants) asks at) is_text).0
-      long
-  length_due long (wants, at) (Refused fault) (found, line) =
-      not_short_and_long bytes (found_short (Faulty fault) found) long
-  length_due long (wants, at) ListLimit (found, line) = not_short_and_long bytes (found_short TooHeavy found) long
-  length_due long (wants, at) OrderLimit (found, line) = not_short_and_long bytes (found_short TooManyOrders found) long
-  length_due long (wants, at) Usage (none, line) = wanted_by words wants at none
-  length_due long (wants, at) ReadFault failed = inr (inl refl)
-  length_due long (wants, at) TooLong cause = inl refl
-  length_due long (wants, at) WriteFault none = absurd none
-  length_due long (wants, at) NoMemory none = absurd none
+  length_due long (wants, at, none) (Done method) is_done =
+      not_short_and_long bytes (known_short (IsReady (Some bytes) left text wants) none
+      (ready_of (Some bytes) left text wants words method at is_done)) long
+  length_due long (wants, at, none) (Refused fault) (found, line) =
+      not_short_and_long bytes (found_short (Faulty fault) none found) long
+  length_due long (wants, at, none) ListLimit (found, line) =
+      not_short_and_long bytes (found_short TooHeavy none found) long
+  length_due long (wants, at, none) OrderLimit (found, line) =
+      not_short_and_long bytes (found_short TooManyOrders none found) long
+  length_due long (wants, at, none) Usage (unasked, line) = wanted_by words wants at unasked
+  length_due long reading ReadFault failed = inr (inl refl)
+  length_due long reading TooLong cause = inl refl
+  length_due long reading WriteFault none = absurd none
+  length_due long reading NoMemory none = absurd none
 
 module _ (words : List (List ℕ)) (held left : Option (List ℕ)) (rose : Type 0) (text : List ℕ) where
-  none_reads : {P : Type 0} → asked words ≡ None → AreReading words → P
-  none_reads none (wants, at) = wanted_by words wants at none
+  abbrev WantDeck : Type 0
+  WantDeck = (wants : Wants) × (wanted words ≡ Some wants)
 
-  found_reads : (finding : Finding) → HasFound words held left finding → AreReading words
-  found_reads finding (wants, at, found) = (wants, at)
+  none_wants : {P : Type 0} → command_of words ≡ None → WantDeck → P
+  none_wants none (wants, at) = wanted_by words wants at none
 
-  usage_due : asked words ≡ None → (status : Status) → Cause words held left rose status text
+  found_wants : (finding : Finding) → HasFound words held left finding → WantDeck
+  found_wants finding (wants, at, found) = (wants, at)
+
+  reading_wants : AreReading words → WantDeck
+  reading_wants (wants, at, none) = (wants, at)
+
+  usage_due : command_of words ≡ None → (status : Status) → Cause words held left rose status text
       → (status ≡ Usage) ⊎ Fails status
   usage_due none (Done method) (command, at, is_method, is_text) = let clash = sym none ∙ at in absurd cc
-  usage_due none (Refused fault) (found, line) = none_reads none (found_reads (Faulty fault) found)
-  usage_due none ListLimit (found, line) = none_reads none (found_reads TooHeavy found)
-  usage_due none OrderLimit (found, line) = none_reads none (found_reads TooManyOrders found)
+  usage_due none (Refused fault) (found, line) = none_wants none (found_wants (Faulty fault) found)
+  usage_due none ListLimit (found, line) = none_wants none (found_wants TooHeavy found)
+  usage_due none OrderLimit (found, line) = none_wants none (found_wants TooManyOrders found)
   usage_due none Usage cause = inl refl
   usage_due none ReadFault cause = inr (inl refl)
-  usage_due none TooLong (reading, beyond, line) = none_reads none reading
+  usage_due none TooLong (reading, beyond, line) = none_wants none (reading_wants reading)
   usage_due none WriteFault never = absurd never
   usage_due none NoMemory never = absurd never
 
   -- a command that reads no deck is done
-  module _ (command : Command) (asks : asked words ≡ Some command) (unread : wants_of (Some command) ≡ None) where
-    other_reads : {P : Type 0} → AreReading words → P
-    other_reads (wants, at) = wanted_by_other words wants command at asks unread
+  module _ (command : Command) (asks : command_of words ≡ Some command) (unread : wants_of (Some command) ≡ None) where
+    other_wants : {P : Type 0} → WantDeck → P
+    other_wants (wants, at) = wanted_by_other words wants command at asks unread
 
     other_due : (status : Status) → Cause words held left rose status text → IsDone status ⊎ Fails status
     other_due (Done method) cause = inl (method, refl)
-    other_due (Refused fault) (found, line) = other_reads (found_reads (Faulty fault) found)
-    other_due ListLimit (found, line) = other_reads (found_reads TooHeavy found)
-    other_due OrderLimit (found, line) = other_reads (found_reads TooManyOrders found)
+    other_due (Refused fault) (found, line) = other_wants (found_wants (Faulty fault) found)
+    other_due ListLimit (found, line) = other_wants (found_wants TooHeavy found)
+    other_due OrderLimit (found, line) = other_wants (found_wants TooManyOrders found)
     other_due Usage (none, line) = let clash = sym none ∙ asks in absurd cc
     other_due ReadFault cause = inr (inl refl)
-    other_due TooLong (reading, beyond, line) = other_reads reading
+    other_due TooLong (reading, beyond, line) = other_wants (reading_wants reading)
     other_due WriteFault never = absurd never
     other_due NoMemory never = absurd never
 
@@ -246,7 +298,7 @@ module _ {K : Type 0} (words : List (List ℕ)) (held left : Option (List ℕ)) 
   done_text method is = written (Done method) (λ e. let clash = e in cc) (λ e. let clash = e in cc) is
 
   -- the text of a command was written
-  command_text : (command : Command) (method : Method) → asked words ≡ Some command → result ≡ Done method
+  command_text : (command : Command) (method : Method) → command_of words ≡ Some command → result ≡ Done method
       → (text : List ℕ) × IsTextOf command method held left text × Appends (taken old) (taken new) text
   command_text command method asks is =
       let found =
@@ -288,6 +340,9 @@ module _ {K : Type 0} (words : List (List ℕ)) (held left : Option (List ℕ)) 
   prints_made number asks (method, is) =
       let found = command_text (Make number shown.Deck) method asks is in
       subst (Appends (taken old) (taken new)) found.1 found.2
+
+  pub prints_summary : runs.PrintsSummary words taken old new result
+  prints_summary number asks (method, is) = command_text (Make number shown.Summary) method asks is
 
   pub prints_help : runs.PrintsHelp words taken old new result
   prints_help asks (method, is) =
@@ -365,10 +420,9 @@ module _ {K : Type 0} (words : List (List ℕ)) (held left : Option (List ℕ)) 
   )
 
   pub answers_deck : runs.AnswersDeck words held result
-  answers_deck bytes wants finding holds short at finds =
+  answers_deck bytes wants finding deck at finds =
       due (Answers finding) (λ status text causes.
-      deck_due words bytes left rose text wants finding short at finds status
-      (subst (λ h. Cause words h left rose status text) holds causes))
+      deck_due words bytes held left rose text deck wants finding at finds status causes)
 
   pub answers_length : runs.AnswersLength words held result
   answers_length bytes holds long reading =

@@ -11,3 +11,4 @@ mod Reading
 mod Serving
 mod SomeFinding
 mod Printed
+mod Summing

@@ -2,15 +2,15 @@
 use Rattle.std.specs.Prelude.{◌≡◌, ℕ, List, Option, Result, Ok, Err}
 use Rattle.std.proofs.Common.{sym, ap, subst, ◌∙◌}
 use Rattle.fault_model.specs.Tree.{FaultTree}
-use Rattle.fault_model.specs.CutLaws.{same_cut_list}
+use Rattle.fault_model.proofs.CutLaws.{same_cut_list}
 use Rattle.fault_model.specs.declared.node.Place.{Place}
 use Rattle.galileo_tree.specs.declared.fault.ParseFault.{ParseFault}
 use Rattle.galileo_tree.specs.declared.fault.ParseFault.TheVariants.{Lex, Expected, NoMemory}
 use Rattle.galileo_tree.specs.Parsed.{parsed_text}
 use Rattle.galileo_tree.specs.ReadTree.{ReadTree}
 use Rattle.tree_check.specs.Checked.{Stands}
-use Rattle.tree_check.specs.OneTree.{same_tree}
-use Rattle.tree_check.specs.OneFault.{no_fault, same_fault}
+use Rattle.tree_check.proofs.OneTree.{same_tree}
+use Rattle.tree_check.proofs.OneFault.{no_fault, same_fault}
 use Rattle.tree_check.specs.declared.fault.CheckCode.{CheckCode}
 use Rattle.crew_script.specs.declared.dockets.Crew.{Crew}
 use Rattle.crew_script.specs.declared.fault.CrewCode.{CrewCode}
@@ -107,7 +107,8 @@ one_fault part bytes one two (bad_crews tree code place stands said is)
     (bad_crews tree' code' place' stands' said' is') =
     is ∙ same_crew_fault (crews_read part bytes) code code' place place' said said' ∙ sym is'
 
-no_deck_and_fault : {P : Type 0} (part : CrewPart) (bytes : List ℕ) (tree : FaultTree) (crews : Option (List Crew))
+-- a deck without a fault has none
+pub no_deck_and_fault : {P : Type 0} (part : CrewPart) (bytes : List ℕ) (tree : FaultTree) (crews : Option (List Crew))
     (fault : DeckFault)
     → IsWellFormed part bytes tree crews → IsDeckFault part bytes fault → P
 no_deck_and_fault part bytes tree crews fault deck (no_crews lacks is) = absurd (deck.has_crews lacks)

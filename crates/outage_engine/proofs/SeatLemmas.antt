@@ -1,10 +1,11 @@
 -- What a run does to its seat, from what finding the cut sets of the deck's tree did.
-use Rattle.std.specs.Prelude.{ℕ, List, Option}
+use Rattle.std.specs.Prelude.{◌≡◌, ℕ, List, Option}
 use Rattle.std.proofs.Common.{sym, subst, inl, inr}
 use Rattle.fault_model.specs.Tree.{FaultTree}
 use Rattle.tree_families.specs.Due.{IsDueToTree}
 use Rattle.zdd_shared_table.specs.Seats.{Seated}
 use Rattle.zdd_product.specs.Seats.{WentAll}
+use Rattle.board_words.specs.Command.{command_of}
 use Rattle.crew_script.specs.declared.dockets.Crew.{Crew}
 use Rattle.outage_engine.specs.declared.deck.CrewPart.{CrewPart}
 use Rattle.outage_engine.specs.declared.refusal.Refusal.{Refusal}
@@ -16,35 +17,35 @@ use Rattle.outage_engine.specs.declared.status.Status.TheVariants.{Done}
 use Rattle.outage_engine.specs.Answers.{refusal_status}
 use Rattle.deck_reading.specs.Deck.{StandsFor}
 use Rattle.outage_engine.specs.Deck.{IsWellFormed}
-use Rattle.outage_engine.specs.Gives.{OfInput}
+use Rattle.outage_engine.specs.Gives.{OfDeckOr, own_deck}
 use Rattle.outage_engine.specs.Runs.{Tells}
-use Rattle.outage_engine.specs.Store.{IsFoundBy}
-use Rattle.outage_engine.specs.StoreAfter.{BearsOut, FindsFull, GoesForDeck, LeavesDiagram}
-use Rattle.outage_engine.proofs.Clauses.{of_input}
+use Rattle.outage_engine.specs.Store.{IsFoundBy, KnowsDiagram}
+use Rattle.outage_engine.specs.StoreAfter.{BearsOut, FindsFull, GoesFor, GoesForDeck, OfTreeOr}
+use Rattle.outage_engine.proofs.Clauses.{of_deck}
 
-module _ (held left : Option (List ℕ)) (before after : Seated) where
+module _ (own held left : Option (List ℕ)) (before after : Seated) where
   -- ---- for a deck that was read
 
   module _ (part : CrewPart) (tree : FaultTree) (crews : Option (List Crew))
-      (read : OfInput held left (λ bytes. IsWellFormed part bytes tree crews)) where
-    tree_of_input : OfInput held left (λ bytes. StandsFor bytes tree)
-    tree_of_input =
-        of_input held left (λ bytes. IsWellFormed part bytes tree crews) (λ bytes. StandsFor bytes tree)
+      (read : OfDeckOr own held left (λ bytes. IsWellFormed part bytes tree crews)) where
+    tree_of_deck : OfDeckOr own held left (λ bytes. StandsFor bytes tree)
+    tree_of_deck =
+        of_deck own held left (λ bytes. IsWellFormed part bytes tree crews) (λ bytes. StandsFor bytes tree)
         (λ bytes deck. deck.stands) read
 
-    pub goes_for_deck : WentAll (IsDueToTree tree) before after → GoesForDeck held left before after
-    goes_for_deck went = inr (tree, tree_of_input, went)
+    pub goes_for : WentAll (IsDueToTree tree) before after → GoesFor own held left before after
+    goes_for went = inr (tree, tree_of_deck, went)
 
     pub bears_out : (method : Method) → IsFoundBy before after tree method
-        → BearsOut held left before after (Done method)
-    bears_out Diagram known = (tree, tree_of_input, known)
+        → BearsOut own held left before after (Done method)
+    bears_out Diagram known = (tree, tree_of_deck, known)
     bears_out Lists full = full
     bears_out Plain none = none
 
   -- ---- for a status
 
   -- no refusal has a method
-  pub refusal_bears_out : (why : Refusal) → BearsOut held left before after (refusal_status why)
+  pub refusal_bears_out : (why : Refusal) → BearsOut own held left before after (refusal_status why)
   refusal_bears_out refusal.Usage = tt
   refusal_bears_out refusal.ReadFault = tt
   refusal_bears_out refusal.TooLong = tt
@@ -55,15 +56,26 @@ module _ (held left : Option (List ℕ)) (before after : Seated) where
   -- a run that told a status ends with it, or with a write fault
   pub told_bears_out : {K : Type 0} (taken : K → Option (List ℕ)) (faults : K → ℕ) (old new : K) (status : Status)
       (text : List ℕ) (result : Status)
-      → BearsOut held left before after status → Tells taken faults old new status text result
-      → BearsOut held left before after result
+      → BearsOut own held left before after status → Tells taken faults old new status text result
+      → BearsOut own held left before after result
   told_bears_out taken faults old new status text result bears told = elim told [
-    | inl whole ↦ subst (BearsOut held left before after) (sym whole.0) bears
-    | inr short ↦ subst (BearsOut held left before after) (sym short.0) tt
+    | inl whole ↦ subst (BearsOut own held left before after) (sym whole.0) bears
+    | inr short ↦ subst (BearsOut own held left before after) (sym short.0) tt
   ]
 
-  pub leaves_diagram : (result : Status) → BearsOut held left before after result → LeavesDiagram held left after result
-  leaves_diagram result bears is = subst (BearsOut held left before after) is bears
+  pub leaves_diagram : (result : Status) → BearsOut own held left before after result → result ≡ Done Diagram
+      → OfTreeOr own held left (KnowsDiagram after)
+  leaves_diagram result bears is = subst (BearsOut own held left before after) is bears
 
-  pub finds_full : (result : Status) → BearsOut held left before after result → FindsFull before after result
-  finds_full result bears is = subst (BearsOut held left before after) is bears
+  pub finds_full : (result : Status) → BearsOut own held left before after result → FindsFull before after result
+  finds_full result bears is = subst (BearsOut own held left before after) is bears
+
+-- of words whose run is about such a deck
+module _ (held left : Option (List ℕ)) (before after : Seated) (words : List (List ℕ)) (own : Option (List ℕ))
+    (is : own_deck (command_of words) ≡ own) where
+  pub goes_by_words : GoesFor own held left before after → GoesForDeck words held left before after
+  goes_by_words went = subst (λ o. GoesFor o held left before after) (sym is) went
+
+  pub bears_by_words : (status : Status) → BearsOut own held left before after status
+      → BearsOut (own_deck (command_of words)) held left before after status
+  bears_by_words status bears = subst (λ o. BearsOut o held left before after status) (sym is) bears

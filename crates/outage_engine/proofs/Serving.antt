@@ -5,6 +5,7 @@ use Rattle.fault_model.specs.Tree.{FaultTree}
 use Rattle.fault_model.specs.Cut.{IsCutList}
 use Rattle.fault_model.specs.WellFormed.{IsTree}
 use Rattle.crew_script.specs.declared.dockets.Crew.{Crew}
+use Rattle.board_words.specs.Command.{command_of}
 use Rattle.board_words.specs.declared.command.Command.TheVariants.{Board}
 use Rattle.board_report.specs.BoardText.{IsDeckOf, board_text}
 use Rattle.outage_board.specs.Boards.{BoardView, Deck}
@@ -18,7 +19,7 @@ use Rattle.outage_engine.specs.Answers.{IsOfUnits, found_in, listing_text}
 use Rattle.outage_engine.specs.Deck.{IsWellFormed}
 use Rattle.outage_engine.specs.Finding.{Found}
 use Rattle.outage_engine.specs.Gives as gives
-use Rattle.outage_engine.specs.Gives.{FindsSets, Gives, OfInput, asked}
+use Rattle.outage_engine.specs.Gives.{FindsSets, Gives, OfInput}
 use Rattle.outage_engine.specs.Openings.{IsOpened, IsOpenedFor, IsOpenedWith, IsReady, IsServed}
 use Rattle.outage_engine.specs.Safety.{BearsThroughout, IsSafeText}
 use Rattle.outage_engine.specs.Store.{method_by}
@@ -92,7 +93,7 @@ finds_sets (Some number) = tt
 finds_sets None = tt
 
 module _ (words : List (List ℕ)) (held left : Option (List ℕ)) (rose : Type 0) where
-  pub gives_board : (margin most workers : ℕ) → asked words ≡ Some (Board margin most workers) → (made : Opened)
+  pub gives_board : (margin most workers : ℕ) → command_of words ≡ Some (Board margin most workers) → (made : Opened)
       → OfInput held left (λ bytes. IsOpened margin most bytes made) → (state : BoardView) → IsServed made.start state
       → Gives words held left rose (status.Done (method_by made.listing.root))
       (listing_text made.listing ++ board_text made.listing.tree state)

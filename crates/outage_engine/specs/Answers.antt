@@ -22,6 +22,7 @@ use Rattle.board_report.specs.DiagramText.{diagram_text}
 use Rattle.board_report.specs.OrdersOfUnits.{AreOrdersOf}
 use Rattle.board_report.specs.PrintText.{print_text}
 use Rattle.board_report.specs.Refusals.{fault_line, notice_line}
+use Rattle.board_report.specs.SummaryText.{summary_text}
 use Rattle.board_report.specs.declared.fault.FaultCode.TheVariants as report
 use Rattle.board_report.specs.declared.notice.Notice.TheVariants as notice
 use Rattle.outage_engine.specs.declared.status.Status.{Status}
@@ -29,8 +30,10 @@ use Rattle.outage_engine.specs.declared.status.Status.TheVariants as status
 use Rattle.outage_engine.specs.declared.status.Method.TheVariants.{Plain}
 use Rattle.outage_engine.specs.declared.listing.Listing.{Listing}
 use Rattle.outage_engine.specs.declared.sizes.Sizes.{Sizes}
+use Rattle.outage_engine.specs.declared.summary.Summary.{Summary}
 use Rattle.outage_engine.specs.declared.answer.Answer.{Answer}
-use Rattle.outage_engine.specs.declared.answer.Answer.TheVariants.{Cuts, Diagram, Checked, Printed, Made, Help, Refused}
+use Rattle.outage_engine.specs.declared.answer.Answer.TheVariants.{Cuts, Diagram, Checked, Printed, Made, Summed}
+use Rattle.outage_engine.specs.declared.answer.Answer.TheVariants.{Help, Refused}
 use Rattle.outage_engine.specs.declared.refusal.Refusal.{Refusal}
 use Rattle.outage_engine.specs.declared.refusal.Refusal.TheVariants.{Usage, ReadFault, TooLong, Fault, ListLimit}
 use Rattle.outage_engine.specs.declared.refusal.Refusal.TheVariants.{OrderLimit}
@@ -69,11 +72,15 @@ status_of (Diagram sizes) = status.Done (method_by sizes.nodes)
 status_of (Checked deck) = status.Done Plain
 status_of (Printed tree) = status.Done Plain
 status_of (Made deck) = status.Done Plain
+status_of (Summed summary) = status.Done (method_by summary.listing.root)
 status_of Help = status.Done Plain
 status_of (Refused refusal) = refusal_status refusal
 
 abbrev pub listing_text : Listing → List ℕ
 listing_text listing = cuts_text listing.tree (listed_with listing.cuts listing.orders)
+
+abbrev pub summed_text : Summary → List ℕ
+summed_text summary = summary_text summary.number summary.listing.tree summary.listing.orders summary.board
 
 abbrev pub text_of : Answer → List ℕ
 text_of (Cuts listing) = listing_text listing
@@ -81,6 +88,7 @@ text_of (Diagram sizes) = diagram_text sizes.tree sizes.cuts sizes.nodes
 text_of (Checked deck) = check_text deck.tree deck.crews
 text_of (Printed tree) = print_text tree
 text_of (Made deck) = deck
+text_of (Summed summary) = summed_text summary
 text_of Help = notice_line notice.Usage
 text_of (Refused refusal) = refusal_line refusal
 
@@ -89,12 +97,17 @@ abbrev pub IsOfUnits : Listing → Type 0
 IsOfUnits listing =
     All (All (IsUnitOf listing.tree)) listing.cuts × AreOrdersOf listing.tree listing.cuts listing.orders
 
+-- the orders of a summary were made for the cut list of its board
+abbrev pub HasOrders : Summary → Type 0
+HasOrders summary = AreOrdersOf summary.listing.tree summary.board.deck.opening.cuts summary.listing.orders
+
 abbrev pub IsWritable : Answer → Type 0
 IsWritable (Cuts listing) = IsOfUnits listing
 IsWritable (Diagram sizes) = Unit {0}
 IsWritable (Checked deck) = Unit {0}
 IsWritable (Printed tree) = Unit {0}
 IsWritable (Made deck) = Unit {0}
+IsWritable (Summed summary) = HasOrders summary
 IsWritable Help = Unit {0}
 IsWritable (Refused refusal) = Unit {0}
 
@@ -114,6 +127,15 @@ IsRefusalFor wants held left rose (Fault fault) = OfInput held left (λ bytes. F
 IsRefusalFor wants held left rose ListLimit = OfInput held left (λ bytes. Finds wants bytes TooHeavy)
 IsRefusalFor wants held left rose OrderLimit = OfInput held left (λ bytes. Finds wants bytes TooManyOrders)
 IsRefusalFor wants held left rose Usage = ⊥
+
+-- why a command that wants this of a deck of these bytes is refused
+abbrev pub IsDeckRefusal : Wants → List ℕ → Refusal → Type 0
+IsDeckRefusal wants bytes (Fault fault) = Finds wants bytes (Faulty fault)
+IsDeckRefusal wants bytes ListLimit = Finds wants bytes TooHeavy
+IsDeckRefusal wants bytes OrderLimit = Finds wants bytes TooManyOrders
+IsDeckRefusal wants bytes ReadFault = ⊥
+IsDeckRefusal wants bytes TooLong = ⊥
+IsDeckRefusal wants bytes Usage = ⊥
 
 -- why no deck is read
 abbrev pub IsReadRefusal : CrewPart → Option (List ℕ) → Option (List ℕ) → Type 0 → Refusal → Type 0

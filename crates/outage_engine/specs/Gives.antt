@@ -18,28 +18,13 @@ use Rattle.outage_engine.specs.declared.status.Method.TheVariants.{Plain, Lists}
 use Rattle.outage_engine.specs.declared.status.Method.TheVariants as way
 use Rattle.outage_engine.specs.Finding.{Finds, Faulty, TooHeavy, TooManyOrders, Wants}
 use Rattle.outage_engine.specs.Texts.{IsCheckText, IsCutsText, IsDiagramText, IsPrintText, for_board, for_check}
+use Rattle.outage_engine.specs.Texts.{IsSummaryText, for_summary}
 use Rattle.outage_engine.specs.Texts.{for_cuts, for_diagram, for_print}
 use Rattle.outage_engine.specs.Safety.{IsSafeText}
 
 -- ---- words
 
--- the commands that the program does; the others are answered as words that are none
-abbrev pub done_yet : Option Command → Option Command
-done_yet (Some (Cuts most workers)) = Some (Cuts most workers)
-done_yet (Some (Board margin most workers)) = Some (Board margin most workers)
-done_yet (Some Check) = Some Check
-done_yet (Some Print) = Some Print
-done_yet (Some Help) = Some Help
-done_yet (Some (Diagram workers)) = Some (Diagram workers)
-done_yet (Some (Make number shown.Deck)) = Some (Make number shown.Deck)
-done_yet (Some (Make number shown.Summary)) = None
-done_yet None = None
-
--- the command that words say, where they say one that the program does
-abbrev pub asked : List (List ℕ) → Option Command
-asked words = done_yet (command_of words)
-
--- what a command wants of a deck, where it reads one
+-- what a command wants of a deck, where it is about one
 abbrev pub wants_of : Option Command → Option Wants
 wants_of (Some (Cuts most workers)) = Some (for_cuts most)
 wants_of (Some (Board margin most workers)) = Some (for_board most)
@@ -47,11 +32,13 @@ wants_of (Some Check) = Some for_check
 wants_of (Some Print) = Some for_print
 wants_of (Some Help) = None
 wants_of (Some (Diagram workers)) = Some for_diagram
-wants_of (Some (Make number show)) = None
+wants_of (Some (Make number shown.Deck)) = None
+wants_of (Some (Make number shown.Summary)) = Some for_summary
 wants_of None = None
 
+-- what the words want of a deck
 abbrev pub wanted : List (List ℕ) → Option Wants
-wanted words = wants_of (asked words)
+wanted words = wants_of (command_of words)
 
 -- ---- the input
 
@@ -62,6 +49,42 @@ OfInput held left P = IfTold held left (λ bytes rest. (rest ≡ []) × (length 
 -- more bytes were taken than an input may have
 abbrev pub IsBeyond : Option (List ℕ) → Option (List ℕ) → Type 0
 IsBeyond held left = IfTold held left (λ bytes rest. INPUT_LIMIT + length rest < length bytes)
+
+-- ---- the deck that a run is about
+
+-- the deck that a command makes itself, where it is about such a one
+abbrev pub own_deck : Option Command → Option (List ℕ)
+own_deck (Some (Cuts most workers)) = None
+own_deck (Some (Board margin most workers)) = None
+own_deck (Some Check) = None
+own_deck (Some Print) = None
+own_deck (Some Help) = None
+own_deck (Some (Diagram workers)) = None
+own_deck (Some (Make number shown.Deck)) = None
+own_deck (Some (Make number shown.Summary)) = Some (made_deck number)
+own_deck None = None
+
+-- a fact of this deck where there is one, and else of the input
+abbrev pub OfDeckOr : Option (List ℕ) → Option (List ℕ) → Option (List ℕ) → (List ℕ → Type 0) → Type 0
+OfDeckOr (Some own) held left P = P own
+OfDeckOr None held left P = OfInput held left P
+
+-- a fact of the deck that a run is about: the one that its command makes itself, or else the input
+abbrev pub OfDeck : List (List ℕ) → Option (List ℕ) → Option (List ℕ) → (List ℕ → Type 0) → Type 0
+OfDeck words held left P = OfDeckOr (own_deck (command_of words)) held left P
+
+-- the bytes are this deck where there is one, and else an input that is not too long
+abbrev pub IsDeckOr : Option (List ℕ) → Option (List ℕ) → List ℕ → Type 0
+IsDeckOr (Some own) held bytes = own ≡ bytes
+IsDeckOr None held bytes = (held ≡ Some bytes) × (length bytes ≤ INPUT_LIMIT)
+
+-- the bytes are the deck that a run is about
+abbrev pub IsRunDeck : List (List ℕ) → Option (List ℕ) → List ℕ → Type 0
+IsRunDeck words held bytes = IsDeckOr (own_deck (command_of words)) held bytes
+
+-- the words are a command that reads its input: it wants a deck, and makes none itself
+abbrev pub AreReading : List (List ℕ) → Type 0
+AreReading words = (wants : Wants) × (wanted words ≡ Some wants) × (own_deck (command_of words) ≡ None)
 
 -- ---- what ends well
 
@@ -80,7 +103,7 @@ IsMethodOf Print method = method ≡ Plain
 IsMethodOf Help method = method ≡ Plain
 IsMethodOf (Diagram workers) method = FindsSets method
 IsMethodOf (Make number shown.Deck) method = method ≡ Plain
-IsMethodOf (Make number shown.Summary) method = ⊥
+IsMethodOf (Make number shown.Summary) method = FindsSets method
 
 -- the text of a command that is done by this method, for the input that the source held, of which it held a rest
 -- afterwards
@@ -93,7 +116,7 @@ IsTextOf Print method held left text = OfInput held left (λ bytes. IsPrintText 
 IsTextOf Help method held left text = text ≡ notice_line notice.Usage
 IsTextOf (Diagram workers) method held left text = OfInput held left (λ bytes. IsDiagramText method bytes text)
 IsTextOf (Make number shown.Deck) method held left text = text ≡ made_deck number
-IsTextOf (Make number shown.Summary) method held left text = ⊥
+IsTextOf (Make number shown.Summary) method held left text = IsSummaryText number text
 
 -- ---- the relation
 
@@ -101,18 +124,20 @@ IsTextOf (Make number shown.Summary) method held left text = ⊥
 -- in this sense.
 pub data Gives (words : List (List ℕ)) (held left : Option (List ℕ)) (rose : Type 0) (status : Status)
     (text : List ℕ) : Type 0 where
-  done : (command : Command) (method : Method) → asked words ≡ Some command → IsMethodOf command method
+  done : (command : Command) (method : Method) → command_of words ≡ Some command → IsMethodOf command method
       → IsTextOf command method held left text → status ≡ Done method → Gives words held left rose status text
-  usage : asked words ≡ None → status ≡ Usage → text ≡ notice_line notice.Usage → Gives words held left rose status text
-  read_fault : (wants : Wants) → wanted words ≡ Some wants → rose
-      → status ≡ ReadFault → text ≡ notice_line notice.ReadFault → Gives words held left rose status text
-  too_long : (wants : Wants) → wanted words ≡ Some wants → IsBeyond held left
-      → status ≡ TooLong → text ≡ notice_line notice.TooLong → Gives words held left rose status text
+  usage : command_of words ≡ None → status ≡ Usage → text ≡ notice_line notice.Usage
+      → Gives words held left rose status text
+  read_fault : AreReading words → rose → status ≡ ReadFault → text ≡ notice_line notice.ReadFault
+      → Gives words held left rose status text
+  too_long : AreReading words → IsBeyond held left → status ≡ TooLong → text ≡ notice_line notice.TooLong
+      → Gives words held left rose status text
   refused : (wants : Wants) (fault : DeckFault) → wanted words ≡ Some wants
-      → OfInput held left (λ bytes. Finds wants bytes (Faulty fault))
+      → OfDeck words held left (λ bytes. Finds wants bytes (Faulty fault))
       → status ≡ Refused fault → text ≡ fault_line fault → Gives words held left rose status text
-  list_limit : (wants : Wants) → wanted words ≡ Some wants → OfInput held left (λ bytes. Finds wants bytes TooHeavy)
+  list_limit : (wants : Wants) → wanted words ≡ Some wants
+      → OfDeck words held left (λ bytes. Finds wants bytes TooHeavy)
       → status ≡ ListLimit → text ≡ notice_line notice.ListLimit → Gives words held left rose status text
   order_limit : (wants : Wants) → wanted words ≡ Some wants
-      → OfInput held left (λ bytes. Finds wants bytes TooManyOrders)
+      → OfDeck words held left (λ bytes. Finds wants bytes TooManyOrders)
       → status ≡ OrderLimit → text ≡ notice_line notice.OrderLimit → Gives words held left rose status text

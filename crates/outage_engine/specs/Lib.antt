@@ -22,3 +22,5 @@ pub mod Runs
 pub mod Answers
 -- a board that is opened, and what came of it
 pub mod Openings
+-- a made deck in sum
+pub mod Summaries

@@ -5,6 +5,7 @@ use Rattle.fault_model.specs.Cut.{IsCutList}
 use Rattle.fault_model.specs.WellFormed.{IsTree}
 use Rattle.cut_sequences.specs.Orders.{order_lists}
 use Rattle.crew_script.specs.declared.dockets.Crew.{Crew}
+use Rattle.board_words.specs.Command.{command_of}
 use Rattle.board_words.specs.declared.command.Command.TheVariants.{Board}
 use Rattle.outage_board.specs.Boards.{BoardView, IsBoard}
 use Rattle.outage_board.specs.Histories.{IsWhole}
@@ -17,7 +18,7 @@ use Rattle.outage_engine.specs.declared.listing.Listing.{Listing}
 use Rattle.outage_engine.specs.declared.opening.Opened.{Opened}
 use Rattle.outage_engine.specs.Answers.{IsListingOf, IsOfUnits, found_in, listing_text}
 use Rattle.outage_engine.specs.Finding.{Finds, Ready}
-use Rattle.outage_engine.specs.Gives.{OfInput, asked}
+use Rattle.outage_engine.specs.Gives.{OfInput}
 use Rattle.outage_engine.specs.Runs.{Tells}
 use Rattle.outage_engine.specs.Store.{method_by}
 use Rattle.outage_engine.specs.Texts.{board_deck, for_board}
@@ -56,7 +57,7 @@ IsOpenedFor margin most tree crews opened =
 -- of words that are a command `board`
 abbrev pub IsOpenedBy : List (List ℕ) → Option (List ℕ) → Option (List ℕ) → Opened → Type 0
 IsOpenedBy words held left opened =
-    (margin : ℕ) × (most : ℕ) × (workers : ℕ) × (asked words ≡ Some (Board margin most workers))
+    (margin : ℕ) × (most : ℕ) × (workers : ℕ) × (command_of words ≡ Some (Board margin most workers))
     × OfInput held left (λ bytes. IsOpened margin most bytes opened)
 
 -- ---- what came of a board

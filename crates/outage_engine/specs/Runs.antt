@@ -1,10 +1,11 @@
 -- What a run did: it gave up for want of memory and wrote nothing, or it wrote the text of its status, all of it or a
 -- front. The clauses of a run, which its functions share, are named here.
-use Rattle.std.specs.Prelude.{◌≡◌, ◌⊎◌, ℕ, ◌<◌, ◌≤◌, List, length, Option, Some, None}
+use Rattle.std.specs.Prelude.{◌≡◌, ◌⊎◌, ℕ, ◌<◌, List, length, Option, Some, None}
 use Rattle.std.specs.Io.KnownBytes.{Appends}
 use Rattle.edge_io.specs.Faults.{Rose}
 use Rattle.edge_io.specs.Writing.{TakesFront}
 use Rattle.edge_io.specs.declared.reading.TheConstants.{INPUT_LIMIT}
+use Rattle.board_words.specs.Command.{command_of}
 use Rattle.board_words.specs.declared.command.Command.{Command}
 use Rattle.board_words.specs.declared.command.Command.TheVariants.{Cuts, Board, Check, Print, Diagram, Make, Help}
 use Rattle.board_words.specs.declared.command.Show.TheVariants as shown
@@ -17,9 +18,10 @@ use Rattle.outage_engine.specs.declared.status.Status.{Status}
 use Rattle.outage_engine.specs.declared.status.Status.TheVariants.{Done, Refused, ListLimit, OrderLimit, Usage}
 use Rattle.outage_engine.specs.declared.status.Status.TheVariants.{ReadFault, TooLong, WriteFault, NoMemory}
 use Rattle.outage_engine.specs.Finding.{Finding, Finds, Faulty, TooHeavy, TooManyOrders, Ready, Wants}
-use Rattle.outage_engine.specs.Gives.{Gives, IsBeyond, IsMethodOf, OfInput, asked, wanted}
+use Rattle.outage_engine.specs.Gives.{AreReading, Gives, IsBeyond, IsMethodOf, IsRunDeck, OfDeck, OfInput, wanted}
 use Rattle.outage_engine.specs.Safety.{IsSafeText}
 use Rattle.outage_engine.specs.Texts.{IsBoardText, IsCheckText, IsCutsText, IsDiagramText, IsPrintText}
+use Rattle.outage_engine.specs.Texts.{IsSummaryText}
 
 -- a front of a text was taken, and the sink failed
 pub record WritesFront {K : Type 0} (taken : K → Option (List ℕ)) (faults : K → ℕ) (old new : K)
@@ -49,16 +51,12 @@ Runs words held left rose taken faults old new result =
 
 -- ---- which words
 
--- the words are a command that reads its input
-abbrev pub AreReading : List (List ℕ) → Type 0
-AreReading words = (wants : Wants) × (wanted words ≡ Some wants)
-
 -- the words are a command `board`
 abbrev pub IsBoard : List (List ℕ) → Type 0
-IsBoard words = (margin : ℕ) × (most : ℕ) × (workers : ℕ) × (asked words ≡ Some (Board margin most workers))
+IsBoard words = (margin : ℕ) × (most : ℕ) × (workers : ℕ) × (command_of words ≡ Some (Board margin most workers))
 
 abbrev pub IsNoBoard : List (List ℕ) → Type 0
-IsNoBoard words = (margin most workers : ℕ) → ¬ (asked words ≡ Some (Board margin most workers))
+IsNoBoard words = (margin most workers : ℕ) → ¬ (command_of words ≡ Some (Board margin most workers))
 
 -- ---- the clauses: what was written where the run ends well
 
@@ -73,19 +71,19 @@ IsDone result = (method : Method) × (result ≡ Done method)
 -- only words that are a command are done, by a method of the command
 abbrev pub IsOfCommand : List (List ℕ) → Status → Type 0
 IsOfCommand words result =
-    (method : Method) → result ≡ Done method → (command : Command) × (asked words ≡ Some command)
+    (method : Method) → result ≡ Done method → (command : Command) × (command_of words ≡ Some command)
     × IsMethodOf command method
 
 abbrev pub PrintsCuts : {K : Type 0} → List (List ℕ) → Option (List ℕ) → Option (List ℕ) → (K → Option (List ℕ)) → K → K
     → Status → Type 0
 PrintsCuts words held left taken old new result =
-    (most workers : ℕ) → asked words ≡ Some (Cuts most workers) → IsDone result
+    (most workers : ℕ) → command_of words ≡ Some (Cuts most workers) → IsDone result
     → Writes taken old new (λ text. OfInput held left (λ bytes. IsCutsText most bytes text))
 
 abbrev pub PrintsBoard : {K : Type 0} → List (List ℕ) → Option (List ℕ) → Option (List ℕ) → (K → Option (List ℕ)) → K
     → K → Status → Type 0
 PrintsBoard words held left taken old new result =
-    (margin most workers : ℕ) → asked words ≡ Some (Board margin most workers) → IsDone result
+    (margin most workers : ℕ) → command_of words ≡ Some (Board margin most workers) → IsDone result
     → Writes taken old new (λ text. OfInput held left (λ bytes. IsBoardText margin most bytes text))
 
 -- and the tree bears what the margin says after each granted take and each granted margin of the history that was
@@ -93,48 +91,54 @@ PrintsBoard words held left taken old new result =
 abbrev pub PrintsSafely : {K : Type 0} → List (List ℕ) → Option (List ℕ) → Option (List ℕ) → (K → Option (List ℕ)) → K
     → K → Status → Type 0
 PrintsSafely words held left taken old new result =
-    (margin most workers : ℕ) → asked words ≡ Some (Board margin most workers) → IsDone result
+    (margin most workers : ℕ) → command_of words ≡ Some (Board margin most workers) → IsDone result
     → Writes taken old new (λ text. OfInput held left (λ bytes. IsSafeText margin most bytes text))
 
 abbrev pub PrintsCheck : {K : Type 0} → List (List ℕ) → Option (List ℕ) → Option (List ℕ) → (K → Option (List ℕ)) → K
     → K → Status → Type 0
 PrintsCheck words held left taken old new result =
-    asked words ≡ Some Check → IsDone result → Writes taken old new
+    command_of words ≡ Some Check → IsDone result → Writes taken old new
     (λ text. OfInput held left (λ bytes. IsCheckText bytes text))
 
 abbrev pub PrintsTree : {K : Type 0} → List (List ℕ) → Option (List ℕ) → Option (List ℕ) → (K → Option (List ℕ)) → K → K
     → Status → Type 0
 PrintsTree words held left taken old new result =
-    asked words ≡ Some Print → IsDone result → Writes taken old new
+    command_of words ≡ Some Print → IsDone result → Writes taken old new
     (λ text. OfInput held left (λ bytes. IsPrintText bytes text))
 
 -- without a line of nodes exactly where the cut sets were found by lists
 abbrev pub PrintsDiagram : {K : Type 0} → List (List ℕ) → Option (List ℕ) → Option (List ℕ) → (K → Option (List ℕ)) → K
     → K → Status → Type 0
 PrintsDiagram words held left taken old new result =
-    (workers : ℕ) (method : Method) → asked words ≡ Some (Diagram workers) → result ≡ Done method
+    (workers : ℕ) (method : Method) → command_of words ≡ Some (Diagram workers) → result ≡ Done method
     → Writes taken old new (λ text. OfInput held left (λ bytes. IsDiagramText method bytes text))
 
 -- exactly the made deck of the number
 abbrev pub PrintsMade : {K : Type 0} → List (List ℕ) → (K → Option (List ℕ)) → K → K → Status → Type 0
 PrintsMade words taken old new result =
-    (number : ℕ) → asked words ≡ Some (Make number shown.Deck) → IsDone result
+    (number : ℕ) → command_of words ≡ Some (Make number shown.Deck) → IsDone result
     → Appends (taken old) (taken new) (made_deck number)
+
+-- exactly the summary of the made deck of the number
+abbrev pub PrintsSummary : {K : Type 0} → List (List ℕ) → (K → Option (List ℕ)) → K → K → Status → Type 0
+PrintsSummary words taken old new result =
+    (number : ℕ) → command_of words ≡ Some (Make number shown.Summary) → IsDone result
+    → Writes taken old new (IsSummaryText number)
 
 abbrev pub PrintsHelp : {K : Type 0} → List (List ℕ) → (K → Option (List ℕ)) → K → K → Status → Type 0
 PrintsHelp words taken old new result =
-    asked words ≡ Some Help → IsDone result → Appends (taken old) (taken new) (notice_line notice.Usage)
+    command_of words ≡ Some Help → IsDone result → Appends (taken old) (taken new) (notice_line notice.Usage)
 
 -- ---- the clauses: each refusal has its cause, and its line was written
 
 abbrev pub RefusesWords : {K : Type 0} → List (List ℕ) → (K → Option (List ℕ)) → K → K → Status → Type 0
 RefusesWords words taken old new result =
-    result ≡ Usage → (asked words ≡ None) × Appends (taken old) (taken new) (notice_line notice.Usage)
+    result ≡ Usage → (command_of words ≡ None) × Appends (taken old) (taken new) (notice_line notice.Usage)
 
--- what is found in the deck for the command
+-- what is found for the command in the deck that the run is about
 abbrev pub HasFound : List (List ℕ) → Option (List ℕ) → Option (List ℕ) → Finding → Type 0
 HasFound words held left finding =
-    (wants : Wants) × (wanted words ≡ Some wants) × OfInput held left (λ bytes. Finds wants bytes finding)
+    (wants : Wants) × (wanted words ≡ Some wants) × OfDeck words held left (λ bytes. Finds wants bytes finding)
 
 abbrev pub RefusesDeck : {K : Type 0} → List (List ℕ) → Option (List ℕ) → Option (List ℕ) → (K → Option (List ℕ)) → K
     → K → Status → Type 0
@@ -187,8 +191,8 @@ Answers (Ready found) result = IsDone result
 -- what is found in a deck is answered, as long as nothing fails and memory is found
 abbrev pub AnswersDeck : List (List ℕ) → Option (List ℕ) → Status → Type 0
 AnswersDeck words held result =
-    (bytes : List ℕ) (wants : Wants) (finding : Finding) → held ≡ Some bytes → length bytes ≤ INPUT_LIMIT
-    → wanted words ≡ Some wants → Finds wants bytes finding
+    (bytes : List ℕ) (wants : Wants) (finding : Finding) → IsRunDeck words held bytes → wanted words ≡ Some wants
+    → Finds wants bytes finding
     → Answers finding result ⊎ Fails result
 
 -- so is an input that is too long
@@ -200,5 +204,6 @@ AnswersLength words held result =
 -- and words that ask for no deck
 abbrev pub AnswersWords : List (List ℕ) → Status → Type 0
 AnswersWords words result =
-    (asked words ≡ None → (result ≡ Usage) ⊎ Fails result) × (asked words ≡ Some Help → IsDone result ⊎ Fails result)
-    × ((number : ℕ) → asked words ≡ Some (Make number shown.Deck) → IsDone result ⊎ Fails result)
+    (command_of words ≡ None → (result ≡ Usage) ⊎ Fails result)
+    × (command_of words ≡ Some Help → IsDone result ⊎ Fails result)
+    × ((number : ℕ) → command_of words ≡ Some (Make number shown.Deck) → IsDone result ⊎ Fails result)

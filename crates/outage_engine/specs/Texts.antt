@@ -10,6 +10,8 @@ use Rattle.board_report.specs.CheckText.{check_text}
 use Rattle.board_report.specs.CutsText.{cuts_text, listed_with}
 use Rattle.board_report.specs.DiagramText.{diagram_text}
 use Rattle.board_report.specs.PrintText.{print_text}
+use Rattle.board_report.specs.SummaryText.{summary_text}
+use Rattle.tree_maker.specs.MadeDeck.{made_deck}
 use Rattle.outage_engine.specs.declared.status.Method.{Method}
 use Rattle.outage_engine.specs.declared.deck.CrewPart.TheVariants.{Unread, IfAny, Needed}
 use Rattle.outage_engine.specs.Finding.{Finds, Found, Ready, Wants, NoCuts, CutsAlone, WithOrders}
@@ -31,6 +33,13 @@ for_print = record { crews = Unread; cuts = NoCuts }
 
 abbrev pub for_diagram : Wants
 for_diagram = record { crews = Unread; cuts = CutsAlone }
+
+-- of `make` for the summary of a made deck: the orders of the sets of at most so many members, and a board
+abbrev pub summed_most : ℕ
+summed_most = 6
+
+abbrev pub for_summary : Wants
+for_summary = for_board summed_most
 
 -- ---- what is said of what was found
 
@@ -57,6 +66,16 @@ pub record IsHistoryOf (deck : Deck) (history : List Entry) : Type 0 where
 abbrev pub board_said : ℕ → ℕ → Found → List Entry → List ℕ
 board_said margin most found history =
     cuts_said most found ++ board_text found.tree (record { deck = board_deck margin found; history = history })
+
+-- the opening margin of the board of a made deck
+abbrev pub summed_margin : ℕ
+summed_margin = 1
+
+-- what is said of a made deck in sum: of its tree, of its cut list and failing orders, and of a history of its board
+abbrev pub summary_said : ℕ → Found → List Entry → List ℕ
+summary_said number found history =
+    summary_text number found.tree (order_lists found.tree found.cuts summed_most)
+    (record { deck = board_deck summed_margin found; history = history })
 
 -- ---- the texts
 
@@ -97,3 +116,12 @@ pub record IsDiagramText (method : Method) (bytes text : List ℕ) : Type 0 wher
   pub of_method : method ≡ method_by nodes
   pub counted : AreNodesOf found.tree nodes
   pub is : text ≡ diagram_text found.tree found.cuts nodes
+
+-- the text of `make` that sums up the made deck of a number: how large its tree is, how many minimal cut sets and
+-- failing orders it has, and what came of one history of its crew's requests
+pub record IsSummaryText (number : ℕ) (text : List ℕ) : Type 0 where
+  pub found : Found
+  pub finds : Finds for_summary (made_deck number) (Ready found)
+  pub history : List Entry
+  pub of_deck : IsHistoryOf (board_deck summed_margin found) history
+  pub is : text ≡ summary_said number found history

@@ -1,12 +1,13 @@
 //! The answer to words that ask for no board, before anything is written.
-ghost use Rattle.std.specs.Prelude.{◌≡◌, ◌≤◌, ◌⊎◌, IfOk, IfErr};
+ghost use Rattle.std.specs.Prelude.{◌≡◌, ◌≤◌, ◌⊎◌, None, IfOk, IfErr};
 ghost use Rattle.edge_io.specs.Faults.{Rose};
+ghost use Rattle.board_words.specs.Command.{command_of};
 ghost use Rattle.outage_engine.specs.Answers.{IfRefused, IsOfUnits, IsRefusalBy, IsRefusalFor, IsWritable};
 ghost use Rattle.outage_engine.specs.Answers.{listing_text, status_of, text_of};
-ghost use Rattle.outage_engine.specs.Gives.{Gives, OfInput};
-ghost use Rattle.outage_engine.specs.Runs.{AreReading, IsNoBoard};
+ghost use Rattle.outage_engine.specs.Gives.{AreReading, Gives, OfInput, own_deck};
+ghost use Rattle.outage_engine.specs.Runs.{IsNoBoard};
 ghost use Rattle.outage_engine.specs.Store.{method_by};
-ghost use Rattle.outage_engine.specs.StoreAfter.{BearsOut, GoesForDeck};
+ghost use Rattle.outage_engine.specs.StoreAfter.{BearsOut, GoesFor, GoesForDeck};
 ghost use Rattle.outage_engine.specs.Texts.{IsCutsText, IsDiagramText, for_cuts, for_diagram};
 ghost use Rattle.board_report.specs.DiagramText.{diagram_text};
 ghost use Rattle.outage_engine.specs.declared.status.Status.TheVariants.{Done};
@@ -16,6 +17,7 @@ use crate::input::read_input;
 use crate::listing::{Listing, list_tree};
 use crate::refusal::{Refusal, RunEnd};
 use crate::sizes::{Sizes, size_tree};
+use crate::summary::{Summary, sum_made};
 use crate::{Method, Status};
 use board_words::{Command, Show, Word, numbers_are_within_bounds, read};
 use edge_io::{Bytes, Source};
@@ -38,6 +40,8 @@ pub(crate) enum Answer {
     Printed(Tree),
     /// The made deck of a number.
     Made(Bytes),
+    /// The same in sum.
+    Summed(Summary),
     /// How the program is called, as it was asked.
     Help,
     /// Why there is no text of a command.
@@ -52,6 +56,7 @@ impl Answer {
         match self {
             Answer::Cuts(listing) => Status::Done(listing.method()),
             Answer::Diagram(sizes) => Status::Done(sizes.method()),
+            Answer::Summed(summary) => Status::Done(summary.listing.method()),
             Answer::Checked(_) | Answer::Printed(_) | Answer::Made(_) | Answer::Help => {
                 Status::Done(Method::Plain)
             }
@@ -78,9 +83,9 @@ pub(crate) fn answer_words<R: Threads + Sync, S: Source>(
         (Rose (S.faults source.old) (S.faults source.new)))) }
     ensures writable { IfOk result IsWritable }
     ensures unread { AreReading words.now ⊎ (source.new ≡ source.old) }
-    ensures method { IfOk result (λ answer. BearsOut (S.held source.old) (S.held source.new) seat.old seat.new
-        (status_of answer)) }
-    ensures went { GoesForDeck (S.held source.old) (S.held source.new) seat.old seat.new }
+    ensures method { IfOk result (λ answer. BearsOut (own_deck (command_of words.now)) (S.held source.old)
+        (S.held source.new) seat.old seat.new (status_of answer)) }
+    ensures went { GoesForDeck words.now (S.held source.old) (S.held source.new) seat.old seat.new }
     ensures share { seat.new.share ≡ seat.old.share }
 {
     numbers_are_within_bounds();
@@ -105,11 +110,11 @@ pub(crate) fn answer_words<R: Threads + Sync, S: Source>(
         ) => Ok(Answer::Made(made(alloc, number)?)),
         Some(
             Command::Make {
+                number,
                 show: Show::Summary,
-                ..
             },
-        )
-        | None => { Err(RunEnd::Refused(Refusal::Usage)) }
+        ) => Ok(Answer::Summed(sum_made(rt, alloc, number, store, seat)?)),
+        None => Err(RunEnd::Refused(Refusal::Usage)),
     }
 }
 
@@ -133,9 +138,9 @@ fn list_input<R: Threads + Sync, S: Source>(
     ensures writable { IfOk result IsOfUnits }
     ensures refused { IfErr result (IfRefused (IsRefusalFor (for_cuts most) (S.held source.old) (S.held source.new)
         (Rose (S.faults source.old) (S.faults source.new)))) }
-    ensures method { IfOk result (λ listing. BearsOut (S.held source.old) (S.held source.new) seat.old seat.new
+    ensures method { IfOk result (λ listing. BearsOut None (S.held source.old) (S.held source.new) seat.old seat.new
         (Done (method_by listing.root))) }
-    ensures went { GoesForDeck (S.held source.old) (S.held source.new) seat.old seat.new }
+    ensures went { GoesFor None (S.held source.old) (S.held source.new) seat.old seat.new }
     ensures share { seat.new.share ≡ seat.old.share }
 {
     let deck = read_input(alloc, CrewPart::Unread, source)?;
@@ -159,9 +164,9 @@ fn size_input<R: Threads + Sync, S: Source>(
         (λ bytes. IsDiagramText (method_by sizes.nodes) bytes (diagram_text sizes.tree sizes.cuts sizes.nodes))) }
     ensures refused { IfErr result (IfRefused (IsRefusalFor for_diagram (S.held source.old) (S.held source.new)
         (Rose (S.faults source.old) (S.faults source.new)))) }
-    ensures method { IfOk result (λ sizes. BearsOut (S.held source.old) (S.held source.new) seat.old seat.new
+    ensures method { IfOk result (λ sizes. BearsOut None (S.held source.old) (S.held source.new) seat.old seat.new
         (Done (method_by sizes.nodes))) }
-    ensures went { GoesForDeck (S.held source.old) (S.held source.new) seat.old seat.new }
+    ensures went { GoesFor None (S.held source.old) (S.held source.new) seat.old seat.new }
     ensures share { seat.new.share ≡ seat.old.share }
 {
     let deck = read_input(alloc, CrewPart::Unread, source)?;

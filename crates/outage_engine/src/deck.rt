@@ -22,15 +22,16 @@ use tree_check::{CheckFault, check};
 
 /// Why a deck has no tree, or no crews.
 #[derive(Clone, Copy)]
-pub(crate) enum DeckEnd {
+pub enum DeckEnd {
     /// The first fault of the part.
     Fault(DeckFault),
+    /// There was not enough memory.
     NoMemory,
 }
 
 /// How a command takes the crew part of a deck.
 #[derive(Clone, Copy)]
-pub(crate) enum CrewPart {
+pub enum CrewPart {
     /// It is passed over.
     Unread,
     /// It is read where there is one.
@@ -41,7 +42,8 @@ pub(crate) enum CrewPart {
 
 /// What was read of a deck.
 #[derive(Drop)]
-pub(crate) struct DeckParts {
+pub struct DeckParts {
+    /// The tree of the tree part.
     pub tree: Tree,
     /// The crews, where a crew part was read.
     pub crews: Option<Dockets>,
@@ -49,7 +51,7 @@ pub(crate) struct DeckParts {
 
 /// The tree and the crews of a deck, its crew part taken so, or its first fault. That a crew part is needed and is not
 /// there is found before the tree part is read.
-pub(crate) fn read_deck(alloc: Global, part: CrewPart, bytes: &[u8]) -> Result<DeckParts, DeckEnd>
+pub fn read_deck(alloc: Global, part: CrewPart, bytes: &[u8]) -> Result<DeckParts, DeckEnd>
     requires { length bytes.now ≤ INPUT_LIMIT }
     ensures deck { IfOk result (λ deck. IsWellFormed part bytes.now deck.tree deck.crews) }
     ensures end { IfErr result (IsDeckEnd part bytes.now) }

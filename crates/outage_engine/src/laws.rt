@@ -8,8 +8,9 @@ ghost use Rattle.deck_reading.specs.Deck.{StandsFor, crew_part};
 ghost use Rattle.deck_reading.specs.Relations.{AreCrewsOf, IsTreeOf};
 ghost use Rattle.outage_engine.specs.Deck.{IsTreeFault};
 ghost use Rattle.outage_engine.specs.Relations.{IsFaultIn};
-ghost use Rattle.outage_engine.specs.Finding.{Finding, Finds, Wants};
-ghost use Rattle.outage_engine.specs.Texts.{IsPrintText};
+ghost use Rattle.tree_maker.specs.MadeDeck.{made_deck};
+ghost use Rattle.outage_engine.specs.Finding.{Faulty, Finding, Finds, Wants};
+ghost use Rattle.outage_engine.specs.Texts.{IsPrintText, for_summary};
 
 use board_report::laws::printed_trees_are_read;
 use crew_script::laws::crews_or_first_fault;
@@ -17,6 +18,7 @@ use deck_reading::laws::deck_parts_are_read_by_relations;
 use fault_model::laws::each_tree_has_one_cut_list;
 use galileo_tree::parses_its_text;
 use tree_check::some_tree_or_some_fault;
+use tree_maker::laws::made_decks_are_well_made;
 
 /// A deck has exactly one finding for what a command wants of it: its first fault, a limit that is passed, or its tree,
 /// cut list and crews.
@@ -49,4 +51,12 @@ pub fn printed_decks_stand_for_their_tree()
         × StandsFor text tree }
 {
     printed_trees_are_read();
+}
+
+/// A made deck has no fault, so the words that ask for its summary are never refused for one: what is found in it is a
+/// limit that it passes, or all that the summary needs.
+pub fn made_decks_have_no_fault()
+    ensures { (number : ℕ) (fault : DeckFault) → ¬ Finds for_summary (made_deck number) (Faulty fault) }
+{
+    made_decks_are_well_made();
 }

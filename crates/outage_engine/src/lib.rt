@@ -6,7 +6,7 @@
 #![tactic(auto)]
 
 mod answer;
-mod deck;
+pub mod deck;
 mod found;
 mod input;
 pub mod laws;
@@ -16,6 +16,7 @@ mod refusal;
 mod running;
 mod sizes;
 mod status;
+mod summary;
 mod tell;
 
 pub use board_words::Word;

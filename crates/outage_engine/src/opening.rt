@@ -1,12 +1,13 @@
 //! A board for the deck that the source holds, before anything is written and any crew is served.
-ghost use Rattle.std.specs.Prelude.{◌≡◌, ◌≤◌, IsSome, Some, IfOk, IfErr};
+ghost use Rattle.std.specs.Prelude.{◌≡◌, ◌≤◌, IsSome, Some, None, IfOk, IfErr};
 ghost use Rattle.edge_io.specs.Faults.{Rose};
+ghost use Rattle.board_words.specs.Command.{command_of};
 ghost use Rattle.outage_engine.specs.Answers.{IfRefused, IsLimitOf, IsOfUnits, IsRefusalBy, IsRefusalFor};
-ghost use Rattle.outage_engine.specs.Gives.{OfInput};
+ghost use Rattle.outage_engine.specs.Gives.{OfInput, own_deck};
 ghost use Rattle.outage_engine.specs.Openings.{IsOpened, IsOpenedBy, IsOpenedFor, IsOpenedWith, IsReady};
 ghost use Rattle.outage_engine.specs.Runs.{IsBoard};
 ghost use Rattle.outage_engine.specs.Store.{IsFoundBy, method_by};
-ghost use Rattle.outage_engine.specs.StoreAfter.{BearsOut, GoesForDeck};
+ghost use Rattle.outage_engine.specs.StoreAfter.{BearsOut, GoesFor, GoesForDeck};
 ghost use Rattle.outage_engine.specs.Texts.{for_board};
 ghost use Rattle.outage_engine.specs.declared.status.Status.TheVariants.{Done};
 ghost use Rattle.tree_families.specs.Due.{IsDueToTree};
@@ -48,9 +49,9 @@ pub(crate) fn open_words<R: Threads + Sync, S: Source>(
     ensures ready { IfOk result IsReady }
     ensures refused { IfErr result (IfRefused (IsRefusalBy words.now (S.held source.old) (S.held source.new)
         (Rose (S.faults source.old) (S.faults source.new)))) }
-    ensures method { IfOk result (λ opened. BearsOut (S.held source.old) (S.held source.new) seat.old seat.new
-        (Done (method_by opened.listing.root))) }
-    ensures went { GoesForDeck (S.held source.old) (S.held source.new) seat.old seat.new }
+    ensures method { IfOk result (λ opened. BearsOut (own_deck (command_of words.now)) (S.held source.old)
+        (S.held source.new) seat.old seat.new (Done (method_by opened.listing.root))) }
+    ensures went { GoesForDeck words.now (S.held source.old) (S.held source.new) seat.old seat.new }
     ensures share { seat.new.share ≡ seat.old.share }
 {
     numbers_are_within_bounds();
@@ -88,9 +89,9 @@ fn open_input<R: Threads + Sync, S: Source>(
     ensures ready { IfOk result IsReady }
     ensures refused { IfErr result (IfRefused (IsRefusalFor (for_board most) (S.held source.old) (S.held source.new)
         (Rose (S.faults source.old) (S.faults source.new)))) }
-    ensures method { IfOk result (λ opened. BearsOut (S.held source.old) (S.held source.new) seat.old seat.new
+    ensures method { IfOk result (λ opened. BearsOut None (S.held source.old) (S.held source.new) seat.old seat.new
         (Done (method_by opened.listing.root))) }
-    ensures went { GoesForDeck (S.held source.old) (S.held source.new) seat.old seat.new }
+    ensures went { GoesFor None (S.held source.old) (S.held source.new) seat.old seat.new }
     ensures share { seat.new.share ≡ seat.old.share }
 {
     let deck = read_input(alloc, CrewPart::Needed, source)?;

@@ -1,12 +1,14 @@
 //! The run of the program.
 ghost use Rattle.std.specs.Prelude.{◌≡◌, ◌⊎◌, ◌≤◌, true, false, []};
 ghost use Rattle.edge_io.specs.Faults.{Rose};
+ghost use Rattle.board_words.specs.Command.{command_of};
 ghost use Rattle.board_report.specs.BoardText.{IsDeckOf};
 ghost use Rattle.outage_engine.specs.Answers.{IsOfUnits};
 ghost use Rattle.outage_engine.specs.Openings.{HasPasses, TellsBoard};
-ghost use Rattle.outage_engine.specs.Runs.{AreReading, IsBoard, IsNoBoard, Runs};
+ghost use Rattle.outage_engine.specs.Gives.{AreReading, own_deck};
+ghost use Rattle.outage_engine.specs.Runs.{IsBoard, IsNoBoard, Runs};
 ghost use Rattle.outage_engine.specs.Runs.{IsOfCommand, PrintsBoard, PrintsCheck, PrintsCuts, PrintsDiagram};
-ghost use Rattle.outage_engine.specs.Runs.{PrintsHelp, PrintsMade};
+ghost use Rattle.outage_engine.specs.Runs.{PrintsHelp, PrintsMade, PrintsSummary};
 ghost use Rattle.outage_engine.specs.Runs.{PrintsSafely, PrintsTree};
 ghost use Rattle.outage_engine.specs.Runs.{FailsToRead, RefusesDeck, RefusesLength, RefusesOrders, RefusesWeight};
 ghost use Rattle.outage_engine.specs.Runs.{RefusesWords};
@@ -35,9 +37,9 @@ use zdd_shared_table::{NodeStore, StoreSeat};
 /// `cuts` prints the minimal cut sets of the deck, and the orders in which the units of each fail the top event, for
 /// the sets of at most as many members as `--most` says. `board` prints the same, and then one log of the requests of
 /// all crews, decided one after the other at the margin, and the board at the end. `diagram` prints how large the cut
-/// list and its diagram are, `check` how large a well-formed deck is, and `print` its tree. `make` prints the made deck
-/// of a number, and reads nothing. The diagrams are made in the store, through the seat. Waits where crews wait for
-/// their turn.
+/// list and its diagram are, `check` how large a well-formed deck is, and `print` its tree. `make` reads nothing: it
+/// prints the made deck of a number, or sums up what is found in it and what comes of its requests. The diagrams are
+/// made in the store, through the seat. Waits where crews wait for their turn.
 pub fn run<R: Threads + Wait + Sync, S: Source, K: Sink>(
     rt: &R,
     alloc: Global,
@@ -59,6 +61,7 @@ pub fn run<R: Threads + Wait + Sync, S: Source, K: Sink>(
     ensures print { PrintsTree words.now (S.held source.old) (S.held source.new) K.taken sink.old sink.new result }
     ensures diagram { PrintsDiagram words.now (S.held source.old) (S.held source.new) K.taken sink.old sink.new result }
     ensures make { PrintsMade words.now K.taken sink.old sink.new result }
+    ensures summary { PrintsSummary words.now K.taken sink.old sink.new result }
     ensures help { PrintsHelp words.now K.taken sink.old sink.new result }
 
     // Each refusal has its cause, and its line was written.
@@ -90,9 +93,9 @@ pub fn run<R: Threads + Wait + Sync, S: Source, K: Sink>(
 
     // A run that ends by the diagram leaves a seat that knows it. One ends by lists only where a search of its own
     // found the store full. Whatever the status is, all that was filled and missed is due to the deck's tree.
-    ensures known { LeavesDiagram (S.held source.old) (S.held source.new) seat.new result }
+    ensures known { LeavesDiagram words.now (S.held source.old) (S.held source.new) seat.new result }
     ensures full { FindsFull seat.old seat.new result }
-    ensures went { GoesForDeck (S.held source.old) (S.held source.new) seat.old seat.new }
+    ensures went { GoesForDeck words.now (S.held source.old) (S.held source.new) seat.old seat.new }
     ensures share { seat.new.share ≡ seat.old.share }
 {
     if is_board(words) {
@@ -131,6 +134,7 @@ pub fn run_cuts<R: Threads + Sync, S: Source, K: Sink>(
     ensures print { PrintsTree words.now (S.held source.old) (S.held source.new) K.taken sink.old sink.new result }
     ensures diagram { PrintsDiagram words.now (S.held source.old) (S.held source.new) K.taken sink.old sink.new result }
     ensures make { PrintsMade words.now K.taken sink.old sink.new result }
+    ensures summary { PrintsSummary words.now K.taken sink.old sink.new result }
     ensures help { PrintsHelp words.now K.taken sink.old sink.new result }
 
     // Each refusal has its cause, and its line was written.
@@ -162,9 +166,9 @@ pub fn run_cuts<R: Threads + Sync, S: Source, K: Sink>(
 
     // A run that ends by the diagram leaves a seat that knows it. One ends by lists only where a search of its own
     // found the store full. Whatever the status is, all that was filled and missed is due to the deck's tree.
-    ensures known { LeavesDiagram (S.held source.old) (S.held source.new) seat.new result }
+    ensures known { LeavesDiagram words.now (S.held source.old) (S.held source.new) seat.new result }
     ensures full { FindsFull seat.old seat.new result }
-    ensures went { GoesForDeck (S.held source.old) (S.held source.new) seat.old seat.new }
+    ensures went { GoesForDeck words.now (S.held source.old) (S.held source.new) seat.old seat.new }
     ensures share { seat.new.share ≡ seat.old.share }
 {
     answer_and_tell(rt, alloc, words, source, sink, store, seat)
@@ -187,8 +191,9 @@ fn answer_and_tell<R: Threads + Sync, S: Source, K: Sink>(
         (Rose (S.faults source.old) (S.faults source.new))
         K.taken K.faults sink.old sink.new result }
     ensures unread { AreReading words.now ⊎ (source.new ≡ source.old) }
-    ensures method { BearsOut (S.held source.old) (S.held source.new) seat.old seat.new result }
-    ensures went { GoesForDeck (S.held source.old) (S.held source.new) seat.old seat.new }
+    ensures method { BearsOut (own_deck (command_of words.now)) (S.held source.old) (S.held source.new) seat.old
+        seat.new result }
+    ensures went { GoesForDeck words.now (S.held source.old) (S.held source.new) seat.old seat.new }
     ensures share { seat.new.share ≡ seat.old.share }
 {
     let Ok(buffer) = Buffer::new(alloc) else {
@@ -250,9 +255,9 @@ pub fn run_board<R: Threads + Wait + Sync, S: Source, K: Sink>(
 
     // A run that ends by the diagram leaves a seat that knows it. One ends by lists only where a search of its own
     // found the store full. Whatever the status is, all that was filled and missed is due to the deck's tree.
-    ensures known { LeavesDiagram (S.held source.old) (S.held source.new) seat.new result }
+    ensures known { LeavesDiagram words.now (S.held source.old) (S.held source.new) seat.new result }
     ensures full { FindsFull seat.old seat.new result }
-    ensures went { GoesForDeck (S.held source.old) (S.held source.new) seat.old seat.new }
+    ensures went { GoesForDeck words.now (S.held source.old) (S.held source.new) seat.old seat.new }
     ensures share { seat.new.share ≡ seat.old.share }
 {
     serve_and_tell(rt, alloc, words, source, sink, store, seat)
@@ -274,8 +279,9 @@ fn serve_and_tell<R: Threads + Wait + Sync, S: Source, K: Sink>(
     ensures runs { Runs words.now (S.held source.old) (S.held source.new)
         (Rose (S.faults source.old) (S.faults source.new))
         K.taken K.faults sink.old sink.new result }
-    ensures method { BearsOut (S.held source.old) (S.held source.new) seat.old seat.new result }
-    ensures went { GoesForDeck (S.held source.old) (S.held source.new) seat.old seat.new }
+    ensures method { BearsOut (own_deck (command_of words.now)) (S.held source.old) (S.held source.new) seat.old
+        seat.new result }
+    ensures went { GoesForDeck words.now (S.held source.old) (S.held source.new) seat.old seat.new }
     ensures share { seat.new.share ≡ seat.old.share }
 {
     let Ok(buffer) = Buffer::new(alloc) else {

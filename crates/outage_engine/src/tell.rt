@@ -3,7 +3,8 @@ ghost use Rattle.std.specs.Prelude.{◌≡◌, ◌++◌, [], is_err};
 ghost use Rattle.edge_io.specs.Out.{has_failed, Puts};
 ghost use Rattle.board_report.specs.BoardText.{IsDeckOf, board_text};
 ghost use Rattle.board_report.specs.CheckText.{check_text};
-ghost use Rattle.outage_engine.specs.Answers.{IsOfUnits, IsWritable, listing_text, refusal_line, status_of, text_of};
+ghost use Rattle.outage_engine.specs.Answers.{HasOrders, IsOfUnits, IsWritable, listing_text, refusal_line};
+ghost use Rattle.outage_engine.specs.Answers.{status_of, summed_text, text_of};
 ghost use Rattle.outage_engine.specs.Runs.{Tells};
 ghost use Rattle.outage_engine.specs.Store.{method_by};
 
@@ -12,8 +13,10 @@ use crate::answer::Answer;
 use crate::deck::DeckParts;
 use crate::listing::Listing;
 use crate::refusal::Refusal;
+use crate::summary::Summary;
 use board_report::{
-    Notice, put_board, put_check, put_cuts, put_diagram, put_fault, put_notice, put_tree,
+    Notice, put_board, put_check, put_cuts, put_diagram, put_fault, put_notice, put_summary,
+    put_tree,
 };
 use edge_io::{Buffer, Out, Sink, WriteFault};
 use outage_board::BoardState;
@@ -44,6 +47,7 @@ fn put_answer<K: Sink>(out: &mut Out<K>, answer: &Answer) -> Result<(), WriteFau
         Answer::Checked(deck) => put_deck(out, deck),
         Answer::Printed(tree) => put_tree(out, tree),
         Answer::Made(deck) => out.put(deck.as_slice()),
+        Answer::Summed(summary) => put_summed(out, summary),
         Answer::Help => put_notice(out, Notice::Usage),
         Answer::Refused(refusal) => put_refusal(out, refusal),
     }
@@ -76,6 +80,21 @@ fn put_listing<K: Sink>(out: &mut Out<K>, listing: &Listing) -> Result<(), Write
     ensures answer { is_err result ≡ has_failed out.new }
 {
     put_cuts(out, &listing.tree, &listing.cuts, &listing.orders)
+}
+
+fn put_summed<K: Sink>(out: &mut Out<K>, summary: &Summary) -> Result<(), WriteFault>
+    requires { HasOrders summary.now }
+    ensures puts { Puts K.taken K.faults out.old out.new (summed_text summary.now) }
+    ensures answer { is_err result ≡ has_failed out.new }
+{
+    let listing = &summary.listing;
+    put_summary(
+        out,
+        summary.number,
+        &listing.tree,
+        &listing.orders,
+        &summary.board,
+    )
 }
 
 /// Writes the cut sets and the board at its end, and tells how the run ends.

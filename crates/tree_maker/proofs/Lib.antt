@@ -11,4 +11,5 @@ pub mod Acyclic
 pub mod GoodNames
 pub mod CrewLines
 pub mod Faultless
+pub mod Lengths
 pub mod Making

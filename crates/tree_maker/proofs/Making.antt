@@ -15,7 +15,7 @@ use Rattle.fault_model.specs.declared.node.Place.{Place}
 use Rattle.galileo_tree.specs.ReadTree.{HasBareWord, KeepsForm, ReadTree}
 use Rattle.tree_check.specs.Checked.{IsFaultless, IsFirstFault, Stands}
 use Rattle.tree_check.specs.Numbered.{numbered_gates}
-use Rattle.tree_check.specs.OneFault.{no_fault}
+use Rattle.tree_check.proofs.OneFault.{no_fault}
 use Rattle.tree_check.specs.Said.{basics}
 use Rattle.tree_check.specs.declared.fault.CheckCode.{CheckCode}
 use Rattle.crew_script.specs.Crews.{crews_of}
@@ -33,6 +33,7 @@ use Rattle.tree_maker.specs.WellMade.{IsWellMade, made_crew}
 use Rattle.tree_maker.proofs.CrewLines.{asks_of, crew_said, crew_says, request_of, return_ask, returns_say, takes_say}
 use Rattle.tree_maker.proofs.Faultless.{count_of_gates, count_of_units, faultless}
 use Rattle.tree_maker.proofs.GoodNames.{all_good}
+use Rattle.tree_maker.proofs.Lengths.{made_short}
 
 -- ---- what a good statement keeps
 
@@ -141,6 +142,7 @@ module _ (number : ℕ) where
           ∙ ap (λ crews. Some crews)
           (one_answer (length (made_statements number) + 2) (crew_lines number)
           (Ok (made_crew number ∷ [])) crew_reads);
+      short = made_short number;
     }
 
     pub well_made : (tree : FaultTree) × IsWellMade number (made_deck number) tree

@@ -1,7 +1,8 @@
 -- What a made deck stands for: a tree, and one crew with its requests.
-use Rattle.std.specs.Prelude.{◌≡◌, ℕ, ◌+◌, ◌*◌, List, [], ◌∷◌, ◌++◌, map, codes, Some, Ok}
+use Rattle.std.specs.Prelude.{◌≡◌, ℕ, ◌+◌, ◌*◌, ◌≤◌, List, [], ◌∷◌, ◌++◌, length, map, codes, Some, Ok}
 use Rattle.std.specs.List.{flat_map, range_with_len}
 use Rattle.fault_model.specs.Tree.{FaultTree, unit_count, gate_count}
+use Rattle.edge_io.specs.declared.reading.TheConstants.{INPUT_LIMIT}
 use Rattle.crew_script.specs.declared.dockets.Ask.{Ask}
 use Rattle.crew_script.specs.declared.dockets.Ask.TheVariants.{Take, Return}
 use Rattle.crew_script.specs.declared.dockets.Crew.{Crew}
@@ -19,9 +20,11 @@ made_requests number =
 abbrev pub made_crew : ℕ → Crew
 made_crew number = record { name = codes "maker"; docket = made_requests number }
 
--- The bytes are a deck without a fault, of this tree, which has so many units and gates, and of the one crew.
+-- The bytes are a deck without a fault, of this tree, which has so many units and gates, and of the one crew. They are
+-- no more than an input may have.
 pub record IsWellMade (number : ℕ) (bytes : List ℕ) (tree : FaultTree) : Type 0 where
   pub stands : StandsFor bytes tree
   pub units : unit_count tree ≡ 3 * group_count number + 10
   pub gates : gate_count tree ≡ 1 + group_count number + fdep_count number
   pub crews : crew_part bytes ≡ Some (Ok (made_crew number ∷ []))
+  pub short : length bytes ≤ INPUT_LIMIT

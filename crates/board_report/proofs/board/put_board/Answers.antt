@@ -1,11 +1,12 @@
 use Rattle.std.proofs.Common.{sym, ◌∙◌, ap, subst, is_err, ◌++◌}
-use Rattle.edge_io.specs.Out.{Puts, Puts-trans}
+use Rattle.edge_io.specs.Out.{Puts}
+use Rattle.edge_io.proofs.OutLemmas.{Puts-trans}
 use Rattle.outage_board.specs.Boards.{standing_of}
 use Rattle.board_report.specs.LogText.{log_text}
 use Rattle.board_report.specs.BoardText.{margin_line, margin_now, end_text}
 use Rattle.margin_policy.specs.Standing.{StandingView}
 use Rattle.board_report.proofs.BoardLemmas.{units_at_end}
-use Rattle.board_report.proofs.Putting.{first_short}
+use Rattle.text_pieces.proofs.Putting.{first_short}
 use Rattle.board_report.proofs.board.put_board.Goals as goal
 
 pub returns-in_err-put_margin_line-clause-puts : goal.returns-in_err-put_margin_line-clause-puts

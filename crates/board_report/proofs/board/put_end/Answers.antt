@@ -1,8 +1,9 @@
 use Rattle.std.proofs.Common.{sym, ◌∙◌, ap, subst, is_err}
-use Rattle.edge_io.specs.Out.{Puts, Puts-trans}
+use Rattle.edge_io.specs.Out.{Puts}
+use Rattle.edge_io.proofs.OutLemmas.{Puts-trans}
 use Rattle.margin_policy.specs.Held.{units_out}
 use Rattle.board_report.specs.BoardText.{out_text, left_lines}
-use Rattle.board_report.proofs.Putting.{first_short}
+use Rattle.text_pieces.proofs.Putting.{first_short}
 use Rattle.board_report.proofs.board.put_end.Goals as goal
 
 pub returns-in_err-put_out-clause-puts : goal.returns-in_err-put_out-clause-puts

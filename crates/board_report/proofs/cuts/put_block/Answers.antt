@@ -1,7 +1,7 @@
 use Rattle.std.proofs.Common.{sym, ◌∙◌, ap, is_err, ◌+◌, None, get_or}
-use Rattle.edge_io.specs.Out.{Puts-trans}
+use Rattle.edge_io.proofs.OutLemmas.{Puts-trans}
 use Rattle.board_report.specs.CutsText.{cut_line, order_lines}
-use Rattle.board_report.proofs.Putting.{first_short}
+use Rattle.text_pieces.proofs.Putting.{first_short}
 use Rattle.board_report.proofs.cuts.put_block.Goals as goal
 
 pub returns-in_err-put_cut_line-clause-puts : goal.returns-in_err-put_cut_line-clause-puts

@@ -1,6 +1,6 @@
 use Rattle.std.proofs.Common.{sym, ◌∙◌, ap, subst, is_err, ◌≤◌}
 use Rattle.board_report.specs.CutsText.{cut_blocks, listed_with}
-use Rattle.board_report.proofs.Putting.{begun, whole_put, one_more, cut_short, PutsFront}
+use Rattle.text_pieces.proofs.Putting.{begun, whole_put, one_more, cut_short, PutsFront}
 use Rattle.board_report.proofs.Listing.{next_block, no_block}
 use Rattle.board_report.proofs.cuts.put_blocks.Goals as goal
 

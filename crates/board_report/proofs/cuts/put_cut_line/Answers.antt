@@ -1,7 +1,7 @@
 use Rattle.std.proofs.Common.{sym, ◌∙◌, ap, is_err, codes, ◌++◌}
 use Rattle.board_report.specs.Shown.{spaced}
 use Rattle.board_report.specs.CutsText.{cut_number}
-use Rattle.board_report.proofs.Putting.{first_short, second_short, all_three}
+use Rattle.text_pieces.proofs.Putting.{first_short, second_short, all_three}
 use Rattle.board_report.proofs.cuts.put_cut_line.Goals as goal
 
 pub returns-in_err-put_cut_number-clause-puts : goal.returns-in_err-put_cut_number-clause-puts

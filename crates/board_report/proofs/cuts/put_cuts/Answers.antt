@@ -2,7 +2,7 @@ use Rattle.std.proofs.Common.{sym, ◌∙◌, ap, subst, is_err, ◌++◌, lengt
 use Rattle.edge_io.specs.Out.{Puts}
 use Rattle.cut_sequences.specs.Orders.{order_total}
 use Rattle.board_report.specs.CutsText.{tree_line, count_line, cut_blocks, listed_with, orders_in}
-use Rattle.board_report.proofs.Putting.{first_short, second_short, all_three}
+use Rattle.text_pieces.proofs.Putting.{first_short, second_short, all_three}
 use Rattle.board_report.proofs.Listing.{counts_with}
 use Rattle.board_report.proofs.cuts.put_cuts.Goals as goal
 

@@ -3,7 +3,7 @@ use Rattle.edge_io.specs.Out.{Puts}
 use Rattle.fault_model.specs.Tree.{name_of, unit_count, gate_count}
 use Rattle.board_report.specs.Shown.{show}
 use Rattle.board_report.specs.CutsText.{tree_counts}
-use Rattle.board_report.proofs.Putting.{first_short, second_short, all_three}
+use Rattle.text_pieces.proofs.Putting.{first_short, second_short, all_three}
 use Rattle.board_report.proofs.Listing.{counted}
 use Rattle.board_report.proofs.cuts.put_titled_line.Goals as goal
 

@@ -1,8 +1,9 @@
 use Rattle.std.proofs.Common.{sym, ◌∙◌, ap, subst, is_err, ◌++◌, length}
-use Rattle.edge_io.specs.Out.{Puts, Puts-trans}
+use Rattle.edge_io.specs.Out.{Puts}
+use Rattle.edge_io.proofs.OutLemmas.{Puts-trans}
 use Rattle.board_report.specs.CutsText.{tree_line}
 use Rattle.board_report.specs.DiagramText.{method_text, sizes_text, member_count}
-use Rattle.board_report.proofs.Putting.{first_short}
+use Rattle.text_pieces.proofs.Putting.{first_short}
 use Rattle.board_report.proofs.diagram.put_diagram.Goals as goal
 
 pub returns-in_err-put_tree_line-clause-puts : goal.returns-in_err-put_tree_line-clause-puts

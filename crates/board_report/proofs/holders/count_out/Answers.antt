@@ -1,7 +1,9 @@
-use Rattle.std.proofs.Common.{arith}
-use Rattle.residual_ledger.specs.Passing.{length-passing-le}
-use Rattle.margin_policy.specs.HeldLaws.{is_held}
+use Rattle.std.proofs.Common.{◌≡◌, ◌+◌, ◌∙◌, ap, arith, length}
+use Rattle.unit_sets.specs.Words.{passing_below}
+use Rattle.residual_ledger.proofs.Passing.{length-passing-le}
+use Rattle.margin_policy.proofs.HeldLaws.{is_held}
 use Rattle.board_report.proofs.BoardLemmas.{none_counted, counted_more, one_at_most}
+use Rattle.board_report.proofs.SummaryLemmas.{out_up_to}
 use Rattle.board_report.proofs.holders.count_out.Goals as goal
 
 pub loop-number-init : goal.loop-number-init
@@ -23,3 +25,12 @@ overflow_add-count c =
       c.count_at-count.ensures,
       one_at_most (is_held c.args.standing.now.held c.loop-number.number),
     )
+
+pub returns : goal.returns
+returns c =
+    let last : c.loop-number.number ≡ c.args.last + 1 =
+    omega (arith, c.loop-number-test.false, c.loop-number.auto.number-end (omega arith)) in
+    c.loop-number.invariant
+    ∙ ap (λ n. length (passing_below (is_held c.args.standing.now.held) n)) last
+    ∙ ap length (out_up_to c.args.standing.now.held c.args.last
+    (omega (arith, c.holds_units_alone.ensures.all, c.requires.units)))

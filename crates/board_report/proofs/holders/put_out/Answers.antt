@@ -1,9 +1,10 @@
 use Rattle.std.proofs.Common.{sym, ◌∙◌, ap, subst, is_err, length}
-use Rattle.edge_io.specs.Out.{Puts, Puts-trans}
+use Rattle.edge_io.specs.Out.{Puts}
+use Rattle.edge_io.proofs.OutLemmas.{Puts-trans}
 use Rattle.std.specs.List.{flat_map}
 use Rattle.margin_policy.specs.Held.{units_out}
 use Rattle.board_report.specs.BoardText.{out_head, out_line}
-use Rattle.board_report.proofs.Putting.{first_short}
+use Rattle.text_pieces.proofs.Putting.{first_short}
 use Rattle.board_report.proofs.holders.put_out.Goals as goal
 
 pub returns-in_err-put_out_head-clause-puts : goal.returns-in_err-put_out_head-clause-puts

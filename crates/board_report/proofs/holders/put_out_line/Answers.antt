@@ -1,9 +1,10 @@
 use Rattle.std.proofs.Common.{sym, ◌∙◌, ap, subst, is_err, codes, ◌++◌, Some}
-use Rattle.edge_io.specs.Out.{Puts, Puts-trans}
+use Rattle.edge_io.specs.Out.{Puts}
+use Rattle.edge_io.proofs.OutLemmas.{Puts-trans}
 use Rattle.board_report.specs.Shown.{show}
 use Rattle.fault_model.specs.Tree.{name_of}
 use Rattle.board_report.specs.BoardText.{holder_text}
-use Rattle.board_report.proofs.Putting.{first_short}
+use Rattle.text_pieces.proofs.Putting.{first_short}
 use Rattle.board_report.proofs.holders.put_out_line.Goals as goal
 
 pub returns-in_err-put_shown-clause-puts : goal.returns-in_err-put_shown-clause-puts

@@ -1,5 +1,5 @@
 use Rattle.std.proofs.Common.{sym, ◌∙◌, ap, is_err, arith, length}
-use Rattle.margin_policy.specs.HeldLaws.{is_held}
+use Rattle.margin_policy.proofs.HeldLaws.{is_held}
 use Rattle.board_report.specs.BoardText.{out_line}
 use Rattle.board_report.proofs.BoardLemmas.{none_first, no_line, line_put, line_short}
 use Rattle.board_report.proofs.holders.put_out_lines.Goals as goal

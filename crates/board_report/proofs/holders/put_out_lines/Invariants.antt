@@ -1,6 +1,6 @@
 use Rattle.std.proofs.Common.{◌≡◌, false}
 use Rattle.edge_io.specs.Out.{has_failed, Puts}
-use Rattle.margin_policy.specs.HeldLaws.{is_held}
+use Rattle.margin_policy.proofs.HeldLaws.{is_held}
 use Rattle.board_report.specs.BoardText.{out_line}
 use Rattle.board_report.proofs.BoardLemmas.{lines_below}
 use Rattle.board_report.proofs.holders.put_out_lines.Given as goal

@@ -1,6 +1,6 @@
 use Rattle.std.proofs.Common.{sym, ◌∙◌, ap, subst, is_err, ◌<◌, ◌≤◌, length}
 use Rattle.board_report.specs.BoardText.{left_lines}
-use Rattle.board_report.proofs.Putting.{begun, whole_put, one_more, cut_short, PutsFront}
+use Rattle.text_pieces.proofs.Putting.{begun, whole_put, one_more, cut_short, PutsFront}
 use Rattle.board_report.proofs.BoardLemmas.{next_left, none_left}
 use Rattle.board_report.proofs.left.put_left.Goals as goal
 

@@ -1,7 +1,7 @@
 use Rattle.std.proofs.Common.{◌≡◌, ◌+◌, false, drop}
 use Rattle.edge_io.specs.Out.{has_failed}
 use Rattle.board_report.specs.BoardText.{left_lines}
-use Rattle.board_report.proofs.Putting.{PutsFront}
+use Rattle.text_pieces.proofs.Putting.{PutsFront}
 use Rattle.board_report.proofs.left.put_left.Given as goal
 
 abbrev pub invariant-loop-i : goal.invariant-loop-i

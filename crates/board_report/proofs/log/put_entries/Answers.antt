@@ -1,5 +1,5 @@
 use Rattle.std.proofs.Common.{sym, ◌∙◌, ap, is_err}
-use Rattle.board_report.proofs.Putting.{one_more, cut_short}
+use Rattle.text_pieces.proofs.Putting.{one_more, cut_short}
 use Rattle.board_report.proofs.BoardLemmas.{next_entry}
 use Rattle.board_report.proofs.log.put_entries.Goals as goal
 

@@ -1,8 +1,9 @@
 use Rattle.std.proofs.Common.{sym, ◌∙◌, ap, subst, is_err, ◌++◌}
-use Rattle.edge_io.specs.Out.{Puts, Puts-trans}
+use Rattle.edge_io.specs.Out.{Puts}
+use Rattle.edge_io.proofs.OutLemmas.{Puts-trans}
 use Rattle.board_report.specs.LogText.{ask_text, entry_end, entry_head}
 use Rattle.crew_script.specs.Dockets.{ask_at}
-use Rattle.board_report.proofs.Putting.{first_short}
+use Rattle.text_pieces.proofs.Putting.{first_short}
 use Rattle.board_report.proofs.log.put_entry.Goals as goal
 
 pub returns-in_err-put_entry_head-clause-puts : goal.returns-in_err-put_entry_head-clause-puts

@@ -1,9 +1,10 @@
 use Rattle.std.proofs.Common.{sym, ◌∙◌, ap, subst, is_err}
-use Rattle.edge_io.specs.Out.{Puts, Puts-trans}
+use Rattle.edge_io.specs.Out.{Puts}
+use Rattle.edge_io.proofs.OutLemmas.{Puts-trans}
 use Rattle.board_report.specs.Shown.{named}
 use Rattle.crew_script.specs.Dockets.{crew_at}
 use Rattle.std.specs.Fmt.{decimal}
-use Rattle.board_report.proofs.Putting.{first_short}
+use Rattle.text_pieces.proofs.Putting.{first_short}
 use Rattle.board_report.proofs.log.put_entry_head.Goals as goal
 
 pub returns-in_err-put-clause-puts : goal.returns-in_err-put-clause-puts

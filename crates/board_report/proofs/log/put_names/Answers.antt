@@ -2,7 +2,7 @@ use Rattle.std.proofs.Common.{sym, ◌∙◌, ap, subst, is_err}
 use Rattle.std.specs.List.{flat_map}
 use Rattle.std.proofs.lemmas.List.{drop_all}
 use Rattle.board_report.specs.Shown.{named}
-use Rattle.board_report.proofs.Putting.{begun, whole_put, one_more, cut_short, piece_named, PutsFront}
+use Rattle.text_pieces.proofs.Putting.{begun, whole_put, one_more, cut_short, piece_named, PutsFront}
 use Rattle.board_report.proofs.log.put_names.Goals as goal
 
 pub loop-name-init : goal.loop-name-init

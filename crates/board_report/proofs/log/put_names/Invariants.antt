@@ -2,7 +2,7 @@ use Rattle.std.proofs.Common.{◌≡◌, false}
 use Rattle.std.specs.List.{flat_map}
 use Rattle.edge_io.specs.Out.{has_failed}
 use Rattle.board_report.specs.Shown.{named}
-use Rattle.board_report.proofs.Putting.{PutsFront, left_of}
+use Rattle.text_pieces.proofs.Putting.{PutsFront, left_of}
 use Rattle.board_report.proofs.log.put_names.Given as goal
 
 abbrev pub invariant-loop-name : goal.invariant-loop-name

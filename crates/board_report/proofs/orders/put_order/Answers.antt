@@ -1,6 +1,6 @@
 use Rattle.std.proofs.Common.{sym, ◌∙◌, ap, is_err, codes, ◌++◌}
 use Rattle.board_report.specs.Shown.{spaced}
-use Rattle.board_report.proofs.Putting.{first_short, second_short, all_three}
+use Rattle.text_pieces.proofs.Putting.{first_short, second_short, all_three}
 use Rattle.board_report.proofs.orders.put_order.Goals as goal
 
 pub returns-in_err-put-clause-puts : goal.returns-in_err-put-clause-puts

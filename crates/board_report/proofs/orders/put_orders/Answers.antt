@@ -3,7 +3,7 @@ use Rattle.std.specs.List.{flat_map}
 use Rattle.std.proofs.lemmas.List.{drop_all}
 use Rattle.cut_sequences.specs.Orders.{orders_at}
 use Rattle.board_report.specs.CutsText.{order_line}
-use Rattle.board_report.proofs.Putting.{begun, whole_put, one_more, cut_short, piece_named, PutsFront}
+use Rattle.text_pieces.proofs.Putting.{begun, whole_put, one_more, cut_short, piece_named, PutsFront}
 use Rattle.board_report.proofs.orders.put_orders.Goals as goal
 
 pub loop-j-init : goal.loop-j-init

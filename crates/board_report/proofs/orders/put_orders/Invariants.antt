@@ -3,7 +3,7 @@ use Rattle.std.specs.List.{flat_map}
 use Rattle.cut_sequences.specs.Orders.{orders_at}
 use Rattle.edge_io.specs.Out.{has_failed}
 use Rattle.board_report.specs.CutsText.{order_line}
-use Rattle.board_report.proofs.Putting.{PutsFront, left_of}
+use Rattle.text_pieces.proofs.Putting.{PutsFront, left_of}
 use Rattle.board_report.proofs.orders.put_orders.Given as goal
 
 abbrev pub invariant-loop-j : goal.invariant-loop-j

@@ -1,7 +1,7 @@
 use Rattle.std.proofs.Common.{sym, ◌∙◌, ap, is_err, codes}
-use Rattle.edge_io.specs.Out.{Puts-trans}
+use Rattle.edge_io.proofs.OutLemmas.{Puts-trans}
 use Rattle.board_report.specs.Shown.{show}
-use Rattle.board_report.proofs.Putting.{first_short}
+use Rattle.text_pieces.proofs.Putting.{first_short}
 use Rattle.board_report.proofs.pieces.put_named.Goals as goal
 
 pub returns-in_err-put-clause-puts : goal.returns-in_err-put-clause-puts

@@ -1,7 +1,7 @@
 use Rattle.std.proofs.Common.{sym, ◌∙◌, ap, subst, is_err, ◌++◌, ◌+◌}
 use Rattle.std.proofs.lemmas.List.{drop_all}
 use Rattle.board_report.specs.Shown.{spaced, unit_text}
-use Rattle.board_report.proofs.Putting.{begun, whole_put, one_more, cut_short, next_piece, left_of, PutsFront}
+use Rattle.text_pieces.proofs.Putting.{begun, whole_put, one_more, cut_short, next_piece, left_of, PutsFront}
 use Rattle.board_report.proofs.pieces.put_spaced.Goals as goal
 
 pub loop-unit-init : goal.loop-unit-init

@@ -1,7 +1,7 @@
 use Rattle.std.proofs.Common.{sym, ◌∙◌, ap, is_err}
-use Rattle.edge_io.specs.Out.{Puts-trans}
+use Rattle.edge_io.proofs.OutLemmas.{Puts-trans}
 use Rattle.deck_reading.specs.Written.{attribute_word, value_text}
-use Rattle.board_report.proofs.Putting.{first_short}
+use Rattle.text_pieces.proofs.Putting.{first_short}
 use Rattle.board_report.proofs.print.put_attribute.Goals as goal
 
 pub returns-in_err-put_attribute_word-clause-puts : goal.returns-in_err-put_attribute_word-clause-puts

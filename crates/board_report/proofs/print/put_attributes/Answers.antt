@@ -5,7 +5,7 @@ use Rattle.std.proofs.lemmas.List.{drop_all, take_all}
 use Rattle.std.proofs.lemmas.List.Elements.{All-more, All-nil}
 use Rattle.deck_reading.specs.TreeStatements.{HasNames}
 use Rattle.deck_reading.specs.Written.{attribute_text}
-use Rattle.board_report.proofs.Putting.{begun, whole_put, one_more, cut_short, piece_named, PutsFront}
+use Rattle.text_pieces.proofs.Putting.{begun, whole_put, one_more, cut_short, piece_named, PutsFront}
 use Rattle.board_report.proofs.print.put_attributes.Goals as goal
 
 pub loop-attribute-init : goal.loop-attribute-init

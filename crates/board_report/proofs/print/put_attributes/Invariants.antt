@@ -4,7 +4,7 @@ use Rattle.std.specs.List.{flat_map}
 use Rattle.edge_io.specs.Out.{has_failed}
 use Rattle.deck_reading.specs.TreeStatements.{HasNames}
 use Rattle.deck_reading.specs.Written.{attribute_text}
-use Rattle.board_report.proofs.Putting.{PutsFront, left_of}
+use Rattle.text_pieces.proofs.Putting.{PutsFront, left_of}
 use Rattle.board_report.proofs.print.put_attributes.Given as goal
 
 abbrev pub invariant-loop-attribute : goal.invariant-loop-attribute

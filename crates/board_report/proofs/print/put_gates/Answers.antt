@@ -3,8 +3,9 @@ use Rattle.std.specs.List.{flat_map, range_with_len}
 use Rattle.board_report.specs.PrintText.{gate_line}
 use Rattle.fault_model.specs.Name.{is_name}
 use Rattle.fault_model.specs.Tree.{name_of, unit_count, gate_count}
-use Rattle.board_report.proofs.Putting.{begun, whole_put, one_more, cut_short, PutsFront}
-use Rattle.board_report.proofs.PrintLemmas.{all_named, all_numbers, next_number, no_number, none_named, one_more_named}
+use Rattle.text_pieces.proofs.Putting.{begun, whole_put, one_more, cut_short, PutsFront}
+use Rattle.text_pieces.proofs.Counting.{all_numbers, next_number, no_number}
+use Rattle.board_report.proofs.PrintLemmas.{all_named, none_named, one_more_named}
 use Rattle.board_report.proofs.print.put_gates.Goals as goal
 
 pub loop-i-init : goal.loop-i-init

@@ -5,7 +5,7 @@ use Rattle.board_report.specs.PrintText.{gate_line}
 use Rattle.fault_model.specs.Name.{is_name}
 use Rattle.fault_model.specs.Tree.{name_of, unit_count, gate_count}
 use Rattle.board_report.proofs.PrintLemmas.{NamedUpTo}
-use Rattle.board_report.proofs.Putting.{PutsFront}
+use Rattle.text_pieces.proofs.Putting.{PutsFront}
 use Rattle.board_report.proofs.print.put_gates.Given as goal
 
 abbrev pub invariant-loop-i : goal.invariant-loop-i

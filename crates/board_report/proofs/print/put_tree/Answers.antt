@@ -1,12 +1,12 @@
 use Rattle.std.proofs.Common.{ℕ, sym, ◌∙◌, ap, is_err, ◌++◌}
-use Rattle.edge_io.specs.Out.{Puts-trans}
+use Rattle.edge_io.proofs.OutLemmas.{Puts-trans}
 use Rattle.deck_reading.specs.Deck.{StandsFor}
 use Rattle.board_report.specs.PrintText.{IsNamedUnit, gate_line, print_text, top_line, unit_line}
 use Rattle.fault_model.specs.Tree.{IsUnitOf, unit_count, gate_count}
 use Rattle.std.specs.List.{flat_map, range_with_len}
 use Rattle.std.proofs.Common.{◌+◌}
 use Rattle.board_report.proofs.PrintedTrees.{on_ok, tree_named}
-use Rattle.board_report.proofs.Putting.{first_short}
+use Rattle.text_pieces.proofs.Putting.{first_short}
 use Rattle.board_report.proofs.print.put_tree.Goals as goal
 
 pub returns-in_err-put_top_line-clause-puts : goal.returns-in_err-put_top_line-clause-puts

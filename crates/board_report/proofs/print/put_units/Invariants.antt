@@ -4,7 +4,7 @@ use Rattle.edge_io.specs.Out.{has_failed}
 use Rattle.board_report.specs.PrintText.{IsNamedUnit, unit_line}
 use Rattle.board_report.proofs.PrintLemmas.{NamedUpTo}
 use Rattle.fault_model.specs.Tree.{unit_count}
-use Rattle.board_report.proofs.Putting.{PutsFront}
+use Rattle.text_pieces.proofs.Putting.{PutsFront}
 use Rattle.board_report.proofs.print.put_units.Given as goal
 
 abbrev pub invariant-loop-i : goal.invariant-loop-i

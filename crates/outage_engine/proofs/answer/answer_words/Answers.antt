@@ -1,17 +1,20 @@
-use Rattle.std.specs.Prelude.{◌≡◌, Some}
+use Rattle.std.specs.Prelude.{◌≡◌, None, Some}
 use Rattle.std.proofs.Common.{sym, ap, inl, refl}
 use Rattle.std.proofs.lemmas.Result.{err_from_is_err_and}
 use Rattle.edge_io.specs.Faults.{Rose}
 use Rattle.board_words.specs.Command.{command_of}
+use Rattle.tree_maker.specs.MadeDeck.{made_deck}
 use Rattle.board_words.specs.declared.command.Command.TheVariants.{Cuts, Check, Print, Diagram, Make, Help}
 use Rattle.board_words.specs.declared.command.Show.TheVariants as shown
 use Rattle.outage_engine.specs.declared.status.Method.TheVariants.{Plain}
 use Rattle.outage_engine.specs.Gives as gives
-use Rattle.outage_engine.specs.Gives.{done_yet, wants_of}
+use Rattle.outage_engine.specs.Gives.{own_deck, wants_of}
 use Rattle.outage_engine.specs.Store.{method_by}
-use Rattle.outage_engine.specs.Texts.{for_check, for_cuts, for_diagram, for_print}
-use Rattle.outage_engine.proofs.Answering.{check_of_input, print_of_input, refused_by, refused_for}
+use Rattle.outage_engine.specs.Texts.{for_check, for_cuts, for_diagram, for_print, for_summary}
+use Rattle.outage_engine.proofs.Answering.{check_of_input, print_of_input, refused_by, refused_by_own, refused_for}
+use Rattle.outage_engine.proofs.SeatLemmas.{bears_by_words, goes_by_words}
 use Rattle.outage_engine.proofs.Serving.{finds_sets}
+use Rattle.outage_engine.specs.declared.status.Status.TheVariants.{Done}
 use Rattle.outage_engine.proofs.answer.answer_words.Goals as goal
 
 pub list_input-requires-clause-most : goal.list_input-requires-clause-most
@@ -39,28 +42,50 @@ returns-in_err-list_input-in-Some-Cuts-clause-refused g c =
     rw (p.1, p.2)
     (refused_by (g.S.Source.held c.args.source.now) (g.S.Source.held c.list_input.new.source)
     (Rose (g.S.Source.faults c.args.source.now) (g.S.Source.faults c.list_input.new.source))
-    c.args.words.now (for_cuts c.in-Some-Cuts.most) _ (ap wants_of (ap done_yet said))
+    c.args.words.now (for_cuts c.in-Some-Cuts.most) _ (ap wants_of said) (ap own_deck said)
     c.in_err-list_input-in-Some-Cuts.ensures.refused)
 
 pub returns-in_err-list_input-in-Some-Cuts-clause-unread : goal.returns-in_err-list_input-in-Some-Cuts-clause-unread
 returns-in_err-list_input-in-Some-Cuts-clause-unread g c =
     let said : command_of c.args.words.now ≡ Some (Cuts c.in-Some-Cuts.most c.in-Some-Cuts.workers) =
     sym (rw c.in-Some-Cuts.field-0-is at c.in-Some-Cuts.ensures) in
-    inl (for_cuts c.in-Some-Cuts.most, ap wants_of (ap done_yet said))
+    inl (for_cuts c.in-Some-Cuts.most, ap wants_of said, ap own_deck said)
 
 pub returns-in_ok-list_input-in-Some-Cuts-clause-gives : goal.returns-in_ok-list_input-in-Some-Cuts-clause-gives
 returns-in_ok-list_input-in-Some-Cuts-clause-gives g c =
     let said : command_of c.args.words.now ≡ Some (Cuts c.in-Some-Cuts.most c.in-Some-Cuts.workers) =
     sym (rw c.in-Some-Cuts.field-0-is at c.in-Some-Cuts.ensures) in
     gives.done (Cuts c.in-Some-Cuts.most c.in-Some-Cuts.workers)
-    (method_by c.in_ok-list_input-in-Some-Cuts.field-0.root) (ap done_yet said)
+    (method_by c.in_ok-list_input-in-Some-Cuts.field-0.root) said
     (finds_sets c.in_ok-list_input-in-Some-Cuts.field-0.root) c.in_ok-list_input-in-Some-Cuts.ensures.text refl
 
 pub returns-in_ok-list_input-in-Some-Cuts-clause-unread : goal.returns-in_ok-list_input-in-Some-Cuts-clause-unread
 returns-in_ok-list_input-in-Some-Cuts-clause-unread g c =
     let said : command_of c.args.words.now ≡ Some (Cuts c.in-Some-Cuts.most c.in-Some-Cuts.workers) =
     sym (rw c.in-Some-Cuts.field-0-is at c.in-Some-Cuts.ensures) in
-    inl (for_cuts c.in-Some-Cuts.most, ap wants_of (ap done_yet said))
+    inl (for_cuts c.in-Some-Cuts.most, ap wants_of said, ap own_deck said)
+
+pub returns-in_err-list_input-in-Some-Cuts-clause-went : goal.returns-in_err-list_input-in-Some-Cuts-clause-went
+returns-in_err-list_input-in-Some-Cuts-clause-went g c =
+    let said : command_of c.args.words.now ≡ Some (Cuts c.in-Some-Cuts.most c.in-Some-Cuts.workers) =
+    sym (rw c.in-Some-Cuts.field-0-is at c.in-Some-Cuts.ensures) in
+    goes_by_words (g.S.Source.held c.args.source.now) (g.S.Source.held c.list_input.new.source) c.args.seat.now
+    c.list_input.new.seat c.args.words.now None (ap own_deck said) c.list_input.ensures.went
+
+pub returns-in_ok-list_input-in-Some-Cuts-clause-went : goal.returns-in_ok-list_input-in-Some-Cuts-clause-went
+returns-in_ok-list_input-in-Some-Cuts-clause-went g c =
+    let said : command_of c.args.words.now ≡ Some (Cuts c.in-Some-Cuts.most c.in-Some-Cuts.workers) =
+    sym (rw c.in-Some-Cuts.field-0-is at c.in-Some-Cuts.ensures) in
+    goes_by_words (g.S.Source.held c.args.source.now) (g.S.Source.held c.list_input.new.source) c.args.seat.now
+    c.list_input.new.seat c.args.words.now None (ap own_deck said) c.list_input.ensures.went
+
+pub returns-in_ok-list_input-in-Some-Cuts-clause-method : goal.returns-in_ok-list_input-in-Some-Cuts-clause-method
+returns-in_ok-list_input-in-Some-Cuts-clause-method g c =
+    let said : command_of c.args.words.now ≡ Some (Cuts c.in-Some-Cuts.most c.in-Some-Cuts.workers) =
+    sym (rw c.in-Some-Cuts.field-0-is at c.in-Some-Cuts.ensures) in
+    bears_by_words (g.S.Source.held c.args.source.now) (g.S.Source.held c.list_input.new.source) c.args.seat.now
+    c.list_input.new.seat c.args.words.now None (ap own_deck said)
+    (Done (method_by c.in_ok-list_input-in-Some-Cuts.field-0.root)) c.in_ok-list_input-in-Some-Cuts.ensures.method
 
 -- ---- check
 
@@ -74,20 +99,20 @@ returns-in_err-read_input-in-Some-Check-clause-refused g c =
     let held = g.S.Source.held c.args.source.now in
     let left = g.S.Source.held c.read_input.new.source in
     let rose = Rose (g.S.Source.faults c.args.source.now) (g.S.Source.faults c.read_input.new.source) in
-    rw (p.1, p.2) (refused_by held left rose c.args.words.now for_check _ (ap wants_of (ap done_yet said))
+    rw (p.1, p.2) (refused_by held left rose c.args.words.now for_check _ (ap wants_of said) (ap own_deck said)
     (refused_for held left rose for_check _ c.in_err-read_input-in-Some-Check.ensures.refused))
 
 pub returns-in_err-read_input-in-Some-Check-clause-unread : goal.returns-in_err-read_input-in-Some-Check-clause-unread
 returns-in_err-read_input-in-Some-Check-clause-unread g c =
     let said : command_of c.args.words.now ≡ Some Check =
     sym (rw c.in-Some-Check.field-0-is at c.in-Some-Check.ensures) in
-    inl (for_check, ap wants_of (ap done_yet said))
+    inl (for_check, ap wants_of said, ap own_deck said)
 
 pub returns-in_ok-read_input-in-Some-Check-clause-gives : goal.returns-in_ok-read_input-in-Some-Check-clause-gives
 returns-in_ok-read_input-in-Some-Check-clause-gives g c =
     let said : command_of c.args.words.now ≡ Some Check =
     sym (rw c.in-Some-Check.field-0-is at c.in-Some-Check.ensures) in
-    gives.done Check Plain (ap done_yet said) refl
+    gives.done Check Plain said refl
     (check_of_input (g.S.Source.held c.args.source.now) (g.S.Source.held c.read_input.new.source)
     c.in_ok-read_input-in-Some-Check.field-0.tree c.in_ok-read_input-in-Some-Check.field-0.crews
     c.in_ok-read_input-in-Some-Check.ensures.deck)
@@ -97,7 +122,7 @@ pub returns-in_ok-read_input-in-Some-Check-clause-unread : goal.returns-in_ok-re
 returns-in_ok-read_input-in-Some-Check-clause-unread g c =
     let said : command_of c.args.words.now ≡ Some Check =
     sym (rw c.in-Some-Check.field-0-is at c.in-Some-Check.ensures) in
-    inl (for_check, ap wants_of (ap done_yet said))
+    inl (for_check, ap wants_of said, ap own_deck said)
 
 -- ---- print
 
@@ -111,20 +136,20 @@ returns-in_err-read_input-in-Some-Print-clause-refused g c =
     let held = g.S.Source.held c.args.source.now in
     let left = g.S.Source.held c.read_input-in-Some-Print.new.source in
     let rose = Rose (g.S.Source.faults c.args.source.now) (g.S.Source.faults c.read_input-in-Some-Print.new.source) in
-    rw (p.1, p.2) (refused_by held left rose c.args.words.now for_print _ (ap wants_of (ap done_yet said))
+    rw (p.1, p.2) (refused_by held left rose c.args.words.now for_print _ (ap wants_of said) (ap own_deck said)
     (refused_for held left rose for_print _ c.in_err-read_input-in-Some-Print.ensures.refused))
 
 pub returns-in_err-read_input-in-Some-Print-clause-unread : goal.returns-in_err-read_input-in-Some-Print-clause-unread
 returns-in_err-read_input-in-Some-Print-clause-unread g c =
     let said : command_of c.args.words.now ≡ Some Print =
     sym (rw c.in-Some-Print.field-0-is at c.in-Some-Print.ensures) in
-    inl (for_print, ap wants_of (ap done_yet said))
+    inl (for_print, ap wants_of said, ap own_deck said)
 
 pub returns-in_ok-read_input-in-Some-Print-clause-gives : goal.returns-in_ok-read_input-in-Some-Print-clause-gives
 returns-in_ok-read_input-in-Some-Print-clause-gives g c =
     let said : command_of c.args.words.now ≡ Some Print =
     sym (rw c.in-Some-Print.field-0-is at c.in-Some-Print.ensures) in
-    gives.done Print Plain (ap done_yet said) refl
+    gives.done Print Plain said refl
     (print_of_input (g.S.Source.held c.args.source.now) (g.S.Source.held c.read_input-in-Some-Print.new.source)
     c.in_ok-read_input-in-Some-Print.field-0.tree c.in_ok-read_input-in-Some-Print.field-0.crews
     c.in_ok-read_input-in-Some-Print.ensures.deck)
@@ -134,14 +159,14 @@ pub returns-in_ok-read_input-in-Some-Print-clause-unread : goal.returns-in_ok-re
 returns-in_ok-read_input-in-Some-Print-clause-unread g c =
     let said : command_of c.args.words.now ≡ Some Print =
     sym (rw c.in-Some-Print.field-0-is at c.in-Some-Print.ensures) in
-    inl (for_print, ap wants_of (ap done_yet said))
+    inl (for_print, ap wants_of said, ap own_deck said)
 
 -- ---- help
 
 pub returns-in-Some-Help-clause-gives : goal.returns-in-Some-Help-clause-gives
 returns-in-Some-Help-clause-gives g c =
     let said : command_of c.args.words.now ≡ Some Help = sym (rw c.in-Some-Help.field-0-is at c.in-Some-Help.ensures) in
-    gives.done Help Plain (ap done_yet said) refl refl refl
+    gives.done Help Plain said refl refl refl
 
 -- ---- diagram
 
@@ -165,27 +190,51 @@ returns-in_err-size_input-in-Some-Diagram-clause-refused g c =
     rw (p.1, p.2)
     (refused_by (g.S.Source.held c.args.source.now) (g.S.Source.held c.size_input.new.source)
     (Rose (g.S.Source.faults c.args.source.now) (g.S.Source.faults c.size_input.new.source))
-    c.args.words.now for_diagram _ (ap wants_of (ap done_yet said)) c.in_err-size_input-in-Some-Diagram.ensures.refused)
+    c.args.words.now for_diagram _ (ap wants_of said) (ap own_deck said)
+    c.in_err-size_input-in-Some-Diagram.ensures.refused)
 
 pub returns-in_err-size_input-in-Some-Diagram-clause-unread : goal.returns-in_err-size_input-in-Some-Diagram-clause-unread
 returns-in_err-size_input-in-Some-Diagram-clause-unread g c =
     let said : command_of c.args.words.now ≡ Some (Diagram c.in-Some-Diagram.workers) =
     sym (rw c.in-Some-Diagram.field-0-is at c.in-Some-Diagram.ensures) in
-    inl (for_diagram, ap wants_of (ap done_yet said))
+    inl (for_diagram, ap wants_of said, ap own_deck said)
 
 pub returns-in_ok-size_input-in-Some-Diagram-clause-gives : goal.returns-in_ok-size_input-in-Some-Diagram-clause-gives
 returns-in_ok-size_input-in-Some-Diagram-clause-gives g c =
     let said : command_of c.args.words.now ≡ Some (Diagram c.in-Some-Diagram.workers) =
     sym (rw c.in-Some-Diagram.field-0-is at c.in-Some-Diagram.ensures) in
     gives.done (Diagram c.in-Some-Diagram.workers) (method_by c.in_ok-size_input-in-Some-Diagram.field-0.nodes)
-    (ap done_yet said)
+    said
     (finds_sets c.in_ok-size_input-in-Some-Diagram.field-0.nodes) c.in_ok-size_input-in-Some-Diagram.ensures.text refl
 
 pub returns-in_ok-size_input-in-Some-Diagram-clause-unread : goal.returns-in_ok-size_input-in-Some-Diagram-clause-unread
 returns-in_ok-size_input-in-Some-Diagram-clause-unread g c =
     let said : command_of c.args.words.now ≡ Some (Diagram c.in-Some-Diagram.workers) =
     sym (rw c.in-Some-Diagram.field-0-is at c.in-Some-Diagram.ensures) in
-    inl (for_diagram, ap wants_of (ap done_yet said))
+    inl (for_diagram, ap wants_of said, ap own_deck said)
+
+pub returns-in_err-size_input-in-Some-Diagram-clause-went : goal.returns-in_err-size_input-in-Some-Diagram-clause-went
+returns-in_err-size_input-in-Some-Diagram-clause-went g c =
+    let said : command_of c.args.words.now ≡ Some (Diagram c.in-Some-Diagram.workers) =
+    sym (rw c.in-Some-Diagram.field-0-is at c.in-Some-Diagram.ensures) in
+    goes_by_words (g.S.Source.held c.args.source.now) (g.S.Source.held c.size_input.new.source) c.args.seat.now
+    c.size_input.new.seat c.args.words.now None (ap own_deck said) c.size_input.ensures.went
+
+pub returns-in_ok-size_input-in-Some-Diagram-clause-went : goal.returns-in_ok-size_input-in-Some-Diagram-clause-went
+returns-in_ok-size_input-in-Some-Diagram-clause-went g c =
+    let said : command_of c.args.words.now ≡ Some (Diagram c.in-Some-Diagram.workers) =
+    sym (rw c.in-Some-Diagram.field-0-is at c.in-Some-Diagram.ensures) in
+    goes_by_words (g.S.Source.held c.args.source.now) (g.S.Source.held c.size_input.new.source) c.args.seat.now
+    c.size_input.new.seat c.args.words.now None (ap own_deck said) c.size_input.ensures.went
+
+pub returns-in_ok-size_input-in-Some-Diagram-clause-method : goal.returns-in_ok-size_input-in-Some-Diagram-clause-method
+returns-in_ok-size_input-in-Some-Diagram-clause-method g c =
+    let said : command_of c.args.words.now ≡ Some (Diagram c.in-Some-Diagram.workers) =
+    sym (rw c.in-Some-Diagram.field-0-is at c.in-Some-Diagram.ensures) in
+    bears_by_words (g.S.Source.held c.args.source.now) (g.S.Source.held c.size_input.new.source) c.args.seat.now
+    c.size_input.new.seat c.args.words.now None (ap own_deck said)
+    (Done (method_by c.in_ok-size_input-in-Some-Diagram.field-0.nodes))
+    c.in_ok-size_input-in-Some-Diagram.ensures.method
 
 -- ---- make
 
@@ -206,5 +255,79 @@ returns-in_ok-made-in-Some-Make-default-Deck-clause-gives g c =
     let shows = c.in-Some-Make-default-Deck.field-0-1-is in
     let numbered = c.in-Some-Make-default-Deck.number-is in
     let said : command_of c.args.words.now ≡ Some (Make c.in-Some-Make-default-Deck.number shown.Deck) = cc in
-    gives.done (Make c.in-Some-Make-default-Deck.number shown.Deck) Plain (ap done_yet said) refl
+    gives.done (Make c.in-Some-Make-default-Deck.number shown.Deck) Plain said refl
     c.in_ok-made-in-Some-Make-default-Deck.ensures.text refl
+
+-- ---- make, in sum
+
+pub sum_made-requires-clause-number : goal.sum_made-requires-clause-number
+sum_made-requires-clause-number g c _ _ =
+    let read = c.in-Some-Make-default-Summary.ensures in
+    let is = c.in-Some-Make-default-Summary.field-0-is in
+    let shows = c.in-Some-Make-default-Summary.field-0-1-is in
+    let numbered = c.in-Some-Make-default-Summary.number-is in
+    let said : command_of c.args.words.now ≡ Some (Make c.in-Some-Make-default-Summary.number shown.Summary) = cc in
+    c.numbers_are_within_bounds.ensures.within (Make c.in-Some-Make-default-Summary.number shown.Summary)
+    c.args.words.now said
+
+pub returns-in_err-sum_made-in-Some-Make-default-Summary-clause-refused : goal.returns-in_err-sum_made-in-Some-Make-default-Summary-clause-refused
+returns-in_err-sum_made-in-Some-Make-default-Summary-clause-refused g c =
+    let read = c.in-Some-Make-default-Summary.ensures in
+    let is = c.in-Some-Make-default-Summary.field-0-is in
+    let shows = c.in-Some-Make-default-Summary.field-0-1-is in
+    let numbered = c.in-Some-Make-default-Summary.number-is in
+    let said : command_of c.args.words.now ≡ Some (Make c.in-Some-Make-default-Summary.number shown.Summary) = cc in
+    let p =
+    err_from_is_err_and c.from_residual-in_err-sum_made-in-Some-Make-default-Summary.result
+    c.from_residual-in_err-sum_made-in-Some-Make-default-Summary.ensures.1 in
+    let held = g.S.Source.held c.args.source.now in
+    let rose = Rose (g.S.Source.faults c.args.source.now) (g.S.Source.faults c.args.source.now) in
+    rw (p.1, p.2) (refused_by_own held held rose c.args.words.now for_summary
+    (made_deck c.in-Some-Make-default-Summary.number) _
+    (ap wants_of said) (ap own_deck said) c.in_err-sum_made-in-Some-Make-default-Summary.ensures.refused)
+
+pub returns-in_err-sum_made-in-Some-Make-default-Summary-clause-went : goal.returns-in_err-sum_made-in-Some-Make-default-Summary-clause-went
+returns-in_err-sum_made-in-Some-Make-default-Summary-clause-went g c =
+    let read = c.in-Some-Make-default-Summary.ensures in
+    let is = c.in-Some-Make-default-Summary.field-0-is in
+    let shows = c.in-Some-Make-default-Summary.field-0-1-is in
+    let numbered = c.in-Some-Make-default-Summary.number-is in
+    let said : command_of c.args.words.now ≡ Some (Make c.in-Some-Make-default-Summary.number shown.Summary) = cc in
+    let held = g.S.Source.held c.args.source.now in
+    goes_by_words held held c.args.seat.now c.sum_made.new.seat c.args.words.now
+    (Some (made_deck c.in-Some-Make-default-Summary.number)) (ap own_deck said) c.sum_made.ensures.went
+
+pub returns-in_ok-sum_made-in-Some-Make-default-Summary-clause-gives : goal.returns-in_ok-sum_made-in-Some-Make-default-Summary-clause-gives
+returns-in_ok-sum_made-in-Some-Make-default-Summary-clause-gives g c =
+    let read = c.in-Some-Make-default-Summary.ensures in
+    let is = c.in-Some-Make-default-Summary.field-0-is in
+    let shows = c.in-Some-Make-default-Summary.field-0-1-is in
+    let numbered = c.in-Some-Make-default-Summary.number-is in
+    let said : command_of c.args.words.now ≡ Some (Make c.in-Some-Make-default-Summary.number shown.Summary) = cc in
+    let root = c.in_ok-sum_made-in-Some-Make-default-Summary.field-0.listing.root in
+    gives.done (Make c.in-Some-Make-default-Summary.number shown.Summary) (method_by root) said (finds_sets root)
+    c.in_ok-sum_made-in-Some-Make-default-Summary.ensures.text refl
+
+pub returns-in_ok-sum_made-in-Some-Make-default-Summary-clause-method : goal.returns-in_ok-sum_made-in-Some-Make-default-Summary-clause-method
+returns-in_ok-sum_made-in-Some-Make-default-Summary-clause-method g c =
+    let read = c.in-Some-Make-default-Summary.ensures in
+    let is = c.in-Some-Make-default-Summary.field-0-is in
+    let shows = c.in-Some-Make-default-Summary.field-0-1-is in
+    let numbered = c.in-Some-Make-default-Summary.number-is in
+    let said : command_of c.args.words.now ≡ Some (Make c.in-Some-Make-default-Summary.number shown.Summary) = cc in
+    let held = g.S.Source.held c.args.source.now in
+    bears_by_words held held c.args.seat.now c.sum_made.new.seat c.args.words.now
+    (Some (made_deck c.in-Some-Make-default-Summary.number)) (ap own_deck said)
+    (Done (method_by c.in_ok-sum_made-in-Some-Make-default-Summary.field-0.listing.root))
+    c.in_ok-sum_made-in-Some-Make-default-Summary.ensures.method
+
+pub returns-in_ok-sum_made-in-Some-Make-default-Summary-clause-went : goal.returns-in_ok-sum_made-in-Some-Make-default-Summary-clause-went
+returns-in_ok-sum_made-in-Some-Make-default-Summary-clause-went g c =
+    let read = c.in-Some-Make-default-Summary.ensures in
+    let is = c.in-Some-Make-default-Summary.field-0-is in
+    let shows = c.in-Some-Make-default-Summary.field-0-1-is in
+    let numbered = c.in-Some-Make-default-Summary.number-is in
+    let said : command_of c.args.words.now ≡ Some (Make c.in-Some-Make-default-Summary.number shown.Summary) = cc in
+    let held = g.S.Source.held c.args.source.now in
+    goes_by_words held held c.args.seat.now c.sum_made.new.seat c.args.words.now
+    (Some (made_deck c.in-Some-Make-default-Summary.number)) (ap own_deck said) c.sum_made.ensures.went

@@ -1,10 +1,11 @@
+use Rattle.std.specs.Prelude.{None}
 use Rattle.std.proofs.lemmas.Result.{IfOk-weaker, IfErr-weaker, err_from_is_err_and}
 use Rattle.edge_io.specs.Faults.{Rose}
 use Rattle.outage_engine.specs.declared.deck.CrewPart.TheVariants.{Unread}
 use Rattle.outage_engine.specs.Store.{method_by}
 use Rattle.outage_engine.specs.Texts.{for_cuts}
 use Rattle.outage_engine.proofs.Answering.{cuts_of_input, limit_for, refused_for}
-use Rattle.outage_engine.proofs.SeatLemmas.{bears_out, goes_for_deck}
+use Rattle.outage_engine.proofs.SeatLemmas.{bears_out, goes_for}
 use Rattle.outage_engine.proofs.answer.list_input.Goals as goal
 
 pub returns-in_err-deck-clause-refused : goal.returns-in_err-deck-clause-refused
@@ -38,13 +39,13 @@ pub returns-clause-method : goal.returns-clause-method
 returns-clause-method g c =
     IfOk-weaker c.list_tree.result _ _
     (λ listing found.
-    bears_out (g.S.Source.held c.args.source.now) (g.S.Source.held c.read_input.new.source) c.args.seat.now
+    bears_out None (g.S.Source.held c.args.source.now) (g.S.Source.held c.read_input.new.source) c.args.seat.now
     c.list_tree.new.seat
     Unread c.in_ok-deck.deck.tree c.in_ok-deck.deck.crews c.in_ok-deck.ensures.deck (method_by listing.root) found)
     c.list_tree.ensures.found
 
 pub returns-clause-went : goal.returns-clause-went
 returns-clause-went g c =
-    goes_for_deck (g.S.Source.held c.args.source.now) (g.S.Source.held c.read_input.new.source) c.args.seat.now
+    goes_for None (g.S.Source.held c.args.source.now) (g.S.Source.held c.read_input.new.source) c.args.seat.now
     c.list_tree.new.seat
     Unread c.in_ok-deck.deck.tree c.in_ok-deck.deck.crews c.in_ok-deck.ensures.deck c.list_tree.ensures.went

@@ -1,10 +1,11 @@
+use Rattle.std.specs.Prelude.{None}
 use Rattle.std.proofs.lemmas.Result.{IfOk-weaker, IfErr-weaker, err_from_is_err_and}
 use Rattle.edge_io.specs.Faults.{Rose}
 use Rattle.outage_engine.specs.declared.deck.CrewPart.TheVariants.{Needed}
 use Rattle.outage_engine.specs.Store.{method_by}
 use Rattle.outage_engine.specs.Texts.{for_board}
 use Rattle.outage_engine.proofs.Answering.{limit_for, refused_for}
-use Rattle.outage_engine.proofs.SeatLemmas.{bears_out, goes_for_deck}
+use Rattle.outage_engine.proofs.SeatLemmas.{bears_out, goes_for}
 use Rattle.outage_engine.proofs.Serving.{opened_of_input}
 use Rattle.outage_engine.proofs.opening.open_input.Goals as goal
 
@@ -39,7 +40,7 @@ pub returns-clause-method : goal.returns-clause-method
 returns-clause-method g c =
     IfOk-weaker c.open_deck.result _ _
     (λ opened found.
-    bears_out (g.S.Source.held c.args.source.now) (g.S.Source.held c.read_input.new.source) c.args.seat.now
+    bears_out None (g.S.Source.held c.args.source.now) (g.S.Source.held c.read_input.new.source) c.args.seat.now
     c.open_deck.new.seat
     Needed c.in_ok-deck.deck.tree c.in_ok-deck.deck.crews c.in_ok-deck.ensures.deck (method_by opened.listing.root)
     found)
@@ -47,6 +48,6 @@ returns-clause-method g c =
 
 pub returns-clause-went : goal.returns-clause-went
 returns-clause-went g c =
-    goes_for_deck (g.S.Source.held c.args.source.now) (g.S.Source.held c.read_input.new.source) c.args.seat.now
+    goes_for None (g.S.Source.held c.args.source.now) (g.S.Source.held c.read_input.new.source) c.args.seat.now
     c.open_deck.new.seat
     Needed c.in_ok-deck.deck.tree c.in_ok-deck.deck.crews c.in_ok-deck.ensures.deck c.open_deck.ensures.went

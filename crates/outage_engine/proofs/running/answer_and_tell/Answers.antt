@@ -1,8 +1,9 @@
+use Rattle.board_words.specs.Command.{command_of}
 use Rattle.std.specs.Result.{IfOk}
 use Rattle.std.proofs.Common.{inr, subst}
 use Rattle.edge_io.specs.Faults.{Rose}
 use Rattle.outage_engine.specs.Answers.{refusal_line, refusal_status, status_of, text_of}
-use Rattle.outage_engine.specs.Gives.{Gives}
+use Rattle.outage_engine.specs.Gives.{Gives, own_deck}
 use Rattle.outage_engine.proofs.SeatLemmas.{refusal_bears_out, told_bears_out}
 use Rattle.outage_engine.proofs.running.answer_and_tell.Goals as goal
 
@@ -31,7 +32,8 @@ returns-in-Err-Refused-clause-runs g c =
 
 pub returns-in-Ok-answer_words-clause-method : goal.returns-in-Ok-answer_words-clause-method
 returns-in-Ok-answer_words-clause-method g c =
-    told_bears_out (g.S.Source.held c.args.source.now) (g.S.Source.held c.answer_words.new.source) c.args.seat.now
+    told_bears_out (own_deck (command_of c.args.words.now))
+    (g.S.Source.held c.args.source.now) (g.S.Source.held c.answer_words.new.source) c.args.seat.now
     c.answer_words.new.seat
     g.K.Sink.taken g.K.Sink.faults c.args.sink.now c.tell.new.sink (status_of c.in-Ok-answer_words.answer)
     (text_of c.in-Ok-answer_words.answer) c.tell.result
@@ -41,8 +43,10 @@ pub returns-in-Err-Refused-clause-method : goal.returns-in-Err-Refused-clause-me
 returns-in-Err-Refused-clause-method g c =
     let held = g.S.Source.held c.args.source.now in
     let left = g.S.Source.held c.answer_words.new.source in
-    told_bears_out held left c.args.seat.now c.answer_words.new.seat
+    told_bears_out (own_deck (command_of c.args.words.now)) held left
+    c.args.seat.now c.answer_words.new.seat
     g.K.Sink.taken g.K.Sink.faults c.args.sink.now c.tell-in-Err-Refused.new.sink
     (refusal_status c.in-Err-Refused.refusal) (refusal_line c.in-Err-Refused.refusal) c.tell-in-Err-Refused.result
-    (refusal_bears_out held left c.args.seat.now c.answer_words.new.seat c.in-Err-Refused.refusal)
+    (refusal_bears_out (own_deck (command_of c.args.words.now)) held left
+    c.args.seat.now c.answer_words.new.seat c.in-Err-Refused.refusal)
     c.tell-in-Err-Refused.ensures.told

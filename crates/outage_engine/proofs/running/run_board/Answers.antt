@@ -1,6 +1,7 @@
+use Rattle.board_words.specs.Command.{command_of}
 use Rattle.std.proofs.Common.{ap, inl}
 use Rattle.edge_io.specs.Faults.{Rose}
-use Rattle.outage_engine.specs.Gives.{wants_of}
+use Rattle.outage_engine.specs.Gives.{own_deck, wants_of}
 use Rattle.outage_engine.specs.Texts.{for_board}
 use Rattle.outage_engine.proofs.Clauses.{answers_deck, answers_length, answers_words, fails_to_read, front_of}
 use Rattle.outage_engine.proofs.Clauses.{of_command, prints_board, prints_safely, refuses_deck, refuses_length}
@@ -107,16 +108,19 @@ returns-clause-due g c =
     c.serve_and_tell.ensures.runs
 
 pub returns-clause-unread : goal.returns-clause-unread
-returns-clause-unread g c = inl (for_board c.requires.command.1, ap wants_of c.requires.command.3)
+returns-clause-unread g c =
+    inl (for_board c.requires.command.1, ap wants_of c.requires.command.3, ap own_deck c.requires.command.3)
 
 pub returns-clause-known : goal.returns-clause-known
 returns-clause-known g c =
-    leaves_diagram (g.S.Source.held c.args.source.now) (g.S.Source.held c.serve_and_tell.new.source) c.args.seat.now
+    leaves_diagram (own_deck (command_of c.args.words.now))
+    (g.S.Source.held c.args.source.now) (g.S.Source.held c.serve_and_tell.new.source) c.args.seat.now
     c.serve_and_tell.new.seat
     c.serve_and_tell.result c.serve_and_tell.ensures.method
 
 pub returns-clause-full : goal.returns-clause-full
 returns-clause-full g c =
-    finds_full (g.S.Source.held c.args.source.now) (g.S.Source.held c.serve_and_tell.new.source) c.args.seat.now
+    finds_full (own_deck (command_of c.args.words.now))
+    (g.S.Source.held c.args.source.now) (g.S.Source.held c.serve_and_tell.new.source) c.args.seat.now
     c.serve_and_tell.new.seat
     c.serve_and_tell.result c.serve_and_tell.ensures.method

@@ -1,7 +1,9 @@
+use Rattle.board_words.specs.Command.{command_of}
+use Rattle.outage_engine.specs.Gives.{own_deck}
 use Rattle.edge_io.specs.Faults.{Rose}
 use Rattle.outage_engine.proofs.Clauses.{answers_deck, answers_length, answers_words, fails_to_read, front_of}
 use Rattle.outage_engine.proofs.Clauses.{of_command, prints_check, prints_cuts, prints_diagram, prints_help}
-use Rattle.outage_engine.proofs.Clauses.{prints_made}
+use Rattle.outage_engine.proofs.Clauses.{prints_made, prints_summary}
 use Rattle.outage_engine.proofs.Clauses.{prints_tree, refuses_deck, refuses_length, refuses_orders, refuses_weight}
 use Rattle.outage_engine.proofs.Clauses.{refuses_words, unwritten}
 use Rattle.outage_engine.proofs.SeatLemmas.{finds_full, leaves_diagram}
@@ -45,6 +47,13 @@ returns-clause-help g c =
 pub returns-clause-make : goal.returns-clause-make
 returns-clause-make g c =
     prints_made c.args.words.now (g.S.Source.held c.args.source.now) (g.S.Source.held c.answer_and_tell.new.source)
+    (Rose (g.S.Source.faults c.args.source.now) (g.S.Source.faults c.answer_and_tell.new.source))
+    g.K.Sink.taken g.K.Sink.faults c.args.sink.now c.answer_and_tell.new.sink c.answer_and_tell.result
+    c.answer_and_tell.ensures.runs
+
+pub returns-clause-summary : goal.returns-clause-summary
+returns-clause-summary g c =
+    prints_summary c.args.words.now (g.S.Source.held c.args.source.now) (g.S.Source.held c.answer_and_tell.new.source)
     (Rose (g.S.Source.faults c.args.source.now) (g.S.Source.faults c.answer_and_tell.new.source))
     g.K.Sink.taken g.K.Sink.faults c.args.sink.now c.answer_and_tell.new.sink c.answer_and_tell.result
     c.answer_and_tell.ensures.runs
@@ -135,12 +144,14 @@ returns-clause-diagram g c =
 
 pub returns-clause-known : goal.returns-clause-known
 returns-clause-known g c =
-    leaves_diagram (g.S.Source.held c.args.source.now) (g.S.Source.held c.answer_and_tell.new.source) c.args.seat.now
+    leaves_diagram (own_deck (command_of c.args.words.now))
+    (g.S.Source.held c.args.source.now) (g.S.Source.held c.answer_and_tell.new.source) c.args.seat.now
     c.answer_and_tell.new.seat
     c.answer_and_tell.result c.answer_and_tell.ensures.method
 
 pub returns-clause-full : goal.returns-clause-full
 returns-clause-full g c =
-    finds_full (g.S.Source.held c.args.source.now) (g.S.Source.held c.answer_and_tell.new.source) c.args.seat.now
+    finds_full (own_deck (command_of c.args.words.now))
+    (g.S.Source.held c.args.source.now) (g.S.Source.held c.answer_and_tell.new.source) c.args.seat.now
     c.answer_and_tell.new.seat
     c.answer_and_tell.result c.answer_and_tell.ensures.method

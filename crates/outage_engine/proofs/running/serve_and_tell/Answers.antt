@@ -1,3 +1,5 @@
+use Rattle.board_words.specs.Command.{command_of}
+use Rattle.outage_engine.specs.Gives.{own_deck}
 use Rattle.std.specs.Prelude.{◌++◌}
 use Rattle.std.proofs.Common.{inr}
 use Rattle.edge_io.specs.Faults.{Rose}
@@ -25,7 +27,8 @@ returns-in-Ok-open_words g c =
         told = told.2;
       };
       method =
-          told_bears_out held left c.args.seat.now c.open_words.new.seat g.K.Sink.taken g.K.Sink.faults c.args.sink.now
+          told_bears_out (own_deck (command_of c.args.words.now)) held left
+          c.args.seat.now c.open_words.new.seat g.K.Sink.taken g.K.Sink.faults c.args.sink.now
           c.serve.new.sink
           (Done (method_by opened.listing.root)) (listing_text opened.listing ++ board_text opened.listing.tree told.0)
           c.serve.result
@@ -46,10 +49,12 @@ returns-in-Err-Refused g c =
       method =
           let held = g.S.Source.held c.args.source.now in
           let left = g.S.Source.held c.open_words.new.source in
-          told_bears_out held left c.args.seat.now c.open_words.new.seat g.K.Sink.taken g.K.Sink.faults c.args.sink.now
+          told_bears_out (own_deck (command_of c.args.words.now)) held left
+          c.args.seat.now c.open_words.new.seat g.K.Sink.taken g.K.Sink.faults c.args.sink.now
           c.tell.new.sink
           (refusal_status c.in-Err-Refused.refusal) (refusal_line c.in-Err-Refused.refusal) c.tell.result
-          (refusal_bears_out held left c.args.seat.now c.open_words.new.seat c.in-Err-Refused.refusal)
+          (refusal_bears_out (own_deck (command_of c.args.words.now)) held left
+          c.args.seat.now c.open_words.new.seat c.in-Err-Refused.refusal)
           c.tell.ensures.told;
       went = c.open_words.ensures.went;
       share = c.open_words.ensures.share;

@@ -1,5 +1,5 @@
 use Rattle.std.proofs.Common.{◌≡◌, arith}
-use Rattle.edge_io.specs.Out.{Puts-finished}
+use Rattle.edge_io.proofs.OutLemmas.{Puts-finished}
 use Rattle.outage_engine.specs.Answers.{status_of}
 use Rattle.outage_engine.proofs.Telling.{told_front}
 use Rattle.outage_engine.proofs.tell.tell.Goals as goal

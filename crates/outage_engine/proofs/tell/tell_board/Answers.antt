@@ -1,5 +1,5 @@
 use Rattle.std.proofs.Common.{◌≡◌, arith}
-use Rattle.edge_io.specs.Out.{Puts-finished}
+use Rattle.edge_io.proofs.OutLemmas.{Puts-finished}
 use Rattle.outage_engine.specs.declared.status.Status.TheVariants.{Done}
 use Rattle.outage_engine.specs.Store.{method_by}
 use Rattle.outage_engine.proofs.Telling.{told_front}

@@ -1,0 +1,84 @@
+use Rattle.std.proofs.Common.{sym, ◌∙◌, ap, subst, is_err, ◌++◌, length}
+use Rattle.edge_io.specs.Out.{Puts}
+use Rattle.cut_sequences.specs.Orders.{order_total}
+use Rattle.fault_model.specs.Tree.{gate_count, unit_count}
+use Rattle.margin_policy.specs.Held.{units_out}
+use Rattle.outage_board.specs.Boards.{standing_of}
+use Rattle.board_report.specs.BoardText.{out_head}
+use Rattle.board_report.specs.CutsText.{count_line}
+use Rattle.board_report.specs.SummaryText.{decided_line, made_line}
+use Rattle.text_pieces.proofs.Putting.{all_four, first_short, second_short, third_short}
+use Rattle.board_report.proofs.summary.put_summary.Goals as goal
+
+pub returns-in_err-put_made_line-clause-puts : goal.returns-in_err-put_made_line-clause-puts
+returns-in_err-put_made_line-clause-puts g c =
+    first_short g.K.Sink.taken g.K.Sink.faults c.args.out.now c.put_made_line.new.out
+    (made_line c.args.number (unit_count c.args.tree.now) (gate_count c.args.tree.now))
+    ((count_line (length c.args.state.now.deck.opening.cuts) (order_total c.args.orders.now)) ++ ((decided_line
+    c.args.state.now.history) ++ (out_head (length (units_out (standing_of c.args.state.now).held)))))
+    (subst (λ u. Puts g.K.Sink.taken g.K.Sink.faults c.args.out.now c.put_made_line.new.out (made_line c.args.number
+    u (gate_count c.args.tree.now))) c.units.ensures.count
+    (subst (λ n. Puts g.K.Sink.taken g.K.Sink.faults c.args.out.now c.put_made_line.new.out (made_line c.args.number
+    c.units.result n)) c.gates.ensures.count
+    c.put_made_line.ensures.puts))
+    (sym c.put_made_line.ensures.answer ∙ ap is_err c.in_err-put_made_line.was)
+
+pub returns-in_err-put_count_line-clause-puts : goal.returns-in_err-put_count_line-clause-puts
+returns-in_err-put_count_line-clause-puts g c =
+    second_short g.K.Sink.taken g.K.Sink.faults c.args.out.now c.put_made_line.new.out c.put_count_line.new.out
+    (made_line c.args.number (unit_count c.args.tree.now) (gate_count c.args.tree.now))
+    (count_line (length c.args.state.now.deck.opening.cuts) (order_total c.args.orders.now))
+    ((decided_line c.args.state.now.history) ++ (out_head (length (units_out (standing_of c.args.state.now).held))))
+    (subst (λ u. Puts g.K.Sink.taken g.K.Sink.faults c.args.out.now c.put_made_line.new.out (made_line c.args.number
+    u (gate_count c.args.tree.now))) c.units.ensures.count
+    (subst (λ n. Puts g.K.Sink.taken g.K.Sink.faults c.args.out.now c.put_made_line.new.out (made_line c.args.number
+    c.units.result n)) c.gates.ensures.count
+    c.put_made_line.ensures.puts))
+    (subst (λ s. Puts g.K.Sink.taken g.K.Sink.faults c.put_made_line.new.out c.put_count_line.new.out (count_line s
+    (order_total c.args.orders.now))) (c.sets.ensures ∙ c.requires.made.each)
+    (subst (λ t. Puts g.K.Sink.taken g.K.Sink.faults c.put_made_line.new.out c.put_count_line.new.out (count_line
+    c.sets.result t)) c.total.ensures c.put_count_line.ensures.puts))
+    (sym c.put_count_line.ensures.answer ∙ ap is_err c.in_err-put_count_line.was)
+
+pub returns-in_err-put_decided-clause-puts : goal.returns-in_err-put_decided-clause-puts
+returns-in_err-put_decided-clause-puts g c =
+    third_short g.K.Sink.taken g.K.Sink.faults c.args.out.now c.put_made_line.new.out c.put_count_line.new.out
+    c.put_decided.new.out
+    (made_line c.args.number (unit_count c.args.tree.now) (gate_count c.args.tree.now))
+    (count_line (length c.args.state.now.deck.opening.cuts) (order_total c.args.orders.now))
+    (decided_line c.args.state.now.history)
+    (out_head (length (units_out (standing_of c.args.state.now).held)))
+    (subst (λ u. Puts g.K.Sink.taken g.K.Sink.faults c.args.out.now c.put_made_line.new.out (made_line c.args.number
+    u (gate_count c.args.tree.now))) c.units.ensures.count
+    (subst (λ n. Puts g.K.Sink.taken g.K.Sink.faults c.args.out.now c.put_made_line.new.out (made_line c.args.number
+    c.units.result n)) c.gates.ensures.count
+    c.put_made_line.ensures.puts))
+    (subst (λ s. Puts g.K.Sink.taken g.K.Sink.faults c.put_made_line.new.out c.put_count_line.new.out (count_line s
+    (order_total c.args.orders.now))) (c.sets.ensures ∙ c.requires.made.each)
+    (subst (λ t. Puts g.K.Sink.taken g.K.Sink.faults c.put_made_line.new.out c.put_count_line.new.out (count_line
+    c.sets.result t)) c.total.ensures c.put_count_line.ensures.puts))
+    (subst (λ h. Puts g.K.Sink.taken g.K.Sink.faults c.put_count_line.new.out c.put_decided.new.out (decided_line h))
+    c.entries.ensures.entries c.put_decided.ensures.puts)
+    (sym c.put_decided.ensures.answer ∙ ap is_err c.in_err-put_decided.was)
+
+pub returns-clause-puts : goal.returns-clause-puts
+returns-clause-puts g c =
+    all_four g.K.Sink.taken g.K.Sink.faults c.args.out.now c.put_made_line.new.out c.put_count_line.new.out
+    c.put_decided.new.out c.put_out_head.new.out
+    (made_line c.args.number (unit_count c.args.tree.now) (gate_count c.args.tree.now))
+    (count_line (length c.args.state.now.deck.opening.cuts) (order_total c.args.orders.now))
+    (decided_line c.args.state.now.history)
+    (out_head (length (units_out (standing_of c.args.state.now).held)))
+    (subst (λ u. Puts g.K.Sink.taken g.K.Sink.faults c.args.out.now c.put_made_line.new.out (made_line c.args.number
+    u (gate_count c.args.tree.now))) c.units.ensures.count
+    (subst (λ n. Puts g.K.Sink.taken g.K.Sink.faults c.args.out.now c.put_made_line.new.out (made_line c.args.number
+    c.units.result n)) c.gates.ensures.count
+    c.put_made_line.ensures.puts))
+    (subst (λ s. Puts g.K.Sink.taken g.K.Sink.faults c.put_made_line.new.out c.put_count_line.new.out (count_line s
+    (order_total c.args.orders.now))) (c.sets.ensures ∙ c.requires.made.each)
+    (subst (λ t. Puts g.K.Sink.taken g.K.Sink.faults c.put_made_line.new.out c.put_count_line.new.out (count_line
+    c.sets.result t)) c.total.ensures c.put_count_line.ensures.puts))
+    (subst (λ h. Puts g.K.Sink.taken g.K.Sink.faults c.put_count_line.new.out c.put_decided.new.out (decided_line h))
+    c.entries.ensures.entries c.put_decided.ensures.puts)
+    (subst (λ n. Puts g.K.Sink.taken g.K.Sink.faults c.put_decided.new.out c.put_out_head.new.out (out_head n))
+    c.units_out.ensures c.put_out_head.ensures.puts)

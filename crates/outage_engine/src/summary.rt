@@ -1,0 +1,146 @@
+//! The summary of a made deck: what is found in it, and what comes of its requests on a board.
+ghost use Rattle.std.specs.Prelude.{◌≡◌, ◌<◌, ◌≤◌, ◌∷◌, [], length, Some, None, IfOk, IfErr, MatchBool};
+ghost use Rattle.outage_board.specs.Boards.{IsUsedUp};
+ghost use Rattle.outage_board.specs.Histories.{IsLegal, IsWhole};
+ghost use Rattle.tree_maker.specs.MadeDeck.{made_deck};
+ghost use Rattle.tree_maker.specs.WellMade.{made_crew};
+ghost use Rattle.tree_families.specs.Due.{IsDueToTree};
+ghost use Rattle.zdd_product.specs.Seats.{WentAll};
+ghost use Rattle.outage_engine.specs.Answers.{HasOrders, IfRefused, IsDeckRefusal, IsLimitOf, IsOfUnits, summed_text};
+ghost use Rattle.outage_engine.specs.Deck.{IsWellFormed};
+ghost use Rattle.outage_engine.specs.Store.{IsFoundBy, method_by};
+ghost use Rattle.outage_engine.specs.StoreAfter.{BearsOut, GoesFor};
+ghost use Rattle.outage_engine.specs.Summaries.{IsServedFor, IsSummaryOf, left_of_first};
+ghost use Rattle.outage_engine.specs.Texts.{IsSummaryText, for_summary, summed_margin, summed_most};
+ghost use Rattle.outage_engine.specs.declared.deck.CrewPart.TheVariants.{Needed};
+ghost use Rattle.outage_engine.specs.declared.status.Status.TheVariants.{Done};
+
+use crate::deck::{CrewPart, DeckParts, read_deck};
+use crate::listing::{Listing, list_tree};
+use crate::refusal::RunEnd;
+use crew_script::Dockets;
+use edge_io::NoMemory;
+use fault_model::Tree;
+use outage_board::BoardState;
+use std::alloc::Global;
+use std::thread::Threads;
+use tree_maker::made;
+use unit_sets::CrewNo;
+use zdd_shared_table::{NodeStore, StoreSeat};
+
+/// Orders are listed for sets of at most so many members.
+const MOST: u32 = 6;
+
+/// So many threads search for cut sets and orders.
+const WORKERS: u32 = 4;
+
+/// The opening margin of the board.
+const MARGIN: u32 = 1;
+
+/// A made deck in sum: its number, the cut list of its tree with the failing orders, and a board on which all requests
+/// of its crew were decided.
+#[derive(Drop)]
+pub(crate) struct Summary {
+    pub number: u32,
+    pub listing: Listing,
+    pub board: BoardState,
+}
+
+/// The made deck of a number in sum. No input is read.
+pub(crate) fn sum_made<R: Threads + Sync>(
+    rt: &R,
+    alloc: Global,
+    number: u32,
+    store: &NodeStore,
+    seat: &mut StoreSeat,
+) -> Result<Summary, RunEnd>
+    requires number { number ≤ 999999 }
+    requires own { seat.old.store ≡ store.now }
+    requires share { 64 ≤ seat.old.share }
+    ensures text { IfOk result (λ summary. IsSummaryText number (summed_text summary)) }
+    ensures writable { IfOk result HasOrders }
+    ensures refused { IfErr result (IfRefused (IsDeckRefusal for_summary (made_deck number))) }
+    ensures method { IfOk result (λ summary. BearsOut (Some (made_deck number)) None None seat.old seat.new
+        (Done (method_by summary.listing.root))) }
+    ensures went { GoesFor (Some (made_deck number)) None None seat.old seat.new }
+    ensures share { seat.new.share ≡ seat.old.share }
+{
+    let deck = read_made(alloc, number)?;
+    sum_deck(rt, alloc, number, deck.tree, deck.crews, store, seat)
+}
+
+// The tree and the crew of the made deck of a number, read as any deck is.
+fn read_made(alloc: Global, number: u32) -> Result<DeckParts, RunEnd>
+    requires { number ≤ 999999 }
+    ensures deck { IfOk result (λ deck. IsWellFormed Needed (made_deck number) deck.tree deck.crews) }
+    ensures crew { IfOk result (λ deck. deck.crews ≡ Some (made_crew number ∷ [])) }
+    ensures refused { IfErr result (IfRefused (IsDeckRefusal for_summary (made_deck number))) }
+{
+    let bytes = made(alloc, number)?;
+    Ok(read_deck(alloc, CrewPart::Needed, bytes.as_slice())?)
+}
+
+// What is found in a tree, and what comes of the requests of its one crew.
+fn sum_deck<R: Threads + Sync>(
+    rt: &R,
+    alloc: Global,
+    number: u32,
+    tree: Tree,
+    crews: Option<Dockets>,
+    store: &NodeStore,
+    seat: &mut StoreSeat,
+) -> Result<Summary, RunEnd>
+    requires crew { crews ≡ Some (made_crew number ∷ []) }
+    requires own { seat.old.store ≡ store.now }
+    requires share { 64 ≤ seat.old.share }
+    ensures summed { IfOk result (IsSummaryOf number tree (made_crew number ∷ [])) }
+    ensures limit { IfErr result (IfRefused (IsLimitOf summed_most tree)) }
+    ensures found { IfOk result (λ summary. IsFoundBy seat.old seat.new tree (method_by summary.listing.root)) }
+    ensures went { WentAll (IsDueToTree tree) seat.old seat.new }
+    ensures share { seat.new.share ≡ seat.old.share }
+{
+    let Some(dockets) = crews else { unreachable!() };
+    let listing = list_tree(rt, alloc, MOST, WORKERS, tree, store, seat)?;
+    Ok(serve_listing(alloc, number, listing, &dockets)?)
+}
+
+// A board of a cut list and one crew, on which all its requests were decided.
+fn serve_listing(
+    alloc: Global,
+    number: u32,
+    listing: Listing,
+    dockets: &Dockets,
+) -> Result<Summary, NoMemory>
+    requires units { IsOfUnits listing }
+    requires one { length dockets.now ≡ 1 }
+    ensures summed { IfOk result (λ summary. IsServedFor number listing dockets.now summary) }
+{
+    let mut board = BoardState::open(alloc, &listing.tree, &listing.cuts, dockets, MARGIN)?;
+    serve_crew(&mut board);
+    Ok(Summary {
+        number,
+        listing,
+        board,
+    })
+}
+
+// Decides all requests of the one crew of a board.
+fn serve_crew(board: &mut BoardState)
+    requires one { length board.old.deck.crews ≡ 1 }
+    ensures deck { board.new.deck ≡ board.old.deck }
+    ensures legal { IsLegal board.new.deck.opening board.new.history }
+    ensures whole { IsWhole board.new.deck.dockets board.new.history }
+{
+    while serve_next(board) {}
+    // Tells the proof what every board keeps.
+    board.entries();
+}
+
+// Decides the next request of the one crew of a board, and says whether one was left.
+fn serve_next(board: &mut BoardState) -> bool
+    requires one { length board.old.deck.crews ≡ 1 }
+    ensures deck { board.new.deck ≡ board.old.deck }
+    ensures left { MatchBool result (left_of_first board.new < left_of_first board.old) (IsUsedUp board.new 0) }
+{
+    board.serve(CrewNo(0)).is_some()
+}

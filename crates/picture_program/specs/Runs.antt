@@ -1,0 +1,18 @@
+-- What a run did, as one of its three ends: it found no memory, it refused, or it told a picture.
+use Rattle.std.specs.Prelude.{◌≡◌, ℕ, List, Option}
+use Rattle.picture_program.specs.Ends.{Refuses, Tells}
+use Rattle.picture_program.specs.Pictures.{IsPictureFor}
+use Rattle.picture_program.specs.declared.refusal.Refusal.{Refusal}
+use Rattle.picture_program.specs.declared.end.PictureEnd.{PictureEnd}
+use Rattle.picture_program.specs.declared.end.PictureEnd.TheVariants.{NoMemory, Refused}
+
+pub data Runs {K N : Type 0} (words : List (List ℕ)) (held left : Option (List ℕ)) (rose : Type 0)
+    (taken : K → Option (List ℕ)) (faults : K → ℕ) (noted : N → Option (List ℕ)) (note_faults : N → ℕ)
+    (old new : K) (notes after : N) (result : PictureEnd) : Type 0 where
+  no_memory : result ≡ NoMemory → new ≡ old → after ≡ notes
+      → Runs words held left rose taken faults noted note_faults old new notes after result
+  refused : (refusal : Refusal) → result ≡ Refused refusal
+      → Refuses words held left rose noted note_faults old new notes after refusal
+      → Runs words held left rose taken faults noted note_faults old new notes after result
+  told : (text : List ℕ) → IsPictureFor words held left text → Tells taken faults old new text result
+      → after ≡ notes → Runs words held left rose taken faults noted note_faults old new notes after result

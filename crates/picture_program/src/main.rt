@@ -1,0 +1,80 @@
+//! The program that draws: a fault tree as a picture in the DOT language, which Graphviz makes visible.
+//!
+//! It stands on `tree_picture` for the picture, on `outage_engine` for the deck and its cut sets, on `board_words` for
+//! the words, on `board_report` and `text_pieces` for the lines of refusals, on `zdd_shared_table` for the store of
+//! the diagrams, and on `edge_io` for the edge over the standard streams. The contract of [`run::run`] is the
+//! program's own.
+#![tactic(auto)]
+
+ghost use Rattle.std.specs.Prelude.{◌≤◌};
+
+mod end;
+mod finding;
+mod refusal;
+mod run;
+mod telling;
+#[cfg(test)]
+mod tests;
+mod words;
+
+use crate::end::PictureEnd;
+use crate::run::run;
+use crate::words::{Mark, read_words};
+use board_words::Word;
+use edge_io::{NoMemory, StdSink, StdSource};
+use std::alloc::AllocError;
+use std::env;
+use std::io::ErrorKind;
+use std::process::ExitCode;
+use zdd_shared_table::{NodeStore, StoreStart};
+
+// Where diagrams are made, the store has two to the power of this slots.
+const STORE_BITS: u32 = 20;
+
+// A picture without a cut set needs none and gets the least store, since each slot is filled with a zero at the start.
+const LEAST_BITS: u32 = 10;
+
+fn main(rt: HostRuntime) -> ExitCode {
+    let Ok(words) = spoken_words(&rt) else {
+        return ExitCode::from(PictureEnd::NoMemory.code());
+    };
+    let end = match NodeStore::new(rt.alloc(), store_bits(words.as_slice())) {
+        Ok(StoreStart { store, mut seat }) => run(
+            &rt,
+            rt.alloc(),
+            words.as_slice(),
+            &mut StdSource::new(rt.stdin()),
+            &mut StdSink::new(rt.stdout()),
+            &mut StdSink::new(rt.stderr()),
+            &store,
+            &mut seat,
+        ),
+        Err(_) => PictureEnd::NoMemory,
+    };
+    ExitCode::from(end.code())
+}
+
+// How large a store the picture of these words needs.
+fn store_bits(words: &[Word]) -> u32
+    ensures few { 10 ≤ result }
+    ensures many { result ≤ 25 }
+{
+    match read_words(words) {
+        Some(Mark::Cut(_)) => STORE_BITS,
+        Some(Mark::Nothing) | None => LEAST_BITS,
+    }
+}
+
+// The words after the program's name. Where one of them is not UTF-8 there are none, which ask for no picture.
+fn spoken_words(rt: &HostRuntime) -> Result<Vec<Word>, NoMemory> {
+    let mut words = Vec::new(rt.alloc());
+    let args = match env::args(rt) {
+        Ok(args) => args,
+        Err(error) if error.kind() == ErrorKind::OutOfMemory => return Err(AllocError),
+        Err(_) => return Ok(words),
+    };
+    for arg in args.skip(1) {
+        words.push(Word::of(rt.alloc(), arg.as_bytes())?)?;
+    }
+    Ok(words)
+}

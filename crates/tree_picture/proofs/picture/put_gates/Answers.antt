@@ -1,0 +1,52 @@
+use Rattle.std.proofs.Common.{sym, ◌∙◌, ap, subst, is_err, ◌+◌, ◌<◌, ◌≤◌}
+use Rattle.std.specs.List.{flat_map, range_with_len}
+use Rattle.fault_model.specs.Tree.{gate_count, unit_count}
+use Rattle.text_pieces.proofs.Counting.{all_numbers, next_number, no_number}
+use Rattle.text_pieces.proofs.Putting.{PutsFront, begun, cut_short, one_more, whole_put}
+use Rattle.tree_picture.specs.PictureText.{gate_text}
+use Rattle.tree_picture.proofs.picture.put_gates.Goals as goal
+
+pub loop-i-init : goal.loop-i-init
+loop-i-init g c = record {
+  so =
+      subst (λ rest. PutsFront g.K.Sink.taken g.K.Sink.faults c.args.out.now c.args.out.now rest
+      (flat_map (gate_text c.args.tree.now) (range_with_len (unit_count c.args.tree.now + 1) (gate_count
+      c.args.tree.now))))
+      (all_numbers (gate_text c.args.tree.now) (unit_count c.args.tree.now + 1) (gate_count c.args.tree.now))
+      (begun g.K.Sink.taken g.K.Sink.faults c.args.out.now
+      (flat_map (gate_text c.args.tree.now) (range_with_len (unit_count c.args.tree.now + 1) (gate_count
+      c.args.tree.now))));
+  going = c.requires.fine;
+}
+
+pub returns-in_err-put_gate-clause-puts : goal.returns-in_err-put_gate-clause-puts
+returns-in_err-put_gate-clause-puts g c =
+    cut_short g.K.Sink.taken g.K.Sink.faults c.args.out.now c.loop-i.out c.put_gate.new.out _ _ _ _
+    c.loop-i.invariant.so c.put_gate.ensures.puts
+    (next_number (gate_text c.args.tree.now) (unit_count c.args.tree.now + 1) (gate_count c.args.tree.now) c.loop-i.i _
+    (subst (λ n. c.loop-i.i < n) c.gates-i-end.ensures.count c.loop-i-test.true) (ap (λ n. n + 1 + c.loop-i.i)
+    c.units-units.ensures.count))
+    (sym c.put_gate.ensures.answer ∙ ap is_err c.in_err-put_gate.was)
+
+pub loop-i-preserved : goal.loop-i-preserved
+loop-i-preserved g c = record {
+  so = one_more g.K.Sink.taken g.K.Sink.faults c.args.out.now c.loop-i.out c.put_gate.new.out _ _ _ _
+      c.loop-i.invariant.so c.put_gate.ensures.puts
+      (next_number (gate_text c.args.tree.now) (unit_count c.args.tree.now + 1) (gate_count c.args.tree.now)
+      c.loop-i.i _
+      (subst (λ n. c.loop-i.i < n) c.gates-i-end.ensures.count c.loop-i-test.true) (ap (λ n. n + 1 + c.loop-i.i)
+      c.units-units.ensures.count));
+  going = sym c.put_gate.ensures.answer ∙ ap is_err c.in_ok-put_gate.was;
+}
+
+pub returns-clause-puts : goal.returns-clause-puts
+returns-clause-puts g c =
+    whole_put g.K.Sink.taken g.K.Sink.faults c.args.out.now c.loop-i.out
+    (flat_map (gate_text c.args.tree.now) (range_with_len (unit_count c.args.tree.now + 1) (gate_count
+    c.args.tree.now)))
+    (subst (λ rest. PutsFront g.K.Sink.taken g.K.Sink.faults c.args.out.now c.loop-i.out rest
+    (flat_map (gate_text c.args.tree.now) (range_with_len (unit_count c.args.tree.now + 1) (gate_count
+    c.args.tree.now))))
+    (no_number (gate_text c.args.tree.now) (unit_count c.args.tree.now + 1) (gate_count c.args.tree.now) c.loop-i.i
+    (subst (λ n. n ≤ c.loop-i.i) c.gates-i-end.ensures.count c.loop-i-test.false))
+    c.loop-i.invariant.so)

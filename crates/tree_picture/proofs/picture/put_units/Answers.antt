@@ -1,0 +1,45 @@
+use Rattle.std.proofs.Common.{sym, ◌∙◌, ap, subst, is_err, arith, ◌<◌, ◌≤◌}
+use Rattle.std.specs.List.{flat_map, range_with_len}
+use Rattle.fault_model.specs.Tree.{unit_count}
+use Rattle.text_pieces.proofs.Counting.{all_numbers, next_number, no_number}
+use Rattle.text_pieces.proofs.Putting.{PutsFront, begun, cut_short, one_more, whole_put}
+use Rattle.tree_picture.specs.PictureText.{unit_text}
+use Rattle.tree_picture.proofs.picture.put_units.Goals as goal
+
+pub loop-i-init : goal.loop-i-init
+loop-i-init g c = record {
+  so =
+      subst (λ rest. PutsFront g.K.Sink.taken g.K.Sink.faults c.args.out.now c.args.out.now rest
+      (flat_map (unit_text c.args.tree.now c.args.marked.now) (range_with_len (1) (unit_count c.args.tree.now))))
+      (all_numbers (unit_text c.args.tree.now c.args.marked.now) (1) (unit_count c.args.tree.now))
+      (begun g.K.Sink.taken g.K.Sink.faults c.args.out.now
+      (flat_map (unit_text c.args.tree.now c.args.marked.now) (range_with_len (1) (unit_count c.args.tree.now))));
+  going = c.requires.fine;
+}
+
+pub returns-in_err-put_unit-clause-puts : goal.returns-in_err-put_unit-clause-puts
+returns-in_err-put_unit-clause-puts g c =
+    cut_short g.K.Sink.taken g.K.Sink.faults c.args.out.now c.loop-i.out c.put_unit.new.out _ _ _ _
+    c.loop-i.invariant.so c.put_unit.ensures.puts
+    (next_number (unit_text c.args.tree.now c.args.marked.now) (1) (unit_count c.args.tree.now) c.loop-i.i _
+    (subst (λ n. c.loop-i.i < n) c.units-i-end.ensures.count c.loop-i-test.true) (omega arith))
+    (sym c.put_unit.ensures.answer ∙ ap is_err c.in_err-put_unit.was)
+
+pub loop-i-preserved : goal.loop-i-preserved
+loop-i-preserved g c = record {
+  so = one_more g.K.Sink.taken g.K.Sink.faults c.args.out.now c.loop-i.out c.put_unit.new.out _ _ _ _
+      c.loop-i.invariant.so c.put_unit.ensures.puts
+      (next_number (unit_text c.args.tree.now c.args.marked.now) (1) (unit_count c.args.tree.now) c.loop-i.i _
+      (subst (λ n. c.loop-i.i < n) c.units-i-end.ensures.count c.loop-i-test.true) (omega arith));
+  going = sym c.put_unit.ensures.answer ∙ ap is_err c.in_ok-put_unit.was;
+}
+
+pub returns-clause-puts : goal.returns-clause-puts
+returns-clause-puts g c =
+    whole_put g.K.Sink.taken g.K.Sink.faults c.args.out.now c.loop-i.out
+    (flat_map (unit_text c.args.tree.now c.args.marked.now) (range_with_len (1) (unit_count c.args.tree.now)))
+    (subst (λ rest. PutsFront g.K.Sink.taken g.K.Sink.faults c.args.out.now c.loop-i.out rest
+    (flat_map (unit_text c.args.tree.now c.args.marked.now) (range_with_len (1) (unit_count c.args.tree.now))))
+    (no_number (unit_text c.args.tree.now c.args.marked.now) (1) (unit_count c.args.tree.now) c.loop-i.i
+    (subst (λ n. n ≤ c.loop-i.i) c.units-i-end.ensures.count c.loop-i-test.false))
+    c.loop-i.invariant.so)
