@@ -102,3 +102,16 @@ fn a_made_deck_is_read(rt: HostRuntime) -> Result<(), Fail> {
     }
     Ok(())
 }
+
+#[test]
+fn a_hundred_made_decks_are_read(rt: HostRuntime) -> Result<(), Fail> {
+    for number in 0..100u32 {
+        let groups = 200 - number;
+        let text = text_of(rt.alloc(), number)?;
+        let (tree, crews) = read(rt.alloc(), text.as_bytes())?;
+        assert_eq!(rt; tree.units(), 3 * groups + 10, "{number}");
+        assert_eq!(rt; tree.gates(), 1 + groups + (groups + 4) / 5, "{number}");
+        assert_eq!(rt; crews.total(), 3 * groups + (groups + 1) / 2, "{number}");
+    }
+    Ok(())
+}
