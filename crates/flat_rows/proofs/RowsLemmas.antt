@@ -1,8 +1,10 @@
 -- What follows from the definitions of `specs/Rows`.
 use Rattle.std.proofs.Common.{zero}
 use Rattle.std.specs.Prelude.{◌≡◌, ℕ, suc, ◌+◌, ◌-◌, ◌≤◌, ◌<◌, List, [], ◌∷◌, ◌++◌, length, take, drop, get_or, refl}
+use Rattle.std.specs.Prelude.{sum_by}
 use Rattle.std.proofs.Common.{arith, ap, sym, ◌∙◌, length-drop}
-use Rattle.std.proofs.lemmas.List.{take-append-le, drop-append-le, drop_at, take_all}
+use Rattle.std.proofs.lemmas.List.{take-append-le, drop-append-le, drop_at, take_all, length-take-le}
+use Rattle.std.proofs.lemmas.List.Sums.{sum_by-cons}
 use Rattle.flat_rows.specs.Rows.{Rise, between, rows_from, start_of}
 
 -- the last end, or the place where the rows begin
@@ -69,3 +71,21 @@ rows_from-push from [] items row h =
     ap (λ r. r ∷ []) (rw h (between-rest items row))
 rows_from-push from (e ∷ es) items row h =
     rw (between-append from e items row h.0 (Rise-le e es (length items) h.1), rows_from-push e es items row h.1) refl
+
+-- ---- the items of all rows
+
+counted : (all part rest from end size : ℕ) → all ≡ part + rest → part ≡ end - from → rest + end ≡ size → from ≤ end
+    → all + from ≡ size
+counted all part rest from end size a b c d = omega arith
+
+-- the rows have all items together
+pub items-rows_from : {X : Type 0} (from : ℕ) (ends : List ℕ) (items : List X) → Rise from ends (length items)
+    → sum_by length (rows_from from ends items) + from ≡ length items
+items-rows_from from [] items h = omega (arith, h)
+items-rows_from from (e ∷ es) items h =
+    let inside : e ≤ length items = Rise-le e es (length items) h.1 in
+    let size : length (between from e items) ≡ e - from =
+    length-take-le (e - from) (drop from items) (omega (arith, length-drop from items)) in
+    counted (sum_by length (rows_from from (e ∷ es) items)) (length (between from e items))
+    (sum_by length (rows_from e es items)) from e (length items)
+    (sum_by-cons length (between from e items) (rows_from e es items)) size (items-rows_from e es items h.1) h.0

@@ -1,9 +1,8 @@
 //! Lists that grow at their end.
 ghost use Rattle.std.specs.Prelude.{◌≡◌, ◌^◌, ◌<◌, [], ◌∷◌, ◌++◌, length, IfOk, OnOk, OnErr};
 
-use std::alloc::Global;
+use std::alloc::{AllocError, Global};
 use std::marker::Model;
-use unit_sets::NoMemory;
 
 /// A list that grows at its end. A contract sees it as the list of its items.
 #[derive(Debug, Drop)]
@@ -30,7 +29,7 @@ impl<T> GrowingList<T> {
     }
 
     /// The empty list, with room for some items.
-    pub fn with_room(alloc: Global, items: usize) -> Result<Self, NoMemory>
+    pub fn with_room(alloc: Global, items: usize) -> Result<Self, AllocError>
         ensures { IfOk result (λ list. list ≡ []) }
     {
         Ok(GrowingList {
@@ -39,7 +38,7 @@ impl<T> GrowingList<T> {
     }
 
     /// Adds an item at the end. For want of memory the list stays, and the item is dropped.
-    pub fn push(&mut self, item: T) -> Result<(), NoMemory>
+    pub fn push(&mut self, item: T) -> Result<(), AllocError>
     where
         T: Drop,
         ensures added { OnOk result (self.new ≡ self.old ++ item ∷ []) }

@@ -1,11 +1,11 @@
 //! Rows of items, kept end to end in one buffer: a list of lists that takes two allocations and no more.
 //! And lists that grow at their end.
 //!
-//! It stands on `unit_sets` for the answer of want of memory alone. A contract sees a `Rows` as the list of its
-//! rows and a `GrowingList` as the list of its items, so the layers above speak of lists and never of a buffer.
+//! It stands on std alone. A contract sees a `Rows` as the list of its rows and a `GrowingList` as the list of its
+//! items, so the layers above speak of lists and never of a buffer.
 #![tactic(auto)]
 
-ghost use Rattle.std.specs.Prelude.{◌≡◌, ◌<◌, ◌≤◌, [], ◌∷◌, ◌++◌, length, OnOk, OnErr, slice_index_or, ◌==◌};
+ghost use Rattle.std.specs.Prelude.{◌≡◌, ◌<◌, ◌≤◌, [], ◌∷◌, ◌++◌, length, OnOk, OnErr, slice_index_or, ◌==◌, sum_by};
 ghost use Rattle.flat_rows.specs.Rows.{start_of, rows_from, Rise, between};
 
 mod growing;
@@ -17,7 +17,7 @@ use std::alloc::{AllocError, Global};
 use std::marker::Model;
 
 /// A list of rows.
-#[derive(Drop)]
+#[derive(Clone, Drop)]
 pub struct Rows<T> {
     items: Vec<T>,
     // Where each row ends among the items; it begins where the row before it ends.
@@ -58,6 +58,13 @@ impl<T: Copy> Rows<T> {
         ensures { result ≡ (length self.now == 0) }
     {
         self.ends.is_empty()
+    }
+
+    /// How many items all rows have together.
+    pub fn item_count(&self) -> usize
+        ensures { result ≡ sum_by length self.now }
+    {
+        self.items.len()
     }
 
     /// The row of a number, from 0.

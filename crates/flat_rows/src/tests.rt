@@ -10,6 +10,7 @@ fn rows_come_back_as_pushed(rt: HostRuntime) -> Result<(), Fail> {
         rows.push(row)?;
     }
     assert_eq!(rt; rows.len(), 3);
+    assert_eq!(rt; rows.item_count(), 3);
     assert_eq!(rt; rows.row(0), [3, 1].as_slice());
     assert_eq!(rt; rows.row(1), [].as_slice());
     assert_eq!(rt; rows.row(2), [7].as_slice());

@@ -1,6 +1,5 @@
 pub mod Passing
 pub mod WordSets
-pub mod RowParts
 pub mod CutOrderLemmas
 pub mod Sorted
 pub mod UnitListLemmas

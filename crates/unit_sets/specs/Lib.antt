@@ -2,5 +2,4 @@ pub mod Unit
 pub mod UnitList
 pub mod CutOrder
 pub mod Words
-pub mod Row
 pub mod Refusal

@@ -1,11 +1,11 @@
 //! Lists of cut sets, by size and then by unit numbers.
-ghost use Rattle.std.specs.Prelude.{◌≡◌, ◌-◌, ◌<◌, ◌≤◌, ◌↔◌, [], ◌∷◌, ◌++◌, length, take, drop, slice_index, OnOk};
+ghost use Rattle.std.specs.Prelude.{◌≡◌, ◌<◌, ◌≤◌, ◌↔◌, [], ◌∷◌, ◌++◌, length, OnOk};
 ghost use Rattle.std.specs.Prelude.{OnErr, IsErrOf, slice_get, Some};
 ghost use Rattle.unit_sets.specs.UnitList.{IsRising};
 ghost use Rattle.unit_sets.specs.CutOrder.{cut_cmp, IsInCutOrder, IsOrderedCuts, weight, weight_limit};
-ghost use Rattle.unit_sets.specs.Row.{start_at};
 
 use crate::{PushEnd, UnitNo};
+use flat_rows::Rows;
 use std::alloc::Global;
 use std::cmp::Ordering;
 use std::marker::Model;
@@ -19,42 +19,21 @@ pub fn compare_cuts(a: &[UnitNo], b: &[UnitNo]) -> Ordering
 
 /// A list of cut sets, by size and then lexicographically by unit numbers.
 ///
-/// Each set has some units, each once, in rising order. The sets lie one after another in one row.
+/// Each set has some units, each once, in rising order.
 #[derive(Clone, Drop)]
 pub struct CutList {
-    row: Vec<UnitNo>,
-    // Where each set ends in the row; the next one begins there.
-    ends: Vec<u32>,
+    sets: Rows<UnitNo>,
 }
 
 impl Model for CutList {
     ghost use Rattle.std.specs.Prelude.{List, ℕ};
-    ghost use Rattle.unit_sets.specs.Row.{parts, HoldsCuts};
+    ghost use Rattle.unit_sets.specs.CutOrder.{IsOrderedCuts};
 
     ghost Value = { List (List ℕ) };
 
-    ghost view = { λ l. parts 0 l.ends.items l.row.items };
+    ghost view = { λ l. l.sets };
 
-    ghost invariant = { λ l. HoldsCuts l.ends.items l.row.items };
-}
-
-// Where the part at a place begins and ends.
-fn bounds(ends: &[u32], i: usize) -> (usize, usize)
-    requires { i < length ends.now }
-    ensures from { result.0 ≡ start_at 0 ends.now i }
-    ensures end { result.1 ≡ slice_index ends.now i }
-{
-    let from = if i == 0 { 0 } else { ends[i - 1] as usize };
-    (from, ends[i] as usize)
-}
-
-// The part of a row from one place up to another.
-fn part(row: &[UnitNo], from: usize, end: usize) -> &[UnitNo]
-    requires rises { from ≤ end }
-    requires within { end ≤ length row.now }
-    ensures { result.now ≡ take (end - from) (drop from row.now) }
-{
-    &row[from..end]
+    ghost invariant = { λ l. IsOrderedCuts l.sets };
 }
 
 impl CutList {
@@ -66,8 +45,7 @@ impl CutList {
         ensures { result ≡ [] }
     {
         CutList {
-            row: Vec::new(alloc),
-            ends: Vec::new(alloc),
+            sets: Rows::new(alloc),
         }
     }
 
@@ -76,7 +54,7 @@ impl CutList {
         ensures value { result ≡ length self.now }
         ensures ordered { IsOrderedCuts self.now }
     {
-        self.ends.len()
+        self.sets.len()
     }
 
     /// What the list weighs: 1 for each set and 1 for each member.
@@ -84,7 +62,7 @@ impl CutList {
         ensures value { result ≡ weight self.now }
         ensures within { result ≤ weight_limit }
     {
-        self.ends.len() as u64 + self.row.len() as u64
+        self.sets.len() as u64 + self.sets.item_count() as u64
     }
 
     /// The members of the set at a place, in rising order.
@@ -93,8 +71,7 @@ impl CutList {
         ensures value { slice_get self.now i ≡ Some result.now }
         ensures ordered { IsOrderedCuts self.now }
     {
-        let (from, end) = bounds(&self.ends, i);
-        part(&self.row, from, end)
+        self.sets.row(i)
     }
 
     /// Adds a set that stands after the last one.
@@ -113,10 +90,7 @@ impl CutList {
             return Err(PushEnd::ListLimit);
         }
         UnitNo::are_units(set);
-        self.ends.reserve(1)?;
-        self.row.extend_from_slice(set)?;
-        let end = self.row.len() as u32;
-        self.ends.push_reserved(end);
+        self.sets.push(set)?;
         Ok(())
     }
 }

@@ -1,8 +1,8 @@
 //! Units of a fault tree by number, fixed sets of units, and ordered lists of cut sets.
 //!
-//! This crate stands on std alone, and every crate of the board speaks in its types. Contracts see a
-//! `UnitNo` as its number, which is 1 to 4095, a `UnitSet` as the rising list of its members, and a
-//! `CutList` as a list of such lists.
+//! Every crate of the board speaks in its types. It stands on `flat_rows`, in whose rows a list keeps its sets.
+//! Contracts see a `UnitNo` as its number, which is 1 to 4095, a `UnitSet` as the rising list of its members, and
+//! a `CutList` as a list of such lists.
 #![tactic(auto)]
 
 mod cut_list;
