@@ -1,7 +1,7 @@
-pub mod WalkLemmas
 pub mod TriggerLemmas
 pub mod NameLemmas
 pub mod TreeLemmas
+pub mod RankingLemmas
 pub mod EvalLemmas
 pub mod OrderLemmas
 pub mod CutLaws

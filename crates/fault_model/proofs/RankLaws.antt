@@ -2,9 +2,9 @@
 use Rattle.std.specs.Prelude.{◌≡◌, ℕ, zero, suc, ◌-◌, ◌<◌, true, List, [], ◌∷◌, Option, Some, None, IfSome, length, All}
 use Rattle.std.specs.Prelude.{filter_map, get_or}
 use Rattle.std.specs.List.{cons_option}
-use Rattle.std.proofs.Common.{sym, subst, inl, inr, arith}
+use Rattle.std.proofs.Common.{ap, sym, ◌∙◌, subst, inl, inr, arith}
 use Rattle.std.proofs.lemmas.Bool.{cond_both, cases_lt, ltb-true}
-use Rattle.std.proofs.lemmas.List.{get_or_past}
+use Rattle.std.proofs.lemmas.List.{get_or_default, get_or_past}
 use Rattle.std.proofs.lemmas.List.Elements.{All-nil, All-cons, All-head, All-tail, All-get_or, All-weaker}
 use Rattle.std.proofs.lemmas.Slice.Zip.{length-zip, get_or-zip}
 use Rattle.unit_sets.specs.UnitList.{among}
@@ -93,6 +93,17 @@ pub below_ranks : (tree : FaultTree) → IsTree tree → (node : ℕ) → IsNode
 below_ranks tree kept node is_node =
     subst (λ rank. All (λ n. rank_of tree n < rank) (below tree node)) (sym (kept.ranked node is_node))
     (rank_over-all tree (below tree node))
+
+-- what stands at the place of a node, among the ranks, is by the rule
+pub read_rank_rule : (tree : FaultTree) (ranks : List ℕ) (node place rank : ℕ) → IsTree tree → IsNodeOf tree node
+    → ranks ≡ tree.ranks → place ≡ node - 1 → rank ≡ get_or ranks place rank
+    → rank ≡ rank_over tree (below tree node)
+read_rank_rule tree ranks zero place rank kept is_node same at is = absurd (omega (arith, is_node.0))
+read_rank_rule tree ranks (suc k) place rank kept is_node same at is =
+    let here : place ≡ k = omega arith in
+    let within : place < length ranks = omega (arith, is_node.1, kept.ranks_all, ap length same) in
+    is ∙ get_or_default ranks place rank 0 within ∙ ap (λ l. get_or l place 0) same
+    ∙ ap (λ i. get_or tree.ranks i 0) here ∙ kept.ranked (suc k) is_node
 
 -- ---- rules by rank
 

@@ -10,8 +10,7 @@ pub mod Order
 pub mod Step
 pub mod FailingOrder
 pub mod CutFamily
-pub mod Walk
-pub mod WalkState
 pub mod TriggerTable
 pub mod TreeTables
+pub mod Ranking
 pub mod Scratch

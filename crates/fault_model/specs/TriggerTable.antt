@@ -5,6 +5,10 @@ use Rattle.fault_model.specs.declared.node.GateKind.{GateKind}
 use Rattle.fault_model.specs.declared.trigger.TriggerTable.{TriggerTable}
 use Rattle.fault_model.specs.Trigger.{trigger_by}
 
+-- what a list has for a unit
+abbrev pub at_unit : List ℕ → ℕ → ℕ
+at_unit values unit = slice_index values (unit - 1)
+
 abbrev pub IsUnitBelow : ℕ → ℕ → Type 0
 IsUnitBelow units unit = (1 ≤ unit) × (unit ≤ units)
 

@@ -2,7 +2,8 @@
 //!
 //! The definitions in `specs/` are what every answer above is stated in: the tree, its triggers and ranks, the static
 //! reading, cuts and the cut list, steps and failing orders. They know no diagram, no cache and no counter. The crate
-//! stands on `unit_sets` for sets of units, on `flat_rows` for lists that grow, and on `indexmap` for the names.
+//! stands on `unit_sets` for sets of units, on `flat_rows` for lists that grow, on `graph_cycles` for ranks and an
+//! order from below, and on `indexmap` for the names.
 //!
 //! A layer above gets a `Tree` that keeps all rules of a well-formed text, whose readers give exactly its parts, and
 //! the static reading of any node under any set; and the laws of those definitions, as functions with one clause each
@@ -18,10 +19,10 @@ mod names;
 mod node;
 mod order;
 mod parts;
+mod ranking;
 mod reading;
 mod tree;
 mod trigger;
-mod walk;
 
 pub use list::{
     Attribute, AttributeList, AttributeLists, InputLists, KindList, NameTable, NodeList,

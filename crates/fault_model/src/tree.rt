@@ -1,5 +1,5 @@
 //! The fault tree that every crate above reads, and what it keeps.
-ghost use Rattle.std.specs.Prelude.{◌≡◌, ◌≢◌, ◌↔◌, ℕ, ◌-◌, ◌<◌, ◌≤◌, false, List, ◌++◌, map, All, IfOk, IfSome, IsNone};
+ghost use Rattle.std.specs.Prelude.{◌≡◌, ◌≢◌, ◌↔◌, ℕ, ◌-◌, ◌<◌, ◌≤◌, false, List, ◌++◌, All, IfOk, IfSome, IsNone};
 ghost use Rattle.fault_model.specs.Rank.{rank_over};
 ghost use Rattle.fault_model.specs.Tree.{ranked, unit_count, gate_count, kind_of, inputs_of, rank_of, name_of};
 ghost use Rattle.fault_model.specs.Tree.{attributes_of, is_fdep, IsGateOf, IsNodeOf, IsUnitOf};
@@ -7,8 +7,8 @@ ghost use Rattle.fault_model.specs.TreeTables.{IsFromBelow};
 ghost use Rattle.fault_model.specs.Trigger.{below, triggers_of};
 ghost use Rattle.fault_model.specs.WellFormed.{IsTree};
 
+use crate::ranking::Ranking;
 use crate::trigger::TriggerTable;
-use crate::walk::Walk;
 use crate::{
     Attribute, AttributeLists, GateKind, InputLists, KindList, Name, NoMemory, NodeList, NodeNo,
     TreeParts, names,
@@ -74,15 +74,15 @@ impl Tree {
         let units = attributes.as_slice().len();
         let table = TriggerTable::over(alloc, units, kinds.as_slice(), inputs.as_slice())?;
         let below = joined(table.lists, inputs)?;
-        let walk = Walk::over(alloc, below.as_slice())?;
+        let ranking = Ranking::over(alloc, below.as_slice())?;
         Ok(Tree {
             names: names::table_of(alloc, names)?,
             kinds,
             below,
             attributes,
             top,
-            ranks: ranks_of(alloc, walk.heights.as_slice())?,
-            bottom_up: walk.closed,
+            ranks: ranking.ranks,
+            bottom_up: ranking.order,
         })
     }
 
@@ -220,14 +220,4 @@ fn joined(mut triggers: Vec<NodeList>, inputs: InputLists) -> Result<Vec<NodeLis
         triggers.push(list)?;
     }
     Ok(triggers)
-}
-
-// A rank is one less than a height.
-fn ranks_of(alloc: Global, heights: &[u32]) -> Result<Vec<u32>, NoMemory>
-    ensures { IfOk result (λ ranks. ranks.items ≡ map (λ height. height - 1) heights.now) }
-{
-    heights
-        .iter()
-        .map(|height| height.saturating_sub(1))
-        .collect(alloc)
 }

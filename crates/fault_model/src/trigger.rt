@@ -2,8 +2,7 @@
 ghost use Rattle.std.specs.Prelude.{◌≡◌, ◌≢◌, suc, ◌-◌, ◌^◌, ◌<◌, [], ◌∷◌, ◌++◌, length, drop, zip, All, IfOk, OnOk};
 ghost use Rattle.std.specs.Prelude.{slice_set};
 ghost use Rattle.fault_model.specs.Trigger.{dependents_in};
-ghost use Rattle.fault_model.specs.TriggerTable.{IsUnitBelow, IsTableOf, AddsTriggers, AreMarks, noted};
-ghost use Rattle.fault_model.specs.Walk.{at_node};
+ghost use Rattle.fault_model.specs.TriggerTable.{IsUnitBelow, IsTableOf, AddsTriggers, AreMarks, at_unit, noted};
 
 use crate::{GateKind, NoMemory, NodeList, NodeNo};
 use std::alloc::Global;
@@ -39,10 +38,10 @@ impl TriggerTable {
         requires lists { length self.old.lists.items ≡ units }
         requires marks { length self.old.marks.items ≡ units }
         requires unit { IsUnitBelow units unit }
-        ensures known { OnOk result (at_node self.old.marks.items unit ≡ mark → self.new ≡ self.old) }
-        ensures lists { OnOk result (at_node self.old.marks.items unit ≢ mark
+        ensures known { OnOk result (at_unit self.old.marks.items unit ≡ mark → self.new ≡ self.old) }
+        ensures lists { OnOk result (at_unit self.old.marks.items unit ≢ mark
             → self.new.lists.items ≡ slice_set self.old.lists.items (unit - 1) (noted self.old unit ++ trigger ∷ [])) }
-        ensures marks { OnOk result (at_node self.old.marks.items unit ≢ mark
+        ensures marks { OnOk result (at_unit self.old.marks.items unit ≢ mark
             → self.new.marks.items ≡ slice_set self.old.marks.items (unit - 1) mark) }
     {
         if self.marks[unit.index()] == mark {

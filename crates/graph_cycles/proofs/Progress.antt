@@ -1,22 +1,25 @@
 -- Each step of the walk leaves it sound and with less to do.
-use Rattle.std.proofs.Common.{◌≡◌, ◌≢◌, ℕ, ◌+◌, ◌-◌, ◌<◌, ◌≤◌, ◌⊎◌, true, false, List, length, take, refl, sym, ap, ◌∙◌}
-use Rattle.std.proofs.Common.{subst, inl, inr, arith}
+use Rattle.std.proofs.Common.{◌≡◌, ◌≢◌, ℕ, ◌+◌, ◌-◌, ◌<◌, ◌≤◌, ◌⊎◌, true, false, List, length, take, drop, Contains}
+use Rattle.std.proofs.Common.{refl, sym, ap, ◌∙◌, subst, inl, inr, arith, length-append, length-drop}
 use Rattle.std.specs.Prelude.{slice_index, slice_set, nat_lt}
 use Rattle.std.proofs.lemmas.Bool.{cases_lt, cases_Bool, or_left, or_right, lt-ltb}
-use Rattle.graph_cycles.specs.Graph.{IsGraph, Goes, has, successors}
+use Rattle.std.proofs.lemmas.List.{get_or-drop}
+use Rattle.std.proofs.lemmas.List.Elements.{Contains-get_or}
+use Rattle.graph_cycles.specs.Graph.{IsGraph, Goes, Leads, has, successors}
 use Rattle.graph_cycles.specs.declared.walk.Stage.{Stage}
 use Rattle.graph_cycles.specs.declared.walk.Stage.TheVariants.{New, Open, Closed}
 use Rattle.graph_cycles.specs.declared.walk.Walk.{Walk}
-use Rattle.graph_cycles.specs.Walk.{IsSound, IsKnown, IsOn, IsTop, HasRanks, piece_cycles, stage_at, mark_at}
-use Rattle.graph_cycles.specs.Walk.{stage_work, work_left}
+use Rattle.graph_cycles.specs.Walk.{IsSound, IsKnown, IsOn, IsTop, HasRanks, AreOrdered, piece_cycles, stage_at}
+use Rattle.graph_cycles.specs.Walk.{mark_at, stage_work, work_left}
 use Rattle.graph_cycles.specs.State.{Stands, Steps, Counts, Follows, Shuts, explored_at, edges_at}
 use Rattle.graph_cycles.proofs.Ways.{top_most}
 use Rattle.graph_cycles.proofs.Explored.{IsSound-explored}
 use Rattle.graph_cycles.proofs.Left.{IsSound-left, shorter_by_one}
-use Rattle.graph_cycles.proofs.Cycles.{IsClosing}
+use Rattle.graph_cycles.proofs.Cycles.{IsClosing, cycles-leads, stays}
 use Rattle.graph_cycles.proofs.Closed.{IsSound-closed, was_closed, was_new, stays_mark, stays_stage, not_closed}
 use Rattle.graph_cycles.proofs.Closed.{not_new, closes_mark, closes_stage, closed_stays, open_stays}
 use Rattle.graph_cycles.proofs.Ranked.{HasRanks-one, HasRanks-marked}
+use Rattle.graph_cycles.proofs.Ordered.{AreOrdered-more}
 use Rattle.graph_cycles.proofs.Work.{work-explored, work-same}
 use Rattle.graph_cycles.proofs.Steps.{Followed, Followed-Follows}
 use Rattle.graph_cycles.proofs.Seal.{has-at}
@@ -62,6 +65,7 @@ Steps-explored graph old mid new t x more is d c = record {
           ap (λ v. v.items) c.on_cycle,
           ap (λ v. v.items) c.closed,
         ) d.stands.ranks;
+    order = rw (ap (λ v. v.items) c.stages, ap (λ v. v.items) c.closed) d.stands.order;
   };
   met = λ y now. d.met y (subst (λ v. stage_at v.items y ≡ New) c.stages now);
   fewer =
@@ -145,6 +149,7 @@ Steps-left graph old new t s top full other same is = record {
           ap (λ w. w.on_cycle.items) same,
           ap (λ w. w.closed.items) same,
         ) s.ranks;
+    order = rw (ap (λ w. w.stages.items) same, ap (λ w. w.closed.items) same) s.order;
   };
   met = λ y now. subst (λ w. stage_at w.stages.items y ≡ New) same now;
   fewer =
@@ -168,6 +173,16 @@ module _ (graph : List (List ℕ)) (old new : Walk) (t : ℕ)
 
   open_top : t < length old.unclosed.items
   open_top = omega (arith, s.sound.path_open (length old.path.items - 1) (omega (arith, top.0)), top.1)
+
+  more_closed : length old.closed.items < length new.closed.items
+  more_closed =
+      omega (
+        arith,
+        ap length h.closed,
+        length-append old.closed.items (drop t old.unclosed.items),
+        length-drop t old.unclosed.items,
+        open_top,
+      )
 
   where_closed : (x : ℕ) → stage_at new.stages.items x ≡ Closed
       → (stage_at old.stages.items x ≡ Closed) ⊎ ((i : ℕ) × (t ≤ i) × (i < length old.unclosed.items)
@@ -206,7 +221,7 @@ module _ (graph : List (List ℕ)) (old new : Walk) (t : ℕ)
       rw (h.unranked cycles)
       (HasRanks-marked graph old.stages.items new.stages.items old.ranks.items old.on_cycle.items new.on_cycle.items
       (length old.closed.items) (length new.closed.items)
-      (was_unmarked cycles) (omega (arith, h.closed)) s.ranks)
+      (was_unmarked cycles) (omega (arith, more_closed)) s.ranks)
 
   alone : piece_cycles graph old.unclosed.items t ≡ false → length old.unclosed.items - t ≤ 1
   alone cycles = elim (cases_lt 1 (length old.unclosed.items - t)) [
@@ -242,7 +257,7 @@ module _ (graph : List (List ℕ)) (old new : Walk) (t : ℕ)
       (length old.closed.items) (length new.closed.items) node
       (omega (arith, s.ranks.ranks_all, s.sound.nodes t open_top))
       (λ done. let is_open : stage_at old.stages.items node ≡ Open t = s.sound.opened t open_top in cc)
-      s.sound.closed (was_other cycles) (loopless cycles) h.closed s.ranks)
+      s.sound.closed (was_other cycles) (loopless cycles) more_closed s.ranks)
 
   has_ranks : HasRanks graph new.stages.items new.ranks.items new.on_cycle.items (length new.closed.items)
   has_ranks =
@@ -250,6 +265,65 @@ module _ (graph : List (List ℕ)) (old new : Walk) (t : ℕ)
         | inl cycles ↦ ranks_marked cycles
         | inr cycles ↦ ranks_one cycles
       ]
+
+  -- ---- the order
+
+  abbrev piece : List ℕ
+  piece = drop t old.unclosed.items
+
+  at_piece : (k : ℕ) → slice_index piece k ≡ slice_index old.unclosed.items (t + k)
+  at_piece k = get_or-drop t old.unclosed.items k 0
+
+  was_or_in : (x : ℕ) → stage_at new.stages.items x ≡ Closed
+      → (stage_at old.stages.items x ≡ Closed) ⊎ Contains piece x
+  was_or_in x now = elim (where_closed x now) [
+    | inl done ↦ inl done
+    | inr (i, from, l, is) ↦
+        let short : i - t < length piece = omega (arith, length-drop t old.unclosed.items) in
+        let place : t + (i - t) ≡ i = omega arith in
+        let same : slice_index piece (i - t) ≡ x =
+        at_piece (i - t) ∙ (ap (slice_index old.unclosed.items) place ∙ is) in
+        inr (subst (Contains piece) same (Contains-get_or piece (i - t) 0 short))
+  ]
+
+  -- what the node alone in its piece leads to was closed before
+  goes_closed : piece_cycles graph old.unclosed.items t ≡ false → (y : ℕ) → Goes graph node y
+      → stage_at old.stages.items y ≡ Closed
+  goes_closed cycles y goes =
+      elim (stays graph old.stages.items old.explored.items old.unclosed.items old.pieces.items old.path.items
+      old.on_cycle.items t closing t y (omega arith) open_top goes) [
+        | inl done ↦ done
+        | inr (j, from, is_open) ↦
+            let at_j : (j < length old.unclosed.items) × (slice_index old.unclosed.items j ≡ y) =
+            s.sound.placed y j is_open in
+            let place : j ≡ t = omega (arith, at_j.0, alone cycles) in
+            let same : y ≡ node = sym at_j.1 ∙ ap (slice_index old.unclosed.items) place in
+            absurd (loopless cycles (subst (λ z. Goes graph node z) same goes))
+      ]
+
+  stands_alone : (k : ℕ) → k < length piece → ¬ Leads graph (slice_index piece k) (slice_index piece k)
+      → (k ≡ 0) × ((y : ℕ) → Goes graph (slice_index piece k) y → stage_at old.stages.items y ≡ Closed)
+  stands_alone k l no_cycle =
+      let below : t + k < length old.unclosed.items = omega (arith, length-drop t old.unclosed.items) in
+      elim (cases_Bool (piece_cycles graph old.unclosed.items t)) [
+        | inl cycles ↦
+            absurd (no_cycle (subst (λ n. Leads graph n n) (sym (at_piece k))
+            (cycles-leads graph old.stages.items old.explored.items old.unclosed.items old.pieces.items old.path.items
+            old.on_cycle.items t closing (t + k) (omega arith) below cycles)))
+        | inr cycles ↦
+            let first : k ≡ 0 = omega (arith, alone cycles) in
+            let place : t + k ≡ t = omega arith in
+            let same : slice_index piece k ≡ node = at_piece k ∙ ap (slice_index old.unclosed.items) place in
+            (first, λ y goes. goes_closed cycles y (subst (λ n. Goes graph n y) same goes))
+      ]
+
+  has_order : AreOrdered graph new.stages.items new.closed.items
+  has_order =
+      rw h.closed
+      (AreOrdered-more graph old.stages.items new.stages.items old.closed.items piece
+      (closed_stays graph old.stages.items old.explored.items old.unclosed.items old.pieces.items old.path.items
+      old.on_cycle.items t new.stages.items new.on_cycle.items closing h.sealed)
+      h.sealed.inside_stage was_or_in stands_alone s.order)
 
   same_work : (x : ℕ) (stage : Stage) → stage_at old.stages.items x ≡ stage
       → stage_work (stage_at new.stages.items x) ≡ stage_work (stage_at old.stages.items x)
@@ -284,6 +358,7 @@ module _ (graph : List (List ℕ)) (old new : Walk) (t : ℕ)
           (IsSound-closed graph old.stages.items old.explored.items old.unclosed.items old.pieces.items old.path.items
           old.on_cycle.items t new.stages.items new.on_cycle.items closing h.sealed);
       ranks = has_ranks;
+      order = has_order;
     };
     met =
         λ y now. was_new graph old.stages.items old.explored.items old.unclosed.items old.pieces.items old.path.items

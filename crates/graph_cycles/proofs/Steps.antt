@@ -13,6 +13,7 @@ use Rattle.graph_cycles.proofs.Ways.{top_most}
 use Rattle.graph_cycles.proofs.Merged.{IsSound-merged, Keeps as KeepsPieces}
 use Rattle.graph_cycles.proofs.Visited.{IsSound-visited, IsOn-more, at_old}
 use Rattle.graph_cycles.proofs.Ranked.{HasRanks-fewer}
+use Rattle.graph_cycles.proofs.Ordered.{AreOrdered-same}
 use Rattle.graph_cycles.proofs.Work.{work-visited}
 
 -- an edge from the node at a position of the path is followed
@@ -70,8 +71,9 @@ Met-Meets graph old new x s in_graph is_new ahead m = record {
         old.on_cycle.items x s.sound is_new in_graph ahead);
     ranks = rw (m.keeps.ranks, m.keeps.on_cycle, m.keeps.closed)
         (HasRanks-fewer graph old.stages.items new.stages.items old.ranks.items old.on_cycle.items
-        (length old.closed.items)
-        (λ y is. not_closed old.stages.items x n y x_in (subst (λ ss. stage_at ss y ≡ Closed) m.stages is)) s.ranks);
+        (length old.closed.items) was_closed s.ranks);
+    order = rw m.keeps.closed
+        (AreOrdered-same graph old.stages.items new.stages.items old.closed.items stays_closed was_closed s.order);
   };
   is_open = ap (λ ss. stage_at ss x) m.stages ∙ get_or-set_same old.stages.items x (Open n) New x_in;
   met = λ y is. not_new old.stages.items x n y x_in (subst (λ ss. stage_at ss y ≡ New) m.stages is);
@@ -89,6 +91,17 @@ Met-Meets graph old new x s in_graph is_new ahead m = record {
 
     x_in : x < length old.stages.items
     x_in = omega (arith, s.sound.stages_all, in_graph)
+
+    was_closed : (y : ℕ) → stage_at new.stages.items y ≡ Closed → stage_at old.stages.items y ≡ Closed
+    was_closed y is = not_closed old.stages.items x n y x_in (subst (λ ss. stage_at ss y ≡ Closed) m.stages is)
+
+    stays_closed : (y : ℕ) → stage_at old.stages.items y ≡ Closed → stage_at new.stages.items y ≡ Closed
+    stays_closed y is = subst (λ ss. stage_at ss y ≡ Closed) (sym m.stages) (elim (cases_eq y x) [
+      | inl same ↦
+          let both : stage_at old.stages.items x ≡ Closed = subst (λ k. stage_at old.stages.items k ≡ Closed) same is in
+          absurd cc
+      | inr other ↦ get_or-set_other old.stages.items x y (Open n) New other ∙ is
+    ])
 
 module _ (graph : List (List ℕ)) (old new : Walk) (t x : ℕ)
     (whole : IsGraph graph) (s : Stands graph old) (top : IsTop old.path.items t)
@@ -129,6 +142,7 @@ module _ (graph : List (List ℕ)) (old new : Walk) (t x : ℕ)
               s.sound top at_i.0 (subst (λ y. Goes graph (slice_index old.unclosed.items t) y) (sym at_i.1) goes)
               keeps);
           ranks = rw (j.stages, j.keeps.ranks, j.keeps.on_cycle, j.keeps.closed) s.ranks;
+          order = rw (j.stages, j.keeps.closed) s.order;
         };
         known = inr (i, ap (λ ss. stage_at ss x) j.stages ∙ is, λ c lc le. j.kept c lc);
         on = subst (λ p. IsOn p t) (sym j.path) (IsOn-top old.path.items t top);

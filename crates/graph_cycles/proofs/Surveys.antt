@@ -15,11 +15,11 @@ Leads_then (edge e) later = way e later
 Leads_then (way e more) later = way e (Leads_then more later)
 
 -- how many numbers below one pass a test
-abbrev count_below : (ℕ → Bool) → ℕ → ℕ
+abbrev pub count_below : (ℕ → Bool) → ℕ → ℕ
 count_below test zero = 0
 count_below test (suc n) = (if test n then 1 else 0) + count_below test n
 
-count_below-within : (test : ℕ → Bool) (n : ℕ) → count_below test n ≤ n
+pub count_below-within : (test : ℕ → Bool) (n : ℕ) → count_below test n ≤ n
 count_below-within test zero = omega arith
 count_below-within test (suc n) = elim (cases_Bool (test n)) [
   | inl passes ↦ (let is : count_below test (suc n) ≡ 1 + count_below test n =
@@ -45,7 +45,7 @@ module _ (few many : ℕ → Bool) (more : (x : ℕ) → few x ≡ true → many
   ]
 
   -- one number that only the second test lets pass makes a difference
-  count_below-less : (n x : ℕ) → x < n → few x ≡ false → many x ≡ true → count_below few n < count_below many n
+  pub count_below-less : (n x : ℕ) → x < n → few x ≡ false → many x ≡ true → count_below few n < count_below many n
   count_below-less zero x low fails passes = absurd (omega arith)
   count_below-less (suc n) x low fails passes = elim (cases_lt x n) [
     | inl lower ↦

@@ -1,5 +1,5 @@
 -- A walk from a node, while it goes on.
-use Rattle.std.proofs.Common.{◌≡◌, ◌≢◌, ℕ, ◌+◌, ◌<◌, List, length, refl, sym, ap, ◌∙◌, inl, inr, arith}
+use Rattle.std.proofs.Common.{◌≡◌, ◌≢◌, ℕ, ◌+◌, ◌<◌, ◌≤◌, List, length, refl, sym, ap, ◌∙◌, inl, inr, arith}
 use Rattle.std.proofs.lemmas.Bool.{cases_lt}
 use Rattle.graph_cycles.specs.Walk.{IsTop, IsOn, stage_at}
 use Rattle.graph_cycles.specs.declared.walk.Walk.{Walk}
@@ -7,6 +7,8 @@ use Rattle.graph_cycles.specs.declared.walk.Stage.{Stage}
 use Rattle.graph_cycles.specs.declared.walk.Stage.TheVariants.{New, Open, Closed}
 use Rattle.graph_cycles.specs.State.{Stands, StaysMet, Steps, Meets, Walks}
 use Rattle.graph_cycles.proofs.Steps.{Met-Meets}
+use Rattle.graph_cycles.proofs.Ordered.{whole_order}
+use Rattle.graph_cycles.specs.Graph.{IsReverseTopological}
 use Rattle.std.specs.Prelude.{slice_index}
 
 pub record Walking (graph : List (List ℕ)) (old new : Walk) (root : ℕ) : Type 0 where
@@ -71,3 +73,10 @@ pub all_closed : (graph : List (List ℕ)) (w : Walk) (n : ℕ) → Visited grap
     → stage_at w.stages.items x ≡ Closed
 all_closed graph w n v x l =
     closed_by graph w x (stage_at w.stages.items x) v.stands (no_unclosed graph w v.stands v.rests) (v.met x l) refl
+
+-- and stand in order
+pub all_in_order : (graph : List (List ℕ)) (w : Walk) (n : ℕ) → Visited graph w n → length graph ≤ n
+    → IsReverseTopological graph w.closed.items
+all_in_order graph w n v whole =
+    whole_order graph w.stages.items w.closed.items v.stands.sound.stages_all
+    (λ x l. all_closed graph w n v x (omega arith)) v.stands.order

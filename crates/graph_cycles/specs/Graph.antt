@@ -1,5 +1,6 @@
 -- A directed graph is the list of its nodes' successors: node 0 has the first row, node 1 the second, and so on.
-use Rattle.std.specs.Prelude.{ℕ, suc, max, ◌<◌, ◌==◌, Bool, List, [], ◌∷◌, length, IsTrue, slice_index, slice_index_or}
+use Rattle.std.specs.Prelude.{ℕ, suc, max, ◌<◌, ◌==◌, Bool, List, [], ◌∷◌, length, take, All, Contains, IsTrue}
+use Rattle.std.specs.Prelude.{slice_index, slice_index_or}
 use Rattle.std.specs.List.{list_any}
 
 abbrev pub successors : List (List ℕ) → ℕ → List ℕ
@@ -26,3 +27,15 @@ IsGraph graph = (x y : ℕ) → Goes graph x y → y < length graph
 abbrev pub rank_over : List ℕ → List ℕ → ℕ
 rank_over ranks [] = 0
 rank_over ranks (node ∷ nodes) = max (suc (slice_index ranks node)) (rank_over ranks nodes)
+
+-- each node of the list that lies on no cycle stands in it after all its successors
+abbrev pub AreAfterSuccessors : List (List ℕ) → List ℕ → Type 0
+AreAfterSuccessors graph order =
+    (k : ℕ) → k < length order → ¬ Leads graph (slice_index order k) (slice_index order k)
+    → All (Contains (take k order)) (successors graph (slice_index order k))
+
+-- every node, each that lies on no cycle after all its successors: without cycles, a reverse topological order
+pub record IsReverseTopological (graph : List (List ℕ)) (order : List ℕ) : Type 0 where
+  pub nodes : All (λ x. x < length graph) order
+  pub all : (x : ℕ) → x < length graph → Contains order x
+  pub after_successors : AreAfterSuccessors graph order

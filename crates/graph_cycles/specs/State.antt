@@ -4,12 +4,13 @@ use Rattle.std.specs.Prelude.{slice_index, slice_set}
 use Rattle.graph_cycles.specs.declared.walk.Walk.{Walk}
 use Rattle.graph_cycles.specs.declared.walk.Stage.TheVariants.{New, Open, Closed}
 use Rattle.graph_cycles.specs.Graph.{successors, rank_over}
-use Rattle.graph_cycles.specs.Walk.{IsSound, HasRanks, Closes, piece_cycles, stage_at, work_left}
+use Rattle.graph_cycles.specs.Walk.{IsSound, HasRanks, AreOrdered, Closes, piece_cycles, stage_at, work_left}
 
 pub record Stands (graph : List (List ℕ)) (w : Walk) : Type 0 where
   pub sound : IsSound graph w.stages.items w.explored.items w.unclosed.items w.pieces.items w.path.items
       w.on_cycle.items
   pub ranks : HasRanks graph w.stages.items w.ranks.items w.on_cycle.items (length w.closed.items)
+  pub order : AreOrdered graph w.stages.items w.closed.items
 
 -- a node that was met stays met
 abbrev pub StaysMet : Walk → Walk → Type 0
@@ -22,7 +23,7 @@ steps_left graph w = work_left graph w.explored.items w.stages.items + length w.
 -- what is left alone
 pub record Keeps (old new : Walk) : Type 0 where
   pub explored : new.explored.items ≡ old.explored.items
-  pub closed : length new.closed.items ≡ length old.closed.items
+  pub closed : new.closed.items ≡ old.closed.items
   pub on_cycle : new.on_cycle.items ≡ old.on_cycle.items
   pub ranks : new.ranks.items ≡ old.ranks.items
 
@@ -97,7 +98,7 @@ pub record Shuts (graph : List (List ℕ)) (old new : Walk) (at : ℕ) : Type 0 
   pub unclosed : new.unclosed.items ≡ take at old.unclosed.items
   pub pieces : new.pieces.items ≡ take (length old.pieces.items - 1) old.pieces.items
   pub path : new.path.items ≡ take (length old.path.items - 1) old.path.items
-  pub closed : length old.closed.items < length new.closed.items
+  pub closed : new.closed.items ≡ old.closed.items ++ drop at old.unclosed.items
   pub ranked : piece_cycles graph old.unclosed.items at ≡ false
       → new.ranks.items ≡ slice_set old.ranks.items (slice_index old.unclosed.items at)
       (rank_over old.ranks.items (edges_at graph old at))

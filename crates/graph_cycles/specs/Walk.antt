@@ -1,7 +1,7 @@
 -- What is true of the walk between two steps.
 use Rattle.std.specs.Prelude.{◌≡◌, ◌≢◌, ℕ, ◌+◌, ◌-◌, ◌<◌, ◌≤◌, ◌↔◌, ◌⊎◌, ◌||◌, nat_lt, Bool, false, List, [], ◌∷◌}
-use Rattle.std.specs.Prelude.{length, take, IsTrue, slice_index, slice_index_or}
-use Rattle.graph_cycles.specs.Graph.{successors, has, Goes, Leads, rank_over}
+use Rattle.std.specs.Prelude.{length, take, Contains, IsTrue, slice_index, slice_index_or}
+use Rattle.graph_cycles.specs.Graph.{successors, has, Goes, Leads, AreAfterSuccessors, rank_over}
 use Rattle.graph_cycles.specs.declared.walk.Stage.{Stage}
 use Rattle.graph_cycles.specs.declared.walk.Stage.TheVariants.{New, Open, Closed}
 
@@ -81,6 +81,12 @@ pub record HasRanks (graph : List (List ℕ)) (stages : List Stage) (ranks : Lis
   pub ranked : (x : ℕ) → stage_at stages x ≡ Closed → mark_at marks x ≡ false
       → slice_index ranks x ≡ rank_over ranks (successors graph x)
   pub bounded : (x : ℕ) → slice_index ranks x ≤ count
+
+-- the list has the closed nodes, each that lies on no cycle after all its successors
+pub record AreOrdered (graph : List (List ℕ)) (stages : List Stage) (order : List ℕ) : Type 0 where
+  pub closed : (k : ℕ) → k < length order → stage_at stages (slice_index order k) ≡ Closed
+  pub all : (x : ℕ) → stage_at stages x ≡ Closed → Contains order x
+  pub after_successors : AreAfterSuccessors graph order
 
 -- what is left to do at a stage
 abbrev pub stage_work : Stage → ℕ

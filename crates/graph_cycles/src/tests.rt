@@ -3,9 +3,9 @@ use super::*;
 use flat_rows::Rows;
 use std::test::Fail;
 
-// Each graph as its rows of successors, with the nodes that lie on a cycle and the ranks of the others.
+// Each graph as its rows of successors, with the nodes that lie on a cycle; of the chain the ranks and its one order.
 #[test]
-fn graphs_have_their_cycles_and_ranks(rt: HostRuntime) -> Result<(), Fail> {
+fn graphs_have_their_cycles_ranks_and_order(rt: HostRuntime) -> Result<(), Fail> {
     let mut chain = Rows::new(rt.alloc());
     for row in [[1usize, 2].as_slice(), [2].as_slice(), [].as_slice()] {
         chain.push(row)?;
@@ -14,6 +14,7 @@ fn graphs_have_their_cycles_and_ranks(rt: HostRuntime) -> Result<(), Fail> {
     let found = find_cycles(rt.alloc(), &chain)?;
     assert_eq!(rt; found.on_cycle.as_slice(), [false, false, false].as_slice());
     assert_eq!(rt; found.ranks.as_slice(), [2, 1, 0].as_slice());
+    assert_eq!(rt; found.order.as_slice(), [2, 1, 0].as_slice());
 
     // Two cycles with a bridge between them, which lies on none.
     let mut bridge = Rows::new(rt.alloc());

@@ -35,7 +35,7 @@ pub(crate) struct Walk {
     // The positions, among the open nodes, of the nodes on the path to the current one.
     path: Vec<usize>,
     // The closed nodes, each after those that it leads to and that don't lead back.
-    closed: Vec<usize>,
+    pub(crate) closed: Vec<usize>,
     pub(crate) on_cycle: Vec<bool>,
     pub(crate) ranks: Vec<usize>,
 }
