@@ -8,5 +8,6 @@ pub mod NodeLemmas
 pub mod PlanLemmas
 pub mod CutLemmas
 pub mod WaitingLemmas
+pub mod OverlapLemmas
 pub mod SplitLemmas
 pub mod OrderLemmas

@@ -338,7 +338,7 @@ take_out true true e f same = refl
 take_out true false e f same = ap not same
 take_out false b e f same = refl
 
-among_next : (set : List ℕ) (unit i d other : ℕ) → i < length set → unit ≡ get_or set i d
+pub among_next : (set : List ℕ) (unit i d other : ℕ) → i < length set → unit ≡ get_or set i d
     → among (take (i + 1) set) other ≡ (among (take i set) other || (unit == other))
 among_next set unit i d other short is =
     ap (λ (l : List ℕ). among l other) (take_more set i d short)

@@ -5,7 +5,6 @@ ghost use Rattle.cutset_lists.specs.Generation.{HasList, Generates};
 ghost use Rattle.cutset_lists.specs.Plan.{Releases};
 
 use crate::gate::node_list;
-use crate::overlap::Owners;
 use crate::plan::plan;
 use crate::{NoMemory, Sets};
 use fault_model::{NodeNo, Tree};
@@ -46,12 +45,11 @@ pub fn top_list(alloc: Global, tree: &Tree) -> Result<Sets, NoMemory>
     let nodes = (tree.units() + tree.gates()) as usize;
     let order = tree.bottom_up();
     let until = plan(alloc, tree, order)?;
-    let mut owners = Owners::new(alloc)?;
     let mut lists = no_lists(alloc, nodes)?;
     for place in 0..order.len() {
         let node = order[place];
         if until[node.index()] > place {
-            let list = node_list(alloc, tree, &mut owners, &lists, node)?;
+            let list = node_list(alloc, tree, &lists, node)?;
             lists[node.index()] = list;
             release(alloc, &mut lists, &until, tree.below(node), place + 1);
         }

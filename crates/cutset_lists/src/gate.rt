@@ -7,7 +7,7 @@ ghost use Rattle.cutset_lists.specs.Generation.{HasList, AddsSome, Follows, each
 use crate::combine::append;
 use crate::minimal::minimal;
 use crate::order::shortest_first;
-use crate::overlap::Owners;
+use crate::overlap::{are_apart, are_two_apart};
 use crate::product::product;
 use crate::votes::at_least;
 use crate::{NoMemory, Sets, UnitNo};
@@ -36,18 +36,12 @@ pub fn empty_set(alloc: Global) -> Result<Sets, NoMemory>
 }
 
 // The sets, and those of the lists of nodes.
-fn some_of(
-    alloc: Global,
-    sets: Sets,
-    owners: &mut Owners,
-    lists: &[Sets],
-    nodes: &[NodeNo],
-) -> Result<Sets, NoMemory>
+fn some_of(alloc: Global, sets: Sets, lists: &[Sets], nodes: &[NodeNo]) -> Result<Sets, NoMemory>
     requires { All (HasList lists.now) nodes.now }
     ensures { IfOk result (AddsSome lists.now nodes.now sets) }
 {
     let mut sets = sets;
-    let apart = owners.are_apart(lists, nodes);
+    let apart = are_apart(alloc, lists, nodes)?;
     for node in nodes {
         append(&mut sets, &lists[node.index()])?;
     }
@@ -55,20 +49,15 @@ fn some_of(
 }
 
 // The unions of a set of each node's list, one list after another.
-fn each_in_turn(
-    alloc: Global,
-    owners: &mut Owners,
-    lists: &[Sets],
-    nodes: &[NodeNo],
-) -> Result<Sets, NoMemory>
+fn each_in_turn(alloc: Global, lists: &[Sets], nodes: &[NodeNo]) -> Result<Sets, NoMemory>
     requires { All (HasList lists.now) nodes.now }
     ensures { IfOk result (Follows lists.now (each_rule nodes.now)) }
 {
-    let all_apart = owners.are_apart(lists, nodes);
+    let all_apart = are_apart(alloc, lists, nodes)?;
     let mut sets = empty_set(alloc)?;
     for node in nodes {
         let list = &lists[node.index()];
-        let apart = all_apart || owners.are_two_apart(&sets, list);
+        let apart = all_apart || are_two_apart(alloc, &sets, list)?;
         let both = product(alloc, &sets, list, apart)?;
         sets = reduced(alloc, both, apart)?;
     }
@@ -76,23 +65,17 @@ fn each_in_turn(
 }
 
 // The unions of a set of each node's list.
-fn each_of(
-    alloc: Global,
-    owners: &mut Owners,
-    lists: &[Sets],
-    nodes: &[NodeNo],
-) -> Result<Sets, NoMemory>
+fn each_of(alloc: Global, lists: &[Sets], nodes: &[NodeNo]) -> Result<Sets, NoMemory>
     requires { All (HasList lists.now) nodes.now }
     ensures { IfOk result (Follows lists.now (each_rule nodes.now)) }
 {
     let order = shortest_first(alloc, lists, nodes)?;
-    each_in_turn(alloc, owners, lists, order.as_slice())
+    each_in_turn(alloc, lists, order.as_slice())
 }
 
 // The list of a unit: itself alone, and what its triggers have.
 fn unit_list(
     alloc: Global,
-    owners: &mut Owners,
     lists: &[Sets],
     unit: UnitNo,
     triggers: &[NodeNo],
@@ -102,13 +85,12 @@ fn unit_list(
 {
     let mut sets = Rows::new(alloc);
     sets.push(&[unit])?;
-    some_of(alloc, sets, owners, lists, triggers)
+    some_of(alloc, sets, lists, triggers)
 }
 
 // The list of a gate.
 fn gate_list(
     alloc: Global,
-    owners: &mut Owners,
     lists: &[Sets],
     kind: GateKind,
     inputs: &[NodeNo],
@@ -122,10 +104,10 @@ fn gate_list(
         | GateKind::Seq
         | GateKind::Csp
         | GateKind::Wsp
-        | GateKind::Hsp => each_of(alloc, owners, lists, inputs),
-        GateKind::Or => some_of(alloc, Rows::new(alloc), owners, lists, inputs),
-        GateKind::Votes(least, _) => at_least(alloc, owners, lists, least as usize, inputs),
-        GateKind::Por => first_list(alloc, owners, lists, inputs),
+        | GateKind::Hsp => each_of(alloc, lists, inputs),
+        GateKind::Or => some_of(alloc, Rows::new(alloc), lists, inputs),
+        GateKind::Votes(least, _) => at_least(alloc, lists, least as usize, inputs),
+        GateKind::Por => first_list(alloc, lists, inputs),
         GateKind::Fdep => Ok(Rows::new(alloc)),
     }
 }
@@ -138,36 +120,25 @@ fn first_of(nodes: &[NodeNo]) -> &[NodeNo]
 }
 
 // The list of a gate that fails where its first input does.
-fn first_list(
-    alloc: Global,
-    owners: &mut Owners,
-    lists: &[Sets],
-    inputs: &[NodeNo],
-) -> Result<Sets, NoMemory>
+fn first_list(alloc: Global, lists: &[Sets], inputs: &[NodeNo]) -> Result<Sets, NoMemory>
     requires { All (HasList lists.now) inputs.now }
     ensures { IfOk result (Follows lists.now (gate_rule GateKind.Por inputs.now)) }
 {
-    some_of(alloc, Rows::new(alloc), owners, lists, first_of(inputs))
+    some_of(alloc, Rows::new(alloc), lists, first_of(inputs))
 }
 
 // The list of a node of the tree.
-pub fn node_list(
-    alloc: Global,
-    tree: &Tree,
-    owners: &mut Owners,
-    lists: &[Sets],
-    node: NodeNo,
-) -> Result<Sets, NoMemory>
+pub fn node_list(alloc: Global, tree: &Tree, lists: &[Sets], node: NodeNo) -> Result<Sets, NoMemory>
     requires node { IsNodeOf tree.now node }
     requires all { length lists.now ≡ node_count tree.now }
     ensures { IfOk result (IsNodeList tree.now lists.now node) }
 {
     let below = tree.below(node);
     if node.0 > tree.units() {
-        return gate_list(alloc, owners, lists, tree.kind(node), below);
+        return gate_list(alloc, lists, tree.kind(node), below);
     }
     match UnitNo::new(node.0 as u16) {
-        Some(unit) => unit_list(alloc, owners, lists, unit, below),
+        Some(unit) => unit_list(alloc, lists, unit, below),
         None => unreachable!(),
     }
 }

@@ -1,67 +1,73 @@
-//! Whether nodes have units in common. The answer decides what is worth doing, and nothing that is proved rests on it.
-ghost use Rattle.std.specs.Prelude.{◌≡◌, All, vec_len};
+//! Whether lists of sets have units in common. Where they have none no set of one includes a set of another.
+ghost use Rattle.std.specs.Prelude.{◌≡◌, ◌↔◌, ◌||◌, ℕ, All, IfOk, IsTrue};
+ghost use Rattle.std.specs.List.{list_any};
+ghost use Rattle.unit_sets.specs.UnitList.{among};
 ghost use Rattle.cutset_lists.specs.Generation.{HasList};
+ghost use Rattle.cutset_lists.specs.Overlap.{AreAllApart, AreApart, has_unit};
 
-use crate::{NoMemory, Sets};
+use crate::{NoMemory, Sets, UnitNo};
 use fault_model::NodeNo;
 use std::alloc::Global;
+use unit_sets::UnitSet;
 
-// There are fewer unit numbers than this.
-const UNITS: usize = 4096;
-
-// Who of the nodes last asked about had each unit.
-#[derive(Drop)]
-pub struct Owners {
-    owner: Vec<u64>,
-    next: u64,
-    ghost all_units: { vec_len owner ≡ 4096 },
+// Whether a set has one of the units seen.
+fn meets(seen: &UnitSet, set: &[UnitNo]) -> bool
+    ensures { result ≡ list_any (among seen.now) set.now }
+{
+    set.iter().any(|unit| seen.contains(*unit))
 }
 
-impl Owners {
-    pub fn new(alloc: Global) -> Result<Owners, NoMemory> {
-        let owner = vec![in alloc; 0; UNITS]?;
-        Ok(Owners { owner, next: 1 })
-    }
-
-    // Whether no unit is in the lists of two of the nodes.
-    pub fn are_apart(&mut self, lists: &[Sets], nodes: &[NodeNo]) -> bool
-        requires { All (HasList lists.now) nodes.now }
-    {
-        let first = self.next;
-        for node in nodes {
-            if !self.is_apart(&lists[node.index()], first) {
-                return false;
-            }
+// Whether some set of a list does.
+fn some_meets(seen: &UnitSet, list: &Sets) -> bool
+    ensures { result ≡ list_any (list_any (among seen.now)) list.now }
+{
+    for i in 0..list.len() {
+        if meets(seen, list.row(i)) {
+            return true;
         }
-        true
     }
+    false
+}
 
-    // Whether no unit is in both of two lists.
-    pub fn are_two_apart(&mut self, left: &Sets, right: &Sets) -> bool {
-        let first = self.next;
-        self.is_apart(left, first) && self.is_apart(right, first)
+// The units of a set are seen too.
+fn see_set(seen: &mut UnitSet, set: &[UnitNo])
+    ensures { (unit : ℕ) → among seen.new unit ≡ (among seen.old unit || among set.now unit) }
+{
+    for unit in set {
+        let _fresh = seen.insert(*unit);
     }
+}
 
-    // Gives the units of a list to the next owner, and says whether none belonged to one from `first` on.
-    fn is_apart(&mut self, list: &Sets, first: u64) -> bool {
-        let shared = self.claims(list, first);
-        self.next = self.next.wrapping_add(1);
-        !shared
+// The units of a list are seen too.
+fn see(seen: &mut UnitSet, list: &Sets)
+    ensures { (unit : ℕ) → among seen.new unit ≡ (among seen.old unit || has_unit list.now unit) }
+{
+    for i in 0..list.len() {
+        see_set(seen, list.row(i));
     }
+}
 
-    // Gives each unit of a list to the next owner, up to the first that belonged to one from `first` on, if there is
-    // one.
-    fn claims(&mut self, list: &Sets, first: u64) -> bool {
-        for i in 0..list.len() {
-            for unit in list.row(i) {
-                let place = unit.number() as usize;
-                let before = self.owner[place];
-                if first <= before && before != self.next {
-                    return true;
-                }
-                self.owner[place] = self.next;
-            }
+/// Whether no unit is in the lists of two of the nodes.
+pub fn are_apart(alloc: Global, lists: &[Sets], nodes: &[NodeNo]) -> Result<bool, NoMemory>
+    requires { All (HasList lists.now) nodes.now }
+    ensures { IfOk result (λ apart. IsTrue apart ↔ AreAllApart lists.now nodes.now) }
+{
+    let mut seen = UnitSet::new(alloc)?;
+    for node in nodes {
+        let list = &lists[node.index()];
+        if some_meets(&seen, list) {
+            return Ok(false);
         }
-        false
+        see(&mut seen, list);
     }
+    Ok(true)
+}
+
+/// Whether no unit is in both of two lists.
+pub fn are_two_apart(alloc: Global, left: &Sets, right: &Sets) -> Result<bool, NoMemory>
+    ensures { IfOk result (λ apart. IsTrue apart ↔ AreApart left.now right.now) }
+{
+    let mut seen = UnitSet::new(alloc)?;
+    see(&mut seen, left);
+    Ok(!some_meets(&seen, right))
 }

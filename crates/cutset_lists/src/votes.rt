@@ -5,7 +5,7 @@ ghost use Rattle.cutset_lists.specs.Counts.{counts_of_none, CountsMore, CountsLi
 
 use crate::gate::{empty_set, reduced};
 use crate::order::shortest_first;
-use crate::overlap::Owners;
+use crate::overlap::are_apart;
 use crate::product::add_product;
 use crate::{NoMemory, Sets};
 use fault_model::NodeNo;
@@ -66,7 +66,6 @@ fn count_list(
 // The unions of a set of each of `least` of the nodes' lists, one list after another.
 fn at_least_in_turn(
     alloc: Global,
-    owners: &mut Owners,
     lists: &[Sets],
     least: usize,
     nodes: &[NodeNo],
@@ -74,7 +73,7 @@ fn at_least_in_turn(
     requires { All (HasList lists.now) nodes.now }
     ensures { IfOk result (Follows lists.now (at_least_rule least nodes.now)) }
 {
-    let apart = owners.are_apart(lists, nodes);
+    let apart = are_apart(alloc, lists, nodes)?;
     let mut counts = none_counted(alloc, least)?;
     for i in 0..nodes.len() {
         // what has less than this can no longer get as many as are needed
@@ -90,7 +89,6 @@ fn at_least_in_turn(
 // The unions of a set of each of `least` of the nodes' lists.
 pub fn at_least(
     alloc: Global,
-    owners: &mut Owners,
     lists: &[Sets],
     least: usize,
     nodes: &[NodeNo],
@@ -99,5 +97,5 @@ pub fn at_least(
     ensures { IfOk result (Follows lists.now (at_least_rule least nodes.now)) }
 {
     let order = shortest_first(alloc, lists, nodes)?;
-    at_least_in_turn(alloc, owners, lists, least, order.as_slice())
+    at_least_in_turn(alloc, lists, least, order.as_slice())
 }

@@ -1,0 +1,149 @@
+-- The units of lists one after another, and whether two of the lists have one in common.
+use Rattle.std.specs.Prelude.{◌≡◌, ℕ, ◌+◌, ◌-◌, ◌<◌, ◌≤◌, Bool, true, false, ◌||◌, ◌==◌, List, [], ◌∷◌, ◌++◌, length}
+use Rattle.std.specs.Prelude.{take, get_or, slice_index_or, All, IsTrue}
+use Rattle.std.specs.List.{list_any}
+use Rattle.std.proofs.Common.{refl, sym, ◌∙◌, ap, subst, arith}
+use Rattle.std.proofs.lemmas.List.{get_or_default, take_more, take_all, get_or-take, length-take}
+use Rattle.std.proofs.lemmas.List.Folds.{list_any_more, list_any_at, Any-from_list_any}
+use Rattle.std.proofs.lemmas.List.Quantifiers.{all_pairs_push}
+use Rattle.unit_sets.specs.UnitList.{among, with_unit}
+use Rattle.unit_sets.proofs.UnitListLemmas.{among-from_Contains, among-with_unit, Contains-from_among}
+use Rattle.cutset_lists.specs.Generation.{HasList, list_at}
+use Rattle.cutset_lists.specs.Overlap.{AreAllApart, AreApart, has_unit}
+use Rattle.cutset_lists.proofs.GateLemmas.{has_list, list_read}
+use Rattle.cutset_lists.proofs.WaitingLemmas.{among_next, some_holds}
+
+-- ---- what is seen
+
+-- the units of the first nodes' lists were seen, and no two of these lists have one in common
+pub record HasSeen (lists : List (List (List ℕ))) (nodes : List ℕ) (count : ℕ) (seen : List ℕ) : Type 0 where
+  pub met : (unit : ℕ)
+      → among seen unit ≡ list_any (λ node. has_unit (list_at lists node) unit) (take count nodes)
+  pub apart : AreAllApart lists (take count nodes)
+
+turned : (old front met unit : Bool) → met ≡ (old || front) → (unit || met) ≡ (old || (front || unit))
+turned true front met true e = refl
+turned true true met false e = e
+turned true false met false e = e
+turned false true met true e = refl
+turned false false met true e = refl
+turned false true met false e = e
+turned false false met false e = e
+
+pub set_more : (old set seen new : List ℕ) (unit i d : ℕ) → i < length set → unit ≡ get_or set i d
+    → ((other : ℕ) → among seen other ≡ (among old other || among (take i set) other))
+    → new ≡ with_unit unit seen → (other : ℕ) → among new other ≡ (among old other || among (take (i + 1) set) other)
+set_more old set seen new unit i d short is before with_it other =
+    ap (λ (l : List ℕ). among l other) with_it
+    ∙ among-with_unit unit seen other
+    ∙ turned (among old other) (among (take i set) other) (among seen other) (unit == other) (before other)
+    ∙ ap (λ b. among old other || b) (sym (among_next set unit i d other short is))
+
+joined : (old front row met seen : Bool) → seen ≡ (met || row) → met ≡ (old || front) → seen ≡ (old || (front || row))
+joined true front row met seen a b = a ∙ ap (λ m. m || row) b
+joined false front row met seen a b = a ∙ ap (λ m. m || row) b
+
+pub list_more : (old seen new row : List ℕ) (list : List (List ℕ)) (i : ℕ) → i < length list
+    → row ≡ slice_index_or list i []
+    → ((unit : ℕ) → among seen unit ≡ (among old unit || has_unit (take i list) unit))
+    → ((unit : ℕ) → among new unit ≡ (among seen unit || among row unit))
+    → (unit : ℕ) → among new unit ≡ (among old unit || has_unit (take (i + 1) list) unit)
+list_more old seen new row list i short is before more unit =
+    joined (among old unit) (has_unit (take i list) unit) (among row unit) (among seen unit) (among new unit)
+    (more unit) (before unit)
+    ∙ ap (λ (r : List ℕ). among old unit || (has_unit (take i list) unit || among r unit)) is
+    ∙ ap (λ b. among old unit || b) (sym (list_any_more (λ set. among set unit) list i [] short))
+
+-- ---- units in common
+
+-- a set with a unit that was seen has one of those seen
+meets_at : (seen set : List ℕ) (unit : ℕ) → among set unit ≡ true → among seen unit ≡ true
+    → list_any (among seen) set ≡ true
+meets_at seen set unit there met = some_holds (among seen) set unit (Contains-from_among set unit there) met
+
+-- so does a list
+pub some_meets_at : (seen : List ℕ) (list : List (List ℕ)) (unit : ℕ) → has_unit list unit ≡ true
+    → among seen unit ≡ true → list_any (list_any (among seen)) list ≡ true
+some_meets_at seen list unit there met =
+    let some = Any-from_list_any (λ set. among set unit) list there in
+    list_any_at (list_any (among seen)) list some.0 some.1 some.2
+    (ap (list_any (among seen)) some.3 ∙ meets_at seen some.1 unit some.4 met)
+
+-- a unit of the list that was seen
+pub unit_met : (seen : List ℕ) (list : List (List ℕ)) → list_any (list_any (among seen)) list ≡ true
+    → (unit : ℕ) × (has_unit list unit ≡ true) × (among seen unit ≡ true)
+unit_met seen list meets =
+    let some = Any-from_list_any (list_any (among seen)) list meets in
+    let one = Any-from_list_any (among seen) some.1 some.4 in (
+      one.1,
+      list_any_at (λ set. among set one.1) list some.0 some.1 some.2
+          (ap (λ set. among set one.1) some.3 ∙ among-from_Contains some.1 one.1 (one.0, one.2, one.3)),
+      one.4,
+    )
+
+unless : (b : Bool) → (b ≡ true → false ≡ true) → b ≡ false
+unless true h = sym (h refl)
+unless false h = refl
+
+-- ---- nodes one after another, of which one is next
+
+module _ (lists : List (List (List ℕ))) (nodes : List ℕ) (k node place : ℕ) (list : List (List ℕ))
+    (short : k < length nodes) (is : node ≡ get_or nodes k node) (all : All (HasList lists) nodes)
+    (place_is : place ≡ node - 1) (read : list ≡ get_or lists place list) (seen : List ℕ)
+    (before : HasSeen lists nodes k seen) where
+  list_is : list ≡ list_at lists node
+  list_is = list_read lists list node place (has_list lists nodes k node short is all) place_is read
+
+  abbrev has : ℕ → ℕ → Bool
+  has unit n = has_unit (list_at lists n) unit
+
+  pub met_more : (new : List ℕ) → ((unit : ℕ) → among new unit ≡ (among seen unit || has_unit list unit))
+      → (unit : ℕ) → among new unit ≡ list_any (has unit) (take (k + 1) nodes)
+  met_more new more unit =
+      more unit
+      ∙ ap (λ b. b || has_unit list unit) (before.met unit)
+      ∙ ap (λ l. list_any (has unit) (take k nodes) || has_unit l unit) (list_is ∙ ap (list_at lists) is)
+      ∙ sym (list_any_more (has unit) nodes k node short)
+
+  pub apart_more : list_any (list_any (among seen)) list ≡ false → AreAllApart lists (take (k + 1) nodes)
+  apart_more none =
+      subst (AreAllApart lists) (sym (take_more nodes k node short ∙ ap (λ n. take k nodes ++ n ∷ []) (sym is)))
+      (all_pairs_push (λ earlier later. AreApart (list_at lists earlier) (list_at lists later)) (take k nodes) node
+      before.apart
+      (λ j e within unit there. unless (has unit node) (λ here.
+      let met : among seen unit ≡ true =
+      before.met unit ∙ list_any_at (has unit) (take k nodes) j e within there in
+      sym none ∙ some_meets_at seen list unit (ap (λ l. has_unit l unit) list_is ∙ here) met)))
+
+  pub unit_twice : list_any (list_any (among seen)) list ≡ true → AreAllApart lists nodes → IsTrue false
+  unit_twice meets apart =
+      let met = unit_met seen list meets in
+      let first = Any-from_list_any (has met.0) (take k nodes) (sym (before.met met.0) ∙ met.2) in
+      let earlier : first.0 < k = (let within = first.2 in let size = length-take k nodes in omega arith) in
+      let at : get_or nodes first.0 first.1 ≡ first.1 =
+      sym (get_or-take k nodes first.0 first.1 earlier) ∙ first.3 in
+      let last : get_or nodes k first.1 ≡ node = get_or_default nodes k first.1 node short ∙ sym is in
+      let left : has met.0 (get_or nodes first.0 first.1) ≡ true = ap (has met.0) at ∙ first.4 in
+      let none : has met.0 (get_or nodes k first.1) ≡ false = apart first.0 k first.1 earlier short met.0 left in
+      sym none ∙ ap (has met.0) last ∙ sym (ap (λ l. has_unit l met.0) list_is) ∙ met.1
+
+-- after all nodes
+pub all_apart : (lists : List (List (List ℕ))) (nodes : List ℕ) (k : ℕ) (seen : List ℕ) → length nodes ≤ k
+    → HasSeen lists nodes k seen → AreAllApart lists nodes
+all_apart lists nodes k seen past held = subst (AreAllApart lists) (take_all k nodes past) held.apart
+
+-- ---- two lists
+
+module _ (left right : List (List ℕ)) (none seen : List ℕ) (empty : none ≡ [])
+    (more : (unit : ℕ) → among seen unit ≡ (among none unit || has_unit left unit)) where
+  met : (unit : ℕ) → among seen unit ≡ has_unit left unit
+  met unit = more unit ∙ ap (λ (s : List ℕ). among s unit || has_unit left unit) empty
+
+  pub two_apart : list_any (list_any (among seen)) right ≡ false → AreApart left right
+  two_apart apart unit there = unless (has_unit right unit) (λ here.
+      sym apart ∙ some_meets_at seen right unit here (met unit ∙ there))
+
+  pub none_meets : AreApart left right → list_any (list_any (among seen)) right ≡ false
+  none_meets apart = unless (list_any (list_any (among seen)) right) (λ meets.
+      let unit = unit_met seen right meets in
+      sym (apart unit.0 (sym (met unit.0) ∙ unit.2)) ∙ unit.1)
