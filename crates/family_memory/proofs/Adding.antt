@@ -14,7 +14,7 @@ use Rattle.family_parts.specs.Antichains.{IsAntichain}
 use Rattle.family_memory.specs.Memory.{Held, Has, IsSound, Went, family_in, map_of, word_family}
 use Rattle.family_memory.specs.declared.answers.Entry.{Entry}
 use Rattle.family_memory.specs.Answers.{IsTold}
-use Rattle.family_memory.specs.Kept.{IsAdded, KeepsNodes}
+use Rattle.family_memory.specs.Kept.{AreLast, IsAdded, KeepsNodes}
 use Rattle.family_memory.proofs.Entries.{all_told}
 use Rattle.family_memory.proofs.After.{knows, level_above}
 
@@ -186,12 +186,14 @@ module _ (inside held : Held) (word : ℕ) (same : inside ≡ held) (sound : IsS
       (subst (λ n. IsAdded inside word (record { words = inside.words ++ word ∷ []; room = n }) (length inside.words))
       (sym as_before) added_inside)))
 
-  pub kept_added : (after : Held) (capacity capacity' : ℕ) (entries entries' : List Entry)
-      → after.words ≡ inside.words ++ word ∷ [] → after.room ≡ inside.room
-      → KeepsNodes inside capacity entries → capacity ≤ capacity'
+  pub kept_added : (after : Held) (capacity capacity' : ℕ) (entries entries' : List Entry) (lasts lasts' : List ℕ)
+      (taken taken' : ℕ) → after.words ≡ inside.words ++ word ∷ [] → after.room ≡ inside.room
+      → KeepsNodes inside capacity entries lasts taken → capacity ≤ capacity'
       → ((other : Held) → IsSound other → All (IsTold other) entries → All (IsTold other) entries')
-      → KeepsNodes after capacity' entries'
-  kept_added after capacity capacity' entries entries' words as_before kept more follows =
+      → (IsAdded inside word after (length inside.words) → AreLast after lasts') → taken ≤ taken'
+      → KeepsNodes after capacity' entries' lasts' taken'
+  kept_added after capacity capacity' entries entries' lasts lasts' taken taken' words as_before kept more follows
+      units more' =
       let is : IsAdded inside word after (length inside.words) =
       subst (λ l. IsAdded inside word (record { words = l; room = after.room }) (length inside.words)) (sym words)
       (subst (λ n. IsAdded inside word (record { words = inside.words ++ word ∷ []; room = n }) (length inside.words))
@@ -203,4 +205,6 @@ module _ (inside held : Held) (word : ℕ) (same : inside ≡ held) (sound : IsS
         told =
             follows after is.sound (all_told inside after entries sound
             (went_added inside word after (length inside.words) is) kept.told);
+        units = units is;
+        units_taken = let h = kept.units_taken in omega arith;
       }

@@ -7,7 +7,7 @@ use Rattle.family_operations.proofs.MinimalLemmas.{minimal-none, minimal-unit}
 use Rattle.family_parts.specs.Antichains.{IsAntichain}
 use Rattle.family_memory.specs.declared.answers.Entry.{Entry}
 use Rattle.family_memory.specs.Answers.{IsTold}
-use Rattle.family_memory.specs.Kept.{KeepsNodes}
+use Rattle.family_memory.specs.Kept.{AreLast, KeepsNodes}
 use Rattle.family_memory.specs.Memory.{Held, Has, IsSound, family_in, map_of}
 
 abbrev pub no_nodes : ℕ → Held
@@ -32,15 +32,16 @@ sound room = record {
   antichains = antichains room;
 }
 
-pub kept_empty : (held : Held) (capacity : ℕ) (entries : List Entry) → held.words ≡ 0 ∷ 0 ∷ [] → held.room ≤ 2 ^ 25
-    → held.room + 2 ≤ capacity → ((other : Held) → IsSound other → All (IsTold other) entries)
-    → KeepsNodes held capacity entries
-kept_empty held capacity entries none few taken told =
+pub kept_empty : (held : Held) (capacity : ℕ) (entries : List Entry) (lasts : List ℕ) (capacity' : ℕ)
+    → held.words ≡ 0 ∷ 0 ∷ [] → held.room ≤ 2 ^ 25 → held.room + 2 ≤ capacity
+    → ((other : Held) → IsSound other → All (IsTold other) entries) → AreLast held lasts → held.room + 2 ≤ capacity'
+    → KeepsNodes held capacity entries lasts capacity'
+kept_empty held capacity entries lasts capacity' none few taken told units taken' =
     let is : IsSound held =
     subst (λ l. IsSound (record { words = l; room = held.room })) (sym none) (sound held.room) in
-    record { sound = is; few = few; taken = taken; told = told held is }
+    record { sound = is; few = few; taken = taken; told = told held is; units = units; units_taken = taken' }
 
-two : (words : List ℕ) → 2 ≤ length words → get_or words 0 0 ≡ 0 → get_or words 1 0 ≡ 0 → take 2 words ≡ 0 ∷ 0 ∷ []
+pub two : (words : List ℕ) → 2 ≤ length words → get_or words 0 0 ≡ 0 → get_or words 1 0 ≡ 0 → take 2 words ≡ 0 ∷ 0 ∷ []
 two [] few e f = absurd (omega arith)
 two (w ∷ []) few e f = absurd (omega arith)
 two (w ∷ v ∷ words) few e f = ap (λ n. n ∷ v ∷ take 0 words) e ∙ ap (λ n. 0 ∷ n ∷ take 0 words) f

@@ -3,3 +3,4 @@ pub mod Empty
 pub mod Entries
 pub mod Nodes
 pub mod After
+pub mod LastUnits

@@ -10,7 +10,7 @@ use Rattle.zdd_families.proofs.Canonical.{lo_units, hi_units}
 use Rattle.family_memory.specs.Memory.{Held, Has, IsSound, IsNodeOf, map_of}
 
 -- a known reference is one that the memory has
-has_known : (held : Held) (r : ℕ) → IsSound held → Knows (map_of held) r → Has held r
+pub has_known : (held : Held) (r : ℕ) → IsSound held → Knows (map_of held) r → Has held r
 has_known held r sound (inl small) = let few = sound.terminals in omega arith
 has_known held r sound (inr has) =
     elim (cases_lt r (length held.words)) [

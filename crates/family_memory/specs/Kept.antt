@@ -1,17 +1,26 @@
 -- What the fields of a memory keep, and what a node that is added does.
-use Rattle.std.specs.Prelude.{◌≡◌, ℕ, ◌+◌, ◌≤◌, ◌^◌, List, [], ◌∷◌, ◌++◌}
+use Rattle.std.specs.Prelude.{◌≡◌, ℕ, ◌+◌, ◌≤◌, ◌^◌, List, [], ◌∷◌, ◌++◌, get_or, length}
 use Rattle.std.specs.List.{All}
 use Rattle.zdd_families.specs.Map.{Grown}
+use Rattle.minimal_families.specs.Units.{IsLastUnit}
 use Rattle.family_memory.specs.declared.answers.Entry.{Entry}
 use Rattle.family_memory.specs.Answers.{IsTold}
 use Rattle.family_memory.specs.Memory.{Held, Has, IsSound, family_in, map_of, word_family}
 
--- the room was taken before, references to it fit into words, and each entry is true
-pub record KeepsNodes (held : Held) (capacity : ℕ) (entries : List Entry) : Type 0 where
+-- each reference of the memory has its last unit in its place of the list
+pub record AreLast (held : Held) (lasts : List ℕ) : Type 0 where
+  pub count : length lasts ≡ length held.words
+  pub each : (r : ℕ) → Has held r → IsLastUnit (family_in held r) (get_or lasts r 0)
+
+-- the room was taken before, also for the last units; references to it fit into words, and each entry is true
+pub record KeepsNodes (held : Held) (capacity : ℕ) (entries : List Entry) (lasts : List ℕ)
+    (lasts_capacity : ℕ) : Type 0 where
   pub sound : IsSound held
   pub few : held.room ≤ 2 ^ 25
   pub taken : held.room + 2 ≤ capacity
   pub told : All (IsTold held) entries
+  pub units : AreLast held lasts
+  pub units_taken : held.room + 2 ≤ lasts_capacity
 
 -- a word was added at the end, and its reference stands for its family
 pub record IsAdded (before : Held) (word : ℕ) (after : Held) (r : ℕ) : Type 0 where

@@ -1,10 +1,11 @@
-//! The memory: node words, an index of them, and answers.
+//! The memory: node words with their last units, an index of them, and answers.
 ghost use Rattle.std.specs.Prelude.{◌≡◌, ◌≢◌, ◌⊎◌, ◌+◌, ◌≤◌, ◌<◌, ◌^◌, [], ◌∷◌, ◌++◌, length, IfOk, IfErr, IfSome};
 ghost use Rattle.std.specs.Prelude.{MatchResult};
 ghost use Rattle.zdd_words.specs.Word.{packed};
 ghost use Rattle.zdd_families.specs.Family.{IsAbove, branch};
 ghost use Rattle.zdd_families.specs.Map.{Grown, IsNode, level_in};
 ghost use Rattle.family_parts.specs.Antichains.{IsAntichain};
+ghost use Rattle.minimal_families.specs.Units.{IsLastUnit};
 ghost use Rattle.family_memory.specs.Answers.{IsTold};
 ghost use Rattle.family_memory.specs.Memory.{Has, IsNodeOf, IsSound, IsUsedUp, family_in, map_of, word_family};
 ghost use Rattle.family_memory.specs.Kept.{IsAdded};
@@ -38,6 +39,7 @@ pub struct Spent;
 #[derive(Drop)]
 pub struct FamilyMemory {
     words: Vec<u64>,
+    lasts: Vec<u16>,
     room: usize,
     index: Index,
     answers: Answers,
@@ -53,7 +55,7 @@ impl Model for FamilyMemory {
     ghost view = { λ m. record { words = m.words.items; room = m.room } };
 
     ghost invariant = { λ m. KeepsNodes (record { words = m.words.items; room = m.room }) (vec_capacity m.words)
-        m.answers.entries.items };
+        m.answers.entries.items m.lasts.items (vec_capacity m.lasts) };
 }
 
 impl FamilyMemory {
@@ -65,8 +67,12 @@ impl FamilyMemory {
         let mut words = Vec::with_capacity(alloc, room.nodes + 2)?;
         words.push(0)?;
         words.push(0)?;
+        let mut lasts = Vec::with_capacity(alloc, room.nodes + 2)?;
+        lasts.push(0)?;
+        lasts.push(0)?;
         Ok(FamilyMemory {
             words,
+            lasts,
             room: room.nodes,
             index: Index::new(alloc, room.slots)?,
             answers: Answers::new(alloc, room.answers)?,
@@ -96,6 +102,26 @@ impl FamilyMemory {
             return NO_LEVEL;
         }
         (self.words[r.number() as usize] >> LEVEL_SHIFT) as u16
+    }
+
+    /// The greatest unit of a reference's sets, or 0 for a terminal.
+    pub fn last(&self, r: NodeRef) -> u16
+        requires { Has self.now r }
+        ensures { IsLastUnit (family_in self.now r) result }
+    {
+        self.lasts[r.number() as usize]
+    }
+
+    // The greatest unit of the sets of a node that is yet to be added.
+    fn last_of(&self, word: u64) -> u16
+        requires { IsNode (map_of self.now) word }
+        ensures { IsLastUnit (word_family self.now word) result }
+    {
+        self.is_sound();
+        let parts = unpack(word);
+        let lo = self.last(parts.lo);
+        let hi = self.last(parts.hi);
+        parts.level.number().max(lo).max(hi)
     }
 
     /// What the node of a reference is: the least unit of its sets, the sets without that unit, and the sets with it.
@@ -149,7 +175,12 @@ impl FamilyMemory {
         if at - 2 >= self.room {
             return Err(Spent);
         }
+        let last = self.last_of(word);
         match self.words.push(word) {
+            Ok(()) => {}
+            Err(_) => unreachable!(),
+        }
+        match self.lasts.push(last) {
             Ok(()) => {}
             Err(_) => unreachable!(),
         }
@@ -180,6 +211,7 @@ impl FamilyMemory {
         ensures { self.new ≡ record { words = 0 ∷ 0 ∷ []; room = self.old.room } }
     {
         self.words.truncate(2);
+        self.lasts.truncate(2);
         self.index.clear();
         self.answers.clear();
     }

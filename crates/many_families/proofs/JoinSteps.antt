@@ -1,19 +1,25 @@
 -- One family more in votes, call by call.
-use Rattle.std.proofs.Common.{Result, MatchResult, IfOk, IfErr, ◌≡◌, ℕ, ◌||◌, [], ◌∷◌, sym, ◌∙◌, ap, subst}
-use Rattle.std.proofs.lemmas.Result.{MatchResult-weaker}
-use Rattle.zdd_families.specs.Family.{branch}
-use Rattle.zdd_families.proofs.MapLemmas.{family-empty, family-unit}
-use Rattle.family_operations.specs.Cuts.{Cuts}
-use Rattle.family_operations.proofs.CutsLemmas.{branch-none}
+use Rattle.std.proofs.Common.{Result, MatchResult, IfOk, IfErr, ◌≡◌, ℕ, zero, suc, ◌-◌, ◌<◌, Bool, true, false, ◌&&◌}
+use Rattle.std.proofs.Common.{◌||◌, List, [], Contains, refl, sym, ◌∙◌, ap, subst, arith}
+use Rattle.unit_sets.proofs.Sorted.{Contains-cons_first}
 use Rattle.unit_sets.specs.UnitList.{some_within}
+use Rattle.zdd_words.specs.declared.word.Parts.{Parts}
+use Rattle.zdd_families.specs.Family.{IsAbove, branch}
+use Rattle.zdd_families.specs.Map.{level_in}
+use Rattle.zdd_families.proofs.Canonical.{family-filled}
+use Rattle.zdd_families.proofs.MapLemmas.{family-empty, family-unit}
+use Rattle.family_operations.proofs.CutsLemmas.{branch-none}
 use Rattle.family_parts.specs.Antichains.{IsAntichain}
 use Rattle.minimal_families.specs.Least.{IsLeastUnion, IsLeastProduct}
 use Rattle.minimal_families.proofs.LeastLemmas.{IsLeastFor-same}
 use Rattle.minimal_families.proofs.StepsLemmas.{or_of}
-use Rattle.family_memory.specs.Memory.{Held, Has, IsSound, Gave, RanOut, family_in, map_of}
-use Rattle.family_memory.proofs.After.{Gave-there, answers_of, ended, still}
+use Rattle.minimal_families.specs.Units.{HasUnit, LiesBelow}
+use Rattle.minimal_families.proofs.UnitsLemmas.{below-hi, cut_unit}
+use Rattle.family_memory.specs.Memory.{Held, Has, IsSound, IsNodeOf, Went, Gave, RanOut, family_in, map_of}
+use Rattle.family_memory.proofs.After.{Gave-there, Went-then, answers_of, at_start, ended, knows, of_start, still}
+use Rattle.family_memory.proofs.After.{still_has}
 use Rattle.many_families.specs.Joins.{IsJoined, IsBelow}
-use Rattle.many_families.proofs.UnitVotes.{joined_by_node}
+use Rattle.many_families.proofs.JoinedBelow.{below_lo, joined_above, joined_by_parts, product_above}
 
 -- ---- any member
 
@@ -32,16 +38,7 @@ joined_any s0 s1 s2 voter same fewer more sound has gave result gives spent =
     (gave.is.hit within)))
     (answers_of (IsLeastUnion (family_in s1 same) (family_in s1 more)) s1 s2 result gives spent)
 
--- ---- a single unit below all others
-
-pub single_unit : (held : Held) (x r lo hi : ℕ) → Cuts x (family_in held r) (family_in held lo) (family_in held hi)
-    → lo ≡ 0 → hi ≡ 1 → family_in held r ≡ (x ∷ []) ∷ []
-single_unit held x r lo hi cut none one =
-    cut.is
-    ∙ ap (λ q. branch x (family_in held q) (family_in held hi)) none
-    ∙ ap (λ q. branch x (family_in held 0) (family_in held q)) one
-    ∙ ap (λ l. branch x l (family_in held 1)) (family-empty (map_of held))
-    ∙ ap (branch x []) (family-unit (map_of held))
+-- ---- a node of which a part may be empty
 
 pub made_without : (held : Held) (x lo hi : ℕ) → IsSound held → Has held lo → hi ≡ 0
     → Gave (λ f. f ≡ branch x (family_in held lo) (family_in held hi)) held held lo
@@ -50,29 +47,104 @@ made_without held x lo hi sound has none =
     (sym (ap (branch x (family_in held lo)) (ap (family_in held) none ∙ family-empty (map_of held))
     ∙ branch-none x (family_in held lo)))
 
-module _ (held : Held) (x voter same fewer : ℕ) (sound : IsSound held) (has_same : Has held same)
-    (has_fewer : Has held fewer) (below : IsBelow x (family_in held voter) (family_in held same)
-    (family_in held fewer)) where
-  joined : IsJoined (family_in held voter) (family_in held same) (family_in held fewer)
-      (branch x (family_in held same) (family_in held fewer))
-  joined =
-      joined_by_node x (family_in held voter) (family_in held same) (family_in held fewer)
-      (sound.antichains same has_same) (sound.antichains fewer has_fewer) below
+-- ---- a member below all others
 
-  pub joined_antichain : IsAntichain (branch x (family_in held same) (family_in held fewer))
-  joined_antichain = joined.antichain
+none_more : (a b : Bool) → a ≡ (a || (b && false))
+none_more true b = refl
+none_more false true = refl
+none_more false false = refl
 
-  pub joined_unit : {E : Type 0} (after : Held) (result : Result ℕ E)
-      → MatchResult result (Gave (λ f. f ≡ branch x (family_in held same) (family_in held fewer)) held after)
-      (λ _. RanOut held after)
-      → MatchResult result (Gave (IsJoined (family_in held voter) (family_in held same) (family_in held fewer)) held
-      after) (λ _. RanOut held after)
-  joined_unit after result m =
-      MatchResult-weaker result m
-      (λ r gave. record {
-        went = gave.went;
-        has = gave.has;
-        is =
-            subst (IsJoined (family_in held voter) (family_in held same) (family_in held fewer)) (sym gave.is) joined;
-      })
-      (λ _ out. out)
+joined_none : (same fewer : List (List ℕ)) → IsAntichain same → IsJoined [] same fewer same
+joined_none same fewer is =
+    record { antichain = is; hit = λ within. none_more (some_within same within) (some_within fewer within) }
+
+pub joined_end : (held : Held) (voter same fewer : ℕ) → IsSound held → Has held same → voter < 2
+    → IsBelow (family_in held voter) (family_in held same) (family_in held fewer)
+    → Gave (IsJoined (family_in held voter) (family_in held same) (family_in held fewer)) held held same
+joined_end held zero same fewer sound has small below =
+    Gave-there (IsJoined (family_in held 0) (family_in held same) (family_in held fewer)) held same sound has
+    (subst (λ f. IsJoined f (family_in held same) (family_in held fewer) (family_in held same))
+    (sym (family-empty (map_of held)))
+    (joined_none (family_in held same) (family_in held fewer) (sound.antichains same has)))
+joined_end held (suc zero) same fewer sound has small below =
+    absurd (below.lacks (subst (λ f. Contains f []) (sym (family-unit (map_of held))) (Contains-cons_first [] [])))
+joined_end held (suc (suc r)) same fewer sound has small below = absurd (omega arith)
+
+module _ (s0 : Held) (voter same fewer : ℕ) (one : Parts) (sound : IsSound s0) (has_voter : Has s0 voter)
+    (has_same : Has s0 same) (has_fewer : Has s0 fewer) (is : IsNodeOf s0 voter one)
+    (below : IsBelow (family_in s0 voter) (family_in s0 same) (family_in s0 fewer)) where
+  has_level : HasUnit (family_in s0 voter) one.level
+  has_level =
+      cut_unit one.level (family_in s0 voter) (family_in s0 one.lo) (family_in s0 one.hi) is.cut
+      (family-filled (map_of s0) one.hi sound.closed (knows s0 one.hi sound is.has_hi) is.filled)
+
+  pub lo_fewer : 4096 - level_in (map_of s0) one.lo < 4096 - level_in (map_of s0) voter
+  lo_fewer = let h = is.lo_above in let e = is.level in let u = is.unit.1 in omega (arith, h, e, u)
+
+  pub lo_is_below : IsBelow (family_in s0 one.lo) (family_in s0 same) (family_in s0 fewer)
+  lo_is_below =
+      below_lo one.level (family_in s0 voter) (family_in s0 one.lo) (family_in s0 one.hi) (family_in s0 same)
+      (family_in s0 fewer) is.cut below
+
+  module _ (s1 : Held) (lo : ℕ) (gave_lo : Gave (IsJoined (family_in s0 one.lo) (family_in s0 same)
+      (family_in s0 fewer)) s0 s1 lo) where
+    pub has_hi : Has s1 one.hi
+    has_hi = still_has s0 s1 sound gave_lo.went one.hi is.has_hi
+
+    pub still_fewer : Has s1 fewer
+    still_fewer = still_has s0 s1 sound gave_lo.went fewer has_fewer
+
+    pub hi_lies_below : LiesBelow (family_in s1 one.hi) (family_in s1 fewer)
+    hi_lies_below =
+        of_start s0 s1 sound gave_lo.went LiesBelow one.hi fewer is.has_hi has_fewer
+        (below-hi one.level (family_in s0 voter) (family_in s0 one.lo) (family_in s0 one.hi) (family_in s0 fewer) is.cut
+        below.fewer_above)
+
+    module _ (s2 : Held) (hi : ℕ) (gave_hi : Gave (IsLeastProduct (family_in s1 one.hi) (family_in s1 fewer)) s1 s2
+        hi) where
+      went_parts : Went s0 s2
+      went_parts = Went-then s0 s1 s2 gave_lo.went gave_hi.went
+
+      lo_is : IsJoined (family_in s0 one.lo) (family_in s0 same) (family_in s0 fewer) (family_in s2 lo)
+      lo_is =
+          subst (IsJoined (family_in s0 one.lo) (family_in s0 same) (family_in s0 fewer))
+          (sym (still s1 s2 gave_lo.went.sound gave_hi.went lo gave_lo.has)) gave_lo.is
+
+      hi_is : IsLeastProduct (family_in s0 one.hi) (family_in s0 fewer) (family_in s2 hi)
+      hi_is =
+          at_start s0 s1 sound gave_lo.went (λ f g. IsLeastProduct f g (family_in s2 hi)) one.hi fewer is.has_hi
+          has_fewer gave_hi.is
+
+      pub lo_above : IsAbove one.level (family_in s2 lo)
+      lo_above =
+          joined_above one.level (family_in s0 voter) (family_in s0 one.lo) (family_in s0 one.hi) (family_in s0 same)
+          (family_in s0 fewer) is.cut below (family_in s2 lo) (family_in s2 hi) (sound.antichains voter has_voter)
+          (below.same_above one.level has_level) (below.fewer_above one.level has_level) lo_is hi_is
+
+      pub hi_above : IsAbove one.level (family_in s2 hi)
+      hi_above =
+          product_above one.level (family_in s0 voter) (family_in s0 one.lo) (family_in s0 one.hi) (family_in s0 same)
+          (family_in s0 fewer) is.cut below (family_in s2 lo) (family_in s2 hi) (sound.antichains voter has_voter)
+          (below.same_above one.level has_level) (below.fewer_above one.level has_level) lo_is hi_is
+
+      joined : IsJoined (family_in s0 voter) (family_in s0 same) (family_in s0 fewer)
+          (branch one.level (family_in s2 lo) (family_in s2 hi))
+      joined =
+          joined_by_parts one.level (family_in s0 voter) (family_in s0 one.lo) (family_in s0 one.hi)
+          (family_in s0 same) (family_in s0 fewer) is.cut below (family_in s2 lo) (family_in s2 hi)
+          (sound.antichains voter has_voter) (below.same_above one.level has_level)
+          (below.fewer_above one.level has_level) lo_is hi_is
+
+      pub joined_antichain : IsAntichain (branch one.level (family_in s2 lo) (family_in s2 hi))
+      joined_antichain = joined.antichain
+
+      pub joined_below : {E : Type 0} (s3 : Held) (result : Result ℕ E)
+          → MatchResult result (Gave (λ f. f ≡ branch one.level (family_in s2 lo) (family_in s2 hi)) s2 s3)
+          (λ _. RanOut s2 s3)
+          → MatchResult result (Gave (IsJoined (family_in s0 voter) (family_in s0 same) (family_in s0 fewer)) s0 s3)
+          (λ _. RanOut s0 s3)
+      joined_below s3 result m =
+          ended s0 s2 s3 went_parts (λ f. f ≡ branch one.level (family_in s2 lo) (family_in s2 hi))
+          (IsJoined (family_in s0 voter) (family_in s0 same) (family_in s0 fewer)) result
+          (λ f same_family. subst (IsJoined (family_in s0 voter) (family_in s0 same) (family_in s0 fewer))
+          (sym same_family) joined) m

@@ -1,7 +1,9 @@
 pub mod Lists
 pub mod SplitSteps
 pub mod ManySteps
-pub mod UnitVotes
+pub mod ApartVotes
+pub mod JoinedBelow
+pub mod Floors
 pub mod JoinSteps
 pub mod VoteSteps
 pub mod Reordered

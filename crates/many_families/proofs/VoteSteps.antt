@@ -1,6 +1,6 @@
 -- The votes at one place, when one member more votes.
 use Rattle.std.proofs.Common.{◌≡◌, ℕ, suc, ◌+◌, ◌-◌, ◌==◌, ◌<◌, ◌≤◌, Bool, true, false, if◌then◌else◌, List, [], ◌∷◌}
-use Rattle.std.proofs.Common.{Option, Some, None, IfSome, MatchOption, All, drop, get_or, set, length, sym, ◌∙◌, ap}
+use Rattle.std.proofs.Common.{All, drop, get_or, set, length, sym, ◌∙◌, ap}
 use Rattle.std.proofs.Common.{subst, inl, inr, arith, length-drop, eq-eqb, refl}
 use Rattle.std.proofs.lemmas.Bool.{cases_eq, cases_lt, cond-true, cond-false, lt-leb, ne_eqb}
 use Rattle.std.proofs.lemmas.List.{drop_all, drop_more, get_or-set_same, get_or-set_other, get_or_past, length-set}
@@ -13,10 +13,10 @@ use Rattle.minimal_families.specs.Least.{IsLeastVotes}
 use Rattle.minimal_families.proofs.Many.{no_votes}
 use Rattle.family_memory.specs.Memory.{Held, Has, IsSound, Went, Gave, family_in, map_of}
 use Rattle.family_memory.proofs.After.{Gave-there, still, still_has}
-use Rattle.many_families.specs.Lists.{families, AreUnitsFrom, IsVote, IsVoter, IsVoting, HaveVoted}
+use Rattle.many_families.specs.Lists.{families, AreApartFrom, IsBetween, IsVote, IsVoter, IsVoting, HaveVoted}
 use Rattle.many_families.specs.Joins.{IsJoined, IsBelow}
 use Rattle.many_families.proofs.Lists.{many_families, still_all}
-use Rattle.many_families.proofs.UnitVotes.{unit_is_below, votes_joined}
+use Rattle.many_families.proofs.ApartVotes.{is_below, votes_joined}
 use Rattle.unit_sets.specs.UnitList.{some_within}
 
 -- ---- no votes, and more votes than members
@@ -61,26 +61,22 @@ module _ (before after : Held) (fs : List (List (List ℕ))) (sound : IsSound be
     is = subst (IsLeastVotes count (drop from fs)) (sym (still before after sound went r vote.has)) vote.is;
   }
 
-  pub voter_stays : (member : ℕ) (below : Option ℕ) (voter : ℕ) → IsVoter before fs member below voter
-      → IsVoter after fs member below voter
-  voter_stays member below voter is = record {
+  pub voter_stays : (member floor voter : ℕ) → IsVoter before fs member floor voter
+      → IsVoter after fs member floor voter
+  voter_stays member floor voter is = record {
     has = still_has before after sound went voter is.has;
     is = still before after sound went voter is.has ∙ is.is;
-    unit = unit_stays below is.unit;
-  } where
-    unit_stays : (below : Option ℕ) → IfSome below
-        (λ unit. (family_in before voter ≡ (unit ∷ []) ∷ []) × AreUnitsFrom (suc unit) (drop (member + 1) fs))
-        → IfSome below (λ unit. (family_in after voter ≡ (unit ∷ []) ∷ [])
-        × AreUnitsFrom (suc unit) (drop (member + 1) fs))
-    unit_stays None none = none
-    unit_stays (Some unit) (same, others) = (still before after sound went voter is.has ∙ same, others)
+    units =
+        λ some. subst (λ f. AreApartFrom floor (f ∷ drop (member + 1) fs))
+        (sym (still before after sound went voter is.has)) (is.units some);
+  }
 
 -- ---- one member more at one place
 
-module _ (s0 : Held) (fs : List (List (List ℕ))) (votes member place : ℕ) (members : List ℕ) (below : Option ℕ)
-    (voter : ℕ) (sound : IsSound s0)
-    (first : (member ≤ place) × (votes ≤ place + 1)) (end : (place < member + votes) × (place < length members))
-    (is_voter : IsVoter s0 fs member below voter) (voting : IsVoting s0 fs votes member place members)
+module _ (s0 : Held) (fs : List (List (List ℕ))) (votes member place : ℕ) (members : List ℕ) (floor voter : ℕ)
+    (sound : IsSound s0) (first : (member ≤ place) × (votes ≤ place + 1))
+    (end : (place < member + votes) × (place < length members))
+    (is_voter : IsVoter s0 fs member floor voter) (voting : IsVoting s0 fs votes member place members)
     (fewer : ℕ) (fewer_is : fewer ≡ (if place == member then 1 else get_or members place 0)) (same : ℕ)
     (same_is : same ≡ get_or members (place + 1) 0) where
   pub fewer_vote : IsVote s0 fs (member + 1) (place - member) fewer
@@ -129,15 +125,13 @@ module _ (s0 : Held) (fs : List (List (List ℕ))) (votes member place : ℕ) (m
             }
       ]
 
-  pub voter_below : IfSome below (λ unit. IsBelow unit (family_in s0 voter) (family_in s0 same) (family_in s0 fewer))
-  voter_below = each_below below is_voter.unit where
-    each_below : (below : Option ℕ) → IfSome below
-        (λ unit. (family_in s0 voter ≡ (unit ∷ []) ∷ []) × AreUnitsFrom (suc unit) (drop (member + 1) fs))
-        → IfSome below (λ unit. IsBelow unit (family_in s0 voter) (family_in s0 same) (family_in s0 fewer))
-    each_below None none = none
-    each_below (Some unit) (is, others) =
-        unit_is_below (suc unit) (place - member) (drop (member + 1) fs) others (family_in s0 fewer) fewer_vote.is unit
-        (family_in s0 voter) (family_in s0 same) (omega arith) is same_vote.is
+  pub voter_below : 1 ≤ floor → IsBelow (family_in s0 voter) (family_in s0 same) (family_in s0 fewer)
+  voter_below some = before_others (is_voter.units some) where
+    before_others : AreApartFrom floor (family_in s0 voter ∷ drop (member + 1) fs)
+        → IsBelow (family_in s0 voter) (family_in s0 same) (family_in s0 fewer)
+    before_others (next, between, others) =
+        is_below next (place - member) (drop (member + 1) fs) others (family_in s0 fewer) fewer_vote.is floor
+        (family_in s0 voter) (family_in s0 same) between same_vote.is
 
   module _ (s1 : Held) (made : ℕ) (gave : Gave (IsJoined (family_in s0 voter) (family_in s0 same) (family_in s0 fewer))
       s0 s1 made) where
@@ -189,29 +183,20 @@ module _ (s0 : Held) (fs : List (List (List ℕ))) (votes member place : ℕ) (m
 
 -- ---- a member begins, and has voted
 
-lower_units : (floor low : ℕ) (fs : List (List (List ℕ))) → low ≤ floor → AreUnitsFrom floor fs → AreUnitsFrom low fs
-lower_units floor low [] less are = tt
-lower_units floor low (f ∷ fs) less (unit, (high, is, others)) = (unit, (omega arith, is, others))
-
 module _ (held : Held) (fs : List (List (List ℕ))) (votes member floor : ℕ) (members : List ℕ)
     (inside : member < length members) (voted : HaveVoted held fs votes (member + 1) floor members)
-    (voter : ℕ) (voter_is : voter ≡ get_or members member 0) (below : Option ℕ)
-    (below_is : IfSome below (λ unit. (family_in held voter ≡ (unit ∷ []) ∷ []) × (unit < floor))) where
+    (voter : ℕ) (voter_is : voter ≡ get_or members member 0) (lower : ℕ)
+    (between : 1 ≤ lower → IsBetween lower floor (family_in held voter)) where
   pub has_voter : Has held voter
   has_voter = subst (Has held) (sym voter_is) (voted.has member 0 inside)
 
-  pub voter_begins : IsVoter held fs member below voter
+  pub voter_begins : IsVoter held fs member lower voter
   voter_begins = record {
     has = has_voter;
     is = ap (family_in held) voter_is ∙ voted.waiting member (omega arith);
-    unit = each_unit below below_is;
-  } where
-    each_unit : (below : Option ℕ) → IfSome below (λ unit. (family_in held voter ≡ (unit ∷ []) ∷ []) × (unit < floor))
-        → IfSome below (λ unit. (family_in held voter ≡ (unit ∷ []) ∷ [])
-        × AreUnitsFrom (suc unit) (drop (member + 1) fs))
-    each_unit None none = none
-    each_unit (Some unit) (is, low) =
-        (is, lower_units floor (suc unit) (drop (member + 1) fs) (omega arith) (voted.units (omega arith)))
+    units =
+        λ some. (floor, between some, voted.units (let h = (between some).order in omega (arith, h, some)));
+  }
 
   pub voting_begins : (place : ℕ) → ((at : ℕ) → member ≤ at → votes ≤ at + 1 → place ≤ at)
       → IsVoting held fs votes member place members
@@ -224,24 +209,19 @@ module _ (held : Held) (fs : List (List (List ℕ))) (votes member floor : ℕ) 
   }
 
 pub member_voted : (held : Held) (fs : List (List (List ℕ))) (votes member place lower : ℕ) (members : List ℕ)
-    (below : Option ℕ) (voter : ℕ) → member < length members → IsVoter held fs member below voter
+    (voter : ℕ) → member < length members → IsVoter held fs member lower voter
     → IsVoting held fs votes member place members → ((at : ℕ) → at < member + votes → at < length members → at < place)
-    → MatchOption below (lower ≡ 0) (λ unit. lower ≡ unit) → HaveVoted held fs votes member lower members
-member_voted held fs votes member place lower members below voter inside is_voter voting highest lower_is = record {
+    → HaveVoted held fs votes member lower members
+member_voted held fs votes member place lower members voter inside is_voter voting highest = record {
   count = voting.count;
   has = voting.has;
   waiting = voting.waiting;
   voted = λ at low enough most within. voting.after at (highest at most within) low enough most within;
   units =
-      λ some. subst (AreUnitsFrom lower) (sym (drop_more fs member []
-      (let n = voting.count in omega (arith, n, inside)))) (with_first below is_voter.unit lower_is some);
-} where
-  with_first : (below : Option ℕ) → IfSome below
-      (λ unit. (family_in held voter ≡ (unit ∷ []) ∷ []) × AreUnitsFrom (suc unit) (drop (member + 1) fs))
-      → MatchOption below (lower ≡ 0) (λ unit. lower ≡ unit)
-      → 1 ≤ lower → AreUnitsFrom lower (get_or fs member [] ∷ drop (member + 1) fs)
-  with_first None none is some = absurd (omega (arith, is, some))
-  with_first (Some unit) (same, others) is some = (unit, (omega (arith, is), sym is_voter.is ∙ same, others))
+      λ some. subst (AreApartFrom lower) (sym (drop_more fs member []
+      (let n = voting.count in omega (arith, n, inside))))
+      (subst (λ f. AreApartFrom lower (f ∷ drop (member + 1) fs)) is_voter.is (is_voter.units some));
+}
 
 -- ---- before the last member, and after the first
 
@@ -254,7 +234,7 @@ none_voted held fs votes members has is =
       has = has;
       waiting = λ place low. sym (ap (λ l. get_or l place []) is ∙ get_or-map (family_in held) members place 0 [] low);
       voted = λ place from enough most inside. absurd (omega (arith, from, inside));
-      units = λ some. subst (AreUnitsFrom 4096) (sym (drop_all (length members) fs (omega (arith, count)))) tt;
+      units = λ some. subst (AreApartFrom 4096) (sym (drop_all (length members) fs (omega (arith, count)))) tt;
     }
 
 pub all_voted : (held : Held) (fs : List (List (List ℕ))) (votes member floor r : ℕ) (members : List ℕ) → member ≡ 0

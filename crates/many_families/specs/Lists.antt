@@ -1,7 +1,8 @@
 -- The families of a list of references, and votes over its last members.
-use Rattle.std.specs.Prelude.{◌≡◌, ℕ, suc, ◌+◌, ◌-◌, ◌<◌, ◌≤◌, List, [], ◌∷◌, Option, All, IfSome, drop, get_or, length}
+use Rattle.std.specs.Prelude.{◌≡◌, ℕ, suc, ◌+◌, ◌-◌, ◌<◌, ◌≤◌, List, [], ◌∷◌, All, Contains, drop, get_or, length}
 use Rattle.std.specs.Prelude.{map, slice_index}
 use Rattle.minimal_families.specs.Least.{IsLeastVotes}
+use Rattle.minimal_families.specs.Units.{HasUnit}
 use Rattle.family_memory.specs.Memory.{Held, Has, family_in}
 
 -- the families of a list of references
@@ -13,14 +14,22 @@ pub record IsVote (held : Held) (fs : List (List (List ℕ))) (from count r : �
   pub has : Has held r
   pub is : IsLeastVotes count (drop from fs) (family_in held r)
 
--- each family has one set with one unit, the first unit is no lower than the floor, and each is above the one before
-abbrev pub AreUnitsFrom : ℕ → List (List (List ℕ)) → Type 0
-AreUnitsFrom floor [] = Unit {0}
-AreUnitsFrom floor (f ∷ fs) = (unit : ℕ) × ((floor ≤ unit) × (f ≡ (unit ∷ []) ∷ []) × AreUnitsFrom (suc unit) fs)
+-- the family's units are no lower than the one number and below the other, and the empty set is none of its sets
+pub record IsBetween (floor next : ℕ) (f : List (List ℕ)) : Type 0 where
+  pub order : floor ≤ next
+  pub low : (unit : ℕ) → HasUnit f unit → floor ≤ unit
+  pub high : (unit : ℕ) → HasUnit f unit → unit < next
+  pub lacks : Contains f [] → ⊥
+
+-- no family has the empty set, no unit is lower than the floor, and all units of a family are below those of the
+-- later ones
+abbrev pub AreApartFrom : ℕ → List (List (List ℕ)) → Type 0
+AreApartFrom floor [] = Unit {0}
+AreApartFrom floor (f ∷ fs) = (next : ℕ) × IsBetween floor next f × AreApartFrom next fs
 
 -- The members from one on have voted: each place from that of the first on has one vote more than the place before,
 -- where that many votes matter. The members before have their families. Where the floor is not 0, those that have
--- voted are single units from the floor on.
+-- voted share no unit, and none of their units is below it.
 pub record HaveVoted (held : Held) (fs : List (List (List ℕ))) (votes member floor : ℕ)
     (members : List ℕ) : Type 0 where
   pub count : length members ≡ length fs
@@ -28,14 +37,13 @@ pub record HaveVoted (held : Held) (fs : List (List (List ℕ))) (votes member f
   pub waiting : (place : ℕ) → place < member → family_in held (slice_index members place) ≡ get_or fs place []
   pub voted : (place : ℕ) → member ≤ place → votes ≤ place + 1 → place < member + votes → place < length members
       → IsVote held fs member (suc (place - member)) (slice_index members place)
-  pub units : 1 ≤ floor → AreUnitsFrom floor (drop member fs)
+  pub units : 1 ≤ floor → AreApartFrom floor (drop member fs)
 
--- a member that is to vote, which may be a single unit below all those that have voted
-pub record IsVoter (held : Held) (fs : List (List (List ℕ))) (member : ℕ) (below : Option ℕ) (voter : ℕ) : Type 0 where
+-- a member that is to vote; where the floor with it is not 0, it lies below all those that have voted
+pub record IsVoter (held : Held) (fs : List (List (List ℕ))) (member floor voter : ℕ) : Type 0 where
   pub has : Has held voter
   pub is : family_in held voter ≡ get_or fs member []
-  pub unit : IfSome below (λ unit. (family_in held voter ≡ (unit ∷ []) ∷ [])
-      × AreUnitsFrom (suc unit) (drop (member + 1) fs))
+  pub units : 1 ≤ floor → AreApartFrom floor (family_in held voter ∷ drop (member + 1) fs)
 
 -- before a place the member has voted, and from it on not yet
 pub record IsVoting (held : Held) (fs : List (List (List ℕ))) (votes member place : ℕ) (members : List ℕ) : Type 0 where

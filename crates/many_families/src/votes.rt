@@ -1,17 +1,17 @@
 //! Votes over a list of families.
-ghost use Rattle.std.specs.Prelude.{◌≡◌, ◌+◌, ◌<◌, ◌≤◌, ℕ, ◌==◌, [], ◌∷◌, List, if◌then◌else◌, All, IfErr, IfOk};
-ghost use Rattle.std.specs.Prelude.{IfSome, MatchOption, MatchResult, length, slice_index};
+ghost use Rattle.std.specs.Prelude.{◌≡◌, ◌+◌, ◌<◌, ◌≤◌, ℕ, true, ◌==◌, List, if◌then◌else◌, All, IfErr, IfOk};
+ghost use Rattle.std.specs.Prelude.{MatchResult, length, slice_index};
 ghost use Rattle.zdd_families.specs.Family.{IsAbove, branch};
 ghost use Rattle.family_parts.specs.Antichains.{IsAntichain};
 ghost use Rattle.minimal_families.specs.Least.{IsLeastVotes};
 ghost use Rattle.family_memory.specs.Memory.{Gave, Has, RanOut, Went, family_in};
-ghost use Rattle.many_families.specs.Lists.{IsVoter, IsVoting, HaveVoted, families};
+ghost use Rattle.many_families.specs.Lists.{IsBetween, IsVoter, IsVoting, HaveVoted, families};
 ghost use Rattle.many_families.specs.Joins.{IsBelow, IsJoined};
 
 use crate::order::put_in_order;
 use crate::splitting::multiply_split;
 use family_memory::{FamilyMemory, Spent};
-use minimal_operations::union;
+use minimal_operations::{product_below, union};
 use unit_sets::UnitNo;
 use zdd_words::NodeRef;
 
@@ -67,7 +67,7 @@ fn vote_in_order(
     Ok(members[votes - 1])
 }
 
-// One member more votes. Those that have voted are units from the floor on, or the floor is 0.
+// One member more votes. Those that have voted share no unit and have none below the floor, or the floor is 0.
 fn vote(
     memory: &mut FamilyMemory,
     votes: usize,
@@ -84,40 +84,26 @@ fn vote(
 {
     memory.is_sound();
     let voter = members[member];
-    let below = unit_below(memory, voter, floor);
+    let lower = floor_with(memory, voter, floor);
     // Fewer votes than the members before this one can make up for are not needed, nor are more than are asked for.
     let first = member.max(votes - 1);
     let end = members.len().min(member.saturating_add(votes));
     for place in first..end {
-        vote_at(memory, votes, &below, voter, member, place, members)?;
+        vote_at(memory, votes, lower, voter, member, place, members)?;
     }
-    Ok(floor_with(&below))
+    Ok(lower)
 }
 
-// The floor where a unit below all others has voted, or another member.
-fn floor_with(below: &Option<UnitNo>) -> u16
-    ensures { MatchOption below.now (result ≡ 0) (λ unit. result ≡ unit) }
-{
-    match below {
-        Some(unit) => unit.number(),
-        None => 0,
-    }
-}
-
-// The unit of a family of one set with one unit, where that is below the floor.
-fn unit_below(memory: &FamilyMemory, r: NodeRef, floor: u16) -> Option<UnitNo>
+// The floor once a family has voted whose units are all below the floor, or 0 where they are not.
+fn floor_with(memory: &FamilyMemory, r: NodeRef, floor: u16) -> u16
     requires { Has memory.now r }
-    ensures { IfSome result (λ unit. (family_in memory.now r ≡ (unit ∷ []) ∷ []) × (unit < floor)) }
+    ensures { 1 ≤ result → IsBetween result floor (family_in memory.now r) }
 {
     memory.is_sound();
-    if r.number() < 2 {
-        return None;
-    }
-    let parts = memory.parts(r);
-    if parts.lo == NodeRef::EMPTY && parts.hi == NodeRef::UNIT && parts.level.number() < floor {
-        Some(parts.level)
+    if r != NodeRef::UNIT && memory.last(r) < floor {
+        memory.level(r).min(floor)
     } else {
-        None
+        0
     }
 }
 
@@ -125,7 +111,7 @@ fn unit_below(memory: &FamilyMemory, r: NodeRef, floor: u16) -> Option<UnitNo>
 fn vote_at(
     memory: &mut FamilyMemory,
     votes: usize,
-    below: &Option<UnitNo>,
+    lower: u16,
     voter: NodeRef,
     member: usize,
     place: usize,
@@ -134,7 +120,7 @@ fn vote_at(
     ghost fs: { List (List (List ℕ)) }
     requires first { (member ≤ place) × (votes ≤ place + 1) }
     requires end { (place < member + votes) × (place < length members.old) }
-    requires voter { IsVoter memory.old fs member below.now voter }
+    requires voter { IsVoter memory.old fs member lower voter }
     requires voting { IsVoting memory.old fs votes member place members.old }
     ensures { MatchResult result (λ _. Went memory.old memory.new
         × IsVoting memory.new fs votes member (place + 1) members.new) (λ _. RanOut memory.old memory.new) }
@@ -142,7 +128,7 @@ fn vote_at(
     memory.is_sound();
     let fewer = fewer_votes(members, member, place);
     let same = same_votes(members, place);
-    let made = join(memory, below, voter, same, fewer)?;
+    let made = join(memory, lower > 0, voter, same, fewer)?;
     members[place] = made;
     Ok(())
 }
@@ -171,10 +157,10 @@ fn same_votes(members: &[NodeRef], place: usize) -> NodeRef
     }
 }
 
-// The votes without a member, and those one fewer with one of its sets.
+// The votes without a member, and those one fewer with one of its sets. It may be told to lie below all others.
 fn join(
     memory: &mut FamilyMemory,
-    below: &Option<UnitNo>,
+    below: bool,
     voter: NodeRef,
     same: NodeRef,
     fewer: NodeRef,
@@ -182,34 +168,41 @@ fn join(
     requires voter { Has memory.old voter }
     requires same { Has memory.old same }
     requires fewer { Has memory.old fewer }
-    requires below { IfSome below.now (λ unit. IsBelow unit (family_in memory.old voter) (family_in memory.old same)
-        (family_in memory.old fewer)) }
-    ensures { MatchResult result (Gave (IsJoined (family_in memory.old voter) (family_in memory.old same)
-        (family_in memory.old fewer)) memory.old memory.new) (λ _. RanOut memory.old memory.new) }
-{
-    match below {
-        Some(unit) => join_unit(memory, *unit, voter, same, fewer),
-        None => join_any(memory, voter, same, fewer),
-    }
-}
-
-// The same of a unit below all others: the sets with it include none of those without it, so that one node does.
-fn join_unit(
-    memory: &mut FamilyMemory,
-    unit: UnitNo,
-    voter: NodeRef,
-    same: NodeRef,
-    fewer: NodeRef,
-) -> Result<NodeRef, Spent>
-    requires same { Has memory.old same }
-    requires fewer { Has memory.old fewer }
-    requires below { IsBelow unit (family_in memory.old voter) (family_in memory.old same)
+    requires below { below ≡ true → IsBelow (family_in memory.old voter) (family_in memory.old same)
         (family_in memory.old fewer) }
     ensures { MatchResult result (Gave (IsJoined (family_in memory.old voter) (family_in memory.old same)
         (family_in memory.old fewer)) memory.old memory.new) (λ _. RanOut memory.old memory.new) }
 {
+    if below {
+        join_below(memory, voter, same, fewer)
+    } else {
+        join_any(memory, voter, same, fewer)
+    }
+}
+
+// The same of a member below all others: the votes without it take the place of no sets at the end of its diagram's
+// lo sides, and those one fewer that of the empty set. No set includes another, so that each node is made at once.
+fn join_below(
+    memory: &mut FamilyMemory,
+    voter: NodeRef,
+    same: NodeRef,
+    fewer: NodeRef,
+) -> Result<NodeRef, Spent>
+    requires voter { Has memory.old voter }
+    requires same { Has memory.old same }
+    requires fewer { Has memory.old fewer }
+    requires below { IsBelow (family_in memory.old voter) (family_in memory.old same) (family_in memory.old fewer) }
+    ensures { MatchResult result (Gave (IsJoined (family_in memory.old voter) (family_in memory.old same)
+        (family_in memory.old fewer)) memory.old memory.new) (λ _. RanOut memory.old memory.new) }
+{
     memory.is_sound();
-    make(memory, unit, same, fewer)
+    if voter.number() < 2 {
+        return Ok(same);
+    }
+    let one = memory.parts(voter);
+    let lo = join_below(memory, one.lo, same, fewer)?;
+    let hi = product_below(memory, one.hi, fewer)?;
+    make(memory, one.level, lo, hi)
 }
 
 // The node of a level below all units of lo and hi, or lo where hi has no sets.

@@ -1,11 +1,11 @@
-//! Many single units, and a room that is too small for their votes.
+//! Many single units and pairs of units, and a room that is too small for their votes.
 ghost use Rattle.std.specs.Prelude.{◌≤◌, All, IfOk, length};
 ghost use Rattle.family_memory.specs.Memory.{Has, Went};
 
 use crate::families::{family_of, memory_of, unit, word_of};
 use family_memory::FamilyMemory;
 use many_families::{product_in_order, union_in_order, votes_of_all};
-use minimal_operations::single;
+use minimal_operations::{single, union};
 use std::alloc::Global;
 use std::test::Fail;
 use zdd_words::NodeRef;
@@ -97,6 +97,46 @@ fn votes_over_many_units_make_no_other_nodes(rt: HostRuntime) -> Result<(), Fail
         let wanted = units + votes * (units + 1 - votes) - 1;
         assert_eq!(rt; nodes_of_votes(rt.alloc(), votes, count)?, wanted);
     }
+    Ok(())
+}
+
+// The family of two sets of one unit each.
+fn either(memory: &mut FamilyMemory, first: u16, second: u16) -> Result<NodeRef, Fail>
+    ensures { IfOk result (λ r. Has memory.new r × Went memory.old memory.new) }
+{
+    memory.is_sound();
+    let one = single(memory, unit(first)?)?;
+    let other = single(memory, unit(second)?)?;
+    Ok(union(memory, one, other)?)
+}
+
+// So many of these families, of which no two share a unit, in an order that mixes them.
+fn pairs(alloc: Global, memory: &mut FamilyMemory, count: u16) -> Result<Vec<NodeRef>, Fail>
+    ensures { IfOk result (λ list. All (Has memory.new) list.items × Went memory.old memory.new) }
+{
+    memory.is_sound();
+    let mut list = Vec::new(alloc);
+    for place in 0..count {
+        let second = mixed(place + 1, count).saturating_mul(2);
+        let one = either(memory, second.saturating_sub(1), second)?;
+        list.push(one)?;
+    }
+    Ok(list)
+}
+
+// The steps by the one part and by the other of so many votes over pairs of units.
+fn steps_of_votes(alloc: Global, votes: usize, count: u16) -> Result<(usize, usize), Fail> {
+    let mut memory = memory_of(alloc, 65_536, 4_096)?;
+    let list = pairs(alloc, &mut memory, count)?;
+    let mut table = vec![in alloc; NodeRef::EMPTY; list.len()]?;
+    let made = votes_of_all(&mut memory, votes, list.as_slice(), table.as_mut_slice())?;
+    Ok((steps(&memory, made, false), steps(&memory, made, true)))
+}
+
+#[test]
+fn half_of_a_hundred_pairs_of_units(rt: HostRuntime) -> Result<(), Fail> {
+    // Where none of the first 51 pairs has a unit, there are too few; 50 units are enough.
+    assert_eq!(rt; steps_of_votes(rt.alloc(), 50, 100)?, (102, 50));
     Ok(())
 }
 

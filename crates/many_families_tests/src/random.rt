@@ -107,7 +107,8 @@ fn drawn_words(seed: u64, round: u64) -> [u32; 5] {
     words
 }
 
-fn compare(
+/// Compares each call with what lists say of five words.
+pub(crate) fn compare(
     rt: &impl Abort,
     memory: &mut FamilyMemory,
     words: &[u32; 5],

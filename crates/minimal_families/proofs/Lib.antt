@@ -5,3 +5,5 @@ pub mod CutAtUnit
 pub mod LeastLemmas
 pub mod NodesLemmas
 pub mod StepsLemmas
+pub mod UnitsLemmas
+pub mod Apart

@@ -1,3 +1,4 @@
 pub mod Least
 pub mod Nodes
 pub mod Steps
+pub mod Units

@@ -10,6 +10,7 @@ ghost use Rattle.family_operations.specs.Without.{IsWithout};
 ghost use Rattle.family_parts.specs.Antichains.{IsAntichain};
 ghost use Rattle.minimal_families.specs.Least.{IsLeastFor, IsLeastOfAll, IsLeastProduct, IsLeastProductOfAll};
 ghost use Rattle.minimal_families.specs.Least.{IsLeastUnion, IsLeastVotes};
+ghost use Rattle.minimal_families.specs.Units.{LiesBelow, ShareNoUnit};
 ghost use Rattle.zdd_families.specs.Family.{IsAbove, IsFamily, branch};
 
 /// Two families in which no set includes another are equal where the same sets of units include a set of each.
@@ -46,13 +47,22 @@ pub fn minimal_unions_by_parts()
 {}
 
 /// The same of products. At one unit the sets with it come from all sets of both families, the unit taken out;
-/// else they are rid of the first family's sets without the unit alone.
+/// else they are rid of the first family's sets without the unit alone, and of none where the first family lies below
+/// the other.
 pub fn minimal_products_by_parts()
     ensures both { (x : ℕ) (f f0 f1 g g0 g1 lo all hi c d : List (List ℕ)) → Cuts x f f0 f1 → Cuts x g g0 g1
         → IsWithout all lo hi → IsLeastProduct f0 g0 lo → IsLeastUnion f0 f1 c → IsLeastUnion g0 g1 d
         → IsLeastProduct c d all → IsLeastProduct f g (branch x lo hi) }
     ensures first { (x : ℕ) (f f0 f1 g lo all hi : List (List ℕ)) → Cuts x f f0 f1 → IsAbove x g
         → IsLeastProduct f0 g lo → IsLeastProduct f1 g all → IsWithout all f0 hi → IsLeastProduct f g (branch x lo hi) }
+    ensures below { (x : ℕ) (f f0 f1 g lo hi : List (List ℕ)) → Cuts x f f0 f1 → IsAntichain f → LiesBelow f g
+        → IsAbove x g → IsLeastProduct f0 g lo → IsLeastProduct f1 g hi → IsLeastProduct f g (branch x lo hi) }
+{}
+
+/// In the product of two minimal families that share no unit no set includes another.
+pub fn products_of_families_that_share_no_unit()
+    ensures { (f g h : List (List ℕ)) → IsAntichain f → IsAntichain g → ShareNoUnit f g → IsProduct f g h
+        → IsAntichain h }
 {}
 
 /// A product by splitting: the sets of either family that include one of the other are in it, beside the product

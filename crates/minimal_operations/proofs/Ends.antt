@@ -16,7 +16,7 @@ use Rattle.family_memory.proofs.After.{is_family}
 use Rattle.minimal_operations.specs.Ends.{IsWithoutEnd, IsUnionEnd, IsProductEnd}
 
 -- a node's family lacks the empty set
-node_lacks : (held : Held) (r : ℕ) → IsSound held → Has held r → 2 ≤ r → Contains (family_in held r) [] → ⊥
+pub node_lacks : (held : Held) (r : ℕ) → IsSound held → Has held r → 2 ≤ r → Contains (family_in held r) [] → ⊥
 node_lacks held r sound has inner =
     let word : map_of held r ≢ 0 = sound.filled r inner has in
     let node : IsNode (map_of held) (map_of held r) = (sound.closed r word).1 in

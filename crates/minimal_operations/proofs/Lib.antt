@@ -9,3 +9,4 @@ pub mod Telling
 pub mod WithoutSteps
 pub mod UnionSteps
 pub mod ProductSteps
+pub mod BelowSteps

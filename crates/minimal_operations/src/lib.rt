@@ -9,10 +9,12 @@
 mod halves;
 mod nodes;
 mod products;
+mod products_below;
 mod unions;
 mod withouts;
 
 pub use nodes::single;
 pub use products::product;
+pub use products_below::product_below;
 pub use unions::union;
 pub use withouts::without;

@@ -24,8 +24,8 @@ pub fn product(memory: &mut FamilyMemory, a: NodeRef, b: NodeRef) -> Result<Node
     multiply(memory, a, b)
 }
 
-// The product where it is known at once.
-fn product_end(a: NodeRef, b: NodeRef) -> Option<NodeRef>
+/// The product where it is known at once.
+pub(crate) fn product_end(a: NodeRef, b: NodeRef) -> Option<NodeRef>
     ensures { MatchOption result (GoesOn a b) (λ r. IsProductEnd a b r) }
 {
     if a == NodeRef::EMPTY || b == NodeRef::EMPTY {

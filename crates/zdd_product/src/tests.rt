@@ -3,6 +3,7 @@ ghost use Rattle.std.specs.Prelude.{◌≡◌, [], ◌∷◌, IfOk, OnOk};
 ghost use Rattle.zdd_families.specs.Map.{Knows, KnowsAs, Grown};
 ghost use Rattle.zdd_shared_table.specs.Seats.{map_of};
 
+mod answers;
 mod deep;
 mod tables;
 

@@ -1,7 +1,7 @@
 use Rattle.std.proofs.Common.{◌≡◌, get_or, arith}
 use Rattle.std.proofs.lemmas.List.{get_or_read}
 use Rattle.family_memory.proofs.After.{Went-nowhere, Went-then}
-use Rattle.many_families.proofs.VoteSteps.{voter_begins, voter_stays, voting_begins}
+use Rattle.many_families.proofs.VoteSteps.{member_voted, voter_begins, voter_stays, voting_begins}
 use Rattle.many_families.proofs.votes.vote.Goals as goal
 
 pub loop-place-init : goal.loop-place-init
@@ -18,10 +18,10 @@ loop-place-init g c =
       inside = inside;
       voter =
           voter_begins held g.fs c.args.votes c.args.member c.args.floor members inside voted voter voter_is
-          c.unit_below-below.result c.unit_below-below.ensures;
+          c.floor_with-lower.result c.floor_with-lower.ensures;
       voting =
           voting_begins held g.fs c.args.votes c.args.member c.args.floor members inside voted voter voter_is
-          c.unit_below-below.result c.unit_below-below.ensures c.max-first.result
+          c.floor_with-lower.result c.floor_with-lower.ensures c.max-first.result
           (λ at low enough. let e = c.max-first.ensures in omega (arith, e, low, enough));
     }
 
@@ -36,6 +36,18 @@ loop-place-preserved g c =
           omega (arith, h, before, after);
       voter =
           voter_stays c.loop-place.memory c.vote_at.new.memory g.fs inv.went.sound done.0 c.args.member
-          c.unit_below-below.result c.index-members-member.result inv.voter;
+          c.floor_with-lower.result c.index-members-member.result inv.voter;
       voting = done.1;
     }
+
+pub returns : goal.returns
+returns g c =
+    let inv = c.loop-place.invariant in (
+      inv.went,
+      member_voted c.loop-place.memory g.fs c.args.votes c.args.member c.loop-place.place c.floor_with-lower.result
+          c.loop-place.members c.index-members-member.result inv.inside inv.voter inv.voting
+          (λ at most within.
+          let end = c.min-end.ensures in let sum = c.saturating_add.ensures in let past = c.loop-place-test.false in
+          let count = inv.voting.count in let before = c.requires.1.1.count in
+          omega (arith, end, sum, past, count, before, most, within)),
+    )

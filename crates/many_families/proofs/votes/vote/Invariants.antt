@@ -10,6 +10,6 @@ abbrev pub invariant-loop-place : goal.invariant-loop-place
 invariant-loop-place g l = record {
   went : Went l.initial.memory l.memory;
   inside : l.member < length l.members;
-  voter : IsVoter l.memory g.fs l.member l.below l.voter;
+  voter : IsVoter l.memory g.fs l.member l.lower l.voter;
   voting : IsVoting l.memory g.fs l.votes l.member l.place l.members;
 }

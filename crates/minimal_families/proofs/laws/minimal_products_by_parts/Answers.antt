@@ -1,5 +1,6 @@
 use Rattle.minimal_families.proofs.StepsLemmas.{least_product-both, least_product-first, least_product-rest}
 use Rattle.minimal_families.proofs.StepsLemmas.{least_sides}
+use Rattle.minimal_families.proofs.Apart.{least_product-below}
 use Rattle.minimal_families.proofs.laws.minimal_products_by_parts.Goals as goal
 
 pub returns-clause-both : goal.returns-clause-both
@@ -10,3 +11,6 @@ pub returns-clause-first : goal.returns-clause-first
 returns-clause-first c = λ x f f0 f1 g lo all hi cut above is is' left.
     least_product-first x f f0 f1 g lo cut hi above all is is'
     (least_product-rest x f f0 f1 g lo cut all is is' hi left)
+
+pub returns-clause-below : goal.returns-clause-below
+returns-clause-below c = λ x f f0 f1 g lo hi cut is below. least_product-below x f f0 f1 g cut is below lo hi

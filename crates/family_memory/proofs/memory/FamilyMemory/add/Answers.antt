@@ -1,5 +1,8 @@
-use Rattle.std.proofs.Common.{◌<◌, ◌+◌, length, vec_capacity, refl, arith}
-use Rattle.family_memory.specs.Memory.{Held}
+use Rattle.std.proofs.Common.{◌<◌, ◌+◌, length, vec_capacity, refl, sym, subst, arith}
+use Rattle.minimal_families.specs.Units.{IsLastUnit}
+use Rattle.family_memory.specs.Kept.{AreLast}
+use Rattle.family_memory.specs.Memory.{Held, word_family}
+use Rattle.family_memory.proofs.LastUnits.{last_added}
 use Rattle.family_memory.proofs.Adding.{added_to, kept_added}
 use Rattle.family_memory.proofs.memory.FamilyMemory.add.Goals as goal
 
@@ -13,8 +16,15 @@ invariant_of-self c =
     kept_added inside c.args.self.now c.args.word c.self.view_is c.self.invariant.sound c.requires.node
     c.requires.antichain room
     after (vec_capacity c.self.inside.words) (vec_capacity c.push.new.self) c.self.inside.answers.entries.items
-    c.follow-2.new.self.entries.items
+    c.follow-2.new.self.entries.items c.self.inside.lasts.items c.push-2.new.self.items
+    (vec_capacity c.self.inside.lasts) (vec_capacity c.push-2.new.self)
     c.in-Ok.ensures.items refl c.self.invariant c.push.ensures.capacity c.follow-2.ensures
+    (λ is. subst (AreLast after) (sym c.in-Ok-push.ensures.items)
+    (last_added inside after c.args.word (length inside.words) c.last_of-last.result c.self.inside.lasts.items
+    c.self.invariant.sound is refl c.self.invariant.units
+    (subst (λ (h : Held). IsLastUnit (word_family h c.args.word) c.last_of-last.result) (sym c.self.view_is)
+    c.last_of-last.ensures)))
+    c.push-2.ensures.capacity
 
 pub returns : goal.returns
 returns c =

@@ -1,16 +1,24 @@
-use Rattle.std.proofs.Common.{◌∙◌, ap, vec_capacity, arith}
+use Rattle.std.proofs.Common.{◌≡◌, [], ◌∷◌, ◌∙◌, ap, vec_capacity, arith}
 use Rattle.family_memory.specs.Memory.{Held}
 use Rattle.family_memory.proofs.Empty.{kept_empty, first_two, no_nodes}
+use Rattle.family_memory.proofs.LastUnits.{first_two_lasts, last_empty}
 use Rattle.family_memory.proofs.memory.FamilyMemory.clear.Goals as goal
 
 pub invariant_of-self : goal.invariant_of-self
 invariant_of-self c =
     let inside : Held = record { words = c.self.inside.words.items; room = c.self.inside.room } in
     let after : Held = record { words = c.truncate.new.self.items; room = c.self.inside.room } in
-    kept_empty after (vec_capacity c.truncate.new.self) c.clear-2.new.self.entries.items
-    (c.truncate.ensures.items ∙ first_two inside c.self.invariant.sound) c.self.invariant.few
+    let words : c.truncate.new.self.items ≡ 0 ∷ 0 ∷ [] =
+    c.truncate.ensures.items ∙ first_two inside c.self.invariant.sound in
+    let lasts : c.truncate-2.new.self.items ≡ 0 ∷ 0 ∷ [] =
+    c.truncate-2.ensures.items
+    ∙ first_two_lasts inside c.self.inside.lasts.items c.self.invariant.sound c.self.invariant.units in
+    kept_empty after (vec_capacity c.truncate.new.self) c.clear-2.new.self.entries.items c.truncate-2.new.self.items
+    (vec_capacity c.truncate-2.new.self) words c.self.invariant.few
     (let h = c.self.invariant.taken in let k = c.truncate.ensures.capacity in omega arith)
     c.clear-2.ensures
+    (last_empty after c.truncate-2.new.self.items words lasts)
+    (let h = c.self.invariant.units_taken in let k = c.truncate-2.ensures.capacity in omega arith)
 
 pub returns : goal.returns
 returns c =

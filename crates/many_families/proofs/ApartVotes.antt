@@ -1,49 +1,53 @@
--- Votes over single units, each above the one before: a minimal set of so many votes has exactly that many, so that
--- none includes one with more.
+-- Votes over families that share no unit: a minimal set of so many votes has exactly that many, so that none includes
+-- one with more.
 use Rattle.std.proofs.Common.{◌≡◌, ℕ, suc, ◌+◌, ◌==◌, ◌<◌, ◌≤◌, Bool, true, false, not, ◌&&◌, ◌||◌, nat_le}
-use Rattle.std.proofs.Common.{if◌then◌else◌, List, [], ◌∷◌, Contains, refl, sym, ◌∙◌, ap, inl, inr, arith, eq-eqb}
-use Rattle.std.proofs.lemmas.Bool.{cases_eq, and_parts, and_from, false_from_ne_true, false≢true, leb-true, le-leb}
+use Rattle.std.proofs.Common.{if◌then◌else◌, List, [], ◌∷◌, Contains, refl, sym, ◌∙◌, ap, subst, inl, inr, arith}
+use Rattle.std.proofs.Common.{eq-eqb}
+use Rattle.std.specs.List.{list_all}
+use Rattle.std.proofs.lemmas.Bool.{cases_lt, and_parts, and_from, false_from_ne_true, false≢true, leb-true, le-leb}
 use Rattle.std.proofs.lemmas.Bool.{lt-ltb, ne_eqb, or_left, or_right, or_cases}
 use Rattle.unit_sets.specs.UnitList.{among, is_within, some_within}
 use Rattle.unit_sets.proofs.UnitListLemmas.{is_within-from_among}
-use Rattle.zdd_families.specs.Family.{IsAbove, branch}
+use Rattle.zdd_families.specs.Family.{IsAbove}
 use Rattle.family_operations.specs.Within.{count_within}
-use Rattle.family_operations.proofs.WithinLemmas.{HasWithin, HasWithin-from_test, passes_at}
+use Rattle.family_operations.proofs.WithinLemmas.{HasWithin, HasWithin-from_test, passes_at, passes_from}
+use Rattle.family_operations.proofs.WithinLemmas.{some_within-from_set}
 use Rattle.family_operations.specs.Inclusion.{includes_one}
 use Rattle.family_operations.proofs.InclusionLemmas.{same_Bool}
-use Rattle.family_parts.specs.Antichains.{IsAntichain}
 use Rattle.minimal_families.proofs.CutAtUnit.{above_only}
 use Rattle.minimal_families.specs.Least.{IsLeastVotes}
-use Rattle.minimal_families.proofs.LeastLemmas.{IsLeastFor-same, IsLeastFor-itself, least-above}
+use Rattle.minimal_families.proofs.LeastLemmas.{IsLeastFor-same, least-above}
 use Rattle.minimal_families.specs.Nodes.{IncludesNoneOf}
-use Rattle.minimal_families.proofs.NodesLemmas.{least-node, without-all}
-use Rattle.many_families.specs.Lists.{AreUnitsFrom}
+use Rattle.minimal_families.specs.Units.{HasUnit}
+use Rattle.many_families.specs.Lists.{AreApartFrom, IsBetween}
 use Rattle.many_families.specs.Joins.{IsJoined, IsBelow}
 
--- ---- of which sets of units a single unit is true
-
-one_unit : (b : Bool) → ((b && true) || false) ≡ b
-one_unit true = refl
-one_unit false = refl
-
-pub unit_hit : (unit : ℕ) (within : ℕ → Bool) → some_within ((unit ∷ []) ∷ []) within ≡ within unit
-unit_hit unit within = one_unit (within unit)
+-- ---- which units a family asks of
 
 abbrev votes_of : Bool → ℕ
 votes_of hit = if hit then 1 else 0
 
-family_hit : (f : List (List ℕ)) (unit : ℕ) (within : ℕ → Bool) → f ≡ (unit ∷ []) ∷ []
-    → votes_of (some_within f within) ≡ votes_of (within unit)
-family_hit f unit within is = ap (λ g. votes_of (some_within g within)) is ∙ ap votes_of (unit_hit unit within)
+hit_too : (f : List (List ℕ)) (p q : ℕ → Bool) → ((unit : ℕ) → HasUnit f unit → p unit ≡ q unit)
+    → some_within f p ≡ true → some_within f q ≡ true
+hit_too f p q same t =
+    let found : HasWithin f p = HasWithin-from_test f p t in
+    some_within-from_set f q found.set found.has (passes_from q found.set (λ unit h.
+    sym (same unit (found.set, found.has, h)) ∙ passes_at p found.set unit found.passes h))
 
--- units from a floor on ask of no other unit
-pub same_from : (floor : ℕ) (fs : List (List (List ℕ))) (p q : ℕ → Bool) → AreUnitsFrom floor fs
+same_hit : (f : List (List ℕ)) (p q : ℕ → Bool) → ((unit : ℕ) → HasUnit f unit → p unit ≡ q unit)
+    → some_within f p ≡ some_within f q
+same_hit f p q same =
+    same_Bool (some_within f p) (some_within f q) (hit_too f p q same)
+    (hit_too f q p (λ unit has. sym (same unit has)))
+
+-- families from a floor on ask of no other unit
+pub same_from : (floor : ℕ) (fs : List (List (List ℕ))) (p q : ℕ → Bool) → AreApartFrom floor fs
     → ((unit : ℕ) → floor ≤ unit → p unit ≡ q unit) → count_within fs p ≡ count_within fs q
 same_from floor [] p q are same = refl
-same_from floor (f ∷ fs) p q (unit, (high, is, others)) same =
-    ap (λ n. n + count_within fs p)
-    (family_hit f unit p is ∙ ap votes_of (same unit high) ∙ sym (family_hit f unit q is))
-    ∙ ap (λ n. votes_of (some_within f q) + n) (same_from (suc unit) fs p q others (λ v above. same v (omega arith)))
+same_from floor (f ∷ fs) p q (next, is, others) same =
+    ap (λ n. n + count_within fs p) (ap votes_of (same_hit f p q (λ unit has. same unit (is.low unit has))))
+    ∙ ap (λ n. votes_of (some_within f q) + n)
+    (same_from next fs p q others (λ unit high. same unit (let h = is.order in omega (arith, h, high))))
 
 -- ---- one unit fewer
 
@@ -67,36 +71,46 @@ at_most_one true = omega arith
 at_most_one false = omega arith
 
 -- without one unit at most one vote fewer is left
-pub one_fewer : (floor u : ℕ) (fs : List (List (List ℕ))) (within : ℕ → Bool) → AreUnitsFrom floor fs
+pub one_fewer : (floor u : ℕ) (fs : List (List (List ℕ))) (within : ℕ → Bool) → AreApartFrom floor fs
     → count_within fs within ≤ suc (count_within fs (except u within))
 one_fewer floor u [] within are = omega arith
-one_fewer floor u (f ∷ fs) within (unit, (high, is, others)) =
-    elim (cases_eq u unit) [
+one_fewer floor u (f ∷ fs) within (next, is, others) =
+    elim (cases_lt u next) [
       | inl here ↦
           let same : count_within fs within ≡ count_within fs (except u within) =
-          same_from (suc unit) fs within (except u within) others
-          (λ v above. except_other u v within (λ e. omega arith)) in
+          same_from next fs within (except u within) others
+          (λ v above. except_other u v within (λ e. omega (arith, e, above, here))) in
           let few : votes_of (some_within f within) ≤ 1 = at_most_one (some_within f within) in
           omega (arith, same, few)
-      | inr other ↦
+      | inr later ↦
           let same : votes_of (some_within f within) ≡ votes_of (some_within f (except u within)) =
-          family_hit f unit within is ∙ ap votes_of (except_other u unit within other)
-          ∙ sym (family_hit f unit (except u within) is) in
+          ap votes_of (same_hit f within (except u within) (λ v has.
+          except_other u v within (λ e. let h = is.high v has in omega (arith, e, h, later)))) in
           let less : count_within fs within ≤ suc (count_within fs (except u within)) =
-          one_fewer (suc unit) u fs within others in
+          one_fewer next u fs within others in
           omega (arith, same, less)
     ]
 
-none_hit : (floor : ℕ) (fs : List (List (List ℕ))) → AreUnitsFrom floor fs → count_within fs (among []) ≡ 0
+within_none : (set : List ℕ) → list_all (among []) set ≡ true → set ≡ []
+within_none [] passes = refl
+within_none (u ∷ set) passes = absurd (false≢true passes)
+
+no_hit : (f : List (List ℕ)) → (Contains f [] → ⊥) → some_within f (among []) ≡ false
+no_hit f lacks =
+    false_from_ne_true (some_within f (among [])) (λ t.
+    let found : HasWithin f (among []) = HasWithin-from_test f (among []) t in
+    lacks (subst (Contains f) (within_none found.set found.passes) found.has))
+
+none_hit : (floor : ℕ) (fs : List (List (List ℕ))) → AreApartFrom floor fs → count_within fs (among []) ≡ 0
 none_hit floor [] are = refl
-none_hit floor (f ∷ fs) (unit, (high, is, others)) =
-    let first : votes_of (some_within f (among [])) ≡ 0 = family_hit f unit (among []) is in
-    let rest : count_within fs (among []) ≡ 0 = none_hit (suc unit) fs others in
+none_hit floor (f ∷ fs) (next, is, others) =
+    let first : votes_of (some_within f (among [])) ≡ 0 = ap votes_of (no_hit f is.lacks) in
+    let rest : count_within fs (among []) ≡ 0 = none_hit next fs others in
     omega (arith, first, rest)
 
 -- ---- votes over them
 
-module _ (floor count : ℕ) (fs : List (List (List ℕ))) (are : AreUnitsFrom floor fs) where
+module _ (floor count : ℕ) (fs : List (List (List ℕ))) (are : AreApartFrom floor fs) where
   votes_above : (x wanted : ℕ) (least : List (List ℕ)) → x < floor → IsLeastVotes wanted fs least → IsAbove x least
   votes_above x wanted least low is =
       least-above (λ within. nat_le wanted (count_within fs within)) x least is
@@ -131,33 +145,14 @@ module _ (floor count : ℕ) (fs : List (List (List ℕ))) (are : AreUnitsFrom f
         let more = leb-true (suc count) (count_within fs (among set)) (sym (same_is.hit (among set)) ∙ t) in
         no_more set has (omega (arith, more)))
 
-    pub unit_is_below : (x : ℕ) (voter same : List (List ℕ)) → x < floor → voter ≡ (x ∷ []) ∷ []
-        → IsLeastVotes (suc count) fs same → IsBelow x voter same fewer
-    unit_is_below x voter same low is same_is = record {
-      is = is;
-      same_above = votes_above x (suc count) same low same_is;
-      fewer_above = votes_above x count fewer low fewer_is;
+    pub is_below : (low : ℕ) (voter same : List (List ℕ)) → IsBetween low floor voter
+        → IsLeastVotes (suc count) fs same → IsBelow voter same fewer
+    is_below low voter same between same_is = record {
+      same_above = λ unit has. votes_above unit (suc count) same (between.high unit has) same_is;
+      fewer_above = λ unit has. votes_above unit count fewer (between.high unit has) fewer_is;
       includes_none = votes_include_none same same_is;
+      lacks = between.lacks;
     }
-
--- ---- a node does for a single unit
-
-and_turned : (a b : Bool) → (a && b) ≡ (b && a)
-and_turned true true = refl
-and_turned true false = refl
-and_turned false true = refl
-and_turned false false = refl
-
-pub joined_by_node : (x : ℕ) (voter same fewer : List (List ℕ)) → IsAntichain same → IsAntichain fewer
-    → IsBelow x voter same fewer → IsJoined voter same fewer (branch x same fewer)
-joined_by_node x voter same fewer is is' below =
-    IsLeastFor-same (λ within. some_within same within || (within x && some_within fewer within)) _
-    (branch x same fewer)
-    (least-node x same fewer fewer (some_within same) (some_within fewer) below.same_above below.fewer_above
-    (IsLeastFor-itself same is) (IsLeastFor-itself fewer is')
-    (without-all same fewer is'.is_family below.includes_none))
-    (λ within. ap (λ b. some_within same within || b) (and_turned (within x) (some_within fewer within)
-    ∙ ap (λ b. some_within fewer within && b) (sym (ap (λ f. some_within f within) below.is ∙ unit_hit x within))))
 
 -- ---- one family more in front
 

@@ -1,0 +1,69 @@
+//! The product of a family and one above all its units, from which nothing need be taken out.
+ghost use Rattle.std.specs.Prelude.{◌≤◌, IfErr, IfOk, MatchResult};
+ghost use Rattle.minimal_families.specs.Least.{IsLeastProduct};
+ghost use Rattle.minimal_families.specs.Units.{LiesBelow};
+ghost use Rattle.family_memory.specs.Memory.{Gave, Has, RanOut, family_in};
+
+use crate::nodes::make;
+use crate::products::product_end;
+use family_memory::{Entry, FamilyMemory, Operation, Question, Spent};
+use zdd_words::NodeRef;
+
+/// The minimal sets of the product, where the first family lies below the second. In time it is linear in the first
+/// family's diagram, whose end the second takes.
+pub fn product_below(memory: &mut FamilyMemory, a: NodeRef, b: NodeRef) -> Result<NodeRef, Spent>
+    requires has_a { Has memory.old a }
+    requires has_b { Has memory.old b }
+    requires below { LiesBelow (family_in memory.old a) (family_in memory.old b) }
+    ensures gives { IfOk result (Gave (IsLeastProduct (family_in memory.old a) (family_in memory.old b)) memory.old
+        memory.new) }
+    ensures spent { IfErr result (λ _. RanOut memory.old memory.new) }
+{
+    multiply_below(memory, a, b)
+}
+
+// The same, of which an end makes nothing.
+#[cycle(multiply_below)]
+fn multiply_below(memory: &mut FamilyMemory, a: NodeRef, b: NodeRef) -> Result<NodeRef, Spent>
+    requires has_a { Has memory.old a }
+    requires has_b { Has memory.old b }
+    requires below { LiesBelow (family_in memory.old a) (family_in memory.old b) }
+    ensures { MatchResult result (Gave (IsLeastProduct (family_in memory.old a) (family_in memory.old b)) memory.old
+        memory.new) (λ _. RanOut memory.old memory.new) }
+{
+    memory.is_sound();
+    if let Some(end) = product_end(a, b) {
+        return Ok(end);
+    }
+    let question = Question {
+        operation: Operation::Product,
+        first: a,
+        second: b,
+    };
+    if let Some(answer) = memory.recall(&question) {
+        return Ok(answer);
+    }
+    let made = multiply_parts(memory, a, b)?;
+    memory.remember(Entry {
+        question,
+        answer: made,
+    });
+    Ok(made)
+}
+
+// The same of a node: no set with its level includes one without it, since none of the first family does.
+#[cycle(multiply_below)]
+fn multiply_parts(memory: &mut FamilyMemory, a: NodeRef, b: NodeRef) -> Result<NodeRef, Spent>
+    requires has_a { Has memory.old a }
+    requires has_b { Has memory.old b }
+    requires inner { 2 ≤ a }
+    requires below { LiesBelow (family_in memory.old a) (family_in memory.old b) }
+    ensures { MatchResult result (Gave (IsLeastProduct (family_in memory.old a) (family_in memory.old b)) memory.old
+        memory.new) (λ _. RanOut memory.old memory.new) }
+{
+    memory.is_sound();
+    let one = memory.parts(a);
+    let lo = multiply_below(memory, one.lo, b)?;
+    let hi = multiply_below(memory, one.hi, b)?;
+    make(memory, one.level, lo, hi)
+}
