@@ -1,5 +1,4 @@
 pub mod ListLemmas
 pub mod WritingLemmas
 pub mod ReadingLemmas
-pub mod FaultsLemmas
 pub mod OutLemmas

@@ -6,8 +6,8 @@ use Rattle.std.proofs.KnownBytes.{Appends-nil, Appends-trans}
 use Rattle.std.specs.Io.KnownBytes.{Appends}
 use Rattle.std.proofs.lemmas.Result.{IfOk-from_err, on_ok_weaker, on_err_weaker}
 use Rattle.edge_io.specs.Writing.{TakesFront}
-use Rattle.edge_io.specs.Faults.{Rose}
-use Rattle.edge_io.proofs.FaultsLemmas.{Rose-later}
+use Rattle.event_counts.specs.Count.{Rose}
+use Rattle.event_counts.proofs.CountLemmas.{Rose-later}
 use Rattle.edge_io.specs.Out.{Delivers, Output, Puts, has_failed, sink_of, waiting}
 
 -- nothing put

@@ -1,6 +1,7 @@
 -- A source in memory, call after call.
 use Rattle.std.specs.Prelude.{◌≡◌, ℕ, Option, min, List, length, take, drop, None, Some, if◌then◌else◌}
-use Rattle.edge_io.specs.Faults.{next_count, is_listed}
+use Rattle.event_counts.specs.Count.{next_count}
+use Rattle.edge_io.specs.Faults.{is_listed}
 
 -- the bytes still to come, how many at most come at a call, the numbers of the calls that fail,
 -- and how many calls and faults there were

@@ -1,7 +1,8 @@
 -- A sink in memory, call after call.
 use Rattle.std.specs.Prelude.{◌≡◌, ℕ, Option, ◌-◌, min, List, length, take, ◌++◌, None, Some, Bool, ◌&&◌, ◌||◌, not}
 use Rattle.std.specs.Prelude.{nat_lt, ◌==◌, if◌then◌else◌}
-use Rattle.edge_io.specs.Faults.{next_count, is_listed}
+use Rattle.event_counts.specs.Count.{next_count}
+use Rattle.edge_io.specs.Faults.{is_listed}
 
 -- the bytes taken, how many fit in all, the numbers of the calls that fail, and how many calls and faults there were
 pub record Kept : Type 0 where

@@ -2,7 +2,7 @@
 ghost use Rattle.std.specs.Prelude.{◌≡◌, ℕ, ◌+◌, ◌≤◌, ◌↔◌, List, [], ◌++◌, length, false, true, IsTrue, is_err, IsOk};
 ghost use Rattle.std.specs.Prelude.{IsErr, IfOk, OnOk, OnErr};
 ghost use Rattle.std.specs.Io.KnownBytes.{Appends};
-ghost use Rattle.edge_io.specs.Faults.{Rose};
+ghost use Rattle.event_counts.specs.Count.{Rose};
 ghost use Rattle.edge_io.specs.Writing.{TakesFront, Finishes};
 
 use crate::buffer::{BUFFER_ROOM, Buffer};
@@ -49,6 +49,7 @@ impl<'a, K: Sink> Out<'a, K> {
     }
 
     /// Puts these bytes behind those that were put.
+    #[inline(always)]
     pub fn put(&mut self, bytes: &[u8]) -> Result<(), WriteFault>
         ensures puts { Puts K.taken K.faults self.old self.new bytes.now }
         ensures answer { is_err result ≡ has_failed self.new }
@@ -66,6 +67,7 @@ impl<'a, K: Sink> Out<'a, K> {
     }
 
     // Puts bytes for which the buffer has no room.
+    #[inline(never)]
     fn put_long(&mut self, bytes: &[u8]) -> Result<(), WriteFault>
         requires fine { has_failed self.old ≡ false }
         ensures puts { Puts K.taken K.faults self.old self.new bytes.now }

@@ -1,7 +1,7 @@
 //! Writing all of some bytes.
 ghost use Rattle.std.specs.Prelude.{◌≡◌, ℕ, ◌<◌, ◌≤◌, ◌^◌, List, [], OnOk, OnErr};
 ghost use Rattle.std.specs.Io.KnownBytes.{Appends};
-ghost use Rattle.edge_io.specs.Faults.{Rose};
+ghost use Rattle.event_counts.specs.Count.{Rose};
 ghost use Rattle.edge_io.specs.Writing.{TakesFront, WritesAll};
 
 use crate::Sink;

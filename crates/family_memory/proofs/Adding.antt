@@ -1,8 +1,10 @@
 -- A node that is added at the end of the words.
 use Rattle.std.proofs.Common.{◌≡◌, ◌≢◌, ℕ, ◌+◌, ◌<◌, ◌≤◌, ◌⊎◌, List, [], ◌∷◌, ◌++◌, length, refl, sym, ◌∙◌, ap, subst}
-use Rattle.std.proofs.Common.{inl, inr, arith, length-append, All}
+use Rattle.std.proofs.Common.{inl, inr, arith, length-append, All, Result, Ok, Err, MatchResult}
 use Rattle.std.proofs.lemmas.Bool.{cases_lt}
 use Rattle.std.proofs.lemmas.List.{get_or_append_left, get_or_past, get_or_push}
+use Rattle.event_counts.specs.Count.{next_count}
+use Rattle.event_counts.proofs.CountLemmas.{next_count-steady, next_count-fits}
 use Rattle.unit_sets.specs.Unit.{IsUnit}
 use Rattle.zdd_words.specs.Word.{level_of, lo_of, hi_of}
 use Rattle.zdd_words.proofs.WordLemmas.{level_of-zero}
@@ -11,15 +13,15 @@ use Rattle.zdd_families.specs.Map.{IsNode, IsClosed, Grown, level_in}
 use Rattle.zdd_families.proofs.MapLemmas.{IsNode-grown, family-node, lo_known, hi_known}
 use Rattle.zdd_families.proofs.Canonical.{family-grown}
 use Rattle.family_parts.specs.Antichains.{IsAntichain}
-use Rattle.family_memory.specs.Memory.{Held, Has, IsSound, Went, family_in, map_of, word_family}
+use Rattle.family_memory.specs.Memory.{Held, Has, IsSound, IsUsedUp, Went, family_in, map_of, word_family}
 use Rattle.family_memory.specs.declared.answers.Entry.{Entry}
 use Rattle.family_memory.specs.Answers.{IsTold}
-use Rattle.family_memory.specs.Kept.{AreLast, IsAdded, KeepsNodes}
+use Rattle.family_memory.specs.Kept.{AreLast, IsAdded, KeepsNodes, refusing}
 use Rattle.family_memory.proofs.Entries.{all_told}
 use Rattle.family_memory.proofs.After.{knows, level_above}
 
 abbrev pub with_word : Held → ℕ → Held
-with_word held word = record { words = held.words ++ word ∷ []; room = held.room }
+with_word held word = record { words = held.words ++ word ∷ []; room = held.room; refused = held.refused }
 
 module _ (held : Held) (word : ℕ) (sound : IsSound held) (node : IsNode (map_of held) word)
     (antichain : IsAntichain (word_family held word)) where
@@ -112,6 +114,7 @@ module _ (held : Held) (word : ℕ) (sound : IsSound held) (node : IsNode (map_o
   added room = record {
     words = refl;
     room = refl;
+    refused = refl;
     has = let e = longer in omega arith;
     family = new_family;
     keeps = grown;
@@ -121,6 +124,7 @@ module _ (held : Held) (word : ℕ) (sound : IsSound held) (node : IsNode (map_o
       closed = closed;
       filled = filled;
       antichains = antichains;
+      counted = sound.counted;
     };
   }
 
@@ -166,6 +170,7 @@ went_added before word after r is = record {
   longer = let e = ap length is.words ∙ length-append before.words (word ∷ []) in omega (arith, e);
   keeps = is.keeps;
   room = is.room;
+  steady = let e = is.refused in omega (arith, e);
   sound = is.sound;
 }
 
@@ -177,27 +182,38 @@ module _ (inside held : Held) (word : ℕ) (same : inside ≡ held) (sound : IsS
       added inside word sound (subst (λ (h : Held). IsNode (map_of h) word) (sym same) node)
       (subst (λ (h : Held). IsAntichain (word_family h word)) (sym same) antichain) room
 
+  -- a memory that has its fields
+  as_added : (after : Held) → after.words ≡ inside.words ++ word ∷ [] → after.room ≡ inside.room
+      → after.refused ≡ inside.refused → IsAdded inside word after (length inside.words)
+  as_added after words as_before as_often =
+      subst (λ l. IsAdded inside word (record { words = l; room = after.room; refused = after.refused })
+      (length inside.words)) (sym words)
+      (subst (λ n. IsAdded inside word (record {
+        words = inside.words ++ word ∷ [];
+        room = n;
+        refused = after.refused;
+      }) (length inside.words)) (sym as_before)
+      (subst (λ n. IsAdded inside word (record {
+        words = inside.words ++ word ∷ [];
+        room = inside.room;
+        refused = n;
+      }) (length inside.words)) (sym as_often) added_inside))
+
   pub added_to : (after : Held) (r : ℕ) → after.words ≡ inside.words ++ word ∷ [] → after.room ≡ inside.room
-      → r ≡ length inside.words → IsAdded held word after r
-  added_to after r words as_before at =
+      → after.refused ≡ inside.refused → r ≡ length inside.words → IsAdded held word after r
+  added_to after r words as_before as_often at =
       subst (λ (h : Held). IsAdded h word after r) same
-      (subst (IsAdded inside word after) (sym at)
-      (subst (λ l. IsAdded inside word (record { words = l; room = after.room }) (length inside.words)) (sym words)
-      (subst (λ n. IsAdded inside word (record { words = inside.words ++ word ∷ []; room = n }) (length inside.words))
-      (sym as_before) added_inside)))
+      (subst (IsAdded inside word after) (sym at) (as_added after words as_before as_often))
 
   pub kept_added : (after : Held) (capacity capacity' : ℕ) (entries entries' : List Entry) (lasts lasts' : List ℕ)
       (taken taken' : ℕ) → after.words ≡ inside.words ++ word ∷ [] → after.room ≡ inside.room
-      → KeepsNodes inside capacity entries lasts taken → capacity ≤ capacity'
+      → after.refused ≡ inside.refused → KeepsNodes inside capacity entries lasts taken → capacity ≤ capacity'
       → ((other : Held) → IsSound other → All (IsTold other) entries → All (IsTold other) entries')
       → (IsAdded inside word after (length inside.words) → AreLast after lasts') → taken ≤ taken'
       → KeepsNodes after capacity' entries' lasts' taken'
-  kept_added after capacity capacity' entries entries' lasts lasts' taken taken' words as_before kept more follows
-      units more' =
-      let is : IsAdded inside word after (length inside.words) =
-      subst (λ l. IsAdded inside word (record { words = l; room = after.room }) (length inside.words)) (sym words)
-      (subst (λ n. IsAdded inside word (record { words = inside.words ++ word ∷ []; room = n }) (length inside.words))
-      (sym as_before) added_inside) in
+  kept_added after capacity capacity' entries entries' lasts lasts' taken taken' words as_before as_often kept more
+      follows units more' =
+      let is : IsAdded inside word after (length inside.words) = as_added after words as_before as_often in
       record {
         sound = is.sound;
         few = let h = kept.few in omega arith;
@@ -208,3 +224,45 @@ module _ (inside held : Held) (word : ℕ) (same : inside ≡ held) (sound : IsS
         units = units is;
         units_taken = let h = kept.units_taken in omega arith;
       }
+
+-- ---- what they keep when a node is refused
+
+pub sound_refusing : (held : Held) → IsSound held → IsSound (refusing held)
+sound_refusing held sound = record {
+  terminals = sound.terminals;
+  fits = sound.fits;
+  closed = sound.closed;
+  filled = sound.filled;
+  antichains = sound.antichains;
+  counted = next_count-fits held.refused;
+}
+
+pub went_refusing : (held : Held) → IsSound held → Went held (refusing held)
+went_refusing held sound = record {
+  longer = omega arith;
+  keeps = λ r has. refl;
+  room = refl;
+  steady = next_count-steady held.refused sound.counted;
+  sound = sound_refusing held sound;
+}
+
+pub kept_refusing : (held after : Held) (capacity : ℕ) (entries : List Entry) (lasts : List ℕ) (taken : ℕ)
+    → after ≡ refusing held → KeepsNodes held capacity entries lasts taken
+    → KeepsNodes after capacity entries lasts taken
+kept_refusing held after capacity entries lasts taken same kept =
+    subst (λ (h : Held). KeepsNodes h capacity entries lasts taken) (sym same) (record {
+      sound = sound_refusing held kept.sound;
+      few = kept.few;
+      taken = kept.taken;
+      told =
+          all_told held (refusing held) entries kept.sound (went_refusing held kept.sound) kept.told;
+      units = record { count = kept.units.count; each = kept.units.each };
+      units_taken = kept.units_taken;
+    })
+
+-- both answers leave the memory sound
+pub sound_asked : {E : Type 0} (before after : Held) (word : ℕ) (result : Result ℕ E) → IsSound before
+    → MatchResult result (λ r. IsAdded before word after r) (λ _. (after ≡ refusing before) × IsUsedUp before)
+    → IsSound after
+sound_asked before after word (Ok r) sound is = is.sound
+sound_asked before after word (Err e) sound is = subst IsSound (sym is.0) (sound_refusing before sound)

@@ -1,13 +1,16 @@
 -- Operations one after another on one memory: for the proofs of this crate and of those above.
 use Rattle.std.proofs.Common.{MatchResult, IfOk, IfErr, Result, Ok, Err, ◌≡◌, ℕ, ◌<◌, List, refl, sym, ◌∙◌, subst, inl}
-use Rattle.std.proofs.Common.{inr, arith}
+use Rattle.std.proofs.Common.{inr, arith, ◌≤◌, ◌⊎◌, ◌++◌, [], ◌∷◌, length, length-append, ap}
+use Rattle.event_counts.specs.Count.{Rose}
 use Rattle.std.proofs.lemmas.Bool.{cases_lt}
 use Rattle.std.proofs.lemmas.Result.{MatchResult-weaker}
 use Rattle.zdd_families.specs.Family.{IsFamily, IsAbove}
 use Rattle.zdd_families.specs.Map.{Knows, Grown, level_in}
 use Rattle.zdd_families.proofs.MapLemmas.{level_in-grown}
 use Rattle.zdd_families.proofs.Canonical.{IsFamily-family, family-above, family-grown, level-above}
-use Rattle.family_memory.specs.Memory.{Held, Has, IsSound, Went, Gave, RanOut, family_in, map_of}
+use Rattle.event_counts.specs.Count.{next_count}
+use Rattle.event_counts.proofs.CountLemmas.{Rose-later, Rose-next, next_count-steady}
+use Rattle.family_memory.specs.Memory.{Held, Has, IsSound, IsUsedUp, Went, Gave, RanOut, family_in, map_of}
 
 pub knows : (held : Held) (r : ℕ) → IsSound held → Has held r → Knows (map_of held) r
 knows held r sound has =
@@ -44,13 +47,20 @@ module _ (before after : Held) (sound : IsSound before) (went : Went before afte
   still_level r has = level_in-grown (map_of before) (map_of after) r went.keeps (knows before r sound has)
 
 pub Went-nowhere : (held : Held) → IsSound held → Went held held
-Went-nowhere held sound = record { longer = omega arith; keeps = λ r has. refl; room = refl; sound = sound }
+Went-nowhere held sound = record {
+  longer = omega arith;
+  keeps = λ r has. refl;
+  room = refl;
+  steady = omega arith;
+  sound = sound;
+}
 
 pub Went-then : (a b c : Held) → Went a b → Went b c → Went a c
 Went-then a b c first second = record {
   longer = let h = first.longer in let k = second.longer in omega arith;
   keeps = grown_then (map_of a) (map_of b) (map_of c) first.keeps second.keeps;
   room = second.room ∙ first.room;
+  steady = let h = first.steady in let k = second.steady in omega arith;
   sound = second.sound;
 }
 
@@ -62,7 +72,11 @@ Gave-there is held r sound has fact = record { went = Went-nowhere held sound; h
 -- what a last step gives is the answer, where its family is such a one
 module _ (a b c : Held) (first : Went a b) where
   pub RanOut-then : RanOut b c → RanOut a c
-  RanOut-then out = record { went = Went-then a b c first out.went; used_up = out.used_up }
+  RanOut-then out = record {
+    went = Went-then a b c first out.went;
+    used_up = out.used_up;
+    rose = Rose-later a.refused b.refused c.refused first.steady out.rose;
+  }
 
   pub Gave-then : (is is' : List (List ℕ) → Type 0) (r : ℕ) → ((f : List (List ℕ)) → is f → is' f) → Gave is b c r
       → Gave is' a c r
@@ -99,3 +113,52 @@ pub answers_of : {E : Type 0} (Is : List (List ℕ) → Type 0) (before after : 
     → MatchResult result (Gave Is before after) (λ _. RanOut before after)
 answers_of Is before after (Ok r) gave out = gave
 answers_of Is before after (Err e) gave out = out
+
+-- ---- a node that was asked for
+
+module _ (before after : Held) (sound : IsSound before) (keeps : Grown (map_of before) (map_of after))
+    (room : after.room ≡ before.room) (sound' : IsSound after) where
+  -- it was added, or was there
+  pub node_went : length before.words ≤ length after.words → after.refused ≡ before.refused → Went before after
+  node_went longer same = record {
+    longer = longer;
+    keeps = keeps;
+    room = room;
+    steady = omega (arith, same);
+    sound = sound';
+  }
+
+  -- it was refused
+  pub node_refused : IsUsedUp before → after.words ≡ before.words → after.refused ≡ next_count before.refused
+      → RanOut before after
+  node_refused used_up words more = record {
+    went = record {
+      longer = let e = ap length words in omega (arith, e);
+      keeps = keeps;
+      room = room;
+      steady =
+          subst (λ n. before.refused ≤ n) (sym more) (next_count-steady before.refused sound.counted);
+      sound = sound';
+    };
+    used_up = let e = ap length words in omega (arith, e, room, used_up);
+    rose = subst (Rose before.refused) (sym more) (Rose-next before.refused);
+  }
+
+  -- both answers
+  pub answers_of_node : {E : Type 0} (due : List (List ℕ)) (word : ℕ) (result : Result ℕ E)
+      → IfOk result (λ r. Has after r)
+      → IfOk result (λ r. family_in after r ≡ due) → IfErr result (λ _. IsUsedUp before)
+      → MatchResult result (λ _. (after.words ≡ before.words) ⊎ (after.words ≡ before.words ++ word ∷ []))
+      (λ _. after.words ≡ before.words)
+      → MatchResult result (λ _. after.refused ≡ before.refused) (λ _. after.refused ≡ next_count before.refused)
+      → MatchResult result (Gave (λ f. f ≡ due) before after) (λ _. RanOut before after)
+  answers_of_node due word (Ok r) has is used_up words same = record {
+    went = node_went (longer_by words) same;
+    has = has;
+    is = is;
+  } where
+    longer_by : (after.words ≡ before.words) ⊎ (after.words ≡ before.words ++ word ∷ [])
+        → length before.words ≤ length after.words
+    longer_by (inl as_before) = let e = ap length as_before in omega (arith, e)
+    longer_by (inr more) = let e = ap length more ∙ length-append before.words (word ∷ []) in omega (arith, e)
+  answers_of_node due word (Err e) has is used_up words more = node_refused used_up words more

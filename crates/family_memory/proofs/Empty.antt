@@ -2,6 +2,7 @@
 use Rattle.std.proofs.Common.{◌≡◌, ℕ, zero, suc, ◌+◌, ◌<◌, ◌≤◌, ◌^◌, List, [], ◌∷◌, length, take, get_or, refl, sym}
 use Rattle.std.proofs.Common.{◌∙◌, ap, subst, inl, inr, arith, All}
 use Rattle.std.proofs.lemmas.Bool.{cases_eq}
+use Rattle.event_counts.specs.Count.{last_count}
 use Rattle.zdd_families.proofs.MapLemmas.{family-empty, family-unit}
 use Rattle.family_operations.proofs.MinimalLemmas.{minimal-none, minimal-unit}
 use Rattle.family_parts.specs.Antichains.{IsAntichain}
@@ -10,35 +11,39 @@ use Rattle.family_memory.specs.Answers.{IsTold}
 use Rattle.family_memory.specs.Kept.{AreLast, KeepsNodes}
 use Rattle.family_memory.specs.Memory.{Held, Has, IsSound, family_in, map_of}
 
-abbrev pub no_nodes : ℕ → Held
-no_nodes room = record { words = 0 ∷ 0 ∷ []; room = room }
+abbrev pub no_nodes : ℕ → ℕ → Held
+no_nodes room refused = record { words = 0 ∷ 0 ∷ []; room = room; refused = refused }
 
-none_known : (room r : ℕ) → map_of (no_nodes room) r ≡ 0
-none_known room zero = refl
-none_known room (suc zero) = refl
-none_known room (suc (suc r)) = refl
+none_known : (room refused r : ℕ) → map_of (no_nodes room refused) r ≡ 0
+none_known room refused zero = refl
+none_known room refused (suc zero) = refl
+none_known room refused (suc (suc r)) = refl
 
-antichains : (room r : ℕ) → Has (no_nodes room) r → IsAntichain (family_in (no_nodes room) r)
-antichains room zero has = subst IsAntichain (sym (family-empty (map_of (no_nodes room)))) minimal-none
-antichains room (suc zero) has = subst IsAntichain (sym (family-unit (map_of (no_nodes room)))) minimal-unit
-antichains room (suc (suc r)) has = absurd (omega arith)
+antichains : (room refused r : ℕ) → Has (no_nodes room refused) r → IsAntichain (family_in (no_nodes room refused) r)
+antichains room refused zero has =
+    subst IsAntichain (sym (family-empty (map_of (no_nodes room refused)))) minimal-none
+antichains room refused (suc zero) has =
+    subst IsAntichain (sym (family-unit (map_of (no_nodes room refused)))) minimal-unit
+antichains room refused (suc (suc r)) has = absurd (omega arith)
 
-sound : (room : ℕ) → IsSound (no_nodes room)
-sound room = record {
+sound : (room refused : ℕ) → refused ≤ last_count → IsSound (no_nodes room refused)
+sound room refused counted = record {
   terminals = omega arith;
   fits = omega arith;
-  closed = λ r has. absurd (has (none_known room r));
+  closed = λ r has. absurd (has (none_known room refused r));
   filled = λ r inner has. absurd (omega arith);
-  antichains = antichains room;
+  antichains = antichains room refused;
+  counted = counted;
 }
 
 pub kept_empty : (held : Held) (capacity : ℕ) (entries : List Entry) (lasts : List ℕ) (capacity' : ℕ)
-    → held.words ≡ 0 ∷ 0 ∷ [] → held.room ≤ 2 ^ 25 → held.room + 2 ≤ capacity
+    → held.words ≡ 0 ∷ 0 ∷ [] → held.refused ≤ last_count → held.room ≤ 2 ^ 25 → held.room + 2 ≤ capacity
     → ((other : Held) → IsSound other → All (IsTold other) entries) → AreLast held lasts → held.room + 2 ≤ capacity'
     → KeepsNodes held capacity entries lasts capacity'
-kept_empty held capacity entries lasts capacity' none few taken told units taken' =
+kept_empty held capacity entries lasts capacity' none counted few taken told units taken' =
     let is : IsSound held =
-    subst (λ l. IsSound (record { words = l; room = held.room })) (sym none) (sound held.room) in
+    subst (λ l. IsSound (record { words = l; room = held.room; refused = held.refused })) (sym none)
+    (sound held.room held.refused counted) in
     record { sound = is; few = few; taken = taken; told = told held is; units = units; units_taken = taken' }
 
 pub two : (words : List ℕ) → 2 ≤ length words → get_or words 0 0 ≡ 0 → get_or words 1 0 ≡ 0 → take 2 words ≡ 0 ∷ 0 ∷ []

@@ -68,18 +68,19 @@ module _ (held after : Held) (word r last : ℕ) (lasts : List ℕ) (sound : IsS
 
 -- ---- no nodes
 
-of_terminals : (room r : ℕ) → Has (no_nodes room) r → IsLastUnit (family_in (no_nodes room) r) (get_or (0 ∷ 0 ∷ []) r 0)
-of_terminals room zero has =
-    subst (λ f. IsLastUnit f 0) (sym (family-empty (map_of (no_nodes room)))) last-none
-of_terminals room (suc zero) has =
-    subst (λ f. IsLastUnit f 0) (sym (family-unit (map_of (no_nodes room)))) last-unit
-of_terminals room (suc (suc r)) has = absurd (omega arith)
+of_terminals : (room refused r : ℕ) → Has (no_nodes room refused) r
+    → IsLastUnit (family_in (no_nodes room refused) r) (get_or (0 ∷ 0 ∷ []) r 0)
+of_terminals room refused zero has =
+    subst (λ f. IsLastUnit f 0) (sym (family-empty (map_of (no_nodes room refused)))) last-none
+of_terminals room refused (suc zero) has =
+    subst (λ f. IsLastUnit f 0) (sym (family-unit (map_of (no_nodes room refused)))) last-unit
+of_terminals room refused (suc (suc r)) has = absurd (omega arith)
 
 pub last_empty : (held : Held) (lasts : List ℕ) → held.words ≡ 0 ∷ 0 ∷ [] → lasts ≡ 0 ∷ 0 ∷ [] → AreLast held lasts
 last_empty held lasts none none' =
-    subst (λ l. AreLast (record { words = l; room = held.room }) lasts) (sym none)
-    (subst (AreLast (no_nodes held.room)) (sym none')
-    (record { count = refl; each = of_terminals held.room }))
+    subst (λ l. AreLast (record { words = l; room = held.room; refused = held.refused }) lasts) (sym none)
+    (subst (AreLast (no_nodes held.room held.refused)) (sym none')
+    (record { count = refl; each = of_terminals held.room held.refused }))
 
 -- the last units that are kept of a memory that is emptied
 pub first_two_lasts : (held : Held) (lasts : List ℕ) → IsSound held → AreLast held lasts

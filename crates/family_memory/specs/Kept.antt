@@ -5,6 +5,7 @@ use Rattle.zdd_families.specs.Map.{Grown}
 use Rattle.minimal_families.specs.Units.{IsLastUnit}
 use Rattle.family_memory.specs.declared.answers.Entry.{Entry}
 use Rattle.family_memory.specs.Answers.{IsTold}
+use Rattle.event_counts.specs.Count.{next_count}
 use Rattle.family_memory.specs.Memory.{Held, Has, IsSound, family_in, map_of, word_family}
 
 -- each reference of the memory has its last unit in its place of the list
@@ -26,7 +27,12 @@ pub record KeepsNodes (held : Held) (capacity : ℕ) (entries : List Entry) (las
 pub record IsAdded (before : Held) (word : ℕ) (after : Held) (r : ℕ) : Type 0 where
   pub words : after.words ≡ before.words ++ word ∷ []
   pub room : after.room ≡ before.room
+  pub refused : after.refused ≡ before.refused
   pub has : Has after r
   pub family : family_in after r ≡ word_family before word
   pub keeps : Grown (map_of before) (map_of after)
   pub sound : IsSound after
+
+-- the memory after a node for which it had no room
+abbrev pub refusing : Held → Held
+refusing held = record { words = held.words; room = held.room; refused = next_count held.refused }

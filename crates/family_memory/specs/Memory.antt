@@ -1,5 +1,6 @@
 -- A memory of diagrams: node words by their references, and the minimal families for which these stand.
 use Rattle.std.specs.Prelude.{◌≡◌, ◌≢◌, ℕ, ◌+◌, ◌<◌, ◌≤◌, List, get_or, length}
+use Rattle.event_counts.specs.Count.{Rose, last_count}
 use Rattle.unit_sets.specs.Unit.{IsUnit}
 use Rattle.zdd_words.specs.Word.{level_of, lo_of, hi_of}
 use Rattle.zdd_families.specs.Family.{branch}
@@ -8,10 +9,12 @@ use Rattle.zdd_words.specs.declared.word.Parts.{Parts}
 use Rattle.family_operations.specs.Cuts.{Cuts}
 use Rattle.family_parts.specs.Antichains.{IsAntichain}
 
--- what a memory holds: the word of each reference, where the terminals have none, and how many nodes it takes at most
+-- what a memory holds: the word of each reference, where the terminals have none, how many nodes it takes at most, and
+-- how often it had no room for a node
 pub record Held : Type 0 where
   pub words : List ℕ
   pub room : ℕ
+  pub refused : ℕ
 
 -- the words as a map
 abbrev pub map_of : Held → ℕ → ℕ
@@ -34,13 +37,14 @@ abbrev pub IsUsedUp : Held → Type 0
 IsUsedUp held = held.room + 2 ≤ length held.words
 
 -- what a memory keeps: lo and hi of each node are of the memory and lie above its level, hi has sets, and
--- each reference stands for a family in which no set includes another
+-- each reference stands for a family in which no set includes another. The count of refused nodes is a `u64`
 pub record IsSound (held : Held) : Type 0 where
   pub terminals : 2 ≤ length held.words
   pub fits : length held.words ≤ held.room + 2
   pub closed : IsClosed (map_of held)
   pub filled : (r : ℕ) → 2 ≤ r → Has held r → map_of held r ≢ 0
   pub antichains : (r : ℕ) → Has held r → IsAntichain (family_in held r)
+  pub counted : held.refused ≤ last_count
 
 -- the node of a reference: its level and both parts, which lie above the level
 pub record IsNodeOf (held : Held) (r : ℕ) (parts : Parts) : Type 0 where
@@ -58,6 +62,7 @@ pub record Went (before after : Held) : Type 0 where
   pub longer : length before.words ≤ length after.words
   pub keeps : Grown (map_of before) (map_of after)
   pub room : after.room ≡ before.room
+  pub steady : before.refused ≤ after.refused
   pub sound : IsSound after
 
 -- the operation gave a reference to such a family
@@ -66,7 +71,8 @@ pub record Gave (Is : List (List ℕ) → Type 0) (before after : Held) (r : ℕ
   pub has : Has after r
   pub is : Is (family_in after r)
 
--- the room was used up
+-- a node was refused on the way, as the room was used up
 pub record RanOut (before after : Held) : Type 0 where
   pub went : Went before after
   pub used_up : IsUsedUp after
+  pub rose : Rose before.refused after.refused

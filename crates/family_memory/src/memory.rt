@@ -1,6 +1,7 @@
 //! The memory: node words with their last units, an index of them, and answers.
 ghost use Rattle.std.specs.Prelude.{◌≡◌, ◌≢◌, ◌⊎◌, ◌+◌, ◌≤◌, ◌<◌, ◌^◌, [], ◌∷◌, ◌++◌, length, IfOk, IfErr, IfSome};
 ghost use Rattle.std.specs.Prelude.{MatchResult};
+ghost use Rattle.event_counts.specs.Count.{next_count};
 ghost use Rattle.zdd_words.specs.Word.{packed};
 ghost use Rattle.zdd_families.specs.Family.{IsAbove, branch};
 ghost use Rattle.zdd_families.specs.Map.{Grown, IsNode, level_in};
@@ -8,10 +9,11 @@ ghost use Rattle.family_parts.specs.Antichains.{IsAntichain};
 ghost use Rattle.minimal_families.specs.Units.{IsLastUnit};
 ghost use Rattle.family_memory.specs.Answers.{IsTold};
 ghost use Rattle.family_memory.specs.Memory.{Has, IsNodeOf, IsSound, IsUsedUp, family_in, map_of, word_family};
-ghost use Rattle.family_memory.specs.Kept.{IsAdded};
+ghost use Rattle.family_memory.specs.Kept.{IsAdded, refusing};
 
 use crate::answers::{Answers, Entry, Question};
 use crate::index::{Index, Search};
+use event_counts::Count;
 use std::alloc::Global;
 use std::marker::Model;
 use unit_sets::{NoMemory, UnitNo};
@@ -31,16 +33,18 @@ pub struct Room {
     pub answers: usize,
 }
 
-/// The room for nodes is used up.
+/// A node was refused in this call, as the room for nodes is used up.
 #[derive(Clone, Copy, Debug, PartialEq, Eq, Drop)]
 pub struct Spent;
 
-/// A memory of diagrams. Contracts see it as the words of its nodes, and its room.
+/// A memory of diagrams. Contracts see it as the words of its nodes, its room, and how often it had no room for a
+/// node.
 #[derive(Drop)]
 pub struct FamilyMemory {
     words: Vec<u64>,
     lasts: Vec<u16>,
     room: usize,
+    refused: Count,
     index: Index,
     answers: Answers,
 }
@@ -52,17 +56,17 @@ impl Model for FamilyMemory {
 
     ghost Value = { Held };
 
-    ghost view = { λ m. record { words = m.words.items; room = m.room } };
+    ghost view = { λ m. record { words = m.words.items; room = m.room; refused = m.refused } };
 
-    ghost invariant = { λ m. KeepsNodes (record { words = m.words.items; room = m.room }) (vec_capacity m.words)
-        m.answers.entries.items m.lasts.items (vec_capacity m.lasts) };
+    ghost invariant = { λ m. KeepsNodes (record { words = m.words.items; room = m.room; refused = m.refused })
+        (vec_capacity m.words) m.answers.entries.items m.lasts.items (vec_capacity m.lasts) };
 }
 
 impl FamilyMemory {
     /// A memory with no nodes, with all its room.
     pub fn new(alloc: Global, room: Room) -> Result<FamilyMemory, NoMemory>
         requires { room.nodes ≤ 2 ^ 25 }
-        ensures { IfOk result (λ memory. memory ≡ record { words = 0 ∷ 0 ∷ []; room = room.nodes }) }
+        ensures { IfOk result (λ memory. memory ≡ record { words = 0 ∷ 0 ∷ []; room = room.nodes; refused = 0 }) }
     {
         let mut words = Vec::with_capacity(alloc, room.nodes + 2)?;
         words.push(0)?;
@@ -74,6 +78,7 @@ impl FamilyMemory {
             words,
             lasts,
             room: room.nodes,
+            refused: Count::new(),
             index: Index::new(alloc, room.slots)?,
             answers: Answers::new(alloc, room.answers)?,
         })
@@ -91,6 +96,13 @@ impl FamilyMemory {
         ensures { result + 2 ≡ length self.now.words }
     {
         self.words.len() - 2
+    }
+
+    /// How many nodes were refused since the memory was made.
+    pub fn refused(&self) -> u64
+        ensures { result ≡ self.now.refused }
+    {
+        self.refused.number()
     }
 
     /// The least unit of a reference's sets, or 4,096 for a terminal.
@@ -152,6 +164,8 @@ impl FamilyMemory {
             ⊎ (self.new.words ≡ self.old.words ++ packed level lo hi ∷ [])) (λ _. self.new.words ≡ self.old.words) }
         ensures keeps { Grown (map_of self.old) (map_of self.new) }
         ensures room { self.new.room ≡ self.old.room }
+        ensures refused { MatchResult result (λ _. self.new.refused ≡ self.old.refused)
+            (λ _. self.new.refused ≡ next_count self.old.refused) }
         ensures sound { IsSound self.new }
     {
         // Tells the proof that the level is a unit's number.
@@ -169,10 +183,11 @@ impl FamilyMemory {
         requires node { IsNode (map_of self.old) word }
         requires antichain { IsAntichain (word_family self.old word) }
         ensures { MatchResult result (λ r. IsAdded self.old word self.new r)
-            (λ _. (self.new ≡ self.old) × IsUsedUp self.old) }
+            (λ _. (self.new ≡ refusing self.old) × IsUsedUp self.old) }
     {
         let at = self.words.len();
         if at - 2 >= self.room {
+            self.refused.add_one();
             return Err(Spent);
         }
         let last = self.last_of(word);
@@ -208,7 +223,7 @@ impl FamilyMemory {
 
     /// Forgets all nodes. Their references stand for nothing any more.
     pub fn clear(&mut self)
-        ensures { self.new ≡ record { words = 0 ∷ 0 ∷ []; room = self.old.room } }
+        ensures { self.new ≡ record { words = 0 ∷ 0 ∷ []; room = self.old.room; refused = self.old.refused } }
     {
         self.words.truncate(2);
         self.lasts.truncate(2);

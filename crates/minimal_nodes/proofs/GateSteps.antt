@@ -13,7 +13,7 @@ use Rattle.minimal_families.proofs.LeastLemmas.{IsLeastFor-same, IsLeastFor-itse
 use Rattle.minimal_families.specs.Least.{IsLeastProductOfAll, IsLeastUnion}
 use Rattle.minimal_families.proofs.StepsLemmas.{or_of}
 use Rattle.family_memory.specs.Memory.{Held, Has, IsSound, Went, Gave, RanOut, family_in, map_of}
-use Rattle.family_memory.proofs.After.{Gave-there, Went-then, still}
+use Rattle.family_memory.proofs.After.{Gave-there, RanOut-then, Went-then, still}
 use Rattle.many_families.specs.Lists.{families}
 use Rattle.minimal_nodes.specs.Gates.{IsLeastOfGate}
 use Rattle.fault_model.specs.CutFamily.{IsCutFamily}
@@ -109,7 +109,7 @@ module _ (s0 : Held) (unit : ℕ) (list : List ℕ) (sound : IsSound s0) (s1 : H
   pub unit_spent : {E : Type 0} (s3 : Held) (result : Result ℕ E) → IfErr result (λ _. RanOut s2 s3)
       → IfErr result (λ _. RanOut s0 s3)
   unit_spent s3 (Ok r) out = tt
-  unit_spent s3 (Err e) out = record { went = Went-then s0 s2 s3 went_unit out.went; used_up = out.used_up }
+  unit_spent s3 (Err e) out = RanOut-then s0 s2 s3 went_unit out
 
 -- ---- a node's cut family
 

@@ -1,15 +1,28 @@
-use Rattle.std.proofs.Common.{◌<◌, ◌+◌, length, vec_capacity, refl, sym, subst, arith}
+use Rattle.std.proofs.Common.{◌<◌, ◌+◌, length, vec_capacity, refl, sym, ap, subst, arith}
 use Rattle.minimal_families.specs.Units.{IsLastUnit}
 use Rattle.family_memory.specs.Kept.{AreLast}
 use Rattle.family_memory.specs.Memory.{Held, word_family}
 use Rattle.family_memory.proofs.LastUnits.{last_added}
-use Rattle.family_memory.proofs.Adding.{added_to, kept_added}
+use Rattle.family_memory.proofs.Adding.{added_to, kept_added, kept_refusing}
 use Rattle.family_memory.proofs.memory.FamilyMemory.add.Goals as goal
 
 pub invariant_of-self : goal.invariant_of-self
 invariant_of-self c =
-    let inside : Held = record { words = c.self.inside.words.items; room = c.self.inside.room } in
-    let after : Held = record { words = c.push.new.self.items; room = c.self.inside.room } in
+    let inside : Held =
+    record { words = c.self.inside.words.items; room = c.self.inside.room; refused = c.self.inside.refused } in
+    let after : Held =
+    record { words = c.self.inside.words.items; room = c.self.inside.room; refused = c.add_one.new.self } in
+    kept_refusing inside after (vec_capacity c.self.inside.words) c.self.inside.answers.entries.items
+    c.self.inside.lasts.items (vec_capacity c.self.inside.lasts)
+    (ap (λ n. let h : Held = record { words = c.self.inside.words.items; room = c.self.inside.room; refused = n } in h)
+    c.add_one.ensures) c.self.invariant
+
+pub invariant_of-self-2 : goal.invariant_of-self-2
+invariant_of-self-2 c =
+    let inside : Held =
+    record { words = c.self.inside.words.items; room = c.self.inside.room; refused = c.self.inside.refused } in
+    let after : Held =
+    record { words = c.push.new.self.items; room = c.self.inside.room; refused = c.self.inside.refused } in
     let room : length inside.words < inside.room + 2 =
     let e = c.len-at.ensures in let h = c.if-at-self.false in let few = c.self.invariant.sound.terminals in
     omega arith in
@@ -18,7 +31,7 @@ invariant_of-self c =
     after (vec_capacity c.self.inside.words) (vec_capacity c.push.new.self) c.self.inside.answers.entries.items
     c.follow-2.new.self.entries.items c.self.inside.lasts.items c.push-2.new.self.items
     (vec_capacity c.self.inside.lasts) (vec_capacity c.push-2.new.self)
-    c.in-Ok.ensures.items refl c.self.invariant c.push.ensures.capacity c.follow-2.ensures
+    c.in-Ok.ensures.items refl refl c.self.invariant c.push.ensures.capacity c.follow-2.ensures
     (λ is. subst (AreLast after) (sym c.in-Ok-push.ensures.items)
     (last_added inside after c.args.word (length inside.words) c.last_of-last.result c.self.inside.lasts.items
     c.self.invariant.sound is refl c.self.invariant.units
@@ -28,13 +41,15 @@ invariant_of-self c =
 
 pub returns : goal.returns
 returns c =
-    let inside : Held = record { words = c.self.inside.words.items; room = c.self.inside.room } in
-    let after : Held = record { words = c.push.new.self.items; room = c.self.inside.room } in
+    let inside : Held =
+    record { words = c.self.inside.words.items; room = c.self.inside.room; refused = c.self.inside.refused } in
+    let after : Held =
+    record { words = c.push.new.self.items; room = c.self.inside.room; refused = c.self.inside.refused } in
     let room : length inside.words < inside.room + 2 =
     let e = c.len-at.ensures in let h = c.if-at-self.false in let few = c.self.invariant.sound.terminals in
     omega arith in
     added_to inside c.args.self.now c.args.word c.self.view_is c.self.invariant.sound c.requires.node
     c.requires.antichain room
-    after c.at_slot-r.result c.in-Ok.ensures.items refl
+    after c.at_slot-r.result c.in-Ok.ensures.items refl refl
     (let e = c.at_slot-r.ensures in let f = c.len-at.ensures in let few = c.self.invariant.sound.terminals in
     omega arith)

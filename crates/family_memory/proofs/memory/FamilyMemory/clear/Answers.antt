@@ -6,15 +6,17 @@ use Rattle.family_memory.proofs.memory.FamilyMemory.clear.Goals as goal
 
 pub invariant_of-self : goal.invariant_of-self
 invariant_of-self c =
-    let inside : Held = record { words = c.self.inside.words.items; room = c.self.inside.room } in
-    let after : Held = record { words = c.truncate.new.self.items; room = c.self.inside.room } in
+    let inside : Held =
+    record { words = c.self.inside.words.items; room = c.self.inside.room; refused = c.self.inside.refused } in
+    let after : Held =
+    record { words = c.truncate.new.self.items; room = c.self.inside.room; refused = c.self.inside.refused } in
     let words : c.truncate.new.self.items ≡ 0 ∷ 0 ∷ [] =
     c.truncate.ensures.items ∙ first_two inside c.self.invariant.sound in
     let lasts : c.truncate-2.new.self.items ≡ 0 ∷ 0 ∷ [] =
     c.truncate-2.ensures.items
     ∙ first_two_lasts inside c.self.inside.lasts.items c.self.invariant.sound c.self.invariant.units in
     kept_empty after (vec_capacity c.truncate.new.self) c.clear-2.new.self.entries.items c.truncate-2.new.self.items
-    (vec_capacity c.truncate-2.new.self) words c.self.invariant.few
+    (vec_capacity c.truncate-2.new.self) words c.self.invariant.sound.counted c.self.invariant.few
     (let h = c.self.invariant.taken in let k = c.truncate.ensures.capacity in omega arith)
     c.clear-2.ensures
     (last_empty after c.truncate-2.new.self.items words lasts)
@@ -22,7 +24,9 @@ invariant_of-self c =
 
 pub returns : goal.returns
 returns c =
-    let inside : Held = record { words = c.self.inside.words.items; room = c.self.inside.room } in
-    ap (λ l. let held : Held = record { words = l; room = c.self.inside.room } in held)
+    let inside : Held =
+    record { words = c.self.inside.words.items; room = c.self.inside.room; refused = c.self.inside.refused } in
+    ap (λ l. let held : Held = record { words = l; room = c.self.inside.room; refused = c.self.inside.refused } in
+    held)
     (c.truncate.ensures.items ∙ first_two inside c.self.invariant.sound)
-    ∙ ap (λ (held : Held). no_nodes held.room) c.self.view_is
+    ∙ ap (λ (held : Held). no_nodes held.room held.refused) c.self.view_is

@@ -6,7 +6,8 @@ use Rattle.family_memory.proofs.memory.FamilyMemory.level.Goals as goal
 pub returns : goal.returns
 returns c =
     let held = c.args.self.now in
-    let inside : Held = record { words = c.self.inside.words.items; room = c.self.inside.room } in
+    let inside : Held =
+    record { words = c.self.inside.words.items; room = c.self.inside.room; refused = c.self.inside.refused } in
     let word : c.index.result.now ≡ map_of held c.args.r =
     read_word inside held c.number-2.result c.args.r c.index.result.now c.self.view_is c.number-2.ensures.value
     c.requires c.index.ensures in

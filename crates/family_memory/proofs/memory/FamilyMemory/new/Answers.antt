@@ -6,7 +6,7 @@ use Rattle.family_memory.proofs.memory.FamilyMemory.new.Goals as goal
 
 pub invariant_of-result : goal.invariant_of-result
 invariant_of-result c =
-    let held : Held = record { words = c.push-2.new.self.items; room = c.args.room.nodes } in
+    let held : Held = record { words = c.push-2.new.self.items; room = c.args.room.nodes; refused = c.new.result } in
     let words : c.push-2.new.self.items ≡ 0 ∷ 0 ∷ [] =
     c.in_ok-push-2.ensures.items ∙ ap (λ l. l ++ 0 ∷ [])
     (c.in_ok-push.ensures.items ∙ ap (λ l. l ++ 0 ∷ []) c.in_ok-words.ensures.items) in
@@ -14,7 +14,7 @@ invariant_of-result c =
     c.in_ok-push-4.ensures.items ∙ ap (λ l. l ++ 0 ∷ [])
     (c.in_ok-push-3.ensures.items ∙ ap (λ l. l ++ 0 ∷ []) c.in_ok-lasts.ensures.items) in
     kept_empty held (vec_capacity c.push-2.new.self) c.in_ok-new-2.field-0.entries.items c.push-4.new.self.items
-    (vec_capacity c.push-4.new.self) words c.requires
+    (vec_capacity c.push-4.new.self) words (let e = c.new.ensures in omega (arith, e)) c.requires
     (let e = c.in_ok-words.ensures.exact in let h = c.push.ensures.capacity in let k = c.push-2.ensures.capacity in
     omega arith)
     c.in_ok-new-2.ensures

@@ -1,7 +1,7 @@
 use Rattle.std.proofs.Common.{◌≡◌, ◌∙◌, sym, ap, subst, get_or}
 use Rattle.zdd_words.proofs.WordLemmas.{packed-filled}
 use Rattle.family_memory.specs.Memory.{Held, IsSound, map_of}
-use Rattle.family_memory.proofs.Adding.{node_of, word_is, found_is}
+use Rattle.family_memory.proofs.Adding.{node_of, word_is, found_is, sound_asked}
 use Rattle.family_memory.proofs.memory.FamilyMemory.node.Goals as goal
 
 pub add-requires-clause-node : goal.add-requires-clause-node
@@ -30,3 +30,13 @@ returns-in-Found-clause-family c =
     (sym c.pack-word.ensures.value ∙ none))
     ∙ word_is held c.args.level c.args.lo c.args.hi c.pack-word.result c.pack-word.ensures.level_comes_back
     c.pack-word.ensures.lo_comes_back c.pack-word.ensures.hi_comes_back
+
+pub returns-in-Free-clause-sound : goal.returns-in-Free-clause-sound
+returns-in-Free-clause-sound c =
+    sound_asked c.args.self.now c.add.new.self c.pack-word.result c.add.result
+    (subst IsSound c.self.view_is c.self.invariant.sound) c.add.ensures
+
+pub returns-in-Nowhere-clause-sound : goal.returns-in-Nowhere-clause-sound
+returns-in-Nowhere-clause-sound c =
+    sound_asked c.args.self.now c.add-in-Nowhere.new.self c.pack-word.result c.add-in-Nowhere.result
+    (subst IsSound c.self.view_is c.self.invariant.sound) c.add-in-Nowhere.ensures

@@ -7,7 +7,8 @@ use Rattle.family_memory.proofs.memory.FamilyMemory.parts.Goals as goal
 pub returns : goal.returns
 returns c =
     let held = c.args.self.now in
-    let inside : Held = record { words = c.self.inside.words.items; room = c.self.inside.room } in
+    let inside : Held =
+    record { words = c.self.inside.words.items; room = c.self.inside.room; refused = c.self.inside.refused } in
     let sound : IsSound held = subst IsSound c.self.view_is c.self.invariant.sound in
     let word : c.index.result.now ≡ map_of held c.args.r =
     read_word inside held c.number.result c.args.r c.index.result.now c.self.view_is c.number.ensures.value

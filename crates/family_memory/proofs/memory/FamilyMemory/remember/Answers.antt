@@ -5,7 +5,8 @@ use Rattle.family_memory.proofs.memory.FamilyMemory.remember.Goals as goal
 
 pub invariant_of-self : goal.invariant_of-self
 invariant_of-self c =
-    let held : Held = record { words = c.self.inside.words.items; room = c.self.inside.room } in
+    let held : Held =
+    record { words = c.self.inside.words.items; room = c.self.inside.room; refused = c.self.inside.refused } in
     record {
       sound = c.self.invariant.sound;
       few = c.self.invariant.few;

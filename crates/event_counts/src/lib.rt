@@ -1,0 +1,9 @@
+//! A count of events, which stays at its last value, and when such a count rose. Contracts say by it that something
+//! happened in this very call. Stands on std alone.
+#![tactic(auto)]
+
+mod count;
+#[cfg(test)]
+mod tests;
+
+pub use count::Count;
