@@ -1,6 +1,6 @@
 -- The parts that are read of a deck are those that its first dividing line makes.
-use Rattle.std.specs.Prelude.{◌≡◌, ◌↔◌, ◌⊎◌, ℕ, suc, ◌+◌, ◌≤◌, min, nat_eq, true, false, ◌||◌, if◌then◌else◌, List, []}
-use Rattle.std.specs.Prelude.{◌∷◌, ◌++◌, length, take, get_or, codes, Option, Some, None, IsNone}
+use Rattle.std.specs.Prelude.{◌≡◌, ◌↔◌, ◌⊎◌, ℕ, suc, ◌+◌, min, nat_eq, true, false, ◌||◌, if◌then◌else◌, List, []}
+use Rattle.std.specs.Prelude.{◌∷◌, ◌++◌, length, take, get_or, codes, Option, Some, None}
 use Rattle.std.specs.List.{All, list_any, slice_split, position_or_len, before_first, after_first, count_by}
 use Rattle.std.specs.Cmp.Lexicographic.{pointwise, same_text}
 use Rattle.std.proofs.Common.{refl, sym, ap, ◌∙◌, subst, inl, inr, arith}
@@ -152,20 +152,6 @@ divided_once bytes split is = by_crews split.crews is
         ∙ ap (λ (p : ℕ × ℕ × ℕ). record { tree = p.0; crews = Some (record { start = p.1; line = p.2 }) })
         (λ i. (tree i, start i, number i))
 
--- no line divides a deck exactly where its crew part is none
-pub none_divides : (bytes : List ℕ) (split : Split) → split ≡ split_of bytes
-    → IsNone split.crews ↔ (list_any is_crews (lines_of bytes) ≡ false)
-none_divides bytes split is =
-    subst (λ (s : Split). IsNone s.crews ↔ (list_any is_crews (lines_of bytes) ≡ false)) (sym is) (
-      λ none. none_of (split_of bytes).crews none (divided_so bytes),
-      λ none. subst (λ (s : Split). IsNone s.crews) (sym (undivided (length bytes) 0 1 (lines_of bytes) none)) refl,
-    )
-  where
-    none_of : (crews : Option CrewsAt) → IsNone crews → CrewsBegin bytes (split_of bytes).tree crews
-        → list_any is_crews (lines_of bytes) ≡ false
-    none_of None none is = is.1
-    none_of (Some at) none is = absurd cc
-
 -- ---- what stands before the line
 
 take_behind : (line : List ℕ) (byte count : ℕ) (rest : List ℕ)
@@ -263,10 +249,3 @@ divides_without_return line = (
     | inr more ↦ ap is_crews (more ∙ ap (λ l. l ++ 13 ∷ []) same)
   ],
 )
-
--- it is long
-pub divides_long : (line : List ℕ) → is_crews line ≡ true → 6 ≤ length line
-divides_long line is = elim (divides_either line is) [
-  | inl plain ↦ let e : length line ≡ 6 = ap length plain in omega arith
-  | inr more ↦ let e : length line ≡ 7 = ap length more in omega arith
-]

@@ -1,4 +1,3 @@
-mod DeckLemmas
 mod DividedLemmas
 mod DocketLemmas
 mod LineLemmas

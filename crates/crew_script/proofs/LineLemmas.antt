@@ -1,11 +1,13 @@
 -- The lines of a text, one by one.
-use Rattle.std.proofs.Common.{◌≡◌, ℕ, ◌+◌, ◌≤◌, List, [], ◌∷◌, length, take, drop, sym, ap, ◌∙◌, arith}
+use Rattle.std.proofs.Common.{◌≡◌, ℕ, ◌+◌, ◌≤◌, List, [], ◌∷◌, length, take, drop, refl, sym, ap, ◌∙◌, arith}
+use Rattle.std.proofs.Common.{Bool, true, false, cond}
 use Rattle.std.specs.Prelude.{position, Some, None}
-use Rattle.std.specs.List.{position_or_len}
+use Rattle.std.specs.List.{position_or_len, onto_first}
 use Rattle.std.proofs.lemmas.List.Quantifiers.{position-Some}
 use Rattle.std.proofs.lemmas.List.Splits.{slice_split_first, slice_split_none, length-slice_split}
 use Rattle.std.proofs.lemmas.List.Sums.{fails_before_first, count_by-le-length}
 use Rattle.crew_script.specs.Deck.{is_feed, lines_of}
+use Rattle.crew_script.specs.Divides.{size_of}
 use Rattle.crew_script.proofs.WordLemmas.{first_place, no_place}
 
 -- a line ends at the first line feed, and the rest of the text has the other lines
@@ -26,3 +28,15 @@ line_whole bytes none =
 -- a text has at most one line more than bytes
 pub few_lines : (bytes : List ℕ) → length (lines_of bytes) ≤ length bytes + 1
 few_lines bytes = omega (arith, length-slice_split is_feed bytes, count_by-le-length is_feed bytes)
+
+one_byte_more : (byte : ℕ) (lines : List (List ℕ)) (size : ℕ) (b : Bool) → size_of lines ≡ size + 1
+    → size_of (cond b ([] ∷ lines) (onto_first byte lines)) ≡ size + 2
+one_byte_more byte lines size true is = omega (arith, is)
+one_byte_more byte [] size false is = absurd (omega (arith, is))
+one_byte_more byte (line ∷ lines) size false is = omega (arith, is)
+
+-- its lines, each with a line feed, have one byte more than the text
+pub lines_sized : (bytes : List ℕ) → size_of (lines_of bytes) ≡ length bytes + 1
+lines_sized [] = refl
+lines_sized (byte ∷ bytes) =
+    omega (arith, one_byte_more byte (lines_of bytes) (length bytes) (is_feed byte) (lines_sized bytes))

@@ -6,6 +6,7 @@ use Rattle.crew_script.specs.Words.{words_of}
 use Rattle.crew_script.specs.Lines.{line_of}
 use Rattle.crew_script.specs.Names.{has_name}
 use Rattle.crew_script.specs.Dockets.{names_of, request_count}
+use Rattle.crew_script.specs.declared.dockets.TheConstants.{MOST_CREWS, MOST_REQUESTS}
 use Rattle.crew_script.specs.declared.dockets.Ask.{Ask}
 use Rattle.crew_script.specs.declared.dockets.Crew.{Crew}
 use Rattle.crew_script.specs.declared.line.Line.{Line}
@@ -15,12 +16,6 @@ use Rattle.crew_script.specs.declared.fault.CrewCode.TheVariants.{BadLine, Dupli
 use Rattle.crew_script.specs.declared.fault.CrewCode.TheVariants.{TooManyCrews, TooManyRequests}
 use Rattle.crew_script.specs.declared.fault.CrewFault.{CrewFault}
 use Rattle.crew_script.specs.declared.fault.CrewFault.TheVariants.{Fault, NoMemory}
-
-abbrev pub most_crews : ℕ
-most_crews = 64
-
-abbrev pub most_requests : ℕ
-most_requests = 100000
 
 -- one more request of the last crew
 abbrev pub with_ask : Ask → List Crew → List Crew
@@ -39,12 +34,12 @@ after crews (line.Request ask) = with_ask ask crews
 abbrev pub crew_fault : List Crew → List ℕ → Option CrewCode
 crew_fault crews name =
     if has_name (names_of crews) name then Some DuplicateCrew
-    else (if nat_le most_crews (length crews) then Some TooManyCrews else None)
+    else (if nat_le MOST_CREWS (length crews) then Some TooManyCrews else None)
 
 -- the fault of a request behind these crews
 abbrev pub request_fault : List Crew → Option CrewCode
 request_fault [] = Some RequestBeforeCrew
-request_fault (crew ∷ crews) = if nat_le most_requests (request_count (crew ∷ crews)) then Some TooManyRequests
+request_fault (crew ∷ crews) = if nat_le MOST_REQUESTS (request_count (crew ∷ crews)) then Some TooManyRequests
     else None
 
 -- the fault of a line behind these crews

@@ -5,7 +5,7 @@ use Rattle.fault_model.specs.declared.node.Place.{Place}
 use Rattle.crew_script.specs.Names.{all_differ, has_name}
 use Rattle.crew_script.specs.Dockets.{names_of, request_count}
 use Rattle.crew_script.specs.Says.{Says}
-use Rattle.crew_script.specs.Crews.{most_crews, most_requests}
+use Rattle.crew_script.specs.declared.dockets.TheConstants.{MOST_CREWS, MOST_REQUESTS}
 use Rattle.crew_script.specs.declared.dockets.Ask.{Ask}
 use Rattle.crew_script.specs.declared.dockets.Crew.{Crew}
 use Rattle.crew_script.specs.declared.line.Line.{Line}
@@ -34,8 +34,8 @@ lines_for crew = line.Crew crew.name ∷ map line.Request crew.docket
 pub record AreCrews (lines : List (List ℕ)) (crews : List Crew) : Type 0 where
   pub say : Say lines (flat_map lines_for crews)
   pub differ : all_differ (names_of crews) ≡ true
-  pub few_crews : length crews ≤ most_crews
-  pub few_requests : request_count crews ≤ most_requests
+  pub few_crews : length crews ≤ MOST_CREWS
+  pub few_requests : request_count crews ≤ MOST_REQUESTS
 
 -- a line has this fault behind these crews
 pub data HasFault : List Crew → List ℕ → CrewCode → Type 0 where
@@ -45,11 +45,11 @@ pub data HasFault : List Crew → List ℕ → CrewCode → Type 0 where
       → HasFault crews bytes DuplicateCrew
   too_many_crews : (crews : List Crew) (bytes name : List ℕ) → Says bytes (line.Crew name)
       → has_name (names_of crews) name ≡ false
-      → most_crews ≤ length crews → HasFault crews bytes TooManyCrews
+      → MOST_CREWS ≤ length crews → HasFault crews bytes TooManyCrews
   request_before_crew : (bytes : List ℕ) (ask : Ask) → Says bytes (line.Request ask)
       → HasFault [] bytes RequestBeforeCrew
   too_many_requests : (crews : List Crew) (bytes : List ℕ) (ask : Ask) → Says bytes (line.Request ask) → crews ≢ []
-      → most_requests ≤ request_count crews → HasFault crews bytes TooManyRequests
+      → MOST_REQUESTS ≤ request_count crews → HasFault crews bytes TooManyRequests
 
 -- the first fault of lines: the lines before stand for crews, and the line has a fault behind these
 pub record IsFirstFault (number : ℕ) (lines : List (List ℕ)) (code : CrewCode) (place : Place) : Type 0 where

@@ -3,7 +3,7 @@
 -- once one carriage return at its end is dropped.
 use Rattle.std.specs.Prelude.{ℕ, ◌+◌, min, Bool, ◌||◌, ◌==◌, if◌then◌else◌, List, [], ◌∷◌, ◌++◌, length, codes, Some}
 use Rattle.std.specs.Prelude.{None, nat_eq}
-use Rattle.std.specs.List.{slice_split, before_first}
+use Rattle.std.specs.List.{slice_split}
 use Rattle.std.specs.Cmp.Lexicographic.{pointwise}
 use Rattle.crew_script.specs.declared.deck.Split.{Split}
 
@@ -14,10 +14,6 @@ is_feed byte = byte == 10
 -- the lines of a text, of which the last may be empty
 abbrev pub lines_of : List ℕ → List (List ℕ)
 lines_of bytes = slice_split is_feed bytes
-
--- the first of them
-abbrev pub first_line : List ℕ → List ℕ
-first_line bytes = before_first is_feed bytes
 
 -- the line divides a deck
 abbrev pub is_crews : List ℕ → Bool

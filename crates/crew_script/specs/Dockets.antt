@@ -3,6 +3,7 @@ use Rattle.std.specs.Prelude.{◌≡◌, ℕ, ◌+◌, ◌≤◌, true, List, []
 use Rattle.std.specs.List.{All}
 use Rattle.fault_model.specs.Name.{is_name}
 use Rattle.crew_script.specs.Names.{all_differ}
+use Rattle.crew_script.specs.declared.dockets.TheConstants.{GREATEST_MARGIN, MOST_CREWS, MOST_REQUESTS}
 use Rattle.crew_script.specs.declared.dockets.Ask.{Ask}
 use Rattle.crew_script.specs.declared.dockets.Ask.TheVariants.{Take, Return, Margin}
 use Rattle.crew_script.specs.declared.dockets.Crew.{Crew}
@@ -28,7 +29,7 @@ ask_at crews number place = get_or (crew_at crews number).docket place (Margin 0
 abbrev pub HasMargin : Ask → Type 0
 HasMargin (Take names) = Unit {0}
 HasMargin (Return name) = Unit {0}
-HasMargin (Margin number) = number ≤ 4095
+HasMargin (Margin number) = number ≤ GREATEST_MARGIN
 
 abbrev pub HasMargins : Crew → Type 0
 HasMargins crew = All HasMargin crew.docket
@@ -40,7 +41,7 @@ pub record AreNamed (crews : List Crew) : Type 0 where
 
 -- at most 64 crews with names that differ, and at most 100,000 requests, of which no margin is above 4,095
 pub record IsDockets (crews : List Crew) : Type 0 where
-  pub few_crews : length crews ≤ 64
+  pub few_crews : length crews ≤ MOST_CREWS
   pub named : AreNamed crews
-  pub few_requests : request_count crews ≤ 100000
+  pub few_requests : request_count crews ≤ MOST_REQUESTS
   pub margins : All HasMargins crews

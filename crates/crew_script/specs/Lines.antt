@@ -9,6 +9,7 @@ use Rattle.crew_script.specs.declared.word.WordKind.TheVariants.{Bare, Quoted, B
 use Rattle.crew_script.specs.Words.{Word}
 use Rattle.crew_script.specs.Names.{has_name, most_taken}
 use Rattle.crew_script.specs.Dockets.{HasMargin}
+use Rattle.crew_script.specs.declared.dockets.TheConstants.{GREATEST_MARGIN}
 use Rattle.crew_script.specs.declared.dockets.Ask.TheVariants.{Take, Return, Margin}
 use Rattle.crew_script.specs.declared.line.Line.{Line}
 use Rattle.crew_script.specs.declared.line.Line.TheVariants.{Nothing, Crew, Request, Bad}
@@ -44,7 +45,8 @@ is_comment word = is_bare_kind word.kind && begins_comment word.text
 
 -- the margin that a text writes
 abbrev pub margin_of : List ℕ → Option ℕ
-margin_of text = if is_numeral 4 text && nat_le (number_from 0 text) 4095 then Some (number_from 0 text) else None
+margin_of text =
+    if is_numeral 4 text && nat_le (number_from 0 text) GREATEST_MARGIN then Some (number_from 0 text) else None
 
 -- ---- forms
 

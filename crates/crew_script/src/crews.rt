@@ -1,5 +1,5 @@
 //! The crews that a crew part says.
-ghost use Rattle.std.specs.Prelude.{◌≡◌, ◌≤◌, length, Ok, IfOk, IfErr};
+ghost use Rattle.std.specs.Prelude.{◌≡◌, ◌+◌, ◌≤◌, length, Ok, IfOk, IfErr};
 ghost use Rattle.crew_script.specs.Crews.{crews_of, FailsAs};
 ghost use Rattle.crew_script.specs.Dockets.{IsDockets};
 
@@ -16,7 +16,7 @@ use std::alloc::Global;
 /// one. The first line has the number that is given.
 pub fn read_crews(alloc: Global, bytes: &[u8], line: u32) -> Result<Dockets, CrewFault>
     requires short { length bytes.now ≤ LONGEST_DECK }
-    requires numbers { line ≤ 16777217 }
+    requires numbers { line ≤ LONGEST_DECK + 1 }
     ensures crews { IfOk result (λ dockets. crews_of line bytes.now ≡ Ok dockets) }
     ensures kept { IfOk result IsDockets }
     ensures fault { IfErr result (λ fault. FailsAs fault (crews_of line bytes.now)) }

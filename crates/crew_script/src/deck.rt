@@ -1,7 +1,9 @@
 //! The parts of a deck.
-ghost use Rattle.std.specs.Prelude.{◌≡◌, ◌↔◌, ◌+◌, ◌≤◌, false, length, drop, position, IfSome, IsNone};
+ghost use Rattle.std.specs.Prelude.{◌≡◌, ◌↔◌, ◌+◌, ◌≤◌, false, length, IfSome, IsNone};
 ghost use Rattle.std.specs.List.{list_any};
-ghost use Rattle.crew_script.specs.Deck.{first_line, is_crews, is_feed, lines_of, split_of};
+ghost use Rattle.crew_script.specs.Deck.{is_crews, lines_of, split_of};
+
+use crate::text_lines::TextLines;
 
 /// The most bytes that a deck may have.
 pub const LONGEST_DECK: usize = 16_777_216;
@@ -28,24 +30,12 @@ pub fn split_deck(bytes: &[u8]) -> Split
     ensures none { IsNone result.crews ↔ (list_any is_crews (lines_of bytes.now) ≡ false) }
     ensures start { IfSome result.crews (λ crews. crews.start ≤ length bytes.now) }
     ensures first { IfSome result.crews (λ crews. 1 ≤ crews.line) }
-    ensures last { IfSome result.crews (λ crews. crews.line ≤ 16777217) }
-{
-    find_line(bytes)
-}
-
-// The parts by the line that divides the deck.
-fn find_line(bytes: &[u8]) -> Split
-    requires { length bytes.now ≤ LONGEST_DECK }
-    ensures split { result ≡ split_of bytes.now }
-    ensures within { result.tree ≤ length bytes.now }
-    ensures start { IfSome result.crews (λ crews. crews.start ≤ length bytes.now) }
-    ensures first { IfSome result.crews (λ crews. 1 ≤ crews.line) }
-    ensures last { IfSome result.crews (λ crews. crews.line ≤ 16777217) }
+    ensures last { IfSome result.crews (λ crews. crews.line ≤ LONGEST_DECK + 1) }
 {
     let mut place = 0;
     let mut line: u32 = 1;
-    while place <= bytes.len() {
-        let row = line_at(bytes, place);
+    let mut lines = TextLines::new(bytes);
+    while let Some(row) = lines.next() {
         let behind = place + row.len() + 1;
         if is_crews(row) {
             let start = behind.min(bytes.len());
@@ -65,33 +55,6 @@ fn find_line(bytes: &[u8]) -> Split
         tree: bytes.len(),
         crews: None,
     }
-}
-
-// The line that begins at a place.
-fn line_at(bytes: &[u8], place: usize) -> &[u8]
-    requires { place ≤ length bytes.now }
-    ensures line { result.now ≡ first_line (drop place bytes.now) }
-    ensures within { place + length result.now ≤ length bytes.now }
-{
-    first_line(&bytes[place..])
-}
-
-// The first line.
-fn first_line(bytes: &[u8]) -> &[u8]
-    ensures line { result.now ≡ first_line bytes.now }
-    ensures within { length result.now ≤ length bytes.now }
-{
-    match feed_at(bytes) {
-        Some(end) => &bytes[..end],
-        None => bytes,
-    }
-}
-
-// Where the first line feed stands.
-fn feed_at(bytes: &[u8]) -> Option<usize>
-    ensures { result ≡ position is_feed bytes.now }
-{
-    bytes.iter().position(|byte| *byte == b'\n')
 }
 
 // Whether a line divides a deck. A carriage return at its end counts for nothing.

@@ -10,6 +10,15 @@ use std::alloc::Global;
 use std::marker::Model;
 use unit_sets::{CrewNo, NoMemory};
 
+/// The most crews of a deck.
+pub const MOST_CREWS: usize = 64;
+
+/// The most requests of all crews of a deck together.
+pub const MOST_REQUESTS: u32 = 100_000;
+
+/// The greatest margin that a request may ask for, in units.
+pub const GREATEST_MARGIN: u32 = 4095;
+
 /// One request of a crew.
 #[derive(Debug, Drop)]
 pub enum Ask {
@@ -70,7 +79,7 @@ impl Dockets {
     fn crew(&self, crew: CrewNo) -> &Crew
         requires { crew.0 < length self.now }
         ensures crew { result.now ≡ crew_at self.now crew.0 }
-        ensures few { length result.now.docket ≤ 100000 }
+        ensures few { length result.now.docket ≤ MOST_REQUESTS }
         ensures kept { IsDockets self.now }
     {
         &self.crews.as_slice()[crew.0 as usize]
@@ -105,7 +114,7 @@ impl Dockets {
     /// How many requests all crews have.
     pub fn total(&self) -> u32
         ensures count { result ≡ request_count self.now }
-        ensures limit { result ≤ 100000 }
+        ensures limit { result ≤ MOST_REQUESTS }
     {
         self.total
     }

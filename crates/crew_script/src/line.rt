@@ -5,7 +5,7 @@ ghost use Rattle.crew_script.specs.Lines.{line_of, request_line, crew_line, retu
 ghost use Rattle.crew_script.specs.Lines.{only_name, only_margin, margin_of, SaysMargin};
 ghost use Rattle.crew_script.specs.Names.{has_name};
 
-use crate::dockets::Ask;
+use crate::dockets::{Ask, GREATEST_MARGIN};
 use crate::names::NameList;
 use crate::word::{Word, Words};
 use decimal_numerals::{is_numeral, number};
@@ -14,8 +14,6 @@ use std::alloc::{AllocError, Global};
 
 // The most names of a take.
 const MOST_TAKEN: usize = 16;
-
-const GREATEST_MARGIN: u32 = 4095;
 
 // The digits of the greatest margin.
 const MARGIN_DIGITS: usize = 4;
@@ -113,7 +111,7 @@ fn margin(words: &mut Words) -> Line
 // The one margin that is left.
 fn only_margin(words: &mut Words) -> Option<u32>
     ensures margin { result ≡ only_margin words.old }
-    ensures small { IfSome result (λ number. number ≤ 4095) }
+    ensures small { IfSome result (λ number. number ≤ GREATEST_MARGIN) }
 {
     let word = words.next()?;
     match words.next() {
@@ -125,7 +123,7 @@ fn only_margin(words: &mut Words) -> Option<u32>
 // The margin that a text writes.
 fn margin_of(text: &[u8]) -> Option<u32>
     ensures margin { result ≡ margin_of text.now }
-    ensures small { IfSome result (λ number. number ≤ 4095) }
+    ensures small { IfSome result (λ number. number ≤ GREATEST_MARGIN) }
 {
     if !is_numeral(MARGIN_DIGITS, text) {
         return None;

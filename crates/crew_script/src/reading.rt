@@ -6,7 +6,7 @@ ghost use Rattle.crew_script.specs.Lines.{SaysMargin};
 ghost use Rattle.crew_script.specs.Crews.{fault_behind, crew_fault, request_fault, after, with_ask};
 ghost use Rattle.crew_script.specs.declared.line.Line.TheVariants.{Crew as CrewLine};
 
-use crate::dockets::{Ask, Crew, Dockets};
+use crate::dockets::{Ask, Crew, Dockets, MOST_CREWS, MOST_REQUESTS};
 use crate::fault::CrewCode;
 use crate::line::Line;
 use fault_model::Name;
@@ -14,10 +14,6 @@ use flat_rows::GrowingList;
 use indexmap::IndexSet;
 use std::alloc::{AllocError, Global};
 use std::marker::Model;
-
-const MOST_CREWS: usize = 64;
-
-const MOST_REQUESTS: u32 = 100_000;
 
 /// The crews so far. The last of them stands apart, since its docket still grows. A contract sees their list.
 #[derive(Drop)]

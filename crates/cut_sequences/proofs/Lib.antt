@@ -1,5 +1,5 @@
 pub mod ListLemmas
-pub mod MarkLemmas
+pub mod HoldingLemmas
 pub mod DealLemmas
 pub mod GoingLemmas
 pub mod ShareLemmas

@@ -1,6 +1,6 @@
 -- The sets of a worker, one after another.
-use Rattle.std.proofs.Common.{◌≡◌, ℕ, zero, suc, ◌+◌, ◌-◌, ◌<◌, ◌≤◌, List, [], ◌∷◌, ◌++◌, length, get_or, drop, All}
-use Rattle.std.proofs.Common.{Option, None, Some, slice_get, ap, sym, ◌∙◌, arith, append_assoc}
+use Rattle.std.proofs.Common.{◌≡◌, ℕ, zero, suc, ◌+◌, ◌-◌, ◌<◌, ◌≤◌, Bool, List, [], ◌∷◌, ◌++◌, length, get_or, drop}
+use Rattle.std.proofs.Common.{All, Option, None, Some, slice_get, ap, sym, ◌∙◌, arith, append_assoc}
 use Rattle.std.proofs.lemmas.List.{get_or-map, length-map}
 use Rattle.std.proofs.lemmas.List.Sums.{sum_by-cons}
 use Rattle.unit_sets.specs.CutOrder.{IsOrderedCuts, weight}
@@ -8,12 +8,11 @@ use Rattle.unit_sets.proofs.CutOrderLemmas.{cut_at}
 use Rattle.unit_sets.proofs.Sorted.{All-slice_get}
 use Rattle.fault_model.specs.Tree.{FaultTree, IsUnitOf}
 use Rattle.fault_model.specs.WellFormed.{IsTree}
-use Rattle.cut_sequences.specs.declared.mark.Mark.{Mark}
 use Rattle.cut_sequences.specs.declared.refusal.OrderEnd.{OrderEnd}
 use Rattle.cut_sequences.specs.Orders.{orders_of, order_lists, order_count, order_total, IsOver}
 use Rattle.cut_sequences.specs.Going.{CanGoOn}
 use Rattle.cut_sequences.specs.Dealing.{dealt, Share}
-use Rattle.cut_sequences.specs.Marks.{lists_from, HoldsShare}
+use Rattle.cut_sequences.specs.Holding.{lists_of, HoldsShare}
 use Rattle.cut_sequences.proofs.DealLemmas.{dealt-next}
 use Rattle.cut_sequences.proofs.GoingLemmas.{can_start}
 use Rattle.cut_sequences.proofs.ListLemmas.{IsOver-more, order_total-append}
@@ -71,24 +70,24 @@ share_more tree tree' most cuts next workers cut listed listed' due same some sh
     ∙ so_far
 
 pub share_over : (tree tree' : FaultTree) (most : ℕ) (cuts : List (List ℕ)) (next workers : ℕ) (cut : List ℕ)
-    (marks : List Mark) (orders : List (List ℕ)) (due : Share) (end : OrderEnd) → tree' ≡ tree → 0 < workers
-    → next < length cuts → slice_get cuts next ≡ Some cut
-    → HoldsShare marks orders → lists_from 0 marks orders
+    (kept : List Bool) (ends : List ℕ) (orders : List (List ℕ)) (due : Share) (end : OrderEnd) → tree' ≡ tree
+    → 0 < workers → next < length cuts → slice_get cuts next ≡ Some cut
+    → HoldsShare kept ends orders → lists_of kept ends orders
     ++ dealt 0 (workers - 1) (drop next (order_lists tree cuts most)) ≡ due
     → IsOver (length orders + order_count (orders_of tree' most cut)) end → IsOver (order_total due) end
-share_over tree tree' most cuts next workers cut marks orders due end same some short at held so_far over =
+share_over tree tree' most cuts next workers cut kept ends orders due end same some short at held so_far over =
     let all : Share = order_lists tree cuts most in
     let count : order_count (orders_of tree' most cut) ≡ order_count (orders_of tree most cut) =
     ap (λ (t : FaultTree). order_count (orders_of t most cut)) same in
-    let parts : lists_from 0 marks orders ++ orders_of tree most cut ∷ dealt 0 (workers - 1) (drop (next + workers) all)
+    let parts : lists_of kept ends orders ++ orders_of tree most cut ∷ dealt 0 (workers - 1) (drop (next + workers) all)
     ≡ due =
-    ap (λ (l : Share). lists_from 0 marks orders ++ l) (sym (next_list tree most cuts next workers cut some short at))
+    ap (λ (l : Share). lists_of kept ends orders ++ l) (sym (next_list tree most cuts next workers cut some short at))
     ∙ so_far in
     IsOver-more (length orders + order_count (orders_of tree' most cut)) (order_total due) end
     (omega (
       arith,
       count,
       held.total,
-      part-le (lists_from 0 marks orders)
+      part-le (lists_of kept ends orders)
           (dealt 0 (workers - 1) (drop (next + workers) all)) due (orders_of tree most cut) parts,
     )) over

@@ -2,5 +2,5 @@ pub mod Permutations
 pub mod Orders
 pub mod Going
 pub mod Dealing
-pub mod Marks
+pub mod Holding
 pub mod Working

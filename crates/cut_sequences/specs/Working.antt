@@ -1,10 +1,9 @@
 -- What the workers have listed so far, and what they still have to list.
-use Rattle.std.specs.Prelude.{◌≡◌, ℕ, ◌-◌, ◌<◌, ◌≤◌, List, ◌++◌, length, drop, Result, Ok, Err, slice_index_or}
+use Rattle.std.specs.Prelude.{◌≡◌, ℕ, ◌-◌, ◌<◌, ◌≤◌, Bool, List, ◌++◌, length, drop, Result, Ok, Err, slice_index_or}
 use Rattle.cut_sequences.specs.declared.refusal.OrderEnd.{OrderEnd}
 use Rattle.cut_sequences.specs.declared.share.Work.{Work}
 use Rattle.cut_sequences.specs.declared.share.Stop.{Stop}
-use Rattle.cut_sequences.specs.declared.mark.Mark.{Mark}
-use Rattle.cut_sequences.specs.Marks.{lists_from, HoldsShare}
+use Rattle.cut_sequences.specs.Holding.{lists_of, HoldsShare}
 use Rattle.cut_sequences.specs.Orders.{order_total, IsOver}
 use Rattle.cut_sequences.specs.Dealing.{dealt, Share}
 
@@ -23,14 +22,14 @@ WentOn lists workers stop work (Ok later) =
 WentOn lists workers stop work (Err end) = IsOver (order_total (whole lists workers work)) end
 
 -- what a worker has listed, and the place of the next set
-abbrev pub work_of : List Mark → List (List ℕ) → ℕ → Work
-work_of marks orders next = record { share = lists_from 0 marks orders; next = next }
+abbrev pub work_of : List Bool → List ℕ → List (List ℕ) → ℕ → Work
+work_of listed ends orders next = record { share = lists_of listed ends orders; next = next }
 
 -- the same where the lists are held in one list of orders
-abbrev pub AddsSets : Share → ℕ → Stop → Work → List Mark → List (List ℕ) → Result ℕ OrderEnd → Type 0
-AddsSets lists workers stop work marks orders (Ok next) =
-    HoldsShare marks orders × WentOn lists workers stop work (Ok (work_of marks orders next))
-AddsSets lists workers stop work marks orders (Err end) = WentOn lists workers stop work (Err end)
+abbrev pub AddsSets : Share → ℕ → Stop → Work → List Bool → List ℕ → List (List ℕ) → Result ℕ OrderEnd → Type 0
+AddsSets lists workers stop work listed ends orders (Ok next) =
+    HoldsShare listed ends orders × WentOn lists workers stop work (Ok (work_of listed ends orders next))
+AddsSets lists workers stop work listed ends orders (Err end) = WentOn lists workers stop work (Err end)
 
 -- each of the workers gets what is dealt to it
 pub record AreAtWork (lists : Share) (works : List Work) : Type 0 where

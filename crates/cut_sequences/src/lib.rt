@@ -13,7 +13,6 @@
 pub mod laws;
 mod listing;
 mod lists;
-mod mark;
 mod refusal;
 mod rounds;
 mod search;

@@ -4,11 +4,11 @@ ghost use Rattle.fault_model.specs.Tree.{IsUnitOf};
 ghost use Rattle.fault_model.specs.WellFormed.{IsTree};
 ghost use Rattle.cut_sequences.specs.Going.{CanGoOn};
 ghost use Rattle.cut_sequences.specs.Working.{AddsSets, WentOn, work_of};
-ghost use Rattle.cut_sequences.specs.Marks.{lists_from, mark_at, start_of, HoldsShare, AddsList};
+ghost use Rattle.flat_rows.specs.Rows.{start_of};
+ghost use Rattle.cut_sequences.specs.Holding.{lists_of, HoldsShare, AddsList};
 ghost use Rattle.cut_sequences.specs.Orders.{order_limit, order_lists, order_total, orders_of, orders_at, is_listed};
 
 use crate::OrderEnd;
-use crate::mark::Mark;
 use crate::search::Search;
 use fault_model::Tree;
 use flat_rows::Rows;
@@ -20,18 +20,20 @@ use unit_sets::{CutList, UnitNo};
 #[derive(Drop)]
 pub struct Share {
     orders: Rows<UnitNo>,
-    marks: Vec<Mark>,
+    // Where the orders of each set end, which begin where those of the set before end.
+    ends: Vec<usize>,
+    listed: Vec<bool>,
 }
 
 impl Model for Share {
     ghost use Rattle.std.specs.Prelude.{List, Option, ℕ};
-    ghost use Rattle.cut_sequences.specs.Marks.{lists_from, HoldsShare};
+    ghost use Rattle.cut_sequences.specs.Holding.{lists_of, HoldsShare};
 
     ghost Value = { List (Option (List (List ℕ))) };
 
-    ghost view = { λ share. lists_from 0 share.marks.items share.orders };
+    ghost view = { λ share. lists_of share.listed.items share.ends.items share.orders };
 
-    ghost invariant = { λ share. HoldsShare share.marks.items share.orders };
+    ghost invariant = { λ share. HoldsShare share.listed.items share.ends.items share.orders };
 }
 
 /// The share of a worker so far, and the place of the first set that it still lacks.
@@ -49,11 +51,11 @@ pub struct Stop {
 }
 
 // Where the orders of the set of a place begin: at the end of those of the set before it.
-fn start(marks: &[Mark], i: usize) -> usize
-    requires { i ≤ length marks.now }
-    ensures { result ≡ start_of marks.now i }
+fn start(ends: &[usize], i: usize) -> usize
+    requires { i ≤ length ends.now }
+    ensures { result ≡ start_of 0 ends.now i }
 {
-    if i == 0 { 0 } else { marks[i - 1].end as usize }
+    if i == 0 { 0 } else { ends[i - 1] }
 }
 
 impl Share {
@@ -63,7 +65,8 @@ impl Share {
     {
         Share {
             orders: Rows::new(alloc),
-            marks: Vec::new(alloc),
+            ends: Vec::new(alloc),
+            listed: Vec::new(alloc),
         }
     }
 
@@ -80,7 +83,7 @@ impl Share {
         requires { i < length self.now }
         ensures { result ≡ is_listed self.now i }
     {
-        self.marks[i].listed
+        self.listed[i]
     }
 
     /// The number of orders of a listed set.
@@ -89,7 +92,7 @@ impl Share {
         requires listed { is_listed self.now i ≡ true }
         ensures { result ≡ length (orders_at self.now i) }
     {
-        self.marks[i].end as usize - start(self.marks.as_slice(), i)
+        self.ends[i] - start(self.ends.as_slice(), i)
     }
 
     /// The order of a number, from 0, of the set of a place.
@@ -98,42 +101,42 @@ impl Share {
         requires order { j < length (orders_at self.now i) }
         ensures { result.now ≡ slice_index_or (orders_at self.now i) j [] }
     {
-        self.orders.row(start(self.marks.as_slice(), i) + j)
+        self.orders.row(start(self.ends.as_slice(), i) + j)
     }
 }
 
 // Lists the orders of one set more, if it is not too large.
 fn add_set(
     search: &mut Search,
-    marks: &mut Vec<Mark>,
+    ends: &mut Vec<usize>,
+    listed: &mut Vec<bool>,
     set: &[UnitNo],
     most: u32,
 ) -> Result<(), OrderEnd>
     requires start { search.old.replay.order ≡ [] }
     requires set { CanGoOn search.old.replay.tree [] set.now }
     requires some { 0 < length set.now }
-    requires held { HoldsShare marks.old.items search.old.orders }
+    requires held { HoldsShare listed.old.items ends.old.items search.old.orders }
 
     ensures tree { OnOk result (search.new.replay.tree ≡ search.old.replay.tree) }
     ensures order { OnOk result (search.new.replay.order ≡ []) }
-    ensures added { AddsList marks.old.items search.old.orders marks.new.items search.new.orders
-        (orders_of search.old.replay.tree most set.now) result }
+    ensures added { AddsList listed.old.items ends.old.items search.old.orders
+        listed.new.items ends.new.items search.new.orders (orders_of search.old.replay.tree most set.now) result }
 {
-    let listed = set.len() <= most as usize;
-    if listed {
+    let small = set.len() <= most as usize;
+    if small {
         search.list_set(set)?;
     }
-    marks.push(Mark {
-        end: search.orders.len() as u32,
-        listed,
-    })?;
+    ends.push(search.orders.len())?;
+    listed.push(small)?;
     Ok(())
 }
 
 // Lists the orders of a worker's sets from a place on, until the worker has to stop: answers the place of the next set.
 fn add_sets(
     search: &mut Search,
-    marks: &mut Vec<Mark>,
+    ends: &mut Vec<usize>,
+    listed: &mut Vec<bool>,
     cuts: &CutList,
     most: u32,
     workers: usize,
@@ -146,14 +149,15 @@ fn add_sets(
     requires few { workers ≤ 16 }
     requires place { stop.place ≤ length cuts.now }
     requires units { All (λ cut. All (IsUnitOf search.old.replay.tree) cut) cuts.now }
-    requires held { HoldsShare marks.old.items search.old.orders }
+    requires held { HoldsShare listed.old.items ends.old.items search.old.orders }
 
     ensures { AddsSets (order_lists search.old.replay.tree cuts.now most) workers stop
-        (work_of marks.old.items search.old.orders from) marks.new.items search.new.orders result }
+        (work_of listed.old.items ends.old.items search.old.orders from)
+        listed.new.items ends.new.items search.new.orders result }
 {
     let mut next = from;
     while next < stop.place && search.orders.len() <= stop.orders {
-        add_set(search, marks, cuts.members(next), most)?;
+        add_set(search, ends, listed, cuts.members(next), most)?;
         next += workers;
     }
     Ok(next)
@@ -178,12 +182,29 @@ pub fn go_on(
 {
     let mut search = Search::new(alloc, tree)?;
     let Work { share, next } = work;
-    let Share { orders, mut marks } = share;
+    let Share {
+        orders,
+        mut ends,
+        mut listed,
+    } = share;
     search.orders = orders;
-    let next = add_sets(&mut search, &mut marks, cuts, most, workers, stop, next)?;
+    let next = add_sets(
+        &mut search,
+        &mut ends,
+        &mut listed,
+        cuts,
+        most,
+        workers,
+        stop,
+        next,
+    )?;
     let Search { orders, .. } = search;
     Ok(Work {
-        share: Share { orders, marks },
+        share: Share {
+            orders,
+            ends,
+            listed,
+        },
         next,
     })
 }

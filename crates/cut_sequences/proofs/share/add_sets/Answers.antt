@@ -4,7 +4,7 @@ use Rattle.unit_sets.proofs.CutOrderLemmas.{cut_at}
 use Rattle.fault_model.specs.Tree.{FaultTree}
 use Rattle.cut_sequences.specs.Dealing.{Share}
 use Rattle.cut_sequences.specs.Going.{CanGoOn}
-use Rattle.cut_sequences.specs.Marks.{lists_from}
+use Rattle.cut_sequences.specs.Holding.{lists_of}
 use Rattle.cut_sequences.specs.Orders.{order_lists}
 use Rattle.cut_sequences.specs.Working.{whole, work_of}
 use Rattle.cut_sequences.proofs.ShareLemmas.{few_sets, can_start_cut, share_more, share_over}
@@ -26,12 +26,13 @@ returns-in_err-add_set c =
     let short : c.loop-next.next < length c.args.cuts.now = omega arith in
     let due : Share =
     whole (order_lists c.args.search.now.replay.tree c.args.cuts.now c.args.most) c.args.workers
-    (work_of c.args.marks.now.items c.args.search.now.orders c.args.from) in
+    (work_of c.args.listed.now.items c.args.ends.now.items c.args.search.now.orders c.args.from) in
     let p = err_from_is_err_and c.from_residual.result c.from_residual.ensures.1 in
     rw (p.1, p.2)
     (share_over c.args.search.now.replay.tree c.loop-next.search.replay.tree c.args.most c.args.cuts.now
-    c.loop-next.next c.args.workers c.members.result.now c.loop-next.marks.items c.loop-next.search.orders due
-    c.in_err-add_set.field-0.0 c.loop-next.invariant.tree c.requires.some short c.members.ensures.value
+    c.loop-next.next c.args.workers c.members.result.now c.loop-next.listed.items c.loop-next.ends.items
+    c.loop-next.search.orders due c.in_err-add_set.field-0.0 c.loop-next.invariant.tree c.requires.some short
+    c.members.ensures.value
     c.loop-next.invariant.held c.loop-next.invariant.listed c.in_err-add_set.ensures.added)
 
 pub loop-next-preserved : goal.loop-next-preserved
@@ -39,7 +40,7 @@ loop-next-preserved c =
     let short : c.loop-next.next < length c.args.cuts.now = omega arith in
     let due : Share =
     whole (order_lists c.args.search.now.replay.tree c.args.cuts.now c.args.most) c.args.workers
-    (work_of c.args.marks.now.items c.args.search.now.orders c.args.from) in
+    (work_of c.args.listed.now.items c.args.ends.now.items c.args.search.now.orders c.args.from) in
     record {
       tree = c.in_ok-add_set.ensures.tree ∙ c.loop-next.invariant.tree;
       order = c.in_ok-add_set.ensures.order;
@@ -47,10 +48,10 @@ loop-next-preserved c =
       listed =
           share_more c.args.search.now.replay.tree c.loop-next.search.replay.tree c.args.most c.args.cuts.now
           c.loop-next.next c.args.workers c.members.result.now
-          (lists_from 0 c.loop-next.marks.items c.loop-next.search.orders)
-          (lists_from 0 c.add_set.new.marks.items c.add_set.new.search.orders) due c.loop-next.invariant.tree
-          c.requires.some short c.members.ensures.value
-          c.loop-next.invariant.listed c.in_ok-add_set.ensures.added.1;
+          (lists_of c.loop-next.listed.items c.loop-next.ends.items c.loop-next.search.orders)
+          (lists_of c.add_set.new.listed.items c.add_set.new.ends.items c.add_set.new.search.orders) due
+          c.loop-next.invariant.tree c.requires.some short c.members.ensures.value c.loop-next.invariant.listed
+          c.in_ok-add_set.ensures.added.1;
     }
 
 pub overflow_add-next : goal.overflow_add-next
