@@ -7,3 +7,4 @@ mod PrintLemmas
 mod PrintedTrees
 pub mod OrdersOfUnitsLemmas
 mod SummaryLemmas
+mod UnitTextsLemmas

@@ -1,8 +1,8 @@
 -- Names as texts show them.
-use Rattle.std.specs.Prelude.{ℕ, if◌then◌else◌, List, ◌++◌, codes}
+use Rattle.std.specs.Prelude.{◌≡◌, ℕ, ◌-◌, ◌≤◌, if◌then◌else◌, List, [], ◌++◌, codes, length, slice_index_or}
 use Rattle.std.specs.List.{flat_map}
 use Rattle.fault_model.specs.Name.{is_bare_name}
-use Rattle.fault_model.specs.Tree.{FaultTree, name_of}
+use Rattle.fault_model.specs.Tree.{FaultTree, IsUnitOf, unit_count, name_of}
 
 -- a bare name as it is, and any other in quotes
 abbrev pub show : List ℕ → List ℕ
@@ -19,3 +19,8 @@ unit_text tree unit = named (name_of tree unit)
 -- the names of units, each behind a blank
 abbrev pub spaced : FaultTree → List ℕ → List ℕ
 spaced tree units = flat_map (unit_text tree) units
+
+-- texts of which each unit of the tree has its own, in the order of the units
+pub record AreTextsOf (tree : FaultTree) (texts : List (List ℕ)) : Type 0 where
+  pub count : unit_count tree ≤ length texts
+  pub each : (unit : ℕ) → IsUnitOf tree unit → slice_index_or texts (unit - 1) [] ≡ unit_text tree unit

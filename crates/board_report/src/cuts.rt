@@ -6,9 +6,11 @@ ghost use Rattle.fault_model.specs.Tree.{IsUnitOf, name_of};
 ghost use Rattle.board_report.specs.CutsText.{count_line, cut_block, cut_blocks, cut_line, cut_number, cuts_text};
 ghost use Rattle.board_report.specs.CutsText.{listed_with, titled_line, tree_counts, tree_line};
 ghost use Rattle.board_report.specs.OrdersOfUnits.{AreOrdersOf};
+ghost use Rattle.board_report.specs.Shown.{AreTextsOf};
 
 use crate::orders::put_order_lines;
-use crate::pieces::{put_shown, put_spaced};
+use crate::pieces::{Spelled, put_shown, put_spaced};
+use crate::unit_texts::UnitTexts;
 use cut_sequences::OrderLists;
 use edge_io::{Out, Sink, WriteFault};
 use fault_model::{Name, Tree};
@@ -16,13 +18,16 @@ use itoa::Buffer;
 use text_pieces::put_all;
 use unit_sets::{CutList, UnitNo};
 
-/// Puts the text of `cuts` over cut sets of units of the tree and the orders that are listed for them.
+/// Puts the text of `cuts` over cut sets of units of the tree and the orders that are listed for them. `texts` are
+/// those of the tree's units.
 pub fn put_cuts<K: Sink>(
     out: &mut Out<K>,
     tree: &Tree,
+    texts: &UnitTexts,
     cuts: &CutList,
     orders: &OrderLists,
 ) -> Result<(), WriteFault>
+    requires texts { AreTextsOf tree.now texts.now }
     requires units { All (All (IsUnitOf tree.now)) cuts.now }
     requires made { AreOrdersOf tree.now cuts.now orders.now }
     ensures puts { Puts K.taken K.faults out.old out.new (cuts_text tree.now (listed_with cuts.now orders.now)) }
@@ -30,7 +35,7 @@ pub fn put_cuts<K: Sink>(
 {
     put_tree_line(out, tree)?;
     put_count_line(out, cuts.len(), orders.total())?;
-    put_blocks(out, tree, cuts, orders)
+    put_blocks(out, &Spelled { tree, texts }, cuts, orders)
 }
 
 pub(crate) fn put_tree_line<K: Sink>(out: &mut Out<K>, tree: &Tree) -> Result<(), WriteFault>
@@ -107,18 +112,20 @@ pub(crate) fn put_count_line<K: Sink>(
 
 fn put_blocks<K: Sink>(
     out: &mut Out<K>,
-    tree: &Tree,
+    names: &Spelled,
     cuts: &CutList,
     orders: &OrderLists,
 ) -> Result<(), WriteFault>
-    requires units { All (All (IsUnitOf tree.now)) cuts.now }
-    requires made { AreOrdersOf tree.now cuts.now orders.now }
+    requires units { All (All (IsUnitOf names.now.tree.now)) cuts.now }
+    requires texts { AreTextsOf names.now.tree.now names.now.texts.now }
+    requires made { AreOrdersOf names.now.tree.now cuts.now orders.now }
     requires fine { has_failed out.old ≡ false }
-    ensures puts { Puts K.taken K.faults out.old out.new (cut_blocks tree.now 1 (listed_with cuts.now orders.now)) }
+    ensures puts { Puts K.taken K.faults out.old out.new
+        (cut_blocks names.now.tree.now 1 (listed_with cuts.now orders.now)) }
     ensures answer { is_err result ≡ has_failed out.new }
 {
     for i in 0..cuts.len() {
-        put_block(out, tree, cuts.members(i), orders, i)?;
+        put_block(out, names, cuts.members(i), orders, i)?;
     }
     Ok(())
 }
@@ -126,35 +133,37 @@ fn put_blocks<K: Sink>(
 // The cut set of a place and its orders.
 fn put_block<K: Sink>(
     out: &mut Out<K>,
-    tree: &Tree,
+    names: &Spelled,
     set: &[UnitNo],
     orders: &OrderLists,
     i: usize,
 ) -> Result<(), WriteFault>
     requires within { i < length orders.now }
     requires countable { i < usize.MAX }
-    requires set_units { All (IsUnitOf tree.now) set.now }
-    requires units { All (All (IsUnitOf tree.now)) (orders_at orders.now i) }
+    requires texts { AreTextsOf names.now.tree.now names.now.texts.now }
+    requires set_units { All (IsUnitOf names.now.tree.now) set.now }
+    requires units { All (All (IsUnitOf names.now.tree.now)) (orders_at orders.now i) }
     ensures puts { Puts K.taken K.faults out.old out.new
-        (cut_block tree.now (i + 1) set.now (slice_index_or orders.now i None)) }
+        (cut_block names.now.tree.now (i + 1) set.now (slice_index_or orders.now i None)) }
     ensures answer { is_err result ≡ has_failed out.new }
 {
-    put_cut_line(out, tree, i as u64 + 1, set)?;
-    put_order_lines(out, tree, orders, i)
+    put_cut_line(out, names, i as u64 + 1, set)?;
+    put_order_lines(out, names, orders, i)
 }
 
 fn put_cut_line<K: Sink>(
     out: &mut Out<K>,
-    tree: &Tree,
+    names: &Spelled,
     number: u64,
     set: &[UnitNo],
 ) -> Result<(), WriteFault>
-    requires units { All (IsUnitOf tree.now) set.now }
-    ensures puts { Puts K.taken K.faults out.old out.new (cut_line tree.now number set.now) }
+    requires texts { AreTextsOf names.now.tree.now names.now.texts.now }
+    requires units { All (IsUnitOf names.now.tree.now) set.now }
+    ensures puts { Puts K.taken K.faults out.old out.new (cut_line names.now.tree.now number set.now) }
     ensures answer { is_err result ≡ has_failed out.new }
 {
     put_cut_number(out, number)?;
-    put_spaced(out, tree, set)?;
+    put_spaced(out, names, set)?;
     out.put(b"\n")
 }
 

@@ -2,11 +2,12 @@
 ghost use Rattle.std.specs.Prelude.{◌≡◌, ◌<◌, is_err, length, false, All};
 ghost use Rattle.std.specs.List.{flat_map};
 ghost use Rattle.edge_io.specs.Out.{has_failed, Puts};
-ghost use Rattle.fault_model.specs.Tree.{IsUnitOf, name_of};
-ghost use Rattle.board_report.specs.Shown.{named, show, spaced, unit_text};
+ghost use Rattle.fault_model.specs.Tree.{IsUnitOf};
+ghost use Rattle.board_report.specs.Shown.{AreTextsOf, named, show, spaced, unit_text};
 
+use crate::unit_texts::UnitTexts;
 use edge_io::{Out, Sink, WriteFault};
-use fault_model::{Name, NodeNo, Tree};
+use fault_model::{Name, Tree};
 use text_pieces::put_all;
 use unit_sets::UnitNo;
 
@@ -31,35 +32,37 @@ pub(crate) fn put_named<K: Sink>(out: &mut Out<K>, name: &Name) -> Result<(), Wr
     put_shown(out, name)
 }
 
-// Puts a unit's name behind a blank.
-fn put_unit<K: Sink>(out: &mut Out<K>, tree: &Tree, unit: UnitNo) -> Result<(), WriteFault>
-    requires { IsUnitOf tree.now unit }
-    ensures puts { Puts K.taken K.faults out.old out.new (unit_text tree.now unit) }
-    ensures answer { is_err result ≡ has_failed out.new }
-{
-    put_named(out, unit_name(tree, unit))
+// A tree, and the texts of its units.
+#[derive(Clone, Copy)]
+pub(crate) struct Spelled<'a> {
+    pub tree: &'a Tree,
+    pub texts: &'a UnitTexts,
 }
 
-pub(crate) fn unit_name(tree: &Tree, unit: UnitNo) -> &Name
-    requires { IsUnitOf tree.now unit }
-    ensures { result.now ≡ name_of tree.now unit }
+// Puts a unit's name behind a blank.
+fn put_unit<K: Sink>(out: &mut Out<K>, names: &Spelled, unit: UnitNo) -> Result<(), WriteFault>
+    requires unit { IsUnitOf names.now.tree.now unit }
+    requires texts { AreTextsOf names.now.tree.now names.now.texts.now }
+    ensures puts { Puts K.taken K.faults out.old out.new (unit_text names.now.tree.now unit) }
+    ensures answer { is_err result ≡ has_failed out.new }
 {
-    tree.name(NodeNo(u32::from(unit.number())))
+    out.put(names.texts.text(unit))
 }
 
 // Puts the names of units, each behind a blank.
 pub(crate) fn put_spaced<K: Sink>(
     out: &mut Out<K>,
-    tree: &Tree,
+    names: &Spelled,
     units: &[UnitNo],
 ) -> Result<(), WriteFault>
-    requires units { All (IsUnitOf tree.now) units.now }
+    requires units { All (IsUnitOf names.now.tree.now) units.now }
+    requires texts { AreTextsOf names.now.tree.now names.now.texts.now }
     requires fine { has_failed out.old ≡ false }
-    ensures puts { Puts K.taken K.faults out.old out.new (spaced tree.now units.now) }
+    ensures puts { Puts K.taken K.faults out.old out.new (spaced names.now.tree.now units.now) }
     ensures answer { is_err result ≡ has_failed out.new }
 {
     for unit in units {
-        put_unit(out, tree, *unit)?;
+        put_unit(out, names, *unit)?;
     }
     Ok(())
 }

@@ -2,8 +2,9 @@
 ghost use Rattle.std.specs.Prelude.{◌≡◌, ◌≤◌, [], All, IfOk};
 ghost use Rattle.fault_model.specs.Tree.{IsUnitOf};
 ghost use Rattle.board_report.specs.OrdersOfUnits.{AreOrdersOf};
+ghost use Rattle.board_report.specs.Shown.{AreTextsOf};
 
-use board_report::{DeckFault, FaultCode, Notice, put_cuts, put_fault, put_notice};
+use board_report::{DeckFault, FaultCode, Notice, UnitTexts, put_cuts, put_fault, put_notice};
 use cut_sequences::{OrderEnd, OrderLists, orders};
 use edge_io::{Buffer, Bytes, CallList, KeptSink, NoMemory, Out, Sink, WriteFault};
 use fault_model::{Place, Tree};
@@ -31,15 +32,17 @@ fn put_listed<K: Sink>(
     sink: &mut K,
     buffer: Buffer,
     tree: &Tree,
+    texts: &UnitTexts,
     cuts: &CutList,
     orders: &OrderLists,
 ) -> Result<(), WriteFault>
     requires empty { buffer ≡ [] }
+    requires texts { AreTextsOf tree.now texts.now }
     requires units { All (All (IsUnitOf tree.now)) cuts.now }
     requires made { AreOrdersOf tree.now cuts.now orders.now }
 {
     let mut out = Out::over(sink, buffer);
-    let _ = put_cuts(&mut out, tree, cuts, orders);
+    let _ = put_cuts(&mut out, tree, texts, cuts, orders);
     out.finish()
 }
 
@@ -55,7 +58,8 @@ fn cuts_written(
 {
     let mut sink = sink_of(alloc, room)?;
     let buffer = Buffer::new(alloc)?;
-    let end = put_listed(&mut sink, buffer, tree, cuts, orders);
+    let texts = UnitTexts::new(alloc, tree)?;
+    let end = put_listed(&mut sink, buffer, tree, &texts, cuts, orders);
     Ok((Bytes::of(alloc, sink.bytes())?, end))
 }
 

@@ -1,7 +1,7 @@
 -- What a run told: a front of its text where its sink failed, and the crews of a deck where it has some.
 use Rattle.std.specs.Prelude.{◌≡◌, ℕ, List, Option, Some, None, MatchOption, Result, Err, OnErr, option_copied}
 use Rattle.std.proofs.Common.{subst, refl, inr}
-use Rattle.edge_io.specs.Faults.{Rose}
+use Rattle.event_counts.specs.Count.{Rose}
 use Rattle.edge_io.specs.Out.{Delivers}
 use Rattle.fault_model.specs.Tree.{FaultTree}
 use Rattle.crew_script.specs.declared.dockets.Crew.{Crew}

@@ -6,6 +6,7 @@ use Rattle.fault_model.specs.Tree.{FaultTree, IsUnitOf}
 use Rattle.fault_model.specs.Cut.{IsCutList, IsMinimalCut}
 use Rattle.cut_sequences.specs.Orders.{order_lists}
 use Rattle.board_report.specs.OrdersOfUnits.{AreOrdersOf}
+use Rattle.board_report.specs.Shown.{AreTextsOf}
 use Rattle.board_report.proofs.OrdersOfUnitsLemmas.{AreOrdersOf-order_lists}
 
 cuts_of_units : (tree : FaultTree) (cuts : List (List ℕ)) → IsCutList tree cuts → All (All (IsUnitOf tree)) cuts
@@ -13,8 +14,8 @@ cuts_of_units tree cuts list =
     All-weaker (IsMinimalCut tree) (All (IsUnitOf tree)) (λ set minimal. minimal.units) cuts list.sound
 
 pub listed_of_units : (tree : FaultTree) (cuts : List (List ℕ)) (most : ℕ) (lists : List (Option (List (List ℕ))))
-    → IsCutList tree cuts
-    → lists ≡ order_lists tree cuts most → All (All (IsUnitOf tree)) cuts × AreOrdersOf tree cuts lists
-listed_of_units tree cuts most lists list is =
+    (texts : List (List ℕ)) → IsCutList tree cuts → lists ≡ order_lists tree cuts most → AreTextsOf tree texts
+    → All (All (IsUnitOf tree)) cuts × AreOrdersOf tree cuts lists × AreTextsOf tree texts
+listed_of_units tree cuts most lists texts list is spelled =
     let units = cuts_of_units tree cuts list in
-    (units, subst (AreOrdersOf tree cuts) (sym is) (AreOrdersOf-order_lists tree cuts most units))
+    (units, subst (AreOrdersOf tree cuts) (sym is) (AreOrdersOf-order_lists tree cuts most units), spelled)

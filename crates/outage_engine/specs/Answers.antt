@@ -21,6 +21,7 @@ use Rattle.board_report.specs.CutsText.{cuts_text, listed_with}
 use Rattle.board_report.specs.DiagramText.{diagram_text}
 use Rattle.board_report.specs.OrdersOfUnits.{AreOrdersOf}
 use Rattle.board_report.specs.PrintText.{print_text}
+use Rattle.board_report.specs.Shown.{AreTextsOf}
 use Rattle.board_report.specs.Refusals.{fault_line, notice_line}
 use Rattle.board_report.specs.SummaryText.{summary_text}
 use Rattle.board_report.specs.declared.fault.FaultCode.TheVariants as report
@@ -92,10 +93,11 @@ text_of (Summed summary) = summed_text summary
 text_of Help = notice_line notice.Usage
 text_of (Refused refusal) = refusal_line refusal
 
--- its cut sets and their orders are of units of its tree, so that it can be written
+-- its cut sets and their orders are of units of its tree, of which it has the texts, so that it can be written
 abbrev pub IsOfUnits : Listing → Type 0
 IsOfUnits listing =
     All (All (IsUnitOf listing.tree)) listing.cuts × AreOrdersOf listing.tree listing.cuts listing.orders
+    × AreTextsOf listing.tree listing.texts
 
 -- the orders of a summary were made for the cut list of its board
 abbrev pub HasOrders : Summary → Type 0

@@ -1,6 +1,6 @@
 //! The answer to words that ask for no board, before anything is written.
 ghost use Rattle.std.specs.Prelude.{◌≡◌, ◌≤◌, ◌⊎◌, None, IfOk, IfErr};
-ghost use Rattle.edge_io.specs.Faults.{Rose};
+ghost use Rattle.event_counts.specs.Count.{Rose};
 ghost use Rattle.board_words.specs.Command.{command_of};
 ghost use Rattle.outage_engine.specs.Answers.{IfRefused, IsOfUnits, IsRefusalBy, IsRefusalFor, IsWritable};
 ghost use Rattle.outage_engine.specs.Answers.{listing_text, status_of, text_of};

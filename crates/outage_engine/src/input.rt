@@ -1,6 +1,6 @@
 //! From the source to the deck that it holds.
 ghost use Rattle.std.specs.Prelude.{◌≡◌, IsSome, IfOk, IfErr};
-ghost use Rattle.edge_io.specs.Faults.{Rose};
+ghost use Rattle.event_counts.specs.Count.{Rose};
 ghost use Rattle.outage_engine.specs.Answers.{IfRefused, IsReadRefusal};
 ghost use Rattle.outage_engine.specs.Deck.{IsWellFormed};
 ghost use Rattle.outage_engine.specs.Gives.{OfInput};

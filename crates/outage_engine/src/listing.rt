@@ -10,6 +10,7 @@ ghost use Rattle.outage_engine.specs.Store.{IsFoundBy, method_by};
 use crate::Method;
 use crate::found::{Found, find_cuts};
 use crate::refusal::{Refusal, RunEnd};
+use board_report::UnitTexts;
 use cut_sequences::{OrderEnd, OrderLists, orders};
 use edge_io::Free;
 use fault_model::Tree;
@@ -19,13 +20,14 @@ use unit_sets::{CutList, ListEnd};
 use zdd_shared_table::{NodeStore, StoreSeat};
 use zdd_words::NodeRef;
 
-/// A tree, its cut list, the failing orders of the sets that are small enough, and the reference of the cut list's
-/// family where the diagrams of the tree gave it.
+/// A tree, its cut list, the failing orders of the sets that are small enough, the text of each of its units, and the
+/// reference of the cut list's family where the diagrams of the tree gave it.
 #[derive(Drop)]
 pub(crate) struct Listing {
     pub tree: Tree,
     pub cuts: CutList,
     pub orders: OrderLists,
+    pub texts: UnitTexts,
     pub root: Option<NodeRef>,
 }
 
@@ -90,11 +92,13 @@ fn list_orders<R: Threads + Sync>(
     ensures root { IfOk result (λ listing. listing.root ≡ found.root) }
 {
     let Found { cuts, root } = found;
+    let texts = UnitTexts::new(alloc, &tree)?;
     match orders(rt, alloc, &tree, &cuts, most, workers) {
         Ok(orders) => Ok(Listing {
             tree,
             cuts,
             orders,
+            texts,
             root,
         }),
         Err(OrderEnd::OrderLimit) => Err(RunEnd::Refused(Refusal::OrderLimit)),

@@ -1,6 +1,6 @@
 //! A board for the deck that the source holds, before anything is written and any crew is served.
 ghost use Rattle.std.specs.Prelude.{◌≡◌, ◌≤◌, IsSome, Some, None, IfOk, IfErr};
-ghost use Rattle.edge_io.specs.Faults.{Rose};
+ghost use Rattle.event_counts.specs.Count.{Rose};
 ghost use Rattle.board_words.specs.Command.{command_of};
 ghost use Rattle.outage_engine.specs.Answers.{IfRefused, IsLimitOf, IsOfUnits, IsRefusalBy, IsRefusalFor};
 ghost use Rattle.outage_engine.specs.Gives.{OfInput, own_deck};

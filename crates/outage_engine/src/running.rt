@@ -1,6 +1,6 @@
 //! The run of the program.
 ghost use Rattle.std.specs.Prelude.{◌≡◌, ◌⊎◌, ◌≤◌, true, false, []};
-ghost use Rattle.edge_io.specs.Faults.{Rose};
+ghost use Rattle.event_counts.specs.Count.{Rose};
 ghost use Rattle.board_words.specs.Command.{command_of};
 ghost use Rattle.board_report.specs.BoardText.{IsDeckOf};
 ghost use Rattle.outage_engine.specs.Answers.{IsOfUnits};
@@ -17,11 +17,11 @@ ghost use Rattle.outage_engine.specs.Store.{method_by};
 ghost use Rattle.outage_engine.specs.StoreAfter.{BearsOut, FindsFull, GoesForDeck, LeavesDiagram};
 ghost use Rattle.outage_engine.specs.declared.status.Status.TheVariants.{Done};
 
-use crate::answer::{Answer, answer_words};
+use crate::answer::answer_words;
 use crate::listing::Listing;
 use crate::opening::open_words;
 use crate::refusal::RunEnd;
-use crate::tell::{tell, tell_board};
+use crate::tell::{tell, tell_board, tell_refusal};
 use crate::{Status, Word};
 use board_words::{Command, read};
 use crew_workers::serve_all;
@@ -201,7 +201,7 @@ fn answer_and_tell<R: Threads + Sync, S: Source, K: Sink>(
     };
     match answer_words(rt, alloc, words, source, store, seat) {
         Ok(answer) => tell(sink, buffer, &answer),
-        Err(RunEnd::Refused(refusal)) => tell(sink, buffer, &Answer::Refused(refusal)),
+        Err(RunEnd::Refused(refusal)) => tell_refusal(sink, buffer, refusal),
         Err(RunEnd::NoMemory) => Status::NoMemory,
     }
 }
@@ -289,7 +289,7 @@ fn serve_and_tell<R: Threads + Wait + Sync, S: Source, K: Sink>(
     };
     match open_words(rt, alloc, words, source, store, seat) {
         Ok(opened) => serve(rt, opened.listing, opened.start, buffer, sink),
-        Err(RunEnd::Refused(refusal)) => tell(sink, buffer, &Answer::Refused(refusal)),
+        Err(RunEnd::Refused(refusal)) => tell_refusal(sink, buffer, refusal),
         Err(RunEnd::NoMemory) => Status::NoMemory,
     }
 }

@@ -4,7 +4,7 @@ ghost use Rattle.edge_io.specs.Out.{has_failed, Puts};
 ghost use Rattle.board_report.specs.BoardText.{IsDeckOf, board_text};
 ghost use Rattle.board_report.specs.CheckText.{check_text};
 ghost use Rattle.outage_engine.specs.Answers.{HasOrders, IsOfUnits, IsWritable, listing_text, refusal_line};
-ghost use Rattle.outage_engine.specs.Answers.{status_of, summed_text, text_of};
+ghost use Rattle.outage_engine.specs.Answers.{refusal_status, status_of, summed_text, text_of};
 ghost use Rattle.outage_engine.specs.Runs.{Tells};
 ghost use Rattle.outage_engine.specs.Store.{method_by};
 
@@ -34,6 +34,14 @@ pub(crate) fn tell<K: Sink>(sink: &mut K, buffer: Buffer, answer: &Answer) -> St
         Ok(()) => answer.status(),
         Err(_) => Status::WriteFault,
     }
+}
+
+/// Writes the line of a refusal, and tells how the run ends.
+pub(crate) fn tell_refusal<K: Sink>(sink: &mut K, buffer: Buffer, refusal: Refusal) -> Status
+    requires empty { buffer ≡ [] }
+    ensures told { Tells K.taken K.faults sink.old sink.new (refusal_status refusal) (refusal_line refusal) result }
+{
+    tell(sink, buffer, &Answer::Refused(refusal))
 }
 
 fn put_answer<K: Sink>(out: &mut Out<K>, answer: &Answer) -> Result<(), WriteFault>
@@ -79,7 +87,13 @@ fn put_listing<K: Sink>(out: &mut Out<K>, listing: &Listing) -> Result<(), Write
     ensures puts { Puts K.taken K.faults out.old out.new (listing_text listing.now) }
     ensures answer { is_err result ≡ has_failed out.new }
 {
-    put_cuts(out, &listing.tree, &listing.cuts, &listing.orders)
+    put_cuts(
+        out,
+        &listing.tree,
+        &listing.texts,
+        &listing.cuts,
+        &listing.orders,
+    )
 }
 
 fn put_summed<K: Sink>(out: &mut Out<K>, summary: &Summary) -> Result<(), WriteFault>

@@ -1,17 +1,14 @@
 //! The program: the words after its name, its standard input and output, and its exit status.
 //!
 //! It stands on `outage_engine` for all that it does, on `zdd_shared_table` for the store of the diagrams, on
-//! `board_words` for how large that store is, and on `edge_io` for the edge over the standard streams.
+//! `board_words` for the words and how large that store is, and on `edge_io` for the edge over the standard streams.
 #![tactic(auto)]
 
 ghost use Rattle.std.specs.Prelude.{◌≤◌};
 
-use board_words::{Command, Show, read};
-use edge_io::{NoMemory, StdSink, StdSource};
+use board_words::{Command, Show, read, spoken_words};
+use edge_io::{StdSink, StdSource};
 use outage_engine::{Status, Word, run};
-use std::alloc::AllocError;
-use std::env;
-use std::io::ErrorKind;
 use std::process::ExitCode;
 use zdd_shared_table::{NodeStore, StoreStart};
 
@@ -22,7 +19,7 @@ const STORE_BITS: u32 = 20;
 const LEAST_BITS: u32 = 10;
 
 fn main(rt: HostRuntime) -> ExitCode {
-    let Ok(words) = words(&rt) else {
+    let Ok(words) = spoken_words(&rt) else {
         return ExitCode::from(Status::NoMemory.code());
     };
     let status = match NodeStore::new(rt.alloc(), store_bits(words.as_slice())) {
@@ -50,18 +47,4 @@ fn store_bits(words: &[Word]) -> u32
         Some(Command::Make { show, .. }) if show == Show::Deck => LEAST_BITS,
         Some(_) => STORE_BITS,
     }
-}
-
-// The words after the program's name. Where one of them is not UTF-8 there are none: neither is a command.
-fn words(rt: &HostRuntime) -> Result<Vec<Word>, NoMemory> {
-    let mut words = Vec::new(rt.alloc());
-    let args = match env::args(rt) {
-        Ok(args) => args,
-        Err(error) if error.kind() == ErrorKind::OutOfMemory => return Err(AllocError),
-        Err(_) => return Ok(words),
-    };
-    for arg in args.skip(1) {
-        words.push(Word::of(rt.alloc(), arg.as_bytes())?)?;
-    }
-    Ok(words)
 }

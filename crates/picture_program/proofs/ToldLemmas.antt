@@ -2,7 +2,7 @@
 use Rattle.std.specs.Prelude.{◌≡◌, ◌⊎◌, ℕ, List, Option, Result, Ok, Err, OnErr, OnOk}
 use Rattle.std.specs.Io.KnownBytes.{Appends}
 use Rattle.std.proofs.Common.{subst, sym, ◌∙◌, refl, inl, inr}
-use Rattle.edge_io.specs.Faults.{Rose}
+use Rattle.event_counts.specs.Count.{Rose}
 use Rattle.edge_io.specs.Out.{Delivers}
 use Rattle.outage_engine.specs.Runs.{WritesFront}
 use Rattle.picture_program.specs.Ends.{Notes, Refuses, Tells, WritesPicture, WritesPictureFront}

@@ -1,6 +1,6 @@
 //! The picture that the words and the input ask for.
 ghost use Rattle.std.specs.Prelude.{◌≡◌, ◌-◌, ◌≤◌, IfOk, IfErr, Some, length, slice_get};
-ghost use Rattle.edge_io.specs.Faults.{Rose};
+ghost use Rattle.event_counts.specs.Count.{Rose};
 ghost use Rattle.deck_reading.specs.Deck.{StandsFor};
 ghost use Rattle.outage_engine.specs.Gives.{OfInput};
 ghost use Rattle.picture_program.specs.Finding.{IfRefused, IsCutRefusal, IsMarkRefusal, IsMarkedTree, IsNumberRefusal};

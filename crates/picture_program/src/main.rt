@@ -20,11 +20,8 @@ mod words;
 use crate::end::PictureEnd;
 use crate::run::run;
 use crate::words::{Mark, read_words};
-use board_words::Word;
-use edge_io::{NoMemory, StdSink, StdSource};
-use std::alloc::AllocError;
-use std::env;
-use std::io::ErrorKind;
+use board_words::{Word, spoken_words};
+use edge_io::{StdSink, StdSource};
 use std::process::ExitCode;
 use zdd_shared_table::{NodeStore, StoreStart};
 
@@ -63,18 +60,4 @@ fn store_bits(words: &[Word]) -> u32
         Some(Mark::Cut(_)) => STORE_BITS,
         Some(Mark::Nothing) | None => LEAST_BITS,
     }
-}
-
-// The words after the program's name. Where one of them is not UTF-8 there are none, which ask for no picture.
-fn spoken_words(rt: &HostRuntime) -> Result<Vec<Word>, NoMemory> {
-    let mut words = Vec::new(rt.alloc());
-    let args = match env::args(rt) {
-        Ok(args) => args,
-        Err(error) if error.kind() == ErrorKind::OutOfMemory => return Err(AllocError),
-        Err(_) => return Ok(words),
-    };
-    for arg in args.skip(1) {
-        words.push(Word::of(rt.alloc(), arg.as_bytes())?)?;
-    }
-    Ok(words)
 }

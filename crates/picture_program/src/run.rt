@@ -1,6 +1,6 @@
 //! A whole run.
 ghost use Rattle.std.specs.Prelude.{◌≡◌, ◌≤◌, ◌⊎◌, None};
-ghost use Rattle.edge_io.specs.Faults.{Rose};
+ghost use Rattle.event_counts.specs.Count.{Rose};
 ghost use Rattle.picture_program.specs.Ends.{Refuses, WritesPicture, WritesPictureFront};
 ghost use Rattle.picture_program.specs.Runs.{Runs};
 ghost use Rattle.picture_program.specs.Words.{asked};

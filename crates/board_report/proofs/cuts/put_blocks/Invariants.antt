@@ -7,7 +7,7 @@ use Rattle.board_report.proofs.cuts.put_blocks.Given as goal
 abbrev pub invariant-loop-i : goal.invariant-loop-i
 invariant-loop-i g l = record {
   so : PutsFront g.K.Sink.taken g.K.Sink.faults l.initial.out l.out
-      (cut_blocks l.tree (l.i + 1) (drop l.i (listed_with l.cuts l.orders)))
-      (cut_blocks l.tree 1 (listed_with l.cuts l.orders));
+      (cut_blocks l.names.tree.now (l.i + 1) (drop l.i (listed_with l.cuts l.orders)))
+      (cut_blocks l.names.tree.now 1 (listed_with l.cuts l.orders));
   going : has_failed l.out ≡ false;
 }

@@ -7,14 +7,14 @@ use Rattle.board_report.proofs.cuts.put_cut_line.Goals as goal
 pub returns-in_err-put_cut_number-clause-puts : goal.returns-in_err-put_cut_number-clause-puts
 returns-in_err-put_cut_number-clause-puts g c =
     first_short g.K.Sink.taken g.K.Sink.faults c.args.out.now c.put_cut_number.new.out (cut_number c.args.number)
-    (spaced c.args.tree.now c.args.set.now ++ codes "\n")
+    (spaced c.args.names.now.tree.now c.args.set.now ++ codes "\n")
     c.put_cut_number.ensures.puts (sym c.put_cut_number.ensures.answer ∙ ap is_err c.in_err-put_cut_number.was)
 
 pub returns-in_err-put_spaced-clause-puts : goal.returns-in_err-put_spaced-clause-puts
 returns-in_err-put_spaced-clause-puts g c =
     second_short g.K.Sink.taken g.K.Sink.faults c.args.out.now c.put_cut_number.new.out c.put_spaced.new.out
     (cut_number c.args.number)
-    (spaced c.args.tree.now c.args.set.now) (codes "\n")
+    (spaced c.args.names.now.tree.now c.args.set.now) (codes "\n")
     c.put_cut_number.ensures.puts c.put_spaced.ensures.puts
     (sym c.put_spaced.ensures.answer ∙ ap is_err c.in_err-put_spaced.was)
 
@@ -22,5 +22,5 @@ pub returns-clause-puts : goal.returns-clause-puts
 returns-clause-puts g c =
     all_three g.K.Sink.taken g.K.Sink.faults c.args.out.now c.put_cut_number.new.out c.put_spaced.new.out c.put.new.self
     (cut_number c.args.number)
-    (spaced c.args.tree.now c.args.set.now) (codes "\n")
+    (spaced c.args.names.now.tree.now c.args.set.now) (codes "\n")
     c.put_cut_number.ensures.puts c.put_spaced.ensures.puts c.put.ensures.puts

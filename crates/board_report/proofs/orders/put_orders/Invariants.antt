@@ -9,7 +9,7 @@ use Rattle.board_report.proofs.orders.put_orders.Given as goal
 abbrev pub invariant-loop-j : goal.invariant-loop-j
 invariant-loop-j g l = record {
   so : PutsFront g.K.Sink.taken g.K.Sink.faults l.initial.out l.out
-      (left_of (order_line l.tree) (orders_at l.orders l.i) l.j)
-      (flat_map (order_line l.tree) (orders_at l.orders l.i));
+      (left_of (order_line l.names.tree.now) (orders_at l.orders l.i) l.j)
+      (flat_map (order_line l.names.tree.now) (orders_at l.orders l.i));
   going : has_failed l.out ≡ false;
 }

@@ -6,7 +6,8 @@ use Rattle.board_report.proofs.pieces.put_spaced.Given as goal
 
 abbrev pub invariant-loop-unit : goal.invariant-loop-unit
 invariant-loop-unit g l = record {
-  so : PutsFront g.K.Sink.taken g.K.Sink.faults l.initial.out l.out (left_of (unit_text l.tree) l.units l.unit-index)
-      (spaced l.tree l.units);
+  so : PutsFront g.K.Sink.taken g.K.Sink.faults l.initial.out l.out (left_of (unit_text l.names.tree.now) l.units
+      l.unit-index)
+      (spaced l.names.tree.now l.units);
   going : has_failed l.out ≡ false;
 }

@@ -1,7 +1,7 @@
 use Rattle.std.specs.Prelude.{◌≡◌, None, Some}
 use Rattle.std.proofs.Common.{sym, ap, inl, refl}
 use Rattle.std.proofs.lemmas.Result.{err_from_is_err_and}
-use Rattle.edge_io.specs.Faults.{Rose}
+use Rattle.event_counts.specs.Count.{Rose}
 use Rattle.board_words.specs.Command.{command_of}
 use Rattle.tree_maker.specs.MadeDeck.{made_deck}
 use Rattle.board_words.specs.declared.command.Command.TheVariants.{Cuts, Check, Print, Diagram, Make, Help}

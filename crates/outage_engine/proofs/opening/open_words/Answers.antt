@@ -1,7 +1,7 @@
 use Rattle.std.specs.Prelude.{◌≡◌, None, Some}
 use Rattle.std.proofs.Common.{sym, ap}
 use Rattle.std.proofs.lemmas.Result.{IfErr-weaker, IfOk-weaker}
-use Rattle.edge_io.specs.Faults.{Rose}
+use Rattle.event_counts.specs.Count.{Rose}
 use Rattle.board_words.specs.Command.{command_of}
 use Rattle.board_words.specs.declared.command.Command.TheVariants.{Board}
 use Rattle.outage_engine.specs.Gives.{own_deck, wants_of}

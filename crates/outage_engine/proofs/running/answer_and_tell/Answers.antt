@@ -1,7 +1,7 @@
 use Rattle.board_words.specs.Command.{command_of}
 use Rattle.std.specs.Result.{IfOk}
 use Rattle.std.proofs.Common.{inr, subst}
-use Rattle.edge_io.specs.Faults.{Rose}
+use Rattle.event_counts.specs.Count.{Rose}
 use Rattle.outage_engine.specs.Answers.{refusal_line, refusal_status, status_of, text_of}
 use Rattle.outage_engine.specs.Gives.{Gives, own_deck}
 use Rattle.outage_engine.proofs.SeatLemmas.{refusal_bears_out, told_bears_out}
@@ -27,7 +27,7 @@ returns-in-Err-Refused-clause-runs g c =
       status = refusal_status c.in-Err-Refused.refusal;
       text = refusal_line c.in-Err-Refused.refusal;
       gives = rw c.in-Err-Refused.field-0-is at c.in-Err-Refused.ensures.refused;
-      told = c.tell-in-Err-Refused.ensures.told;
+      told = c.tell_refusal.ensures.told;
     }
 
 pub returns-in-Ok-answer_words-clause-method : goal.returns-in-Ok-answer_words-clause-method
@@ -45,8 +45,8 @@ returns-in-Err-Refused-clause-method g c =
     let left = g.S.Source.held c.answer_words.new.source in
     told_bears_out (own_deck (command_of c.args.words.now)) held left
     c.args.seat.now c.answer_words.new.seat
-    g.K.Sink.taken g.K.Sink.faults c.args.sink.now c.tell-in-Err-Refused.new.sink
-    (refusal_status c.in-Err-Refused.refusal) (refusal_line c.in-Err-Refused.refusal) c.tell-in-Err-Refused.result
+    g.K.Sink.taken g.K.Sink.faults c.args.sink.now c.tell_refusal.new.sink
+    (refusal_status c.in-Err-Refused.refusal) (refusal_line c.in-Err-Refused.refusal) c.tell_refusal.result
     (refusal_bears_out (own_deck (command_of c.args.words.now)) held left
     c.args.seat.now c.answer_words.new.seat c.in-Err-Refused.refusal)
-    c.tell-in-Err-Refused.ensures.told
+    c.tell_refusal.ensures.told

@@ -1,6 +1,6 @@
 use Rattle.board_words.specs.Command.{command_of}
 use Rattle.outage_engine.specs.Gives.{own_deck}
-use Rattle.edge_io.specs.Faults.{Rose}
+use Rattle.event_counts.specs.Count.{Rose}
 use Rattle.outage_engine.proofs.Clauses.{answers_deck, answers_length, answers_words, fails_to_read, front_of}
 use Rattle.outage_engine.proofs.Clauses.{of_command, prints_check, prints_cuts, prints_diagram, prints_help}
 use Rattle.outage_engine.proofs.Clauses.{prints_made, prints_summary}

@@ -2,7 +2,7 @@ use Rattle.board_words.specs.Command.{command_of}
 use Rattle.outage_engine.specs.Gives.{own_deck}
 use Rattle.std.specs.Prelude.{◌++◌}
 use Rattle.std.proofs.Common.{inr}
-use Rattle.edge_io.specs.Faults.{Rose}
+use Rattle.event_counts.specs.Count.{Rose}
 use Rattle.board_report.specs.BoardText.{board_text}
 use Rattle.outage_engine.specs.declared.status.Status.TheVariants.{Done}
 use Rattle.outage_engine.specs.Store.{method_by}
@@ -44,18 +44,18 @@ returns-in-Err-Refused g c =
         status = refusal_status c.in-Err-Refused.refusal;
         text = refusal_line c.in-Err-Refused.refusal;
         gives = rw c.in-Err-Refused.field-0-is at c.in-Err-Refused.ensures.refused;
-        told = c.tell.ensures.told;
+        told = c.tell_refusal.ensures.told;
       };
       method =
           let held = g.S.Source.held c.args.source.now in
           let left = g.S.Source.held c.open_words.new.source in
           told_bears_out (own_deck (command_of c.args.words.now)) held left
           c.args.seat.now c.open_words.new.seat g.K.Sink.taken g.K.Sink.faults c.args.sink.now
-          c.tell.new.sink
-          (refusal_status c.in-Err-Refused.refusal) (refusal_line c.in-Err-Refused.refusal) c.tell.result
+          c.tell_refusal.new.sink
+          (refusal_status c.in-Err-Refused.refusal) (refusal_line c.in-Err-Refused.refusal) c.tell_refusal.result
           (refusal_bears_out (own_deck (command_of c.args.words.now)) held left
           c.args.seat.now c.open_words.new.seat c.in-Err-Refused.refusal)
-          c.tell.ensures.told;
+          c.tell_refusal.ensures.told;
       went = c.open_words.ensures.went;
       share = c.open_words.ensures.share;
     }

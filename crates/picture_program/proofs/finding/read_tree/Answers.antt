@@ -2,7 +2,7 @@ use Rattle.std.proofs.Common.{subst, length, ◌≤◌}
 use Rattle.std.specs.Result.{IfOk, OnOk}
 use Rattle.std.specs.Io.KnownBytes.{Consumes, IsAtEnd}
 use Rattle.std.proofs.lemmas.Result.{err_from_is_err_and}
-use Rattle.edge_io.specs.Faults.{Rose}
+use Rattle.event_counts.specs.Count.{Rose}
 use Rattle.edge_io.specs.declared.reading.TheConstants.{INPUT_LIMIT}
 use Rattle.deck_reading.specs.Deck.{StandsFor}
 use Rattle.picture_program.proofs.Causes.{of_whole, read_refused}

@@ -1,4 +1,4 @@
-use Rattle.edge_io.specs.Faults.{Rose}
+use Rattle.event_counts.specs.Count.{Rose}
 use Rattle.picture_program.proofs.ToldLemmas.{front_clause, no_memory_clause, picture_clause, refused_clause}
 use Rattle.picture_program.proofs.ToldLemmas.{unnoted_clause}
 use Rattle.picture_program.proofs.run.run.Goals as goal
