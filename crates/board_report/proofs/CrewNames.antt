@@ -1,11 +1,10 @@
 -- Crews are told by their names.
-use Rattle.std.specs.Prelude.{◌≡◌, ℕ, zero, suc, ◌<◌, Bool, true, false, not, ◌||◌, List, [], ◌∷◌, ◌++◌, length, All}
+use Rattle.std.specs.Prelude.{◌≡◌, ℕ, zero, suc, ◌<◌, true, false, not, List, [], ◌∷◌, length, All}
 use Rattle.std.proofs.Common.{refl, sym, ap, subst, ◌∙◌, arith, get_or, true≢false}
 use Rattle.std.proofs.lemmas.Bool.{and_parts, or_left, or_right, not-true}
 use Rattle.std.proofs.lemmas.List.{length-map, get_or-map}
-use Rattle.std.proofs.lemmas.List.Folds.{list_any-append}
 use Rattle.fault_model.specs.Name.{is_name}
-use Rattle.crew_script.specs.Names.{same_name, has_name, differ_from, all_differ}
+use Rattle.fault_model.specs.Names.{same_name, has_name, all_differ}
 use Rattle.crew_script.specs.Dockets.{names_of, crew_at}
 use Rattle.crew_script.specs.declared.dockets.Crew.{Crew}
 use lib.Pointwise.{bytes_decides}
@@ -18,48 +17,24 @@ has_at (first ∷ names) zero name short is =
 has_at (first ∷ names) (suc place) name short is =
     or_right (same_name name first) (has_name names name) (has_at names place name (omega (arith, short)) is)
 
--- names that differ from those before are none of them
-apart : (before names : List (List ℕ)) (name : List ℕ) → differ_from before names ≡ true → has_name before name ≡ true
-    → has_name names name ≡ false
-apart before [] name differ has = refl
-apart before (first ∷ names) name differ has =
-    let parts = and_parts (not (has_name before first)) (differ_from (before ++ first ∷ []) names) differ in
-    let later =
-    apart (before ++ first ∷ []) names name parts.1
-    (list_any-append (same_name name) before (first ∷ [])
-    ∙ or_left (has_name before name) (has_name (first ∷ []) name) has) in
-    by_same (same_name name first)
-    (λ same. true≢false (sym (ap (has_name before) (sym ((bytes_decides name first).0 same)) ∙ has)
-    ∙ not-true (has_name before first) parts.0))
-    later
-  where
-    by_same : (same : Bool) → (same ≡ true → ⊥) → has_name names name ≡ false → (same || has_name names name) ≡ false
-    by_same true never later = absurd (never refl)
-    by_same false never later = later
-
-first_again : {P : Type 0} (before : List (List ℕ)) (first : List ℕ) (names : List (List ℕ)) (place : ℕ)
-    → differ_from before (first ∷ names) ≡ true → place < length names
+first_again : {P : Type 0} (first : List ℕ) (names : List (List ℕ)) (place : ℕ)
+    → all_differ (first ∷ names) ≡ true → place < length names
     → first ≡ get_or names place [] → P
-first_again before first names place differ short same =
-    let parts = and_parts (not (has_name before first)) (differ_from (before ++ first ∷ []) names) differ in
-    let none = apart (before ++ first ∷ []) names first parts.1
-    (list_any-append (same_name first) before (first ∷ [])
-    ∙ or_right (has_name before first) (has_name (first ∷ []) first)
-    (or_left (same_name first first) false ((bytes_decides first first).1 refl))) in
-    absurd (true≢false (sym (has_at names place first short same) ∙ none))
+first_again first names place differ short same =
+    let parts = and_parts (not (has_name names first)) (all_differ names) differ in
+    absurd (true≢false (sym (has_at names place first short same) ∙ not-true (has_name names first) parts.0))
 
-same_place : (before names : List (List ℕ)) (i j : ℕ) → differ_from before names ≡ true → i < length names
+same_place : (names : List (List ℕ)) (i j : ℕ) → all_differ names ≡ true → i < length names
     → j < length names → get_or names i [] ≡ get_or names j [] → i ≡ j
-same_place before [] i j differ short also same = absurd (omega (arith, short))
-same_place before (first ∷ names) zero zero differ short also same = refl
-same_place before (first ∷ names) zero (suc j) differ short also same =
-    first_again before first names j differ (omega (arith, also)) same
-same_place before (first ∷ names) (suc i) zero differ short also same =
-    first_again before first names i differ (omega (arith, short)) (sym same)
-same_place before (first ∷ names) (suc i) (suc j) differ short also same =
-    let parts = and_parts (not (has_name before first)) (differ_from (before ++ first ∷ []) names) differ in
-    let places =
-    same_place (before ++ first ∷ []) names i j parts.1 (omega (arith, short)) (omega (arith, also)) same in
+same_place [] i j differ short also same = absurd (omega (arith, short))
+same_place (first ∷ names) zero zero differ short also same = refl
+same_place (first ∷ names) zero (suc j) differ short also same =
+    first_again first names j differ (omega (arith, also)) same
+same_place (first ∷ names) (suc i) zero differ short also same =
+    first_again first names i differ (omega (arith, short)) (sym same)
+same_place (first ∷ names) (suc i) (suc j) differ short also same =
+    let parts = and_parts (not (has_name names first)) (all_differ names) differ in
+    let places = same_place names i j parts.1 (omega (arith, short)) (omega (arith, also)) same in
     ap (λ n. suc n) places
 
 name_at : (crews : List Crew) (number : ℕ) → get_or (names_of crews) number [] ≡ (crew_at crews number).name
@@ -80,5 +55,5 @@ pub same_crew : (crews : List Crew) (i j : ℕ) → all_differ (names_of crews) 
     → (crew_at crews i).name ≡ (crew_at crews j).name → i ≡ j
 same_crew crews i j differ short also same =
     let all : length (names_of crews) ≡ length crews = length-map crews (λ (crew : Crew). crew.name) in
-    same_place [] (names_of crews) i j differ (omega (arith, all, short)) (omega (arith, all, also))
+    same_place (names_of crews) i j differ (omega (arith, all, short)) (omega (arith, all, also))
     (name_at crews i ∙ same ∙ sym (name_at crews j))

@@ -6,7 +6,7 @@ use Rattle.std.proofs.Common.{refl, sym, ap, ◌∙◌, subst, arith, append_ass
 use Rattle.std.proofs.lemmas.Bool.{and_from, ne_eqb}
 use Rattle.std.proofs.lemmas.List.Elements.{All-head, All-tail}
 use Rattle.fault_model.specs.Name.{is_name}
-use Rattle.crew_script.specs.Names.{all_differ}
+use Rattle.fault_model.specs.Names.{all_differ}
 use Rattle.crew_script.specs.Dockets.{names_of, crew_at, ask_at}
 use Rattle.crew_script.specs.declared.dockets.Ask.{Ask}
 use Rattle.crew_script.specs.declared.dockets.Ask.TheVariants.{Take, Return, Margin}

@@ -1,21 +1,54 @@
 -- Names that differ, and what a take says.
-use Rattle.std.proofs.Common.{◌≡◌, ℕ, ◌<◌, true, false, List, [], ◌∷◌, ◌++◌, length, drop, refl, arith, append_assoc}
-use Rattle.std.proofs.Common.{append-nil}
-use Rattle.std.specs.Prelude.{Some, None, if◌then◌else◌, codes}
+use Rattle.std.proofs.Common.{◌≡◌, ℕ, ◌<◌, true, false, not, List, [], ◌∷◌, ◌++◌, length, drop, refl, sym, ap, subst}
+use Rattle.std.proofs.Common.{◌∙◌, arith, true≢false}
+use Rattle.std.specs.Prelude.{◌||◌, Some, None, if◌then◌else◌, codes}
+use Rattle.std.proofs.lemmas.Bool.{and_from, and_parts, or_from, or_left, or_parts, or_right, not-true}
+use Rattle.std.proofs.lemmas.Bool.{false_from_ne_true}
+use Rattle.std.proofs.lemmas.List.Folds.{list_any-append}
 use Rattle.std.proofs.lemmas.Grind.{common_steps}
-use Rattle.crew_script.specs.Names.{has_name, differ_from}
+use lib.Pointwise.{bytes_decides}
+use Rattle.fault_model.specs.Names.{same_name, has_name, all_differ}
 use Rattle.crew_script.specs.Words.{Word, first_of}
 use Rattle.crew_script.specs.Lines.{take_line, is_taken_too, name_in, is_comment, says, line_of, request_line}
 use Rattle.crew_script.specs.declared.line.Line.{Line}
 use Rattle.crew_script.specs.declared.line.Line.TheVariants.{Bad}
 
+other_way : (name other : List ℕ) → same_name name other ≡ false → same_name other name ≡ false
+other_way name other apart =
+    false_from_ne_true (same_name other name)
+    (λ same. true≢false (sym ((bytes_decides name other).1 (sym ((bytes_decides other name).0 same))) ∙ apart))
+
 -- one more name, which is none of those before it
-pub differ_push : (before names : List (List ℕ)) (name : List ℕ) → differ_from before names ≡ true
-    → has_name (before ++ names) name ≡ false
-    → differ_from before (names ++ name ∷ []) ≡ true
-differ_push before [] name differ new = grind (arith, append-nil before)
-differ_push before (first ∷ names) name differ new =
-    grind (arith, append_assoc before (first ∷ []) names, differ_push (before ++ first ∷ []) names name)
+pub differ_push : (names : List (List ℕ)) (name : List ℕ) → all_differ names ≡ true → has_name names name ≡ false
+    → all_differ (names ++ name ∷ []) ≡ true
+differ_push [] name differ new = refl
+differ_push (first ∷ names) name differ new =
+    let (alone, rest) = and_parts (not (has_name names first)) (all_differ names) differ in
+    let (apart, later) = or_parts (same_name name first) (has_name names name) new in
+    let still : has_name (names ++ name ∷ []) first ≡ false =
+    list_any-append (same_name first) names (name ∷ [])
+    ∙ or_from (has_name names first) (same_name first name || false) (not-true (has_name names first) alone)
+    (or_from (same_name first name) false (other_way name first apart) refl) in
+    and_from (not (has_name (names ++ name ∷ []) first)) (all_differ (names ++ name ∷ [])) (ap not still)
+    (differ_push names name rest later)
+
+-- a name that stands among names that differ is none of those before it
+pub differ_at : (names : List (List ℕ)) (name : List ℕ) (more : List (List ℕ))
+    → all_differ (names ++ name ∷ more) ≡ true → has_name names name ≡ false
+differ_at [] name more differ = refl
+differ_at (first ∷ names) name more differ =
+    let (alone, rest) =
+    and_parts (not (has_name (names ++ name ∷ more) first)) (all_differ (names ++ name ∷ more)) differ in
+    let there : has_name (names ++ name ∷ more) name ≡ true =
+    list_any-append (same_name name) names (name ∷ more)
+    ∙ or_right (has_name names name) (has_name (name ∷ more) name)
+    (or_left (same_name name name) (has_name more name) ((bytes_decides name name).1 refl)) in
+    or_from (same_name name first) (has_name names name)
+    (false_from_ne_true (same_name name first)
+    (λ same. true≢false
+    (sym (subst (λ n. has_name (names ++ name ∷ more) n ≡ true) ((bytes_decides name first).0 same) there)
+    ∙ not-true (has_name (names ++ name ∷ more) first) alone)))
+    (differ_at names name more rest)
 
 -- a take's next word
 pub takes_on : (names : List (List ℕ)) (words : List Word) (word : Word) → first_of words ≡ Some word

@@ -1,11 +1,11 @@
 -- What lines stand for, or their first fault, is what is read of them.
-use Rattle.std.proofs.Common.{◌≡◌, ℕ, ◌+◌, ◌<◌, ◌≤◌, true, false, List, [], ◌∷◌, ◌++◌, map, length, not, sym, refl, ap}
+use Rattle.std.proofs.Common.{◌≡◌, ℕ, ◌+◌, ◌<◌, ◌≤◌, true, false, List, [], ◌∷◌, ◌++◌, map, length, sym, refl, ap}
 use Rattle.std.proofs.Common.{subst, ◌∙◌, arith, append_assoc, append-nil, length-append, inl, inr, le-leb}
 use Rattle.std.specs.Prelude.{◌⊎◌, Result, Ok, Err, Option, Some, None, if◌then◌else◌}
 use Rattle.std.specs.List.{flat_map}
-use Rattle.std.proofs.lemmas.Bool.{and_parts, not-true, lt-leb}
+use Rattle.std.proofs.lemmas.Bool.{lt-leb}
 use Rattle.fault_model.specs.declared.node.Place.{Place}
-use Rattle.crew_script.specs.Names.{all_differ, differ_from, has_name}
+use Rattle.fault_model.specs.Names.{all_differ, has_name}
 use Rattle.crew_script.specs.Dockets.{names_of, request_count}
 use Rattle.crew_script.specs.Crews.{said, after, with_ask, crew_fault, request_fault, fault_behind, fault_at}
 use Rattle.crew_script.specs.Crews.{unless_fault, crews_from}
@@ -21,6 +21,7 @@ use Rattle.crew_script.specs.declared.fault.CrewCode.{CrewCode}
 use Rattle.crew_script.specs.declared.fault.CrewCode.TheVariants.{TooManyRequests}
 use Rattle.crew_script.specs.declared.fault.CrewFault.{CrewFault}
 use Rattle.crew_script.specs.declared.fault.CrewFault.TheVariants.{Fault, NoMemory}
+use Rattle.crew_script.proofs.NameLemmas.{differ_at}
 use Rattle.crew_script.proofs.ReadingLemmas.{ask_last, count_push}
 use Rattle.crew_script.proofs.Saying.{says_one, says_read}
 
@@ -52,18 +53,6 @@ run number crews _ _ (say_next bytes other lines more says some rest) clean =
     ∙ run (number + 1) (after crews other) lines more rest clean.1
 
 -- ---- what is said for crews has no fault
-
-differ_at : (before names : List (List ℕ)) (name : List ℕ) (more : List (List ℕ))
-    → differ_from before (names ++ name ∷ more) ≡ true
-    → has_name (before ++ names) name ≡ false
-differ_at before [] name more differ =
-    let (new, rest) = and_parts (not (has_name before name)) (differ_from (before ++ name ∷ []) more) differ in
-    subst (λ l. has_name l name ≡ false) (sym (append-nil before)) (not-true (has_name before name) new)
-differ_at before (first ∷ names) name more differ =
-    let (new, rest) =
-    and_parts (not (has_name before first)) (differ_from (before ++ first ∷ []) (names ++ name ∷ more)) differ in
-    subst (λ l. has_name l name ≡ false) (append_assoc before (first ∷ []) names)
-    (differ_at (before ++ first ∷ []) names name more rest)
 
 names_split : (crews : List Crew) (crew : Crew) (more : List Crew)
     → names_of (crews ++ crew ∷ more) ≡ names_of crews ++ crew.name ∷ names_of more
@@ -123,7 +112,7 @@ crews_ran crews [] differ few_crews few_requests = record { clean = tt; gives = 
 crews_ran crews (crew ∷ more) differ few_crews few_requests =
     let whole : (crews ++ crew ∷ []) ++ more ≡ crews ++ crew ∷ more = append_assoc crews (crew ∷ []) more in
     let new =
-    differ_at [] (names_of crews) crew.name (names_of more)
+    differ_at (names_of crews) crew.name (names_of more)
     (subst (λ l. all_differ l ≡ true) (names_split crews crew more) differ) in
     let long = length-append crews (crew ∷ more) in
     let count = count_split crews (crew ∷ more) in

@@ -5,7 +5,7 @@ use Rattle.std.specs.Prelude.{Option, Some, None, if◌then◌else◌}
 use Rattle.std.specs.List.{All, list_any}
 use Rattle.std.proofs.lemmas.Bool.{cases_Bool}
 use Rattle.std.proofs.lemmas.List.Elements.{All-push, All-nil, All-cons, All-head, All-tail}
-use Rattle.crew_script.specs.Names.{has_name, same_name, all_differ}
+use Rattle.fault_model.specs.Names.{has_name, same_name, all_differ}
 use Rattle.fault_model.specs.Name.{is_name}
 use Rattle.crew_script.specs.Dockets.{names_of, request_count, HasMargin, HasMargins, IsDockets}
 use Rattle.crew_script.specs.Crews.{with_ask, crew_fault, request_fault}
@@ -59,7 +59,7 @@ dockets_crew crews name form kept none = record {
     names = subst (All (λ n. is_name n ≡ true)) (sym (names_push crews (named name)))
         (All-push (λ n. is_name n ≡ true) (names_of crews) name kept.named.names form);
     differ = subst (λ l. all_differ l ≡ true) (sym (names_push crews (named name)))
-        (differ_push [] (names_of crews) name kept.named.differ (crew_new crews name none));
+        (differ_push (names_of crews) name kept.named.differ (crew_new crews name none));
   };
   few_requests = omega (arith, kept.few_requests, count_push crews (named name));
   margins = All-push HasMargins crews (named name) kept.margins (All-nil HasMargin);

@@ -11,7 +11,8 @@ use lib.Pointwise.{bytes_decides}
 use Rattle.std.proofs.lemmas.List.{length-map}
 use Rattle.crew_script.specs.Words.{Word, Between, InQuotes, Closed, words, words_of, is_blank, is_quote, bare}
 use Rattle.crew_script.specs.Words.{are_blank, Spells, no_word}
-use Rattle.crew_script.specs.Names.{are_taken, all_differ, has_name, differ_from}
+use Rattle.fault_model.specs.Names.{all_differ, has_name}
+use Rattle.crew_script.specs.Names.{are_taken}
 use Rattle.crew_script.specs.Lines.{is_bare_kind, is_quoted_kind, is_name_word, says, is_comment, begins_comment}
 use Rattle.crew_script.specs.Lines.{only_name, only_margin, margin_of, crew_line, return_line, margin_line, take_line}
 use Rattle.crew_script.specs.Lines.{is_taken_too, request_line, line_of}
@@ -21,6 +22,7 @@ use Rattle.crew_script.specs.Crews.{said}
 use Rattle.crew_script.specs.declared.dockets.Ask.TheVariants.{Take}
 use Rattle.crew_script.specs.declared.line.Line.{Line}
 use Rattle.crew_script.specs.declared.line.Line.TheVariants.{Nothing, Request, Bad}
+use Rattle.crew_script.proofs.NameLemmas.{differ_at, differ_push}
 use Rattle.crew_script.proofs.WordLemmas.{blank_skipped, bare_on}
 use Rattle.crew_script.proofs.Spelled.{words_spelled, spelled, is_whole, no_words, gap_skipped, bare_begins}
 
@@ -63,7 +65,7 @@ no_comment word form here plain = elim (cases_Bool (begins_comment word.text)) [
 
 pub record Took (before : List (List ℕ)) (names : List Word) : Type 0 where
   pub are : list_all is_name_word names ≡ true
-  pub differ : differ_from before (texts names) ≡ true
+  pub differ : all_differ (before ++ texts names) ≡ true
   pub few : length before + length names ≤ 16
   pub some : 1 ≤ length before + length names
 
@@ -78,41 +80,45 @@ take_all before [] took =
     rw (le-leb 1 (length before) some) (ap (λ l. Request (Take l)) (sym (append-nil before)))
 take_all before (word ∷ names) took =
     let (is, are) = and_parts (is_name_word word) (list_all is_name_word names) took.are in
-    let (new, differ) =
-    and_parts (not (has_name before word.text)) (differ_from (before ++ word.text ∷ []) (texts names))
-    took.differ in
+    let new = differ_at before word.text (texts names) took.differ in
     let long = length-append before (word.text ∷ []) in
     let goes : take_line before (word ∷ names) ≡ take_line (before ++ word.text ∷ []) names =
-    rw (takes before word (omega (arith, took.few)) is (not-true (has_name before word.text) new)) refl in
+    rw (takes before word (omega (arith, took.few)) is new) refl in
     goes
     ∙ take_all (before ++ word.text ∷ []) names (record {
       are = are;
-      differ = differ;
+      differ = subst (λ l. all_differ l ≡ true) (sym (append_assoc before (word.text ∷ []) (texts names))) took.differ;
       few =
           omega (arith, long, took.few);
       some = omega (arith, long);
     })
     ∙ ap (λ l. Request (Take l)) (append_assoc before (word.text ∷ []) (texts names))
 
-pub take_read : (before : List (List ℕ)) (names : List Word) → length before ≤ 16
+pub take_read : (before : List (List ℕ)) (names : List Word) → length before ≤ 16 → all_differ before ≡ true
     → (take_line before names ≡ Bad) ⊎ Took before names
-take_read before [] few = elim (cases_Bool (nat_le 1 (length before))) [
+take_read before [] few differ = elim (cases_Bool (nat_le 1 (length before))) [
   | inl hit ↦ inr (let some = leb-true 1 (length before) hit in
-      record { are = refl; differ = refl; few = omega (arith, few); some = omega (arith, some) })
+      record {
+        are = refl;
+        differ = subst (λ l. all_differ l ≡ true) (sym (append-nil before)) differ;
+        few = omega (arith, few);
+        some = omega (arith, some);
+      })
   | inr miss ↦ inl (rw miss refl)
 ]
-take_read before (word ∷ names) few = elim (cases_Bool (is_taken_too before word)) [
+take_read before (word ∷ names) few differ = elim (cases_Bool (is_taken_too before word)) [
   | inl hit ↦
       let (front, new) =
       and_parts (nat_lt (length before) 16 && is_name_word word) (not (has_name before word.text)) hit in
       let (short, is) = and_parts (nat_lt (length before) 16) (is_name_word word) front in
       let below = ltb-true (length before) 16 short in
       let long = length-append before (word.text ∷ []) in
-      elim (take_read (before ++ word.text ∷ []) names (omega (arith, long, below))) [
+      let more = differ_push before word.text differ (not-true (has_name before word.text) new) in
+      elim (take_read (before ++ word.text ∷ []) names (omega (arith, long, below)) more) [
         | inl bad ↦ inl (rw hit bad)
         | inr took ↦ inr (record {
           are = rw is took.are;
-          differ = rw new took.differ;
+          differ = subst (λ l. all_differ l ≡ true) (append_assoc before (word.text ∷ []) (texts names)) took.differ;
           few =
               omega (arith, took.few, long);
           some = omega arith;
@@ -351,7 +357,7 @@ took_taken names took =
 
 read_take : (line : List ℕ) (first : Word) (rest : List Word) → words_of line ≡ first ∷ rest
     → says first (codes "take") ≡ true → Reads line (take_line [] rest)
-read_take line first rest same form = elim (take_read [] rest (omega arith)) [
+read_take line first rest same form = elim (take_read [] rest (omega arith) refl) [
   | inl bad ↦ inl bad
   | inr took ↦
       let spells =

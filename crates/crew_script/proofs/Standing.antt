@@ -5,7 +5,7 @@ use Rattle.std.specs.Prelude.{◌⊎◌, Err, Option, Some, None, nat_le}
 use Rattle.std.specs.List.{flat_map}
 use Rattle.std.proofs.lemmas.Bool.{cases_Bool, leb-true}
 use Rattle.std.proofs.lemmas.List.Concat.{flat_map-append}
-use Rattle.crew_script.specs.Names.{all_differ, has_name}
+use Rattle.fault_model.specs.Names.{all_differ, has_name}
 use Rattle.crew_script.specs.Dockets.{names_of, request_count}
 use Rattle.crew_script.specs.Crews.{said, after, with_ask, crew_fault, request_fault, fault_behind, fault_at}
 use Rattle.crew_script.specs.Crews.{unless_fault, crews_from}
@@ -92,7 +92,7 @@ stands_on before crews bytes (line.Crew name) stand same none = record {
       (say_append before (bytes ∷ []) (flat_map lines_for crews) (line.Crew name ∷ []) stand.say
       (say_one bytes (line.Crew name) (says_it bytes (line.Crew name) same (λ e. absurd cc)) (λ e. absurd cc)));
   differ = subst (λ l. all_differ l ≡ true) (sym (names_push crews (named name)))
-      (differ_push [] (names_of crews) name stand.differ (crew_new crews name none));
+      (differ_push (names_of crews) name stand.differ (crew_new crews name none));
   few_crews = omega (arith, crew_room crews name none, length-append crews (named name ∷ []));
   few_requests = omega (arith, stand.few_requests, count_push crews (named name));
 }

@@ -7,7 +7,8 @@ use Rattle.fault_model.specs.Name.{is_name, is_bare_name}
 use Rattle.crew_script.specs.declared.word.WordKind.{WordKind}
 use Rattle.crew_script.specs.declared.word.WordKind.TheVariants.{Bare, Quoted, Broken}
 use Rattle.crew_script.specs.Words.{Word}
-use Rattle.crew_script.specs.Names.{has_name, most_taken}
+use Rattle.fault_model.specs.Names.{has_name}
+use Rattle.crew_script.specs.Names.{most_taken}
 use Rattle.crew_script.specs.Dockets.{HasMargin}
 use Rattle.crew_script.specs.declared.dockets.TheConstants.{GREATEST_MARGIN}
 use Rattle.crew_script.specs.declared.dockets.Ask.TheVariants.{Take, Return, Margin}

@@ -1,22 +1,6 @@
--- Lists of names that differ.
-use Rattle.std.specs.Prelude.{ℕ, Bool, true, not, ◌&&◌, nat_le, nat_eq, List, [], ◌∷◌, ◌++◌, length}
-use Rattle.std.specs.List.{list_any}
-use Rattle.std.specs.Cmp.Lexicographic.{pointwise}
-
-abbrev pub same_name : List ℕ → List ℕ → Bool
-same_name name other = pointwise nat_eq name other
-
-abbrev pub has_name : List (List ℕ) → List ℕ → Bool
-has_name names name = list_any (same_name name) names
-
--- each name is none of those before it
-abbrev pub differ_from : List (List ℕ) → List (List ℕ) → Bool
-differ_from before [] = true
-differ_from before (name ∷ names) = not (has_name before name) && differ_from (before ++ name ∷ []) names
-
--- no name stands twice
-abbrev pub all_differ : List (List ℕ) → Bool
-all_differ names = differ_from [] names
+-- The names of a take.
+use Rattle.std.specs.Prelude.{ℕ, Bool, ◌&&◌, nat_le, List, length}
+use Rattle.fault_model.specs.Names.{all_differ}
 
 abbrev pub most_taken : ℕ
 most_taken = 16

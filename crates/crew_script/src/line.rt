@@ -3,7 +3,7 @@ ghost use Rattle.std.specs.Prelude.{◌≡◌, ◌≤◌, IfOk, IfSome, length, 
 ghost use Rattle.crew_script.specs.Words.{words_of};
 ghost use Rattle.crew_script.specs.Lines.{line_of, request_line, crew_line, return_line, margin_line, take_line};
 ghost use Rattle.crew_script.specs.Lines.{only_name, only_margin, margin_of, SaysMargin};
-ghost use Rattle.crew_script.specs.Names.{has_name};
+ghost use Rattle.fault_model.specs.Names.{has_name};
 
 use crate::dockets::{Ask, GREATEST_MARGIN};
 use crate::names::NameList;

@@ -15,7 +15,7 @@ use zdd_shared_table::{NodeStore, StoreSeat};
 use zdd_words::NodeRef;
 
 // The most units that a path has: one of each level.
-const LEVELS: usize = 4095;
+const LEVELS: usize = UnitNo::MAX as usize;
 
 // A node whose sets are still to be found, and how many units of the path stand before them.
 #[derive(Clone, Copy)]

@@ -24,7 +24,8 @@ use Rattle.tree_check.specs.Classes.{SpareUse, clash, dummies, dummies_in, fdep_
 use Rattle.tree_check.specs.Classes.{inputless, is_empty, is_replicated, is_short_fdep, places_where, reads_nothing}
 use Rattle.tree_check.specs.Classes.{repeats_after, replicated, shared_after, short_fdeps, spare_uses, spare_uses_in}
 use Rattle.tree_check.specs.Classes.{undefined, units_beyond, uses_of, wrong_vote, wrong_votes}
-use Rattle.tree_check.specs.Said.{basics, definitions, has_name, names, tops, uses}
+use Rattle.fault_model.specs.Names.{has_name}
+use Rattle.tree_check.specs.Said.{basics, definitions, names, tops, uses}
 use Rattle.tree_check.specs.Numbered.{drops_fdeps, is_fdep_in, is_gate, is_spare_kind, kept_by, kept_inputs, kinds}
 use Rattle.tree_check.specs.Numbered.{numbered_gates, numbered_tops, unit_total}
 use Rattle.deck_reading.specs.Unplaced.{nowhere, unplaced, unplaced_attribute, unplaced_name}

@@ -25,7 +25,8 @@ use Rattle.galileo_tree.specs.declared.raw.RawGate.{RawGate}
 use Rattle.galileo_tree.specs.declared.raw.RawTop.{RawTop}
 use Rattle.galileo_tree.specs.declared.raw.Statement.{Statement}
 use Rattle.tree_check.specs.Said.{basic_in, basic_names, basics, definition_in, definitions, gate_in, gate_names, gates}
-use Rattle.tree_check.specs.Said.{has_name, names, number_in, same_name, top_in, tops, uses, uses_in}
+use Rattle.fault_model.specs.Names.{has_name, same_name}
+use Rattle.tree_check.specs.Said.{names, number_in, top_in, tops, uses, uses_in}
 use Rattle.tree_check.specs.Numbered.{numbered, numbered_definitions, numbered_gate, numbered_gates, numbered_tops}
 use Rattle.tree_check.specs.Numbered.{unit_total}
 use Rattle.tree_check.specs.TreeOf.{numbers}

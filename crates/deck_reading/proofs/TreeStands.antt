@@ -32,10 +32,10 @@ use Rattle.tree_check.specs.Checked.{IsFaultless, NoneOf, Stands, after_cycles, 
 use Rattle.tree_check.specs.Classes.{dummies, fdep_tops, gates_after_first, gates_beyond, inputless, is_empty}
 use Rattle.tree_check.specs.Classes.{is_replicated, repeats, replicated, shared_spares, short_fdeps, undefined}
 use Rattle.tree_check.specs.Classes.{units_beyond, wrong_votes}
-use Rattle.tree_check.specs.Naming.{differ}
+use Rattle.fault_model.specs.Names.{all_differ, has_name, same_name}
 use Rattle.tree_check.specs.Numbered.{is_spare_kind, kinds, numbered, numbered_definitions, numbered_gates}
 use Rattle.tree_check.specs.Numbered.{numbered_tops, unit_total}
-use Rattle.tree_check.specs.Said.{basics, definitions, has_name, names, same_name, tops, uses}
+use Rattle.tree_check.specs.Said.{basics, definitions, names, tops, uses}
 use Rattle.tree_check.specs.TreeOf.{HasNoCycle, LeadsTo, edge, first_number, input_lists, numbers, tree_of, way}
 use Rattle.tree_check.proofs.Differ.{no_repeat, same_is, same_itself}
 use Rattle.deck_reading.specs.TreeStatements.{HasNames, IsNamed, gate_numbers, gate_statement, node_name, statements_of}
@@ -54,13 +54,13 @@ use Rattle.deck_reading.proofs.TreeSpares.{no_shared, none_any}
 
 -- ---- names that differ
 
-differ_from : (xs : List (List ℕ)) → AllPairs (λ earlier later. earlier ≢ later) xs → differ xs ≡ true
+differ_from : (xs : List (List ℕ)) → AllPairs (λ earlier later. earlier ≢ later) xs → all_differ xs ≡ true
 differ_from [] pairs = refl
 differ_from (x ∷ xs) pairs =
     let others : All (λ y. same_name x y ≡ false) xs =
     λ k d short. false_from_ne_true (same_name x (get_or xs k d))
     (λ same. pairs 0 (suc k) d (omega arith) (omega arith) (same_is x (get_or xs k d) same)) in
-    and_from (not (has_name xs x)) (differ xs) (ap not (none_any (same_name x) xs others))
+    and_from (not (has_name xs x)) (all_differ xs) (ap not (none_any (same_name x) xs others))
     (differ_from xs (λ i j d before within. pairs (suc i) (suc j) d (omega arith) (omega arith)))
 
 all_flat : {A B : Type 0} (P : B → Type 0) (f : A → List B) (xs : List A) → All (λ x. All P (f x)) xs
@@ -118,7 +118,7 @@ module _ (tree : FaultTree) (kept : IsTree tree) where
   no_further = ap (λ (ts : List RawTop). map (λ (top : RawTop). top.word) (drop 1 ts)) (tops_are tree kept)
 
   no_repeats : repeats (ss tree kept) ≡ []
-  no_repeats = no_repeat (ss tree kept) (ap differ (names_are tree kept) ∙ differ_from tree.names kept.names_differ)
+  no_repeats = no_repeat (ss tree kept) (ap all_differ (names_are tree kept) ∙ differ_from tree.names kept.names_differ)
 
   abbrev Known : Placed → Type 0
   Known used = not (has_name tree.names used.name) ≡ false

@@ -1,5 +1,6 @@
 pub mod Name
 pub mod NameBytes
+pub mod Names
 pub mod Tree
 pub mod Trigger
 pub mod Rank

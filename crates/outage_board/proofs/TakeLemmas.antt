@@ -3,11 +3,11 @@ use Rattle.std.proofs.Common.{◌≡◌, ℕ, suc, ◌-◌, ◌≤◌, Bool, tru
 use Rattle.std.proofs.Common.{sym, ◌∙◌, ap, subst, arith, inl, inr}
 use Rattle.std.specs.Prelude.{nat_le, nat_lt, ◌||◌, ◌&&◌, ◌==◌, Option, Some, None, is_none}
 use Rattle.std.proofs.lemmas.Bool.{cases_lt, lt-ltb, le-ltb, leb-true, le-leb, and_parts, or_left, or_right}
-use Rattle.std.proofs.lemmas.List.Folds.{list_any-append}
 use lib.Pointwise.{bytes_decides}
 use Rattle.fault_model.specs.Tree.{FaultTree}
 use Rattle.unit_sets.specs.UnitList.{among}
-use Rattle.crew_script.specs.Names.{same_name, has_name, differ_from, all_differ, are_taken, most_taken}
+use Rattle.fault_model.specs.Names.{same_name, has_name, all_differ}
+use Rattle.crew_script.specs.Names.{are_taken, most_taken}
 use Rattle.margin_policy.specs.Asked.{AskedView, has_repeat, can_be_asked, is_none_asked}
 use Rattle.outage_board.specs.Requests.{unit_of, with_unit, units_of, some_unknown}
 use Rattle.outage_board.proofs.NameLemmas.{named_by}
@@ -80,37 +80,12 @@ not_true : (b : Bool) → not b ≡ true → b ≡ false
 not_true true h = absurd cc
 not_true false h = refl
 
--- names that differ from those before have none of them
-apart : (before names : List (List ℕ)) (name : List ℕ) → differ_from before names ≡ true → has_name before name ≡ true
-    → has_name names name ≡ false
-apart before [] name differ has = refl
-apart before (first ∷ names) name differ has =
-    let parts = and_parts (not (has_name before first)) (differ_from (before ++ first ∷ []) names) differ in
-    let later =
-    apart (before ++ first ∷ []) names name parts.1
-    (list_any-append (same_name name) before (first ∷ [])
-    ∙ or_left (has_name before name) (has_name (first ∷ []) name) has) in
-    by_same (same_name name first) (λ same. clash
-    (ap (λ n. has_name before n) (sym ((bytes_decides name first).0 same)) ∙ has)
-    (not_true (has_name before first) parts.0)) later
-  where
-    clash : {b : Bool} → b ≡ true → b ≡ false → ⊥
-    clash has_it none = absurd cc
-
-    by_same : (same : Bool) → (same ≡ true → ⊥) → has_name names name ≡ false → (same || has_name names name) ≡ false
-    by_same true never later = absurd (never refl)
-    by_same false never later = later
-
-no_repeat : (tree : FaultTree) (before names : List (List ℕ)) → differ_from before names ≡ true
+no_repeat : (tree : FaultTree) (names : List (List ℕ)) → all_differ names ≡ true
     → has_repeat (units_of tree names) ≡ false
-no_repeat tree before [] differ = refl
-no_repeat tree before (name ∷ names) differ =
-    let parts = and_parts (not (has_name before name)) (differ_from (before ++ name ∷ []) names) differ in
-    by_unit (unit_of tree name) refl (no_repeat tree (before ++ name ∷ []) names parts.1)
-    (apart (before ++ name ∷ []) names name parts.1
-    (list_any-append (same_name name) before (name ∷ [])
-    ∙ or_right (has_name before name) (has_name (name ∷ []) name)
-    (or_left (same_name name name) false ((bytes_decides name name).1 refl))))
+no_repeat tree [] differ = refl
+no_repeat tree (name ∷ names) differ =
+    let parts = and_parts (not (has_name names name)) (all_differ names) differ in
+    by_unit (unit_of tree name) refl (no_repeat tree names parts.1) (not_true (has_name names name) parts.0)
   where
     by_unit : (found : Option ℕ) → unit_of tree name ≡ found → has_repeat (units_of tree names) ≡ false
         → has_name names name ≡ false → has_repeat (with_unit found (units_of tree names)) ≡ false
@@ -143,7 +118,7 @@ may_be_asked tree names taken =
     let within = units_within tree names in
     rw (
       le-leb (length (units_of tree names)) 16 (omega arith),
-      no_repeat tree [] names both.1,
+      no_repeat tree names both.1,
       some_asked (units_of tree names) (length names) (leb-true 1 (length names) sizes.0),
     ) refl
 

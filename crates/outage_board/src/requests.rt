@@ -1,6 +1,7 @@
 //! What crews ask, by the units of a tree.
 ghost use Rattle.std.specs.Prelude.{◌≡◌, ◌<◌, ◌≤◌, length, map, IfOk, OnOk, IsTrue, codes};
-ghost use Rattle.crew_script.specs.Names.{are_taken, same_name};
+ghost use Rattle.fault_model.specs.Names.{same_name};
+ghost use Rattle.crew_script.specs.Names.{are_taken};
 ghost use Rattle.crew_script.specs.Dockets.{crew_at};
 ghost use Rattle.crew_script.specs.declared.dockets.Ask.TheVariants.{Take};
 ghost use Rattle.outage_board.specs.Requests.{unit_of, units_of, some_unknown, request_of, requests_of, supervisor_of};

@@ -9,7 +9,8 @@ use Rattle.fault_model.specs.Tree.{FaultTree, rank_of}
 use Rattle.fault_model.specs.Rank.{rank_over as tree_rank_over}
 use Rattle.galileo_tree.specs.declared.raw.Placed.{Placed}
 use Rattle.graph_cycles.specs.Graph.{rank_over}
-use Rattle.tree_check.specs.Said.{same_name, has_name, number_in}
+use Rattle.fault_model.specs.Names.{same_name, has_name}
+use Rattle.tree_check.specs.Said.{number_in}
 use Rattle.tree_check.proofs.SaidLemmas.{names_in}
 use Rattle.tree_check.specs.Numbered.{numbered}
 use Rattle.tree_check.specs.TreeOf.{numbers}

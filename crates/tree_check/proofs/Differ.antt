@@ -11,12 +11,13 @@ use Rattle.std.specs.Prelude.{Option, Some, None}
 use Rattle.galileo_tree.specs.declared.raw.Statement.{Statement}
 use Rattle.galileo_tree.specs.declared.raw.Statement.TheVariants.{Top, Gate, Basic}
 use lib.Pointwise.{bytes_decides}
-use Rattle.tree_check.specs.Said.{same_name, has_name, basic_names, gate_names, names, definitions}
+use Rattle.fault_model.specs.Names.{same_name, has_name, all_differ}
+use Rattle.tree_check.specs.Said.{basic_names, gate_names, names, definitions}
 use Rattle.tree_check.proofs.SaidLemmas.{names_in}
 use Rattle.tree_check.specs.Classes.{repeats, repeats_after, first}
 use Rattle.fault_model.specs.declared.node.Place.{Place}
 use Rattle.galileo_tree.specs.declared.raw.Placed.{Placed}
-use Rattle.tree_check.specs.Naming.{differ, name_list, Adds}
+use Rattle.tree_check.specs.Naming.{name_list, Adds}
 
 pub same_is : (a b : List ℕ) → same_name a b ≡ true → a ≡ b
 same_is a b same = (bytes_decides a b).0 same
@@ -34,7 +35,7 @@ has_middle [] ys y = or_left (same_name y y) (has_name ys y) (same_itself y y re
 has_middle (x ∷ xs) ys y = or_right (same_name y x) (has_name (xs ++ y ∷ ys) y) (has_middle xs ys y)
 
 -- a name that is among those before it
-pub differ-found : (xs ys : List (List ℕ)) (y : List ℕ) → has_name xs y ≡ true → differ (xs ++ y ∷ ys) ≡ false
+pub differ-found : (xs ys : List (List ℕ)) (y : List ℕ) → has_name xs y ≡ true → all_differ (xs ++ y ∷ ys) ≡ false
 differ-found [] ys y found = absurd cc
 differ-found (x ∷ xs) ys y found = elim (or_cases (same_name y x) (has_name xs y) found) [
   | inl same ↦
@@ -42,18 +43,19 @@ differ-found (x ∷ xs) ys y found = elim (or_cases (same_name y x) (has_name xs
       subst (λ z. has_name (xs ++ y ∷ ys) z ≡ true) (same_is y x same) (has_middle xs ys y) in
       cc
   | inr later ↦
-      let rest : differ (xs ++ y ∷ ys) ≡ false = differ-found xs ys y later in
+      let rest : all_differ (xs ++ y ∷ ys) ≡ false = differ-found xs ys y later in
       elim (cases_Bool (has_name (xs ++ y ∷ ys) x)) [ inl yes' ↦ cc | inr no' ↦ cc ]
 ]
 
 -- a name that is not
-pub differ-push : (xs : List (List ℕ)) (y : List ℕ) → differ xs ≡ true → has_name xs y ≡ false
-    → differ (xs ++ y ∷ []) ≡ true
+pub differ-push : (xs : List (List ℕ)) (y : List ℕ) → all_differ xs ≡ true → has_name xs y ≡ false
+    → all_differ (xs ++ y ∷ []) ≡ true
 differ-push [] y all new = refl
 differ-push (x ∷ xs) y all new =
-    let parts : (not (has_name xs x) ≡ true) × (differ xs ≡ true) = and_parts (not (has_name xs x)) (differ xs) all in
+    let parts : (not (has_name xs x) ≡ true) × (all_differ xs ≡ true) =
+    and_parts (not (has_name xs x)) (all_differ xs) all in
     let apart : (same_name y x ≡ false) × (has_name xs y ≡ false) = or_parts (same_name y x) (has_name xs y) new in
-    let rest : differ (xs ++ y ∷ []) ≡ true = differ-push xs y parts.1 apart.1 in
+    let rest : all_differ (xs ++ y ∷ []) ≡ true = differ-push xs y parts.1 apart.1 in
     let other : same_name x y ≡ false = same_other_way y x apart.0 in
     let last : has_name (xs ++ y ∷ []) x ≡ (has_name xs x || (same_name x y || false)) =
     list_any-append (same_name x) xs (y ∷ []) in
@@ -62,7 +64,7 @@ differ-push (x ∷ xs) y all new =
 -- the names so far and those to come are all names
 pub record Comes (start whole so_far to_come : List (List ℕ)) : Type 0 where
   pub all : so_far ++ to_come ≡ start ++ whole
-  pub fresh : differ so_far ≡ true
+  pub fresh : all_differ so_far ≡ true
 
 pub Comes-more : (start whole so_far to_come : List (List ℕ)) (name : List ℕ) (rest : List (List ℕ))
     → to_come ≡ name ∷ rest → has_name so_far name ≡ false → Comes start whole so_far to_come
@@ -74,15 +76,15 @@ Comes-more start whole so_far to_come name rest is new c = record {
 
 pub Comes-found : (start whole so_far to_come : List (List ℕ)) (name : List ℕ) (rest : List (List ℕ))
     → to_come ≡ name ∷ rest → has_name so_far name ≡ true → Comes start whole so_far to_come
-    → differ (start ++ whole) ≡ false
+    → all_differ (start ++ whole) ≡ false
 Comes-found start whole so_far to_come name rest is found c =
-    ap differ (sym c.all) ∙ (ap (λ t. differ (so_far ++ t)) is ∙ differ-found so_far rest name found)
+    ap all_differ (sym c.all) ∙ (ap (λ t. all_differ (so_far ++ t)) is ∙ differ-found so_far rest name found)
 
 pub Comes-all : (start whole so_far to_come : List (List ℕ)) → to_come ≡ [] → Comes start whole so_far to_come
-    → (so_far ≡ start ++ whole) × (differ (start ++ whole) ≡ true)
+    → (so_far ≡ start ++ whole) × (all_differ (start ++ whole) ≡ true)
 Comes-all start whole so_far to_come none c =
     let is : so_far ≡ start ++ whole = sym (append-nil so_far) ∙ (ap (λ t. so_far ++ t) (sym none) ∙ c.all) in
-    (is, ap differ (sym is) ∙ c.fresh)
+    (is, ap all_differ (sym is) ∙ c.fresh)
 
 -- the next of what is left, by a function of all that is left
 pub next : {X : Type 0} {Y : Type 0} (F : List X → Y) (xs : List X) (i : ℕ) (x : X) → i < length xs → x ≡ get_or xs i x
@@ -98,7 +100,7 @@ Comes-adds start whole so_far to_come None rest new fresh is adds yes' c =
     record {
       all = ap (λ n. n ++ rest) adds.1 ∙ (ap (λ t. so_far ++ t) (sym is) ∙ c.all);
       fresh =
-          ap differ adds.1 ∙ c.fresh;
+          ap all_differ adds.1 ∙ c.fresh;
     }
 Comes-adds start whole so_far to_come (Some name) rest new fresh is adds yes' c =
     let unknown : has_name so_far name.now ≡ false =
@@ -110,7 +112,7 @@ Comes-adds start whole so_far to_come (Some name) rest new fresh is adds yes' c 
 pub Comes-refused : (start whole so_far to_come : List (List ℕ)) (name : Option (Bor (List ℕ)))
     (rest new : List (List ℕ)) (fresh : Bool)
     → to_come ≡ name_list name ++ rest → Adds name fresh so_far new → fresh ≡ false → Comes start whole so_far to_come
-    → differ (start ++ whole) ≡ false
+    → all_differ (start ++ whole) ≡ false
 Comes-refused start whole so_far to_come None rest new fresh is adds none c =
     absurd (let never : true ≡ false = sym adds.0 ∙ none in cc)
 Comes-refused start whole so_far to_come (Some name) rest new fresh is adds none c =
@@ -145,24 +147,25 @@ next_gate xs i x name l is named =
     ∙ ap (λ n. n ++ gate_names (drop (i + 1) xs)) named)
 
 -- names that differ still do so without those at the end
-pub differ-front : (xs ys : List (List ℕ)) → differ (xs ++ ys) ≡ true → differ xs ≡ true
+pub differ-front : (xs ys : List (List ℕ)) → all_differ (xs ++ ys) ≡ true → all_differ xs ≡ true
 differ-front [] ys h = refl
 differ-front (x ∷ xs) ys h =
-    let parts : (not (has_name (xs ++ ys) x) ≡ true) × (differ (xs ++ ys) ≡ true) =
-    and_parts (not (has_name (xs ++ ys) x)) (differ (xs ++ ys)) h in
-    let rest : differ xs ≡ true = differ-front xs ys parts.1 in
+    let parts : (not (has_name (xs ++ ys) x) ≡ true) × (all_differ (xs ++ ys) ≡ true) =
+    and_parts (not (has_name (xs ++ ys) x)) (all_differ (xs ++ ys)) h in
+    let rest : all_differ xs ≡ true = differ-front xs ys parts.1 in
     let both : has_name (xs ++ ys) x ≡ (has_name xs x || has_name ys x) = list_any-append (same_name x) xs ys in
     elim (cases_Bool (has_name xs x)) [ inl there ↦ absurd cc | inr none ↦ cc ]
 
-pub differ-front_false : (xs ys : List (List ℕ)) → differ xs ≡ false → differ (xs ++ ys) ≡ false
+pub differ-front_false : (xs ys : List (List ℕ)) → all_differ xs ≡ false → all_differ (xs ++ ys) ≡ false
 differ-front_false xs ys h =
-    false_from_ne_true (differ (xs ++ ys)) (λ all. (let front : differ xs ≡ true = differ-front xs ys all in cc))
+    false_from_ne_true (all_differ (xs ++ ys))
+    (λ all. (let front : all_differ xs ≡ true = differ-front xs ys all in cc))
 
 -- where no name repeats an earlier one, all differ
-pub differ-repeats : (earlier : List (List ℕ)) (definitions : List Placed) → differ earlier ≡ true
+pub differ-repeats : (earlier : List (List ℕ)) (definitions : List Placed) → all_differ earlier ≡ true
     → repeats_after earlier definitions ≡ []
-    → differ (earlier ++ names_in definitions) ≡ true
-differ-repeats earlier [] all none = ap differ (append-nil earlier) ∙ all
+    → all_differ (earlier ++ names_in definitions) ≡ true
+differ-repeats earlier [] all none = ap all_differ (append-nil earlier) ∙ all
 differ-repeats earlier (definition ∷ definitions) all none = elim (cases_Bool (has_name earlier definition.name)) [
   | inl there ↦
       let some : repeats_after earlier (definition ∷ definitions)
@@ -175,23 +178,23 @@ differ-repeats earlier (definition ∷ definitions) all none = elim (cases_Bool 
       ≡ repeats_after (earlier ++ definition.name ∷ []) definitions =
       ap (λ b. (if b then definition.place ∷ [] else []) ++ repeats_after (earlier ++ definition.name ∷ []) definitions)
       new in
-      ap differ (sym (append_assoc earlier (definition.name ∷ []) (names_in definitions)))
+      ap all_differ (sym (append_assoc earlier (definition.name ∷ []) (names_in definitions)))
       ∙ differ-repeats (earlier ++ definition.name ∷ []) definitions (differ-push earlier definition.name all new)
       (sym rest ∙ none)
 ]
 
 -- and where all differ none repeats an earlier one
 pub repeats-differ : (earlier : List (List ℕ)) (definitions : List Placed)
-    → differ (earlier ++ names_in definitions) ≡ true → repeats_after earlier definitions ≡ []
+    → all_differ (earlier ++ names_in definitions) ≡ true → repeats_after earlier definitions ≡ []
 repeats-differ earlier [] all = refl
 repeats-differ earlier (definition ∷ definitions) all = elim (cases_Bool (has_name earlier definition.name)) [
-  | inl there ↦ let never : differ (earlier ++ definition.name ∷ names_in definitions) ≡ false =
+  | inl there ↦ let never : all_differ (earlier ++ definition.name ∷ names_in definitions) ≡ false =
       differ-found earlier (names_in definitions) definition.name there in absurd cc
   | inr new ↦
       ap (λ b. (if b then definition.place ∷ [] else []) ++ repeats_after (earlier ++ definition.name ∷ []) definitions)
       new
       ∙ repeats-differ (earlier ++ definition.name ∷ []) definitions
-      (ap differ (append_assoc earlier (definition.name ∷ []) (names_in definitions)) ∙ all)
+      (ap all_differ (append_assoc earlier (definition.name ∷ []) (names_in definitions)) ∙ all)
 ]
 
 -- ---- the names of the tree are those of the definitions in another order
@@ -213,10 +216,11 @@ same_both a b = elim (cases_Bool (same_name a b)) [
 ]
 
 differ-middle : (xs ys : List (List ℕ)) (y : List ℕ)
-    → differ (xs ++ y ∷ ys) ≡ (not (has_name (xs ++ ys) y) && differ (xs ++ ys))
+    → all_differ (xs ++ y ∷ ys) ≡ (not (has_name (xs ++ ys) y) && all_differ (xs ++ ys))
 differ-middle [] ys y = refl
 differ-middle (x ∷ xs) ys y =
-    let rest : differ (xs ++ y ∷ ys) ≡ (not (has_name (xs ++ ys) y) && differ (xs ++ ys)) = differ-middle xs ys y in
+    let rest : all_differ (xs ++ y ∷ ys) ≡ (not (has_name (xs ++ ys) y) && all_differ (xs ++ ys)) =
+    differ-middle xs ys y in
     let here : has_name (xs ++ y ∷ ys) x ≡ (same_name x y || has_name (xs ++ ys) x) = has-middle_other xs ys y x in
     let turned : same_name y x ≡ same_name x y = same_both y x in
     grind (arith, rest, here, turned)
@@ -231,7 +235,7 @@ has-names (Gate gate ∷ statements) z =
     ∙ ap (λ b. same_name z gate.name.name || b) (has-names statements z)
 
 pub differ-names : (statements : List Statement)
-    → differ (names statements) ≡ differ (names_in (definitions statements))
+    → all_differ (names statements) ≡ all_differ (names_in (definitions statements))
 differ-names [] = refl
 differ-names (Top top ∷ statements) = differ-names statements
 differ-names (Basic basic ∷ statements) =
@@ -248,12 +252,13 @@ no_place [] none = refl
 no_place (place ∷ places) none = absurd cc
 
 -- a text without a repeated definition has names that differ, and the other way round
-pub some_repeat : (statements : List Statement) → differ (names statements) ≡ false → first (repeats statements) ≢ None
+pub some_repeat : (statements : List Statement) → all_differ (names statements) ≡ false
+    → first (repeats statements) ≢ None
 some_repeat statements same none =
-    let all : differ (names_in (definitions statements)) ≡ true =
+    let all : all_differ (names_in (definitions statements)) ≡ true =
     differ-repeats [] (definitions statements) refl (no_place (repeats statements) none) in
-    let all' : differ (names statements) ≡ true = differ-names statements ∙ all in
+    let all' : all_differ (names statements) ≡ true = differ-names statements ∙ all in
     cc
 
-pub no_repeat : (statements : List Statement) → differ (names statements) ≡ true → repeats statements ≡ []
+pub no_repeat : (statements : List Statement) → all_differ (names statements) ≡ true → repeats statements ≡ []
 no_repeat statements all = repeats-differ [] (definitions statements) (sym (differ-names statements) ∙ all)

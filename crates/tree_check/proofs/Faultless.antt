@@ -21,8 +21,8 @@ use Rattle.galileo_tree.specs.declared.raw.Statement.{Statement}
 use Rattle.galileo_tree.specs.ReadTree.{ReadTree, KeepsForm, HasBareWord, HasShortNumbers}
 use Rattle.tree_check.specs.declared.numbered.Numbered.{Numbered}
 use Rattle.tree_check.specs.declared.numbered.NumberedGate.{NumberedGate}
-use Rattle.tree_check.specs.Said.{basics, gates, tops, names, basic_names, gate_names, same_name}
-use Rattle.tree_check.specs.Naming.{differ}
+use Rattle.fault_model.specs.Names.{same_name, all_differ}
+use Rattle.tree_check.specs.Said.{basics, gates, tops, names, basic_names, gate_names}
 use Rattle.tree_check.specs.Numbered.{kinds, kept_inputs, numbered, numbered_gate, numbered_gates, numbered_tops}
 use Rattle.tree_check.specs.Numbered.{unit_total, is_fdep_in}
 use Rattle.tree_check.specs.Classes.{is_replicated, is_empty, missing_tops, replicated, wrong_vote, dummies_in}
@@ -186,7 +186,7 @@ module _ (read : ReadTree) (ranks : List ℕ) where
 
 -- Statements in which no class of faults occurs stand for a tree, with ranks that follow its rule.
 pub IsTree-faultless : (read : ReadTree) (ranks : List ℕ) → All KeepsForm read.statements
-    → differ (names read.statements) ≡ true
+    → all_differ (names read.statements) ≡ true
     → NoneOf read before_cycles → NoneOf read after_cycles
     → length ranks ≡ length (names read.statements) → IsRanked (tree_of read.statements ranks)
     → IsTree (tree_of read.statements ranks)

@@ -4,7 +4,8 @@ use Rattle.std.specs.Prelude.{◌||◌, position, Option}
 use Rattle.std.specs.List.{list_any, position_or_len}
 use Rattle.std.specs.Borrow.{Bor}
 use Rattle.std.proofs.lemmas.List.{length-map}
-use Rattle.tree_check.specs.Said.{same_name, has_name, number_at, number_in}
+use Rattle.fault_model.specs.Names.{same_name, has_name}
+use Rattle.tree_check.specs.Said.{number_at, number_in}
 
 abbrev pub behind : List (Bor (List ℕ)) → List (List ℕ)
 behind keys = map (λ (key : Bor (List ℕ)). key.now) keys

@@ -13,7 +13,8 @@ use Rattle.tree_check.specs.declared.fault.CheckFault.{CheckFault}
 use Rattle.tree_check.specs.declared.fault.CheckFault.TheVariants.{Fault, NoMemory}
 use Rattle.tree_check.specs.declared.fault.CheckCode.{CheckCode}
 use Rattle.tree_check.specs.declared.numbered.Deck.{Deck}
-use Rattle.tree_check.specs.Said.{basics, gates, tops, uses, basic_in, gate_in, top_in, uses_in, has_name}
+use Rattle.fault_model.specs.Names.{has_name}
+use Rattle.tree_check.specs.Said.{basics, gates, tops, uses, basic_in, gate_in, top_in, uses_in}
 use Rattle.tree_check.specs.Numbered.{numbered, numbered_gate}
 use Rattle.tree_check.specs.Classes.{undefined, first}
 use Rattle.tree_check.specs.Found.{IsFoundAs}

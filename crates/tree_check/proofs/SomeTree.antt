@@ -26,7 +26,7 @@ use Rattle.tree_check.specs.declared.numbered.NumberedGate.{NumberedGate}
 use Rattle.tree_check.specs.Checked.{IsFirstFault, NoneOf, Stands, before_cycles, places}
 use Rattle.tree_check.specs.Classes.{first}
 use Rattle.tree_check.specs.Marked.{marked_places}
-use Rattle.tree_check.specs.Naming.{differ}
+use Rattle.fault_model.specs.Names.{all_differ}
 use Rattle.tree_check.specs.Numbered.{numbered_gates, unit_total}
 use Rattle.tree_check.specs.Said.{definitions, names}
 use Rattle.tree_check.specs.TreeOf.{AreRanks, FirstOnCycle, HasNoCycle, input_lists, numbers, tree_of}
@@ -276,7 +276,7 @@ module _ (read : ReadTree) where
 
   -- whether a definition leads to itself
   module _ (none : NoneOf read before_cycles) where
-    once : differ (names read.statements) ≡ true
+    once : all_differ (names read.statements) ≡ true
     once = differ-names read.statements ∙ differ-repeats [] (definitions read.statements) refl none.1.1.0
 
     low : HasUnitDependents (unit_total read.statements) (numbered_gates read.statements)

@@ -11,8 +11,8 @@ use Rattle.galileo_tree.specs.declared.raw.Statement.{Statement}
 use Rattle.galileo_tree.specs.declared.raw.Statement.TheVariants.{Top, Gate, Basic}
 use Rattle.galileo_tree.specs.ReadTree.{KeepsForm, HasShortNumbers, HasBareWord}
 use Rattle.tree_check.specs.declared.numbered.NumberedGate.{NumberedGate}
-use Rattle.tree_check.specs.Said.{tops, gates, basics, uses, names, has_name, same_name}
-use Rattle.tree_check.specs.Naming.{differ}
+use Rattle.fault_model.specs.Names.{has_name, same_name, all_differ}
+use Rattle.tree_check.specs.Said.{tops, gates, basics, uses, names}
 use Rattle.tree_check.specs.Numbered.{numbered, numbered_gate, numbered_gates, numbered_tops}
 use Rattle.tree_check.specs.Classes.{undefined}
 use Rattle.tree_check.specs.SpareTable.{AreWithin}
@@ -116,9 +116,9 @@ other_names (first ∷ rest) name none =
     (λ same. (let yes' : same_name name first ≡ true = same_itself name first same in let not' = parts.0 in cc))
     (other_names rest name parts.1)
 
-pub pairs_differ : (all_names : List (List ℕ)) → differ all_names ≡ true
+pub pairs_differ : (all_names : List (List ℕ)) → all_differ all_names ≡ true
     → AllPairs (λ earlier later. earlier ≢ later) all_names
 pairs_differ [] all = λ i j d l k. absurd (omega arith)
 pairs_differ (name ∷ rest) all =
-    let parts = and_parts (not (has_name rest name)) (differ rest) all in
+    let parts = and_parts (not (has_name rest name)) (all_differ rest) all in
     pairs-cons name rest (other_names rest name (not-true (has_name rest name) parts.0)) (pairs_differ rest parts.1)

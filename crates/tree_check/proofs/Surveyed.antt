@@ -12,10 +12,10 @@ use Rattle.graph_cycles.specs.Graph.{successors, Leads, IsGraph, rank_over}
 use Rattle.galileo_tree.specs.declared.raw.Placed.{Placed}
 use Rattle.galileo_tree.specs.declared.raw.Statement.{Statement}
 use Rattle.tree_check.specs.declared.numbered.NumberedGate.{NumberedGate}
-use Rattle.tree_check.specs.Said.{basics, gates, names, basic_names, gate_names, definitions, has_name}
+use Rattle.fault_model.specs.Names.{has_name, same_name, all_differ}
+use Rattle.tree_check.specs.Said.{basics, gates, names, basic_names, gate_names, definitions}
 use Rattle.tree_check.proofs.SaidLemmas.{names_in}
-use Rattle.tree_check.specs.Said.{same_name, number_in, uses}
-use Rattle.tree_check.specs.Naming.{differ}
+use Rattle.tree_check.specs.Said.{number_in, uses}
 use Rattle.tree_check.specs.Numbered.{numbered_gates, numbered_gate, unit_total, kinds, kept_inputs}
 use Rattle.tree_check.specs.TreeOf.{tree_of, numbers, input_lists, IsCyclic, FirstOnCycle, HasNoCycle, AreRanks}
 use Rattle.tree_check.specs.Classes.{first, undefined, dependent_gates}
@@ -80,18 +80,19 @@ not_has [] y k l none = absurd (omega arith)
 not_has (x ∷ xs) y zero l none = (or_parts (same_name y x) (has_name xs y) none).0
 not_has (x ∷ xs) y (suc k) l none = not_has xs y k (omega arith) (or_parts (same_name y x) (has_name xs y) none).1
 
-apart_at : (xs : List (List ℕ)) (j k : ℕ) → differ xs ≡ true → j < k → k < length xs
+apart_at : (xs : List (List ℕ)) (j k : ℕ) → all_differ xs ≡ true → j < k → k < length xs
     → same_name (get_or xs k []) (get_or xs j []) ≡ false
 apart_at [] j k all less l = absurd (omega arith)
 apart_at (x ∷ xs) j zero all less l = absurd (omega arith)
 apart_at (x ∷ xs) zero (suc k) all less l =
-    let parts : (not (has_name xs x) ≡ true) × (differ xs ≡ true) = and_parts (not (has_name xs x)) (differ xs) all in
+    let parts : (not (has_name xs x) ≡ true) × (all_differ xs ≡ true) =
+    and_parts (not (has_name xs x)) (all_differ xs) all in
     let none : has_name xs x ≡ false = elim (cases_Bool (has_name xs x)) [ inl there ↦ absurd cc | inr n ↦ n ] in
     same_other_way x (get_or xs k []) (not_has xs x k (omega arith) none)
 apart_at (x ∷ xs) (suc j) (suc k) all less l =
-    apart_at xs j k (and_parts (not (has_name xs x)) (differ xs) all).1 (omega arith) (omega arith)
+    apart_at xs j k (and_parts (not (has_name xs x)) (all_differ xs) all).1 (omega arith) (omega arith)
 
-pub number_at_place : (xs : List (List ℕ)) (k : ℕ) → differ xs ≡ true → k < length xs
+pub number_at_place : (xs : List (List ℕ)) (k : ℕ) → all_differ xs ≡ true → k < length xs
     → number_in xs (get_or xs k []) ≡ suc k
 number_at_place xs k all l =
     let place : position_or_len (same_name (get_or xs k [])) xs ≡ k =
@@ -100,7 +101,7 @@ number_at_place xs k all l =
     number_some xs (get_or xs k []) (has_at xs k l) ∙ ap suc place
 
 -- every number up to the last is that of a definition
-pub number_defined : (statements : List Statement) (x : ℕ) → differ (names statements) ≡ true → 1 ≤ x
+pub number_defined : (statements : List Statement) (x : ℕ) → all_differ (names statements) ≡ true → 1 ≤ x
     → x ≤ length (names statements)
     → (i : ℕ) × (i < length (definitions statements))
     × (slice_index (numbers_of (names statements) (definitions statements)) i ≡ x)
@@ -118,7 +119,7 @@ pub record Surveyed (statements : List Statement) (graph : List (List ℕ)) (mar
     (ranks : List ℕ) : Type 0 where
   pub graph_is : IsGraphOf (unit_total statements) (numbered_gates statements) graph
   pub each : Each (IsNumber (length (names statements))) (numbered_gates statements)
-  pub once : differ (names statements) ≡ true
+  pub once : all_differ (names statements) ≡ true
   pub exact : (x : ℕ) → x < length graph → IsTrue (slice_index_or marks x false) ↔ Leads graph x x
   pub ranked : (x : ℕ) → x < length graph → slice_index_or marks x false ≡ false
       → slice_index ranks x ≡ rank_over ranks (successors graph x)
@@ -228,7 +229,7 @@ graph_here statements deck all graph d same g =
 pub survey_of : (statements : List Statement) (deck : Deck) (all : List NumberedGate) (graph : List (List ℕ))
     (marks : List Bool) (ranks : List ℕ)
     → IsDeckOf (names statements) statements deck → all ≡ deck.gates.items → IsGraphOf deck.units all graph
-    → undefined (names statements) (uses statements) ≡ [] → differ (names statements) ≡ true
+    → undefined (names statements) (uses statements) ≡ [] → all_differ (names statements) ≡ true
     → ((x : ℕ) → x < length graph → IsTrue (slice_index_or marks x false) ↔ Leads graph x x)
     → ((x : ℕ) → x < length graph → slice_index_or marks x false ≡ false
     → slice_index ranks x ≡ rank_over ranks (successors graph x))

@@ -11,7 +11,8 @@ use Rattle.galileo_tree.specs.declared.raw.Placed.{Placed}
 use Rattle.galileo_tree.specs.declared.raw.RawAttribute.{RawAttribute}
 use Rattle.galileo_tree.specs.declared.raw.RawBasic.{RawBasic}
 use Rattle.galileo_tree.specs.declared.raw.Statement.{Statement}
-use Rattle.tree_check.specs.Said.{tops, definitions, uses, names, has_name, same_name}
+use Rattle.fault_model.specs.Names.{has_name, same_name}
+use Rattle.tree_check.specs.Said.{tops, definitions, uses, names}
 use Rattle.tree_check.specs.Numbered.{is_gate, is_fdep_in, kinds, drops_fdeps, is_spare_kind, kept_inputs}
 use Rattle.tree_check.specs.declared.numbered.Numbered.{Numbered}
 use Rattle.tree_check.specs.declared.numbered.NumberedGate.{NumberedGate}

@@ -4,7 +4,7 @@ use Rattle.tree_check.specs.declared.numbered.Deck.{Deck}
 use Rattle.galileo_tree.specs.ReadTree.{ReadTree}
 use Rattle.tree_check.specs.declared.checking.Examined.{Examined}
 use Rattle.tree_check.specs.Said.{names}
-use Rattle.tree_check.specs.Naming.{differ}
+use Rattle.fault_model.specs.Names.{all_differ}
 use Rattle.tree_check.specs.Numbering.{IsDeckOf}
 use Rattle.tree_check.specs.TreeOf.{AreRanks, HasNoCycle}
 use Rattle.tree_check.specs.Checked.{NoneOf, before_cycles, after_cycles}
@@ -12,7 +12,7 @@ use Rattle.tree_check.specs.Checked.{NoneOf, before_cycles, after_cycles}
 -- the names of the text, none of which is defined twice
 pub record IsIndexOf (read : ReadTree) (index : List (List ℕ)) : Type 0 where
   pub is : index ≡ names read.statements
-  pub once : differ index ≡ true
+  pub once : all_differ index ≡ true
 
 -- the text by numbers, which a machine word can count
 pub record IsSmallDeck (read : ReadTree) (deck : Deck) : Type 0 where
@@ -22,7 +22,7 @@ pub record IsSmallDeck (read : ReadTree) (deck : Deck) : Type 0 where
 -- a text in which no class before the limits occurs, by numbers and with the ranks of its nodes
 pub record IsRankedText (read : ReadTree) (examined : Examined) : Type 0 where
   pub deck : IsDeckOf (names read.statements) read.statements examined.deck
-  pub once : differ (names read.statements) ≡ true
+  pub once : all_differ (names read.statements) ≡ true
   pub before : NoneOf read before_cycles
   pub acyclic : HasNoCycle read.statements
   pub ranks : AreRanks read.statements (drop 1 examined.ranks.items)
@@ -30,7 +30,7 @@ pub record IsRankedText (read : ReadTree) (examined : Examined) : Type 0 where
 -- and within the limits
 pub record IsExamined (read : ReadTree) (examined : Examined) : Type 0 where
   pub deck : IsDeckOf (names read.statements) read.statements examined.deck
-  pub once : differ (names read.statements) ≡ true
+  pub once : all_differ (names read.statements) ≡ true
   pub before : NoneOf read before_cycles
   pub acyclic : HasNoCycle read.statements
   pub after : NoneOf read after_cycles

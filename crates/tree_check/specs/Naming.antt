@@ -1,12 +1,7 @@
 -- What the naming of a text gives.
-use Rattle.std.specs.Prelude.{◌≡◌, ℕ, Bool, true, not, ◌&&◌, List, [], ◌∷◌, ◌++◌, Option, Some, None, if◌then◌else◌}
+use Rattle.std.specs.Prelude.{◌≡◌, ℕ, Bool, true, not, List, [], ◌∷◌, ◌++◌, Option, Some, None, if◌then◌else◌}
 use Rattle.std.specs.Borrow.{Bor}
-use Rattle.tree_check.specs.Said.{has_name}
-
--- no name stands twice
-abbrev pub differ : List (List ℕ) → Bool
-differ [] = true
-differ (name ∷ names) = not (has_name names name) && differ names
+use Rattle.fault_model.specs.Names.{has_name}
 
 -- the name that a reference leads to, if there is one
 abbrev pub name_list : Option (Bor (List ℕ)) → List (List ℕ)

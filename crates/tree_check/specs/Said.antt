@@ -1,7 +1,7 @@
 -- What the statements of a text say, in the order of the text.
-use Rattle.std.specs.Prelude.{ℕ, suc, Bool, nat_eq, List, [], ◌∷◌, ◌++◌, map, Option, Some, None, position}
-use Rattle.std.specs.List.{flat_map, list_any}
-use Rattle.std.specs.Cmp.Lexicographic.{pointwise}
+use Rattle.std.specs.Prelude.{ℕ, suc, List, [], ◌∷◌, ◌++◌, map, Option, Some, None, position}
+use Rattle.std.specs.List.{flat_map}
+use Rattle.fault_model.specs.Names.{same_name}
 use Rattle.galileo_tree.specs.declared.raw.Placed.{Placed}
 use Rattle.galileo_tree.specs.declared.raw.RawTop.{RawTop}
 use Rattle.galileo_tree.specs.declared.raw.RawGate.{RawGate}
@@ -50,13 +50,6 @@ definitions statements = flat_map definition_in statements
 
 abbrev pub uses : List Statement → List Placed
 uses statements = flat_map uses_in statements
-
--- two names differ where any byte differs
-abbrev pub same_name : List ℕ → List ℕ → Bool
-same_name a b = pointwise nat_eq a b
-
-abbrev pub has_name : List (List ℕ) → List ℕ → Bool
-has_name names name = list_any (same_name name) names
 
 abbrev pub basic_names : List Statement → List (List ℕ)
 basic_names statements = map (λ basic. basic.name.name) (basics statements)

@@ -2,7 +2,7 @@
 ghost use Rattle.std.specs.Prelude.{◌≡◌, ◌+◌, ◌<◌, ◌≤◌, ◌||◌, ◌&&◌, ◌==◌, ◌∷◌, ◌++◌, ℕ, [], length, map, All, IfOk};
 ghost use Rattle.std.specs.Prelude.{IfErr, OnOk, slice_index_or, filter_map, replicate, true, false, drop};
 ghost use Rattle.tree_check.specs.Said.{definitions, definition_in, names, uses};
-ghost use Rattle.tree_check.specs.Naming.{differ};
+ghost use Rattle.fault_model.specs.Names.{all_differ};
 ghost use Rattle.tree_check.specs.Numbering.{IsDeckOf};
 ghost use Rattle.tree_check.specs.Found.{IsCycleFault};
 ghost use Rattle.tree_check.specs.Classes.{first, undefined, dependent_gates};
@@ -199,7 +199,7 @@ pub(crate) fn rank_all(
 ) -> Result<Vec<usize>, CheckFault>
     requires names { index.now ≡ names statements.now }
     requires deck { IsDeckOf (names statements.now) statements.now deck.now }
-    requires once { differ (names statements.now) ≡ true }
+    requires once { all_differ (names statements.now) ≡ true }
     requires known { undefined (names statements.now) (uses statements.now) ≡ [] }
     requires dependents { dependent_gates (unit_total statements.now) (numbered_gates statements.now) ≡ [] }
     requires small { deck.now.units + 1 < 18446744073709551616 }

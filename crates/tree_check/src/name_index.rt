@@ -1,6 +1,7 @@
 //! The numbers of names.
 ghost use Rattle.std.specs.Prelude.{◌≡◌, ◌+◌, ◌≤◌, [], ◌∷◌, ◌++◌, length, not, IfOk, if◌then◌else◌};
-ghost use Rattle.tree_check.specs.Said.{has_name, number_in};
+ghost use Rattle.fault_model.specs.Names.{has_name};
+ghost use Rattle.tree_check.specs.Said.{number_in};
 
 use fault_model::Name;
 use indexmap::IndexSet;

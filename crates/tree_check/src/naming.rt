@@ -3,7 +3,8 @@ ghost use Rattle.std.specs.Prelude.{◌≡◌, ◌++◌, ◌∷◌, ℕ, [], tru
 ghost use Rattle.std.specs.Prelude.{is_some, OnOk, IsTrue};
 ghost use Rattle.tree_check.specs.Said.{names, definitions, uses, basic_names, gate_names};
 ghost use Rattle.tree_check.specs.Classes.{first, repeats, undefined};
-ghost use Rattle.tree_check.specs.Naming.{differ, Adds, name_list};
+ghost use Rattle.fault_model.specs.Names.{all_differ};
+ghost use Rattle.tree_check.specs.Naming.{Adds, name_list};
 ghost use Rattle.tree_check.specs.Found.{IsFoundAs};
 
 use crate::name_index::NameIndex;
@@ -45,9 +46,9 @@ fn add_basics<'a>(
     index: &mut NameIndex<'a>,
     statements: &'a [Statement],
 ) -> Result<bool, AllocError>
-    requires { differ index.old ≡ true }
+    requires { all_differ index.old ≡ true }
     ensures fresh { IfOk result (λ fresh. IsTrue fresh → index.new ≡ index.old ++ basic_names statements.now) }
-    ensures differ { IfOk result (λ fresh. fresh ≡ differ (index.old ++ basic_names statements.now)) }
+    ensures differ { IfOk result (λ fresh. fresh ≡ all_differ (index.old ++ basic_names statements.now)) }
 {
     for statement in statements {
         if !add(index, basic_name(statement))? {
@@ -59,9 +60,9 @@ fn add_basics<'a>(
 
 /// Adds the names of the gates, and says whether they all were new.
 fn add_gates<'a>(index: &mut NameIndex<'a>, statements: &'a [Statement]) -> Result<bool, AllocError>
-    requires { differ index.old ≡ true }
+    requires { all_differ index.old ≡ true }
     ensures fresh { IfOk result (λ fresh. IsTrue fresh → index.new ≡ index.old ++ gate_names statements.now) }
-    ensures differ { IfOk result (λ fresh. fresh ≡ differ (index.old ++ gate_names statements.now)) }
+    ensures differ { IfOk result (λ fresh. fresh ≡ all_differ (index.old ++ gate_names statements.now)) }
 {
     for statement in statements {
         if !add(index, gate_name(statement))? {
@@ -95,7 +96,7 @@ fn index_of<'a>(
     statements: &'a [Statement],
 ) -> Result<Option<NameIndex<'a>>, AllocError>
     ensures some { IfOk result (λ found. IfSome found (λ index. index ≡ names statements.now)) }
-    ensures differ { IfOk result (λ found. is_some found ≡ differ (names statements.now)) }
+    ensures differ { IfOk result (λ found. is_some found ≡ all_differ (names statements.now)) }
 {
     let mut index = NameIndex::with_room(alloc, statements.len())?;
     if !add_basics(&mut index, statements)? {
@@ -114,7 +115,7 @@ pub(crate) fn name_all<'a>(
 ) -> Result<NameIndex<'a>, CheckFault>
     ensures names { IfOk result (λ index. index ≡ names statements.now) }
     ensures once { OnOk result (repeats statements.now ≡ []) }
-    ensures differ { OnOk result (differ (names statements.now) ≡ true) }
+    ensures differ { OnOk result (all_differ (names statements.now) ≡ true) }
     ensures fault { IfErr result (IsFoundAs CheckCode.DuplicateName (repeats statements.now)) }
 {
     match index_of(alloc, statements)? {
@@ -125,7 +126,7 @@ pub(crate) fn name_all<'a>(
 
 /// The fault of a text in which some name is defined twice.
 fn repetition(alloc: Global, statements: &[Statement]) -> Result<CheckFault, AllocError>
-    requires { differ (names statements.now) ≡ false }
+    requires { all_differ (names statements.now) ≡ false }
     ensures { IfOk result (IsFoundAs CheckCode.DuplicateName (repeats statements.now)) }
 {
     match repeat(alloc, statements)? {

@@ -6,9 +6,10 @@ ghost use Rattle.tree_check.specs.Classes.{units_beyond};
 
 use fault_model::Place;
 use galileo_tree::{RawAttribute, Statement};
+use unit_sets::UnitNo;
 
 /// The most basic events of a tree.
-const MOST_UNITS: usize = 4095;
+const MOST_UNITS: usize = UnitNo::MAX as usize;
 
 /// The end of the text, where there is no top statement.
 pub(crate) fn missing_top(statements: &[Statement], end: Place) -> Option<Place>

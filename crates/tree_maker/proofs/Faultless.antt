@@ -21,7 +21,8 @@ use Rattle.tree_check.specs.Classes.{repeats_after, replicated, shared_spares, s
 use Rattle.tree_check.specs.Classes.{wrong_votes}
 use Rattle.tree_check.specs.Numbered.{is_fdep_in, kinds, numbered, numbered_gate, numbered_gates, numbered_tops}
 use Rattle.tree_check.specs.Numbered.{unit_total}
-use Rattle.tree_check.specs.Said.{basics, gates, has_name, names, tops, uses}
+use Rattle.fault_model.specs.Names.{has_name}
+use Rattle.tree_check.specs.Said.{basics, gates, names, tops, uses}
 use Rattle.tree_check.specs.TreeOf.{HasNoCycle, input_lists, tree_of}
 use Rattle.deck_reading.specs.Unplaced.{said_tree}
 use Rattle.tree_maker.specs.Names.{gate_name, top_name, trigger_name, unit_name}

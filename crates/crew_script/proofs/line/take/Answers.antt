@@ -1,6 +1,6 @@
 use Rattle.std.proofs.Common.{◌≡◌, ◌<◌, true, false, [], length, sym, ap, subst, ◌∙◌, arith}
 use Rattle.std.proofs.lemmas.Grind.{common_steps}
-use Rattle.crew_script.specs.Names.{has_name, all_differ}
+use Rattle.fault_model.specs.Names.{has_name, all_differ}
 use Rattle.crew_script.specs.Lines.{take_line}
 use Rattle.crew_script.proofs.NameLemmas.{take_step, differ_push}
 use Rattle.crew_script.proofs.line.take.Goals as goal
@@ -21,5 +21,5 @@ loop-word-preserved c =
           ∙ ap (λ l. take_line l c.next.new.self) (sym items);
       few = grind (arith, common_steps, items, few);
       differ =
-          subst (λ l. all_differ l ≡ true) (sym items) (differ_push [] names name c.loop-word.invariant.differ new);
+          subst (λ l. all_differ l ≡ true) (sym items) (differ_push names name c.loop-word.invariant.differ new);
     }

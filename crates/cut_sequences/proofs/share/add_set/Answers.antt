@@ -1,4 +1,4 @@
-use Rattle.std.proofs.Common.{◌≡◌, length, ap, ◌∙◌, refl}
+use Rattle.std.proofs.Common.{◌≡◌, length, ap, ◌∙◌}
 use Rattle.cut_sequences.specs.declared.search.Search.{Search}
 use Rattle.cut_sequences.proofs.HoldingLemmas.{adds_listed, adds_unlisted}
 use Rattle.cut_sequences.proofs.share.add_set.Goals as goal

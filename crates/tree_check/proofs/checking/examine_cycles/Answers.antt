@@ -1,5 +1,5 @@
 use Rattle.std.proofs.Common.{sym, subst, ap, ◌∙◌, drop}
-use Rattle.tree_check.specs.Naming.{differ}
+use Rattle.fault_model.specs.Names.{all_differ}
 use Rattle.tree_check.specs.TreeOf.{HasNoCycle, AreRanks}
 use Rattle.tree_check.proofs.checking.examine_cycles.Goals as goal
 
@@ -15,7 +15,7 @@ rank_all-requires-clause-dependents c = rw c.statements.ensures.statements c.req
 pub examine_limits-requires : goal.examine_limits-requires
 examine_limits-requires c = record {
   deck = c.requires.deck.is;
-  once = ap differ (sym c.requires.names.is) ∙ c.requires.names.once;
+  once = ap all_differ (sym c.requires.names.is) ∙ c.requires.names.once;
   before = c.requires.passed;
   acyclic = subst HasNoCycle c.statements.ensures.statements c.in-Ok.ensures.acyclic;
   ranks = subst (λ t. AreRanks t (drop 1 c.in-Ok.ranks.items)) c.statements.ensures.statements c.in-Ok.ensures.ranks;

@@ -1,11 +1,11 @@
 use Rattle.std.proofs.Common.{arith, ◌≡◌, true}
 use Rattle.std.proofs.lemmas.Grind.{common_steps}
 use Rattle.tree_check.specs.Said.{names}
-use Rattle.tree_check.specs.Naming.{differ}
+use Rattle.fault_model.specs.Names.{all_differ}
 use Rattle.tree_check.proofs.Differ.{no_repeat}
 use Rattle.tree_check.proofs.naming.name_all.Goals as goal
 
 pub returns-in-Some-clause-once : goal.returns-in-Some-clause-once
 returns-in-Some-clause-once c =
-    let all : differ (names c.args.statements.now) ≡ true = grind (arith, common_steps) in
+    let all : all_differ (names c.args.statements.now) ≡ true = grind (arith, common_steps) in
     no_repeat c.args.statements.now all
