@@ -8,3 +8,4 @@ mod PrintedTrees
 pub mod OrdersOfUnitsLemmas
 mod SummaryLemmas
 mod UnitTextsLemmas
+mod LineLemmas

@@ -6,8 +6,9 @@ ghost use Rattle.fault_model.specs.Tree.{IsUnitOf, name_of};
 ghost use Rattle.board_report.specs.CutsText.{count_line, cut_block, cut_blocks, cut_line, cut_number, cuts_text};
 ghost use Rattle.board_report.specs.CutsText.{listed_with, titled_line, tree_counts, tree_line};
 ghost use Rattle.board_report.specs.OrdersOfUnits.{AreOrdersOf};
-ghost use Rattle.board_report.specs.Shown.{AreTextsOf};
+ghost use Rattle.board_report.specs.Shown.{AreTextsOf, Spells};
 
+use crate::line::Line;
 use crate::orders::put_order_lines;
 use crate::pieces::{Spelled, put_shown, put_spaced};
 use crate::unit_texts::UnitTexts;
@@ -124,8 +125,9 @@ fn put_blocks<K: Sink>(
         (cut_blocks names.now.tree.now 1 (listed_with cuts.now orders.now)) }
     ensures answer { is_err result ≡ has_failed out.new }
 {
+    let mut line = names.texts.line();
     for i in 0..cuts.len() {
-        put_block(out, names, cuts.members(i), orders, i)?;
+        put_block(out, &mut line, names, cuts.members(i), orders, i)?;
     }
     Ok(())
 }
@@ -133,6 +135,7 @@ fn put_blocks<K: Sink>(
 // The cut set of a place and its orders.
 fn put_block<K: Sink>(
     out: &mut Out<K>,
+    line: &mut Line,
     names: &Spelled,
     set: &[UnitNo],
     orders: &OrderLists,
@@ -141,29 +144,34 @@ fn put_block<K: Sink>(
     requires within { i < length orders.now }
     requires countable { i < usize.MAX }
     requires texts { AreTextsOf names.now.tree.now names.now.texts.now }
+    requires spells { Spells names.now.tree.now line.old.units.items line.old.text.items }
     requires set_units { All (IsUnitOf names.now.tree.now) set.now }
     requires units { All (All (IsUnitOf names.now.tree.now)) (orders_at orders.now i) }
+    ensures spells { Spells names.now.tree.now line.new.units.items line.new.text.items }
     ensures puts { Puts K.taken K.faults out.old out.new
         (cut_block names.now.tree.now (i + 1) set.now (slice_index_or orders.now i None)) }
     ensures answer { is_err result ≡ has_failed out.new }
 {
-    put_cut_line(out, names, i as u64 + 1, set)?;
-    put_order_lines(out, names, orders, i)
+    put_cut_line(out, line, names, i as u64 + 1, set)?;
+    put_order_lines(out, line, names, orders, i)
 }
 
 fn put_cut_line<K: Sink>(
     out: &mut Out<K>,
+    line: &mut Line,
     names: &Spelled,
     number: u64,
     set: &[UnitNo],
 ) -> Result<(), WriteFault>
     requires texts { AreTextsOf names.now.tree.now names.now.texts.now }
+    requires spells { Spells names.now.tree.now line.old.units.items line.old.text.items }
     requires units { All (IsUnitOf names.now.tree.now) set.now }
+    ensures spells { Spells names.now.tree.now line.new.units.items line.new.text.items }
     ensures puts { Puts K.taken K.faults out.old out.new (cut_line names.now.tree.now number set.now) }
     ensures answer { is_err result ≡ has_failed out.new }
 {
     put_cut_number(out, number)?;
-    put_spaced(out, names, set)?;
+    put_spaced(out, line, names, set)?;
     out.put(b"\n")
 }
 

@@ -16,6 +16,7 @@ mod fault;
 mod holders;
 pub mod laws;
 mod left;
+mod line;
 mod log;
 mod notice;
 mod orders;

@@ -1,8 +1,9 @@
 //! The text of each unit.
 ghost use Rattle.std.specs.Prelude.{◌≡◌, ◌-◌, ◌<◌, ◌≤◌, [], ◌++◌, ◌∷◌, length, IfOk, OnOk, slice_index_or};
-ghost use Rattle.fault_model.specs.Tree.{IsUnitOf, name_of};
-ghost use Rattle.board_report.specs.Shown.{AreTextsOf, named, unit_text};
+ghost use Rattle.fault_model.specs.Tree.{FaultTree, IsUnitOf, name_of};
+ghost use Rattle.board_report.specs.Shown.{AreTextsOf, Spells, named, unit_text};
 
+use crate::line::Line;
 use edge_io::NoMemory;
 use fault_model::{Name, NodeNo, Tree};
 use flat_rows::Rows;
@@ -15,6 +16,7 @@ use unit_sets::UnitNo;
 #[derive(Drop)]
 pub struct UnitTexts {
     rows: Rows<u8>,
+    alloc: Global,
 }
 
 impl Model for UnitTexts {
@@ -37,7 +39,14 @@ impl UnitTexts {
             show(&mut text, tree.name(NodeNo(before + 1)))?;
             rows.push(text.as_slice())?;
         }
-        Ok(UnitTexts { rows })
+        Ok(UnitTexts { rows, alloc })
+    }
+
+    /// A line of texts, which has none yet.
+    pub(crate) fn line(&self) -> Line
+        ensures { (tree : FaultTree) → Spells tree result.units.items result.text.items }
+    {
+        Line::new(self.alloc)
     }
 
     /// The text of a unit.

@@ -10,6 +10,7 @@ loop-i-init g c = record {
       begun g.K.Sink.taken g.K.Sink.faults c.args.out.now
       (cut_blocks c.args.names.now.tree.now 1 (listed_with c.args.cuts.now c.args.orders.now));
   going = c.requires.fine;
+  spells = c.line-line.ensures c.args.names.now.tree.now;
 }
 
 pub returns-in_err-put_block-clause-puts : goal.returns-in_err-put_block-clause-puts
@@ -29,6 +30,7 @@ loop-i-preserved g c = record {
       c.requires.made.each
       c.members.ensures.value);
   going = sym c.put_block.ensures.answer ∙ ap is_err c.in_ok-put_block.was;
+  spells = c.put_block.ensures.spells;
 }
 
 pub returns-clause-puts : goal.returns-clause-puts

@@ -1,5 +1,6 @@
 use Rattle.std.proofs.Common.{◌≡◌, ◌+◌, false, drop}
 use Rattle.edge_io.specs.Out.{has_failed}
+use Rattle.board_report.specs.Shown.{Spells}
 use Rattle.board_report.specs.CutsText.{cut_blocks, listed_with}
 use Rattle.text_pieces.proofs.Putting.{PutsFront}
 use Rattle.board_report.proofs.cuts.put_blocks.Given as goal
@@ -10,4 +11,5 @@ invariant-loop-i g l = record {
       (cut_blocks l.names.tree.now (l.i + 1) (drop l.i (listed_with l.cuts l.orders)))
       (cut_blocks l.names.tree.now 1 (listed_with l.cuts l.orders));
   going : has_failed l.out ≡ false;
+  spells : Spells l.names.tree.now l.line.units.items l.line.text.items;
 }

@@ -2,6 +2,7 @@ use Rattle.std.proofs.Common.{◌≡◌, false}
 use Rattle.std.specs.List.{flat_map}
 use Rattle.cut_sequences.specs.Orders.{orders_at}
 use Rattle.edge_io.specs.Out.{has_failed}
+use Rattle.board_report.specs.Shown.{Spells}
 use Rattle.board_report.specs.CutsText.{order_line}
 use Rattle.text_pieces.proofs.Putting.{PutsFront, left_of}
 use Rattle.board_report.proofs.orders.put_orders.Given as goal
@@ -12,4 +13,5 @@ invariant-loop-j g l = record {
       (left_of (order_line l.names.tree.now) (orders_at l.orders l.i) l.j)
       (flat_map (order_line l.names.tree.now) (orders_at l.orders l.i));
   going : has_failed l.out ≡ false;
+  spells : Spells l.names.tree.now l.line.units.items l.line.text.items;
 }

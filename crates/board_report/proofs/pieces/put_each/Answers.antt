@@ -2,7 +2,7 @@ use Rattle.std.proofs.Common.{sym, ◌∙◌, ap, subst, is_err, ◌++◌, ◌+�
 use Rattle.std.proofs.lemmas.List.{drop_all}
 use Rattle.board_report.specs.Shown.{spaced, unit_text}
 use Rattle.text_pieces.proofs.Putting.{begun, whole_put, one_more, cut_short, next_piece, left_of, PutsFront}
-use Rattle.board_report.proofs.pieces.put_spaced.Goals as goal
+use Rattle.board_report.proofs.pieces.put_each.Goals as goal
 
 pub loop-unit-init : goal.loop-unit-init
 loop-unit-init g c = record {

@@ -2,7 +2,7 @@ use Rattle.std.proofs.Common.{◌≡◌, false}
 use Rattle.edge_io.specs.Out.{has_failed}
 use Rattle.board_report.specs.Shown.{spaced, unit_text}
 use Rattle.text_pieces.proofs.Putting.{PutsFront, left_of}
-use Rattle.board_report.proofs.pieces.put_spaced.Given as goal
+use Rattle.board_report.proofs.pieces.put_each.Given as goal
 
 abbrev pub invariant-loop-unit : goal.invariant-loop-unit
 invariant-loop-unit g l = record {
