@@ -3,7 +3,6 @@ use Rattle.std.proofs.Common.{◌≡◌, ◌≢◌, ℕ, ◌+◌, ◌<◌, ◌�
 use Rattle.std.proofs.Common.{inl, inr, arith, length-append, All, Result, Ok, Err, MatchResult}
 use Rattle.std.proofs.lemmas.Bool.{cases_lt}
 use Rattle.std.proofs.lemmas.List.{get_or_append_left, get_or_past, get_or_push}
-use Rattle.event_counts.specs.Count.{next_count}
 use Rattle.event_counts.proofs.CountLemmas.{next_count-steady, next_count-fits}
 use Rattle.unit_sets.specs.Unit.{IsUnit}
 use Rattle.zdd_words.specs.Word.{level_of, lo_of, hi_of}
@@ -15,8 +14,9 @@ use Rattle.zdd_families.proofs.Canonical.{family-grown}
 use Rattle.family_parts.specs.Antichains.{IsAntichain}
 use Rattle.family_memory.specs.Memory.{Held, Has, IsSound, IsUsedUp, Went, family_in, map_of, word_family}
 use Rattle.family_memory.specs.declared.answers.Entry.{Entry}
+use Rattle.family_memory.specs.declared.extents.Extent.{Extent}
 use Rattle.family_memory.specs.Answers.{IsTold}
-use Rattle.family_memory.specs.Kept.{AreLast, IsAdded, KeepsNodes, refusing}
+use Rattle.family_memory.specs.Kept.{AreExtents, IsAdded, KeepsNodes, refusing}
 use Rattle.family_memory.proofs.Entries.{all_told}
 use Rattle.family_memory.proofs.After.{knows, level_above}
 
@@ -205,14 +205,15 @@ module _ (inside held : Held) (word : ℕ) (same : inside ≡ held) (sound : IsS
       subst (λ (h : Held). IsAdded h word after r) same
       (subst (IsAdded inside word after) (sym at) (as_added after words as_before as_often))
 
-  pub kept_added : (after : Held) (capacity capacity' : ℕ) (entries entries' : List Entry) (lasts lasts' : List ℕ)
-      (taken taken' : ℕ) → after.words ≡ inside.words ++ word ∷ [] → after.room ≡ inside.room
-      → after.refused ≡ inside.refused → KeepsNodes inside capacity entries lasts taken → capacity ≤ capacity'
+  pub kept_added : (after : Held) (capacity capacity' : ℕ) (entries entries' : List Entry)
+      (extents extents' : List Extent) (taken taken' : ℕ) → after.words ≡ inside.words ++ word ∷ []
+      → after.room ≡ inside.room → after.refused ≡ inside.refused
+      → KeepsNodes inside capacity entries extents taken → capacity ≤ capacity'
       → ((other : Held) → IsSound other → All (IsTold other) entries → All (IsTold other) entries')
-      → (IsAdded inside word after (length inside.words) → AreLast after lasts') → taken ≤ taken'
-      → KeepsNodes after capacity' entries' lasts' taken'
-  kept_added after capacity capacity' entries entries' lasts lasts' taken taken' words as_before as_often kept more
-      follows units more' =
+      → (IsAdded inside word after (length inside.words) → AreExtents after extents') → taken ≤ taken'
+      → KeepsNodes after capacity' entries' extents' taken'
+  kept_added after capacity capacity' entries entries' extents extents' taken taken' words as_before as_often kept more
+      follows are more' =
       let is : IsAdded inside word after (length inside.words) = as_added after words as_before as_often in
       record {
         sound = is.sound;
@@ -221,8 +222,8 @@ module _ (inside held : Held) (word : ℕ) (same : inside ≡ held) (sound : IsS
         told =
             follows after is.sound (all_told inside after entries sound
             (went_added inside word after (length inside.words) is) kept.told);
-        units = units is;
-        units_taken = let h = kept.units_taken in omega arith;
+        reach = are is;
+        reach_taken = let h = kept.reach_taken in omega arith;
       }
 
 -- ---- what they keep when a node is refused
@@ -246,18 +247,18 @@ went_refusing held sound = record {
   sound = sound_refusing held sound;
 }
 
-pub kept_refusing : (held after : Held) (capacity : ℕ) (entries : List Entry) (lasts : List ℕ) (taken : ℕ)
-    → after ≡ refusing held → KeepsNodes held capacity entries lasts taken
-    → KeepsNodes after capacity entries lasts taken
-kept_refusing held after capacity entries lasts taken same kept =
-    subst (λ (h : Held). KeepsNodes h capacity entries lasts taken) (sym same) (record {
+pub kept_refusing : (held after : Held) (capacity : ℕ) (entries : List Entry) (extents : List Extent) (taken : ℕ)
+    → after ≡ refusing held → KeepsNodes held capacity entries extents taken
+    → KeepsNodes after capacity entries extents taken
+kept_refusing held after capacity entries extents taken same kept =
+    subst (λ (h : Held). KeepsNodes h capacity entries extents taken) (sym same) (record {
       sound = sound_refusing held kept.sound;
       few = kept.few;
       taken = kept.taken;
       told =
           all_told held (refusing held) entries kept.sound (went_refusing held kept.sound) kept.told;
-      units = record { count = kept.units.count; each = kept.units.each };
-      units_taken = kept.units_taken;
+      reach = record { count = kept.reach.count; each = kept.reach.each };
+      reach_taken = kept.reach_taken;
     })
 
 -- both answers leave the memory sound

@@ -7,8 +7,9 @@ use Rattle.zdd_families.proofs.MapLemmas.{family-empty, family-unit}
 use Rattle.family_operations.proofs.MinimalLemmas.{minimal-none, minimal-unit}
 use Rattle.family_parts.specs.Antichains.{IsAntichain}
 use Rattle.family_memory.specs.declared.answers.Entry.{Entry}
+use Rattle.family_memory.specs.declared.extents.Extent.{Extent}
 use Rattle.family_memory.specs.Answers.{IsTold}
-use Rattle.family_memory.specs.Kept.{AreLast, KeepsNodes}
+use Rattle.family_memory.specs.Kept.{AreExtents, KeepsNodes}
 use Rattle.family_memory.specs.Memory.{Held, Has, IsSound, family_in, map_of}
 
 abbrev pub no_nodes : ℕ → ℕ → Held
@@ -36,15 +37,15 @@ sound room refused counted = record {
   counted = counted;
 }
 
-pub kept_empty : (held : Held) (capacity : ℕ) (entries : List Entry) (lasts : List ℕ) (capacity' : ℕ)
+pub kept_empty : (held : Held) (capacity : ℕ) (entries : List Entry) (extents : List Extent) (capacity' : ℕ)
     → held.words ≡ 0 ∷ 0 ∷ [] → held.refused ≤ last_count → held.room ≤ 2 ^ 25 → held.room + 2 ≤ capacity
-    → ((other : Held) → IsSound other → All (IsTold other) entries) → AreLast held lasts → held.room + 2 ≤ capacity'
-    → KeepsNodes held capacity entries lasts capacity'
-kept_empty held capacity entries lasts capacity' none counted few taken told units taken' =
+    → ((other : Held) → IsSound other → All (IsTold other) entries) → AreExtents held extents
+    → held.room + 2 ≤ capacity' → KeepsNodes held capacity entries extents capacity'
+kept_empty held capacity entries extents capacity' none counted few taken told are taken' =
     let is : IsSound held =
     subst (λ l. IsSound (record { words = l; room = held.room; refused = held.refused })) (sym none)
     (sound held.room held.refused counted) in
-    record { sound = is; few = few; taken = taken; told = told held is; units = units; units_taken = taken' }
+    record { sound = is; few = few; taken = taken; told = told held is; reach = are; reach_taken = taken' }
 
 pub two : (words : List ℕ) → 2 ≤ length words → get_or words 0 0 ≡ 0 → get_or words 1 0 ≡ 0 → take 2 words ≡ 0 ∷ 0 ∷ []
 two [] few e f = absurd (omega arith)

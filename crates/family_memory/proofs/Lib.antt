@@ -3,4 +3,5 @@ pub mod Empty
 pub mod Entries
 pub mod Nodes
 pub mod After
-pub mod LastUnits
+pub mod ExtentLemmas
+pub mod Sizes

@@ -2,26 +2,31 @@
 use Rattle.std.specs.Prelude.{◌≡◌, ℕ, ◌+◌, ◌≤◌, ◌^◌, List, [], ◌∷◌, ◌++◌, get_or, length}
 use Rattle.std.specs.List.{All}
 use Rattle.zdd_families.specs.Map.{Grown}
-use Rattle.minimal_families.specs.Units.{IsLastUnit}
 use Rattle.family_memory.specs.declared.answers.Entry.{Entry}
+use Rattle.family_memory.specs.declared.extents.Extent.{Extent}
+use Rattle.family_memory.specs.Extents.{IsExtent}
 use Rattle.family_memory.specs.Answers.{IsTold}
 use Rattle.event_counts.specs.Count.{next_count}
 use Rattle.family_memory.specs.Memory.{Held, Has, IsSound, family_in, map_of, word_family}
 
--- each reference of the memory has its last unit in its place of the list
-pub record AreLast (held : Held) (lasts : List ℕ) : Type 0 where
-  pub count : length lasts ≡ length held.words
-  pub each : (r : ℕ) → Has held r → IsLastUnit (family_in held r) (get_or lasts r 0)
+-- what stands behind the end of a list of extents
+abbrev pub no_extent : Extent
+no_extent = record { last = 0; least = 0; most = 0 }
 
--- the room was taken before, also for the last units; references to it fit into words, and each entry is true
-pub record KeepsNodes (held : Held) (capacity : ℕ) (entries : List Entry) (lasts : List ℕ)
-    (lasts_capacity : ℕ) : Type 0 where
+-- each reference of the memory has the extent of its family in its place of the list
+pub record AreExtents (held : Held) (extents : List Extent) : Type 0 where
+  pub count : length extents ≡ length held.words
+  pub each : (r : ℕ) → Has held r → IsExtent (family_in held r) (get_or extents r no_extent)
+
+-- the room was taken before, also for the extents; references to it fit into words, and each entry is true
+pub record KeepsNodes (held : Held) (capacity : ℕ) (entries : List Entry) (extents : List Extent)
+    (extents_capacity : ℕ) : Type 0 where
   pub sound : IsSound held
   pub few : held.room ≤ 2 ^ 25
   pub taken : held.room + 2 ≤ capacity
   pub told : All (IsTold held) entries
-  pub units : AreLast held lasts
-  pub units_taken : held.room + 2 ≤ lasts_capacity
+  pub reach : AreExtents held extents
+  pub reach_taken : held.room + 2 ≤ extents_capacity
 
 -- a word was added at the end, and its reference stands for its family
 pub record IsAdded (before : Held) (word : ℕ) (after : Held) (r : ℕ) : Type 0 where

@@ -1,4 +1,5 @@
 pub mod Memory
 pub mod Answers
+pub mod Extents
 pub mod Kept
 pub mod Search

@@ -73,7 +73,7 @@ impl Index {
         }
     }
 
-    /// Doubles the slots within their room, once half of them are taken.
+    /// Makes the slots four times as many within their room, once half of them are taken.
     pub(crate) fn follow(&mut self, words: &[u64])
         requires { length words.now ≤ 2 ^ 25 + 2 }
     {
@@ -81,7 +81,7 @@ impl Index {
         if words.len() <= size / 2 || size == self.slots.capacity() {
             return;
         }
-        let more = size.saturating_mul(2).min(self.slots.capacity());
+        let more = size.saturating_mul(4).min(self.slots.capacity());
         self.begin(more);
         for at in 2..words.len() {
             if let Search::Free(place) = self.search(words, words[at]) {

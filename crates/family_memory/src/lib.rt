@@ -1,13 +1,14 @@
 //! A memory of diagrams for one worker, in which each reference stands for a minimal family.
 //!
 //! Its room is taken whole when it is made, and touched only as it fills; no later call takes memory. A
-//! node is made once its parts stand, is never changed, and goes when the memory is cleared. Beside it stands the
-//! greatest unit of its sets. An index finds equal nodes, and a table keeps answers of operations; both are there
-//! for speed alone. Equal families may have different references. This crate stands on `minimal_families` and
-//! starts no threads.
+//! node is made once its parts stand, is never changed, and goes when the memory is cleared. Beside it stand the
+//! greatest unit of its sets and how many units these have. An index finds equal nodes, and a table keeps answers of
+//! operations; both are there for speed alone. Equal families may have different references. This crate stands on
+//! `minimal_families` and starts no threads.
 #![tactic(auto)]
 
 mod answers;
+mod extents;
 mod index;
 mod memory;
 #[cfg(test)]

@@ -1,6 +1,6 @@
-//! The memory: node words with their last units, an index of them, and answers.
+//! The memory: node words with the extents of their families, an index of them, and answers.
 ghost use Rattle.std.specs.Prelude.{◌≡◌, ◌≢◌, ◌⊎◌, ◌+◌, ◌≤◌, ◌<◌, ◌^◌, [], ◌∷◌, ◌++◌, length, IfOk, IfErr, IfSome};
-ghost use Rattle.std.specs.Prelude.{MatchResult};
+ghost use Rattle.std.specs.Prelude.{MatchResult, true};
 ghost use Rattle.event_counts.specs.Count.{next_count};
 ghost use Rattle.zdd_words.specs.Word.{packed};
 ghost use Rattle.zdd_families.specs.Family.{IsAbove, branch};
@@ -8,10 +8,12 @@ ghost use Rattle.zdd_families.specs.Map.{Grown, IsNode, level_in};
 ghost use Rattle.family_parts.specs.Antichains.{IsAntichain};
 ghost use Rattle.minimal_families.specs.Units.{IsLastUnit};
 ghost use Rattle.family_memory.specs.Answers.{IsTold};
+ghost use Rattle.family_memory.specs.Extents.{AreSmaller, IsExtent};
 ghost use Rattle.family_memory.specs.Memory.{Has, IsNodeOf, IsSound, IsUsedUp, family_in, map_of, word_family};
 ghost use Rattle.family_memory.specs.Kept.{IsAdded, refusing};
 
 use crate::answers::{Answers, Entry, Question};
+use crate::extents::Extent;
 use crate::index::{Index, Search};
 use event_counts::Count;
 use std::alloc::Global;
@@ -42,7 +44,7 @@ pub struct Spent;
 #[derive(Drop)]
 pub struct FamilyMemory {
     words: Vec<u64>,
-    lasts: Vec<u16>,
+    extents: Vec<Extent>,
     room: usize,
     refused: Count,
     index: Index,
@@ -59,7 +61,7 @@ impl Model for FamilyMemory {
     ghost view = { λ m. record { words = m.words.items; room = m.room; refused = m.refused } };
 
     ghost invariant = { λ m. KeepsNodes (record { words = m.words.items; room = m.room; refused = m.refused })
-        (vec_capacity m.words) m.answers.entries.items m.lasts.items (vec_capacity m.lasts) };
+        (vec_capacity m.words) m.answers.entries.items m.extents.items (vec_capacity m.extents) };
 }
 
 impl FamilyMemory {
@@ -71,12 +73,12 @@ impl FamilyMemory {
         let mut words = Vec::with_capacity(alloc, room.nodes + 2)?;
         words.push(0)?;
         words.push(0)?;
-        let mut lasts = Vec::with_capacity(alloc, room.nodes + 2)?;
-        lasts.push(0)?;
-        lasts.push(0)?;
+        let mut extents = Vec::with_capacity(alloc, room.nodes + 2)?;
+        extents.push(Extent::of_none())?;
+        extents.push(Extent::of_unit())?;
         Ok(FamilyMemory {
             words,
-            lasts,
+            extents,
             room: room.nodes,
             refused: Count::new(),
             index: Index::new(alloc, room.slots)?,
@@ -121,19 +123,37 @@ impl FamilyMemory {
         requires { Has self.now r }
         ensures { IsLastUnit (family_in self.now r) result }
     {
-        self.lasts[r.number() as usize]
+        self.extent(r).last
     }
 
-    // The greatest unit of the sets of a node that is yet to be added.
-    fn last_of(&self, word: u64) -> u16
+    /// Whether each set of the first family has fewer units than each set of the second. Where it says no this may not
+    /// be known.
+    pub fn are_smaller(&self, a: NodeRef, b: NodeRef) -> bool
+        requires has_a { Has self.now a }
+        requires has_b { Has self.now b }
+        ensures { result ≡ true → AreSmaller (family_in self.now a) (family_in self.now b) }
+    {
+        self.extent(a).most < self.extent(b).least
+    }
+
+    // The extent of a reference's family.
+    fn extent(&self, r: NodeRef) -> Extent
+        requires { Has self.now r }
+        ensures { IsExtent (family_in self.now r) result }
+    {
+        self.extents[r.number() as usize]
+    }
+
+    // The extent of the family of a node that is yet to be added.
+    fn extent_of(&self, word: u64) -> Extent
         requires { IsNode (map_of self.now) word }
-        ensures { IsLastUnit (word_family self.now word) result }
+        ensures { IsExtent (word_family self.now word) result }
     {
         self.is_sound();
         let parts = unpack(word);
-        let lo = self.last(parts.lo);
-        let hi = self.last(parts.hi);
-        parts.level.number().max(lo).max(hi)
+        let lo = self.extent(parts.lo);
+        let hi = self.extent(parts.hi);
+        Extent::of_node(parts.level, lo, hi)
     }
 
     /// What the node of a reference is: the least unit of its sets, the sets without that unit, and the sets with it.
@@ -190,12 +210,12 @@ impl FamilyMemory {
             self.refused.add_one();
             return Err(Spent);
         }
-        let last = self.last_of(word);
+        let extent = self.extent_of(word);
         match self.words.push(word) {
             Ok(()) => {}
             Err(_) => unreachable!(),
         }
-        match self.lasts.push(last) {
+        match self.extents.push(extent) {
             Ok(()) => {}
             Err(_) => unreachable!(),
         }
@@ -226,7 +246,7 @@ impl FamilyMemory {
         ensures { self.new ≡ record { words = 0 ∷ 0 ∷ []; room = self.old.room; refused = self.old.refused } }
     {
         self.words.truncate(2);
-        self.lasts.truncate(2);
+        self.extents.truncate(2);
         self.index.clear();
         self.answers.clear();
     }

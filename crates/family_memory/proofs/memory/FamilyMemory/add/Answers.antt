@@ -1,8 +1,8 @@
 use Rattle.std.proofs.Common.{◌<◌, ◌+◌, length, vec_capacity, refl, sym, ap, subst, arith}
-use Rattle.minimal_families.specs.Units.{IsLastUnit}
-use Rattle.family_memory.specs.Kept.{AreLast}
+use Rattle.family_memory.specs.Extents.{IsExtent}
+use Rattle.family_memory.specs.Kept.{AreExtents}
 use Rattle.family_memory.specs.Memory.{Held, word_family}
-use Rattle.family_memory.proofs.LastUnits.{last_added}
+use Rattle.family_memory.proofs.ExtentLemmas.{extent_added}
 use Rattle.family_memory.proofs.Adding.{added_to, kept_added, kept_refusing}
 use Rattle.family_memory.proofs.memory.FamilyMemory.add.Goals as goal
 
@@ -13,7 +13,7 @@ invariant_of-self c =
     let after : Held =
     record { words = c.self.inside.words.items; room = c.self.inside.room; refused = c.add_one.new.self } in
     kept_refusing inside after (vec_capacity c.self.inside.words) c.self.inside.answers.entries.items
-    c.self.inside.lasts.items (vec_capacity c.self.inside.lasts)
+    c.self.inside.extents.items (vec_capacity c.self.inside.extents)
     (ap (λ n. let h : Held = record { words = c.self.inside.words.items; room = c.self.inside.room; refused = n } in h)
     c.add_one.ensures) c.self.invariant
 
@@ -29,14 +29,14 @@ invariant_of-self-2 c =
     kept_added inside c.args.self.now c.args.word c.self.view_is c.self.invariant.sound c.requires.node
     c.requires.antichain room
     after (vec_capacity c.self.inside.words) (vec_capacity c.push.new.self) c.self.inside.answers.entries.items
-    c.follow-2.new.self.entries.items c.self.inside.lasts.items c.push-2.new.self.items
-    (vec_capacity c.self.inside.lasts) (vec_capacity c.push-2.new.self)
+    c.follow-2.new.self.entries.items c.self.inside.extents.items c.push-2.new.self.items
+    (vec_capacity c.self.inside.extents) (vec_capacity c.push-2.new.self)
     c.in-Ok.ensures.items refl refl c.self.invariant c.push.ensures.capacity c.follow-2.ensures
-    (λ is. subst (AreLast after) (sym c.in-Ok-push.ensures.items)
-    (last_added inside after c.args.word (length inside.words) c.last_of-last.result c.self.inside.lasts.items
-    c.self.invariant.sound is refl c.self.invariant.units
-    (subst (λ (h : Held). IsLastUnit (word_family h c.args.word) c.last_of-last.result) (sym c.self.view_is)
-    c.last_of-last.ensures)))
+    (λ is. subst (AreExtents after) (sym c.in-Ok-push.ensures.items)
+    (extent_added inside after c.args.word (length inside.words) c.extent_of-extent.result c.self.inside.extents.items
+    c.self.invariant.sound is refl c.self.invariant.reach
+    (subst (λ (h : Held). IsExtent (word_family h c.args.word) c.extent_of-extent.result) (sym c.self.view_is)
+    c.extent_of-extent.ensures)))
     c.push-2.ensures.capacity
 
 pub returns : goal.returns

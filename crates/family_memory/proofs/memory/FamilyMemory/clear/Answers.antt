@@ -1,7 +1,8 @@
-use Rattle.std.proofs.Common.{◌≡◌, [], ◌∷◌, ◌∙◌, ap, vec_capacity, arith}
+use Rattle.std.proofs.Common.{◌≡◌, [], ◌∷◌, ◌∙◌, sym, ap, subst, vec_capacity, arith}
+use Rattle.family_memory.specs.Kept.{AreExtents}
 use Rattle.family_memory.specs.Memory.{Held}
 use Rattle.family_memory.proofs.Empty.{kept_empty, first_two, no_nodes}
-use Rattle.family_memory.proofs.LastUnits.{first_two_lasts, last_empty}
+use Rattle.family_memory.proofs.ExtentLemmas.{first_two_extents}
 use Rattle.family_memory.proofs.memory.FamilyMemory.clear.Goals as goal
 
 pub invariant_of-self : goal.invariant_of-self
@@ -12,15 +13,15 @@ invariant_of-self c =
     record { words = c.truncate.new.self.items; room = c.self.inside.room; refused = c.self.inside.refused } in
     let words : c.truncate.new.self.items ≡ 0 ∷ 0 ∷ [] =
     c.truncate.ensures.items ∙ first_two inside c.self.invariant.sound in
-    let lasts : c.truncate-2.new.self.items ≡ 0 ∷ 0 ∷ [] =
-    c.truncate-2.ensures.items
-    ∙ first_two_lasts inside c.self.inside.lasts.items c.self.invariant.sound c.self.invariant.units in
+    let both : AreExtents after c.truncate-2.new.self.items =
+    subst (AreExtents after) (sym c.truncate-2.ensures.items)
+    (first_two_extents inside after c.self.inside.extents.items c.self.invariant.sound c.self.invariant.reach words) in
     kept_empty after (vec_capacity c.truncate.new.self) c.clear-2.new.self.entries.items c.truncate-2.new.self.items
     (vec_capacity c.truncate-2.new.self) words c.self.invariant.sound.counted c.self.invariant.few
     (let h = c.self.invariant.taken in let k = c.truncate.ensures.capacity in omega arith)
     c.clear-2.ensures
-    (last_empty after c.truncate-2.new.self.items words lasts)
-    (let h = c.self.invariant.units_taken in let k = c.truncate-2.ensures.capacity in omega arith)
+    both
+    (let h = c.self.invariant.reach_taken in let k = c.truncate-2.ensures.capacity in omega arith)
 
 pub returns : goal.returns
 returns c =

@@ -1,7 +1,7 @@
 use Rattle.std.proofs.Common.{◌≡◌, [], ◌∷◌, ◌++◌, ◌∙◌, ap, vec_capacity, arith}
 use Rattle.family_memory.specs.Memory.{Held}
 use Rattle.family_memory.proofs.Empty.{kept_empty}
-use Rattle.family_memory.proofs.LastUnits.{last_empty}
+use Rattle.family_memory.proofs.ExtentLemmas.{extents_empty}
 use Rattle.family_memory.proofs.memory.FamilyMemory.new.Goals as goal
 
 pub invariant_of-result : goal.invariant_of-result
@@ -10,14 +10,15 @@ invariant_of-result c =
     let words : c.push-2.new.self.items ≡ 0 ∷ 0 ∷ [] =
     c.in_ok-push-2.ensures.items ∙ ap (λ l. l ++ 0 ∷ [])
     (c.in_ok-push.ensures.items ∙ ap (λ l. l ++ 0 ∷ []) c.in_ok-words.ensures.items) in
-    let lasts : c.push-4.new.self.items ≡ 0 ∷ 0 ∷ [] =
-    c.in_ok-push-4.ensures.items ∙ ap (λ l. l ++ 0 ∷ [])
-    (c.in_ok-push-3.ensures.items ∙ ap (λ l. l ++ 0 ∷ []) c.in_ok-lasts.ensures.items) in
+    let both : c.push-4.new.self.items ≡ c.of_none.result ∷ c.of_unit.result ∷ [] =
+    c.in_ok-push-4.ensures.items ∙ ap (λ l. l ++ c.of_unit.result ∷ [])
+    (c.in_ok-push-3.ensures.items ∙ ap (λ l. l ++ c.of_none.result ∷ []) c.in_ok-extents.ensures.items) in
     kept_empty held (vec_capacity c.push-2.new.self) c.in_ok-new-2.field-0.entries.items c.push-4.new.self.items
     (vec_capacity c.push-4.new.self) words (let e = c.new.ensures in omega (arith, e)) c.requires
     (let e = c.in_ok-words.ensures.exact in let h = c.push.ensures.capacity in let k = c.push-2.ensures.capacity in
     omega arith)
     c.in_ok-new-2.ensures
-    (last_empty held c.push-4.new.self.items words lasts)
-    (let e = c.in_ok-lasts.ensures.exact in let h = c.push-3.ensures.capacity in let k = c.push-4.ensures.capacity in
+    (extents_empty c.of_none.result c.of_unit.result c.of_none.ensures c.of_unit.ensures held c.push-4.new.self.items
+    words both)
+    (let e = c.in_ok-extents.ensures.exact in let h = c.push-3.ensures.capacity in let k = c.push-4.ensures.capacity in
     omega arith)

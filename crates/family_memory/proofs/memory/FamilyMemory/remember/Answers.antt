@@ -14,6 +14,6 @@ invariant_of-self c =
       told =
           c.keep.ensures held (subst (λ (m : Held). IsTold m c.args.entry) (sym c.self.view_is) c.requires)
           c.self.invariant.told;
-      units = c.self.invariant.units;
-      units_taken = c.self.invariant.units_taken;
+      reach = c.self.invariant.reach;
+      reach_taken = c.self.invariant.reach_taken;
     }

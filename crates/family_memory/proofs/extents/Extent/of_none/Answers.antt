@@ -1,0 +1,5 @@
+use Rattle.family_memory.proofs.Sizes.{extent-none}
+use Rattle.family_memory.proofs.extents.Extent.of_none.Goals as goal
+
+pub returns : goal.returns
+returns c = extent-none 4096 0

@@ -1,0 +1,17 @@
+use Rattle.family_memory.proofs.ExtentLemmas.{has_hi, has_lo, extent_of_word}
+use Rattle.family_memory.proofs.memory.FamilyMemory.extent_of.Goals as goal
+
+pub extent-lo-requires : goal.extent-lo-requires
+extent-lo-requires c =
+    has_lo c.args.self.now c.args.word c.unpack-parts.result.lo c.is_sound.ensures c.requires c.unpack-parts.ensures.lo
+
+pub extent-hi-requires : goal.extent-hi-requires
+extent-hi-requires c =
+    has_hi c.args.self.now c.args.word c.unpack-parts.result.hi c.is_sound.ensures c.requires c.unpack-parts.ensures.hi
+
+pub returns : goal.returns
+returns c =
+    let parts = c.unpack-parts.result in
+    extent_of_word c.args.self.now c.args.word parts.level parts.lo parts.hi c.extent-lo.result c.extent-hi.result
+    c.of_node.result c.is_sound.ensures c.requires c.unpack-parts.ensures.level c.unpack-parts.ensures.lo
+    c.unpack-parts.ensures.hi c.extent-lo.ensures c.extent-hi.ensures c.of_node.ensures
