@@ -4,6 +4,8 @@ pub mod Halving
 pub mod Steps
 pub mod RidSteps
 pub mod Singles
+pub mod SingleRests
+pub mod Smaller
 pub mod Swapping
 pub mod Telling
 pub mod WithoutSteps

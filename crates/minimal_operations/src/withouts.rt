@@ -1,5 +1,5 @@
 //! What is left of a family without the sets that include one of another.
-ghost use Rattle.std.specs.Prelude.{◌≡◌, ◌≤◌, ℕ, List, IfErr, IfOk, MatchOption, MatchResult};
+ghost use Rattle.std.specs.Prelude.{◌≡◌, ◌≤◌, ℕ, List, IfErr, IfOk, IfSome, MatchOption, MatchResult};
 ghost use Rattle.zdd_families.specs.Map.{level_in};
 ghost use Rattle.family_operations.specs.Without.{IsWithout};
 ghost use Rattle.family_memory.specs.Memory.{Gave, Has, RanOut, family_in, map_of};
@@ -29,6 +29,28 @@ fn without_end(a: NodeRef, b: NodeRef) -> Option<NodeRef>
         return Some(NodeRef::EMPTY);
     }
     if b == NodeRef::EMPTY || a == NodeRef::UNIT {
+        return Some(a);
+    }
+    None
+}
+
+// What is left of one set of one unit where the other family has no lower unit: nothing, if it has that set.
+fn single_end(memory: &FamilyMemory, a: NodeRef, b: NodeRef) -> Option<NodeRef>
+    requires has_a { Has memory.now a }
+    requires has_b { Has memory.now b }
+    requires nodes { (2 ≤ a) × (2 ≤ b) }
+    requires level { level_in (map_of memory.now) a ≤ level_in (map_of memory.now) b }
+    ensures has { IfSome result (λ r. Has memory.now r) }
+    ensures left { IfSome result (λ r. IsWithout (family_in memory.now a) (family_in memory.now b)
+        (family_in memory.now r)) }
+{
+    memory.is_sound();
+    let one = memory.parts(a);
+    if one.lo == NodeRef::EMPTY && one.hi == NodeRef::UNIT {
+        let other = half_at(memory, one.level, b);
+        if other.hi == NodeRef::UNIT {
+            return Some(NodeRef::EMPTY);
+        }
         return Some(a);
     }
     None
@@ -68,6 +90,13 @@ pub(crate) fn strip(memory: &mut FamilyMemory, a: NodeRef, b: NodeRef) -> Result
     let part = lowered(memory, a, b);
     if let Some(end) = without_end(a, part) {
         return Ok(end);
+    }
+    if let Some(rest) = single_end(memory, a, part) {
+        return Ok(rest);
+    }
+    // A set includes none that has more units.
+    if memory.are_smaller(a, part) {
+        return Ok(a);
     }
     let question = Question {
         operation: Operation::Without,

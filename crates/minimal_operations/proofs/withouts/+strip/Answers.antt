@@ -2,9 +2,10 @@ use Rattle.std.proofs.Common.{ℕ, ◌<◌, List, subst, sym, arith}
 use Rattle.std.proofs.lemmas.Result.{err_from_is_err_and}
 use Rattle.family_operations.specs.Without.{IsWithout}
 use Rattle.family_memory.specs.Memory.{Held, Gave, family_in}
-use Rattle.family_memory.proofs.After.{Gave-there, Gave-then, RanOut-then, Went-nowhere}
+use Rattle.family_memory.proofs.After.{Gave-there, Gave-then, RanOut-then, Went-nowhere, is_family}
 use Rattle.family_memory.specs.declared.answers.Operation.TheVariants.{Without}
 use Rattle.minimal_operations.proofs.Ends.{without_ends}
+use Rattle.minimal_operations.proofs.Smaller.{smaller_stays}
 use Rattle.minimal_operations.proofs.Telling.{told_made}
 use Rattle.minimal_operations.proofs.Steps.{levels_from}
 use Rattle.minimal_operations.proofs.WithoutSteps.{lo_fewer, some_fewer, went_some, hi_fewer, has_lo, lo_above}
@@ -19,6 +20,16 @@ strip-returns-in-Some t c =
     c.lowered-part.ensures.has c.in-Some.ensures in
     Gave-there (IsWithout (family_in held c.args.a) (family_in held c.args.b)) held c.in-Some.end c.is_sound.ensures
     fact.0 (c.lowered-part.ensures.same (family_in held c.in-Some.end) fact.1)
+
+pub strip-returns-then-are_smaller : goal.strip-returns-then-are_smaller
+strip-returns-then-are_smaller t c =
+    let held = c.args.memory.now in
+    let f = family_in held c.args.a in
+    let part = c.lowered-part.result in
+    Gave-there (IsWithout f (family_in held c.args.b)) held c.args.a c.is_sound.ensures c.requires.has_a
+    (c.lowered-part.ensures.same f (smaller_stays f (family_in held part)
+    (is_family held c.args.a c.is_sound.ensures c.requires.has_a)
+    (is_family held part c.is_sound.ensures c.lowered-part.ensures.has) (c.are_smaller.ensures c.if-are_smaller.true)))
 
 pub strip-returns-in-Some-recall : goal.strip-returns-in-Some-recall
 strip-returns-in-Some-recall t c =
