@@ -5,7 +5,7 @@ use Rattle.zdd_families.specs.Map.{level_in}
 use Rattle.zdd_families.proofs.MapLemmas.{family-empty}
 use Rattle.family_operations.proofs.CutsLemmas.{set_above}
 use Rattle.family_operations.proofs.SetsLemmas.{unit_above}
-use Rattle.minimal_families.specs.Units.{HasUnit, IsLastUnit}
+use Rattle.minimal_families.specs.Units.{HasUnit, IsLastUnit, LiesBelow}
 use Rattle.family_memory.specs.Memory.{Held, Has, IsSound, family_in, map_of}
 use Rattle.family_memory.proofs.After.{above}
 use Rattle.minimal_operations.proofs.Ends.{node_lacks}
@@ -37,3 +37,9 @@ between held r last floor lower sound has other is high low some = record {
   high = λ unit has_unit. let h = is.most unit has_unit in omega (arith, h, high);
   lacks = lacks_empty held r sound has other;
 }
+
+-- a family whose last unit is below the level of another lies below that one
+pub lower_lies_below : (held : Held) (a b last : ℕ) → IsSound held → Has held b → IsLastUnit (family_in held a) last
+    → last < level_in (map_of held) b → LiesBelow (family_in held a) (family_in held b)
+lower_lies_below held a b last sound has is high unit has_unit =
+    let h = is.most unit has_unit in above held unit b sound has (omega (arith, h, high))
