@@ -13,6 +13,9 @@ const SPREAD: u64 = 11_400_714_819_323_198_485;
 // How many slots there are at first.
 const FIRST_SLOTS: usize = 1_024;
 
+// By how many places a list of places grows at a time.
+const PLACES_AT_ONCE: usize = 1_024;
+
 /// Slots with numbers. A search begins at the place of the store's reference and goes on from slot to slot.
 #[derive(Drop)]
 pub(crate) struct ByShared {
@@ -86,13 +89,13 @@ impl ByShared {
         }
     }
 
-    // Doubles the slots within their room, once half of them are taken.
+    // Makes the slots four times as many within their room, once half of them are taken.
     fn follow(&mut self, pairs: &[Pair]) {
         let size = self.slots.len();
         if pairs.len() <= size / 2 || size == self.slots.capacity() {
             return;
         }
-        let more = size.saturating_mul(2).min(self.slots.capacity());
+        let more = size.saturating_mul(4).min(self.slots.capacity());
         self.begin(more);
         for number in 1..pairs.len() {
             self.put_at(pairs, number);
@@ -107,7 +110,7 @@ impl ByShared {
     }
 }
 
-/// A place with a number for each reference of the memory, up to the greatest that was noted.
+/// A place with a number for each reference of the memory, up to the greatest that was noted and some more.
 #[derive(Drop)]
 pub(crate) struct ByOwn {
     places: Vec<u32>,
@@ -141,8 +144,9 @@ impl ByOwn {
             return;
         }
         if place >= self.places.len() {
+            let more = place.saturating_add(PLACES_AT_ONCE);
             // Within the room this takes no memory.
-            let _ = self.places.resize(place + 1, 0);
+            let _ = self.places.resize(more.min(self.places.capacity()), 0);
         }
         if place < self.places.len() {
             self.places[place] = short;
