@@ -8,12 +8,13 @@ ghost use Rattle.zdd_shared_table.specs.Seats.{map_of};
 ghost use Rattle.zdd_product.specs.Seats.{Gave, KnowsOne, WasFull};
 ghost use Rattle.zdd_nodes.specs.Reading.{KnowsBelow};
 ghost use Rattle.zdd_nodes.specs.Room.{HaveRoomFor};
+ghost use Rattle.family_memory.specs.Memory.{Has, family_in};
 ghost use Rattle.family_copies.specs.Copies.{AreCopies};
 ghost use Rattle.zdd_build.specs.Workers.{CanWork};
 
 use crate::own::own_family;
 use family_copies::{Copies, export};
-use family_memory::{FamilyMemory, Room};
+use family_memory::{FamilyMemory, Room, Spent};
 use fault_model::{NoMemory, NodeNo, Tree};
 use std::alloc::Global;
 use zdd_nodes::{Rooms, cut_family};
@@ -25,7 +26,7 @@ use zdd_words::NodeRef;
 pub(crate) const OWN_NODES: usize = 262_144;
 
 // A memory that holds more nodes than this is cleared before the next node of the tree.
-const KEPT_NODES: usize = 65_536;
+const KEPT_NODES: usize = 131_072;
 
 // How many answers of operations a worker's memory keeps.
 const OWN_ANSWERS: usize = 65_536;
@@ -111,6 +112,33 @@ fn keep_few(worker: &mut Worker)
     }
 }
 
+// The cut family of a node in the worker's memory. Where the room is used up all is made once more in an empty memory.
+fn own_or_anew(
+    worker: &mut Worker,
+    tree: &Tree,
+    node: NodeNo,
+    references: &[NodeRef],
+) -> Result<NodeRef, Spent>
+    requires node { IsNodeOf tree.now node }
+    requires all { node_count tree.now ≤ length references.now }
+    requires below { KnowsBelow (map_of worker.old.ops) tree.now references.now node }
+    requires copies { AreCopies worker.old.memory (map_of worker.old.ops) worker.old.copies }
+    requires rooms { HaveRoomFor tree.now worker.old.rooms }
+    ensures has { IfOk result (λ own. Has worker.new.memory own) }
+    ensures family { IfOk result (λ own. IsCutFamily tree.now node (family_in worker.new.memory own)) }
+    ensures copies { AreCopies worker.new.memory (map_of worker.new.ops) worker.new.copies }
+    ensures ops { worker.new.ops ≡ worker.old.ops }
+    ensures rooms { HaveRoomFor tree.now worker.new.rooms }
+    ensures found { worker.new.found ≡ worker.old.found }
+    ensures full { worker.new.full ≡ worker.old.full }
+{
+    if let Ok(own) = own_family(worker, tree, node, references) {
+        return Ok(own);
+    }
+    forget(worker);
+    own_family(worker, tree, node, references)
+}
+
 // The reference of the store for the cut family of a node: made in the worker's memory, or, where that is used up,
 // by the recipe over the store.
 fn shared_family(
@@ -135,7 +163,7 @@ fn shared_family(
 {
     // Tells the proof what a tree keeps.
     tree.units();
-    match own_family(worker, tree, node, references) {
+    match own_or_anew(worker, tree, node, references) {
         Ok(own) => export(&worker.memory, &mut worker.copies, &mut worker.ops, own),
         Err(_) => {
             forget(worker);

@@ -13,8 +13,8 @@ returns-in-Ok-clause-gives c =
     let node = c.args.node in
     subst (λ (s : Seated). IfOk c.export.result (Gave (IsCutFamily tree node) (IsDueToTree tree) s c.export.new.ops))
     c.in-Ok.ensures.ops
-    (copied_gives tree c.units.ensures.kept node c.requires.node (family_in c.own_family.new.worker.memory c.in-Ok.own)
-    c.in-Ok.ensures.gives.is c.own_family.new.worker.ops c.export.new.ops c.export.result c.export.ensures.gives)
+    (copied_gives tree c.units.ensures.kept node c.requires.node (family_in c.own_or_anew.new.worker.memory c.in-Ok.own)
+    c.in-Ok.ensures.family c.own_or_anew.new.worker.ops c.export.new.ops c.export.result c.export.ensures.gives)
 
 pub returns-in-Ok-clause-full : goal.returns-in-Ok-clause-full
 returns-in-Ok-clause-full c =
@@ -22,5 +22,5 @@ returns-in-Ok-clause-full c =
     let node = c.args.node in
     subst (λ (s : Seated). IfErr c.export.result (λ _. WasFull (IsDueToTree tree) s c.export.new.ops))
     c.in-Ok.ensures.ops
-    (copied_full tree c.units.ensures.kept node c.requires.node (family_in c.own_family.new.worker.memory c.in-Ok.own)
-    c.in-Ok.ensures.gives.is c.own_family.new.worker.ops c.export.new.ops c.export.result c.export.ensures.full)
+    (copied_full tree c.units.ensures.kept node c.requires.node (family_in c.own_or_anew.new.worker.memory c.in-Ok.own)
+    c.in-Ok.ensures.family c.own_or_anew.new.worker.ops c.export.new.ops c.export.result c.export.ensures.full)
