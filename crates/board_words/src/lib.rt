@@ -11,8 +11,6 @@ mod laws;
 mod number;
 mod options;
 mod spoken;
-#[cfg(test)]
-mod tests;
 mod word;
 
 pub use command::{Command, Show, read};

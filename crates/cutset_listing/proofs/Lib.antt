@@ -1,4 +1,3 @@
-mod Mades
 mod Meets
 mod Sizes
 mod Walks

@@ -2,4 +2,3 @@ pub mod Listing
 pub mod BySize
 pub mod Visits
 pub mod Nodes
-pub mod Made

@@ -10,8 +10,6 @@
 mod found;
 mod listing;
 mod nodes;
-#[cfg(test)]
-mod tests;
 mod walk;
 
 pub use listing::list;

@@ -28,6 +28,3 @@ pub use reading::{INPUT_LIMIT, ReadEnd, read_all};
 pub use std_edge::{StdSink, StdSource};
 pub use traits::{Failed, Sink, Source};
 pub use writing::WriteFault;
-
-#[cfg(test)]
-mod tests;

@@ -86,8 +86,8 @@ fn bring_node(
     own_node(memory, parts.level, lo, hi)
 }
 
-/// What the node of a reference of the store is.
-pub(crate) fn parts_of(ops: &mut Ops, r: NodeRef) -> Parts
+// What the node of a reference of the store is.
+fn parts_of(ops: &mut Ops, r: NodeRef) -> Parts
     requires knows { Knows (map_of ops.old) r }
     requires inner { 2 ≤ r }
     ensures parts { ArePartsOf (map_of ops.old) r result }

@@ -10,8 +10,6 @@ mod copies;
 mod exporting;
 mod importing;
 mod numbers;
-#[cfg(test)]
-mod tests;
 
 pub use copies::{Copies, Pair};
 pub use exporting::export;

@@ -17,6 +17,3 @@ mod token;
 pub use laws::{places_count_line_feeds, reads_its_text, reads_one_way, tokens_are_spelled};
 pub use lexer::{LONGEST_TEXT, Lexer};
 pub use token::{LexCode, LexFault, LexPlace, Token, TokenKind};
-
-#[cfg(test)]
-mod tests;

@@ -9,8 +9,6 @@ mod asked;
 pub mod laws;
 mod request;
 mod standing;
-#[cfg(test)]
-mod tests;
 
 pub use asked::AskedUnits;
 pub use request::{Reply, Request};

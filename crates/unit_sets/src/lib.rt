@@ -9,8 +9,6 @@ mod cut_list;
 pub mod laws;
 mod refusal;
 mod request;
-#[cfg(test)]
-mod tests;
 mod unit_no;
 mod unit_set;
 

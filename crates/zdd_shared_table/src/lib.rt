@@ -17,8 +17,6 @@ mod rule;
 mod search;
 mod seat;
 mod store;
-#[cfg(test)]
-mod tests;
 mod view;
 
 pub use seat::StoreSeat;

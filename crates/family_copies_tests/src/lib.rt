@@ -1,0 +1,5 @@
+//! Tests of `family_copies`: families that go from a store through a memory into another.
+#![tactic(auto)]
+
+#[cfg(test)]
+mod tests;

@@ -1,0 +1,10 @@
+use Rattle.std.proofs.Common.{◌≡◌, All}
+use Rattle.zdd_families.specs.Map.{Knows}
+use Rattle.zdd_shared_table.specs.Seats.{map_of}
+use Rattle.zdd_shared_table_tests.proofs.tests.are_asked_again.Given as goal
+
+abbrev pub invariant-loop-level : goal.invariant-loop-level
+invariant-loop-level l = record {
+  store : l.seat.store ≡ l.initial.seat.store;
+  known : All (Knows (map_of l.seat)) l.refs;
+}
