@@ -7,3 +7,5 @@ pub mod Floors
 pub mod JoinSteps
 pub mod VoteSteps
 pub mod Reordered
+pub mod Levels
+pub mod ChainSteps

@@ -1,6 +1,6 @@
 -- Unions and products of many families, call by call.
-use Rattle.std.proofs.Common.{Result, MatchResult, ◌≡◌, ℕ, ◌+◌, ◌-◌, ◌<◌, List, All, take, drop, get_or, length, sym}
-use Rattle.std.proofs.Common.{◌∙◌, ap, subst, arith, length-drop}
+use Rattle.std.proofs.Common.{Result, MatchResult, ◌≡◌, ℕ, ◌+◌, ◌-◌, ◌<◌, List, ◌++◌, All, take, drop, get_or, length}
+use Rattle.std.proofs.Common.{sym, ◌∙◌, ap, subst, arith, length-drop}
 use Rattle.std.proofs.Math.Seq.{take-length}
 use Rattle.std.proofs.lemmas.List.Elements.{All-drop}
 use Rattle.minimal_families.specs.Least.{IsLeastOfAll, IsLeastProductOfAll, IsLeastUnion, IsLeastProduct}
@@ -15,32 +15,38 @@ pub rest_from : (list : List ℕ) (middle : ℕ) → take (length list - middle)
 rest_from list middle =
     ap (λ n. take n (drop middle list)) (sym (length-drop middle list)) ∙ take-length (drop middle list)
 
-module _ (s0 : Held) (list : List ℕ) (middle : ℕ) (sound : IsSound s0) (has : All (Has s0) list) where
-  module _ (s1 : Held) (first : ℕ) (gave1 : Gave (IsLeastOfAll (families s0 (take middle list))) s0 s1 first) where
-    module _ (s2 : Held) (second : ℕ) (gave2 : Gave (IsLeastOfAll (families s1 (drop middle list))) s1 s2 second) where
-      pub went_halves : Went s0 s2
-      went_halves = Went-then s0 s1 s2 gave1.went gave2.went
+-- the unions of two lists, one after the other
+module _ (s0 s1 s2 : Held) (fs gs : List (List (List ℕ))) (first second : ℕ)
+    (gave1 : Gave (IsLeastOfAll fs) s0 s1 first) (gave2 : Gave (IsLeastOfAll gs) s1 s2 second) where
+  pub went_both : Went s0 s2
+  went_both = Went-then s0 s1 s2 gave1.went gave2.went
 
-      of_first : IsLeastOfAll (families s0 (take middle list)) (family_in s2 first)
-      of_first =
-          subst (IsLeastOfAll (families s0 (take middle list)))
-          (sym (still s1 s2 gave1.went.sound gave2.went first gave1.has)) gave1.is
+  of_first : IsLeastOfAll fs (family_in s2 first)
+  of_first = subst (IsLeastOfAll fs) (sym (still s1 s2 gave1.went.sound gave2.went first gave1.has)) gave1.is
 
-      of_second : IsLeastOfAll (families s0 (drop middle list)) (family_in s2 second)
-      of_second =
-          subst (λ fs. IsLeastOfAll fs (family_in s2 second))
-          (families_stay s0 s1 (drop middle list) sound gave1.went (All-drop (Has s0) middle list has)) gave2.is
+  pub both_united : {E : Type 0} (s3 : Held) (result : Result ℕ E)
+      → MatchResult result (Gave (IsLeastUnion (family_in s2 first) (family_in s2 second)) s2 s3) (λ _. RanOut s2 s3)
+      → MatchResult result (Gave (IsLeastOfAll (fs ++ gs)) s0 s3) (λ _. RanOut s0 s3)
+  both_united s3 result m =
+      ended s0 s2 s3 went_both (IsLeastUnion (family_in s2 first) (family_in s2 second)) (IsLeastOfAll (fs ++ gs))
+      result (λ f is. least_of_both fs gs (family_in s2 first) (family_in s2 second) f of_first gave2.is is) m
 
-      pub halves_united : {E : Type 0} (s3 : Held) (result : Result ℕ E)
-          → MatchResult result (Gave (IsLeastUnion (family_in s2 first) (family_in s2 second)) s2 s3)
-          (λ _. RanOut s2 s3)
-          → MatchResult result (Gave (IsLeastOfAll (families s0 list)) s0 s3) (λ _. RanOut s0 s3)
-      halves_united s3 result m =
-          ended s0 s2 s3 went_halves (IsLeastUnion (family_in s2 first) (family_in s2 second))
-          (IsLeastOfAll (families s0 list)) result
-          (λ f is. subst (λ fs. IsLeastOfAll fs f) (sym (families_parts s0 middle list))
-          (least_of_both (families s0 (take middle list)) (families s0 (drop middle list)) (family_in s2 first)
-          (family_in s2 second) f of_first of_second is)) m
+module _ (s0 s1 s2 : Held) (list : List ℕ) (middle : ℕ) (sound : IsSound s0) (has : All (Has s0) list)
+    (first second : ℕ) (gave1 : Gave (IsLeastOfAll (families s0 (take middle list))) s0 s1 first)
+    (gave2 : Gave (IsLeastOfAll (families s1 (drop middle list))) s1 s2 second) where
+  of_rest : Gave (IsLeastOfAll (families s0 (drop middle list))) s1 s2 second
+  of_rest =
+      subst (λ gs. Gave (IsLeastOfAll gs) s1 s2 second)
+      (families_stay s0 s1 (drop middle list) sound gave1.went (All-drop (Has s0) middle list has)) gave2
+
+  pub halves_united : {E : Type 0} (s3 : Held) (result : Result ℕ E)
+      → MatchResult result (Gave (IsLeastUnion (family_in s2 first) (family_in s2 second)) s2 s3) (λ _. RanOut s2 s3)
+      → MatchResult result (Gave (IsLeastOfAll (families s0 list)) s0 s3) (λ _. RanOut s0 s3)
+  halves_united s3 result m =
+      subst (λ fs. MatchResult result (Gave (IsLeastOfAll fs) s0 s3) (λ _. RanOut s0 s3))
+      (sym (families_parts s0 middle list))
+      (both_united s0 s1 s2 (families s0 (take middle list)) (families s0 (drop middle list)) first second gave1 of_rest
+      s3 result m)
 
 -- ---- a product, one family more
 

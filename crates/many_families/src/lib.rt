@@ -6,6 +6,7 @@
 //! units where the caller gives a table for it, which changes the time and not the result.
 #![tactic(auto)]
 
+mod chains;
 mod many;
 mod order;
 mod splitting;

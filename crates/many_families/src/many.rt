@@ -29,8 +29,8 @@ pub fn union_of_all(memory: &mut FamilyMemory, list: &[NodeRef]) -> Result<NodeR
     unite_all(memory, list)
 }
 
-// The same, by the halves of the list: unions of about equal numbers of families.
-fn unite_all(memory: &mut FamilyMemory, list: &[NodeRef]) -> Result<NodeRef, Spent>
+/// The same, by the halves of the list: unions of about equal numbers of families.
+pub(crate) fn unite_all(memory: &mut FamilyMemory, list: &[NodeRef]) -> Result<NodeRef, Spent>
     requires { All (Has memory.old) list.now }
     ensures { MatchResult result (Gave (IsLeastOfAll (families memory.old list.now)) memory.old memory.new)
         (λ _. RanOut memory.old memory.new) }

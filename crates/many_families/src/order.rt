@@ -5,7 +5,8 @@ ghost use Rattle.minimal_families.specs.Least.{IsLeastOfAll, IsLeastProductOfAll
 ghost use Rattle.family_memory.specs.Memory.{Gave, Has, RanOut};
 ghost use Rattle.many_families.specs.Lists.{families};
 
-use crate::many::{product_of_all, union_of_all};
+use crate::chains::unite_places;
+use crate::many::product_of_all;
 use family_memory::{FamilyMemory, Spent};
 use zdd_words::{NodeRef, Parts};
 
@@ -66,7 +67,7 @@ pub fn union_in_order(
 {
     let places = &mut table[..list.len()];
     put_in_order(memory, list, places);
-    union_of_all(memory, places)
+    unite_places(memory, places)
 }
 
 /// The minimal sets of the product, likewise: single units from the last unit on, so that each product is one node

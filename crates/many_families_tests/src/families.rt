@@ -9,6 +9,12 @@ use std::test::Fail;
 use unit_sets::UnitNo;
 use zdd_words::NodeRef;
 
+/// How many answers a worker's memory keeps.
+pub(crate) const ANSWERS: usize = 65_536;
+
+/// So few that most answers are lost.
+pub(crate) const FEW_ANSWERS: usize = 16;
+
 pub(crate) fn unit(number: u16) -> Result<UnitNo, Fail> {
     Ok(UnitNo::new(number).ok_or("no unit")?)
 }

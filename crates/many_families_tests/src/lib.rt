@@ -15,3 +15,5 @@ mod pairs;
 mod plain;
 #[cfg(test)]
 mod random;
+#[cfg(test)]
+mod sizes;

@@ -1,5 +1,5 @@
 //! The operations on two families, drawn by numbers that look random.
-use crate::families::{family_of, memory_of, word_of};
+use crate::families::{ANSWERS, FEW_ANSWERS, family_of, memory_of, word_of};
 use crate::plain::{least_of, supersets_of};
 use crate::random::{low_word, next};
 use family_memory::FamilyMemory;
@@ -40,6 +40,6 @@ fn rounds(rt: &impl Abort, alloc: Global, answers: usize) -> Result<(), Fail> {
 
 #[test]
 fn operations_agree_with_plain_lists(rt: HostRuntime) -> Result<(), Fail> {
-    rounds(&rt, rt.alloc(), 16)?;
-    rounds(&rt, rt.alloc(), 4_096)
+    rounds(&rt, rt.alloc(), FEW_ANSWERS)?;
+    rounds(&rt, rt.alloc(), ANSWERS)
 }

@@ -2,18 +2,19 @@
 ghost use Rattle.std.specs.Prelude.{All, IfOk};
 ghost use Rattle.family_memory.specs.Memory.{Has};
 
-use crate::families::{families_of, family_of, memory_of, word_of};
+use crate::families::{ANSWERS, FEW_ANSWERS, families_of, family_of, memory_of, word_of};
 use crate::plain::{in_many, least_of, supersets_of};
 use family_memory::{FamilyMemory, Spent};
 use many_families::{
     product_by_splitting, product_in_order, product_of_all, union_in_order, union_of_all,
     votes_of_all,
 };
+use std::alloc::Global;
 use std::process::Abort;
 use std::test::Fail;
 use zdd_words::NodeRef;
 
-const ROUNDS: u64 = 2_000;
+const ROUNDS: u64 = 1_000;
 
 // The sets of each one unit.
 const SINGLES: [u32; 5] = [1, 2, 4, 8, 16];
@@ -138,17 +139,22 @@ pub(crate) fn compare(
     Ok(())
 }
 
-#[test]
-fn calls_agree_with_plain_lists(rt: HostRuntime) -> Result<(), Fail> {
-    let mut memory = memory_of(rt.alloc(), 65_536, 4_096)?;
+fn rounds(rt: &impl Abort, alloc: Global, answers: usize) -> Result<(), Fail> {
+    let mut memory = memory_of(alloc, 65_536, answers)?;
     let mut seed = 1;
     for round in 0..ROUNDS {
         seed = next(seed);
         let words = drawn_words(seed, round);
-        compare(&rt, &mut memory, &words, (seed >> 61) as usize)?;
+        compare(rt, &mut memory, &words, (seed >> 61) as usize)?;
         if memory.count() > 32_768 {
             memory.clear();
         }
     }
     Ok(())
+}
+
+#[test]
+fn calls_agree_with_plain_lists(rt: HostRuntime) -> Result<(), Fail> {
+    rounds(&rt, rt.alloc(), FEW_ANSWERS)?;
+    rounds(&rt, rt.alloc(), ANSWERS)
 }

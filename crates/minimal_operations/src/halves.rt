@@ -11,13 +11,13 @@ use zdd_words::NodeRef;
 
 /// The sets without a unit, and those with it, it taken out.
 #[derive(Clone, Copy)]
-pub(crate) struct Half {
+pub struct Half {
     pub lo: NodeRef,
     pub hi: NodeRef,
 }
 
 /// A reference at a unit.
-pub(crate) fn half_at(memory: &FamilyMemory, unit: UnitNo, r: NodeRef) -> Half
+pub fn half_at(memory: &FamilyMemory, unit: UnitNo, r: NodeRef) -> Half
     requires has { Has memory.now r }
     requires level { unit ≤ level_in (map_of memory.now) r }
     ensures { IsHalf memory.now unit r result }

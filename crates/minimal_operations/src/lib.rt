@@ -13,7 +13,8 @@ mod products_below;
 mod unions;
 mod withouts;
 
-pub use nodes::single;
+pub use halves::{Half, half_at};
+pub use nodes::{rid_node, single};
 pub use products::product;
 pub use products_below::product_below;
 pub use unions::union;

@@ -20,6 +20,25 @@ pub fn single(memory: &mut FamilyMemory, unit: UnitNo) -> Result<NodeRef, Spent>
     make(memory, unit, NodeRef::EMPTY, NodeRef::UNIT)
 }
 
+/// The node of a level below all units of two families: the sets of the one, and with the level those of the other that
+/// include none of them.
+pub fn rid_node(
+    memory: &mut FamilyMemory,
+    level: UnitNo,
+    lo: NodeRef,
+    all: NodeRef,
+) -> Result<NodeRef, Spent>
+    requires has_lo { Has memory.old lo }
+    requires has_all { Has memory.old all }
+    requires lo_above { IsAbove level (family_in memory.old lo) }
+    requires all_above { IsAbove level (family_in memory.old all) }
+    ensures gives { IfOk result (Gave (IsRidBranch level (family_in memory.old lo) (family_in memory.old all))
+        memory.old memory.new) }
+    ensures spent { IfErr result (λ _. RanOut memory.old memory.new) }
+{
+    make_rid(memory, level, lo, all, lo)
+}
+
 /// The node of a level below all units of lo and hi, or lo where hi has no sets.
 pub(crate) fn make(
     memory: &mut FamilyMemory,

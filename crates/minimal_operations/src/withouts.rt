@@ -1,5 +1,5 @@
 //! What is left of a family without the sets that include one of another.
-ghost use Rattle.std.specs.Prelude.{◌≡◌, ◌≤◌, ℕ, List, IfErr, IfOk, IfSome, MatchOption, MatchResult};
+ghost use Rattle.std.specs.Prelude.{◌≡◌, ◌≤◌, ℕ, true, List, IfErr, IfOk, IfSome, MatchOption, MatchResult};
 ghost use Rattle.zdd_families.specs.Map.{level_in};
 ghost use Rattle.family_operations.specs.Without.{IsWithout};
 ghost use Rattle.family_memory.specs.Memory.{Gave, Has, RanOut, family_in, map_of};
@@ -56,19 +56,45 @@ fn single_end(memory: &FamilyMemory, a: NodeRef, b: NodeRef) -> Option<NodeRef>
     None
 }
 
+// Whether no set of a can include one of b: all units of a are lower, or all its sets have fewer.
+fn loses_nothing(memory: &FamilyMemory, a: NodeRef, b: NodeRef) -> bool
+    requires has_a { Has memory.now a }
+    requires has_b { Has memory.now b }
+    requires inner { 2 ≤ b }
+    ensures { result ≡ true → IsWithout (family_in memory.now a) (family_in memory.now b) (family_in memory.now a) }
+{
+    memory.is_sound();
+    memory.last(a) < memory.level(b) || memory.are_smaller(a, b)
+}
+
+// What is left where it is known without a look at the parts.
+#[inline]
+fn known_rest(memory: &FamilyMemory, a: NodeRef, b: NodeRef) -> Option<NodeRef>
+    requires has_a { Has memory.now a }
+    requires has_b { Has memory.now b }
+    ensures { MatchOption result (GoesOn a b) (λ r. Has memory.now r
+        × IsWithout (family_in memory.now a) (family_in memory.now b) (family_in memory.now r)) }
+{
+    memory.is_sound();
+    if let Some(end) = without_end(a, b) {
+        return Some(end);
+    }
+    if loses_nothing(memory, a, b) {
+        return Some(a);
+    }
+    None
+}
+
 // The part of b that matters: a set of a includes no set with a unit below all of a's.
 fn lowered(memory: &FamilyMemory, a: NodeRef, b: NodeRef) -> NodeRef
     requires has_a { Has memory.now a }
     requires has_b { Has memory.now b }
     ensures has { Has memory.now result }
-    ensures level { 2 ≤ a → level_in (map_of memory.now) a ≤ level_in (map_of memory.now) result }
+    ensures level { level_in (map_of memory.now) a ≤ level_in (map_of memory.now) result }
     ensures same { (left : List (List ℕ)) → IsWithout (family_in memory.now a) (family_in memory.now result) left
         → IsWithout (family_in memory.now a) (family_in memory.now b) left }
 {
     memory.is_sound();
-    if a.number() < 2 {
-        return b;
-    }
     let level = memory.level(a);
     let mut part = b;
     while memory.level(part) < level {
@@ -77,7 +103,7 @@ fn lowered(memory: &FamilyMemory, a: NodeRef, b: NodeRef) -> NodeRef
     part
 }
 
-/// The same, of which an end makes nothing. Most calls end before the halves are looked at, so they are inlined.
+/// The same, of which an end makes nothing. Most calls end at once, so they are inlined.
 #[inline(always)]
 #[cycle(strip)]
 pub(crate) fn strip(memory: &mut FamilyMemory, a: NodeRef, b: NodeRef) -> Result<NodeRef, Spent>
@@ -87,16 +113,28 @@ pub(crate) fn strip(memory: &mut FamilyMemory, a: NodeRef, b: NodeRef) -> Result
         memory.new) (λ _. RanOut memory.old memory.new) }
 {
     memory.is_sound();
+    if let Some(rest) = known_rest(memory, a, b) {
+        return Ok(rest);
+    }
+    strip_lowered(memory, a, b)
+}
+
+// The same of two nodes, by the part of b that matters.
+#[cycle(strip)]
+fn strip_lowered(memory: &mut FamilyMemory, a: NodeRef, b: NodeRef) -> Result<NodeRef, Spent>
+    requires has_a { Has memory.old a }
+    requires has_b { Has memory.old b }
+    requires inner { 2 ≤ a }
+    ensures { MatchResult result (Gave (IsWithout (family_in memory.old a) (family_in memory.old b)) memory.old
+        memory.new) (λ _. RanOut memory.old memory.new) }
+{
+    memory.is_sound();
     let part = lowered(memory, a, b);
-    if let Some(end) = without_end(a, part) {
-        return Ok(end);
+    if let Some(rest) = known_rest(memory, a, part) {
+        return Ok(rest);
     }
     if let Some(rest) = single_end(memory, a, part) {
         return Ok(rest);
-    }
-    // A set includes none that has more units.
-    if memory.are_smaller(a, part) {
-        return Ok(a);
     }
     let question = Question {
         operation: Operation::Without,

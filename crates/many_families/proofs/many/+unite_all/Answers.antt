@@ -16,8 +16,9 @@ returns-in_err-second t c =
 
 pub returns : goal.returns
 returns t c =
-    halves_united c.args.memory.now c.args.list.now (length c.args.list.now / 2) c.is_sound.ensures c.requires
-    c.unite_all.new.memory c.in_ok-first.first c.in_ok-first.ensures c.unite_all-2.new.memory c.in_ok-second.second
+    halves_united c.args.memory.now c.unite_all.new.memory c.unite_all-2.new.memory c.args.list.now
+    (length c.args.list.now / 2) c.is_sound.ensures c.requires c.in_ok-first.first c.in_ok-second.second
+    c.in_ok-first.ensures
     (subst (λ l. Gave (IsLeastOfAll (families c.unite_all.new.memory l)) c.unite_all.new.memory c.unite_all-2.new.memory
     c.in_ok-second.second) (rest_from c.args.list.now (length c.args.list.now / 2)) c.in_ok-second.ensures)
     c.union.new.memory c.union.result

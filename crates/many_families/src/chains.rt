@@ -1,0 +1,111 @@
+//! The union of a few families at once, unit by unit: each level takes one node, whatever the number of families.
+ghost use Rattle.std.specs.Prelude.{◌≡◌, ◌<◌, ℕ, All, MatchResult, length, slice_index};
+ghost use Rattle.minimal_families.specs.Least.{IsLeastOfAll};
+ghost use Rattle.family_memory.specs.Memory.{Gave, Has, RanOut};
+ghost use Rattle.many_families.specs.Chains.{AreFrom, IsLowered, IsLowest, uppers};
+ghost use Rattle.many_families.specs.Lists.{families};
+
+use crate::many::unite_all;
+use family_memory::{FamilyMemory, Spent};
+use minimal_operations::{half_at, rid_node, union};
+use unit_sets::UnitNo;
+use zdd_words::NodeRef;
+
+// How many families are united at once: each is looked at on each level.
+const AT_ONCE: usize = 16;
+
+/// The minimal sets of the union of all families of the places: of a few at once, of more by their halves. What the
+/// places hold afterwards is left open.
+pub(crate) fn unite_places(
+    memory: &mut FamilyMemory,
+    places: &mut [NodeRef],
+) -> Result<NodeRef, Spent>
+    requires { All (Has memory.old) places.old }
+    ensures { MatchResult result (Gave (IsLeastOfAll (families memory.old places.old)) memory.old memory.new)
+        (λ _. RanOut memory.old memory.new) }
+{
+    memory.is_sound();
+    if places.len() <= AT_ONCE {
+        return unite_levels(memory, places);
+    }
+    let middle = places.len() / 2;
+    let first = unite_places(memory, &mut places[..middle])?;
+    let second = unite_places(memory, &mut places[middle..])?;
+    union(memory, first, second)
+}
+
+// Whether two at most are to be united, or one of them has the empty set, which all others include.
+fn are_few(list: &[NodeRef]) -> bool {
+    list.iter().filter(|r| **r != NodeRef::EMPTY).count() < 3 || list.contains(&NodeRef::UNIT)
+}
+
+// A reference with the least level.
+fn lowest(memory: &FamilyMemory, list: &[NodeRef]) -> NodeRef
+    requires { All (Has memory.now) list.now }
+    ensures { IsLowest memory.now list.now result }
+{
+    memory.is_sound();
+    let mut first = NodeRef::EMPTY;
+    for place in 0..list.len() {
+        if memory.level(list[place]) < memory.level(first) {
+            first = list[place];
+        }
+    }
+    first
+}
+
+// The union of a few families from their least unit on: of their sets that lack it, and of those that have it.
+fn unite_levels(memory: &mut FamilyMemory, list: &mut [NodeRef]) -> Result<NodeRef, Spent>
+    requires { All (Has memory.old) list.old }
+    ensures { MatchResult result (Gave (IsLeastOfAll (families memory.old list.old)) memory.old memory.new)
+        (λ _. RanOut memory.old memory.new) }
+{
+    memory.is_sound();
+    let first = lowest(memory, list);
+    if first.number() < 2 || are_few(list) {
+        return unite_all(memory, list);
+    }
+    let level = memory.parts(first).level;
+    let all = unite_uppers(memory, level, list)?;
+    lower_all(memory, level, list);
+    let lo = unite_levels(memory, list)?;
+    rid_node(memory, level, lo, all)
+}
+
+// The union of the sets of all families that have the unit, it taken out, by the halves of the list.
+fn unite_uppers(
+    memory: &mut FamilyMemory,
+    level: UnitNo,
+    list: &[NodeRef],
+) -> Result<NodeRef, Spent>
+    requires has { All (Has memory.old) list.now }
+    requires from { AreFrom memory.old level list.now }
+    ensures { MatchResult result (Gave (IsLeastOfAll (uppers level (families memory.old list.now))) memory.old
+        memory.new) (λ _. RanOut memory.old memory.new) }
+{
+    memory.is_sound();
+    if list.is_empty() {
+        return Ok(NodeRef::EMPTY);
+    }
+    if list.len() == 1 {
+        return Ok(half_at(memory, level, list[0]).hi);
+    }
+    let middle = list.len() / 2;
+    let first = unite_uppers(memory, level, &list[..middle])?;
+    let second = unite_uppers(memory, level, &list[middle..])?;
+    union(memory, first, second)
+}
+
+// Puts in the place of each reference that of its sets without the unit.
+fn lower_all(memory: &FamilyMemory, level: UnitNo, list: &mut [NodeRef])
+    requires has { All (Has memory.now) list.old }
+    requires from { AreFrom memory.now level list.old }
+    ensures size { length list.new ≡ length list.old }
+    ensures lowered { (place : ℕ) → place < length list.old
+        → IsLowered memory.now level (slice_index list.old place) (slice_index list.new place) }
+{
+    memory.is_sound();
+    for place in 0..list.len() {
+        list[place] = half_at(memory, level, list[place]).lo;
+    }
+}
