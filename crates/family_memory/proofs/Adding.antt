@@ -1,6 +1,6 @@
 -- A node that is added at the end of the words.
 use Rattle.std.proofs.Common.{◌≡◌, ◌≢◌, ℕ, ◌+◌, ◌<◌, ◌≤◌, ◌⊎◌, List, [], ◌∷◌, ◌++◌, length, refl, sym, ◌∙◌, ap, subst}
-use Rattle.std.proofs.Common.{inl, inr, arith, length-append, All, Result, Ok, Err, MatchResult}
+use Rattle.std.proofs.Common.{inl, inr, arith, length-append, Result, Ok, Err, MatchResult}
 use Rattle.std.proofs.lemmas.Bool.{cases_lt}
 use Rattle.std.proofs.lemmas.List.{get_or_append_left, get_or_past, get_or_push}
 use Rattle.event_counts.proofs.CountLemmas.{next_count-steady, next_count-fits}
@@ -13,9 +13,8 @@ use Rattle.zdd_families.proofs.MapLemmas.{IsNode-grown, family-node, lo_known, h
 use Rattle.zdd_families.proofs.Canonical.{family-grown}
 use Rattle.family_parts.specs.Antichains.{IsAntichain}
 use Rattle.family_memory.specs.Memory.{Held, Has, IsSound, IsUsedUp, Went, family_in, map_of, word_family}
-use Rattle.family_memory.specs.declared.answers.Entry.{Entry}
+use Rattle.kept_answers.specs.declared.answers.Entry.{Entry}
 use Rattle.family_memory.specs.declared.extents.Extent.{Extent}
-use Rattle.family_memory.specs.Answers.{IsTold}
 use Rattle.family_memory.specs.Kept.{AreExtents, IsAdded, KeepsNodes, refusing}
 use Rattle.family_memory.proofs.Entries.{all_told}
 use Rattle.family_memory.proofs.After.{knows, level_above}
@@ -205,23 +204,21 @@ module _ (inside held : Held) (word : ℕ) (same : inside ≡ held) (sound : IsS
       subst (λ (h : Held). IsAdded h word after r) same
       (subst (IsAdded inside word after) (sym at) (as_added after words as_before as_often))
 
-  pub kept_added : (after : Held) (capacity capacity' : ℕ) (entries entries' : List Entry)
+  pub kept_added : (after : Held) (capacity capacity' : ℕ) (entries : List Entry)
       (extents extents' : List Extent) (taken taken' : ℕ) → after.words ≡ inside.words ++ word ∷ []
       → after.room ≡ inside.room → after.refused ≡ inside.refused
       → KeepsNodes inside capacity entries extents taken → capacity ≤ capacity'
-      → ((other : Held) → IsSound other → All (IsTold other) entries → All (IsTold other) entries')
       → (IsAdded inside word after (length inside.words) → AreExtents after extents') → taken ≤ taken'
-      → KeepsNodes after capacity' entries' extents' taken'
-  kept_added after capacity capacity' entries entries' extents extents' taken taken' words as_before as_often kept more
-      follows are more' =
+      → KeepsNodes after capacity' entries extents' taken'
+  kept_added after capacity capacity' entries extents extents' taken taken' words as_before as_often kept more are
+      more' =
       let is : IsAdded inside word after (length inside.words) = as_added after words as_before as_often in
       record {
         sound = is.sound;
         few = let h = kept.few in omega arith;
         taken = let h = kept.taken in omega arith;
         told =
-            follows after is.sound (all_told inside after entries sound
-            (went_added inside word after (length inside.words) is) kept.told);
+            all_told inside after entries sound (went_added inside word after (length inside.words) is) kept.told;
         reach = are is;
         reach_taken = let h = kept.reach_taken in omega arith;
       }

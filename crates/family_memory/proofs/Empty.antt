@@ -1,14 +1,15 @@
 -- A memory without nodes.
 use Rattle.std.proofs.Common.{◌≡◌, ℕ, zero, suc, ◌+◌, ◌<◌, ◌≤◌, ◌^◌, List, [], ◌∷◌, length, take, get_or, refl, sym}
-use Rattle.std.proofs.Common.{◌∙◌, ap, subst, inl, inr, arith, All}
+use Rattle.std.proofs.Common.{◌∙◌, ap, subst, inl, inr, arith}
 use Rattle.std.proofs.lemmas.Bool.{cases_eq}
 use Rattle.event_counts.specs.Count.{last_count}
 use Rattle.zdd_families.proofs.MapLemmas.{family-empty, family-unit}
 use Rattle.family_operations.proofs.MinimalLemmas.{minimal-none, minimal-unit}
 use Rattle.family_parts.specs.Antichains.{IsAntichain}
-use Rattle.family_memory.specs.declared.answers.Entry.{Entry}
+use Rattle.kept_answers.specs.declared.answers.Entry.{Entry}
 use Rattle.family_memory.specs.declared.extents.Extent.{Extent}
-use Rattle.family_memory.specs.Answers.{IsTold}
+use Rattle.kept_answers.specs.Kept.{AreKept}
+use Rattle.family_memory.proofs.Entries.{told_of_none}
 use Rattle.family_memory.specs.Kept.{AreExtents, KeepsNodes}
 use Rattle.family_memory.specs.Memory.{Held, Has, IsSound, family_in, map_of}
 
@@ -39,13 +40,20 @@ sound room refused counted = record {
 
 pub kept_empty : (held : Held) (capacity : ℕ) (entries : List Entry) (extents : List Extent) (capacity' : ℕ)
     → held.words ≡ 0 ∷ 0 ∷ [] → held.refused ≤ last_count → held.room ≤ 2 ^ 25 → held.room + 2 ≤ capacity
-    → ((other : Held) → IsSound other → All (IsTold other) entries) → AreExtents held extents
-    → held.room + 2 ≤ capacity' → KeepsNodes held capacity entries extents capacity'
-kept_empty held capacity entries extents capacity' none counted few taken told are taken' =
+    → AreKept [] entries → AreExtents held extents → held.room + 2 ≤ capacity'
+    → KeepsNodes held capacity entries extents capacity'
+kept_empty held capacity entries extents capacity' none counted few taken kept are taken' =
     let is : IsSound held =
     subst (λ l. IsSound (record { words = l; room = held.room; refused = held.refused })) (sym none)
     (sound held.room held.refused counted) in
-    record { sound = is; few = few; taken = taken; told = told held is; reach = are; reach_taken = taken' }
+    record {
+      sound = is;
+      few = few;
+      taken = taken;
+      told = told_of_none held entries is kept;
+      reach = are;
+      reach_taken = taken';
+    }
 
 pub two : (words : List ℕ) → 2 ≤ length words → get_or words 0 0 ≡ 0 → get_or words 1 0 ≡ 0 → take 2 words ≡ 0 ∷ 0 ∷ []
 two [] few e f = absurd (omega arith)

@@ -1,15 +1,15 @@
 -- True entries stay true where nodes are added.
-use Rattle.std.proofs.Common.{◌≡◌, ℕ, ◌≤◌, Bool, true, false, if◌then◌else◌, List, [], ◌++◌, length, take, replicate}
-use Rattle.std.proofs.Common.{sym, subst, All, arith}
-use Rattle.std.proofs.lemmas.List.Elements.{All-weaker, All-append, All-replicate, All-take}
+use Rattle.std.proofs.Common.{ℕ, ◌≡◌, ◌≤◌, List, [], ◌∷◌, length, sym, subst, All, arith}
+use Rattle.std.proofs.lemmas.List.Elements.{All-cons, All-weaker}
 use Rattle.zdd_families.proofs.MapLemmas.{family-empty}
 use Rattle.family_operations.specs.Without.{IsWithout}
 use Rattle.family_operations.proofs.WithoutLemmas.{without-none}
+use Rattle.kept_answers.specs.Kept.{AreKept, first_entry}
+use Rattle.kept_answers.specs.declared.answers.Entry.{Entry}
+use Rattle.kept_answers.proofs.Keeping.{all_kept}
 use Rattle.family_memory.specs.Memory.{Held, Has, IsSound, Went, family_in, map_of}
 use Rattle.family_memory.proofs.After.{still, still_has}
 use Rattle.family_memory.specs.Answers.{IsTold, IsAnswer}
-use Rattle.family_memory.specs.declared.answers.Entry.{Entry}
-use Rattle.family_memory.specs.declared.answers.Operation.TheVariants.{Without}
 
 told_after : (before after : Held) → IsSound before → Went before after → (entry : Entry) → IsTold before entry
     → IsTold after entry
@@ -34,10 +34,6 @@ pub all_told : (before after : Held) (entries : List Entry) → IsSound before �
 all_told before after entries sound went all =
     All-weaker (IsTold before) (IsTold after) (told_after before after sound went) entries all
 
--- what stands in each place before the first answer
-abbrev pub first_entry : Entry
-first_entry = record { question = record { operation = Without; first = 0; second = 0 }; answer = 0 }
-
 pub told_first : (held : Held) → IsSound held → IsTold held first_entry
 told_first held sound =
     let few : 2 ≤ length held.words = sound.terminals in
@@ -49,14 +45,13 @@ told_first held sound =
       is = subst (λ f. IsWithout f f f) (sym none) (without-none []);
     }
 
--- entries that are cut or filled up with such
-pub all_resized : (held : Held) (fits : Bool) (n more : ℕ) (old new : List Entry) → IsSound held
-    → new ≡ (if fits then take n old ++ replicate more first_entry else old) → All (IsTold held) old
-    → All (IsTold held) new
-all_resized held true n more old new sound same all =
-    subst (All (IsTold held)) (sym same) (All-append (IsTold held) (take n old) (replicate more first_entry)
-    (All-take (IsTold held) n old all) (All-replicate (IsTold held) more first_entry (told_first held sound)))
-all_resized held false n more old new sound same all = subst (All (IsTold held)) (sym same) all
+-- the entries of a table that was new, cleared or told one more
+pub told_of_none : (held : Held) (entries : List Entry) → IsSound held → AreKept [] entries → All (IsTold held) entries
+told_of_none held entries sound kept =
+    all_kept (IsTold held) [] entries (told_first held sound) (λ k d past. absurd (omega arith)) kept
 
-pub all_of_none : (held : Held) (entries : List Entry) → entries ≡ [] → All (IsTold held) entries
-all_of_none held entries none = subst (All (IsTold held)) (sym none) (λ k d past. absurd (omega arith))
+pub told_more : (held : Held) (entry : Entry) (before after : List Entry) → IsSound held → IsTold held entry
+    → All (IsTold held) before → AreKept (entry ∷ before) after → All (IsTold held) after
+told_more held entry before after sound told all kept =
+    all_kept (IsTold held) (entry ∷ before) after (told_first held sound) (All-cons (IsTold held) entry before told all)
+    kept

@@ -1,17 +1,19 @@
--- What the entries of the cache say, over what a memory holds.
+-- What the kept entries say, over what a memory holds.
 use Rattle.std.specs.Prelude.{ℕ, List}
+use Rattle.family_operations.specs.Minimal.{IsMinimal}
 use Rattle.family_operations.specs.Without.{IsWithout}
 use Rattle.minimal_families.specs.Least.{IsLeastUnion, IsLeastProduct}
 use Rattle.family_memory.specs.Memory.{Held, Has, family_in}
-use Rattle.family_memory.specs.declared.answers.Operation.{Operation}
-use Rattle.family_memory.specs.declared.answers.Operation.TheVariants.{Without, Union, Product}
-use Rattle.family_memory.specs.declared.answers.Entry.{Entry}
+use Rattle.kept_answers.specs.declared.answers.Operation.{Operation}
+use Rattle.kept_answers.specs.declared.answers.Operation.TheVariants.{Without, Union, Product, Minimal}
+use Rattle.kept_answers.specs.declared.answers.Entry.{Entry}
 
--- the family is the operation's of two families
+-- the family is the operation's of two families; the minimal sets are those of the first
 abbrev pub IsAnswer : Operation → List (List ℕ) → List (List ℕ) → List (List ℕ) → Type 0
 IsAnswer Without f g answer = IsWithout f g answer
 IsAnswer Union f g answer = IsLeastUnion f g answer
 IsAnswer Product f g answer = IsLeastProduct f g answer
+IsAnswer Minimal f g answer = IsMinimal f answer
 
 -- the entry is true: the memory has its references, and the answer stands for the operation's family
 pub record IsTold (held : Held) (entry : Entry) : Type 0 where

@@ -2,7 +2,7 @@
 use Rattle.std.specs.Prelude.{◌≡◌, ℕ, ◌+◌, ◌≤◌, ◌^◌, List, [], ◌∷◌, ◌++◌, get_or, length}
 use Rattle.std.specs.List.{All}
 use Rattle.zdd_families.specs.Map.{Grown}
-use Rattle.family_memory.specs.declared.answers.Entry.{Entry}
+use Rattle.kept_answers.specs.declared.answers.Entry.{Entry}
 use Rattle.family_memory.specs.declared.extents.Extent.{Extent}
 use Rattle.family_memory.specs.Extents.{IsExtent}
 use Rattle.family_memory.specs.Answers.{IsTold}

@@ -4,15 +4,11 @@
 //! node is made once its parts stand, is never changed, and goes when the memory is cleared. Beside it stand the
 //! greatest unit of its sets and how many units these have. An index finds equal nodes, and a table keeps answers of
 //! operations; both are there for speed alone. Equal families may have different references. This crate stands on
-//! `minimal_families` and starts no threads.
+//! `minimal_families` and `kept_answers`, and starts no threads.
 #![tactic(auto)]
 
-mod answers;
 mod extents;
 mod index;
 mod memory;
-#[cfg(test)]
-mod tests;
 
-pub use answers::{Entry, Operation, Question};
 pub use memory::{FamilyMemory, Room, Spent};

@@ -12,10 +12,10 @@ ghost use Rattle.family_memory.specs.Extents.{AreSmaller, IsExtent};
 ghost use Rattle.family_memory.specs.Memory.{Has, IsNodeOf, IsSound, IsUsedUp, family_in, map_of, word_family};
 ghost use Rattle.family_memory.specs.Kept.{IsAdded, refusing};
 
-use crate::answers::{Answers, Entry, Question};
 use crate::extents::Extent;
 use crate::index::{Index, Search};
 use event_counts::Count;
+use kept_answers::{Answers, Entry, Question};
 use std::alloc::Global;
 use std::marker::Model;
 use unit_sets::{NoMemory, UnitNo};
@@ -61,7 +61,7 @@ impl Model for FamilyMemory {
     ghost view = { λ m. record { words = m.words.items; room = m.room; refused = m.refused } };
 
     ghost invariant = { λ m. KeepsNodes (record { words = m.words.items; room = m.room; refused = m.refused })
-        (vec_capacity m.words) m.answers.entries.items m.extents.items (vec_capacity m.extents) };
+        (vec_capacity m.words) m.answers m.extents.items (vec_capacity m.extents) };
 }
 
 impl FamilyMemory {
@@ -222,7 +222,6 @@ impl FamilyMemory {
         let r = NodeRef::at_slot((at - 2) as u32);
         self.index.put(place, r);
         self.index.follow(self.words.as_slice());
-        self.answers.follow(at);
         Ok(r)
     }
 

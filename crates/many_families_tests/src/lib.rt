@@ -8,6 +8,8 @@ mod chains;
 #[cfg(test)]
 mod deep;
 #[cfg(test)]
+mod empty;
+#[cfg(test)]
 mod families;
 #[cfg(test)]
 mod pairs;

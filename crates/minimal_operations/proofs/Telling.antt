@@ -3,7 +3,7 @@ use Rattle.std.proofs.Common.{ℕ, sym}
 use Rattle.family_memory.specs.Memory.{Held, Has, IsSound, Gave, family_in}
 use Rattle.family_memory.proofs.After.{still, still_has, at_both}
 use Rattle.family_memory.specs.Answers.{IsTold, IsAnswer}
-use Rattle.family_memory.specs.declared.answers.Operation.{Operation}
+use Rattle.kept_answers.specs.declared.answers.Operation.{Operation}
 
 pub told_made : (operation : Operation) (before after : Held) (a b r : ℕ) → IsSound before → Has before a → Has before b
     → Gave (IsAnswer operation (family_in before a) (family_in before b)) before after r

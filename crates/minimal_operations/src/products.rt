@@ -10,7 +10,8 @@ ghost use Rattle.minimal_operations.specs.Halves.{ArePartsAbove};
 
 use crate::nodes::make_rid;
 use crate::unions::unite;
-use family_memory::{Entry, FamilyMemory, Operation, Question, Spent};
+use family_memory::{FamilyMemory, Spent};
+use kept_answers::{Entry, Operation, Question};
 use zdd_words::{NodeRef, Parts};
 
 /// The minimal sets of the product, which has each union of a set of the one family and a set of the other.

@@ -6,7 +6,8 @@ ghost use Rattle.family_memory.specs.Memory.{Gave, Has, RanOut, family_in};
 
 use crate::nodes::make;
 use crate::products::product_end;
-use family_memory::{Entry, FamilyMemory, Operation, Question, Spent};
+use family_memory::{FamilyMemory, Spent};
+use kept_answers::{Entry, Operation, Question};
 use zdd_words::NodeRef;
 
 /// The minimal sets of the product, where the first family lies below the second. In time it is linear in the first

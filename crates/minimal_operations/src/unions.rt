@@ -6,7 +6,8 @@ ghost use Rattle.family_memory.specs.Memory.{Gave, Has, RanOut, family_in, map_o
 ghost use Rattle.minimal_operations.specs.Ends.{GoesOn, IsUnionEnd};
 
 use crate::nodes::make_rid;
-use family_memory::{Entry, FamilyMemory, Operation, Question, Spent};
+use family_memory::{FamilyMemory, Spent};
+use kept_answers::{Entry, Operation, Question};
 use zdd_words::NodeRef;
 
 /// The minimal sets of the union.

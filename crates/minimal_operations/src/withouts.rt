@@ -7,7 +7,8 @@ ghost use Rattle.minimal_operations.specs.Ends.{GoesOn, IsWithoutEnd};
 
 use crate::halves::half_at;
 use crate::nodes::make;
-use family_memory::{Entry, FamilyMemory, Operation, Question, Spent};
+use family_memory::{FamilyMemory, Spent};
+use kept_answers::{Entry, Operation, Question};
 use zdd_words::NodeRef;
 
 /// The sets of the first family that include none of the second.

@@ -1,16 +1,16 @@
 -- True entries stay true where the map grows.
-use Rattle.std.proofs.Common.{◌≡◌, ℕ, List, [], inl, arith, sym, subst, All}
-use Rattle.std.proofs.lemmas.List.Elements.{All-weaker}
-use Rattle.zdd_families.proofs.FamilyLemmas.{IsFamily-nil}
+use Rattle.std.proofs.Common.{◌≡◌, ℕ, List, [], ◌∷◌, inl, arith, sym, subst, All}
+use Rattle.std.proofs.lemmas.List.Elements.{All-cons, All-weaker}
 use Rattle.zdd_families.specs.Map.{Knows, IsClosed, Grown, family}
 use Rattle.zdd_families.proofs.MapLemmas.{family-empty, Knows-grown}
 use Rattle.zdd_families.proofs.Canonical.{family-grown}
-use Rattle.family_operations.specs.Union.{IsUnion}
-use Rattle.family_operations.proofs.UnionLemmas.{union-none}
+use Rattle.family_operations.specs.Without.{IsWithout}
+use Rattle.family_operations.proofs.WithoutLemmas.{without-none}
+use Rattle.kept_answers.specs.Kept.{AreKept, first_entry}
+use Rattle.kept_answers.proofs.Keeping.{all_kept}
 use Rattle.zdd_product.specs.Told.{IsTold, IsResult}
-use Rattle.zdd_product.specs.declared.cache.Entry.{Entry}
-use Rattle.zdd_product.specs.declared.cache.Operation.{Operation}
-use Rattle.zdd_product.specs.declared.cache.Operation.TheVariants.{Union}
+use Rattle.kept_answers.specs.declared.answers.Entry.{Entry}
+use Rattle.kept_answers.specs.declared.answers.Operation.{Operation}
 use Rattle.zdd_shared_table.specs.Seats.{Seated, IsSoundSeat, map_of}
 use Rattle.zdd_product.specs.Seats.{Gave}
 use Rattle.zdd_product.proofs.After.{stays, at_both}
@@ -38,10 +38,6 @@ pub all_told : (known known' : ℕ → ℕ) (entries : List Entry) → IsClosed 
 all_told known known' entries closed closed' grown all =
     All-weaker (IsTold known) (IsTold known') (told_grown known known' closed closed' grown) entries all
 
--- what stands in each place before the first answer
-abbrev pub first_entry : Entry
-first_entry = record { question = record { operation = Union; first = 0; second = 0 }; answer = 0 }
-
 pub told_first : (known : ℕ → ℕ) → IsTold known first_entry
 told_first known =
     let none : family known 0 ≡ [] = family-empty known in
@@ -49,8 +45,19 @@ told_first known =
       first = inl (omega arith);
       second = inl (omega arith);
       answer = inl (omega arith);
-      is = subst (λ f. IsUnion f f f) (sym none) (union-none [] IsFamily-nil);
+      is = subst (λ f. IsWithout f f f) (sym none) (without-none []);
     }
+
+-- the entries of a table that is new, or was told one more
+pub told_of_none : (known : ℕ → ℕ) (entries : List Entry) → AreKept [] entries → All (IsTold known) entries
+told_of_none known entries kept =
+    all_kept (IsTold known) [] entries (told_first known) (λ k d past. absurd (omega arith)) kept
+
+pub told_more : (known : ℕ → ℕ) (entry : Entry) (before after : List Entry) → IsTold known entry
+    → All (IsTold known) before → AreKept (entry ∷ before) after → All (IsTold known) after
+told_more known entry before after told all kept =
+    all_kept (IsTold known) (entry ∷ before) after (told_first known) (All-cons (IsTold known) entry before told all)
+    kept
 
 -- what an operation on two references gave is true as an entry
 pub told_made : (operation : Operation) (due : List (List ℕ) → Type 0) (before after : Seated) (a b r : ℕ)

@@ -1,13 +1,13 @@
--- What the entries of the cache say, over a map of references.
+-- What the kept entries say, over a map of references.
 use Rattle.std.specs.Prelude.{ℕ, List}
 use Rattle.zdd_families.specs.Map.{Knows, family}
 use Rattle.family_operations.specs.Union.{IsUnion}
 use Rattle.family_operations.specs.Product.{IsProduct}
 use Rattle.family_operations.specs.Without.{IsWithout}
 use Rattle.family_operations.specs.Minimal.{IsMinimal}
-use Rattle.zdd_product.specs.declared.cache.Operation.{Operation}
-use Rattle.zdd_product.specs.declared.cache.Operation.TheVariants.{Union, Product, Without, Minimal}
-use Rattle.zdd_product.specs.declared.cache.Entry.{Entry}
+use Rattle.kept_answers.specs.declared.answers.Operation.{Operation}
+use Rattle.kept_answers.specs.declared.answers.Operation.TheVariants.{Union, Product, Without, Minimal}
+use Rattle.kept_answers.specs.declared.answers.Entry.{Entry}
 
 -- the family is the operation's of two families; the minimal sets are those of the first
 abbrev pub IsResult : Operation → List (List ℕ) → List (List ℕ) → List (List ℕ) → Type 0

@@ -1,4 +1,4 @@
-//! Operations on the families of a shared node store, with a cache for one thread.
+//! Operations on the families of a shared node store, with answers kept for one thread.
 //!
 //! An `Ops` works on one store by one seat that it owns. It stands on `zdd_shared_table` for the store and
 //! on `family_operations` for what the operations are and the laws by which they are computed from parts.
@@ -9,13 +9,10 @@
 //! and `Full` comes only from a search of this call that passed every slot. No call but `Ops::new` takes memory.
 #![tactic(auto)]
 
-mod cache;
 mod halves;
 mod minimals;
 mod ops;
 mod products;
-#[cfg(test)]
-mod tests;
 mod unions;
 mod votes;
 mod withouts;

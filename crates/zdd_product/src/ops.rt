@@ -1,4 +1,4 @@
-//! The operations' seat and cache, and the store's calls on that seat.
+//! The operations' seat and their answers, and the store's calls on that seat.
 ghost use Rattle.std.specs.Prelude.{◌≡◌, ◌≢◌, ◌+◌, ◌-◌, ◌<◌, ◌≤◌, ◌⊎◌, [], ◌∷◌, ◌++◌, IfOk, IfErr, IfSome, MatchResult};
 ghost use Rattle.zdd_words.specs.Word.{packed};
 ghost use Rattle.zdd_families.specs.Family.{IsAbove, branch, first_unit, sets_with, sets_without};
@@ -8,7 +8,7 @@ ghost use Rattle.zdd_shared_table.specs.Views.{no_probe};
 ghost use Rattle.zdd_product.specs.Seats.{Gave, IsBranch, WasFull};
 ghost use Rattle.zdd_product.specs.Told.{IsTold};
 
-use crate::cache::{Cache, Entry, Question};
+use kept_answers::{Answers, Entry, Question};
 use std::alloc::Global;
 use std::marker::Model;
 use unit_sets::{NoMemory, UnitNo};
@@ -23,7 +23,7 @@ const PLACES: usize = 65_536;
 pub struct Ops<'s> {
     store: &'s NodeStore,
     seat: StoreSeat,
-    cache: Cache,
+    answers: Answers,
 }
 
 impl<'s> Model for Ops<'s> {
@@ -34,7 +34,7 @@ impl<'s> Model for Ops<'s> {
 
     ghost view = { λ ops. ops.seat };
 
-    ghost invariant = { λ ops. HoldsOps ops.store.now ops.seat ops.cache.entries.items };
+    ghost invariant = { λ ops. HoldsOps ops.store.now ops.seat ops.answers };
 }
 
 /// Memory was refused. The seat is the one that was given, and the cause may be handed on.
@@ -52,8 +52,12 @@ impl<'s> Ops<'s> {
         ensures sound { IsSoundSeat seat }
     {
         seat.is_sound();
-        match Cache::new(alloc, PLACES) {
-            Ok(cache) => Ok(Ops { store, seat, cache }),
+        match Answers::new(alloc, PLACES) {
+            Ok(answers) => Ok(Ops {
+                store,
+                seat,
+                answers,
+            }),
             Err(cause) => Err(OpsRefused { seat, cause }),
         }
     }
@@ -65,7 +69,7 @@ impl<'s> Ops<'s> {
         let Ops {
             store: _,
             seat,
-            cache: _,
+            answers: _,
         } = self;
         seat
     }
@@ -168,7 +172,7 @@ impl<'s> Ops<'s> {
             (record { question = question.now; answer = answer })) }
         ensures sound { IsSoundSeat self.now }
     {
-        self.cache.answer(question)
+        self.answers.answer(question)
     }
 
     // Keeps the answer to a question.
@@ -176,7 +180,7 @@ impl<'s> Ops<'s> {
         requires { IsTold (map_of self.old) entry }
         ensures { self.new ≡ self.old }
     {
-        self.cache.keep(entry);
+        self.answers.keep(entry);
     }
 
     // The node of a level above which all units of lo and hi are, or lo where hi has no sets.

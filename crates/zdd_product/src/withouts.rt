@@ -8,9 +8,9 @@ ghost use Rattle.zdd_shared_table.specs.Seats.{map_of};
 ghost use Rattle.zdd_product.specs.Due.{IsMadeByWithout};
 ghost use Rattle.zdd_product.specs.Seats.{Gave, KnowsOne, WasFull};
 
-use crate::cache::{Entry, Operation, Question};
 use crate::halves::Halves;
 use crate::ops::Ops;
+use kept_answers::{Entry, Operation, Question};
 use zdd_shared_table::Full;
 use zdd_words::NodeRef;
 

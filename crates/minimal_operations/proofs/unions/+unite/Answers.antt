@@ -3,7 +3,7 @@ use Rattle.std.proofs.lemmas.Result.{err_from_is_err_and}
 use Rattle.minimal_families.specs.Least.{IsLeastUnion}
 use Rattle.family_memory.specs.Memory.{Held, Gave, family_in}
 use Rattle.family_memory.proofs.After.{Gave-there, RanOut-then}
-use Rattle.family_memory.specs.declared.answers.Operation.TheVariants.{Union}
+use Rattle.kept_answers.specs.declared.answers.Operation.TheVariants.{Union}
 use Rattle.minimal_operations.proofs.Ends.{union_ends}
 use Rattle.minimal_operations.proofs.Telling.{told_made}
 use Rattle.minimal_operations.proofs.Steps.{levels_of_both}

@@ -3,7 +3,7 @@ use Rattle.std.proofs.lemmas.Result.{err_from_is_err_and}
 use Rattle.family_operations.specs.Without.{IsWithout}
 use Rattle.family_memory.specs.Memory.{Held, Gave, family_in}
 use Rattle.family_memory.proofs.After.{Gave-there, Gave-then, RanOut-then, Went-nowhere}
-use Rattle.family_memory.specs.declared.answers.Operation.TheVariants.{Without}
+use Rattle.kept_answers.specs.declared.answers.Operation.TheVariants.{Without}
 use Rattle.minimal_operations.proofs.Telling.{told_made}
 use Rattle.minimal_operations.proofs.Steps.{levels_from}
 use Rattle.minimal_operations.proofs.WithoutSteps.{lo_fewer, some_fewer, went_some, hi_fewer, has_lo, lo_above}

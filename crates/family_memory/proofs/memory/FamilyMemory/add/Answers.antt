@@ -12,7 +12,7 @@ invariant_of-self c =
     record { words = c.self.inside.words.items; room = c.self.inside.room; refused = c.self.inside.refused } in
     let after : Held =
     record { words = c.self.inside.words.items; room = c.self.inside.room; refused = c.add_one.new.self } in
-    kept_refusing inside after (vec_capacity c.self.inside.words) c.self.inside.answers.entries.items
+    kept_refusing inside after (vec_capacity c.self.inside.words) c.self.inside.answers
     c.self.inside.extents.items (vec_capacity c.self.inside.extents)
     (ap (λ n. let h : Held = record { words = c.self.inside.words.items; room = c.self.inside.room; refused = n } in h)
     c.add_one.ensures) c.self.invariant
@@ -28,10 +28,10 @@ invariant_of-self-2 c =
     omega arith in
     kept_added inside c.args.self.now c.args.word c.self.view_is c.self.invariant.sound c.requires.node
     c.requires.antichain room
-    after (vec_capacity c.self.inside.words) (vec_capacity c.push.new.self) c.self.inside.answers.entries.items
-    c.follow-2.new.self.entries.items c.self.inside.extents.items c.push-2.new.self.items
+    after (vec_capacity c.self.inside.words) (vec_capacity c.push.new.self) c.self.inside.answers
+    c.self.inside.extents.items c.push-2.new.self.items
     (vec_capacity c.self.inside.extents) (vec_capacity c.push-2.new.self)
-    c.in-Ok.ensures.items refl refl c.self.invariant c.push.ensures.capacity c.follow-2.ensures
+    c.in-Ok.ensures.items refl refl c.self.invariant c.push.ensures.capacity
     (λ is. subst (AreExtents after) (sym c.in-Ok-push.ensures.items)
     (extent_added inside after c.args.word (length inside.words) c.extent_of-extent.result c.self.inside.extents.items
     c.self.invariant.sound is refl c.self.invariant.reach

@@ -16,7 +16,7 @@ invariant_of-self c =
     let both : AreExtents after c.truncate-2.new.self.items =
     subst (AreExtents after) (sym c.truncate-2.ensures.items)
     (first_two_extents inside after c.self.inside.extents.items c.self.invariant.sound c.self.invariant.reach words) in
-    kept_empty after (vec_capacity c.truncate.new.self) c.clear-2.new.self.entries.items c.truncate-2.new.self.items
+    kept_empty after (vec_capacity c.truncate.new.self) c.clear-2.new.self c.truncate-2.new.self.items
     (vec_capacity c.truncate-2.new.self) words c.self.invariant.sound.counted c.self.invariant.few
     (let h = c.self.invariant.taken in let k = c.truncate.ensures.capacity in omega arith)
     c.clear-2.ensures

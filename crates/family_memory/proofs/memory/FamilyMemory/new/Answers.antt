@@ -13,7 +13,7 @@ invariant_of-result c =
     let both : c.push-4.new.self.items ≡ c.of_none.result ∷ c.of_unit.result ∷ [] =
     c.in_ok-push-4.ensures.items ∙ ap (λ l. l ++ c.of_unit.result ∷ [])
     (c.in_ok-push-3.ensures.items ∙ ap (λ l. l ++ c.of_none.result ∷ []) c.in_ok-extents.ensures.items) in
-    kept_empty held (vec_capacity c.push-2.new.self) c.in_ok-new-2.field-0.entries.items c.push-4.new.self.items
+    kept_empty held (vec_capacity c.push-2.new.self) c.in_ok-new-2.field-0 c.push-4.new.self.items
     (vec_capacity c.push-4.new.self) words (let e = c.new.ensures in omega (arith, e)) c.requires
     (let e = c.in_ok-words.ensures.exact in let h = c.push.ensures.capacity in let k = c.push-2.ensures.capacity in
     omega arith)

@@ -1,6 +1,7 @@
 use Rattle.std.proofs.Common.{sym, subst}
 use Rattle.family_memory.specs.Memory.{Held}
 use Rattle.family_memory.specs.Answers.{IsTold}
+use Rattle.family_memory.proofs.Entries.{told_more}
 use Rattle.family_memory.proofs.memory.FamilyMemory.remember.Goals as goal
 
 pub invariant_of-self : goal.invariant_of-self
@@ -12,8 +13,9 @@ invariant_of-self c =
       few = c.self.invariant.few;
       taken = c.self.invariant.taken;
       told =
-          c.keep.ensures held (subst (λ (m : Held). IsTold m c.args.entry) (sym c.self.view_is) c.requires)
-          c.self.invariant.told;
+          told_more held c.args.entry c.self.inside.answers c.keep.new.self c.self.invariant.sound
+          (subst (λ (m : Held). IsTold m c.args.entry) (sym c.self.view_is) c.requires) c.self.invariant.told
+          c.keep.ensures;
       reach = c.self.invariant.reach;
       reach_taken = c.self.invariant.reach_taken;
     }

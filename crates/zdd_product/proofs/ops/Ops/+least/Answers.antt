@@ -5,7 +5,7 @@ use Rattle.family_operations.specs.Minimal.{IsMinimal}
 use Rattle.family_operations.proofs.References.{IsInnerFamily-reference}
 use Rattle.zdd_families.specs.Map.{Knows, family}
 use Rattle.zdd_shared_table.specs.Seats.{Seated, IsSoundSeat, map_of}
-use Rattle.zdd_product.specs.declared.cache.Operation.TheVariants.{Minimal}
+use Rattle.kept_answers.specs.declared.answers.Operation.TheVariants.{Minimal}
 use Rattle.zdd_product.specs.Due.{IsMadeByMinimal}
 use Rattle.zdd_product.specs.Seats.{Gave, WasFull}
 use Rattle.zdd_product.proofs.Entries.{told_made}

@@ -5,7 +5,7 @@ use Rattle.family_operations.specs.Without.{IsWithout}
 use Rattle.family_operations.proofs.References.{IsInnerFamily-reference}
 use Rattle.zdd_families.specs.Map.{family}
 use Rattle.zdd_shared_table.specs.Seats.{Seated, IsSoundSeat, map_of}
-use Rattle.zdd_product.specs.declared.cache.Operation.TheVariants.{Without}
+use Rattle.kept_answers.specs.declared.answers.Operation.TheVariants.{Without}
 use Rattle.zdd_product.specs.Due.{IsMadeByWithout}
 use Rattle.zdd_product.specs.Seats.{Gave, WasFull}
 use Rattle.zdd_product.proofs.Entries.{told_made}

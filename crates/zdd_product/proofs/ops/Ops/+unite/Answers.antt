@@ -4,7 +4,7 @@ use Rattle.family_operations.specs.Due.{GoesOn}
 use Rattle.family_operations.specs.Union.{IsUnion}
 use Rattle.zdd_families.specs.Map.{family}
 use Rattle.zdd_shared_table.specs.Seats.{Seated, IsSoundSeat, map_of}
-use Rattle.zdd_product.specs.declared.cache.Operation.TheVariants.{Union}
+use Rattle.kept_answers.specs.declared.answers.Operation.TheVariants.{Union}
 use Rattle.zdd_product.specs.Due.{IsMadeByUnion}
 use Rattle.zdd_product.specs.Seats.{Gave, WasFull}
 use Rattle.zdd_product.proofs.Entries.{told_made}

@@ -8,6 +8,6 @@ invariant_of-self c = record {
   own = c.join.ensures.store ∙ c.self.invariant.own;
   sound = c.join.ensures.sound;
   told =
-      all_told (map_of c.self.inside.seat) (map_of c.join.new.seat) c.self.inside.cache.entries.items
+      all_told (map_of c.self.inside.seat) (map_of c.join.new.seat) c.self.inside.answers
       c.self.invariant.sound.closed c.join.ensures.sound.closed c.join.ensures.keeps c.self.invariant.told;
 }

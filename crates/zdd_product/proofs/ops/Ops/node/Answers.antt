@@ -8,6 +8,6 @@ invariant_of-self c = record {
   own = c.node.ensures.store ∙ c.self.invariant.own;
   sound = c.node.ensures.sound;
   told =
-      all_told (map_of c.self.inside.seat) (map_of c.node.new.seat) c.self.inside.cache.entries.items
+      all_told (map_of c.self.inside.seat) (map_of c.node.new.seat) c.self.inside.answers
       c.self.invariant.sound.closed c.node.ensures.sound.closed c.node.ensures.keeps c.self.invariant.told;
 }

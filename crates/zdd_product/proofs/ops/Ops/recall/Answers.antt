@@ -7,7 +7,7 @@ use Rattle.zdd_product.proofs.ops.Ops.recall.Goals as goal
 
 pub returns-clause-answer : goal.returns-clause-answer
 returns-clause-answer c =
-    let entries = c.self.inside.cache.entries.items in
+    let entries = c.self.inside.answers in
     IfSome_then c.answer.result c.answer.ensures
     (λ answer has.
     subst (λ m. IsTold m (record { question = c.args.question.now; answer = answer })) (ap map_of c.self.view_is)

@@ -1,7 +1,7 @@
-use Rattle.std.proofs.Common.{All, sym, ap, subst}
-use Rattle.std.proofs.lemmas.List.Elements.{All-set}
+use Rattle.std.proofs.Common.{sym, ap, subst}
 use Rattle.zdd_shared_table.specs.Seats.{map_of}
 use Rattle.zdd_product.specs.Told.{IsTold}
+use Rattle.zdd_product.proofs.Entries.{told_more}
 use Rattle.zdd_product.proofs.ops.Ops.remember.Goals as goal
 
 pub invariant_of-self : goal.invariant_of-self
@@ -13,7 +13,5 @@ invariant_of-self c =
       own = c.self.invariant.own;
       sound = c.self.invariant.sound;
       told =
-          subst (All (IsTold known)) (sym c.keep.ensures.1)
-          (All-set (IsTold known) c.self.inside.cache.entries.items c.keep.ensures.0 c.args.entry told
-          c.self.invariant.told);
+          told_more known c.args.entry c.self.inside.answers c.keep.new.self told c.self.invariant.told c.keep.ensures;
     }

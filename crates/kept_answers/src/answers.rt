@@ -1,9 +1,9 @@
-//! The answers of operations, each in the one place that its question has.
-ghost use Rattle.std.specs.Prelude.{◌≡◌, All, Contains, IfOk, IfSome};
-ghost use Rattle.family_memory.specs.Answers.{IsTold};
-ghost use Rattle.family_memory.specs.Memory.{Held, IsSound};
+//! A table of answers that grows within its room.
+ghost use Rattle.std.specs.Prelude.{[], ◌∷◌, Contains, IfOk, IfSome};
+ghost use Rattle.kept_answers.specs.Kept.{AreKept};
 
 use std::alloc::Global;
+use std::marker::Model;
 use unit_sets::NoMemory;
 use zdd_words::NodeRef;
 
@@ -22,10 +22,12 @@ const FIRST_PLACES: usize = 1_024;
 pub enum Operation {
     /// The sets of the first family that include none of the second.
     Without,
-    /// The minimal sets of the union.
+    /// The union, or its minimal sets.
     Union,
-    /// The minimal sets of the product.
+    /// The product, or its minimal sets.
     Product,
+    /// The minimal sets of the first family. The second is `EMPTY`.
+    Minimal,
 }
 
 /// An operation and its operands.
@@ -53,13 +55,23 @@ const FIRST_ENTRY: Entry = Entry {
     answer: NodeRef::EMPTY,
 };
 
-/// A table of entries. A later answer takes the place of an earlier one.
+/// A table of entries. Contracts see it as the list of these.
 #[derive(Drop)]
-pub(crate) struct Answers {
-    pub entries: Vec<Entry>,
+pub struct Answers {
+    entries: Vec<Entry>,
+    told: usize,
 }
 
-// Where the answer to a question stands among so many places.
+impl Model for Answers {
+    ghost use Rattle.std.specs.Prelude.{List};
+    ghost use Rattle.kept_answers.specs.declared.answers.Entry.{Entry};
+
+    ghost Value = { List Entry };
+
+    ghost view = { λ answers. answers.entries.items };
+}
+
+// Where the answer to a question stands among so many places. The operation, which is highest, must reach it too.
 fn place_of(question: &Question, places: usize) -> usize {
     let operation = question.operation as u64;
     let first = u64::from(question.first.number());
@@ -70,19 +82,18 @@ fn place_of(question: &Question, places: usize) -> usize {
 }
 
 impl Answers {
-    /// A table with room for so many entries, a power of two, all true. It touches few of them at first.
-    pub(crate) fn new(alloc: Global, room: usize) -> Result<Answers, NoMemory>
-        ensures { IfOk result (λ answers. (held : Held) → IsSound held → All (IsTold held) answers.entries.items) }
+    /// A table with room for so many entries, a power of two. It touches few of them at first.
+    pub fn new(alloc: Global, room: usize) -> Result<Answers, NoMemory>
+        ensures { IfOk result (AreKept []) }
     {
         let mut entries = Vec::with_capacity(alloc, room)?;
         entries.resize(room.min(FIRST_PLACES), FIRST_ENTRY)?;
-        Ok(Answers { entries })
+        Ok(Answers { entries, told: 0 })
     }
 
     /// The answer to a question, if it is kept.
-    pub(crate) fn answer(&self, question: &Question) -> Option<NodeRef>
-        ensures { IfSome result (λ answer. Contains self.now.entries.items
-            (record { question = question.now; answer = answer })) }
+    pub fn answer(&self, question: &Question) -> Option<NodeRef>
+        ensures { IfSome result (λ answer. Contains self.now (record { question = question.now; answer = answer })) }
     {
         let place = place_of(question, self.entries.len());
         if place < self.entries.len() {
@@ -95,22 +106,22 @@ impl Answers {
     }
 
     /// Keeps the answer to a question.
-    pub(crate) fn keep(&mut self, entry: Entry)
-        ensures { (held : Held) → IsTold held entry → All (IsTold held) self.old.entries.items
-            → All (IsTold held) self.new.entries.items }
+    pub fn keep(&mut self, entry: Entry)
+        ensures { AreKept (entry ∷ self.old) self.new }
     {
+        self.grow();
+        self.told = self.told.saturating_add(1);
         let place = place_of(&entry.question, self.entries.len());
         if place < self.entries.len() {
             self.entries[place] = entry;
         }
     }
 
-    /// Makes the places four times as many within their room, once there are more nodes than places.
-    pub(crate) fn follow(&mut self, nodes: usize)
-        ensures { (held : Held) → IsSound held → All (IsTold held) self.old.entries.items
-            → All (IsTold held) self.new.entries.items }
+    // Makes the places four times as many within their room, once more answers were told than there are places.
+    fn grow(&mut self)
+        ensures { AreKept self.old self.new }
     {
-        if nodes > self.entries.len() {
+        if self.told > self.entries.len() {
             let more = self
                 .entries
                 .len()
@@ -122,10 +133,11 @@ impl Answers {
     }
 
     /// Forgets all answers.
-    pub(crate) fn clear(&mut self)
-        ensures { (held : Held) → IsSound held → All (IsTold held) self.new.entries.items }
+    pub fn clear(&mut self)
+        ensures { AreKept [] self.new }
     {
         let few = self.entries.capacity().min(FIRST_PLACES);
+        self.told = 0;
         self.entries.clear();
         let _ = self.entries.resize(few, FIRST_ENTRY);
     }
