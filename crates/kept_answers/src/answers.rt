@@ -92,6 +92,7 @@ impl Answers {
     }
 
     /// The answer to a question, if it is kept.
+    #[inline(always)]
     pub fn answer(&self, question: &Question) -> Option<NodeRef>
         ensures { IfSome result (λ answer. Contains self.now (record { question = question.now; answer = answer })) }
     {
@@ -105,11 +106,12 @@ impl Answers {
         None
     }
 
-    /// Keeps the answer to a question.
+    /// Keeps the answer to a question. Most steps of an operation end with it, so it is inlined.
+    #[inline(always)]
     pub fn keep(&mut self, entry: Entry)
         ensures { AreKept (entry ∷ self.old) self.new }
     {
-        self.grow();
+        self.make_room();
         self.told = self.told.saturating_add(1);
         let place = place_of(&entry.question, self.entries.len());
         if place < self.entries.len() {
@@ -117,19 +119,29 @@ impl Answers {
         }
     }
 
-    // Makes the places four times as many within their room, once more answers were told than there are places.
-    fn grow(&mut self)
+    // Grows once more answers were told than there are places.
+    #[inline(always)]
+    fn make_room(&mut self)
         ensures { AreKept self.old self.new }
     {
         if self.told > self.entries.len() {
-            let more = self
-                .entries
-                .len()
-                .saturating_mul(4)
-                .min(self.entries.capacity());
-            // Within the room this takes no memory. A shorter table keeps fewer answers.
-            let _ = self.entries.resize(more, FIRST_ENTRY);
+            self.grow();
         }
+    }
+
+    // Makes the places four times as many within their room.
+    #[cold]
+    #[inline(never)]
+    fn grow(&mut self)
+        ensures { AreKept self.old self.new }
+    {
+        let more = self
+            .entries
+            .len()
+            .saturating_mul(4)
+            .min(self.entries.capacity());
+        // Within the room this takes no memory. A shorter table keeps fewer answers.
+        let _ = self.entries.resize(more, FIRST_ENTRY);
     }
 
     /// Forgets all answers.

@@ -68,24 +68,6 @@ fn loses_nothing(memory: &FamilyMemory, a: NodeRef, b: NodeRef) -> bool
     memory.last(a) < memory.level(b) || memory.are_smaller(a, b)
 }
 
-// What is left where it is known without a look at the parts.
-#[inline]
-fn known_rest(memory: &FamilyMemory, a: NodeRef, b: NodeRef) -> Option<NodeRef>
-    requires has_a { Has memory.now a }
-    requires has_b { Has memory.now b }
-    ensures { MatchOption result (GoesOn a b) (λ r. Has memory.now r
-        × IsWithout (family_in memory.now a) (family_in memory.now b) (family_in memory.now r)) }
-{
-    memory.is_sound();
-    if let Some(end) = without_end(a, b) {
-        return Some(end);
-    }
-    if loses_nothing(memory, a, b) {
-        return Some(a);
-    }
-    None
-}
-
 // The part of b that matters: a set of a includes no set with a unit below all of a's.
 fn lowered(memory: &FamilyMemory, a: NodeRef, b: NodeRef) -> NodeRef
     requires has_a { Has memory.now a }
@@ -114,10 +96,13 @@ pub(crate) fn strip(memory: &mut FamilyMemory, a: NodeRef, b: NodeRef) -> Result
         memory.new) (λ _. RanOut memory.old memory.new) }
 {
     memory.is_sound();
-    if let Some(rest) = known_rest(memory, a, b) {
-        return Ok(rest);
+    if let Some(end) = without_end(a, b) {
+        return Ok(end);
     }
-    strip_lowered(memory, a, b)
+    if memory.level(b) < memory.level(a) {
+        return strip_lowered(memory, a, b);
+    }
+    strip_nodes(memory, a, b)
 }
 
 // The same of two nodes, by the part of b that matters.
@@ -125,27 +110,47 @@ pub(crate) fn strip(memory: &mut FamilyMemory, a: NodeRef, b: NodeRef) -> Result
 fn strip_lowered(memory: &mut FamilyMemory, a: NodeRef, b: NodeRef) -> Result<NodeRef, Spent>
     requires has_a { Has memory.old a }
     requires has_b { Has memory.old b }
-    requires inner { 2 ≤ a }
+    requires nodes { (2 ≤ a) × (2 ≤ b) }
     ensures { MatchResult result (Gave (IsWithout (family_in memory.old a) (family_in memory.old b)) memory.old
         memory.new) (λ _. RanOut memory.old memory.new) }
 {
     memory.is_sound();
+    if loses_nothing(memory, a, b) {
+        return Ok(a);
+    }
     let part = lowered(memory, a, b);
-    if let Some(rest) = known_rest(memory, a, part) {
+    if let Some(end) = without_end(a, part) {
+        return Ok(end);
+    }
+    strip_nodes(memory, a, part)
+}
+
+// The same of two nodes, where no unit of b is below all of a's.
+#[cycle(strip)]
+fn strip_nodes(memory: &mut FamilyMemory, a: NodeRef, b: NodeRef) -> Result<NodeRef, Spent>
+    requires has_a { Has memory.old a }
+    requires has_b { Has memory.old b }
+    requires nodes { (2 ≤ a) × (2 ≤ b) }
+    requires level { level_in (map_of memory.old) a ≤ level_in (map_of memory.old) b }
+    ensures { MatchResult result (Gave (IsWithout (family_in memory.old a) (family_in memory.old b)) memory.old
+        memory.new) (λ _. RanOut memory.old memory.new) }
+{
+    memory.is_sound();
+    if let Some(rest) = single_end(memory, a, b) {
         return Ok(rest);
     }
-    if let Some(rest) = single_end(memory, a, part) {
-        return Ok(rest);
+    if loses_nothing(memory, a, b) {
+        return Ok(a);
     }
     let question = Question {
         operation: Operation::Without,
         first: a,
-        second: part,
+        second: b,
     };
     if let Some(answer) = memory.recall(&question) {
         return Ok(answer);
     }
-    let left = strip_halves(memory, a, part)?;
+    let left = strip_halves(memory, a, b)?;
     memory.remember(Entry {
         question,
         answer: left,

@@ -2,8 +2,9 @@ use Rattle.std.proofs.Common.{ℕ, ◌<◌, List, subst, sym, arith}
 use Rattle.std.proofs.lemmas.Result.{err_from_is_err_and}
 use Rattle.family_operations.specs.Without.{IsWithout}
 use Rattle.family_memory.specs.Memory.{Held, Gave, family_in}
-use Rattle.family_memory.proofs.After.{Gave-there, Gave-then, RanOut-then, Went-nowhere}
+use Rattle.family_memory.proofs.After.{Gave-there, RanOut-then, Went-nowhere, ended}
 use Rattle.kept_answers.specs.declared.answers.Operation.TheVariants.{Without}
+use Rattle.minimal_operations.proofs.Ends.{without_ends}
 use Rattle.minimal_operations.proofs.Telling.{told_made}
 use Rattle.minimal_operations.proofs.Steps.{levels_from}
 use Rattle.minimal_operations.proofs.WithoutSteps.{lo_fewer, some_fewer, went_some, hi_fewer, has_lo, lo_above}
@@ -13,37 +14,45 @@ use Rattle.minimal_operations.proofs.withouts.+strip.Goals as goal
 pub strip-returns-in-Some : goal.strip-returns-in-Some
 strip-returns-in-Some t c =
     let held = c.args.memory.now in
-    Gave-there (IsWithout (family_in held c.args.a) (family_in held c.args.b)) held c.in-Some.rest c.is_sound.ensures
-    c.in-Some.ensures.0 c.in-Some.ensures.1
+    let fact =
+    without_ends held c.args.a c.args.b c.in-Some.end c.is_sound.ensures c.requires.has_a c.requires.has_b
+    c.in-Some.ensures in
+    Gave-there (IsWithout (family_in held c.args.a) (family_in held c.args.b)) held c.in-Some.end c.is_sound.ensures
+    fact.0 fact.1
 
 pub strip_lowered-returns-in-Some : goal.strip_lowered-returns-in-Some
 strip_lowered-returns-in-Some t c =
     let held = c.args.memory.now in
-    let rest = c.in-Some.rest in
-    Gave-there (IsWithout (family_in held c.args.a) (family_in held c.args.b)) held rest c.is_sound.ensures
-    c.in-Some.ensures.0 (c.lowered-part.ensures.same (family_in held rest) c.in-Some.ensures.1)
-
-pub strip_lowered-returns-in-Some-recall : goal.strip_lowered-returns-in-Some-recall
-strip_lowered-returns-in-Some-recall t c =
-    let held = c.args.memory.now in
-    let answer = c.in-Some-recall.answer in
-    Gave-there (IsWithout (family_in held c.args.a) (family_in held c.args.b)) held answer c.is_sound.ensures
-    c.in-Some-recall.ensures.answer (c.lowered-part.ensures.same (family_in held answer)
-    c.in-Some-recall.ensures.is)
-
-pub strip_lowered-remember-requires : goal.strip_lowered-remember-requires
-strip_lowered-remember-requires t c =
-    told_made Without c.args.memory.now c.strip_halves.new.memory c.args.a c.lowered-part.result c.in_ok-left.left
-    c.is_sound.ensures c.requires.has_a c.lowered-part.ensures.has c.in_ok-left.ensures
+    let fact =
+    without_ends held c.args.a c.lowered-part.result c.in-Some.end c.is_sound.ensures c.requires.has_a
+    c.lowered-part.ensures.has c.in-Some.ensures in
+    Gave-there (IsWithout (family_in held c.args.a) (family_in held c.args.b)) held c.in-Some.end c.is_sound.ensures
+    fact.0 (c.lowered-part.ensures.same (family_in held c.in-Some.end) fact.1)
 
 pub strip_lowered-returns : goal.strip_lowered-returns
 strip_lowered-returns t c =
     let held = c.args.memory.now in
+    ended held held c.strip_nodes.new.memory (Went-nowhere held c.is_sound.ensures)
+    (IsWithout (family_in held c.args.a) (family_in held c.lowered-part.result))
+    (IsWithout (family_in held c.args.a) (family_in held c.args.b)) c.strip_nodes.result
+    (λ left is. c.lowered-part.ensures.same left is) c.strip_nodes.ensures
+
+pub strip_nodes-returns-in-Some-recall : goal.strip_nodes-returns-in-Some-recall
+strip_nodes-returns-in-Some-recall t c =
+    let held = c.args.memory.now in
+    Gave-there (IsWithout (family_in held c.args.a) (family_in held c.args.b)) held c.in-Some-recall.answer
+    c.is_sound.ensures c.in-Some-recall.ensures.answer c.in-Some-recall.ensures.is
+
+pub strip_nodes-remember-requires : goal.strip_nodes-remember-requires
+strip_nodes-remember-requires t c =
+    told_made Without c.args.memory.now c.strip_halves.new.memory c.args.a c.args.b c.in_ok-left.left
+    c.is_sound.ensures c.requires.has_a c.requires.has_b c.in_ok-left.ensures
+
+pub strip_nodes-returns : goal.strip_nodes-returns
+strip_nodes-returns t c =
+    let held = c.args.memory.now in
     let Is : List (List ℕ) → Type 0 = IsWithout (family_in held c.args.a) (family_in held c.args.b) in
-    subst (λ (m : Held). Gave Is held m c.in_ok-left.left) (sym c.remember.ensures)
-    (Gave-then held held c.strip_halves.new.memory (Went-nowhere held c.is_sound.ensures)
-    (IsWithout (family_in held c.args.a) (family_in held c.lowered-part.result)) Is c.in_ok-left.left
-    (λ left is. c.lowered-part.ensures.same left is) c.in_ok-left.ensures)
+    subst (λ (m : Held). Gave Is held m c.in_ok-left.left) (sym c.remember.ensures) c.in_ok-left.ensures
 
 pub strip_halves-strip-requires : goal.strip_halves-strip-requires
 strip_halves-strip-requires t c =

@@ -3,10 +3,13 @@ use Rattle.minimal_operations.proofs.Steps.{levels_from}
 use Rattle.minimal_operations.proofs.withouts.+strip.Given as goal
 
 abbrev pub decreases-strip : goal.decreases-strip
-decreases-strip l = 3 * levels_from l.memory.now l.a + 2
+decreases-strip l = 4 * levels_from l.memory.now l.a + 3
 
 abbrev pub decreases-strip_lowered : goal.decreases-strip_lowered
-decreases-strip_lowered l = 3 * levels_from l.memory.now l.a + 1
+decreases-strip_lowered l = 4 * levels_from l.memory.now l.a + 2
+
+abbrev pub decreases-strip_nodes : goal.decreases-strip_nodes
+decreases-strip_nodes l = 4 * levels_from l.memory.now l.a + 1
 
 abbrev pub decreases-strip_halves : goal.decreases-strip_halves
-decreases-strip_halves l = 3 * levels_from l.memory.now l.a
+decreases-strip_halves l = 4 * levels_from l.memory.now l.a
