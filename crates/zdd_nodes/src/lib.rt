@@ -14,8 +14,6 @@ mod nodes;
 mod recipes;
 mod rooms;
 mod steps;
-#[cfg(test)]
-mod tests;
 
 pub use nodes::cut_family;
 pub use rooms::Rooms;

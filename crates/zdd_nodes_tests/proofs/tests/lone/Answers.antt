@@ -1,0 +1,22 @@
+use Rattle.std.proofs.Common.{[], ◌∷◌, sym, ◌∙◌, subst}
+use Rattle.std.proofs.lemmas.Result.{IfOk-weaker}
+use Rattle.zdd_families.specs.Family.{IsAbove, branch}
+use Rattle.zdd_families.specs.Map.{KnowsAs, family}
+use Rattle.zdd_families.proofs.MapLemmas.{family-empty, family-unit}
+use Rattle.zdd_shared_table.specs.Seats.{map_of}
+use Rattle.zdd_nodes_tests.proofs.tests.lone.Goals as goal
+
+pub node-requires-clause-lo_above : goal.node-requires-clause-lo_above
+node-requires-clause-lo_above c = subst (IsAbove c.args.level) (sym (family-empty (map_of c.args.ops.now))) tt
+
+pub node-requires-clause-hi_above : goal.node-requires-clause-hi_above
+node-requires-clause-hi_above c = subst (IsAbove c.args.level) (sym (family-unit (map_of c.args.ops.now))) (tt, tt)
+
+pub returns-clause-known : goal.returns-clause-known
+returns-clause-known c =
+    let known = map_of c.args.ops.now in
+    IfOk-weaker c.node.result
+    (λ r. KnowsAs (map_of c.node.new.self) r (branch c.args.level (family known 0) (family known 1)))
+    (λ r. KnowsAs (map_of c.node.new.self) r ((c.args.level ∷ []) ∷ []))
+    (λ r h. (h.0, h.1 ∙ (λ i. branch c.args.level (family-empty known i) (family-unit known i))))
+    c.node.ensures.family
