@@ -23,10 +23,9 @@ use Rattle.margin_policy.specs.Standing.{StandingView}
 use Rattle.outage_board.specs.declared.entry.Entry.{Entry}
 use Rattle.outage_board.specs.Requests.{requests_of}
 use Rattle.outage_board.specs.Histories.{standing_after, after_entry, docket_of}
-use Rattle.outage_board.specs.Boards.{BoardView, IsBoard, standing_of}
+use Rattle.outage_board.specs.Boards.{BoardView, standing_of}
 use Rattle.board_report.specs.BoardText.{IsDeckOf, left_line, left_lines}
 use Rattle.board_report.specs.LogText.{entry_line, entry_lines}
-use Rattle.board_report.specs.Logged.{IsLogged}
 use Rattle.text_pieces.proofs.Putting.{first_short}
 
 -- ---- the entries of a board
@@ -36,17 +35,6 @@ docket_long : (tree : FaultTree) (crews : List Crew) (crew : ℕ)
 docket_long tree [] crew = refl
 docket_long tree (first ∷ crews) zero = length-map first.docket _
 docket_long tree (first ∷ crews) (suc crew) = docket_long tree crews crew
-
-pub all_logged : (tree : FaultTree) (board : BoardView) → IsBoard board → IsDeckOf tree board.deck
-    → All (IsLogged board.deck.crews) board.history
-all_logged tree board kept deck = λ k d short. record {
-  crew = subst (λ n. (get_or board.history k d).crew.0 < n) kept.all (kept.whole.crews k d short);
-  place = subst (λ n. (get_or board.history k d).place < n)
-      (ap (λ dockets. length (docket_of dockets (get_or board.history k d).crew.0)) deck.dockets
-      ∙ docket_long tree board.deck.crews (get_or board.history k d).crew.0)
-      (kept.places k d short);
-  reply = kept.replies k d short;
-}
 
 units_after : (standing : StandingView) (history : List Entry)
     → (standing_after standing history).units ≡ standing.units

@@ -3,7 +3,7 @@ use Rattle.std.proofs.Common.{◌≡◌, ℕ, ◌+◌, ◌-◌, ◌≤◌, List,
 use Rattle.std.proofs.Common.{arith, append_assoc, append-nil, length-append}
 use Rattle.std.specs.Prelude.{Some}
 use Rattle.std.proofs.lemmas.Grind.{common_steps}
-use Rattle.std.proofs.lemmas.List.Elements.{All-pop, All-push}
+use Rattle.std.proofs.lemmas.List.Elements.{All-pop}
 use Rattle.fault_model.specs.Tree.{FaultTree, IsUnitOf}
 use Rattle.board_report.specs.Shown.{Spells, spaced, unit_text}
 
@@ -13,15 +13,6 @@ spaced_push tree [] unit = append-nil (unit_text tree unit)
 spaced_push tree (first ∷ units) unit =
     ap (λ l. unit_text tree first ++ l) (spaced_push tree units unit)
     ∙ sym (append_assoc (unit_text tree first) (spaced tree units) (unit_text tree unit))
-
--- one unit more
-pub spells_more : (tree : FaultTree) (units text piece : List ℕ) (unit : ℕ) → IsUnitOf tree unit
-    → piece ≡ unit_text tree unit → Spells tree units text → Spells tree (units ++ unit ∷ []) (text ++ piece)
-spells_more tree units text piece unit is same spells = record {
-  known = All-push (IsUnitOf tree) units unit spells.known is;
-  spelled = ap (λ t. t ++ piece) spells.spelled ∙ ap (λ p. spaced tree units ++ p) same
-      ∙ sym (spaced_push tree units unit);
-}
 
 front : {X : Type 0} (xs ys : List X) → take (length xs) (xs ++ ys) ≡ xs
 front xs ys = grind (arith, common_steps)

@@ -1,7 +1,7 @@
 -- Names that differ, and what a take says.
 use Rattle.std.proofs.Common.{◌≡◌, ℕ, ◌<◌, true, false, not, List, [], ◌∷◌, ◌++◌, length, drop, refl, sym, ap, subst}
 use Rattle.std.proofs.Common.{◌∙◌, arith, true≢false}
-use Rattle.std.specs.Prelude.{◌||◌, Some, None, if◌then◌else◌, codes}
+use Rattle.std.specs.Prelude.{◌||◌, Some, None, codes}
 use Rattle.std.proofs.lemmas.Bool.{and_from, and_parts, or_from, or_left, or_parts, or_right, not-true}
 use Rattle.std.proofs.lemmas.Bool.{false_from_ne_true}
 use Rattle.std.proofs.lemmas.List.Folds.{list_any-append}
@@ -9,9 +9,8 @@ use Rattle.std.proofs.lemmas.Grind.{common_steps}
 use lib.Pointwise.{bytes_decides}
 use Rattle.fault_model.specs.Names.{same_name, has_name, all_differ}
 use Rattle.crew_script.specs.Words.{Word, first_of}
-use Rattle.crew_script.specs.Lines.{take_line, is_taken_too, name_in, is_comment, says, line_of, request_line}
+use Rattle.crew_script.specs.Lines.{take_line, name_in, is_comment, says, line_of, request_line}
 use Rattle.crew_script.specs.declared.line.Line.{Line}
-use Rattle.crew_script.specs.declared.line.Line.TheVariants.{Bad}
 
 other_way : (name other : List ℕ) → same_name name other ≡ false → same_name other name ≡ false
 other_way name other apart =
@@ -49,13 +48,6 @@ differ_at (first ∷ names) name more differ =
     (sym (subst (λ n. has_name (names ++ name ∷ more) n ≡ true) ((bytes_decides name first).0 same) there)
     ∙ not-true (has_name (names ++ name ∷ more) first) alone)))
     (differ_at names name more rest)
-
--- a take's next word
-pub takes_on : (names : List (List ℕ)) (words : List Word) (word : Word) → first_of words ≡ Some word
-    → take_line names words ≡ (if is_taken_too names word then take_line (names ++ word.text ∷ []) (drop 1 words)
-    else Bad)
-takes_on names [] word first = absurd cc
-takes_on names (next ∷ words) word first = grind (arith)
 
 pub none_left : (words : List Word) → first_of words ≡ None → words ≡ []
 none_left [] none = refl

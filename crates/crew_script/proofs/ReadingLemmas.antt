@@ -1,7 +1,7 @@
 -- One line more.
 use Rattle.std.proofs.Common.{◌≡◌, ℕ, ◌+◌, ◌<◌, true, false, List, [], ◌∷◌, ◌++◌, length, sym, refl, ap, subst, ◌∙◌}
 use Rattle.std.proofs.Common.{arith, length-append, inl, inr}
-use Rattle.std.specs.Prelude.{Option, Some, None, if◌then◌else◌}
+use Rattle.std.specs.Prelude.{Some, None, if◌then◌else◌}
 use Rattle.std.specs.List.{All, list_any}
 use Rattle.std.proofs.lemmas.Bool.{cases_Bool}
 use Rattle.std.proofs.lemmas.List.Elements.{All-push, All-nil, All-cons, All-head, All-tail}
@@ -9,7 +9,7 @@ use Rattle.fault_model.specs.Names.{has_name, same_name, all_differ}
 use Rattle.fault_model.specs.Name.{is_name}
 use Rattle.crew_script.specs.Dockets.{names_of, request_count, HasMargin, HasMargins, IsDockets}
 use Rattle.crew_script.specs.Crews.{with_ask, crew_fault, request_fault}
-use Rattle.crew_script.specs.Reading.{joined, IsReading}
+use Rattle.crew_script.specs.Reading.{IsReading}
 use Rattle.crew_script.specs.declared.dockets.Ask.{Ask}
 use Rattle.crew_script.specs.declared.dockets.Crew.{Crew}
 use Rattle.crew_script.proofs.NameLemmas.{differ_push}
@@ -135,11 +135,6 @@ reading_request keys crews crew total ask old none margin = record {
   kept = dockets_request crews crew ask old.kept none margin;
   begun = λ none. absurd cc;
 }
-
-pub begun_first : (keys : List (List ℕ)) (crews : List Crew) (last : Option Crew) (total : ℕ)
-    → IsReading keys crews last total
-    → last ≡ None → joined crews last ≡ []
-begun_first keys crews last total old none = rw none (old.begun none)
 
 -- a key that is equal to a name
 pub key_added : (keys : List (List ℕ)) (key name : List ℕ) → key ≡ name

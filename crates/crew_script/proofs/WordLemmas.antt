@@ -106,10 +106,6 @@ pub closed_parts : (text bytes : List ℕ) → parts bytes ≡ true → words (C
 closed_parts text [] here = refl
 closed_parts text (byte ∷ bytes) here = rw here refl
 
-pub closed_broken : (text bytes : List ℕ) → parts bytes ≡ false → words (Closed text) bytes ≡ broken ∷ []
-closed_broken text [] here = absurd cc
-closed_broken text (byte ∷ bytes) here = rw here refl
-
 -- ---- where the first blank or quotation mark stands
 
 pub first_place : (test : ℕ → Bool) (bytes : List ℕ) (end : ℕ) → position test bytes ≡ Some end

@@ -3,12 +3,11 @@ use Rattle.std.proofs.Common.{◌≡◌, ℕ, ◌+◌, ◌<◌, List, [], ◌∷
 use Rattle.std.proofs.Common.{⊎_elim, Contains, length-append}
 use Rattle.std.specs.Prelude.{Option, Some, None, is_some, IsNone, IfSome, IfNone, MatchBool, ◌↔◌, slice_get}
 use Rattle.std.specs.List.{All}
-use Rattle.std.proofs.lemmas.List.{map-append, length-map}
+use Rattle.std.proofs.lemmas.List.{length-map}
 use Rattle.std.proofs.lemmas.List.Elements.{All-nil, All-head, All-tail, All-cons, Contains-push_cases}
 use Rattle.std.proofs.lemmas.List.Elements.{Contains-append_cases}
 use Rattle.std.proofs.lemmas.Option.{slice_get_cases}
 use Rattle.unit_sets.proofs.Sorted.{Contains-nil}
-use Rattle.unit_sets.specs.declared.request.CrewNo.{CrewNo}
 use Rattle.margin_policy.specs.declared.request.Request.{Request}
 use Rattle.outage_board.specs.declared.entry.Entry.{Entry}
 use Rattle.outage_board.specs.Histories.{entries_of, served, docket_of, IsWhole}
@@ -54,9 +53,6 @@ module _ (board : OpenBoard) (old new : Pass) (own : old.board ≡ board) where
 
 -- ---- passes that come back
 
-pub none_served : (passes : List Pass) → passes ≡ [] → AreServed passes
-none_served passes none = subst AreServed (sym none) (All-nil IsServed)
-
 pub same_length : (first second : List Pass) → crews_of first ≡ crews_of second → length first ≡ length second
 same_length first second same =
     sym (length-map first (λ (pass : Pass). pass.crew.0)) ∙ ap length same
@@ -67,21 +63,6 @@ last_all P [] pass all = (All-nil P, All-head P pass [] all)
 last_all P (first ∷ passes) pass all =
     let later = last_all P passes pass (All-tail P first (passes ++ pass ∷ []) all) in
     (All-cons P first passes (All-head P first (passes ++ pass ∷ []) all) later.0, later.1)
-
-pub popped_own : (board : OpenBoard) (passes left : List Pass) (pass : Pass) → passes ≡ left ++ pass ∷ []
-    → AreOf board passes → AreOf board left × (pass.board ≡ board)
-popped_own board passes left pass are of =
-    last_all (λ (p : Pass). p.board ≡ board) left pass (subst (AreOf board) are of)
-
-pub pushed_crews : (passes left others : List Pass) (pass back : Pass) → passes ≡ left ++ pass ∷ []
-    → crews_of others ≡ crews_of left → back.crew ≡ pass.crew → crews_of (others ++ back ∷ []) ≡ crews_of passes
-pushed_crews passes left others pass back are same crew =
-    let number = λ (p : Pass). p.crew.0 in
-    map-append number others (back ∷ [])
-    ∙ ap (λ l. l ++ back.crew.0 ∷ []) same
-    ∙ ap (λ (n : CrewNo). crews_of left ++ n.0 ∷ []) crew
-    ∙ sym (map-append number left (pass ∷ []))
-    ∙ ap crews_of (sym are)
 
 -- ---- the history
 

@@ -198,14 +198,6 @@ failing_from-next tree order (unit ∷ units) some =
 pub failing_from-start : (tree : FaultTree) (set : List ℕ) → failing_from tree [] set ≡ failing_orders tree set
 failing_from-start tree set = ap (filter (is_failing tree)) (map-id (permutations set))
 
--- no unit is left
-pub failing_from-end : (tree : FaultTree) (order left : List ℕ) → length left ≡ 0 → is_admissible tree order ≡ true
-    → failing_from tree order left ≡ (if is_some (step tree order tree.top) then order ∷ [] else [])
-failing_from-end tree order [] none admits =
-    ap (λ (o : List ℕ). if is_failing tree o then o ∷ [] else []) (append-nil order)
-    ∙ ap (λ b. if b && is_some (step tree order tree.top) then order ∷ [] else []) admits
-failing_from-end tree order (unit ∷ units) none admits = absurd (omega arith)
-
 -- ---- where the units so far cannot fail one after another
 
 none_of : {X Y : Type 0} (f : X → List Y) (xs : List X) (d : X) → ((i : ℕ) → i < length xs → f (get_or xs i d) ≡ [])

@@ -381,15 +381,6 @@ next-ordered before sets cuts i set short same is ordered =
     (sorted-front cut_cmp ((before ++ take i sets) ++ set ∷ []) (drop (i + 1) sets)
     (subst IsInCutOrder (next_front before sets i set short same) ordered))
 
-pub next-weight : (before sets cuts : List (List ℕ)) (i : ℕ) (set : List ℕ) → i < length sets
-    → set ≡ slice_index_or sets i [] → cuts ≡ before ++ take i sets
-    → weight (cuts ++ set ∷ []) ≤ weight (before ++ sets)
-next-weight before sets cuts i set short same is =
-    let a = ap weight (ap (λ q. q ++ set ∷ []) is) in
-    let b = ap weight (next_front before sets i set short same) in
-    let d = weight-append ((before ++ take i sets) ++ set ∷ []) (drop (i + 1) sets) in
-    omega (arith, a, b, d)
-
 pub set-at : (P : List ℕ → Type 0) (sets : List (List ℕ)) (i : ℕ) → i < length sets → AllByRecursion P sets
     → P (slice_index_or sets i [])
 set-at P [] i short all = absurd (omega arith)

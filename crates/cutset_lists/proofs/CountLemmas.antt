@@ -39,19 +39,6 @@ IsCounting-none lists nodes most lowest counts is =
 
 -- ---- one list more
 
-CountsList-none : (list : List (List ℕ)) (at : ℕ) (counts : List (List (List ℕ))) → length counts ≤ at
-    → CountsList list at counts counts
-CountsList-none list at counts high = record {
-  all = refl;
-  lower = λ _ _. refl;
-  reached = λ q above short. absurd (omega arith);
-  sets = λ _ _ old. old;
-}
-
-pub CountsList-begin : (list : List (List ℕ)) (counts : List (List (List ℕ))) (at : ℕ) → at ≡ length counts
-    → CountsList list at counts counts
-CountsList-begin list counts at is = CountsList-none list at counts (omega arith)
-
 module _ (list : List (List ℕ)) (old now new : List (List (List ℕ))) (at : ℕ) (above_none : 1 ≤ at)
     (short : at < length old) (before : CountsList list (at + 1) old now) (more : CountsMore list at now new) where
   at_place : count_at new at ≡ more.grown

@@ -16,9 +16,6 @@ use Rattle.cutset_lists.proofs.SetLemmas.{or-false, some_within-append}
 
 -- ---- fewer sets
 
-pub IsReducedFrom-itself : (sets : List (List ℕ)) → IsReducedFrom sets sets
-IsReducedFrom-itself sets = record { some_within = λ _. refl; sets = λ _ s. s }
-
 pub IsReducedFrom-minimal : (sets minimal : List (List ℕ)) → IsMinimalFrom sets minimal → IsReducedFrom sets minimal
 IsReducedFrom-minimal sets minimal is = record {
   some_within = is.some_within;
@@ -52,14 +49,6 @@ all-more reading nodes i node short is =
     ∙ list_all-append reading (take i nodes) (get_or nodes i 0 ∷ [])
     ∙ ap (λ b. list_all reading (take i nodes) && b) (and-true (reading (get_or nodes i 0)))
     ∙ ap (λ n. list_all reading (take i nodes) && reading n) (sym is)
-
-pub AddsSome-none : (lists : List (List (List ℕ))) (nodes : List ℕ) (sets : List (List ℕ))
-    → AddsSome lists (take 0 nodes) sets sets
-AddsSome-none lists nodes sets = record {
-  some_within = λ within. sym
-      (or-false (some_within sets within));
-  sets = λ _ _ old. old;
-}
 
 module _ (lists : List (List (List ℕ))) (nodes : List ℕ) (i node : ℕ) (short : i < length nodes)
     (is : node ≡ get_or nodes i 0) (has : HasList lists node) where
@@ -123,11 +112,6 @@ each-none lists nodes sets is = record {
   some_within = λ within. ap (λ s. some_within s within) is;
   sets = λ passes _. subst (AreSetsOf passes) (sym is) (empty_set_of passes);
 }
-
-pub each-all : (lists : List (List (List ℕ))) (nodes : List ℕ) (sets : List (List ℕ)) (i : ℕ) → length nodes ≤ i
-    → Follows lists (each_rule (take i nodes)) sets → Follows lists (each_rule nodes) sets
-each-all lists nodes sets i long follows =
-    subst (λ ns. Follows lists (each_rule ns) sets) (take_all i nodes long) follows
 
 -- ---- gates
 

@@ -1,18 +1,16 @@
 -- How two rising rows are merged into one.
-use Rattle.std.specs.Prelude.{◌≡◌, ◌⊎◌, ℕ, ◌+◌, ◌<◌, ◌≤◌, Bool, true, false, ◌&&◌, List, [], ◌∷◌, ◌++◌, length, drop}
+use Rattle.std.specs.Prelude.{◌≡◌, ℕ, ◌+◌, ◌<◌, Bool, true, false, ◌&&◌, List, [], ◌∷◌, ◌++◌, length, drop}
 use Rattle.std.specs.Prelude.{get_or}
 use Rattle.std.specs.List.{list_all, AllByRecursion}
 use Rattle.std.specs.List.Sorted.{IsStrictlySortedBy}
 use Rattle.std.specs.Ordering.{nat_cmp}
 use Rattle.std.specs.declared.cmp.Ordering.TheVariants.{Less}
-use Rattle.std.proofs.Common.{refl, sym, ◌∙◌, ap, subst, inl, inr, add-one, append_assoc, arith, drop-cons}
+use Rattle.std.proofs.Common.{refl, sym, ◌∙◌, ap, subst, add-one, append_assoc, arith, drop-cons}
 use Rattle.std.proofs.lemmas.Bool.Decides.{nat_tests}
 use Rattle.std.proofs.lemmas.List.Folds.{list_all-append}
 use Rattle.std.proofs.lemmas.Cmp.{nat_cmp_total}
-use Rattle.std.proofs.lemmas.List.{get_or_default, append-nil}
-use Rattle.std.proofs.Math.ListN.{drop_of_length-le}
+use Rattle.std.proofs.lemmas.List.{get_or_default}
 use Rattle.unit_sets.specs.UnitList.{IsRising}
-use Rattle.cutset_lists.specs.Sets.{IsUnion}
 
 -- what was merged so far, before the rests of both rows
 pub record IsMerging (left right : List ℕ) (i j : ℕ) (out : List ℕ) : Type 0 where
@@ -21,9 +19,6 @@ pub record IsMerging (left right : List ℕ) (i j : ℕ) (out : List ℕ) : Type
       ≡ (list_all within left && list_all within right)
   pub left_rises : IsRising left → IsRising right → IsRising (out ++ drop i left)
   pub right_rises : IsRising left → IsRising right → IsRising (out ++ drop j right)
-
-pub IsMerging-begin : (left right : List ℕ) → IsMerging left right 0 0 []
-IsMerging-begin left right = record { within = λ _. refl; left_rises = λ l _. l; right_rises = λ _ r. r }
 
 -- the row before its item at a place, and from there on
 at_place : (row : List ℕ) (i : ℕ) → i < length row → drop i row ≡ get_or row i 0 ∷ drop (i + 1) row
@@ -197,23 +192,3 @@ module _ (left right : List ℕ) (i j : ℕ) (out new : List ℕ) (x y : ℕ) (a
 and_all : (o a b : Bool) → ((o && a) && b) ≡ (o && (a && b))
 and_all true a b = refl
 and_all false a b = refl
-
--- the rests of both rows, of which one is empty, are the end
-pub IsMerging-end : (left right : List ℕ) (i j : ℕ) (out : List ℕ) → IsMerging left right i j out
-    → (length left ≤ i) ⊎ (length right ≤ j) → IsUnion left right ((out ++ drop i left) ++ drop j right)
-IsMerging-end left right i j out merging over = record {
-  within = λ within.
-      list_all-append within (out ++ drop i left) (drop j right)
-      ∙ ap (λ b. b && list_all within (drop j right)) (list_all-append within out (drop i left))
-      ∙ and_all (list_all within out) (list_all within (drop i left)) (list_all within (drop j right))
-      ∙ merging.within within;
-  rising = λ l r.
-      elim over [
-        | inl done ↦ let e : drop i left ≡ [] =
-            drop_of_length-le left done in subst (λ xs. IsRising ((out ++ xs) ++ drop j right)) (sym e)
-            (subst (λ xs. IsRising (xs ++ drop j right)) (sym (append-nil out)) (merging.right_rises l r))
-        | inr done ↦ let e : drop j right ≡ [] =
-            drop_of_length-le right done in subst (λ ys. IsRising ((out ++ drop i left) ++ ys)) (sym e)
-            (subst IsRising (sym (append-nil (out ++ drop i left))) (merging.left_rises l r))
-      ];
-}

@@ -1,22 +1,17 @@
 -- The list of a node of the tree.
-use Rattle.std.specs.Prelude.{◌≡◌, ℕ, ◌<◌, ◌≤◌, Bool, true, false, ◌&&◌, ◌||◌, nat_le, List, [], ◌∷◌, length, All}
+use Rattle.std.specs.Prelude.{◌≡◌, ℕ, ◌<◌, ◌≤◌, Bool, true, false, ◌&&◌, ◌||◌, nat_le, List, [], ◌∷◌}
 use Rattle.std.specs.List.{list_any}
 use Rattle.std.specs.List.Sorted.{IsStrictlySortedBy}
-use Rattle.std.proofs.Common.{refl, sym, ◌∙◌, ap, subst, arith}
+use Rattle.std.proofs.Common.{refl, sym, ◌∙◌, ap, subst}
 use Rattle.std.proofs.lemmas.Bool.{cond-true, cond-false, and_from, le-leb, lt-ltb, le-ltb}
-use Rattle.std.proofs.lemmas.List.Elements.{All-nil, All-cons, All-weaker}
+use Rattle.std.proofs.lemmas.List.Elements.{All-nil, All-cons}
 use Rattle.unit_sets.specs.UnitList.{IsRising, some_within}
 use Rattle.fault_model.specs.declared.node.GateKind.{GateKind}
-use Rattle.fault_model.specs.Tree.{FaultTree, IsNodeOf, is_above_units, unit_count, node_count, kind_of, inputs_of}
+use Rattle.fault_model.specs.Tree.{FaultTree, is_above_units, unit_count, kind_of, inputs_of}
 use Rattle.fault_model.specs.Trigger.{below, triggers_of}
 use Rattle.fault_model.specs.Reading.{gate_reads}
 use Rattle.cutset_lists.specs.Sets.{IsSetOf, AreSetsOf}
-use Rattle.cutset_lists.specs.Generation.{HasList, reading_of, Follows, AddsSome, gate_rule, is_unit_of, IsNodeList}
-
-pub nodes_have_lists : (tree : FaultTree) (lists : List (List (List ℕ))) (nodes : List ℕ)
-    → length lists ≡ node_count tree → All (IsNodeOf tree) nodes → All (HasList lists) nodes
-nodes_have_lists tree lists nodes all is =
-    All-weaker (IsNodeOf tree) (HasList lists) (λ n h. (h.0, let low = h.1 in omega arith)) nodes is
+use Rattle.cutset_lists.specs.Generation.{reading_of, Follows, AddsSome, gate_rule, is_unit_of, IsNodeList}
 
 module _ (tree : FaultTree) (lists : List (List (List ℕ))) (node : ℕ) (list : List ℕ) (list_is : list ≡ below tree node)
     (made : List (List ℕ)) where

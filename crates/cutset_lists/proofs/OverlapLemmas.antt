@@ -1,6 +1,6 @@
 -- The units of lists one after another, and whether two of the lists have one in common.
 use Rattle.std.specs.Prelude.{◌≡◌, ℕ, ◌+◌, ◌-◌, ◌<◌, ◌≤◌, Bool, true, false, ◌||◌, ◌==◌, List, [], ◌∷◌, ◌++◌, length}
-use Rattle.std.specs.Prelude.{take, get_or, slice_index_or, All, IsTrue}
+use Rattle.std.specs.Prelude.{take, get_or, All, IsTrue}
 use Rattle.std.specs.List.{list_any}
 use Rattle.std.proofs.Common.{refl, sym, ◌∙◌, ap, subst, arith}
 use Rattle.std.proofs.lemmas.List.{get_or_default, take_more, take_all, get_or-take, length-take}
@@ -42,17 +42,6 @@ set_more old set seen new unit i d short is before with_it other =
 joined : (old front row met seen : Bool) → seen ≡ (met || row) → met ≡ (old || front) → seen ≡ (old || (front || row))
 joined true front row met seen a b = a ∙ ap (λ m. m || row) b
 joined false front row met seen a b = a ∙ ap (λ m. m || row) b
-
-pub list_more : (old seen new row : List ℕ) (list : List (List ℕ)) (i : ℕ) → i < length list
-    → row ≡ slice_index_or list i []
-    → ((unit : ℕ) → among seen unit ≡ (among old unit || has_unit (take i list) unit))
-    → ((unit : ℕ) → among new unit ≡ (among seen unit || among row unit))
-    → (unit : ℕ) → among new unit ≡ (among old unit || has_unit (take (i + 1) list) unit)
-list_more old seen new row list i short is before more unit =
-    joined (among old unit) (has_unit (take i list) unit) (among row unit) (among seen unit) (among new unit)
-    (more unit) (before unit)
-    ∙ ap (λ (r : List ℕ). among old unit || (has_unit (take i list) unit || among r unit)) is
-    ∙ ap (λ b. among old unit || b) (sym (list_any_more (λ set. among set unit) list i [] short))
 
 -- ---- units in common
 

@@ -1,13 +1,13 @@
 -- Until when lists are needed, and that those that are needed are there.
-use Rattle.std.specs.Prelude.{◌≡◌, ◌⊎◌, ℕ, ◌+◌, ◌-◌, ◌<◌, ◌≤◌, Bool, List, [], length, take, replicate, All, Contains}
+use Rattle.std.specs.Prelude.{◌≡◌, ◌⊎◌, ℕ, ◌+◌, ◌-◌, ◌<◌, ◌≤◌, Bool, List, [], length, take, All, Contains}
 use Rattle.std.specs.Prelude.{get_or}
 use Rattle.std.proofs.Common.{refl, sym, ◌∙◌, ap, subst, inl, inr, arith, set}
 use Rattle.std.proofs.lemmas.Bool.{cases_lt, cases_eq}
-use Rattle.std.proofs.lemmas.List.{take_more, take_all, get_or-set_other, get_or-set_same, length-replicate, length-set}
+use Rattle.std.proofs.lemmas.List.{take_more, take_all, get_or-set_other, get_or-set_same, length-set}
 use Rattle.std.proofs.lemmas.List.{get_or_default}
-use Rattle.std.proofs.lemmas.List.Elements.{All-nil, All-get_or, All-more, All-weaker, All-contains, All-replicate}
+use Rattle.std.proofs.lemmas.List.Elements.{All-nil, All-get_or, All-more, All-weaker, All-contains}
 use Rattle.std.proofs.lemmas.List.Elements.{All-set, All-take, Contains-push_cases}
-use Rattle.fault_model.specs.Tree.{FaultTree, IsNodeOf, node_count}
+use Rattle.fault_model.specs.Tree.{FaultTree, IsNodeOf}
 use Rattle.fault_model.specs.Trigger.{below}
 use Rattle.fault_model.specs.WellFormed.{IsTree}
 use Rattle.fault_model.specs.TreeTables.{IsFromBelow}
@@ -19,10 +19,6 @@ use Rattle.cutset_lists.specs.Plan.{until_of, HasEnd, Keeps, IsPlanFrom, IsPlan,
 use Rattle.unit_sets.specs.UnitList.{some_within}
 
 -- ---- ends that rise
-
-pub Keeps-none : (nodes : List ℕ) (end : ℕ) (until : List ℕ) → Keeps (take 0 nodes) end until until
-Keeps-none nodes end until =
-    record { all = refl; reached = All-nil _; rises = λ n. omega arith; from_end = λ _ _. refl }
 
 -- one end is at least a place, and the others stay
 pub record Raises (node end : ℕ) (old new : List ℕ) : Type 0 where
@@ -76,22 +72,7 @@ Keeps-more nodes i node end old now new short is keeps raises = record {
       stays ∙ keeps.from_end n (omega arith);
 }
 
-pub Keeps-all : (nodes : List ℕ) (i end : ℕ) (old new : List ℕ) → length nodes ≤ i → Keeps (take i nodes) end old new
-    → Keeps nodes end old new
-Keeps-all nodes i end old new long keeps = subst (λ ns. Keeps ns end old new) (take_all i nodes long) keeps
-
 -- ---- the plan
-
-pub IsPlanFrom-begin : (tree : FaultTree) (order until : List ℕ) → IsNodeOf tree tree.top
-    → length until ≡ node_count tree → IsPlanFrom tree order (set until (tree.top - 1) (length order + 1))
-    (length order)
-IsPlanFrom-begin tree order until is_node all = record {
-  all = length-set until (tree.top - 1) (length order + 1) ∙ all;
-  top =
-      let e = get_or-set_same until (tree.top - 1) (length order + 1) 0
-      (let p = is_node.0 in let q = is_node.1 in omega arith) in omega arith;
-  served = λ place from short. absurd (omega arith);
-}
 
 module _ (tree : FaultTree) (order until : List ℕ) (place above node : ℕ) (above_is : above ≡ place + 1)
     (short : place < length order) (is : node ≡ get_or order place 0) (plan : IsPlanFrom tree order until above) where
@@ -133,9 +114,6 @@ module _ (tree : FaultTree) (order until : List ℕ) (place above node : ℕ) (a
 
 -- ---- lists that are given back
 
-pub Releases-none : (until : List ℕ) (end : ℕ) (lists : List (List (List ℕ))) → Releases until end lists lists
-Releases-none until end lists = record { all = refl; others = λ _ _. refl; sets = λ _ s. s }
-
 pub Releases-more : (until : List ℕ) (end node : ℕ) (old now : List (List (List ℕ))) → 1 ≤ node
     → until_of until node ≤ end → Releases until end old now → Releases until end old (set now (node - 1) [])
 Releases-more until end node old now some over releases = record {
@@ -150,14 +128,6 @@ Releases-more until end node old now some over releases = record {
 }
 
 -- ---- the lists on the way
-
-pub IsBuiltTo-none : (tree : FaultTree) (order until : List ℕ) (nodes : ℕ) (lists : List (List (List ℕ)))
-    → nodes ≡ node_count tree → lists ≡ replicate nodes [] → IsBuiltTo tree order until 0 lists
-IsBuiltTo-none tree order until nodes lists all is = subst (IsBuiltTo tree order until 0) (sym is) (record {
-  all = length-replicate nodes [] ∙ all;
-  built = λ n (k, here, same) needed within. absurd (omega arith);
-  sets = All-replicate (AreSetsOf (is_unit_of tree)) nodes [] (All-nil (IsSetOf (is_unit_of tree)));
-})
 
 module _ (tree : FaultTree) (kept : IsTree tree) (order until : List ℕ) (from_below : IsFromBelow tree order)
     (plan : IsPlan tree order until) (k node : ℕ) (short : k < length order) (is : node ≡ get_or order k 0)

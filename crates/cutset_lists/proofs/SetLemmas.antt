@@ -18,14 +18,6 @@ pub and-false : (a : Bool) → (a && false) ≡ false
 and-false true = refl
 and-false false = refl
 
-pub or-assoc : (a b c : Bool) → ((a || b) || c) ≡ (a || (b || c))
-or-assoc true b c = refl
-or-assoc false b c = refl
-
-pub and-over_or : (a b c : Bool) → (a && (b || c)) ≡ ((a && b) || (a && c))
-and-over_or true b c = refl
-and-over_or false b c = refl
-
 pub some_within-append : (sets more : List (List ℕ)) (within : ℕ → Bool)
     → some_within (sets ++ more) within ≡ (some_within sets within || some_within more within)
 some_within-append sets more within = list_any-append (list_all within) sets more
@@ -50,14 +42,6 @@ IsUnion-set passes left right union is l r = record {
   pass = let e = is.within passes in let p = l.pass in let q = r.pass in cc;
 }
 
--- the unions with no set of a list
-pub AddsWithin-none : (set : List ℕ) (list sets : List (List ℕ)) → AddsWithin set (take 0 list) sets sets
-AddsWithin-none set list sets = record {
-  some_within =
-      λ within. sym (ap (λ b. some_within sets within || b) (and-false (list_all within set))
-      ∙ or-false (some_within sets within));
-}
-
 adds_step : (o s t h n m u : Bool) → n ≡ (o || (s && t)) → m ≡ (n || u) → u ≡ (s && h) → m ≡ (o || (s && (t || h)))
 adds_step true s t h n m u e f g = cc
 adds_step false true t h n m u e f g = cc
@@ -76,9 +60,6 @@ AddsWithin-more set list old new union i short adds is = record {
       ∙ ap (λ b. some_within old within || (list_all within set && b)) (sym (some_within-more list i within short));
 }
 
-pub AddsSets-none : (set : List ℕ) (list sets : List (List ℕ)) → AddsSets set list sets sets
-AddsSets-none set list sets = record { sets = λ passes _ _ old. old }
-
 pub AddsSets-more : (set : List ℕ) (list old new : List (List ℕ)) (union : List ℕ) (i : ℕ) → i < length list
     → AddsSets set list old new → IsUnion set (get_or list i []) union → AddsSets set list old (new ++ union ∷ [])
 AddsSets-more set list old new union i short adds is = record {
@@ -88,9 +69,6 @@ AddsSets-more set list old new union i short adds is = record {
 }
 
 -- ---- products
-
-pub AddsBoth-none : (left right sets : List (List ℕ)) → AddsBoth (take 0 left) right sets sets
-AddsBoth-none left right sets = record { some_within = λ within. sym (or-false (some_within sets within)) }
 
 product_step : (o l r s n m : Bool) → n ≡ (o || (l && r)) → m ≡ (n || (s && r)) → m ≡ (o || ((l || s) && r))
 product_step true l r s n m e f = cc
@@ -110,9 +88,6 @@ AddsBoth-more left right old sets new i short both adds = record {
       ∙ ap (λ b. some_within old within || (b && some_within right within))
       (sym (some_within-more left i within short));
 }
-
-pub AddsSetsOf-none : (left right sets : List (List ℕ)) → AddsSetsOf left right sets sets
-AddsSetsOf-none left right sets = record { sets = λ passes _ _ old. old }
 
 AddsSetsOf-more : (left right old sets new : List (List ℕ)) (i : ℕ) → i < length left → AddsSetsOf left right old sets
     → AddsSets (get_or left i []) right sets new → AddsSetsOf left right old new

@@ -1,17 +1,16 @@
 -- A list in two parts, of which the first stands for itself in a product.
-use Rattle.std.specs.Prelude.{◌≡◌, ℕ, ◌+◌, ◌<◌, ◌≤◌, Bool, true, false, ◌&&◌, ◌||◌, not, ◌==◌, nat_lt, if◌then◌else◌}
+use Rattle.std.specs.Prelude.{◌≡◌, ℕ, ◌+◌, ◌<◌, ◌≤◌, Bool, true, false, ◌&&◌, ◌||◌, not, nat_lt, if◌then◌else◌}
 use Rattle.std.specs.Prelude.{List, [], ◌∷◌, ◌++◌, length, take, All, Some, get_or}
 use Rattle.std.specs.List.{list_any, list_all}
-use Rattle.std.proofs.Common.{refl, sym, ◌∙◌, ap, subst, inl, inr, arith}
-use Rattle.std.proofs.lemmas.Bool.{and_parts, cases_lt}
-use Rattle.std.proofs.lemmas.Bool.Decides.{nat_tests}
-use Rattle.std.proofs.lemmas.List.{take_more, take_all, get_or-take, length-take}
+use Rattle.std.proofs.Common.{refl, sym, ◌∙◌, ap, subst, arith}
+use Rattle.std.proofs.lemmas.Bool.{and_parts}
+use Rattle.std.proofs.lemmas.List.{take_more, get_or-take, length-take}
 use Rattle.std.proofs.lemmas.List.Folds.{Any-from_list_any, list_any-from_Any}
-use Rattle.std.proofs.lemmas.List.Elements.{All-push, All-pop, All-nil, All-append, All-contains}
+use Rattle.std.proofs.lemmas.List.Elements.{All-push, All-pop, All-append, All-contains}
 use Rattle.unit_sets.specs.UnitList.{is_within, some_within}
 use Rattle.cutset_lists.specs.Sets.{IsSetOf, AreSetsOf, AddsBoth, AddsSetsOf, is_short_within, Includes}
 use Rattle.cutset_lists.specs.Sets.{IsSplit}
-use Rattle.cutset_lists.specs.Waiting.{AreFilled, set_at}
+use Rattle.cutset_lists.specs.Waiting.{set_at}
 use Rattle.cutset_lists.proofs.SetLemmas.{some_within-append, some_within-push, some_within-more}
 use Rattle.cutset_lists.proofs.MinimalLemmas.{all_within}
 use Rattle.cutset_lists.proofs.WaitingLemmas.{some_holds}
@@ -45,33 +44,6 @@ hit_if_included within other including all hit =
 
 abbrev pub FilledTo : List (List ℕ) → ℕ → Type 0
 FilledTo sets i = (place : ℕ) → place < i → 1 ≤ length (set_at sets place)
-
-pub FilledTo-more : (sets : List (List ℕ)) (row : List ℕ) (i : ℕ) → row ≡ get_or sets i [] → (length row == 0) ≡ false
-    → FilledTo sets i → FilledTo sets (i + 1)
-FilledTo-more sets row i is some before place inside =
-    elim (cases_lt place i) [
-      | inl lower ↦ before place lower
-      | inr last ↦
-          let here : 1 ≤ length row = grind (arith, nat_tests) in
-          let at : i ≡ place = omega arith in
-          subst (λ (p : ℕ). 1 ≤ length (set_at sets p)) at (subst (λ (s : List ℕ). 1 ≤ length s) is here)
-    ]
-
-pub AreFilled-all : (sets : List (List ℕ)) (i : ℕ) → length sets ≤ i → FilledTo sets i → AreFilled sets
-AreFilled-all sets i long before place inside = before place (omega arith)
-
-pub IsSplit-none : (list other including rest : List (List ℕ)) → including ≡ [] → rest ≡ []
-    → IsSplit (take 0 list) other including rest
-IsSplit-none list other including rest none none' = record {
-  some_within = λ within. let e = ap (λ s. some_within s within) none in let f = ap
-      (λ s. some_within s within) none' in cc;
-  included = subst (All (Includes other)) (sym none) (All-nil (Includes other));
-  sets =
-      λ passes _. (
-        subst (AreSetsOf passes) (sym none) (All-nil (IsSetOf passes)),
-        subst (AreSetsOf passes) (sym none') (All-nil (IsSetOf passes)),
-      );
-}
 
 to_first : (l i r s n m : Bool) → l ≡ (i || r) → n ≡ (l || s) → m ≡ (i || s) → n ≡ (m || r)
 to_first l true r s n m e f g = cc
@@ -138,11 +110,6 @@ module _ (list other including rest new new' : List (List ℕ)) (set : List ℕ)
               (All-push (IsSetOf passes) rest set parts.1 (set_of passes all)),
         );
   }
-
-pub IsSplit-all : (list other including rest : List (List ℕ)) (i : ℕ) → length list ≤ i
-    → IsSplit (take i list) other including rest → IsSplit list other including rest
-IsSplit-all list other including rest i long before =
-    subst (λ l. IsSplit l other including rest) (take_all i list long) before
 
 -- ---- the product
 

@@ -9,9 +9,6 @@ pub map_none : {A B : Type 0} (f : A → B) (xs : List A) → map f xs ≡ [] �
 map_none f [] none = refl
 map_none f (x ∷ xs) none = absurd (cc)
 
-pub none_map : {A B : Type 0} (f : A → B) (xs : List A) → xs ≡ [] → map f xs ≡ []
-none_map f xs none = ap (map f) none
-
 pub map_through : {A B C : Type 0} (f : B → C) (h : A → B) (g : A → C) → ((x : A) → f (h x) ≡ g x) → (xs : List A)
     → map f (map h xs) ≡ map g xs
 map_through f h g same [] = refl

@@ -1,7 +1,7 @@
 -- What follows from the definitions of `specs/Copies`.
 use Rattle.std.specs.Prelude.{ℕ, List, []}
 use Rattle.std.proofs.Common.{sym, ◌∙◌}
-use Rattle.std.proofs.lemmas.List.Elements.{All-nil, All-weaker}
+use Rattle.std.proofs.lemmas.List.Elements.{All-weaker}
 use Rattle.zdd_families.specs.Map.{IsClosed, Grown}
 use Rattle.zdd_families.proofs.MapLemmas.{Knows-grown}
 use Rattle.zdd_families.proofs.Canonical.{family-grown}
@@ -9,10 +9,6 @@ use Rattle.family_memory.specs.Memory.{Held, IsSound, Went}
 use Rattle.family_memory.proofs.After.{still, still_has}
 use Rattle.family_copies.specs.declared.copies.Pair.{Pair}
 use Rattle.family_copies.specs.Copies.{AreCopies, IsCopy}
-
--- no pairs are copies over any memory and any map
-pub copies-none : (held : Held) (known : ℕ → ℕ) → AreCopies held known []
-copies-none held known = All-nil (IsCopy held known)
 
 -- ---- copies stay copies
 

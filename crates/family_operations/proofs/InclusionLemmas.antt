@@ -48,9 +48,6 @@ test-from_part (first ∷ others) set part has within =
           (test-from_part others set part later within)
     ]
 
-pub test-from_Includes : (family : List (List ℕ)) (set : List ℕ) → Includes family set → includes_one family set ≡ true
-test-from_Includes family set found = test-from_part family set found.part found.has found.within
-
 -- ---- inclusion of sets
 
 pub within_itself : (set : List ℕ) → is_within set set ≡ true

@@ -1,12 +1,10 @@
 -- The families of known references, as the operations cut them.
-use Rattle.std.specs.Prelude.{◌≡◌, ◌≢◌, ℕ, ◌<◌, ◌≤◌, []}
+use Rattle.std.specs.Prelude.{◌≡◌, ◌≢◌, ℕ, ◌≤◌, []}
 use Rattle.std.proofs.Common.{sym, ◌∙◌, inl, arith}
 use Rattle.zdd_words.specs.Word.{level_of, lo_of, hi_of}
-use Rattle.zdd_families.specs.Map.{Knows, IsClosed, IsUnique, level_in, family}
+use Rattle.zdd_families.specs.Map.{Knows, IsClosed, IsUnique, family}
 use Rattle.zdd_families.proofs.MapLemmas.{family-unit, family-node}
-use Rattle.zdd_families.proofs.Canonical.{lo_units, hi_units, hi_filled, family-filled, family-same, family-above}
-use Rattle.family_operations.specs.Cuts.{Cuts}
-use Rattle.family_operations.proofs.CutsLemmas.{cut_above}
+use Rattle.zdd_families.proofs.Canonical.{lo_units, hi_units, hi_filled, family-filled, family-same}
 use Rattle.family_operations.specs.Due.{Splits, IsInnerFamily}
 
 -- a known node splits its family at its level into those of lo and hi
@@ -20,11 +18,6 @@ Splits-node known r closed has = record {
   };
   some_with = hi_filled known (known r) closed (closed r has).1;
 }
-
--- a known reference of a greater level is cut into itself and no sets
-pub Cuts-higher : (known : ℕ → ℕ) (x r : ℕ) → IsClosed known → Knows known r → x < level_in known r
-    → Cuts x (family known r) (family known r) []
-Cuts-higher known x r closed knows above = cut_above x (family known r) (family-above known x r closed knows above)
 
 -- a known reference but EMPTY and UNIT has an inner family, where different references have different words
 pub IsInnerFamily-reference : (known : ℕ → ℕ) (r : ℕ) → IsClosed known → IsUnique known → Knows known r → 2 ≤ r

@@ -189,9 +189,6 @@ cut_filled low family is filled above =
       hi_is = parts.divides.hi_is;
     }
 
-with_empty : (x : ℕ) (lo hi : List (List ℕ)) → AreFilled lo → branch x ([] ∷ lo) hi ≡ [] ∷ branch x lo hi
-with_empty x lo hi filled = ap (λ q. [] ∷ q) (sym (branch_filled x lo hi filled))
-
 cut_empty : (low : ℕ) (others : List (List ℕ)) → IsFamily ([] ∷ others) → IsAbove low others
     → CutAt (suc low) ([] ∷ others)
 cut_empty low others is above =

@@ -1,10 +1,10 @@
 -- A tree is made of parts that keep the rules for some ranks: its tables and its own ranks keep them too.
 use Rattle.std.proofs.Common.{◌≡◌, ℕ, ◌-◌, List, [], ◌++◌, length, drop, get_or}
-use Rattle.std.proofs.Common.{All, sym, ◌∙◌, ap, inl, inr, arith, length-append}
+use Rattle.std.proofs.Common.{sym, ◌∙◌, ap, inl, inr, arith, length-append}
 use Rattle.std.specs.Prelude.{zip}
 use Rattle.std.proofs.lemmas.Bool.{cases_lt, cond-true, cond-false, lt-ltb, le-ltb}
 use Rattle.std.proofs.lemmas.List.{get_or_append_left, get_or-append_right}
-use Rattle.std.proofs.lemmas.List.Elements.{All-nil, All-weaker}
+use Rattle.std.proofs.lemmas.List.Elements.{All-weaker}
 use Rattle.fault_model.specs.declared.node.GateKind.{GateKind}
 use Rattle.fault_model.specs.declared.node.GateKind.TheVariants.{And, Or, Votes, Pand, Por, Seq, Fdep, Csp, Wsp, Hsp}
 use Rattle.fault_model.specs.declared.parts.TreeParts.{TreeParts}
@@ -13,7 +13,7 @@ use lib.Seq.{drop-append_seam}
 use Rattle.fault_model.specs.declared.trigger.TriggerTable.{TriggerTable}
 use Rattle.fault_model.specs.Tree.{FaultTree, ranked, unit_count, node_count, gates, inputs_of, is_above_units}
 use Rattle.fault_model.specs.Tree.{IsNodeOf}
-use Rattle.fault_model.specs.Trigger.{below, dependents_in, triggers_of}
+use Rattle.fault_model.specs.Trigger.{below, triggers_of}
 use Rattle.fault_model.specs.Rank.{IsRanked}
 use Rattle.fault_model.specs.WellFormed.{IsTree, IsSoundGate, IsSoundKind}
 use Rattle.fault_model.specs.TriggerTable.{IsUnitBelow, IsTableOf}
@@ -21,25 +21,6 @@ use Rattle.fault_model.specs.Ranking.{AreRanks}
 use Rattle.fault_model.specs.TreeTables.{HoldsLists, HoldsTables, IsFromBelow, below_in}
 
 -- ---- the dependents of every gate are units
-
-dependents_sound : (tree : FaultTree) (gate : GateKind × List ℕ) → IsSoundGate tree gate
-    → All (IsUnitBelow (unit_count tree)) (dependents_in gate)
-dependents_sound tree (Fdep, inputs) sound = sound.kind.units
-dependents_sound tree (And, inputs) sound = All-nil _
-dependents_sound tree (Or, inputs) sound = All-nil _
-dependents_sound tree (Votes least of, inputs) sound = All-nil _
-dependents_sound tree (Pand, inputs) sound = All-nil _
-dependents_sound tree (Por, inputs) sound = All-nil _
-dependents_sound tree (Seq, inputs) sound = All-nil _
-dependents_sound tree (Csp, inputs) sound = All-nil _
-dependents_sound tree (Wsp, inputs) sound = All-nil _
-dependents_sound tree (Hsp, inputs) sound = All-nil _
-
-pub all_dependents : (tree : FaultTree) → IsTree tree
-    → All (λ gate. All (IsUnitBelow (unit_count tree)) (dependents_in gate)) (zip tree.kinds tree.inputs)
-all_dependents tree kept =
-    All-weaker (IsSoundGate tree) (λ gate. All (IsUnitBelow (unit_count tree)) (dependents_in gate))
-    (dependents_sound tree) (gates tree) kept.gates_sound
 
 -- ---- the lists of what each node reads
 

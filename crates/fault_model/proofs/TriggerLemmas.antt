@@ -11,7 +11,7 @@ use Rattle.std.proofs.lemmas.Slice.Zip.{length-zip, get_or-zip}
 use Rattle.std.proofs.lemmas.List.Folds.{list_any-append}
 use Rattle.unit_sets.specs.UnitList.{among}
 use Rattle.fault_model.specs.declared.node.GateKind.{GateKind}
-use Rattle.fault_model.specs.Trigger.{dependents_in, trigger_among, trigger_by}
+use Rattle.fault_model.specs.Trigger.{dependents_in, trigger_by}
 use Rattle.fault_model.specs.TriggerTable.{IsUnitBelow, IsTableOf, AddsTriggers}
 use Rattle.fault_model.specs.declared.trigger.TriggerTable.{TriggerTable}
 
@@ -142,19 +142,6 @@ module _ (units mark trigger : ℕ) (old_lists : List (List ℕ)) (old_marks : L
         same other =
             grown (among done other) (unit == other) true
             (λ e. subst (λ n. among done n ≡ true) (eqb-true unit other e) known) ∙ sym (among-push done unit other)
-
--- once all are noted, each dependent has one trigger more
-pub noted_all : (units mark trigger : ℕ) (dependents : List ℕ) (old_lists : List (List ℕ)) (old_marks : List ℕ)
-    (lists : List (List ℕ)) (marks : List ℕ)
-    → HasNoted units mark trigger dependents old_lists old_marks lists marks → (unit : ℕ) → IsUnitBelow units unit
-    → get_or lists (unit - 1) [] ≡ get_or old_lists (unit - 1) []
-    ++ option_to_list (trigger_among unit (trigger ∷ dependents))
-noted_all units mark trigger dependents old_lists old_marks lists marks h unit is_unit =
-    h.lists_at unit is_unit ∙ ap (λ l. get_or old_lists (unit - 1) [] ++ l) (one (among dependents unit))
-  where
-    one : (b : Bool) → (if b then trigger ∷ [] else []) ≡ option_to_list (if b then Some trigger else None)
-    one true = refl
-    one false = refl
 
 module _ (units mark trigger : ℕ) (old_lists : List (List ℕ)) (old_marks : List ℕ)
     (low : (unit : ℕ) → IsUnitBelow units unit → get_or old_marks (unit - 1) 0 < mark)

@@ -5,9 +5,6 @@ use Rattle.galileo_lexer.specs.declared.spot.Spot.{Spot}
 use Rattle.galileo_lexer.specs.Spot.{IsLastLine, along, line_feeds, origin, place_behind, step, walk}
 use Rattle.galileo_lexer.proofs.Walks.{walk-append, walk-offset}
 
-after_feed : Spot → Spot
-after_feed spot = record { offset = spot.offset + 1; line = spot.line + 1; line_start = spot.offset + 1 }
-
 step-line : (spot : Spot) (byte : ℕ) → (step spot byte).line ≡ spot.line + (if byte == 10 then 1 else 0)
 step-line spot byte =
     elim (byte == 10) as (λ b. (if b then (let s : Spot =

@@ -1,11 +1,10 @@
 -- Successors that are nodes.
-use Rattle.std.proofs.Common.{◌≡◌, ℕ, ◌+◌, ◌<◌, ◌≤◌, true, false, List, [], ◌∷◌, length, IsTrue, refl, subst, inl, inr}
+use Rattle.std.proofs.Common.{◌≡◌, ℕ, ◌+◌, ◌<◌, true, false, List, [], ◌∷◌, length, IsTrue, refl, subst, inl, inr}
 use Rattle.std.proofs.Common.{arith}
 use Rattle.std.specs.Prelude.{nat_lt, ◌==◌}
 use Rattle.std.specs.List.{list_all}
-use Rattle.std.proofs.lemmas.List.{get_or_past}
 use Rattle.std.proofs.lemmas.Bool.{cases_lt, or_cases, or_left, or_right, and_parts, eq-eqb, eqb-true, ltb-true, lt-ltb}
-use Rattle.graph_cycles.specs.Graph.{has, successors, IsGraph}
+use Rattle.graph_cycles.specs.Graph.{has, successors}
 
 pub below_all : (row : List ℕ) (n : ℕ) → list_all (λ node. nat_lt node n) row ≡ true → (y : ℕ) → IsTrue (has row y)
     → y < n
@@ -39,13 +38,4 @@ AreNodesBefore-more graph n before h x y l found = elim (cases_lt x n) [
   | inr last ↦
       let same : x ≡ n = omega arith in
       below_all (successors graph n) (length graph) h y (subst (λ k. IsTrue (has (successors graph k) y)) same found)
-]
-
-pub IsGraph-all : (graph : List (List ℕ)) (n : ℕ) → length graph ≤ n → AreNodesBefore graph n → IsGraph graph
-IsGraph-all graph n whole before x y found = elim (cases_lt x n) [
-  | inl within ↦ before x y within found
-  | inr past ↦
-      let none : successors graph x ≡ [] = get_or_past graph x [] (omega arith) in
-      let never : false ≡ true = subst (λ row. IsTrue (has row y)) none found in
-      absurd cc
 ]

@@ -1,11 +1,10 @@
 -- Closing some nodes, one after the other.
-use Rattle.std.proofs.Common.{◌≡◌, ◌≢◌, ℕ, zero, suc, ◌+◌, ◌<◌, max, Bool, false, List, [], ◌∷◌, length, take, drop}
+use Rattle.std.proofs.Common.{◌≡◌, ◌≢◌, ℕ, zero, suc, ◌+◌, ◌<◌, Bool, false, List, [], ◌∷◌, length, take}
 use Rattle.std.proofs.Common.{IsTrue, refl, sym, ap, ◌∙◌, inl, inr, arith}
 use Rattle.std.specs.Prelude.{slice_index, slice_set, ◌==◌}
 use Rattle.std.proofs.lemmas.List.{length-set, get_or-set_same, get_or-set_other, get_or-take, length-take-le}
-use Rattle.std.proofs.lemmas.List.{drop_more}
 use Rattle.std.proofs.lemmas.Bool.{cases_lt, cases_eq, or_left, or_right, eq-eqb}
-use Rattle.graph_cycles.specs.Graph.{has, rank_over}
+use Rattle.graph_cycles.specs.Graph.{has}
 use Rattle.graph_cycles.specs.declared.walk.Stage.{Stage}
 use Rattle.graph_cycles.specs.declared.walk.Stage.TheVariants.{New, Closed}
 use Rattle.graph_cycles.specs.Walk.{Closes, stage_at, mark_at}
@@ -15,25 +14,6 @@ pub has-at : (xs : List ℕ) (i : ℕ) → i < length xs → IsTrue (has xs (sli
 has-at [] i l = absurd (omega arith)
 has-at (x ∷ xs) zero l = or_left (x == x) (has xs x) (eq-eqb x x refl)
 has-at (x ∷ xs) (suc i) l = or_right (x == slice_index xs i) (has xs (slice_index xs i)) (has-at xs i (omega arith))
-
--- a rank above the rest, one node on
-pub rank_over_more : (ranks nodes : List ℕ) (i rank : ℕ) → i < length nodes
-    → max (max rank (slice_index ranks (slice_index nodes i) + 1)) (rank_over ranks (drop (i + 1) nodes))
-    ≡ max rank (rank_over ranks (drop i nodes))
-rank_over_more ranks nodes i rank l =
-    let step : rank_over ranks (drop i nodes) ≡ max (suc (slice_index ranks (slice_index nodes i)))
-    (rank_over ranks (drop (i + 1) nodes)) = ap (rank_over ranks) (drop_more nodes i 0 l) in
-    omega (arith, step)
-
-pub Closes-none : (mark : Bool) (stages : List Stage) (marks : List Bool) → Closes [] mark stages stages marks marks
-Closes-none mark stages marks = record {
-  stages_same = refl;
-  marks_same = refl;
-  inside_stage = λ k l. absurd (omega arith);
-  inside_mark = λ k l. absurd (omega arith);
-  outside_stage = λ x apart. refl;
-  outside_mark = λ x apart. refl;
-}
 
 pub Closes-more : (nodes : List ℕ) (i : ℕ) (mark : Bool) (stages stages' : List Stage) (marks marks' : List Bool)
     → i < length nodes → slice_index nodes i < length stages' → slice_index nodes i < length marks'

@@ -1,11 +1,11 @@
 -- A walk from a node, while it goes on.
-use Rattle.std.proofs.Common.{◌≡◌, ◌≢◌, ℕ, ◌+◌, ◌<◌, ◌≤◌, List, length, refl, sym, ap, ◌∙◌, inl, inr, arith}
+use Rattle.std.proofs.Common.{◌≡◌, ◌≢◌, ℕ, ◌<◌, ◌≤◌, List, length, refl, inl, inr, arith}
 use Rattle.std.proofs.lemmas.Bool.{cases_lt}
 use Rattle.graph_cycles.specs.Walk.{IsTop, IsOn, stage_at}
 use Rattle.graph_cycles.specs.declared.walk.Walk.{Walk}
 use Rattle.graph_cycles.specs.declared.walk.Stage.{Stage}
 use Rattle.graph_cycles.specs.declared.walk.Stage.TheVariants.{New, Open, Closed}
-use Rattle.graph_cycles.specs.State.{Stands, StaysMet, Steps, Meets, Walks}
+use Rattle.graph_cycles.specs.State.{Stands, StaysMet, Meets}
 use Rattle.graph_cycles.proofs.Steps.{Met-Meets}
 use Rattle.graph_cycles.proofs.Ordered.{whole_order}
 use Rattle.graph_cycles.specs.Graph.{IsReverseTopological}
@@ -28,28 +28,11 @@ Walking-meets graph old new root s none within is_new m =
     let done = Met-Meets graph old new root s within is_new (λ t top. no_top old.path.items none t top) m in
     record { stands = done.stands; met = done.met; root_met = λ still. (let is_open = done.is_open in cc) }
 
--- and goes on
-pub Walking-steps : (graph : List (List ℕ)) (old mid new : Walk) (root : ℕ)
-    → Walking graph old mid root → Steps graph mid new → Walking graph old new root
-Walking-steps graph old mid new root w s =
-    record { stands = s.stands; met = λ x is. w.met x (s.met x is); root_met = λ still. w.root_met (s.met root still) }
-
 -- the nodes before one are met, and the walk rests
 pub record Visited (graph : List (List ℕ)) (w : Walk) (n : ℕ) : Type 0 where
   pub stands : Stands graph w
   pub rests : length w.path.items ≡ 0
   pub met : (x : ℕ) → x < n → stage_at w.stages.items x ≢ New
-
-pub Visited-more : (graph : List (List ℕ)) (old new : Walk) (n : ℕ) → Visited graph old n → Walks graph old new n
-    → Visited graph new (n + 1)
-Visited-more graph old new n v w = record {
-  stands = w.stands;
-  rests = w.rests;
-  met = λ x l is. elim (cases_lt x n) [
-    | inl before ↦ v.met x before (w.met x is)
-    | inr last ↦ let same : x ≡ n = omega arith in w.root_met (sym (ap (stage_at new.stages.items) same) ∙ is)
-  ];
-}
 
 no_unclosed : (graph : List (List ℕ)) (w : Walk) → Stands graph w → length w.path.items ≡ 0
     → length w.unclosed.items ≡ 0

@@ -55,10 +55,6 @@ same_from floor (f ∷ fs) p q (next, is, others) same =
 abbrev except : ℕ → (ℕ → Bool) → ℕ → Bool
 except u within v = within v && not (u == v)
 
-and_no : (a : Bool) → (a && false) ≡ false
-and_no true = refl
-and_no false = refl
-
 and_yes : (a : Bool) → a ≡ (a && true)
 and_yes true = refl
 and_yes false = refl

@@ -12,7 +12,7 @@ use Rattle.family_operations.specs.Cuts.{Cuts}
 use Rattle.minimal_families.specs.Least.{IsLeastOfAll, IsLeastUnion}
 use Rattle.minimal_families.proofs.Many.{least_of_none, least_of_one}
 use Rattle.family_memory.specs.Memory.{Held, Has, IsSound, Went, Gave, RanOut, family_in, map_of}
-use Rattle.family_memory.proofs.After.{Gave-there, Went-then, ended, still, still_has, still_level}
+use Rattle.family_memory.proofs.After.{Gave-there, Went-then, ended, still, still_has}
 use Rattle.minimal_operations.specs.Halves.{IsHalf}
 use Rattle.minimal_operations.specs.Rests.{IsRidBranch}
 use Rattle.minimal_operations.specs.declared.halves.Half.{Half}
@@ -98,13 +98,6 @@ module _ (held : Held) (x : ℕ) where
   lowered_from list lower size each =
       All-from_get_or (λ r. x + 1 ≤ level_in (map_of held) r) lower 0 (λ place inside.
       let h = (each place (omega (arith, size, inside))).above in omega (arith, h))
-
-pub still_from : (before after : Held) (floor : ℕ) (list : List ℕ) → IsSound before → Went before after
-    → All (Has before) list → AreFrom before floor list → AreFrom after floor list
-still_from before after floor list sound went has from =
-    All-from_get_or (λ r. floor ≤ level_in (map_of after) r) list 0 (λ place inside.
-    let r : ℕ = get_or list place 0 in
-    subst (λ n. floor ≤ n) (sym (still_level before after sound went r (has place 0 inside))) (from place 0 inside))
 
 -- one more
 lowered_one : (held : Held) (x r : ℕ) (half : Half) → IsHalf held x r half → IsLowered held x r half.lo

@@ -3,7 +3,7 @@ use Rattle.std.proofs.Common.{◌≡◌, ℕ, ◌+◌, ◌<◌, List, [], ◌∷
 use Rattle.std.proofs.Common.{if◌then◌else◌, refl, sym, ◌∙◌, ap, subst, arith}
 use Rattle.std.proofs.lemmas.Bool.{cond-true, lt-ltb}
 use Rattle.std.proofs.lemmas.List.{take_more, take-append-drop, get_or-map, length-map}
-use Rattle.std.proofs.lemmas.List.Elements.{All-head, All-tail, All-take}
+use Rattle.std.proofs.lemmas.List.Elements.{All-head, All-tail}
 use Rattle.minimal_families.specs.Least.{IsLeastOfAll, IsLeastProductOfAll, IsLeastProduct}
 use Rattle.minimal_families.proofs.Many.{least_of_none, least_of_one, product_of_none, product_of_more}
 use Rattle.zdd_families.proofs.MapLemmas.{family-empty, family-unit}
@@ -26,9 +26,6 @@ still_all before after list sound went has =
 map_append : (held : Held) (xs ys : List ℕ) → families held (xs ++ ys) ≡ families held xs ++ families held ys
 map_append held [] ys = refl
 map_append held (x ∷ xs) ys = ap (λ fs. family_in held x ∷ fs) (map_append held xs ys)
-
-pub all_take : (held : Held) (n : ℕ) (list : List ℕ) → All (Has held) list → All (Has held) (take n list)
-all_take held n list has = All-take (Has held) n list has
 
 pub families_parts : (held : Held) (n : ℕ) (list : List ℕ)
     → families held list ≡ families held (take n list) ++ families held (drop n list)

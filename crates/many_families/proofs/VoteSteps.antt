@@ -1,10 +1,9 @@
 -- The votes at one place, when one member more votes.
 use Rattle.std.proofs.Common.{◌≡◌, ℕ, suc, ◌+◌, ◌-◌, ◌==◌, ◌<◌, ◌≤◌, Bool, true, false, if◌then◌else◌, List, [], ◌∷◌}
-use Rattle.std.proofs.Common.{All, drop, get_or, set, length, sym, ◌∙◌, ap}
+use Rattle.std.proofs.Common.{drop, get_or, set, length, sym, ◌∙◌, ap}
 use Rattle.std.proofs.Common.{subst, inl, inr, arith, length-drop, eq-eqb, refl}
 use Rattle.std.proofs.lemmas.Bool.{cases_eq, cases_lt, cond-true, cond-false, lt-leb, ne_eqb}
-use Rattle.std.proofs.lemmas.List.{drop_all, drop_more, get_or-set_same, get_or-set_other, get_or_past, length-set}
-use Rattle.std.proofs.lemmas.List.{get_or-map}
+use Rattle.std.proofs.lemmas.List.{drop_more, get_or-set_same, get_or-set_other, get_or_past, length-set}
 use Rattle.std.proofs.lemmas.List.Elements.{All-set}
 use Rattle.family_operations.specs.Within.{count_within}
 use Rattle.family_operations.proofs.MinimalLemmas.{minimal-none}
@@ -224,28 +223,3 @@ member_voted held fs votes member place lower members voter inside is_voter voti
 }
 
 -- ---- before the last member, and after the first
-
-pub none_voted : (held : Held) (fs : List (List (List ℕ))) (votes : ℕ) (members : List ℕ) → All (Has held) members
-    → fs ≡ families held members → HaveVoted held fs votes (length members) 4096 members
-none_voted held fs votes members has is =
-    let count : length members ≡ length fs = sym (many_families held members) ∙ ap length (sym is) in
-    record {
-      count = count;
-      has = has;
-      waiting = λ place low. sym (ap (λ l. get_or l place []) is ∙ get_or-map (family_in held) members place 0 [] low);
-      voted = λ place from enough most inside. absurd (omega (arith, from, inside));
-      units = λ some. subst (AreApartFrom 4096) (sym (drop_all (length members) fs (omega (arith, count)))) tt;
-    }
-
-pub all_voted : (held : Held) (fs : List (List (List ℕ))) (votes member floor r : ℕ) (members : List ℕ) → member ≡ 0
-    → 1 ≤ votes → votes ≤ length members → HaveVoted held fs votes member floor members
-    → r ≡ get_or members (votes - 1) 0 → Has held r × IsLeastVotes votes fs (family_in held r)
-all_voted held fs votes member floor r members none some space voted is =
-    let begun : HaveVoted held fs votes 0 floor members =
-    subst (λ m. HaveVoted held fs votes m floor members) none voted in
-    let one : suc (votes - 1 - 0) ≡ votes = omega (arith, some) in
-    let vote : IsVote held fs 0 (suc (votes - 1 - 0)) r =
-    subst (IsVote held fs 0 (suc (votes - 1 - 0))) (sym is)
-    (begun.voted (votes - 1) (omega arith) (omega (arith, some)) (omega (arith, some))
-    (omega (arith, some, space))) in
-    (vote.has, subst (λ n. IsLeastVotes n fs (family_in held r)) one vote.is)

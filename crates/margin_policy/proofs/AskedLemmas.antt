@@ -4,7 +4,7 @@ use Rattle.std.proofs.Common.{length, take, drop, set, replicate, get_or, refl, 
 use Rattle.std.proofs.Common.{eqb-true, length-set, get_or-set_same, drop-drop, drop-set-lt}
 use Rattle.std.proofs.lemmas.Bool.{or_parts, or_from, or_left, or_right, cases_Bool}
 use Rattle.std.proofs.lemmas.Bool.Decides.{nat_tests}
-use Rattle.std.proofs.lemmas.List.{take_more, take_all, take-set, drop-replicate, length-replicate}
+use Rattle.std.proofs.lemmas.List.{take_more, take_all, take-set, drop-replicate}
 use Rattle.unit_sets.specs.UnitList.{among}
 use Rattle.margin_policy.specs.Asked.{has_repeat, can_be_asked, asked_limit, HoldsAsked}
 
@@ -44,9 +44,6 @@ pub record IsFillingPlaces (units places : List ℕ) (i : ℕ) : Type 0 where
   pub all : length places ≡ asked_limit
   pub front : take i places ≡ take i units
   pub rest : drop i places ≡ replicate (asked_limit - i) 1
-
-pub filling-first : (units : List ℕ) → IsFillingPlaces units (replicate asked_limit 1) 0
-filling-first units = record { all = length-replicate {A = ℕ} asked_limit 1; front = refl; rest = refl }
 
 pub filling-more : (units places : List ℕ) (i unit : ℕ) → i < length units → i < asked_limit → unit ≡ get_or units i 0
     → IsFillingPlaces units places i → IsFillingPlaces units (set places i unit) (i + 1)

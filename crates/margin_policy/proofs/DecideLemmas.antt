@@ -1,19 +1,16 @@
 -- What a reply tells, and the first tight cut set by number and by place.
-use Rattle.std.proofs.Common.{◌≡◌, ℕ, suc, ◌+◌, ◌<◌, ◌^◌, ◌++◌, Bool, true, false, List, [], ◌∷◌, slice_get, Option}
-use Rattle.std.proofs.Common.{Some, None, is_none, if◌then◌else◌, refl, sym, ◌∙◌, ap, arith, add-one}
+use Rattle.std.proofs.Common.{◌≡◌, ℕ, suc, ◌+◌, ◌<◌, ◌^◌, Bool, List, [], ◌∷◌, slice_get, Option}
+use Rattle.std.proofs.Common.{Some, None, refl, sym, ◌∙◌, ap, arith, add-one}
 use Rattle.std.specs.List.{position}
 use Rattle.std.specs.Option.{option_map}
 use Rattle.std.proofs.lemmas.List.Quantifiers.{position-Some}
 use Rattle.unit_sets.specs.CutOrder.{IsOrderedCuts}
-use Rattle.unit_sets.specs.declared.request.CrewNo.{CrewNo}
 use Rattle.residual_ledger.specs.Tight.{is_tight, tight}
 use Rattle.residual_ledger.proofs.TightLaws.{tight-first}
 use Rattle.residual_ledger.proofs.LedgerFacts.{few_cuts}
 use Rattle.margin_policy.specs.declared.request.Reply.{Reply}
-use Rattle.margin_policy.specs.declared.request.Reply.TheVariants.{Granted, Denied, UnknownUnit}
-use Rattle.margin_policy.specs.Asked.{AskedView}
-use Rattle.margin_policy.specs.Held.{Held, units_out, first_holder}
-use Rattle.margin_policy.specs.Decide.{granted_unless, unless_held, decide_take, decide_return}
+use Rattle.margin_policy.specs.declared.request.Reply.TheVariants.{Granted, Denied}
+use Rattle.margin_policy.specs.Decide.{granted_unless}
 
 -- the reply by the place of the first tight cut set, from 0
 abbrev pub granted_at : Option ℕ → Reply
@@ -51,20 +48,3 @@ pub few_places : (cuts : List (List ℕ)) (test : List ℕ → Bool) (first : Op
 few_places cuts test first place ordered is some =
     let found = position-Some test cuts place [] (sym is ∙ some) in
     omega (arith, found.0, few_cuts cuts, ordered.within)
-
-pub take_granted : (cuts : List (List ℕ)) (held : Held) (margin : ℕ) (asked : AskedView)
-    → decide_take cuts held margin asked ≡ Granted → first_holder held asked.units ≡ None
-take_granted cuts held margin asked granted =
-    by_cases asked.unknown (first_holder held asked.units)
-    (granted_unless (tight (asked.units ++ units_out held) margin cuts)) granted
-  where
-    by_cases : (unknown : Bool) (first : Option CrewNo) (reply : Reply)
-        → (if unknown then UnknownUnit else unless_held first reply) ≡ Granted → first ≡ None
-    by_cases true first reply h = absurd cc
-    by_cases false None reply h = refl
-    by_cases false (Some holder) reply h = absurd cc
-
-pub return_granted : (crew : CrewNo) (holder : Option CrewNo) → decide_return crew holder ≡ Granted
-    → is_none holder ≡ false
-return_granted crew None h = absurd cc
-return_granted crew (Some holder) h = refl

@@ -1,10 +1,10 @@
 -- Which units are out when holders change.
-use Rattle.std.proofs.Common.{◌≡◌, ℕ, zero, suc, ◌+◌, ◌<◌, ◌≤◌, Bool, true, false, not, ◌&&◌, ◌||◌, ◌==◌, List, [], ◌∷◌}
-use Rattle.std.proofs.Common.{◌++◌, length, take, drop, replicate, get_or, All, Option, Some, None, is_some, refl, sym}
+use Rattle.std.proofs.Common.{◌≡◌, ℕ, zero, suc, ◌+◌, ◌<◌, Bool, true, false, not, ◌&&◌, ◌||◌, ◌==◌, List, [], ◌∷◌}
+use Rattle.std.proofs.Common.{◌++◌, length, take, replicate, get_or, All, Option, Some, None, is_some, refl, sym}
 use Rattle.std.proofs.Common.{◌∙◌, ap, arith, inl, inr, eq-eqb, get_or-set_same, get_or-set_other}
 use Rattle.std.specs.List.Sorted.{IsStrictlySortedBy}
 use Rattle.std.proofs.lemmas.Bool.{cases_eq, cases_lt, ne_eqb, or_parts}
-use Rattle.std.proofs.lemmas.List.{get_or_past, get_or-replicate, length-replicate, take_more, drop_more, drop_all}
+use Rattle.std.proofs.lemmas.List.{get_or_past, get_or-replicate, length-replicate, take_more}
 use Rattle.std.proofs.lemmas.List.{get_or_default}
 use Rattle.unit_sets.specs.UnitList.{among, IsRising, with_unit, without_unit}
 use Rattle.unit_sets.proofs.UnitListLemmas.{same_set, IsRising-with_unit}
@@ -100,27 +100,6 @@ all_in_service held units none k d short =
     ap (among (units_out held)) (get_or_default units k d 0 short)
     ∙ among-units_out held (get_or units k 0)
     ∙ ap is_some (first_holder-none held units none k short)
-
--- the units before a place are in service
-pub holder-passed : (held : Held) (units : List ℕ) (i unit : ℕ) → i < length units → unit ≡ get_or units i 0
-    → holder_of held unit ≡ None → first_holder held units ≡ first_holder held (drop i units)
-    → first_holder held units ≡ first_holder held (drop (i + 1) units)
-holder-passed held units i unit short at none was =
-    was ∙ ap (first_holder held) (drop_more units i 0 short)
-    ∙ ap (λ (holder : Option CrewNo). or_else holder (first_holder held (drop (i + 1) units)))
-    (ap (holder_of held) (sym at) ∙ none)
-
-pub holder-found : (held : Held) (units : List ℕ) (i unit : ℕ) (holder : CrewNo) → i < length units
-    → unit ≡ get_or units i 0 → holder_of held unit ≡ Some holder
-    → first_holder held units ≡ first_holder held (drop i units) → first_holder held units ≡ Some holder
-holder-found held units i unit holder short at some was =
-    was ∙ ap (first_holder held) (drop_more units i 0 short)
-    ∙ ap (λ (first : Option CrewNo). or_else first (first_holder held (drop (i + 1) units)))
-    (ap (holder_of held) (sym at) ∙ some)
-
-pub holder-none : (held : Held) (units : List ℕ) (i : ℕ) → length units ≤ i
-    → first_holder held units ≡ first_holder held (drop i units) → first_holder held units ≡ None
-holder-none held units i past was = was ∙ ap (first_holder held) (drop_all i units past)
 
 with_all_held-append : (crew : CrewNo) (units more : List ℕ) (held : Held)
     → with_all_held crew (units ++ more) held ≡ with_all_held crew more (with_all_held crew units held)

@@ -1,6 +1,6 @@
 -- What the tests need of lists that they make.
 use Rattle.std.proofs.Common.{◌≡◌, ℕ, zero, suc, ◌+◌, ◌-◌, ◌<◌, ◌≤◌, true, List, [], ◌∷◌, ◌++◌, length, get_or}
-use Rattle.std.proofs.Common.{slice_get, Some, All, refl, sym, ◌∙◌, ap, subst, arith, inl, inr, length-append}
+use Rattle.std.proofs.Common.{slice_get, Some, refl, sym, ◌∙◌, ap, arith, inl, inr, length-append}
 use Rattle.std.specs.Ordering.{nat_cmp, is_lt}
 use Rattle.std.specs.List.Sorted.{IsStrictlySortedBy}
 use Rattle.std.specs.declared.cmp.Ordering.{Ordering}
@@ -21,18 +21,6 @@ pub record RisesSoFar (units : List ℕ) (i : ℕ) : Type 0 where
 
 less_from : (a b : ℕ) → a < b → nat_cmp a b ≡ Less
 less_from a b h = grind (arith, nat_tests)
-
-pub rises-more : (units : List ℕ) (i : ℕ) → 1 ≤ i → get_or units (i - 1) 0 < get_or units i 0 → RisesSoFar units i
-    → RisesSoFar units (i + 1)
-rises-more units i some up was = record {
-  below = λ k h. elim (cases_eq (k + 1) i) [
-    | inl same ↦
-        let before : k ≡ i - 1 = omega arith in
-        subst (λ (n : ℕ). get_or units k 0 < get_or units n 0) (sym same)
-        (subst (λ (n : ℕ). get_or units n 0 < get_or units i 0) (sym before) up)
-    | inr apart ↦ was.below k (omega arith)
-  ];
-}
 
 pub rises-all : (units : List ℕ) (i : ℕ) → length units ≤ i → RisesSoFar units i → IsRising units
 rises-all units i full was =
@@ -88,7 +76,3 @@ pub is_less : (order : Ordering) → is_lt order ≡ true → order ≡ Less
 is_less Less less = refl
 is_less Equal less = absurd cc
 is_less Greater less = absurd cc
-
--- no unit that is asked for is above the greatest number that a unit can have
-pub asked_known : (units : List ℕ) → All IsUnit units → All (λ unit. unit ≤ 4095) units
-asked_known units all k d short = let unit : IsUnit (get_or units k d) = all k d short in omega (arith, unit)

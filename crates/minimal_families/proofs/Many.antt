@@ -3,7 +3,7 @@ use Rattle.std.specs.Prelude.{◌≡◌, ℕ, suc, ◌+◌, Bool, true, false, �
 use Rattle.std.specs.Prelude.{if◌then◌else◌}
 use Rattle.std.specs.List.{list_any, list_all}
 use Rattle.std.proofs.Common.{refl, sym, ◌∙◌, ap, inl, inr, zero-add, arith}
-use Rattle.std.proofs.lemmas.Bool.{and_parts, or_right, and_from, or_cases, le-leb, lt-leb, leb-true}
+use Rattle.std.proofs.lemmas.Bool.{and_parts, or_right, and_from, or_cases, le-leb, leb-true}
 use Rattle.family_operations.specs.Within.{count_within}
 use Rattle.family_operations.proofs.InclusionLemmas.{same_Bool}
 use Rattle.family_operations.proofs.MinimalLemmas.{minimal-none, minimal-unit}
@@ -78,9 +78,6 @@ product_of_more fs f g h of_fs is =
 
 pub no_votes : (fs : List (List (List ℕ))) → IsLeastVotes 0 fs ([] ∷ [])
 no_votes fs = record { antichain = minimal-unit; hit = λ within. sym (le-leb 0 (count_within fs within) (omega arith)) }
-
-pub votes_of_none : (count : ℕ) → IsLeastVotes (suc count) [] []
-votes_of_none count = record { antichain = minimal-none; hit = λ within. sym (lt-leb (suc count) 0 (omega arith)) }
 
 vote_to : (p c : ℕ) → nat_le (suc p) (1 + c) ≡ true → (nat_le (suc p) c || (nat_le p c && true)) ≡ true
 vote_to p c t =

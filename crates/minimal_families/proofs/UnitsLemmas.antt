@@ -44,16 +44,6 @@ nil_lacks set unit has h =
 pub last-unit : IsLastUnit ([] ∷ []) 0
 last-unit = record { most = λ unit has. absurd (nil_lacks has.0 unit has.1 has.2); reached = inl refl }
 
--- a family has one last unit
-pub last-one : (f : List (List ℕ)) (a b : ℕ) → IsLastUnit f a → IsLastUnit f b → a ≡ b
-last-one f a b is is' =
-    let below : a ≤ b = no_greater a (λ unit has. is'.most unit has) is.reached in
-    let above : b ≤ a = no_greater b (λ unit has. is.most unit has) is'.reached in omega (arith, below, above)
-  where
-    no_greater : (c : ℕ) {d : ℕ} → ((unit : ℕ) → HasUnit f unit → unit ≤ d) → (c ≡ 0) ⊎ HasUnit f c → c ≤ d
-    no_greater c most (inl none) = omega (arith, none)
-    no_greater c most (inr has) = most c has
-
 units_of_branch : (x unit : ℕ) (lo hi : List (List ℕ)) → HasUnit (branch x lo hi) unit
     → (unit ≡ x) ⊎ (HasUnit lo unit ⊎ HasUnit hi unit)
 units_of_branch x unit lo hi has =

@@ -1,12 +1,10 @@
 -- A reference at a unit below all its units, and nodes without sets that have their level.
-use Rattle.std.proofs.Common.{◌≡◌, ◌≢◌, ℕ, ◌<◌, ◌≤◌, List, sym, ◌∙◌, ap, subst, inl, inr, arith}
-use Rattle.std.proofs.lemmas.Bool.{cases_lt}
+use Rattle.std.proofs.Common.{◌≡◌, ◌≢◌, ℕ, ◌<◌, ◌≤◌, List, sym, ◌∙◌, ap, subst, arith}
 use Rattle.unit_sets.specs.Unit.{IsUnit}
-use Rattle.zdd_words.specs.Word.{level_of}
 use Rattle.zdd_words.specs.declared.word.Parts.{Parts}
 use Rattle.zdd_families.specs.Family.{branch}
 use Rattle.zdd_families.specs.Map.{level_in}
-use Rattle.zdd_families.proofs.MapLemmas.{level_in-terminal, level_in-inner, IsBounded-closed, family-empty}
+use Rattle.zdd_families.proofs.MapLemmas.{level_in-terminal, family-empty}
 use Rattle.family_operations.specs.Cuts.{Cuts}
 use Rattle.family_operations.proofs.CutsLemmas.{cut_above, branch-none}
 use Rattle.family_operations.specs.Without.{IsWithout}
@@ -37,27 +35,6 @@ node_without held x lo hi sound has none =
     Gave-there (λ f. f ≡ branch x (family_in held lo) (family_in held hi)) held lo sound has
     (sym (ap (branch x (family_in held lo)) (ap (family_in held) none ∙ family-empty (map_of held))
     ∙ branch-none x (family_in held lo)))
-
--- a reference of a lower level is a node
-pub inner_below : (held : Held) (r x : ℕ) → level_in (map_of held) r < x → x ≤ 4096 → 2 ≤ r
-inner_below held r x below most =
-    elim (cases_lt r 2) [
-      | inl small ↦ absurd (let e : level_in (map_of held) r ≡ 4096 = level_in-terminal (map_of held) r small in
-          omega (arith, e))
-      | inr inner ↦ inner
-    ]
-
--- levels are at most those of the terminals
-pub level_most : (held : Held) (r : ℕ) → IsSound held → level_in (map_of held) r ≤ 4096
-level_most held r sound =
-    elim (cases_lt r 2) [
-      | inl small ↦ let e : level_in (map_of held) r ≡ 4096 =
-          level_in-terminal (map_of held) r small in omega (arith, e)
-      | inr inner ↦
-          let e : level_in (map_of held) r ≡ level_of (map_of held r) = level_in-inner (map_of held) r inner in
-          let b : level_of (map_of held r) < 4096 = IsBounded-closed (map_of held) sound.closed r in
-          omega (arith, e, b)
-    ]
 
 -- the part without its level serves in place of a node of a lower level
 pub part_serves : (held : Held) (a r : ℕ) (parts : Parts) → IsSound held → Has held a → IsNodeOf held r parts

@@ -41,6 +41,3 @@ pub fewer_than_level : (held : Held) (r q x : ℕ) → IsUnit x → x < level_in
 fewer_than_level held r q x unit above above' = let u = unit.1 in omega arith
 
 -- ---- operands in the other order
-
-pub fewer_swapped : (held : Held) (a b : ℕ) → levels_of_both held b a ≡ levels_of_both held a b
-fewer_swapped held a b = omega arith

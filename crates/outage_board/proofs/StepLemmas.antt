@@ -56,10 +56,6 @@ inside_at [] seat v at = absurd (some-ne-none v (sym at))
 inside_at (first ∷ views) zero v at = omega arith
 inside_at (first ∷ views) (suc seat) v at = let e = inside_at views seat v at in omega arith
 
-has_crew_unspent : (v : View) → 0 < length v.crews → v ≢ spent
-has_crew_unspent v full same =
-    let e : length v.crews ≡ 0 = ap (λ (u : View). length u.crews) same in absurd (omega arith)
-
 -- ---- the turn is taken
 
 module _ (about : Snapshot BoardView) (slots seat : ℕ) (v : View) (may : MayTake about.value.deck (v, [])) (s : Table)

@@ -10,12 +10,11 @@ use Rattle.fault_model.specs.Tree.{FaultTree}
 use Rattle.crew_script.specs.declared.dockets.Crew.{Crew}
 use Rattle.crew_script.specs.declared.fault.CrewFault.{CrewFault}
 use Rattle.margin_policy.specs.declared.request.Request.{Request}
-use Rattle.outage_board.specs.Boards.{BoardView, Deck, IsBoard, IsUsedUp, next_entry, standing_of, with_entry}
+use Rattle.outage_board.specs.Boards.{BoardView, Deck, IsUsedUp, next_entry, standing_of, with_entry}
 use Rattle.outage_board.specs.Histories.{IsLegal, IsWhole, docket_of, served}
 use Rattle.outage_board.specs.declared.entry.Entry.{Entry}
 use Rattle.outage_board.proofs.BoardLemmas.{entry_for-is}
 use Rattle.outage_board.proofs.HistoryLemmas.{served-own}
-use Rattle.outage_board.proofs.Whole.{whole_where_used_up}
 use Rattle.cut_sequences.specs.Orders.{order_limit, order_lists, order_total}
 use Rattle.board_report.specs.declared.fault.DeckFault.{DeckFault}
 use Rattle.board_report.specs.OrdersOfUnits.{AreOrdersOf}
@@ -144,14 +143,6 @@ same_deck board None after same = ap (λ (b : BoardView). b.deck) same
 same_deck board (Some entry) after same = ap (λ (b : BoardView). b.deck) same
 
 -- ---- all requests of the one crew
-
-pub whole_of_one : (board : BoardView) → IsBoard board → length board.deck.crews ≡ 1 → IsUsedUp board 0
-    → IsWhole board.deck.dockets board.history
-whole_of_one board kept one up =
-    whole_where_used_up board kept (λ crew low. subst (IsUsedUp board) (first crew low) up)
-  where
-    first : (crew : ℕ) → crew < length board.deck.crews → 0 ≡ crew
-    first crew low = omega (arith, low, one)
 
 -- ---- the summary
 

@@ -5,7 +5,6 @@ use Rattle.std.specs.Io.KnownBytes.{Consumes, IsAtEnd}
 use Rattle.std.proofs.Common.{refl, sym, ap, ◌∙◌, subst, append-nil}
 use Rattle.edge_io.specs.declared.reading.TheConstants.{INPUT_LIMIT}
 use Rattle.fault_model.specs.Tree.{FaultTree}
-use Rattle.fault_model.specs.Cut.{IsCutList}
 use Rattle.deck_reading.specs.Deck.{StandsFor}
 use Rattle.outage_engine.specs.Answers.{IsDeckEnd}
 use Rattle.outage_engine.specs.Deck.{IsDeckFault}
@@ -14,7 +13,7 @@ use Rattle.outage_engine.specs.declared.deck.DeckEnd.{DeckEnd}
 use Rattle.outage_engine.specs.declared.deck.DeckEnd.TheVariants as end
 use Rattle.outage_engine.specs.Gives.{OfInput}
 use Rattle.tree_picture.specs.PictureText.{picture_text}
-use Rattle.picture_program.specs.Finding.{IfRefused, IsCutRefusal, IsMarkRefusal, IsMarkedTree, IsNumberRefusal}
+use Rattle.picture_program.specs.Finding.{IfRefused, IsCutRefusal, IsMarkRefusal, IsMarkedTree}
 use Rattle.picture_program.specs.Finding.{IsPictureOf, IsReadRefusal, no_picture, text_of}
 use Rattle.picture_program.specs.Pictures.{AreMarked, IsPictureFor, IsPictureText}
 use Rattle.picture_program.specs.Refusals.{HasCause, HasFewerCuts, IsTooHeavy}
@@ -55,41 +54,7 @@ read_refused held left rose bytes given (end.Fault fault) is consumes at_end wit
     of_whole held left bytes given (λ b. IsDeckFault IfAny b fault) is consumes at_end within holds
 read_refused held left rose bytes given end.NoMemory is consumes at_end within free = tt
 
-reading_cause : (words : List (List ℕ)) (held left : Option (List ℕ)) (rose : Type 0) (refusal : Refusal)
-    → IsReadRefusal held left rose refusal → HasCause words held left rose refusal
-reading_cause words held left rose ReadFault is = is
-reading_cause words held left rose TooLong is = is
-reading_cause words held left rose (Fault fault) is = is
-reading_cause words held left rose ListLimit is = absurd is
-reading_cause words held left rose (NoSuchCut number count) is = absurd is
-reading_cause words held left rose Usage is = absurd is
-
-pub read_cause : (words : List (List ℕ)) (held left : Option (List ℕ)) (rose : Type 0) (why : NoPicture)
-    → IfRefused (IsReadRefusal held left rose) why → IfRefused (HasCause words held left rose) why
-read_cause words held left rose (Refused refusal) is = reading_cause words held left rose refusal is
-read_cause words held left rose NoMemory is = tt
-
 -- ---- the cut set
-
-number_refused : (number : ℕ) (tree : FaultTree) (cuts : List (List ℕ)) (refusal : Refusal) → IsCutList tree cuts
-    → IsNumberRefusal number (length cuts) refusal → IsCutRefusal number tree refusal
-number_refused number tree cuts (NoSuchCut numbered there) all (same, counted, fewer) =
-    (same, cuts, all, counted, subst (λ n. n < number) (sym counted) fewer)
-number_refused number tree cuts ReadFault all is = absurd is
-number_refused number tree cuts TooLong all is = absurd is
-number_refused number tree cuts (Fault fault) all is = absurd is
-number_refused number tree cuts ListLimit all is = absurd is
-number_refused number tree cuts Usage all is = absurd is
-
-pub cut_refused : (number : ℕ) (tree : FaultTree) (cuts : List (List ℕ)) (why : NoPicture) → IsCutList tree cuts
-    → IfRefused (IsNumberRefusal number (length cuts)) why → IfRefused (IsCutRefusal number tree) why
-cut_refused number tree cuts (Refused refusal) all is = number_refused number tree cuts refusal all is
-cut_refused number tree cuts NoMemory all is = tt
-
-pub mark_refused : (mark : Mark) (number : ℕ) (tree : FaultTree) (why : NoPicture) → mark ≡ Cut number
-    → IfRefused (IsCutRefusal number tree) why → IfRefused (IsMarkRefusal mark tree) why
-mark_refused mark number tree (Refused refusal) same is = (number, same, is)
-mark_refused mark number tree NoMemory same is = tt
 
 -- ---- the picture
 

@@ -1,5 +1,5 @@
 -- What follows from the definitions of `specs/Growth`.
-use Rattle.std.specs.Prelude.{◌≡◌, ℕ, ◌≤◌, ◌<◌, Bool, true, false, List, [], ◌∷◌, Some, None, is_some, nat_le}
+use Rattle.std.specs.Prelude.{◌≡◌, ℕ, ◌≤◌, Bool, true, false, List, [], ◌∷◌, Some, None, is_some, nat_le}
 use Rattle.std.specs.Prelude.{if◌then◌else◌}
 use Rattle.std.proofs.Common.{refl, sym, subst, arith}
 use Rattle.std.proofs.lemmas.Bool.{leb-true, leb-false}
@@ -15,25 +15,12 @@ grows-stays last number None (Some later) grows is = absurd cc
 grows-stays last number (Some before) None grows is = absurd grows
 grows-stays last number (Some before) (Some now) grows is = let e = grows.0 in cc
 
--- a step before the last place was there
-pub grows-was : (last number : ℕ) (before now : Step) → Grows last before now → now ≡ Some number → number < last
-    → before ≡ Some number
-grows-was last number None None grows is below = absurd cc
-grows-was last number None (Some now) grows is below = let e : now ≡ number = cc in absurd (omega (arith, e, grows))
-grows-was last number (Some before) None grows is below = absurd grows
-grows-was last number (Some before) (Some now) grows is below = let e = grows.0 in cc
-
 pub grows-at_most : (last number : ℕ) (before now : Step) → Grows last before now → now ≡ Some number → number ≤ last
 grows-at_most last number None None grows is = absurd cc
 grows-at_most last number None (Some now) grows is = let e : now ≡ number = cc in omega (arith, e, grows)
 grows-at_most last number (Some before) None grows is = absurd grows
 grows-at_most last number (Some before) (Some now) grows is =
     let e : now ≡ number = cc in omega (arith, e, grows.0, grows.1)
-
-pub grows-some : (last : ℕ) (before now : Step) → Grows last before now → is_some before ≡ true → now ≡ before
-grows-some last None now grows some = absurd cc
-grows-some last (Some before) None grows some = absurd grows
-grows-some last (Some before) (Some now) grows some = let e = grows.0 in cc
 
 pub grows-new : (last : ℕ) (before now : Step) → Grows last before now → before ≡ never → is_some now ≡ true
     → now ≡ Some last

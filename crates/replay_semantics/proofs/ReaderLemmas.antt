@@ -1,9 +1,8 @@
 -- How the lists of readers are filled.
 use Rattle.std.proofs.Common.{◌≡◌, ℕ, suc, ◌+◌, ◌<◌, ◌≤◌, true, false, ◌==◌, List, [], ◌∷◌, ◌++◌, length, set, get_or}
-use Rattle.std.proofs.Common.{All, replicate, refl, arith, ap, sym, subst, ◌∙◌, inl, inr, length-set, get_or-set_same}
+use Rattle.std.proofs.Common.{All, refl, arith, ap, sym, subst, ◌∙◌, inl, inr, length-set, get_or-set_same}
 use Rattle.std.proofs.Common.{get_or-set_other}
-use Rattle.std.proofs.lemmas.Bool.{cases_eq, cases_lt, or_cases, or_left, or_right, eq-eqb, eqb-true}
-use Rattle.std.proofs.lemmas.List.{length-replicate, get_or-replicate, get_or_past}
+use Rattle.std.proofs.lemmas.Bool.{cases_eq, or_cases, or_left, or_right, eq-eqb, eqb-true}
 use Rattle.std.proofs.lemmas.List.Elements.{Contains-get_or}
 use Rattle.unit_sets.specs.UnitList.{among}
 use Rattle.unit_sets.proofs.UnitListLemmas.{among-from_Contains}
@@ -78,62 +77,12 @@ none_more rows reader = record {
   only = λ n other h. inl h;
 }
 
-pub then_more : (rows rows' rows'' : List (List ℕ)) (nodes more : List ℕ) (reader : ℕ)
-    → MoreReaders rows rows' nodes reader → MoreReaders rows' rows'' more reader
-    → MoreReaders rows rows'' (nodes ++ more) reader
-then_more rows rows' rows'' nodes more reader first second = record {
-  all = second.all ∙ first.all;
-  added = λ n one. elim (or_cases (among nodes n) (among more n) (sym (among-append nodes more n) ∙ one)) [
-    | inl early ↦ second.kept n reader (first.added n early)
-    | inr late ↦ second.added n late
-  ];
-  kept = λ n other h. second.kept n other (first.kept n other h);
-  only = λ n other h. elim (second.only n other h) [
-    | inl was ↦ first.only n other was
-    | inr new ↦ inr new
-  ];
-}
-
 -- the readers up to a number are listed
 pub record HaveReaders (tree : FaultTree) (rows : List (List ℕ)) (count : ℕ) : Type 0 where
   pub all : length rows ≡ suc (node_count tree)
   pub nodes : (node reader : ℕ) → among (readers_in rows node) reader ≡ true → IsNodeOf tree reader
   pub listed : (node reader : ℕ) → IsNodeOf tree reader → reader ≤ count → among (below tree reader) node ≡ true
       → among (readers_in rows node) reader ≡ true
-
-no_row : (count node : ℕ) → readers_in (replicate count []) node ≡ []
-no_row count node =
-    elim (cases_lt node count) [
-      | inl short ↦ get_or-replicate count node [] [] short
-      | inr past ↦ get_or_past (replicate count []) node []
-          (omega (arith, past, length-replicate {A = List ℕ} count []))
-    ]
-
-pub no_readers : (tree : FaultTree) → HaveReaders tree (replicate (suc (node_count tree)) []) 0
-no_readers tree = record {
-  all = length-replicate (suc (node_count tree)) [];
-  nodes =
-      λ node reader h. let none : among (readers_in (replicate (suc (node_count tree)) []) node) reader ≡ false =
-      ap (λ xs. among xs reader) (no_row (suc (node_count tree)) node) in absurd cc;
-  listed = λ node reader is_node low h. absurd (omega (arith, is_node.0, low));
-}
-
-pub next_reader : (tree : FaultTree) (rows rows' : List (List ℕ)) (count : ℕ) → count < node_count tree
-    → HaveReaders tree rows count → MoreReaders rows rows' (below tree (count + 1)) (count + 1)
-    → HaveReaders tree rows' (count + 1)
-next_reader tree rows rows' count short have more = record {
-  all = more.all ∙ have.all;
-  nodes = λ node reader h. elim (more.only node reader h) [
-    | inl was ↦ have.nodes node reader was
-    | inr new ↦ subst (IsNodeOf tree) (sym new) (omega arith, omega arith)
-  ];
-  listed = λ node reader is_node low h. elim (cases_eq reader (count + 1)) [
-    | inl same ↦
-        subst (λ (m : ℕ). among (readers_in rows' node) m ≡ true) (sym same)
-        (more.added node (subst (λ (m : ℕ). among (below tree m) node ≡ true) same h))
-    | inr apart ↦ more.kept node reader (have.listed node reader is_node (omega arith) h)
-  ];
-}
 
 pub all_readers : (tree : FaultTree) (rows : List (List ℕ)) (count : ℕ) → node_count tree ≤ count
     → HaveReaders tree rows count → AreReaders tree rows

@@ -44,9 +44,6 @@ some_or_never : (at : Step) → ((number : ℕ) × (at ≡ Some number)) ⊎ (at
 some_or_never None = inr refl
 some_or_never (Some number) = inl (number, refl)
 
-has_from : (at : Step) (number : ℕ) → at ≡ Some number → is_some at ≡ true
-has_from at number is = ap is_some is
-
 never_from : (at : Step) → is_some at ≡ false → at ≡ never
 never_from None h = refl
 never_from (Some n) h = absurd cc

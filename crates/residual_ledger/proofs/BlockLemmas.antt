@@ -1,20 +1,19 @@
 -- The least count of each block, and a place where it stands.
-use Rattle.std.proofs.Common.{◌≡◌, ◌≢◌, ℕ, suc, ◌+◌, ◌-◌, ◌*◌, ◌/◌, ◌^◌, ◌<◌, ◌≤◌, min, true, false, List, [], ◌∷◌}
-use Rattle.std.proofs.Common.{◌++◌}
-use Rattle.std.proofs.Common.{length, take, set, get_or, All, refl, sym, ◌∙◌, ap, subst, arith, inl, inr, length-append}
+use Rattle.std.proofs.Common.{◌≡◌, ◌≢◌, ℕ, suc, ◌+◌, ◌-◌, ◌*◌, ◌/◌, ◌<◌, ◌≤◌, min, true, false, List, []}
+use Rattle.std.proofs.Common.{length, take, set, get_or, All, refl, sym, ◌∙◌, ap, subst, arith, inl, inr}
 use Rattle.std.proofs.Common.{Bool, ◌==◌, length-set, get_or-set_same, get_or-set_other}
 use Rattle.std.specs.Ordering.{nat_cmp}
 use Rattle.std.specs.declared.cmp.Ordering.TheVariants.{Less}
 use Rattle.std.proofs.lemmas.Bool.{cases_eq, cases_lt, cases_Bool}
 use Rattle.std.proofs.lemmas.Bool.Decides.{nat_tests}
-use Rattle.std.proofs.lemmas.List.{take_all, get_or_push, get_or_append_left, get_or_default}
+use Rattle.std.proofs.lemmas.List.{get_or_default}
 use Rattle.std.proofs.lemmas.Map.Keys.{Less-from_sorted}
 use Rattle.unit_sets.specs.UnitList.{among, IsRising}
 use Rattle.unit_sets.proofs.UnitListLemmas.{Contains-from_among}
 use Rattle.residual_ledger.specs.Kept.{block_size, blocks_for, HasLeast, IsLowest, HasLowest}
 use Rattle.residual_ledger.specs.Kept.{IsNearLowest, HasLowestOutside, HasLowestApart, IsOneMore, IsFirstBetween}
 use Rattle.residual_ledger.specs.Kept.{IsFirstAtMost}
-use Rattle.residual_ledger.proofs.RowLemmas.{one_more-none, one_more-lower_at, one_more-later}
+use Rattle.residual_ledger.proofs.RowLemmas.{one_more-lower_at, one_more-later}
 
 -- the least numbers alone
 pub HasLeast-lowest : (counts least lowest : List ℕ) → HasLowest counts least lowest → HasLeast counts least
@@ -142,10 +141,6 @@ pub record IsLowering (row old counts least lowest : List ℕ) (i : ℕ) : Type 
   pub fallen : IsOneMore (take i row) counts old
   pub blocks : HasLowest counts least lowest
 
-pub lowering-first : (row old least lowest : List ℕ) → HasLowest old least lowest
-    → IsLowering row old old least lowest 0
-lowering-first row old least lowest has = record { fallen = one_more-none old; blocks = has }
-
 -- which set of a row falls, and what it then has
 pub record IsFalling (row counts : List ℕ) (i place left : ℕ) : Type 0 where
   pub rising : IsRising row
@@ -181,18 +176,7 @@ lowering-positive row old counts least lowest i place rising short at all was =
     subst (λ (p : ℕ). 0 < get_or counts p 0) (sym at)
     (subst (λ (n : ℕ). 0 < n) (one_more-later row counts old i rising short was.fallen) (all i 0 short))
 
-pub all_lowered : (row old counts least lowest : List ℕ) (i : ℕ) → length row ≤ i
-    → IsLowering row old counts least lowest i → IsOneMore row counts old
-all_lowered row old counts least lowest i past was =
-    subst (λ (r : List ℕ). IsOneMore r counts old) (take_all i row past) was.fallen
-
 -- ---- along a row, counts rise
-
-pub raising-room : (row old counts : List ℕ) (i place : ℕ) → IsRising row → i < length row → place ≡ get_or row i 0
-    → All (λ p. get_or old p 0 < 2 ^ 31) row → IsOneMore (take i row) old counts → get_or counts place 0 < 2 ^ 31
-raising-room row old counts i place rising short at all was =
-    subst (λ (p : ℕ). get_or counts p 0 < 2 ^ 31) (sym at)
-    (subst (λ (n : ℕ). n < 2 ^ 31) (sym (one_more-later row old counts i rising short was)) (all i 0 short))
 
 -- a count has risen by one at most
 risen_one : (row low high : List ℕ) (k : ℕ) → IsOneMore row low high
@@ -286,15 +270,6 @@ outside_ends row counts least lowest from end rising first last has = record {
 pub not_empty : (row : List ℕ) (none : Bool) → none ≡ (length row == 0) → none ≡ false → 0 < length row
 not_empty row none is some = grind (arith, nat_tests)
 
-pub empty_row : (row counts least lowest : List ℕ) → length row ≡ 0 → HasLowestApart row counts least lowest
-    → HasLowest counts least lowest
-empty_row [] counts least lowest none has = record {
-  all = has.all;
-  long = has.long;
-  each = λ block inside. has.exact block inside (λ place some at. absurd cc);
-}
-empty_row (place ∷ row) counts least lowest none has = absurd cc
-
 -- ---- blocks are looked through anew
 
 near_lowest : (counts : List ℕ) (block least place : ℕ) → IsLowest counts block least place
@@ -370,14 +345,6 @@ refreshed-new end counts least lowest block value place there is was =
       ];
     }
 
-pub refreshed-all : (end : ℕ) (counts least lowest : List ℕ) (block : ℕ) → end ≤ block
-    → HasLowestOutside block end counts least lowest → HasLowest counts least lowest
-refreshed-all end counts least lowest block past was = record {
-  all = was.all;
-  long = was.long;
-  each = λ b inside. was.exact b inside (λ above below. absurd (omega arith));
-}
-
 -- ---- one block is looked through
 
 pub record IsLowestSoFar (counts : List ℕ) (from end place low : ℕ) : Type 0 where
@@ -385,123 +352,12 @@ pub record IsLowestSoFar (counts : List ℕ) (from end place low : ℕ) : Type 0
   pub short : low < end
   pub below : (k : ℕ) → from ≤ k → k < place → get_or counts low 0 ≤ get_or counts k 0
 
-pub so_far-first : (counts : List ℕ) (from end : ℕ) → from < end → IsLowestSoFar counts from end from from
-so_far-first counts from end some = record {
-  above = omega arith;
-  short = some;
-  below = λ k above before. absurd (omega arith);
-}
-
-pub so_far-lower : (counts : List ℕ) (from end place low : ℕ) → from ≤ place → place < end
-    → get_or counts place 0 < get_or counts low 0 → IsLowestSoFar counts from end place low
-    → IsLowestSoFar counts from end (place + 1) place
-so_far-lower counts from end place low above short less was = record {
-  above = above;
-  short = short;
-  below = λ k from_k k_place. elim (cases_eq k place) [
-    | inl same ↦ omega (arith, ap (λ q. get_or counts q 0) same)
-    | inr apart ↦ let earlier : k < place = omega arith in omega (arith, was.below k from_k earlier)
-  ];
-}
-
-pub so_far-same : (counts : List ℕ) (from end place low : ℕ) → get_or counts low 0 ≤ get_or counts place 0
-    → IsLowestSoFar counts from end place low → IsLowestSoFar counts from end (place + 1) low
-so_far-same counts from end place low most was = record {
-  above = was.above;
-  short = was.short;
-  below = λ k from_k k_place. elim (cases_eq k place) [
-    | inl same ↦ omega (arith, ap (λ q. get_or counts q 0) same)
-    | inr apart ↦ let earlier : k < place = omega arith in was.below k from_k earlier
-  ];
-}
-
-pub so_far-all : (counts : List ℕ) (block end place low : ℕ)
-    → end ≡ min (length counts) (block * block_size + block_size) → end ≤ place
-    → IsLowestSoFar counts (block * block_size) end place low → IsLowest counts block (get_or counts low 0) low
-so_far-all counts block end place low full past was = record {
-  inside = omega (arith, was.short);
-  at = omega (arith, was.above, was.short);
-  has = refl;
-  below = λ k inside at. was.below k (omega arith) (omega arith);
-}
-
--- another place has the least that a block had
-pub found_same : (counts : List ℕ) (block end least place same : ℕ)
-    → end ≡ min (length counts) (block * block_size + block_size) → same < end
-    → IsNearLowest counts block least place → IsFirstBetween counts (block * block_size) end least same
-    → IsLowest counts block (get_or counts same 0) same
-found_same counts block end least place same full short near found = record {
-  inside = omega arith;
-  at = omega (arith, found.low);
-  has = refl;
-  below = λ k inside at. omega (arith, found.here short, near.below k inside at);
-}
-
--- no place has it any more
-pub found_more : (counts : List ℕ) (block end least place same new : ℕ)
-    → end ≡ min (length counts) (block * block_size + block_size) → end ≤ same
-    → IsNearLowest counts block least place → IsFirstBetween counts (block * block_size) end least same
-    → IsFirstBetween counts (block * block_size) end (get_or counts place 0) new
-    → IsLowest counts block (get_or counts new 0) new
-found_more counts block end least place same new full past near none found =
-    let from_place : block * block_size ≤ place = omega (arith, near.at) in
-    let before_end : place < end = omega (arith, near.at, near.inside) in
-    let short : new < end = elim (cases_lt new end) [
-      | inl is ↦ is
-      | inr not ↦ absurd (omega (arith, found.before place from_place (omega arith)))
-    ] in
-    record {
-      inside = omega arith;
-      at = omega (arith, found.low);
-      has = refl;
-      below = λ k inside at.
-          omega (arith, found.here short, near.near, none.before k (omega arith) (omega (arith, none.inside)));
-    }
-
 -- ---- the blocks one after another
 
 pub record HasFirstLowest (counts least lowest : List ℕ) (block : ℕ) : Type 0 where
   pub long_least : length least ≡ block
   pub long_lowest : length lowest ≡ block
   pub each : (b : ℕ) → b < block → IsLowest counts b (get_or least b 0) (get_or lowest b 0)
-
-pub first_lowest-none : (counts : List ℕ) → HasFirstLowest counts [] [] 0
-first_lowest-none counts = record { long_least = refl; long_lowest = refl; each = λ b h. absurd (omega arith) }
-
-pub first_lowest-more : (counts least lowest : List ℕ) (block value place : ℕ)
-    → HasFirstLowest counts least lowest block → IsLowest counts block value place
-    → HasFirstLowest counts (least ++ value ∷ []) (lowest ++ place ∷ []) (block + 1)
-first_lowest-more counts least lowest block value place was is =
-    let least' : List ℕ = least ++ value ∷ [] in
-    let lowest' : List ℕ = lowest ++ place ∷ [] in
-    record {
-      long_least = omega (arith, was.long_least, length-append least (value ∷ []));
-      long_lowest = omega (arith, was.long_lowest, length-append lowest (place ∷ []));
-      each = λ b h. elim (cases_eq b block) [
-        | inl same ↦
-            subst (λ (n : ℕ). IsLowest counts n (get_or least' n 0) (get_or lowest' n 0)) (sym same)
-            (subst (λ (n : ℕ). IsLowest counts block n (get_or lowest' block 0))
-            (sym (get_or_push least value 0 block was.long_least))
-            (subst (λ (n : ℕ). IsLowest counts block value n)
-            (sym (get_or_push lowest place 0 block was.long_lowest)) is))
-        | inr apart ↦
-            let earlier : b < block = omega arith in
-            let short : b < length least = omega (arith, was.long_least) in
-            let short' : b < length lowest = omega (arith, was.long_lowest) in
-            subst (λ (n : ℕ). IsLowest counts b n (get_or lowest' b 0))
-            (sym (get_or_append_left least (value ∷ []) 0 b short))
-            (subst (λ (n : ℕ). IsLowest counts b (get_or least b 0) n)
-            (sym (get_or_append_left lowest (place ∷ []) 0 b short')) (was.each b earlier))
-      ];
-    }
-
-pub first_lowest-all : (counts least lowest : List ℕ) (block : ℕ) → block ≡ blocks_for (length counts)
-    → HasFirstLowest counts least lowest block → HasLowest counts least lowest
-first_lowest-all counts least lowest block full has = record {
-  all = has.long_least ∙ full;
-  long = has.long_lowest ∙ sym has.long_least;
-  each = λ b h. has.each b (omega (arith, has.long_least));
-}
 
 -- ---- a search passes over blocks
 

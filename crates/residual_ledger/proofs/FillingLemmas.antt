@@ -207,12 +207,6 @@ with_one : (cuts : List (List ℕ)) (place : ℕ) (some : List ℕ) (unit : ℕ)
 with_one cuts place some unit has =
     ap (λ xs. holding_below cuts unit place ++ xs) (cond-true (among some unit) (place ∷ []) [] has)
 
-pub putting-first : (cuts : List (List ℕ)) (place : ℕ) (ends rows : List ℕ) → HoldsFirst cuts place ends rows
-    → IsPutting cuts place [] ends rows
-putting-first cuts place ends rows has =
-    filling-along (holders cuts) (λ unit. holding_below cuts unit place) (held_with cuts place []) ends rows
-    (λ unit. with_none cuts place [] unit refl) has
-
 pub putting-all : (cuts : List (List ℕ)) (place : ℕ) (ends rows : List ℕ)
     → IsPutting cuts place (cut_at cuts place) ends rows → HoldsFirst cuts (place + 1) ends rows
 putting-all cuts place ends rows has =

@@ -9,10 +9,10 @@ use Rattle.std.proofs.lemmas.Bool.{or_from, or_left, or_right, cases_eq, ne_eqb}
 use Rattle.std.proofs.lemmas.Bool.Decides.{nat_tests}
 use Rattle.std.proofs.lemmas.List.{take_more}
 use Rattle.std.proofs.lemmas.List.Folds.{list_any-append}
-use Rattle.std.proofs.lemmas.List.Elements.{All-contains, Contains-get_or}
+use Rattle.std.proofs.lemmas.List.Elements.{Contains-get_or}
 use Rattle.std.proofs.lemmas.Map.Keys.{Less-from_sorted}
 use Rattle.unit_sets.specs.UnitList.{among, IsRising}
-use Rattle.unit_sets.proofs.UnitListLemmas.{Contains-from_among, among-from_Contains}
+use Rattle.unit_sets.proofs.UnitListLemmas.{among-from_Contains}
 use Rattle.residual_ledger.specs.Kept.{IsOneMore}
 
 -- ---- members
@@ -34,10 +34,6 @@ pub push-itself : (row : List ℕ) (place : ℕ) → among (row ++ place ∷ [])
 push-itself row place =
     among-append row (place ∷ []) place
     ∙ or_right (among row place) (among (place ∷ []) place) (or_left (place == place) false (eq-eqb place place refl))
-
--- what holds of all holds of each member
-pub All-among : (P : ℕ → Type 0) (xs : List ℕ) (x : ℕ) → All P xs → among xs x ≡ true → P x
-All-among P xs x all has = All-contains P xs x all (Contains-from_among xs x has)
 
 pub All-from_among : (P : ℕ → Type 0) (xs : List ℕ) → ((x : ℕ) → among xs x ≡ true → P x) → All P xs
 All-from_among P xs each k d short =
@@ -65,13 +61,6 @@ fresh_at (y ∷ ys) (suc i) rising short =
     (fresh_at ys i (IsRising-tail y ys rising) (omega arith))
 
 -- ---- one more at the places of a row
-
-pub one_more-none : (low : List ℕ) → IsOneMore [] low low
-one_more-none low = record {
-  long = refl;
-  more = λ place has. absurd cc;
-  same = λ place none. refl;
-}
 
 pub one_more-lower : (row low high : List ℕ) (place left : ℕ) → IsOneMore row low high → among row place ≡ false
     → place < length low → get_or low place 0 ≡ suc left → IsOneMore (row ++ place ∷ []) (set low place left) high

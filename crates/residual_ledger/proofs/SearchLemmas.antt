@@ -1,13 +1,13 @@
 -- The first cut set that is tight: no block and no row that is passed over has an earlier one.
-use Rattle.std.proofs.Common.{◌≡◌, ℕ, suc, ◌+◌, ◌-◌, ◌<◌, ◌≤◌, Bool, true, false, ◌||◌, ◌==◌, nat_lt, nat_le, cond}
-use Rattle.std.proofs.Common.{List, [], ◌∷◌, ◌++◌, length, take, get_or, filter, All, Some, None, refl, sym, ◌∙◌, ap}
-use Rattle.std.proofs.Common.{subst, arith, inl, inr, eqb-true}
+use Rattle.std.proofs.Common.{◌≡◌, ℕ, suc, ◌+◌, ◌-◌, ◌<◌, ◌≤◌, Bool, true, false, nat_lt, nat_le, cond}
+use Rattle.std.proofs.Common.{List, [], ◌++◌, length, take, get_or, filter, All, Some, None, sym, ◌∙◌, ap}
+use Rattle.std.proofs.Common.{subst, arith, inl, inr}
 use Rattle.std.specs.List.{list_any, position, position_or_len}
 use Rattle.std.specs.Ordering.{nat_cmp}
 use Rattle.std.specs.declared.cmp.Ordering.TheVariants.{Less}
-use Rattle.std.proofs.lemmas.Bool.{cases_Bool, cases_lt, cases_eq, or_cases, le-ltb, lt-ltb, cond-true, cond-false}
+use Rattle.std.proofs.lemmas.Bool.{cases_Bool, cases_lt, cases_eq, le-ltb, lt-ltb, cond-true, cond-false}
 use Rattle.std.proofs.lemmas.Bool.Decides.{nat_tests}
-use Rattle.std.proofs.lemmas.List.{take_more, take_all, get_or_default, get_or_read}
+use Rattle.std.proofs.lemmas.List.{take_all, get_or_default, get_or_read}
 use Rattle.std.proofs.lemmas.List.Sums.{position_or_len_is}
 use Rattle.std.proofs.lemmas.Map.Keys.{Less-from_sorted}
 use Rattle.unit_sets.specs.UnitList.{among, IsRising}
@@ -17,7 +17,6 @@ use Rattle.residual_ledger.specs.Tight.{is_tight}
 use Rattle.residual_ledger.specs.Holding.{holding}
 use Rattle.residual_ledger.specs.Kept.{residuals, IsFirstAtMost}
 use Rattle.residual_ledger.specs.Ledger.{IsFirstHolding}
-use Rattle.residual_ledger.proofs.RowLemmas.{among-append}
 use Rattle.residual_ledger.proofs.ResidualLemmas.{residual-asked, residual-asked-apart, residual-asked-le, met_unit}
 use Rattle.residual_ledger.proofs.LedgerLemmas.{count_at, as_many, place_held, row_rises}
 
@@ -126,16 +125,6 @@ holding-found row cuts unit i end test is was inside below passes = record {
   here = λ _. passes;
 }
 
-pub passed-more : (row : List ℕ) (cuts : List (List ℕ)) (test : List ℕ → Bool) (end i place : ℕ)
-    → place ≡ get_or row i 0 → test (cut_at cuts place) ≡ false → IsPassed row cuts test end i
-    → IsPassed row cuts test end (i + 1)
-passed-more row cuts test end i place at fails was = record {
-  fails = λ k h. elim (cases_eq k i) [
-    | inl same ↦ ap (λ n. test (cut_at cuts (get_or row n 0))) same ∙ ap (λ p. test (cut_at cuts p)) (sym at) ∙ fails
-    | inr apart ↦ was.fails k (omega arith)
-  ];
-}
-
 -- ---- the asked units one after another
 
 -- No cut set before the first one is tight, as far as it has one of the units asked so far or none at all.
@@ -167,33 +156,6 @@ narrowed-first cuts out asked counts most first counted free found =
             residual-asked asked out (all_free asked out free) cut,
           ));
     }
-
-pub narrowed-more : (cuts : List (List ℕ)) (out asked : List ℕ) (most i unit first new : ℕ) → i < length asked
-    → unit ≡ get_or asked i 0 → IsFirstHolding unit (is_tight (asked ++ out) most) cuts first new
-    → IsNarrowed cuts out asked most i first → IsNarrowed cuts out asked most (i + 1) new
-narrowed-more cuts out asked most i unit first new short at found was = record {
-  inside = omega (arith, was.inside, found.inside);
-  low = λ place h. was.low place (omega (arith, found.inside));
-  held = λ place other h has in_cut.
-      elim (or_cases (among (take i asked) other) (among (unit ∷ []) other)
-      (sym (among-append (take i asked) (unit ∷ []) other)
-      ∙ ap (λ xs. among (take i asked ++ xs) other) (ap (λ (u : ℕ). u ∷ []) at)
-      ∙ ap (λ xs. among xs other) (sym (take_more asked i 0 short)) ∙ has)) [
-        | inl earlier ↦ was.held place other (omega (arith, found.inside)) earlier in_cut
-        | inr this ↦ found.before place h (subst (λ (u : ℕ). among (cut_at cuts place) u ≡ true)
-            (sym (eqb-true unit other (sym (or_nothing (unit == other)) ∙ this))) in_cut)
-      ];
-  here = λ h. elim (cases_lt new first) [
-    | inl earlier ↦ found.here earlier
-    | inr not_earlier ↦
-        let same : first ≡ new = omega (arith, found.inside) in
-        subst (λ (f : ℕ). is_tight (asked ++ out) most (cut_at cuts f) ≡ true) same (was.here (omega arith))
-  ];
-}
-  where
-    or_nothing : (a : Bool) → (a || false) ≡ a
-    or_nothing true = refl
-    or_nothing false = refl
 
 -- every cut set before the first one keeps enough
 none_before : (cuts : List (List ℕ)) (out asked : List ℕ) (most count first place : ℕ) → length asked ≤ count

@@ -80,12 +80,6 @@ pub Comes-found : (start whole so_far to_come : List (List ℕ)) (name : List �
 Comes-found start whole so_far to_come name rest is found c =
     ap all_differ (sym c.all) ∙ (ap (λ t. all_differ (so_far ++ t)) is ∙ differ-found so_far rest name found)
 
-pub Comes-all : (start whole so_far to_come : List (List ℕ)) → to_come ≡ [] → Comes start whole so_far to_come
-    → (so_far ≡ start ++ whole) × (all_differ (start ++ whole) ≡ true)
-Comes-all start whole so_far to_come none c =
-    let is : so_far ≡ start ++ whole = sym (append-nil so_far) ∙ (ap (λ t. so_far ++ t) (sym none) ∙ c.all) in
-    (is, ap all_differ (sym is) ∙ c.fresh)
-
 -- the next of what is left, by a function of all that is left
 pub next : {X : Type 0} {Y : Type 0} (F : List X → Y) (xs : List X) (i : ℕ) (x : X) → i < length xs → x ≡ get_or xs i x
     → F (drop i xs) ≡ F (x ∷ drop (i + 1) xs)

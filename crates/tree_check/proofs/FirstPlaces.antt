@@ -43,11 +43,6 @@ module _ {X : Type 0} (xs : List X) (i : ℕ) (x : X) where
         → first (map place_of (filter test (drop i xs))) ≡ Some (place_of x)
     some_at short is passes = ap (λ ys. first (map place_of (filter test ys))) (drop_at short is) ∙ rw passes refl
 
--- the place of the item behind so many
-pub some_behind : {X : Type 0} (place_of : X → Place) (xs : List X) (n : ℕ) (x : X) → n < length xs → x ≡ get_or xs n x
-    → first (map place_of (drop n xs)) ≡ Some (place_of x)
-some_behind place_of xs n x short is = ap (λ ys. first (map place_of ys)) (drop_at xs n x short is)
-
 pub none_behind : {X : Type 0} (place_of : X → Place) (xs : List X) (n : ℕ) → length xs ≤ n
     → first (map place_of (drop n xs)) ≡ None
 none_behind place_of xs n long = ap (λ ys. first (map place_of ys)) (drop_all n xs long)

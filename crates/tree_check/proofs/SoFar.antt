@@ -2,7 +2,7 @@
 use Rattle.std.proofs.Common.{◌≡◌, ℕ, ◌+◌, ◌<◌, ◌≤◌, not, List, [], ◌∷◌, ◌++◌, length, map, filter, drop, get_or, sym}
 use Rattle.std.proofs.Common.{ap, ◌∙◌, arith, append_assoc, length-append}
 use Rattle.std.specs.Prelude.{Some}
-use Rattle.std.proofs.lemmas.List.{append-nil, map-append}
+use Rattle.std.proofs.lemmas.List.{map-append}
 use Rattle.std.proofs.lemmas.List.Elements.{filter-append}
 use Rattle.galileo_tree.specs.declared.raw.Placed.{Placed}
 use Rattle.galileo_tree.specs.declared.raw.RawTop.{RawTop}
@@ -18,7 +18,7 @@ use Rattle.tree_check.specs.Said.{basics, gates, tops, uses, basic_in, gate_in, 
 use Rattle.tree_check.specs.Numbered.{numbered, numbered_gate}
 use Rattle.tree_check.specs.Classes.{undefined, first}
 use Rattle.tree_check.specs.Found.{IsFoundAs}
-use Rattle.tree_check.specs.Numbering.{IsDeckOf, AddsStatement}
+use Rattle.tree_check.specs.Numbering.{AddsStatement}
 use Rattle.tree_check.proofs.Differ.{next}
 
 pub undefined-append : (names : List (List ℕ)) (xs ys : List Placed)
@@ -97,19 +97,3 @@ module _ (names : List (List ℕ)) (statements : List Statement) (i : ℕ) (stat
         ap first (sym s.known ∙ step) ∙ first-append (undefined names (uses_in statement))
             (undefined names (uses (drop (i + 1) statements))) place h.1,
       )
-
-pub SoFar-all : (names : List (List ℕ)) (statements : List Statement) (i : ℕ) (deck : Deck) → drop i statements ≡ []
-    → SoFar names statements i deck
-    → IsDeckOf names statements deck × (undefined names (uses statements) ≡ [])
-SoFar-all names statements i deck none s = (
-  record {
-    units = omega (arith, s.units, ap (λ d. length (basics d)) none);
-    gates_all =
-        sym (append-nil deck.gates.items) ∙ (ap (λ d. deck.gates.items ++ map (numbered_gate names) (gates d))
-        (sym none) ∙ s.gates_all);
-    tops_all =
-        sym (append-nil deck.tops.items) ∙ (ap (λ d. deck.tops.items
-        ++ map (λ (top : RawTop). numbered names top.name) (tops d)) (sym none) ∙ s.tops_all);
-  },
-  sym s.known ∙ ap (λ d. undefined names (uses d)) none,
-)

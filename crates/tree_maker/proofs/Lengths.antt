@@ -49,10 +49,6 @@ joined_short (statement ∷ others) all =
     let rest = joined_short others (All-tail IsShort statement others all) in
     omega (arith, length-append (statement_text statement) (written others), first, rest)
 
--- a name before something
-definition_short : (name rest : List ℕ) → length name ≤ 5 → length rest ≤ 1900 → length (name ++ rest) ≤ 2000
-definition_short name rest few short = omega (arith, length-append name rest, few, short)
-
 inputs_short : (s n : ℕ) → s + n ≤ 200
     → length (flat_map input_text (map (λ group. Bare (gate_name group)) (range_with_len s n))) ≤ 5 * n
 inputs_short s zero within = omega arith

@@ -10,10 +10,7 @@ use Rattle.zdd_shared_table.specs.Seats.{Seated, TableId, map_of}
 use Rattle.zdd_product.specs.Seats.{CountsDue, Gave, WasFull, WentAll}
 use Rattle.zdd_product.proofs.Several.{CountsDue-went, WentAll-full, WentAll-on}
 use Rattle.zdd_nodes.specs.Room.{HaveRoomFor}
-use Rattle.family_memory.specs.Memory.{Held}
 use Rattle.family_copies.specs.Copies.{AreCopies}
-use Rattle.family_copies.proofs.CopiesLemmas.{copies-none}
-use Rattle.family_copies.specs.declared.copies.Pair.{Pair}
 use Rattle.fault_model.specs.CutFamily.{IsCutFamily}
 use Rattle.fault_model.specs.Tree.{IsNodeOf}
 use Rattle.fault_model.specs.WellFormed.{IsTree}
@@ -71,10 +68,6 @@ module _ (P : Worker → Type 0) (workers : List Worker) (i : ℕ) (worker : Wor
   above_set above k d high within =
       subst P (sym (get_or-set_other workers i k worker d (λ same. omega (arith, same, high))))
       (above k d (omega arith) within)
-
--- no notes are left
-pub copies_gone : (held : Held) (known : ℕ → ℕ) (pairs : List Pair) → pairs ≡ [] → AreCopies held known pairs
-copies_gone held known pairs none = subst (AreCopies held known) (sym none) (copies-none held known)
 
 -- ---- a cut family that was copied into the store
 

@@ -1,8 +1,8 @@
 -- What follows from the definitions of `specs/Map`.
 use Rattle.std.specs.Prelude.{◌≡◌, ◌≢◌, ℕ, zero, suc, ◌+◌, ◌-◌, ◌<◌, ◌≤◌, true, false, not, ◌&&◌, ◌==◌}
 use Rattle.std.specs.Prelude.{nat_lt, List, [], ◌∷◌}
-use Rattle.std.proofs.Common.{refl, sym, ◌∙◌, ap, subst, inl, inr, arith, eq-eqb}
-use Rattle.std.proofs.lemmas.Bool.{cases_lt, cases_eq, cases_Bool, and_parts, and_from, and_right, cond-true}
+use Rattle.std.proofs.Common.{refl, sym, ◌∙◌, ap, subst, inl, inr, arith}
+use Rattle.std.proofs.lemmas.Bool.{cases_lt, cases_eq, cases_Bool, and_parts, and_from, cond-true}
 use Rattle.std.proofs.lemmas.Bool.{cond-false, lt-ltb, le-ltb, ltb-true, ne_eqb, eqb-false, not_from_false, not-true}
 use Rattle.std.proofs.lemmas.Bool.Decides.{nat_tests}
 use Rattle.zdd_words.specs.Word.{level_of, lo_of, hi_of}
@@ -194,13 +194,6 @@ family-inner known r bounded inner =
     (let k = is.lo_above in omega (arith, e)) (omega arith))
     (enough known bounded (4095 - level_in known r) (4096 - level_in known (hi_of (known r))) (hi_of (known r))
     (let k = is.hi_above in omega (arith, e)) (omega arith))
-
-pub family-absent : (known : ℕ → ℕ) (r : ℕ) → 2 ≤ r → known r ≡ 0 → family known r ≡ []
-family-absent known r above absent =
-    family-improper known r above
-    (ap (λ b. b && (nat_lt (level_of (known r)) (level_in known (lo_of (known r)))
-    && nat_lt (level_of (known r)) (level_in known (hi_of (known r)))))
-    (ap (λ b. not (nat_lt r 2) && not b) (eq-eqb (known r) 0 absent) ∙ and_right (not (nat_lt r 2)) false refl))
 
 -- over a closed map a known reference has the branch of its lo and hi
 pub family-node : (known : ℕ → ℕ) (r : ℕ) → IsClosed known → known r ≢ 0

@@ -17,7 +17,7 @@ use Rattle.family_operations.specs.Due.{IsDueToVotes, votes_product, votes_union
 use Rattle.zdd_shared_table.specs.Seats.{Seated, IsSoundSeat, map_of}
 use Rattle.zdd_product.specs.Due.{IsMadeByUnion, IsMadeByProduct}
 use Rattle.zdd_product.specs.Seats.{KnowsOne, WentOn, Gave, WasFull}
-use Rattle.zdd_product.specs.Voting.{families, HoldsVotes, IsVoting}
+use Rattle.zdd_product.specs.Voting.{families, IsVoting}
 use Rattle.zdd_product.proofs.After.{stays, WentOn-as, WasFull-as, WentOn-next, WasFull-next}
 
 -- ---- the families of a list stay
@@ -199,13 +199,6 @@ module _ (s0 : Seated) (list : List ℕ) (k i place : ℕ) (room : List ℕ) (so
       }
 
 -- ---- a later step
-
-pub holds_later : (before after : Seated) (list room : List ℕ) (members from to : ℕ) → IsSoundSeat before
-    → IsSoundSeat after → Grown (map_of before) (map_of after) → All (Knows (map_of before)) list
-    → HoldsVotes (map_of before) list members from to room → HoldsVotes (map_of after) list members from to room
-holds_later before after list room members from to sound sound' keeps knows held = λ place low high.
-    votes_stay before after list sound sound' keeps knows members (suc place) (get_or room place 0)
-    (held place low high)
 
 module _ (start before after : Seated) (list : List ℕ) (k : ℕ) (sound : IsSoundSeat start)
     (knows : All (Knows (map_of start)) list) (on : WentOn (IsDueToVotes k (families (map_of start) list)) start

@@ -1,6 +1,6 @@
 -- How a search goes on from slot to slot.
 use Rattle.std.proofs.Common.{◌≡◌, ◌≢◌, ℕ, ◌+◌, ◌<◌, ◌≤◌, ◌^◌, ◌==◌, sym, ◌∙◌, ap, subst, refl, arith, inl, inr}
-use Rattle.std.proofs.Common.{if◌then◌else◌, eq-eqb, ne_eqb}
+use Rattle.std.proofs.Common.{if◌then◌else◌, ne_eqb}
 use Rattle.zdd_words.specs.Word.{home_of}
 use Rattle.zdd_families.specs.Map.{IsNode}
 use Rattle.zdd_shared_table.specs.Known.{find}
@@ -14,14 +14,6 @@ use Rattle.zdd_shared_table.specs.declared.view.View.{View}
 
 passing-none : (word : ℕ) (v : View) → after_passing word 0 v ≡ v
 passing-none word v = refl
-
-pub passing-all : (word passed : ℕ) (v : View) → passed ≢ 0 → passed ≡ v.size
-    → after_passing word passed v ≡ searched_all word v
-passing-all word passed v some all = rw (ne_eqb passed 0 some) (rw (eq-eqb passed v.size all) refl)
-
-passing-some : (word passed : ℕ) (v : View) → passed ≢ 0 → passed ≢ v.size
-    → after_passing word passed v ≡ searching word passed v
-passing-some word passed v some short = rw (ne_eqb passed 0 some) (rw (ne_eqb passed v.size short) refl)
 
 -- what holds of the view before, and of one that has passed some slots, holds after any number of them but all
 pub while_passing : (P : View → Type 0) (word passed : ℕ) (v : View) → passed < v.size → (passed ≡ 0 → P v)

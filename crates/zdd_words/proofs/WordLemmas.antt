@@ -54,24 +54,12 @@ same_word word other at below above =
 
 -- ---- bounds
 
-pub IsReference-lo_of : (word : ℕ) → IsReference (lo_of word)
-unfolding lo_of
-IsReference-lo_of word = mod_below (word / 2 ^ 26) (2 ^ 26) (pow_pos 26)
-
-pub IsReference-hi_of : (word : ℕ) → IsReference (hi_of word)
-unfolding hi_of
-IsReference-hi_of word = mod_below word (2 ^ 26) (pow_pos 26)
-
 pub level_of-below : (word : ℕ) → word < 2 ^ 64 → level_of word < 4096
 unfolding level_of
 level_of-below word fits = shr_below word 12 52 fits
 
 pub IsUnit-level_of : (word : ℕ) → word < 2 ^ 64 → 1 ≤ level_of word → IsUnit (level_of word)
 IsUnit-level_of word fits filled = let below = level_of-below word fits in (filled, omega arith)
-
-pub packed-fits : (level lo hi : ℕ) → IsUnit level → IsReference lo → IsReference hi → packed level lo hi < 2 ^ 64
-unfolding packed
-packed-fits level lo hi unit small small' = omega arith
 
 -- a word whose level is a unit's number is not 0
 pub packed-filled : (level lo hi : ℕ) → 1 ≤ level → packed level lo hi ≢ 0
