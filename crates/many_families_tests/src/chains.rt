@@ -100,8 +100,8 @@ fn votes_over_many_units_make_no_other_nodes(rt: HostRuntime) -> Result<(), Fail
     Ok(())
 }
 
-// The family of two sets of one unit each.
-fn either(memory: &mut FamilyMemory, first: u16, second: u16) -> Result<NodeRef, Fail>
+/// The family of two sets of one unit each.
+pub(crate) fn either(memory: &mut FamilyMemory, first: u16, second: u16) -> Result<NodeRef, Fail>
     ensures { IfOk result (λ r. Has memory.new r × Went memory.old memory.new) }
 {
     memory.is_sound();

@@ -18,4 +18,6 @@ mod plain;
 #[cfg(test)]
 mod random;
 #[cfg(test)]
+mod shared;
+#[cfg(test)]
 mod sizes;

@@ -5,6 +5,7 @@ ghost use Rattle.zdd_families.specs.Map.{Knows, KnowsAs, Grown, level_in};
 ghost use Rattle.zdd_shared_table.specs.Seats.{map_of};
 
 mod deep;
+mod shared;
 mod tables;
 
 use std::alloc::Global;
