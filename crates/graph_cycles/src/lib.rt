@@ -12,8 +12,6 @@ ghost use Rattle.std.specs.Prelude.{slice_index_or, vec_len, nat_lt};
 ghost use Rattle.std.specs.List.{list_all};
 ghost use Rattle.graph_cycles.specs.Graph.{IsGraph, IsReverseTopological, Leads, successors, rank_over};
 
-#[cfg(test)]
-mod tests;
 mod walk;
 
 use flat_rows::Rows;

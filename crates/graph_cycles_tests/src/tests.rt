@@ -1,6 +1,6 @@
 //! Graphs with cycles and without.
-use super::*;
 use flat_rows::Rows;
+use graph_cycles::{find_cycles, is_graph};
 use std::test::Fail;
 
 // Each graph as its rows of successors, with the nodes that lie on a cycle; of the chain the ranks and its one order.
