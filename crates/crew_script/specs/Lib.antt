@@ -13,7 +13,7 @@ pub mod Crews
 -- the crews so far
 pub mod Reading
 -- the first word of a line
-pub mod Cuts
+pub mod Taking
 -- the lines of a text
 pub mod TextLines
 -- the forms of lines

@@ -9,6 +9,6 @@ left None = []
 left (Some rest) = lines_of rest.now
 
 -- a line was taken from the front, or none was left
-abbrev pub Cuts : List (List ℕ) → Option (Bor (List ℕ)) → List (List ℕ) → Type 0
-Cuts old None new = old ≡ []
-Cuts old (Some line) new = old ≡ line.now ∷ new
+abbrev pub TakesLine : List (List ℕ) → Option (Bor (List ℕ)) → List (List ℕ) → Type 0
+TakesLine old None new = old ≡ []
+TakesLine old (Some line) new = old ≡ line.now ∷ new

@@ -1,7 +1,7 @@
 //! The lines of a text.
 ghost use Rattle.std.specs.Prelude.{◌≡◌, ◌<◌, IfSome, length, position};
 ghost use Rattle.crew_script.specs.Deck.{is_feed, lines_of};
-ghost use Rattle.crew_script.specs.TextLines.{Cuts};
+ghost use Rattle.crew_script.specs.TextLines.{TakesLine};
 
 use std::marker::Model;
 
@@ -29,7 +29,7 @@ impl<'a> TextLines<'a> {
 
     /// The next line, without its line feed, or None where none is left.
     pub(crate) fn next(&mut self) -> Option<&'a [u8]>
-        ensures { Cuts self.old result self.new }
+        ensures { TakesLine self.old result self.new }
     {
         let rest = self.rest?;
         match feed_at(rest) {

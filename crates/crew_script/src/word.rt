@@ -6,7 +6,7 @@ ghost use Rattle.fault_model.specs.Name.{is_bare_name};
 ghost use Rattle.crew_script.specs.Words.{is_blank, is_quote, words_of, words, first_of, InQuotes, Closed, parts};
 ghost use Rattle.crew_script.specs.Words.{begins_bare, begins_blank, broken};
 ghost use Rattle.crew_script.specs.Lines.{says, is_comment, is_bare_kind, is_quoted_kind, begins_comment, name_in};
-ghost use Rattle.crew_script.specs.Cuts.{Cuts};
+ghost use Rattle.crew_script.specs.Taking.{TakesWord};
 
 use fault_model::{Name, is_bare_name};
 use std::alloc::{AllocError, Global};
@@ -133,23 +133,23 @@ impl<'a> Words<'a> {
         ensures word { result ≡ first_of self.old }
         ensures rest { self.new ≡ drop 1 self.old }
     {
-        let cut = first_word(skip_blanks(self.line))?;
-        self.line = cut.behind;
-        Some(cut.word)
+        let taken = first_word(skip_blanks(self.line))?;
+        self.line = taken.behind;
+        Some(taken.word)
     }
 }
 
 // A word, and what follows it in its line.
 #[derive(Drop)]
-struct Cut<'a> {
+struct TakenWord<'a> {
     word: Word<'a>,
     behind: &'a [u8],
 }
 
 // The first word of what begins with no blank, or None where nothing is left.
-fn first_word(bytes: &[u8]) -> Option<Cut<'_>>
+fn first_word(bytes: &[u8]) -> Option<TakenWord<'_>>
     requires { begins_blank bytes.now ≡ false }
-    ensures { Cuts (words_of bytes.now) result }
+    ensures { TakesWord (words_of bytes.now) result }
 {
     match bytes {
         [] => None,
@@ -160,13 +160,13 @@ fn first_word(bytes: &[u8]) -> Option<Cut<'_>>
 
 // The bare word that begins here.
 #[tactic(auto, using(crate::proofs::WordLemmas::bare_from))]
-fn bare(bytes: &[u8]) -> Cut<'_>
+fn bare(bytes: &[u8]) -> TakenWord<'_>
     requires begins { begins_bare bytes.now ≡ true }
     requires no_blank { begins_blank bytes.now ≡ false }
     ensures { words_of bytes.now ≡ result.word ∷ words_of result.behind.now }
 {
     let (text, behind) = bytes.split_at(blank_at(bytes));
-    Cut {
+    TakenWord {
         word: Word {
             kind: WordKind::Bare,
             text,
@@ -176,7 +176,7 @@ fn bare(bytes: &[u8]) -> Cut<'_>
 }
 
 // The quoted word whose first quotation mark stands before these bytes.
-fn quoted(bytes: &[u8]) -> Cut<'_>
+fn quoted(bytes: &[u8]) -> TakenWord<'_>
     ensures { words (InQuotes []) bytes.now ≡ result.word ∷ words_of result.behind.now }
 {
     match quote_at(bytes) {
@@ -194,11 +194,11 @@ fn quote_at(bytes: &[u8]) -> Option<usize>
 }
 
 // The quoted word with this text in front of these bytes.
-fn closed<'a>(text: &'a [u8], behind: &'a [u8]) -> Cut<'a>
+fn closed<'a>(text: &'a [u8], behind: &'a [u8]) -> TakenWord<'a>
     ensures { words (Closed text.now) behind.now ≡ result.word ∷ words_of result.behind.now }
 {
     if parts(behind) {
-        Cut {
+        TakenWord {
             word: Word {
                 kind: WordKind::Quoted,
                 text,
@@ -211,11 +211,11 @@ fn closed<'a>(text: &'a [u8], behind: &'a [u8]) -> Cut<'a>
 }
 
 // No word; the rest of the line is left out, for the line has no form.
-fn broken(bytes: &[u8]) -> Cut<'_>
+fn broken(bytes: &[u8]) -> TakenWord<'_>
     ensures word { result.word ≡ broken }
     ensures rest { words_of result.behind.now ≡ [] }
 {
-    Cut {
+    TakenWord {
         word: Word {
             kind: WordKind::Broken,
             text: &bytes[..0],

@@ -7,7 +7,7 @@ use lib.Pointwise.{bytes_decides}
 use Rattle.fault_model.specs.Tree.{FaultTree, name_of, unit_count, IsUnitOf}
 use Rattle.fault_model.specs.WellFormed.{IsTree}
 use Rattle.fault_model.specs.Names.{same_name}
-use Rattle.outage_board.specs.Requests.{number_from, only_unit, unit_of}
+use Rattle.outage_board.specs.Requests.{unit_from, only_unit, unit_of}
 
 abbrev Differ : List (List ℕ) → Type 0
 Differ names = AllPairs (λ earlier later. earlier ≢ later) names
@@ -17,12 +17,12 @@ differ_tail name names differ i j d less short = differ (suc i) (suc j) d (omega
 
 -- the number of a name that stands among names that differ
 number_at : (names : List (List ℕ)) (name : List ℕ) (number place : ℕ) → Differ names → place < length names
-    → get_or names place [] ≡ name → number_from number names name ≡ Some (number + place)
+    → get_or names place [] ≡ name → unit_from number names name ≡ Some (number + place)
 number_at [] name number place differ short at = absurd (omega arith)
 number_at (first ∷ names) name number zero differ short at =
     by_same (same_name first name) ((bytes_decides first name).1 at)
   where
-    by_same : (same : Bool) → same ≡ true → (if same then Some number else number_from (suc number) names name)
+    by_same : (same : Bool) → same ≡ true → (if same then Some number else unit_from (suc number) names name)
         ≡ Some (number + 0)
     by_same true is = ap Some (omega arith)
     by_same false is = absurd cc
@@ -31,8 +31,8 @@ number_at (first ∷ names) name number (suc place) differ short at =
     ((bytes_decides first name).0 same ∙ sym at))
     (number_at names name (suc number) place (differ_tail first names differ) (omega arith) at)
   where
-    by_same : (same : Bool) → (same ≡ true → ⊥) → number_from (suc number) names name ≡ Some (suc number + place)
-        → (if same then Some number else number_from (suc number) names name) ≡ Some (number + suc place)
+    by_same : (same : Bool) → (same ≡ true → ⊥) → unit_from (suc number) names name ≡ Some (suc number + place)
+        → (if same then Some number else unit_from (suc number) names name) ≡ Some (number + suc place)
     by_same true apart later = absurd (apart refl)
     by_same false apart later = later ∙ ap Some (omega arith)
 
@@ -44,7 +44,7 @@ IsThere names name number found =
     (number ≤ found) × (found < number + length names) × (get_or names (found - number) [] ≡ name)
 
 -- a name with a number stands there
-number_there : (names : List (List ℕ)) (name : List ℕ) (number found : ℕ) → number_from number names name ≡ Some found
+number_there : (names : List (List ℕ)) (name : List ℕ) (number found : ℕ) → unit_from number names name ≡ Some found
     → IsThere names name number found
 number_there [] name number found is = absurd cc
 number_there (first ∷ names) name number found is =
@@ -52,8 +52,8 @@ number_there (first ∷ names) name number found is =
     (λ later. number_there names name (suc number) found later) is
   where
     by_same : (same : Bool) → (same ≡ true → first ≡ name)
-        → (number_from (suc number) names name ≡ Some found → IsThere names name (suc number) found)
-        → (if same then Some number else number_from (suc number) names name) ≡ Some found
+        → (unit_from (suc number) names name ≡ Some found → IsThere names name (suc number) found)
+        → (if same then Some number else unit_from (suc number) names name) ≡ Some found
         → IsThere (first ∷ names) name number found
     by_same true means later is' =
         let e : number ≡ found = some_is number found is' in
@@ -86,11 +86,11 @@ pub named_is : (tree : FaultTree) (name : List ℕ) (told : Option ℕ) → IsTr
     → (IsNone told ↔ ((unit : ℕ) → IsUnitOf tree unit → name_of tree unit ≢ name))
     → told ≡ unit_of tree name
 named_is tree name (Some unit) kept some none =
-    unit_named tree unit (number_from 1 tree.names name) some.0.1
+    unit_named tree unit (unit_from 1 tree.names name) some.0.1
     (number_at tree.names name 1 (unit - 1) kept.names_differ
     (let all = kept.names_all in omega (arith, some.0.0, some.0.1)) some.1 ∙ ap Some (omega (arith, some.0.0)))
 named_is tree name None kept some none =
-    no_unit tree (number_from 1 tree.names name)
+    no_unit tree (unit_from 1 tree.names name)
     (λ node is inside. let there = number_there tree.names name 1 node is in none.0 refl node (there.0, inside) there.2)
 
 -- ---- the units of a take
@@ -98,10 +98,10 @@ named_is tree name None kept some none =
 -- a name's unit has the name
 pub named_by : (tree : FaultTree) (name : List ℕ) (unit : ℕ) → unit_of tree name ≡ Some unit
     → (unit ≤ unit_count tree) × (get_or tree.names (unit - 1) [] ≡ name)
-named_by tree name unit is = by_found (number_from 1 tree.names name) refl is
+named_by tree name unit is = by_found (unit_from 1 tree.names name) refl is
   where
     by_inside : (node : ℕ) (inside : Bool) → (inside ≡ true → node ≤ unit_count tree)
-        → number_from 1 tree.names name ≡ Some node → (if inside then Some node else None) ≡ Some unit
+        → unit_from 1 tree.names name ≡ Some node → (if inside then Some node else None) ≡ Some unit
         → (unit ≤ unit_count tree) × (get_or tree.names (unit - 1) [] ≡ name)
     by_inside node true within found e =
         let same : node ≡ unit = some_is node unit e in (
@@ -111,7 +111,7 @@ named_by tree name unit is = by_found (number_from 1 tree.names name) refl is
         )
     by_inside node false within found e = absurd cc
 
-    by_found : (found : Option ℕ) → number_from 1 tree.names name ≡ found → only_unit tree found ≡ Some unit
+    by_found : (found : Option ℕ) → unit_from 1 tree.names name ≡ found → only_unit tree found ≡ Some unit
         → (unit ≤ unit_count tree) × (get_or tree.names (unit - 1) [] ≡ name)
     by_found None found e = absurd cc
     by_found (Some node) found e =

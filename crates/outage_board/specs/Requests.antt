@@ -12,10 +12,10 @@ use Rattle.margin_policy.specs.declared.request.Request.{Request}
 use Rattle.margin_policy.specs.declared.request.Request.TheVariants.{Take, Return, Margin}
 
 -- the number of the first of some names that is a given one, counted from a number on
-abbrev pub number_from : ℕ → List (List ℕ) → List ℕ → Option ℕ
-number_from number [] name = None
-number_from number (other ∷ names) name = if same_name other name then Some number
-    else number_from (suc number) names name
+abbrev pub unit_from : ℕ → List (List ℕ) → List ℕ → Option ℕ
+unit_from number [] name = None
+unit_from number (other ∷ names) name = if same_name other name then Some number
+    else unit_from (suc number) names name
 
 -- a node, where it is a unit
 abbrev pub only_unit : FaultTree → Option ℕ → Option ℕ
@@ -24,7 +24,7 @@ only_unit tree (Some node) = if nat_le node (unit_count tree) then Some node els
 
 -- the unit of a name. A gate's name is no unit's.
 abbrev pub unit_of : FaultTree → List ℕ → Option ℕ
-unit_of tree name = only_unit tree (number_from 1 tree.names name)
+unit_of tree name = only_unit tree (unit_from 1 tree.names name)
 
 abbrev pub with_unit : Option ℕ → List ℕ → List ℕ
 with_unit None units = units

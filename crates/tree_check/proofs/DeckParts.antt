@@ -7,7 +7,7 @@ use Rattle.galileo_tree.specs.declared.raw.RawTop.{RawTop}
 use Rattle.galileo_tree.specs.declared.raw.RawGate.{RawGate}
 use Rattle.galileo_tree.specs.declared.raw.RawBasic.{RawBasic}
 use Rattle.galileo_tree.specs.declared.raw.Statement.{Statement}
-use Rattle.tree_check.specs.declared.numbered.Deck.{Deck}
+use Rattle.tree_check.specs.declared.numbered.NumberedText.{NumberedText}
 use Rattle.tree_check.specs.declared.numbered.NumberedGate.{NumberedGate}
 use Rattle.tree_check.specs.Said.{basics, gates, tops, names, uses, basic_names, gate_names}
 use Rattle.tree_check.specs.Numbered.{numbered, numbered_gate, numbered_gates}
@@ -20,7 +20,7 @@ use Rattle.tree_check.proofs.GoodGates.{IsAmong}
 use Rattle.tree_check.proofs.LowNumbers.{gates_low}
 use Rattle.tree_check.proofs.StatementNames.{tops_known}
 
-module _ (statements : List Statement) (deck : Deck) (is : IsDeckOf (names statements) statements deck) where
+module _ (statements : List Statement) (deck : NumberedText) (is : IsDeckOf (names statements) statements deck) where
   -- there is a name for each unit and each gate
   pub names_total : length (names statements) ≡ deck.units + length deck.gates.items
   names_total =

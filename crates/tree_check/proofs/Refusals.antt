@@ -11,7 +11,7 @@ use Rattle.tree_check.specs.declared.fault.CheckCode.TheVariants.{SpareNotBasic,
 use Rattle.tree_check.specs.declared.fault.CheckCode.TheVariants.{TooManyUnits, TooManyGates}
 use Rattle.tree_check.specs.declared.fault.CheckFault.{CheckFault}
 use Rattle.tree_check.specs.declared.fault.CheckFault.TheVariants.{Fault, NoMemory}
-use Rattle.tree_check.specs.declared.numbered.Deck.{Deck}
+use Rattle.tree_check.specs.declared.numbered.NumberedText.{NumberedText}
 use Rattle.tree_check.specs.declared.numbered.Numbered.{Numbered}
 use Rattle.tree_check.specs.declared.numbered.NumberedGate.{NumberedGate}
 use Rattle.tree_check.specs.Said.{names}
@@ -142,7 +142,7 @@ module _ (read : ReadTree) where
   cycle_refused none (Fault found p) h = subst (λ c. IsFirstFault read c p) (sym h.0) (none, h.1)
 
   -- by the deck, whose gates a reference leads to
-  module _ (deck : Deck) (d : IsDeckOf (names read.statements) read.statements deck) (all : List NumberedGate)
+  module _ (deck : NumberedText) (d : IsDeckOf (names read.statements) read.statements deck) (all : List NumberedGate)
       (same : all ≡ deck.gates.items) where
     pub kind_refused : NoneOf read (take 4 before_cycles) → (e : CheckFault) → FirstIn (kind_classes deck.units all) e
         → IsRefusal read e

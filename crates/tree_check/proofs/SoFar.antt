@@ -12,7 +12,7 @@ use Rattle.fault_model.specs.declared.node.Place.{Place}
 use Rattle.tree_check.specs.declared.fault.CheckFault.{CheckFault}
 use Rattle.tree_check.specs.declared.fault.CheckFault.TheVariants.{Fault, NoMemory}
 use Rattle.tree_check.specs.declared.fault.CheckCode.{CheckCode}
-use Rattle.tree_check.specs.declared.numbered.Deck.{Deck}
+use Rattle.tree_check.specs.declared.numbered.NumberedText.{NumberedText}
 use Rattle.fault_model.specs.Names.{has_name}
 use Rattle.tree_check.specs.Said.{basics, gates, tops, uses, basic_in, gate_in, top_in, uses_in}
 use Rattle.tree_check.specs.Numbered.{numbered, numbered_gate}
@@ -28,7 +28,7 @@ undefined-append names xs ys =
     ∙ map-append (λ (u : Placed). u.place) (filter (λ (u : Placed). not (has_name names u.name)) xs)
     (filter (λ (u : Placed). not (has_name names u.name)) ys)
 
-pub record SoFar (names : List (List ℕ)) (statements : List Statement) (i : ℕ) (deck : Deck) : Type 0 where
+pub record SoFar (names : List (List ℕ)) (statements : List Statement) (i : ℕ) (deck : NumberedText) : Type 0 where
   pub units : deck.units + length (basics (drop i statements)) ≡ length (basics statements)
   pub few : deck.units ≤ i
   pub gates_all : deck.gates.items ++ map (numbered_gate names) (gates (drop i statements))
@@ -42,14 +42,14 @@ few_basics (Top top) = omega arith
 few_basics (Gate gate) = omega arith
 few_basics (Basic basic) = omega arith
 
-module _ (names : List (List ℕ)) (statements : List Statement) (i : ℕ) (statement : Statement) (old : Deck)
+module _ (names : List (List ℕ)) (statements : List Statement) (i : ℕ) (statement : Statement) (old : NumberedText)
     (l : i < length statements) (is : statement ≡ get_or statements i statement)
     (s : SoFar names statements i old) where
   rest : List Statement
   rest = drop (i + 1) statements
 
-  pub SoFar-more : (new : Deck) → AddsStatement names statement old new → undefined names (uses_in statement) ≡ []
-      → SoFar names statements (i + 1) new
+  pub SoFar-more : (new : NumberedText) → AddsStatement names statement old new
+      → undefined names (uses_in statement) ≡ [] → SoFar names statements (i + 1) new
   SoFar-more new a none = record {
     units =
         let step : length (basics (drop i statements))

@@ -20,7 +20,7 @@ use Rattle.tree_check.specs.Numbered.{numbered_gates, numbered_gate, unit_total,
 use Rattle.tree_check.specs.TreeOf.{tree_of, numbers, input_lists, IsCyclic, FirstOnCycle, HasNoCycle, AreRanks}
 use Rattle.tree_check.specs.Classes.{first, undefined, dependent_gates}
 use Rattle.tree_check.specs.Numbering.{IsDeckOf}
-use Rattle.tree_check.specs.declared.numbered.Deck.{Deck}
+use Rattle.tree_check.specs.declared.numbered.NumberedText.{NumberedText}
 use Rattle.tree_check.proofs.StatementNames.{inputs_known}
 use Rattle.tree_check.proofs.GoodGates.{unit_dependents}
 use Rattle.tree_check.specs.Marked.{marked_places}
@@ -218,7 +218,7 @@ module _ (statements : List Statement) (graph : List (List ℕ)) (marks : List B
 
 -- ---- from the deck
 
-pub graph_here : (statements : List Statement) (deck : Deck) (all : List NumberedGate) (graph : List (List ℕ))
+pub graph_here : (statements : List Statement) (deck : NumberedText) (all : List NumberedGate) (graph : List (List ℕ))
     → IsDeckOf (names statements) statements deck
     → all ≡ deck.gates.items → IsGraphOf deck.units all graph
     → IsGraphOf (unit_total statements) (numbered_gates statements) graph
@@ -226,7 +226,7 @@ graph_here statements deck all graph d same g =
     subst (λ u. IsGraphOf u (numbered_gates statements) graph) d.units
     (subst (λ gs. IsGraphOf deck.units gs graph) (same ∙ d.gates_all) g)
 
-pub survey_of : (statements : List Statement) (deck : Deck) (all : List NumberedGate) (graph : List (List ℕ))
+pub survey_of : (statements : List Statement) (deck : NumberedText) (all : List NumberedGate) (graph : List (List ℕ))
     (marks : List Bool) (ranks : List ℕ)
     → IsDeckOf (names statements) statements deck → all ≡ deck.gates.items → IsGraphOf deck.units all graph
     → undefined (names statements) (uses statements) ≡ [] → all_differ (names statements) ≡ true
@@ -244,13 +244,13 @@ survey_of statements deck all graph marks ranks d same g known once exact ranked
   ranks_all = whole;
 }
 
-pub graph_whole : (statements : List Statement) (deck : Deck) (all : List NumberedGate) (graph : List (List ℕ))
+pub graph_whole : (statements : List Statement) (deck : NumberedText) (all : List NumberedGate) (graph : List (List ℕ))
     → IsDeckOf (names statements) statements deck → all ≡ deck.gates.items → IsGraphOf deck.units all graph
     → undefined (names statements) (uses statements) ≡ [] → IsGraph graph
 graph_whole statements deck all graph d same g known =
     IsGraph-of statements graph (graph_here statements deck all graph d same g) (inputs_known statements known)
 
-pub units_after : (statements : List Statement) (deck : Deck) (all : List NumberedGate)
+pub units_after : (statements : List Statement) (deck : NumberedText) (all : List NumberedGate)
     → IsDeckOf (names statements) statements deck → all ≡ deck.gates.items
     → dependent_gates (unit_total statements) (numbered_gates statements) ≡ [] → HasUnitDependents deck.units all
 units_after statements deck all d same none =

@@ -1,6 +1,6 @@
 -- A text in which no class of faults occurs.
 use Rattle.std.specs.Prelude.{◌≡◌, ℕ, ◌^◌, ◌<◌, true, List, drop}
-use Rattle.tree_check.specs.declared.numbered.Deck.{Deck}
+use Rattle.tree_check.specs.declared.numbered.NumberedText.{NumberedText}
 use Rattle.galileo_tree.specs.ReadTree.{ReadTree}
 use Rattle.tree_check.specs.declared.checking.Examined.{Examined}
 use Rattle.tree_check.specs.Said.{names}
@@ -15,7 +15,7 @@ pub record IsIndexOf (read : ReadTree) (index : List (List ℕ)) : Type 0 where
   pub once : all_differ index ≡ true
 
 -- the text by numbers, which a machine word can count
-pub record IsSmallDeck (read : ReadTree) (deck : Deck) : Type 0 where
+pub record IsSmallDeck (read : ReadTree) (deck : NumberedText) : Type 0 where
   pub is : IsDeckOf (names read.statements) read.statements deck
   pub small : deck.units < 2 ^ 63
 

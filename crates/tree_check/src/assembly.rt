@@ -9,7 +9,7 @@ ghost use Rattle.tree_check.specs.TreeOf.{tree_of, numbers, input_lists, first_n
 ghost use Rattle.tree_check.specs.Assembling.{attributes_in, Takes, IsTakenOf};
 
 use crate::gates::{drops_fdeps, is_fdep};
-use crate::numbered::{Deck, Numbered, NumberedGate};
+use crate::numbered::{Numbered, NumberedGate, NumberedText};
 use fault_model::{
     AttributeList, AttributeLists, InputLists, KindList, Name, NameTable, NoMemory, NodeList,
     NodeNo, TreeParts,
@@ -144,7 +144,7 @@ fn first_top(tops: &[Numbered]) -> NodeNo
 pub(crate) fn assemble(
     alloc: Global,
     statements: Vec<Statement>,
-    deck: Deck,
+    deck: NumberedText,
 ) -> Result<TreeParts, NoMemory>
     requires deck { IsDeckOf (names statements.items) statements.items deck }
     requires inputs { AreWithin (deck.units + length deck.gates.items) deck.gates.items }

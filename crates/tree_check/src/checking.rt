@@ -9,7 +9,7 @@ use crate::classes::{check_kinds, check_later_inputs, check_limits, check_rest, 
 use crate::cycles::rank_all;
 use crate::name_index::NameIndex;
 use crate::naming::name_all;
-use crate::numbered::Deck;
+use crate::numbered::NumberedText;
 use crate::numbering::number_all;
 use fault_model::Tree;
 use galileo_tree::RawTree;
@@ -18,7 +18,7 @@ use std::alloc::Global;
 /// A text in which no class of faults occurs, by numbers, with the ranks of its nodes.
 #[derive(Drop)]
 struct Examined {
-    deck: Deck,
+    deck: NumberedText,
     /// Of each number from 0 on.
     ranks: Vec<usize>,
 }
@@ -61,7 +61,7 @@ fn examine_kinds(
     alloc: Global,
     raw: &RawTree,
     index: &NameIndex<'_>,
-    deck: Deck,
+    deck: NumberedText,
 ) -> Result<Examined, CheckFault>
     requires passed { NoneOf raw.now (take 4 before_cycles) }
     requires names { IsIndexOf raw.now index.now }
@@ -79,7 +79,7 @@ fn examine_later_inputs(
     alloc: Global,
     raw: &RawTree,
     index: &NameIndex<'_>,
-    deck: Deck,
+    deck: NumberedText,
 ) -> Result<Examined, CheckFault>
     requires passed { NoneOf raw.now (take 8 before_cycles) }
     requires names { IsIndexOf raw.now index.now }
@@ -97,7 +97,7 @@ fn examine_rest(
     alloc: Global,
     raw: &RawTree,
     index: &NameIndex<'_>,
-    deck: Deck,
+    deck: NumberedText,
 ) -> Result<Examined, CheckFault>
     requires passed { NoneOf raw.now (take 11 before_cycles) }
     requires names { IsIndexOf raw.now index.now }
@@ -115,7 +115,7 @@ fn examine_cycles(
     alloc: Global,
     raw: &RawTree,
     index: &NameIndex<'_>,
-    deck: Deck,
+    deck: NumberedText,
 ) -> Result<Examined, CheckFault>
     requires passed { NoneOf raw.now before_cycles }
     requires names { IsIndexOf raw.now index.now }

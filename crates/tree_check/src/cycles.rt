@@ -15,7 +15,7 @@ ghost use Rattle.tree_check.specs.Triggers.{dependents_of, written_gate};
 
 use crate::gates::{drops_fdeps, is_fdep};
 use crate::name_index::NameIndex;
-use crate::numbered::{Deck, Numbered, NumberedGate};
+use crate::numbered::{Numbered, NumberedGate, NumberedText};
 use crate::{CheckCode, CheckFault};
 use fault_model::{GateKind, Place};
 use flat_rows::{GrowingList, Rows};
@@ -195,7 +195,7 @@ pub(crate) fn rank_all(
     alloc: Global,
     index: &NameIndex<'_>,
     statements: &[Statement],
-    deck: &Deck,
+    deck: &NumberedText,
 ) -> Result<Vec<usize>, CheckFault>
     requires names { index.now ≡ names statements.now }
     requires deck { IsDeckOf (names statements.now) statements.now deck.now }

@@ -24,7 +24,7 @@ pub(crate) type InputRow = flat_rows::GrowingList<Numbered>;
 
 /// A text by numbers.
 #[derive(Drop)]
-pub(crate) struct Deck {
+pub(crate) struct NumberedText {
     /// How many basic events there are. The numbers of the gates are above.
     pub(crate) units: usize,
     pub(crate) gates: Vec<NumberedGate>,

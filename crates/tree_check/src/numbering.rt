@@ -7,7 +7,7 @@ ghost use Rattle.tree_check.specs.Found.{IsFoundAs};
 ghost use Rattle.tree_check.specs.Numbering.{IsDeckOf, AddsStatement};
 
 use crate::name_index::NameIndex;
-use crate::numbered::{Deck, InputRow, Numbered, NumberedGate};
+use crate::numbered::{InputRow, Numbered, NumberedGate, NumberedText};
 use crate::{CheckCode, CheckFault};
 use galileo_tree::{Placed, RawGate, Statement};
 use std::alloc::Global;
@@ -64,7 +64,7 @@ fn number_gate(
     })
 }
 
-impl Deck {
+impl NumberedText {
     /// Adds what one statement says.
     fn add(
         &mut self,
@@ -91,13 +91,13 @@ pub(crate) fn number_all(
     alloc: Global,
     index: &NameIndex<'_>,
     statements: &[Statement],
-) -> Result<Deck, CheckFault>
+) -> Result<NumberedText, CheckFault>
     ensures deck { IfOk result (IsDeckOf index.now statements.now) }
     ensures few { IfOk result (λ deck. deck.units ≤ length statements.now) }
     ensures known { OnOk result (undefined index.now (uses statements.now) ≡ []) }
     ensures fault { IfErr result (IsFoundAs CheckCode.Undefined (undefined index.now (uses statements.now))) }
 {
-    let mut deck = Deck {
+    let mut deck = NumberedText {
         units: 0,
         gates: Vec::new(alloc),
         tops: Vec::new(alloc),
