@@ -2,6 +2,7 @@
 ghost use Rattle.std.specs.Prelude.{◌≡◌, ◌<◌, ◌+◌, ◌≤◌, ◌++◌, [], ◌∷◌, codes, is_err, length, false, Some, None};
 ghost use Rattle.std.specs.Prelude.{is_some, if◌then◌else◌};
 ghost use Rattle.std.specs.List.{flat_map};
+ghost use Rattle.unit_sets.specs.Unit.{most_units};
 ghost use Rattle.edge_io.specs.Out.{has_failed, Puts};
 ghost use Rattle.fault_model.specs.Tree.{IsNodeOf, name_of, unit_count};
 ghost use Rattle.margin_policy.specs.Held.{holder_of, units_out};
@@ -38,7 +39,7 @@ pub(crate) fn put_out<K: Sink>(
 // The greatest number of a unit.
 fn last_unit(tree: &Tree) -> u16
     ensures last { result ≡ unit_count tree.now }
-    ensures limit { result ≤ 4095 }
+    ensures limit { result ≤ most_units }
 {
     tree.units() as u16
 }
@@ -57,7 +58,7 @@ fn holds_units_alone(standing: &Standing)
 // The holder of the unit of a number, if it is out.
 fn holder_at(standing: &Standing, number: u16) -> Option<CrewNo>
     requires some { 1 ≤ number }
-    requires limit { number ≤ 4095 }
+    requires limit { number ≤ most_units }
     ensures { result ≡ holder_of standing.now.held number }
 {
     let unit = UnitNo::new(number)?;
@@ -67,7 +68,7 @@ fn holder_at(standing: &Standing, number: u16) -> Option<CrewNo>
 // How many units are out. No unit has a number above the last one.
 pub(crate) fn count_out(standing: &Standing, last: u16) -> u32
     requires units { standing.now.units ≤ last }
-    requires limit { last ≤ 4095 }
+    requires limit { last ≤ most_units }
     ensures { result ≡ length (units_out standing.now.held) }
 {
     holds_units_alone(standing);
@@ -81,7 +82,7 @@ pub(crate) fn count_out(standing: &Standing, last: u16) -> u32
 // 1 where the unit of a number is out, else 0.
 fn count_at(standing: &Standing, number: u16) -> u32
     requires some { 1 ≤ number }
-    requires limit { number ≤ 4095 }
+    requires limit { number ≤ most_units }
     ensures { result ≡ (if is_some (holder_of standing.now.held number) then 1 else 0) }
 {
     if holder_at(standing, number).is_some() {
@@ -138,7 +139,7 @@ fn put_if_out<K: Sink>(
         then number ∷ [] else [])) }
     ensures answer { is_err result ≡ has_failed out.new }
 {
-    // The number of units tells the proof that there are at most 4,095.
+    // The number of units tells the proof that each can be a `UnitNo`.
     tree.units();
     match holder_at(standing, number) {
         Some(holder) => put_out_line(out, tree, dockets, u32::from(number), holder),

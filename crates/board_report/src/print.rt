@@ -137,7 +137,7 @@ fn attributes_at(tree: &Tree, unit: u32) -> &[Attribute]
     requires { IsUnitOf tree.now unit }
     ensures { result.now ≡ attributes_of tree.now unit }
 {
-    // The number of units tells the proof that there are at most 4,095.
+    // The number of units tells the proof that each can be a `UnitNo`.
     tree.units();
     match UnitNo::new(unit as u16) {
         Some(unit) => tree.attributes(unit),

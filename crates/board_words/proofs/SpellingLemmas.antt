@@ -2,6 +2,7 @@
 use Rattle.std.specs.Prelude.{◌≡◌, ℕ, ◌≤◌, Bool, true, false, if◌then◌else◌, List, [], ◌∷◌, codes, Option, Some, None}
 use Rattle.std.specs.Prelude.{unwrap_or}
 use Rattle.std.proofs.Common.{refl, arith, sym, ap, ◌∙◌, subst}
+use Rattle.deck_limits.specs.declared.TheConstants.{GREATEST_MARGIN}
 use Rattle.board_words.specs.declared.command.Command.{Command}
 use Rattle.board_words.specs.declared.command.Command.TheVariants.{Cuts, Board, Check, Print, Diagram, Make, Help}
 use Rattle.board_words.specs.declared.command.Show.{Show}
@@ -57,7 +58,8 @@ spelling_read command words (said.board options margin most workers all says_mar
     (workers_in (words_of options))) all
     ∙ board_read (margin_in (words_of options)) (most_in (words_of options)) (workers_in (words_of options)) margin most
     workers
-    (number_read 0 4095 (Some 0) board_options (codes "--margin") options margin (omega arith) all says_margin)
+    (number_read 0 GREATEST_MARGIN (Some 0) board_options (codes "--margin") options margin (omega arith) all
+    says_margin)
     (number_read 0 8 (Some 6) board_options (codes "--most") options most (omega arith) all says_most)
     (number_read 1 16 (Some 4) board_options (codes "--workers") options workers (omega arith) all says_workers)
 spelling_read command words said.check = refl
@@ -150,7 +152,7 @@ module _ (command : Command) where
       subst (λ w. Spells command (codes "board" ∷ w)) (sym pairs.are)
       (as_read (Board three.first three.second three.third) (codes "board" ∷ words_of pairs.options) three.is
       (said.board pairs.options three.first three.second three.third pairs.all
-      (number_says 0 4095 (Some 0) (codes "--margin") pairs.options three.first three.one_is)
+      (number_says 0 GREATEST_MARGIN (Some 0) (codes "--margin") pairs.options three.first three.one_is)
       (number_says 0 8 (Some 6) (codes "--most") pairs.options three.second three.two_is)
       (number_says 1 16 (Some 4) (codes "--workers") pairs.options three.third three.three_is)))
 
@@ -262,7 +264,7 @@ within_bounds command words (said.cuts options most workers all says_most says_w
   number_high 1 16 4 (codes "--workers") options workers (omega arith) says_workers,
 )
 within_bounds command words (said.board options margin most workers all says_margin says_most says_workers) = (
-  number_high 0 4095 0 (codes "--margin") options margin (omega arith) says_margin,
+  number_high 0 GREATEST_MARGIN 0 (codes "--margin") options margin (omega arith) says_margin,
   number_high 0 8 6 (codes "--most") options most (omega arith) says_most,
   number_low 1 16 4 (codes "--workers") options workers (omega arith) says_workers,
   number_high 1 16 4 (codes "--workers") options workers (omega arith) says_workers,

@@ -1,6 +1,7 @@
 -- The command that the words of a command line say. The first word is exactly a command, and options with their values
 -- follow it, in any order and each once at most.
 use Rattle.std.specs.Prelude.{ℕ, if◌then◌else◌, List, [], ◌∷◌, codes, Option, Some, None}
+use Rattle.deck_limits.specs.declared.TheConstants.{GREATEST_MARGIN}
 use Rattle.board_words.specs.declared.command.Command.{Command}
 use Rattle.board_words.specs.declared.command.Command.TheVariants.{Cuts, Board, Check, Print, Diagram, Make, Help}
 use Rattle.board_words.specs.declared.command.Show.{Show}
@@ -23,9 +24,9 @@ make_options = codes "--number" ∷ codes "--show" ∷ []
 
 -- ---- what each option says
 
--- a margin of 0 to 4,095, and 0 where it isn't said
+-- a margin, the greatest at most, and 0 where it isn't said
 abbrev pub margin_in : List (List ℕ) → Option ℕ
-margin_in options = number_said 0 4095 (Some 0) (value_of (codes "--margin") options)
+margin_in options = number_said 0 GREATEST_MARGIN (Some 0) (value_of (codes "--margin") options)
 
 -- the most members of a set whose orders are listed, 0 to 8, and 6 where it isn't said
 abbrev pub most_in : List (List ℕ) → Option ℕ

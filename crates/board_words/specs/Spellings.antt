@@ -1,6 +1,7 @@
 -- The spellings of the commands.
 use Rattle.std.specs.Prelude.{◌≡◌, ◌≢◌, ℕ, ◌≤◌, ◌⊎◌, List, [], ◌∷◌, codes, decimal, Option, Some, None}
 use Rattle.std.specs.List.{Any}
+use Rattle.deck_limits.specs.declared.TheConstants.{GREATEST_MARGIN}
 use Rattle.board_words.specs.declared.command.Command.{Command}
 use Rattle.board_words.specs.declared.command.Command.TheVariants.{Cuts, Board, Check, Print, Diagram, Make, Help}
 use Rattle.board_words.specs.declared.command.Show.{Show}
@@ -43,9 +44,9 @@ pub data SaysNumber (least most : ℕ) (default : Option ℕ) (option : List ℕ
       → SaysNumber least most default option options number
   unsaid : Lacks options option → default ≡ Some number → SaysNumber least most default option options number
 
--- a margin of 0 to 4,095, and 0 where it isn't said
+-- a margin, the greatest at most, and 0 where it isn't said
 abbrev pub SaysMargin : List Said → ℕ → Type 0
-SaysMargin options margin = SaysNumber 0 4095 (Some 0) (codes "--margin") options margin
+SaysMargin options margin = SaysNumber 0 GREATEST_MARGIN (Some 0) (codes "--margin") options margin
 
 -- the most members of a set whose orders are listed, 0 to 8, and 6 where it isn't said
 abbrev pub SaysMost : List Said → ℕ → Type 0
@@ -88,7 +89,7 @@ pub data Spells : Command → List (List ℕ) → Type 0 where
 -- the numbers of a command are within their bounds
 abbrev pub IsWithinBounds : Command → Type 0
 IsWithinBounds (Cuts most workers) = (most ≤ 8) × (1 ≤ workers) × (workers ≤ 16)
-IsWithinBounds (Board margin most workers) = (margin ≤ 4095) × (most ≤ 8) × (1 ≤ workers) × (workers ≤ 16)
+IsWithinBounds (Board margin most workers) = (margin ≤ GREATEST_MARGIN) × (most ≤ 8) × (1 ≤ workers) × (workers ≤ 16)
 IsWithinBounds Check = Unit {0}
 IsWithinBounds Print = Unit {0}
 IsWithinBounds (Diagram workers) = (1 ≤ workers) × (workers ≤ 16)

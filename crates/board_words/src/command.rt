@@ -5,6 +5,7 @@ ghost use Rattle.board_words.specs.Command.{most_in, workers_in, show_in, show_s
 
 use crate::Word;
 use crate::options::{are_options, number_said, value_of};
+use deck_limits::GREATEST_MARGIN;
 
 /// What of a made deck is printed.
 #[derive(Clone, Copy, Debug, PartialEq, Eq)]
@@ -103,7 +104,7 @@ fn board(options: &[Word]) -> Option<Command>
     if !are_options(&[b"--margin", b"--most", b"--workers"], options) {
         return None;
     }
-    let margin = number_said(options, b"--margin", 0, 4095, Some(0))?;
+    let margin = number_said(options, b"--margin", 0, GREATEST_MARGIN, Some(0))?;
     let most = most(options)?;
     let workers = workers(options)?;
     Some(Command::Board {

@@ -1,9 +1,10 @@
 //! The words of a command line, and the command that they say.
 //!
-//! It stands on std alone. Its contract gives the layer above the command of the words exactly where they are one. A
-//! list of words is one command at most. Two laws tell the spellings of the commands: each is read as its command, and
-//! nothing else is read as one. [`spoken_words`] are those that a program was started with. A program with words of its
-//! own reads its options by [`are_options`], [`value_of`] and [`number_within`].
+//! It stands on `decimal_numerals` for numbers and on `deck_limits` for the greatest margin. Its contract gives the
+//! layer above the command of the words exactly where they are one. A list of words is one command at most. Two laws
+//! tell the spellings of the commands: each is read as its command, and nothing else is read as one. [`spoken_words`]
+//! are those that a program was started with. A program with words of its own reads its options by [`are_options`],
+//! [`value_of`] and [`number_within`].
 #![tactic(auto)]
 
 mod command;

@@ -6,6 +6,7 @@ use Rattle.std.specs.List.{flat_map}
 use Rattle.std.proofs.lemmas.Bool.{lt-leb}
 use Rattle.fault_model.specs.declared.node.Place.{Place}
 use Rattle.fault_model.specs.Names.{all_differ, has_name}
+use Rattle.crew_script.specs.declared.dockets.TheConstants.{MOST_CREWS, MOST_REQUESTS}
 use Rattle.crew_script.specs.Dockets.{names_of, request_count}
 use Rattle.crew_script.specs.Crews.{said, after, with_ask, crew_fault, request_fault, fault_behind, fault_at}
 use Rattle.crew_script.specs.Crews.{unless_fault, crews_from}
@@ -63,17 +64,17 @@ count_split : (crews more : List Crew) → request_count (crews ++ more) ≡ req
 count_split [] more = omega arith
 count_split (first ∷ crews) more = omega (arith, count_split crews more)
 
-crew_open : (crews : List Crew) (name : List ℕ) → has_name (names_of crews) name ≡ false → length crews < 64
+crew_open : (crews : List Crew) (name : List ℕ) → has_name (names_of crews) name ≡ false → length crews < MOST_CREWS
     → crew_fault crews name ≡ None
-crew_open crews name new few = rw (new, lt-leb 64 (length crews) few) refl
+crew_open crews name new few = rw (new, lt-leb MOST_CREWS (length crews) few) refl
 
-request_open : (crews : List Crew) (crew : Crew) → request_count (crews ++ crew ∷ []) < 100000
+request_open : (crews : List Crew) (crew : Crew) → request_count (crews ++ crew ∷ []) < MOST_REQUESTS
     → request_fault (crews ++ crew ∷ []) ≡ None
 request_open [] crew few =
-    ap (λ b. if b then Some TooManyRequests else None) (lt-leb 100000 (request_count (crew ∷ [])) few)
+    ap (λ b. if b then Some TooManyRequests else None) (lt-leb MOST_REQUESTS (request_count (crew ∷ [])) few)
 request_open (first ∷ crews) crew few =
     ap (λ b. if b then Some TooManyRequests else None)
-    (lt-leb 100000 (request_count (first ∷ (crews ++ crew ∷ []))) few)
+    (lt-leb MOST_REQUESTS (request_count (first ∷ (crews ++ crew ∷ []))) few)
 
 abbrev crew_with : List ℕ → List Ask → Crew
 crew_with name docket = record { name = name; docket = docket }
@@ -83,7 +84,7 @@ record Ran (crews : List Crew) (all : List Line) (end : List Crew) : Type 0 wher
   gives : after_all crews all ≡ end
 
 docket_ran : (crews : List Crew) (name : List ℕ) (front back : List Ask) (rest : List Line) (end : List Crew)
-    → request_count crews + length front + length back ≤ 100000
+    → request_count crews + length front + length back ≤ MOST_REQUESTS
     → Ran (crews ++ crew_with name (front ++ back) ∷ []) rest end
     → Ran (crews ++ crew_with name front ∷ []) (map line.Request back ++ rest) end
 docket_ran crews name front [] rest end few ran =
@@ -105,8 +106,8 @@ docket_ran crews name front (ask ∷ back) rest end few ran =
           moved.gives;
     }
 
-crews_ran : (crews more : List Crew) → all_differ (names_of (crews ++ more)) ≡ true → length (crews ++ more) ≤ 64
-    → request_count (crews ++ more) ≤ 100000
+crews_ran : (crews more : List Crew) → all_differ (names_of (crews ++ more)) ≡ true
+    → length (crews ++ more) ≤ MOST_CREWS → request_count (crews ++ more) ≤ MOST_REQUESTS
     → Ran crews (flat_map lines_for more) (crews ++ more)
 crews_ran crews [] differ few_crews few_requests = record { clean = tt; gives = sym (append-nil crews) }
 crews_ran crews (crew ∷ more) differ few_crews few_requests =
@@ -119,8 +120,8 @@ crews_ran crews (crew ∷ more) differ few_crews few_requests =
     let rest : Ran (crews ++ crew ∷ []) (flat_map lines_for more) (crews ++ crew ∷ more) =
     subst (Ran (crews ++ crew ∷ []) (flat_map lines_for more)) whole
     (crews_ran (crews ++ crew ∷ []) more (subst (λ l. all_differ (names_of l) ≡ true) (sym whole) differ)
-    (subst (λ l. length l ≤ 64) (sym whole) few_crews)
-    (subst (λ l. request_count l ≤ 100000) (sym whole) few_requests)) in
+    (subst (λ l. length l ≤ MOST_CREWS) (sym whole) few_crews)
+    (subst (λ l. request_count l ≤ MOST_REQUESTS) (sym whole) few_requests)) in
     let docket =
     docket_ran crews crew.name [] crew.docket (flat_map lines_for more) (crews ++ crew ∷ more)
     (omega (arith, count, few_requests)) rest in
@@ -147,12 +148,13 @@ fault_is _ _ _ (bad_line crews bytes never) = elim (says_read bytes) [
 fault_is _ _ _ (duplicate_crew crews bytes name says hit) =
     ap (fault_behind crews) (says_one bytes (line.Crew name) says) ∙ rw hit refl
 fault_is _ _ _ (too_many_crews crews bytes name says miss many) =
-    ap (fault_behind crews) (says_one bytes (line.Crew name) says) ∙ rw (miss, le-leb 64 (length crews) many) refl
+    ap (fault_behind crews) (says_one bytes (line.Crew name) says)
+    ∙ rw (miss, le-leb MOST_CREWS (length crews) many) refl
 fault_is _ _ _ (request_before_crew bytes ask says) = ap (fault_behind []) (says_one bytes (line.Request ask) says)
 fault_is _ _ _ (too_many_requests [] bytes ask says some many) = absurd (some refl)
 fault_is _ _ _ (too_many_requests (first ∷ crews) bytes ask says some many) =
     ap (fault_behind (first ∷ crews)) (says_one bytes (line.Request ask) says)
-    ∙ rw (le-leb 100000 (request_count (first ∷ crews)) many) refl
+    ∙ rw (le-leb MOST_REQUESTS (request_count (first ∷ crews)) many) refl
 
 fault_cases : (found : Option CrewCode) → (found ≡ None) ⊎ ((code : CrewCode) × (found ≡ Some code))
 fault_cases None = inl refl

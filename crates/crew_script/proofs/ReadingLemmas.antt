@@ -7,6 +7,7 @@ use Rattle.std.proofs.lemmas.Bool.{cases_Bool}
 use Rattle.std.proofs.lemmas.List.Elements.{All-push, All-nil, All-cons, All-head, All-tail}
 use Rattle.fault_model.specs.Names.{has_name, same_name, all_differ}
 use Rattle.fault_model.specs.Name.{is_name}
+use Rattle.crew_script.specs.declared.dockets.TheConstants.{MOST_CREWS, MOST_REQUESTS}
 use Rattle.crew_script.specs.Dockets.{names_of, request_count, HasMargin, HasMargins, IsDockets}
 use Rattle.crew_script.specs.Crews.{with_ask, crew_fault, request_fault}
 use Rattle.crew_script.specs.Reading.{IsReading}
@@ -43,10 +44,10 @@ crew_new crews name none = elim (cases_Bool (has_name (names_of crews) name)) [
   | inr miss ↦ miss
 ]
 
-pub crew_room : (crews : List Crew) (name : List ℕ) → crew_fault crews name ≡ None → length crews < 64
+pub crew_room : (crews : List Crew) (name : List ℕ) → crew_fault crews name ≡ None → length crews < MOST_CREWS
 crew_room crews name none = grind (arith, none)
 
-pub request_room : (crews : List Crew) → request_fault crews ≡ None → request_count crews < 100000
+pub request_room : (crews : List Crew) → request_fault crews ≡ None → request_count crews < MOST_REQUESTS
 request_room [] none = absurd cc
 request_room (crew ∷ crews) none = grind (arith, none)
 

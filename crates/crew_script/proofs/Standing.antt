@@ -6,6 +6,7 @@ use Rattle.std.specs.List.{flat_map}
 use Rattle.std.proofs.lemmas.Bool.{cases_Bool, leb-true}
 use Rattle.std.proofs.lemmas.List.Concat.{flat_map-append}
 use Rattle.fault_model.specs.Names.{all_differ, has_name}
+use Rattle.crew_script.specs.declared.dockets.TheConstants.{MOST_CREWS, MOST_REQUESTS}
 use Rattle.crew_script.specs.Dockets.{names_of, request_count}
 use Rattle.crew_script.specs.Crews.{said, after, with_ask, crew_fault, request_fault, fault_behind, fault_at}
 use Rattle.crew_script.specs.Crews.{unless_fault, crews_from}
@@ -141,11 +142,11 @@ has_fault crews bytes (line.Crew name) code same some =
           let is : crew_fault crews name ≡ Some DuplicateCrew = rw hit refl in
           subst (HasFault crews bytes) (some_code DuplicateCrew code (sym is ∙ some))
           (duplicate_crew crews bytes name says hit)
-      | inr miss ↦ elim (cases_Bool (nat_le 64 (length crews))) [
+      | inr miss ↦ elim (cases_Bool (nat_le MOST_CREWS (length crews))) [
         | inl many ↦
             let is : crew_fault crews name ≡ Some TooManyCrews = rw (miss, many) refl in
             subst (HasFault crews bytes) (some_code TooManyCrews code (sym is ∙ some))
-            (too_many_crews crews bytes name says miss (leb-true 64 (length crews) many))
+            (too_many_crews crews bytes name says miss (leb-true MOST_CREWS (length crews) many))
         | inr few ↦
             let is : crew_fault crews name ≡ None = rw (miss, few) refl in
             absurd (let clash = sym is ∙ some in cc)
@@ -155,12 +156,12 @@ has_fault [] bytes (line.Request ask) code same some =
     subst (HasFault [] bytes) (some_code RequestBeforeCrew code some)
     (request_before_crew bytes ask (says_it bytes (line.Request ask) same (λ e. absurd cc)))
 has_fault (first ∷ crews) bytes (line.Request ask) code same some =
-    elim (cases_Bool (nat_le 100000 (request_count (first ∷ crews)))) [
+    elim (cases_Bool (nat_le MOST_REQUESTS (request_count (first ∷ crews)))) [
       | inl many ↦
           let is : request_fault (first ∷ crews) ≡ Some TooManyRequests = rw many refl in
           subst (HasFault (first ∷ crews) bytes) (some_code TooManyRequests code (sym is ∙ some))
           (too_many_requests (first ∷ crews) bytes ask (says_it bytes (line.Request ask) same (λ e. absurd cc))
-          (λ e. absurd cc) (leb-true 100000 (request_count (first ∷ crews)) many))
+          (λ e. absurd cc) (leb-true MOST_REQUESTS (request_count (first ∷ crews)) many))
       | inr few ↦
           let is : request_fault (first ∷ crews) ≡ None = rw few refl in
           absurd (let clash = sym is ∙ some in cc)

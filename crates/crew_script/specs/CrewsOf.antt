@@ -30,7 +30,7 @@ abbrev pub lines_for : Crew → List Line
 lines_for crew = line.Crew crew.name ∷ map line.Request crew.docket
 
 -- Lines stand for these crews: they say each crew and then its requests, one crew after the other. The names of the
--- crews differ, and there are at most 64 crews and 100,000 requests.
+-- crews differ, and there are no more crews and requests than may be.
 pub record AreCrews (lines : List (List ℕ)) (crews : List Crew) : Type 0 where
   pub say : Say lines (flat_map lines_for crews)
   pub differ : all_differ (names_of crews) ≡ true

@@ -1,9 +1,10 @@
 -- Crews and their requests.
 use Rattle.std.specs.Prelude.{◌≡◌, ℕ, ◌+◌, ◌≤◌, true, List, [], ◌∷◌, map, length, get_or}
 use Rattle.std.specs.List.{All}
+use Rattle.deck_limits.specs.declared.TheConstants.{GREATEST_MARGIN}
 use Rattle.fault_model.specs.Name.{is_name}
 use Rattle.fault_model.specs.Names.{all_differ}
-use Rattle.crew_script.specs.declared.dockets.TheConstants.{GREATEST_MARGIN, MOST_CREWS, MOST_REQUESTS}
+use Rattle.crew_script.specs.declared.dockets.TheConstants.{MOST_CREWS, MOST_REQUESTS}
 use Rattle.crew_script.specs.declared.dockets.Ask.{Ask}
 use Rattle.crew_script.specs.declared.dockets.Ask.TheVariants.{Take, Return, Margin}
 use Rattle.crew_script.specs.declared.dockets.Crew.{Crew}
@@ -25,7 +26,7 @@ crew_at crews number = get_or crews number (record { name = []; docket = [] })
 abbrev pub ask_at : List Crew → ℕ → ℕ → Ask
 ask_at crews number place = get_or (crew_at crews number).docket place (Margin 0)
 
--- the number of a margin is at most 4,095
+-- the number of a margin is the greatest at most
 abbrev pub HasMargin : Ask → Type 0
 HasMargin (Take names) = Unit {0}
 HasMargin (Return name) = Unit {0}
@@ -39,7 +40,7 @@ pub record AreNamed (crews : List Crew) : Type 0 where
   pub names : All (λ name. is_name name ≡ true) (names_of crews)
   pub differ : all_differ (names_of crews) ≡ true
 
--- at most 64 crews with names that differ, and at most 100,000 requests, of which no margin is above 4,095
+-- crews with names that differ, no more of them and of their requests than may be, and no margin above the greatest
 pub record IsDockets (crews : List Crew) : Type 0 where
   pub few_crews : length crews ≤ MOST_CREWS
   pub named : AreNamed crews

@@ -10,7 +10,7 @@ use Rattle.crew_script.specs.Words.{Word}
 use Rattle.fault_model.specs.Names.{has_name}
 use Rattle.crew_script.specs.Names.{most_taken}
 use Rattle.crew_script.specs.Dockets.{HasMargin}
-use Rattle.crew_script.specs.declared.dockets.TheConstants.{GREATEST_MARGIN}
+use Rattle.deck_limits.specs.declared.TheConstants.{GREATEST_MARGIN}
 use Rattle.crew_script.specs.declared.dockets.Ask.TheVariants.{Take, Return, Margin}
 use Rattle.crew_script.specs.declared.line.Line.{Line}
 use Rattle.crew_script.specs.declared.line.Line.TheVariants.{Nothing, Crew, Request, Bad}
@@ -103,7 +103,7 @@ line_of (first ∷ words) =
     else (if says first (codes "crew") then crew_line (only_name words)
     else request_line first words)
 
--- a margin's number is at most 4,095
+-- a margin's number is the greatest at most
 abbrev pub SaysMargin : Line → Type 0
 SaysMargin Nothing = Unit {0}
 SaysMargin Bad = Unit {0}

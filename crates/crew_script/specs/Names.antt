@@ -1,10 +1,12 @@
 -- The names of a take.
 use Rattle.std.specs.Prelude.{ℕ, Bool, ◌&&◌, nat_le, List, length}
 use Rattle.fault_model.specs.Names.{all_differ}
+use Rattle.crew_script.specs.declared.line.TheConstants.{MOST_TAKEN}
 
+-- the most names of a take
 abbrev pub most_taken : ℕ
-most_taken = 16
+most_taken = MOST_TAKEN
 
--- 1 to 16 different names
+-- different names, one or more, and no more than the most
 abbrev pub are_taken : List (List ℕ) → Bool
 are_taken names = nat_le 1 (length names) && nat_le (length names) most_taken && all_differ names

@@ -4,9 +4,10 @@ ghost use Rattle.std.specs.List.{list_any};
 ghost use Rattle.crew_script.specs.Deck.{is_crews, lines_of, split_of};
 
 use crate::text_lines::TextLines;
+use deck_limits::MOST_BYTES;
 
 /// The most bytes that a deck may have.
-pub const LONGEST_DECK: usize = 16_777_216;
+pub const LONGEST_DECK: usize = MOST_BYTES;
 
 /// Where the crew part of a deck begins: the place of its first byte, and the number of its first line.
 #[derive(Clone, Copy, Debug, PartialEq, Eq)]

@@ -16,9 +16,6 @@ pub const MOST_CREWS: usize = 64;
 /// The most requests of all crews of a deck together.
 pub const MOST_REQUESTS: u32 = 100_000;
 
-/// The greatest margin that a request may ask for, in units.
-pub const GREATEST_MARGIN: u32 = 4095;
-
 /// One request of a crew.
 #[derive(Debug, Drop)]
 pub enum Ask {

@@ -13,9 +13,9 @@ pub enum CrewCode {
     DuplicateCrew,
     /// A request stands before the first crew.
     RequestBeforeCrew,
-    /// There are more than 64 crews.
+    /// There are more crews than `MOST_CREWS`.
     TooManyCrews,
-    /// There are more than 100,000 requests.
+    /// There are more requests than `MOST_REQUESTS`.
     TooManyRequests,
 }
 

@@ -21,6 +21,6 @@ mod word;
 
 pub use crews::read_crews;
 pub use deck::{CrewsAt, LONGEST_DECK, Split, split_deck};
-pub use dockets::{Ask, AskList, Crew, Dockets, GREATEST_MARGIN, MOST_CREWS, MOST_REQUESTS};
+pub use dockets::{Ask, AskList, Crew, Dockets, MOST_CREWS, MOST_REQUESTS};
 pub use fault::{CrewCode, CrewFault};
 pub use names::NameList;

@@ -5,10 +5,11 @@ ghost use Rattle.crew_script.specs.Lines.{line_of, request_line, crew_line, retu
 ghost use Rattle.crew_script.specs.Lines.{only_name, only_margin, margin_of, SaysMargin};
 ghost use Rattle.fault_model.specs.Names.{has_name};
 
-use crate::dockets::{Ask, GREATEST_MARGIN};
+use crate::dockets::Ask;
 use crate::names::NameList;
 use crate::word::{Word, Words};
 use decimal_numerals::{is_numeral, number};
+use deck_limits::GREATEST_MARGIN;
 use fault_model::Name;
 use std::alloc::{AllocError, Global};
 

@@ -3,7 +3,7 @@ use Rattle.std.proofs.Common.{◌≡◌, ℕ, zero, suc, ◌+◌, ◌-◌, ◌<�
 use Rattle.std.proofs.Common.{All, Option, None, Some, slice_get, ap, sym, ◌∙◌, arith, append_assoc}
 use Rattle.std.proofs.lemmas.List.{get_or-map, length-map}
 use Rattle.std.proofs.lemmas.List.Sums.{sum_by-cons}
-use Rattle.unit_sets.specs.CutOrder.{IsOrderedCuts, weight}
+use Rattle.unit_sets.specs.CutOrder.{IsOrderedCuts, weight, weight_limit}
 use Rattle.unit_sets.proofs.CutOrderLemmas.{cut_at}
 use Rattle.unit_sets.proofs.Sorted.{All-slice_get}
 use Rattle.fault_model.specs.Tree.{FaultTree, IsUnitOf}
@@ -21,7 +21,7 @@ length-weight : (cuts : List (List ℕ)) → length cuts ≤ weight cuts
 length-weight [] = omega arith
 length-weight (cut ∷ cuts) = omega (arith, length-weight cuts, sum_by-cons (λ (c : List ℕ). 1 + length c) cut cuts)
 
-pub few_sets : (cuts : List (List ℕ)) → IsOrderedCuts cuts → length cuts ≤ 16777216
+pub few_sets : (cuts : List (List ℕ)) → IsOrderedCuts cuts → length cuts ≤ weight_limit
 few_sets cuts ordered = omega (arith, length-weight cuts, ordered.within)
 
 pub can_start_cut : (tree : FaultTree) (cuts : List (List ℕ)) (i : ℕ) (cut : List ℕ) → IsTree tree → IsOrderedCuts cuts

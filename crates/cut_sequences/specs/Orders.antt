@@ -1,6 +1,7 @@
 -- The orders of each cut set that fail the top event.
 use Rattle.std.specs.Prelude.{ℕ, ◌+◌, ◌<◌, ⊤, Bool, nat_le, is_some, List, [], ◌∷◌, length, map, filter, Option, Some}
 use Rattle.std.specs.Prelude.{None, unwrap_or, slice_index_or, if◌then◌else◌}
+use Rattle.cut_sequences.specs.declared.listing.TheConstants.{ORDER_LIMIT}
 use Rattle.cut_sequences.specs.declared.refusal.OrderEnd.{OrderEnd}
 use Rattle.cut_sequences.specs.declared.refusal.OrderEnd.TheVariants.{OrderLimit, NoMemory}
 use Rattle.fault_model.specs.Tree.{FaultTree}
@@ -30,7 +31,7 @@ order_total (orders ∷ lists) = order_count orders + order_total lists
 
 -- the most orders that are listed over all sets
 abbrev pub order_limit : ℕ
-order_limit = 2000000
+order_limit = ORDER_LIMIT
 
 -- whether the set of a place is listed, and its orders
 abbrev pub is_listed : List (Option (List (List ℕ))) → ℕ → Bool

@@ -6,6 +6,7 @@ ghost use Rattle.std.specs.Prelude.{OnOk};
 ghost use Rattle.std.specs.List.{list_any};
 ghost use Rattle.unit_sets.specs.UnitList.{among, is_within};
 ghost use Rattle.cutset_lists.specs.Sets.{is_short_within};
+ghost use Rattle.cutset_lists.specs.declared.waiting.TheConstants.{UNITS};
 
 use crate::{NoMemory, Sets, UnitNo};
 use flat_rows::GrowingList;
@@ -13,7 +14,7 @@ use std::alloc::Global;
 use unit_sets::UnitSet;
 
 // There are fewer unit numbers than this.
-const UNITS: usize = 4096;
+const UNITS: usize = UnitNo::MAX as usize + 1;
 
 /// A set that waits, by its place in the list, and one more of its units, which tells most sets apart without a look at
 /// them.
@@ -28,7 +29,7 @@ pub struct Waiter {
 pub struct Waiting {
     at: Vec<GrowingList<Waiter>>,
     count: usize,
-    ghost all_units: { vec_len at ≡ 4096 },
+    ghost all_units: { vec_len at ≡ UNITS },
 }
 
 // No waiters at each of some units.

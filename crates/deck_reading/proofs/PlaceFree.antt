@@ -6,6 +6,8 @@ use Rattle.std.specs.Prelude.{◌&&◌, not, filter, if◌then◌else◌, nat_lt
 use Rattle.std.specs.List.{flat_map, list_any}
 use Rattle.std.proofs.lemmas.List.{drop-map, length-map, map-append}
 use Rattle.fault_model.specs.declared.node.GateKind.{GateKind}
+use Rattle.unit_sets.specs.Unit.{most_units}
+use Rattle.fault_model.specs.declared.tree.TheConstants.{MOST_GATES}
 use Rattle.fault_model.specs.declared.node.Place.{Place}
 use Rattle.fault_model.specs.Tree.{is_fdep_kind}
 use Rattle.galileo_tree.specs.declared.raw.Placed.{Placed}
@@ -113,14 +115,16 @@ replicated_aside bs =
 beyond_aside : (bs : List RawBasic) → units_beyond (map unplaced_basic bs) ≡ map away (units_beyond bs)
 beyond_aside bs =
     let at = λ (basic : RawBasic). basic.name.place in
-    ap (map at) (drop-map unplaced_basic 4095 bs) ∙ all_places unplaced_basic at at (λ b. refl) (drop 4095 bs)
+    ap (map at) (drop-map unplaced_basic most_units bs)
+    ∙ all_places unplaced_basic at at (λ b. refl) (drop most_units bs)
 
 -- ---- by the gates
 
 many_aside : (gs : List NumberedGate) → gates_beyond (map unplaced_numbers gs) ≡ map away (gates_beyond gs)
 many_aside gs =
     let at = λ (gate : NumberedGate). gate.name in
-    ap (map at) (drop-map unplaced_numbers 16383 gs) ∙ all_places unplaced_numbers at at (λ g. refl) (drop 16383 gs)
+    ap (map at) (drop-map unplaced_numbers MOST_GATES gs)
+    ∙ all_places unplaced_numbers at at (λ g. refl) (drop MOST_GATES gs)
 
 pub kinds_aside : (gs : List NumberedGate) → kinds (map unplaced_numbers gs) ≡ kinds gs
 kinds_aside gs =

@@ -7,6 +7,7 @@ use Rattle.std.proofs.lemmas.Bool.{eq-eqb, le-ltb, ne_eqb, or_from}
 use Rattle.std.proofs.lemmas.List.{drop-map, drop_all, length-map}
 use Rattle.std.proofs.lemmas.List.Elements.{All-cons, All-head, All-nil, All-tail, All-weaker}
 use Rattle.std.proofs.lemmas.Slice.Zip.{length-zip}
+use Rattle.fault_model.specs.declared.tree.TheConstants.{MOST_GATES}
 use Rattle.fault_model.specs.declared.node.GateKind.{GateKind}
 use Rattle.fault_model.specs.declared.node.GateKind.TheVariants.{And, Or, Votes, Pand, Por, Seq, Fdep, Csp, Wsp, Hsp}
 use Rattle.fault_model.specs.Tree.{FaultTree, IsUnitOf, is_fdep, is_fdep_kind, gate_count, unit_count}
@@ -246,7 +247,7 @@ module _ (tree : FaultTree) (kept : IsTree tree) where
   no_gate_beyond =
       let few = kept.few_gates in
       ap (map (λ (gate : NumberedGate). gate.name))
-      (drop_all 16383 (map G gs) (omega (arith, length-map gs G, length-zip tree.kinds tree.inputs)))
+      (drop_all MOST_GATES (map G gs) (omega (arith, length-map gs G, length-zip tree.kinds tree.inputs)))
 
   -- the inputs are all that is read
   numbers_are : (inputs : List ℕ) → numbers (map N inputs) ≡ inputs

@@ -10,6 +10,7 @@ use Rattle.std.proofs.lemmas.List.Elements.{All-append, All-cons, All-contains, 
 use Rattle.std.proofs.lemmas.List.Elements.{All-map, All-nil, All-tail, All-weaker}
 use Rattle.std.proofs.lemmas.List.FromFn.{get_or-range_with_len, length-map-range_with_len, length-range_with_len}
 use lib.Pointwise.{bytes_decides}
+use Rattle.unit_sets.specs.Unit.{most_units}
 use Rattle.unit_sets.specs.UnitList.{among}
 use Rattle.unit_sets.proofs.UnitListLemmas.{Contains-from_among}
 use Rattle.fault_model.specs.declared.list.Attribute.{Attribute}
@@ -169,7 +170,7 @@ module _ (tree : FaultTree) (kept : IsTree tree) where
       let few = kept.few_units in
       ap units_beyond (basics_are tree kept)
       ∙ ap (map (λ (basic : RawBasic). basic.name.place))
-      (drop_all 4095 (map (basic_at tree kept) (unit_numbers tree))
+      (drop_all most_units (map (basic_at tree kept) (unit_numbers tree))
       (omega (arith, length-map-range_with_len (basic_at tree kept) 1 (unit_count tree))))
 
   -- ---- no cycle

@@ -1,8 +1,9 @@
 //! The edge of the product: where its bytes come from and where they go.
 //!
 //! A source and a sink tell contracts the bytes that they hold or took, where they can, and count their faults. Every
-//! failure to read or to write has such a fault as its cause. Stands on std alone. It gives the layers above an input
-//! read to its end, an output of which a sink always took a front, and one relation, `Puts`, for whatever they put.
+//! failure to read or to write has such a fault as its cause. Stands on `event_counts`, and on `deck_limits` for the
+//! bytes of an input. It gives the layers above an input read to its end, an output of which a sink always took a
+//! front, and one relation, `Puts`, for whatever they put.
 #![tactic(auto)]
 
 mod buffer;

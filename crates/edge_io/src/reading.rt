@@ -5,10 +5,11 @@ ghost use Rattle.event_counts.specs.Count.{Rose};
 ghost use Rattle.edge_io.specs.Reading.{IfTold, ReadsAll};
 
 use crate::{Bytes, Source};
+use deck_limits::MOST_BYTES;
 use std::alloc::{AllocError, Global};
 
-/// The most bytes that an input may have.
-pub const INPUT_LIMIT: usize = 16_777_216;
+/// The most bytes that an input may have: those of a deck.
+pub const INPUT_LIMIT: usize = MOST_BYTES;
 
 // How many bytes are asked for at a time.
 const PIECE: usize = 65_536;

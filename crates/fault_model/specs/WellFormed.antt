@@ -2,6 +2,8 @@
 use Rattle.std.specs.Prelude.{◌≡◌, ◌≢◌, ℕ, ◌≤◌, false, IsTrue, List, [], length, drop, take, flat_map, All, AllPairs}
 use Rattle.std.specs.Prelude.{Contains, codes}
 use Rattle.std.specs.Str.{str_to_ascii_lowercase}
+use Rattle.unit_sets.specs.Unit.{most_units}
+use Rattle.fault_model.specs.declared.tree.TheConstants.{MOST_GATES}
 use Rattle.fault_model.specs.declared.list.Attribute.{Attribute}
 use Rattle.fault_model.specs.declared.node.GateKind.{GateKind}
 use Rattle.fault_model.specs.declared.node.GateKind.TheVariants.{And, Or, Votes, Pand, Por, Seq, Fdep, Csp, Wsp, Hsp}
@@ -88,8 +90,8 @@ pub record IsTree (tree : FaultTree) : Type 0 where
   pub names_all : length tree.names ≡ node_count tree
   pub inputs_all : length tree.inputs ≡ gate_count tree
   pub ranks_all : length tree.ranks ≡ node_count tree
-  pub few_units : unit_count tree ≤ 4095
-  pub few_gates : gate_count tree ≤ 16383
+  pub few_units : unit_count tree ≤ most_units
+  pub few_gates : gate_count tree ≤ MOST_GATES
   pub names_differ : AllPairs (λ earlier later. earlier ≢ later) tree.names
   pub top_is_node : IsNodeOf tree tree.top
   pub top_is_read : is_fdep tree tree.top ≡ false

@@ -33,5 +33,5 @@ pub use node::{GateKind, NodeNo, Place};
 pub use order::Order;
 pub use parts::TreeParts;
 pub use reading::{Scratch, eval_static};
-pub use tree::Tree;
+pub use tree::{MOST_GATES, Tree};
 pub use unit_sets::NoMemory;

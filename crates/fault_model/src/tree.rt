@@ -18,6 +18,9 @@ use std::alloc::Global;
 use std::marker::Model;
 use unit_sets::UnitNo;
 
+/// The most gates of a tree.
+pub const MOST_GATES: usize = 16_383;
+
 /// A fault tree that is well formed. A contract sees it as its parts and the rank of each node.
 #[derive(Drop)]
 pub struct Tree {
@@ -97,7 +100,7 @@ impl Tree {
     /// How many gates there are: G.
     pub fn gates(&self) -> u32
         ensures count { result ≡ gate_count self.now }
-        ensures limit { result ≤ 16383 }
+        ensures limit { result ≤ MOST_GATES }
     {
         self.kinds.as_slice().len() as u32
     }

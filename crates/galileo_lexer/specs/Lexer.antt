@@ -1,5 +1,6 @@
 -- The model of `Lexer`.
 use Rattle.std.specs.Prelude.{ℕ, ◌≤◌, List, [], length, drop, Option, Some, None, Err}
+use Rattle.galileo_lexer.specs.declared.lexer.TheConstants.{LONGEST_TEXT}
 use Rattle.galileo_lexer.specs.declared.lexer.Lexer.TheInside.{Inside}
 use Rattle.galileo_lexer.specs.declared.spot.Spot.{Spot}
 use Rattle.galileo_lexer.specs.declared.token.LexFault.{LexFault}
@@ -15,5 +16,5 @@ abbrev pub still_to_come : Inside → Lexed
 still_to_come a = to_come a.text.now a.spot a.fault
 
 pub record IsLexer (a : Inside) : Type 0 where
-  pub small : length a.text.now ≤ 16777216
+  pub small : length a.text.now ≤ LONGEST_TEXT
   pub spot : IsSpot a.spot a.text.now

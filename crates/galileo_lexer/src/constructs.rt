@@ -6,6 +6,7 @@ ghost use Rattle.galileo_lexer.specs.Lexed.{Between, InLine, InBlock, lexed, fai
 ghost use Rattle.galileo_lexer.specs.Found.{Finds, Passes, fault_at, named};
 
 use crate::bytes::{LINE_FEED, QUOTE, SLASH, STAR, is_quotable, is_word_byte};
+use crate::lexer::LONGEST_TEXT;
 use crate::spot::Spot;
 use crate::token::{LONGEST_NAME, LexCode, LexFault, Token, TokenKind};
 
@@ -18,7 +19,7 @@ pub(crate) enum Found {
 }
 
 fn fault(code: LexCode, spot: Spot) -> LexFault
-    requires offset { spot.offset ≤ 16777216 }
+    requires offset { spot.offset ≤ LONGEST_TEXT }
     requires line { spot.line_start ≤ spot.offset }
     ensures { result ≡ fault_at code spot }
 {
@@ -31,7 +32,7 @@ fn fault(code: LexCode, spot: Spot) -> LexFault
 // The token of one byte.
 #[inline(always)]
 pub(crate) fn mark(kind: TokenKind, spot: Spot) -> Found
-    requires offset { spot.offset < 16777216 }
+    requires offset { spot.offset < LONGEST_TEXT }
     requires line { spot.line_start ≤ spot.offset }
     ensures { result ≡ Found.Token (token_from kind spot (spot.offset + 1)) (along spot (spot.offset + 1)) }
 {
@@ -48,7 +49,7 @@ pub(crate) fn mark(kind: TokenKind, spot: Spot) -> Found
 // The token of a name with so many bytes of text, which ends in front of `end`.
 #[inline(always)]
 fn name(kind: TokenKind, start: Spot, end: usize, size: usize) -> Found
-    requires offset { start.offset ≤ 16777216 }
+    requires offset { start.offset ≤ LONGEST_TEXT }
     requires line { start.line_start ≤ start.offset }
     ensures { result ≡ named kind start end size }
 {
@@ -67,7 +68,7 @@ fn name(kind: TokenKind, start: Spot, end: usize, size: usize) -> Found
 // The word that begins here, as long as its bytes go on.
 #[inline(always)]
 pub(crate) fn word(text: &[u8], start: Spot) -> Found
-    requires small { length text.now ≤ 16777216 }
+    requires small { length text.now ≤ LONGEST_TEXT }
     requires spot { IsSpot start text.now }
     requires inside { start.offset < length text.now }
     requires first { is_word_byte (slice_index text.now start.offset) ≡ true }
@@ -82,7 +83,7 @@ pub(crate) fn word(text: &[u8], start: Spot) -> Found
 
 // The quoted token that begins here.
 pub(crate) fn quoted(text: &[u8], start: Spot) -> Found
-    requires small { length text.now ≤ 16777216 }
+    requires small { length text.now ≤ LONGEST_TEXT }
     requires spot { IsSpot start text.now }
     requires inside { start.offset < length text.now }
     requires first { slice_index text.now start.offset ≡ 34 }
@@ -108,7 +109,7 @@ pub(crate) fn quoted(text: &[u8], start: Spot) -> Found
 
 // The spot behind the comment that this slash begins.
 pub(crate) fn comment_end(text: &[u8], start: Spot) -> Result<Spot, LexFault>
-    requires small { length text.now ≤ 16777216 }
+    requires small { length text.now ≤ LONGEST_TEXT }
     requires spot { IsSpot start text.now }
     requires inside { start.offset < length text.now }
     requires first { slice_index text.now start.offset ≡ 47 }
@@ -128,7 +129,7 @@ pub(crate) fn comment_end(text: &[u8], start: Spot) -> Result<Spot, LexFault>
 
 // The line feed, or the end of the text, that ends a comment.
 fn line_end(text: &[u8], start: Spot) -> Spot
-    requires small { length text.now ≤ 16777216 }
+    requires small { length text.now ≤ LONGEST_TEXT }
     requires spot { IsSpot start text.now }
     ensures same { lexed InLine start (drop start.offset text.now)
         ≡ lexed Between result (drop result.offset text.now) }
@@ -144,7 +145,7 @@ fn line_end(text: &[u8], start: Spot) -> Spot
 
 // The spot behind the first star and slash from here on, in the comment that began at `start`.
 fn block_end(text: &[u8], start: Spot, inside: Spot) -> Result<Spot, LexFault>
-    requires small { length text.now ≤ 16777216 }
+    requires small { length text.now ≤ LONGEST_TEXT }
     requires start { IsSpot start text.now }
     requires spot { IsSpot inside text.now }
     requires onward { start.offset < inside.offset }

@@ -10,10 +10,11 @@ use crate::bytes::{EQUALS, QUOTE, SEMICOLON, SLASH, is_blank, is_word_byte};
 use crate::constructs::{Found, comment_end, mark, quoted, word};
 use crate::spot::Spot;
 use crate::token::{LexCode, LexFault, LexPlace, Token, TokenKind};
+use deck_limits::MOST_BYTES;
 use std::marker::Model;
 
-/// The greatest number of bytes of a text.
-pub const LONGEST_TEXT: usize = 16_777_216;
+/// The greatest number of bytes of a text: those of a deck.
+pub const LONGEST_TEXT: usize = MOST_BYTES;
 
 /// Reads a text token by token. It borrows the text and takes no memory.
 #[derive(Drop)]
@@ -88,7 +89,7 @@ impl<'a> Lexer<'a> {
 // The first token behind the spot, the end of the text or a fault. Blanks and comments are passed over.
 #[inline(always)]
 fn find(text: &[u8], start: Spot) -> Found
-    requires small { length text.now ≤ 16777216 }
+    requires small { length text.now ≤ LONGEST_TEXT }
     requires spot { IsSpot start text.now }
     ensures { Finds text.now (lexed Between start (drop start.offset text.now)) result }
 {
@@ -112,7 +113,7 @@ fn find(text: &[u8], start: Spot) -> Found
 // The token that begins with this byte, which is no blank and no slash.
 #[inline(always)]
 fn token_at(text: &[u8], spot: Spot, byte: u8) -> Found
-    requires small { length text.now ≤ 16777216 }
+    requires small { length text.now ≤ LONGEST_TEXT }
     requires spot { IsSpot spot text.now }
     requires inside { spot.offset < length text.now }
     requires byte { byte ≡ slice_index text.now spot.offset }

@@ -3,6 +3,7 @@ ghost use Rattle.std.specs.Prelude.{◌≡◌, ◌+◌, ◌<◌, ◌≤◌};
 ghost use Rattle.galileo_lexer.specs.Spot.{step, along, place_of};
 
 use crate::bytes::LINE_FEED;
+use crate::lexer::LONGEST_TEXT;
 use crate::token::LexPlace;
 
 /// The next byte's offset in the text, its line, and the offset of that line's first byte.
@@ -28,7 +29,7 @@ impl Spot {
 
     // The spot behind this byte.
     pub(crate) fn step(self, byte: u8) -> Spot
-        requires offset { self.offset < 16777216 }
+        requires offset { self.offset < LONGEST_TEXT }
         requires line { self.line ≤ self.offset + 1 }
         ensures { result ≡ step self byte }
     {
@@ -52,7 +53,7 @@ impl Spot {
     }
 
     pub(crate) fn place(self) -> LexPlace
-        requires offset { self.offset ≤ 16777216 }
+        requires offset { self.offset ≤ LONGEST_TEXT }
         requires line { self.line_start ≤ self.offset }
         ensures { result ≡ place_of self }
     {

@@ -8,7 +8,7 @@ ghost use Rattle.galileo_lexer.specs.Spelling.{IsSpelled};
 use crate::fault::{ParseFault, What};
 use crate::lexeme::Lexeme;
 use fault_model::Place;
-use galileo_lexer::{LexPlace, Lexer, Token, TokenKind, tokens_are_spelled};
+use galileo_lexer::{LONGEST_TEXT, LexPlace, Lexer, Token, TokenKind, tokens_are_spelled};
 use std::marker::Model;
 
 /// A lexer with the text that it reads. A contract sees it as the lexemes that are still to come.
@@ -35,7 +35,7 @@ impl<'a> Model for Reader<'a> {
 
 impl<'a> Reader<'a> {
     pub(crate) fn new(text: &'a [u8]) -> Reader<'a>
-        requires { length text.now ≤ 16777216 }
+        requires { length text.now ≤ LONGEST_TEXT }
         ensures { result ≡ lexemes_of text.now }
     {
         // Each token lies in the text.

@@ -11,7 +11,7 @@ use Rattle.std.proofs.lemmas.Cmp.{nat_cmp_total}
 use Rattle.std.proofs.lemmas.List.{get_or_append_left, get_or_push}
 use Rattle.std.proofs.lemmas.Map.Keys.{Less-from_sorted, sorted_from_all_adjacent}
 use Rattle.unit_sets.specs.CutOrder.{cut_cmp, cut_cmp_total, IsInCutOrder, IsOrderedCuts, IsCutSet}
-use Rattle.unit_sets.specs.Unit.{IsUnit}
+use Rattle.unit_sets.specs.Unit.{IsUnit, most_units}
 use Rattle.unit_sets.specs.UnitList.{IsRising}
 use Rattle.residual_ledger.specs.Residual.{HasUnitsUpTo}
 
@@ -62,7 +62,7 @@ next_set cuts last set place long at ordered less =
     ])
 
 -- no unit of a cut set is above the greatest number that a unit can have
-pub all_known : (cuts : List (List ℕ)) → IsOrderedCuts cuts → HasUnitsUpTo 4095 cuts
+pub all_known : (cuts : List (List ℕ)) → IsOrderedCuts cuts → HasUnitsUpTo most_units cuts
 all_known cuts ordered place d short k e inside =
     let cut : IsCutSet (get_or cuts place d) = ordered.sets place d short in
     let unit : IsUnit (get_or (get_or cuts place d) k e) = cut.units k e inside in

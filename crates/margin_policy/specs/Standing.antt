@@ -1,5 +1,6 @@
 -- A standing as its callers see it, and which requests may be put to it.
 use Rattle.std.specs.Prelude.{◌≡◌, ℕ, ◌+◌, ◌≤◌, List, length, All, Option, Some, None, replicate}
+use Rattle.deck_limits.specs.declared.TheConstants.{GREATEST_MARGIN}
 use Rattle.unit_sets.specs.declared.request.CrewNo.{CrewNo}
 use Rattle.residual_ledger.specs.Ledger.{LedgerView, IsLedgerFor}
 use Rattle.margin_policy.specs.declared.request.Request.{Request}
@@ -25,7 +26,7 @@ abbrev pub IsRequestFor : ℕ → Request → Type 0
 IsRequestFor units (Take asked) = All (λ unit. unit ≤ units) asked.units
 IsRequestFor units (Return None) = Unit {0}
 IsRequestFor units (Return (Some unit)) = unit ≤ units
-IsRequestFor units (Margin number) = number ≤ 4095
+IsRequestFor units (Margin number) = number ≤ GREATEST_MARGIN
 
 -- the reply of a standing to a request of a crew
 abbrev pub reply_of : StandingView → CrewNo → Request → Reply
@@ -44,4 +45,4 @@ pub record KeepsStanding (ledger : LedgerView) (margin : ℕ) (held : Held) : Ty
   pub whole : IsLedgerFor ledger.units ledger.cuts
   pub all : length held ≡ ledger.units + 1
   pub same : ledger.out ≡ units_out held
-  pub within : margin ≤ 4095
+  pub within : margin ≤ GREATEST_MARGIN

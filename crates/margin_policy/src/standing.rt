@@ -1,5 +1,6 @@
 //! Who holds what, at which margin, and the decision on a request.
 ghost use Rattle.std.specs.Prelude.{◌≡◌, ◌≤◌, ◌+◌, ◌++◌, false, length, All, IfOk, None, is_none};
+ghost use Rattle.unit_sets.specs.Unit.{most_units};
 ghost use Rattle.unit_sets.specs.UnitList.{among};
 ghost use Rattle.residual_ledger.specs.Residual.{HasUnitsUpTo};
 ghost use Rattle.residual_ledger.specs.Tight.{tight};
@@ -9,6 +10,7 @@ ghost use Rattle.margin_policy.specs.Decide.{granted_unless, is_supervisor, deci
 ghost use Rattle.margin_policy.specs.Standing.{nothing_held, IsRequestFor, reply_of, after};
 
 use crate::{AskedUnits, Reply, Request};
+use deck_limits::GREATEST_MARGIN;
 use residual_ledger::Ledger;
 use std::alloc::Global;
 use std::marker::Model;
@@ -43,9 +45,6 @@ impl Model for Standing {
 }
 
 impl Standing {
-    /// The greatest margin.
-    pub const MARGIN_LIMIT: u32 = 4095;
-
     /// A standing over a copy of the cut list, with nothing out.
     pub fn new(
         alloc: Global,
@@ -54,9 +53,9 @@ impl Standing {
         margin: u32,
         supervisor: Option<CrewNo>,
     ) -> Result<Standing, NoMemory>
-        requires limit { units ≤ 4095 }
+        requires limit { units ≤ most_units }
         requires known { HasUnitsUpTo units cuts.now }
-        requires margin { margin ≤ 4095 }
+        requires margin { margin ≤ GREATEST_MARGIN }
         ensures { IfOk result (λ standing. standing ≡ record {
           units = units;
           cuts = cuts.now;
@@ -98,7 +97,7 @@ impl Standing {
     /// The margin in force.
     pub fn margin(&self) -> u32
         ensures value { result ≡ self.now.margin }
-        ensures within { result ≤ 4095 }
+        ensures within { result ≤ GREATEST_MARGIN }
     {
         self.margin
     }

@@ -4,6 +4,7 @@ ghost use Rattle.unit_sets.specs.UnitList.{IsRising};
 ghost use Rattle.unit_sets.specs.CutOrder.{IsInCutOrder};
 ghost use Rattle.margin_policy.specs.Standing.{IsRequestFor};
 
+use deck_limits::GREATEST_MARGIN;
 use margin_policy::{AskedUnits, Reply, Request, Standing};
 use std::alloc::Global;
 use std::test::Fail;
@@ -64,7 +65,7 @@ fn standing_of(
 ) -> Result<Standing, Fail>
     ensures { IfOk result (λ standing. standing.units ≡ 4095) }
 {
-    if margin > Standing::MARGIN_LIMIT {
+    if margin > GREATEST_MARGIN {
         return Err("no margin".into());
     }
     let cuts = list_of(alloc, sets)?;
@@ -124,7 +125,7 @@ fn is_in_range(request: &Request) -> bool
         }
         Request::Return(None) => true,
         Request::Return(Some(unit)) => unit.number() <= UnitNo::MAX,
-        Request::Margin(number) => *number <= Standing::MARGIN_LIMIT,
+        Request::Margin(number) => *number <= GREATEST_MARGIN,
     }
 }
 

@@ -7,6 +7,7 @@ use Rattle.std.proofs.lemmas.List.{length-map, length-replicate, get_or-replicat
 use Rattle.std.proofs.lemmas.List.Elements.{All-nil, All-head, All-tail, All-cons}
 use Rattle.unit_sets.specs.declared.request.CrewNo.{CrewNo}
 use Rattle.fault_model.specs.Tree.{FaultTree, unit_count}
+use Rattle.crew_script.specs.declared.dockets.TheConstants.{MOST_REQUESTS}
 use Rattle.crew_script.specs.Dockets.{IsDockets, HasMargin, HasMargins, request_count}
 use Rattle.crew_script.specs.declared.dockets.Ask.{Ask}
 use Rattle.crew_script.specs.declared.dockets.Ask.TheVariants as asks
@@ -110,7 +111,7 @@ module _ (tree : FaultTree) (cuts : List (List ℕ)) (crews : List Crew) (margin
     fits = all_fit tree crews kept.margins;
     total = let e = left_at_first tree crews in omega arith;
     room = roomy;
-    short = short_dockets tree crews 100000 kept.few_requests;
+    short = short_dockets tree crews MOST_REQUESTS kept.few_requests;
     few = let e = length-map crews (requests_of tree) in let f = kept.few_crews in omega arith;
   }
 

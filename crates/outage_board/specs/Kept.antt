@@ -1,6 +1,7 @@
 -- What the fields of a board keep.
 use Rattle.std.specs.Prelude.{◌≡◌, ℕ, ◌+◌, ◌-◌, ◌≤◌, ◌<◌, List, [], ◌∷◌, length, get_or}
 use Rattle.std.specs.List.{All}
+use Rattle.crew_script.specs.declared.dockets.TheConstants.{MOST_CREWS, MOST_REQUESTS}
 use Rattle.crew_script.specs.Dockets.{request_count}
 use Rattle.margin_policy.specs.Standing.{StandingView, IsRequestFor, nothing_held}
 use Rattle.margin_policy.specs.declared.request.Request.{Request}
@@ -27,5 +28,5 @@ pub record KeepsBoard (board : BoardView) (standing : StandingView) (next : List
   pub fits : All (All (IsRequestFor standing.units)) board.deck.dockets
   pub total : length board.history + left_in board.deck.dockets next ≡ request_count board.deck.crews
   pub room : request_count board.deck.crews ≤ reserved
-  pub short : All (λ docket. length docket ≤ 100000) board.deck.dockets
-  pub few : length board.deck.dockets ≤ 64
+  pub short : All (λ docket. length docket ≤ MOST_REQUESTS) board.deck.dockets
+  pub few : length board.deck.dockets ≤ MOST_CREWS

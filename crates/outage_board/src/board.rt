@@ -14,6 +14,7 @@ use crate::state::BoardState;
 use crate::table::{BoardTable, emptied, laid};
 use crate::turns::serve_in_turn;
 use crew_script::Dockets;
+use deck_limits::GREATEST_MARGIN;
 use fault_model::Tree;
 use std::alloc::Global;
 use std::marker::Model;
@@ -55,7 +56,7 @@ impl Board {
         margin: u32,
     ) -> Result<BoardStart, NoMemory>
         requires known { HasUnitsUpTo (unit_count tree.now) cuts.now }
-        requires margin { margin ≤ 4095 }
+        requires margin { margin ≤ GREATEST_MARGIN }
         ensures deck { IfOk result (λ start. start.board.deck ≡ deck_of tree.now cuts.now dockets.now margin) }
         ensures passes { IfOk result (λ start. start.passes.passes ≡ new_passes start.board 0 (length dockets.now)) }
         ensures room { IfOk result (λ start. start.passes.room ≡ length dockets.now) }

@@ -8,7 +8,8 @@ ghost use Rattle.outage_board.specs.Histories.{served, docket_of};
 use crate::Entry;
 use crate::docket::Docket;
 use crate::requests::{all_requests, supervisor_of};
-use crew_script::Dockets;
+use crew_script::{Dockets, MOST_REQUESTS};
+use deck_limits::GREATEST_MARGIN;
 use fault_model::Tree;
 use margin_policy::Standing;
 use std::alloc::Global;
@@ -70,7 +71,7 @@ impl BoardState {
         margin: u32,
     ) -> Result<BoardState, NoMemory>
         requires known { HasUnitsUpTo (unit_count tree.now) cuts.now }
-        requires margin { margin ≤ 4095 }
+        requires margin { margin ≤ GREATEST_MARGIN }
         ensures { IfOk result (λ board. board ≡ record {
           deck = deck_of tree.now cuts.now dockets.now margin;
           history = [];
@@ -94,7 +95,7 @@ impl BoardState {
     fn next_entry(&self, crew: CrewNo) -> Option<Entry>
         requires { crew.0 < length self.now.deck.crews }
         ensures entry { result ≡ next_entry self.now crew }
-        ensures place { IfSome result (λ entry. entry.place < 100000) }
+        ensures place { IfSome result (λ entry. entry.place < MOST_REQUESTS) }
         ensures kept { IsBoard self.now }
     {
         let place = self.places[crew.0 as usize];
@@ -127,7 +128,7 @@ impl BoardState {
         ensures entry { result ≡ next_entry self.old crew }
         ensures board { self.new ≡ with_entry self.old result }
         ensures used_up { IsNone result ↔ IsUsedUp self.old crew.0 }
-        ensures place { IfSome result (λ entry. entry.place < 100000) }
+        ensures place { IfSome result (λ entry. entry.place < MOST_REQUESTS) }
     {
         let entry = self.next_entry(crew)?;
         self.keep(&entry);

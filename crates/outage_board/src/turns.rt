@@ -10,6 +10,7 @@ use crate::rule::{Gives, Takes, TurnRule};
 use crate::state::BoardState;
 use crate::view::View;
 use atomic_table::{Seat, Shared};
+use crew_script::MOST_REQUESTS;
 use std::snapshot::Snapshot;
 use std::sync::Wait;
 use std::thread;
@@ -71,7 +72,7 @@ fn serve_held(words: &Words, place: &mut Place, crew: CrewNo) -> Option<Entry>
     requires crew { crew.0 < length (held place.old.me.1).deck.crews }
     ensures entry { result ≡ next_entry (held place.old.me.1) crew }
     ensures used_up { IsNone result ↔ IsUsedUp (held place.old.me.1) crew.0 }
-    ensures place { IfSome result (λ entry. entry.place < 100000) }
+    ensures place { IfSome result (λ entry. entry.place < MOST_REQUESTS) }
     ensures holds { place.new.me ≡ (place.old.me.0, (0, with_entry (held place.old.me.1) result) ∷ []) }
     ensures stays { StaysPass place.old place.new }
 {
@@ -95,7 +96,7 @@ pub(crate) fn serve_in_turn<W: Wait>(
     ensures place { IfSome result (λ entry. entry.place ≡ length (entries_made place.old.me.0.crews)) }
     ensures request { IfSome result (λ entry.
         slice_get (docket_of place.old.me.0.opened.deck.dockets crew.0) entry.place ≡ Some entry.request) }
-    ensures low { IfSome result (λ entry. entry.place < 100000) }
+    ensures low { IfSome result (λ entry. entry.place < MOST_REQUESTS) }
     ensures made { entries_made place.new.me.0.crews ≡ made_with result (entries_made place.old.me.0.crews) }
     ensures opened { place.new.me.0.opened ≡ place.old.me.0.opened }
     ensures pass { IsPass place.new.me crew }

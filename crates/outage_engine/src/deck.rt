@@ -80,7 +80,7 @@ fn read_parts(
     requires part { size ≡ (split_of bytes.now).tree }
     requires within { size ≤ length bytes.now }
     requires start { IfSome at (λ crews. crews.start ≤ length bytes.now) }
-    requires line { IfSome at (λ crews. crews.line ≤ 16777217) }
+    requires line { IfSome at (λ crews. crews.line ≤ INPUT_LIMIT + 1) }
     ensures tree { IfOk result (λ deck. StandsFor bytes.now deck.tree) }
     ensures crews { IfOk result (λ deck. crews_said (crews_behind bytes.now at) ≡ Ok deck.crews) }
     ensures end { IfErr result (IsPartsEnd bytes.now (crews_said (crews_behind bytes.now at))) }
@@ -156,7 +156,7 @@ fn end_of(fault: ParseFault) -> DeckEnd
 fn crews_at(alloc: Global, bytes: &[u8], at: Option<CrewsAt>) -> Result<Option<Dockets>, DeckEnd>
     requires short { length bytes.now ≤ INPUT_LIMIT }
     requires start { IfSome at (λ crews. crews.start ≤ length bytes.now) }
-    requires line { IfSome at (λ crews. crews.line ≤ 16777217) }
+    requires line { IfSome at (λ crews. crews.line ≤ INPUT_LIMIT + 1) }
     ensures crews { IfOk result (λ crews. crews_said (crews_behind bytes.now at) ≡ Ok crews) }
     ensures end { IfErr result (IsCrewEnd (crews_said (crews_behind bytes.now at))) }
 {
@@ -170,7 +170,7 @@ fn crews_at(alloc: Global, bytes: &[u8], at: Option<CrewsAt>) -> Result<Option<D
 fn crews_in(alloc: Global, bytes: &[u8], at: CrewsAt) -> Result<Dockets, DeckEnd>
     requires short { length bytes.now ≤ INPUT_LIMIT }
     requires start { at.start ≤ length bytes.now }
-    requires line { at.line ≤ 16777217 }
+    requires line { at.line ≤ INPUT_LIMIT + 1 }
     ensures crews { IfOk result (λ dockets. crews_of at.line (drop at.start bytes.now) ≡ Ok dockets) }
     ensures end { IfErr result (IsCrewEnd (crews_of at.line (drop at.start bytes.now))) }
 {

@@ -19,6 +19,7 @@ use crate::listing::{Listing, list_tree};
 use crate::refusal::RunEnd;
 use board_words::{Command, Word, numbers_are_within_bounds, read};
 use crew_script::Dockets;
+use deck_limits::GREATEST_MARGIN;
 use edge_io::{NoMemory, Source};
 use fault_model::Tree;
 use outage_board::{Board, BoardStart};
@@ -78,7 +79,7 @@ fn open_input<R: Threads + Sync, S: Source>(
     store: &NodeStore,
     seat: &mut StoreSeat,
 ) -> Result<Opened, RunEnd>
-    requires margin { margin ≤ 4095 }
+    requires margin { margin ≤ GREATEST_MARGIN }
     requires most { most ≤ 8 }
     requires some { 1 ≤ workers }
     requires few { workers ≤ 16 }
@@ -112,7 +113,7 @@ fn open_deck<R: Threads + Sync>(
     store: &NodeStore,
     seat: &mut StoreSeat,
 ) -> Result<Opened, RunEnd>
-    requires margin { margin ≤ 4095 }
+    requires margin { margin ≤ GREATEST_MARGIN }
     requires most { most ≤ 8 }
     requires some { 1 ≤ workers }
     requires few { workers ≤ 16 }
@@ -138,7 +139,7 @@ fn open_listing(
     listing: Listing,
     dockets: &Dockets,
 ) -> Result<Opened, NoMemory>
-    requires margin { margin ≤ 4095 }
+    requires margin { margin ≤ GREATEST_MARGIN }
     requires units { IsOfUnits listing }
     ensures opened { IfOk result (IsOpenedWith margin listing (Some dockets.now)) }
 {

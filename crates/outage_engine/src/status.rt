@@ -22,15 +22,15 @@ pub enum Status {
     Done(Method),
     /// The deck has this fault first.
     Refused(DeckFault),
-    /// The cut list weighs more than 16,777,216: 1 for each set and 1 for each member.
+    /// The cut list weighs more than `CutList::WEIGHT_LIMIT`: 1 for each set and 1 for each member.
     ListLimit,
-    /// The sets that are small enough have more than 2,000,000 failing orders.
+    /// The sets that are small enough have more failing orders than `ORDER_LIMIT`.
     OrderLimit,
     /// The words are no command.
     Usage,
     /// The source failed.
     ReadFault,
-    /// The source has more than 16,777,216 bytes.
+    /// The source has more than `INPUT_LIMIT` bytes.
     TooLong,
     /// The sink failed.
     WriteFault,

@@ -7,7 +7,8 @@ use Rattle.std.proofs.lemmas.Bool.{cases_eq, cases_order, cond-true, cond-false}
 use Rattle.std.proofs.lemmas.List.{take_more, take_all, get_or_append_left, get_or_push, get_or-take, get_or-drop}
 use Rattle.std.proofs.lemmas.List.{get_or-replicate, length-replicate, ext_get_or, get_or_default, get_or_read}
 use Rattle.std.proofs.lemmas.List.{length-take-le}
-use Rattle.unit_sets.specs.CutOrder.{IsCutSet}
+use Rattle.unit_sets.specs.CutOrder.{IsCutSet, weight_limit}
+use Rattle.unit_sets.specs.Unit.{most_units}
 use Rattle.unit_sets.specs.UnitList.{among, IsRising}
 use Rattle.residual_ledger.specs.Residual.{cut_at, HasUnitsUpTo}
 use Rattle.residual_ledger.specs.Holding.{holding_below, holding, holders, start_of, between, IsFilling, HoldsFirst}
@@ -89,11 +90,12 @@ beginning-more old ends start number short was =
       rest = λ k h. get_or-set_other ends number k start 0 (λ e. absurd (omega arith)) ∙ was.rest k (omega arith);
     }
 
-pub beginning-room : (old ends : List ℕ) (start number : ℕ) → number < length old → length old ≤ 4096
-    → All (λ size. size ≤ 16777216) old → IsBeginning old ends start number → start + get_or ends number 0 ≤ 68719476736
+pub beginning-room : (old ends : List ℕ) (start number : ℕ) → number < length old → length old ≤ most_units + 1
+    → All (λ size. size ≤ weight_limit) old → IsBeginning old ends start number
+    → start + get_or ends number 0 ≤ (most_units + 1) * weight_limit
 beginning-room old ends start number short few small was =
-    let low : start_of (λ k. get_or old k 0) number ≤ number * 16777216 =
-    start_of-le (λ k. get_or old k 0) 16777216 number (λ k h. small k 0 (omega arith)) in
+    let low : start_of (λ k. get_or old k 0) number ≤ number * weight_limit =
+    start_of-le (λ k. get_or old k 0) weight_limit number (λ k h. small k 0 (omega arith)) in
     omega (arith, was.so_far, was.rest number (omega arith), small number 0 short)
 
 -- ---- one number more in a row

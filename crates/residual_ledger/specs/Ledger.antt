@@ -1,6 +1,7 @@
 -- A ledger as its callers see it, and what it keeps.
 use Rattle.std.specs.Prelude.{◌≡◌, ℕ, ◌≤◌, ◌<◌, Bool, true, false, List}
 use Rattle.unit_sets.specs.CutOrder.{IsOrderedCuts}
+use Rattle.unit_sets.specs.Unit.{most_units}
 use Rattle.unit_sets.specs.UnitList.{among}
 use Rattle.residual_ledger.specs.Residual.{cut_at, HasUnitsUpTo}
 use Rattle.residual_ledger.specs.Holding.{HasRows}
@@ -14,7 +15,7 @@ pub record LedgerView : Type 0 where
 
 -- the units up to a number are all that there are, and there are no more than a unit's number allows
 pub record IsLedgerFor (units : ℕ) (cuts : List (List ℕ)) : Type 0 where
-  pub limit : units ≤ 4095
+  pub limit : units ≤ most_units
   pub ordered : IsOrderedCuts cuts
   pub known : HasUnitsUpTo units cuts
 

@@ -1,5 +1,7 @@
 //! For each unit the cut sets that hold it: one row of their places after another, in one buffer.
 ghost use Rattle.std.specs.Prelude.{◌≡◌, ◌≤◌, ◌<◌, ◌-◌, ◌+◌, length, slice_index, vec_len, IfOk, All};
+ghost use Rattle.unit_sets.specs.CutOrder.{weight_limit};
+ghost use Rattle.unit_sets.specs.Unit.{most_units};
 ghost use Rattle.unit_sets.specs.UnitList.{IsRising};
 ghost use Rattle.residual_ledger.specs.Residual.{cut_at, HasUnitsBelow};
 ghost use Rattle.residual_ledger.specs.Kept.{IsOneMore};
@@ -22,7 +24,7 @@ pub struct Holding {
 fn count_members(sizes: &mut [usize], members: &[UnitNo])
     requires rising { IsRising members.now }
     requires known { All (λ unit. unit < length sizes.old) members.now }
-    requires room { All (λ size. size ≤ 16777216) sizes.old }
+    requires room { All (λ size. size ≤ weight_limit) sizes.old }
     ensures { IsOneMore members.now sizes.old sizes.new }
 {
     for unit in members {
@@ -44,8 +46,8 @@ fn count_sets(alloc: Global, units: u32, cuts: &CutList) -> Result<Vec<usize>, N
 
 // Puts in place of each size where its row begins, and says where the last row ends.
 fn begin_rows(ends: &mut [usize]) -> usize
-    requires few { length ends.old ≤ 4096 }
-    requires small { All (λ size. size ≤ 16777216) ends.old }
+    requires few { length ends.old ≤ most_units + 1 }
+    requires small { All (λ size. size ≤ weight_limit) ends.old }
     ensures total { result ≡ start_of (slice_index ends.old) (length ends.old) }
     ensures begins { HasStarts (slice_index ends.old) ends.new }
 {

@@ -1,6 +1,7 @@
 //! The ledger, and the first cut set that is left with too few members.
 ghost use Rattle.std.specs.Prelude.{◌≡◌, ◌≤◌, ◌<◌, ◌+◌, [], ◌∷◌, ◌++◌, true, false, length, filter, All, IfOk};
 ghost use Rattle.std.specs.Prelude.{position, ◌^◌};
+ghost use Rattle.unit_sets.specs.Unit.{most_units};
 ghost use Rattle.unit_sets.specs.UnitList.{among, with_unit, without_unit, IsUnitSet};
 ghost use Rattle.residual_ledger.specs.Residual.{residual, cut_at, HasUnitsUpTo};
 ghost use Rattle.residual_ledger.specs.Tight.{is_tight};
@@ -51,7 +52,7 @@ fn copied(cuts: &CutList) -> Result<CutList, NoMemory>
 impl Ledger {
     /// A ledger over a copy of the list, with no unit out.
     pub fn new(alloc: Global, units: u32, cuts: &CutList) -> Result<Ledger, NoMemory>
-        requires limit { units ≤ 4095 }
+        requires limit { units ≤ most_units }
         requires known { HasUnitsUpTo units cuts.now }
         ensures { IfOk result (λ ledger. ledger ≡ record { units = units; cuts = cuts.now; out = [] }) }
     {

@@ -2,6 +2,8 @@
 use Rattle.std.proofs.Common.{◌≡◌, ◌+◌, ◌≤◌, List, [], ◌∷◌, length, map, sym, ap, subst, arith, length-append}
 use Rattle.std.specs.Prelude.{if◌then◌else◌, All}
 use Rattle.std.proofs.lemmas.List.{length-map}
+use Rattle.unit_sets.specs.Unit.{most_units}
+use Rattle.fault_model.specs.declared.tree.TheConstants.{MOST_GATES}
 use Rattle.fault_model.specs.declared.node.Place.{Place}
 use Rattle.galileo_tree.specs.declared.raw.RawTop.{RawTop}
 use Rattle.galileo_tree.specs.declared.raw.RawGate.{RawGate}
@@ -64,15 +66,15 @@ module _ (statements : List Statement) (deck : NumberedText) (is : IsDeckOf (nam
       by [] none = absurd cc
       by (t ∷ ts) none = omega arith
 
-  pub deck_few_units : units_beyond (basics statements) ≡ [] → deck.units ≤ 4095
+  pub deck_few_units : units_beyond (basics statements) ≡ [] → deck.units ≤ most_units
   deck_few_units none =
-      omega (arith, is.units, none_beyond (λ (basic : RawBasic). basic.name.place) 4095 (basics statements) none)
+      omega (arith, is.units, none_beyond (λ (basic : RawBasic). basic.name.place) most_units (basics statements) none)
 
-  pub deck_few_gates : gates_beyond (numbered_gates statements) ≡ [] → length deck.gates.items ≤ 16383
+  pub deck_few_gates : gates_beyond (numbered_gates statements) ≡ [] → length deck.gates.items ≤ MOST_GATES
   deck_few_gates none =
       omega (
         arith,
         ap length is.gates_all,
-        none_beyond (λ (gate : NumberedGate). gate.name) 16383
+        none_beyond (λ (gate : NumberedGate). gate.name) MOST_GATES
             (numbered_gates statements) none,
       )

@@ -8,6 +8,8 @@ use Rattle.std.proofs.lemmas.Bool.{and_cases, not-false}
 use Rattle.std.proofs.lemmas.List.{length-map}
 use Rattle.std.proofs.lemmas.List.Elements.{All-map}
 use lib.Pointwise.{bytes_decides}
+use Rattle.unit_sets.specs.Unit.{most_units}
+use Rattle.fault_model.specs.declared.tree.TheConstants.{MOST_GATES}
 use Rattle.fault_model.specs.declared.node.Place.{Place}
 use Rattle.fault_model.specs.Tree.{unit_count, gate_count, node_count, is_fdep, IsNodeOf}
 use Rattle.fault_model.specs.Tree as trees
@@ -201,14 +203,14 @@ IsTree-faultless read ranks form apart before after ranked_all ranked = record {
       omega (
         arith,
         units_are read ranks,
-        none_beyond (λ (basic : RawBasic). basic.name.place) 4095
+        none_beyond (λ (basic : RawBasic). basic.name.place) most_units
             (basics read.statements) after.0,
       );
   few_gates =
       omega (
         arith,
         length-map (numbered_gates read.statements) (λ (gate : NumberedGate). gate.kind),
-        none_beyond (λ (gate : NumberedGate). gate.name) 16383 (numbered_gates read.statements) after.1.0,
+        none_beyond (λ (gate : NumberedGate). gate.name) MOST_GATES (numbered_gates read.statements) after.1.0,
       );
   names_differ = pairs_differ (names read.statements) apart;
   top_is_node = top_known read ranks form before;

@@ -3,6 +3,8 @@ use Rattle.std.specs.Prelude.{ℕ, Bool, true, false, nat_lt, ◌==◌, ◌&&◌
 use Rattle.std.specs.Prelude.{map, filter, Option, Some, None, if◌then◌else◌, codes}
 use Rattle.std.specs.List.{flat_map, list_any}
 use Rattle.std.specs.Str.{str_eq_ignore_ascii_case}
+use Rattle.unit_sets.specs.Unit.{most_units}
+use Rattle.fault_model.specs.declared.tree.TheConstants.{MOST_GATES}
 use Rattle.fault_model.specs.declared.node.Place.{Place}
 use Rattle.fault_model.specs.declared.node.GateKind.{GateKind}
 use Rattle.fault_model.specs.declared.node.GateKind.TheVariants.{And, Or, Votes, Pand, Por, Seq, Fdep, Csp, Wsp, Hsp}
@@ -59,12 +61,12 @@ abbrev pub replicated : List RawBasic → List Place
 replicated basics =
     flat_map (λ basic. map (λ raw. raw.value_place) (filter is_replicated basic.attributes)) basics
 
--- basic events beyond 4,095, and gates beyond 16,383
+-- basic events and gates beyond the most of a tree
 abbrev pub units_beyond : List RawBasic → List Place
-units_beyond basics = map (λ basic. basic.name.place) (drop 4095 basics)
+units_beyond basics = map (λ basic. basic.name.place) (drop most_units basics)
 
 abbrev pub gates_beyond : List NumberedGate → List Place
-gates_beyond gates = map (λ gate. gate.name) (drop 16383 gates)
+gates_beyond gates = map (λ gate. gate.name) (drop MOST_GATES gates)
 
 -- ---- by the gates
 

@@ -1,5 +1,6 @@
 //! The parts of the tree that statements stand for, once no fault is found.
 ghost use Rattle.std.specs.Prelude.{◌≡◌, ◌+◌, ◌≤◌, ◌++◌, ℕ, List, length, All, IfOk, OnOk};
+ghost use Rattle.unit_sets.specs.Unit.{most_units};
 ghost use Rattle.fault_model.specs.Tree.{ranked};
 ghost use Rattle.tree_check.specs.Said.{names};
 ghost use Rattle.tree_check.specs.Numbered.{kinds, kept_inputs};
@@ -11,8 +12,8 @@ ghost use Rattle.tree_check.specs.Assembling.{attributes_in, Takes, IsTakenOf};
 use crate::gates::{drops_fdeps, is_fdep};
 use crate::numbered::{Numbered, NumberedGate, NumberedText};
 use fault_model::{
-    AttributeList, AttributeLists, InputLists, KindList, Name, NameTable, NoMemory, NodeList,
-    NodeNo, TreeParts,
+    AttributeList, AttributeLists, InputLists, KindList, MOST_GATES, Name, NameTable, NoMemory,
+    NodeList, NodeNo, TreeParts,
 };
 use galileo_tree::{RawAttributes, RawBasic, RawGate, Statement};
 use std::alloc::Global;
@@ -150,8 +151,8 @@ pub(crate) fn assemble(
     requires inputs { AreWithin (deck.units + length deck.gates.items) deck.gates.items }
     requires top { first_number deck.tops.items ≤ deck.units + length deck.gates.items }
     requires some_top { 1 ≤ length deck.tops.items }
-    requires few_units { deck.units ≤ 4095 }
-    requires few_gates { length deck.gates.items ≤ 16383 }
+    requires few_units { deck.units ≤ most_units }
+    requires few_gates { length deck.gates.items ≤ MOST_GATES }
     ensures { IfOk result (λ parts. (ranks : List ℕ) → ranked parts ranks ≡ tree_of statements.items ranks) }
 {
     let kinds = kinds_of(alloc, &deck.gates)?;

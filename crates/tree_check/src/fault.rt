@@ -33,9 +33,9 @@ pub enum CheckCode {
     TopIsFdep,
     /// A definition leads to itself.
     Cycle,
-    /// There are more than 4,095 basic events.
+    /// There are more basic events than `UnitNo::MAX`.
     TooManyUnits,
-    /// There are more than 16,383 gates.
+    /// There are more gates than `MOST_GATES`.
     TooManyGates,
 }
 

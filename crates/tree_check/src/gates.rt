@@ -7,10 +7,7 @@ ghost use Rattle.tree_check.specs.Classes.{gates_beyond, places_where, dummies, 
 ghost use Rattle.tree_check.specs.Classes.{gates_after_first, dependent_gates, spare_gates, fdep_tops};
 
 use crate::numbered::{Numbered, NumberedGate};
-use fault_model::{GateKind, Place};
-
-/// The most gates of a tree.
-const MOST_GATES: usize = 16383;
+use fault_model::{GateKind, MOST_GATES, Place};
 
 /// The first gate K of N of which K is 0 or above N, or that has not N inputs.
 pub(crate) fn wrong_vote(gates: &[NumberedGate]) -> Option<Place>

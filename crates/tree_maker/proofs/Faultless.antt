@@ -10,6 +10,8 @@ use Rattle.std.proofs.lemmas.List.Folds.{flat_map-map}
 use Rattle.std.proofs.lemmas.List.FromFn.{length-map-range_with_len, length-range_with_len}
 use Rattle.fault_model.specs.declared.node.GateKind.{GateKind}
 use Rattle.fault_model.specs.declared.node.GateKind.TheVariants.{Fdep}
+use Rattle.unit_sets.specs.Unit.{most_units}
+use Rattle.fault_model.specs.declared.tree.TheConstants.{MOST_GATES}
 use Rattle.fault_model.specs.declared.node.Place.{Place}
 use Rattle.fault_model.specs.Tree.{is_fdep_kind}
 use Rattle.galileo_tree.specs.declared.raw.Placed.{Placed}
@@ -226,10 +228,10 @@ module _ (count fdeps : ℕ) (place : ℕ → ℕ) (some : 1 ≤ count) (few : c
         acyclic = no_cycle;
         after = (
           ap (map (λ (basic : RawBasic). basic.name.place))
-              (drop_all 4095 (basics text) (omega (arith, count_of_units))),
+              (drop_all most_units (basics text) (omega (arith, count_of_units))),
           (
             ap (map (λ (gate : NumberedGate). gate.name))
-                (drop_all 16383 (numbered_gates text) (omega (arith, count_of_gates))),
+                (drop_all MOST_GATES (numbered_gates text) (omega (arith, count_of_gates))),
             tt,
           ),
         );

@@ -6,6 +6,7 @@ use Rattle.std.specs.List.Sorted.{IsStrictlySortedBy}
 use Rattle.std.specs.Ordering.{nat_cmp, on, then_cmp}
 use Rattle.std.specs.declared.cmp.Ordering.{Ordering}
 use Rattle.std.proofs.lemmas.Cmp.{nat_cmp_total, nat_list_cmp_total, on_total, then_total}
+use Rattle.unit_sets.specs.declared.cut_list.TheConstants.CutList.{WEIGHT_LIMIT}
 use Rattle.unit_sets.specs.Unit.{IsUnit}
 use Rattle.unit_sets.specs.UnitList.{IsRising}
 
@@ -27,7 +28,7 @@ weight cuts = sum_by (λ cut. 1 + length cut) cuts
 
 -- the most that a list may weigh
 abbrev pub weight_limit : ℕ
-weight_limit = 16777216
+weight_limit = WEIGHT_LIMIT
 
 -- a set that a list may have: some units, each once, in rising order
 pub record IsCutSet (cut : List ℕ) : Type 0 where

@@ -24,7 +24,7 @@ impl Model for UnitNo {
 }
 
 impl UnitNo {
-    /// The greatest number of a unit.
+    /// The greatest number of a unit, and so the most units of a tree.
     pub const MAX: u16 = 4095;
 
     /// The unit with this number, or `None` where no unit can have it.

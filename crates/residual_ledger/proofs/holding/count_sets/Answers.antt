@@ -1,5 +1,6 @@
 use Rattle.std.proofs.Common.{◌≡◌, ◌+◌, ℕ, List, length, replicate, take, drop, take_at, ◌++◌, rules, subst, sym, arith}
 use Rattle.std.proofs.lemmas.List.{length-replicate}
+use Rattle.unit_sets.specs.CutOrder.{weight_limit}
 use Rattle.unit_sets.proofs.CutOrderLemmas.{cut_at as set_at}
 use Rattle.residual_ledger.specs.Kept.{IsOneMore}
 use Rattle.residual_ledger.proofs.CutLemmas.{cut_at-is}
@@ -35,7 +36,7 @@ pub count_members-requires-clause-room : goal.count_members-requires-clause-room
 count_members-requires-clause-room c =
     let cuts = c.args.cuts.now in
     rw c.as_mut_slice.ensures.value
-    (counting-le cuts c.loop-place.place 16777216 c.loop-place.sizes.items
+    (counting-le cuts c.loop-place.place weight_limit c.loop-place.sizes.items
     (omega (arith, few_cuts cuts, c.requires.ordered.within)) c.loop-place.invariant.counted)
 
 pub loop-place-preserved : goal.loop-place-preserved

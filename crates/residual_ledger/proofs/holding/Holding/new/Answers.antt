@@ -1,5 +1,6 @@
 use Rattle.std.proofs.Common.{◌≡◌, ◌+◌, ℕ, List, length, get_or, take_at, subst, sym, ◌∙◌, arith}
 use Rattle.std.proofs.lemmas.Grind.{common_steps}
+use Rattle.unit_sets.specs.CutOrder.{weight_limit}
 use Rattle.residual_ledger.specs.Holding.{HasSizes, HoldsFirst, HasStarts, HasRows, start_of}
 use Rattle.residual_ledger.proofs.LedgerFacts.{few_cuts}
 use Rattle.residual_ledger.proofs.FillingLemmas.{sizes-le, begun, all_filled}
@@ -9,7 +10,7 @@ pub begin_rows-total-requires-clause-small : goal.begin_rows-total-requires-clau
 begin_rows-total-requires-clause-small c =
     let cuts = c.args.cuts.now in
     rw c.as_mut_slice.ensures.value
-    (sizes-le c.args.units 16777216 cuts c.in_ok-ends.ends.items
+    (sizes-le c.args.units weight_limit cuts c.in_ok-ends.ends.items
     (omega (arith, few_cuts cuts, c.requires.ordered.within)) c.in_ok-ends.ensures)
 
 pub put_sets-requires-clause-first : goal.put_sets-requires-clause-first
