@@ -39,8 +39,8 @@ pub(crate) fn meet(store: &NodeStore, seat: &mut StoreSeat, worker: &mut Worker)
     store.join(seat, told);
 }
 
-// How many nodes the memory of a worker takes. That of the first, which makes most nodes of a tree, takes as many as may
-// be, and those of the others as many as a tree with so many gates asks for.
+// How many nodes the memory of a worker takes. That of the first, which makes most nodes of a tree, takes as many as
+// may be, and those of the others as many as a tree with so many gates asks for.
 fn nodes_of(number: usize, tree: &Tree, own_nodes: usize) -> usize
     ensures { result ≤ own_nodes }
 {
