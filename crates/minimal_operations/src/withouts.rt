@@ -6,7 +6,7 @@ ghost use Rattle.family_memory.specs.Memory.{Gave, Has, RanOut, family_in, map_o
 ghost use Rattle.minimal_operations.specs.Ends.{GoesOn, IsWithoutEnd};
 
 use crate::halves::half_at;
-use crate::nodes::make;
+use crate::nodes::make_or_known;
 use family_memory::{FamilyMemory, Spent};
 use kept_answers::{Entry, Operation, Question};
 use zdd_words::NodeRef;
@@ -175,5 +175,6 @@ fn strip_halves(memory: &mut FamilyMemory, a: NodeRef, b: NodeRef) -> Result<Nod
     let lo = strip(memory, one.lo, other.lo)?;
     let some = strip(memory, one.hi, other.hi)?;
     let hi = strip(memory, some, other.lo)?;
-    make(memory, one.level, lo, hi)
+    // As a rule nothing is lost.
+    make_or_known(memory, a, one.level, lo, hi)
 }

@@ -7,8 +7,8 @@ use Rattle.kept_answers.specs.declared.answers.Operation.TheVariants.{Without}
 use Rattle.minimal_operations.proofs.Ends.{without_ends}
 use Rattle.minimal_operations.proofs.Telling.{told_made}
 use Rattle.minimal_operations.proofs.Steps.{levels_from}
-use Rattle.minimal_operations.proofs.WithoutSteps.{lo_fewer, some_fewer, went_some, hi_fewer, has_lo, lo_above}
-use Rattle.minimal_operations.proofs.WithoutSteps.{hi_above, antichain, left_made}
+use Rattle.minimal_operations.proofs.WithoutSteps.{lo_fewer, some_fewer, went_some, went_hi, hi_fewer, has_lo}
+use Rattle.minimal_operations.proofs.WithoutSteps.{lo_above, hi_above, antichain, left_made}
 use Rattle.minimal_operations.proofs.withouts.+strip.Goals as goal
 
 pub strip-returns-in-Some : goal.strip-returns-in-Some
@@ -85,29 +85,39 @@ strip_halves-strip-requires-3 t c =
     let has' = c.half_at-other.ensures.has_lo in
     (omega (arith, fewer), (c.in_ok-some.ensures.has, omega (arith, longer, has')))
 
-pub strip_halves-make-requires-clause-has_lo : goal.strip_halves-make-requires-clause-has_lo
-strip_halves-make-requires-clause-has_lo t c =
+pub strip_halves-make_or_known-requires-clause-has_known : goal.strip_halves-make_or_known-requires-clause-has_known
+strip_halves-make_or_known-requires-clause-has_known t c =
+    let longer =
+    (went_hi c.args.memory.now c.args.a c.args.b c.parts-one.result c.half_at-other.result c.is_sound.ensures
+    c.requires.has_a c.parts-one.ensures c.half_at-other.ensures c.strip.new.memory c.in_ok-lo.lo c.in_ok-lo.ensures
+    c.strip-2.new.memory c.in_ok-some.some c.in_ok-some.ensures c.strip-3.new.memory c.in_ok-hi.hi
+    c.in_ok-hi.ensures).longer in
+    let has = c.requires.has_a in
+    omega (arith, longer, has)
+
+pub strip_halves-make_or_known-requires-clause-has_lo : goal.strip_halves-make_or_known-requires-clause-has_lo
+strip_halves-make_or_known-requires-clause-has_lo t c =
     has_lo c.args.memory.now c.args.a c.args.b c.parts-one.result c.half_at-other.result c.is_sound.ensures
     c.requires.has_a c.parts-one.ensures c.half_at-other.ensures c.strip.new.memory c.in_ok-lo.lo c.in_ok-lo.ensures
     c.strip-2.new.memory c.in_ok-some.some c.in_ok-some.ensures c.strip-3.new.memory c.in_ok-hi.hi
     c.in_ok-hi.ensures
 
-pub strip_halves-make-requires-clause-lo_above : goal.strip_halves-make-requires-clause-lo_above
-strip_halves-make-requires-clause-lo_above t c =
+pub strip_halves-make_or_known-requires-clause-lo_above : goal.strip_halves-make_or_known-requires-clause-lo_above
+strip_halves-make_or_known-requires-clause-lo_above t c =
     lo_above c.args.memory.now c.args.a c.args.b c.parts-one.result c.half_at-other.result c.is_sound.ensures
     c.requires.has_a c.parts-one.ensures c.half_at-other.ensures c.strip.new.memory c.in_ok-lo.lo c.in_ok-lo.ensures
     c.strip-2.new.memory c.in_ok-some.some c.in_ok-some.ensures c.strip-3.new.memory c.in_ok-hi.hi
     c.in_ok-hi.ensures
 
-pub strip_halves-make-requires-clause-hi_above : goal.strip_halves-make-requires-clause-hi_above
-strip_halves-make-requires-clause-hi_above t c =
+pub strip_halves-make_or_known-requires-clause-hi_above : goal.strip_halves-make_or_known-requires-clause-hi_above
+strip_halves-make_or_known-requires-clause-hi_above t c =
     hi_above c.args.memory.now c.args.a c.args.b c.parts-one.result c.half_at-other.result c.is_sound.ensures
     c.requires.has_a c.parts-one.ensures c.half_at-other.ensures c.strip.new.memory c.in_ok-lo.lo c.in_ok-lo.ensures
     c.strip-2.new.memory c.in_ok-some.some c.in_ok-some.ensures c.strip-3.new.memory c.in_ok-hi.hi
     c.in_ok-hi.ensures
 
-pub strip_halves-make-requires-clause-antichain : goal.strip_halves-make-requires-clause-antichain
-strip_halves-make-requires-clause-antichain t c =
+pub strip_halves-make_or_known-requires-clause-antichain : goal.strip_halves-make_or_known-requires-clause-antichain
+strip_halves-make_or_known-requires-clause-antichain t c =
     antichain c.args.memory.now c.args.a c.args.b c.parts-one.result c.half_at-other.result c.is_sound.ensures
     c.requires.has_a c.parts-one.ensures c.half_at-other.ensures c.strip.new.memory c.in_ok-lo.lo c.in_ok-lo.ensures
     c.strip-2.new.memory c.in_ok-some.some c.in_ok-some.ensures c.strip-3.new.memory c.in_ok-hi.hi
@@ -132,4 +142,4 @@ strip_halves-returns t c =
     left_made c.args.memory.now c.args.a c.args.b c.parts-one.result c.half_at-other.result c.is_sound.ensures
     c.requires.has_a c.parts-one.ensures c.half_at-other.ensures c.strip.new.memory c.in_ok-lo.lo c.in_ok-lo.ensures
     c.strip-2.new.memory c.in_ok-some.some c.in_ok-some.ensures c.strip-3.new.memory c.in_ok-hi.hi
-    c.in_ok-hi.ensures c.make.new.memory c.make.result c.make.ensures
+    c.in_ok-hi.ensures c.make_or_known.new.memory c.make_or_known.result c.make_or_known.ensures
