@@ -10,6 +10,8 @@ use Rattle.minimal_operations.proofs.Steps.{levels_from}
 use Rattle.minimal_operations.proofs.WithoutSteps.{lo_fewer, some_fewer, went_some, went_hi, hi_fewer, has_lo}
 use Rattle.minimal_operations.proofs.WithoutSteps.{lo_above, hi_above, antichain, left_made}
 use Rattle.minimal_operations.proofs.withouts.+strip.Goals as goal
+use Rattle.minimal_operations.proofs.withouts.+strip.Goals.{strip_lowered-then-level+else-loses_nothing+in_default}
+use Rattle.minimal_operations.proofs.withouts.+strip.Goals.{strip_lowered-else-level}
 
 pub strip-returns-in-Some : goal.strip-returns-in-Some
 strip-returns-in-Some t c =
@@ -32,10 +34,17 @@ strip_lowered-returns-in-Some t c =
 pub strip_lowered-returns : goal.strip_lowered-returns
 strip_lowered-returns t c =
     let held = c.args.memory.now in
+    let all = family_in held c.args.a in
+    let serves : (left : List (List ℕ)) → IsWithout all (family_in held c.if-level.part) left
+    → IsWithout all (family_in held c.args.b) left =
+    elim c.if-level.branch [
+      | strip_lowered-then-level+else-loses_nothing+in_default w ↦ λ left is.
+          w.lowered-part.ensures.same left (subst (λ r. IsWithout all (family_in held r) left) w.part-is is)
+      | strip_lowered-else-level w ↦ λ left is. subst (λ r. IsWithout all (family_in held r) left) w.part-is is
+    ] in
     ended held held c.strip_nodes.new.memory (Went-nowhere held c.is_sound.ensures)
-    (IsWithout (family_in held c.args.a) (family_in held c.lowered-part.result))
-    (IsWithout (family_in held c.args.a) (family_in held c.args.b)) c.strip_nodes.result
-    (λ left is. c.lowered-part.ensures.same left is) c.strip_nodes.ensures
+    (IsWithout all (family_in held c.if-level.part)) (IsWithout all (family_in held c.args.b)) c.strip_nodes.result
+    serves c.strip_nodes.ensures
 
 pub strip_nodes-returns-in-Some-recall : goal.strip_nodes-returns-in-Some-recall
 strip_nodes-returns-in-Some-recall t c =
