@@ -1,9 +1,10 @@
 -- Sets that are dealt to workers, and gathered again.
 use Rattle.std.proofs.Common.{◌≡◌, ℕ, zero, suc, ◌+◌, ◌-◌, ◌*◌, ◌/◌, ◌%◌, ◌<◌, ◌≤◌, List, [], ◌∷◌, ◌++◌, length, get_or}
-use Rattle.std.proofs.Common.{take, drop, Option, None, refl, ap, sym, subst, ◌∙◌, arith, add-one}
+use Rattle.std.proofs.Common.{take, drop, true, All, Option, None, is_some, replicate, refl, ap, sym, subst, ◌∙◌}
+use Rattle.std.proofs.Common.{arith, add-one}
 use Rattle.std.proofs.Math.Nat.{div-add-mod, mod-lt}
 use Rattle.std.specs.List.{sum_by}
-use Rattle.std.proofs.lemmas.List.{drop_more, drop_all, drop-drop, take_more, take_all, get_or_read}
+use Rattle.std.proofs.lemmas.List.{drop_more, drop-drop, take_more, take_all, get_or_read}
 use Rattle.std.proofs.lemmas.List.Sums.{sum_by_more}
 use Rattle.cut_sequences.specs.Orders.{order_count, order_total}
 use Rattle.cut_sequences.specs.Dealing.{dealt, Share, AreShares, list_in, gathered}
@@ -22,15 +23,6 @@ get_or-dealt zero others (suc k) (item ∷ items) d =
 get_or-dealt (suc waits) others k (item ∷ items) d =
     let place : suc waits + k * suc others ≡ suc (waits + k * suc others) = omega arith in
     get_or-dealt waits others k items d ∙ ap (λ n. get_or (item ∷ items) n d) (sym place)
-
-pub dealt-reaches : {X : Type 0} (waits others k : ℕ) (items : List X) → waits + k * suc others < length items
-    → k < length (dealt waits others items)
-dealt-reaches waits others k [] short = absurd (omega arith)
-dealt-reaches zero others zero (item ∷ items) short = omega arith
-dealt-reaches zero others (suc k) (item ∷ items) short =
-    let place : zero + suc k * suc others ≡ suc (others + k * suc others) = omega arith in
-    omega (arith, dealt-reaches others others k items (omega arith))
-dealt-reaches (suc waits) others k (item ∷ items) short = dealt-reaches waits others k items (omega arith)
 
 place_again : (i workers : ℕ) → 0 < workers → i % workers + (i / workers) * suc (workers - 1) ≡ i
 place_again i workers some =
@@ -53,14 +45,42 @@ dealt-next next others items d short =
     ∙ ap (λ rest. get_or items next d ∷ rest) (sym (dealt-drop others others (drop (next + 1) items))
     ∙ ap (dealt 0 others) (drop-drop others (next + 1) items ∙ ap (λ n. drop n items) later))
 
-pub dealt-end : {X : Type 0} (next others : ℕ) (items : List X) → length items ≤ next
-    → dealt 0 others (drop next items) ≡ []
-dealt-end next others items past = ap (dealt 0 others) (drop_all next items past)
-
 pub dealt-le : (waits others : ℕ) (lists : Share) → order_total (dealt waits others lists) ≤ order_total lists
 dealt-le waits others [] = omega arith
 dealt-le zero others (list ∷ lists) = omega (arith, dealt-le others others lists)
 dealt-le (suc waits) others (list ∷ lists) = omega (arith, dealt-le waits others lists)
+
+-- ---- sets at the end that are not listed
+
+get_or-padded : (share : Share) (rest k : ℕ) → get_or (share ++ replicate rest None) k None ≡ get_or share k None
+get_or-padded [] zero k = refl
+get_or-padded [] (suc rest) zero = refl
+get_or-padded [] (suc rest) (suc k) = get_or-padded [] rest k
+get_or-padded (list ∷ share) rest zero = refl
+get_or-padded (list ∷ share) rest (suc k) = get_or-padded share rest k
+
+order_total-padded : (share : Share) (rest : ℕ) → order_total (share ++ replicate rest None) ≡ order_total share
+order_total-padded [] zero = refl
+order_total-padded [] (suc rest) = omega (arith, order_total-padded [] rest)
+order_total-padded (list ∷ share) rest = ap (λ n. order_count list + n) (order_total-padded share rest)
+
+-- of sets that are not listed such ones are dealt
+pub dealt-none : (waits others : ℕ) (lists : Share) → All (λ list. list ≡ None) lists
+    → (rest : ℕ) × (dealt waits others lists ≡ replicate rest None)
+dealt-none waits others [] none = (0, refl)
+dealt-none zero others (list ∷ lists) none =
+    let later = dealt-none others others lists (λ k d short. none (suc k) d (omega arith)) in (
+      suc later.0,
+      ap (λ (o : Option (List (List ℕ))). o ∷ dealt others others lists) (none 0 list (omega arith))
+          ∙ ap (λ (l : Share). None ∷ l) later.1,
+    )
+dealt-none (suc waits) others (list ∷ lists) none =
+    dealt-none waits others lists (λ k d short. none (suc k) d (omega arith))
+
+pub listed-within : (share : Share) (k : ℕ) → is_some (get_or share k None) ≡ true → k < length share
+listed-within [] k is = absurd cc
+listed-within (list ∷ share) zero is = omega arith
+listed-within (list ∷ share) (suc k) is = omega (arith, listed-within share k is)
 
 -- ---- all sets together
 
@@ -68,17 +88,11 @@ pub list_in-is : (lists : Share) (shares : List Share) → AreShares lists share
     → list_in shares i ≡ get_or lists i None
 list_in-is lists shares are i =
     let within : i % length shares < length shares = mod-lt i are.some in
-    ap (λ (s : Share). get_or s (i / length shares) None) (are.each (i % length shares) within)
+    let share = are.each (i % length shares) within in
+    sym (get_or-padded (get_or shares (i % length shares) []) share.0 (i / length shares))
+    ∙ ap (λ (s : Share). get_or s (i / length shares) None) share.1
     ∙ get_or-dealt (i % length shares) (length shares - 1) (i / length shares) lists None
     ∙ ap (λ n. get_or lists n None) (place_again i (length shares) are.some)
-
-pub share_reaches : (lists : Share) (shares : List Share) → AreShares lists shares → (i : ℕ) → i < length lists
-    → i / length shares < length (get_or shares (i % length shares) [])
-share_reaches lists shares are i short =
-    let within : i % length shares < length shares = mod-lt i are.some in
-    subst (λ (s : Share). i / length shares < length s) (sym (are.each (i % length shares) within))
-    (dealt-reaches (i % length shares) (length shares - 1) (i / length shares) lists
-    (subst (λ n. n < length lists) (sym (place_again i (length shares) are.some)) short))
 
 gathered-take : (lists : Share) (shares : List Share) → AreShares lists shares → (sets : ℕ) → sets ≤ length lists
     → gathered sets shares ≡ take sets lists
@@ -132,7 +146,12 @@ shares_total lists shares are (suc n) short =
     let below : n < length shares = omega arith in
     ap (λ m. sum_by order_total (take m shares)) (sym (add-one n))
     ∙ sum_by_more order_total shares n [] below
-    ∙ omega (arith, shares_total lists shares are n (omega arith), ap order_total (are.each n below))
+    ∙ omega (
+      arith,
+      shares_total lists shares are n (omega arith),
+      order_total-padded (get_or shares n []) (are.each n below).0,
+      ap order_total (are.each n below).1,
+    )
 
 -- the shares have as many orders as all lists together
 pub total_of_shares : (lists : Share) (shares : List Share) → AreShares lists shares
@@ -148,17 +167,20 @@ total_of_shares lists shares are =
 
 pub share_at : (lists : Share) (sets : ℕ) (shares : List Share) (i workers : ℕ) (share : Share)
     → AreShares (gathered sets shares) shares → gathered sets shares ≡ lists → workers ≡ length shares
-    → share ≡ get_or shares (i % workers) share → i < length lists
-    → (i / workers < length share) × (get_or share (i / workers) None ≡ get_or lists i None)
-share_at lists sets shares i workers share are view all here short =
+    → share ≡ get_or shares (i % workers) share → get_or share (i / workers) None ≡ get_or lists i None
+share_at lists sets shares i workers share are view all here =
     let whole : AreShares lists shares = subst (λ (l : Share). AreShares l shares) view are in
     let within : i % length shares < length shares = mod-lt i whole.some in
     let at : share ≡ get_or shares (i % length shares) [] =
     get_or_read shares (i % length shares) share within
-    (subst (λ n. share ≡ get_or shares (i % n) share) all here) [] in (
-      subst (λ (s : Share). i / workers < length s) (sym at)
-          (subst (λ n. i / n < length (get_or shares (i % length shares) [])) (sym all)
-          (share_reaches lists shares whole i short)),
-      ap (λ (s : Share). get_or s (i / workers) None) at
-          ∙ ap (λ n. get_or (get_or shares (i % length shares) []) (i / n) None) all ∙ list_in-is lists shares whole i,
-    )
+    (subst (λ n. share ≡ get_or shares (i % n) share) all here) [] in
+    ap (λ (s : Share). get_or s (i / workers) None) at
+    ∙ ap (λ n. get_or (get_or shares (i % length shares) []) (i / n) None) all ∙ list_in-is lists shares whole i
+
+-- a set that is listed stands in its share
+pub share_has : (lists : Share) (sets : ℕ) (shares : List Share) (i workers : ℕ) (share : Share)
+    → AreShares (gathered sets shares) shares → gathered sets shares ≡ lists → workers ≡ length shares
+    → share ≡ get_or shares (i % workers) share → is_some (get_or lists i None) ≡ true → i / workers < length share
+share_has lists sets shares i workers share are view all here listed =
+    listed-within share (i / workers) (ap (λ (o : Option (List (List ℕ))). is_some o)
+    (share_at lists sets shares i workers share are view all here) ∙ listed)

@@ -49,6 +49,19 @@ pub record ListStands (lists : List (Option (List (List ℕ)))) (listed : List B
   pub there : is_listed lists i ≡ true → orders_at lists i ≡ between (start_of 0 ends i) (get_or ends i 0) orders
   pub count : is_listed lists i ≡ true → length (orders_at lists i) ≡ get_or ends i 0 - start_of 0 ends i
 
+-- as many sets have a mark as have a list
+pub held_count : (lists : List (Option (List (List ℕ)))) (listed : List Bool) (ends : List ℕ)
+    (orders : List (List ℕ)) → HoldsShare listed ends orders → lists_of listed ends orders ≡ lists
+    → length lists ≡ length listed
+held_count lists listed ends orders held view =
+    sym (ap length view)
+    ∙ length-if_listed listed (rows_from 0 ends orders) (held.sets ∙ sym (length-rows_from 0 ends orders))
+
+pub past_listed : (lists : List (Option (List (List ℕ)))) (i : ℕ) → length lists ≤ i → is_listed lists i ≡ false
+past_listed [] i past = refl
+past_listed (list ∷ lists) zero past = absurd (omega arith)
+past_listed (list ∷ lists) (suc i) past = past_listed lists i (omega arith)
+
 some_if : (test : Bool) (orders : List (List ℕ)) → is_some (if test then Some orders else None) ≡ test
 some_if true orders = refl
 some_if false orders = refl

@@ -1,10 +1,10 @@
 -- What the workers have after a round.
 use Rattle.std.proofs.Common.{◌≡◌, ℕ, zero, suc, ◌+◌, ◌-◌, ◌<◌, ◌≤◌, List, [], ◌++◌, length, get_or, take, drop, map}
-use Rattle.std.proofs.Common.{All, Result, Ok, Err, ap, sym, subst, Contains, ◌∙◌, arith, add-one, append-nil}
+use Rattle.std.proofs.Common.{All, None, Result, Ok, Err, ap, sym, subst, Contains, replicate, ◌∙◌, arith, add-one}
 use Rattle.std.specs.Bool.{⊤}
 use Rattle.std.specs.List.{sum_by}
-use Rattle.std.proofs.lemmas.List.{take_all, take_more, length-map, get_or-map}
-use Rattle.std.proofs.lemmas.List.Elements.{All-from_get_or, All-get_or, All-push, All-contains}
+use Rattle.std.proofs.lemmas.List.{take_all, take_more, drop-drop, length-map, get_or-map}
+use Rattle.std.proofs.lemmas.List.Elements.{All-from_get_or, All-get_or, All-push, All-contains, All-drop}
 use Rattle.std.proofs.lemmas.List.Sums.{sum_by_more}
 use Rattle.cut_sequences.specs.declared.refusal.OrderEnd.{OrderEnd}
 use Rattle.cut_sequences.specs.declared.refusal.OrderEnd.TheVariants.{OrderLimit}
@@ -13,7 +13,7 @@ use Rattle.cut_sequences.specs.declared.share.Stop.{Stop}
 use Rattle.cut_sequences.specs.Orders.{order_limit, order_total, IsOver}
 use Rattle.cut_sequences.specs.Dealing.{dealt, Share, AreShares}
 use Rattle.cut_sequences.specs.Working.{whole, HasStopped, WentOn, AreAtWork, orders_of_work}
-use Rattle.cut_sequences.proofs.DealLemmas.{dealt-le, dealt-drop, dealt-end, dealt_total, dealt_total-all}
+use Rattle.cut_sequences.proofs.DealLemmas.{dealt-le, dealt-drop, dealt-none, dealt_total, dealt_total-all}
 use Rattle.cut_sequences.proofs.ListLemmas.{IsOver-more, order_total-append}
 
 no_work : Work
@@ -123,24 +123,34 @@ all_start lists works some few each = record {
       ∙ dealt-drop worker (length works - 1) lists;
 }
 
--- the workers' shares, where no worker lacks a set
-pub shares_at_end : (lists : Share) (works : List Work) (shares : List Share) → AreAtWork lists works
-    → All (λ (work : Work). length lists ≤ work.next) works → shares ≡ map (λ (work : Work). work.share) works
-    → AreShares lists shares
-shares_at_end lists works shares are done is =
+none_later : (lists : Share) (end next : ℕ) → end ≤ next → All (λ list. list ≡ None) (drop end lists)
+    → All (λ list. list ≡ None) (drop next lists)
+none_later lists end next before none =
+    let at : end + (next - end) ≡ next = omega arith in
+    subst (All (λ list. list ≡ None)) (drop-drop (next - end) end lists ∙ ap (λ n. drop n lists) at)
+    (All-drop (λ list. list ≡ None) (next - end) (drop end lists) none)
+
+-- the workers' shares, where no worker lacks a set before an end from which on none is listed
+pub shares_at_end : (lists : Share) (end : ℕ) (works : List Work) (shares : List Share) → AreAtWork lists works
+    → All (λ list. list ≡ None) (drop end lists) → All (λ (work : Work). end ≤ work.next) works
+    → shares ≡ map (λ (work : Work). work.share) works → AreShares lists shares
+shares_at_end lists end works shares are none done is =
     let many : length shares ≡ length works = ap length is ∙ length-map works (λ (work : Work). work.share) in
     record {
       some = omega (arith, are.some, many);
       each = λ worker short.
           let within : worker < length works = omega (arith, many) in
           let work : Work = get_or works worker no_work in
-          let none : dealt 0 (length works - 1) (drop work.next lists) ≡ [] =
-          dealt-end work.next (length works - 1) lists (All-get_or (λ (w : Work). length lists ≤ w.next) works
-          worker no_work within done) in
+          let past : end ≤ work.next = All-get_or (λ (w : Work). end ≤ w.next) works worker no_work within done in
+          let rest =
+          dealt-none 0 (length works - 1) (drop work.next lists) (none_later lists end work.next past none) in
+          let same : get_or shares worker [] ≡ work.share =
           ap (λ (l : List Share). get_or l worker []) is
-          ∙ get_or-map (λ (w : Work). w.share) works worker no_work [] within
-          ∙ sym (append-nil work.share) ∙ ap (λ (l : Share). work.share ++ l) (sym none)
-          ∙ are.each worker no_work within ∙ ap (λ n. dealt worker (n - 1) lists) (sym many);
+          ∙ get_or-map (λ (w : Work). w.share) works worker no_work [] within in (
+            rest.0,
+            ap (λ (s : Share). s ++ replicate rest.0 None) same ∙ ap (λ (l : Share). work.share ++ l) (sym rest.1)
+                ∙ are.each worker no_work within ∙ ap (λ n. dealt worker (n - 1) lists) (sym many),
+          );
     }
 
 -- ---- workers that have stopped

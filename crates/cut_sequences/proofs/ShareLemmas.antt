@@ -2,7 +2,9 @@
 use Rattle.std.proofs.Common.{◌≡◌, ℕ, zero, suc, ◌+◌, ◌-◌, ◌<◌, ◌≤◌, Bool, List, [], ◌∷◌, ◌++◌, length, get_or, drop}
 use Rattle.std.proofs.Common.{All, Option, None, Some, slice_get, ap, sym, ◌∙◌, arith, append_assoc}
 use Rattle.std.proofs.lemmas.List.{get_or-map, length-map}
+use Rattle.std.proofs.lemmas.List.Elements.{All-cons}
 use Rattle.std.proofs.lemmas.List.Sums.{sum_by-cons}
+use Rattle.std.proofs.lemmas.Bool.Decides.{nat_tests}
 use Rattle.unit_sets.specs.CutOrder.{IsOrderedCuts, weight, weight_limit}
 use Rattle.unit_sets.proofs.CutOrderLemmas.{cut_at}
 use Rattle.unit_sets.proofs.Sorted.{All-slice_get}
@@ -30,10 +32,26 @@ can_start_cut tree cuts i cut kept ordered units at =
     can_start tree cut kept (cut_at cuts i cut ordered at).rising
     (All-slice_get (λ (c : List ℕ). All (IsUnitOf tree) c) cuts i cut units at)
 
-get_or_from_get : (cuts : List (List ℕ)) (i : ℕ) (cut : List ℕ) → slice_get cuts i ≡ Some cut → get_or cuts i [] ≡ cut
+pub get_or_from_get : (cuts : List (List ℕ)) (i : ℕ) (cut : List ℕ) → slice_get cuts i ≡ Some cut
+    → get_or cuts i [] ≡ cut
 get_or_from_get [] i cut at = absurd cc
 get_or_from_get (first ∷ cuts) zero cut at = cc
 get_or_from_get (first ∷ cuts) (suc i) cut at = get_or_from_get cuts i cut at
+
+-- a set that is too large is not listed
+larger_none : (tree : FaultTree) (most : ℕ) (cut : List ℕ) → most < length cut → orders_of tree most cut ≡ None
+larger_none tree most cut larger = grind (arith, nat_tests)
+
+pub none_listed : (tree : FaultTree) (most end : ℕ) (cuts : List (List ℕ))
+    → All (λ (cut : List ℕ). most < length cut) (drop end cuts)
+    → All (λ list. list ≡ None) (drop end (order_lists tree cuts most))
+none_listed tree most zero [] larger = λ k d short. absurd (omega arith)
+none_listed tree most (suc end) [] larger = λ k d short. absurd (omega arith)
+none_listed tree most zero (cut ∷ cuts) larger =
+    All-cons (λ list. list ≡ None) (orders_of tree most cut) (order_lists tree cuts most)
+    (larger_none tree most cut (larger 0 cut (omega arith)))
+    (none_listed tree most zero cuts (λ k d short. larger (suc k) d (omega arith)))
+none_listed tree most (suc end) (cut ∷ cuts) larger = none_listed tree most end cuts larger
 
 -- what is still to be listed begins with the list of the next set
 pub next_list : (tree : FaultTree) (most : ℕ) (cuts : List (List ℕ)) (next workers : ℕ) (cut : List ℕ) → 0 < workers

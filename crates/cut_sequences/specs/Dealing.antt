@@ -1,6 +1,6 @@
 -- How the sets are dealt to the workers in turn, and gathered again.
 use Rattle.std.specs.Prelude.{◌≡◌, ℕ, zero, suc, ◌-◌, ◌/◌, ◌%◌, ◌<◌, List, [], ◌∷◌, ◌++◌, length, Option, None}
-use Rattle.std.specs.Prelude.{slice_index_or}
+use Rattle.std.specs.Prelude.{slice_index_or, replicate}
 
 -- what one worker gets, who waits for some items first and then lets `others` items pass after each
 abbrev pub dealt : {X : Type 0} → ℕ → ℕ → List X → List X
@@ -12,11 +12,15 @@ dealt (suc waits) others (item ∷ items) = dealt waits others items
 abbrev pub Share : Type 0
 Share = List (Option (List (List ℕ)))
 
+-- a share has the lists of some sets, but for some at the end that are not listed
+abbrev pub HasAllListed : Share → Share → Type 0
+HasAllListed lists share = (rest : ℕ) × (share ++ replicate rest None ≡ lists)
+
 -- the shares of all workers
 pub record AreShares (lists : Share) (shares : List Share) : Type 0 where
   pub some : 0 < length shares
   pub each : (worker : ℕ) → worker < length shares
-      → slice_index_or shares worker [] ≡ dealt worker (length shares - 1) lists
+      → HasAllListed (dealt worker (length shares - 1) lists) (slice_index_or shares worker [])
 
 -- the list of a set, by its place among all sets
 abbrev pub list_in : List Share → ℕ → Option (List (List ℕ))

@@ -1,5 +1,5 @@
 //! The orders of each cut set that fail the top event.
-ghost use Rattle.std.specs.Prelude.{◌≡◌, ◌<◌, ◌≤◌, All, IfOk, IsErrOf};
+ghost use Rattle.std.specs.Prelude.{◌≡◌, ◌<◌, ◌≤◌, length, All, IfOk, IsErrOf, drop};
 ghost use Rattle.fault_model.specs.Tree.{IsUnitOf};
 ghost use Rattle.cut_sequences.specs.Orders.{order_limit, order_lists, order_total};
 
@@ -13,6 +13,21 @@ use unit_sets::CutList;
 
 /// The most orders that are listed over all sets.
 pub const ORDER_LIMIT: u64 = 2_000_000;
+
+// The place after the last set that is listed. All that come after it are larger.
+fn end_of_listed(cuts: &CutList, most: u32) -> usize
+    ensures within { result ≤ length cuts.now }
+    ensures larger { All (λ cut. most < length cut) (drop result cuts.now) }
+{
+    let mut end = cuts.len();
+    while end > 0 {
+        if cuts.members(end - 1).len() <= most as usize {
+            return end;
+        }
+        end -= 1;
+    }
+    end
+}
 
 /// For each set of at most `most` members, its orders that can happen and fail the top event, in lexicographic order by
 /// unit numbers. Larger sets are not listed.
@@ -38,6 +53,9 @@ pub fn orders<R: Threads + Sync>(
     ensures limit { IsErrOf result OrderEnd.OrderLimit
         → order_limit < order_total (order_lists tree.now cuts.now most) }
 {
-    let shares = all_shares(rt, alloc, tree, cuts, most, workers as usize)?;
+    let end = end_of_listed(cuts, most);
+    // A worker without a set would cost its thread.
+    let workers = (workers as usize).min(end.max(1));
+    let shares = all_shares(rt, alloc, tree, cuts, most, end, workers)?;
     gather(shares, cuts.len())
 }

@@ -11,7 +11,7 @@ use unit_sets::UnitNo;
 /// For each set of a cut list its failing orders, in lexicographic order, or that it is not listed.
 ///
 /// The set of a place lies in the share of one worker: the worker's number is what is left of the place divided by the
-/// number of workers.
+/// number of workers. A share ends with the last set that the worker has listed, or later.
 #[derive(Drop)]
 pub struct OrderLists {
     shares: Vec<Share>,

@@ -2,7 +2,7 @@
 //!
 //! No worker runs far ahead of the others, so that all stop soon after they have too many orders together.
 ghost use Rattle.std.specs.Prelude.{◌≡◌, ◌<◌, ◌≤◌, ℕ, true, false, length, map, slice_index_or, All, IfOk, IsErrOf};
-ghost use Rattle.std.specs.Prelude.{Contains, Ok, Err, sum_by};
+ghost use Rattle.std.specs.Prelude.{Contains, Ok, Err, drop, sum_by};
 ghost use Rattle.fault_model.specs.Tree.{IsUnitOf};
 ghost use Rattle.cut_sequences.specs.Dealing.{AreShares, Share as Lists};
 ghost use Rattle.cut_sequences.specs.Orders.{order_limit, order_lists, order_total};
@@ -113,21 +113,23 @@ fn has_enough(works: &[Work], stop: Stop) -> bool
     false
 }
 
-// The rounds from a stop on, until no worker lacks a set.
+// The rounds from a stop on, until no worker lacks a set before the end.
 fn all_rounds<R: Threads + Sync>(
     rt: &R,
     alloc: Global,
     tree: &Tree,
     cuts: &CutList,
     most: u32,
+    end: usize,
     stop: Stop,
     works: Vec<Work>,
 ) -> Result<Vec<Work>, OrderEnd>
     requires at_work { AreAtWork (order_lists tree.now cuts.now most) works.items }
-    requires place { stop.place ≤ length cuts.now }
+    requires end { end ≤ length cuts.now }
+    requires place { stop.place ≤ end }
     requires units { All (λ cut. All (IsUnitOf tree.now) cut) cuts.now }
     ensures at_work { IfOk result (λ later. AreAtWork (order_lists tree.now cuts.now most) later.items) }
-    ensures done { IfOk result (λ later. All (λ work. length cuts.now ≤ work.next) later.items) }
+    ensures done { IfOk result (λ later. All (λ work. end ≤ work.next) later.items) }
     ensures workers { IfOk result (λ later. length later.items ≡ length works.items) }
     ensures limit { IsErrOf result OrderEnd.OrderLimit
         → order_limit < order_total (order_lists tree.now cuts.now most) }
@@ -138,15 +140,18 @@ fn all_rounds<R: Threads + Sync>(
             orders: stop.orders + ORDERS_A_ROUND,
             ..stop
         };
-        return all_rounds(rt, alloc, tree, cuts, most, more, works);
+        return all_rounds(rt, alloc, tree, cuts, most, end, more, works);
     }
-    let sets = cuts.len();
-    if stop.place < sets {
+    if stop.place < end {
         let further = Stop {
-            place: (4 * stop.place + FIRST_SETS).min(sets),
+            place: stop
+                .place
+                .saturating_mul(4)
+                .saturating_add(FIRST_SETS)
+                .min(end),
             ..stop
         };
-        return all_rounds(rt, alloc, tree, cuts, most, further, works);
+        return all_rounds(rt, alloc, tree, cuts, most, end, further, works);
     }
     Ok(works)
 }
@@ -181,15 +186,19 @@ fn shares_of(alloc: Global, works: Vec<Work>) -> Result<Vec<Share>, OrderEnd>
     Ok(shares)
 }
 
-/// The shares of all workers, each of which lists the orders of the sets that are dealt to it.
+/// The shares of all workers, each of which lists the orders of the sets that are dealt to it. From the end on no set
+/// is listed, and none is looked at.
 pub fn all_shares<R: Threads + Sync>(
     rt: &R,
     alloc: Global,
     tree: &Tree,
     cuts: &CutList,
     most: u32,
+    end: usize,
     workers: usize,
 ) -> Result<Vec<Share>, OrderEnd>
+    requires within { end ≤ length cuts.now }
+    requires larger { All (λ cut. most < length cut) (drop end cuts.now) }
     requires some { 0 < workers }
     requires few { workers ≤ 16 }
     requires units { All (λ cut. All (IsUnitOf tree.now) cut) cuts.now }
@@ -199,9 +208,12 @@ pub fn all_shares<R: Threads + Sync>(
         → order_limit < order_total (order_lists tree.now cuts.now most) }
 {
     let stop = Stop {
-        place: FIRST_SETS.min(cuts.len()),
+        place: FIRST_SETS.min(end),
         orders: ORDERS_A_ROUND,
     };
     let works = starts(alloc, workers)?;
-    shares_of(alloc, all_rounds(rt, alloc, tree, cuts, most, stop, works)?)
+    shares_of(
+        alloc,
+        all_rounds(rt, alloc, tree, cuts, most, end, stop, works)?,
+    )
 }

@@ -78,12 +78,11 @@ impl Share {
         self.orders.len()
     }
 
-    /// Whether the set of a place is listed.
+    /// Whether the set of a place is listed. After the last place none is.
     pub fn listed(&self, i: usize) -> bool
-        requires { i < length self.now }
         ensures { result ≡ is_listed self.now i }
     {
-        self.listed[i]
+        i < self.listed.len() && self.listed[i]
     }
 
     /// The number of orders of a listed set.

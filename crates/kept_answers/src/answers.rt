@@ -119,12 +119,13 @@ impl Answers {
         }
     }
 
-    // Grows once more answers were told than there are places.
+    // Grows once as many answers were told as there are places. A table with its whole room tries that once more,
+    // and not at each answer.
     #[inline(always)]
     fn make_room(&mut self)
         ensures { AreKept self.old self.new }
     {
-        if self.told > self.entries.len() {
+        if self.told == self.entries.len() {
             self.grow();
         }
     }

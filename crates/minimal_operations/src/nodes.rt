@@ -1,5 +1,5 @@
 //! Nodes of which a part may be empty, or has sets to be taken out.
-ghost use Rattle.std.specs.Prelude.{◌≡◌, ℕ, List, [], ◌∷◌, IfErr, IfOk, MatchResult};
+ghost use Rattle.std.specs.Prelude.{◌≡◌, ◌≤◌, ℕ, List, [], ◌∷◌, IfErr, IfOk, MatchResult};
 ghost use Rattle.zdd_families.specs.Family.{IsAbove, branch};
 ghost use Rattle.family_operations.specs.Without.{IsWithout};
 ghost use Rattle.family_parts.specs.Antichains.{IsAntichain};
@@ -59,6 +59,32 @@ pub(crate) fn make(
         return Ok(lo);
     }
     memory.node(level, lo, hi)
+}
+
+/// The same, where a node that is known may be that one: then it isn't looked for.
+pub(crate) fn make_or_known(
+    memory: &mut FamilyMemory,
+    known: NodeRef,
+    level: UnitNo,
+    lo: NodeRef,
+    hi: NodeRef,
+) -> Result<NodeRef, Spent>
+    requires has_known { Has memory.old known }
+    requires inner { 2 ≤ known }
+    requires has_lo { Has memory.old lo }
+    requires has_hi { Has memory.old hi }
+    requires lo_above { IsAbove level (family_in memory.old lo) }
+    requires hi_above { IsAbove level (family_in memory.old hi) }
+    requires antichain { IsAntichain (branch level (family_in memory.old lo) (family_in memory.old hi)) }
+    ensures { MatchResult result (Gave (λ f. f ≡ branch level (family_in memory.old lo) (family_in memory.old hi))
+        memory.old memory.new) (λ _. RanOut memory.old memory.new) }
+{
+    memory.is_sound();
+    let parts = memory.parts(known);
+    if parts.level == level && parts.lo == lo && parts.hi == hi {
+        return Ok(known);
+    }
+    make(memory, level, lo, hi)
 }
 
 /// The node of lo and of what is left of all others without lo. Another family that says the same of these

@@ -6,7 +6,7 @@ ghost use Rattle.family_memory.specs.Memory.{Gave, Has, RanOut, family_in, map_o
 ghost use Rattle.minimal_operations.specs.Ends.{GoesOn, IsWithoutEnd};
 
 use crate::halves::half_at;
-use crate::nodes::make;
+use crate::nodes::make_or_known;
 use family_memory::{FamilyMemory, Spent};
 use kept_answers::{Entry, Operation, Question};
 use zdd_words::NodeRef;
@@ -99,13 +99,10 @@ pub(crate) fn strip(memory: &mut FamilyMemory, a: NodeRef, b: NodeRef) -> Result
     if let Some(end) = without_end(a, b) {
         return Ok(end);
     }
-    if memory.level(b) < memory.level(a) {
-        return strip_lowered(memory, a, b);
-    }
-    strip_nodes(memory, a, b)
+    strip_lowered(memory, a, b)
 }
 
-// The same of two nodes, by the part of b that matters.
+// The same of two nodes, by the part of b that matters: as a rule b itself.
 #[cycle(strip)]
 fn strip_lowered(memory: &mut FamilyMemory, a: NodeRef, b: NodeRef) -> Result<NodeRef, Spent>
     requires has_a { Has memory.old a }
@@ -115,17 +112,21 @@ fn strip_lowered(memory: &mut FamilyMemory, a: NodeRef, b: NodeRef) -> Result<No
         memory.new) (λ _. RanOut memory.old memory.new) }
 {
     memory.is_sound();
-    if loses_nothing(memory, a, b) {
-        return Ok(a);
-    }
-    let part = lowered(memory, a, b);
-    if let Some(end) = without_end(a, part) {
-        return Ok(end);
+    let mut part = b;
+    if memory.level(b) < memory.level(a) {
+        if loses_nothing(memory, a, b) {
+            return Ok(a);
+        }
+        part = lowered(memory, a, b);
+        if let Some(end) = without_end(a, part) {
+            return Ok(end);
+        }
     }
     strip_nodes(memory, a, part)
 }
 
-// The same of two nodes, where no unit of b is below all of a's.
+// The same of two nodes, where no unit of b is below all of a's. It is inlined in its one caller.
+#[inline(always)]
 #[cycle(strip)]
 fn strip_nodes(memory: &mut FamilyMemory, a: NodeRef, b: NodeRef) -> Result<NodeRef, Spent>
     requires has_a { Has memory.old a }
@@ -175,5 +176,6 @@ fn strip_halves(memory: &mut FamilyMemory, a: NodeRef, b: NodeRef) -> Result<Nod
     let lo = strip(memory, one.lo, other.lo)?;
     let some = strip(memory, one.hi, other.hi)?;
     let hi = strip(memory, some, other.lo)?;
-    make(memory, one.level, lo, hi)
+    // As a rule nothing is lost.
+    make_or_known(memory, a, one.level, lo, hi)
 }

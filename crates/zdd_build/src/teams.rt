@@ -15,6 +15,12 @@ use zdd_shared_table::{NodeStore, StoreSeat};
 // The share that a worker gets.
 const SHARE: u64 = 2;
 
+// How many nodes the memory of a worker beside the first takes for each gate of the tree, and at least. The trees that
+// were measured need less than 110 a gate.
+const NODES_A_GATE: usize = 128;
+
+const LEAST_NODES: usize = 16_384;
+
 /// The seat and the worker tell each other all that they know.
 pub(crate) fn meet(store: &NodeStore, seat: &mut StoreSeat, worker: &mut Worker)
     requires own { seat.old.store ≡ store.now }
@@ -31,6 +37,18 @@ pub(crate) fn meet(store: &NodeStore, seat: &mut StoreSeat, worker: &mut Worker)
     worker.ops.join(told);
     let told = worker.ops.split(1);
     store.join(seat, told);
+}
+
+// How many nodes the memory of a worker takes. That of the first, which makes most nodes of a tree, takes as many as
+// may be, and those of the others as many as a tree with so many gates asks for.
+fn nodes_of(number: usize, tree: &Tree, own_nodes: usize) -> usize
+    ensures { result ≤ own_nodes }
+{
+    if number == 0 {
+        return own_nodes;
+    }
+    let asked = tree.gates() as usize * NODES_A_GATE;
+    asked.max(LEAST_NODES).next_power_of_two().min(own_nodes)
 }
 
 // A worker whose seat is split off. Where memory is refused, its share is given back.
@@ -97,8 +115,9 @@ pub(crate) fn open<'s>(
     ensures new { All IsNew team.new.items }
 {
     seat.is_sound();
-    for _ in 0..count {
-        let worker = open_one(alloc, tree, places, own_nodes, store, seat)?;
+    for number in 0..count {
+        let nodes = nodes_of(number, tree, own_nodes);
+        let worker = open_one(alloc, tree, places, nodes, store, seat)?;
         team.push_reserved(worker);
     }
     Ok(())

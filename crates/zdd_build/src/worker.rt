@@ -22,13 +22,13 @@ use zdd_product::Ops;
 use zdd_shared_table::Full;
 use zdd_words::NodeRef;
 
-/// How many nodes a worker's memory takes. Every model that was measured needs less.
+/// How many nodes a worker's memory takes at most. Every model that was measured needs less.
 pub(crate) const OWN_NODES: usize = 262_144;
 
 // A memory that holds more nodes than this is cleared before the next node of the tree.
 const KEPT_NODES: usize = 131_072;
 
-// How many answers of operations a worker's memory keeps.
+// How many answers of operations a worker's memory keeps at most.
 const OWN_ANSWERS: usize = 65_536;
 
 /// The reference that was found for the node at a place.
@@ -75,7 +75,7 @@ impl Tools {
         let room = Room {
             nodes: own_nodes,
             slots: own_nodes * 2,
-            answers: OWN_ANSWERS,
+            answers: OWN_ANSWERS.min(own_nodes),
         };
         Ok(Tools {
             memory: FamilyMemory::new(alloc, room)?,

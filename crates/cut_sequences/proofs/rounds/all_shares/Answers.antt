@@ -1,10 +1,11 @@
-use Rattle.std.proofs.Common.{◌≤◌, ◌∙◌, ℕ, List, All, ap, length, sym, subst}
+use Rattle.std.proofs.Common.{◌∙◌, List, ap, length}
 use Rattle.std.proofs.lemmas.List.{length-map}
 use Rattle.std.proofs.lemmas.Result.{IfOk-weaker}
 use Rattle.cut_sequences.specs.declared.share.Work.{Work}
-use Rattle.cut_sequences.specs.Orders.{order_lists, orders_of}
+use Rattle.cut_sequences.specs.Orders.{order_lists}
 use Rattle.cut_sequences.specs.Dealing.{Share}
 use Rattle.cut_sequences.proofs.RoundLemmas.{shares_at_end}
+use Rattle.cut_sequences.proofs.ShareLemmas.{none_listed}
 use Rattle.cut_sequences.proofs.rounds.all_shares.Goals as goal
 
 pub all_rounds-requires-clause-at_work : goal.all_rounds-requires-clause-at_work
@@ -15,11 +16,10 @@ pub returns-clause-shares : goal.returns-clause-shares
 returns-clause-shares g c =
     let lists : Share = order_lists c.args.tree.now c.args.cuts.now c.args.most in
     let works : List Work = c.in_ok-all_rounds.field-0.items in
-    let done : All (λ (work : Work). length lists ≤ work.next) works =
-    subst (λ (n : ℕ). All (λ (work : Work). n ≤ work.next) works)
-    (sym (length-map c.args.cuts.now (orders_of c.args.tree.now c.args.most))) c.in_ok-all_rounds.ensures.done in
     IfOk-weaker c.shares_of.result _ _ (λ shares is.
-    shares_at_end lists works shares.items c.in_ok-all_rounds.ensures.at_work done is) c.shares_of.ensures.shares
+    shares_at_end lists c.args.end works shares.items c.in_ok-all_rounds.ensures.at_work
+    (none_listed c.args.tree.now c.args.most c.args.end c.args.cuts.now c.requires.larger)
+    c.in_ok-all_rounds.ensures.done is) c.shares_of.ensures.shares
 
 pub returns-clause-workers : goal.returns-clause-workers
 returns-clause-workers g c =

@@ -7,9 +7,11 @@ use Rattle.kept_answers.specs.declared.answers.Operation.TheVariants.{Without}
 use Rattle.minimal_operations.proofs.Ends.{without_ends}
 use Rattle.minimal_operations.proofs.Telling.{told_made}
 use Rattle.minimal_operations.proofs.Steps.{levels_from}
-use Rattle.minimal_operations.proofs.WithoutSteps.{lo_fewer, some_fewer, went_some, hi_fewer, has_lo, lo_above}
-use Rattle.minimal_operations.proofs.WithoutSteps.{hi_above, antichain, left_made}
+use Rattle.minimal_operations.proofs.WithoutSteps.{lo_fewer, some_fewer, went_some, went_hi, hi_fewer, has_lo}
+use Rattle.minimal_operations.proofs.WithoutSteps.{lo_above, hi_above, antichain, left_made}
 use Rattle.minimal_operations.proofs.withouts.+strip.Goals as goal
+use Rattle.minimal_operations.proofs.withouts.+strip.Goals.{strip_lowered-then-level+else-loses_nothing+in_default}
+use Rattle.minimal_operations.proofs.withouts.+strip.Goals.{strip_lowered-else-level}
 
 pub strip-returns-in-Some : goal.strip-returns-in-Some
 strip-returns-in-Some t c =
@@ -32,10 +34,17 @@ strip_lowered-returns-in-Some t c =
 pub strip_lowered-returns : goal.strip_lowered-returns
 strip_lowered-returns t c =
     let held = c.args.memory.now in
+    let all = family_in held c.args.a in
+    let serves : (left : List (List ℕ)) → IsWithout all (family_in held c.if-level.part) left
+    → IsWithout all (family_in held c.args.b) left =
+    elim c.if-level.branch [
+      | strip_lowered-then-level+else-loses_nothing+in_default w ↦ λ left is.
+          w.lowered-part.ensures.same left (subst (λ r. IsWithout all (family_in held r) left) w.part-is is)
+      | strip_lowered-else-level w ↦ λ left is. subst (λ r. IsWithout all (family_in held r) left) w.part-is is
+    ] in
     ended held held c.strip_nodes.new.memory (Went-nowhere held c.is_sound.ensures)
-    (IsWithout (family_in held c.args.a) (family_in held c.lowered-part.result))
-    (IsWithout (family_in held c.args.a) (family_in held c.args.b)) c.strip_nodes.result
-    (λ left is. c.lowered-part.ensures.same left is) c.strip_nodes.ensures
+    (IsWithout all (family_in held c.if-level.part)) (IsWithout all (family_in held c.args.b)) c.strip_nodes.result
+    serves c.strip_nodes.ensures
 
 pub strip_nodes-returns-in-Some-recall : goal.strip_nodes-returns-in-Some-recall
 strip_nodes-returns-in-Some-recall t c =
@@ -85,29 +94,39 @@ strip_halves-strip-requires-3 t c =
     let has' = c.half_at-other.ensures.has_lo in
     (omega (arith, fewer), (c.in_ok-some.ensures.has, omega (arith, longer, has')))
 
-pub strip_halves-make-requires-clause-has_lo : goal.strip_halves-make-requires-clause-has_lo
-strip_halves-make-requires-clause-has_lo t c =
+pub strip_halves-make_or_known-requires-clause-has_known : goal.strip_halves-make_or_known-requires-clause-has_known
+strip_halves-make_or_known-requires-clause-has_known t c =
+    let longer =
+    (went_hi c.args.memory.now c.args.a c.args.b c.parts-one.result c.half_at-other.result c.is_sound.ensures
+    c.requires.has_a c.parts-one.ensures c.half_at-other.ensures c.strip.new.memory c.in_ok-lo.lo c.in_ok-lo.ensures
+    c.strip-2.new.memory c.in_ok-some.some c.in_ok-some.ensures c.strip-3.new.memory c.in_ok-hi.hi
+    c.in_ok-hi.ensures).longer in
+    let has = c.requires.has_a in
+    omega (arith, longer, has)
+
+pub strip_halves-make_or_known-requires-clause-has_lo : goal.strip_halves-make_or_known-requires-clause-has_lo
+strip_halves-make_or_known-requires-clause-has_lo t c =
     has_lo c.args.memory.now c.args.a c.args.b c.parts-one.result c.half_at-other.result c.is_sound.ensures
     c.requires.has_a c.parts-one.ensures c.half_at-other.ensures c.strip.new.memory c.in_ok-lo.lo c.in_ok-lo.ensures
     c.strip-2.new.memory c.in_ok-some.some c.in_ok-some.ensures c.strip-3.new.memory c.in_ok-hi.hi
     c.in_ok-hi.ensures
 
-pub strip_halves-make-requires-clause-lo_above : goal.strip_halves-make-requires-clause-lo_above
-strip_halves-make-requires-clause-lo_above t c =
+pub strip_halves-make_or_known-requires-clause-lo_above : goal.strip_halves-make_or_known-requires-clause-lo_above
+strip_halves-make_or_known-requires-clause-lo_above t c =
     lo_above c.args.memory.now c.args.a c.args.b c.parts-one.result c.half_at-other.result c.is_sound.ensures
     c.requires.has_a c.parts-one.ensures c.half_at-other.ensures c.strip.new.memory c.in_ok-lo.lo c.in_ok-lo.ensures
     c.strip-2.new.memory c.in_ok-some.some c.in_ok-some.ensures c.strip-3.new.memory c.in_ok-hi.hi
     c.in_ok-hi.ensures
 
-pub strip_halves-make-requires-clause-hi_above : goal.strip_halves-make-requires-clause-hi_above
-strip_halves-make-requires-clause-hi_above t c =
+pub strip_halves-make_or_known-requires-clause-hi_above : goal.strip_halves-make_or_known-requires-clause-hi_above
+strip_halves-make_or_known-requires-clause-hi_above t c =
     hi_above c.args.memory.now c.args.a c.args.b c.parts-one.result c.half_at-other.result c.is_sound.ensures
     c.requires.has_a c.parts-one.ensures c.half_at-other.ensures c.strip.new.memory c.in_ok-lo.lo c.in_ok-lo.ensures
     c.strip-2.new.memory c.in_ok-some.some c.in_ok-some.ensures c.strip-3.new.memory c.in_ok-hi.hi
     c.in_ok-hi.ensures
 
-pub strip_halves-make-requires-clause-antichain : goal.strip_halves-make-requires-clause-antichain
-strip_halves-make-requires-clause-antichain t c =
+pub strip_halves-make_or_known-requires-clause-antichain : goal.strip_halves-make_or_known-requires-clause-antichain
+strip_halves-make_or_known-requires-clause-antichain t c =
     antichain c.args.memory.now c.args.a c.args.b c.parts-one.result c.half_at-other.result c.is_sound.ensures
     c.requires.has_a c.parts-one.ensures c.half_at-other.ensures c.strip.new.memory c.in_ok-lo.lo c.in_ok-lo.ensures
     c.strip-2.new.memory c.in_ok-some.some c.in_ok-some.ensures c.strip-3.new.memory c.in_ok-hi.hi
@@ -132,4 +151,4 @@ strip_halves-returns t c =
     left_made c.args.memory.now c.args.a c.args.b c.parts-one.result c.half_at-other.result c.is_sound.ensures
     c.requires.has_a c.parts-one.ensures c.half_at-other.ensures c.strip.new.memory c.in_ok-lo.lo c.in_ok-lo.ensures
     c.strip-2.new.memory c.in_ok-some.some c.in_ok-some.ensures c.strip-3.new.memory c.in_ok-hi.hi
-    c.in_ok-hi.ensures c.make.new.memory c.make.result c.make.ensures
+    c.in_ok-hi.ensures c.make_or_known.new.memory c.make_or_known.result c.make_or_known.ensures

@@ -6,23 +6,23 @@ use Rattle.zdd_build.specs.Workers.{CanWork, IsNew}
 use Rattle.zdd_build.proofs.TeamLemmas.{split_then}
 use Rattle.zdd_build.proofs.teams.open.Goals as goal
 
-pub loop-preserved : goal.loop-preserved
-loop-preserved c =
-    let inv = c.loop.invariant in
+pub loop-number-preserved : goal.loop-number-preserved
+loop-number-preserved c =
+    let inv = c.loop-number.invariant in
     let pushed = c.push_reserved.ensures.items in
     record {
       count =
-          ap (λ (l : List Worker). length l) pushed ∙ length_push c.loop.team.items c.in_ok-worker.worker
+          ap (λ (l : List Worker). length l) pushed ∙ length_push c.loop-number.team.items c.in_ok-worker.worker
           ∙ ap (λ n. n + 1) inv.count;
       room = let e = c.push_reserved.ensures.capacity in let h = inv.room in omega (arith, e, h);
       split =
-          split_then c.loop.counter c.args.seat.now c.loop.seat c.open_one.new.seat inv.split
+          split_then c.loop-number.number c.args.seat.now c.loop-number.seat c.open_one.new.seat inv.split
           c.in_ok-worker.ensures.split;
       can =
           subst (All (CanWork c.args.store.now c.args.tree.now)) (sym pushed)
-          (All-push (CanWork c.args.store.now c.args.tree.now) c.loop.team.items c.in_ok-worker.worker inv.can
+          (All-push (CanWork c.args.store.now c.args.tree.now) c.loop-number.team.items c.in_ok-worker.worker inv.can
           c.in_ok-worker.ensures.can);
       new =
-          subst (All IsNew) (sym pushed) (All-push IsNew c.loop.team.items c.in_ok-worker.worker inv.new
+          subst (All IsNew) (sym pushed) (All-push IsNew c.loop-number.team.items c.in_ok-worker.worker inv.new
           c.in_ok-worker.ensures.new);
     }
