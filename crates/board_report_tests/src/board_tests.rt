@@ -1,7 +1,5 @@
 //! The text of a board, as a sink in memory takes it.
 ghost use Rattle.std.specs.Prelude.{◌≡◌, [], IfOk};
-ghost use Rattle.fault_model.specs.Tree.{unit_count};
-ghost use Rattle.residual_ledger.specs.Residual.{HasUnitsUpTo};
 ghost use Rattle.board_report.specs.BoardText.{IsDeckOf};
 
 use board_report::put_board;
@@ -12,19 +10,14 @@ use outage_board::BoardState;
 use std::alloc::Global;
 use std::process::Abort;
 use std::test::Fail;
-use unit_sets::{CrewNo, CutList};
+use unit_sets::CrewNo;
 use worked_trees::{cuts_of, dockets_of, tree_of};
 
-fn opened(
-    alloc: Global,
-    tree: &Tree,
-    cuts: &CutList,
-    dockets: &Dockets,
-) -> Result<BoardState, NoMemory>
-    requires known { HasUnitsUpTo (unit_count tree.now) cuts.now }
+fn opened(alloc: Global, tree: &Tree, dockets: &Dockets) -> Result<BoardState, Fail>
     ensures { IfOk result (λ board. IsDeckOf tree.now board.deck) }
 {
-    BoardState::open(alloc, tree, cuts, dockets, 0)
+    let cuts = cuts_of(alloc, tree)?;
+    Ok(BoardState::open(alloc, tree, &cuts, dockets, 0)?)
 }
 
 // Serves the crews in this order.
@@ -99,13 +92,40 @@ struct Day<'a> {
     text: &'a [u8],
 }
 
+// What a day is made of is made by one function each, and let go where that returns: each way out of a function on
+// which a tree or a board is let go takes the proof long.
 fn check_day(rt: &impl Abort, alloc: Global, day: Day) -> Result<(), Fail> {
     let tree = tree_of(alloc, day.deck)?;
-    let cuts = cuts_of(alloc, &tree)?;
+    check_tree_day(rt, alloc, &tree, day)
+}
+
+fn check_tree_day(rt: &impl Abort, alloc: Global, tree: &Tree, day: Day) -> Result<(), Fail> {
     let dockets = dockets_of(alloc, day.crews)?;
-    let mut board = opened(alloc, &tree, &cuts, &dockets)?;
-    serve_in_order(&mut board, &tree, day.order)?;
-    check_written(rt, alloc, &board, &tree, day.text)?;
+    check_crew_day(rt, alloc, tree, &dockets, day)
+}
+
+fn check_crew_day(
+    rt: &impl Abort,
+    alloc: Global,
+    tree: &Tree,
+    dockets: &Dockets,
+    day: Day,
+) -> Result<(), Fail> {
+    let mut board = opened(alloc, tree, dockets)?;
+    check_board_day(rt, alloc, &mut board, tree, day)
+}
+
+fn check_board_day(
+    rt: &impl Abort,
+    alloc: Global,
+    board: &mut BoardState,
+    tree: &Tree,
+    day: Day,
+) -> Result<(), Fail>
+    requires opened { IsDeckOf tree.now board.old.deck }
+{
+    serve_in_order(board, tree, day.order)?;
+    check_written(rt, alloc, board, tree, day.text)?;
     Ok(())
 }
 

@@ -101,6 +101,8 @@ fn orders_of<R: Threads + Sync>(
     orders(rt, alloc, tree, cuts, most, 4)
 }
 
+// The tree, the cut sets and their orders are made by one function each, and let go where that returns: each way out
+// of a function on which a tree is let go takes the proof long.
 fn check_cuts<R: Abort + Threads + Sync>(
     rt: &R,
     alloc: Global,
@@ -111,9 +113,35 @@ fn check_cuts<R: Abort + Threads + Sync>(
     requires { most ≤ 8 }
 {
     let tree = tree_of(alloc, deck)?;
-    let cuts = cuts_of(alloc, &tree)?;
-    let orders = orders_of(rt, alloc, &tree, &cuts, most)?;
-    check_written(rt, alloc, &tree, &cuts, &orders, text)?;
+    check_tree_cuts(rt, alloc, &tree, most, text)
+}
+
+fn check_tree_cuts<R: Abort + Threads + Sync>(
+    rt: &R,
+    alloc: Global,
+    tree: &Tree,
+    most: u32,
+    text: &[u8],
+) -> Result<(), Fail>
+    requires { most ≤ 8 }
+{
+    let cuts = cuts_of(alloc, tree)?;
+    check_orders(rt, alloc, tree, &cuts, most, text)
+}
+
+fn check_orders<R: Abort + Threads + Sync>(
+    rt: &R,
+    alloc: Global,
+    tree: &Tree,
+    cuts: &CutList,
+    most: u32,
+    text: &[u8],
+) -> Result<(), Fail>
+    requires units { All (All (IsUnitOf tree.now)) cuts.now }
+    requires most { most ≤ 8 }
+{
+    let orders = orders_of(rt, alloc, tree, cuts, most)?;
+    check_written(rt, alloc, tree, cuts, &orders, text)?;
     Ok(())
 }
 
@@ -124,9 +152,7 @@ fn check_no_cuts<R: Abort + Threads + Sync>(
     text: &[u8],
 ) -> Result<(), Fail> {
     let cuts = CutList::new(alloc);
-    let orders = orders_of(rt, alloc, tree, &cuts, 6)?;
-    check_written(rt, alloc, tree, &cuts, &orders, text)?;
-    Ok(())
+    check_orders(rt, alloc, tree, &cuts, 6, text)
 }
 
 // `A` alone would fail before `B`, which the `seq` forbids.

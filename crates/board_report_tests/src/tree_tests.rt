@@ -70,18 +70,13 @@ fn check_failed(rt: &impl Abort, written: &Written, front: &[u8]) {
 }
 
 // A text is written whole where the sink takes it.
-fn check_text(rt: &impl Abort, alloc: Global, shown: &Shown, text: &[u8]) -> Result<(), NoMemory> {
+fn check_text(rt: &impl Abort, alloc: Global, shown: &Shown, text: &[u8]) -> Result<(), Fail> {
     check_ended(rt, &written(alloc, shown, 1000, None)?, text);
     Ok(())
 }
 
 // With less room a front of it is written, and nothing where the write fails. Where the flush fails all was written.
-fn check_failures(
-    rt: &impl Abort,
-    alloc: Global,
-    shown: &Shown,
-    text: &[u8],
-) -> Result<(), NoMemory> {
+fn check_failures(rt: &impl Abort, alloc: Global, shown: &Shown, text: &[u8]) -> Result<(), Fail> {
     for room in 0..text.len() {
         check_failed(rt, &written(alloc, shown, room, None)?, &text[..room]);
     }
@@ -94,8 +89,7 @@ fn check_failures(
 
 fn check_printed(rt: &impl Abort, alloc: Global, deck: &[u8], text: &[u8]) -> Result<(), Fail> {
     let tree = tree_of(alloc, deck)?;
-    check_text(rt, alloc, &Shown::Printed(&tree), text)?;
-    Ok(())
+    check_text(rt, alloc, &Shown::Printed(&tree), text)
 }
 
 // A text is printed like this, and what is printed is printed like this again.
@@ -106,8 +100,7 @@ fn check_print(rt: &impl Abort, alloc: Global, deck: &[u8], text: &[u8]) -> Resu
 
 fn check_print_fails(rt: &impl Abort, alloc: Global, deck: &[u8], text: &[u8]) -> Result<(), Fail> {
     let tree = tree_of(alloc, deck)?;
-    check_failures(rt, alloc, &Shown::Printed(&tree), text)?;
-    Ok(())
+    check_failures(rt, alloc, &Shown::Printed(&tree), text)
 }
 
 #[test]
@@ -159,23 +152,31 @@ fn check_told(
     tree: &Tree,
     dockets: Option<&Dockets>,
     text: &[u8],
-) -> Result<(), NoMemory> {
+) -> Result<(), Fail> {
     let shown = Shown::WellFormed(tree, dockets);
     check_text(rt, alloc, &shown, text)?;
     check_failures(rt, alloc, &shown, text)
 }
 
+fn check_told_alone_and_with_crews(
+    rt: &impl Abort,
+    alloc: Global,
+    tree: &Tree,
+    dockets: &Dockets,
+) -> Result<(), Fail> {
+    let alone = b"well formed: 2 units, 1 gates, top \"+T\"\n".as_slice();
+    check_told(rt, alloc, tree, None, alone)?;
+    let with_crews =
+        b"well formed: 2 units, 1 gates, top \"+T\"\ncrews: 2, requests: 3\n".as_slice();
+    check_told(rt, alloc, tree, Some(dockets), with_crews)
+}
+
 #[test]
 fn well_formed_decks_are_told(rt: HostRuntime) -> Result<(), Fail> {
     let alloc = rt.alloc();
-    let tree = tree_of(alloc, b"toplevel \"+T\"; \"+T\" and A B; A; B;")?;
     let dockets = dockets_of(alloc, b"crew c\ntake A\nreturn A\ncrew d\nmargin 1")?;
-    let alone = b"well formed: 2 units, 1 gates, top \"+T\"\n".as_slice();
-    check_told(&rt, alloc, &tree, None, alone)?;
-    let with_crews =
-        b"well formed: 2 units, 1 gates, top \"+T\"\ncrews: 2, requests: 3\n".as_slice();
-    check_told(&rt, alloc, &tree, Some(&dockets), with_crews)?;
-    Ok(())
+    let tree = tree_of(alloc, b"toplevel \"+T\"; \"+T\" and A B; A; B;")?;
+    check_told_alone_and_with_crews(&rt, alloc, &tree, &dockets)
 }
 
 // ---- sizes of diagrams
@@ -188,11 +189,20 @@ fn check_sizes(
     text: &[u8],
 ) -> Result<(), Fail> {
     let tree = tree_of(alloc, deck)?;
-    let cuts = cuts_of(alloc, &tree)?;
-    let shown = Shown::Sizes(&tree, &cuts, nodes);
+    check_tree_sizes(rt, alloc, &tree, nodes, text)
+}
+
+fn check_tree_sizes(
+    rt: &impl Abort,
+    alloc: Global,
+    tree: &Tree,
+    nodes: Option<u64>,
+    text: &[u8],
+) -> Result<(), Fail> {
+    let cuts = cuts_of(alloc, tree)?;
+    let shown = Shown::Sizes(tree, &cuts, nodes);
     check_text(rt, alloc, &shown, text)?;
-    check_failures(rt, alloc, &shown, text)?;
-    Ok(())
+    check_failures(rt, alloc, &shown, text)
 }
 
 #[test]

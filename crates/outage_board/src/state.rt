@@ -78,15 +78,19 @@ impl BoardState {
         }) }
     {
         let kept = dockets.copied(alloc)?;
+        let requests = all_requests(alloc, tree, dockets)?;
+        let places = vec![in alloc; 0; dockets.crews() as usize]?;
+        let history = Vec::with_capacity(alloc, dockets.total() as usize)?;
+        // The largest part comes last, so that it is let go on no way out.
         let supervisor = supervisor_of(dockets);
         let standing = Standing::new(alloc, tree.units(), cuts, margin, supervisor)?;
         Ok(BoardState {
             dockets: kept,
             opening_margin: margin,
-            requests: all_requests(alloc, tree, dockets)?,
-            places: vec![in alloc; 0; dockets.crews() as usize]?,
+            requests,
+            places,
             standing,
-            history: Vec::with_capacity(alloc, dockets.total() as usize)?,
+            history,
             inside: PhantomData,
         })
     }

@@ -1,6 +1,8 @@
 -- What a run told: a front of its text where its sink failed, and the crews of a deck where it has some.
-use Rattle.std.specs.Prelude.{◌≡◌, ℕ, List, Option, Some, None, MatchOption, Result, Err, OnErr, option_copied}
-use Rattle.std.proofs.Common.{subst, refl, inr}
+use Rattle.std.specs.Prelude.{◌≡◌, ℕ, List, Option, Some, None, MatchOption, Result, Ok, Err, OnOk, OnErr}
+use Rattle.std.specs.Prelude.{option_copied}
+use Rattle.std.specs.Io.KnownBytes.{Appends}
+use Rattle.std.proofs.Common.{subst, refl, inl, inr}
 use Rattle.event_counts.specs.Count.{Rose}
 use Rattle.edge_io.specs.Out.{Delivers}
 use Rattle.fault_model.specs.Tree.{FaultTree}
@@ -10,6 +12,13 @@ use denote.Ref.{Bor}
 use Rattle.outage_engine.specs.declared.status.Status.{Status}
 use Rattle.outage_engine.specs.declared.status.Status.TheVariants.{WriteFault}
 use Rattle.outage_engine.specs.Runs.{Tells}
+
+pub told_whole : {K W : Type 0} (taken : K → Option (List ℕ)) (faults : K → ℕ) (old new : K) (text : List ℕ)
+    (answer : Result (Unit {0}) W) (value : Unit {0}) (status result : Status)
+    → answer ≡ Ok value → Delivers taken faults old new text answer → result ≡ status
+    → Tells taken faults old new status text result
+told_whole taken faults old new text answer value status result is delivered same =
+    inl (same, subst (λ r. OnOk r (Appends (taken old) (taken new) text)) is delivered.all)
 
 pub told_front : {K W : Type 0} (taken : K → Option (List ℕ)) (faults : K → ℕ) (old new : K) (text : List ℕ)
     (answer : Result (Unit {0}) W) (error : W) (status : Status)

@@ -2,6 +2,8 @@
 ghost use Rattle.std.specs.Prelude.{◌≡◌, ◌≤◌, IfOk, IfErr};
 ghost use Rattle.unit_sets.specs.CutOrder.{weight, weight_limit};
 ghost use Rattle.fault_model.specs.Cut.{IsCutList};
+ghost use Rattle.cut_sequences.specs.Orders.{order_limit, order_lists, order_total};
+ghost use Rattle.board_report.specs.Shown.{AreTextsOf};
 ghost use Rattle.tree_families.specs.Due.{IsDueToTree};
 ghost use Rattle.zdd_product.specs.Seats.{WentAll};
 ghost use Rattle.outage_engine.specs.Answers.{IfRefused, IsLimitOf, IsListingOf, IsOfUnits};
@@ -65,7 +67,56 @@ pub(crate) fn list_tree<R: Threads + Sync>(
     ensures went { WentAll (IsDueToTree tree) seat.old seat.new }
     ensures share { seat.new.share ≡ seat.old.share }
 {
-    match find_cuts(rt, alloc, &tree, store, seat, workers, &Free) {
+    let Listed {
+        cuts,
+        orders,
+        texts,
+        root,
+    } = list_cuts(rt, alloc, most, workers, &tree, store, seat)?;
+    Ok(Listing {
+        tree,
+        cuts,
+        orders,
+        texts,
+        root,
+    })
+}
+
+// What a listing has beside its tree.
+#[derive(Drop)]
+struct Listed {
+    cuts: CutList,
+    orders: OrderLists,
+    texts: UnitTexts,
+    root: Option<NodeRef>,
+}
+
+// All of it, for a tree that is only read, so that no way out of here lets a tree go.
+fn list_cuts<R: Threads + Sync>(
+    rt: &R,
+    alloc: Global,
+    most: u32,
+    workers: u32,
+    tree: &Tree,
+    store: &NodeStore,
+    seat: &mut StoreSeat,
+) -> Result<Listed, RunEnd>
+    requires most { most ≤ 8 }
+    requires some { 1 ≤ workers }
+    requires few { workers ≤ 16 }
+    requires own { seat.old.store ≡ store.now }
+    requires share { 64 ≤ seat.old.share }
+    ensures all { IfOk result (λ listed. IsCutList tree.now listed.cuts) }
+    ensures light { IfOk result (λ listed. weight listed.cuts ≤ weight_limit) }
+    ensures orders { IfOk result (λ listed. listed.orders ≡ order_lists tree.now listed.cuts most) }
+    ensures few { IfOk result (λ listed. order_total listed.orders ≤ order_limit) }
+    ensures texts { IfOk result (λ listed. AreTextsOf tree.now listed.texts) }
+    ensures limit { IfErr result (IfRefused (IsLimitOf most tree.now)) }
+    ensures found { IfOk result (λ listed. IsFoundBy seat.old seat.new tree.now (method_by listed.root)) }
+    ensures went { WentAll (IsDueToTree tree.now) seat.old seat.new }
+    ensures share { seat.new.share ≡ seat.old.share }
+{
+    match find_cuts(rt, alloc, tree, store, seat, workers, &Free) {
         Ok(found) => list_orders(rt, alloc, most, workers, tree, found),
         Err(ListEnd::ListLimit) => Err(RunEnd::Refused(Refusal::ListLimit)),
         Err(ListEnd::NoMemory) => Err(RunEnd::NoMemory),
@@ -78,24 +129,26 @@ fn list_orders<R: Threads + Sync>(
     alloc: Global,
     most: u32,
     workers: u32,
-    tree: Tree,
+    tree: &Tree,
     found: Found,
-) -> Result<Listing, RunEnd>
+) -> Result<Listed, RunEnd>
     requires most { most ≤ 8 }
     requires some { 1 ≤ workers }
     requires few { workers ≤ 16 }
-    requires all { IsCutList tree found.cuts }
+    requires all { IsCutList tree.now found.cuts }
     requires light { weight found.cuts ≤ weight_limit }
-    ensures listed { IfOk result (IsListingOf most tree) }
-    ensures writable { IfOk result IsOfUnits }
-    ensures limit { IfErr result (IfRefused (IsLimitOf most tree)) }
-    ensures root { IfOk result (λ listing. listing.root ≡ found.root) }
+    ensures all { IfOk result (λ listed. IsCutList tree.now listed.cuts) }
+    ensures light { IfOk result (λ listed. weight listed.cuts ≤ weight_limit) }
+    ensures orders { IfOk result (λ listed. listed.orders ≡ order_lists tree.now listed.cuts most) }
+    ensures few { IfOk result (λ listed. order_total listed.orders ≤ order_limit) }
+    ensures texts { IfOk result (λ listed. AreTextsOf tree.now listed.texts) }
+    ensures limit { IfErr result (IfRefused (IsLimitOf most tree.now)) }
+    ensures root { IfOk result (λ listed. listed.root ≡ found.root) }
 {
     let Found { cuts, root } = found;
-    let texts = UnitTexts::new(alloc, &tree)?;
-    match orders(rt, alloc, &tree, &cuts, most, workers) {
-        Ok(orders) => Ok(Listing {
-            tree,
+    let texts = UnitTexts::new(alloc, tree)?;
+    match orders(rt, alloc, tree, &cuts, most, workers) {
+        Ok(orders) => Ok(Listed {
             cuts,
             orders,
             texts,

@@ -200,7 +200,7 @@ fn answer_and_tell<R: Threads + Sync, S: Source, K: Sink>(
         return Status::NoMemory;
     };
     match answer_words(rt, alloc, words, source, store, seat) {
-        Ok(answer) => tell(sink, buffer, &answer),
+        Ok(answer) => tell(sink, buffer, answer),
         Err(RunEnd::Refused(refusal)) => tell_refusal(sink, buffer, refusal),
         Err(RunEnd::NoMemory) => Status::NoMemory,
     }
@@ -294,7 +294,7 @@ fn serve_and_tell<R: Threads + Wait + Sync, S: Source, K: Sink>(
     }
 }
 
-// Serves all crews, and writes what came of it.
+// Serves all crews, writes what came of it, and lets the listing go.
 fn serve<R: Threads + Wait + Sync, K: Sink>(
     rt: &R,
     listing: Listing,
@@ -308,8 +308,25 @@ fn serve<R: Threads + Wait + Sync, K: Sink>(
     requires deck { IsDeckOf listing.tree start.board.deck }
     ensures told { TellsBoard listing start K.taken K.faults sink.old sink.new result }
 {
+    serve_crews(rt, &listing, start, buffer, sink)
+}
+
+// Serves all crews, and writes what came of it.
+fn serve_crews<R: Threads + Wait + Sync, K: Sink>(
+    rt: &R,
+    listing: &Listing,
+    start: BoardStart,
+    buffer: Buffer,
+    sink: &mut K,
+) -> Status
+    requires empty { buffer ≡ [] }
+    requires units { IsOfUnits listing.now }
+    requires passes { HasPasses start }
+    requires deck { IsDeckOf listing.now.tree start.board.deck }
+    ensures told { TellsBoard listing.now start K.taken K.faults sink.old sink.new result }
+{
     let state = serve_all(rt, start, &Free);
     // It keeps what every board keeps, as its history tells.
     let _history = state.entries();
-    tell_board(sink, buffer, &listing, &state)
+    tell_board(sink, buffer, listing, &state)
 }

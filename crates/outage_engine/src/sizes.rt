@@ -1,5 +1,7 @@
 //! How large the cut list of a tree is, and the diagram that it came from.
 ghost use Rattle.std.specs.Prelude.{◌≡◌, ◌≤◌, IfOk, IfErr, IfSome};
+ghost use Rattle.unit_sets.specs.CutOrder.{weight, weight_limit};
+ghost use Rattle.fault_model.specs.Cut.{IsCutList};
 ghost use Rattle.tree_families.specs.Due.{IsDueToTree};
 ghost use Rattle.zdd_product.specs.Seats.{WentAll};
 ghost use Rattle.outage_engine.specs.Answers.{AreSizesOf, IfRefused, IsWeightLimitOf};
@@ -56,11 +58,43 @@ pub(crate) fn size_tree<R: Threads + Sync>(
     ensures went { WentAll (IsDueToTree tree) seat.old seat.new }
     ensures share { seat.new.share ≡ seat.old.share }
 {
-    match find_cuts(rt, alloc, &tree, store, seat, workers, &Free) {
+    let CutSizes { cuts, nodes } = find_sizes(rt, alloc, workers, &tree, store, seat)?;
+    Ok(Sizes { tree, cuts, nodes })
+}
+
+// A cut list, and how many nodes its family has where the diagrams of the tree gave it.
+#[derive(Drop)]
+struct CutSizes {
+    cuts: CutList,
+    nodes: Option<u64>,
+}
+
+// The cut list of a tree that is only read, so that no way out of here lets a tree go.
+fn find_sizes<R: Threads + Sync>(
+    rt: &R,
+    alloc: Global,
+    workers: u32,
+    tree: &Tree,
+    store: &NodeStore,
+    seat: &mut StoreSeat,
+) -> Result<CutSizes, RunEnd>
+    requires some { 1 ≤ workers }
+    requires few { workers ≤ 16 }
+    requires own { seat.old.store ≡ store.now }
+    requires share { 64 ≤ seat.old.share }
+    ensures cuts { IfOk result (λ sizes. IsCutList tree.now sizes.cuts) }
+    ensures within { IfOk result (λ sizes. weight sizes.cuts ≤ weight_limit) }
+    ensures nodes { IfOk result (λ sizes. AreNodesOf tree.now sizes.nodes) }
+    ensures limit { IfErr result (IfRefused (IsWeightLimitOf tree.now)) }
+    ensures found { IfOk result (λ sizes. IsFoundBy seat.old seat.new tree.now (method_by sizes.nodes)) }
+    ensures went { WentAll (IsDueToTree tree.now) seat.old seat.new }
+    ensures share { seat.new.share ≡ seat.old.share }
+{
+    match find_cuts(rt, alloc, tree, store, seat, workers, &Free) {
         Ok(found) => {
-            let nodes = count_nodes(alloc, &tree, store, seat, found.root)?;
+            let nodes = count_nodes(alloc, tree, store, seat, found.root)?;
             let Found { cuts, .. } = found;
-            Ok(Sizes { tree, cuts, nodes })
+            Ok(CutSizes { cuts, nodes })
         }
         Err(ListEnd::ListLimit) => Err(RunEnd::Refused(Refusal::ListLimit)),
         Err(ListEnd::NoMemory) => Err(RunEnd::NoMemory),

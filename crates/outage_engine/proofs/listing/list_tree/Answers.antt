@@ -1,15 +1,7 @@
-use Rattle.std.specs.Prelude.{ℕ, Option}
-use Rattle.std.proofs.Common.{sym, subst}
-use Rattle.std.proofs.lemmas.Result.{IfOk-weaker}
-use Rattle.outage_engine.specs.Store.{IsFoundBy, method_by}
-use Rattle.outage_engine.proofs.ByDiagram.{found_by}
+use Rattle.outage_engine.proofs.Writable.{listed_of_units}
 use Rattle.outage_engine.proofs.listing.list_tree.Goals as goal
 
-pub returns-in-Ok-clause-found : goal.returns-in-Ok-clause-found
-returns-in-Ok-clause-found g c =
-    IfOk-weaker c.list_orders.result _ _
-    (λ listing same.
-    subst (λ (root : Option ℕ). IsFoundBy c.args.seat.now c.find_cuts.new.seat c.args.tree (method_by root)) (sym same)
-    (found_by c.args.seat.now c.find_cuts.new.seat c.args.tree c.in-Ok.found.root c.in-Ok.ensures.root
-    c.in-Ok.ensures.full))
-    c.list_orders.ensures.root
+pub returns-clause-writable : goal.returns-clause-writable
+returns-clause-writable g c =
+    listed_of_units c.args.tree c.in_ok-cuts.field-0.cuts c.args.most c.in_ok-cuts.field-0.orders
+    c.in_ok-cuts.field-0.texts c.in_ok-cuts.ensures.all c.in_ok-cuts.ensures.orders c.in_ok-cuts.ensures.texts

@@ -3,14 +3,14 @@ use Rattle.crew_script.specs.Dockets.{request_count}
 use Rattle.outage_board.proofs.OpeningLemmas.{opens}
 use Rattle.outage_board.proofs.state.BoardState.open.Goals as goal
 
-pub invariant_of-result-3 : goal.invariant_of-result-3
-invariant_of-result-3 c =
+pub invariant_of-result : goal.invariant_of-result
+invariant_of-result c =
     let crews = c.args.dockets.now in
-    let next : c.in_ok-vec.field-0.items ≡ replicate c.crews.result 0 = search rules in
+    let next : c.in_ok-places.places.items ≡ replicate c.crews.result 0 = search rules in
     let many : c.crews.result ≡ length crews = c.crews.ensures.count in
     let room : request_count crews ≤ c.total.result = let e = c.total.ensures.count in omega arith in
     opens c.args.tree.now c.args.cuts.now crews c.args.margin _ c.crews.ensures.kept
-    (let cap = c.in_ok-with_capacity.ensures.capacity in omega arith)
-    _ _ _ _ c.units.result c.supervisor_of-supervisor.result c.kept.inside.crews (c.kept.view_is ∙ c.in_ok-kept.ensures)
-    c.units.ensures.count c.supervisor_of-supervisor.ensures (c.standing.view_is ∙ c.in_ok-standing.ensures)
-    c.in_ok-all_requests.ensures c.in_ok-with_capacity.ensures.items (next ∙ ap (λ n. replicate n 0) many)
+    (let cap = c.in_ok-history.ensures.capacity in omega arith)
+    _ _ _ _ c.units.result c.supervisor_of-supervisor.result c.in_ok-kept.kept c.in_ok-kept.ensures
+    c.units.ensures.count c.supervisor_of-supervisor.ensures c.in_ok-standing.ensures
+    c.in_ok-requests.ensures c.in_ok-history.ensures.items (next ∙ ap (λ n. replicate n 0) many)
