@@ -119,8 +119,8 @@ impl Answers {
         }
     }
 
-    // Grows once as many answers were told as there are places. A table that has its whole room tries that once, and not
-    // at each answer.
+    // Grows once as many answers were told as there are places. A table with its whole room tries that once more,
+    // and not at each answer.
     #[inline(always)]
     fn make_room(&mut self)
         ensures { AreKept self.old self.new }
