@@ -1,5 +1,5 @@
 //! Places of one rank that are spread over the workers: each draws the next place until none is left.
-ghost use Rattle.std.specs.Prelude.{◌≡◌, ◌≤◌, ◌<◌, ℕ, All, IfErr, IfOk, length, true};
+ghost use Rattle.std.specs.Prelude.{◌≡◌, ◌≤◌, ◌<◌, ℕ, All, IfErr, IfOk, IfSome, length, true};
 ghost use Rattle.std.specs.Thread.{IsSync};
 ghost use Rattle.fault_model.specs.CutFamily.{IsCutFamily};
 ghost use Rattle.fault_model.specs.Tree.{FaultTree};
@@ -13,7 +13,7 @@ ghost use Rattle.zdd_build.specs.Workers.{AreFound, CanWork, HasNone, IsAtWork, 
 use crate::places::Place;
 use crate::table::Table;
 use crate::teams::meet;
-use crate::worker::{Finding, Worker, make};
+use crate::worker::{Finding, Worker, make, make_own};
 use edge_io::Pace;
 use fault_model::Tree;
 use std::sync::atomic::{AtomicUsize, Ordering};
@@ -60,6 +60,36 @@ pub(crate) fn make_at<P: Pace>(
     made
 }
 
+// The same in the worker's own memory alone, which may be too small.
+fn make_own_at<P: Pace>(
+    worker: &mut Worker,
+    tree: &Tree,
+    places: &[Place],
+    references: &[NodeRef],
+    run: Run,
+    place: usize,
+    pace: &P,
+) -> Option<NodeRef>
+    requires places { ArePlaces tree.now places.now }
+    requires to { run.to ≤ length places.now }
+    requires can_make { CanMake (map_of worker.old.ops) tree.now places.now references.now run.from run.to }
+    requires from { run.from ≤ place }
+    requires within { place < run.to }
+    requires can { CanWork worker.old.ops.store tree.now worker.old }
+    ensures gives { IfSome result (λ r. KnowsOne (map_of worker.new.ops) r
+        (IsCutFamily tree.now (node_at places.now place))) }
+    ensures keeps { Grown (map_of worker.old.ops) (map_of worker.new.ops) }
+    ensures can { CanWork worker.old.ops.store tree.now worker.new }
+    ensures found { worker.new.found ≡ worker.old.found }
+{
+    let Place { rank, node } = places[place];
+    let number = (place - run.from).min(u32::MAX as usize) as u32;
+    pace.before(rank, number);
+    let made = make_own(worker, tree, node, references);
+    pace.after(rank, number);
+    made
+}
+
 // Draws a place, makes the node there and keeps what was found. Whether there may be a next one.
 fn make_next<P: Pace>(
     worker: &mut Worker,
@@ -81,9 +111,9 @@ fn make_next<P: Pace>(
     if place < run.from || place >= run.to {
         return false;
     }
-    match make_at(worker, tree, places, references, run, place, pace) {
-        Ok(family) => worker.found.push(Finding { place, family }).is_ok(),
-        Err(_) => false,
+    match make_own_at(worker, tree, places, references, run, place, pace) {
+        Some(family) => worker.found.push(Finding { place, family }).is_ok(),
+        None => !worker.full,
     }
 }
 

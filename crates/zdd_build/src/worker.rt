@@ -1,5 +1,5 @@
 //! One worker: its seat with the operations of the store, a memory of its own, and what it has found.
-ghost use Rattle.std.specs.Prelude.{◌≡◌, ◌≤◌, ℕ, false, true, [], length, IfErr, IfOk};
+ghost use Rattle.std.specs.Prelude.{◌≡◌, ◌≤◌, ℕ, false, true, [], length, IfErr, IfOk, IfSome};
 ghost use Rattle.fault_model.specs.CutFamily.{IsCutFamily};
 ghost use Rattle.fault_model.specs.Tree.{IsNodeOf, is_fdep, node_count};
 ghost use Rattle.tree_families.specs.Due.{IsDueToTree};
@@ -202,4 +202,36 @@ pub(crate) fn make(
     let made = worker.memory.count().saturating_sub(before);
     worker.work = worker.work.saturating_add(made);
     Ok(family)
+}
+
+/// Makes the cut family of a node in the worker's own memory alone. Where that is too small there is none: the node is
+/// left to the first worker, which has most room.
+pub(crate) fn make_own(
+    worker: &mut Worker,
+    tree: &Tree,
+    node: NodeNo,
+    references: &[NodeRef],
+) -> Option<NodeRef>
+    requires node { IsNodeOf tree.now node }
+    requires all { node_count tree.now ≤ length references.now }
+    requires below { KnowsBelow (map_of worker.old.ops) tree.now references.now node }
+    requires can { CanWork worker.old.ops.store tree.now worker.old }
+    ensures gives { IfSome result (λ r. KnowsOne (map_of worker.new.ops) r (IsCutFamily tree.now node)) }
+    ensures keeps { Grown (map_of worker.old.ops) (map_of worker.new.ops) }
+    ensures can { CanWork worker.old.ops.store tree.now worker.new }
+    ensures found { worker.new.found ≡ worker.old.found }
+{
+    // Tells the proof what a tree keeps.
+    tree.units();
+    keep_few(worker);
+    let Ok(own) = own_or_anew(worker, tree, node, references) else {
+        return None;
+    };
+    match export(&worker.memory, &mut worker.copies, &mut worker.ops, own) {
+        Ok(family) => Some(family),
+        Err(_) => {
+            worker.full = true;
+            None
+        }
+    }
 }
