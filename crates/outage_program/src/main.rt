@@ -7,9 +7,12 @@
 ghost use Rattle.std.specs.Prelude.{◌≤◌};
 
 use board_words::{Command, Show, read, spoken_words};
-use edge_io::{StdSink, StdSource};
+use edge_io::{Sink, Source, StdSink, StdSource};
 use outage_engine::{Status, Word, run};
+use std::alloc::Global;
 use std::process::ExitCode;
+use std::sync::Wait;
+use std::thread::Threads;
 use zdd_shared_table::{NodeStore, StoreStart};
 
 // Where diagrams are made, the store has two to the power of this slots.
@@ -22,19 +25,31 @@ fn main(rt: HostRuntime) -> ExitCode {
     let Ok(words) = spoken_words(&rt) else {
         return ExitCode::from(Status::NoMemory.code());
     };
-    let status = match NodeStore::new(rt.alloc(), store_bits(words.as_slice())) {
-        Ok(StoreStart { store, mut seat }) => run(
-            &rt,
-            rt.alloc(),
-            words.as_slice(),
-            &mut StdSource::new(rt.stdin()),
-            &mut StdSink::new(rt.stdout()),
-            &store,
-            &mut seat,
-        ),
-        Err(_) => Status::NoMemory,
-    };
+    let status = status_of(
+        &rt,
+        rt.alloc(),
+        words.as_slice(),
+        &mut StdSource::new(rt.stdin()),
+        &mut StdSink::new(rt.stdout()),
+    );
     ExitCode::from(status.code())
+}
+
+// How the run of these words ends. It owns the store, and `main` the words: what a function owns is let go on each of
+// its ways out.
+fn status_of<R: Threads + Wait + Sync, S: Source, K: Sink>(
+    rt: &R,
+    alloc: Global,
+    words: &[Word],
+    source: &mut S,
+    sink: &mut K,
+) -> Status {
+    match NodeStore::new(alloc, store_bits(words)) {
+        Ok(StoreStart { store, mut seat }) => {
+            run(rt, alloc, words, source, sink, &store, &mut seat)
+        }
+        Err(_) => Status::NoMemory,
+    }
 }
 
 // How large a store the command of these words needs.
