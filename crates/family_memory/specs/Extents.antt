@@ -1,7 +1,12 @@
 -- How far the sets of a family reach.
-use Rattle.std.specs.Prelude.{ℕ, ◌<◌, ◌≤◌, List, Contains, length}
+use Rattle.std.specs.Prelude.{◌≡◌, ℕ, ◌≤◌, ◌<◌, true, List, Contains, length}
+use Rattle.unit_sets.specs.UnitList.{among, is_within}
 use Rattle.minimal_families.specs.Units.{IsLastUnit}
 use Rattle.family_memory.specs.declared.extents.Extent.{Extent}
+
+-- each set has this unit or a greater one, where it is a unit
+abbrev pub Reach : List (List ℕ) → ℕ → Type 0
+Reach f reach = 1 ≤ reach → (set : List ℕ) → Contains f set → (unit : ℕ) × (reach ≤ unit) × (among set unit ≡ true)
 
 -- each set has at least so many units
 abbrev pub HaveAtLeast : List (List ℕ) → ℕ → Type 0
@@ -11,12 +16,13 @@ HaveAtLeast f least = (set : List ℕ) → Contains f set → least ≤ length s
 abbrev pub HaveAtMost : List (List ℕ) → ℕ → Type 0
 HaveAtMost f most = most < 65535 → (set : List ℕ) → Contains f set → length set ≤ most
 
--- the greatest unit, and bounds for the numbers of units
+-- the greatest unit, one that each set reaches, and bounds for the numbers of units
 pub record IsExtent (f : List (List ℕ)) (extent : Extent) : Type 0 where
   pub last : IsLastUnit f extent.last
+  pub reach : Reach f extent.reach
   pub least : HaveAtLeast f extent.least
   pub most : HaveAtMost f extent.most
 
--- each set of the first family has fewer units than each set of the second
-abbrev pub AreSmaller : List (List ℕ) → List (List ℕ) → Type 0
-AreSmaller f g = (set part : List ℕ) → Contains f set → Contains g part → length set < length part
+-- no set of the first family includes one of the second
+abbrev pub IncludesNone : List (List ℕ) → List (List ℕ) → Type 0
+IncludesNone f g = (set part : List ℕ) → Contains f set → Contains g part → is_within set part ≡ true → ⊥

@@ -11,7 +11,7 @@ use Rattle.family_memory.specs.Memory.{Held, Has, IsSound, family_in, map_of, wo
 
 -- what stands behind the end of a list of extents
 abbrev pub no_extent : Extent
-no_extent = record { last = 0; least = 0; most = 0 }
+no_extent = record { last = 0; reach = 0; least = 0; most = 0 }
 
 -- each reference of the memory has the extent of its family in its place of the list
 pub record AreExtents (held : Held) (extents : List Extent) : Type 0 where

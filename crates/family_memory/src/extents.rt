@@ -1,17 +1,22 @@
 //! How far the sets of a family reach.
-ghost use Rattle.std.specs.Prelude.{◌≢◌, ℕ, List, [], ◌∷◌};
-ghost use Rattle.zdd_families.specs.Family.{branch};
-ghost use Rattle.family_memory.specs.Extents.{IsExtent};
+ghost use Rattle.std.specs.Prelude.{◌≡◌, ◌≢◌, ℕ, List, [], ◌∷◌, true};
+ghost use Rattle.zdd_families.specs.Family.{IsFamily, branch};
+ghost use Rattle.family_memory.specs.Extents.{IncludesNone, IsExtent};
 
 use unit_sets::UnitNo;
+
+// Above the number of each unit.
+const NO_UNIT: u16 = 4_096;
 
 // More than a set has units.
 const NO_SIZE: u16 = 4_096;
 
-/// The greatest unit of a family's sets, and how many units each of them has at least and at most.
+/// The greatest unit of a family's sets, a unit that each of them reaches or passes, and how many units each of them
+/// has at least and at most.
 #[derive(Clone, Copy)]
 pub(crate) struct Extent {
     pub last: u16,
+    pub reach: u16,
     pub least: u16,
     pub most: u16,
 }
@@ -23,6 +28,7 @@ impl Extent {
     {
         Extent {
             last: 0,
+            reach: NO_UNIT,
             least: NO_SIZE,
             most: 0,
         }
@@ -34,6 +40,7 @@ impl Extent {
     {
         Extent {
             last: 0,
+            reach: 0,
             least: 0,
             most: 0,
         }
@@ -46,8 +53,18 @@ impl Extent {
     {
         Extent {
             last: level.number().max(lo.last).max(hi.last),
+            reach: lo.reach.min(level.number().max(hi.reach)),
             least: lo.least.min(hi.least.saturating_add(1)),
             most: lo.most.max(hi.most.saturating_add(1)),
         }
+    }
+
+    /// Whether no set of the first family can include one of the second: each of these has a unit past all of the
+    /// first family's, or more units. Where it says no this may not be known.
+    pub(crate) fn includes_none(self, other: Extent) -> bool
+        ensures { (f g : List (List ℕ)) → IsFamily f → IsFamily g → IsExtent f self → IsExtent g other
+            → result ≡ true → IncludesNone f g }
+    {
+        self.last < other.reach || self.most < other.least
     }
 }

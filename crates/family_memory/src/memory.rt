@@ -8,7 +8,7 @@ ghost use Rattle.zdd_families.specs.Map.{Grown, IsNode, level_in};
 ghost use Rattle.family_parts.specs.Antichains.{IsAntichain};
 ghost use Rattle.minimal_families.specs.Units.{IsLastUnit};
 ghost use Rattle.family_memory.specs.Answers.{IsTold};
-ghost use Rattle.family_memory.specs.Extents.{AreSmaller, IsExtent};
+ghost use Rattle.family_memory.specs.Extents.{IncludesNone, IsExtent};
 ghost use Rattle.family_memory.specs.Memory.{Has, IsNodeOf, IsSound, IsUsedUp, family_in, map_of, word_family};
 ghost use Rattle.family_memory.specs.Kept.{IsAdded, refusing};
 
@@ -126,14 +126,15 @@ impl FamilyMemory {
         self.extent(r).last
     }
 
-    /// Whether each set of the first family has fewer units than each set of the second. Where it says no this may not
-    /// be known.
-    pub fn are_smaller(&self, a: NodeRef, b: NodeRef) -> bool
+    /// Whether no set of the first family can include one of the second, as the units or the sizes of their sets tell.
+    /// Where it says no this may not be known.
+    pub fn includes_none(&self, a: NodeRef, b: NodeRef) -> bool
         requires has_a { Has self.now a }
         requires has_b { Has self.now b }
-        ensures { result ≡ true → AreSmaller (family_in self.now a) (family_in self.now b) }
+        ensures { result ≡ true → IncludesNone (family_in self.now a) (family_in self.now b) }
     {
-        self.extent(a).most < self.extent(b).least
+        self.is_sound();
+        self.extent(a).includes_none(self.extent(b))
     }
 
     // The extent of a reference's family.

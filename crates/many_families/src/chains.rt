@@ -1,5 +1,6 @@
-//! The union of a few families at once, unit by unit: each level takes one node, whatever the number of families.
-ghost use Rattle.std.specs.Prelude.{◌≡◌, ◌<◌, ℕ, All, MatchResult, length, slice_index};
+//! The union of many families in an order of their units, and of a few at once, unit by unit: each level takes one
+//! node, whatever the number of families.
+ghost use Rattle.std.specs.Prelude.{◌≡◌, ◌<◌, ◌≤◌, ℕ, All, MatchResult, length, slice_index};
 ghost use Rattle.minimal_families.specs.Least.{IsLeastOfAll};
 ghost use Rattle.family_memory.specs.Memory.{Gave, Has, RanOut};
 ghost use Rattle.many_families.specs.Chains.{AreFrom, IsLowered, IsLowest, uppers};
@@ -14,8 +15,8 @@ use zdd_words::NodeRef;
 // How many families are united at once: each is looked at on each level.
 const AT_ONCE: usize = 16;
 
-/// The minimal sets of the union of all families of the places: of a few at once, of more by their halves. What the
-/// places hold afterwards is left open.
+/// The minimal sets of the union of all families of the places, which stand in an order of their units: of a few at
+/// once, of more in two parts. What the places hold afterwards is left open.
 pub(crate) fn unite_places(
     memory: &mut FamilyMemory,
     places: &mut [NodeRef],
@@ -28,10 +29,38 @@ pub(crate) fn unite_places(
     if places.len() <= AT_ONCE {
         return unite_levels(memory, places);
     }
-    let middle = places.len() / 2;
-    let first = unite_places(memory, &mut places[..middle])?;
-    let second = unite_places(memory, &mut places[middle..])?;
+    let end = end_of_first(memory, places);
+    let first = unite_places(memory, &mut places[..end])?;
+    let second = unite_places(memory, &mut places[end..])?;
     union(memory, first, second)
+}
+
+// Where the first part of some families ends: behind those whose sets all begin with the first unit, which one node
+// puts on top of the rest, or else in the middle.
+fn end_of_first(memory: &FamilyMemory, list: &[NodeRef]) -> usize
+    requires has { All (Has memory.now) list.now }
+    requires many { 2 ≤ length list.now }
+    ensures some { 1 ≤ result }
+    ensures rest { result < length list.now }
+{
+    let level = memory.level(list[0]);
+    for place in 0..list.len() {
+        let r = list[place];
+        if memory.level(r) != level && place > 0 {
+            return place;
+        }
+        if !begins_alike(memory, r) {
+            break;
+        }
+    }
+    list.len() / 2
+}
+
+// Whether all sets of a family begin with the same unit.
+fn begins_alike(memory: &FamilyMemory, r: NodeRef) -> bool
+    requires { Has memory.now r }
+{
+    r.number() >= 2 && memory.parts(r).lo == NodeRef::EMPTY
 }
 
 // Whether two at most are to be united, or one of them has the empty set, which all others include.

@@ -14,7 +14,7 @@ use zdd_words::{NodeRef, Parts};
 const NO_UNIT: u16 = 4_096;
 
 // How many units of a set tell where a family stands.
-const UNITS_TOLD: usize = 4;
+const UNITS_TOLD: usize = 2;
 
 const UNIT_SHIFT: u32 = 13;
 

@@ -1,8 +1,6 @@
 //! Votes over a list of families.
 ghost use Rattle.std.specs.Prelude.{◌≡◌, ◌+◌, ◌<◌, ◌≤◌, ℕ, true, ◌==◌, List, if◌then◌else◌, All, IfErr, IfOk};
 ghost use Rattle.std.specs.Prelude.{MatchResult, length, slice_index};
-ghost use Rattle.zdd_families.specs.Family.{IsAbove, branch};
-ghost use Rattle.family_parts.specs.Antichains.{IsAntichain};
 ghost use Rattle.minimal_families.specs.Least.{IsLeastVotes};
 ghost use Rattle.family_memory.specs.Memory.{Gave, Has, RanOut, Went, family_in};
 ghost use Rattle.many_families.specs.Lists.{IsBetween, IsVoter, IsVoting, HaveVoted, families};
@@ -11,8 +9,7 @@ ghost use Rattle.many_families.specs.Joins.{IsBelow, IsJoined};
 use crate::order::put_in_order;
 use crate::splitting::multiply_split;
 use family_memory::{FamilyMemory, Spent};
-use minimal_operations::{product_below, union};
-use unit_sets::UnitNo;
+use minimal_operations::{branch_node, product_below, union};
 use zdd_words::NodeRef;
 
 // Above the number of each unit.
@@ -202,29 +199,7 @@ fn join_below(
     let one = memory.parts(voter);
     let lo = join_below(memory, one.lo, same, fewer)?;
     let hi = product_below(memory, one.hi, fewer)?;
-    make(memory, one.level, lo, hi)
-}
-
-// The node of a level below all units of lo and hi, or lo where hi has no sets.
-fn make(
-    memory: &mut FamilyMemory,
-    level: UnitNo,
-    lo: NodeRef,
-    hi: NodeRef,
-) -> Result<NodeRef, Spent>
-    requires has_lo { Has memory.old lo }
-    requires has_hi { Has memory.old hi }
-    requires lo_above { IsAbove level (family_in memory.old lo) }
-    requires hi_above { IsAbove level (family_in memory.old hi) }
-    requires antichain { IsAntichain (branch level (family_in memory.old lo) (family_in memory.old hi)) }
-    ensures { MatchResult result (Gave (λ f. f ≡ branch level (family_in memory.old lo) (family_in memory.old hi))
-        memory.old memory.new) (λ _. RanOut memory.old memory.new) }
-{
-    memory.is_sound();
-    if hi == NodeRef::EMPTY {
-        return Ok(lo);
-    }
-    memory.node(level, lo, hi)
+    branch_node(memory, one.level, lo, hi)
 }
 
 // The same of any member.

@@ -12,6 +12,8 @@ mod empty;
 #[cfg(test)]
 mod families;
 #[cfg(test)]
+mod including;
+#[cfg(test)]
 mod pairs;
 #[cfg(test)]
 mod plain;
@@ -19,5 +21,3 @@ mod plain;
 mod random;
 #[cfg(test)]
 mod shared;
-#[cfg(test)]
-mod sizes;

@@ -5,7 +5,7 @@ pub mod Steps
 pub mod RidSteps
 pub mod Singles
 pub mod SingleRests
-pub mod Smaller
+pub mod NothingLost
 pub mod Swapping
 pub mod Telling
 pub mod WithoutSteps

@@ -14,7 +14,7 @@ mod unions;
 mod withouts;
 
 pub use halves::{Half, half_at};
-pub use nodes::{rid_node, single};
+pub use nodes::{branch_node, rid_node, single};
 pub use products::product;
 pub use products_below::product_below;
 pub use unions::union;

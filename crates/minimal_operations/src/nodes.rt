@@ -17,7 +17,16 @@ pub fn single(memory: &mut FamilyMemory, unit: UnitNo) -> Result<NodeRef, Spent>
     ensures spent { IfErr result (λ _. RanOut memory.old memory.new) }
 {
     memory.is_sound();
-    make(memory, unit, NodeRef::EMPTY, NodeRef::UNIT)
+    branch_node(memory, unit, NodeRef::EMPTY, NodeRef::UNIT)
+}
+
+/// Whether a node stands for one set of one unit.
+pub(crate) fn is_single(memory: &FamilyMemory, r: NodeRef) -> bool
+    requires has { Has memory.now r }
+    requires inner { 2 ≤ r }
+{
+    let parts = memory.parts(r);
+    parts.lo == NodeRef::EMPTY && parts.hi == NodeRef::UNIT
 }
 
 /// The node of a level below all units of two families: the sets of the one, and with the level those of the other that
@@ -40,7 +49,7 @@ pub fn rid_node(
 }
 
 /// The node of a level below all units of lo and hi, or lo where hi has no sets.
-pub(crate) fn make(
+pub fn branch_node(
     memory: &mut FamilyMemory,
     level: UnitNo,
     lo: NodeRef,
@@ -84,7 +93,7 @@ pub(crate) fn make_or_known(
     if parts.level == level && parts.lo == lo && parts.hi == hi {
         return Ok(known);
     }
-    make(memory, level, lo, hi)
+    branch_node(memory, level, lo, hi)
 }
 
 /// The node of lo and of what is left of all others without lo. Another family that says the same of these
@@ -108,5 +117,5 @@ pub(crate) fn make_rid(
 {
     memory.is_sound();
     let hi = strip(memory, all, other)?;
-    make(memory, level, lo, hi)
+    branch_node(memory, level, lo, hi)
 }

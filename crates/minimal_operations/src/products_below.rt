@@ -4,7 +4,7 @@ ghost use Rattle.minimal_families.specs.Least.{IsLeastProduct};
 ghost use Rattle.minimal_families.specs.Units.{LiesBelow};
 ghost use Rattle.family_memory.specs.Memory.{Gave, Has, RanOut, family_in};
 
-use crate::nodes::make;
+use crate::nodes::{branch_node, is_single};
 use crate::products::product_end;
 use family_memory::{FamilyMemory, Spent};
 use kept_answers::{Entry, Operation, Question};
@@ -36,6 +36,10 @@ fn multiply_below(memory: &mut FamilyMemory, a: NodeRef, b: NodeRef) -> Result<N
     if let Some(end) = product_end(a, b) {
         return Ok(end);
     }
+    // One node, which the index finds as soon as the kept answers would.
+    if is_single(memory, a) {
+        return multiply_parts(memory, a, b);
+    }
     let question = Question {
         operation: Operation::Product,
         first: a,
@@ -66,5 +70,5 @@ fn multiply_parts(memory: &mut FamilyMemory, a: NodeRef, b: NodeRef) -> Result<N
     let one = memory.parts(a);
     let lo = multiply_below(memory, one.lo, b)?;
     let hi = multiply_below(memory, one.hi, b)?;
-    make(memory, one.level, lo, hi)
+    branch_node(memory, one.level, lo, hi)
 }

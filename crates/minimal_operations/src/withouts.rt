@@ -57,15 +57,14 @@ fn single_end(memory: &FamilyMemory, a: NodeRef, b: NodeRef) -> Option<NodeRef>
     None
 }
 
-// Whether no set of a can include one of b: all units of a are lower, or all its sets have fewer.
+// Whether no set of a can include one of b, as their units or their sizes tell.
 fn loses_nothing(memory: &FamilyMemory, a: NodeRef, b: NodeRef) -> bool
     requires has_a { Has memory.now a }
     requires has_b { Has memory.now b }
-    requires inner { 2 ≤ b }
     ensures { result ≡ true → IsWithout (family_in memory.now a) (family_in memory.now b) (family_in memory.now a) }
 {
     memory.is_sound();
-    memory.last(a) < memory.level(b) || memory.are_smaller(a, b)
+    memory.includes_none(a, b)
 }
 
 // The part of b that matters: a set of a includes no set with a unit below all of a's.

@@ -11,15 +11,15 @@ use Rattle.many_families.proofs.chains.+unite_places.Goals as goal
 pub returns : goal.returns
 returns t c =
     halves_united c.args.memory.now c.unite_places.new.memory c.unite_places-2.new.memory c.args.places.now
-    (length c.args.places.now / 2) c.is_sound.ensures c.requires c.in_ok-first.first c.in_ok-second.second
+    c.end_of_first-end.result c.is_sound.ensures c.requires c.in_ok-first.first c.in_ok-second.second
     c.in_ok-first.ensures
     (subst (λ l. Gave (IsLeastOfAll (families c.unite_places.new.memory l)) c.unite_places.new.memory
     c.unite_places-2.new.memory c.in_ok-second.second)
-    (rest_from (c.unite_places.new.places ++ drop (length c.args.places.now / 2) c.args.places.now)
-    (length c.args.places.now / 2)
-    ∙ drop-append-drop (length c.args.places.now / 2) c.args.places.now c.unite_places.new.places
-    (length c.args.places.now / 2) (omega arith) (c.unite_places.auto.places
-    ∙ length-take-le (length c.args.places.now / 2) c.args.places.now (omega arith))) c.in_ok-second.ensures)
+    (rest_from (c.unite_places.new.places ++ drop c.end_of_first-end.result c.args.places.now)
+    c.end_of_first-end.result
+    ∙ drop-append-drop c.end_of_first-end.result c.args.places.now c.unite_places.new.places
+    c.end_of_first-end.result (omega arith) (c.unite_places.auto.places
+    ∙ length-take-le c.end_of_first-end.result c.args.places.now (omega arith))) c.in_ok-second.ensures)
     c.union.new.memory c.union.result
     (answers_of (IsLeastUnion (family_in c.unite_places-2.new.memory c.in_ok-first.first)
     (family_in c.unite_places-2.new.memory c.in_ok-second.second)) c.unite_places-2.new.memory c.union.new.memory

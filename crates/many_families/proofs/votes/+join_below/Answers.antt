@@ -39,24 +39,24 @@ product_below-requires-clause-below t c =
     c.requires.same c.requires.fewer c.parts-one.ensures c.requires.below
     c.join_below.new.memory c.in_ok-lo.lo c.in_ok-lo.ensures
 
-pub make-requires-clause-lo_above : goal.make-requires-clause-lo_above
-make-requires-clause-lo_above t c =
+pub branch_node-requires-clause-lo_above : goal.branch_node-requires-clause-lo_above
+branch_node-requires-clause-lo_above t c =
     lo_above c.args.memory.now c.args.voter c.args.same c.args.fewer c.parts-one.result c.is_sound.ensures
     c.requires.voter
     c.requires.same c.requires.fewer c.parts-one.ensures c.requires.below
     c.join_below.new.memory c.in_ok-lo.lo c.in_ok-lo.ensures c.product_below.new.memory c.in_ok-hi.hi
     c.in_ok-hi.ensures.gives
 
-pub make-requires-clause-hi_above : goal.make-requires-clause-hi_above
-make-requires-clause-hi_above t c =
+pub branch_node-requires-clause-hi_above : goal.branch_node-requires-clause-hi_above
+branch_node-requires-clause-hi_above t c =
     hi_above c.args.memory.now c.args.voter c.args.same c.args.fewer c.parts-one.result c.is_sound.ensures
     c.requires.voter
     c.requires.same c.requires.fewer c.parts-one.ensures c.requires.below
     c.join_below.new.memory c.in_ok-lo.lo c.in_ok-lo.ensures c.product_below.new.memory c.in_ok-hi.hi
     c.in_ok-hi.ensures.gives
 
-pub make-requires-clause-antichain : goal.make-requires-clause-antichain
-make-requires-clause-antichain t c =
+pub branch_node-requires-clause-antichain : goal.branch_node-requires-clause-antichain
+branch_node-requires-clause-antichain t c =
     joined_antichain c.args.memory.now c.args.voter c.args.same c.args.fewer c.parts-one.result c.is_sound.ensures
     c.requires.voter
     c.requires.same c.requires.fewer c.parts-one.ensures c.requires.below
@@ -70,4 +70,4 @@ returns t c =
     c.requires.same c.requires.fewer c.parts-one.ensures c.requires.below
     c.join_below.new.memory c.in_ok-lo.lo c.in_ok-lo.ensures c.product_below.new.memory c.in_ok-hi.hi
     c.in_ok-hi.ensures.gives
-    c.make.new.memory c.make.result c.make.ensures
+    c.branch_node.new.memory c.branch_node.result c.branch_node.ensures

@@ -28,7 +28,7 @@ multiply_below-returns-in-Some-recall t c =
 
 pub multiply_below-remember-requires : goal.multiply_below-remember-requires
 multiply_below-remember-requires t c =
-    told_made Product c.args.memory.now c.multiply_parts.new.memory c.args.a c.args.b c.in_ok-made.made
+    told_made Product c.args.memory.now c.multiply_parts-2.new.memory c.args.a c.args.b c.in_ok-made.made
     c.is_sound.ensures c.requires.has_a c.requires.has_b c.in_ok-made.ensures
 
 pub multiply_below-returns : goal.multiply_below-returns
@@ -75,22 +75,22 @@ multiply_parts-multiply_below-requires-2 t c =
       ),
     )
 
-pub multiply_parts-make-requires-clause-lo_above : goal.multiply_parts-make-requires-clause-lo_above
-multiply_parts-make-requires-clause-lo_above t c =
+pub multiply_parts-branch_node-requires-clause-lo_above : goal.multiply_parts-branch_node-requires-clause-lo_above
+multiply_parts-branch_node-requires-clause-lo_above t c =
     lo_above c.args.memory.now c.args.a c.args.b c.parts-one.result c.is_sound.ensures c.requires.has_a c.requires.has_b
     c.parts-one.ensures c.requires.below c.multiply_below.new.memory c.in_ok-lo.lo c.in_ok-lo.ensures
     c.multiply_below-2.new.memory
     c.in_ok-hi.hi c.in_ok-hi.ensures
 
-pub multiply_parts-make-requires-clause-hi_above : goal.multiply_parts-make-requires-clause-hi_above
-multiply_parts-make-requires-clause-hi_above t c =
+pub multiply_parts-branch_node-requires-clause-hi_above : goal.multiply_parts-branch_node-requires-clause-hi_above
+multiply_parts-branch_node-requires-clause-hi_above t c =
     hi_above c.args.memory.now c.args.a c.args.b c.parts-one.result c.is_sound.ensures c.requires.has_a c.requires.has_b
     c.parts-one.ensures c.requires.below c.multiply_below.new.memory c.in_ok-lo.lo c.in_ok-lo.ensures
     c.multiply_below-2.new.memory
     c.in_ok-hi.hi c.in_ok-hi.ensures
 
-pub multiply_parts-make-requires-clause-antichain : goal.multiply_parts-make-requires-clause-antichain
-multiply_parts-make-requires-clause-antichain t c =
+pub multiply_parts-branch_node-requires-clause-antichain : goal.multiply_parts-branch_node-requires-clause-antichain
+multiply_parts-branch_node-requires-clause-antichain t c =
     parts_antichain c.args.memory.now c.args.a c.args.b c.parts-one.result c.is_sound.ensures c.requires.has_a
     c.requires.has_b
     c.parts-one.ensures c.requires.below c.multiply_below.new.memory c.in_ok-lo.lo c.in_ok-lo.ensures
@@ -109,4 +109,4 @@ multiply_parts-returns t c =
     c.requires.has_b
     c.parts-one.ensures c.requires.below c.multiply_below.new.memory c.in_ok-lo.lo c.in_ok-lo.ensures
     c.multiply_below-2.new.memory
-    c.in_ok-hi.hi c.in_ok-hi.ensures c.make.new.memory c.make.result c.make.ensures
+    c.in_ok-hi.hi c.in_ok-hi.ensures c.branch_node.new.memory c.branch_node.result c.branch_node.ensures

@@ -3,7 +3,7 @@ use Rattle.std.proofs.lemmas.Bool.{eqb-true}
 use Rattle.zdd_words.specs.Word.{packed}
 use Rattle.family_memory.proofs.After.{answers_of_node}
 use Rattle.minimal_operations.proofs.Halving.{node_without}
-use Rattle.minimal_operations.proofs.nodes.make.Goals as goal
+use Rattle.minimal_operations.proofs.nodes.branch_node.Goals as goal
 
 pub returns-then-eq : goal.returns-then-eq
 returns-then-eq c =
