@@ -1,18 +1,17 @@
 -- Cut families in a worker's own memory, and that of an `fdep`.
 use Rattle.std.proofs.Common.{◌≡◌, ℕ, zero, suc, ◌+◌, ◌<◌, ◌≤◌, set, inl, inr, get_or-set_same, get_or-set_other, Bool}
-use Rattle.std.proofs.Common.{true, false, List, [], ◌∷◌, length, map, take, get_or, All, Contains, Result, Ok, Err}
-use Rattle.std.proofs.Common.{IfOk, IfErr, refl, sym, ◌∙◌, ap, subst, arith}
+use Rattle.std.proofs.Common.{true, false, List, [], ◌∷◌, length, take, get_or, All, Result, Ok, Err}
+use Rattle.std.proofs.Common.{IfOk, IfErr, refl, sym, ◌∙◌, subst, arith}
 use Rattle.std.specs.List.Sorted.{IsStrictlySortedBy}
 use Rattle.std.proofs.lemmas.Bool.{cases_eq, cond-true, and_parts}
 use Rattle.std.proofs.lemmas.List.{get_or_default, get_or-take}
 use Rattle.std.proofs.lemmas.List.Elements.{All-nil}
-use Rattle.unit_sets.proofs.Sorted.{Contains-nil}
 use Rattle.unit_sets.specs.UnitList.{among}
 use Rattle.fault_model.specs.declared.node.GateKind.{GateKind}
 use Rattle.fault_model.specs.declared.node.GateKind.TheVariants.{And, Or, Votes, Pand, Por, Seq, Fdep, Csp, Wsp, Hsp}
 use Rattle.fault_model.specs.Cut.{IsMinimalFor}
 use Rattle.fault_model.specs.CutFamily.{IsCutFamily}
-use Rattle.fault_model.specs.Reading.{reads, node_reads, gate_reads}
+use Rattle.fault_model.specs.Reading.{reads, gate_reads}
 use Rattle.fault_model.proofs.ReadingLaws.{reads-node}
 use Rattle.fault_model.specs.Tree.{FaultTree, IsNodeOf, inputs_of, is_above_units, is_fdep, is_fdep_kind, kind_of}
 use Rattle.fault_model.specs.Tree.{unit_count}

@@ -1,6 +1,6 @@
 -- Places by rank.
-use Rattle.std.proofs.Common.{◌≡◌, ℕ, suc, ◌+◌, ◌<◌, ◌≤◌, true, false, List, [], ◌∷◌, ◌++◌, All, Contains, length}
-use Rattle.std.proofs.Common.{get_or, sym, ◌∙◌, ap, subst, inl, inr, arith}
+use Rattle.std.proofs.Common.{◌≡◌, ℕ, ◌+◌, true, false, List, [], ◌∷◌, ◌++◌, Contains}
+use Rattle.std.proofs.Common.{sym, ◌∙◌, ap, subst, inl, inr, arith}
 use Rattle.std.specs.List.Sorted.{IsPermutation, IsNonDecreasingBy}
 use Rattle.std.proofs.lemmas.Bool.{cases_lt}
 use Rattle.std.proofs.lemmas.List.Elements.{All-push, Contains-append_left, Contains-push}
@@ -8,7 +8,7 @@ use Rattle.std.proofs.lemmas.List.Sorted.{All-permutation, Contains-permutation}
 use Rattle.fault_model.specs.Tree.{FaultTree, IsNodeOf, is_fdep, rank_of}
 use Rattle.fault_model.specs.WellFormed.{IsTree}
 use Rattle.zdd_build.specs.declared.places.Place.{Place}
-use Rattle.zdd_build.specs.Places.{ArePlaces, HasPlaces, HasPlacesTo, IsPlace, place_at}
+use Rattle.zdd_build.specs.Places.{ArePlaces, HasPlaces, HasPlacesTo, IsPlace}
 
 module _ (tree : FaultTree) (node : ℕ) (is_node : IsNodeOf tree node) (places : List Place)
     (has : HasPlacesTo tree node places) where

@@ -1,5 +1,5 @@
 -- Seats that learn, and what a worker is after its seat has learned.
-use Rattle.std.proofs.Common.{◌≡◌, ℕ, ◌+◌, ◌≤◌, List, [], ◌++◌, length, Contains, All, refl, sym, ◌∙◌, ap, subst}
+use Rattle.std.proofs.Common.{ℕ, ◌≤◌, List, [], refl, sym, ◌∙◌, subst}
 use Rattle.std.proofs.Common.{add-zero}
 use Rattle.std.proofs.lemmas.List.{append-nil}
 use Rattle.std.proofs.lemmas.List.Elements.{All-weaker}
@@ -11,10 +11,9 @@ use Rattle.zdd_families.specs.Map.{Grown, IsClosed}
 use Rattle.zdd_families.proofs.MapLemmas.{Knows-grown}
 use Rattle.zdd_families.proofs.Canonical.{family-grown}
 use Rattle.zdd_shared_table.specs.Seats.{Seated, IsSoundSeat, TableId, map_of}
-use Rattle.zdd_product.specs.Seats.{CountsDue, KnowsOne, WentAll}
+use Rattle.zdd_product.specs.Seats.{KnowsOne, WentAll}
 use Rattle.zdd_product.proofs.Several.{CountsDue-went}
 use Rattle.zdd_product.proofs.After.{grown_then}
-use Rattle.family_copies.specs.Copies.{AreCopies}
 use Rattle.family_copies.proofs.CopiesLemmas.{copies-grown}
 use Rattle.zdd_build.specs.declared.places.Place.{Place}
 use Rattle.zdd_build.specs.declared.worker.Finding.{Finding}

@@ -1,13 +1,13 @@
 -- A worker after it has made a node, and lists of workers.
-use Rattle.std.proofs.Common.{◌≡◌, ◌⊎◌, ℕ, suc, ◌+◌, ◌<◌, ◌≤◌, true, List, [], ◌∷◌, All, length, set, get_or, sym, ◌∙◌}
-use Rattle.std.proofs.Common.{ap, subst, inl, inr, arith}
+use Rattle.std.proofs.Common.{◌≡◌, ℕ, ◌+◌, ◌<◌, ◌≤◌, true, List, [], ◌∷◌, length, set, get_or, sym, ◌∙◌}
+use Rattle.std.proofs.Common.{subst, inl, inr, arith}
 use Rattle.std.proofs.Common.{get_or-set_same, get_or-set_other, Result, Ok, Err, IfOk, IfErr}
 use Rattle.std.proofs.lemmas.Bool.{cases_eq}
 use Rattle.std.proofs.lemmas.List.Elements.{All-nil}
 use Rattle.fault_model.specs.Tree.{FaultTree}
 use Rattle.tree_families.specs.Due.{IsDueToTree}
 use Rattle.zdd_shared_table.specs.Seats.{Seated, TableId, map_of}
-use Rattle.zdd_product.specs.Seats.{CountsDue, Gave, WasFull, WentAll}
+use Rattle.zdd_product.specs.Seats.{Gave, WasFull}
 use Rattle.zdd_product.proofs.Several.{CountsDue-went, WentAll-full, WentAll-on}
 use Rattle.zdd_nodes.specs.Room.{HaveRoomFor}
 use Rattle.family_copies.specs.Copies.{AreCopies}

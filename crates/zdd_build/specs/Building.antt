@@ -2,7 +2,6 @@
 use Rattle.std.specs.Prelude.{◌≡◌, ℕ, ◌<◌, ◌≤◌, Bool, true, false, List, length, slice_index_or}
 use Rattle.fault_model.specs.CutFamily.{IsCutFamily}
 use Rattle.fault_model.specs.Tree.{FaultTree, IsNodeOf, is_fdep, node_count}
-use Rattle.zdd_families.specs.Map.{family}
 use Rattle.zdd_product.specs.Seats.{KnowsOne}
 use Rattle.zdd_nodes.specs.Reading.{reference_of, KnowsBelow}
 use Rattle.zdd_build.specs.declared.places.Place.{Place}

@@ -1,5 +1,5 @@
 -- The order in which the nodes of a tree are made.
-use Rattle.std.specs.Prelude.{◌≡◌, ℕ, ◌+◌, ◌<◌, ◌≤◌, false, List, All, Contains, length, slice_index_or}
+use Rattle.std.specs.Prelude.{◌≡◌, ℕ, ◌+◌, ◌<◌, ◌≤◌, false, List, All, Contains, slice_index_or}
 use Rattle.std.specs.List.Sorted.{IsNonDecreasingBy}
 use Rattle.fault_model.specs.Tree.{FaultTree, IsNodeOf, is_fdep, node_count, rank_of}
 use Rattle.fault_model.specs.WellFormed.{IsTree}

@@ -7,7 +7,7 @@ ghost use Rattle.zdd_product.specs.Seats.{KnowsOne, WentAll};
 ghost use Rattle.zdd_build.specs.Building.{KnowsCutFamilies};
 ghost use Rattle.zdd_build.specs.Workers.{CountsAsBefore};
 
-use crate::places::places_by_rank;
+use crate::places::{places_by_rank, widest_rank};
 use crate::ranks::make_ranks;
 use crate::table::Table;
 use crate::teams::{close, open};
@@ -103,7 +103,7 @@ pub fn build_within<R: Threads + Sync, P: Pace>(
     seat.is_sound();
     let places = places_by_rank(alloc, tree)?;
     let mut table = Table::new(alloc, tree, places.as_slice())?;
-    let count = workers as usize;
+    let count = (workers as usize).min(widest_rank(places.as_slice()).max(1));
     let mut team = Vec::with_capacity(alloc, count)?;
     if let Err(cause) = open(
         alloc,

@@ -78,3 +78,17 @@ pub(crate) fn end_of_rank(places: &[Place], from: usize) -> usize
     }
     end
 }
+
+/// How many places the widest rank of gates has: more workers would find nothing to do.
+pub(crate) fn widest_rank(places: &[Place]) -> usize {
+    let mut widest = 0;
+    let mut from = 0;
+    while from < places.len() {
+        let to = end_of_rank(places, from);
+        if places[from].rank > 0 {
+            widest = (to - from).max(widest);
+        }
+        from = to;
+    }
+    widest
+}

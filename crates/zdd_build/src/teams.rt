@@ -15,11 +15,9 @@ use zdd_shared_table::{NodeStore, StoreSeat};
 // The share that a worker gets.
 const SHARE: u64 = 2;
 
-// How many nodes the memory of a worker beside the first takes for each gate of the tree, and at least. The trees that
-// were measured need less than 110 a gate.
-const NODES_A_GATE: usize = 128;
-
-const LEAST_NODES: usize = 16_384;
+// How many nodes the memory of a worker beside the first takes at most. The trees that were measured need no more than
+// half as many again, and each page of a larger memory costs time where it is touched first.
+const FURTHER_NODES: usize = 32_768;
 
 /// The seat and the worker tell each other all that they know.
 pub(crate) fn meet(store: &NodeStore, seat: &mut StoreSeat, worker: &mut Worker)
@@ -39,16 +37,16 @@ pub(crate) fn meet(store: &NodeStore, seat: &mut StoreSeat, worker: &mut Worker)
     store.join(seat, told);
 }
 
-// How many nodes the memory of a worker takes. That of the first, which makes most nodes of a tree, takes as many as
-// may be, and those of the others as many as a tree with so many gates asks for.
-fn nodes_of(number: usize, tree: &Tree, own_nodes: usize) -> usize
+// How many nodes the memory of a worker takes. That of the first, which makes most nodes of a tree and those that are
+// too large for the others, takes as many as may be.
+fn nodes_of(number: usize, own_nodes: usize) -> usize
     ensures { result ≤ own_nodes }
 {
     if number == 0 {
-        return own_nodes;
+        own_nodes
+    } else {
+        FURTHER_NODES.min(own_nodes)
     }
-    let asked = tree.gates() as usize * NODES_A_GATE;
-    asked.max(LEAST_NODES).next_power_of_two().min(own_nodes)
 }
 
 // A worker whose seat is split off. Where memory is refused, its share is given back.
@@ -116,7 +114,7 @@ pub(crate) fn open<'s>(
 {
     seat.is_sound();
     for number in 0..count {
-        let nodes = nodes_of(number, tree, own_nodes);
+        let nodes = nodes_of(number, own_nodes);
         let worker = open_one(alloc, tree, places, nodes, store, seat)?;
         team.push_reserved(worker);
     }

@@ -1,5 +1,5 @@
 //! One worker: its seat with the operations of the store, a memory of its own, and what it has found.
-ghost use Rattle.std.specs.Prelude.{◌≡◌, ◌≤◌, ℕ, false, true, [], length, IfErr, IfOk, IfSome};
+ghost use Rattle.std.specs.Prelude.{◌≡◌, ◌≤◌, ℕ, false, true, [], length, vec_capacity, IfErr, IfOk, IfSome};
 ghost use Rattle.fault_model.specs.CutFamily.{IsCutFamily};
 ghost use Rattle.fault_model.specs.Tree.{IsNodeOf, is_fdep, node_count};
 ghost use Rattle.tree_families.specs.Due.{IsDueToTree};
@@ -68,6 +68,8 @@ impl Tools {
         own_nodes: usize,
     ) -> Result<Tools, NoMemory>
         requires { own_nodes ≤ 262144 }
+        ensures nodes { IfOk result (λ tools. tools.memory.room ≡ own_nodes) }
+        ensures places { IfOk result (λ tools. places ≤ vec_capacity tools.found) }
         ensures copies { IfOk result (λ tools. tools.copies ≡ []) }
         ensures found { IfOk result (λ tools. tools.found.items ≡ []) }
         ensures rooms { IfOk result (λ tools. HaveRoomFor tree.now tools.rooms) }

@@ -4,7 +4,7 @@ use Rattle.fault_model.specs.CutFamily.{IsCutFamily}
 use Rattle.fault_model.specs.Tree.{IsNodeOf, is_fdep}
 use Rattle.tree_families.specs.Due.{IsDueToTree}
 use Rattle.zdd_shared_table.specs.Seats.{map_of}
-use Rattle.zdd_product.specs.Seats.{KnowsOne, WentAll}
+use Rattle.zdd_product.specs.Seats.{KnowsOne}
 use Rattle.zdd_product.proofs.Several.{WentAll-nowhere, WentAll-then}
 use Rattle.zdd_build.specs.declared.places.Place.{Place}
 use Rattle.zdd_build.specs.declared.worker.Worker.{Worker}
@@ -39,7 +39,7 @@ pub make_ranks-ended-requires-clause-built : goal.make_ranks-ended-requires-clau
 make_ranks-ended-requires-clause-built g c κs within =
     subst (λ (places : List Place). AreBuilt (map_of c.open.new.seat) c.args.tree.now places
     c.in_ok-table.table.references.items c.in_ok-table.table.made.items)
-    (c.as_slice.ensures.value ∙ sym c.as_slice-2.ensures.value)
+    (c.as_slice.ensures.value ∙ sym c.as_slice-3.ensures.value)
     (c.in_ok-table.ensures (map_of c.open.new.seat))
 
 pub close-requires-2-clause-can : goal.close-requires-2-clause-can
@@ -68,8 +68,8 @@ returns-clause-top g c =
     let known' = map_of c.close-2.new.seat in
     let references = c.make_ranks-ended.new.table.references.items in
     let made = c.make_ranks-ended.new.table.made.items in
-    let places = c.as_slice-2.result.now in
-    let are : ArePlaces tree places = subst (ArePlaces tree) (sym c.as_slice-2.ensures.value) c.in_ok-places.ensures in
+    let places = c.as_slice-3.result.now in
+    let are : ArePlaces tree places = subst (ArePlaces tree) (sym c.as_slice-3.ensures.value) c.in_ok-places.ensures in
     let is_node = subst (λ (n : ℕ). IsNodeOf tree n) c.top.ensures.top c.top.ensures.node in
     let read = subst (λ (n : ℕ). is_fdep tree n ≡ false) c.top.ensures.top c.top.ensures.read in
     let one =
@@ -93,8 +93,8 @@ returns-clause-nodes g c node is_node read =
     let known' = map_of c.close-2.new.seat in
     let references = c.make_ranks-ended.new.table.references.items in
     let made = c.make_ranks-ended.new.table.made.items in
-    let places = c.as_slice-2.result.now in
-    let are : ArePlaces tree places = subst (ArePlaces tree) (sym c.as_slice-2.ensures.value) c.in_ok-places.ensures in
+    let places = c.as_slice-3.result.now in
+    let are : ArePlaces tree places = subst (ArePlaces tree) (sym c.as_slice-3.ensures.value) c.in_ok-places.ensures in
     record {
       reference = get_or references (node - 1) 0;
       stands =

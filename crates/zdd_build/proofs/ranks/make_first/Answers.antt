@@ -1,4 +1,4 @@
-use Rattle.std.proofs.Common.{◌≡◌, ◌∙◌, List, ℕ, All, set, get_or, subst, sym, ap, arith}
+use Rattle.std.proofs.Common.{◌∙◌, get_or, subst, ap, arith}
 use Rattle.std.proofs.lemmas.Result.{err_from_is_err_and}
 use Rattle.std.proofs.lemmas.List.Elements.{All-set}
 use Rattle.zdd_shared_table.specs.Seats.{TableId, map_of}

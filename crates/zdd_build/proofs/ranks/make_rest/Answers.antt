@@ -1,9 +1,8 @@
-use Rattle.std.proofs.Common.{◌≡◌, ◌∙◌, ◌+◌, get_or-set_same, false, Bool, true, List, ℕ, set, get_or, subst, sym, ap}
+use Rattle.std.proofs.Common.{◌≡◌, ◌∙◌, ◌+◌, get_or-set_same, false, Bool, true, List, ℕ, set, subst, sym}
 use Rattle.std.proofs.Common.{arith}
 use Rattle.std.proofs.lemmas.List.{get_or_read}
 use Rattle.zdd_shared_table.specs.Seats.{TableId, map_of}
-use Rattle.zdd_build.specs.Building.{AreBuilt, AreMadeTo, CanMake, is_made}
-use Rattle.zdd_build.specs.Places.{node_at}
+use Rattle.zdd_build.specs.Building.{AreBuilt, AreMadeTo, CanMake}
 use Rattle.zdd_build.specs.Workers.{CanWork}
 use Rattle.zdd_build.proofs.TableLemmas.{built_grown, can_make, keeps_put, made_less, made_next, one_more_built}
 use Rattle.zdd_build.proofs.TableLemmas.{room_for}

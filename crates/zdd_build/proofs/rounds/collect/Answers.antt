@@ -1,4 +1,4 @@
-use Rattle.std.proofs.Common.{refl, ◌≡◌, ◌∙◌, ◌<◌, ℕ, List, All, set, get_or, length, length-set, subst, sym, ap, arith}
+use Rattle.std.proofs.Common.{refl, ◌∙◌, ◌<◌, All, get_or, length, length-set, subst, sym, arith}
 use Rattle.std.proofs.lemmas.List.Elements.{All-set, All-weaker}
 use Rattle.zdd_shared_table.specs.Seats.{map_of}
 use Rattle.zdd_build.specs.declared.worker.Finding.{Finding}

@@ -1,6 +1,5 @@
-use Rattle.std.proofs.Common.{◌≡◌, List, ℕ, All, get_or, subst, sym}
+use Rattle.std.proofs.Common.{List, ℕ, get_or, subst, sym}
 use Rattle.zdd_shared_table.specs.Seats.{map_of}
-use Rattle.zdd_build.specs.declared.worker.Worker.{Worker}
 use Rattle.zdd_build.specs.Building.{CanMake}
 use Rattle.zdd_build.proofs.SeatLemmas.{Learned-then}
 use Rattle.zdd_build.proofs.TableLemmas.{built_grown, can_make_grown}

@@ -1,6 +1,4 @@
-use Rattle.std.proofs.Common.{◌≡◌, ◌∙◌, ◌<◌, ◌-◌, refl, ℕ, Bool, true, List, set, get_or, length, subst, sym, ap, arith}
-use Rattle.fault_model.specs.CutFamily.{IsCutFamily}
-use Rattle.zdd_product.specs.Seats.{KnowsOne}
+use Rattle.std.proofs.Common.{◌<◌, ◌-◌, refl, ℕ, Bool, true, List, set, length, subst, sym, arith}
 use Rattle.zdd_build.specs.declared.worker.Finding.{Finding}
 use Rattle.zdd_build.specs.Building.{AreBuilt, HasRoomFor, KeepsMade}
 use Rattle.zdd_build.specs.Places.{node_at}

@@ -1,4 +1,4 @@
-use Rattle.std.proofs.Common.{◌≡◌, ℕ, List, All, take, length}
+use Rattle.std.proofs.Common.{◌≡◌, ℕ}
 use Rattle.fault_model.specs.Tree.{FaultTree}
 use Rattle.zdd_build.specs.Building.{AreBuilt, HasRoomFor, KeepsMade}
 use Rattle.zdd_build.specs.Places.{ArePlaces}

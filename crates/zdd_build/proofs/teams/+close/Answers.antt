@@ -1,4 +1,4 @@
-use Rattle.std.proofs.Common.{◌≡◌, ◌∙◌, ◌+◌, ◌<◌, ◌≤◌, ℕ, List, ◌++◌, ◌∷◌, [], length, All, subst, sym, ap, arith}
+use Rattle.std.proofs.Common.{◌∙◌, List, length, subst, sym, ap, arith}
 use Rattle.std.proofs.lemmas.List.{length_push}
 use Rattle.tree_families.specs.Due.{IsDueToTree}
 use Rattle.zdd_shared_table.specs.Seats.{Seated}

@@ -1,4 +1,4 @@
-use Rattle.std.proofs.Common.{◌≡◌, ◌∙◌, ◌+◌, List, ℕ, ◌++◌, ◌∷◌, [], length, All, subst, sym, ap, arith}
+use Rattle.std.proofs.Common.{◌∙◌, ◌+◌, List, length, All, subst, sym, ap, arith}
 use Rattle.std.proofs.lemmas.List.{length_push}
 use Rattle.std.proofs.lemmas.List.Elements.{All-push}
 use Rattle.zdd_build.specs.declared.worker.Worker.{Worker}

@@ -4,7 +4,6 @@ use Rattle.tree_families.specs.Due.{IsDueToTree}
 use Rattle.zdd_shared_table.specs.Seats.{Seated, map_of}
 use Rattle.zdd_product.specs.Seats.{Gave, WasFull}
 use Rattle.family_copies.specs.Copies.{AreCopies}
-use Rattle.zdd_build.specs.declared.worker.Worker.{Worker}
 use Rattle.zdd_build.proofs.WorkerLemmas.{can_full, can_gave}
 use Rattle.zdd_build.proofs.worker.make.Goals as goal
 
