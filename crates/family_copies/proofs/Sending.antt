@@ -1,7 +1,6 @@
 -- A node of a memory in the store, by copies of its parts.
-use Rattle.std.proofs.Common.{MatchResult, Result, Ok, Err, ◌≡◌, ◌≢◌, ℕ, ◌<◌, List, [], Contains, sym, ◌∙◌, ap, subst}
+use Rattle.std.proofs.Common.{MatchResult, Result, Ok, Err, ◌≡◌, ◌≢◌, ℕ, ◌<◌, List, [], get_or, sym, ◌∙◌, ap, subst}
 use Rattle.std.proofs.Common.{inl}
-use Rattle.std.proofs.lemmas.List.Elements.{All-contains}
 use Rattle.zdd_words.specs.declared.word.Parts.{Parts}
 use Rattle.zdd_families.specs.Family.{IsAbove, branch}
 use Rattle.zdd_families.specs.Map.{Knows, KnowsAs, family}
@@ -14,8 +13,8 @@ use Rattle.family_memory.proofs.After.{knows as own_known}
 use Rattle.zdd_shared_table.specs.Seats.{Seated, IsSoundSeat, map_of}
 use Rattle.zdd_product.specs.Seats.{IsBranch, Went, WentOn, Gave, WasFull}
 use Rattle.zdd_product.proofs.After.{Gave-known, WasFull-as, WasFull-next, WentOn-as, WentOn-next, made_after, stays}
-use Rattle.family_copies.specs.declared.copies.Pair.{Pair}
 use Rattle.family_copies.specs.Copies.{AreCopies, IsCopy}
+use Rattle.family_copies.specs.Parts.{CanMake}
 use Rattle.family_copies.proofs.CopiesLemmas.{copies-grown}
 use Rattle.family_copies.proofs.Parting.{fewer, levels_above, same_terminal}
 
@@ -34,17 +33,15 @@ module _ (held : Held) (r : ℕ) (seat : Seated) (sound : IsSoundSeat seat) wher
       Gave-known (IsReached (family_in held r)) seat sound (λ f. f ≡ family_in held r) r
       (inl small, same_terminal (map_of seat) (own_map held) r small)
 
-  pub copy_known : (pairs : List Pair) (shared : ℕ) → AreCopies held (map_of seat) pairs
-      → Contains pairs (record { shared = shared; own = r })
-      → Gave (λ f. f ≡ family_in held r) (IsReached (family_in held r)) seat seat shared
-  copy_known pairs shared are noted =
-      let is : IsCopy held (map_of seat) (record { shared = shared; own = r }) =
-      All-contains (IsCopy held (map_of seat)) pairs (record { shared = shared; own = r }) are noted in
+  pub copy_known : (copies : List ℕ) (shared : ℕ) → AreCopies held (map_of seat) copies → shared ≡ get_or copies r 0
+      → shared ≢ 0 → Gave (λ f. f ≡ family_in held r) (IsReached (family_in held r)) seat seat shared
+  copy_known copies shared are noted some =
+      let is : IsCopy held (map_of seat) shared r =
+      subst (λ q. IsCopy held (map_of seat) q r) (sym noted) (are r (λ none. some (noted ∙ none))) in
       Gave-known (IsReached (family_in held r)) seat sound (λ f. f ≡ family_in held r) shared (is.knows, sym is.same)
 
 pub copy_sent : (held : Held) (due : List (List ℕ) → Type 0) (before after : Seated) (r shared : ℕ) → Has held r
-    → Gave (λ f. f ≡ family_in held r) due before after shared
-    → IsCopy held (map_of after) (record { shared = shared; own = r })
+    → Gave (λ f. f ≡ family_in held r) due before after shared → IsCopy held (map_of after) shared r
 copy_sent held due before after r shared has gave = record { knows = gave.known.0; has = has; same = sym gave.known.1 }
 
 -- ---- the steps
@@ -94,20 +91,17 @@ module _ (held : Held) (r : ℕ) (parts : Parts) (sound : IsSound held) (are : I
       lo_at : KnowsAs (map_of s2) lo (family (map_of s1) lo)
       lo_at = stays s1 s2 lo gave_lo.on.went.sound gave_hi.on.went.sound gave_hi.on.went.keeps gave_lo.known.0
 
-      pub knows_lo : Knows (map_of s2) lo
-      knows_lo = lo_at.0
-
       lo_is : family (map_of s2) lo ≡ family_in held parts.lo
       lo_is = lo_at.1 ∙ gave_lo.known.1
 
-      pub filled : hi ≢ 0
-      filled none = some_hi (sym gave_hi.known.1 ∙ ap (family (map_of s2)) none ∙ family-empty (map_of s2))
-
-      pub lo_above : IsAbove parts.level (family (map_of s2) lo)
-      lo_above = subst (IsAbove parts.level) (sym lo_is) are.cut.lo_above
-
-      pub hi_above : IsAbove parts.level (family (map_of s2) hi)
-      hi_above = subst (IsAbove parts.level) (sym gave_hi.known.1) are.cut.hi_above
+      pub can_make : CanMake (Knows (map_of s2)) (family (map_of s2)) parts.level lo hi
+      can_make = record {
+        has_lo = lo_at.0;
+        has_hi = gave_hi.known.0;
+        filled = λ none. some_hi (sym gave_hi.known.1 ∙ ap (family (map_of s2)) none ∙ family-empty (map_of s2));
+        lo_above = subst (IsAbove parts.level) (sym lo_is) are.cut.lo_above;
+        hi_above = subst (IsAbove parts.level) (sym gave_hi.known.1) are.cut.hi_above;
+      }
 
       branch_is : branch parts.level (family (map_of s2) lo) (family (map_of s2) hi) ≡ family_in held r
       branch_is =
@@ -127,7 +121,7 @@ module _ (held : Held) (r : ℕ) (parts : Parts) (sound : IsSound held) (are : I
         went : Went made s2 s3
         went = went_of made made s2 s3 result m
 
-        pub copies_kept : (pairs : List Pair) → AreCopies held (map_of s2) pairs → AreCopies held (map_of s3) pairs
-        copies_kept pairs are_copies =
-            copies-grown held (map_of s2) (map_of s3) on2.went.sound.closed went.sound.closed went.keeps pairs
+        pub copies_kept : (copies : List ℕ) → AreCopies held (map_of s2) copies → AreCopies held (map_of s3) copies
+        copies_kept copies are_copies =
+            copies-grown held (map_of s2) (map_of s3) on2.went.sound.closed went.sound.closed went.keeps copies
             are_copies

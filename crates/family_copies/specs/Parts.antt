@@ -1,7 +1,8 @@
--- The node of a reference that a map knows.
-use Rattle.std.specs.Prelude.{◌≡◌, ◌≢◌, ℕ, ◌<◌}
+-- The node of a reference that a map knows, and what a node is made of.
+use Rattle.std.specs.Prelude.{◌≡◌, ◌≢◌, ℕ, ◌<◌, List}
 use Rattle.unit_sets.specs.Unit.{IsUnit}
 use Rattle.zdd_words.specs.declared.word.Parts.{Parts}
+use Rattle.zdd_families.specs.Family.{IsAbove}
 use Rattle.zdd_families.specs.Map.{Knows, family, level_in}
 use Rattle.family_operations.specs.Cuts.{Cuts}
 
@@ -15,3 +16,11 @@ pub record ArePartsOf (known : ℕ → ℕ) (r : ℕ) (parts : Parts) : Type 0 w
   pub lo_above : parts.level < level_in known parts.lo
   pub hi_above : parts.level < level_in known parts.hi
   pub cut : Cuts parts.level (family known r) (family known parts.lo) (family known parts.hi)
+
+-- a node can be made of lo and hi: both are there and lie above the level, and hi has sets
+pub record CanMake (has : ℕ → Type 0) (is : ℕ → List (List ℕ)) (level lo hi : ℕ) : Type 0 where
+  pub has_lo : has lo
+  pub has_hi : has hi
+  pub filled : hi ≢ 0
+  pub lo_above : IsAbove level (is lo)
+  pub hi_above : IsAbove level (is hi)

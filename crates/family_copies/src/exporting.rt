@@ -1,14 +1,14 @@
 //! Families of a memory, copied into the store.
-ghost use Rattle.std.specs.Prelude.{◌≡◌, ◌≢◌, ◌≤◌, IfErr, IfOk, MatchResult};
-ghost use Rattle.zdd_families.specs.Family.{IsAbove};
+ghost use Rattle.std.specs.Prelude.{◌≡◌, ◌≤◌, IfErr, IfOk, MatchResult};
 ghost use Rattle.zdd_families.specs.Map.{Knows, family};
 ghost use Rattle.family_operations.specs.Nodes.{IsReached};
 ghost use Rattle.family_memory.specs.Memory.{Has, family_in};
 ghost use Rattle.zdd_shared_table.specs.Seats.{map_of};
 ghost use Rattle.zdd_product.specs.Seats.{Gave, IsBranch, WasFull};
 ghost use Rattle.family_copies.specs.Copies.{AreCopies};
+ghost use Rattle.family_copies.specs.Parts.{CanMake};
 
-use crate::copies::{Copies, Pair};
+use crate::copies::Copies;
 use family_memory::FamilyMemory;
 use unit_sets::UnitNo;
 use zdd_product::Ops;
@@ -52,11 +52,12 @@ fn send(
     if r.number() < 2 {
         return Ok(r);
     }
-    if let Some(shared) = copies.shared_of(r) {
-        return Ok(shared);
+    let noted = copies.shared_of(r);
+    if noted != NodeRef::EMPTY {
+        return Ok(noted);
     }
     let shared = send_node(memory, copies, ops, r)?;
-    copies.note(Pair { shared, own: r });
+    copies.note(shared, r);
     Ok(shared)
 }
 
@@ -85,11 +86,7 @@ fn send_node(
 
 // The store's node of a level and two of its references.
 fn shared_node(ops: &mut Ops, level: UnitNo, lo: NodeRef, hi: NodeRef) -> Result<NodeRef, Full>
-    requires knows_lo { Knows (map_of ops.old) lo }
-    requires knows_hi { Knows (map_of ops.old) hi }
-    requires filled { hi ≢ 0 }
-    requires lo_above { IsAbove level (family (map_of ops.old) lo) }
-    requires hi_above { IsAbove level (family (map_of ops.old) hi) }
+    requires { CanMake (Knows (map_of ops.old)) (family (map_of ops.old)) level lo hi }
     ensures { let made = IsBranch level (family (map_of ops.old) lo) (family (map_of ops.old) hi) in
         MatchResult result (Gave made made ops.old ops.new) (λ _. WasFull made ops.old ops.new) }
 {

@@ -1,14 +1,14 @@
 //! Families of the store, copied into a memory.
-ghost use Rattle.std.specs.Prelude.{◌≡◌, ◌≢◌, ◌≤◌, IfErr, IfOk, MatchResult};
-ghost use Rattle.zdd_families.specs.Family.{IsAbove, branch};
+ghost use Rattle.std.specs.Prelude.{◌≡◌, ◌≤◌, IfErr, IfOk, MatchResult};
+ghost use Rattle.zdd_families.specs.Family.{branch};
 ghost use Rattle.zdd_families.specs.Map.{Knows, family};
 ghost use Rattle.family_parts.specs.Antichains.{IsAntichain};
 ghost use Rattle.family_memory.specs.Memory.{Gave, Has, RanOut, family_in};
 ghost use Rattle.zdd_shared_table.specs.Seats.{map_of};
 ghost use Rattle.family_copies.specs.Copies.{AreCopies};
-ghost use Rattle.family_copies.specs.Parts.{ArePartsOf};
+ghost use Rattle.family_copies.specs.Parts.{ArePartsOf, CanMake};
 
-use crate::copies::{Copies, Pair};
+use crate::copies::Copies;
 use family_memory::{FamilyMemory, Spent};
 use unit_sets::UnitNo;
 use zdd_product::Ops;
@@ -57,7 +57,7 @@ fn bring(
         return Ok(own);
     }
     let own = bring_node(memory, copies, ops, r)?;
-    copies.note(Pair { shared: r, own });
+    copies.note(r, own);
     Ok(own)
 }
 
@@ -106,11 +106,7 @@ fn own_node(
     lo: NodeRef,
     hi: NodeRef,
 ) -> Result<NodeRef, Spent>
-    requires has_lo { Has memory.old lo }
-    requires has_hi { Has memory.old hi }
-    requires filled { hi ≢ 0 }
-    requires lo_above { IsAbove level (family_in memory.old lo) }
-    requires hi_above { IsAbove level (family_in memory.old hi) }
+    requires can_make { CanMake (Has memory.old) (family_in memory.old) level lo hi }
     requires antichain { IsAntichain (branch level (family_in memory.old lo) (family_in memory.old hi)) }
     ensures { MatchResult result (Gave (λ f. f ≡ branch level (family_in memory.old lo) (family_in memory.old hi))
         memory.old memory.new) (λ _. RanOut memory.old memory.new) }

@@ -9,8 +9,8 @@
 mod copies;
 mod exporting;
 mod importing;
-mod numbers;
+mod slots;
 
-pub use copies::{Copies, Pair};
+pub use copies::Copies;
 pub use exporting::export;
 pub use importing::import;

@@ -1,11 +1,10 @@
 //! Families that go from one store through a memory into another, and notes that spare a second copy.
-ghost use Rattle.std.specs.Prelude.{◌≡◌, ◌≤◌, [], IfOk, OnOk};
+ghost use Rattle.std.specs.Prelude.{◌≡◌, IfOk, OnOk};
 ghost use Rattle.zdd_families.specs.Map.{Knows, family};
 ghost use Rattle.family_parts.specs.Antichains.{IsAntichain};
 ghost use Rattle.family_memory.specs.Memory.{Has, Went};
 ghost use Rattle.zdd_shared_table.specs.Seats.{map_of};
 ghost use Rattle.family_copies.specs.Copies.{AreCopies};
-ghost use Rattle.family_copies.specs.Parts.{ArePartsOf};
 
 mod deep;
 mod random;
@@ -15,14 +14,10 @@ use family_memory::{FamilyMemory, Room};
 use minimal_operations::{product, single, union};
 use std::alloc::Global;
 use std::test::Fail;
-use unit_sets::UnitNo;
+use worked_families::{ops_on, spelled, unit};
 use zdd_product::Ops;
-use zdd_shared_table::{NodeStore, StoreSeat, StoreStart};
-use zdd_words::{NodeRef, Parts};
-
-fn unit(number: u16) -> Result<UnitNo, Fail> {
-    Ok(UnitNo::new(number).ok_or("no unit")?)
-}
+use zdd_shared_table::{NodeStore, StoreStart};
+use zdd_words::NodeRef;
 
 fn memory_of(alloc: Global, nodes: usize) -> Result<FamilyMemory, Fail> {
     let room = Room {
@@ -31,16 +26,6 @@ fn memory_of(alloc: Global, nodes: usize) -> Result<FamilyMemory, Fail> {
         answers: 1_024,
     };
     Ok(FamilyMemory::new(alloc, room)?)
-}
-
-// The operations on a store, with ample memory.
-fn ops_on<'s>(alloc: Global, store: &'s NodeStore, seat: StoreSeat) -> Result<Ops<'s>, Fail>
-    requires { seat.store ≡ store.now }
-{
-    match Ops::new(alloc, store, seat) {
-        Ok(ops) => Ok(ops),
-        Err(_) => Err(Fail::new("no memory")),
-    }
 }
 
 // The sets of a family, each with one unit more.
@@ -94,55 +79,6 @@ fn moved(alloc: Global, ops: &mut Ops, r: NodeRef, other: &mut Ops) -> Result<No
     let own = import(&mut memory, &mut inward, ops, r)?;
     let mut outward = Copies::new(alloc, 64)?;
     Ok(export(&memory, &mut outward, other, own)?)
-}
-
-// What the node of a reference of the store is.
-fn parts_of(ops: &mut Ops, r: NodeRef) -> Parts
-    requires knows { Knows (map_of ops.old) r }
-    requires inner { 2 ≤ r }
-    ensures parts { ArePartsOf (map_of ops.old) r result }
-    ensures seat { ops.new ≡ ops.old }
-{
-    let parts = ops.parts(r);
-    // Tells the proof that the level is a unit's number.
-    parts.level.number();
-    parts
-}
-
-// Spells the sets of a family, those with its least unit first, after the units before.
-fn spell(
-    ops: &mut Ops,
-    r: NodeRef,
-    before: &mut Vec<u16>,
-    spelled: &mut Vec<u16>,
-) -> Result<(), Fail>
-    requires { Knows (map_of ops.old) r }
-    ensures { ops.new ≡ ops.old }
-{
-    if r.number() == 0 {
-        return Ok(());
-    }
-    if r.number() == 1 {
-        spelled.extend_from_slice(before.as_slice())?;
-        spelled.push(0)?;
-        return Ok(());
-    }
-    let parts = parts_of(ops, r);
-    before.push(parts.level.number())?;
-    spell(ops, parts.hi, before, spelled)?;
-    before.pop();
-    spell(ops, parts.lo, before, spelled)
-}
-
-// The sets of a family.
-fn spelled(alloc: Global, ops: &mut Ops, r: NodeRef) -> Result<Vec<u16>, Fail>
-    requires { Knows (map_of ops.old) r }
-    ensures { ops.new ≡ ops.old }
-{
-    let mut before = Vec::new(alloc);
-    let mut spelled = Vec::new(alloc);
-    spell(ops, r, &mut before, &mut spelled)?;
-    Ok(spelled)
 }
 
 // A family as the first of two stores lists it, and as the second does.

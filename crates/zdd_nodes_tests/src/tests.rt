@@ -1,8 +1,8 @@
 //! Gates and units of small trees, and a full store.
-ghost use Rattle.std.specs.Prelude.{◌≡◌, ◌<◌, ◌≤◌, [], ◌∷◌, IfOk, IfSome, OnOk};
+ghost use Rattle.std.specs.Prelude.{◌≡◌, ◌≤◌, IfOk, IfSome, OnOk};
 ghost use Rattle.fault_model.specs.CutFamily.{IsCutFamily};
 ghost use Rattle.fault_model.specs.Tree.{IsNodeOf, is_fdep};
-ghost use Rattle.zdd_families.specs.Map.{Knows, KnowsAs, Grown};
+ghost use Rattle.zdd_families.specs.Map.{Grown};
 ghost use Rattle.zdd_shared_table.specs.Seats.{IsSoundSeat, map_of};
 ghost use Rattle.zdd_product.specs.Seats.{KnowsOne};
 ghost use Rattle.zdd_nodes.specs.Room.{HaveRoomFor};
@@ -11,60 +11,15 @@ use fault_model::{GateKind, NodeNo, Tree};
 use std::alloc::Global;
 use std::process::Abort;
 use std::test::Fail;
-use unit_sets::UnitNo;
+use worked_families::{family_of, ops_on};
 use worked_trees::tree_of;
 use zdd_nodes::{Rooms, cut_family};
 use zdd_product::Ops;
-use zdd_shared_table::{Full, NodeStore, StoreSeat, StoreStart};
+use zdd_shared_table::{NodeStore, StoreStart};
 use zdd_words::NodeRef;
 
 // How deep a tree may be.
 const DEPTH: u32 = 64;
-
-fn unit(number: u16) -> Result<UnitNo, Fail> {
-    Ok(UnitNo::new(number).ok_or("no unit")?)
-}
-
-// The operations on a store, with ample memory.
-fn ops_on<'s>(alloc: Global, store: &'s NodeStore, seat: StoreSeat) -> Result<Ops<'s>, Fail>
-    requires { seat.store ≡ store.now }
-    ensures { IfOk result (λ ops. ops ≡ seat) }
-{
-    match Ops::new(alloc, store, seat) {
-        Ok(ops) => Ok(ops),
-        Err(_) => Err(Fail::new("no memory")),
-    }
-}
-
-// The node of one set of one unit.
-fn lone(ops: &mut Ops, level: UnitNo) -> Result<NodeRef, Full>
-    ensures keeps { Grown (map_of ops.old) (map_of ops.new) }
-    ensures store { ops.new.store ≡ ops.old.store }
-    ensures share { ops.new.share ≡ ops.old.share }
-    ensures known { IfOk result (λ r. KnowsAs (map_of ops.new) r ((level ∷ []) ∷ [])) }
-{
-    ops.node(level, NodeRef::EMPTY, NodeRef::UNIT)
-}
-
-// The family of the sets that a list spells, each with a 0 behind it.
-fn family_of(ops: &mut Ops, spelled: &[u16]) -> Result<NodeRef, Fail>
-    ensures store { OnOk result (ops.new.store ≡ ops.old.store) }
-    ensures keeps { OnOk result (Grown (map_of ops.old) (map_of ops.new)) }
-    ensures knows { IfOk result (λ r. Knows (map_of ops.new) r) }
-{
-    let mut all = NodeRef::EMPTY;
-    let mut set = NodeRef::UNIT;
-    for number in spelled {
-        if *number == 0 {
-            all = ops.union(all, set)?;
-            set = NodeRef::UNIT;
-        } else {
-            let one = lone(ops, unit(*number)?)?;
-            set = ops.product(set, one)?;
-        }
-    }
-    Ok(all)
-}
 
 // Whether a node is an `fdep`, which has no family.
 fn is_fdep(tree: &Tree, node: NodeNo) -> bool

@@ -17,7 +17,7 @@ returns c =
     let packed_is : word_family new (packed c.args.level c.args.lo c.args.hi)
     ≡ branch c.args.level (family old c.args.lo) (family old c.args.hi) =
     word_family-packed new c.args.level c.args.lo c.args.hi c.number.ensures.small c.number-2.ensures.small
-    ∙ (λ i. branch c.args.level (at c.args.lo c.requires.knows_lo i) (at c.args.hi c.requires.knows_hi i)) in
+    ∙ (λ i. branch c.args.level (at c.args.lo c.requires.has_lo i) (at c.args.hi c.requires.has_hi i)) in
     node_made c.args.ops.now c.node.new.self (branch c.args.level (family old c.args.lo) (family old c.args.hi))
     (packed c.args.level c.args.lo c.args.hi)
     c.node.ensures.store c.node.ensures.share c.node.ensures.keeps c.node.ensures.sound packed_is c.node.result

@@ -1,7 +1,7 @@
 use Rattle.std.proofs.Common.{◌≡◌}
 use Rattle.zdd_families.specs.Map.{Knows, Grown}
 use Rattle.zdd_shared_table.specs.Seats.{map_of}
-use Rattle.zdd_product_tests.proofs.tests.family_of.Given as goal
+use Rattle.worked_families.proofs.family_of.Given as goal
 
 abbrev pub invariant-loop-number : goal.invariant-loop-number
 invariant-loop-number l = record {

@@ -1,7 +1,7 @@
 use Rattle.std.proofs.Common.{ap}
 use Rattle.zdd_shared_table.specs.Seats.{map_of}
 use Rattle.zdd_product.proofs.Halving.{node_halves}
-use Rattle.zdd_product_tests.proofs.tests.parts_of.Goals as goal
+use Rattle.worked_families.proofs.parts_of.Goals as goal
 
 pub returns-clause-level : goal.returns-clause-level
 returns-clause-level c =

@@ -1,6 +1,0 @@
-use Rattle.zdd_shared_table.specs.Seats.{map_of}
-use Rattle.family_copies.proofs.Parting.{levels_above}
-use Rattle.family_copies_tests.proofs.tests.+spell.Given as goal
-
-abbrev pub decreases-spell : goal.decreases-spell
-decreases-spell l = levels_above (map_of l.ops.now) l.r
