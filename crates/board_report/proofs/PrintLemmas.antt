@@ -1,23 +1,7 @@
--- What holds of the numbers of nodes one after another, and the members of cut sets.
-use Rattle.std.specs.Prelude.{◌≡◌, ℕ, ◌+◌, ◌<◌, ◌≤◌, List, [], ◌∷◌, length}
-use Rattle.std.proofs.lemmas.List.Sums.{sum_by-cons}
-use Rattle.unit_sets.specs.CutOrder.{weight}
-use Rattle.board_report.specs.DiagramText.{member_count}
-use Rattle.std.proofs.Common.{refl, inl, inr, subst, arith}
+-- What holds of the numbers of nodes one after another.
+use Rattle.std.specs.Prelude.{◌≡◌, ℕ, ◌+◌, ◌<◌, ◌≤◌}
+use Rattle.std.proofs.Common.{inl, inr, subst, arith}
 use Rattle.std.proofs.lemmas.Bool.{cases_lt}
-
--- 1 for each set and 1 for each member
-pub weight_parts : (cuts : List (List ℕ)) → weight cuts ≡ length cuts + member_count cuts
-weight_parts [] = refl
-weight_parts (cut ∷ cuts) =
-    let more = weight_parts cuts in
-    omega (
-      arith,
-      more,
-      sum_by-cons (λ (c : List ℕ). 1 + length c) cut cuts,
-      sum_by-cons
-          (λ (c : List ℕ). length c) cut cuts,
-    )
 
 -- what holds of the numbers above one up to another
 abbrev pub NamedUpTo : (ℕ → Type 0) → ℕ → ℕ → Type 0

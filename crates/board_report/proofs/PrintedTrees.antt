@@ -12,7 +12,8 @@ use Rattle.fault_model.specs.Tree.{FaultTree, IsGateOf, IsUnitOf, inputs_of, kin
 use Rattle.fault_model.specs.WellFormed.{IsTree}
 use Rattle.deck_reading.specs.TreeStatements.{HasNames, IsNamed, gate_numbers, gate_statement, node_name, statements_of}
 use Rattle.deck_reading.specs.TreeStatements.{unit_numbers, unit_statement}
-use Rattle.deck_reading.specs.Written.{gate_word, input_text as written_input, quoted, statement_text, written}
+use Rattle.deck_reading.specs.Written.{input_text as written_input, quoted, statement_text, written}
+use Rattle.text_pieces.specs.GateWords.{gate_word}
 use Rattle.board_report.specs.PrintText.{IsNamedUnit, gate_line, print_text, top_line, unit_line}
 
 flat_map_same : {A B : Type 0} (f g : A → List B) → ((x : A) → f x ≡ g x) → (xs : List A)

@@ -1,18 +1,11 @@
--- The sums of a history, and of the units that are out.
-use Rattle.std.specs.Prelude.{◌≡◌, ℕ, zero, suc, ◌+◌, ◌≤◌, Bool, false, if◌then◌else◌, List, [], ◌∷◌, ◌++◌}
-use Rattle.std.specs.Prelude.{length, take, None, is_some}
-use Rattle.std.proofs.Common.{◌-◌, ap, ◌∙◌, arith, append-nil}
-use Rattle.std.proofs.lemmas.List.{get_or_past, length-take-le}
+-- The sums of a history.
+use Rattle.std.specs.Prelude.{ℕ, ◌≤◌, Bool, List, length, take}
+use Rattle.std.proofs.Common.{arith}
+use Rattle.std.proofs.lemmas.List.{length-take-le}
 use Rattle.std.proofs.lemmas.List.Sums.{count_by-le-length, length-filter}
-use Rattle.unit_sets.specs.Words.{passing_below}
-use Rattle.residual_ledger.proofs.Passing.{passing-more}
-use Rattle.margin_policy.specs.Held.{Held, units_out}
-use Rattle.margin_policy.proofs.HeldLaws.{is_held}
 use Rattle.margin_policy.specs.declared.request.Reply.{Reply}
 use Rattle.outage_board.specs.declared.entry.Entry.{Entry}
 use Rattle.board_report.specs.SummaryText.{reply_count}
-
--- ---- replies
 
 -- no more than the entries
 pub few_replies : (is_kind : Reply → Bool) (history : List Entry) (i : ℕ) → i ≤ length history
@@ -25,26 +18,3 @@ few_replies is_kind history i within =
       count_by-le-length test (take i history),
       length-take-le i history within,
     )
-
--- ---- units that are out
-
--- nothing passes behind the last
-past_last : (test : ℕ → Bool) (n k : ℕ) → ((j : ℕ) → n ≤ j → test j ≡ false)
-    → passing_below test (n + k) ≡ passing_below test n
-past_last test n zero none = ap (passing_below test) (omega arith)
-past_last test n (suc k) none =
-    let next : n + suc k ≡ suc (n + k) = omega arith in
-    ap (passing_below test) next
-    ∙ passing-more test (n + k)
-    ∙ ap (λ b. passing_below test (n + k) ++ (if b then (n + k) ∷ [] else [])) (none (n + k) (omega arith))
-    ∙ append-nil (passing_below test (n + k))
-    ∙ past_last test n k none
-
--- the units that are out are found among the numbers up to one that no unit's is above
-pub out_up_to : (held : Held) (last : ℕ) → length held ≤ last + 1
-    → passing_below (is_held held) (last + 1) ≡ units_out held
-out_up_to held last within =
-    let all : last + 1 ≡ length held + (last + 1 - length held) = omega (arith, within) in
-    ap (passing_below (is_held held)) all
-    ∙ past_last (is_held held) (length held) (last + 1 - length held)
-    (λ j past. ap is_some (get_or_past held j None past))

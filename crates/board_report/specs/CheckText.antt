@@ -3,7 +3,7 @@ use Rattle.std.specs.Prelude.{ℕ, List, [], ◌++◌, length, codes, decimal, O
 use Rattle.fault_model.specs.Tree.{FaultTree}
 use Rattle.crew_script.specs.Dockets.{request_count}
 use Rattle.crew_script.specs.declared.dockets.Crew.{Crew}
-use Rattle.board_report.specs.CutsText.{titled_line}
+use Rattle.cut_texts.specs.CutsText.{titled_line}
 
 -- `crews: N, requests: R`, where there is a crew part
 abbrev pub crews_line : Option (List Crew) → List ℕ

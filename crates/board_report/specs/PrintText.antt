@@ -4,7 +4,8 @@ use Rattle.std.specs.List.{flat_map, range_with_len}
 use Rattle.fault_model.specs.Name.{is_name}
 use Rattle.fault_model.specs.Tree.{FaultTree, unit_count, gate_count, name_of, kind_of, inputs_of, attributes_of}
 use Rattle.deck_reading.specs.TreeStatements.{HasNames}
-use Rattle.deck_reading.specs.Written.{attribute_text, gate_word, quoted}
+use Rattle.deck_reading.specs.Written.{attribute_text, quoted}
+use Rattle.text_pieces.specs.GateWords.{gate_word}
 
 -- `toplevel "NAME";`
 abbrev pub top_line : FaultTree → List ℕ

@@ -10,8 +10,8 @@ use Rattle.margin_policy.specs.declared.request.Reply.TheVariants.{Granted, Deni
 use Rattle.margin_policy.specs.declared.request.Reply.TheVariants.{HeldBy, NotSupervisor}
 use Rattle.outage_board.specs.Boards.{BoardView, standing_of}
 use Rattle.outage_board.specs.declared.entry.Entry.{Entry}
-use Rattle.board_report.specs.BoardText.{out_head}
-use Rattle.board_report.specs.CutsText.{count_line}
+use Rattle.board_texts.specs.BoardText.{out_head}
+use Rattle.cut_texts.specs.CutsText.{count_line}
 
 -- `made NUMBER: U units, G gates`
 abbrev pub made_line : ℕ → ℕ → ℕ → List ℕ

@@ -3,8 +3,8 @@ ghost use Rattle.std.specs.Prelude.{◌≡◌, is_err, length, None, Some, Match
 ghost use Rattle.edge_io.specs.Out.{has_failed, Puts};
 ghost use Rattle.board_report.specs.CheckText.{check_text, crews_line};
 
-use crate::cuts::put_titled_line;
 use crew_script::Dockets;
+use cut_texts::put_titled_line;
 use edge_io::{Out, Sink, WriteFault};
 use fault_model::Tree;
 use itoa::Buffer;

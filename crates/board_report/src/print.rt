@@ -10,11 +10,12 @@ ghost use Rattle.galileo_lexer.specs.Bytes.{is_word_byte};
 ghost use Rattle.fault_model.specs.declared.node.GateKind.TheVariants.{Votes};
 ghost use Rattle.deck_reading.specs.Deck.{StandsFor};
 ghost use Rattle.deck_reading.specs.TreeStatements.{HasNames};
-ghost use Rattle.deck_reading.specs.Written.{attribute_text, attribute_word, gate_word, quoted, value_text};
+ghost use Rattle.deck_reading.specs.Written.{attribute_text, attribute_word, quoted, value_text};
+ghost use Rattle.text_pieces.specs.GateWords.{gate_word};
 ghost use Rattle.board_report.specs.PrintText.{IsNamedUnit, gate_line, input_text, print_text, top_line, unit_line};
 
-use crate::cuts::top_name;
 use crate::laws::printed_trees_are_read;
+use cut_texts::top_name;
 use edge_io::{Out, Sink, WriteFault};
 use fault_model::{Attribute, GateKind, Name, NodeNo, Tree};
 use itoa::Buffer;

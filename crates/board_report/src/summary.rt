@@ -4,13 +4,13 @@ ghost use Rattle.edge_io.specs.Out.{has_failed, Puts};
 ghost use Rattle.margin_policy.specs.Decide.{is_granted};
 ghost use Rattle.margin_policy.specs.Held.{units_out};
 ghost use Rattle.outage_board.specs.Boards.{standing_of};
-ghost use Rattle.board_report.specs.OrdersOfUnits.{AreOrdersOf};
+ghost use Rattle.cut_texts.specs.OrdersOfUnits.{AreOrdersOf};
 ghost use Rattle.board_report.specs.SummaryText.{decided_line, is_denied, is_error, made_line, replies_line};
 ghost use Rattle.board_report.specs.SummaryText.{reply_count, summary_text};
 
-use crate::cuts::put_count_line;
-use crate::holders::{count_out, put_out_head};
+use board_texts::{count_out, put_out_head};
 use cut_sequences::OrderLists;
+use cut_texts::put_count_line;
 use edge_io::{Out, Sink, WriteFault};
 use fault_model::Tree;
 use itoa::Buffer;

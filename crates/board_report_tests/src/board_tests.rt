@@ -1,6 +1,6 @@
 //! The text of a board, as a sink in memory takes it.
 ghost use Rattle.std.specs.Prelude.{◌≡◌, [], IfOk};
-ghost use Rattle.board_report.specs.BoardText.{IsDeckOf};
+ghost use Rattle.board_texts.specs.BoardText.{IsDeckOf};
 
 use board_report::put_board;
 use crew_script::Dockets;

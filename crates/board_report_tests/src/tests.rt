@@ -1,8 +1,8 @@
 //! The texts, as a sink in memory takes them.
 ghost use Rattle.std.specs.Prelude.{◌≡◌, ◌≤◌, [], All, IfOk};
 ghost use Rattle.fault_model.specs.Tree.{IsUnitOf};
-ghost use Rattle.board_report.specs.OrdersOfUnits.{AreOrdersOf};
-ghost use Rattle.board_report.specs.Shown.{AreTextsOf};
+ghost use Rattle.cut_texts.specs.OrdersOfUnits.{AreOrdersOf};
+ghost use Rattle.cut_texts.specs.UnitTexts.{AreTextsOf};
 
 use board_report::{DeckFault, FaultCode, Notice, UnitTexts, put_cuts, put_fault, put_notice};
 use cut_sequences::{OrderEnd, OrderLists, orders};

@@ -1,13 +1,11 @@
 -- The names of a tree that a deck stands for have the form of names.
-use Rattle.std.proofs.Common.{◌≡◌, ℕ, Bool, true, false, List, [], ◌∷◌, ◌++◌, map, Ok, refl, sym, ap, ◌∙◌, subst}
+use Rattle.std.proofs.Common.{◌≡◌, ℕ, Bool, true, List, [], ◌∷◌, ◌++◌, map, Ok, refl, sym, subst}
 use Rattle.std.specs.Prelude.{◌&&◌, ◌||◌, All}
-use Rattle.std.specs.List.{flat_map, list_all}
-use Rattle.std.proofs.lemmas.Bool.{and_parts}
+use Rattle.std.specs.List.{flat_map}
 use Rattle.std.proofs.lemmas.List.Elements.{All-append, All-cons, All-head, All-map, All-nil, All-tail, All-weaker}
 use Rattle.fault_model.specs.declared.list.Attribute.{Attribute}
 use Rattle.fault_model.specs.Name.{is_bare_name, is_name as is_name_text}
 use Rattle.fault_model.specs.Tree.{FaultTree}
-use Rattle.galileo_lexer.specs.declared.token.Token.{Token}
 use Rattle.galileo_lexer.specs.declared.token.TokenKind.{TokenKind}
 use Rattle.galileo_lexer.specs.declared.token.TokenKind.TheVariants.{Word, Quoted, Equals, Semicolon}
 use Rattle.galileo_lexer.specs.Lexed.{tokens_of}
@@ -21,9 +19,8 @@ use Rattle.galileo_tree.specs.Grammar.{AreAttributes, IsReading, Spells, SpellsA
 use Rattle.galileo_tree.specs.Lexeme.{HasNameText, Lexeme, is_bare, is_name, is_quoted_kind, is_value, is_word_kind}
 use Rattle.galileo_tree.specs.Lexeme.{lexeme_of}
 use Rattle.galileo_tree.specs.Parsed.{lexemes_of, parsed_text}
-use Rattle.galileo_tree.specs.ReadTree.{ReadTree}
 use Rattle.galileo_tree.proofs.NameTexts.{spelled_name}
-use Rattle.tree_check.specs.Said.{basic_names, basics, gate_names, gates, names}
+use Rattle.tree_check.specs.Said.{basic_names, basics, gate_names}
 use Rattle.tree_check.specs.TreeOf.{tree_of}
 use Rattle.deck_reading.specs.Deck.{StandsFor, tree_part}
 use Rattle.deck_reading.specs.TreeStatements.{HasNames, IsNamed}

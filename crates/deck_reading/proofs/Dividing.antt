@@ -22,7 +22,8 @@ use Rattle.crew_script.specs.declared.dockets.Crew.{Crew}
 use Rattle.crew_script.specs.declared.fault.CrewFault.{CrewFault}
 use Rattle.deck_reading.specs.Deck.{crew_part, crews_behind, tree_part}
 use Rattle.deck_reading.specs.Written.{AreGood, Bare, InQuotes, IsGood, Top, Gate, Basic, WrittenName, WrittenStatement}
-use Rattle.deck_reading.specs.Written.{attribute_text, attribute_word, gate_word, input_text, is_good_attribute}
+use Rattle.deck_reading.specs.Written.{attribute_text, attribute_word, input_text, is_good_attribute}
+use Rattle.text_pieces.specs.GateWords.{gate_word}
 use Rattle.deck_reading.specs.Written.{is_good_name, name_text, quoted, statement_text, value_text, written}
 use Rattle.deck_reading.proofs.GateWords.{gate_word_text}
 use Rattle.deck_reading.proofs.Pieces.{defined_good}

@@ -17,7 +17,7 @@ use Rattle.galileo_lexer.specs.Pieces.{IsNameText}
 use Rattle.galileo_tree.specs.ReadTree.{HasShortNumbers}
 use Rattle.decimal_numerals.specs.Numeral.{number_from, are_digits}
 use Rattle.galileo_tree.specs.GateWord.{votes_behind, votes_if, votes_of, gate_word as kind_in}
-use Rattle.deck_reading.specs.Written.{gate_word}
+use Rattle.text_pieces.specs.GateWords.{gate_word}
 
 -- ---- a number's digits
 

@@ -14,7 +14,8 @@ use Rattle.galileo_lexer.specs.Bytes.{begins_with, is_blank, is_quotable, is_wor
 use Rattle.galileo_lexer.specs.Pieces.{Piece, Blank, AWord, AQuoted, AnEquals, ASemicolon, ArePieces, IsNameText}
 use Rattle.galileo_lexer.specs.Pieces.{IsPiece, bytes_of}
 use Rattle.deck_reading.specs.Written.{AreGood, Bare, InQuotes, IsGood, Top, Gate, Basic, WrittenName, WrittenStatement}
-use Rattle.deck_reading.specs.Written.{attribute_text, gate_word, input_text, is_good_attribute, is_good_definition}
+use Rattle.deck_reading.specs.Written.{attribute_text, input_text, is_good_attribute, is_good_definition}
+use Rattle.text_pieces.specs.GateWords.{gate_word}
 use Rattle.deck_reading.specs.Written.{is_good_name, name_text, quoted, statement_text, value_text, written}
 use Rattle.deck_reading.proofs.GateWords.{gate_word_text}
 

@@ -27,7 +27,8 @@ use Rattle.galileo_tree.specs.GateWord.{kind_said}
 use Rattle.galileo_tree.specs.Grammar.{AreAttributes, IsDefinedName, Spells, SpellsAll, SpellsBasic, SpellsGate}
 use Rattle.galileo_tree.specs.Grammar.{SpellsTop, Written, attribute_in, lexemes_in as attribute_lexemes}
 use Rattle.deck_reading.specs.Written.{AreGood, Bare, InQuotes, IsGood, Top, Gate, Basic, WrittenName, WrittenStatement}
-use Rattle.deck_reading.specs.Written.{gate_word, is_good_attribute, is_good_definition, is_good_name}
+use Rattle.deck_reading.specs.Written.{is_good_attribute, is_good_definition, is_good_name}
+use Rattle.text_pieces.specs.GateWords.{gate_word}
 use Rattle.deck_reading.specs.Unplaced.{SaysAll, attributed, named, said, unplaced, unplaced_attribute, unplaced_name}
 use Rattle.deck_reading.proofs.GateWords.{gate_word_said}
 use Rattle.deck_reading.proofs.Pieces.{all_pieces, attribute_pieces, defined_good, end_pieces, input_pieces, name_piece}

@@ -1,20 +1,19 @@
 -- The spare gates of a tree share no spare.
-use Rattle.std.proofs.Common.{◌≡◌, ◌≢◌, ℕ, zero, suc, ◌<◌, Bool, true, false, not, cond, List, [], ◌∷◌, ◌++◌, length}
-use Rattle.std.proofs.Common.{get_or, drop, take, map, refl, sym, ap, ◌∙◌, subst, inl, inr, arith}
-use Rattle.std.specs.Prelude.{◌||◌, ◌&&◌, ◌==◌, All, AllPairs, Contains, if◌then◌else◌}
+use Rattle.std.proofs.Common.{◌≡◌, ◌≢◌, ℕ, suc, Bool, true, false, not, cond, List, [], ◌∷◌, ◌++◌}
+use Rattle.std.proofs.Common.{drop, take, map, refl, sym, ap, ◌∙◌, subst, inl, inr, arith}
+use Rattle.std.specs.Prelude.{◌&&◌, ◌==◌, All, AllPairs, Contains, if◌then◌else◌}
 use Rattle.std.specs.List.{flat_map, list_any}
 use Rattle.std.proofs.lemmas.Bool.{and_left, and_right, cases_Bool, cond-false, cond-true, ne_eqb, or_from}
 use Rattle.std.proofs.lemmas.List.{get_or_default}
 use Rattle.std.proofs.lemmas.List.Elements.{All-cons, All-head, All-nil, All-tail, All-weaker}
 use Rattle.fault_model.specs.declared.node.GateKind.{GateKind}
 use Rattle.fault_model.specs.declared.node.GateKind.TheVariants.{And, Or, Votes, Pand, Por, Seq, Fdep, Csp, Wsp, Hsp}
-use Rattle.fault_model.specs.declared.node.Place.{Place}
 use Rattle.fault_model.specs.Tree.{FaultTree}
 use Rattle.fault_model.specs.Tree as trees
 use Rattle.fault_model.specs.WellFormed.{IsTree, primaries, primary_in, spares, spares_in}
 use Rattle.tree_check.specs.Classes.{SpareUse, clash, later_uses, shared_after, shared_spares, spare_uses}
 use Rattle.tree_check.specs.Classes.{spare_uses_in, uses_of}
-use Rattle.deck_reading.proofs.Anywhere.{Numbered, NumberedGate}
+use Rattle.deck_reading.proofs.Anywhere.{Numbered}
 use Rattle.deck_reading.proofs.TreeLists.{node_at, numbered_at}
 
 -- ---- uses by whether they are first

@@ -1,7 +1,7 @@
 -- The statements of a tree have no fault, and stand for it.
-use Rattle.std.proofs.Common.{◌≡◌, ◌≢◌, ℕ, suc, ◌+◌, ◌-◌, ◌<◌, ◌≤◌, Bool, true, false, not, cond, List, [], ◌∷◌, ◌++◌}
+use Rattle.std.proofs.Common.{◌≡◌, ◌≢◌, ℕ, suc, ◌+◌, ◌-◌, ◌<◌, ◌≤◌, Bool, true, false, not, List, [], ◌∷◌, ◌++◌}
 use Rattle.std.proofs.Common.{length, get_or, drop, map, refl, sym, ap, ◌∙◌, subst, inl, inr, arith}
-use Rattle.std.specs.Prelude.{◌&&◌, All, AllPairs, IsTrue, codes, filter, if◌then◌else◌, slice_index}
+use Rattle.std.specs.Prelude.{◌&&◌, All, AllPairs, codes, filter, if◌then◌else◌, slice_index}
 use Rattle.std.specs.List.{flat_map, list_all, range_with_len}
 use Rattle.std.specs.Str.{str_eq_ignore_ascii_case, str_to_ascii_lowercase}
 use Rattle.std.proofs.lemmas.Bool.{and_from, and_left, and_right, cases_Bool, false_from_ne_true, lt-ltb}
@@ -11,46 +11,44 @@ use Rattle.std.proofs.lemmas.List.Elements.{All-map, All-nil, All-tail, All-weak
 use Rattle.std.proofs.lemmas.List.FromFn.{get_or-range_with_len, length-map-range_with_len, length-range_with_len}
 use lib.Pointwise.{bytes_decides}
 use Rattle.unit_sets.specs.Unit.{most_units}
-use Rattle.unit_sets.specs.UnitList.{among}
 use Rattle.unit_sets.proofs.UnitListLemmas.{Contains-from_among}
 use Rattle.fault_model.specs.declared.list.Attribute.{Attribute}
 use Rattle.fault_model.specs.declared.node.GateKind.{GateKind}
 use Rattle.fault_model.specs.declared.node.GateKind.TheVariants.{And, Or, Votes, Pand, Por, Seq, Fdep, Csp, Wsp, Hsp}
 use Rattle.fault_model.specs.Name.{is_bare_name, is_name}
-use Rattle.fault_model.specs.Rank.{rank_over}
 use Rattle.fault_model.proofs.RankLaws.{below_are_nodes, below_ranks, gate_sound, inputs_are_nodes}
 use Rattle.fault_model.specs.Tree.{FaultTree, IsNodeOf, attributes_of, gate_count, inputs_of, is_above_units, kind_of}
 use Rattle.fault_model.specs.Tree.{name_of, node_count, rank_of, unit_count}
 use Rattle.fault_model.specs.Tree as trees
 use Rattle.fault_model.specs.Trigger.{below}
-use Rattle.fault_model.specs.WellFormed.{IsSoundAttribute, IsSoundGate, IsSoundKind, IsTree}
+use Rattle.fault_model.specs.WellFormed.{IsSoundAttribute, IsSoundKind, IsTree}
 use Rattle.galileo_tree.specs.declared.raw.Placed.{Placed}
 use Rattle.galileo_tree.specs.declared.raw.RawAttribute.{RawAttribute}
 use Rattle.galileo_tree.specs.declared.raw.RawBasic.{RawBasic}
 use Rattle.galileo_tree.specs.declared.raw.RawTop.{RawTop}
 use Rattle.galileo_tree.specs.ReadTree.{HasShortNumbers}
-use Rattle.tree_check.specs.Checked.{IsFaultless, NoneOf, Stands, after_cycles, before_cycles}
+use Rattle.tree_check.specs.Checked.{NoneOf, Stands, before_cycles}
 use Rattle.tree_check.specs.Classes.{dummies, fdep_tops, gates_after_first, gates_beyond, inputless, is_empty}
 use Rattle.tree_check.specs.Classes.{is_replicated, repeats, replicated, shared_spares, short_fdeps, undefined}
 use Rattle.tree_check.specs.Classes.{units_beyond, wrong_votes}
 use Rattle.fault_model.specs.Names.{all_differ, has_name, same_name}
 use Rattle.tree_check.specs.Numbered.{is_spare_kind, kinds, numbered, numbered_definitions, numbered_gates}
-use Rattle.tree_check.specs.Numbered.{numbered_tops, unit_total}
+use Rattle.tree_check.specs.Numbered.{unit_total}
 use Rattle.tree_check.specs.Said.{basics, definitions, names, tops, uses}
 use Rattle.tree_check.specs.TreeOf.{HasNoCycle, LeadsTo, edge, first_number, input_lists, numbers, tree_of, way}
 use Rattle.tree_check.proofs.Differ.{no_repeat, same_is, same_itself}
 use Rattle.deck_reading.specs.TreeStatements.{HasNames, IsNamed, gate_numbers, gate_statement, node_name, statements_of}
 use Rattle.deck_reading.specs.TreeStatements.{top_statement, unit_numbers, unit_statement}
-use Rattle.deck_reading.specs.Unplaced.{attributed, named, nowhere, said, said_tree}
+use Rattle.deck_reading.specs.Unplaced.{attributed, named, nowhere, said_tree}
 use Rattle.deck_reading.specs.Written.{AreGood, IsGood, WrittenStatement, is_good_attribute, is_good_name}
 use Rattle.deck_reading.proofs.Anywhere.{Numbered, NumberedGate}
 use Rattle.deck_reading.proofs.Passing.{map_through}
 use Rattle.deck_reading.proofs.TreeClasses.{filter_empty, filter_none, flat_none, inputs_are, kinds_are}
 use Rattle.deck_reading.proofs.TreeClasses.{no_dependent_gate, no_dummies, no_fdep_top, no_gate_beyond, no_inputless}
 use Rattle.deck_reading.proofs.TreeClasses.{no_short_fdep, no_spare_gate, no_wrong_vote}
-use Rattle.deck_reading.proofs.TreeLists.{basic_at, basics_are, definitions_are, definitions_nodes, input_names, listed}
+use Rattle.deck_reading.proofs.TreeLists.{basic_at, basics_are, definitions_nodes, input_names, listed}
 use Rattle.deck_reading.proofs.TreeLists.{name_at, name_known, names_are, node_at, numbered_at, numbered_gates_are}
-use Rattle.deck_reading.proofs.TreeLists.{numbered_tops_are, ss, top_at, tops_are, units_are, uses_are}
+use Rattle.deck_reading.proofs.TreeLists.{numbered_tops_are, ss, tops_are, units_are, uses_are}
 use Rattle.deck_reading.proofs.TreeSpares.{no_shared, none_any}
 
 -- ---- names that differ

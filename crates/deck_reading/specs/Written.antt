@@ -1,14 +1,14 @@
 -- Statements as they are written, one a line: names bare or in quotes, and one blank in front of each word but the
 -- first.
-use Rattle.std.specs.Prelude.{◌≡◌, ℕ, Bool, true, not, ◌&&◌, if◌then◌else◌, List, ◌++◌, All, codes, decimal}
+use Rattle.std.specs.Prelude.{◌≡◌, ℕ, Bool, true, not, ◌&&◌, if◌then◌else◌, List, ◌++◌, All, codes}
 use Rattle.std.specs.List.{flat_map, list_all}
 use Rattle.std.specs.Str.{str_eq_ignore_ascii_case}
 use Rattle.fault_model.specs.declared.list.Attribute.{Attribute}
 use Rattle.fault_model.specs.declared.node.GateKind.{GateKind}
-use Rattle.fault_model.specs.declared.node.GateKind.TheVariants.{And, Or, Votes, Pand, Por, Seq, Fdep, Csp, Wsp, Hsp}
 use Rattle.fault_model.specs.Name.{is_bare_name, is_name}
 use Rattle.galileo_lexer.specs.Bytes.{is_word_byte}
 use Rattle.galileo_tree.specs.ReadTree.{HasShortNumbers}
+use Rattle.text_pieces.specs.GateWords.{gate_word}
 
 -- ---- texts
 
@@ -33,19 +33,6 @@ name_text (InQuotes name) = quoted name
 -- an input behind a blank
 abbrev pub input_text : WrittenName → List ℕ
 input_text name = codes " " ++ name_text name
-
--- the word of a gate
-abbrev pub gate_word : GateKind → List ℕ
-gate_word And = codes "and"
-gate_word Or = codes "or"
-gate_word (Votes least inputs) = decimal least ++ (codes "of" ++ decimal inputs)
-gate_word Pand = codes "pand"
-gate_word Por = codes "por"
-gate_word Seq = codes "seq"
-gate_word Fdep = codes "fdep"
-gate_word Csp = codes "csp"
-gate_word Wsp = codes "wsp"
-gate_word Hsp = codes "hsp"
 
 -- a value as it is where it has only bytes of a word, and else in quotes
 abbrev pub value_text : List ℕ → List ℕ

@@ -12,8 +12,8 @@ use Rattle.crew_script.specs.declared.dockets.Crew.{Crew}
 use Rattle.edge_io.specs.declared.reading.TheConstants.{INPUT_LIMIT}
 use Rattle.board_words.specs.Command.{command_of}
 use Rattle.board_report.specs.CheckText.{check_text}
-use Rattle.board_report.specs.CutsText.{cuts_text, listed_with}
-use Rattle.board_report.specs.DiagramText.{diagram_text}
+use Rattle.cut_texts.specs.CutsText.{cuts_text, listed_with}
+use Rattle.cut_texts.specs.DiagramText.{diagram_text}
 use Rattle.board_report.specs.PrintText.{print_text}
 use Rattle.outage_engine.specs.declared.deck.CrewPart.{CrewPart}
 use Rattle.outage_engine.specs.declared.deck.CrewPart.TheVariants.{Unread, IfAny}

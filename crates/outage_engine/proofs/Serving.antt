@@ -7,7 +7,7 @@ use Rattle.fault_model.specs.WellFormed.{IsTree}
 use Rattle.crew_script.specs.declared.dockets.Crew.{Crew}
 use Rattle.board_words.specs.Command.{command_of}
 use Rattle.board_words.specs.declared.command.Command.TheVariants.{Board}
-use Rattle.board_report.specs.BoardText.{IsDeckOf, board_text}
+use Rattle.board_texts.specs.BoardText.{IsDeckOf, board_text}
 use Rattle.outage_board.specs.Boards.{BoardView, Deck}
 use Rattle.outage_board.specs.Histories.{IsLegal, IsWhole}
 use Rattle.outage_board.proofs.SafetyLemmas.{board_is_safe}

@@ -17,7 +17,7 @@ use Rattle.outage_board.proofs.BoardLemmas.{entry_for-is}
 use Rattle.outage_board.proofs.HistoryLemmas.{served-own}
 use Rattle.cut_sequences.specs.Orders.{order_limit, order_lists, order_total}
 use Rattle.board_report.specs.declared.fault.DeckFault.{DeckFault}
-use Rattle.board_report.specs.OrdersOfUnits.{AreOrdersOf}
+use Rattle.cut_texts.specs.OrdersOfUnits.{AreOrdersOf}
 use Rattle.board_report.specs.SummaryText.{summary_text}
 use Rattle.deck_reading.specs.Deck.{crew_part}
 use Rattle.tree_maker.specs.MadeDeck.{made_deck}

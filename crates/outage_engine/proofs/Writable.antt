@@ -5,9 +5,9 @@ use Rattle.std.proofs.lemmas.List.Elements.{All-weaker}
 use Rattle.fault_model.specs.Tree.{FaultTree, IsUnitOf}
 use Rattle.fault_model.specs.Cut.{IsCutList, IsMinimalCut}
 use Rattle.cut_sequences.specs.Orders.{order_lists}
-use Rattle.board_report.specs.OrdersOfUnits.{AreOrdersOf}
-use Rattle.board_report.specs.Shown.{AreTextsOf}
-use Rattle.board_report.proofs.OrdersOfUnitsLemmas.{AreOrdersOf-order_lists}
+use Rattle.cut_texts.specs.OrdersOfUnits.{AreOrdersOf}
+use Rattle.cut_texts.specs.UnitTexts.{AreTextsOf}
+use Rattle.cut_texts.proofs.OrdersOfUnitsLemmas.{AreOrdersOf-order_lists}
 
 cuts_of_units : (tree : FaultTree) (cuts : List (List ℕ)) → IsCutList tree cuts → All (All (IsUnitOf tree)) cuts
 cuts_of_units tree cuts list =

@@ -17,11 +17,11 @@ use Rattle.galileo_tree.specs.ReadTree.{ReadTree}
 use Rattle.tree_check.specs.Checked.{IsFirstFault}
 use Rattle.tree_check.specs.declared.fault.CheckCode.{CheckCode}
 use Rattle.board_report.specs.CheckText.{check_text}
-use Rattle.board_report.specs.CutsText.{cuts_text, listed_with}
-use Rattle.board_report.specs.DiagramText.{diagram_text}
-use Rattle.board_report.specs.OrdersOfUnits.{AreOrdersOf}
+use Rattle.cut_texts.specs.CutsText.{cuts_text, listed_with}
+use Rattle.cut_texts.specs.DiagramText.{diagram_text}
+use Rattle.cut_texts.specs.OrdersOfUnits.{AreOrdersOf}
 use Rattle.board_report.specs.PrintText.{print_text}
-use Rattle.board_report.specs.Shown.{AreTextsOf}
+use Rattle.cut_texts.specs.UnitTexts.{AreTextsOf}
 use Rattle.board_report.specs.Refusals.{fault_line, notice_line}
 use Rattle.board_report.specs.SummaryText.{summary_text}
 use Rattle.board_report.specs.declared.fault.FaultCode.TheVariants as report

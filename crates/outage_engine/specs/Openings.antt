@@ -11,7 +11,7 @@ use Rattle.outage_board.specs.Boards.{BoardView, IsBoard}
 use Rattle.outage_board.specs.Histories.{IsWhole}
 use Rattle.outage_board.specs.Passes.{AreOf, HaveAll}
 use Rattle.outage_board.specs.declared.board.BoardStart.{BoardStart}
-use Rattle.board_report.specs.BoardText.{IsDeckOf, board_text}
+use Rattle.board_texts.specs.BoardText.{IsDeckOf, board_text}
 use Rattle.outage_engine.specs.declared.status.Status.{Status}
 use Rattle.outage_engine.specs.declared.status.Status.TheVariants as status
 use Rattle.outage_engine.specs.declared.listing.Listing.{Listing}

@@ -5,10 +5,10 @@ use Rattle.crew_script.specs.declared.dockets.Crew.{Crew}
 use Rattle.outage_board.specs.Boards.{Deck, deck_of}
 use Rattle.outage_board.specs.Histories.{IsLegal, IsWhole}
 use Rattle.outage_board.specs.declared.entry.Entry.{Entry}
-use Rattle.board_report.specs.BoardText.{board_text}
+use Rattle.board_texts.specs.BoardText.{board_text}
 use Rattle.board_report.specs.CheckText.{check_text}
-use Rattle.board_report.specs.CutsText.{cuts_text, listed_with}
-use Rattle.board_report.specs.DiagramText.{diagram_text}
+use Rattle.cut_texts.specs.CutsText.{cuts_text, listed_with}
+use Rattle.cut_texts.specs.DiagramText.{diagram_text}
 use Rattle.board_report.specs.PrintText.{print_text}
 use Rattle.board_report.specs.SummaryText.{summary_text}
 use Rattle.tree_maker.specs.MadeDeck.{made_deck}

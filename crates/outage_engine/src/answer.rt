@@ -9,7 +9,7 @@ ghost use Rattle.outage_engine.specs.Runs.{IsNoBoard};
 ghost use Rattle.outage_engine.specs.Store.{method_by};
 ghost use Rattle.outage_engine.specs.StoreAfter.{BearsOut, GoesFor, GoesForDeck};
 ghost use Rattle.outage_engine.specs.Texts.{IsCutsText, IsDiagramText, for_cuts, for_diagram};
-ghost use Rattle.board_report.specs.DiagramText.{diagram_text};
+ghost use Rattle.cut_texts.specs.DiagramText.{diagram_text};
 ghost use Rattle.outage_engine.specs.declared.status.Status.TheVariants.{Done};
 
 use crate::deck::{CrewPart, DeckParts};

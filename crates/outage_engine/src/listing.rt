@@ -3,7 +3,7 @@ ghost use Rattle.std.specs.Prelude.{◌≡◌, ◌≤◌, IfOk, IfErr};
 ghost use Rattle.unit_sets.specs.CutOrder.{weight, weight_limit};
 ghost use Rattle.fault_model.specs.Cut.{IsCutList};
 ghost use Rattle.cut_sequences.specs.Orders.{order_limit, order_lists, order_total};
-ghost use Rattle.board_report.specs.Shown.{AreTextsOf};
+ghost use Rattle.cut_texts.specs.UnitTexts.{AreTextsOf};
 ghost use Rattle.tree_families.specs.Due.{IsDueToTree};
 ghost use Rattle.zdd_product.specs.Seats.{WentAll};
 ghost use Rattle.outage_engine.specs.Answers.{IfRefused, IsLimitOf, IsListingOf, IsOfUnits};

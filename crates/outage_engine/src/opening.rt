@@ -143,6 +143,11 @@ fn open_listing(
     requires units { IsOfUnits listing }
     ensures opened { IfOk result (IsOpenedWith margin listing (Some dockets.now)) }
 {
-    let start = Board::open(alloc, &listing.tree, &listing.cuts, dockets, margin)?;
-    Ok(Opened { listing, start })
+    match Board::open(alloc, &listing.tree, &listing.cuts, dockets, margin) {
+        Ok(start) => Ok(Opened { listing, start }),
+        Err(end) => {
+            drop(listing);
+            Err(end)
+        }
+    }
 }

@@ -2,7 +2,7 @@
 ghost use Rattle.std.specs.Prelude.{◌≡◌, ◌⊎◌, ◌≤◌, true, false, []};
 ghost use Rattle.event_counts.specs.Count.{Rose};
 ghost use Rattle.board_words.specs.Command.{command_of};
-ghost use Rattle.board_report.specs.BoardText.{IsDeckOf};
+ghost use Rattle.board_texts.specs.BoardText.{IsDeckOf};
 ghost use Rattle.outage_engine.specs.Answers.{IsOfUnits};
 ghost use Rattle.outage_engine.specs.Openings.{HasPasses, TellsBoard};
 ghost use Rattle.outage_engine.specs.Gives.{AreReading, own_deck};
@@ -308,7 +308,9 @@ fn serve<R: Threads + Wait + Sync, K: Sink>(
     requires deck { IsDeckOf listing.tree start.board.deck }
     ensures told { TellsBoard listing start K.taken K.faults sink.old sink.new result }
 {
-    serve_crews(rt, &listing, start, buffer, sink)
+    let status = serve_crews(rt, &listing, start, buffer, sink);
+    drop(listing);
+    status
 }
 
 // Serves all crews, and writes what came of it.
@@ -328,5 +330,7 @@ fn serve_crews<R: Threads + Wait + Sync, K: Sink>(
     let state = serve_all(rt, start, &Free);
     // It keeps what every board keeps, as its history tells.
     let _history = state.entries();
-    tell_board(sink, buffer, listing, &state)
+    let status = tell_board(sink, buffer, listing, &state);
+    drop(state);
+    status
 }

@@ -115,13 +115,20 @@ fn serve_listing(
     requires one { length dockets.now ≡ 1 }
     ensures summed { IfOk result (λ summary. IsServedFor number listing dockets.now summary) }
 {
-    let mut board = BoardState::open(alloc, &listing.tree, &listing.cuts, dockets, MARGIN)?;
-    serve_crew(&mut board);
-    Ok(Summary {
-        number,
-        listing,
-        board,
-    })
+    match BoardState::open(alloc, &listing.tree, &listing.cuts, dockets, MARGIN) {
+        Ok(mut board) => {
+            serve_crew(&mut board);
+            Ok(Summary {
+                number,
+                listing,
+                board,
+            })
+        }
+        Err(end) => {
+            drop(listing);
+            Err(end)
+        }
+    }
 }
 
 // Decides all requests of the one crew of a board.

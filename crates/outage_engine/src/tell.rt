@@ -1,10 +1,8 @@
 //! Writing an answer.
 ghost use Rattle.std.specs.Prelude.{◌≡◌, ◌++◌, [], is_err};
 ghost use Rattle.edge_io.specs.Out.{has_failed, Puts};
-ghost use Rattle.board_report.specs.BoardText.{IsDeckOf, board_text};
+ghost use Rattle.board_texts.specs.BoardText.{IsDeckOf, board_text};
 ghost use Rattle.board_report.specs.CheckText.{check_text};
-ghost use Rattle.board_report.specs.DiagramText.{diagram_text};
-ghost use Rattle.board_report.specs.PrintText.{print_text};
 ghost use Rattle.outage_engine.specs.Answers.{HasOrders, IsOfUnits, IsWritable, listing_text, refusal_line};
 ghost use Rattle.outage_engine.specs.Answers.{refusal_status, status_of, summed_text, text_of};
 ghost use Rattle.outage_engine.specs.Runs.{Tells};
@@ -15,14 +13,12 @@ use crate::answer::Answer;
 use crate::deck::DeckParts;
 use crate::listing::Listing;
 use crate::refusal::Refusal;
-use crate::sizes::Sizes;
 use crate::summary::Summary;
 use board_report::{
     Notice, put_board, put_check, put_cuts, put_diagram, put_fault, put_notice, put_summary,
     put_tree,
 };
-use edge_io::{Buffer, Bytes, Out, Sink, WriteFault};
-use fault_model::Tree;
+use edge_io::{Buffer, Out, Sink, WriteFault};
 use outage_board::BoardState;
 
 /// Writes the text of an answer, and tells how the run ends.
@@ -34,7 +30,8 @@ pub(crate) fn tell<K: Sink>(sink: &mut K, buffer: Buffer, answer: Answer) -> Sta
     let mut out = Out::over(sink, buffer);
     let status = answer.status();
     // A failed output fails again where it is finished.
-    let _ = put_answer(&mut out, answer);
+    let _ = put_answer(&mut out, &answer);
+    drop(answer);
     match out.finish() {
         Ok(()) => status,
         Err(_) => Status::WriteFault,
@@ -49,21 +46,20 @@ pub(crate) fn tell_refusal<K: Sink>(sink: &mut K, buffer: Buffer, refusal: Refus
     tell(sink, buffer, Answer::Refused(refusal))
 }
 
-// Each kind of answer is let go where it was written, by a function of its own.
-fn put_answer<K: Sink>(out: &mut Out<K>, answer: Answer) -> Result<(), WriteFault>
-    requires { IsWritable answer }
-    ensures puts { Puts K.taken K.faults out.old out.new (text_of answer) }
+fn put_answer<K: Sink>(out: &mut Out<K>, answer: &Answer) -> Result<(), WriteFault>
+    requires { IsWritable answer.now }
+    ensures puts { Puts K.taken K.faults out.old out.new (text_of answer.now) }
     ensures answer { is_err result ≡ has_failed out.new }
 {
     match answer {
-        Answer::Cuts(listing) => put_cut_sets(out, listing),
-        Answer::Diagram(sizes) => put_sizes(out, sizes),
+        Answer::Cuts(listing) => put_listing(out, listing),
+        Answer::Diagram(sizes) => put_diagram(out, &sizes.tree, &sizes.cuts, sizes.nodes),
         Answer::Checked(deck) => put_deck(out, deck),
-        Answer::Printed(tree) => put_printed(out, tree),
-        Answer::Made(deck) => put_made(out, deck),
+        Answer::Printed(tree) => put_tree(out, tree),
+        Answer::Made(deck) => out.put(deck.as_slice()),
         Answer::Summed(summary) => put_summed(out, summary),
         Answer::Help => put_notice(out, Notice::Usage),
-        Answer::Refused(refusal) => put_refusal(out, &refusal),
+        Answer::Refused(refusal) => put_refusal(out, refusal),
     }
 }
 
@@ -81,40 +77,11 @@ fn put_refusal<K: Sink>(out: &mut Out<K>, refusal: &Refusal) -> Result<(), Write
     }
 }
 
-fn put_cut_sets<K: Sink>(out: &mut Out<K>, listing: Listing) -> Result<(), WriteFault>
-    requires { IsOfUnits listing }
-    ensures puts { Puts K.taken K.faults out.old out.new (listing_text listing) }
-    ensures answer { is_err result ≡ has_failed out.new }
-{
-    put_listing(out, &listing)
-}
-
-fn put_sizes<K: Sink>(out: &mut Out<K>, sizes: Sizes) -> Result<(), WriteFault>
-    ensures puts { Puts K.taken K.faults out.old out.new (diagram_text sizes.tree sizes.cuts sizes.nodes) }
-    ensures answer { is_err result ≡ has_failed out.new }
-{
-    put_diagram(out, &sizes.tree, &sizes.cuts, sizes.nodes)
-}
-
-fn put_deck<K: Sink>(out: &mut Out<K>, deck: DeckParts) -> Result<(), WriteFault>
-    ensures puts { Puts K.taken K.faults out.old out.new (check_text deck.tree deck.crews) }
+fn put_deck<K: Sink>(out: &mut Out<K>, deck: &DeckParts) -> Result<(), WriteFault>
+    ensures puts { Puts K.taken K.faults out.old out.new (check_text deck.now.tree deck.now.crews) }
     ensures answer { is_err result ≡ has_failed out.new }
 {
     put_check(out, &deck.tree, deck.crews.as_ref())
-}
-
-fn put_printed<K: Sink>(out: &mut Out<K>, tree: Tree) -> Result<(), WriteFault>
-    ensures puts { Puts K.taken K.faults out.old out.new (print_text tree) }
-    ensures answer { is_err result ≡ has_failed out.new }
-{
-    put_tree(out, &tree)
-}
-
-fn put_made<K: Sink>(out: &mut Out<K>, deck: Bytes) -> Result<(), WriteFault>
-    ensures puts { Puts K.taken K.faults out.old out.new deck }
-    ensures answer { is_err result ≡ has_failed out.new }
-{
-    out.put(deck.as_slice())
 }
 
 fn put_listing<K: Sink>(out: &mut Out<K>, listing: &Listing) -> Result<(), WriteFault>
@@ -131,9 +98,9 @@ fn put_listing<K: Sink>(out: &mut Out<K>, listing: &Listing) -> Result<(), Write
     )
 }
 
-fn put_summed<K: Sink>(out: &mut Out<K>, summary: Summary) -> Result<(), WriteFault>
-    requires { HasOrders summary }
-    ensures puts { Puts K.taken K.faults out.old out.new (summed_text summary) }
+fn put_summed<K: Sink>(out: &mut Out<K>, summary: &Summary) -> Result<(), WriteFault>
+    requires { HasOrders summary.now }
+    ensures puts { Puts K.taken K.faults out.old out.new (summed_text summary.now) }
     ensures answer { is_err result ≡ has_failed out.new }
 {
     let listing = &summary.listing;

@@ -46,7 +46,10 @@ fn status_of<R: Threads + Wait + Sync, S: Source, K: Sink>(
 ) -> Status {
     match NodeStore::new(alloc, store_bits(words)) {
         Ok(StoreStart { store, mut seat }) => {
-            run(rt, alloc, words, source, sink, &store, &mut seat)
+            let status = run(rt, alloc, words, source, sink, &store, &mut seat);
+            drop(seat);
+            drop(store);
+            status
         }
         Err(_) => Status::NoMemory,
     }

@@ -2,7 +2,7 @@
 ghost use Rattle.std.specs.Prelude.{◌≡◌, is_err};
 ghost use Rattle.edge_io.specs.Out.{has_failed, Puts};
 ghost use Rattle.fault_model.specs.declared.node.GateKind.TheVariants.{Votes};
-ghost use Rattle.deck_reading.specs.Written.{gate_word};
+ghost use Rattle.text_pieces.specs.GateWords.{gate_word};
 
 use crate::put_all;
 use edge_io::{Out, Sink, WriteFault};

@@ -1,15 +1,16 @@
-//! Texts put piece by piece on an output, and the words that more than one text has.
+//! Texts put piece by piece on an output, and the words and names that more than one text has.
 //!
-//! It stands on `edge_io` for the output and on `itoa` for numbers, on `fault_model` for the kinds of gates, and on
-//! `deck_reading` for their words. Each call puts exactly the text that its clause names, or a front of it where the
-//! sink fails.
+//! It stands on `edge_io` for the output and on `itoa` for numbers, and on `fault_model` for names and the kinds of
+//! gates. Each call puts exactly the text that its clause names, or a front of it where the sink fails.
 #![tactic(auto)]
 
 mod gate_word;
 mod pieces;
+mod shown;
 
 pub use gate_word::put_gate_word;
 pub use pieces::put_all;
+pub use shown::{put_named, put_shown};
 
 #[cfg(test)]
 mod tests;

@@ -9,7 +9,8 @@ use Rattle.std.proofs.lemmas.List.Elements.{All-append, All-cons, All-head, All-
 use Rattle.std.proofs.lemmas.List.FromFn.{length-map-range_with_len}
 use Rattle.fault_model.specs.declared.node.GateKind.TheVariants.{And}
 use Rattle.edge_io.specs.declared.reading.TheConstants.{INPUT_LIMIT}
-use Rattle.deck_reading.specs.Written.{Bare, Top, WrittenStatement, gate_word, input_text, statement_text, written}
+use Rattle.deck_reading.specs.Written.{Bare, Top, WrittenStatement, input_text, statement_text, written}
+use Rattle.text_pieces.specs.GateWords.{gate_word}
 use Rattle.tree_maker.specs.Names.{gate_name, top_name, trigger_name, unit_name, units_in}
 use Rattle.tree_maker.specs.MadeDeck.{crew_lines, fdep_count, fdep_gate, group_count, group_gate, groups, kind_in}
 use Rattle.tree_maker.specs.MadeDeck.{kinds}

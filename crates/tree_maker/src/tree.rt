@@ -1,7 +1,8 @@
 //! The tree part of a made deck.
 ghost use Rattle.std.specs.Prelude.{◌≡◌, ◌+◌, ◌*◌, ◌<◌, ◌≤◌, ◌++◌, OnOk};
 ghost use Rattle.std.specs.List.{flat_map, range_with_len};
-ghost use Rattle.deck_reading.specs.Written.{Bare, gate_word, input_text, statement_text, written};
+ghost use Rattle.deck_reading.specs.Written.{Bare, input_text, statement_text, written};
+ghost use Rattle.text_pieces.specs.GateWords.{gate_word};
 ghost use Rattle.tree_maker.specs.Names.{gate_name, trigger_name, units_in};
 ghost use Rattle.tree_maker.specs.MadeDeck.{fdep_gate, group_count, group_gate, kind_in, made_statements, unit_line};
 

@@ -21,7 +21,7 @@ use Rattle.fault_model.specs.WellFormed.{IsTree}
 use Rattle.fault_model.proofs.RankLaws.{gate_sound}
 use Rattle.crew_script.specs.Deck.{lines_of}
 use Rattle.deck_reading.specs.TreeStatements.{IsNamed, gate_numbers, unit_numbers}
-use Rattle.deck_reading.specs.Written.{gate_word}
+use Rattle.text_pieces.specs.GateWords.{gate_word}
 use Rattle.tree_picture.specs.Labels.{label_byte, label_text}
 use Rattle.tree_picture.specs.PictureText.{ended, gate_label, gate_line, gate_shape, gate_text, input_head, input_line}
 use Rattle.tree_picture.specs.PictureText.{input_style, lines_with, node_head, node_line}

@@ -12,7 +12,7 @@ use Rattle.fault_model.specs.declared.node.GateKind.TheVariants.{And, Or, Votes,
 use Rattle.fault_model.specs.Tree.{FaultTree, IsGateOf, IsNodeOf, inputs_of, kind_of, name_of}
 use Rattle.fault_model.specs.WellFormed.{IsSoundKind, IsTree}
 use Rattle.fault_model.proofs.RankLaws.{gate_sound}
-use Rattle.deck_reading.specs.Written.{gate_word}
+use Rattle.text_pieces.specs.GateWords.{gate_word}
 use Rattle.tree_picture.specs.Labels.{InText, behind_quote, label_text, shown_before, shown_from, shown_in}
 use Rattle.tree_picture.specs.PictureText.{gate_label, gate_line, gate_shape, node_head, unit_line, unit_shape}
 use Rattle.tree_picture.proofs.HeadLemmas.{decimal_digits}

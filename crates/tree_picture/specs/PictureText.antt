@@ -8,7 +8,7 @@ use Rattle.fault_model.specs.declared.node.GateKind.TheVariants.{And, Or, Votes,
 use Rattle.fault_model.specs.Tree.{FaultTree, inputs_of, is_above_units, is_fdep_kind, kind_of, name_of}
 use Rattle.crew_script.specs.Deck.{lines_of}
 use Rattle.deck_reading.specs.TreeStatements.{gate_numbers, unit_numbers}
-use Rattle.deck_reading.specs.Written.{gate_word}
+use Rattle.text_pieces.specs.GateWords.{gate_word}
 use Rattle.tree_picture.specs.Labels.{label_text}
 
 -- ---- lines of nodes

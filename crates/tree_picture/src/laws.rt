@@ -5,7 +5,7 @@ ghost use Rattle.fault_model.specs.Tree.{FaultTree, IsGateOf, IsNodeOf, IsUnitOf
 ghost use Rattle.fault_model.specs.Tree.{node_count};
 ghost use Rattle.fault_model.specs.WellFormed.{IsTree};
 ghost use Rattle.deck_reading.specs.TreeStatements.{IsNamed, gate_numbers};
-ghost use Rattle.deck_reading.specs.Written.{gate_word};
+ghost use Rattle.text_pieces.specs.GateWords.{gate_word};
 ghost use Rattle.tree_picture.specs.Labels.{shown_in};
 ghost use Rattle.tree_picture.specs.PictureText.{gate_line, input_head, input_line, lines_with, node_head, node_line};
 ghost use Rattle.tree_picture.specs.PictureText.{picture_text, unit_line};

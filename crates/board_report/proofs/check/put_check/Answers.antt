@@ -1,7 +1,7 @@
 use Rattle.std.proofs.Common.{sym, subst, append-nil, codes, List, None, Some, MatchOption, Option, Bor}
 use Rattle.edge_io.specs.Out.{Puts}
 use Rattle.crew_script.specs.declared.dockets.Crew.{Crew}
-use Rattle.board_report.specs.CutsText.{titled_line}
+use Rattle.cut_texts.specs.CutsText.{titled_line}
 use Rattle.board_report.specs.CheckText.{check_text}
 use Rattle.board_report.proofs.check.put_check.Goals as goal
 

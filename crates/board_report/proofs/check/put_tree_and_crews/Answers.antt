@@ -1,6 +1,6 @@
 use Rattle.std.proofs.Common.{sym, ◌∙◌, ap, is_err, codes, Some}
 use Rattle.edge_io.proofs.OutLemmas.{Puts-trans}
-use Rattle.board_report.specs.CutsText.{titled_line}
+use Rattle.cut_texts.specs.CutsText.{titled_line}
 use Rattle.board_report.specs.CheckText.{crews_line}
 use Rattle.text_pieces.proofs.Putting.{first_short}
 use Rattle.board_report.proofs.check.put_tree_and_crews.Goals as goal

@@ -1,7 +1,8 @@
 use Rattle.std.proofs.Common.{sym, ◌∙◌, ap, subst, is_err, codes, ◌++◌}
 use Rattle.edge_io.specs.Out.{Puts}
 use Rattle.edge_io.proofs.OutLemmas.{Puts-trans}
-use Rattle.deck_reading.specs.Written.{gate_word, quoted}
+use Rattle.deck_reading.specs.Written.{quoted}
+use Rattle.text_pieces.specs.GateWords.{gate_word}
 use Rattle.board_report.specs.PrintText.{input_text}
 use Rattle.fault_model.specs.Tree.{name_of, kind_of, inputs_of}
 use Rattle.std.specs.List.{flat_map}

@@ -4,8 +4,8 @@ use Rattle.cut_sequences.specs.Orders.{order_total}
 use Rattle.fault_model.specs.Tree.{gate_count, unit_count}
 use Rattle.margin_policy.specs.Held.{units_out}
 use Rattle.outage_board.specs.Boards.{standing_of}
-use Rattle.board_report.specs.BoardText.{out_head}
-use Rattle.board_report.specs.CutsText.{count_line}
+use Rattle.board_texts.specs.BoardText.{out_head}
+use Rattle.cut_texts.specs.CutsText.{count_line}
 use Rattle.board_report.specs.SummaryText.{decided_line, made_line}
 use Rattle.text_pieces.proofs.Putting.{all_four, first_short, second_short, third_short}
 use Rattle.board_report.proofs.summary.put_summary.Goals as goal

@@ -1,7 +1,7 @@
 use Rattle.std.proofs.Common.{subst, sym}
 use Rattle.std.proofs.lemmas.Result.{IfOk-weaker}
-use Rattle.board_report.specs.OrdersOfUnits.{AreOrdersOf}
-use Rattle.board_report.proofs.OrdersOfUnitsLemmas.{AreOrdersOf-order_lists}
+use Rattle.cut_texts.specs.OrdersOfUnits.{AreOrdersOf}
+use Rattle.cut_texts.proofs.OrdersOfUnitsLemmas.{AreOrdersOf-order_lists}
 use Rattle.board_report_tests.proofs.tests.orders_of.Goals as goal
 
 pub returns : goal.returns

@@ -3,7 +3,7 @@ use Rattle.outage_engine.specs.Gives.{own_deck}
 use Rattle.std.specs.Prelude.{◌++◌}
 use Rattle.std.proofs.Common.{inr}
 use Rattle.event_counts.specs.Count.{Rose}
-use Rattle.board_report.specs.BoardText.{board_text}
+use Rattle.board_texts.specs.BoardText.{board_text}
 use Rattle.outage_engine.specs.declared.status.Status.TheVariants.{Done}
 use Rattle.outage_engine.specs.Store.{method_by}
 use Rattle.outage_engine.specs.Answers.{listing_text, refusal_line, refusal_status}

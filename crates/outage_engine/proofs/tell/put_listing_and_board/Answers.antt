@@ -1,6 +1,6 @@
 use Rattle.std.proofs.Common.{sym, ◌∙◌, ap, is_err}
 use Rattle.edge_io.proofs.OutLemmas.{Puts-failed, Puts-trans}
-use Rattle.board_report.specs.BoardText.{board_text}
+use Rattle.board_texts.specs.BoardText.{board_text}
 use Rattle.outage_engine.specs.Answers.{listing_text}
 use Rattle.outage_engine.proofs.tell.put_listing_and_board.Goals as goal
 

@@ -1,6 +1,6 @@
 use Rattle.std.proofs.Common.{◌∙◌, ap, sym, slice_index_or}
 use Rattle.fault_model.specs.declared.node.GateKind.TheVariants.{And}
-use Rattle.deck_reading.specs.Written.{gate_word}
+use Rattle.text_pieces.specs.GateWords.{gate_word}
 use Rattle.tree_maker.specs.MadeDeck.{kinds}
 use Rattle.tree_maker.proofs.Texts.{two_of_three}
 use Rattle.tree_maker.proofs.tree.kind_word.Goals as goal

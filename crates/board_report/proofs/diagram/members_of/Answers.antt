@@ -1,9 +1,0 @@
-use Rattle.std.proofs.Common.{arith}
-use Rattle.board_report.proofs.PrintLemmas.{weight_parts}
-use Rattle.board_report.proofs.diagram.members_of.Goals as goal
-
-pub overflow_sub-result : goal.overflow_sub-result
-overflow_sub-result c = omega (arith, c.weight.ensures.value, c.len.ensures.value, weight_parts c.args.cuts.now)
-
-pub returns : goal.returns
-returns c = omega (arith, c.weight.ensures.value, c.len.ensures.value, weight_parts c.args.cuts.now)

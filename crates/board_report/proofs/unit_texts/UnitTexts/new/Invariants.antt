@@ -1,5 +1,0 @@
-use Rattle.board_report.proofs.UnitTextsLemmas.{AreFirstTexts}
-use Rattle.board_report.proofs.unit_texts.UnitTexts.new.Given as goal
-
-abbrev pub invariant-loop-before : goal.invariant-loop-before
-invariant-loop-before l = AreFirstTexts l.tree l.rows l.before

@@ -1,0 +1,5 @@
+mod ShownNames
+mod CrewNames
+mod LogLemmas
+mod BoardLemmas
+mod UnitsOut

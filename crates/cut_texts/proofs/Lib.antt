@@ -1,0 +1,5 @@
+mod Listing
+mod LineLemmas
+mod Members
+mod UnitTextsLemmas
+pub mod OrdersOfUnitsLemmas

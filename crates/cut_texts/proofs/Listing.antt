@@ -1,0 +1,99 @@
+-- The cut sets of a list with their orders, one after another, and how many there are.
+use Rattle.std.specs.Prelude.{◌≡◌, ℕ, zero, suc, ◌+◌, ◌<◌, ◌≤◌, List, [], ◌∷◌, ◌++◌, length, drop, get_or, All, Option}
+use Rattle.std.specs.Prelude.{Some, None, slice_get, unwrap_or}
+use Rattle.std.proofs.Common.{sym, ap, subst, ◌∙◌, refl, arith, append_assoc, append-nil}
+use Rattle.std.proofs.lemmas.List.{drop_more, drop_all}
+use Rattle.std.proofs.lemmas.Option.{slice_get_within, slice_get-get_or}
+use Rattle.cut_sequences.specs.Orders.{order_total}
+use Rattle.edge_io.specs.Out.{Output, Puts}
+use Rattle.fault_model.specs.Tree.{FaultTree, unit_count, gate_count}
+use Rattle.cut_texts.specs.CutsText.{Listed, count_line, cut_block, cut_blocks, listed_with, orders_in, tree_counts}
+
+-- the set at a place
+set_at : (cuts : List (List ℕ)) (i : ℕ) (set : List ℕ) → slice_get cuts i ≡ Some set → get_or cuts i set ≡ set
+set_at cuts i set at =
+    ap (λ o. unwrap_or o set) (sym (slice_get-get_or cuts i set (slice_get_within cuts i set at)) ∙ at)
+
+-- what holds of the members of all sets holds of it
+pub set_of : (P : ℕ → Type 0) (cuts : List (List ℕ)) (i : ℕ) (set : List ℕ) → slice_get cuts i ≡ Some set
+    → All (All P) cuts → All P set
+set_of P cuts i set at all = subst (All P) (set_at cuts i set at) (all i set (slice_get_within cuts i set at))
+
+-- ---- cut sets with their orders
+
+-- the pair at a place
+pair_at : (cuts : List (List ℕ)) (lists : List (Option (List (List ℕ)))) (i : ℕ) (set : List ℕ)
+    (orders : Option (List (List ℕ))) → length lists ≡ length cuts
+    → get_or (listed_with cuts lists) i (set, orders) ≡ (get_or cuts i set, get_or lists i orders)
+pair_at [] [] i set orders same = refl
+pair_at [] (list ∷ lists) i set orders same = absurd (omega (arith, same))
+pair_at (cut ∷ cuts) [] i set orders same = absurd (omega (arith, same))
+pair_at (cut ∷ cuts) (list ∷ lists) zero set orders same = refl
+pair_at (cut ∷ cuts) (list ∷ lists) (suc i) set orders same = pair_at cuts lists i set orders (omega (arith, same))
+
+length_with : (cuts : List (List ℕ)) (lists : List (Option (List (List ℕ)))) → length lists ≡ length cuts
+    → length (listed_with cuts lists) ≡ length cuts
+length_with [] lists same = refl
+length_with (cut ∷ cuts) [] same = absurd (omega (arith, same))
+length_with (cut ∷ cuts) (list ∷ lists) same =
+    let rest = length_with cuts lists (omega (arith, same)) in omega (arith, rest)
+
+orders_with : (cuts : List (List ℕ)) (lists : List (Option (List (List ℕ)))) → length lists ≡ length cuts
+    → orders_in (listed_with cuts lists) ≡ lists
+orders_with [] [] same = refl
+orders_with [] (list ∷ lists) same = absurd (omega (arith, same))
+orders_with (cut ∷ cuts) [] same = absurd (omega (arith, same))
+orders_with (cut ∷ cuts) (list ∷ lists) same = ap (λ rest. list ∷ rest) (orders_with cuts lists (omega (arith, same)))
+
+-- the next block to be put
+pub next_block : (tree : FaultTree) (cuts : List (List ℕ)) (lists : List (Option (List (List ℕ)))) (i : ℕ)
+    (set : List ℕ) → length lists ≡ length cuts
+    → slice_get cuts i ≡ Some set
+    → cut_blocks tree (i + 1) (drop i (listed_with cuts lists))
+    ≡ cut_block tree (i + 1) set (get_or lists i None)
+    ++ cut_blocks tree (i + 1 + 1) (drop (i + 1) (listed_with cuts lists))
+next_block tree cuts lists i set same at =
+    ap (cut_blocks tree (i + 1)) (drop_more (listed_with cuts lists) i (set, None)
+    (subst (λ n. i < n) (sym (length_with cuts lists same)) (slice_get_within cuts i set at)))
+    ∙ ap (λ (listed : Listed). cut_block tree (i + 1) listed.0 listed.1
+    ++ cut_blocks tree (i + 1 + 1) (drop (i + 1) (listed_with cuts lists)))
+    (pair_at cuts lists i set None same ∙ ap (λ s. (s, get_or lists i None)) (set_at cuts i set at))
+
+-- no block is left
+pub no_block : (tree : FaultTree) (cuts : List (List ℕ)) (lists : List (Option (List (List ℕ)))) (i : ℕ)
+    → length lists ≡ length cuts → length cuts ≤ i
+    → cut_blocks tree (i + 1) (drop i (listed_with cuts lists)) ≡ []
+no_block tree cuts lists i same all =
+    ap (cut_blocks tree (i + 1)) (drop_all i (listed_with cuts lists)
+    (subst (λ n. n ≤ i) (sym (length_with cuts lists same)) all))
+
+-- how many there are, and how many orders
+pub counts_with : (cuts : List (List ℕ)) (lists : List (Option (List (List ℕ)))) (count total : ℕ)
+    → length lists ≡ length cuts → count ≡ length cuts
+    → total ≡ order_total lists → count_line count total
+    ≡ count_line (length (listed_with cuts lists)) (order_total (orders_in (listed_with cuts lists)))
+counts_with cuts lists count total same is all =
+    ap (λ n. count_line n total) (is ∙ sym (length_with cuts lists same))
+    ∙ ap (count_line (length (listed_with cuts lists))) (all ∙ ap order_total (sym (orders_with cuts lists same)))
+
+-- the counts of a tree, put as numbers
+pub counted : {K : Type 0} (taken : K → Option (List ℕ)) (faults : K → ℕ) (old new : Output K) (title : List ℕ)
+    (tree : FaultTree) (units gates : ℕ)
+    → units ≡ unit_count tree → gates ≡ gate_count tree → Puts taken faults old new (tree_counts title units gates)
+    → Puts taken faults old new (tree_counts title (unit_count tree) (gate_count tree))
+counted taken faults old new title tree units gates all all_gates put =
+    subst (Puts taken faults old new) (ap (λ n. tree_counts title n gates) all
+    ∙ ap (tree_counts title (unit_count tree)) all_gates) put
+
+-- a text round two numbers, put in five pieces
+pub two_numbers : {K : Type 0} (taken : K → Option (List ℕ)) (faults : K → ℕ) (old new : Output K)
+    (front middle back one : List ℕ) (first : List ℕ) → one ≡ first
+    → (two second : List ℕ) → two ≡ second → Puts taken faults old new
+    (front ++ (one ++ (middle ++ (two ++ (back ++ [])))))
+    → Puts taken faults old new (front ++ first ++ middle ++ second ++ back)
+two_numbers taken faults old new front middle back one first is two second is_two put =
+    let joined : front ++ (one ++ (middle ++ (two ++ (back ++ [])))) ≡ front ++ one ++ middle ++ two ++ back =
+    simp (append_assoc, append-nil) refl in
+    subst (Puts taken faults old new)
+    (joined ∙ ap (λ n. front ++ n ++ middle ++ two ++ back) is ∙ ap (λ n. front ++ first ++ middle ++ n ++ back) is_two)
+    put

@@ -1,0 +1,44 @@
+use Rattle.std.proofs.Common.{sym, ◌∙◌, ap, subst, is_err, ◌≤◌}
+use Rattle.cut_texts.specs.CutsText.{cut_blocks, listed_with}
+use Rattle.text_pieces.proofs.Putting.{begun, whole_put, one_more, cut_short, PutsFront}
+use Rattle.cut_texts.proofs.Listing.{next_block, no_block}
+use Rattle.cut_texts.proofs.cuts.put_blocks.Goals as goal
+
+pub loop-i-init : goal.loop-i-init
+loop-i-init g c = record {
+  so =
+      begun g.K.Sink.taken g.K.Sink.faults c.args.out.now
+      (cut_blocks c.args.names.now.tree.now 1 (listed_with c.args.cuts.now c.args.orders.now));
+  going = c.requires.fine;
+  spells = c.line-line.ensures c.args.names.now.tree.now;
+}
+
+pub returns-in_err-put_block-clause-puts : goal.returns-in_err-put_block-clause-puts
+returns-in_err-put_block-clause-puts g c =
+    cut_short g.K.Sink.taken g.K.Sink.faults c.args.out.now c.loop-i.out c.put_block.new.out _ _ _ _
+    c.loop-i.invariant.so c.put_block.ensures.puts
+    (next_block c.args.names.now.tree.now c.args.cuts.now c.args.orders.now c.loop-i.i c.members.result.now
+    c.requires.made.each
+    c.members.ensures.value)
+    (sym c.put_block.ensures.answer ∙ ap is_err c.in_err-put_block.was)
+
+pub loop-i-preserved : goal.loop-i-preserved
+loop-i-preserved g c = record {
+  so = one_more g.K.Sink.taken g.K.Sink.faults c.args.out.now c.loop-i.out c.put_block.new.out _ _ _ _
+      c.loop-i.invariant.so c.put_block.ensures.puts
+      (next_block c.args.names.now.tree.now c.args.cuts.now c.args.orders.now c.loop-i.i c.members.result.now
+      c.requires.made.each
+      c.members.ensures.value);
+  going = sym c.put_block.ensures.answer ∙ ap is_err c.in_ok-put_block.was;
+  spells = c.put_block.ensures.spells;
+}
+
+pub returns-clause-puts : goal.returns-clause-puts
+returns-clause-puts g c =
+    whole_put g.K.Sink.taken g.K.Sink.faults c.args.out.now c.loop-i.out
+    (cut_blocks c.args.names.now.tree.now 1 (listed_with c.args.cuts.now c.args.orders.now))
+    (subst (λ rest. PutsFront g.K.Sink.taken g.K.Sink.faults c.args.out.now c.loop-i.out rest
+    (cut_blocks c.args.names.now.tree.now 1 (listed_with c.args.cuts.now c.args.orders.now)))
+    (no_block c.args.names.now.tree.now c.args.cuts.now c.args.orders.now c.loop-i.i c.requires.made.each
+    (subst (λ n. n ≤ c.loop-i.i) c.len-i-end.ensures.value c.loop-i-test.false))
+    c.loop-i.invariant.so)

@@ -1,0 +1,8 @@
+-- the texts of units
+pub mod UnitTexts
+-- orders listed for cut sets
+pub mod OrdersOfUnits
+-- the text of cut sets and their orders
+pub mod CutsText
+-- the text of `diagram`
+pub mod DiagramText

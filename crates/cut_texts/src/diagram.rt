@@ -1,0 +1,76 @@
+//! The sizes of cut sets and of their diagram.
+ghost use Rattle.std.specs.Prelude.{◌≡◌, is_err, length, false, Some};
+ghost use Rattle.edge_io.specs.Out.{has_failed, Puts};
+ghost use Rattle.cut_texts.specs.DiagramText.{diagram_text, member_count, method_text, sizes_text};
+
+use crate::cuts::put_tree_line;
+use edge_io::{Out, Sink, WriteFault};
+use fault_model::Tree;
+use itoa::Buffer;
+use text_pieces::put_all;
+use unit_sets::CutList;
+
+/// Puts the text of `diagram` over a tree and its cut sets. `nodes` is how many nodes their diagram has, and `None`
+/// where they were found by lists.
+pub fn put_diagram<K: Sink>(
+    out: &mut Out<K>,
+    tree: &Tree,
+    cuts: &CutList,
+    nodes: Option<u64>,
+) -> Result<(), WriteFault>
+    ensures puts { Puts K.taken K.faults out.old out.new (diagram_text tree.now cuts.now nodes) }
+    ensures answer { is_err result ≡ has_failed out.new }
+{
+    put_tree_line(out, tree)?;
+    put_method(out, nodes)?;
+    put_sizes(out, cuts.len(), members_of(cuts))
+}
+
+fn put_method<K: Sink>(out: &mut Out<K>, nodes: Option<u64>) -> Result<(), WriteFault>
+    ensures puts { Puts K.taken K.faults out.old out.new (method_text nodes) }
+    ensures answer { is_err result ≡ has_failed out.new }
+{
+    match nodes {
+        None => out.put(b"method lists\n"),
+        Some(nodes) => put_nodes(out, nodes),
+    }
+}
+
+fn put_nodes<K: Sink>(out: &mut Out<K>, nodes: u64) -> Result<(), WriteFault>
+    ensures puts { Puts K.taken K.faults out.old out.new (method_text (Some nodes)) }
+    ensures answer { is_err result ≡ has_failed out.new }
+{
+    put_all(
+        out,
+        &[
+            b"method diagram\nnodes: ",
+            Buffer::new().format(nodes).as_bytes(),
+            b"\n",
+        ],
+    )
+}
+
+// The sum of the sizes of the sets.
+fn members_of(cuts: &CutList) -> u64
+    ensures { result ≡ member_count cuts.now }
+{
+    cuts.weight() - cuts.len() as u64
+}
+
+fn put_sizes<K: Sink>(out: &mut Out<K>, cuts: usize, members: u64) -> Result<(), WriteFault>
+    ensures puts { Puts K.taken K.faults out.old out.new (sizes_text cuts members) }
+    ensures answer { is_err result ≡ has_failed out.new }
+{
+    let mut cut_count = Buffer::new();
+    let mut member_count = Buffer::new();
+    put_all(
+        out,
+        &[
+            b"cuts: ",
+            cut_count.format(cuts).as_bytes(),
+            b"\nmembers: ",
+            member_count.format(members).as_bytes(),
+            b"\n",
+        ],
+    )
+}
