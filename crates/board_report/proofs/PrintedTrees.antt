@@ -7,7 +7,7 @@ use Rattle.std.proofs.lemmas.Bool.{cases_lt}
 use Rattle.std.proofs.lemmas.List.{get_or_default}
 use Rattle.std.proofs.lemmas.List.Concat.{flat_map-append}
 use Rattle.std.proofs.lemmas.List.Folds.{flat_map-map}
-use Rattle.fault_model.specs.Name.{is_name}
+use Rattle.fault_words.specs.Name.{is_name}
 use Rattle.fault_model.specs.Tree.{FaultTree, IsGateOf, IsUnitOf, inputs_of, kind_of, name_of, unit_count}
 use Rattle.fault_model.specs.WellFormed.{IsTree}
 use Rattle.deck_reading.specs.TreeStatements.{HasNames, IsNamed, gate_numbers, gate_statement, node_name, statements_of}

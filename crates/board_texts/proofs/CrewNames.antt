@@ -3,8 +3,8 @@ use Rattle.std.specs.Prelude.{◌≡◌, ℕ, zero, suc, ◌<◌, true, not, Lis
 use Rattle.std.proofs.Common.{refl, sym, ap, subst, ◌∙◌, arith, get_or, true≢false}
 use Rattle.std.proofs.lemmas.Bool.{and_parts, or_left, or_right, not-true}
 use Rattle.std.proofs.lemmas.List.{length-map, get_or-map}
-use Rattle.fault_model.specs.Name.{is_name}
-use Rattle.fault_model.specs.Names.{same_name, has_name, all_differ}
+use Rattle.fault_words.specs.Name.{is_name}
+use Rattle.fault_words.specs.Names.{same_name, has_name, all_differ}
 use Rattle.crew_script.specs.Dockets.{names_of, crew_at}
 use Rattle.crew_script.specs.declared.dockets.Crew.{Crew}
 use lib.Pointwise.{bytes_decides}

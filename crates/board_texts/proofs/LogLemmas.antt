@@ -5,8 +5,8 @@ use Rattle.std.specs.Fmt.{digits, digits_onto, digit_glyph}
 use Rattle.std.proofs.Common.{refl, sym, ap, ◌∙◌, subst, arith, append_assoc, get_or, eq-eqb}
 use Rattle.std.proofs.lemmas.Bool.{and_from, ne_eqb}
 use Rattle.std.proofs.lemmas.List.Elements.{All-head, All-tail}
-use Rattle.fault_model.specs.Name.{is_name}
-use Rattle.fault_model.specs.Names.{all_differ}
+use Rattle.fault_words.specs.Name.{is_name}
+use Rattle.fault_words.specs.Names.{all_differ}
 use Rattle.crew_script.specs.Dockets.{names_of, crew_at, ask_at}
 use Rattle.crew_script.specs.declared.dockets.Ask.{Ask}
 use Rattle.crew_script.specs.declared.dockets.Ask.TheVariants.{Take, Return, Margin}

@@ -4,7 +4,7 @@ use Rattle.std.specs.Prelude.{length, drop, codes}
 use Rattle.std.specs.List.{list_all}
 use Rattle.std.proofs.Common.{refl, sym, ap, ◌∙◌, true≢false, append_assoc, get_or, eq-eqb}
 use Rattle.std.proofs.lemmas.Bool.{and_parts, and_from, eqb-true}
-use Rattle.fault_model.specs.Name.{is_name, is_name_byte, is_bare_name, is_bare_start, is_bare_byte}
+use Rattle.fault_words.specs.Name.{is_name, is_name_byte, is_bare_name, is_bare_start, is_bare_byte}
 use Rattle.text_pieces.specs.Shown.{show}
 
 -- no byte is this one

@@ -7,7 +7,7 @@ use Rattle.std.proofs.lemmas.Bool.{false_from_ne_true}
 use Rattle.std.proofs.lemmas.List.Folds.{list_any-append}
 use Rattle.std.proofs.lemmas.Grind.{common_steps}
 use lib.Pointwise.{bytes_decides}
-use Rattle.fault_model.specs.Names.{same_name, has_name, all_differ}
+use Rattle.fault_words.specs.Names.{same_name, has_name, all_differ}
 use Rattle.crew_script.specs.Words.{Word, first_of}
 use Rattle.crew_script.specs.Lines.{take_line, name_in, is_comment, says, line_of, request_line}
 use Rattle.crew_script.specs.declared.line.Line.{Line}

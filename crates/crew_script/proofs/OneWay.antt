@@ -4,8 +4,8 @@ use Rattle.std.proofs.Common.{subst, ◌∙◌, arith, append_assoc, append-nil,
 use Rattle.std.specs.Prelude.{◌⊎◌, Result, Ok, Err, Option, Some, None, if◌then◌else◌}
 use Rattle.std.specs.List.{flat_map}
 use Rattle.std.proofs.lemmas.Bool.{lt-leb}
-use Rattle.fault_model.specs.declared.node.Place.{Place}
-use Rattle.fault_model.specs.Names.{all_differ, has_name}
+use Rattle.fault_words.specs.declared.place.Place.{Place}
+use Rattle.fault_words.specs.Names.{all_differ, has_name}
 use Rattle.crew_script.specs.declared.dockets.TheConstants.{MOST_CREWS, MOST_REQUESTS}
 use Rattle.crew_script.specs.Dockets.{names_of, request_count}
 use Rattle.crew_script.specs.Crews.{said, after, with_ask, crew_fault, request_fault, fault_behind, fault_at}

@@ -5,8 +5,8 @@ use Rattle.std.specs.Prelude.{Some, None, if◌then◌else◌}
 use Rattle.std.specs.List.{All, list_any}
 use Rattle.std.proofs.lemmas.Bool.{cases_Bool}
 use Rattle.std.proofs.lemmas.List.Elements.{All-push, All-nil, All-cons, All-head, All-tail}
-use Rattle.fault_model.specs.Names.{has_name, same_name, all_differ}
-use Rattle.fault_model.specs.Name.{is_name}
+use Rattle.fault_words.specs.Names.{has_name, same_name, all_differ}
+use Rattle.fault_words.specs.Name.{is_name}
 use Rattle.crew_script.specs.declared.dockets.TheConstants.{MOST_CREWS, MOST_REQUESTS}
 use Rattle.crew_script.specs.Dockets.{names_of, request_count, HasMargin, HasMargins, IsDockets}
 use Rattle.crew_script.specs.Crews.{with_ask, crew_fault, request_fault}

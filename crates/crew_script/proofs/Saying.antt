@@ -6,12 +6,12 @@ use Rattle.std.specs.Prelude.{◌⊎◌, ◌||◌, ◌&&◌, codes, Option, Some
 use Rattle.std.specs.List.{list_all, position_or_len}
 use Rattle.std.specs.Str.{str_eq_ignore_ascii_case, str_to_ascii_lowercase, bytes_eq}
 use Rattle.std.proofs.lemmas.Bool.{cases_Bool, and_parts, not-true, leb-true, ltb-true}
-use Rattle.fault_model.specs.Name.{is_name, is_bare_name}
+use Rattle.fault_words.specs.Name.{is_name, is_bare_name}
 use lib.Pointwise.{bytes_decides}
 use Rattle.std.proofs.lemmas.List.{length-map}
 use Rattle.crew_script.specs.Words.{Word, Between, InQuotes, Closed, words, words_of, is_blank, is_quote, bare}
 use Rattle.crew_script.specs.Words.{are_blank, Spells, no_word}
-use Rattle.fault_model.specs.Names.{all_differ, has_name}
+use Rattle.fault_words.specs.Names.{all_differ, has_name}
 use Rattle.crew_script.specs.Names.{are_taken}
 use Rattle.crew_script.specs.Lines.{is_bare_kind, is_quoted_kind, is_name_word, says, is_comment, begins_comment}
 use Rattle.crew_script.specs.Lines.{only_name, only_margin, margin_of, crew_line, return_line, margin_line, take_line}

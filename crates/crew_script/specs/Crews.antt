@@ -4,7 +4,7 @@ use Rattle.std.specs.Prelude.{Option, Some, None}
 use Rattle.crew_script.specs.Deck.{lines_of}
 use Rattle.crew_script.specs.Words.{words_of}
 use Rattle.crew_script.specs.Lines.{line_of}
-use Rattle.fault_model.specs.Names.{has_name}
+use Rattle.fault_words.specs.Names.{has_name}
 use Rattle.crew_script.specs.Dockets.{names_of, request_count}
 use Rattle.crew_script.specs.declared.dockets.TheConstants.{MOST_CREWS, MOST_REQUESTS}
 use Rattle.crew_script.specs.declared.dockets.Ask.{Ask}

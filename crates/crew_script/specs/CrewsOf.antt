@@ -1,8 +1,8 @@
 -- The crews that lines say, and the first line's fault, as the format puts them.
 use Rattle.std.specs.Prelude.{◌≡◌, ◌≢◌, ℕ, ◌+◌, ◌≤◌, true, false, List, [], ◌∷◌, ◌++◌, map, length, Result, Ok, Err}
 use Rattle.std.specs.List.{flat_map}
-use Rattle.fault_model.specs.declared.node.Place.{Place}
-use Rattle.fault_model.specs.Names.{all_differ, has_name}
+use Rattle.fault_words.specs.declared.place.Place.{Place}
+use Rattle.fault_words.specs.Names.{all_differ, has_name}
 use Rattle.crew_script.specs.Dockets.{names_of, request_count}
 use Rattle.crew_script.specs.Says.{Says}
 use Rattle.crew_script.specs.declared.dockets.TheConstants.{MOST_CREWS, MOST_REQUESTS}

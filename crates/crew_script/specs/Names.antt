@@ -1,6 +1,6 @@
 -- The names of a take.
 use Rattle.std.specs.Prelude.{ℕ, Bool, ◌&&◌, nat_le, List, length}
-use Rattle.fault_model.specs.Names.{all_differ}
+use Rattle.fault_words.specs.Names.{all_differ}
 use Rattle.crew_script.specs.declared.line.TheConstants.{MOST_TAKEN}
 
 -- the most names of a take

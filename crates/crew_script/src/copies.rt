@@ -3,7 +3,7 @@ ghost use Rattle.std.specs.Prelude.{◌≡◌, IfOk};
 
 use crate::dockets::{Ask, AskList, Crew};
 use crate::names::NameList;
-use fault_model::Name;
+use fault_words::Name;
 use flat_rows::GrowingList;
 use std::alloc::Global;
 use unit_sets::NoMemory;

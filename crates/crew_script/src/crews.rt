@@ -9,7 +9,7 @@ use crate::fault::CrewFault;
 use crate::line::read_line;
 use crate::reading::Reading;
 use crate::text_lines::TextLines;
-use fault_model::Place;
+use fault_words::Place;
 use std::alloc::Global;
 
 /// The crews that the lines of a crew part say, each with its requests, else the fault of the first line that has

@@ -4,7 +4,7 @@ ghost use Rattle.crew_script.specs.Dockets.{HasMargin, crew_at, ask_at, request_
 
 use crate::copies::copy_of_crews;
 use crate::names::NameList;
-use fault_model::Name;
+use fault_words::Name;
 use flat_rows::GrowingList;
 use std::alloc::Global;
 use std::marker::Model;

@@ -1,5 +1,5 @@
 //! Why a crew part was refused.
-use fault_model::Place;
+use fault_words::Place;
 use std::alloc::AllocError;
 
 /// The faults of a crew part. The first is that of a deck without one.

@@ -3,14 +3,14 @@ ghost use Rattle.std.specs.Prelude.{◌≡◌, ◌≤◌, IfOk, IfSome, length, 
 ghost use Rattle.crew_script.specs.Words.{words_of};
 ghost use Rattle.crew_script.specs.Lines.{line_of, request_line, crew_line, return_line, margin_line, take_line};
 ghost use Rattle.crew_script.specs.Lines.{only_name, only_margin, margin_of, SaysMargin};
-ghost use Rattle.fault_model.specs.Names.{has_name};
+ghost use Rattle.fault_words.specs.Names.{has_name};
 
 use crate::dockets::Ask;
 use crate::names::NameList;
 use crate::word::{Word, Words};
 use decimal_numerals::{is_numeral, number};
 use deck_limits::GREATEST_MARGIN;
-use fault_model::Name;
+use fault_words::Name;
 use std::alloc::{AllocError, Global};
 
 // The most names of a take.

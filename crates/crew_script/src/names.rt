@@ -2,7 +2,7 @@
 ghost use Rattle.std.specs.Prelude.{◌≡◌, true};
 ghost use Rattle.crew_script.specs.Names.{are_taken};
 
-use fault_model::Name;
+use fault_words::Name;
 use std::marker::Model;
 
 /// The names of the units that a crew asks to take: 1 to 16, all different. A contract sees their list.

@@ -9,7 +9,7 @@ ghost use Rattle.crew_script.specs.declared.line.Line.TheVariants.{Crew as CrewL
 use crate::dockets::{Ask, Crew, Dockets, MOST_CREWS, MOST_REQUESTS};
 use crate::fault::CrewCode;
 use crate::line::Line;
-use fault_model::Name;
+use fault_words::Name;
 use flat_rows::GrowingList;
 use indexmap::IndexSet;
 use std::alloc::{AllocError, Global};

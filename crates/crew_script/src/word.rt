@@ -2,13 +2,13 @@
 ghost use Rattle.std.specs.Prelude.{◌≡◌, ◌<◌, ◌≤◌, ◌&&◌, ◌||◌, [], ◌∷◌, IfOk, IfSome, false, true, drop, length};
 ghost use Rattle.std.specs.Prelude.{position};
 ghost use Rattle.std.specs.List.{position_or_len, prefix_len};
-ghost use Rattle.fault_model.specs.Name.{is_bare_name};
+ghost use Rattle.fault_words.specs.Name.{is_bare_name};
 ghost use Rattle.crew_script.specs.Words.{is_blank, is_quote, words_of, words, first_of, InQuotes, Closed, parts};
 ghost use Rattle.crew_script.specs.Words.{begins_bare, begins_blank, broken};
 ghost use Rattle.crew_script.specs.Lines.{says, is_comment, is_bare_kind, is_quoted_kind, begins_comment, name_in};
 ghost use Rattle.crew_script.specs.Taking.{TakesWord};
 
-use fault_model::{Name, is_bare_name};
+use fault_words::{Name, is_bare_name};
 use std::alloc::{AllocError, Global};
 use std::marker::Model;
 

@@ -1,6 +1,6 @@
 //! What crew parts say, and their first faults.
 use crew_script::{Ask, CrewFault, Dockets, LONGEST_DECK, read_crews};
-use fault_model::{Name, Place};
+use fault_words::{Name, Place};
 use std::alloc::Global;
 use std::test::Fail;
 use unit_sets::CrewNo;

@@ -6,7 +6,7 @@ use Rattle.std.proofs.Common.{refl, sym, ◌∙◌, ap, subst}
 use Rattle.std.proofs.lemmas.Bool.{cond-true, cond-false, and_from, le-leb, lt-ltb, le-ltb}
 use Rattle.std.proofs.lemmas.List.Elements.{All-nil, All-cons}
 use Rattle.unit_sets.specs.UnitList.{IsRising, some_within}
-use Rattle.fault_model.specs.declared.node.GateKind.{GateKind}
+use Rattle.fault_words.specs.declared.kind.GateKind.{GateKind}
 use Rattle.fault_model.specs.Tree.{FaultTree, is_above_units, unit_count, kind_of, inputs_of}
 use Rattle.fault_model.specs.Trigger.{below, triggers_of}
 use Rattle.fault_model.specs.Reading.{gate_reads}

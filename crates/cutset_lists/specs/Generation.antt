@@ -2,7 +2,7 @@
 use Rattle.std.specs.Prelude.{◌≡◌, ℕ, ◌-◌, ◌<◌, ◌≤◌, Bool, ◌&&◌, ◌||◌, nat_le, List, [], length, All, slice_index_or}
 use Rattle.std.specs.List.{list_any, list_all}
 use Rattle.unit_sets.specs.CutOrder.{weight, weight_limit}
-use Rattle.fault_model.specs.declared.node.GateKind.{GateKind}
+use Rattle.fault_words.specs.declared.kind.GateKind.{GateKind}
 use Rattle.fault_model.specs.Tree.{FaultTree, unit_count}
 use Rattle.fault_model.specs.Reading.{true_count, gate_reads, node_reads, reads}
 use Rattle.fault_model.specs.Cut.{IsCutList}

@@ -10,8 +10,8 @@ use Rattle.std.proofs.lemmas.List.Elements.{All-cons, All-head, All-nil, All-tai
 use Rattle.std.proofs.lemmas.List.Folds.{list_all-append, list_any-append}
 use Rattle.std.proofs.lemmas.List.Prefix.{front_rest}
 use Rattle.std.proofs.lemmas.List.Splits.{slice_split_at}
-use Rattle.fault_model.specs.declared.list.Attribute.{Attribute}
-use Rattle.fault_model.specs.Name.{is_bare_byte, is_bare_name, is_bare_start, is_name, is_name_byte}
+use Rattle.fault_words.specs.declared.attribute.Attribute.{Attribute}
+use Rattle.fault_words.specs.Name.{is_bare_byte, is_bare_name, is_bare_start, is_name, is_name_byte}
 use Rattle.galileo_lexer.specs.Bytes.{is_word_byte}
 use Rattle.crew_script.specs.Crews.{crews_of}
 use Rattle.crew_script.specs.Deck.{is_crews, is_feed, lines_of, split_of}

@@ -8,8 +8,8 @@ use Rattle.std.proofs.lemmas.Bool.{and_from, and_parts, leb-true}
 use Rattle.std.proofs.lemmas.List.{append-nil}
 use Rattle.std.proofs.lemmas.List.Concat.{flat_map-append}
 use Rattle.std.proofs.lemmas.List.Elements.{All-head, All-tail}
-use Rattle.fault_model.specs.declared.list.Attribute.{Attribute}
-use Rattle.fault_model.specs.Name.{is_bare_byte, is_bare_name, is_bare_start, is_name, is_name_byte}
+use Rattle.fault_words.specs.declared.attribute.Attribute.{Attribute}
+use Rattle.fault_words.specs.Name.{is_bare_byte, is_bare_name, is_bare_start, is_name, is_name_byte}
 use Rattle.galileo_lexer.specs.Bytes.{begins_with, is_blank, is_quotable, is_word_byte}
 use Rattle.galileo_lexer.specs.Pieces.{Piece, Blank, AWord, AQuoted, AnEquals, ASemicolon, ArePieces, IsNameText}
 use Rattle.galileo_lexer.specs.Pieces.{IsPiece, bytes_of}

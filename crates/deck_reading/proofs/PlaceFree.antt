@@ -5,10 +5,10 @@ use Rattle.std.proofs.Common.{◌≡◌, ℕ, Bool, true, false, List, [], ◌�
 use Rattle.std.specs.Prelude.{◌&&◌, not, filter, if◌then◌else◌, nat_lt}
 use Rattle.std.specs.List.{flat_map, list_any}
 use Rattle.std.proofs.lemmas.List.{drop-map, length-map, map-append}
-use Rattle.fault_model.specs.declared.node.GateKind.{GateKind}
+use Rattle.fault_words.specs.declared.kind.GateKind.{GateKind}
 use Rattle.unit_sets.specs.Unit.{most_units}
 use Rattle.fault_model.specs.declared.tree.TheConstants.{MOST_GATES}
-use Rattle.fault_model.specs.declared.node.Place.{Place}
+use Rattle.fault_words.specs.declared.place.Place.{Place}
 use Rattle.fault_model.specs.Tree.{is_fdep_kind}
 use Rattle.galileo_tree.specs.declared.raw.Placed.{Placed}
 use Rattle.galileo_tree.specs.declared.raw.RawAttribute.{RawAttribute}
@@ -26,7 +26,7 @@ use Rattle.tree_check.specs.Classes.{SpareUse, clash, dummies, dummies_in, fdep_
 use Rattle.tree_check.specs.Classes.{inputless, is_empty, is_replicated, is_short_fdep, places_where, reads_nothing}
 use Rattle.tree_check.specs.Classes.{repeats_after, replicated, shared_after, short_fdeps, spare_uses, spare_uses_in}
 use Rattle.tree_check.specs.Classes.{undefined, units_beyond, uses_of, wrong_vote, wrong_votes}
-use Rattle.fault_model.specs.Names.{has_name}
+use Rattle.fault_words.specs.Names.{has_name}
 use Rattle.tree_check.specs.Said.{basics, definitions, names, tops, uses}
 use Rattle.tree_check.specs.Numbered.{drops_fdeps, is_fdep_in, is_gate, is_spare_kind, kept_by, kept_inputs, kinds}
 use Rattle.tree_check.specs.Numbered.{numbered_gates, numbered_tops, unit_total}

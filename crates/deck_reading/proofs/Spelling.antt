@@ -5,9 +5,9 @@ use Rattle.std.specs.List.{list_all, flat_map}
 use Rattle.std.specs.Str.{str_eq_ignore_ascii_case}
 use Rattle.std.proofs.lemmas.Bool.{and_from, and_parts}
 use Rattle.std.proofs.lemmas.List.Elements.{All-head, All-tail}
-use Rattle.fault_model.specs.declared.list.Attribute.{Attribute}
-use Rattle.fault_model.specs.declared.node.GateKind.{GateKind}
-use Rattle.fault_model.specs.Name.{is_bare_name, is_name as is_name_text}
+use Rattle.fault_words.specs.declared.attribute.Attribute.{Attribute}
+use Rattle.fault_words.specs.declared.kind.GateKind.{GateKind}
+use Rattle.fault_words.specs.Name.{is_bare_name, is_name as is_name_text}
 use Rattle.galileo_lexer.specs.declared.spot.Spot.{Spot}
 use Rattle.galileo_lexer.specs.declared.token.TokenKind.{TokenKind}
 use Rattle.galileo_lexer.specs.declared.token.TokenKind.TheVariants.{Word, Quoted, Equals, Semicolon}

@@ -2,8 +2,8 @@
 use Rattle.std.proofs.Common.{◌≡◌, ℕ, ◌<◌, List, [], ◌∷◌, length, map, refl, sym, ap, ◌∙◌, subst}
 use Rattle.std.specs.Prelude.{slice_index}
 use Rattle.std.proofs.lemmas.List.{length-map}
-use Rattle.fault_model.specs.declared.node.GateKind.{GateKind}
-use Rattle.fault_model.specs.declared.node.Place.{Place}
+use Rattle.fault_words.specs.declared.kind.GateKind.{GateKind}
+use Rattle.fault_words.specs.declared.place.Place.{Place}
 use Rattle.fault_model.specs.Tree.{FaultTree}
 use Rattle.galileo_tree.specs.declared.raw.RawAttribute.{RawAttribute}
 use Rattle.galileo_tree.specs.declared.raw.RawBasic.{RawBasic}

@@ -8,8 +8,8 @@ use Rattle.std.proofs.lemmas.List.{drop-map, drop_all, length-map}
 use Rattle.std.proofs.lemmas.List.Elements.{All-cons, All-head, All-nil, All-tail, All-weaker}
 use Rattle.std.proofs.lemmas.Slice.Zip.{length-zip}
 use Rattle.fault_model.specs.declared.tree.TheConstants.{MOST_GATES}
-use Rattle.fault_model.specs.declared.node.GateKind.{GateKind}
-use Rattle.fault_model.specs.declared.node.GateKind.TheVariants.{And, Or, Votes, Pand, Por, Seq, Fdep, Csp, Wsp, Hsp}
+use Rattle.fault_words.specs.declared.kind.GateKind.{GateKind}
+use Rattle.fault_words.specs.declared.kind.GateKind.TheVariants.{And, Or, Votes, Pand, Por, Seq, Fdep, Csp, Wsp, Hsp}
 use Rattle.fault_model.specs.Tree.{FaultTree, IsUnitOf, is_fdep, is_fdep_kind, gate_count, unit_count}
 use Rattle.fault_model.specs.Tree as trees
 use Rattle.fault_model.specs.WellFormed.{IsSoundGate, IsSoundKind, IsTree}

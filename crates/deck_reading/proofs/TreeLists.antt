@@ -13,8 +13,8 @@ use Rattle.std.proofs.lemmas.List.Folds.{flat_map-map}
 use Rattle.std.proofs.lemmas.List.FromFn.{get_or-map-range_with_len, get_or-range_with_len, length-map-range_with_len}
 use Rattle.std.proofs.lemmas.List.FromFn.{length-range_with_len}
 use Rattle.std.proofs.lemmas.Slice.Zip.{get_or-zip, length-zip}
-use Rattle.fault_model.specs.declared.node.GateKind.{GateKind}
-use Rattle.fault_model.specs.declared.node.GateKind.TheVariants.{Fdep}
+use Rattle.fault_words.specs.declared.kind.GateKind.{GateKind}
+use Rattle.fault_words.specs.declared.kind.GateKind.TheVariants.{Fdep}
 use Rattle.fault_model.specs.Tree.{FaultTree, IsGateOf, IsNodeOf, IsUnitOf, attributes_of, gate_count, inputs_of}
 use Rattle.fault_model.specs.Tree.{kind_of, name_of, node_count, unit_count}
 use Rattle.fault_model.specs.Tree as trees
@@ -25,8 +25,8 @@ use Rattle.galileo_tree.specs.declared.raw.RawGate.{RawGate}
 use Rattle.galileo_tree.specs.declared.raw.RawTop.{RawTop}
 use Rattle.galileo_tree.specs.declared.raw.Statement.{Statement}
 use Rattle.tree_check.specs.Said.{basic_in, basics, definition_in, definitions, gate_in, gates}
-use Rattle.fault_model.specs.Names.{has_name, same_name}
-use Rattle.tree_check.specs.Said.{names, number_in, top_in, tops, uses, uses_in}
+use Rattle.fault_words.specs.Names.{has_name, same_name, number_in}
+use Rattle.tree_check.specs.Said.{names, top_in, tops, uses, uses_in}
 use Rattle.tree_check.specs.Numbered.{numbered, numbered_definitions, numbered_gate, numbered_gates, numbered_tops}
 use Rattle.tree_check.specs.Numbered.{unit_total}
 use Rattle.tree_check.specs.TreeOf.{numbers}

@@ -12,10 +12,10 @@ use Rattle.std.proofs.lemmas.List.FromFn.{get_or-range_with_len, length-map-rang
 use lib.Pointwise.{bytes_decides}
 use Rattle.unit_sets.specs.Unit.{most_units}
 use Rattle.unit_sets.proofs.UnitListLemmas.{Contains-from_among}
-use Rattle.fault_model.specs.declared.list.Attribute.{Attribute}
-use Rattle.fault_model.specs.declared.node.GateKind.{GateKind}
-use Rattle.fault_model.specs.declared.node.GateKind.TheVariants.{And, Or, Votes, Pand, Por, Seq, Fdep, Csp, Wsp, Hsp}
-use Rattle.fault_model.specs.Name.{is_bare_name, is_name}
+use Rattle.fault_words.specs.declared.attribute.Attribute.{Attribute}
+use Rattle.fault_words.specs.declared.kind.GateKind.{GateKind}
+use Rattle.fault_words.specs.declared.kind.GateKind.TheVariants.{And, Or, Votes, Pand, Por, Seq, Fdep, Csp, Wsp, Hsp}
+use Rattle.fault_words.specs.Name.{is_bare_name, is_name}
 use Rattle.fault_model.proofs.RankLaws.{below_are_nodes, below_ranks, gate_sound, inputs_are_nodes}
 use Rattle.fault_model.specs.Tree.{FaultTree, IsNodeOf, attributes_of, gate_count, inputs_of, is_above_units, kind_of}
 use Rattle.fault_model.specs.Tree.{name_of, node_count, rank_of, unit_count}
@@ -31,7 +31,7 @@ use Rattle.tree_check.specs.Checked.{NoneOf, Stands, before_cycles}
 use Rattle.tree_check.specs.Classes.{dummies, fdep_tops, gates_after_first, gates_beyond, inputless, is_empty}
 use Rattle.tree_check.specs.Classes.{is_replicated, repeats, replicated, shared_spares, short_fdeps, undefined}
 use Rattle.tree_check.specs.Classes.{units_beyond, wrong_votes}
-use Rattle.fault_model.specs.Names.{all_differ, has_name, same_name}
+use Rattle.fault_words.specs.Names.{all_differ, has_name, same_name}
 use Rattle.tree_check.specs.Numbered.{is_spare_kind, kinds, numbered, numbered_definitions, numbered_gates}
 use Rattle.tree_check.specs.Numbered.{unit_total}
 use Rattle.tree_check.specs.Said.{basics, definitions, names, tops, uses}

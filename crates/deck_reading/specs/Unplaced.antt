@@ -2,8 +2,8 @@
 -- each
 -- place is put aside.
 use Rattle.std.specs.Prelude.{◌≡◌, List, map}
-use Rattle.fault_model.specs.declared.list.Attribute.{Attribute}
-use Rattle.fault_model.specs.declared.node.Place.{Place}
+use Rattle.fault_words.specs.declared.attribute.Attribute.{Attribute}
+use Rattle.fault_words.specs.declared.place.Place.{Place}
 use Rattle.galileo_tree.specs.declared.raw.Placed.{Placed}
 use Rattle.galileo_tree.specs.declared.raw.RawAttribute.{RawAttribute}
 use Rattle.galileo_tree.specs.declared.raw.Statement.{Statement}

@@ -5,10 +5,10 @@ use Rattle.std.specs.Prelude.{zip}
 use Rattle.std.proofs.lemmas.Bool.{cases_lt, cond-true, cond-false, lt-ltb, le-ltb}
 use Rattle.std.proofs.lemmas.List.{get_or_append_left, get_or-append_right}
 use Rattle.std.proofs.lemmas.List.Elements.{All-weaker}
-use Rattle.fault_model.specs.declared.node.GateKind.{GateKind}
-use Rattle.fault_model.specs.declared.node.GateKind.TheVariants.{And, Or, Votes, Pand, Por, Seq, Fdep, Csp, Wsp, Hsp}
+use Rattle.fault_words.specs.declared.kind.GateKind.{GateKind}
+use Rattle.fault_words.specs.declared.kind.GateKind.TheVariants.{And, Or, Votes, Pand, Por, Seq, Fdep, Csp, Wsp, Hsp}
 use Rattle.fault_model.specs.declared.parts.TreeParts.{TreeParts}
-use Rattle.fault_model.specs.declared.list.Attribute.{Attribute}
+use Rattle.fault_words.specs.declared.attribute.Attribute.{Attribute}
 use lib.Seq.{drop-append_seam}
 use Rattle.fault_model.specs.declared.trigger.TriggerTable.{TriggerTable}
 use Rattle.fault_model.specs.Tree.{FaultTree, ranked, unit_count, node_count, gates, inputs_of, is_above_units}

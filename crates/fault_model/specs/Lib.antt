@@ -1,6 +1,3 @@
-pub mod Name
-pub mod NameBytes
-pub mod Names
 pub mod Tree
 pub mod Trigger
 pub mod Rank

@@ -1,7 +1,7 @@
 -- How the table of triggers is filled, one `fdep` after another.
 use Rattle.std.specs.Prelude.{◌≡◌, ℕ, ◌-◌, ◌<◌, ◌≤◌, List, [], ◌++◌, length, filter_map, option_to_list, slice_index}
 use Rattle.std.specs.Prelude.{slice_index_or}
-use Rattle.fault_model.specs.declared.node.GateKind.{GateKind}
+use Rattle.fault_words.specs.declared.kind.GateKind.{GateKind}
 use Rattle.fault_model.specs.declared.trigger.TriggerTable.{TriggerTable}
 use Rattle.fault_model.specs.Trigger.{trigger_by}
 

@@ -4,10 +4,10 @@ use Rattle.std.specs.Prelude.{Contains, codes}
 use Rattle.std.specs.Str.{str_to_ascii_lowercase}
 use Rattle.unit_sets.specs.Unit.{most_units}
 use Rattle.fault_model.specs.declared.tree.TheConstants.{MOST_GATES}
-use Rattle.fault_model.specs.declared.list.Attribute.{Attribute}
-use Rattle.fault_model.specs.declared.node.GateKind.{GateKind}
-use Rattle.fault_model.specs.declared.node.GateKind.TheVariants.{And, Or, Votes, Pand, Por, Seq, Fdep, Csp, Wsp, Hsp}
-use Rattle.fault_model.specs.Name.{is_bare_name}
+use Rattle.fault_words.specs.declared.attribute.Attribute.{Attribute}
+use Rattle.fault_words.specs.declared.kind.GateKind.{GateKind}
+use Rattle.fault_words.specs.declared.kind.GateKind.TheVariants.{And, Or, Votes, Pand, Por, Seq, Fdep, Csp, Wsp, Hsp}
+use Rattle.fault_words.specs.Name.{is_bare_name}
 use Rattle.fault_model.specs.Tree.{FaultTree, unit_count, gate_count, node_count, gates, is_fdep, IsNodeOf, IsUnitOf}
 use Rattle.fault_model.specs.Rank.{IsRanked}
 

@@ -13,9 +13,6 @@
 
 pub mod laws;
 mod list;
-mod name;
-mod name_bytes;
-mod names;
 mod node;
 mod order;
 mod parts;
@@ -24,12 +21,9 @@ mod reading;
 mod tree;
 mod trigger;
 
-pub use list::{
-    Attribute, AttributeList, AttributeLists, InputLists, KindList, NameTable, NodeList,
-};
-pub use name::{Name, is_bare_name};
-pub use name_bytes::SHORT_NAME;
-pub use node::{GateKind, NodeNo, Place};
+pub use fault_words::{Attribute, GateKind, Name, Place, is_bare_name};
+pub use list::{AttributeList, AttributeLists, InputLists, KindList, NameTable, NodeList};
+pub use node::NodeNo;
 pub use order::Order;
 pub use parts::TreeParts;
 pub use reading::{Scratch, eval_static};

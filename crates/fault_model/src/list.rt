@@ -1,13 +1,6 @@
 //! The lists of which the parts of a tree are made.
-use crate::{GateKind, Name, NodeNo};
+use crate::{Attribute, GateKind, Name, NodeNo};
 use flat_rows::GrowingList;
-
-/// An attribute of a unit, as `lambda` = `0.2`. No attribute has a meaning here.
-#[derive(Debug, Drop)]
-pub struct Attribute {
-    pub word: Name,
-    pub value: Name,
-}
 
 /// The names of a tree's nodes, in the order of their numbers.
 pub type NameTable = GrowingList<Name>;

@@ -11,9 +11,9 @@ use crate::ranking::Ranking;
 use crate::trigger::TriggerTable;
 use crate::{
     Attribute, AttributeLists, GateKind, InputLists, KindList, Name, NoMemory, NodeList, NodeNo,
-    TreeParts, names,
+    TreeParts,
 };
-use indexmap::IndexSet;
+use name_index::NodeNames;
 use std::alloc::Global;
 use std::marker::Model;
 use unit_sets::UnitNo;
@@ -24,7 +24,7 @@ pub const MOST_GATES: usize = 16_383;
 /// A fault tree that is well formed. A contract sees it as its parts and the rank of each node.
 #[derive(Drop)]
 pub struct Tree {
-    names: IndexSet<Name>,
+    names: NodeNames,
     kinds: KindList,
     // what each node reads: the triggers of each unit, then the inputs of each gate
     below: Vec<NodeList>,
@@ -43,7 +43,7 @@ impl Model for Tree {
     ghost Value = { FaultTree };
 
     ghost view = { λ tree. record {
-      names = tree.names.keys;
+      names = tree.names;
       kinds = tree.kinds;
       inputs = drop (length tree.attributes) tree.below.items;
       attributes = tree.attributes;
@@ -52,7 +52,7 @@ impl Model for Tree {
     } };
 
     ghost invariant = { λ tree. HoldsTables (record {
-      names = tree.names.keys;
+      names = tree.names;
       kinds = tree.kinds;
       inputs = drop (length tree.attributes) tree.below.items;
       attributes = tree.attributes;
@@ -79,7 +79,7 @@ impl Tree {
         let below = joined(table.lists, inputs)?;
         let ranking = Ranking::over(alloc, below.as_slice())?;
         Ok(Tree {
-            names: names::table_of(alloc, names)?,
+            names: NodeNames::of(alloc, names.into_items())?,
             kinds,
             below,
             attributes,
@@ -190,7 +190,7 @@ impl Tree {
         requires { IsNodeOf self.now node }
         ensures { result.now ≡ name_of self.now node }
     {
-        &self.names.as_slice()[node.index()]
+        self.names.name(node.index())
     }
 
     /// The attributes of a unit, in the order of its definition.
@@ -206,7 +206,7 @@ impl Tree {
         ensures named { IfSome result (λ unit. IsUnitOf self.now unit × (name_of self.now unit ≡ name.now)) }
         ensures none { IsNone result ↔ ((unit : ℕ) → IsUnitOf self.now unit → name_of self.now unit ≢ name.now) }
     {
-        let place = self.names.get_index_of(name)?;
+        let place = self.names.place(name)?;
         if place < self.units() as usize {
             UnitNo::new(place as u16 + 1)
         } else {

@@ -5,7 +5,7 @@ use Rattle.std.proofs.Common.{length-drop, length-append, length-take-le}
 use Rattle.std.proofs.lemmas.List.{take_at, drop-drop, take_rest}
 use Rattle.std.specs.Prelude.{◌&&◌, slice_range}
 use Rattle.std.specs.List.{list_all}
-use Rattle.fault_model.specs.Name.{is_name, is_name_byte}
+use Rattle.fault_words.specs.Name.{is_name, is_name_byte}
 use Rattle.galileo_lexer.specs.declared.token.TokenKind.{TokenKind}
 use Rattle.galileo_lexer.specs.declared.token.TokenKind.TheVariants.{Word, Quoted, Equals, Semicolon}
 use Rattle.galileo_lexer.specs.Bytes.{is_word_byte, is_quotable}

@@ -3,7 +3,7 @@ use Rattle.std.proofs.Common.{◌≡◌, List, [], ◌∷◌, ◌++◌, Result, 
 use Rattle.std.specs.Prelude.{map}
 use Rattle.std.specs.List.{flat_map}
 use Rattle.std.proofs.lemmas.List.{append-nil}
-use Rattle.fault_model.specs.declared.node.GateKind.{GateKind}
+use Rattle.fault_words.specs.declared.kind.GateKind.{GateKind}
 use Rattle.galileo_lexer.specs.declared.token.LexPlace.{LexPlace}
 use Rattle.galileo_lexer.specs.declared.token.LexFault.{LexFault}
 use Rattle.galileo_tree.specs.declared.raw.Placed.{Placed}

@@ -2,7 +2,7 @@
 use Rattle.std.proofs.Common.{◌≡◌, ℕ, true, List, [], ◌∷◌, ◌++◌, Result, Ok, Err, refl, sym, ap, ◌∙◌, subst}
 use Rattle.std.proofs.Common.{append_assoc}
 use Rattle.std.proofs.lemmas.List.{append-nil}
-use Rattle.fault_model.specs.declared.node.Place.{Place}
+use Rattle.fault_words.specs.declared.place.Place.{Place}
 use Rattle.galileo_lexer.specs.declared.token.LexPlace.{LexPlace}
 use Rattle.galileo_lexer.specs.declared.token.LexFault.{LexFault}
 use Rattle.galileo_lexer.specs.declared.token.TokenKind.TheVariants.{Quoted, Equals, Semicolon}

@@ -2,7 +2,7 @@
 -- which fault is the first. Nothing here is read from left to right.
 use Rattle.std.specs.Prelude.{◌≡◌, true, false, List, [], ◌∷◌, ◌++◌, map, Result, Ok, Err, Some, None}
 use Rattle.std.specs.List.{list_all, flat_map}
-use Rattle.fault_model.specs.declared.node.GateKind.{GateKind}
+use Rattle.fault_words.specs.declared.kind.GateKind.{GateKind}
 use Rattle.galileo_lexer.specs.declared.token.LexPlace.{LexPlace}
 use Rattle.galileo_lexer.specs.declared.token.LexFault.{LexFault}
 use Rattle.galileo_tree.specs.declared.raw.RawAttribute.{RawAttribute}

@@ -1,9 +1,9 @@
 -- What is read of a text that is in the grammar.
 use Rattle.std.specs.Prelude.{◌≡◌, ◌≤◌, true, List, All}
-use Rattle.fault_model.specs.declared.node.GateKind.{GateKind}
-use Rattle.fault_model.specs.declared.node.GateKind.TheVariants.{And, Or, Votes, Pand, Por, Seq, Fdep, Csp, Wsp, Hsp}
-use Rattle.fault_model.specs.declared.node.Place.{Place}
-use Rattle.fault_model.specs.Name.{is_bare_name}
+use Rattle.fault_words.specs.declared.kind.GateKind.{GateKind}
+use Rattle.fault_words.specs.declared.kind.GateKind.TheVariants.{And, Or, Votes, Pand, Por, Seq, Fdep, Csp, Wsp, Hsp}
+use Rattle.fault_words.specs.declared.place.Place.{Place}
+use Rattle.fault_words.specs.Name.{is_bare_name}
 use Rattle.galileo_tree.specs.declared.raw.Statement.{Statement}
 use Rattle.galileo_tree.specs.declared.raw.Statement.TheVariants.{Top, Gate, Basic}
 use Rattle.galileo_tree.specs.declared.raw.RawAttribute.{RawAttribute}

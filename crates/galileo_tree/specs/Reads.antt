@@ -10,7 +10,7 @@ use Rattle.galileo_tree.specs.declared.fault.ParseFault.{ParseFault}
 use Rattle.galileo_tree.specs.declared.fault.ParseFault.TheVariants.{Lex, Expected, NoMemory}
 use Rattle.galileo_tree.specs.ReadTree.{ReadTree, KeepsForm}
 use Rattle.galileo_tree.specs.Lexeme.{Lexeme, Stream, place_at}
-use Rattle.fault_model.specs.declared.node.Place.{Place}
+use Rattle.fault_words.specs.declared.place.Place.{Place}
 use Rattle.galileo_tree.specs.Parsed.{State, Outside, AttributeEquals, Attributes, basic_of, missing, with_statement}
 use Rattle.galileo_tree.specs.Parsed.{parsed_from}
 

@@ -7,7 +7,7 @@ ghost use Rattle.galileo_tree.specs.ReadTree.{HasShortNumbers};
 ghost use Rattle.galileo_tree.specs.GateWord.{votes_if, votes_of, gate_word};
 
 use decimal_numerals::{are_digits, number};
-use fault_model::GateKind;
+use fault_words::GateKind;
 
 // The most digits of each number of a `KofN`.
 const MOST_DIGITS: usize = 9;

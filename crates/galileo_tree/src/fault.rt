@@ -1,8 +1,7 @@
 //! Why a text is not in the grammar.
 ghost use Rattle.std.specs.Prelude.{◌≡◌};
 
-use crate::NoMemory;
-use fault_model::Place;
+use fault_words::Place;
 use galileo_lexer::LexFault;
 use std::alloc::AllocError;
 

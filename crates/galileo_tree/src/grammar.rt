@@ -1,6 +1,6 @@
 //! Statements from lexemes. Each function reads a part of a statement, from what the lexeme before has begun.
 ghost use Rattle.std.specs.Prelude.{◌≡◌, ◌≤◌, ℕ, List, [], ◌∷◌, ◌++◌, length, true, Ok, IfOk, IfErr, IfSome, OnOk, All};
-ghost use Rattle.fault_model.specs.Name.{is_bare_name};
+ghost use Rattle.fault_words.specs.Name.{is_bare_name};
 ghost use Rattle.galileo_tree.specs.declared.raw.Placed.{Placed};
 ghost use Rattle.galileo_tree.specs.declared.raw.RawAttribute.{RawAttribute};
 ghost use Rattle.galileo_tree.specs.declared.fault.ParseFault.TheVariants.{NoMemory};
@@ -17,7 +17,7 @@ use crate::raw::{
 };
 use crate::reader::Reader;
 use crate::tree::RawTree;
-use fault_model::{Attribute, GateKind, Name, Place};
+use fault_words::{Attribute, GateKind, Name, Place};
 use flat_rows::GrowingList;
 use galileo_lexer::LONGEST_TEXT;
 use std::alloc::Global;

@@ -1,6 +1,6 @@
 //! A token with its text.
 ghost use Rattle.std.specs.Prelude.{◌≡◌, ◌≤◌, [], ◌∷◌, ◌++◌, length, take, true, IfOk, IfErr, IfSome, OnOk};
-ghost use Rattle.fault_model.specs.Name.{is_bare_name};
+ghost use Rattle.fault_words.specs.Name.{is_bare_name};
 ghost use Rattle.galileo_tree.specs.Lexeme.{is_equals, is_semicolon, is_bare, is_name, is_value, is_top_word};
 ghost use Rattle.galileo_tree.specs.Lexeme.{is_word_kind, is_quoted_kind};
 ghost use Rattle.galileo_tree.specs.ReadTree.{HasShortNumbers};
@@ -10,7 +10,7 @@ ghost use Rattle.galileo_tree.specs.declared.fault.ParseFault.TheVariants.{NoMem
 use crate::bytes::gate_word;
 use crate::fault::ParseFault;
 use crate::raw::{Placed, PlacedList};
-use fault_model::{GateKind, Name, Place, SHORT_NAME, is_bare_name};
+use fault_words::{GateKind, Name, Place, SHORT_NAME, is_bare_name};
 use galileo_lexer::TokenKind;
 use std::alloc::Global;
 use std::marker::Model;

@@ -1,6 +1,6 @@
 //! The statements of a fault tree in the Galileo notation, read from its text.
 //!
-//! Stands on galileo_lexer for the tokens and on fault_model for names, kinds, places and lists. `parse` reads
+//! Stands on galileo_lexer for the tokens and on fault_words for names, kinds and places. `parse` reads
 //! token by token into statements and keeps no list of tokens. Its contract gives the layer above exactly the
 //! statements that the text spells, with the places of their tokens, or the first fault.
 #![tactic(auto)]
@@ -15,7 +15,6 @@ mod reader;
 mod tree;
 
 pub use fault::{ParseFault, What};
-pub use fault_model::NoMemory;
 pub use grammar::parse;
 pub use laws::{parses_its_text, parses_one_way};
 pub use raw::{

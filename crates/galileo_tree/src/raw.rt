@@ -1,5 +1,5 @@
 //! Statements as they stand in a text, with the places of their tokens.
-use fault_model::{Attribute, GateKind, Name, Place};
+use fault_words::{Attribute, GateKind, Name, Place};
 use flat_rows::GrowingList;
 
 /// A name and the place of its token.

@@ -7,7 +7,7 @@ ghost use Rattle.galileo_lexer.specs.Spelling.{IsSpelled};
 
 use crate::fault::{ParseFault, What};
 use crate::lexeme::Lexeme;
-use fault_model::Place;
+use fault_words::Place;
 use galileo_lexer::{LONGEST_TEXT, LexPlace, Lexer, Token, TokenKind, tokens_are_spelled};
 use std::marker::Model;
 

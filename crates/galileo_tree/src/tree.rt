@@ -2,7 +2,7 @@
 ghost use Rattle.std.specs.Prelude.{◌≡◌, ◌^◌, ◌<◌, length, slice_get, Some};
 
 use crate::raw::Statement;
-use fault_model::Place;
+use fault_words::Place;
 use flat_rows::GrowingList;
 use std::marker::Model;
 

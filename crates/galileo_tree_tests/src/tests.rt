@@ -1,6 +1,6 @@
 //! The traps of the grammar, each row of what is expected, and each fault of the tokens once, as texts with what they
 //! read as.
-use fault_model::{Name, Place};
+use fault_words::{Name, Place};
 use galileo_lexer::{LONGEST_TEXT, LexPlace};
 use galileo_tree::{ParseFault, Placed, Statement, parse};
 use std::alloc::Global;

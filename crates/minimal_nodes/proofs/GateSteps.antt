@@ -3,8 +3,8 @@ use Rattle.std.proofs.Common.{Result, IfOk, IfErr, Ok, Err, ◌≡◌, ◌⊎◌
 use Rattle.std.proofs.Common.{length, map, if◌then◌else◌, refl, sym, ◌∙◌, ap, subst, inl, inr, arith}
 use Rattle.std.specs.List.{list_any}
 use Rattle.std.proofs.lemmas.Bool.{cond-true, lt-ltb}
-use Rattle.fault_model.specs.declared.node.GateKind.{GateKind}
-use Rattle.fault_model.specs.declared.node.GateKind.TheVariants.{And, Pand, Por, Seq, Fdep, Csp, Wsp, Hsp}
+use Rattle.fault_words.specs.declared.kind.GateKind.{GateKind}
+use Rattle.fault_words.specs.declared.kind.GateKind.TheVariants.{And, Pand, Por, Seq, Fdep, Csp, Wsp, Hsp}
 use Rattle.zdd_families.proofs.MapLemmas.{family-empty}
 use Rattle.unit_sets.specs.UnitList.{some_within}
 use Rattle.family_operations.proofs.MinimalLemmas.{minimal-none}

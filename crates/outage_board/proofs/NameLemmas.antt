@@ -6,7 +6,7 @@ use Rattle.std.proofs.lemmas.Bool.{leb-true, le-leb}
 use lib.Pointwise.{bytes_decides}
 use Rattle.fault_model.specs.Tree.{FaultTree, name_of, unit_count, IsUnitOf}
 use Rattle.fault_model.specs.WellFormed.{IsTree}
-use Rattle.fault_model.specs.Names.{same_name}
+use Rattle.fault_words.specs.Names.{same_name}
 use Rattle.outage_board.specs.Requests.{unit_from, only_unit, unit_of}
 
 abbrev Differ : List (List ℕ) → Type 0

@@ -6,7 +6,7 @@ use Rattle.std.proofs.lemmas.Bool.{cases_lt, lt-ltb, le-ltb, leb-true, le-leb, a
 use lib.Pointwise.{bytes_decides}
 use Rattle.fault_model.specs.Tree.{FaultTree}
 use Rattle.unit_sets.specs.UnitList.{among}
-use Rattle.fault_model.specs.Names.{same_name, has_name, all_differ}
+use Rattle.fault_words.specs.Names.{same_name, has_name, all_differ}
 use Rattle.crew_script.specs.Names.{are_taken, most_taken}
 use Rattle.margin_policy.specs.Asked.{AskedView, has_repeat, can_be_asked, is_none_asked}
 use Rattle.outage_board.specs.Requests.{unit_of, with_unit, units_of, some_unknown}

@@ -1,6 +1,6 @@
 //! What crews ask, by the units of a tree.
 ghost use Rattle.std.specs.Prelude.{◌≡◌, ◌<◌, ◌≤◌, length, map, IfOk, OnOk, IsTrue, codes};
-ghost use Rattle.fault_model.specs.Names.{same_name};
+ghost use Rattle.fault_words.specs.Names.{same_name};
 ghost use Rattle.crew_script.specs.Names.{are_taken};
 ghost use Rattle.crew_script.specs.Dockets.{crew_at};
 ghost use Rattle.crew_script.specs.declared.dockets.Ask.TheVariants.{Take};

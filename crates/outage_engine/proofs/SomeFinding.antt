@@ -4,7 +4,7 @@ use Rattle.std.proofs.Common.{sym, ap, subst, ◌∙◌, refl, inl, inr}
 use Rattle.fault_model.specs.Cut.{IsCutList}
 use Rattle.fault_model.specs.Tree.{FaultTree}
 use Rattle.fault_model.specs.WellFormed.{IsTree}
-use Rattle.fault_model.specs.declared.node.Place.{Place}
+use Rattle.fault_words.specs.declared.place.Place.{Place}
 use Rattle.galileo_tree.specs.Grammar.{IsReading, at_end, at_lexeme, at_token}
 use Rattle.galileo_tree.specs.Lexeme.{place_at}
 use Rattle.galileo_tree.specs.Parsed.{lexemes_of, parsed_text}

@@ -10,8 +10,8 @@ use Rattle.std.proofs.lemmas.List.Elements.{All-contains}
 use Rattle.std.proofs.lemmas.Slice.Zip.{length-zip, get_or-zip}
 use Rattle.unit_sets.specs.UnitList.{among}
 use Rattle.unit_sets.proofs.UnitListLemmas.{Contains-from_among}
-use Rattle.fault_model.specs.declared.node.GateKind.{GateKind}
-use Rattle.fault_model.specs.declared.node.GateKind.TheVariants.{And, Or, Votes, Pand, Por, Seq, Fdep, Csp, Wsp, Hsp}
+use Rattle.fault_words.specs.declared.kind.GateKind.{GateKind}
+use Rattle.fault_words.specs.declared.kind.GateKind.TheVariants.{And, Or, Votes, Pand, Por, Seq, Fdep, Csp, Wsp, Hsp}
 use Rattle.fault_model.specs.Tree.{FaultTree, IsGateOf, gates, kind_of, inputs_of, unit_count, gate_count}
 use Rattle.fault_model.specs.WellFormed.{IsTree}
 use Rattle.fault_model.specs.Step.{Step, no_later, is_before, never_falls, place, step}

@@ -6,8 +6,8 @@ use Rattle.std.specs.List.{list_all}
 use Rattle.std.proofs.Common.{refl, sym, ◌∙◌, ap, subst, inl, inr, arith}
 use Rattle.std.proofs.lemmas.Bool.{cond_both, cases_lt, leb-true, le-leb, lt-leb, and_parts}
 use Rattle.std.proofs.lemmas.List.Elements.{All-nil, All-cons, All-head, All-weaker}
-use Rattle.fault_model.specs.declared.node.GateKind.{GateKind}
-use Rattle.fault_model.specs.declared.node.GateKind.TheVariants.{And, Or, Votes, Pand, Por, Seq, Fdep, Csp, Wsp, Hsp}
+use Rattle.fault_words.specs.declared.kind.GateKind.{GateKind}
+use Rattle.fault_words.specs.declared.kind.GateKind.TheVariants.{And, Or, Votes, Pand, Por, Seq, Fdep, Csp, Wsp, Hsp}
 use Rattle.fault_model.specs.Step.{Step, never, no_later, earlier, earliest, last_step, never_falls, failed_by}
 use Rattle.fault_model.specs.Step.{kth_step, first_step, gate_step}
 use Rattle.fault_model.proofs.StepLaws.{never_falls-agree}

@@ -1,6 +1,6 @@
 -- Names as texts show them.
 use Rattle.std.specs.Prelude.{ℕ, if◌then◌else◌, List, ◌++◌, codes}
-use Rattle.fault_model.specs.Name.{is_bare_name}
+use Rattle.fault_words.specs.Name.{is_bare_name}
 
 -- a bare name as it is, and any other in quotes
 abbrev pub show : List ℕ → List ℕ

@@ -1,12 +1,12 @@
 //! The word of a gate.
 ghost use Rattle.std.specs.Prelude.{◌≡◌, is_err};
 ghost use Rattle.edge_io.specs.Out.{has_failed, Puts};
-ghost use Rattle.fault_model.specs.declared.node.GateKind.TheVariants.{Votes};
+ghost use Rattle.fault_words.specs.declared.kind.GateKind.TheVariants.{Votes};
 ghost use Rattle.text_pieces.specs.GateWords.{gate_word};
 
 use crate::put_all;
 use edge_io::{Out, Sink, WriteFault};
-use fault_model::GateKind;
+use fault_words::GateKind;
 use itoa::Buffer;
 
 /// Puts the word of a gate's kind, as decks have it.

@@ -1,6 +1,6 @@
 //! Texts put piece by piece on an output, and the words and names that more than one text has.
 //!
-//! It stands on `edge_io` for the output and on `itoa` for numbers, and on `fault_model` for names and the kinds of
+//! It stands on `edge_io` for the output and on `itoa` for numbers, and on `fault_words` for names and the kinds of
 //! gates. Each call puts exactly the text that its clause names, or a front of it where the sink fails.
 #![tactic(auto)]
 

@@ -5,7 +5,7 @@ ghost use Rattle.text_pieces.specs.Shown.{named, show};
 
 use crate::put_all;
 use edge_io::{Out, Sink, WriteFault};
-use fault_model::Name;
+use fault_words::Name;
 
 /// Puts a name as texts show it: in quotes where it is not bare.
 pub fn put_shown<K: Sink>(out: &mut Out<K>, name: &Name) -> Result<(), WriteFault>

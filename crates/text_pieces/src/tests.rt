@@ -1,7 +1,7 @@
 //! The words of gates, as a sink in memory takes them.
 use crate::put_gate_word;
 use edge_io::{Buffer, CallList, KeptSink, Out};
-use fault_model::GateKind;
+use fault_words::GateKind;
 use std::test::Fail;
 
 #[test]

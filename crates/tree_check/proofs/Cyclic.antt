@@ -4,13 +4,12 @@ use Rattle.std.proofs.Common.{sym, ap, ◌∙◌, inl, inr, arith}
 use Rattle.std.specs.Prelude.{◌==◌, Some, None, if◌then◌else◌, slice_index, slice_index_or, slice_get}
 use Rattle.std.proofs.lemmas.Bool.{cases_Bool, or_cases, or_left, or_right, eq-eqb, eqb-true}
 use Rattle.unit_sets.specs.UnitList.{among}
-use Rattle.fault_model.specs.declared.node.Place.{Place}
+use Rattle.fault_words.specs.declared.place.Place.{Place}
 use Rattle.fault_model.specs.Tree.{FaultTree, rank_of}
 use Rattle.fault_model.specs.Rank.{rank_over as tree_rank_over}
 use Rattle.galileo_tree.specs.declared.raw.Placed.{Placed}
 use Rattle.graph_cycles.specs.Graph.{rank_over}
-use Rattle.fault_model.specs.Names.{same_name, has_name}
-use Rattle.tree_check.specs.Said.{number_in}
+use Rattle.fault_words.specs.Names.{same_name, has_name, number_in}
 use Rattle.tree_check.proofs.SaidLemmas.{names_in}
 use Rattle.tree_check.specs.Numbered.{numbered}
 use Rattle.tree_check.specs.TreeOf.{numbers}

@@ -4,7 +4,7 @@ use Rattle.std.specs.Prelude.{if◌then◌else◌, All}
 use Rattle.std.proofs.lemmas.List.{length-map}
 use Rattle.unit_sets.specs.Unit.{most_units}
 use Rattle.fault_model.specs.declared.tree.TheConstants.{MOST_GATES}
-use Rattle.fault_model.specs.declared.node.Place.{Place}
+use Rattle.fault_words.specs.declared.place.Place.{Place}
 use Rattle.galileo_tree.specs.declared.raw.RawTop.{RawTop}
 use Rattle.galileo_tree.specs.declared.raw.RawGate.{RawGate}
 use Rattle.galileo_tree.specs.declared.raw.RawBasic.{RawBasic}

@@ -11,11 +11,11 @@ use Rattle.std.specs.Prelude.{Option, Some, None}
 use Rattle.galileo_tree.specs.declared.raw.Statement.{Statement}
 use Rattle.galileo_tree.specs.declared.raw.Statement.TheVariants.{Top, Gate, Basic}
 use lib.Pointwise.{bytes_decides}
-use Rattle.fault_model.specs.Names.{same_name, has_name, all_differ}
+use Rattle.fault_words.specs.Names.{same_name, has_name, all_differ}
 use Rattle.tree_check.specs.Said.{basic_names, gate_names, names, definitions}
 use Rattle.tree_check.proofs.SaidLemmas.{names_in}
 use Rattle.tree_check.specs.Classes.{repeats, repeats_after, first}
-use Rattle.fault_model.specs.declared.node.Place.{Place}
+use Rattle.fault_words.specs.declared.place.Place.{Place}
 use Rattle.galileo_tree.specs.declared.raw.Placed.{Placed}
 use Rattle.tree_check.specs.Naming.{name_list, Adds}
 

@@ -1,6 +1,6 @@
 -- What leads to what in a text by numbers.
 use Rattle.std.specs.Prelude.{ℕ, List, map}
-use Rattle.fault_model.specs.declared.node.GateKind.{GateKind}
+use Rattle.fault_words.specs.declared.kind.GateKind.{GateKind}
 use Rattle.tree_check.specs.Numbered.{kept_inputs}
 use Rattle.tree_check.specs.TreeOf.{numbers}
 use Rattle.tree_check.specs.declared.numbered.NumberedGate.{NumberedGate}

@@ -10,7 +10,7 @@ use Rattle.std.proofs.lemmas.List.Elements.{All-map}
 use lib.Pointwise.{bytes_decides}
 use Rattle.unit_sets.specs.Unit.{most_units}
 use Rattle.fault_model.specs.declared.tree.TheConstants.{MOST_GATES}
-use Rattle.fault_model.specs.declared.node.Place.{Place}
+use Rattle.fault_words.specs.declared.place.Place.{Place}
 use Rattle.fault_model.specs.Tree.{unit_count, gate_count, node_count, is_fdep, IsNodeOf}
 use Rattle.fault_model.specs.Tree as trees
 use Rattle.fault_model.specs.Rank.{IsRanked}
@@ -23,7 +23,7 @@ use Rattle.galileo_tree.specs.declared.raw.Statement.{Statement}
 use Rattle.galileo_tree.specs.ReadTree.{ReadTree, KeepsForm, HasBareWord, HasShortNumbers}
 use Rattle.tree_check.specs.declared.numbered.Numbered.{Numbered}
 use Rattle.tree_check.specs.declared.numbered.NumberedGate.{NumberedGate}
-use Rattle.fault_model.specs.Names.{same_name, all_differ}
+use Rattle.fault_words.specs.Names.{same_name, all_differ}
 use Rattle.tree_check.specs.Said.{basics, gates, tops, names, basic_names, gate_names}
 use Rattle.tree_check.specs.Numbered.{kinds, kept_inputs, numbered, numbered_gate, numbered_gates, numbered_tops}
 use Rattle.tree_check.specs.Numbered.{unit_total, is_fdep_in}

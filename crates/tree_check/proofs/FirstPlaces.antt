@@ -4,7 +4,7 @@ use Rattle.std.proofs.Common.{drop, map, get_or, refl, sym, ◌∙◌, ap}
 use Rattle.std.specs.Prelude.{Option, Some, None, filter}
 use Rattle.std.specs.List.{flat_map}
 use Rattle.std.proofs.lemmas.List.{at_drop_more, drop_all}
-use Rattle.fault_model.specs.declared.node.Place.{Place}
+use Rattle.fault_words.specs.declared.place.Place.{Place}
 use Rattle.tree_check.specs.Classes.{first}
 
 pub first_of_more : (xs ys : List Place) → first xs ≡ None → first (xs ++ ys) ≡ first ys

@@ -5,8 +5,8 @@ use Rattle.std.specs.Prelude.{if◌then◌else◌, ◌==◌, ◌&&◌, ◌||◌,
 use Rattle.std.proofs.lemmas.Bool.{or_parts, not-true, not-false, eqb-true, eqb-false, ltb-false}
 use Rattle.std.proofs.lemmas.List.{length-map, drop-map}
 use Rattle.std.proofs.lemmas.List.Elements.{All-nil, All-weaker, All-map, All-drop, All-filter, All-same, filter_passes}
-use Rattle.fault_model.specs.declared.node.GateKind.{GateKind}
-use Rattle.fault_model.specs.declared.node.GateKind.TheVariants.{And, Or, Votes, Pand, Por, Seq, Fdep, Csp, Wsp, Hsp}
+use Rattle.fault_words.specs.declared.kind.GateKind.{GateKind}
+use Rattle.fault_words.specs.declared.kind.GateKind.TheVariants.{And, Or, Votes, Pand, Por, Seq, Fdep, Csp, Wsp, Hsp}
 use Rattle.fault_model.specs.Tree.{FaultTree, unit_count, node_count, is_fdep, is_fdep_kind, IsNodeOf, IsUnitOf}
 use Rattle.fault_model.specs.WellFormed.{IsSoundVote, HasUnitsAfterFirst, IsSoundKind, IsSoundGate}
 use Rattle.galileo_tree.specs.ReadTree.{HasShortNumbers}

@@ -5,7 +5,6 @@
 pub mod Differ
 pub mod FirstPlaces
 pub mod LowNumbers
-pub mod Names
 pub mod Numbers
 pub mod SameEdges
 pub mod SoFar

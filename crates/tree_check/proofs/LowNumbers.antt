@@ -4,8 +4,7 @@ use Rattle.std.proofs.lemmas.Bool.{cases_Bool}
 use Rattle.std.proofs.lemmas.List.Elements.{All-map}
 use Rattle.std.specs.Prelude.{All}
 use Rattle.galileo_tree.specs.declared.raw.RawGate.{RawGate}
-use Rattle.fault_model.specs.Names.{has_name}
-use Rattle.tree_check.specs.Said.{number_in}
+use Rattle.fault_words.specs.Names.{has_name, number_in}
 use Rattle.tree_check.specs.Numbered.{numbered, numbered_gate}
 use Rattle.tree_check.specs.SpareTable.{AreWithin}
 use Rattle.tree_check.specs.declared.numbered.Numbered.{Numbered}

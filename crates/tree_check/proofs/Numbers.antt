@@ -5,8 +5,7 @@ use Rattle.std.specs.Prelude.{◌||◌, position, Some, None}
 use Rattle.std.specs.List.{list_any, position_or_len}
 use Rattle.std.proofs.lemmas.Bool.{cases_Bool, cond-true, cond-false, lt-ltb, le-ltb}
 use Rattle.galileo_tree.specs.declared.raw.Placed.{Placed}
-use Rattle.fault_model.specs.Names.{same_name, has_name}
-use Rattle.tree_check.specs.Said.{number_at, number_in}
+use Rattle.fault_words.specs.Names.{same_name, has_name, number_at, number_in}
 use Rattle.tree_check.specs.Classes.{undefined}
 
 module _ {X : Type 0} (p : X → Bool) where

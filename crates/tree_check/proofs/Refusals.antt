@@ -1,7 +1,7 @@
 -- A fault of a class, where the classes before it don't occur, is the first fault.
 use Rattle.std.proofs.Common.{◌≡◌, List, [], ◌∷◌, ◌++◌, take, sym, ◌∙◌, subst, inl, inr}
 use Rattle.std.specs.Prelude.{Some}
-use Rattle.fault_model.specs.declared.node.Place.{Place}
+use Rattle.fault_words.specs.declared.place.Place.{Place}
 use Rattle.galileo_tree.specs.declared.raw.Statement.{Statement}
 use Rattle.galileo_tree.specs.ReadTree.{ReadTree}
 use Rattle.tree_check.specs.declared.fault.CheckCode.{CheckCode}

@@ -1,7 +1,7 @@
 -- Two classes one after another, whatever their places.
 use Rattle.std.proofs.Common.{◌≡◌, List, [], ◌∷◌, Result, Ok, Err, refl, sym, ◌∙◌, inl, inr}
 use Rattle.std.specs.Prelude.{Option, None, OnOk, IfErr}
-use Rattle.fault_model.specs.declared.node.Place.{Place}
+use Rattle.fault_words.specs.declared.place.Place.{Place}
 use Rattle.tree_check.specs.declared.fault.CheckCode.{CheckCode}
 use Rattle.tree_check.specs.declared.fault.CheckFault.{CheckFault}
 use Rattle.tree_check.specs.declared.fault.CheckFault.TheVariants.{Fault, NoMemory}

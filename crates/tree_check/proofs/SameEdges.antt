@@ -6,8 +6,8 @@ use Rattle.std.specs.List.{cons_option}
 use Rattle.std.proofs.lemmas.List.{get_or_append_left, get_or-append_right, length-map}
 use Rattle.std.proofs.lemmas.Bool.{cases_lt, cond-true, cond-false, lt-ltb, le-ltb}
 use Rattle.unit_sets.specs.UnitList.{among}
-use Rattle.fault_model.specs.declared.node.GateKind.{GateKind}
-use Rattle.fault_model.specs.declared.node.GateKind.TheVariants.{And, Or, Votes, Pand, Por, Seq, Fdep, Csp, Wsp, Hsp}
+use Rattle.fault_words.specs.declared.kind.GateKind.{GateKind}
+use Rattle.fault_words.specs.declared.kind.GateKind.TheVariants.{And, Or, Votes, Pand, Por, Seq, Fdep, Csp, Wsp, Hsp}
 use Rattle.fault_model.specs.Tree.{FaultTree, is_above_units, inputs_of, unit_count}
 use Rattle.fault_model.specs.Trigger.{trigger_by, triggers_of, below}
 use Rattle.graph_cycles.specs.Graph.{successors, Leads}

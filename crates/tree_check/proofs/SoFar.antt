@@ -8,12 +8,12 @@ use Rattle.galileo_tree.specs.declared.raw.Placed.{Placed}
 use Rattle.galileo_tree.specs.declared.raw.RawTop.{RawTop}
 use Rattle.galileo_tree.specs.declared.raw.Statement.{Statement}
 use Rattle.galileo_tree.specs.declared.raw.Statement.TheVariants.{Top, Gate, Basic}
-use Rattle.fault_model.specs.declared.node.Place.{Place}
+use Rattle.fault_words.specs.declared.place.Place.{Place}
 use Rattle.tree_check.specs.declared.fault.CheckFault.{CheckFault}
 use Rattle.tree_check.specs.declared.fault.CheckFault.TheVariants.{Fault, NoMemory}
 use Rattle.tree_check.specs.declared.fault.CheckCode.{CheckCode}
 use Rattle.tree_check.specs.declared.numbered.NumberedText.{NumberedText}
-use Rattle.fault_model.specs.Names.{has_name}
+use Rattle.fault_words.specs.Names.{has_name}
 use Rattle.tree_check.specs.Said.{basics, gates, tops, uses, basic_in, gate_in, top_in, uses_in}
 use Rattle.tree_check.specs.Numbered.{numbered, numbered_gate}
 use Rattle.tree_check.specs.Classes.{undefined, first}

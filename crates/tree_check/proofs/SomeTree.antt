@@ -8,9 +8,9 @@ use Rattle.std.proofs.lemmas.List.{get_or_past}
 use Rattle.std.proofs.lemmas.List.FromFn.{get_or-map-range_with_len, length-map-range_with_len}
 use Rattle.std.proofs.lemmas.List.Elements.{All-head, All-tail}
 use Rattle.unit_sets.specs.UnitList.{among}
-use Rattle.fault_model.specs.declared.node.GateKind.{GateKind}
-use Rattle.fault_model.specs.declared.node.GateKind.TheVariants.{And, Or, Votes, Pand, Por, Seq, Fdep, Csp, Wsp, Hsp}
-use Rattle.fault_model.specs.declared.node.Place.{Place}
+use Rattle.fault_words.specs.declared.kind.GateKind.{GateKind}
+use Rattle.fault_words.specs.declared.kind.GateKind.TheVariants.{And, Or, Votes, Pand, Por, Seq, Fdep, Csp, Wsp, Hsp}
+use Rattle.fault_words.specs.declared.place.Place.{Place}
 use Rattle.fault_model.specs.Tree.{FaultTree, is_fdep_kind}
 use Rattle.fault_model.specs.Trigger.{trigger_by}
 use Rattle.fault_model.specs.WellFormed.{IsTree}
@@ -26,7 +26,7 @@ use Rattle.tree_check.specs.declared.numbered.NumberedGate.{NumberedGate}
 use Rattle.tree_check.specs.Checked.{IsFirstFault, NoneOf, Stands, before_cycles, places}
 use Rattle.tree_check.specs.Classes.{first}
 use Rattle.tree_check.specs.Marked.{marked_places}
-use Rattle.fault_model.specs.Names.{all_differ}
+use Rattle.fault_words.specs.Names.{all_differ}
 use Rattle.tree_check.specs.Numbered.{numbered_gates, unit_total}
 use Rattle.tree_check.specs.Said.{definitions, names}
 use Rattle.tree_check.specs.TreeOf.{AreRanks, FirstOnCycle, HasNoCycle, input_lists, numbers, tree_of}

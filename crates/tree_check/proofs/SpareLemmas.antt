@@ -6,7 +6,7 @@ use Rattle.std.specs.Prelude.{if◌then◌else◌, ◌==◌, ◌&&◌, ◌||◌,
 use Rattle.std.specs.List.{list_any}
 use Rattle.std.proofs.lemmas.Bool.{cases_eq, eq-eqb, ne_eqb}
 use Rattle.std.proofs.lemmas.List.{length-replicate, get_or-replicate}
-use Rattle.fault_model.specs.declared.node.Place.{Place}
+use Rattle.fault_words.specs.declared.place.Place.{Place}
 use Rattle.tree_check.proofs.FirstPlaces.{first_of_more, first_of_some, drop_at}
 use Rattle.tree_check.specs.declared.numbered.Numbered.{Numbered}
 use Rattle.tree_check.specs.declared.numbered.NumberedGate.{NumberedGate}

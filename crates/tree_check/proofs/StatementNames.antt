@@ -11,7 +11,7 @@ use Rattle.galileo_tree.specs.declared.raw.Statement.{Statement}
 use Rattle.galileo_tree.specs.declared.raw.Statement.TheVariants.{Top, Gate, Basic}
 use Rattle.galileo_tree.specs.ReadTree.{KeepsForm, HasShortNumbers, HasBareWord}
 use Rattle.tree_check.specs.declared.numbered.NumberedGate.{NumberedGate}
-use Rattle.fault_model.specs.Names.{has_name, same_name, all_differ}
+use Rattle.fault_words.specs.Names.{has_name, same_name, all_differ}
 use Rattle.tree_check.specs.Said.{tops, gates, basics, uses, names}
 use Rattle.tree_check.specs.Numbered.{numbered, numbered_gate, numbered_gates, numbered_tops}
 use Rattle.tree_check.specs.Classes.{undefined}

@@ -6,16 +6,16 @@ use Rattle.std.specs.List.{position_or_len}
 use Rattle.std.proofs.lemmas.List.{length-map, get_or-drop, length-drop}
 use Rattle.std.proofs.lemmas.List.Sums.{position_or_len_is}
 use Rattle.std.proofs.lemmas.Bool.{cases_Bool, or_left, or_right, or_parts, and_parts}
-use Rattle.fault_model.specs.declared.node.Place.{Place}
+use Rattle.fault_words.specs.declared.place.Place.{Place}
 use Rattle.fault_model.specs.Trigger.{below}
 use Rattle.graph_cycles.specs.Graph.{successors, Leads, IsGraph, rank_over}
 use Rattle.galileo_tree.specs.declared.raw.Placed.{Placed}
 use Rattle.galileo_tree.specs.declared.raw.Statement.{Statement}
 use Rattle.tree_check.specs.declared.numbered.NumberedGate.{NumberedGate}
-use Rattle.fault_model.specs.Names.{has_name, same_name, all_differ}
+use Rattle.fault_words.specs.Names.{has_name, same_name, all_differ, number_in}
 use Rattle.tree_check.specs.Said.{basics, gates, names, basic_names, gate_names, definitions}
 use Rattle.tree_check.proofs.SaidLemmas.{names_in}
-use Rattle.tree_check.specs.Said.{number_in, uses}
+use Rattle.tree_check.specs.Said.{uses}
 use Rattle.tree_check.specs.Numbered.{numbered_gates, numbered_gate, unit_total, kinds, kept_inputs}
 use Rattle.tree_check.specs.TreeOf.{tree_of, numbers, input_lists, IsCyclic, FirstOnCycle, HasNoCycle, AreRanks}
 use Rattle.tree_check.specs.Classes.{first, undefined, dependent_gates}

@@ -7,7 +7,7 @@ use Rattle.std.proofs.lemmas.List.{map_more}
 use Rattle.std.proofs.lemmas.List.Elements.{filter_map-append}
 use Rattle.std.proofs.lemmas.List.Folds.{list_any-append}
 use Rattle.unit_sets.specs.UnitList.{among}
-use Rattle.fault_model.specs.declared.node.GateKind.{GateKind}
+use Rattle.fault_words.specs.declared.kind.GateKind.{GateKind}
 use Rattle.fault_model.specs.Trigger.{trigger_by}
 use Rattle.tree_check.specs.Triggers.{AddsTriggers, HasTriggers, written_gate}
 use Rattle.tree_check.specs.declared.numbered.NumberedGate.{NumberedGate}

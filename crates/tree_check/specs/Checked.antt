@@ -3,7 +3,7 @@
 use Rattle.std.specs.Prelude.{◌≡◌, ◌⊎◌, List, [], ◌∷◌, take, Option, Some}
 use Rattle.fault_model.specs.Tree.{FaultTree}
 use Rattle.tree_check.specs.Found.{IsFoundAs}
-use Rattle.fault_model.specs.declared.node.Place.{Place}
+use Rattle.fault_words.specs.declared.place.Place.{Place}
 use Rattle.galileo_tree.specs.ReadTree.{ReadTree}
 use Rattle.tree_check.specs.Said.{basics, names, uses}
 use Rattle.tree_check.specs.Numbered.{numbered_gates, numbered_tops, unit_total}

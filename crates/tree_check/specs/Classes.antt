@@ -5,15 +5,15 @@ use Rattle.std.specs.List.{flat_map, list_any}
 use Rattle.std.specs.Str.{str_eq_ignore_ascii_case}
 use Rattle.unit_sets.specs.Unit.{most_units}
 use Rattle.fault_model.specs.declared.tree.TheConstants.{MOST_GATES}
-use Rattle.fault_model.specs.declared.node.Place.{Place}
-use Rattle.fault_model.specs.declared.node.GateKind.{GateKind}
-use Rattle.fault_model.specs.declared.node.GateKind.TheVariants.{And, Or, Votes, Pand, Por, Seq, Fdep, Csp, Wsp, Hsp}
+use Rattle.fault_words.specs.declared.place.Place.{Place}
+use Rattle.fault_words.specs.declared.kind.GateKind.{GateKind}
+use Rattle.fault_words.specs.declared.kind.GateKind.TheVariants.{And, Or, Votes, Pand, Por, Seq, Fdep, Csp, Wsp, Hsp}
 use Rattle.fault_model.specs.Tree.{is_fdep_kind}
 use Rattle.galileo_tree.specs.declared.raw.Placed.{Placed}
 use Rattle.galileo_tree.specs.declared.raw.RawAttribute.{RawAttribute}
 use Rattle.galileo_tree.specs.declared.raw.RawBasic.{RawBasic}
 use Rattle.galileo_tree.specs.declared.raw.Statement.{Statement}
-use Rattle.fault_model.specs.Names.{has_name, same_name}
+use Rattle.fault_words.specs.Names.{has_name, same_name}
 use Rattle.tree_check.specs.Said.{tops, definitions, uses, names}
 use Rattle.tree_check.specs.Numbered.{is_gate, is_fdep_in, kinds, drops_fdeps, is_spare_kind, kept_inputs}
 use Rattle.tree_check.specs.declared.numbered.Numbered.{Numbered}

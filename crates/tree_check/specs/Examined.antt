@@ -4,7 +4,7 @@ use Rattle.tree_check.specs.declared.numbered.NumberedText.{NumberedText}
 use Rattle.galileo_tree.specs.ReadTree.{ReadTree}
 use Rattle.tree_check.specs.declared.checking.Examined.{Examined}
 use Rattle.tree_check.specs.Said.{names}
-use Rattle.fault_model.specs.Names.{all_differ}
+use Rattle.fault_words.specs.Names.{all_differ}
 use Rattle.tree_check.specs.Numbering.{IsDeckOf}
 use Rattle.tree_check.specs.TreeOf.{AreRanks, HasNoCycle}
 use Rattle.tree_check.specs.Checked.{NoneOf, before_cycles, after_cycles}

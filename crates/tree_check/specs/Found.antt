@@ -1,6 +1,6 @@
 -- A fault that one class answers.
 use Rattle.std.specs.Prelude.{◌≡◌, List, Some}
-use Rattle.fault_model.specs.declared.node.Place.{Place}
+use Rattle.fault_words.specs.declared.place.Place.{Place}
 use Rattle.tree_check.specs.Classes.{first}
 use Rattle.tree_check.specs.TreeOf.{FirstOnCycle}
 use Rattle.galileo_tree.specs.declared.raw.Statement.{Statement}

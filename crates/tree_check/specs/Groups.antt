@@ -1,6 +1,6 @@
 -- The classes of faults in groups, in their order, each with its places.
 use Rattle.std.specs.Prelude.{ℕ, List, [], ◌∷◌}
-use Rattle.fault_model.specs.declared.node.Place.{Place}
+use Rattle.fault_words.specs.declared.place.Place.{Place}
 use Rattle.galileo_tree.specs.declared.raw.Statement.{Statement}
 use Rattle.tree_check.specs.Said.{basics}
 use Rattle.tree_check.specs.Classes.{missing_tops, further_tops, wrong_votes, dummies, inputless, short_fdeps}

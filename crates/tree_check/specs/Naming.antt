@@ -1,7 +1,7 @@
 -- What the naming of a text gives.
 use Rattle.std.specs.Prelude.{◌≡◌, ℕ, Bool, true, not, List, [], ◌∷◌, ◌++◌, Option, Some, None, if◌then◌else◌}
 use Rattle.std.specs.Borrow.{Bor}
-use Rattle.fault_model.specs.Names.{has_name}
+use Rattle.fault_words.specs.Names.{has_name}
 
 -- the name that a reference leads to, if there is one
 abbrev pub name_list : Option (Bor (List ℕ)) → List (List ℕ)

@@ -1,7 +1,6 @@
 -- What the statements of a text say, in the order of the text.
-use Rattle.std.specs.Prelude.{ℕ, suc, List, [], ◌∷◌, ◌++◌, map, Option, Some, None, position}
+use Rattle.std.specs.Prelude.{ℕ, List, [], ◌∷◌, ◌++◌, map}
 use Rattle.std.specs.List.{flat_map}
-use Rattle.fault_model.specs.Names.{same_name}
 use Rattle.galileo_tree.specs.declared.raw.Placed.{Placed}
 use Rattle.galileo_tree.specs.declared.raw.RawTop.{RawTop}
 use Rattle.galileo_tree.specs.declared.raw.RawGate.{RawGate}
@@ -60,11 +59,3 @@ gate_names statements = map (λ gate. gate.name.name) (gates statements)
 -- The names of the tree: those of the basic events, then those of the gates, each in the order of the definitions.
 abbrev pub names : List Statement → List (List ℕ)
 names statements = basic_names statements ++ gate_names statements
-
--- the number of a name of these: its place from 1, or 0 of none
-abbrev pub number_at : Option ℕ → ℕ
-number_at None = 0
-number_at (Some place) = suc place
-
-abbrev pub number_in : List (List ℕ) → List ℕ → ℕ
-number_in names name = number_at (position (same_name name) names)

@@ -1,7 +1,7 @@
 -- A table that knows of each event how it was used before, by which a clash shows in one look.
 use Rattle.std.specs.Prelude.{ℕ, ◌≤◌, Bool, true, false, not, List, [], ◌∷◌, ◌++◌, slice_index_or, slice_set}
 use Rattle.std.specs.Prelude.{if◌then◌else◌, All}
-use Rattle.fault_model.specs.declared.node.Place.{Place}
+use Rattle.fault_words.specs.declared.place.Place.{Place}
 use Rattle.tree_check.specs.Classes.{SpareUse}
 use Rattle.tree_check.specs.declared.numbered.NumberedGate.{NumberedGate}
 use Rattle.tree_check.specs.declared.spares.EarlierUses.{EarlierUses}

@@ -1,7 +1,7 @@
 -- The tree that statements stand for, once no fault is found, and what leads to what in it.
 use Rattle.std.specs.Prelude.{◌≡◌, ℕ, ◌<◌, IsTrue, List, [], ◌∷◌, length, map, slice_index, slice_get, Some}
 use Rattle.unit_sets.specs.UnitList.{among}
-use Rattle.fault_model.specs.declared.node.Place.{Place}
+use Rattle.fault_words.specs.declared.place.Place.{Place}
 use Rattle.fault_model.specs.Tree.{FaultTree}
 use Rattle.fault_model.specs.Trigger.{below}
 use Rattle.fault_model.specs.Rank.{IsRanked}

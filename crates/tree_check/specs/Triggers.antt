@@ -1,7 +1,7 @@
 -- How the table of triggers is filled.
 use Rattle.std.specs.Prelude.{◌≡◌, ℕ, ◌+◌, ◌≤◌, Bool, true, false, ◌||◌, ◌&&◌, ◌==◌, List, [], ◌++◌, length, map, drop}
 use Rattle.std.specs.Prelude.{All, filter_map, option_to_list, slice_index_or}
-use Rattle.fault_model.specs.declared.node.GateKind.{GateKind}
+use Rattle.fault_words.specs.declared.kind.GateKind.{GateKind}
 use Rattle.fault_model.specs.Tree.{is_fdep_kind}
 use Rattle.fault_model.specs.Trigger.{trigger_by}
 use Rattle.tree_check.specs.TreeOf.{numbers, input_lists}

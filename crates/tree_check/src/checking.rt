@@ -7,7 +7,7 @@ use crate::CheckFault;
 use crate::assembly::assemble;
 use crate::classes::{check_kinds, check_later_inputs, check_limits, check_rest, check_tops};
 use crate::cycles::rank_all;
-use crate::name_index::NameIndex;
+use name_index::NameIndex;
 use crate::naming::name_all;
 use crate::numbered::NumberedText;
 use crate::numbering::number_all;

@@ -2,7 +2,7 @@
 ghost use Rattle.std.specs.Prelude.{◌≡◌, ◌+◌, ◌<◌, ◌≤◌, ◌||◌, ◌&&◌, ◌==◌, ◌∷◌, ◌++◌, ℕ, [], length, map, All, IfOk};
 ghost use Rattle.std.specs.Prelude.{IfErr, OnOk, slice_index_or, filter_map, replicate, true, false, drop};
 ghost use Rattle.tree_check.specs.Said.{definitions, definition_in, names, uses};
-ghost use Rattle.fault_model.specs.Names.{all_differ};
+ghost use Rattle.fault_words.specs.Names.{all_differ};
 ghost use Rattle.tree_check.specs.Numbering.{IsDeckOf};
 ghost use Rattle.tree_check.specs.Found.{IsCycleFault};
 ghost use Rattle.tree_check.specs.Classes.{first, undefined, dependent_gates};
@@ -14,7 +14,7 @@ ghost use Rattle.tree_check.specs.Triggers.{Notes, AddsTriggers, HasTriggers, Ha
 ghost use Rattle.tree_check.specs.Triggers.{dependents_of, written_gate};
 
 use crate::gates::{drops_fdeps, is_fdep};
-use crate::name_index::NameIndex;
+use name_index::NameIndex;
 use crate::numbered::{Numbered, NumberedGate, NumberedText};
 use crate::{CheckCode, CheckFault};
 use fault_model::{GateKind, Place};

@@ -2,7 +2,7 @@
 ghost use Rattle.std.specs.Prelude.{◌≡◌, ◌⊎◌, All};
 ghost use Rattle.fault_model.specs.Tree.{FaultTree};
 ghost use Rattle.fault_model.specs.WellFormed.{IsTree};
-ghost use Rattle.fault_model.specs.declared.node.Place.{Place};
+ghost use Rattle.fault_words.specs.declared.place.Place.{Place};
 ghost use Rattle.galileo_tree.specs.ReadTree.{KeepsForm, ReadTree};
 ghost use Rattle.tree_check.specs.Checked.{IsFaultless, IsFirstFault, Stands};
 ghost use Rattle.tree_check.specs.declared.fault.CheckCode.{CheckCode};

@@ -12,7 +12,6 @@ mod cycles;
 mod fault;
 mod gates;
 mod laws;
-mod name_index;
 mod naming;
 mod numbered;
 mod numbering;

@@ -3,11 +3,11 @@ ghost use Rattle.std.specs.Prelude.{◌≡◌, ◌++◌, ◌∷◌, ℕ, [], tru
 ghost use Rattle.std.specs.Prelude.{is_some, OnOk, IsTrue};
 ghost use Rattle.tree_check.specs.Said.{names, definitions, uses, basic_names, gate_names};
 ghost use Rattle.tree_check.specs.Classes.{first, repeats, undefined};
-ghost use Rattle.fault_model.specs.Names.{all_differ};
+ghost use Rattle.fault_words.specs.Names.{all_differ};
 ghost use Rattle.tree_check.specs.Naming.{Adds, name_list};
 ghost use Rattle.tree_check.specs.Found.{IsFoundAs};
 
-use crate::name_index::NameIndex;
+use name_index::NameIndex;
 use crate::{CheckCode, CheckFault};
 use fault_model::{Name, Place};
 use galileo_tree::Statement;

@@ -6,7 +6,7 @@ ghost use Rattle.tree_check.specs.Classes.{undefined};
 ghost use Rattle.tree_check.specs.Found.{IsFoundAs};
 ghost use Rattle.tree_check.specs.Numbering.{IsDeckOf, AddsStatement};
 
-use crate::name_index::NameIndex;
+use name_index::NameIndex;
 use crate::numbered::{InputRow, Numbered, NumberedGate, NumberedText};
 use crate::{CheckCode, CheckFault};
 use galileo_tree::{Placed, RawGate, Statement};

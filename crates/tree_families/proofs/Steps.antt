@@ -6,8 +6,8 @@ use Rattle.std.proofs.Common.{refl, sym, ◌∙◌, ap, subst, inl, inr}
 use Rattle.std.proofs.lemmas.Bool.{cases_Bool, or_cases, cond-true, cond-false, eqb-true, ltb-false}
 use Rattle.unit_sets.specs.UnitList.{among, some_within}
 use Rattle.unit_sets.proofs.Sorted.{Contains-nil, Contains-cons_cases}
-use Rattle.fault_model.specs.declared.node.GateKind.{GateKind}
-use Rattle.fault_model.specs.declared.node.GateKind.TheVariants.{And, Or, Votes, Pand, Por, Seq, Fdep, Csp, Wsp, Hsp}
+use Rattle.fault_words.specs.declared.kind.GateKind.{GateKind}
+use Rattle.fault_words.specs.declared.kind.GateKind.TheVariants.{And, Or, Votes, Pand, Por, Seq, Fdep, Csp, Wsp, Hsp}
 use Rattle.fault_model.specs.Reading.{reads, true_count, first_reads, gate_reads}
 use Rattle.fault_model.proofs.ReadingLaws.{reads-node}
 use Rattle.fault_model.specs.Tree.{FaultTree, IsNodeOf, IsUnitOf, kind_of, inputs_of, is_above_units, unit_count}

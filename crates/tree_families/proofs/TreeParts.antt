@@ -4,8 +4,8 @@ use Rattle.std.proofs.Common.{refl, sym, subst, inl, inr, arith}
 use Rattle.std.proofs.lemmas.Bool.{cases_Bool, and_parts, cond-true, cond-false, ltb-false}
 use Rattle.std.proofs.lemmas.List.Elements.{All-contains}
 use Rattle.unit_sets.proofs.Sorted.{Contains-nil, Contains-cons_first, Contains-cons_other, Contains-cons_cases}
-use Rattle.fault_model.specs.declared.node.GateKind.{GateKind}
-use Rattle.fault_model.specs.declared.node.GateKind.TheVariants.{And, Or, Votes, Pand, Por, Seq, Fdep, Csp, Wsp, Hsp}
+use Rattle.fault_words.specs.declared.kind.GateKind.{GateKind}
+use Rattle.fault_words.specs.declared.kind.GateKind.TheVariants.{And, Or, Votes, Pand, Por, Seq, Fdep, Csp, Wsp, Hsp}
 use Rattle.fault_model.specs.CutFamily.{IsCutFamily}
 use Rattle.fault_model.proofs.RankLaws.{below_are_nodes, below_ranks}
 use Rattle.fault_model.specs.Tree.{FaultTree, IsNodeOf, is_above_units, is_fdep, is_fdep_kind, kind_of, rank_of}

@@ -2,7 +2,7 @@
 ghost use Rattle.std.specs.Prelude.{◌≡◌, ◌↔◌, ◌⊎◌, ℕ, ◌+◌, ◌<◌, ◌≤◌, true, false, List, [], ◌∷◌, All, Contains, drop};
 ghost use Rattle.std.specs.Prelude.{get_or, length, map, take};
 ghost use Rattle.unit_sets.specs.CutOrder.{IsInCutOrder};
-ghost use Rattle.fault_model.specs.declared.node.GateKind.TheVariants.{Or, Votes};
+ghost use Rattle.fault_words.specs.declared.kind.GateKind.TheVariants.{Or, Votes};
 ghost use Rattle.fault_model.specs.Cut.{IsCutList, IsMinimalCut};
 ghost use Rattle.fault_model.specs.CutFamily.{IsCutFamily};
 ghost use Rattle.fault_model.specs.Tree.{FaultTree, IsGateOf, IsNodeOf, IsUnitOf, inputs_of, is_fdep, is_fdep_kind};

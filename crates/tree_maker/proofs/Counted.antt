@@ -8,9 +8,8 @@ use Rattle.std.proofs.lemmas.List.{map-append}
 use Rattle.std.proofs.lemmas.List.Elements.{All-nil}
 use Rattle.std.proofs.lemmas.List.Folds.{list_any-append}
 use lib.Pointwise.{bytes_decides}
-use Rattle.fault_model.specs.declared.node.GateKind.{GateKind}
-use Rattle.fault_model.specs.Names.{has_name, same_name}
-use Rattle.tree_check.specs.Said.{number_in}
+use Rattle.fault_words.specs.declared.kind.GateKind.{GateKind}
+use Rattle.fault_words.specs.Names.{has_name, same_name, number_in}
 use Rattle.tree_check.specs.Classes.{repeats_after}
 use Rattle.tree_maker.specs.Names.{top_name, gate_name, fdep_name, trigger_name, unit_name, units_in}
 use Rattle.tree_maker.proofs.Ranges.{any-flat_range, any-range, range-append}

@@ -6,7 +6,7 @@ use Rattle.std.specs.List.{flat_map, list_all, list_any, range_with_len}
 use Rattle.std.proofs.lemmas.Bool.{cases_Bool}
 use Rattle.std.proofs.lemmas.List.Elements.{All-cons, All-nil}
 use Rattle.std.proofs.lemmas.List.Splits.{slice_split_at}
-use Rattle.fault_model.specs.Name.{is_bare_byte}
+use Rattle.fault_words.specs.Name.{is_bare_byte}
 use Rattle.crew_script.specs.Words.{Spells, bare, bare_word, begins_bare, is_blank, no_word, word_on}
 use Rattle.crew_script.specs.Deck.{is_feed, lines_of}
 use Rattle.crew_script.specs.Lines.{crew_line, is_name_word, line_of, says}

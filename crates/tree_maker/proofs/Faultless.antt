@@ -8,11 +8,11 @@ use Rattle.std.proofs.lemmas.List.{drop_all, length-append, length-map}
 use Rattle.std.proofs.lemmas.List.Elements.{All-append, All-cons, All-map, All-nil}
 use Rattle.std.proofs.lemmas.List.Folds.{flat_map-map}
 use Rattle.std.proofs.lemmas.List.FromFn.{length-map-range_with_len, length-range_with_len}
-use Rattle.fault_model.specs.declared.node.GateKind.{GateKind}
-use Rattle.fault_model.specs.declared.node.GateKind.TheVariants.{Fdep}
+use Rattle.fault_words.specs.declared.kind.GateKind.{GateKind}
+use Rattle.fault_words.specs.declared.kind.GateKind.TheVariants.{Fdep}
 use Rattle.unit_sets.specs.Unit.{most_units}
 use Rattle.fault_model.specs.declared.tree.TheConstants.{MOST_GATES}
-use Rattle.fault_model.specs.declared.node.Place.{Place}
+use Rattle.fault_words.specs.declared.place.Place.{Place}
 use Rattle.fault_model.specs.Tree.{is_fdep_kind}
 use Rattle.galileo_tree.specs.declared.raw.Placed.{Placed}
 use Rattle.galileo_tree.specs.declared.raw.RawBasic.{RawBasic}
@@ -23,7 +23,7 @@ use Rattle.tree_check.specs.Classes.{repeats_after, replicated, shared_spares, s
 use Rattle.tree_check.specs.Classes.{wrong_votes}
 use Rattle.tree_check.specs.Numbered.{is_fdep_in, kinds, numbered, numbered_gate, numbered_gates, numbered_tops}
 use Rattle.tree_check.specs.Numbered.{unit_total}
-use Rattle.fault_model.specs.Names.{has_name}
+use Rattle.fault_words.specs.Names.{has_name}
 use Rattle.tree_check.specs.Said.{basics, gates, names, tops, uses}
 use Rattle.tree_check.specs.TreeOf.{HasNoCycle, input_lists, tree_of}
 use Rattle.deck_reading.specs.Unplaced.{said_tree}

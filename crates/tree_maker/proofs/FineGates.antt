@@ -5,8 +5,8 @@ use Rattle.std.specs.Prelude.{◌&&◌, All, filter, slice_index_or}
 use Rattle.std.specs.List.{flat_map, range_with_len}
 use Rattle.std.proofs.lemmas.Bool.{and_right, le-ltb}
 use Rattle.std.proofs.lemmas.List.Elements.{All-append, All-cons, All-head, All-tail}
-use Rattle.fault_model.specs.declared.node.GateKind.{GateKind}
-use Rattle.fault_model.specs.declared.node.GateKind.TheVariants.{And, Votes, Pand, Seq, Fdep, Csp, Wsp, Hsp}
+use Rattle.fault_words.specs.declared.kind.GateKind.{GateKind}
+use Rattle.fault_words.specs.declared.kind.GateKind.TheVariants.{And, Votes, Pand, Seq, Fdep, Csp, Wsp, Hsp}
 use Rattle.tree_check.specs.Classes.{is_empty, dependent_gates, dummies, dummies_in, gates_after_first, inputless}
 use Rattle.tree_check.specs.Classes.{is_short_fdep, reads_nothing, short_fdeps, spare_gates, wrong_vote, wrong_votes}
 use Rattle.tree_check.specs.Numbered.{is_fdep_in, is_spare_kind, kinds}

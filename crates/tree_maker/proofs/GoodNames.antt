@@ -8,9 +8,9 @@ use Rattle.std.proofs.lemmas.Fmt.{decimal_by_steps, length-decimal-le}
 use Rattle.std.proofs.lemmas.List.{length-append}
 use Rattle.std.proofs.lemmas.List.Elements.{All-append, All-cons, All-nil}
 use Rattle.std.proofs.lemmas.List.Folds.{list_all-append}
-use Rattle.fault_model.specs.Name.{is_bare_byte, is_name, is_name_byte}
-use Rattle.fault_model.specs.declared.node.GateKind.{GateKind}
-use Rattle.fault_model.specs.declared.node.GateKind.TheVariants.{And}
+use Rattle.fault_words.specs.Name.{is_bare_byte, is_name, is_name_byte}
+use Rattle.fault_words.specs.declared.kind.GateKind.{GateKind}
+use Rattle.fault_words.specs.declared.kind.GateKind.TheVariants.{And}
 use Rattle.galileo_tree.specs.ReadTree.{HasShortNumbers}
 use Rattle.crew_script.specs.Words.{is_blank}
 use Rattle.crew_script.specs.Deck.{is_feed}

@@ -7,11 +7,11 @@ use Rattle.std.proofs.lemmas.Bool.{and_parts}
 use Rattle.std.proofs.lemmas.List.{length-append, length-map, map-append}
 use Rattle.std.proofs.lemmas.List.Elements.{All-cons, All-map, All-nil, All-weaker}
 use Rattle.std.proofs.lemmas.List.FromFn.{length-map-range_with_len}
-use Rattle.fault_model.specs.Name.{is_bare_name, is_name}
+use Rattle.fault_words.specs.Name.{is_bare_name, is_name}
 use Rattle.fault_model.specs.Tree.{FaultTree, gate_count, unit_count}
 use Rattle.fault_model.specs.WellFormed.{IsTree}
-use Rattle.fault_model.specs.declared.list.Attribute.{Attribute}
-use Rattle.fault_model.specs.declared.node.Place.{Place}
+use Rattle.fault_words.specs.declared.attribute.Attribute.{Attribute}
+use Rattle.fault_words.specs.declared.place.Place.{Place}
 use Rattle.galileo_tree.specs.ReadTree.{HasBareWord, KeepsForm, ReadTree}
 use Rattle.tree_check.specs.Checked.{IsFaultless, IsFirstFault, Stands}
 use Rattle.tree_check.specs.Numbered.{numbered_gates}

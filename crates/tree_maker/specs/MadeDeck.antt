@@ -2,8 +2,8 @@
 -- units under a gate each, every fifth group with a trigger, and one crew that asks for all of them.
 use Rattle.std.specs.Prelude.{ℕ, ◌+◌, ◌-◌, ◌*◌, ◌/◌, ◌%◌, List, [], ◌∷◌, ◌++◌, map, codes, slice_index_or}
 use Rattle.std.specs.List.{flat_map, range_with_len}
-use Rattle.fault_model.specs.declared.node.GateKind.{GateKind}
-use Rattle.fault_model.specs.declared.node.GateKind.TheVariants.{And, Or, Votes, Pand, Seq, Fdep, Csp, Wsp, Hsp}
+use Rattle.fault_words.specs.declared.kind.GateKind.{GateKind}
+use Rattle.fault_words.specs.declared.kind.GateKind.TheVariants.{And, Or, Votes, Pand, Seq, Fdep, Csp, Wsp, Hsp}
 use Rattle.deck_reading.specs.Written.{Bare, WrittenStatement, Top, Gate, Basic, written}
 use Rattle.tree_maker.specs.Names.{top_name, gate_name, fdep_name, trigger_name, unit_name, units_in}
 

@@ -12,9 +12,9 @@ use Rattle.std.proofs.lemmas.List.Elements.{All-append, All-cons, All-get_or, Al
 use Rattle.std.proofs.lemmas.List.Elements.{filter-append}
 use Rattle.std.proofs.lemmas.List.Folds.{flat_map-map}
 use Rattle.unit_sets.specs.UnitList.{among}
-use Rattle.fault_model.specs.declared.node.GateKind.{GateKind}
-use Rattle.fault_model.specs.declared.node.GateKind.TheVariants.{And, Or, Votes, Pand, Por, Seq, Fdep, Csp, Wsp, Hsp}
-use Rattle.fault_model.specs.Name.{is_name, is_name_byte}
+use Rattle.fault_words.specs.declared.kind.GateKind.{GateKind}
+use Rattle.fault_words.specs.declared.kind.GateKind.TheVariants.{And, Or, Votes, Pand, Por, Seq, Fdep, Csp, Wsp, Hsp}
+use Rattle.fault_words.specs.Name.{is_name, is_name_byte}
 use Rattle.fault_model.specs.Tree.{FaultTree, IsGateOf, IsNodeOf, gate_count, inputs_of}
 use Rattle.fault_model.specs.Tree.{is_fdep_kind, kind_of, name_of, node_count, unit_count}
 use Rattle.fault_model.specs.WellFormed.{IsTree}

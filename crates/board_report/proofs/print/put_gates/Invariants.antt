@@ -2,7 +2,7 @@ use Rattle.std.proofs.Common.{◌≡◌, ◌+◌, ◌-◌, false, true}
 use Rattle.std.specs.List.{flat_map, range_with_len}
 use Rattle.edge_io.specs.Out.{has_failed}
 use Rattle.board_report.specs.PrintText.{gate_line}
-use Rattle.fault_model.specs.Name.{is_name}
+use Rattle.fault_words.specs.Name.{is_name}
 use Rattle.fault_model.specs.Tree.{name_of, unit_count, gate_count}
 use Rattle.board_report.proofs.PrintLemmas.{NamedUpTo}
 use Rattle.text_pieces.proofs.Putting.{PutsFront}

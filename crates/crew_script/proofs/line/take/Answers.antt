@@ -1,6 +1,6 @@
 use Rattle.std.proofs.Common.{◌≡◌, ◌<◌, true, false, [], length, sym, ap, subst, ◌∙◌, arith}
 use Rattle.std.proofs.lemmas.Grind.{common_steps}
-use Rattle.fault_model.specs.Names.{has_name, all_differ}
+use Rattle.fault_words.specs.Names.{has_name, all_differ}
 use Rattle.crew_script.specs.Lines.{take_line}
 use Rattle.crew_script.proofs.NameLemmas.{take_step, differ_push}
 use Rattle.crew_script.proofs.line.take.Goals as goal

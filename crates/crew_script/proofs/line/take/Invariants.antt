@@ -1,5 +1,5 @@
 use Rattle.std.proofs.Common.{◌≡◌, ◌≤◌, true, [], length}
-use Rattle.fault_model.specs.Names.{all_differ}
+use Rattle.fault_words.specs.Names.{all_differ}
 use Rattle.crew_script.specs.Lines.{take_line}
 use Rattle.crew_script.proofs.line.take.Given as goal
 

@@ -1,5 +1,5 @@
 use Rattle.std.proofs.lemmas.Result.{IfOk-weaker}
-use Rattle.fault_model.specs.declared.node.GateKind.TheVariants.{Por}
+use Rattle.fault_words.specs.declared.kind.GateKind.TheVariants.{Por}
 use Rattle.cutset_lists.specs.Generation.{AddsSome, Follows, gate_rule}
 use Rattle.cutset_lists.proofs.GateLemmas.{por_list}
 use Rattle.cutset_lists.proofs.gate.first_list.Goals as goal

@@ -1,8 +1,8 @@
 use Rattle.std.proofs.Common.{sym, subst}
 use Rattle.std.proofs.lemmas.Result.{IfOk-weaker}
 use Rattle.std.specs.Result.{IfOk}
-use Rattle.fault_model.specs.declared.node.GateKind.{GateKind}
-use Rattle.fault_model.specs.declared.node.GateKind.TheVariants.{Or}
+use Rattle.fault_words.specs.declared.kind.GateKind.{GateKind}
+use Rattle.fault_words.specs.declared.kind.GateKind.TheVariants.{Or}
 use Rattle.cutset_lists.specs.Generation.{AddsSome, Follows, gate_rule}
 use Rattle.cutset_lists.proofs.GateLemmas.{or_list}
 use Rattle.cutset_lists.proofs.gate.gate_list.Goals as goal

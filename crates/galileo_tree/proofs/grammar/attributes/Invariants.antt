@@ -1,6 +1,6 @@
 use Rattle.std.proofs.Common.{◌≡◌, ◌≤◌, length, true}
 use Rattle.std.specs.Prelude.{All}
-use Rattle.fault_model.specs.Name.{is_bare_name}
+use Rattle.fault_words.specs.Name.{is_bare_name}
 use Rattle.galileo_tree.specs.ReadTree.{HasBareWord}
 use Rattle.galileo_tree.specs.Parsed.{AttributeEquals, parsed_from}
 use Rattle.galileo_tree.proofs.grammar.attributes.Given as goal

@@ -1,4 +1,4 @@
-use Rattle.fault_model.specs.declared.node.GateKind.TheVariants.{Or, Por, Fdep}
+use Rattle.fault_words.specs.declared.kind.GateKind.TheVariants.{Or, Por, Fdep}
 use Rattle.many_families.specs.Lists.{families}
 use Rattle.minimal_nodes.proofs.GateSteps.{all_of_kinds, first_given, gate_given, gate_gives, never_given}
 use Rattle.minimal_nodes.proofs.gates.make_gate.Goals as goal

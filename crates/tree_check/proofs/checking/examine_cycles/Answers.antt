@@ -1,5 +1,5 @@
 use Rattle.std.proofs.Common.{sym, subst, ap, ◌∙◌, drop}
-use Rattle.fault_model.specs.Names.{all_differ}
+use Rattle.fault_words.specs.Names.{all_differ}
 use Rattle.tree_check.specs.TreeOf.{HasNoCycle, AreRanks}
 use Rattle.tree_check.proofs.checking.examine_cycles.Goals as goal
 

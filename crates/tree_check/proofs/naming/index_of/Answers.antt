@@ -1,7 +1,7 @@
 use Rattle.std.proofs.Common.{arith, ◌≡◌, false, sym}
 use Rattle.std.proofs.lemmas.Grind.{common_steps}
 use Rattle.tree_check.specs.Said.{basic_names, gate_names}
-use Rattle.fault_model.specs.Names.{all_differ}
+use Rattle.fault_words.specs.Names.{all_differ}
 use Rattle.tree_check.proofs.Differ.{differ-front_false}
 use Rattle.tree_check.proofs.naming.index_of.Goals as goal
 

@@ -1,7 +1,7 @@
 use Rattle.std.proofs.Common.{arith, ◌≡◌, true}
 use Rattle.std.proofs.lemmas.Grind.{common_steps}
 use Rattle.tree_check.specs.Said.{names}
-use Rattle.fault_model.specs.Names.{all_differ}
+use Rattle.fault_words.specs.Names.{all_differ}
 use Rattle.tree_check.proofs.Differ.{no_repeat}
 use Rattle.tree_check.proofs.naming.name_all.Goals as goal
 

@@ -1,6 +1,6 @@
 use Rattle.std.proofs.Common.{arith, refl, ap, ◌∙◌, ◌≡◌}
 use Rattle.std.proofs.lemmas.Grind.{common_steps}
-use Rattle.tree_check.specs.Said.{number_in}
+use Rattle.fault_words.specs.Names.{number_in}
 use Rattle.tree_check.specs.Classes.{first}
 use Rattle.tree_check.proofs.Numbers.{unknown, known}
 use Rattle.tree_check.proofs.numbering.number.Goals as goal

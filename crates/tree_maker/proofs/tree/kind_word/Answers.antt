@@ -1,5 +1,5 @@
 use Rattle.std.proofs.Common.{◌∙◌, ap, sym, slice_index_or}
-use Rattle.fault_model.specs.declared.node.GateKind.TheVariants.{And}
+use Rattle.fault_words.specs.declared.kind.GateKind.TheVariants.{And}
 use Rattle.text_pieces.specs.GateWords.{gate_word}
 use Rattle.tree_maker.specs.MadeDeck.{kinds}
 use Rattle.tree_maker.proofs.Texts.{two_of_three}

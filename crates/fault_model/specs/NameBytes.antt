@@ -1,8 +1,0 @@
--- The bytes that a name keeps in its value or in memory of their own.
-use Rattle.std.specs.Prelude.{ℕ, List}
-use Rattle.fault_model.specs.declared.name_bytes.NameBytes.{NameBytes}
-use Rattle.fault_model.specs.declared.name_bytes.NameBytes.TheVariants.{Few, Many}
-
-abbrev pub bytes_of : NameBytes → List ℕ
-bytes_of (Few few) = few
-bytes_of (Many many) = many.value.items
