@@ -8,8 +8,8 @@ use Rattle.std.proofs.lemmas.List.{get_or_default}
 use Rattle.std.proofs.lemmas.List.Concat.{flat_map-append}
 use Rattle.std.proofs.lemmas.List.Folds.{flat_map-map}
 use Rattle.fault_words.specs.Name.{is_name}
-use Rattle.fault_model.specs.Tree.{FaultTree, IsGateOf, IsUnitOf, inputs_of, kind_of, name_of, unit_count}
-use Rattle.fault_model.specs.WellFormed.{IsTree}
+use Rattle.fault_definitions.specs.Tree.{FaultTree, IsGateOf, IsUnitOf, inputs_of, kind_of, name_of, unit_count}
+use Rattle.fault_definitions.specs.WellFormed.{IsTree}
 use Rattle.deck_reading.specs.TreeStatements.{HasNames, IsNamed, gate_numbers, gate_statement, node_name, statements_of}
 use Rattle.deck_reading.specs.TreeStatements.{unit_numbers, unit_statement}
 use Rattle.deck_reading.specs.Written.{input_text as written_input, quoted, statement_text, written}

@@ -1,7 +1,7 @@
 -- The summary of a made deck: how large its tree is, how many cut sets and failing orders it has, and what came of its
 -- requests on a board.
 use Rattle.std.specs.Prelude.{ℕ, Bool, true, false, List, ◌++◌, length, filter, codes, decimal, Option}
-use Rattle.fault_model.specs.Tree.{FaultTree, unit_count, gate_count}
+use Rattle.fault_definitions.specs.Tree.{FaultTree, unit_count, gate_count}
 use Rattle.cut_sequences.specs.Orders.{order_total}
 use Rattle.margin_policy.specs.Decide.{is_granted}
 use Rattle.margin_policy.specs.Held.{units_out}

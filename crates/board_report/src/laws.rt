@@ -1,7 +1,7 @@
 //! Laws of the texts. The functions do nothing, or call the laws that they stand on.
 ghost use Rattle.std.specs.Prelude.{◌≡◌, ℕ, List};
-ghost use Rattle.fault_model.specs.Tree.{FaultTree};
-ghost use Rattle.fault_model.specs.WellFormed.{IsTree};
+ghost use Rattle.fault_definitions.specs.Tree.{FaultTree};
+ghost use Rattle.fault_definitions.specs.WellFormed.{IsTree};
 ghost use Rattle.deck_reading.specs.Deck.{StandsFor};
 ghost use Rattle.deck_reading.specs.TreeStatements.{IsNamed, statements_of};
 ghost use Rattle.deck_reading.specs.Written.{written};

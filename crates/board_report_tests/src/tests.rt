@@ -1,6 +1,6 @@
 //! The texts, as a sink in memory takes them.
 ghost use Rattle.std.specs.Prelude.{◌≡◌, ◌≤◌, [], All, IfOk};
-ghost use Rattle.fault_model.specs.Tree.{IsUnitOf};
+ghost use Rattle.fault_definitions.specs.Tree.{IsUnitOf};
 ghost use Rattle.cut_texts.specs.OrdersOfUnits.{AreOrdersOf};
 ghost use Rattle.cut_texts.specs.UnitTexts.{AreTextsOf};
 

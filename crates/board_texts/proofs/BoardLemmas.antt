@@ -14,7 +14,7 @@ use Rattle.unit_sets.specs.Words.{passing_below}
 use Rattle.unit_sets.specs.declared.request.CrewNo.{CrewNo}
 use Rattle.residual_ledger.proofs.Passing.{passing-more, passing-none, length-passing-more}
 use Rattle.residual_ledger.specs.Residual.{residual, cut_at}
-use Rattle.fault_model.specs.Tree.{FaultTree, unit_count}
+use Rattle.fault_definitions.specs.Tree.{FaultTree, unit_count}
 use Rattle.crew_script.specs.Dockets.{crew_at}
 use Rattle.crew_script.specs.declared.dockets.Crew.{Crew}
 use Rattle.margin_policy.specs.Held.{Held, holder_of, units_out}

@@ -3,7 +3,7 @@ use Rattle.std.specs.Prelude.{◌≡◌, ℕ, ◌+◌, Bool, true, false, ◌&&�
 use Rattle.std.specs.Prelude.{Option, Some, None, if◌then◌else◌}
 use Rattle.std.specs.List.{flat_map, list_any}
 use Rattle.unit_sets.specs.declared.request.CrewNo.{CrewNo}
-use Rattle.fault_model.specs.Tree.{FaultTree, unit_count, name_of}
+use Rattle.fault_definitions.specs.Tree.{FaultTree, unit_count, name_of}
 use Rattle.residual_ledger.specs.Residual.{residual}
 use Rattle.crew_script.specs.declared.dockets.Crew.{Crew}
 use Rattle.margin_policy.specs.Held.{Held, holder_of, units_out}

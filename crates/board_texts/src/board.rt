@@ -3,7 +3,7 @@ ghost use Rattle.std.specs.Prelude.{◌≡◌, ◌<◌, ◌+◌, ◌≤◌, ◌+
 ghost use Rattle.std.specs.Prelude.{if◌then◌else◌, decimal};
 ghost use Rattle.std.specs.List.{flat_map, list_any};
 ghost use Rattle.edge_io.specs.Out.{has_failed, Puts};
-ghost use Rattle.fault_model.specs.Tree.{IsUnitOf, name_of, unit_count};
+ghost use Rattle.fault_definitions.specs.Tree.{IsUnitOf, name_of, unit_count};
 ghost use Rattle.margin_policy.specs.Held.{holder_of, units_out};
 ghost use Rattle.margin_policy.specs.Holders.{HolderBelow, HoldersBelow};
 ghost use Rattle.residual_ledger.specs.Residual.{residual};

@@ -4,7 +4,7 @@ ghost use Rattle.std.specs.Prelude.{is_some, if◌then◌else◌};
 ghost use Rattle.std.specs.List.{flat_map};
 ghost use Rattle.unit_sets.specs.Unit.{most_units};
 ghost use Rattle.edge_io.specs.Out.{has_failed, Puts};
-ghost use Rattle.fault_model.specs.Tree.{IsNodeOf, name_of, unit_count};
+ghost use Rattle.fault_definitions.specs.Tree.{IsNodeOf, name_of, unit_count};
 ghost use Rattle.margin_policy.specs.Held.{holder_of, units_out};
 ghost use Rattle.margin_policy.specs.Holders.{HoldersBelow};
 ghost use Rattle.text_pieces.specs.Shown.{show};

@@ -14,10 +14,10 @@ use Rattle.std.proofs.lemmas.List.Elements.{filter-append, All-from_get_or, recu
 use Rattle.std.proofs.lemmas.List.Elements.{All-take, All-drop}
 use Rattle.std.proofs.lemmas.List.Folds.{length-flat_map-take}
 use Rattle.unit_sets.specs.UnitList.{among, IsRising}
-use Rattle.fault_model.specs.Tree.{FaultTree, IsUnitOf}
-use Rattle.fault_model.specs.WellFormed.{IsTree}
-use Rattle.fault_model.specs.FailingOrder.{is_admissible, is_failing}
-use Rattle.fault_model.specs.Step.{step}
+use Rattle.fault_definitions.specs.Tree.{FaultTree, IsUnitOf}
+use Rattle.fault_definitions.specs.WellFormed.{IsTree}
+use Rattle.fault_definitions.specs.FailingOrder.{is_admissible, is_failing}
+use Rattle.fault_definitions.specs.Step.{step}
 use Rattle.replay_semantics.proofs.Places.{among-append}
 use Rattle.replay_semantics.proofs.AdmissionLaws.{admissible_before}
 use Rattle.cut_sequences.specs.declared.refusal.OrderEnd.{OrderEnd}

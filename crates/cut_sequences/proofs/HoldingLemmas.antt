@@ -4,7 +4,7 @@ use Rattle.std.proofs.Common.{get_or, drop, Option, Some, None, is_some, unwrap_
 use Rattle.std.proofs.Common.{arith, append-nil, length-append, length-drop, if◌then◌else◌}
 use Rattle.std.proofs.lemmas.Bool.{le-leb, lt-leb, both_ways}
 use Rattle.std.proofs.lemmas.List.{length-take-le}
-use Rattle.fault_model.specs.Tree.{FaultTree}
+use Rattle.fault_definitions.specs.Tree.{FaultTree}
 use Rattle.flat_rows.specs.Rows.{between, rows_from, start_of, Rise}
 use Rattle.flat_rows.proofs.RowsLemmas.{length-rows_from, row_at, rows_from-push, Rise-at, Rise-push}
 use Rattle.cut_sequences.specs.Orders.{failing_orders, orders_of, order_count, order_limit, order_total, is_listed}

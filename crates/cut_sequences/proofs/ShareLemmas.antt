@@ -8,8 +8,8 @@ use Rattle.std.proofs.lemmas.Bool.Decides.{nat_tests}
 use Rattle.unit_sets.specs.CutOrder.{IsOrderedCuts, weight, weight_limit}
 use Rattle.unit_sets.proofs.CutOrderLemmas.{cut_at}
 use Rattle.unit_sets.proofs.Sorted.{All-slice_get}
-use Rattle.fault_model.specs.Tree.{FaultTree, IsUnitOf}
-use Rattle.fault_model.specs.WellFormed.{IsTree}
+use Rattle.fault_definitions.specs.Tree.{FaultTree, IsUnitOf}
+use Rattle.fault_definitions.specs.WellFormed.{IsTree}
 use Rattle.cut_sequences.specs.declared.refusal.OrderEnd.{OrderEnd}
 use Rattle.cut_sequences.specs.Orders.{orders_of, order_lists, order_count, order_total, IsOver}
 use Rattle.cut_sequences.specs.Going.{CanGoOn}

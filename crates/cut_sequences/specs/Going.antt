@@ -2,9 +2,9 @@
 use Rattle.std.specs.Prelude.{◌≡◌, ℕ, ◌+◌, ◌≤◌, true, false, List, [], ◌∷◌, ◌++◌, length, map, filter, All, Result, Ok}
 use Rattle.std.specs.Prelude.{Err, remove, slice_index}
 use Rattle.unit_sets.specs.UnitList.{among, IsRising}
-use Rattle.fault_model.specs.Tree.{FaultTree, IsUnitOf}
-use Rattle.fault_model.specs.WellFormed.{IsTree}
-use Rattle.fault_model.specs.FailingOrder.{is_failing}
+use Rattle.fault_definitions.specs.Tree.{FaultTree, IsUnitOf}
+use Rattle.fault_definitions.specs.WellFormed.{IsTree}
+use Rattle.fault_definitions.specs.FailingOrder.{is_failing}
 use Rattle.cut_sequences.specs.declared.refusal.OrderEnd.{OrderEnd}
 use Rattle.cut_sequences.specs.Orders.{order_limit, IsOver}
 use Rattle.cut_sequences.specs.Permutations.{permutations}

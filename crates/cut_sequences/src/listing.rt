@@ -1,6 +1,6 @@
 //! The orders of each cut set that fail the top event.
 ghost use Rattle.std.specs.Prelude.{◌≡◌, ◌<◌, ◌≤◌, length, All, IfOk, IsErrOf, drop};
-ghost use Rattle.fault_model.specs.Tree.{IsUnitOf};
+ghost use Rattle.fault_definitions.specs.Tree.{IsUnitOf};
 ghost use Rattle.cut_sequences.specs.Orders.{order_limit, order_lists, order_total};
 
 use crate::lists::gather;

@@ -3,7 +3,7 @@
 //! No worker runs far ahead of the others, so that all stop soon after they have too many orders together.
 ghost use Rattle.std.specs.Prelude.{◌≡◌, ◌<◌, ◌≤◌, ℕ, true, false, length, map, slice_index_or, All, IfOk, IsErrOf};
 ghost use Rattle.std.specs.Prelude.{Contains, Ok, Err, drop, sum_by};
-ghost use Rattle.fault_model.specs.Tree.{IsUnitOf};
+ghost use Rattle.fault_definitions.specs.Tree.{IsUnitOf};
 ghost use Rattle.cut_sequences.specs.Dealing.{AreShares, Share as Lists};
 ghost use Rattle.cut_sequences.specs.Orders.{order_limit, order_lists, order_total};
 ghost use Rattle.cut_sequences.specs.Working.{WentOn, AreAtWork, HasStopped, orders_of_work};

@@ -3,10 +3,10 @@
 ghost use Rattle.std.specs.Prelude.{◌≡◌, ◌<◌, ◌≤◌, true, false, [], ◌∷◌, ◌++◌, length, All, IfOk, OnOk, is_some};
 ghost use Rattle.std.specs.Prelude.{remove, slice_index};
 ghost use Rattle.unit_sets.specs.UnitList.{among};
-ghost use Rattle.fault_model.specs.FailingOrder.{is_admissible};
-ghost use Rattle.fault_model.specs.Step.{step};
-ghost use Rattle.fault_model.specs.Tree.{IsUnitOf};
-ghost use Rattle.fault_model.specs.WellFormed.{IsTree};
+ghost use Rattle.fault_definitions.specs.FailingOrder.{is_admissible};
+ghost use Rattle.fault_definitions.specs.Step.{step};
+ghost use Rattle.fault_definitions.specs.Tree.{IsUnitOf};
+ghost use Rattle.fault_definitions.specs.WellFormed.{IsTree};
 ghost use Rattle.cut_sequences.specs.Orders.{failing_orders, order_limit};
 ghost use Rattle.cut_sequences.specs.Going.{CanGoOn, failing_from, failing_after, Lists};
 

@@ -1,7 +1,7 @@
 //! The sets that one worker gets, and their orders in one buffer.
 ghost use Rattle.std.specs.Prelude.{◌≡◌, ◌<◌, ◌≤◌, [], length, All, OnOk, true, slice_index_or};
-ghost use Rattle.fault_model.specs.Tree.{IsUnitOf};
-ghost use Rattle.fault_model.specs.WellFormed.{IsTree};
+ghost use Rattle.fault_definitions.specs.Tree.{IsUnitOf};
+ghost use Rattle.fault_definitions.specs.WellFormed.{IsTree};
 ghost use Rattle.cut_sequences.specs.Going.{CanGoOn};
 ghost use Rattle.cut_sequences.specs.Working.{AddsSets, WentOn, work_of};
 ghost use Rattle.flat_rows.specs.Rows.{start_of};

@@ -4,7 +4,7 @@ use Rattle.std.proofs.Common.{arith, append_assoc, append-nil, length-append}
 use Rattle.std.specs.Prelude.{Some}
 use Rattle.std.proofs.lemmas.Grind.{common_steps}
 use Rattle.std.proofs.lemmas.List.Elements.{All-pop}
-use Rattle.fault_model.specs.Tree.{FaultTree, IsUnitOf}
+use Rattle.fault_definitions.specs.Tree.{FaultTree, IsUnitOf}
 use Rattle.cut_texts.specs.UnitTexts.{Spells, spaced, unit_text}
 
 spaced_push : (tree : FaultTree) (units : List ℕ) (unit : ℕ)

@@ -6,7 +6,7 @@ use Rattle.std.proofs.lemmas.List.{drop_more, drop_all}
 use Rattle.std.proofs.lemmas.Option.{slice_get_within, slice_get-get_or}
 use Rattle.cut_sequences.specs.Orders.{order_total}
 use Rattle.edge_io.specs.Out.{Output, Puts}
-use Rattle.fault_model.specs.Tree.{FaultTree, unit_count, gate_count}
+use Rattle.fault_definitions.specs.Tree.{FaultTree, unit_count, gate_count}
 use Rattle.cut_texts.specs.CutsText.{Listed, count_line, cut_block, cut_blocks, listed_with, orders_in, tree_counts}
 
 -- the set at a place

@@ -1,6 +1,6 @@
 -- Texts of units, made one after another.
 use Rattle.std.specs.Prelude.{◌≡◌, ℕ, ◌-◌, ◌≤◌, List, [], length, slice_index_or}
-use Rattle.fault_model.specs.Tree.{FaultTree, unit_count}
+use Rattle.fault_definitions.specs.Tree.{FaultTree, unit_count}
 use Rattle.cut_texts.specs.UnitTexts.{unit_text}
 
 -- the texts of so many units

@@ -3,7 +3,7 @@
 use Rattle.std.specs.Prelude.{ℕ, ◌+◌, List, [], ◌∷◌, ◌++◌, length, map, codes, decimal, Option, Some, None}
 use Rattle.cut_sequences.specs.Orders.{order_total}
 use Rattle.std.specs.List.{flat_map}
-use Rattle.fault_model.specs.Tree.{FaultTree, unit_count, gate_count, name_of}
+use Rattle.fault_definitions.specs.Tree.{FaultTree, unit_count, gate_count, name_of}
 use Rattle.text_pieces.specs.Shown.{show}
 use Rattle.cut_texts.specs.UnitTexts.{spaced}
 

@@ -1,7 +1,7 @@
 -- The text of the command `diagram`: the tree, how its cut sets were found, how many they are and how many members
 -- they have.
 use Rattle.std.specs.Prelude.{ℕ, List, ◌++◌, length, sum_by, codes, decimal, Option, Some, None}
-use Rattle.fault_model.specs.Tree.{FaultTree}
+use Rattle.fault_definitions.specs.Tree.{FaultTree}
 use Rattle.cut_texts.specs.CutsText.{tree_line}
 
 -- by a diagram of so many nodes, or by lists

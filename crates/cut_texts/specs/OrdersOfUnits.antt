@@ -1,7 +1,7 @@
 -- Orders of the units of a tree, listed for each of its cut sets.
 use Rattle.std.specs.Prelude.{◌≡◌, ℕ, List, [], length}
 use Rattle.std.specs.Prelude.{All, Option, unwrap_or}
-use Rattle.fault_model.specs.Tree.{FaultTree, IsUnitOf}
+use Rattle.fault_definitions.specs.Tree.{FaultTree, IsUnitOf}
 
 -- the orders of a cut set, where they are listed, are orders of units of the tree
 abbrev pub AreOfUnits : FaultTree → Option (List (List ℕ)) → Type 0

@@ -1,7 +1,7 @@
 -- The texts of the units of a tree, and of some of them one after another.
 use Rattle.std.specs.Prelude.{◌≡◌, ℕ, ◌-◌, ◌≤◌, List, [], All, length, slice_index_or}
 use Rattle.std.specs.List.{flat_map}
-use Rattle.fault_model.specs.Tree.{FaultTree, IsUnitOf, unit_count, name_of}
+use Rattle.fault_definitions.specs.Tree.{FaultTree, IsUnitOf, unit_count, name_of}
 use Rattle.text_pieces.specs.Shown.{named}
 
 -- a unit's name behind a blank

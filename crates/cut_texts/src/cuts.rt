@@ -2,7 +2,7 @@
 ghost use Rattle.std.specs.Prelude.{◌≡◌, ◌<◌, ◌+◌, is_err, length, false, All, None, slice_index_or};
 ghost use Rattle.cut_sequences.specs.Orders.{orders_at};
 ghost use Rattle.edge_io.specs.Out.{has_failed, Puts};
-ghost use Rattle.fault_model.specs.Tree.{IsUnitOf, name_of};
+ghost use Rattle.fault_definitions.specs.Tree.{IsUnitOf, name_of};
 ghost use Rattle.cut_texts.specs.CutsText.{count_line, cut_block, cut_blocks, cut_line, cut_number, cuts_text};
 ghost use Rattle.cut_texts.specs.CutsText.{listed_with, titled_line, tree_counts, tree_line};
 ghost use Rattle.cut_texts.specs.OrdersOfUnits.{AreOrdersOf};

@@ -1,6 +1,6 @@
 //! The names of units in a row, kept from one line to the next.
 ghost use Rattle.std.specs.Prelude.{◌≡◌, ◌-◌, ◌<◌, ◌≤◌, [], ◌++◌, ◌∷◌, All, IsTrue, OnOk, length, take};
-ghost use Rattle.fault_model.specs.Tree.{FaultTree, IsUnitOf};
+ghost use Rattle.fault_definitions.specs.Tree.{FaultTree, IsUnitOf};
 ghost use Rattle.cut_texts.specs.UnitTexts.{AreTextsOf, Spells, spaced};
 
 use crate::pieces::Spelled;

@@ -3,7 +3,7 @@ ghost use Rattle.std.specs.Prelude.{◌≡◌, ◌<◌, is_err, length, true, fa
 ghost use Rattle.std.specs.List.{flat_map};
 ghost use Rattle.cut_sequences.specs.Orders.{is_listed, orders_at};
 ghost use Rattle.edge_io.specs.Out.{has_failed, Puts};
-ghost use Rattle.fault_model.specs.Tree.{IsUnitOf};
+ghost use Rattle.fault_definitions.specs.Tree.{IsUnitOf};
 ghost use Rattle.cut_texts.specs.CutsText.{order_line, order_lines};
 ghost use Rattle.cut_texts.specs.UnitTexts.{AreTextsOf, Spells};
 

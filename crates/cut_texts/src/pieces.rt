@@ -2,7 +2,7 @@
 ghost use Rattle.std.specs.Prelude.{◌≡◌, ◌<◌, is_err, length, false, All};
 ghost use Rattle.std.specs.List.{flat_map};
 ghost use Rattle.edge_io.specs.Out.{has_failed, Puts};
-ghost use Rattle.fault_model.specs.Tree.{IsUnitOf};
+ghost use Rattle.fault_definitions.specs.Tree.{IsUnitOf};
 ghost use Rattle.cut_texts.specs.UnitTexts.{AreTextsOf, Spells, spaced, unit_text};
 
 use crate::line::Line;

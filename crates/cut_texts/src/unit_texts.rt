@@ -1,6 +1,6 @@
 //! The text of each unit.
 ghost use Rattle.std.specs.Prelude.{◌≡◌, ◌-◌, ◌<◌, ◌≤◌, [], ◌++◌, ◌∷◌, length, IfOk, OnOk, slice_index_or};
-ghost use Rattle.fault_model.specs.Tree.{FaultTree, IsUnitOf, name_of};
+ghost use Rattle.fault_definitions.specs.Tree.{FaultTree, IsUnitOf, name_of};
 ghost use Rattle.text_pieces.specs.Shown.{named};
 ghost use Rattle.cut_texts.specs.UnitTexts.{AreTextsOf, Spells, unit_text};
 

@@ -7,7 +7,7 @@ use Rattle.std.proofs.lemmas.Bool.Decides.{nat_tests}
 use Rattle.std.proofs.lemmas.List.{take_more, take_all, get_or-set_other, get_or-set_same, length-replicate, length-set}
 use Rattle.std.proofs.lemmas.List.{get_or_default}
 use Rattle.std.proofs.lemmas.List.Elements.{All-nil, All-cons, All-get_or, All-replicate, All-set}
-use Rattle.fault_model.specs.Reading.{true_count}
+use Rattle.fault_definitions.specs.Reading.{true_count}
 use Rattle.cutset_lists.specs.Sets.{IsSetOf, AreSetsOf, AddsBoth, AddsSetsOf, IsReducedFrom}
 use Rattle.cutset_lists.specs.Generation.{list_at, HasList, reading_of, Follows, at_least_rule}
 use Rattle.cutset_lists.specs.Counts.{count_at, counts_of_none, IsCounting, CountsMore, CountsList}

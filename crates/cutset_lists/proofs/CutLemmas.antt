@@ -20,11 +20,11 @@ use Rattle.unit_sets.proofs.UnitListLemmas.{among-from_Contains, among-from_is_w
 use Rattle.unit_sets.proofs.UnitListLemmas.{IsRising-without_unit}
 use Rattle.unit_sets.specs.CutOrder.{cut_cmp, IsInCutOrder}
 use Rattle.std.proofs.lemmas.List.{take_more}
-use Rattle.fault_model.specs.Tree.{FaultTree, IsUnitOf, unit_count}
-use Rattle.fault_model.specs.WellFormed.{IsTree}
-use Rattle.fault_model.specs.Reading.{reads}
-use Rattle.fault_model.proofs.ReadingLaws.{reads-empty}
-use Rattle.fault_model.specs.Cut.{IsMinimalCut, IsCutList}
+use Rattle.fault_definitions.specs.Tree.{FaultTree, IsUnitOf, unit_count}
+use Rattle.fault_definitions.specs.WellFormed.{IsTree}
+use Rattle.fault_definitions.specs.Reading.{reads}
+use Rattle.fault_definitions.proofs.ReadingLaws.{reads-empty}
+use Rattle.fault_definitions.specs.Cut.{IsMinimalCut, IsCutList}
 use Rattle.cutset_lists.specs.Sets.{IsSetOf, AreSetsOf, is_smaller_within, IsSharp, IsMinimalFrom}
 use Rattle.cutset_lists.specs.Generation.{is_unit_of, Generates}
 

@@ -9,7 +9,7 @@ use Rattle.std.proofs.lemmas.List.Folds.{list_any-append, list_all-append}
 use Rattle.std.proofs.lemmas.List.Elements.{All-append, All-nil, All-cons, All-get_or, All-weaker, All-contains}
 use Rattle.unit_sets.specs.UnitList.{IsRising, some_within}
 use Rattle.fault_words.specs.declared.kind.GateKind.TheVariants.{Or, Por}
-use Rattle.fault_model.specs.Reading.{first_reads}
+use Rattle.fault_definitions.specs.Reading.{first_reads}
 use Rattle.cutset_lists.specs.Sets.{IsSetOf, AreSetsOf, WithinBoth, AreSetsAs, IsMinimalFrom, IsReducedFrom}
 use Rattle.cutset_lists.specs.Generation.{list_at, HasList, reading_of, Follows, AddsSome, each_rule, gate_rule}
 use Rattle.cutset_lists.proofs.SetLemmas.{or-false, some_within-append}

@@ -7,9 +7,9 @@ use Rattle.std.proofs.lemmas.Bool.{cond-true, cond-false, and_from, le-leb, lt-l
 use Rattle.std.proofs.lemmas.List.Elements.{All-nil, All-cons}
 use Rattle.unit_sets.specs.UnitList.{IsRising, some_within}
 use Rattle.fault_words.specs.declared.kind.GateKind.{GateKind}
-use Rattle.fault_model.specs.Tree.{FaultTree, is_above_units, unit_count, kind_of, inputs_of}
-use Rattle.fault_model.specs.Trigger.{below, triggers_of}
-use Rattle.fault_model.specs.Reading.{gate_reads}
+use Rattle.fault_definitions.specs.Tree.{FaultTree, is_above_units, unit_count, kind_of, inputs_of}
+use Rattle.fault_definitions.specs.Trigger.{below, triggers_of}
+use Rattle.fault_definitions.specs.Reading.{gate_reads}
 use Rattle.cutset_lists.specs.Sets.{IsSetOf, AreSetsOf}
 use Rattle.cutset_lists.specs.Generation.{reading_of, Follows, AddsSome, gate_rule, is_unit_of, IsNodeList}
 

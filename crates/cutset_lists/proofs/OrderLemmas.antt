@@ -5,7 +5,7 @@ use Rattle.std.specs.List.Sorted.{IsPermutation}
 use Rattle.std.proofs.Common.{refl, sym, ◌∙◌, ap, subst}
 use Rattle.std.proofs.lemmas.List.Sorted.{All-permutation, list_any-IsPermutation, sum_by-IsPermutation}
 use Rattle.std.proofs.lemmas.List.Recursion.{is_sum_by}
-use Rattle.fault_model.specs.Reading.{true_count}
+use Rattle.fault_definitions.specs.Reading.{true_count}
 use Rattle.cutset_lists.specs.Generation.{HasList, reading_of, Follows, each_rule, at_least_rule}
 
 not_any : (b : Bool) (c : Bool) → (b && not c) ≡ not (not b || c)

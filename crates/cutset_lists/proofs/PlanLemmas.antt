@@ -7,12 +7,12 @@ use Rattle.std.proofs.lemmas.List.{take_more, take_all, get_or-set_other, get_or
 use Rattle.std.proofs.lemmas.List.{get_or_default}
 use Rattle.std.proofs.lemmas.List.Elements.{All-nil, All-get_or, All-more, All-weaker, All-contains}
 use Rattle.std.proofs.lemmas.List.Elements.{All-set, All-take, Contains-push_cases}
-use Rattle.fault_model.specs.Tree.{FaultTree, IsNodeOf}
-use Rattle.fault_model.specs.Trigger.{below}
-use Rattle.fault_model.specs.WellFormed.{IsTree}
+use Rattle.fault_definitions.specs.Tree.{FaultTree, IsNodeOf}
+use Rattle.fault_definitions.specs.Trigger.{below}
+use Rattle.fault_definitions.specs.WellFormed.{IsTree}
 use Rattle.fault_model.specs.TreeTables.{IsFromBelow}
-use Rattle.fault_model.specs.Reading.{reads}
-use Rattle.fault_model.proofs.ReadingLaws.{node_reads-agree, reads-node}
+use Rattle.fault_definitions.specs.Reading.{reads}
+use Rattle.fault_definitions.proofs.ReadingLaws.{node_reads-agree, reads-node}
 use Rattle.cutset_lists.specs.Sets.{IsSetOf, AreSetsOf}
 use Rattle.cutset_lists.specs.Generation.{HasList, list_at, reading_of, is_unit_of, IsNodeList, Generates}
 use Rattle.cutset_lists.specs.Plan.{until_of, HasEnd, Keeps, IsPlanFrom, IsPlan, Releases, IsBuiltTo}

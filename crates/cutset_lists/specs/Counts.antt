@@ -1,7 +1,7 @@
 -- Lists that count by how many of some nodes they are true.
 use Rattle.std.specs.Prelude.{◌≡◌, ℕ, ◌+◌, ◌-◌, ◌<◌, ◌≤◌, Bool, ◌&&◌, ◌||◌, nat_le, List, [], ◌∷◌, length, All}
 use Rattle.std.specs.Prelude.{replicate, slice_index_or, slice_set}
-use Rattle.fault_model.specs.Reading.{true_count}
+use Rattle.fault_definitions.specs.Reading.{true_count}
 use Rattle.cutset_lists.specs.Sets.{AreSetsOf}
 use Rattle.cutset_lists.specs.Generation.{reading_of}
 use Rattle.unit_sets.specs.UnitList.{some_within}

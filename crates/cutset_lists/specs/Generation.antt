@@ -3,9 +3,9 @@ use Rattle.std.specs.Prelude.{◌≡◌, ℕ, ◌-◌, ◌<◌, ◌≤◌, Bool,
 use Rattle.std.specs.List.{list_any, list_all}
 use Rattle.unit_sets.specs.CutOrder.{weight, weight_limit}
 use Rattle.fault_words.specs.declared.kind.GateKind.{GateKind}
-use Rattle.fault_model.specs.Tree.{FaultTree, unit_count}
-use Rattle.fault_model.specs.Reading.{true_count, gate_reads, node_reads, reads}
-use Rattle.fault_model.specs.Cut.{IsCutList}
+use Rattle.fault_definitions.specs.Tree.{FaultTree, unit_count}
+use Rattle.fault_definitions.specs.Reading.{true_count, gate_reads, node_reads, reads}
+use Rattle.fault_definitions.specs.Cut.{IsCutList}
 use Rattle.cutset_lists.specs.Sets.{AreSetsOf}
 use Rattle.unit_sets.specs.UnitList.{some_within}
 

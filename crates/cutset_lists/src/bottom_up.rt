@@ -1,6 +1,6 @@
 //! The lists of all nodes, from below upwards.
 ghost use Rattle.std.specs.Prelude.{◌≡◌, [], replicate, length, All, IfOk};
-ghost use Rattle.fault_model.specs.WellFormed.{IsTree};
+ghost use Rattle.fault_definitions.specs.WellFormed.{IsTree};
 ghost use Rattle.cutset_lists.specs.Generation.{HasList, Generates};
 ghost use Rattle.cutset_lists.specs.Plan.{Releases};
 

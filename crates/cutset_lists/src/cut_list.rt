@@ -1,6 +1,6 @@
 //! The cut list of a tree.
 ghost use Rattle.std.specs.Prelude.{◌≡◌, ◌<◌, ◌≤◌, length, All, IfOk, IsErrOf};
-ghost use Rattle.fault_model.specs.Cut.{IsCutList};
+ghost use Rattle.fault_definitions.specs.Cut.{IsCutList};
 ghost use Rattle.unit_sets.specs.CutOrder.{IsInCutOrder, weight, weight_limit};
 ghost use Rattle.unit_sets.specs.UnitList.{IsRising};
 ghost use Rattle.cutset_lists.specs.Generation.{HasHeavyCutList};

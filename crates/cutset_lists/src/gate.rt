@@ -1,6 +1,6 @@
 //! The list of a node, from those of the nodes that it reads.
 ghost use Rattle.std.specs.Prelude.{◌≡◌, ◌∷◌, [], length, take, All, IfOk};
-ghost use Rattle.fault_model.specs.Tree.{IsNodeOf, node_count};
+ghost use Rattle.fault_definitions.specs.Tree.{IsNodeOf, node_count};
 ghost use Rattle.cutset_lists.specs.Sets.{IsReducedFrom};
 ghost use Rattle.cutset_lists.specs.Generation.{HasList, AddsSome, Follows, each_rule, gate_rule, IsNodeList};
 

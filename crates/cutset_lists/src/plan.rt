@@ -1,6 +1,6 @@
 //! Until when the list of each node is needed, so that its memory is given back after its last reader.
 ghost use Rattle.std.specs.Prelude.{All, IfOk};
-ghost use Rattle.fault_model.specs.Tree.{IsNodeOf};
+ghost use Rattle.fault_definitions.specs.Tree.{IsNodeOf};
 ghost use Rattle.cutset_lists.specs.Plan.{HasEnd, Keeps, IsPlan};
 
 use crate::NoMemory;

@@ -5,7 +5,7 @@ use Rattle.std.specs.List.{flat_map}
 use Rattle.std.proofs.lemmas.List.Elements.{All-append, All-cons, All-head, All-map, All-nil, All-tail, All-weaker}
 use Rattle.fault_words.specs.declared.attribute.Attribute.{Attribute}
 use Rattle.fault_words.specs.Name.{is_bare_name, is_name as is_name_text}
-use Rattle.fault_model.specs.Tree.{FaultTree}
+use Rattle.fault_definitions.specs.Tree.{FaultTree}
 use Rattle.galileo_lexer.specs.declared.token.TokenKind.{TokenKind}
 use Rattle.galileo_lexer.specs.declared.token.TokenKind.TheVariants.{Word, Quoted, Equals, Semicolon}
 use Rattle.galileo_lexer.specs.Lexed.{tokens_of}
@@ -20,8 +20,8 @@ use Rattle.galileo_tree.specs.Lexeme.{HasNameText, Lexeme, is_bare, is_name, is_
 use Rattle.galileo_tree.specs.Lexeme.{lexeme_of}
 use Rattle.galileo_tree.specs.Parsed.{lexemes_of, parsed_text}
 use Rattle.galileo_tree.proofs.NameTexts.{spelled_name}
-use Rattle.tree_check.specs.Said.{basic_names, basics, gate_names}
-use Rattle.tree_check.specs.TreeOf.{tree_of}
+use Rattle.statement_faults.specs.Said.{basic_names, basics, gate_names}
+use Rattle.statement_faults.specs.TreeOf.{tree_of}
 use Rattle.deck_reading.specs.Deck.{StandsFor, tree_part}
 use Rattle.deck_reading.specs.TreeStatements.{HasNames, IsNamed}
 

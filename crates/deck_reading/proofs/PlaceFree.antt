@@ -7,29 +7,29 @@ use Rattle.std.specs.List.{flat_map, list_any}
 use Rattle.std.proofs.lemmas.List.{drop-map, length-map, map-append}
 use Rattle.fault_words.specs.declared.kind.GateKind.{GateKind}
 use Rattle.unit_sets.specs.Unit.{most_units}
-use Rattle.fault_model.specs.declared.tree.TheConstants.{MOST_GATES}
+use Rattle.fault_definitions.specs.declared.parts.TheConstants.{MOST_GATES}
 use Rattle.fault_words.specs.declared.place.Place.{Place}
-use Rattle.fault_model.specs.Tree.{is_fdep_kind}
+use Rattle.fault_definitions.specs.Tree.{is_fdep_kind}
 use Rattle.galileo_tree.specs.declared.raw.Placed.{Placed}
 use Rattle.galileo_tree.specs.declared.raw.RawAttribute.{RawAttribute}
 use Rattle.galileo_tree.specs.declared.raw.RawBasic.{RawBasic}
 use Rattle.galileo_tree.specs.declared.raw.RawTop.{RawTop}
 use Rattle.galileo_tree.specs.declared.raw.Statement.{Statement}
 use Rattle.galileo_tree.specs.ReadTree.{ReadTree}
-use Rattle.tree_check.specs.declared.fault.CheckCode.{CheckCode}
-use Rattle.tree_check.specs.declared.fault.CheckCode.TheVariants.{NoToplevel, TwoToplevels, DuplicateName, Undefined}
-use Rattle.tree_check.specs.declared.fault.CheckCode.TheVariants.{Votes, DummyInput, NoInputs, FdepShape, DependentGate}
-use Rattle.tree_check.specs.declared.fault.CheckCode.TheVariants.{SpareNotBasic, SharedSpare, Replicated, TopIsFdep}
-use Rattle.tree_check.specs.declared.fault.CheckCode.TheVariants.{Cycle, TooManyUnits, TooManyGates}
+use Rattle.statement_faults.specs.declared.fault.CheckCode.{CheckCode}
+use Rattle.statement_faults.specs.declared.fault.CheckCode.TheVariants.{NoToplevel, TwoToplevels, DuplicateName, Undefined}
+use Rattle.statement_faults.specs.declared.fault.CheckCode.TheVariants.{Votes, DummyInput, NoInputs, FdepShape, DependentGate}
+use Rattle.statement_faults.specs.declared.fault.CheckCode.TheVariants.{SpareNotBasic, SharedSpare, Replicated, TopIsFdep}
+use Rattle.statement_faults.specs.declared.fault.CheckCode.TheVariants.{Cycle, TooManyUnits, TooManyGates}
 use Rattle.tree_check.specs.Checked.{places}
-use Rattle.tree_check.specs.Classes.{SpareUse, clash, dummies, dummies_in, fdep_tops, gates_after_first, gates_beyond}
-use Rattle.tree_check.specs.Classes.{inputless, is_empty, is_replicated, is_short_fdep, places_where, reads_nothing}
-use Rattle.tree_check.specs.Classes.{repeats_after, replicated, shared_after, short_fdeps, spare_uses, spare_uses_in}
-use Rattle.tree_check.specs.Classes.{undefined, units_beyond, uses_of, wrong_vote, wrong_votes}
+use Rattle.statement_faults.specs.Classes.{SpareUse, clash, dummies, dummies_in, fdep_tops, gates_after_first, gates_beyond}
+use Rattle.statement_faults.specs.Classes.{inputless, is_empty, is_replicated, is_short_fdep, places_where, reads_nothing}
+use Rattle.statement_faults.specs.Classes.{repeats_after, replicated, shared_after, short_fdeps, spare_uses, spare_uses_in}
+use Rattle.statement_faults.specs.Classes.{undefined, units_beyond, uses_of, wrong_vote, wrong_votes}
 use Rattle.fault_words.specs.Names.{has_name}
-use Rattle.tree_check.specs.Said.{basics, definitions, names, tops, uses}
-use Rattle.tree_check.specs.Numbered.{drops_fdeps, is_fdep_in, is_gate, is_spare_kind, kept_by, kept_inputs, kinds}
-use Rattle.tree_check.specs.Numbered.{numbered_gates, numbered_tops, unit_total}
+use Rattle.statement_faults.specs.Said.{basics, definitions, names, tops, uses}
+use Rattle.statement_faults.specs.Numbered.{drops_fdeps, is_fdep_in, is_gate, is_spare_kind, kept_by, kept_inputs, kinds}
+use Rattle.statement_faults.specs.Numbered.{numbered_gates, numbered_tops, unit_total}
 use Rattle.deck_reading.specs.Unplaced.{nowhere, unplaced, unplaced_attribute, unplaced_name}
 use Rattle.deck_reading.proofs.Anywhere.{Numbered, NumberedGate, all_basics, all_definitions, all_names}
 use Rattle.deck_reading.proofs.Anywhere.{all_numbered_gates, all_numbered_tops, all_tops, all_units, all_uses}

@@ -1,7 +1,7 @@
 -- What is read of a deck byte by byte is what the relations between whole lists relate it to.
 use Rattle.std.specs.Prelude.{◌≡◌, ◌↔◌, ℕ, List, take, drop, Option, Some, None, Result, Ok}
 use Rattle.std.proofs.Common.{sym, ap, subst, ◌∙◌, refl}
-use Rattle.fault_model.specs.Tree.{FaultTree}
+use Rattle.fault_definitions.specs.Tree.{FaultTree}
 use Rattle.galileo_lexer.specs.Lexed.{Lexed, tokens_of}
 use Rattle.galileo_lexer.specs.Pieces.{Reads}
 use Rattle.galileo_tree.specs.declared.fault.ParseFault.{ParseFault}

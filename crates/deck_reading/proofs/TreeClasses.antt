@@ -7,17 +7,17 @@ use Rattle.std.proofs.lemmas.Bool.{eq-eqb, le-ltb, ne_eqb, or_from}
 use Rattle.std.proofs.lemmas.List.{drop-map, drop_all, length-map}
 use Rattle.std.proofs.lemmas.List.Elements.{All-cons, All-head, All-nil, All-tail, All-weaker}
 use Rattle.std.proofs.lemmas.Slice.Zip.{length-zip}
-use Rattle.fault_model.specs.declared.tree.TheConstants.{MOST_GATES}
+use Rattle.fault_definitions.specs.declared.parts.TheConstants.{MOST_GATES}
 use Rattle.fault_words.specs.declared.kind.GateKind.{GateKind}
 use Rattle.fault_words.specs.declared.kind.GateKind.TheVariants.{And, Or, Votes, Pand, Por, Seq, Fdep, Csp, Wsp, Hsp}
-use Rattle.fault_model.specs.Tree.{FaultTree, IsUnitOf, is_fdep, is_fdep_kind, gate_count, unit_count}
-use Rattle.fault_model.specs.Tree as trees
-use Rattle.fault_model.specs.WellFormed.{IsSoundGate, IsSoundKind, IsTree}
-use Rattle.tree_check.specs.Classes.{dummies, dummies_in, fdep_tops, gates_after_first, gates_beyond, inputless}
-use Rattle.tree_check.specs.Classes.{is_empty, is_short_fdep, places_where, reads_nothing, short_fdeps, wrong_vote}
-use Rattle.tree_check.specs.Classes.{wrong_votes}
-use Rattle.tree_check.specs.Numbered.{drops_fdeps, is_fdep_in, is_gate, is_spare_kind, kept_by, kept_inputs, kinds}
-use Rattle.tree_check.specs.TreeOf.{input_lists, numbers}
+use Rattle.fault_definitions.specs.Tree.{FaultTree, IsUnitOf, is_fdep, is_fdep_kind, gate_count, unit_count}
+use Rattle.fault_definitions.specs.Tree as trees
+use Rattle.fault_definitions.specs.WellFormed.{IsSoundGate, IsSoundKind, IsTree}
+use Rattle.statement_faults.specs.Classes.{dummies, dummies_in, fdep_tops, gates_after_first, gates_beyond, inputless}
+use Rattle.statement_faults.specs.Classes.{is_empty, is_short_fdep, places_where, reads_nothing, short_fdeps, wrong_vote}
+use Rattle.statement_faults.specs.Classes.{wrong_votes}
+use Rattle.statement_faults.specs.Numbered.{drops_fdeps, is_fdep_in, is_gate, is_spare_kind, kept_by, kept_inputs, kinds}
+use Rattle.statement_faults.specs.TreeOf.{input_lists, numbers}
 use Rattle.deck_reading.proofs.Anywhere.{Numbered, NumberedGate}
 use Rattle.deck_reading.proofs.Passing.{map_through}
 use Rattle.deck_reading.proofs.TreeLists.{map_same, node_at, numbered_at}

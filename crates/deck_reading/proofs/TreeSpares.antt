@@ -8,11 +8,11 @@ use Rattle.std.proofs.lemmas.List.{get_or_default}
 use Rattle.std.proofs.lemmas.List.Elements.{All-cons, All-head, All-nil, All-tail, All-weaker}
 use Rattle.fault_words.specs.declared.kind.GateKind.{GateKind}
 use Rattle.fault_words.specs.declared.kind.GateKind.TheVariants.{And, Or, Votes, Pand, Por, Seq, Fdep, Csp, Wsp, Hsp}
-use Rattle.fault_model.specs.Tree.{FaultTree}
-use Rattle.fault_model.specs.Tree as trees
-use Rattle.fault_model.specs.WellFormed.{IsTree, primaries, primary_in, spares, spares_in}
-use Rattle.tree_check.specs.Classes.{SpareUse, clash, later_uses, shared_after, shared_spares, spare_uses}
-use Rattle.tree_check.specs.Classes.{spare_uses_in, uses_of}
+use Rattle.fault_definitions.specs.Tree.{FaultTree}
+use Rattle.fault_definitions.specs.Tree as trees
+use Rattle.fault_definitions.specs.WellFormed.{IsTree, primaries, primary_in, spares, spares_in}
+use Rattle.statement_faults.specs.Classes.{SpareUse, clash, later_uses, shared_after, shared_spares, spare_uses}
+use Rattle.statement_faults.specs.Classes.{spare_uses_in, uses_of}
 use Rattle.deck_reading.proofs.Anywhere.{Numbered}
 use Rattle.deck_reading.proofs.TreeLists.{node_at, numbered_at}
 

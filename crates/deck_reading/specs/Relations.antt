@@ -1,8 +1,8 @@
 -- What a deck is read as, by relations between whole lists: the line that divides it, the tokens of its tree part, the
 -- statements that the tokens spell, and the crews that the lines of its crew part say.
 use Rattle.std.specs.Prelude.{◌≡◌, ℕ, List, map, take, drop, Some, Result, Ok}
-use Rattle.fault_model.specs.Tree.{FaultTree}
-use Rattle.fault_model.specs.WellFormed.{IsTree}
+use Rattle.fault_definitions.specs.Tree.{FaultTree}
+use Rattle.fault_definitions.specs.WellFormed.{IsTree}
 use Rattle.galileo_lexer.specs.Lexed.{Lexed}
 use Rattle.galileo_lexer.specs.Pieces.{Reads}
 use Rattle.galileo_tree.specs.declared.fault.ParseFault.{ParseFault}

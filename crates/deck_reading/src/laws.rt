@@ -1,7 +1,7 @@
 //! Laws of decks. The functions do nothing but call the laws that they stand on.
 ghost use Rattle.std.specs.Prelude.{◌≡◌, ◌↔◌, ℕ, ◌+◌, List, ◌++◌, Result, Ok, Some, codes, length};
-ghost use Rattle.fault_model.specs.Tree.{FaultTree};
-ghost use Rattle.fault_model.specs.WellFormed.{IsTree};
+ghost use Rattle.fault_definitions.specs.Tree.{FaultTree};
+ghost use Rattle.fault_definitions.specs.WellFormed.{IsTree};
 ghost use Rattle.galileo_tree.specs.declared.fault.ParseFault.{ParseFault};
 ghost use Rattle.galileo_tree.specs.Parsed.{parsed_text};
 ghost use Rattle.galileo_tree.specs.ReadTree.{ReadTree};

@@ -5,13 +5,13 @@ use Rattle.std.proofs.lemmas.Bool.{cases_eq, cases_lt}
 use Rattle.std.proofs.lemmas.List.{get_or-take, get_or_default, length-take}
 use Rattle.std.proofs.lemmas.List.Elements.{All-weaker}
 use Rattle.unit_sets.specs.UnitList.{among}
-use Rattle.fault_model.specs.Tree.{FaultTree, IsNodeOf, node_count}
-use Rattle.fault_model.specs.Trigger.{below}
-use Rattle.fault_model.specs.Reading.{node_reads, reads}
-use Rattle.fault_model.proofs.ReadingLaws.{node_reads-agree, reads-node}
+use Rattle.fault_definitions.specs.Tree.{FaultTree, IsNodeOf, node_count}
+use Rattle.fault_definitions.specs.Trigger.{below}
+use Rattle.fault_definitions.specs.Reading.{node_reads, reads}
+use Rattle.fault_definitions.proofs.ReadingLaws.{node_reads-agree, reads-node}
 use Rattle.fault_model.specs.Scratch.{value_in}
 use Rattle.fault_model.specs.TreeTables.{IsFromBelow}
-use Rattle.fault_model.specs.WellFormed.{IsTree}
+use Rattle.fault_definitions.specs.WellFormed.{IsTree}
 
 -- the table has the readings of the first nodes of the order
 abbrev pub HasRead : FaultTree → List ℕ → List ℕ → List Bool → ℕ → Type 0

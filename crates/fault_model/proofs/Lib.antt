@@ -4,9 +4,3 @@ pub mod TreeLemmas
 pub mod RankingLemmas
 pub mod EvalLemmas
 pub mod OrderLemmas
-pub mod CutLaws
-pub mod CutLists
-pub mod StepLaws
-pub mod MinimalCuts
-pub mod RankLaws
-pub mod ReadingLaws

@@ -7,8 +7,8 @@ use Rattle.std.specs.List.{list_any}
 use Rattle.std.proofs.lemmas.Bool.{or_from, or_parts, false_from_ne_true, cond-false}
 use Rattle.std.proofs.lemmas.List.{get_or_append_left}
 use Rattle.std.proofs.lemmas.List.Elements.{All-head, All-tail}
-use Rattle.fault_model.specs.Tree.{FaultTree, name_of, unit_count, IsUnitOf}
-use Rattle.fault_model.specs.WellFormed.{IsTree}
+use Rattle.fault_definitions.specs.Tree.{FaultTree, name_of, unit_count, IsUnitOf}
+use Rattle.fault_definitions.specs.WellFormed.{IsTree}
 use lib.Pointwise.{pointwise, bytes_decides}
 use Rattle.name_index.proofs.Table.{Differ}
 

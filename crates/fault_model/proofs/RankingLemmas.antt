@@ -10,13 +10,13 @@ use Rattle.std.proofs.lemmas.List.Elements.{All-tail, All-weaker, Contains-appen
 use Rattle.graph_cycles.specs.Graph.{IsGraph, Goes, IsReverseTopological, Leads, has, rank_over, successors}
 use Rattle.graph_cycles.specs.Graph.Leads.{edge, way}
 use Rattle.graph_cycles.proofs.RankBound.{rank_low}
-use Rattle.fault_model.specs.Tree.{FaultTree, IsNodeOf, node_count, rank_of}
-use Rattle.fault_model.specs.Trigger.{below}
-use Rattle.fault_model.specs.Rank.{IsRanked, rank_over as tree_rank_over}
+use Rattle.fault_definitions.specs.Tree.{FaultTree, IsNodeOf, node_count, rank_of}
+use Rattle.fault_definitions.specs.Trigger.{below}
+use Rattle.fault_definitions.specs.Rank.{IsRanked, rank_over as tree_rank_over}
 use Rattle.fault_model.specs.Ranking.{AreRanks, places, with_ranks}
 use Rattle.fault_model.specs.TreeTables.{HoldsLists, IsFromBelow}
-use Rattle.fault_model.specs.WellFormed.{IsTree}
-use Rattle.fault_model.proofs.RankLaws.{below_are_nodes, below_ranks}
+use Rattle.fault_definitions.specs.WellFormed.{IsTree}
+use Rattle.fault_definitions.proofs.RankLaws.{below_are_nodes, below_ranks}
 
 -- ---- places
 

@@ -7,15 +7,15 @@ use Rattle.std.proofs.lemmas.List.{get_or_append_left, get_or-append_right}
 use Rattle.std.proofs.lemmas.List.Elements.{All-weaker}
 use Rattle.fault_words.specs.declared.kind.GateKind.{GateKind}
 use Rattle.fault_words.specs.declared.kind.GateKind.TheVariants.{And, Or, Votes, Pand, Por, Seq, Fdep, Csp, Wsp, Hsp}
-use Rattle.fault_model.specs.declared.parts.TreeParts.{TreeParts}
+use Rattle.fault_definitions.specs.declared.parts.TreeParts.{TreeParts}
 use Rattle.fault_words.specs.declared.attribute.Attribute.{Attribute}
 use lib.Seq.{drop-append_seam}
 use Rattle.fault_model.specs.declared.trigger.TriggerTable.{TriggerTable}
-use Rattle.fault_model.specs.Tree.{FaultTree, ranked, unit_count, node_count, gates, inputs_of, is_above_units}
-use Rattle.fault_model.specs.Tree.{IsNodeOf}
-use Rattle.fault_model.specs.Trigger.{below, triggers_of}
-use Rattle.fault_model.specs.Rank.{IsRanked}
-use Rattle.fault_model.specs.WellFormed.{IsTree, IsSoundGate, IsSoundKind}
+use Rattle.fault_definitions.specs.Tree.{FaultTree, ranked, unit_count, node_count, gates, inputs_of, is_above_units}
+use Rattle.fault_definitions.specs.Tree.{IsNodeOf}
+use Rattle.fault_definitions.specs.Trigger.{below, triggers_of}
+use Rattle.fault_definitions.specs.Rank.{IsRanked}
+use Rattle.fault_definitions.specs.WellFormed.{IsTree, IsSoundGate, IsSoundKind}
 use Rattle.fault_model.specs.TriggerTable.{IsUnitBelow, IsTableOf}
 use Rattle.fault_model.specs.Ranking.{AreRanks}
 use Rattle.fault_model.specs.TreeTables.{HoldsLists, HoldsTables, IsFromBelow, below_in}

@@ -11,7 +11,7 @@ use Rattle.std.proofs.lemmas.Slice.Zip.{length-zip, get_or-zip}
 use Rattle.std.proofs.lemmas.List.Folds.{list_any-append}
 use Rattle.unit_sets.specs.UnitList.{among}
 use Rattle.fault_words.specs.declared.kind.GateKind.{GateKind}
-use Rattle.fault_model.specs.Trigger.{dependents_in, trigger_by}
+use Rattle.fault_definitions.specs.Trigger.{dependents_in, trigger_by}
 use Rattle.fault_model.specs.TriggerTable.{IsUnitBelow, IsTableOf, AddsTriggers}
 use Rattle.fault_model.specs.declared.trigger.TriggerTable.{TriggerTable}
 

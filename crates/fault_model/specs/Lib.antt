@@ -1,13 +1,4 @@
-pub mod Tree
-pub mod Trigger
-pub mod Rank
-pub mod WellFormed
-pub mod Reading
-pub mod Cut
 pub mod Order
-pub mod Step
-pub mod FailingOrder
-pub mod CutFamily
 pub mod TriggerTable
 pub mod TreeTables
 pub mod Ranking

@@ -1,6 +1,6 @@
 -- The readings of nodes in a table by their numbers.
 use Rattle.std.specs.Prelude.{◌≡◌, ℕ, suc, ◌<◌, Bool, false, List, length, All, slice_index_or}
-use Rattle.fault_model.specs.Tree.{FaultTree, node_count}
+use Rattle.fault_definitions.specs.Tree.{FaultTree, node_count}
 
 -- what the table has for a node
 abbrev pub value_in : List Bool → ℕ → Bool

@@ -3,7 +3,7 @@ use Rattle.std.specs.Prelude.{◌≡◌, ℕ, ◌-◌, ◌<◌, ◌≤◌, List,
 use Rattle.std.specs.Prelude.{slice_index_or}
 use Rattle.fault_words.specs.declared.kind.GateKind.{GateKind}
 use Rattle.fault_model.specs.declared.trigger.TriggerTable.{TriggerTable}
-use Rattle.fault_model.specs.Trigger.{trigger_by}
+use Rattle.fault_definitions.specs.Trigger.{trigger_by}
 
 -- what a list has for a unit
 abbrev pub at_unit : List ℕ → ℕ → ℕ

@@ -1,9 +1,9 @@
 //! The ranks of a tree's nodes and an order from below, by a search for cycles in the graph of what nodes read.
 ghost use Rattle.std.specs.Prelude.{◌≡◌, suc, ◌^◌, ◌<◌, ◌≤◌, length, map, All, IfOk, OnOk};
 ghost use Rattle.fault_model.specs.Ranking.{AreRanks, places};
-ghost use Rattle.fault_model.specs.Tree.{FaultTree};
+ghost use Rattle.fault_definitions.specs.Tree.{FaultTree};
 ghost use Rattle.fault_model.specs.TreeTables.{HoldsLists, IsFromBelow};
-ghost use Rattle.fault_model.specs.WellFormed.{IsTree};
+ghost use Rattle.fault_definitions.specs.WellFormed.{IsTree};
 
 use crate::{NoMemory, NodeList, NodeNo};
 use flat_rows::Rows;

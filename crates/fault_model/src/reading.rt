@@ -3,9 +3,9 @@ ghost use Rattle.std.specs.Prelude.{◌≡◌, ℕ, ◌<◌, false, Bool, List, 
 ghost use Rattle.std.specs.List.{list_any, list_all};
 ghost use Rattle.unit_sets.specs.Unit.{IsUnit};
 ghost use Rattle.unit_sets.specs.UnitList.{among};
-ghost use Rattle.fault_model.specs.Reading.{first_reads, gate_reads, node_reads, reads, true_count};
+ghost use Rattle.fault_definitions.specs.Reading.{first_reads, gate_reads, node_reads, reads, true_count};
 ghost use Rattle.fault_model.specs.Scratch.{value_in, IsScratchFor, AreIn};
-ghost use Rattle.fault_model.specs.Tree.{is_fdep, IsNodeOf};
+ghost use Rattle.fault_definitions.specs.Tree.{is_fdep, IsNodeOf};
 
 use crate::{GateKind, NoMemory, NodeNo, Tree};
 use std::alloc::Global;

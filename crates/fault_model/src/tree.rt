@@ -1,11 +1,11 @@
 //! The fault tree that every crate above reads, and what it keeps.
 ghost use Rattle.std.specs.Prelude.{◌≡◌, ◌≢◌, ◌↔◌, ℕ, ◌-◌, ◌<◌, ◌≤◌, false, List, ◌++◌, All, IfOk, IfSome, IsNone};
-ghost use Rattle.fault_model.specs.Rank.{rank_over};
-ghost use Rattle.fault_model.specs.Tree.{ranked, unit_count, gate_count, kind_of, inputs_of, rank_of, name_of};
-ghost use Rattle.fault_model.specs.Tree.{attributes_of, is_fdep, IsGateOf, IsNodeOf, IsUnitOf};
+ghost use Rattle.fault_definitions.specs.Rank.{rank_over};
+ghost use Rattle.fault_definitions.specs.Tree.{ranked, unit_count, gate_count, kind_of, inputs_of, rank_of, name_of};
+ghost use Rattle.fault_definitions.specs.Tree.{attributes_of, is_fdep, IsGateOf, IsNodeOf, IsUnitOf};
 ghost use Rattle.fault_model.specs.TreeTables.{IsFromBelow};
-ghost use Rattle.fault_model.specs.Trigger.{below, triggers_of};
-ghost use Rattle.fault_model.specs.WellFormed.{IsTree};
+ghost use Rattle.fault_definitions.specs.Trigger.{below, triggers_of};
+ghost use Rattle.fault_definitions.specs.WellFormed.{IsTree};
 
 use crate::ranking::Ranking;
 use crate::trigger::TriggerTable;
@@ -17,9 +17,6 @@ use name_index::NodeNames;
 use std::alloc::Global;
 use std::marker::Model;
 use unit_sets::UnitNo;
-
-/// The most gates of a tree.
-pub const MOST_GATES: usize = 16_383;
 
 /// A fault tree that is well formed. A contract sees it as its parts and the rank of each node.
 #[derive(Drop)]
@@ -37,7 +34,7 @@ pub struct Tree {
 
 impl Model for Tree {
     ghost use Rattle.std.specs.Prelude.{drop, length};
-    ghost use Rattle.fault_model.specs.Tree.{FaultTree};
+    ghost use Rattle.fault_definitions.specs.Tree.{FaultTree};
     ghost use Rattle.fault_model.specs.TreeTables.{HoldsTables};
 
     ghost Value = { FaultTree };

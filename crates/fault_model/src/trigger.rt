@@ -1,7 +1,7 @@
 //! The table of triggers: one pass over the inputs of the `fdep` gates.
 ghost use Rattle.std.specs.Prelude.{◌≡◌, ◌≢◌, suc, ◌-◌, ◌^◌, ◌<◌, [], ◌∷◌, ◌++◌, length, drop, zip, All, IfOk, OnOk};
 ghost use Rattle.std.specs.Prelude.{slice_set};
-ghost use Rattle.fault_model.specs.Trigger.{dependents_in};
+ghost use Rattle.fault_definitions.specs.Trigger.{dependents_in};
 ghost use Rattle.fault_model.specs.TriggerTable.{IsUnitBelow, IsTableOf, AddsTriggers, AreMarks, at_unit, noted};
 
 use crate::{GateKind, NoMemory, NodeList, NodeNo};

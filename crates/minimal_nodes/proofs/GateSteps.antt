@@ -16,10 +16,10 @@ use Rattle.family_memory.specs.Memory.{Held, Has, IsSound, Went, Gave, RanOut, f
 use Rattle.family_memory.proofs.After.{Gave-there, RanOut-then, Went-then, still}
 use Rattle.many_families.specs.Lists.{families}
 use Rattle.minimal_nodes.specs.Gates.{IsLeastOfGate}
-use Rattle.fault_model.specs.CutFamily.{IsCutFamily}
-use Rattle.fault_model.specs.Tree.{FaultTree, IsGateOf, IsNodeOf, IsUnitOf, kind_of}
-use Rattle.fault_model.specs.Trigger.{below}
-use Rattle.fault_model.specs.WellFormed.{IsTree}
+use Rattle.fault_definitions.specs.CutFamily.{IsCutFamily}
+use Rattle.fault_definitions.specs.Tree.{FaultTree, IsGateOf, IsNodeOf, IsUnitOf, kind_of}
+use Rattle.fault_definitions.specs.Trigger.{below}
+use Rattle.fault_definitions.specs.WellFormed.{IsTree}
 use Rattle.minimal_nodes.proofs.NodeLaws.{gate_cut_family, unit_cut_family}
 use Rattle.tree_families.specs.Recipe.{StandFor, alone}
 

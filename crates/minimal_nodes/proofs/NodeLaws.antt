@@ -6,18 +6,18 @@ use Rattle.std.proofs.Common.{refl, sym, ◌∙◌, ap, subst}
 use Rattle.std.proofs.lemmas.Bool.{cond-true, cond-false, lt-ltb, le-ltb}
 use Rattle.fault_words.specs.declared.kind.GateKind.{GateKind}
 use Rattle.fault_words.specs.declared.kind.GateKind.TheVariants.{And, Or, Votes, Pand, Por, Seq, Fdep, Csp, Wsp, Hsp}
-use Rattle.fault_model.specs.CutFamily.{IsCutFamily}
-use Rattle.fault_model.specs.Reading.{reads, true_count, first_reads, gate_reads}
-use Rattle.fault_model.proofs.ReadingLaws.{reads-node}
-use Rattle.fault_model.specs.Tree.{FaultTree, IsGateOf, IsNodeOf, IsUnitOf, inputs_of, is_above_units, kind_of}
-use Rattle.fault_model.specs.Tree.{unit_count}
-use Rattle.fault_model.specs.Trigger.{below, triggers_of}
-use Rattle.fault_model.specs.WellFormed.{IsTree}
+use Rattle.fault_definitions.specs.CutFamily.{IsCutFamily}
+use Rattle.fault_definitions.specs.Reading.{reads, true_count, first_reads, gate_reads}
+use Rattle.fault_definitions.proofs.ReadingLaws.{reads-node}
+use Rattle.fault_definitions.specs.Tree.{FaultTree, IsGateOf, IsNodeOf, IsUnitOf, inputs_of, is_above_units, kind_of}
+use Rattle.fault_definitions.specs.Tree.{unit_count}
+use Rattle.fault_definitions.specs.Trigger.{below, triggers_of}
+use Rattle.fault_definitions.specs.WellFormed.{IsTree}
 use Rattle.family_operations.specs.Within.{count_within}
 use Rattle.minimal_families.specs.Least.{IsLeastFor}
 use Rattle.minimal_families.proofs.LeastLemmas.{IsLeastFor-same, minimal-from_within}
 use Rattle.minimal_nodes.specs.Gates.{first_within, gate_within, IsLeastOfGate}
-use Rattle.fault_model.proofs.RankLaws.{below_are_nodes}
+use Rattle.fault_definitions.proofs.RankLaws.{below_are_nodes}
 use Rattle.tree_families.proofs.Building.{all_generate, gate_below, unit_below}
 use Rattle.tree_families.proofs.CutFamilies.{cut_family-minimal}
 use Rattle.tree_families.proofs.FailingSets.{Generates-cut_family}

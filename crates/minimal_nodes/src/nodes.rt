@@ -1,8 +1,8 @@
 //! The cut family of a node.
 ghost use Rattle.std.specs.Prelude.{◌≤◌, All, IfErr, IfOk, length};
-ghost use Rattle.fault_model.specs.CutFamily.{IsCutFamily};
-ghost use Rattle.fault_model.specs.Tree.{IsNodeOf};
-ghost use Rattle.fault_model.specs.Trigger.{below};
+ghost use Rattle.fault_definitions.specs.CutFamily.{IsCutFamily};
+ghost use Rattle.fault_definitions.specs.Tree.{IsNodeOf};
+ghost use Rattle.fault_definitions.specs.Trigger.{below};
 ghost use Rattle.family_memory.specs.Memory.{Gave, Has, RanOut};
 ghost use Rattle.many_families.specs.Lists.{families};
 ghost use Rattle.tree_families.specs.Recipe.{StandFor};

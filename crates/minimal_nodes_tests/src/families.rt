@@ -1,7 +1,7 @@
 //! The cut family of a node, and what sets it has.
 ghost use Rattle.std.specs.Prelude.{IfOk, IfSome};
-ghost use Rattle.fault_model.specs.CutFamily.{IsCutFamily};
-ghost use Rattle.fault_model.specs.Tree.{IsNodeOf};
+ghost use Rattle.fault_definitions.specs.CutFamily.{IsCutFamily};
+ghost use Rattle.fault_definitions.specs.Tree.{IsNodeOf};
 ghost use Rattle.family_memory.specs.Memory.{Gave, Has, Went};
 
 use family_memory::{FamilyMemory, Room};

@@ -4,8 +4,8 @@ use Rattle.std.proofs.Common.{get_or, AllPairs, refl, sym, ◌∙◌, ap, arith}
 use Rattle.std.specs.Prelude.{if◌then◌else◌, nat_le, Option, Some, None, IfSome, IsNone, ◌↔◌}
 use Rattle.std.proofs.lemmas.Bool.{leb-true, le-leb}
 use lib.Pointwise.{bytes_decides}
-use Rattle.fault_model.specs.Tree.{FaultTree, name_of, unit_count, IsUnitOf}
-use Rattle.fault_model.specs.WellFormed.{IsTree}
+use Rattle.fault_definitions.specs.Tree.{FaultTree, name_of, unit_count, IsUnitOf}
+use Rattle.fault_definitions.specs.WellFormed.{IsTree}
 use Rattle.fault_words.specs.Names.{same_name}
 use Rattle.outage_board.specs.Requests.{unit_from, only_unit, unit_of}
 

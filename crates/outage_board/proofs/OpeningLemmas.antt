@@ -6,7 +6,7 @@ use Rattle.std.specs.List.{All}
 use Rattle.std.proofs.lemmas.List.{length-map, length-replicate, get_or-replicate}
 use Rattle.std.proofs.lemmas.List.Elements.{All-nil, All-head, All-tail, All-cons}
 use Rattle.unit_sets.specs.declared.request.CrewNo.{CrewNo}
-use Rattle.fault_model.specs.Tree.{FaultTree, unit_count}
+use Rattle.fault_definitions.specs.Tree.{FaultTree, unit_count}
 use Rattle.crew_script.specs.declared.dockets.TheConstants.{MOST_REQUESTS}
 use Rattle.crew_script.specs.Dockets.{IsDockets, HasMargin, HasMargins, request_count}
 use Rattle.crew_script.specs.declared.dockets.Ask.{Ask}

@@ -1,7 +1,7 @@
 -- What contracts see of a board: the deck that it was opened for and its history; and the entry that serves a crew.
 use Rattle.std.specs.Prelude.{◌≡◌, ℕ, ◌<◌, ◌≤◌, List, [], ◌∷◌, ◌++◌, map, length, All, Option, Some, None, slice_get}
 use Rattle.unit_sets.specs.declared.request.CrewNo.{CrewNo}
-use Rattle.fault_model.specs.Tree.{FaultTree, unit_count}
+use Rattle.fault_definitions.specs.Tree.{FaultTree, unit_count}
 use Rattle.crew_script.specs.Dockets.{request_count}
 use Rattle.crew_script.specs.declared.dockets.Crew.{Crew}
 use Rattle.margin_policy.specs.Holders.{HoldersBelow, NamesCrewBelow}

@@ -3,7 +3,7 @@ use Rattle.std.specs.Prelude.{ℕ, suc, Bool, nat_le, List, [], ◌∷◌, map, 
 use Rattle.std.specs.Prelude.{codes}
 use Rattle.std.specs.List.{list_any}
 use Rattle.unit_sets.specs.declared.request.CrewNo.{CrewNo}
-use Rattle.fault_model.specs.Tree.{FaultTree, unit_count}
+use Rattle.fault_definitions.specs.Tree.{FaultTree, unit_count}
 use Rattle.fault_words.specs.Names.{same_name}
 use Rattle.crew_script.specs.declared.dockets.Ask.{Ask}
 use Rattle.crew_script.specs.declared.dockets.Ask.TheVariants as asks

@@ -2,7 +2,7 @@
 ghost use Rattle.std.specs.Prelude.{◌≡◌, ◌↔◌, ◌-◌, ◌<◌, ◌≤◌, [], ◌∷◌, ◌++◌, length, slice_get, Some, IfOk, IfSome};
 ghost use Rattle.std.specs.Prelude.{IsNone};
 ghost use Rattle.residual_ledger.specs.Residual.{HasUnitsUpTo};
-ghost use Rattle.fault_model.specs.Tree.{unit_count};
+ghost use Rattle.fault_definitions.specs.Tree.{unit_count};
 ghost use Rattle.outage_board.specs.Histories.{served, docket_of};
 
 use crate::Entry;

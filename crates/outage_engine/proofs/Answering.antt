@@ -4,8 +4,8 @@ use Rattle.std.specs.Io.KnownBytes.{Consumes, IsAtEnd}
 use Rattle.std.proofs.Common.{sym, ap, subst, ◌∙◌, refl, append-nil}
 use Rattle.std.proofs.lemmas.Bool.{cond-true, cond-false, lt-ltb, le-ltb}
 use Rattle.unit_sets.specs.CutOrder.{weight, weight_limit}
-use Rattle.fault_model.specs.Tree.{FaultTree}
-use Rattle.fault_model.specs.Cut.{IsCutList}
+use Rattle.fault_definitions.specs.Tree.{FaultTree}
+use Rattle.fault_definitions.specs.Cut.{IsCutList}
 use Rattle.cutset_lists.specs.Generation.{HasHeavyCutList}
 use Rattle.cut_sequences.specs.Orders.{order_limit, order_lists, order_total}
 use Rattle.crew_script.specs.declared.dockets.Crew.{Crew}

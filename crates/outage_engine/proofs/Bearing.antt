@@ -14,13 +14,13 @@ use Rattle.unit_sets.specs.UnitList.{among, outside, is_within, without_unit, Is
 use Rattle.unit_sets.proofs.UnitListLemmas.{among-filter}
 use Rattle.unit_sets.proofs.UnitListLemmas.{among-without_unit, among-from_is_within, Contains-from_among}
 use Rattle.unit_sets.proofs.Sorted.{Contains-nil, Contains-cons_cases}
-use Rattle.fault_model.specs.Tree.{FaultTree}
-use Rattle.fault_model.specs.Cut.{IsCutList, is_cut}
-use Rattle.fault_model.specs.FailingOrder.{is_admissible, is_failing}
-use Rattle.fault_model.proofs.MinimalCuts.{includes_minimal}
-use Rattle.fault_model.specs.Step.{step}
-use Rattle.fault_model.proofs.StepLaws.{step-reads}
-use Rattle.fault_model.specs.WellFormed.{IsTree}
+use Rattle.fault_definitions.specs.Tree.{FaultTree}
+use Rattle.fault_definitions.specs.Cut.{IsCutList, is_cut}
+use Rattle.fault_definitions.specs.FailingOrder.{is_admissible, is_failing}
+use Rattle.fault_definitions.proofs.MinimalCuts.{includes_minimal}
+use Rattle.fault_definitions.specs.Step.{step}
+use Rattle.fault_definitions.proofs.StepLaws.{step-reads}
+use Rattle.fault_definitions.specs.WellFormed.{IsTree}
 use Rattle.residual_ledger.specs.Residual.{residual}
 use Rattle.residual_ledger.specs.Tight.{is_tight, numbers_from, tight}
 use Rattle.margin_policy.specs.Guard.{KeepsMore}

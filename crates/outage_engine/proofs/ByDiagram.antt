@@ -2,9 +2,9 @@
 use Rattle.std.specs.Prelude.{◌≡◌, ℕ, ◌<◌, List, Option, Some, None, IfSome}
 use Rattle.std.proofs.Common.{refl}
 use Rattle.unit_sets.specs.CutOrder.{IsInCutOrder}
-use Rattle.fault_model.specs.Cut.{IsCutList}
-use Rattle.fault_model.specs.Tree.{FaultTree}
-use Rattle.fault_model.specs.WellFormed.{IsTree}
+use Rattle.fault_definitions.specs.Cut.{IsCutList}
+use Rattle.fault_definitions.specs.Tree.{FaultTree}
+use Rattle.fault_definitions.specs.WellFormed.{IsTree}
 use Rattle.cutset_lists.specs.Generation.{HasHeavyCutList}
 use Rattle.tree_families.proofs.CutFamilies.{cut_list-from_family, no_empty_set}
 use Rattle.family_operations.specs.Nodes.{IsNodeCount}

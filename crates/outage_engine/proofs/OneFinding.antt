@@ -1,8 +1,8 @@
 -- A deck has one finding at most.
 use Rattle.std.specs.Prelude.{◌≡◌, ℕ, List, Option, Result, Ok, Err}
 use Rattle.std.proofs.Common.{sym, ap, subst, ◌∙◌}
-use Rattle.fault_model.specs.Tree.{FaultTree}
-use Rattle.fault_model.proofs.CutLaws.{same_cut_list}
+use Rattle.fault_definitions.specs.Tree.{FaultTree}
+use Rattle.fault_definitions.proofs.CutLaws.{same_cut_list}
 use Rattle.fault_words.specs.declared.place.Place.{Place}
 use Rattle.galileo_tree.specs.declared.fault.ParseFault.{ParseFault}
 use Rattle.galileo_tree.specs.declared.fault.ParseFault.TheVariants.{Lex, Expected, NoMemory}
@@ -11,7 +11,7 @@ use Rattle.galileo_tree.specs.ReadTree.{ReadTree}
 use Rattle.tree_check.specs.Checked.{Stands}
 use Rattle.tree_check.proofs.OneTree.{same_tree}
 use Rattle.tree_check.proofs.OneFault.{no_fault, same_fault}
-use Rattle.tree_check.specs.declared.fault.CheckCode.{CheckCode}
+use Rattle.statement_faults.specs.declared.fault.CheckCode.{CheckCode}
 use Rattle.crew_script.specs.declared.dockets.Crew.{Crew}
 use Rattle.crew_script.specs.declared.fault.CrewCode.{CrewCode}
 use Rattle.crew_script.specs.declared.fault.CrewFault.{CrewFault}

@@ -1,7 +1,7 @@
 -- What is printed for a deck stands for its tree.
 use Rattle.std.specs.Prelude.{◌≡◌, ℕ, List}
 use Rattle.std.proofs.Common.{sym, subst}
-use Rattle.fault_model.specs.Tree.{FaultTree}
+use Rattle.fault_definitions.specs.Tree.{FaultTree}
 use Rattle.deck_reading.specs.Deck.{StandsFor}
 use Rattle.board_report.specs.PrintText.{print_text}
 use Rattle.outage_engine.specs.Finding.{Finds, Found, Ready, bad_deck, well_formed}

@@ -1,9 +1,9 @@
 -- A deck has a finding: its first fault, a limit that is passed, or its tree, cut list and crews.
 use Rattle.std.specs.Prelude.{◌≡◌, ◌⊎◌, ℕ, All, List, [], drop, Option, Some, None, Result, Ok, Err}
 use Rattle.std.proofs.Common.{sym, ap, subst, ◌∙◌, refl, inl, inr}
-use Rattle.fault_model.specs.Cut.{IsCutList}
-use Rattle.fault_model.specs.Tree.{FaultTree}
-use Rattle.fault_model.specs.WellFormed.{IsTree}
+use Rattle.fault_definitions.specs.Cut.{IsCutList}
+use Rattle.fault_definitions.specs.Tree.{FaultTree}
+use Rattle.fault_definitions.specs.WellFormed.{IsTree}
 use Rattle.fault_words.specs.declared.place.Place.{Place}
 use Rattle.galileo_tree.specs.Grammar.{IsReading, at_end, at_lexeme, at_token}
 use Rattle.galileo_tree.specs.Lexeme.{place_at}
@@ -12,7 +12,7 @@ use Rattle.galileo_tree.specs.ReadTree.{KeepsForm, ReadTree}
 use Rattle.galileo_tree.specs.declared.fault.ParseFault.{ParseFault}
 use Rattle.galileo_tree.specs.declared.fault.ParseFault.TheVariants.{Lex, Expected, NoMemory}
 use Rattle.tree_check.specs.Checked.{IsFirstFault, Stands}
-use Rattle.tree_check.specs.declared.fault.CheckCode.{CheckCode}
+use Rattle.statement_faults.specs.declared.fault.CheckCode.{CheckCode}
 use Rattle.crew_script.specs.Crews.{crews_of}
 use Rattle.crew_script.specs.CrewsOf.{Answers}
 use Rattle.crew_script.specs.Deck.{lines_of, split_of}

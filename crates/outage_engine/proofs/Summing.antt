@@ -6,7 +6,7 @@ use Rattle.std.proofs.Common.{sym, ap, subst, ◌∙◌, refl, inl, inr, arith}
 use Rattle.std.proofs.lemmas.Option.{slice_get_cases}
 use Rattle.unit_sets.specs.CutOrder.{weight, weight_limit}
 use Rattle.unit_sets.specs.declared.request.CrewNo.{CrewNo}
-use Rattle.fault_model.specs.Tree.{FaultTree}
+use Rattle.fault_definitions.specs.Tree.{FaultTree}
 use Rattle.crew_script.specs.declared.dockets.Crew.{Crew}
 use Rattle.crew_script.specs.declared.fault.CrewFault.{CrewFault}
 use Rattle.margin_policy.specs.declared.request.Request.{Request}

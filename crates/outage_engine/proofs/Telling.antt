@@ -5,7 +5,7 @@ use Rattle.std.specs.Io.KnownBytes.{Appends}
 use Rattle.std.proofs.Common.{subst, refl, inl, inr}
 use Rattle.event_counts.specs.Count.{Rose}
 use Rattle.edge_io.specs.Out.{Delivers}
-use Rattle.fault_model.specs.Tree.{FaultTree}
+use Rattle.fault_definitions.specs.Tree.{FaultTree}
 use Rattle.crew_script.specs.declared.dockets.Crew.{Crew}
 use Rattle.board_report.specs.CheckText.{check_text}
 use denote.Ref.{Bor}

@@ -2,8 +2,8 @@
 use Rattle.std.specs.Prelude.{◌≡◌, ℕ, List, All, Option}
 use Rattle.std.proofs.Common.{sym, subst}
 use Rattle.std.proofs.lemmas.List.Elements.{All-weaker}
-use Rattle.fault_model.specs.Tree.{FaultTree, IsUnitOf}
-use Rattle.fault_model.specs.Cut.{IsCutList, IsMinimalCut}
+use Rattle.fault_definitions.specs.Tree.{FaultTree, IsUnitOf}
+use Rattle.fault_definitions.specs.Cut.{IsCutList, IsMinimalCut}
 use Rattle.cut_sequences.specs.Orders.{order_lists}
 use Rattle.cut_texts.specs.OrdersOfUnits.{AreOrdersOf}
 use Rattle.cut_texts.specs.UnitTexts.{AreTextsOf}

@@ -1,8 +1,8 @@
 -- An answer before it is written, or why there is none, and what it has to do with the deck.
 use Rattle.std.specs.Prelude.{◌≡◌, ◌⊎◌, ℕ, ◌<◌, ◌≤◌, List, All, Option, Result, Err}
 use Rattle.unit_sets.specs.CutOrder.{weight, weight_limit}
-use Rattle.fault_model.specs.Tree.{FaultTree, IsUnitOf}
-use Rattle.fault_model.specs.Cut.{IsCutList}
+use Rattle.fault_definitions.specs.Tree.{FaultTree, IsUnitOf}
+use Rattle.fault_definitions.specs.Cut.{IsCutList}
 use Rattle.fault_words.specs.declared.place.Place.{Place}
 use Rattle.cutset_lists.specs.Generation.{HasHeavyCutList}
 use Rattle.cut_sequences.specs.Orders.{order_limit, order_lists, order_total}
@@ -15,7 +15,7 @@ use Rattle.galileo_tree.specs.declared.fault.ParseFault.TheVariants as parse
 use Rattle.galileo_tree.specs.Lexeme.{place_at}
 use Rattle.galileo_tree.specs.ReadTree.{ReadTree}
 use Rattle.tree_check.specs.Checked.{IsFirstFault}
-use Rattle.tree_check.specs.declared.fault.CheckCode.{CheckCode}
+use Rattle.statement_faults.specs.declared.fault.CheckCode.{CheckCode}
 use Rattle.board_report.specs.CheckText.{check_text}
 use Rattle.cut_texts.specs.CutsText.{cuts_text, listed_with}
 use Rattle.cut_texts.specs.DiagramText.{diagram_text}

@@ -1,7 +1,7 @@
 -- The faults of a deck, and what a command reads of it: the tree of its tree part, and its crews where the command
 -- takes them.
 use Rattle.std.specs.Prelude.{◌≡◌, ℕ, List, Option, Some, None, Result, Ok, Err}
-use Rattle.fault_model.specs.Tree.{FaultTree}
+use Rattle.fault_definitions.specs.Tree.{FaultTree}
 use Rattle.fault_words.specs.declared.place.Place.{Place}
 use Rattle.galileo_lexer.specs.Spot.{place_behind}
 use Rattle.galileo_tree.specs.declared.fault.ParseFault.{ParseFault}
@@ -10,7 +10,7 @@ use Rattle.galileo_tree.specs.Lexeme.{place_at}
 use Rattle.galileo_tree.specs.Parsed.{parsed_text}
 use Rattle.galileo_tree.specs.ReadTree.{ReadTree}
 use Rattle.tree_check.specs.Checked.{IsFirstFault}
-use Rattle.tree_check.specs.declared.fault.CheckCode.{CheckCode}
+use Rattle.statement_faults.specs.declared.fault.CheckCode.{CheckCode}
 use Rattle.crew_script.specs.declared.dockets.Crew.{Crew}
 use Rattle.crew_script.specs.declared.fault.CrewCode.{CrewCode}
 use Rattle.crew_script.specs.declared.fault.CrewCode.TheVariants.{NoCrewPart}

@@ -2,8 +2,8 @@
 -- limit, or all that the command's text needs.
 use Rattle.std.specs.Prelude.{◌≡◌, ℕ, nat_lt, List, [], Option, if◌then◌else◌}
 use Rattle.unit_sets.specs.CutOrder.{weight, weight_limit}
-use Rattle.fault_model.specs.Tree.{FaultTree}
-use Rattle.fault_model.specs.Cut.{IsCutList}
+use Rattle.fault_definitions.specs.Tree.{FaultTree}
+use Rattle.fault_definitions.specs.Cut.{IsCutList}
 use Rattle.cut_sequences.specs.Orders.{order_limit, order_lists, order_total}
 use Rattle.crew_script.specs.declared.dockets.Crew.{Crew}
 use Rattle.board_report.specs.declared.fault.DeckFault.{DeckFault}

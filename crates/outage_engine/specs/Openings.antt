@@ -1,8 +1,8 @@
 -- A board that is opened for a deck, and what came of it.
 use Rattle.std.specs.Prelude.{◌≡◌, ℕ, List, ◌++◌, Option, Some}
-use Rattle.fault_model.specs.Tree.{FaultTree}
-use Rattle.fault_model.specs.Cut.{IsCutList}
-use Rattle.fault_model.specs.WellFormed.{IsTree}
+use Rattle.fault_definitions.specs.Tree.{FaultTree}
+use Rattle.fault_definitions.specs.Cut.{IsCutList}
+use Rattle.fault_definitions.specs.WellFormed.{IsTree}
 use Rattle.cut_sequences.specs.Orders.{order_lists}
 use Rattle.crew_script.specs.declared.dockets.Crew.{Crew}
 use Rattle.board_words.specs.Command.{command_of}

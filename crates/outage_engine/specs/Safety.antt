@@ -1,9 +1,9 @@
 -- What a planner may rely on after each granted request of a board.
 use Rattle.std.specs.Prelude.{◌≡◌, ℕ, ◌≤◌, false, List, ◌++◌, ◌∷◌, [], length}
 use Rattle.unit_sets.specs.UnitList.{outside}
-use Rattle.fault_model.specs.Tree.{FaultTree}
-use Rattle.fault_model.specs.Cut.{is_cut}
-use Rattle.fault_model.specs.FailingOrder.{is_failing}
+use Rattle.fault_definitions.specs.Tree.{FaultTree}
+use Rattle.fault_definitions.specs.Cut.{is_cut}
+use Rattle.fault_definitions.specs.FailingOrder.{is_failing}
 use Rattle.margin_policy.specs.Held.{units_out}
 use Rattle.margin_policy.specs.Standing.{StandingView}
 use Rattle.outage_board.specs.Boards.{Deck}

@@ -1,6 +1,6 @@
 -- What a run does to the seat that it is handed.
 use Rattle.std.specs.Prelude.{◌≡◌, ◌⊎◌, ℕ, ◌<◌, List, Option}
-use Rattle.fault_model.specs.Tree.{FaultTree}
+use Rattle.fault_definitions.specs.Tree.{FaultTree}
 use Rattle.tree_families.specs.Due.{IsDueToTree}
 use Rattle.board_words.specs.Command.{command_of}
 use Rattle.zdd_shared_table.specs.Seats.{Seated}

@@ -1,6 +1,6 @@
 -- A made deck in sum, before it is written.
 use Rattle.std.specs.Prelude.{◌≡◌, ℕ, ◌-◌, List, length, Some}
-use Rattle.fault_model.specs.Tree.{FaultTree}
+use Rattle.fault_definitions.specs.Tree.{FaultTree}
 use Rattle.crew_script.specs.declared.dockets.Crew.{Crew}
 use Rattle.outage_board.specs.Boards.{BoardView}
 use Rattle.outage_board.specs.Histories.{IsLegal, IsWhole, docket_of, served}

@@ -1,6 +1,6 @@
 //! From the bytes of a deck to its tree and its crews.
 ghost use Rattle.std.specs.Prelude.{◌≡◌, ◌+◌, ◌≤◌, length, drop, take, Ok, IfOk, IfErr, IfSome};
-ghost use Rattle.fault_model.specs.WellFormed.{IsTree};
+ghost use Rattle.fault_definitions.specs.WellFormed.{IsTree};
 ghost use Rattle.galileo_lexer.specs.Spot.{place_behind};
 ghost use Rattle.galileo_tree.specs.Lexeme.{place_at};
 ghost use Rattle.galileo_tree.specs.Parsed.{parsed_text};

@@ -1,7 +1,7 @@
 //! The cut sets of a tree, from the diagrams of its nodes or, where the store is full, by lists.
 ghost use Rattle.std.specs.Prelude.{◌≡◌, ◌≤◌, ◌<◌, None, IfOk, IfSome, IsErrOf};
 ghost use Rattle.unit_sets.specs.CutOrder.{weight, weight_limit};
-ghost use Rattle.fault_model.specs.Cut.{IsCutList};
+ghost use Rattle.fault_definitions.specs.Cut.{IsCutList};
 ghost use Rattle.cutset_lists.specs.Generation.{HasHeavyCutList};
 ghost use Rattle.tree_families.specs.Due.{IsDueToTree};
 ghost use Rattle.zdd_product.specs.Seats.{WentAll};

@@ -1,6 +1,6 @@
 //! Laws of what is found in a deck. The functions do nothing but call the laws that they stand on.
 ghost use Rattle.std.specs.Prelude.{◌≡◌, ◌↔◌, ℕ, List, Result, Some};
-ghost use Rattle.fault_model.specs.Tree.{FaultTree};
+ghost use Rattle.fault_definitions.specs.Tree.{FaultTree};
 ghost use Rattle.crew_script.specs.declared.dockets.Crew.{Crew};
 ghost use Rattle.crew_script.specs.declared.fault.CrewFault.{CrewFault};
 ghost use Rattle.board_report.specs.declared.fault.DeckFault.{DeckFault};

@@ -1,7 +1,7 @@
 //! The cut list of a tree and its failing orders.
 ghost use Rattle.std.specs.Prelude.{◌≡◌, ◌≤◌, IfOk, IfErr};
 ghost use Rattle.unit_sets.specs.CutOrder.{weight, weight_limit};
-ghost use Rattle.fault_model.specs.Cut.{IsCutList};
+ghost use Rattle.fault_definitions.specs.Cut.{IsCutList};
 ghost use Rattle.cut_sequences.specs.Orders.{order_limit, order_lists, order_total};
 ghost use Rattle.cut_texts.specs.UnitTexts.{AreTextsOf};
 ghost use Rattle.tree_families.specs.Due.{IsDueToTree};

@@ -1,7 +1,7 @@
 //! How large the cut list of a tree is, and the diagram that it came from.
 ghost use Rattle.std.specs.Prelude.{◌≡◌, ◌≤◌, IfOk, IfErr, IfSome};
 ghost use Rattle.unit_sets.specs.CutOrder.{weight, weight_limit};
-ghost use Rattle.fault_model.specs.Cut.{IsCutList};
+ghost use Rattle.fault_definitions.specs.Cut.{IsCutList};
 ghost use Rattle.tree_families.specs.Due.{IsDueToTree};
 ghost use Rattle.zdd_product.specs.Seats.{WentAll};
 ghost use Rattle.outage_engine.specs.Answers.{AreSizesOf, IfRefused, IsWeightLimitOf};

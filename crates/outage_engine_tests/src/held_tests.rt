@@ -1,5 +1,5 @@
 //! Two gates of one rank, each held until the other was begun, through the step of a run that finds the cut sets.
-ghost use Rattle.fault_model.specs.Tree.{};
+ghost use Rattle.fault_definitions.specs.Tree.{};
 
 use edge_io::Pace;
 use held_pace::{Meeting, Piece};

@@ -1,7 +1,7 @@
 -- The picture that is found, or why none is.
 use Rattle.std.specs.Prelude.{◌≡◌, ℕ, ◌<◌, List, length, Option, Some}
-use Rattle.fault_model.specs.Tree.{FaultTree}
-use Rattle.fault_model.specs.Cut.{IsCutList}
+use Rattle.fault_definitions.specs.Tree.{FaultTree}
+use Rattle.fault_definitions.specs.Cut.{IsCutList}
 use Rattle.cutset_lists.specs.Generation.{HasHeavyCutList}
 use Rattle.deck_reading.specs.Deck.{StandsFor}
 use Rattle.outage_engine.specs.Deck.{IsDeckFault}

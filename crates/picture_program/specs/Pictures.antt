@@ -1,7 +1,7 @@
 -- Which picture the words and the input ask for.
 use Rattle.std.specs.Prelude.{◌≡◌, ℕ, ◌-◌, ◌≤◌, List, [], slice_get, Option, Some}
-use Rattle.fault_model.specs.Tree.{FaultTree}
-use Rattle.fault_model.specs.Cut.{IsCutList}
+use Rattle.fault_definitions.specs.Tree.{FaultTree}
+use Rattle.fault_definitions.specs.Cut.{IsCutList}
 use Rattle.deck_reading.specs.Deck.{StandsFor}
 use Rattle.outage_engine.specs.Gives.{OfInput}
 use Rattle.tree_picture.specs.PictureText.{picture_text}

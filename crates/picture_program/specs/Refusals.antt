@@ -1,7 +1,7 @@
 -- Why there is no picture, and the line that says so.
 use Rattle.std.specs.Prelude.{◌≡◌, ℕ, ◌<◌, List, ◌++◌, length, codes, decimal, Option, Some, None}
-use Rattle.fault_model.specs.Tree.{FaultTree}
-use Rattle.fault_model.specs.Cut.{IsCutList}
+use Rattle.fault_definitions.specs.Tree.{FaultTree}
+use Rattle.fault_definitions.specs.Cut.{IsCutList}
 use Rattle.cutset_lists.specs.Generation.{HasHeavyCutList}
 use Rattle.deck_reading.specs.Deck.{StandsFor}
 use Rattle.board_report.specs.Refusals.{fault_line, notice_line}

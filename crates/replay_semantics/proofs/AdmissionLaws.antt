@@ -12,10 +12,10 @@ use Rattle.unit_sets.specs.UnitList.{among}
 use Rattle.unit_sets.proofs.UnitListLemmas.{Contains-from_among}
 use Rattle.fault_words.specs.declared.kind.GateKind.{GateKind}
 use Rattle.fault_words.specs.declared.kind.GateKind.TheVariants.{And, Or, Votes, Pand, Por, Seq, Fdep, Csp, Wsp, Hsp}
-use Rattle.fault_model.specs.Tree.{FaultTree, IsGateOf, gates, kind_of, inputs_of, unit_count, gate_count}
-use Rattle.fault_model.specs.WellFormed.{IsTree}
-use Rattle.fault_model.specs.Step.{Step, no_later, is_before, never_falls, place, step}
-use Rattle.fault_model.specs.FailingOrder.{spares_wait, gate_admits, is_admissible}
+use Rattle.fault_definitions.specs.Tree.{FaultTree, IsGateOf, gates, kind_of, inputs_of, unit_count, gate_count}
+use Rattle.fault_definitions.specs.WellFormed.{IsTree}
+use Rattle.fault_definitions.specs.Step.{Step, no_later, is_before, never_falls, place, step}
+use Rattle.fault_definitions.specs.FailingOrder.{spares_wait, gate_admits, is_admissible}
 use Rattle.replay_semantics.specs.Admission.{is_awaited, gate_awaits, gate_in_turn}
 use Rattle.replay_semantics.specs.Growth.{Grows, AllGrow}
 use Rattle.replay_semantics.proofs.GrowthLemmas.{grows-at_most}

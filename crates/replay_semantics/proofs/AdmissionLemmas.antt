@@ -9,13 +9,13 @@ use Rattle.std.proofs.lemmas.List.Elements.{All-head, All-tail}
 use Rattle.unit_sets.specs.UnitList.{among}
 use Rattle.fault_words.specs.declared.kind.GateKind.{GateKind}
 use Rattle.fault_words.specs.declared.kind.GateKind.TheVariants.{And, Or, Votes, Pand, Por, Seq, Fdep, Csp, Wsp, Hsp}
-use Rattle.fault_model.specs.Tree.{FaultTree, IsNodeOf, IsGateOf, kind_of, inputs_of, is_above_units, unit_count}
-use Rattle.fault_model.specs.Trigger.{below, triggers_of}
-use Rattle.fault_model.proofs.RankLaws.{inputs_are_nodes}
-use Rattle.fault_model.specs.WellFormed.{IsTree}
-use Rattle.fault_model.specs.Step.{Step, never, step}
-use Rattle.fault_model.proofs.StepLaws.{never_falls-agree}
-use Rattle.fault_model.specs.FailingOrder.{gate_admits, is_admissible}
+use Rattle.fault_definitions.specs.Tree.{FaultTree, IsNodeOf, IsGateOf, kind_of, inputs_of, is_above_units, unit_count}
+use Rattle.fault_definitions.specs.Trigger.{below, triggers_of}
+use Rattle.fault_definitions.proofs.RankLaws.{inputs_are_nodes}
+use Rattle.fault_definitions.specs.WellFormed.{IsTree}
+use Rattle.fault_definitions.specs.Step.{Step, never, step}
+use Rattle.fault_definitions.proofs.StepLaws.{never_falls-agree}
+use Rattle.fault_definitions.specs.FailingOrder.{gate_admits, is_admissible}
 use Rattle.replay_semantics.specs.Admission.{is_awaited, gate_awaits, gate_in_turn, node_awaits, node_in_turn}
 use Rattle.replay_semantics.specs.Admission.{all_in_turn}
 use Rattle.replay_semantics.proofs.FailingLemmas.{same_test}

@@ -6,11 +6,11 @@ use Rattle.std.proofs.Common.{refl, sym, ◌∙◌, ap, subst, inl, inr, arith}
 use Rattle.std.proofs.lemmas.Bool.{cases_lt, leb-true, le-leb, eq-eqb, eqb-true, or_left, or_right, or_cases, and_parts}
 use Rattle.fault_words.specs.declared.kind.GateKind.{GateKind}
 use Rattle.fault_words.specs.declared.kind.GateKind.TheVariants.{And, Or, Votes, Pand, Por, Seq, Fdep, Csp, Wsp, Hsp}
-use Rattle.fault_model.specs.Tree.{FaultTree}
-use Rattle.fault_model.specs.Reading.{true_count}
-use Rattle.fault_model.specs.WellFormed.{IsSoundKind, IsSoundVote}
-use Rattle.fault_model.specs.Step.{Step, never, no_later, earlier, later, earliest, latest, last_step, never_falls}
-use Rattle.fault_model.specs.Step.{failed_by, kth_step, first_step}
+use Rattle.fault_definitions.specs.Tree.{FaultTree}
+use Rattle.fault_definitions.specs.Reading.{true_count}
+use Rattle.fault_definitions.specs.WellFormed.{IsSoundKind, IsSoundVote}
+use Rattle.fault_definitions.specs.Step.{Step, never, no_later, earlier, later, earliest, latest, last_step, never_falls}
+use Rattle.fault_definitions.specs.Step.{failed_by, kth_step, first_step}
 use Rattle.replay_semantics.specs.Failing.{AsksSome, falls_not_after}
 
 pub asks_some : (tree : FaultTree) (kind : GateKind) (inputs : List ℕ) → IsSoundKind tree kind inputs → AsksSome kind

@@ -4,13 +4,13 @@ use Rattle.std.proofs.Common.{is_some, if◌then◌else◌, refl, arith, ap, sym
 use Rattle.std.proofs.lemmas.Bool.{or_left, or_right, cond-false}
 use Rattle.unit_sets.specs.UnitList.{among}
 use Rattle.unit_sets.proofs.UnitListLemmas.{among-from_Contains}
-use Rattle.fault_model.specs.Tree.{FaultTree, IsNodeOf, kind_of, inputs_of, is_above_units, rank_of}
-use Rattle.fault_model.specs.Trigger.{below, triggers_of}
-use Rattle.fault_model.specs.Rank.{within, by_rank}
-use Rattle.fault_model.proofs.RankLaws.{below_are_nodes, below_ranks}
-use Rattle.fault_model.specs.WellFormed.{IsTree}
-use Rattle.fault_model.specs.Step.{Step, never, earlier, earliest, gate_step, place, node_step, step}
-use Rattle.fault_model.proofs.StepLaws.{node_step-agree, step-node}
+use Rattle.fault_definitions.specs.Tree.{FaultTree, IsNodeOf, kind_of, inputs_of, is_above_units, rank_of}
+use Rattle.fault_definitions.specs.Trigger.{below, triggers_of}
+use Rattle.fault_definitions.specs.Rank.{within, by_rank}
+use Rattle.fault_definitions.proofs.RankLaws.{below_are_nodes, below_ranks}
+use Rattle.fault_definitions.specs.WellFormed.{IsTree}
+use Rattle.fault_definitions.specs.Step.{Step, never, earlier, earliest, gate_step, place, node_step, step}
+use Rattle.fault_definitions.proofs.StepLaws.{node_step-agree, step-node}
 use Rattle.replay_semantics.specs.Failing.{node_fails}
 use Rattle.replay_semantics.proofs.FailingLemmas.{earlier-some}
 use Rattle.replay_semantics.specs.Table.{step_in, HoldsSteps}

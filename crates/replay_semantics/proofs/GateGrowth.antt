@@ -8,10 +8,10 @@ use Rattle.std.proofs.lemmas.Bool.{cond_both, cases_lt, leb-true, le-leb, lt-leb
 use Rattle.std.proofs.lemmas.List.Elements.{All-nil, All-cons, All-head, All-weaker}
 use Rattle.fault_words.specs.declared.kind.GateKind.{GateKind}
 use Rattle.fault_words.specs.declared.kind.GateKind.TheVariants.{And, Or, Votes, Pand, Por, Seq, Fdep, Csp, Wsp, Hsp}
-use Rattle.fault_model.specs.Step.{Step, never, no_later, earlier, earliest, last_step, never_falls, failed_by}
-use Rattle.fault_model.specs.Step.{kth_step, first_step, gate_step}
-use Rattle.fault_model.proofs.StepLaws.{never_falls-agree}
-use Rattle.fault_model.proofs.ReadingLaws.{list_all-agree}
+use Rattle.fault_definitions.specs.Step.{Step, never, no_later, earlier, earliest, last_step, never_falls, failed_by}
+use Rattle.fault_definitions.specs.Step.{kth_step, first_step, gate_step}
+use Rattle.fault_definitions.proofs.StepLaws.{never_falls-agree}
+use Rattle.fault_definitions.proofs.ReadingLaws.{list_all-agree}
 use Rattle.replay_semantics.specs.Growth.{Grows, AllGrow}
 use Rattle.replay_semantics.proofs.GrowthLemmas.{grows-same, earliest-grows, latest-grows, last_step-grows}
 

@@ -3,7 +3,7 @@ use Rattle.std.specs.Prelude.{◌≡◌, ℕ, ◌≤◌, Bool, true, false, List
 use Rattle.std.specs.Prelude.{if◌then◌else◌}
 use Rattle.std.proofs.Common.{refl, sym, subst, arith}
 use Rattle.std.proofs.lemmas.Bool.{leb-true, leb-false}
-use Rattle.fault_model.specs.Step.{Step, never, earlier, later, earliest, latest, last_step}
+use Rattle.fault_definitions.specs.Step.{Step, never, earlier, later, earliest, latest, last_step}
 use Rattle.replay_semantics.specs.Growth.{AllGrow, Grows}
 
 -- ---- what a change leaves

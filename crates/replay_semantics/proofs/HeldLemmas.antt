@@ -16,12 +16,12 @@ use Rattle.unit_sets.proofs.UnitListLemmas.{Contains-from_among, among-from_Cont
 use Rattle.fault_words.specs.declared.kind.GateKind.{GateKind}
 use Rattle.fault_words.specs.declared.kind.GateKind.TheVariants.{And, Or, Votes, Pand, Por, Seq, Fdep, Csp, Wsp, Hsp}
 use Rattle.fault_model.specs.Order.{AreDistinct}
-use Rattle.fault_model.specs.Tree.{FaultTree, IsNodeOf, IsUnitOf, node_count, unit_count, kind_of, inputs_of}
-use Rattle.fault_model.specs.WellFormed.{IsTree}
-use Rattle.fault_model.proofs.ReadingLaws.{reads-empty}
-use Rattle.fault_model.specs.Step.{Step, never, no_later, is_before, never_falls, place, step}
-use Rattle.fault_model.proofs.StepLaws.{step-reads}
-use Rattle.fault_model.specs.FailingOrder.{spares_wait, gate_admits, is_admissible, is_failing}
+use Rattle.fault_definitions.specs.Tree.{FaultTree, IsNodeOf, IsUnitOf, node_count, unit_count, kind_of, inputs_of}
+use Rattle.fault_definitions.specs.WellFormed.{IsTree}
+use Rattle.fault_definitions.proofs.ReadingLaws.{reads-empty}
+use Rattle.fault_definitions.specs.Step.{Step, never, no_later, is_before, never_falls, place, step}
+use Rattle.fault_definitions.proofs.StepLaws.{step-reads}
+use Rattle.fault_definitions.specs.FailingOrder.{spares_wait, gate_admits, is_admissible, is_failing}
 use Rattle.replay_semantics.proofs.FailingLemmas.{same_test}
 use Rattle.replay_semantics.specs.Held.{HoldsReplay, start_of, GoesBack, StartsRise, IsAdmittedUpTo, admitted_after}
 use Rattle.replay_semantics.proofs.Places.{among-append}

@@ -3,9 +3,9 @@ use Rattle.std.proofs.Common.{◌≡◌, ℕ, zero, suc, ◌≤◌, false, List,
 use Rattle.std.proofs.Common.{ap, sym, ◌∙◌}
 use Rattle.std.specs.List.{list_any}
 use Rattle.std.proofs.lemmas.Bool.{cond-false}
-use Rattle.fault_model.specs.Tree.{FaultTree, kind_of, inputs_of, is_above_units}
-use Rattle.fault_model.specs.Trigger.{below, triggers_of}
-use Rattle.fault_model.specs.Step.{Step, last_step, never_falls, earliest}
+use Rattle.fault_definitions.specs.Tree.{FaultTree, kind_of, inputs_of, is_above_units}
+use Rattle.fault_definitions.specs.Trigger.{below, triggers_of}
+use Rattle.fault_definitions.specs.Step.{Step, last_step, never_falls, earliest}
 use Rattle.replay_semantics.specs.Failing.{falls_not_after, gate_fails, node_fails}
 use Rattle.replay_semantics.proofs.FailingLemmas.{never_falls-after, earliest-some}
 use Rattle.replay_semantics.specs.Table.{step_in, has_step}

@@ -12,8 +12,8 @@ use Rattle.std.proofs.lemmas.List.Quantifiers.{all_pairs_push}
 use Rattle.std.proofs.lemmas.Map.Made.{IsDistinct-from_AllPairs}
 use Rattle.std.proofs.lemmas.Map.Steps.{length-le_from_distinct_below}
 use Rattle.fault_model.specs.Order.{AreDistinct}
-use Rattle.fault_model.specs.Tree.{FaultTree, IsNodeOf, node_count}
-use Rattle.fault_model.specs.Step.{Step, never}
+use Rattle.fault_definitions.specs.Tree.{FaultTree, IsNodeOf, node_count}
+use Rattle.fault_definitions.specs.Step.{Step, never}
 use Rattle.replay_semantics.specs.Table.{step_in, has_step, IsTableFor}
 use Rattle.replay_semantics.specs.Spread.{AreFailed}
 

@@ -4,7 +4,7 @@ use Rattle.std.specs.Prelude.{is_some, if◌then◌else◌}
 use Rattle.std.proofs.Common.{refl, ap, sym}
 use Rattle.std.proofs.lemmas.Bool.{ne_eqb, eq-eqb, cond-false, cond-true}
 use Rattle.unit_sets.specs.UnitList.{among}
-use Rattle.fault_model.specs.Step.{Step, never, place_from, place}
+use Rattle.fault_definitions.specs.Step.{Step, never, place_from, place}
 use Rattle.replay_semantics.proofs.GrowthLemmas.{grows-new}
 use Rattle.replay_semantics.proofs.StepGrowth.{place-grows}
 

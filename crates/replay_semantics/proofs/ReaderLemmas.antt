@@ -6,8 +6,8 @@ use Rattle.std.proofs.lemmas.Bool.{cases_eq, or_cases, or_left, or_right, eq-eqb
 use Rattle.std.proofs.lemmas.List.Elements.{Contains-get_or}
 use Rattle.unit_sets.specs.UnitList.{among}
 use Rattle.unit_sets.proofs.UnitListLemmas.{among-from_Contains}
-use Rattle.fault_model.specs.Tree.{FaultTree, IsNodeOf, node_count}
-use Rattle.fault_model.specs.Trigger.{below}
+use Rattle.fault_definitions.specs.Tree.{FaultTree, IsNodeOf, node_count}
+use Rattle.fault_definitions.specs.Trigger.{below}
 use Rattle.replay_semantics.specs.Readers.{readers_in, AreReaders, MoreReaders}
 use Rattle.replay_semantics.proofs.Places.{among-append, or_nothing}
 

@@ -8,10 +8,10 @@ use Rattle.std.proofs.lemmas.Bool.{false_from_ne_true, cond-true}
 use Rattle.std.proofs.lemmas.List.{take-append-le, drop-append-le, drop_all, drop_at, take_at, take_all, length_push}
 use Rattle.std.proofs.lemmas.List.{drop_more}
 use Rattle.unit_sets.specs.UnitList.{among}
-use Rattle.fault_model.specs.Tree.{FaultTree, IsNodeOf, IsUnitOf, is_above_units, unit_count, node_count}
-use Rattle.fault_model.specs.Trigger.{below}
-use Rattle.fault_model.specs.WellFormed.{IsTree}
-use Rattle.fault_model.specs.Step.{Step, never, place, node_step}
+use Rattle.fault_definitions.specs.Tree.{FaultTree, IsNodeOf, IsUnitOf, is_above_units, unit_count, node_count}
+use Rattle.fault_definitions.specs.Trigger.{below}
+use Rattle.fault_definitions.specs.WellFormed.{IsTree}
+use Rattle.fault_definitions.specs.Step.{Step, never, place, node_step}
 use Rattle.replay_semantics.specs.Failing.{node_fails}
 use Rattle.replay_semantics.specs.Growth.{Grows, AllGrow}
 use Rattle.replay_semantics.proofs.GrowthLemmas.{grows-stays, grows-at_most, grows-new, grows-never}

@@ -3,10 +3,10 @@
 use Rattle.std.specs.Prelude.{◌≡◌, ℕ, zero, suc, ◌+◌, ◌≤◌, Bool, true, false, ◌==◌, List, [], ◌∷◌, ◌++◌, length, Some}
 use Rattle.std.specs.Prelude.{None, if◌then◌else◌}
 use Rattle.std.proofs.Common.{arith}
-use Rattle.fault_model.specs.Tree.{FaultTree, kind_of, inputs_of, is_above_units}
-use Rattle.fault_model.specs.Trigger.{triggers_of}
-use Rattle.fault_model.specs.Rank.{within, by_rank}
-use Rattle.fault_model.specs.Step.{Step, never, earlier, earliest, gate_step, place_from, place, node_step, step}
+use Rattle.fault_definitions.specs.Tree.{FaultTree, kind_of, inputs_of, is_above_units}
+use Rattle.fault_definitions.specs.Trigger.{triggers_of}
+use Rattle.fault_definitions.specs.Rank.{within, by_rank}
+use Rattle.fault_definitions.specs.Step.{Step, never, earlier, earliest, gate_step, place_from, place, node_step, step}
 use Rattle.replay_semantics.specs.Growth.{Grows, AllGrow}
 use Rattle.replay_semantics.proofs.GrowthLemmas.{grows-choice, grows-same, grows-at_most, earlier-grows}
 use Rattle.replay_semantics.proofs.GrowthLemmas.{earliest-grows}

@@ -3,8 +3,8 @@ use Rattle.std.specs.Prelude.{ℕ, Bool, true, ◌&&◌, ◌||◌, ◌==◌, not
 use Rattle.std.specs.List.{list_all}
 use Rattle.fault_words.specs.declared.kind.GateKind.{GateKind}
 use Rattle.fault_words.specs.declared.kind.GateKind.TheVariants.{And, Or, Votes, Pand, Por, Seq, Fdep, Csp, Wsp, Hsp}
-use Rattle.fault_model.specs.Tree.{FaultTree, kind_of, inputs_of, is_above_units}
-use Rattle.fault_model.specs.Step.{Step, never_falls}
+use Rattle.fault_definitions.specs.Tree.{FaultTree, kind_of, inputs_of, is_above_units}
+use Rattle.fault_definitions.specs.Step.{Step, never_falls}
 use Rattle.replay_semantics.specs.Readers.{readers_in}
 use Rattle.replay_semantics.specs.Table.{step_in}
 

@@ -3,10 +3,10 @@ use Rattle.std.specs.Prelude.{ℕ, ◌≤◌, Bool, true, ◌&&◌, List, [], �
 use Rattle.std.specs.Prelude.{is_some, if◌then◌else◌}
 use Rattle.fault_words.specs.declared.kind.GateKind.{GateKind}
 use Rattle.fault_words.specs.declared.kind.GateKind.TheVariants.{And, Or, Votes, Pand, Por, Seq, Fdep, Csp, Wsp, Hsp}
-use Rattle.fault_model.specs.Tree.{FaultTree, kind_of, inputs_of, is_above_units}
-use Rattle.fault_model.specs.Trigger.{triggers_of}
-use Rattle.fault_model.specs.Step.{Step, no_later, earliest}
-use Rattle.fault_model.specs.Step.{gate_step}
+use Rattle.fault_definitions.specs.Tree.{FaultTree, kind_of, inputs_of, is_above_units}
+use Rattle.fault_definitions.specs.Trigger.{triggers_of}
+use Rattle.fault_definitions.specs.Step.{Step, no_later, earliest}
+use Rattle.fault_definitions.specs.Step.{gate_step}
 
 -- a gate, by the steps of its inputs
 abbrev pub gate_fails : GateKind → (ℕ → Step) → List ℕ → Bool

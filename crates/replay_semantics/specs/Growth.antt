@@ -1,6 +1,6 @@
 -- How a step may change as one unit more fails, and what follows for the least and the greatest of several steps.
 use Rattle.std.specs.Prelude.{◌≡◌, ℕ, ◌≤◌, Some, None}
-use Rattle.fault_model.specs.Step.{Step}
+use Rattle.fault_definitions.specs.Step.{Step}
 
 -- A step stays as it is, or a node that never failed now fails at the last place. What stays is no later than that.
 abbrev pub Grows : ℕ → Step → Step → Type 0

@@ -1,8 +1,8 @@
 -- By which nodes each node is read.
 use Rattle.std.specs.Prelude.{◌≡◌, ◌⊎◌, ℕ, suc, true, List, [], length, All, slice_index_or}
 use Rattle.unit_sets.specs.UnitList.{among}
-use Rattle.fault_model.specs.Tree.{FaultTree, IsNodeOf, node_count}
-use Rattle.fault_model.specs.Trigger.{below}
+use Rattle.fault_definitions.specs.Tree.{FaultTree, IsNodeOf, node_count}
+use Rattle.fault_definitions.specs.Trigger.{below}
 
 abbrev pub readers_in : List (List ℕ) → ℕ → List ℕ
 readers_in rows node = slice_index_or rows node []

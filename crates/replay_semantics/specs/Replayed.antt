@@ -1,6 +1,6 @@
 -- What a replay is seen as: the tree, and the order of the units that have failed.
 use Rattle.std.specs.Prelude.{ℕ, List}
-use Rattle.fault_model.specs.Tree.{FaultTree}
+use Rattle.fault_definitions.specs.Tree.{FaultTree}
 
 pub record Replayed : Type 0 where
   pub tree : FaultTree

@@ -4,9 +4,9 @@ use Rattle.std.specs.Prelude.{if◌then◌else◌}
 use Rattle.std.specs.List.{list_any}
 use Rattle.unit_sets.specs.UnitList.{among}
 use Rattle.fault_model.specs.Order.{AreDistinct}
-use Rattle.fault_model.specs.Tree.{FaultTree, IsNodeOf, is_above_units}
-use Rattle.fault_model.specs.Trigger.{below}
-use Rattle.fault_model.specs.Step.{Step, never, place, node_step}
+use Rattle.fault_definitions.specs.Tree.{FaultTree, IsNodeOf, is_above_units}
+use Rattle.fault_definitions.specs.Trigger.{below}
+use Rattle.fault_definitions.specs.Step.{Step, never, place, node_step}
 use Rattle.replay_semantics.specs.Growth.{AllGrow}
 use Rattle.replay_semantics.specs.Table.{step_in, has_step, IsTableFor, HoldsSteps}
 

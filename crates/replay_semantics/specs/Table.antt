@@ -1,7 +1,7 @@
 -- The steps of nodes in a table by their numbers.
 use Rattle.std.specs.Prelude.{◌≡◌, ℕ, suc, ◌<◌, Bool, List, length, is_some, All, slice_index_or}
-use Rattle.fault_model.specs.Tree.{FaultTree, IsNodeOf, node_count}
-use Rattle.fault_model.specs.Step.{Step, never, step}
+use Rattle.fault_definitions.specs.Tree.{FaultTree, IsNodeOf, node_count}
+use Rattle.fault_definitions.specs.Step.{Step, never, step}
 
 -- what the table has for a node
 abbrev pub step_in : List Step → ℕ → Step

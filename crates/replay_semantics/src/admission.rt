@@ -2,7 +2,7 @@
 //! fail in turn.
 ghost use Rattle.std.specs.Prelude.{◌≡◌, ◌<◌, ℕ, true, length, All};
 ghost use Rattle.std.specs.List.{list_all};
-ghost use Rattle.fault_model.specs.Tree.{IsNodeOf};
+ghost use Rattle.fault_definitions.specs.Tree.{IsNodeOf};
 ghost use Rattle.replay_semantics.specs.Admission.{is_awaited, gate_awaits, gate_in_turn, node_awaits, node_in_turn};
 ghost use Rattle.replay_semantics.specs.Admission.{all_in_turn};
 ghost use Rattle.replay_semantics.specs.Readers.{AreReaders};

@@ -2,8 +2,8 @@
 ghost use Rattle.std.specs.Prelude.{◌≡◌, ℕ, suc, ◌<◌, ◌≤◌, true, false, [], ◌∷◌, ◌++◌, length, take, drop, All, IfOk};
 ghost use Rattle.std.specs.Prelude.{vec_len, vec_capacity, slice_set, Some, None, List, ◌+◌, ◌^◌, replicate};
 ghost use Rattle.unit_sets.specs.UnitList.{among};
-ghost use Rattle.fault_model.specs.Tree.{IsNodeOf, IsUnitOf, node_count};
-ghost use Rattle.fault_model.specs.WellFormed.{IsTree};
+ghost use Rattle.fault_definitions.specs.Tree.{IsNodeOf, IsUnitOf, node_count};
+ghost use Rattle.fault_definitions.specs.WellFormed.{IsTree};
 ghost use Rattle.replay_semantics.specs.Admission.{all_in_turn};
 ghost use Rattle.replay_semantics.specs.Readers.{readers_in, AreReaders};
 ghost use Rattle.replay_semantics.specs.Spread.{AreFailed, HaveFailed, IsSpreading, Turn, step_without};

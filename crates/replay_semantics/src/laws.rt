@@ -1,10 +1,10 @@
 //! Laws of an order that grows by one unit, each the one clause of a function that does nothing.
 ghost use Rattle.std.specs.Prelude.{◌≡◌, ℕ, suc, true, false, List, [], ◌∷◌, ◌++◌, length, Some, None, is_some};
 ghost use Rattle.unit_sets.specs.UnitList.{among};
-ghost use Rattle.fault_model.specs.FailingOrder.{is_admissible};
-ghost use Rattle.fault_model.specs.Step.{step};
-ghost use Rattle.fault_model.specs.Tree.{FaultTree};
-ghost use Rattle.fault_model.specs.WellFormed.{IsTree};
+ghost use Rattle.fault_definitions.specs.FailingOrder.{is_admissible};
+ghost use Rattle.fault_definitions.specs.Step.{step};
+ghost use Rattle.fault_definitions.specs.Tree.{FaultTree};
+ghost use Rattle.fault_definitions.specs.WellFormed.{IsTree};
 
 /// What has failed stays failed, at the same step.
 pub fn failures_stay()

@@ -1,7 +1,7 @@
 //! By which nodes each node is read: the gates with it among their inputs, and the units that it triggers.
 ghost use Rattle.std.specs.Prelude.{◌≡◌, ◌<◌, true, length, All, IfOk, OnOk, [], ◌∷◌, replicate};
 ghost use Rattle.unit_sets.specs.UnitList.{among};
-ghost use Rattle.fault_model.specs.Tree.{node_count};
+ghost use Rattle.fault_definitions.specs.Tree.{node_count};
 ghost use Rattle.replay_semantics.specs.Readers.{AreReaders, MoreReaders};
 
 use fault_model::{NoMemory, NodeList, NodeNo, Tree};

@@ -2,11 +2,11 @@
 ghost use Rattle.std.specs.Prelude.{◌≡◌, ℕ, suc, ◌-◌, ◌^◌, ◌<◌, ◌≤◌, ◌&&◌, true, false, List, [], ◌∷◌, ◌++◌, length};
 ghost use Rattle.std.specs.Prelude.{take, All, IfOk, is_some, vec_capacity};
 ghost use Rattle.unit_sets.specs.UnitList.{among};
-ghost use Rattle.fault_model.specs.Cut.{is_cut};
-ghost use Rattle.fault_model.specs.FailingOrder.{is_admissible, is_failing};
-ghost use Rattle.fault_model.specs.Step.{step};
-ghost use Rattle.fault_model.specs.Tree.{IsUnitOf, node_count};
-ghost use Rattle.fault_model.specs.WellFormed.{IsTree};
+ghost use Rattle.fault_definitions.specs.Cut.{is_cut};
+ghost use Rattle.fault_definitions.specs.FailingOrder.{is_admissible, is_failing};
+ghost use Rattle.fault_definitions.specs.Step.{step};
+ghost use Rattle.fault_definitions.specs.Tree.{IsUnitOf, node_count};
+ghost use Rattle.fault_definitions.specs.WellFormed.{IsTree};
 ghost use Rattle.replay_semantics.specs.Held.{admitted_after};
 ghost use Rattle.replay_semantics.specs.Readers.{AreReaders};
 ghost use Rattle.replay_semantics.specs.Spread.{AreFailed, HaveFailed};
@@ -49,7 +49,7 @@ pub struct Replay<'t> {
 
 impl<'t> Model for Replay<'t> {
     ghost use Rattle.std.specs.Prelude.{◌≤◌, vec_capacity};
-    ghost use Rattle.fault_model.specs.Tree.{node_count, unit_count};
+    ghost use Rattle.fault_definitions.specs.Tree.{node_count, unit_count};
     ghost use Rattle.replay_semantics.specs.Replayed.{Replayed};
     ghost use Rattle.replay_semantics.specs.Held.{HoldsReplay};
 

@@ -1,9 +1,9 @@
 //! The steps of several nodes, and whether a node fails by the steps of what it reads.
 ghost use Rattle.std.specs.Prelude.{◌≡◌, ◌<◌, length, All, is_some};
 ghost use Rattle.std.specs.List.{list_all, list_any};
-ghost use Rattle.fault_model.specs.Reading.{true_count};
-ghost use Rattle.fault_model.specs.Step.{first_step, last_step, never_falls, no_later};
-ghost use Rattle.fault_model.specs.Tree.{IsNodeOf};
+ghost use Rattle.fault_definitions.specs.Reading.{true_count};
+ghost use Rattle.fault_definitions.specs.Step.{first_step, last_step, never_falls, no_later};
+ghost use Rattle.fault_definitions.specs.Tree.{IsNodeOf};
 ghost use Rattle.replay_semantics.specs.Failing.{falls_not_after, gate_fails, node_fails, AsksSome};
 ghost use Rattle.replay_semantics.specs.Table.{step_in, has_step, AreIn, IsTableFor};
 

@@ -1,6 +1,6 @@
 //! Orders over small trees, and whether they fail the top event.
 ghost use Rattle.std.specs.Prelude.{All, IfOk, IfSome};
-ghost use Rattle.fault_model.specs.Tree.{IsUnitOf};
+ghost use Rattle.fault_definitions.specs.Tree.{IsUnitOf};
 
 use fault_model::{NoMemory, Order, Tree};
 use replay_semantics::Replay;

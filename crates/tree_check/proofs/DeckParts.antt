@@ -3,24 +3,24 @@ use Rattle.std.proofs.Common.{◌≡◌, ◌+◌, ◌≤◌, List, [], ◌∷◌
 use Rattle.std.specs.Prelude.{if◌then◌else◌, All}
 use Rattle.std.proofs.lemmas.List.{length-map}
 use Rattle.unit_sets.specs.Unit.{most_units}
-use Rattle.fault_model.specs.declared.tree.TheConstants.{MOST_GATES}
+use Rattle.fault_definitions.specs.declared.parts.TheConstants.{MOST_GATES}
 use Rattle.fault_words.specs.declared.place.Place.{Place}
 use Rattle.galileo_tree.specs.declared.raw.RawTop.{RawTop}
 use Rattle.galileo_tree.specs.declared.raw.RawGate.{RawGate}
 use Rattle.galileo_tree.specs.declared.raw.RawBasic.{RawBasic}
 use Rattle.galileo_tree.specs.declared.raw.Statement.{Statement}
-use Rattle.tree_check.specs.declared.numbered.NumberedText.{NumberedText}
-use Rattle.tree_check.specs.declared.numbered.NumberedGate.{NumberedGate}
-use Rattle.tree_check.specs.Said.{basics, gates, tops, names, uses, basic_names, gate_names}
-use Rattle.tree_check.specs.Numbered.{numbered, numbered_gate, numbered_gates}
-use Rattle.tree_check.specs.Numbering.{IsDeckOf}
-use Rattle.tree_check.specs.Classes.{is_empty, missing_tops, undefined, units_beyond, gates_beyond}
-use Rattle.tree_check.specs.SpareTable.{AreWithin}
-use Rattle.tree_check.specs.TreeOf.{first_number}
-use Rattle.tree_check.proofs.NonePass.{none_beyond}
-use Rattle.tree_check.proofs.GoodGates.{IsAmong}
+use Rattle.statement_faults.specs.declared.numbered.NumberedText.{NumberedText}
+use Rattle.statement_faults.specs.declared.numbered.NumberedGate.{NumberedGate}
+use Rattle.statement_faults.specs.Said.{basics, gates, tops, names, uses, basic_names, gate_names}
+use Rattle.statement_faults.specs.Numbered.{numbered, numbered_gate, numbered_gates}
+use Rattle.statement_faults.specs.Numbering.{IsDeckOf}
+use Rattle.statement_faults.specs.Classes.{is_empty, missing_tops, undefined, units_beyond, gates_beyond}
+use Rattle.statement_faults.specs.SpareTable.{AreWithin}
+use Rattle.statement_faults.specs.TreeOf.{first_number}
+use Rattle.statement_faults.proofs.NonePass.{none_beyond}
+use Rattle.statement_faults.proofs.GoodGates.{IsAmong}
 use Rattle.tree_check.proofs.LowNumbers.{gates_low}
-use Rattle.tree_check.proofs.StatementNames.{tops_known}
+use Rattle.statement_faults.proofs.StatementNames.{tops_known}
 
 module _ (statements : List Statement) (deck : NumberedText) (is : IsDeckOf (names statements) statements deck) where
   -- there is a name for each unit and each gate

@@ -9,36 +9,36 @@ use Rattle.std.proofs.lemmas.List.{length-map}
 use Rattle.std.proofs.lemmas.List.Elements.{All-map}
 use lib.Pointwise.{bytes_decides}
 use Rattle.unit_sets.specs.Unit.{most_units}
-use Rattle.fault_model.specs.declared.tree.TheConstants.{MOST_GATES}
+use Rattle.fault_definitions.specs.declared.parts.TheConstants.{MOST_GATES}
 use Rattle.fault_words.specs.declared.place.Place.{Place}
-use Rattle.fault_model.specs.Tree.{unit_count, gate_count, node_count, is_fdep, IsNodeOf}
-use Rattle.fault_model.specs.Tree as trees
-use Rattle.fault_model.specs.Rank.{IsRanked}
-use Rattle.fault_model.specs.WellFormed.{IsTree, IsSoundGate, IsSoundAttribute, primary_in, spares_in}
+use Rattle.fault_definitions.specs.Tree.{unit_count, gate_count, node_count, is_fdep, IsNodeOf}
+use Rattle.fault_definitions.specs.Tree as trees
+use Rattle.fault_definitions.specs.Rank.{IsRanked}
+use Rattle.fault_definitions.specs.WellFormed.{IsTree, IsSoundGate, IsSoundAttribute, primary_in, spares_in}
 use Rattle.galileo_tree.specs.declared.raw.RawTop.{RawTop}
 use Rattle.galileo_tree.specs.declared.raw.RawGate.{RawGate}
 use Rattle.galileo_tree.specs.declared.raw.RawBasic.{RawBasic}
 use Rattle.galileo_tree.specs.declared.raw.RawAttribute.{RawAttribute}
 use Rattle.galileo_tree.specs.declared.raw.Statement.{Statement}
 use Rattle.galileo_tree.specs.ReadTree.{ReadTree, KeepsForm, HasBareWord, HasShortNumbers}
-use Rattle.tree_check.specs.declared.numbered.Numbered.{Numbered}
-use Rattle.tree_check.specs.declared.numbered.NumberedGate.{NumberedGate}
+use Rattle.statement_faults.specs.declared.numbered.Numbered.{Numbered}
+use Rattle.statement_faults.specs.declared.numbered.NumberedGate.{NumberedGate}
 use Rattle.fault_words.specs.Names.{same_name, all_differ}
-use Rattle.tree_check.specs.Said.{basics, gates, tops, names, basic_names, gate_names}
-use Rattle.tree_check.specs.Numbered.{kinds, kept_inputs, numbered, numbered_gate, numbered_gates, numbered_tops}
-use Rattle.tree_check.specs.Numbered.{unit_total, is_fdep_in}
-use Rattle.tree_check.specs.Classes.{is_replicated, is_empty, missing_tops, replicated, wrong_vote, dummies_in}
-use Rattle.tree_check.specs.Classes.{reads_nothing, is_short_fdep, gates_after_first}
-use Rattle.tree_check.specs.Numbered.{is_spare_kind}
-use Rattle.fault_model.specs.Tree.{is_fdep_kind}
-use Rattle.tree_check.specs.TreeOf.{numbers, tree_of, first_number}
-use Rattle.tree_check.proofs.Edges.{kept_gates}
+use Rattle.statement_faults.specs.Said.{basics, gates, tops, names, basic_names, gate_names}
+use Rattle.statement_faults.specs.Numbered.{kinds, kept_inputs, numbered, numbered_gate, numbered_gates, numbered_tops}
+use Rattle.statement_faults.specs.Numbered.{unit_total, is_fdep_in}
+use Rattle.statement_faults.specs.Classes.{is_replicated, is_empty, missing_tops, replicated, wrong_vote, dummies_in}
+use Rattle.statement_faults.specs.Classes.{reads_nothing, is_short_fdep, gates_after_first}
+use Rattle.statement_faults.specs.Numbered.{is_spare_kind}
+use Rattle.fault_definitions.specs.Tree.{is_fdep_kind}
+use Rattle.statement_faults.specs.TreeOf.{numbers, tree_of, first_number}
+use Rattle.statement_faults.proofs.Edges.{kept_gates}
 use Rattle.tree_check.specs.Checked.{NoneOf, before_cycles, after_cycles}
-use Rattle.tree_check.proofs.Differ.{same_is}
-use Rattle.tree_check.proofs.NonePass.{none_pass, none_each, none_beyond}
-use Rattle.tree_check.proofs.SpareParts.{differing_spares, no_primary}
-use Rattle.tree_check.proofs.GoodGates.{IsGood, fdep_same, sound_gates}
-use Rattle.tree_check.proofs.StatementNames.{inputs_known, tops_known, gates_short, basics_bare, pairs_differ}
+use Rattle.statement_faults.proofs.Differ.{same_is}
+use Rattle.statement_faults.proofs.NonePass.{none_pass, none_each, none_beyond}
+use Rattle.statement_faults.proofs.SpareParts.{differing_spares, no_primary}
+use Rattle.statement_faults.proofs.GoodGates.{IsGood, fdep_same, sound_gates}
+use Rattle.statement_faults.proofs.StatementNames.{inputs_known, tops_known, gates_short, basics_bare, pairs_differ}
 
 zip-maps : {X A B : Type 0} (f : X → A) (g : X → B) (xs : List X) → zip (map f xs) (map g xs) ≡ map (λ x. (f x, g x)) xs
 zip-maps f g [] = refl

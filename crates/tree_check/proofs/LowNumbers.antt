@@ -5,11 +5,11 @@ use Rattle.std.proofs.lemmas.List.Elements.{All-map}
 use Rattle.std.specs.Prelude.{All}
 use Rattle.galileo_tree.specs.declared.raw.RawGate.{RawGate}
 use Rattle.fault_words.specs.Names.{has_name, number_in}
-use Rattle.tree_check.specs.Numbered.{numbered, numbered_gate}
-use Rattle.tree_check.specs.SpareTable.{AreWithin}
-use Rattle.tree_check.specs.declared.numbered.Numbered.{Numbered}
-use Rattle.tree_check.specs.declared.numbered.NumberedGate.{NumberedGate}
-use Rattle.tree_check.proofs.Numbers.{number_none, number_within}
+use Rattle.statement_faults.specs.Numbered.{numbered, numbered_gate}
+use Rattle.statement_faults.specs.SpareTable.{AreWithin}
+use Rattle.statement_faults.specs.declared.numbered.Numbered.{Numbered}
+use Rattle.statement_faults.specs.declared.numbered.NumberedGate.{NumberedGate}
+use Rattle.statement_faults.proofs.Numbers.{number_none, number_within}
 
 number_low : (names : List (List ℕ)) (name : List ℕ) → number_in names name ≤ length names
 number_low names name = elim (cases_Bool (has_name names name)) [

@@ -3,15 +3,15 @@ use Rattle.std.specs.Prelude.{◌≡◌, ℕ, zero, suc, ◌<◌, max, List, [],
 use Rattle.std.proofs.Common.{sym, ap, subst, ◌∙◌, refl, arith}
 use Rattle.std.proofs.lemmas.List.{same_lists, get_or_default}
 use Rattle.std.proofs.lemmas.List.Elements.{All-head, All-tail}
-use Rattle.fault_model.specs.Tree.{FaultTree, IsNodeOf, rank_of}
-use Rattle.fault_model.specs.Trigger.{below}
-use Rattle.fault_model.specs.Rank.{rank_over}
-use Rattle.fault_model.proofs.RankLaws.{below_ranks, below_are_nodes}
-use Rattle.fault_model.specs.WellFormed.{IsTree}
+use Rattle.fault_definitions.specs.Tree.{FaultTree, IsNodeOf, rank_of}
+use Rattle.fault_definitions.specs.Trigger.{below}
+use Rattle.fault_definitions.specs.Rank.{rank_over}
+use Rattle.fault_definitions.proofs.RankLaws.{below_ranks, below_are_nodes}
+use Rattle.fault_definitions.specs.WellFormed.{IsTree}
 use Rattle.galileo_tree.specs.declared.raw.Statement.{Statement}
 use Rattle.galileo_tree.specs.ReadTree.{ReadTree}
 use Rattle.tree_check.specs.Checked.{Stands}
-use Rattle.tree_check.specs.TreeOf.{tree_of}
+use Rattle.statement_faults.specs.TreeOf.{tree_of}
 
 -- nodes that have the same ranks in two trees have the same one above them
 same_over : (tree other : FaultTree) (nodes : List ℕ) → All (λ node. rank_of tree node ≡ rank_of other node) nodes

@@ -4,24 +4,25 @@ use Rattle.std.specs.Prelude.{Some}
 use Rattle.fault_words.specs.declared.place.Place.{Place}
 use Rattle.galileo_tree.specs.declared.raw.Statement.{Statement}
 use Rattle.galileo_tree.specs.ReadTree.{ReadTree}
-use Rattle.tree_check.specs.declared.fault.CheckCode.{CheckCode}
-use Rattle.tree_check.specs.declared.fault.CheckCode.TheVariants.{NoToplevel, TwoToplevels, DuplicateName, Undefined}
-use Rattle.tree_check.specs.declared.fault.CheckCode.TheVariants.{Votes, DummyInput, NoInputs, FdepShape, DependentGate}
-use Rattle.tree_check.specs.declared.fault.CheckCode.TheVariants.{SpareNotBasic, SharedSpare, Replicated, TopIsFdep}
-use Rattle.tree_check.specs.declared.fault.CheckCode.TheVariants.{TooManyUnits, TooManyGates}
-use Rattle.tree_check.specs.declared.fault.CheckFault.{CheckFault}
-use Rattle.tree_check.specs.declared.fault.CheckFault.TheVariants.{Fault, NoMemory}
-use Rattle.tree_check.specs.declared.numbered.NumberedText.{NumberedText}
-use Rattle.tree_check.specs.declared.numbered.Numbered.{Numbered}
-use Rattle.tree_check.specs.declared.numbered.NumberedGate.{NumberedGate}
-use Rattle.tree_check.specs.Said.{names}
-use Rattle.tree_check.specs.Numbered.{numbered_gates, numbered_tops, unit_total}
-use Rattle.tree_check.specs.Numbering.{IsDeckOf}
-use Rattle.tree_check.specs.Classes.{first}
-use Rattle.tree_check.specs.TreeOf.{HasNoCycle}
-use Rattle.tree_check.specs.Found.{IsFoundAs, IsCycleFault}
-use Rattle.tree_check.specs.Checked.{places, NoneOf, NoneIn, FirstIn, IsFirstFault, IsRefusal, before_cycles}
-use Rattle.tree_check.specs.Groups.{top_classes, kind_classes, later_classes, rest_classes, limit_classes}
+use Rattle.statement_faults.specs.declared.fault.CheckCode.{CheckCode}
+use Rattle.statement_faults.specs.declared.fault.CheckCode.TheVariants.{NoToplevel, TwoToplevels, DuplicateName, Undefined}
+use Rattle.statement_faults.specs.declared.fault.CheckCode.TheVariants.{Votes, DummyInput, NoInputs, FdepShape, DependentGate}
+use Rattle.statement_faults.specs.declared.fault.CheckCode.TheVariants.{SpareNotBasic, SharedSpare, Replicated, TopIsFdep}
+use Rattle.statement_faults.specs.declared.fault.CheckCode.TheVariants.{TooManyUnits, TooManyGates}
+use Rattle.statement_faults.specs.declared.fault.CheckFault.{CheckFault}
+use Rattle.statement_faults.specs.declared.fault.CheckFault.TheVariants.{Fault, NoMemory}
+use Rattle.statement_faults.specs.declared.numbered.NumberedText.{NumberedText}
+use Rattle.statement_faults.specs.declared.numbered.Numbered.{Numbered}
+use Rattle.statement_faults.specs.declared.numbered.NumberedGate.{NumberedGate}
+use Rattle.statement_faults.specs.Said.{names}
+use Rattle.statement_faults.specs.Numbered.{numbered_gates, numbered_tops, unit_total}
+use Rattle.statement_faults.specs.Numbering.{IsDeckOf}
+use Rattle.statement_faults.specs.Classes.{first}
+use Rattle.statement_faults.specs.TreeOf.{HasNoCycle}
+use Rattle.statement_faults.specs.Found.{IsFoundAs, IsCycleFault}
+use Rattle.tree_check.specs.Checked.{places, NoneOf, IsFirstFault, IsRefusal, before_cycles}
+use Rattle.statement_faults.specs.Groups.{NoneIn, FirstIn}
+use Rattle.statement_faults.specs.Groups.{top_classes, kind_classes, later_classes, rest_classes, limit_classes}
 
 pub memory : (read : ReadTree) (e : CheckFault) → e ≡ NoMemory → IsRefusal read e
 memory read e is = subst (IsRefusal read) (sym is) tt

@@ -11,31 +11,31 @@ use Rattle.unit_sets.specs.UnitList.{among}
 use Rattle.fault_words.specs.declared.kind.GateKind.{GateKind}
 use Rattle.fault_words.specs.declared.kind.GateKind.TheVariants.{And, Or, Votes, Pand, Por, Seq, Fdep, Csp, Wsp, Hsp}
 use Rattle.fault_words.specs.declared.place.Place.{Place}
-use Rattle.fault_model.specs.Tree.{FaultTree, is_fdep_kind}
-use Rattle.fault_model.specs.Trigger.{trigger_by}
-use Rattle.fault_model.specs.WellFormed.{IsTree}
+use Rattle.fault_definitions.specs.Tree.{FaultTree, is_fdep_kind}
+use Rattle.fault_definitions.specs.Trigger.{trigger_by}
+use Rattle.fault_definitions.specs.WellFormed.{IsTree}
 use Rattle.graph_cycles.proofs.Surveys.{survey_exists}
 use Rattle.galileo_tree.specs.ReadTree.{ReadTree, KeepsForm}
-use Rattle.tree_check.specs.declared.fault.CheckCode.{CheckCode}
-use Rattle.tree_check.specs.declared.fault.CheckCode.TheVariants.{NoToplevel, TwoToplevels, DuplicateName, Undefined}
-use Rattle.tree_check.specs.declared.fault.CheckCode.TheVariants.{Votes as WrongVotes, DummyInput, NoInputs, FdepShape}
-use Rattle.tree_check.specs.declared.fault.CheckCode.TheVariants.{DependentGate, SpareNotBasic, SharedSpare, Replicated}
-use Rattle.tree_check.specs.declared.fault.CheckCode.TheVariants.{TopIsFdep, Cycle, TooManyUnits, TooManyGates}
-use Rattle.tree_check.specs.declared.numbered.Numbered.{Numbered}
-use Rattle.tree_check.specs.declared.numbered.NumberedGate.{NumberedGate}
+use Rattle.statement_faults.specs.declared.fault.CheckCode.{CheckCode}
+use Rattle.statement_faults.specs.declared.fault.CheckCode.TheVariants.{NoToplevel, TwoToplevels, DuplicateName, Undefined}
+use Rattle.statement_faults.specs.declared.fault.CheckCode.TheVariants.{Votes as WrongVotes, DummyInput, NoInputs, FdepShape}
+use Rattle.statement_faults.specs.declared.fault.CheckCode.TheVariants.{DependentGate, SpareNotBasic, SharedSpare, Replicated}
+use Rattle.statement_faults.specs.declared.fault.CheckCode.TheVariants.{TopIsFdep, Cycle, TooManyUnits, TooManyGates}
+use Rattle.statement_faults.specs.declared.numbered.Numbered.{Numbered}
+use Rattle.statement_faults.specs.declared.numbered.NumberedGate.{NumberedGate}
 use Rattle.tree_check.specs.Checked.{IsFirstFault, NoneOf, Stands, before_cycles, places}
-use Rattle.tree_check.specs.Classes.{first}
-use Rattle.tree_check.specs.Marked.{marked_places}
+use Rattle.statement_faults.specs.Classes.{first}
+use Rattle.statement_faults.specs.Marked.{marked_places}
 use Rattle.fault_words.specs.Names.{all_differ}
-use Rattle.tree_check.specs.Numbered.{numbered_gates, unit_total}
-use Rattle.tree_check.specs.Said.{definitions, names}
-use Rattle.tree_check.specs.TreeOf.{AreRanks, FirstOnCycle, HasNoCycle, input_lists, numbers, tree_of}
-use Rattle.tree_check.specs.Triggers.{HasUnitDependents, IsGraphOf, dependents_by, row_at, written_gate}
-use Rattle.tree_check.proofs.Differ.{differ-names, differ-repeats}
+use Rattle.statement_faults.specs.Numbered.{numbered_gates, unit_total}
+use Rattle.statement_faults.specs.Said.{definitions, names}
+use Rattle.statement_faults.specs.TreeOf.{AreRanks, FirstOnCycle, HasNoCycle, input_lists, numbers, tree_of}
+use Rattle.statement_faults.specs.Triggers.{HasUnitDependents, IsGraphOf, dependents_by, row_at, written_gate}
+use Rattle.statement_faults.proofs.Differ.{differ-names, differ-repeats}
 use Rattle.tree_check.proofs.Faultless.{IsTree-faultless}
-use Rattle.tree_check.proofs.GoodGates.{unit_dependents}
-use Rattle.tree_check.proofs.StatementNames.{inputs_known}
-use Rattle.tree_check.proofs.Surveyed.{IsGraph-of, Surveyed, are_ranks, cycle_found, no_cycle}
+use Rattle.statement_faults.proofs.GoodGates.{unit_dependents}
+use Rattle.statement_faults.proofs.StatementNames.{inputs_known}
+use Rattle.statement_faults.proofs.Surveyed.{IsGraph-of, Surveyed, are_ranks, cycle_found, no_cycle}
 
 -- ---- the graph of what each node reads
 

@@ -3,9 +3,9 @@ use Rattle.std.proofs.Common.{◌≡◌, ℕ, Bool, true, false, List, [], ◌�
 use Rattle.std.specs.Prelude.{not, ◌&&◌, filter}
 use Rattle.galileo_tree.specs.declared.raw.Statement.{Statement}
 use Rattle.tree_check.specs.declared.assembly.Taken.{Taken}
-use Rattle.tree_check.specs.declared.numbered.Numbered.{Numbered}
-use Rattle.tree_check.specs.Said.{basic_names, gate_names}
-use Rattle.tree_check.specs.Numbered.{kept_by}
+use Rattle.statement_faults.specs.declared.numbered.Numbered.{Numbered}
+use Rattle.statement_faults.specs.Said.{basic_names, gate_names}
+use Rattle.statement_faults.specs.Numbered.{kept_by}
 use Rattle.tree_check.specs.Assembling.{attribute_lists}
 
 -- what is taken so far, and what the rest holds, are all

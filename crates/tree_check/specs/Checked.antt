@@ -1,21 +1,21 @@
 -- Whether statements stand for a tree, or which fault is the first. The classes are tried in one order, and of the
 -- first class that occurs the first place in the text is answered.
 use Rattle.std.specs.Prelude.{◌≡◌, ◌⊎◌, List, [], ◌∷◌, take, Option, Some}
-use Rattle.fault_model.specs.Tree.{FaultTree}
-use Rattle.tree_check.specs.Found.{IsFoundAs}
+use Rattle.fault_definitions.specs.Tree.{FaultTree}
+use Rattle.statement_faults.specs.Found.{IsFoundAs}
 use Rattle.fault_words.specs.declared.place.Place.{Place}
 use Rattle.galileo_tree.specs.ReadTree.{ReadTree}
-use Rattle.tree_check.specs.Said.{basics, names, uses}
-use Rattle.tree_check.specs.Numbered.{numbered_gates, numbered_tops, unit_total}
-use Rattle.tree_check.specs.Classes as classes
-use Rattle.tree_check.specs.TreeOf.{FirstOnCycle, HasNoCycle, tree_of}
-use Rattle.tree_check.specs.declared.fault.CheckCode.{CheckCode}
-use Rattle.tree_check.specs.declared.fault.CheckCode.TheVariants.{NoToplevel, TwoToplevels, DuplicateName, Undefined}
-use Rattle.tree_check.specs.declared.fault.CheckCode.TheVariants.{Votes, DummyInput, NoInputs, FdepShape, DependentGate}
-use Rattle.tree_check.specs.declared.fault.CheckCode.TheVariants.{SpareNotBasic, SharedSpare, Replicated, TopIsFdep}
-use Rattle.tree_check.specs.declared.fault.CheckCode.TheVariants.{Cycle, TooManyUnits, TooManyGates}
-use Rattle.tree_check.specs.declared.fault.CheckFault.{CheckFault}
-use Rattle.tree_check.specs.declared.fault.CheckFault.TheVariants.{Fault, NoMemory}
+use Rattle.statement_faults.specs.Said.{basics, names, uses}
+use Rattle.statement_faults.specs.Numbered.{numbered_gates, numbered_tops, unit_total}
+use Rattle.statement_faults.specs.Classes as classes
+use Rattle.statement_faults.specs.TreeOf.{FirstOnCycle, HasNoCycle, tree_of}
+use Rattle.statement_faults.specs.declared.fault.CheckCode.{CheckCode}
+use Rattle.statement_faults.specs.declared.fault.CheckCode.TheVariants.{NoToplevel, TwoToplevels, DuplicateName, Undefined}
+use Rattle.statement_faults.specs.declared.fault.CheckCode.TheVariants.{Votes, DummyInput, NoInputs, FdepShape, DependentGate}
+use Rattle.statement_faults.specs.declared.fault.CheckCode.TheVariants.{SpareNotBasic, SharedSpare, Replicated, TopIsFdep}
+use Rattle.statement_faults.specs.declared.fault.CheckCode.TheVariants.{Cycle, TooManyUnits, TooManyGates}
+use Rattle.statement_faults.specs.declared.fault.CheckFault.{CheckFault}
+use Rattle.statement_faults.specs.declared.fault.CheckFault.TheVariants.{Fault, NoMemory}
 
 -- the places of each class but the cycles, in the order of the text
 abbrev pub places : ReadTree → CheckCode → List Place
@@ -89,21 +89,6 @@ IsRefusal read (Fault code place) = IsFirstFault read code place
 IsRefusal read NoMemory = Unit {0}
 
 -- ---- classes one after another
-
--- none of these classes has a place
-abbrev pub NoneIn : List (CheckCode × List Place) → Type 0
-NoneIn [] = Unit {0}
-NoneIn (class ∷ classes) = (class.1 ≡ []) × NoneIn classes
-
--- the fault is of the first of these classes that has a place
-abbrev pub FirstIn : List (CheckCode × List Place) → CheckFault → Type 0
-FirstIn [] fault = fault ≡ NoMemory
-FirstIn (class ∷ classes) fault = IsFoundAs class.0 class.1 fault ⊎ ((class.1 ≡ []) × FirstIn classes fault)
-
--- what a search for the first place of a class answers
-abbrev pub IsRefusedBy : CheckCode → Option Place → CheckFault → Type 0
-IsRefusedBy code found (Fault refused place) = (refused ≡ code) × (found ≡ Some place)
-IsRefusedBy code found NoMemory = ⊥
 
 -- ---- what checking gives
 

@@ -1,12 +1,12 @@
 -- A text in which no class of faults occurs.
 use Rattle.std.specs.Prelude.{◌≡◌, ℕ, ◌^◌, ◌<◌, true, List, drop}
-use Rattle.tree_check.specs.declared.numbered.NumberedText.{NumberedText}
+use Rattle.statement_faults.specs.declared.numbered.NumberedText.{NumberedText}
 use Rattle.galileo_tree.specs.ReadTree.{ReadTree}
 use Rattle.tree_check.specs.declared.checking.Examined.{Examined}
-use Rattle.tree_check.specs.Said.{names}
+use Rattle.statement_faults.specs.Said.{names}
 use Rattle.fault_words.specs.Names.{all_differ}
-use Rattle.tree_check.specs.Numbering.{IsDeckOf}
-use Rattle.tree_check.specs.TreeOf.{AreRanks, HasNoCycle}
+use Rattle.statement_faults.specs.Numbering.{IsDeckOf}
+use Rattle.statement_faults.specs.TreeOf.{AreRanks, HasNoCycle}
 use Rattle.tree_check.specs.Checked.{NoneOf, before_cycles, after_cycles}
 
 -- the names of the text, none of which is defined twice

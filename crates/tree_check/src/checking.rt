@@ -3,16 +3,14 @@ ghost use Rattle.std.specs.Prelude.{◌≡◌, take, IfOk, IfErr};
 ghost use Rattle.tree_check.specs.Checked.{IsRefusal, Stands, NoneOf, before_cycles};
 ghost use Rattle.tree_check.specs.Examined.{IsExamined, IsIndexOf, IsSmallDeck, IsRankedText};
 
-use crate::CheckFault;
 use crate::assembly::assemble;
-use crate::classes::{check_kinds, check_later_inputs, check_limits, check_rest, check_tops};
-use crate::cycles::rank_all;
-use name_index::NameIndex;
-use crate::naming::name_all;
-use crate::numbered::NumberedText;
-use crate::numbering::number_all;
 use fault_model::Tree;
 use galileo_tree::RawTree;
+use name_index::NameIndex;
+use statement_faults::{
+    CheckFault, NumberedText, check_kinds, check_later_inputs, check_limits, check_rest,
+    check_tops, name_all, number_all, rank_all,
+};
 use std::alloc::Global;
 
 /// A text in which no class of faults occurs, by numbers, with the ranks of its nodes.

@@ -1,11 +1,11 @@
 //! Laws of the definitions, each the one clause of a function that does nothing.
 ghost use Rattle.std.specs.Prelude.{◌≡◌, ◌⊎◌, All};
-ghost use Rattle.fault_model.specs.Tree.{FaultTree};
-ghost use Rattle.fault_model.specs.WellFormed.{IsTree};
+ghost use Rattle.fault_definitions.specs.Tree.{FaultTree};
+ghost use Rattle.fault_definitions.specs.WellFormed.{IsTree};
 ghost use Rattle.fault_words.specs.declared.place.Place.{Place};
 ghost use Rattle.galileo_tree.specs.ReadTree.{KeepsForm, ReadTree};
 ghost use Rattle.tree_check.specs.Checked.{IsFaultless, IsFirstFault, Stands};
-ghost use Rattle.tree_check.specs.declared.fault.CheckCode.{CheckCode};
+ghost use Rattle.statement_faults.specs.declared.fault.CheckCode.{CheckCode};
 
 /// The statements of a text stand for at most one tree.
 pub fn statements_have_one_tree()

@@ -1,26 +1,17 @@
 //! From the statements of a text to its fault tree.
 //!
-//! It stands on `galileo_tree` for the statements, on `fault_model` for the tree and on `graph_cycles` for cycles. Its
-//! contract gives the layer above the one tree that the statements stand for, exactly where no class of faults
-//! occurs, and else the first class that occurs, at its first place.
+//! It stands on `galileo_tree` for the statements, on `statement_faults` for the classes of faults, and on `fault_model`
+//! for the tree. Its contract gives the layer above the one tree that the statements stand for, exactly where no class
+//! of faults occurs, and else the first class that occurs, at its first place.
 #![tactic(auto)]
 
 mod assembly;
 mod checking;
-mod classes;
-mod cycles;
-mod fault;
-mod gates;
 mod laws;
-mod naming;
-mod numbered;
-mod numbering;
-mod spares;
-mod statements;
 
 pub use checking::check;
-pub use fault::{CheckCode, CheckFault};
 pub use laws::{
     some_tree_or_some_fault, statements_have_one_first_fault, statements_have_one_tree,
     tree_or_fault,
 };
+pub use statement_faults::{CheckCode, CheckFault};

@@ -4,12 +4,12 @@ use Rattle.std.specs.Prelude.{◌≡◌, ℕ, false, List, [], ◌∷◌, All, m
 use Rattle.std.proofs.Common.{sym, subst, arith}
 use Rattle.std.proofs.lemmas.Bool.{and_left, and_right, cond-true, cond-false, lt-ltb, le-ltb}
 use Rattle.std.proofs.lemmas.List.Elements.{All-head, All-tail}
-use Rattle.fault_model.specs.CutFamily.{IsCutFamily}
-use Rattle.fault_model.proofs.RankLaws.{below_are_nodes}
-use Rattle.fault_model.specs.Tree.{FaultTree, IsGateOf, IsNodeOf, IsUnitOf, inputs_of, is_above_units, is_fdep}
-use Rattle.fault_model.specs.Tree.{is_fdep_kind, kind_of, unit_count}
-use Rattle.fault_model.specs.Trigger.{below, triggers_of}
-use Rattle.fault_model.specs.WellFormed.{IsTree}
+use Rattle.fault_definitions.specs.CutFamily.{IsCutFamily}
+use Rattle.fault_definitions.proofs.RankLaws.{below_are_nodes}
+use Rattle.fault_definitions.specs.Tree.{FaultTree, IsGateOf, IsNodeOf, IsUnitOf, inputs_of, is_above_units, is_fdep}
+use Rattle.fault_definitions.specs.Tree.{is_fdep_kind, kind_of, unit_count}
+use Rattle.fault_definitions.specs.Trigger.{below, triggers_of}
+use Rattle.fault_definitions.specs.WellFormed.{IsTree}
 use Rattle.family_operations.specs.Minimal.{IsMinimal}
 use Rattle.tree_families.specs.Generation.{Generates}
 use Rattle.tree_families.specs.Due.{IsDueToRecipe, IsDueToTree, one_node}

@@ -11,13 +11,13 @@ use Rattle.unit_sets.proofs.Sorted.{same_from_members}
 use Rattle.unit_sets.specs.UnitList.{among, without_unit, is_within, some_within}
 use Rattle.unit_sets.proofs.UnitListLemmas.{among-without_unit, among-from_Contains}
 use Rattle.unit_sets.proofs.UnitListLemmas.{Contains-from_among, among-from_is_within, is_within-from_among}
-use Rattle.fault_model.specs.Cut.{IsMinimalFor, IsMinimalCut, IsCutList}
-use Rattle.fault_model.specs.CutFamily.{IsCutFamily}
-use Rattle.fault_model.proofs.MinimalCuts.{units_of_all}
-use Rattle.fault_model.specs.Reading.{reads}
-use Rattle.fault_model.proofs.ReadingLaws.{reads-empty}
-use Rattle.fault_model.specs.Tree.{FaultTree}
-use Rattle.fault_model.specs.WellFormed.{IsTree}
+use Rattle.fault_definitions.specs.Cut.{IsMinimalFor, IsMinimalCut, IsCutList}
+use Rattle.fault_definitions.specs.CutFamily.{IsCutFamily}
+use Rattle.fault_definitions.proofs.MinimalCuts.{units_of_all}
+use Rattle.fault_definitions.specs.Reading.{reads}
+use Rattle.fault_definitions.proofs.ReadingLaws.{reads-empty}
+use Rattle.fault_definitions.specs.Tree.{FaultTree}
+use Rattle.fault_definitions.specs.WellFormed.{IsTree}
 use Rattle.zdd_families.specs.Family.{IsFamily}
 use Rattle.family_operations.proofs.CutsLemmas.{set_rises}
 use Rattle.family_operations.proofs.WithinLemmas.{HasWithin, HasWithin-from_test, some_within-from_set}

@@ -7,10 +7,10 @@ use Rattle.std.proofs.Common.{refl, sym, ◌∙◌, ap, inl, inr}
 use Rattle.std.proofs.lemmas.Bool.{and_parts, or_cases, not_from_true, leb-true, false≢true}
 use Rattle.unit_sets.proofs.Sorted.{Contains-nil, Contains-cons_cases}
 use Rattle.unit_sets.specs.UnitList.{is_within, some_within}
-use Rattle.fault_model.specs.CutFamily.{IsCutFamily}
-use Rattle.fault_model.specs.Rank.{by_rank}
-use Rattle.fault_model.specs.Reading.{reads}
-use Rattle.fault_model.specs.Tree.{FaultTree, unit_count}
+use Rattle.fault_definitions.specs.CutFamily.{IsCutFamily}
+use Rattle.fault_definitions.specs.Rank.{by_rank}
+use Rattle.fault_definitions.specs.Reading.{reads}
+use Rattle.fault_definitions.specs.Tree.{FaultTree, unit_count}
 use Rattle.zdd_families.specs.Family.{IsFamily}
 use Rattle.family_operations.proofs.CutsLemmas.{set_rises}
 use Rattle.family_operations.proofs.WithinLemmas.{passes_at}

@@ -3,13 +3,13 @@ use Rattle.std.specs.Prelude.{◌≡◌, ℕ, Bool, true, List, Contains}
 use Rattle.std.proofs.lemmas.List.Elements.{All-contains}
 use Rattle.unit_sets.specs.UnitList.{among, IsRising, some_within}
 use Rattle.unit_sets.proofs.UnitListLemmas.{Contains-from_among}
-use Rattle.fault_model.specs.Cut.{IsMinimalFor}
-use Rattle.fault_model.specs.CutFamily.{IsCutFamily}
-use Rattle.fault_model.proofs.MinimalCuts.{part_of_failing}
-use Rattle.fault_model.specs.Reading.{reads}
-use Rattle.fault_model.proofs.ReadingLaws.{reads-rises}
-use Rattle.fault_model.specs.Tree.{FaultTree, IsNodeOf, IsUnitOf}
-use Rattle.fault_model.specs.WellFormed.{IsTree}
+use Rattle.fault_definitions.specs.Cut.{IsMinimalFor}
+use Rattle.fault_definitions.specs.CutFamily.{IsCutFamily}
+use Rattle.fault_definitions.proofs.MinimalCuts.{part_of_failing}
+use Rattle.fault_definitions.specs.Reading.{reads}
+use Rattle.fault_definitions.proofs.ReadingLaws.{reads-rises}
+use Rattle.fault_definitions.specs.Tree.{FaultTree, IsNodeOf, IsUnitOf}
+use Rattle.fault_definitions.specs.WellFormed.{IsTree}
 use Rattle.family_operations.proofs.CutsLemmas.{each-from_contains}
 use Rattle.family_operations.proofs.WithinLemmas.{HasWithin, HasWithin-from_test, some_within-from_set, passes_at}
 use Rattle.family_operations.proofs.WithinLemmas.{passes_from}

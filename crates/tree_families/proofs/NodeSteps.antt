@@ -3,9 +3,9 @@ use Rattle.std.specs.Prelude.{◌≡◌, ℕ, ◌<◌, true, false, List, [], �
 use Rattle.std.proofs.Common.{refl, sym, ◌∙◌, ap, subst}
 use Rattle.fault_words.specs.declared.kind.GateKind.{GateKind}
 use Rattle.fault_words.specs.declared.kind.GateKind.TheVariants.{And, Or, Votes, Pand, Por, Seq, Fdep, Csp, Wsp, Hsp}
-use Rattle.fault_model.specs.CutFamily.{IsCutFamily}
-use Rattle.fault_model.specs.Tree.{FaultTree, IsGateOf, IsUnitOf, inputs_of, is_fdep_kind, kind_of}
-use Rattle.fault_model.specs.Trigger.{triggers_of}
+use Rattle.fault_definitions.specs.CutFamily.{IsCutFamily}
+use Rattle.fault_definitions.specs.Tree.{FaultTree, IsGateOf, IsUnitOf, inputs_of, is_fdep_kind, kind_of}
+use Rattle.fault_definitions.specs.Trigger.{triggers_of}
 use Rattle.family_operations.specs.Due.{IsDueToUnion, IsDueToProduct, IsDueToMinimal, IsDueToVotes}
 use Rattle.family_operations.specs.Product.{IsProduct}
 use Rattle.tree_families.proofs.Building.{gate-due, unit-due}

@@ -8,11 +8,11 @@ use Rattle.unit_sets.specs.UnitList.{among, some_within}
 use Rattle.unit_sets.proofs.Sorted.{Contains-nil, Contains-cons_cases}
 use Rattle.fault_words.specs.declared.kind.GateKind.{GateKind}
 use Rattle.fault_words.specs.declared.kind.GateKind.TheVariants.{And, Or, Votes, Pand, Por, Seq, Fdep, Csp, Wsp, Hsp}
-use Rattle.fault_model.specs.Reading.{reads, true_count, first_reads, gate_reads}
-use Rattle.fault_model.proofs.ReadingLaws.{reads-node}
-use Rattle.fault_model.specs.Tree.{FaultTree, IsNodeOf, IsUnitOf, kind_of, inputs_of, is_above_units, unit_count}
-use Rattle.fault_model.specs.Trigger.{below, triggers_of}
-use Rattle.fault_model.specs.WellFormed.{IsTree}
+use Rattle.fault_definitions.specs.Reading.{reads, true_count, first_reads, gate_reads}
+use Rattle.fault_definitions.proofs.ReadingLaws.{reads-node}
+use Rattle.fault_definitions.specs.Tree.{FaultTree, IsNodeOf, IsUnitOf, kind_of, inputs_of, is_above_units, unit_count}
+use Rattle.fault_definitions.specs.Trigger.{below, triggers_of}
+use Rattle.fault_definitions.specs.WellFormed.{IsTree}
 use Rattle.zdd_families.specs.Family.{IsFamily}
 use Rattle.zdd_families.proofs.FamilyLemmas.{IsFamily-nil, IsFamily-unit}
 use Rattle.family_operations.specs.Within.{count_within}

@@ -6,12 +6,12 @@ use Rattle.std.proofs.lemmas.List.Elements.{All-contains}
 use Rattle.unit_sets.proofs.Sorted.{Contains-nil, Contains-cons_first, Contains-cons_other, Contains-cons_cases}
 use Rattle.fault_words.specs.declared.kind.GateKind.{GateKind}
 use Rattle.fault_words.specs.declared.kind.GateKind.TheVariants.{And, Or, Votes, Pand, Por, Seq, Fdep, Csp, Wsp, Hsp}
-use Rattle.fault_model.specs.CutFamily.{IsCutFamily}
-use Rattle.fault_model.proofs.RankLaws.{below_are_nodes, below_ranks}
-use Rattle.fault_model.specs.Tree.{FaultTree, IsNodeOf, is_above_units, is_fdep, is_fdep_kind, kind_of, rank_of}
-use Rattle.fault_model.specs.Tree.{unit_count}
-use Rattle.fault_model.specs.Trigger.{below}
-use Rattle.fault_model.specs.WellFormed.{IsTree}
+use Rattle.fault_definitions.specs.CutFamily.{IsCutFamily}
+use Rattle.fault_definitions.proofs.RankLaws.{below_are_nodes, below_ranks}
+use Rattle.fault_definitions.specs.Tree.{FaultTree, IsNodeOf, is_above_units, is_fdep, is_fdep_kind, kind_of, rank_of}
+use Rattle.fault_definitions.specs.Tree.{unit_count}
+use Rattle.fault_definitions.specs.Trigger.{below}
+use Rattle.fault_definitions.specs.WellFormed.{IsTree}
 use Rattle.zdd_families.specs.Family.{IsSetAbove}
 use Rattle.family_operations.specs.Cuts.{Cuts}
 use Rattle.family_operations.proofs.CutsLemmas.{each-from_contains}

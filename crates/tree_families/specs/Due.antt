@@ -1,9 +1,9 @@
 -- Which families are due to a tree: that of each unit alone, and what is due to the operations by which
 -- the families of its nodes are built, each from the cut families of what the node reads.
 use Rattle.std.specs.Prelude.{◌≡◌, ℕ, false, List, ◌∷◌}
-use Rattle.fault_model.specs.CutFamily.{IsCutFamily}
-use Rattle.fault_model.specs.Tree.{FaultTree, IsNodeOf, IsUnitOf, is_fdep}
-use Rattle.fault_model.specs.Trigger.{below}
+use Rattle.fault_definitions.specs.CutFamily.{IsCutFamily}
+use Rattle.fault_definitions.specs.Tree.{FaultTree, IsNodeOf, IsUnitOf, is_fdep}
+use Rattle.fault_definitions.specs.Trigger.{below}
 use Rattle.family_operations.specs.Union.{IsUnion}
 use Rattle.family_operations.specs.Product.{IsProduct}
 use Rattle.family_operations.specs.Minimal.{IsMinimal}

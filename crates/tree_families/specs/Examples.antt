@@ -1,7 +1,7 @@
 -- Two small trees, and the cut families of their gates.
 use Rattle.std.specs.Prelude.{[], ◌∷◌}
 use Rattle.fault_words.specs.declared.kind.GateKind.TheVariants.{And, Or, Votes}
-use Rattle.fault_model.specs.Tree.{FaultTree}
+use Rattle.fault_definitions.specs.Tree.{FaultTree}
 
 -- the units 1 to 3, and a gate that fails with two of them
 abbrev pub two_of_three : FaultTree

@@ -2,7 +2,7 @@
 use Rattle.std.specs.Prelude.{◌≡◌, ℕ, Bool, true, false, List, [], ◌∷◌, if◌then◌else◌}
 use Rattle.fault_words.specs.declared.kind.GateKind.{GateKind}
 use Rattle.fault_words.specs.declared.kind.GateKind.TheVariants.{And, Or, Votes, Pand, Por, Seq, Fdep, Csp, Wsp, Hsp}
-use Rattle.fault_model.specs.Tree.{FaultTree, kind_of, is_above_units}
+use Rattle.fault_definitions.specs.Tree.{FaultTree, kind_of, is_above_units}
 use Rattle.family_operations.specs.Union.{IsUnion}
 use Rattle.family_operations.specs.Product.{IsProduct}
 use Rattle.family_operations.specs.Minimal.{IsMinimal}

@@ -3,12 +3,12 @@ ghost use Rattle.std.specs.Prelude.{◌≡◌, ◌↔◌, ◌⊎◌, ℕ, ◌+�
 ghost use Rattle.std.specs.Prelude.{get_or, length, map, take};
 ghost use Rattle.unit_sets.specs.CutOrder.{IsInCutOrder};
 ghost use Rattle.fault_words.specs.declared.kind.GateKind.TheVariants.{Or, Votes};
-ghost use Rattle.fault_model.specs.Cut.{IsCutList, IsMinimalCut};
-ghost use Rattle.fault_model.specs.CutFamily.{IsCutFamily};
-ghost use Rattle.fault_model.specs.Tree.{FaultTree, IsGateOf, IsNodeOf, IsUnitOf, inputs_of, is_fdep, is_fdep_kind};
-ghost use Rattle.fault_model.specs.Tree.{kind_of};
-ghost use Rattle.fault_model.specs.Trigger.{below, triggers_of};
-ghost use Rattle.fault_model.specs.WellFormed.{IsTree};
+ghost use Rattle.fault_definitions.specs.Cut.{IsCutList, IsMinimalCut};
+ghost use Rattle.fault_definitions.specs.CutFamily.{IsCutFamily};
+ghost use Rattle.fault_definitions.specs.Tree.{FaultTree, IsGateOf, IsNodeOf, IsUnitOf, inputs_of, is_fdep, is_fdep_kind};
+ghost use Rattle.fault_definitions.specs.Tree.{kind_of};
+ghost use Rattle.fault_definitions.specs.Trigger.{below, triggers_of};
+ghost use Rattle.fault_definitions.specs.WellFormed.{IsTree};
 ghost use Rattle.zdd_families.specs.Family.{IsFamily};
 ghost use Rattle.family_operations.specs.Due.{IsInnerFamily, IsDueToUnion, IsDueToProduct, IsDueToMinimal};
 ghost use Rattle.family_operations.specs.Due.{IsDueToVotes};

@@ -11,21 +11,21 @@ use Rattle.std.proofs.lemmas.List.FromFn.{length-map-range_with_len, length-rang
 use Rattle.fault_words.specs.declared.kind.GateKind.{GateKind}
 use Rattle.fault_words.specs.declared.kind.GateKind.TheVariants.{Fdep}
 use Rattle.unit_sets.specs.Unit.{most_units}
-use Rattle.fault_model.specs.declared.tree.TheConstants.{MOST_GATES}
+use Rattle.fault_definitions.specs.declared.parts.TheConstants.{MOST_GATES}
 use Rattle.fault_words.specs.declared.place.Place.{Place}
-use Rattle.fault_model.specs.Tree.{is_fdep_kind}
+use Rattle.fault_definitions.specs.Tree.{is_fdep_kind}
 use Rattle.galileo_tree.specs.declared.raw.Placed.{Placed}
 use Rattle.galileo_tree.specs.declared.raw.RawBasic.{RawBasic}
 use Rattle.galileo_tree.specs.declared.raw.Statement.{Statement}
 use Rattle.tree_check.specs.Checked.{IsFaultless}
-use Rattle.tree_check.specs.Classes.{dependent_gates, dummies, fdep_tops, inputless, is_replicated, repeats}
-use Rattle.tree_check.specs.Classes.{repeats_after, replicated, shared_spares, short_fdeps, spare_gates, undefined}
-use Rattle.tree_check.specs.Classes.{wrong_votes}
-use Rattle.tree_check.specs.Numbered.{is_fdep_in, kinds, numbered, numbered_gate, numbered_gates, numbered_tops}
-use Rattle.tree_check.specs.Numbered.{unit_total}
+use Rattle.statement_faults.specs.Classes.{dependent_gates, dummies, fdep_tops, inputless, is_replicated, repeats}
+use Rattle.statement_faults.specs.Classes.{repeats_after, replicated, shared_spares, short_fdeps, spare_gates, undefined}
+use Rattle.statement_faults.specs.Classes.{wrong_votes}
+use Rattle.statement_faults.specs.Numbered.{is_fdep_in, kinds, numbered, numbered_gate, numbered_gates, numbered_tops}
+use Rattle.statement_faults.specs.Numbered.{unit_total}
 use Rattle.fault_words.specs.Names.{has_name}
-use Rattle.tree_check.specs.Said.{basics, gates, names, tops, uses}
-use Rattle.tree_check.specs.TreeOf.{HasNoCycle, input_lists, tree_of}
+use Rattle.statement_faults.specs.Said.{basics, gates, names, tops, uses}
+use Rattle.statement_faults.specs.TreeOf.{HasNoCycle, input_lists, tree_of}
 use Rattle.deck_reading.specs.Unplaced.{said_tree}
 use Rattle.tree_maker.specs.Names.{gate_name, top_name, trigger_name, unit_name}
 use Rattle.tree_maker.proofs.Acyclic.{none_cyclic}

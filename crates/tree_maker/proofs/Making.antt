@@ -8,16 +8,16 @@ use Rattle.std.proofs.lemmas.List.{length-append, length-map, map-append}
 use Rattle.std.proofs.lemmas.List.Elements.{All-cons, All-map, All-nil, All-weaker}
 use Rattle.std.proofs.lemmas.List.FromFn.{length-map-range_with_len}
 use Rattle.fault_words.specs.Name.{is_bare_name, is_name}
-use Rattle.fault_model.specs.Tree.{FaultTree, gate_count, unit_count}
-use Rattle.fault_model.specs.WellFormed.{IsTree}
+use Rattle.fault_definitions.specs.Tree.{FaultTree, gate_count, unit_count}
+use Rattle.fault_definitions.specs.WellFormed.{IsTree}
 use Rattle.fault_words.specs.declared.attribute.Attribute.{Attribute}
 use Rattle.fault_words.specs.declared.place.Place.{Place}
 use Rattle.galileo_tree.specs.ReadTree.{HasBareWord, KeepsForm, ReadTree}
 use Rattle.tree_check.specs.Checked.{IsFaultless, IsFirstFault, Stands}
-use Rattle.tree_check.specs.Numbered.{numbered_gates}
+use Rattle.statement_faults.specs.Numbered.{numbered_gates}
 use Rattle.tree_check.proofs.OneFault.{no_fault}
-use Rattle.tree_check.specs.Said.{basics}
-use Rattle.tree_check.specs.declared.fault.CheckCode.{CheckCode}
+use Rattle.statement_faults.specs.Said.{basics}
+use Rattle.statement_faults.specs.declared.fault.CheckCode.{CheckCode}
 use Rattle.crew_script.specs.Crews.{crews_of}
 use Rattle.crew_script.specs.CrewsOf.{Answers, AreCrews, Say, lines_for}
 use Rattle.crew_script.specs.Deck.{lines_of}

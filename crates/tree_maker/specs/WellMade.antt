@@ -1,7 +1,7 @@
 -- What a made deck stands for: a tree, and one crew with its requests.
 use Rattle.std.specs.Prelude.{◌≡◌, ℕ, ◌+◌, ◌*◌, ◌≤◌, List, [], ◌∷◌, ◌++◌, length, map, codes, Some, Ok}
 use Rattle.std.specs.List.{flat_map, range_with_len}
-use Rattle.fault_model.specs.Tree.{FaultTree, unit_count, gate_count}
+use Rattle.fault_definitions.specs.Tree.{FaultTree, unit_count, gate_count}
 use Rattle.edge_io.specs.declared.reading.TheConstants.{INPUT_LIMIT}
 use Rattle.crew_script.specs.declared.dockets.Ask.{Ask}
 use Rattle.crew_script.specs.declared.dockets.Ask.TheVariants.{Take, Return}

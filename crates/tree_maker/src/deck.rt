@@ -1,6 +1,6 @@
 //! A made deck as its bytes.
 ghost use Rattle.std.specs.Prelude.{◌≡◌, ◌≤◌, IfOk};
-ghost use Rattle.fault_model.specs.Tree.{FaultTree};
+ghost use Rattle.fault_definitions.specs.Tree.{FaultTree};
 ghost use Rattle.tree_maker.specs.MadeDeck.{made_deck};
 ghost use Rattle.tree_maker.specs.WellMade.{IsWellMade};
 

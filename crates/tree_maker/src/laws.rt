@@ -1,6 +1,6 @@
 //! What made decks stand for. The function does nothing but call the laws that it stands on.
 ghost use Rattle.std.specs.Prelude.{ℕ};
-ghost use Rattle.fault_model.specs.Tree.{FaultTree};
+ghost use Rattle.fault_definitions.specs.Tree.{FaultTree};
 ghost use Rattle.tree_maker.specs.MadeDeck.{made_deck};
 ghost use Rattle.tree_maker.specs.WellMade.{IsWellMade};
 

@@ -15,10 +15,10 @@ use Rattle.unit_sets.specs.UnitList.{among}
 use Rattle.fault_words.specs.declared.kind.GateKind.{GateKind}
 use Rattle.fault_words.specs.declared.kind.GateKind.TheVariants.{And, Or, Votes, Pand, Por, Seq, Fdep, Csp, Wsp, Hsp}
 use Rattle.fault_words.specs.Name.{is_name, is_name_byte}
-use Rattle.fault_model.specs.Tree.{FaultTree, IsGateOf, IsNodeOf, gate_count, inputs_of}
-use Rattle.fault_model.specs.Tree.{is_fdep_kind, kind_of, name_of, node_count, unit_count}
-use Rattle.fault_model.specs.WellFormed.{IsTree}
-use Rattle.fault_model.proofs.RankLaws.{gate_sound}
+use Rattle.fault_definitions.specs.Tree.{FaultTree, IsGateOf, IsNodeOf, gate_count, inputs_of}
+use Rattle.fault_definitions.specs.Tree.{is_fdep_kind, kind_of, name_of, node_count, unit_count}
+use Rattle.fault_definitions.specs.WellFormed.{IsTree}
+use Rattle.fault_definitions.proofs.RankLaws.{gate_sound}
 use Rattle.crew_script.specs.Deck.{lines_of}
 use Rattle.deck_reading.specs.TreeStatements.{IsNamed, gate_numbers, unit_numbers}
 use Rattle.text_pieces.specs.GateWords.{gate_word}

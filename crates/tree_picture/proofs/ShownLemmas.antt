@@ -9,9 +9,9 @@ use Rattle.std.proofs.lemmas.List.Folds.{list_all-append}
 use Rattle.std.proofs.lemmas.Bool.{and_from, and_parts}
 use Rattle.fault_words.specs.declared.kind.GateKind.{GateKind}
 use Rattle.fault_words.specs.declared.kind.GateKind.TheVariants.{And, Or, Votes, Pand, Por, Seq, Fdep, Csp, Wsp, Hsp}
-use Rattle.fault_model.specs.Tree.{FaultTree, IsGateOf, IsNodeOf, inputs_of, kind_of, name_of}
-use Rattle.fault_model.specs.WellFormed.{IsSoundKind, IsTree}
-use Rattle.fault_model.proofs.RankLaws.{gate_sound}
+use Rattle.fault_definitions.specs.Tree.{FaultTree, IsGateOf, IsNodeOf, inputs_of, kind_of, name_of}
+use Rattle.fault_definitions.specs.WellFormed.{IsSoundKind, IsTree}
+use Rattle.fault_definitions.proofs.RankLaws.{gate_sound}
 use Rattle.text_pieces.specs.GateWords.{gate_word}
 use Rattle.tree_picture.specs.Labels.{InText, behind_quote, label_text, shown_before, shown_from, shown_in}
 use Rattle.tree_picture.specs.PictureText.{gate_label, gate_line, gate_shape, node_head, unit_line, unit_shape}

@@ -5,7 +5,7 @@ use Rattle.std.specs.List.{flat_map, starts_with}
 use Rattle.unit_sets.specs.UnitList.{among}
 use Rattle.fault_words.specs.declared.kind.GateKind.{GateKind}
 use Rattle.fault_words.specs.declared.kind.GateKind.TheVariants.{And, Or, Votes, Pand, Por, Seq, Fdep, Csp, Wsp, Hsp}
-use Rattle.fault_model.specs.Tree.{FaultTree, inputs_of, is_above_units, is_fdep_kind, kind_of, name_of}
+use Rattle.fault_definitions.specs.Tree.{FaultTree, inputs_of, is_above_units, is_fdep_kind, kind_of, name_of}
 use Rattle.crew_script.specs.Deck.{lines_of}
 use Rattle.deck_reading.specs.TreeStatements.{gate_numbers, unit_numbers}
 use Rattle.text_pieces.specs.GateWords.{gate_word}

@@ -1,9 +1,9 @@
 //! What pictures show.
 ghost use Rattle.std.specs.Prelude.{◌≡◌, ℕ, ◌+◌, List, [], ◌∷◌, ◌++◌, map, length, codes, sum_by, Some};
 ghost use Rattle.crew_script.specs.Deck.{lines_of};
-ghost use Rattle.fault_model.specs.Tree.{FaultTree, IsGateOf, IsNodeOf, IsUnitOf, inputs_of, kind_of, name_of};
-ghost use Rattle.fault_model.specs.Tree.{node_count};
-ghost use Rattle.fault_model.specs.WellFormed.{IsTree};
+ghost use Rattle.fault_definitions.specs.Tree.{FaultTree, IsGateOf, IsNodeOf, IsUnitOf, inputs_of, kind_of, name_of};
+ghost use Rattle.fault_definitions.specs.Tree.{node_count};
+ghost use Rattle.fault_definitions.specs.WellFormed.{IsTree};
 ghost use Rattle.deck_reading.specs.TreeStatements.{IsNamed, gate_numbers};
 ghost use Rattle.text_pieces.specs.GateWords.{gate_word};
 ghost use Rattle.tree_picture.specs.Labels.{shown_in};

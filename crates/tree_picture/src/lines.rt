@@ -1,7 +1,7 @@
 //! The lines of a picture.
 ghost use Rattle.std.specs.Prelude.{◌≡◌, ◌++◌, codes, decimal, false, is_err};
 ghost use Rattle.edge_io.specs.Out.{has_failed, Puts};
-ghost use Rattle.fault_model.specs.Tree.{IsGateOf, IsNodeOf, IsUnitOf, kind_of, name_of};
+ghost use Rattle.fault_definitions.specs.Tree.{IsGateOf, IsNodeOf, IsUnitOf, kind_of, name_of};
 ghost use Rattle.text_pieces.specs.GateWords.{gate_word};
 ghost use Rattle.tree_picture.specs.Labels.{label_text};
 ghost use Rattle.tree_picture.specs.PictureText.{gate_label, gate_line, gate_shape, input_line, unit_line};

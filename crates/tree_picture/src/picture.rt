@@ -2,7 +2,7 @@
 ghost use Rattle.std.specs.Prelude.{◌≡◌, false, is_err};
 ghost use Rattle.std.specs.List.{flat_map};
 ghost use Rattle.edge_io.specs.Out.{has_failed, Puts};
-ghost use Rattle.fault_model.specs.Tree.{IsGateOf, IsUnitOf};
+ghost use Rattle.fault_definitions.specs.Tree.{IsGateOf, IsUnitOf};
 ghost use Rattle.deck_reading.specs.TreeStatements.{gate_numbers, unit_numbers};
 ghost use Rattle.tree_picture.specs.PictureText.{ended, gate_line, gate_text, input_text, nodes_text, picture_text};
 ghost use Rattle.tree_picture.specs.PictureText.{unit_text};

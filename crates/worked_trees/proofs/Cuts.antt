@@ -1,8 +1,8 @@
 -- The members of a cut list's sets are units of the tree.
 use Rattle.std.proofs.Common.{ℕ, ◌+◌, ◌<◌, List, All, arith}
 use Rattle.std.proofs.lemmas.List.Elements.{All-weaker}
-use Rattle.fault_model.specs.Cut.{IsMinimalCut, IsCutList}
-use Rattle.fault_model.specs.Tree.{FaultTree, IsUnitOf, unit_count}
+use Rattle.fault_definitions.specs.Cut.{IsMinimalCut, IsCutList}
+use Rattle.fault_definitions.specs.Tree.{FaultTree, IsUnitOf, unit_count}
 
 pub are_of_units : (tree : FaultTree) (cuts : List (List ℕ)) → IsCutList tree cuts → All (All (IsUnitOf tree)) cuts
 are_of_units tree cuts list =

@@ -2,8 +2,8 @@
 #![tactic(auto)]
 
 ghost use Rattle.std.specs.Prelude.{◌<◌, ◌+◌, All, IfOk};
-ghost use Rattle.fault_model.specs.Cut.{IsCutList};
-ghost use Rattle.fault_model.specs.Tree.{IsUnitOf, unit_count};
+ghost use Rattle.fault_definitions.specs.Cut.{IsCutList};
+ghost use Rattle.fault_definitions.specs.Tree.{IsUnitOf, unit_count};
 
 use crew_script::{Dockets, LONGEST_DECK, read_crews};
 use cutset_lists::mcs_by_lists;

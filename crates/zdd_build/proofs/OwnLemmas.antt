@@ -9,13 +9,13 @@ use Rattle.std.proofs.lemmas.List.Elements.{All-nil}
 use Rattle.unit_sets.specs.UnitList.{among}
 use Rattle.fault_words.specs.declared.kind.GateKind.{GateKind}
 use Rattle.fault_words.specs.declared.kind.GateKind.TheVariants.{And, Or, Votes, Pand, Por, Seq, Fdep, Csp, Wsp, Hsp}
-use Rattle.fault_model.specs.Cut.{IsMinimalFor}
-use Rattle.fault_model.specs.CutFamily.{IsCutFamily}
-use Rattle.fault_model.specs.Reading.{reads, gate_reads}
-use Rattle.fault_model.proofs.ReadingLaws.{reads-node}
-use Rattle.fault_model.specs.Tree.{FaultTree, IsNodeOf, inputs_of, is_above_units, is_fdep, is_fdep_kind, kind_of}
-use Rattle.fault_model.specs.Tree.{unit_count}
-use Rattle.fault_model.specs.WellFormed.{IsTree}
+use Rattle.fault_definitions.specs.Cut.{IsMinimalFor}
+use Rattle.fault_definitions.specs.CutFamily.{IsCutFamily}
+use Rattle.fault_definitions.specs.Reading.{reads, gate_reads}
+use Rattle.fault_definitions.proofs.ReadingLaws.{reads-node}
+use Rattle.fault_definitions.specs.Tree.{FaultTree, IsNodeOf, inputs_of, is_above_units, is_fdep, is_fdep_kind, kind_of}
+use Rattle.fault_definitions.specs.Tree.{unit_count}
+use Rattle.fault_definitions.specs.WellFormed.{IsTree}
 use Rattle.family_operations.specs.Minimal.{IsMinimal}
 use Rattle.family_parts.specs.Antichains.{IsAntichain}
 use Rattle.family_parts.proofs.MinimalParts.{HasLeast, minimal-exists}

@@ -5,8 +5,8 @@ use Rattle.std.specs.List.Sorted.{IsPermutation, IsNonDecreasingBy}
 use Rattle.std.proofs.lemmas.Bool.{cases_lt}
 use Rattle.std.proofs.lemmas.List.Elements.{All-push, Contains-append_left, Contains-push}
 use Rattle.std.proofs.lemmas.List.Sorted.{All-permutation, Contains-permutation}
-use Rattle.fault_model.specs.Tree.{FaultTree, IsNodeOf, is_fdep, rank_of}
-use Rattle.fault_model.specs.WellFormed.{IsTree}
+use Rattle.fault_definitions.specs.Tree.{FaultTree, IsNodeOf, is_fdep, rank_of}
+use Rattle.fault_definitions.specs.WellFormed.{IsTree}
 use Rattle.zdd_build.specs.declared.places.Place.{Place}
 use Rattle.zdd_build.specs.Places.{ArePlaces, HasPlaces, HasPlacesTo, IsPlace}
 

@@ -4,8 +4,8 @@ use Rattle.std.proofs.Common.{add-zero}
 use Rattle.std.proofs.lemmas.List.{append-nil}
 use Rattle.std.proofs.lemmas.List.Elements.{All-weaker}
 use Rattle.unit_sets.proofs.Sorted.{Contains-nil}
-use Rattle.fault_model.specs.CutFamily.{IsCutFamily}
-use Rattle.fault_model.specs.Tree.{FaultTree}
+use Rattle.fault_definitions.specs.CutFamily.{IsCutFamily}
+use Rattle.fault_definitions.specs.Tree.{FaultTree}
 use Rattle.tree_families.specs.Due.{IsDueToTree}
 use Rattle.zdd_families.specs.Map.{Grown, IsClosed}
 use Rattle.zdd_families.proofs.MapLemmas.{Knows-grown}

@@ -5,11 +5,11 @@ use Rattle.std.proofs.Common.{length-set, get_or-set_same, get_or-set_other, ◌
 use Rattle.std.proofs.lemmas.Bool.{cases_Bool, cases_eq, cases_lt}
 use Rattle.std.proofs.lemmas.List.{get_or_default, get_or-replicate, length-replicate}
 use Rattle.std.proofs.lemmas.List.Elements.{All-push}
-use Rattle.fault_model.specs.CutFamily.{IsCutFamily}
-use Rattle.fault_model.proofs.RankLaws.{below_are_nodes, below_ranks}
-use Rattle.fault_model.specs.Tree.{FaultTree, IsNodeOf, is_fdep, node_count, rank_of}
-use Rattle.fault_model.specs.Trigger.{below}
-use Rattle.fault_model.specs.WellFormed.{IsTree}
+use Rattle.fault_definitions.specs.CutFamily.{IsCutFamily}
+use Rattle.fault_definitions.proofs.RankLaws.{below_are_nodes, below_ranks}
+use Rattle.fault_definitions.specs.Tree.{FaultTree, IsNodeOf, is_fdep, node_count, rank_of}
+use Rattle.fault_definitions.specs.Trigger.{below}
+use Rattle.fault_definitions.specs.WellFormed.{IsTree}
 use Rattle.zdd_families.specs.Map.{Grown, IsClosed}
 use Rattle.zdd_families.proofs.MapLemmas.{family-empty}
 use Rattle.zdd_product.specs.Seats.{KnowsOne}

@@ -2,7 +2,7 @@
 use Rattle.std.proofs.Common.{◌≡◌, ℕ, ◌+◌, ◌<◌, ◌≤◌, true, List, [], ◌∷◌, ◌++◌, All, length, take, drop, refl, ◌∙◌}
 use Rattle.std.proofs.Common.{ap, subst, arith}
 use Rattle.std.proofs.lemmas.List.{append-nil, drop_all, take_all, get_or_append_left, get_or_push, length_push}
-use Rattle.fault_model.specs.Tree.{FaultTree}
+use Rattle.fault_definitions.specs.Tree.{FaultTree}
 use Rattle.zdd_shared_table.specs.Seats.{Seated, TableId, map_of}
 use Rattle.zdd_product.specs.Seats.{CountsDue, Joined, WentAll}
 use Rattle.zdd_product.proofs.Several.{WentAll-joined, WentAll-then}

@@ -4,16 +4,16 @@ use Rattle.std.proofs.Common.{subst, inl, inr, arith}
 use Rattle.std.proofs.Common.{get_or-set_same, get_or-set_other, Result, Ok, Err, IfOk, IfErr}
 use Rattle.std.proofs.lemmas.Bool.{cases_eq}
 use Rattle.std.proofs.lemmas.List.Elements.{All-nil}
-use Rattle.fault_model.specs.Tree.{FaultTree}
+use Rattle.fault_definitions.specs.Tree.{FaultTree}
 use Rattle.tree_families.specs.Due.{IsDueToTree}
 use Rattle.zdd_shared_table.specs.Seats.{Seated, TableId, map_of}
 use Rattle.zdd_product.specs.Seats.{Gave, WasFull}
 use Rattle.zdd_product.proofs.Several.{CountsDue-went, WentAll-full, WentAll-on}
 use Rattle.zdd_nodes.specs.Room.{HaveRoomFor}
 use Rattle.family_copies.specs.Copies.{AreCopies}
-use Rattle.fault_model.specs.CutFamily.{IsCutFamily}
-use Rattle.fault_model.specs.Tree.{IsNodeOf}
-use Rattle.fault_model.specs.WellFormed.{IsTree}
+use Rattle.fault_definitions.specs.CutFamily.{IsCutFamily}
+use Rattle.fault_definitions.specs.Tree.{IsNodeOf}
+use Rattle.fault_definitions.specs.WellFormed.{IsTree}
 use Rattle.family_operations.specs.Nodes.{IsReached}
 use Rattle.tree_families.proofs.TreeParts.{cut_family-parts}
 use Rattle.zdd_product.proofs.After.{WasFull-as, WentOn-as}

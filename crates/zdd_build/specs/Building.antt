@@ -1,7 +1,7 @@
 -- What is known while the nodes of a tree are made.
 use Rattle.std.specs.Prelude.{◌≡◌, ℕ, ◌<◌, ◌≤◌, Bool, true, false, List, length, slice_index_or}
-use Rattle.fault_model.specs.CutFamily.{IsCutFamily}
-use Rattle.fault_model.specs.Tree.{FaultTree, IsNodeOf, is_fdep, node_count}
+use Rattle.fault_definitions.specs.CutFamily.{IsCutFamily}
+use Rattle.fault_definitions.specs.Tree.{FaultTree, IsNodeOf, is_fdep, node_count}
 use Rattle.zdd_product.specs.Seats.{KnowsOne}
 use Rattle.zdd_nodes.specs.Reading.{reference_of, KnowsBelow}
 use Rattle.zdd_build.specs.declared.places.Place.{Place}

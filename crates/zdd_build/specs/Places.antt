@@ -1,8 +1,8 @@
 -- The order in which the nodes of a tree are made.
 use Rattle.std.specs.Prelude.{◌≡◌, ℕ, ◌+◌, ◌<◌, ◌≤◌, false, List, All, Contains, slice_index_or}
 use Rattle.std.specs.List.Sorted.{IsNonDecreasingBy}
-use Rattle.fault_model.specs.Tree.{FaultTree, IsNodeOf, is_fdep, node_count, rank_of}
-use Rattle.fault_model.specs.WellFormed.{IsTree}
+use Rattle.fault_definitions.specs.Tree.{FaultTree, IsNodeOf, is_fdep, node_count, rank_of}
+use Rattle.fault_definitions.specs.WellFormed.{IsTree}
 use Rattle.zdd_build.specs.declared.places.Place.{Place}
 
 -- the node at a place, where places count from 0

@@ -1,6 +1,6 @@
 //! The cut families of all nodes of a tree, from the lowest rank to the highest.
 ghost use Rattle.std.specs.Prelude.{◌≡◌, ◌≤◌, ◌<◌, IfOk, IsErrOf, OnOk, false};
-ghost use Rattle.fault_model.specs.CutFamily.{IsCutFamily};
+ghost use Rattle.fault_definitions.specs.CutFamily.{IsCutFamily};
 ghost use Rattle.tree_families.specs.Due.{IsDueToTree};
 ghost use Rattle.zdd_shared_table.specs.Seats.{map_of};
 ghost use Rattle.zdd_product.specs.Seats.{KnowsOne, WentAll};

@@ -1,8 +1,8 @@
 //! The cut family of a node in a worker's own memory.
 ghost use Rattle.std.specs.Prelude.{◌≡◌, ◌≤◌, All, IfErr, IfOk, OnOk, length, take};
-ghost use Rattle.fault_model.specs.CutFamily.{IsCutFamily};
-ghost use Rattle.fault_model.specs.Tree.{IsNodeOf, node_count};
-ghost use Rattle.fault_model.specs.Trigger.{below};
+ghost use Rattle.fault_definitions.specs.CutFamily.{IsCutFamily};
+ghost use Rattle.fault_definitions.specs.Tree.{IsNodeOf, node_count};
+ghost use Rattle.fault_definitions.specs.Trigger.{below};
 ghost use Rattle.family_memory.specs.Memory.{Gave, Has, RanOut, Went};
 ghost use Rattle.many_families.specs.Lists.{families};
 ghost use Rattle.tree_families.specs.Recipe.{StandFor};

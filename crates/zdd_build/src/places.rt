@@ -1,6 +1,6 @@
 //! The order in which the nodes are made: by rank, and in a rank by their numbers.
 ghost use Rattle.std.specs.Prelude.{◌≡◌, ◌+◌, ◌<◌, ◌≤◌, length, IfOk, OnOk};
-ghost use Rattle.fault_model.specs.Tree.{IsNodeOf, is_fdep};
+ghost use Rattle.fault_definitions.specs.Tree.{IsNodeOf, is_fdep};
 ghost use Rattle.zdd_build.specs.Places.{ArePlaces, HasPlaces, HasPlacesTo, IsRunTo};
 
 use fault_model::{GateKind, NoMemory, NodeNo, Tree};

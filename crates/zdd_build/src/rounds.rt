@@ -1,8 +1,8 @@
 //! Places of one rank that are spread over the workers: each draws the next place until none is left.
 ghost use Rattle.std.specs.Prelude.{◌≡◌, ◌≤◌, ◌<◌, ℕ, All, IfErr, IfOk, IfSome, length, true};
 ghost use Rattle.std.specs.Thread.{IsSync};
-ghost use Rattle.fault_model.specs.CutFamily.{IsCutFamily};
-ghost use Rattle.fault_model.specs.Tree.{FaultTree};
+ghost use Rattle.fault_definitions.specs.CutFamily.{IsCutFamily};
+ghost use Rattle.fault_definitions.specs.Tree.{FaultTree};
 ghost use Rattle.zdd_families.specs.Map.{Grown};
 ghost use Rattle.zdd_shared_table.specs.Seats.{map_of};
 ghost use Rattle.zdd_product.specs.Seats.{KnowsOne};

@@ -1,7 +1,7 @@
 //! One worker: its seat with the operations of the store, a memory of its own, and what it has found.
 ghost use Rattle.std.specs.Prelude.{◌≡◌, ◌≤◌, ℕ, false, true, [], length, vec_capacity, IfErr, IfOk, IfSome};
-ghost use Rattle.fault_model.specs.CutFamily.{IsCutFamily};
-ghost use Rattle.fault_model.specs.Tree.{IsNodeOf, is_fdep, node_count};
+ghost use Rattle.fault_definitions.specs.CutFamily.{IsCutFamily};
+ghost use Rattle.fault_definitions.specs.Tree.{IsNodeOf, is_fdep, node_count};
 ghost use Rattle.tree_families.specs.Due.{IsDueToTree};
 ghost use Rattle.zdd_families.specs.Map.{Grown};
 ghost use Rattle.zdd_shared_table.specs.Seats.{map_of};

@@ -1,6 +1,6 @@
 //! The minimal cuts of worked trees, from the store and by lists, with several numbers of workers.
 ghost use Rattle.std.specs.Prelude.{◌≡◌, ◌≤◌};
-ghost use Rattle.fault_model.specs.Tree.{};
+ghost use Rattle.fault_definitions.specs.Tree.{};
 
 use cutset_listing::list;
 use cutset_lists::mcs_by_lists;

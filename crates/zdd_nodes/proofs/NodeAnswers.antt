@@ -1,9 +1,9 @@
 -- The answers of recipes as answers of a node.
 use Rattle.std.proofs.Common.{MatchResult, Result, ◌≡◌, ℕ, false, List, All, sym, subst, inl, inr}
-use Rattle.fault_model.specs.CutFamily.{IsCutFamily}
-use Rattle.fault_model.specs.Tree.{FaultTree, IsNodeOf, IsUnitOf, is_fdep}
-use Rattle.fault_model.specs.Trigger.{below}
-use Rattle.fault_model.specs.WellFormed.{IsTree}
+use Rattle.fault_definitions.specs.CutFamily.{IsCutFamily}
+use Rattle.fault_definitions.specs.Tree.{FaultTree, IsNodeOf, IsUnitOf, is_fdep}
+use Rattle.fault_definitions.specs.Trigger.{below}
+use Rattle.fault_definitions.specs.WellFormed.{IsTree}
 use Rattle.family_operations.specs.Due.{IsDueToMinimal}
 use Rattle.family_operations.specs.Minimal.{IsMinimal}
 use Rattle.tree_families.proofs.Building.{recipe-cut_family, unit_recipe_is}

@@ -5,10 +5,10 @@ use Rattle.std.proofs.Math.Seq.{take-length}
 use Rattle.std.proofs.lemmas.List.Elements.{All-head, All-tail, All-nil, All-cons}
 use Rattle.fault_words.specs.declared.kind.GateKind.{GateKind}
 use Rattle.fault_words.specs.declared.kind.GateKind.TheVariants.{And, Or, Votes, Pand, Por, Seq, Fdep, Csp, Wsp, Hsp}
-use Rattle.fault_model.specs.CutFamily.{IsCutFamily}
-use Rattle.fault_model.specs.Tree.{FaultTree, IsNodeOf, is_fdep}
-use Rattle.fault_model.specs.Trigger.{below}
-use Rattle.fault_model.specs.WellFormed.{IsSoundKind}
+use Rattle.fault_definitions.specs.CutFamily.{IsCutFamily}
+use Rattle.fault_definitions.specs.Tree.{FaultTree, IsNodeOf, is_fdep}
+use Rattle.fault_definitions.specs.Trigger.{below}
+use Rattle.fault_definitions.specs.WellFormed.{IsSoundKind}
 use Rattle.tree_families.specs.Due.{IsDueToRecipe, IsDueToTree, one_node}
 use Rattle.tree_families.specs.Recipe.{StandFor, needs_all, node_recipe}
 use Rattle.zdd_families.specs.Map.{Knows, family}

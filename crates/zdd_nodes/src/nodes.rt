@@ -1,8 +1,8 @@
 //! The cut family of a node.
 ghost use Rattle.std.specs.Prelude.{◌≡◌, ◌≤◌, false, All, IfErr, IfOk, MatchResult, length};
-ghost use Rattle.fault_model.specs.CutFamily.{IsCutFamily};
-ghost use Rattle.fault_model.specs.Tree.{IsNodeOf, is_fdep, node_count};
-ghost use Rattle.fault_model.specs.Trigger.{below};
+ghost use Rattle.fault_definitions.specs.CutFamily.{IsCutFamily};
+ghost use Rattle.fault_definitions.specs.Tree.{IsNodeOf, is_fdep, node_count};
+ghost use Rattle.fault_definitions.specs.Trigger.{below};
 ghost use Rattle.tree_families.specs.Due.{IsDueToTree};
 ghost use Rattle.tree_families.specs.Recipe.{IsMadeBy, StandFor, node_recipe};
 ghost use Rattle.zdd_families.specs.Map.{Knows};

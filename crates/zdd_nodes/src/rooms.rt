@@ -1,7 +1,7 @@
 //! Room for the references of what a node reads.
 ghost use Rattle.std.specs.Prelude.{◌≡◌, ◌≤◌, ℕ, All, IfOk, length, map, take};
-ghost use Rattle.fault_model.specs.Tree.{IsNodeOf};
-ghost use Rattle.fault_model.specs.Trigger.{below};
+ghost use Rattle.fault_definitions.specs.Tree.{IsNodeOf};
+ghost use Rattle.fault_definitions.specs.Trigger.{below};
 ghost use Rattle.zdd_nodes.specs.Reading.{reference_of};
 
 use fault_model::{NoMemory, NodeNo, Tree};

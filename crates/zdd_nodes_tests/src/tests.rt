@@ -1,7 +1,7 @@
 //! Gates and units of small trees, and a full store.
 ghost use Rattle.std.specs.Prelude.{◌≡◌, ◌≤◌, IfOk, IfSome, OnOk};
-ghost use Rattle.fault_model.specs.CutFamily.{IsCutFamily};
-ghost use Rattle.fault_model.specs.Tree.{IsNodeOf, is_fdep};
+ghost use Rattle.fault_definitions.specs.CutFamily.{IsCutFamily};
+ghost use Rattle.fault_definitions.specs.Tree.{IsNodeOf, is_fdep};
 ghost use Rattle.zdd_families.specs.Map.{Grown};
 ghost use Rattle.zdd_shared_table.specs.Seats.{IsSoundSeat, map_of};
 ghost use Rattle.zdd_product.specs.Seats.{KnowsOne};

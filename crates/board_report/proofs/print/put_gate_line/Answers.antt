@@ -4,7 +4,7 @@ use Rattle.edge_io.proofs.OutLemmas.{Puts-trans}
 use Rattle.deck_reading.specs.Written.{quoted}
 use Rattle.text_pieces.specs.GateWords.{gate_word}
 use Rattle.board_report.specs.PrintText.{input_text}
-use Rattle.fault_model.specs.Tree.{name_of, kind_of, inputs_of}
+use Rattle.fault_definitions.specs.Tree.{name_of, kind_of, inputs_of}
 use Rattle.std.specs.List.{flat_map}
 use Rattle.text_pieces.proofs.Putting.{first_short}
 use Rattle.board_report.proofs.print.put_gate_line.Goals as goal

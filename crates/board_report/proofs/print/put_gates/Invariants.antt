@@ -3,7 +3,7 @@ use Rattle.std.specs.List.{flat_map, range_with_len}
 use Rattle.edge_io.specs.Out.{has_failed}
 use Rattle.board_report.specs.PrintText.{gate_line}
 use Rattle.fault_words.specs.Name.{is_name}
-use Rattle.fault_model.specs.Tree.{name_of, unit_count, gate_count}
+use Rattle.fault_definitions.specs.Tree.{name_of, unit_count, gate_count}
 use Rattle.board_report.proofs.PrintLemmas.{NamedUpTo}
 use Rattle.text_pieces.proofs.Putting.{PutsFront}
 use Rattle.board_report.proofs.print.put_gates.Given as goal

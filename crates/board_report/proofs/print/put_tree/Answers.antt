@@ -2,7 +2,7 @@ use Rattle.std.proofs.Common.{ℕ, sym, ◌∙◌, ap, is_err, ◌++◌}
 use Rattle.edge_io.proofs.OutLemmas.{Puts-trans}
 use Rattle.deck_reading.specs.Deck.{StandsFor}
 use Rattle.board_report.specs.PrintText.{IsNamedUnit, gate_line, print_text, top_line, unit_line}
-use Rattle.fault_model.specs.Tree.{IsUnitOf, unit_count, gate_count}
+use Rattle.fault_definitions.specs.Tree.{IsUnitOf, unit_count, gate_count}
 use Rattle.std.specs.List.{flat_map, range_with_len}
 use Rattle.std.proofs.Common.{◌+◌}
 use Rattle.board_report.proofs.PrintedTrees.{on_ok, tree_named}

@@ -2,7 +2,7 @@ use Rattle.std.proofs.Common.{sym, ◌∙◌, ap, subst, is_err, codes, ◌++◌
 use Rattle.edge_io.specs.Out.{Puts}
 use Rattle.edge_io.proofs.OutLemmas.{Puts-trans}
 use Rattle.deck_reading.specs.Written.{attribute_text, quoted}
-use Rattle.fault_model.specs.Tree.{name_of, attributes_of}
+use Rattle.fault_definitions.specs.Tree.{name_of, attributes_of}
 use Rattle.std.specs.List.{flat_map}
 use Rattle.text_pieces.proofs.Putting.{first_short}
 use Rattle.board_report.proofs.print.put_unit_line.Goals as goal

@@ -3,7 +3,7 @@ use Rattle.std.specs.List.{flat_map, range_with_len}
 use Rattle.edge_io.specs.Out.{has_failed}
 use Rattle.board_report.specs.PrintText.{IsNamedUnit, unit_line}
 use Rattle.board_report.proofs.PrintLemmas.{NamedUpTo}
-use Rattle.fault_model.specs.Tree.{unit_count}
+use Rattle.fault_definitions.specs.Tree.{unit_count}
 use Rattle.text_pieces.proofs.Putting.{PutsFront}
 use Rattle.board_report.proofs.print.put_units.Given as goal
 

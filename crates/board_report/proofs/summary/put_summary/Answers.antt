@@ -1,7 +1,7 @@
 use Rattle.std.proofs.Common.{sym, ◌∙◌, ap, subst, is_err, ◌++◌, length}
 use Rattle.edge_io.specs.Out.{Puts}
 use Rattle.cut_sequences.specs.Orders.{order_total}
-use Rattle.fault_model.specs.Tree.{gate_count, unit_count}
+use Rattle.fault_definitions.specs.Tree.{gate_count, unit_count}
 use Rattle.margin_policy.specs.Held.{units_out}
 use Rattle.outage_board.specs.Boards.{standing_of}
 use Rattle.board_texts.specs.BoardText.{out_head}

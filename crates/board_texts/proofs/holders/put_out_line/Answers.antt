@@ -2,7 +2,7 @@ use Rattle.std.proofs.Common.{sym, ◌∙◌, ap, subst, is_err, codes, ◌++◌
 use Rattle.edge_io.specs.Out.{Puts}
 use Rattle.edge_io.proofs.OutLemmas.{Puts-trans}
 use Rattle.text_pieces.specs.Shown.{show}
-use Rattle.fault_model.specs.Tree.{name_of}
+use Rattle.fault_definitions.specs.Tree.{name_of}
 use Rattle.board_texts.specs.BoardText.{holder_text}
 use Rattle.text_pieces.proofs.Putting.{first_short}
 use Rattle.board_texts.proofs.holders.put_out_line.Goals as goal

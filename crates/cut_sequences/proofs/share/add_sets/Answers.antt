@@ -1,7 +1,7 @@
 use Rattle.std.proofs.Common.{◌<◌, [], length, sym, subst, ◌∙◌, arith}
 use Rattle.std.proofs.lemmas.Result.{err_from_is_err_and}
 use Rattle.unit_sets.proofs.CutOrderLemmas.{cut_at}
-use Rattle.fault_model.specs.Tree.{FaultTree}
+use Rattle.fault_definitions.specs.Tree.{FaultTree}
 use Rattle.cut_sequences.specs.Dealing.{Share}
 use Rattle.cut_sequences.specs.Going.{CanGoOn}
 use Rattle.cut_sequences.specs.Holding.{lists_of}

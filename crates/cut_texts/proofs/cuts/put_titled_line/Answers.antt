@@ -1,6 +1,6 @@
 use Rattle.std.proofs.Common.{sym, ◌∙◌, ap, subst, is_err, codes, ◌++◌}
 use Rattle.edge_io.specs.Out.{Puts}
-use Rattle.fault_model.specs.Tree.{name_of, unit_count, gate_count}
+use Rattle.fault_definitions.specs.Tree.{name_of, unit_count, gate_count}
 use Rattle.text_pieces.specs.Shown.{show}
 use Rattle.cut_texts.specs.CutsText.{tree_counts}
 use Rattle.text_pieces.proofs.Putting.{first_short, second_short, all_three}

@@ -1,5 +1,5 @@
 use Rattle.std.proofs.Common.{arith, ap, subst, sym, ◌∙◌, ◌≡◌, ◌+◌, ℕ, List, set, get_or}
-use Rattle.fault_model.specs.Tree.{IsNodeOf}
+use Rattle.fault_definitions.specs.Tree.{IsNodeOf}
 use Rattle.cutset_lists.specs.Plan.{IsBuiltTo, until_of}
 use Rattle.cutset_lists.proofs.GateLemmas.{node_read, list_read}
 use Rattle.cutset_lists.proofs.PlanLemmas.{IsBuiltTo-step, IsBuiltTo-skips, Generates-top, end_read}

@@ -1,6 +1,6 @@
 use Rattle.std.proofs.Common.{◌≡◌, subst, sym}
 use Rattle.std.proofs.lemmas.Result.{IfOk-weaker}
-use Rattle.fault_model.specs.Cut.{IsCutList}
+use Rattle.fault_definitions.specs.Cut.{IsCutList}
 use Rattle.cutset_lists.proofs.CutLemmas.{all_filled, all_rising, IsCutList-minimal}
 use Rattle.cutset_lists.proofs.cut_list.mcs_by_lists.Goals as goal
 

@@ -1,6 +1,6 @@
 use Rattle.std.proofs.Common.{arith, ◌≡◌, ◌<◌, ◌≤◌, ℕ, [], ◌∷◌, ap}
 use Rattle.std.proofs.lemmas.Result.{IfOk-weaker}
-use Rattle.fault_model.specs.Tree.{unit_count}
+use Rattle.fault_definitions.specs.Tree.{unit_count}
 use Rattle.cutset_lists.specs.Generation.{AddsSome, Follows, gate_rule, IsNodeList}
 use Rattle.cutset_lists.proofs.NodeLemmas.{gate_node, unit_node}
 use Rattle.cutset_lists.proofs.gate.node_list.Goals as goal

@@ -1,7 +1,7 @@
 use Rattle.std.proofs.Common.{◌≡◌, ◌∙◌, sym, rules}
 use Rattle.std.specs.Prelude.{count_by}
 use Rattle.fault_model.specs.Scratch.{value_in}
-use Rattle.fault_model.proofs.ReadingLaws.{true_count-count_by}
+use Rattle.fault_definitions.proofs.ReadingLaws.{true_count-count_by}
 use Rattle.fault_model.proofs.reading.count_values.Goals as goal
 
 pub returns : goal.returns

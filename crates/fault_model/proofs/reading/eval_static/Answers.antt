@@ -1,7 +1,7 @@
 use Rattle.std.proofs.Common.{◌∙◌, length-set, ap}
 use Rattle.std.specs.Prelude.{Bool, List}
 use Rattle.unit_sets.specs.UnitList.{among}
-use Rattle.fault_model.specs.Reading.{node_reads}
+use Rattle.fault_definitions.specs.Reading.{node_reads}
 use Rattle.fault_model.specs.Scratch.{value_in}
 use Rattle.fault_model.proofs.EvalLemmas.{read_more, read_all}
 use Rattle.fault_model.proofs.reading.eval_static.Goals as goal

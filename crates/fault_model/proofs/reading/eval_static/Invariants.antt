@@ -1,5 +1,5 @@
 use Rattle.std.proofs.Common.{◌≡◌, suc, length}
-use Rattle.fault_model.specs.Tree.{node_count}
+use Rattle.fault_definitions.specs.Tree.{node_count}
 use Rattle.fault_model.proofs.EvalLemmas.{HasRead}
 use Rattle.fault_model.proofs.reading.eval_static.Given as goal
 

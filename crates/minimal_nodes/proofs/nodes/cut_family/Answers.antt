@@ -1,5 +1,5 @@
 use Rattle.std.proofs.Common.{◌≡◌, arith}
-use Rattle.fault_model.specs.Tree.{IsGateOf, IsUnitOf}
+use Rattle.fault_definitions.specs.Tree.{IsGateOf, IsUnitOf}
 use Rattle.many_families.specs.Lists.{families}
 use Rattle.minimal_nodes.proofs.GateSteps.{gate_node, unit_node}
 use Rattle.minimal_nodes.proofs.nodes.cut_family.Goals as goal

@@ -1,5 +1,5 @@
 use Rattle.std.proofs.Common.{◌≡◌, length}
-use Rattle.fault_model.specs.Trigger.{below}
+use Rattle.fault_definitions.specs.Trigger.{below}
 use Rattle.family_memory.specs.Memory.{Went}
 use Rattle.minimal_nodes_tests.proofs.Reading.{AreRead}
 use Rattle.minimal_nodes_tests.proofs.families.+family_of.Given as goal

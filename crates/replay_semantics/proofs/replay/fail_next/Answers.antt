@@ -1,8 +1,8 @@
 use Rattle.std.proofs.Common.{◌≡◌, ◌∙◌, ◌++◌, ◌∷◌, [], List, ℕ, length, drop, ap, sym, subst, arith}
 use Rattle.std.specs.List.{list_all}
-use Rattle.fault_model.specs.FailingOrder.{is_admissible}
-use Rattle.fault_model.specs.Step.{Step}
-use Rattle.fault_model.specs.Tree.{IsUnitOf}
+use Rattle.fault_definitions.specs.FailingOrder.{is_admissible}
+use Rattle.fault_definitions.specs.Step.{Step}
+use Rattle.fault_definitions.specs.Tree.{IsUnitOf}
 use Rattle.replay_semantics.specs.Admission.{node_awaits, all_in_turn}
 use Rattle.replay_semantics.specs.Readers.{readers_in}
 use Rattle.replay_semantics.specs.Spread.{HaveFailed}

@@ -1,6 +1,6 @@
 use Rattle.std.proofs.Common.{◌≡◌, ◌∙◌, sym, rules}
 use Rattle.std.specs.Prelude.{count_by}
-use Rattle.fault_model.proofs.ReadingLaws.{true_count-count_by}
+use Rattle.fault_definitions.proofs.ReadingLaws.{true_count-count_by}
 use Rattle.replay_semantics.specs.Table.{has_step}
 use Rattle.replay_semantics.proofs.steps.count_failed.Goals as goal
 

@@ -1,6 +1,6 @@
 use Rattle.std.proofs.Common.{◌∙◌, sym, ap, drop}
 use Rattle.std.proofs.lemmas.List.{take_rest}
-use Rattle.fault_model.specs.Step.{Step}
+use Rattle.fault_definitions.specs.Step.{Step}
 use Rattle.replay_semantics.specs.Failing.{falls_not_after}
 use Rattle.replay_semantics.specs.Table.{step_in}
 use Rattle.replay_semantics.proofs.ListLemmas.{never_falls-first}

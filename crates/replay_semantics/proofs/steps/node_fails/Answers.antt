@@ -1,8 +1,8 @@
 use Rattle.std.proofs.Common.{◌∙◌, ap, subst, sym, arith}
 use Rattle.std.specs.List.{list_any}
 use Rattle.std.proofs.lemmas.Bool.{le-ltb}
-use Rattle.fault_model.proofs.RankLaws.{gate_sound}
-use Rattle.fault_model.specs.Tree.{kind_of, inputs_of, unit_count}
+use Rattle.fault_definitions.proofs.RankLaws.{gate_sound}
+use Rattle.fault_definitions.specs.Tree.{kind_of, inputs_of, unit_count}
 use Rattle.replay_semantics.specs.Failing.{AsksSome}
 use Rattle.replay_semantics.proofs.FailingLemmas.{asks_some}
 use Rattle.replay_semantics.specs.Table.{has_step}

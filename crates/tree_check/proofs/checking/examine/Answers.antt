@@ -1,6 +1,6 @@
 use Rattle.std.proofs.Common.{subst}
-use Rattle.tree_check.specs.Checked.{FirstIn}
-use Rattle.tree_check.specs.Groups.{top_classes}
+use Rattle.statement_faults.specs.Groups.{FirstIn}
+use Rattle.statement_faults.specs.Groups.{top_classes}
 use Rattle.tree_check.proofs.Refusals.{top_refused}
 use Rattle.tree_check.proofs.checking.examine.Goals as goal
 

@@ -1,6 +1,6 @@
 use Rattle.std.proofs.Common.{sym, subst, ap, ◌∙◌, drop}
 use Rattle.fault_words.specs.Names.{all_differ}
-use Rattle.tree_check.specs.TreeOf.{HasNoCycle, AreRanks}
+use Rattle.statement_faults.specs.TreeOf.{HasNoCycle, AreRanks}
 use Rattle.tree_check.proofs.checking.examine_cycles.Goals as goal
 
 pub rank_all-requires-clause-deck : goal.rank_all-requires-clause-deck

@@ -1,4 +1,4 @@
-use Rattle.fault_model.specs.CutFamily.{IsCutFamily}
+use Rattle.fault_definitions.specs.CutFamily.{IsCutFamily}
 use Rattle.tree_families.proofs.Building.{StandFor-table}
 use Rattle.tree_families.proofs.laws.families_from_a_table.Goals as goal
 

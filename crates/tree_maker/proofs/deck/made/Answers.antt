@@ -1,6 +1,6 @@
 use Rattle.std.proofs.Common.{◌≡◌, ◌++◌, ◌∙◌, ap, subst, sym}
 use Rattle.std.specs.Prelude.{codes}
-use Rattle.fault_model.specs.Tree.{FaultTree}
+use Rattle.fault_definitions.specs.Tree.{FaultTree}
 use Rattle.deck_reading.specs.Written.{written}
 use Rattle.tree_maker.specs.MadeDeck.{crew_lines, made_deck, made_statements}
 use Rattle.tree_maker.specs.WellMade.{IsWellMade}

@@ -1,6 +1,6 @@
 use Rattle.std.proofs.Common.{sym, ◌∙◌, ap, is_err, ◌++◌}
 use Rattle.std.specs.Prelude.{codes}
-use Rattle.fault_model.specs.Tree.{kind_of, name_of}
+use Rattle.fault_definitions.specs.Tree.{kind_of, name_of}
 use Rattle.text_pieces.specs.GateWords.{gate_word}
 use Rattle.text_pieces.proofs.Putting.{all_three, first_short, second_short}
 use Rattle.tree_picture.specs.Labels.{label_text}

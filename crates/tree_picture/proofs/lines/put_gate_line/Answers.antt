@@ -1,6 +1,6 @@
 use Rattle.std.proofs.Common.{sym, ◌∙◌, ap, is_err, ◌++◌}
 use Rattle.std.specs.Prelude.{codes, decimal}
-use Rattle.fault_model.specs.Tree.{kind_of}
+use Rattle.fault_definitions.specs.Tree.{kind_of}
 use Rattle.text_pieces.proofs.Putting.{all_three, first_short, second_short}
 use Rattle.tree_picture.specs.PictureText.{gate_label, gate_shape}
 use Rattle.tree_picture.proofs.PutLemmas.{headed}

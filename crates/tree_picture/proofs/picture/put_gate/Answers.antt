@@ -2,7 +2,7 @@ use Rattle.std.proofs.Common.{sym, ◌∙◌, ap, subst, is_err}
 use Rattle.std.specs.List.{flat_map}
 use Rattle.edge_io.specs.Out.{Puts}
 use Rattle.edge_io.proofs.OutLemmas.{Puts-trans}
-use Rattle.fault_model.specs.Tree.{inputs_of}
+use Rattle.fault_definitions.specs.Tree.{inputs_of}
 use Rattle.text_pieces.proofs.Putting.{first_short}
 use Rattle.tree_picture.specs.PictureText.{ended, gate_line, input_text}
 use Rattle.tree_picture.proofs.picture.put_gate.Goals as goal

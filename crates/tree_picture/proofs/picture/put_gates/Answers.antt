@@ -1,6 +1,6 @@
 use Rattle.std.proofs.Common.{sym, ◌∙◌, ap, subst, is_err, ◌+◌, ◌<◌, ◌≤◌}
 use Rattle.std.specs.List.{flat_map, range_with_len}
-use Rattle.fault_model.specs.Tree.{gate_count, unit_count}
+use Rattle.fault_definitions.specs.Tree.{gate_count, unit_count}
 use Rattle.text_pieces.proofs.Counting.{all_numbers, next_number, no_number}
 use Rattle.text_pieces.proofs.Putting.{PutsFront, begun, cut_short, one_more, whole_put}
 use Rattle.tree_picture.specs.PictureText.{gate_text}

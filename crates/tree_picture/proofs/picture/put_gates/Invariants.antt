@@ -1,7 +1,7 @@
 use Rattle.std.proofs.Common.{◌≡◌, ◌+◌, ◌-◌, false}
 use Rattle.std.specs.List.{flat_map, range_with_len}
 use Rattle.edge_io.specs.Out.{has_failed}
-use Rattle.fault_model.specs.Tree.{gate_count, unit_count}
+use Rattle.fault_definitions.specs.Tree.{gate_count, unit_count}
 use Rattle.text_pieces.proofs.Putting.{PutsFront}
 use Rattle.tree_picture.specs.PictureText.{gate_text}
 use Rattle.tree_picture.proofs.picture.put_gates.Given as goal

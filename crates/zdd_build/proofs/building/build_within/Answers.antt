@@ -1,7 +1,7 @@
 use Rattle.std.proofs.Common.{◌≡◌, ◌∙◌, ◌-◌, ◌<◌, false, ℕ, List, All, get_or, length, subst, sym, ap, arith}
 use Rattle.std.proofs.lemmas.List.{get_or_read}
-use Rattle.fault_model.specs.CutFamily.{IsCutFamily}
-use Rattle.fault_model.specs.Tree.{IsNodeOf, is_fdep}
+use Rattle.fault_definitions.specs.CutFamily.{IsCutFamily}
+use Rattle.fault_definitions.specs.Tree.{IsNodeOf, is_fdep}
 use Rattle.tree_families.specs.Due.{IsDueToTree}
 use Rattle.zdd_shared_table.specs.Seats.{map_of}
 use Rattle.zdd_product.specs.Seats.{KnowsOne}

@@ -1,4 +1,4 @@
-use Rattle.fault_model.specs.CutFamily.{IsCutFamily}
+use Rattle.fault_definitions.specs.CutFamily.{IsCutFamily}
 use Rattle.zdd_shared_table.specs.Seats.{map_of}
 use Rattle.family_copies.proofs.CopiesLemmas.{copies-went}
 use Rattle.zdd_build.proofs.OwnLemmas.{went_of}

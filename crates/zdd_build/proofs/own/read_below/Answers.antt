@@ -1,8 +1,8 @@
 use Rattle.std.proofs.Common.{◌≡◌, ◌∙◌, ◌<◌, ◌≤◌, ℕ, List, length, take, get_or, subst, ap, arith}
 use Rattle.std.proofs.Common.{length-set}
 use Rattle.std.proofs.lemmas.List.{get_or_read}
-use Rattle.fault_model.specs.Trigger.{below}
-use Rattle.fault_model.specs.CutFamily.{IsCutFamily}
+use Rattle.fault_definitions.specs.Trigger.{below}
+use Rattle.fault_definitions.specs.CutFamily.{IsCutFamily}
 use Rattle.family_memory.specs.Memory.{family_in}
 use Rattle.family_memory.proofs.After.{Went-then}
 use Rattle.zdd_build.proofs.OwnLemmas.{front_length, read_front, read_has, read_more, read_stand}

@@ -1,5 +1,5 @@
 use Rattle.std.proofs.Common.{◌≡◌, length}
-use Rattle.fault_model.specs.Trigger.{below}
+use Rattle.fault_definitions.specs.Trigger.{below}
 use Rattle.family_memory.specs.Memory.{Went}
 use Rattle.zdd_shared_table.specs.Seats.{map_of}
 use Rattle.family_copies.specs.Copies.{AreCopies}

@@ -1,6 +1,6 @@
 use Rattle.std.proofs.Common.{◌≡◌, ◌∙◌, ◌<◌, ◌-◌, ℕ, get_or, length, subst, sym, ap, arith}
 use Rattle.std.proofs.lemmas.List.{get_or_read}
-use Rattle.fault_model.specs.CutFamily.{IsCutFamily}
+use Rattle.fault_definitions.specs.CutFamily.{IsCutFamily}
 use Rattle.zdd_families.specs.Map.{family}
 use Rattle.zdd_shared_table.specs.Seats.{map_of}
 use Rattle.zdd_build.proofs.OwnLemmas.{cut_family_antichain, gave_cut}

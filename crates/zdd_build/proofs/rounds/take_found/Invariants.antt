@@ -1,5 +1,5 @@
 use Rattle.std.proofs.Common.{◌≡◌, ℕ}
-use Rattle.fault_model.specs.Tree.{FaultTree}
+use Rattle.fault_definitions.specs.Tree.{FaultTree}
 use Rattle.zdd_build.specs.Building.{AreBuilt, HasRoomFor, KeepsMade}
 use Rattle.zdd_build.specs.Places.{ArePlaces}
 use Rattle.zdd_build.specs.Workers.{AreFound}

@@ -1,5 +1,5 @@
 use Rattle.std.proofs.Common.{◌∙◌, true, subst, sym}
-use Rattle.fault_model.specs.CutFamily.{IsCutFamily}
+use Rattle.fault_definitions.specs.CutFamily.{IsCutFamily}
 use Rattle.tree_families.specs.Due.{IsDueToTree}
 use Rattle.zdd_shared_table.specs.Seats.{Seated, map_of}
 use Rattle.zdd_product.specs.Seats.{Gave, WasFull}

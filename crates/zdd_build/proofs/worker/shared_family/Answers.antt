@@ -1,5 +1,5 @@
 use Rattle.std.proofs.Common.{IfOk, IfErr, subst}
-use Rattle.fault_model.specs.CutFamily.{IsCutFamily}
+use Rattle.fault_definitions.specs.CutFamily.{IsCutFamily}
 use Rattle.tree_families.specs.Due.{IsDueToTree}
 use Rattle.family_memory.specs.Memory.{family_in}
 use Rattle.zdd_shared_table.specs.Seats.{Seated}

@@ -1,8 +1,8 @@
 use Rattle.std.proofs.lemmas.Result.{MatchResult-from_both}
 use Rattle.family_operations.specs.Due.{IsDueToMinimal}
 use Rattle.family_operations.specs.Minimal.{IsMinimal}
-use Rattle.fault_model.specs.CutFamily.{IsCutFamily}
-use Rattle.fault_model.specs.Trigger.{below}
+use Rattle.fault_definitions.specs.CutFamily.{IsCutFamily}
+use Rattle.fault_definitions.specs.Trigger.{below}
 use Rattle.tree_families.specs.Due.{IsDueToTree}
 use Rattle.zdd_families.specs.Map.{family}
 use Rattle.zdd_shared_table.specs.Seats.{map_of}

@@ -1,9 +1,9 @@
 use Rattle.std.proofs.Common.{◌≡◌, ◌≤◌, length, sym, ◌∙◌, ap, subst, arith}
 use Rattle.std.proofs.lemmas.List.{length-map}
-use Rattle.fault_model.specs.CutFamily.{IsCutFamily}
-use Rattle.fault_model.proofs.RankLaws.{gate_sound}
-use Rattle.fault_model.specs.Tree.{IsGateOf, IsUnitOf, inputs_of, kind_of}
-use Rattle.fault_model.specs.Trigger.{below}
+use Rattle.fault_definitions.specs.CutFamily.{IsCutFamily}
+use Rattle.fault_definitions.proofs.RankLaws.{gate_sound}
+use Rattle.fault_definitions.specs.Tree.{IsGateOf, IsUnitOf, inputs_of, kind_of}
+use Rattle.fault_definitions.specs.Trigger.{below}
 use Rattle.tree_families.proofs.Building.{gate_below, gate_recipe_is}
 use Rattle.tree_families.specs.Recipe.{IsUnionOfAll, alone, gate_recipe}
 use Rattle.zdd_families.specs.Map.{family}

@@ -1,5 +1,5 @@
 use Rattle.std.proofs.Common.{ℕ, ◌≤◌, ◌<◌, length}
-use Rattle.fault_model.specs.Trigger.{below}
+use Rattle.fault_definitions.specs.Trigger.{below}
 use Rattle.zdd_nodes.proofs.rooms.most_below.Given as goal
 
 abbrev pub invariant-loop-number : goal.invariant-loop-number

@@ -1,8 +1,8 @@
 use Rattle.std.proofs.Common.{◌≡◌, ◌≢◌, ◌∙◌, ◌<◌, ◌-◌, ℕ, List, All, length, length-set, get_or, subst, sym, ap, arith}
 use Rattle.std.proofs.lemmas.List.{get_or_read}
-use Rattle.fault_model.specs.CutFamily.{IsCutFamily}
-use Rattle.fault_model.specs.Tree.{IsNodeOf}
-use Rattle.fault_model.specs.Trigger.{below}
+use Rattle.fault_definitions.specs.CutFamily.{IsCutFamily}
+use Rattle.fault_definitions.specs.Tree.{IsNodeOf}
+use Rattle.fault_definitions.specs.Trigger.{below}
 use Rattle.zdd_shared_table.specs.Seats.{map_of}
 use Rattle.zdd_product.specs.Seats.{KnowsOne}
 use Rattle.zdd_nodes.specs.Reading.{KnowsBelow}

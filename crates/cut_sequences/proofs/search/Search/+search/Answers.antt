@@ -2,8 +2,8 @@ use Rattle.std.proofs.Common.{◌≡◌, ℕ, List, [], ◌∷◌, ◌++◌, ◌
 use Rattle.std.proofs.Common.{sym, subst, arith, rules}
 use Rattle.std.proofs.lemmas.List.{get_or_read}
 use Rattle.std.proofs.lemmas.Result.{err_from_is_err_and}
-use Rattle.fault_model.specs.FailingOrder.{is_admissible}
-use Rattle.fault_model.specs.Tree.{IsUnitOf}
+use Rattle.fault_definitions.specs.FailingOrder.{is_admissible}
+use Rattle.fault_definitions.specs.Tree.{IsUnitOf}
 use Rattle.unit_sets.specs.UnitList.{among}
 use Rattle.cut_sequences.specs.Going.{CanGoOn, failing_from}
 use Rattle.cut_sequences.specs.Orders.{IsOver}

@@ -1,5 +1,5 @@
 use Rattle.std.proofs.Common.{◌≡◌, ◌≤◌, length, arith}
-use Rattle.fault_model.specs.Tree.{node_count}
+use Rattle.fault_definitions.specs.Tree.{node_count}
 use Rattle.fault_model.proofs.RankingLemmas.{are_ranks, from_below, lists_positive, ranks_low, tree_is_graph}
 use Rattle.fault_model.proofs.ranking.Ranking.over.Goals as goal
 

@@ -1,7 +1,7 @@
 use Rattle.std.proofs.Common.{All, subst, sym}
-use Rattle.fault_model.specs.Tree.{IsNodeOf}
-use Rattle.fault_model.proofs.RankLaws.{below_are_nodes}
-use Rattle.fault_model.specs.WellFormed.{IsTree}
+use Rattle.fault_definitions.specs.Tree.{IsNodeOf}
+use Rattle.fault_definitions.proofs.RankLaws.{below_are_nodes}
+use Rattle.fault_definitions.specs.WellFormed.{IsTree}
 use Rattle.fault_model.proofs.tree.Tree.below.Goals as goal
 
 pub returns-clause-nodes : goal.returns-clause-nodes

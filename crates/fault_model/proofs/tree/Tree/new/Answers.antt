@@ -1,5 +1,5 @@
 use Rattle.std.proofs.Common.{refl}
-use Rattle.fault_model.specs.Tree.{ranked}
+use Rattle.fault_definitions.specs.Tree.{ranked}
 use Rattle.fault_model.specs.TreeTables.{HoldsLists}
 use Rattle.fault_model.proofs.TreeLemmas.{parts_lists, made_holds, table_for}
 use Rattle.fault_model.proofs.tree.Tree.new.Goals as goal
@@ -27,4 +27,4 @@ invariant_of-result c =
     c.in_ok-below.ensures c.in_ok-ranking.ranking.ranks.items c.in_ok-ranking.ranking.order.items
     (c.in_ok-ranking.ensures.ranks (ranked c.args.parts c.requires.0) c.requires.1 lists)
     (c.in_ok-ranking.ensures.order (ranked c.args.parts c.requires.0) c.requires.1 lists)
-    _ c.in_ok-table_of.ensures
+    _ c.in_ok-of.ensures

@@ -1,7 +1,7 @@
 use Rattle.std.proofs.Common.{ap, subst}
-use Rattle.fault_model.specs.Tree.{FaultTree}
-use Rattle.fault_model.specs.WellFormed.{IsTree}
-use Rattle.fault_model.proofs.RankLaws.{read_rank_rule}
+use Rattle.fault_definitions.specs.Tree.{FaultTree}
+use Rattle.fault_definitions.specs.WellFormed.{IsTree}
+use Rattle.fault_definitions.proofs.RankLaws.{read_rank_rule}
 use Rattle.fault_model.proofs.tree.Tree.rank.Goals as goal
 
 pub returns-clause-rule : goal.returns-clause-rule

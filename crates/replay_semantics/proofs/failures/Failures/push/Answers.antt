@@ -1,5 +1,5 @@
 use Rattle.std.proofs.Common.{◌≡◌, ◌∙◌, ap, sym, true, false, List, length, arith}
-use Rattle.fault_model.specs.Step.{Step}
+use Rattle.fault_definitions.specs.Step.{Step}
 use Rattle.replay_semantics.specs.Table.{has_step}
 use Rattle.replay_semantics.proofs.SpreadLemmas.{first_fails, nothing_failed, all_failed, turn_of}
 use Rattle.replay_semantics.proofs.failures.Failures.push.Goals as goal

@@ -1,5 +1,5 @@
 use Rattle.std.proofs.Common.{◌≡◌, ◌∙◌, ap, sym, true, false, List}
-use Rattle.fault_model.specs.Step.{Step}
+use Rattle.fault_definitions.specs.Step.{Step}
 use Rattle.replay_semantics.specs.Failing.{node_fails}
 use Rattle.replay_semantics.specs.Table.{step_in, has_step}
 use Rattle.replay_semantics.proofs.SpreadLemmas.{fails_more}

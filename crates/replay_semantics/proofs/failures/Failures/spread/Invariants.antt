@@ -1,5 +1,5 @@
 use Rattle.std.proofs.Common.{◌≡◌, ◌≤◌, ◌+◌, ◌-◌, [], length, vec_capacity}
-use Rattle.fault_model.specs.Tree.{node_count}
+use Rattle.fault_definitions.specs.Tree.{node_count}
 use Rattle.replay_semantics.specs.Spread.{AreFailed, IsSpreading, Turn}
 use Rattle.replay_semantics.proofs.failures.Failures.spread.Given as goal
 

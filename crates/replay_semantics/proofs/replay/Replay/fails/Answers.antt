@@ -1,8 +1,8 @@
 use Rattle.std.proofs.Common.{◌≡◌, ◌∙◌, List, ℕ, refl, ap, sym, subst}
 use Rattle.unit_sets.specs.UnitList.{among}
 use Rattle.fault_model.specs.Order.{AreDistinct}
-use Rattle.fault_model.specs.FailingOrder.{is_failing}
-use Rattle.fault_model.proofs.StepLaws.{step-reads}
+use Rattle.fault_definitions.specs.FailingOrder.{is_failing}
+use Rattle.fault_definitions.proofs.StepLaws.{step-reads}
 use Rattle.replay_semantics.specs.Replayed.{Replayed}
 use Rattle.replay_semantics.proofs.HeldLemmas.{failing-none, fresh_next}
 use Rattle.replay_semantics.proofs.replay.Replay.fails.Goals as goal

@@ -1,5 +1,5 @@
 use Rattle.std.proofs.Common.{◌≡◌, take}
-use Rattle.fault_model.specs.FailingOrder.{is_failing}
+use Rattle.fault_definitions.specs.FailingOrder.{is_failing}
 use Rattle.replay_semantics.proofs.replay.Replay.fails.Given as goal
 
 abbrev pub invariant-loop-unit : goal.invariant-loop-unit

@@ -1,6 +1,6 @@
 use Rattle.std.proofs.Common.{◌≡◌, ◌∙◌, ◌<◌, ◌-◌, suc, ℕ, List, length, drop, ap, sym, subst, arith}
 use Rattle.std.proofs.lemmas.List.{get_or_default}
-use Rattle.fault_model.specs.Step.{Step}
+use Rattle.fault_definitions.specs.Step.{Step}
 use Rattle.replay_semantics.specs.Held.{HoldsReplay, start_of}
 use Rattle.replay_semantics.specs.Replayed.{Replayed}
 use Rattle.replay_semantics.specs.Spread.{step_without}

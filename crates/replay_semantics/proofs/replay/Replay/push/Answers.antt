@@ -1,8 +1,8 @@
 use Rattle.std.proofs.Common.{◌≡◌, ◌∙◌, ◌+◌, suc, false, ℕ, List, length, eqb, is_some, ap, sym, subst, arith}
 use Rattle.unit_sets.specs.UnitList.{among}
-use Rattle.fault_model.specs.Step.{Step, step}
-use Rattle.fault_model.proofs.StepLaws.{step-reads}
-use Rattle.fault_model.specs.Tree.{IsUnitOf}
+use Rattle.fault_definitions.specs.Step.{Step, step}
+use Rattle.fault_definitions.proofs.StepLaws.{step-reads}
+use Rattle.fault_definitions.specs.Tree.{IsUnitOf}
 use Rattle.replay_semantics.specs.Held.{HoldsReplay}
 use Rattle.replay_semantics.specs.Replayed.{Replayed}
 use Rattle.replay_semantics.specs.Table.{has_step, HoldsSteps}

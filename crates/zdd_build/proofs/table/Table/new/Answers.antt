@@ -1,5 +1,5 @@
 use Rattle.std.proofs.Common.{◌≡◌, ◌∙◌, ◌+◌, ℕ, false, List, length, replicate, subst, sym, ap, arith}
-use Rattle.fault_model.specs.Tree.{node_count}
+use Rattle.fault_definitions.specs.Tree.{node_count}
 use Rattle.zdd_build.specs.Building.{AreBuilt}
 use Rattle.zdd_build.proofs.TableLemmas.{built_none}
 use Rattle.zdd_build.proofs.table.Table.new.Goals as goal

@@ -1,0 +1,9 @@
+pub mod Tree
+pub mod Trigger
+pub mod Rank
+pub mod WellFormed
+pub mod Reading
+pub mod Cut
+pub mod Step
+pub mod FailingOrder
+pub mod CutFamily

@@ -1,0 +1,89 @@
+-- A fault tree, after the Galileo manual: units and gates under numbers, what each gate reads, and the top event.
+use Rattle.std.specs.Prelude.{ℕ, ◌+◌, ◌-◌, ◌<◌, ◌≤◌, Bool, true, false, nat_lt, ◌&&◌, List, [], ◌∷◌, length, zip}
+use Rattle.std.specs.Prelude.{slice_index, slice_index_or}
+use Rattle.fault_words.specs.declared.attribute.Attribute.{Attribute}
+use Rattle.fault_words.specs.declared.kind.GateKind.{GateKind}
+use Rattle.fault_words.specs.declared.kind.GateKind.TheVariants.{And, Or, Votes, Pand, Por, Seq, Fdep, Csp, Wsp, Hsp}
+use Rattle.fault_definitions.specs.declared.parts.TreeParts.{TreeParts}
+
+-- The units are 1 to U, and the gates U+1 to U+G. Each list goes in the order of the numbers.
+pub record FaultTree : Type 0 where
+  -- of each unit, then of each gate
+  pub names : List (List ℕ)
+  -- of each gate
+  pub kinds : List GateKind
+  pub inputs : List (List ℕ)
+  -- of each unit
+  pub attributes : List (List Attribute)
+  pub top : ℕ
+  -- of each unit, then of each gate: how far a node stands above what it reads
+  pub ranks : List ℕ
+
+-- the tree of these parts, with these ranks
+abbrev pub ranked : TreeParts → List ℕ → FaultTree
+ranked parts ranks = record {
+  names = parts.names;
+  kinds = parts.kinds;
+  inputs = parts.inputs;
+  attributes = parts.attributes;
+  top = parts.top;
+  ranks = ranks;
+}
+
+-- U, G, and both together
+abbrev pub unit_count : FaultTree → ℕ
+unit_count tree = length tree.attributes
+
+abbrev pub gate_count : FaultTree → ℕ
+gate_count tree = length tree.kinds
+
+abbrev pub node_count : FaultTree → ℕ
+node_count tree = unit_count tree + gate_count tree
+
+abbrev pub IsUnitOf : FaultTree → ℕ → Type 0
+IsUnitOf tree unit = (1 ≤ unit) × (unit ≤ unit_count tree)
+
+abbrev pub IsGateOf : FaultTree → ℕ → Type 0
+IsGateOf tree gate = (unit_count tree < gate) × (gate ≤ node_count tree)
+
+abbrev pub IsNodeOf : FaultTree → ℕ → Type 0
+IsNodeOf tree node = (1 ≤ node) × (node ≤ node_count tree)
+
+-- a node is a unit or stands above the units
+abbrev pub is_above_units : FaultTree → ℕ → Bool
+is_above_units tree node = nat_lt (unit_count tree) node
+
+-- the kind of a gate, and its inputs from left to right. A number of no gate counts as an `fdep` without inputs.
+abbrev pub kind_of : FaultTree → ℕ → GateKind
+kind_of tree gate = slice_index_or tree.kinds (gate - unit_count tree - 1) Fdep
+
+abbrev pub inputs_of : FaultTree → ℕ → List ℕ
+inputs_of tree gate = slice_index_or tree.inputs (gate - unit_count tree - 1) []
+
+-- every gate, as its kind and its inputs
+abbrev pub gates : FaultTree → List (GateKind × List ℕ)
+gates tree = zip tree.kinds tree.inputs
+
+abbrev pub name_of : FaultTree → ℕ → List ℕ
+name_of tree node = slice_index_or tree.names (node - 1) []
+
+abbrev pub attributes_of : FaultTree → ℕ → List Attribute
+attributes_of tree unit = slice_index_or tree.attributes (unit - 1) []
+
+abbrev pub rank_of : FaultTree → ℕ → ℕ
+rank_of tree node = slice_index (0 ∷ tree.ranks) node
+
+abbrev pub is_fdep_kind : GateKind → Bool
+is_fdep_kind And = false
+is_fdep_kind Or = false
+is_fdep_kind (Votes least inputs) = false
+is_fdep_kind Pand = false
+is_fdep_kind Por = false
+is_fdep_kind Seq = false
+is_fdep_kind Fdep = true
+is_fdep_kind Csp = false
+is_fdep_kind Wsp = false
+is_fdep_kind Hsp = false
+
+abbrev pub is_fdep : FaultTree → ℕ → Bool
+is_fdep tree node = is_above_units tree node && is_fdep_kind (kind_of tree node)

@@ -1,6 +1,0 @@
-use Rattle.unit_sets.specs.UnitList.{among}
-use Rattle.fault_model.proofs.ReadingLaws.{reads-full}
-use Rattle.fault_model.proofs.laws.all_units_are_a_cut.Goals as goal
-
-pub returns : goal.returns
-returns c = λ tree kept set full. reads-full tree kept (among set) full tree.top kept.top_is_node kept.top_is_read

@@ -1,5 +1,0 @@
-use Rattle.fault_model.proofs.ReadingLaws.{reads-node}
-use Rattle.fault_model.proofs.laws.reading_by_inputs.Goals as goal
-
-pub returns : goal.returns
-returns c = reads-node

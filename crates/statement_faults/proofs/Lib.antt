@@ -1,0 +1,23 @@
+-- that a table by number tells each clash
+-- that no number is above the number of names
+-- the first of the places of a list, one item after another
+-- what a statement of another kind doesn't have
+pub mod Differ
+pub mod FirstPlaces
+pub mod Numbers
+pub mod SameEdges
+pub mod SoFar
+-- what a class that doesn't occur says of each item
+pub mod NonePass
+pub mod SpareParts
+pub mod GoodGates
+pub mod StatementNames
+pub mod SpareLemmas
+pub mod StatementParts
+pub mod TriggerRows
+pub mod Members
+pub mod Cyclic
+pub mod Surveyed
+pub mod Refused
+pub mod Edges
+pub mod SaidLemmas

@@ -1,0 +1,259 @@
+-- What the marks and ranks of the graph say of the statements.
+use Rattle.std.proofs.Common.{◌≡◌, ℕ, zero, suc, ◌+◌, ◌-◌, ◌<◌, ◌≤◌, ◌↔◌, Bool, true, false, not, List, [], ◌∷◌, length}
+use Rattle.std.proofs.Common.{map, drop, get_or, refl, sym, ap, ◌∙◌, subst, inl, inr, arith, length-append}
+use Rattle.std.specs.Prelude.{IsTrue, Some, None, slice_index, slice_index_or}
+use Rattle.std.specs.List.{position_or_len}
+use Rattle.std.proofs.lemmas.List.{length-map, get_or-drop, length-drop}
+use Rattle.std.proofs.lemmas.List.Sums.{position_or_len_is}
+use Rattle.std.proofs.lemmas.Bool.{cases_Bool, or_left, or_right, or_parts, and_parts}
+use Rattle.fault_words.specs.declared.place.Place.{Place}
+use Rattle.fault_definitions.specs.Trigger.{below}
+use Rattle.graph_cycles.specs.Graph.{successors, Leads, IsGraph, rank_over}
+use Rattle.galileo_tree.specs.declared.raw.Placed.{Placed}
+use Rattle.galileo_tree.specs.declared.raw.Statement.{Statement}
+use Rattle.statement_faults.specs.declared.numbered.NumberedGate.{NumberedGate}
+use Rattle.fault_words.specs.Names.{has_name, same_name, all_differ, number_in}
+use Rattle.statement_faults.specs.Said.{basics, gates, names, basic_names, gate_names, definitions}
+use Rattle.statement_faults.proofs.SaidLemmas.{names_in}
+use Rattle.statement_faults.specs.Said.{uses}
+use Rattle.statement_faults.specs.Numbered.{numbered_gates, numbered_gate, unit_total, kinds, kept_inputs}
+use Rattle.statement_faults.specs.TreeOf.{tree_of, numbers, input_lists, IsCyclic, FirstOnCycle, HasNoCycle, AreRanks}
+use Rattle.statement_faults.specs.Classes.{first, undefined, dependent_gates}
+use Rattle.statement_faults.specs.Numbering.{IsDeckOf}
+use Rattle.statement_faults.specs.declared.numbered.NumberedText.{NumberedText}
+use Rattle.statement_faults.proofs.StatementNames.{inputs_known}
+use Rattle.statement_faults.proofs.GoodGates.{unit_dependents}
+use Rattle.statement_faults.specs.Marked.{marked_places}
+use Rattle.statement_faults.specs.Triggers.{IsGraphOf, HasUnitDependents}
+use Rattle.statement_faults.proofs.Differ.{same_itself, same_other_way, has-names}
+use Rattle.statement_faults.proofs.Numbers.{number_some, number_none, number_within}
+use Rattle.statement_faults.proofs.SameEdges.{same_edges, to_graph, from_graph}
+use Rattle.statement_faults.proofs.Members.{Each, successor_is}
+use Rattle.statement_faults.proofs.Cyclic.{numbers_of, FirstMarked, first_marked, none_marked, defined_at, same_rank_over}
+
+-- a number of a name of these
+abbrev pub IsNumber : ℕ → ℕ → Type 0
+IsNumber total n = (1 ≤ n) × (n ≤ total)
+
+graph_total : (units : ℕ) (gates : List NumberedGate) (graph : List (List ℕ)) → IsGraphOf units gates graph
+    → length graph ≡ units + 1 + length gates
+graph_total units gates graph g =
+    omega (
+      arith,
+      ap length g.is,
+      length-append g.rows (input_lists units gates),
+      g.triggers.all,
+      length-map gates (λ gate. numbers (kept_inputs units (kinds gates) gate)),
+    )
+
+names_total : (statements : List Statement) → length (names statements)
+    ≡ unit_total statements + length (numbered_gates statements)
+names_total statements =
+    omega (
+      arith,
+      length-append (basic_names statements) (gate_names statements),
+      length-map (basics statements) (λ basic. basic.name.name),
+      length-map (gates statements) (λ gate. gate.name.name),
+      length-map (gates statements) (numbered_gate (names statements)),
+    )
+
+pub low_number : (all : List (List ℕ)) (definitions : List Placed) (i : ℕ)
+    → slice_index (numbers_of all definitions) i ≤ length all
+low_number all [] i = omega arith
+low_number all (d ∷ definitions) zero = elim (cases_Bool (has_name all d.name)) [
+  | inl there ↦ (number_within all d.name there).1
+  | inr none ↦ omega (arith, number_none all d.name none)
+]
+low_number all (d ∷ definitions) (suc i) = low_number all definitions i
+
+-- ---- names by number
+
+has_at : (xs : List (List ℕ)) (k : ℕ) → k < length xs → has_name xs (get_or xs k []) ≡ true
+has_at [] k l = absurd (omega arith)
+has_at (x ∷ xs) zero l = or_left (same_name x x) (has_name xs x) (same_itself x x refl)
+has_at (x ∷ xs) (suc k) l =
+    or_right (same_name (get_or xs k []) x) (has_name xs (get_or xs k [])) (has_at xs k (omega arith))
+
+not_has : (xs : List (List ℕ)) (y : List ℕ) (k : ℕ) → k < length xs → has_name xs y ≡ false
+    → same_name y (get_or xs k []) ≡ false
+not_has [] y k l none = absurd (omega arith)
+not_has (x ∷ xs) y zero l none = (or_parts (same_name y x) (has_name xs y) none).0
+not_has (x ∷ xs) y (suc k) l none = not_has xs y k (omega arith) (or_parts (same_name y x) (has_name xs y) none).1
+
+apart_at : (xs : List (List ℕ)) (j k : ℕ) → all_differ xs ≡ true → j < k → k < length xs
+    → same_name (get_or xs k []) (get_or xs j []) ≡ false
+apart_at [] j k all less l = absurd (omega arith)
+apart_at (x ∷ xs) j zero all less l = absurd (omega arith)
+apart_at (x ∷ xs) zero (suc k) all less l =
+    let parts : (not (has_name xs x) ≡ true) × (all_differ xs ≡ true) =
+    and_parts (not (has_name xs x)) (all_differ xs) all in
+    let none : has_name xs x ≡ false = elim (cases_Bool (has_name xs x)) [ inl there ↦ absurd cc | inr n ↦ n ] in
+    same_other_way x (get_or xs k []) (not_has xs x k (omega arith) none)
+apart_at (x ∷ xs) (suc j) (suc k) all less l =
+    apart_at xs j k (and_parts (not (has_name xs x)) (all_differ xs) all).1 (omega arith) (omega arith)
+
+pub number_at_place : (xs : List (List ℕ)) (k : ℕ) → all_differ xs ≡ true → k < length xs
+    → number_in xs (get_or xs k []) ≡ suc k
+number_at_place xs k all l =
+    let place : position_or_len (same_name (get_or xs k [])) xs ≡ k =
+    position_or_len_is (same_name (get_or xs k [])) xs k [] (omega arith) (λ j less. apart_at xs j k all less l)
+    (λ _. same_itself (get_or xs k []) (get_or xs k []) refl) in
+    number_some xs (get_or xs k []) (has_at xs k l) ∙ ap suc place
+
+-- every number up to the last is that of a definition
+pub number_defined : (statements : List Statement) (x : ℕ) → all_differ (names statements) ≡ true → 1 ≤ x
+    → x ≤ length (names statements)
+    → (i : ℕ) × (i < length (definitions statements))
+    × (slice_index (numbers_of (names statements) (definitions statements)) i ≡ x)
+number_defined statements x all some within =
+    let l : x - 1 < length (names statements) = omega arith in
+    let name : List ℕ = get_or (names statements) (x - 1) [] in
+    let there : has_name (names_in (definitions statements)) (get_or (names statements) (x - 1) []) ≡ true =
+    sym (has-names statements (get_or (names statements) (x - 1) [])) ∙ has_at (names statements) (x - 1) l in
+    let found = defined_at (names statements) (definitions statements) (get_or (names statements) (x - 1) []) there in
+    (found.0, found.1, omega (arith, found.2, number_at_place (names statements) (x - 1) all l))
+
+-- ---- the survey
+
+pub record Surveyed (statements : List Statement) (graph : List (List ℕ)) (marks : List Bool)
+    (ranks : List ℕ) : Type 0 where
+  pub graph_is : IsGraphOf (unit_total statements) (numbered_gates statements) graph
+  pub each : Each (IsNumber (length (names statements))) (numbered_gates statements)
+  pub once : all_differ (names statements) ≡ true
+  pub exact : (x : ℕ) → x < length graph → IsTrue (slice_index_or marks x false) ↔ Leads graph x x
+  pub ranked : (x : ℕ) → x < length graph → slice_index_or marks x false ≡ false
+      → slice_index ranks x ≡ rank_over ranks (successors graph x)
+  pub ranks_all : length ranks ≡ length graph
+
+pub IsGraph-of : (statements : List Statement) (graph : List (List ℕ))
+    → IsGraphOf (unit_total statements) (numbered_gates statements) graph
+    → Each (IsNumber (length (names statements))) (numbered_gates statements) → IsGraph graph
+IsGraph-of statements graph g each x y goes =
+    let number : IsNumber (length (names statements)) y =
+    successor_is (IsNumber (length (names statements))) (unit_total statements) (numbered_gates statements) graph g
+    each x y goes in
+    omega (
+      arith,
+      number.1,
+      names_total statements,
+      graph_total (unit_total statements) (numbered_gates statements) graph g,
+    )
+
+module _ (statements : List Statement) (graph : List (List ℕ)) (marks : List Bool) (ranks : List ℕ)
+    (s : Surveyed statements graph marks ranks) where
+  total : length graph ≡ suc (length (names statements))
+  total =
+      omega (
+        arith,
+        names_total statements,
+        graph_total (unit_total statements) (numbered_gates statements) graph
+            s.graph_is,
+      )
+
+  unmarked_acyclic : (i : ℕ) → slice_index_or marks
+      (slice_index (numbers_of (names statements) (definitions statements)) i) false ≡ false → ¬ IsCyclic statements i
+  unmarked_acyclic i unmarked cyclic =
+      let within : slice_index (numbers_of (names statements) (definitions statements)) i < length graph =
+      omega (arith, total, low_number (names statements) (definitions statements) i) in
+      let marked : slice_index_or marks (slice_index (numbers_of (names statements) (definitions statements)) i) false
+      ≡ true =
+      (s.exact (slice_index (numbers_of (names statements) (definitions statements)) i) within).1
+      (to_graph statements [] graph s.graph_is cyclic) in
+      cc
+
+  pub cycle_found : (place : Place) → first (marked_places marks (names statements) (definitions statements))
+      ≡ Some place → FirstOnCycle statements place
+  cycle_found place found =
+      let f : FirstMarked marks (names statements) (definitions statements) place =
+      first_marked marks (names statements) (definitions statements) place found in
+      let within : slice_index (numbers_of (names statements) (definitions statements)) f.index < length graph =
+      omega (arith, total, low_number (names statements) (definitions statements) f.index) in
+      record {
+        index = f.index;
+        at = f.at;
+        cyclic =
+            from_graph statements [] graph s.graph_is ((s.exact
+            (slice_index (numbers_of (names statements) (definitions statements)) f.index) within).0 f.marked);
+        no_earlier = λ i less. unmarked_acyclic i (f.no_earlier i less);
+      }
+
+  pub no_cycle : first (marked_places marks (names statements) (definitions statements)) ≡ None → HasNoCycle statements
+  no_cycle none i l = unmarked_acyclic i (none_marked marks (names statements) (definitions statements) none i l)
+
+  -- no node is marked
+  all_unmarked : first (marked_places marks (names statements) (definitions statements)) ≡ None → (x : ℕ) → 1 ≤ x
+      → x ≤ length (names statements) → slice_index_or marks x false ≡ false
+  all_unmarked none x some within =
+      let found = number_defined statements x s.once some within in
+      subst (λ n. slice_index_or marks n false ≡ false) found.2
+      (none_marked marks (names statements) (definitions statements) none found.0 found.1)
+
+  shifted : (x : ℕ) → 1 ≤ x → slice_index ranks x ≡ slice_index (0 ∷ drop 1 ranks) x
+  shifted zero some = absurd (omega arith)
+  shifted (suc x) some =
+      sym (get_or-drop 1 ranks x 0 ∙ ap (slice_index ranks) (let e : 1 + x ≡ suc x = omega arith in e))
+
+  pub are_ranks : first (marked_places marks (names statements) (definitions statements)) ≡ None
+      → AreRanks statements (drop 1 ranks)
+  are_ranks none = record {
+    all = omega (arith, length-drop 1 ranks, s.ranks_all, total);
+    ranked = λ node is_node.
+        let nodes : node ≤ length (names statements) =
+        omega (
+          arith,
+          is_node.1,
+          names_total statements,
+          length-map (basics statements) (λ basic. map (λ raw. raw.attribute) basic.attributes),
+          length-map (numbered_gates statements) (λ gate. gate.kind),
+        ) in
+        let unmarked : slice_index_or marks node false ≡ false = all_unmarked none node is_node.0 nodes in
+        sym (shifted node is_node.0)
+        ∙ (s.ranked node (omega (arith, total)) unmarked
+        ∙ same_rank_over (tree_of statements (drop 1 ranks)) ranks (successors graph node)
+        (below (tree_of statements (drop 1 ranks)) node)
+        (same_edges statements (drop 1 ranks) graph s.graph_is node)
+        (λ y found. shifted y (successor_is (IsNumber (length (names statements))) (unit_total statements)
+        (numbered_gates statements) graph s.graph_is s.each node y found).0));
+  }
+
+-- ---- from the deck
+
+pub graph_here : (statements : List Statement) (deck : NumberedText) (all : List NumberedGate) (graph : List (List ℕ))
+    → IsDeckOf (names statements) statements deck
+    → all ≡ deck.gates.items → IsGraphOf deck.units all graph
+    → IsGraphOf (unit_total statements) (numbered_gates statements) graph
+graph_here statements deck all graph d same g =
+    subst (λ u. IsGraphOf u (numbered_gates statements) graph) d.units
+    (subst (λ gs. IsGraphOf deck.units gs graph) (same ∙ d.gates_all) g)
+
+pub survey_of : (statements : List Statement) (deck : NumberedText) (all : List NumberedGate) (graph : List (List ℕ))
+    (marks : List Bool) (ranks : List ℕ)
+    → IsDeckOf (names statements) statements deck → all ≡ deck.gates.items → IsGraphOf deck.units all graph
+    → undefined (names statements) (uses statements) ≡ [] → all_differ (names statements) ≡ true
+    → ((x : ℕ) → x < length graph → IsTrue (slice_index_or marks x false) ↔ Leads graph x x)
+    → ((x : ℕ) → x < length graph → slice_index_or marks x false ≡ false
+    → slice_index ranks x ≡ rank_over ranks (successors graph x))
+    → length ranks ≡ length graph
+    → Surveyed statements graph marks ranks
+survey_of statements deck all graph marks ranks d same g known once exact ranked whole = record {
+  graph_is = graph_here statements deck all graph d same g;
+  each = inputs_known statements known;
+  once = once;
+  exact = exact;
+  ranked = ranked;
+  ranks_all = whole;
+}
+
+pub graph_whole : (statements : List Statement) (deck : NumberedText) (all : List NumberedGate) (graph : List (List ℕ))
+    → IsDeckOf (names statements) statements deck → all ≡ deck.gates.items → IsGraphOf deck.units all graph
+    → undefined (names statements) (uses statements) ≡ [] → IsGraph graph
+graph_whole statements deck all graph d same g known =
+    IsGraph-of statements graph (graph_here statements deck all graph d same g) (inputs_known statements known)
+
+pub units_after : (statements : List Statement) (deck : NumberedText) (all : List NumberedGate)
+    → IsDeckOf (names statements) statements deck → all ≡ deck.gates.items
+    → dependent_gates (unit_total statements) (numbered_gates statements) ≡ [] → HasUnitDependents deck.units all
+units_after statements deck all d same none =
+    subst (λ u. HasUnitDependents u all) (sym d.units)
+    (subst (λ gs. HasUnitDependents (unit_total statements) gs) (sym (same ∙ d.gates_all))
+    (unit_dependents (unit_total statements) (numbered_gates statements) none))

@@ -1,0 +1,44 @@
+-- What triggers a unit among more and more gates.
+use Rattle.std.proofs.Common.{◌≡◌, ℕ, ◌+◌, ◌<◌, List, [], ◌∷◌, ◌++◌, length, map, take, get_or, refl, sym, ap, ◌∙◌}
+use Rattle.std.proofs.Common.{subst}
+use Rattle.std.specs.Prelude.{◌||◌, ◌==◌, Option, Some, None, filter_map, option_to_list}
+use Rattle.std.specs.List.{cons_option}
+use Rattle.std.proofs.lemmas.List.{map_more}
+use Rattle.std.proofs.lemmas.List.Elements.{filter_map-append}
+use Rattle.std.proofs.lemmas.List.Folds.{list_any-append}
+use Rattle.unit_sets.specs.UnitList.{among}
+use Rattle.fault_words.specs.declared.kind.GateKind.{GateKind}
+use Rattle.fault_definitions.specs.Trigger.{trigger_by}
+use Rattle.statement_faults.specs.Triggers.{AddsTriggers, HasTriggers, written_gate}
+use Rattle.statement_faults.specs.declared.numbered.NumberedGate.{NumberedGate}
+
+one_option : {X : Type 0} (o : Option X) → cons_option o [] ≡ option_to_list o
+one_option None = refl
+one_option (Some x) = refl
+
+pub HasTriggers-more : (units : ℕ) (gates : List (GateKind × List ℕ)) (gate : GateKind × List ℕ)
+    (old new : List (List ℕ))
+    → HasTriggers units gates old → AddsTriggers gate old new → HasTriggers units (gates ++ gate ∷ []) new
+HasTriggers-more units gates gate old new h a = record {
+  all = a.all ∙ h.all;
+  triggers = λ unit other.
+      let apart : filter_map (trigger_by unit) (gates ++ gate ∷ [])
+      ≡ filter_map (trigger_by unit) gates ++ option_to_list (trigger_by unit gate) =
+      filter_map-append (trigger_by unit) gates (gate ∷ [])
+      ∙ ap (λ t. filter_map (trigger_by unit) gates ++ t) (one_option (trigger_by unit gate)) in
+      a.triggers unit other
+      ∙ (ap (λ b. b || among (option_to_list (trigger_by unit gate)) other) (h.triggers unit other)
+      ∙ (sym (list_any-append (λ v. v == other) (filter_map (trigger_by unit) gates)
+      (option_to_list (trigger_by unit gate)))
+      ∙ ap (λ ts. among ts other) (sym apart)));
+}
+
+pub HasTriggers-next : (units : ℕ) (gates : List NumberedGate) (i : ℕ) (gate : NumberedGate) (old new : List (List ℕ))
+    → i < length gates → gate ≡ get_or gates i gate
+    → HasTriggers units (map written_gate (take i gates)) old → AddsTriggers (written_gate gate) old new
+    → HasTriggers units (map written_gate (take (i + 1) gates)) new
+HasTriggers-next units gates i gate old new l is h a =
+    subst (λ gs. HasTriggers units gs new)
+    (sym (map_more written_gate gates i gate l ∙ ap
+    (λ (g : NumberedGate). map written_gate (take i gates) ++ written_gate g ∷ []) (sym is)))
+    (HasTriggers-more units (map written_gate (take i gates)) (written_gate gate) old new h a)

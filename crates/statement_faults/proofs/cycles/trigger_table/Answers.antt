@@ -1,0 +1,8 @@
+use Rattle.statement_faults.proofs.TriggerRows.{HasTriggers-next}
+use Rattle.statement_faults.proofs.cycles.trigger_table.Goals as goal
+
+pub loop-gate-preserved : goal.loop-gate-preserved
+loop-gate-preserved c =
+    HasTriggers-next c.args.units c.args.gates.now c.loop-gate.gate-index c.gate-item.result c.loop-gate.table.items
+    c.note_gate.new.table.items
+    c.loop-gate-test.true c.gate-item.is c.loop-gate.invariant c.in_ok-note_gate.ensures

@@ -1,0 +1,18 @@
+-- what the statements say
+pub mod Said
+-- the same by the numbers of the tree
+pub mod Numbered
+-- the classes of faults, each with its places
+pub mod Classes
+-- a table by which a shared spare shows
+pub mod SpareTable
+-- the tree that the statements stand for
+pub mod TreeOf
+-- a fault that one class answers
+pub mod Found
+-- what naming gives
+pub mod Naming
+pub mod Numbering
+pub mod Triggers
+pub mod Marked
+pub mod Groups

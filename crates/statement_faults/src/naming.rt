@@ -1,0 +1,136 @@
+//! Names into numbers: each name is defined once, and each name that is used is defined.
+ghost use Rattle.std.specs.Prelude.{◌≡◌, ◌++◌, ◌∷◌, ℕ, [], true, false, length, map, IfOk, IfErr, IfSome, IfNone};
+ghost use Rattle.std.specs.Prelude.{is_some, OnOk, IsTrue};
+ghost use Rattle.statement_faults.specs.Said.{names, definitions, uses, basic_names, gate_names};
+ghost use Rattle.statement_faults.specs.Classes.{first, repeats, undefined};
+ghost use Rattle.fault_words.specs.Names.{all_differ};
+ghost use Rattle.statement_faults.specs.Naming.{Adds, name_list};
+ghost use Rattle.statement_faults.specs.Found.{IsFoundAs};
+
+use name_index::NameIndex;
+use crate::{CheckCode, CheckFault};
+use fault_words::{Name, Place};
+use galileo_tree::Statement;
+use std::alloc::{AllocError, Global};
+
+fn basic_name(statement: &Statement) -> Option<&Name>
+    ensures { basic_names (statement.now ∷ []) ≡ name_list result }
+{
+    match statement {
+        Statement::Basic(basic) => Some(&basic.name.name),
+        _ => None,
+    }
+}
+
+fn gate_name(statement: &Statement) -> Option<&Name>
+    ensures { gate_names (statement.now ∷ []) ≡ name_list result }
+{
+    match statement {
+        Statement::Gate(gate) => Some(&gate.name.name),
+        _ => None,
+    }
+}
+
+/// Adds a name, where there is one, and says whether it was new.
+fn add<'a>(index: &mut NameIndex<'a>, name: Option<&'a Name>) -> Result<bool, AllocError>
+    ensures { IfOk result (λ fresh. Adds name.entry fresh index.old index.new) }
+{
+    match name {
+        Some(name) => index.insert(name),
+        None => Ok(true),
+    }
+}
+
+/// Adds the names of the basic events, and says whether they all were new.
+fn add_basics<'a>(
+    index: &mut NameIndex<'a>,
+    statements: &'a [Statement],
+) -> Result<bool, AllocError>
+    requires { all_differ index.old ≡ true }
+    ensures fresh { IfOk result (λ fresh. IsTrue fresh → index.new ≡ index.old ++ basic_names statements.now) }
+    ensures differ { IfOk result (λ fresh. fresh ≡ all_differ (index.old ++ basic_names statements.now)) }
+{
+    for statement in statements {
+        if !add(index, basic_name(statement))? {
+            return Ok(false);
+        }
+    }
+    Ok(true)
+}
+
+/// Adds the names of the gates, and says whether they all were new.
+fn add_gates<'a>(index: &mut NameIndex<'a>, statements: &'a [Statement]) -> Result<bool, AllocError>
+    requires { all_differ index.old ≡ true }
+    ensures fresh { IfOk result (λ fresh. IsTrue fresh → index.new ≡ index.old ++ gate_names statements.now) }
+    ensures differ { IfOk result (λ fresh. fresh ≡ all_differ (index.old ++ gate_names statements.now)) }
+{
+    for statement in statements {
+        if !add(index, gate_name(statement))? {
+            return Ok(false);
+        }
+    }
+    Ok(true)
+}
+
+/// The first definition of a name that an earlier one defines.
+fn repeat(alloc: Global, statements: &[Statement]) -> Result<Option<Place>, AllocError>
+    ensures { IfOk result (λ found. found ≡ first (repeats statements.now)) }
+{
+    let mut index = NameIndex::with_room(alloc, statements.len())?;
+    for statement in statements {
+        let definition = match statement {
+            Statement::Top(_) => continue,
+            Statement::Gate(gate) => &gate.name,
+            Statement::Basic(basic) => &basic.name,
+        };
+        if !index.insert(&definition.name)? {
+            return Ok(Some(definition.place));
+        }
+    }
+    Ok(None)
+}
+
+/// The index of the names, or `None` where some name is defined twice.
+fn index_of<'a>(
+    alloc: Global,
+    statements: &'a [Statement],
+) -> Result<Option<NameIndex<'a>>, AllocError>
+    ensures some { IfOk result (λ found. IfSome found (λ index. index ≡ names statements.now)) }
+    ensures differ { IfOk result (λ found. is_some found ≡ all_differ (names statements.now)) }
+{
+    let mut index = NameIndex::with_room(alloc, statements.len())?;
+    if !add_basics(&mut index, statements)? {
+        return Ok(None);
+    }
+    if !add_gates(&mut index, statements)? {
+        return Ok(None);
+    }
+    Ok(Some(index))
+}
+
+/// The index of the names, each of which is defined once.
+pub fn name_all<'a>(
+    alloc: Global,
+    statements: &'a [Statement],
+) -> Result<NameIndex<'a>, CheckFault>
+    ensures names { IfOk result (λ index. index ≡ names statements.now) }
+    ensures once { OnOk result (repeats statements.now ≡ []) }
+    ensures differ { OnOk result (all_differ (names statements.now) ≡ true) }
+    ensures fault { IfErr result (IsFoundAs CheckCode.DuplicateName (repeats statements.now)) }
+{
+    match index_of(alloc, statements)? {
+        Some(index) => Ok(index),
+        None => Err(repetition(alloc, statements)?),
+    }
+}
+
+/// The fault of a text in which some name is defined twice.
+fn repetition(alloc: Global, statements: &[Statement]) -> Result<CheckFault, AllocError>
+    requires { all_differ (names statements.now) ≡ false }
+    ensures { IfOk result (IsFoundAs CheckCode.DuplicateName (repeats statements.now)) }
+{
+    match repeat(alloc, statements)? {
+        Some(place) => Ok(CheckFault::Fault(CheckCode::DuplicateName, place)),
+        None => unreachable!(),
+    }
+}

@@ -1,0 +1,33 @@
+//! A text by the numbers of its tree.
+use fault_words::{GateKind, Place};
+
+/// A name that stands in the text: its number in the tree, and its place.
+#[derive(Clone, Copy, Debug)]
+pub struct Numbered {
+    pub number: usize,
+    pub place: Place,
+}
+
+/// A gate with the numbers of its inputs as they stand in the text.
+#[derive(Drop)]
+pub struct NumberedGate {
+    pub kind: GateKind,
+    /// The place of the gate word.
+    pub word: Place,
+    /// The place of the name.
+    pub name: Place,
+    pub inputs: InputRow,
+}
+
+/// The inputs of a gate by numbers.
+pub type InputRow = flat_rows::GrowingList<Numbered>;
+
+/// A text by numbers.
+#[derive(Drop)]
+pub struct NumberedText {
+    /// How many basic events there are. The numbers of the gates are above.
+    pub units: usize,
+    pub gates: Vec<NumberedGate>,
+    /// The names of the top statements.
+    pub tops: Vec<Numbered>,
+}

@@ -1,0 +1,109 @@
+//! A text by numbers, where every name that it uses is defined.
+ghost use Rattle.std.specs.Prelude.{◌≡◌, ◌+◌, ◌++◌, ◌∷◌, ◌<◌, ◌≤◌, ℕ, [], length, map, IfOk, IfErr, OnOk};
+ghost use Rattle.statement_faults.specs.Said.{names, uses, uses_in, basics, gates, top_in, gate_in, basic_in};
+ghost use Rattle.statement_faults.specs.Numbered.{numbered, numbered_gate};
+ghost use Rattle.statement_faults.specs.Classes.{undefined};
+ghost use Rattle.statement_faults.specs.Found.{IsFoundAs};
+ghost use Rattle.statement_faults.specs.Numbering.{IsDeckOf, AddsStatement};
+
+use name_index::NameIndex;
+use crate::numbered::{InputRow, Numbered, NumberedGate, NumberedText};
+use crate::{CheckCode, CheckFault};
+use galileo_tree::{Placed, RawGate, Statement};
+use std::alloc::Global;
+
+/// The number of a name that is used.
+fn number(index: &NameIndex<'_>, used: &Placed) -> Result<Numbered, CheckFault>
+    ensures number { IfOk result (λ n. n ≡ numbered index.now used.now) }
+    ensures known { OnOk result (undefined index.now (used.now ∷ []) ≡ []) }
+    ensures fault { IfErr result (IsFoundAs CheckCode.Undefined (undefined index.now (used.now ∷ []))) }
+{
+    let number = index.number(&used.name);
+    if number == 0 {
+        return Err(CheckFault::Fault(CheckCode::Undefined, used.place));
+    }
+    Ok(Numbered {
+        number,
+        place: used.place,
+    })
+}
+
+/// The numbers of the inputs of a gate.
+fn number_inputs(
+    alloc: Global,
+    index: &NameIndex<'_>,
+    inputs: &[Placed],
+) -> Result<InputRow, CheckFault>
+    ensures row { IfOk result (λ row. row ≡ map (numbered index.now) inputs.now) }
+    ensures known { OnOk result (undefined index.now inputs.now ≡ []) }
+    ensures fault { IfErr result (IsFoundAs CheckCode.Undefined (undefined index.now inputs.now)) }
+{
+    let mut row = InputRow::new(alloc);
+    for input in inputs {
+        let next = number(index, input)?;
+        row.push(next)?;
+    }
+    Ok(row)
+}
+
+fn number_gate(
+    alloc: Global,
+    index: &NameIndex<'_>,
+    gate: &RawGate,
+) -> Result<NumberedGate, CheckFault>
+    ensures gate { IfOk result (λ g. g ≡ numbered_gate index.now gate.now) }
+    ensures known { OnOk result (undefined index.now gate.now.inputs ≡ []) }
+    ensures fault { IfErr result (IsFoundAs CheckCode.Undefined (undefined index.now gate.now.inputs)) }
+{
+    let inputs = number_inputs(alloc, index, gate.inputs.as_slice())?;
+    Ok(NumberedGate {
+        kind: gate.kind,
+        word: gate.word,
+        name: gate.name.place,
+        inputs,
+    })
+}
+
+impl NumberedText {
+    /// Adds what one statement says.
+    fn add(
+        &mut self,
+        alloc: Global,
+        index: &NameIndex<'_>,
+        statement: &Statement,
+    ) -> Result<(), CheckFault>
+        requires { self.old.units + 1 < 18446744073709551616 }
+        ensures adds { OnOk result (AddsStatement index.now statement.now self.old self.new) }
+        ensures known { OnOk result (undefined index.now (uses_in statement.now) ≡ []) }
+        ensures fault { IfErr result (IsFoundAs CheckCode.Undefined (undefined index.now (uses_in statement.now))) }
+    {
+        match statement {
+            Statement::Top(top) => self.tops.push(number(index, &top.name)?)?,
+            Statement::Gate(gate) => self.gates.push(number_gate(alloc, index, gate)?)?,
+            Statement::Basic(_) => self.units += 1,
+        }
+        Ok(())
+    }
+}
+
+/// The statements by numbers.
+pub fn number_all(
+    alloc: Global,
+    index: &NameIndex<'_>,
+    statements: &[Statement],
+) -> Result<NumberedText, CheckFault>
+    ensures deck { IfOk result (IsDeckOf index.now statements.now) }
+    ensures few { IfOk result (λ deck. deck.units ≤ length statements.now) }
+    ensures known { OnOk result (undefined index.now (uses statements.now) ≡ []) }
+    ensures fault { IfErr result (IsFoundAs CheckCode.Undefined (undefined index.now (uses statements.now))) }
+{
+    let mut deck = NumberedText {
+        units: 0,
+        gates: Vec::new(alloc),
+        tops: Vec::new(alloc),
+    };
+    for statement in statements {
+        deck.add(alloc, index, statement)?;
+    }
+    Ok(deck)
+}

@@ -1,0 +1,139 @@
+//! Spares that serve two gates, or one gate twice.
+ghost use Rattle.std.specs.Prelude.{◌≡◌, ◌+◌, ◌<◌, length, replicate, All, IfOk};
+ghost use Rattle.statement_faults.specs.Classes.{first, later_uses, uses_of, spare_uses_in, shared_spares};
+ghost use Rattle.statement_faults.specs.SpareTable.{AreWithin, noted, clashes_with, earlier_uses, table_with, table_after};
+ghost use Rattle.statement_faults.specs.SpareTable.{clashes_by};
+
+use crate::gates::is_spare_kind;
+use crate::numbered::{Numbered, NumberedGate};
+use fault_words::Place;
+use std::alloc::{AllocError, Global};
+
+/// How spare gates have used an event so far.
+#[derive(Clone, Copy, Debug)]
+pub(crate) enum EarlierUses {
+    Unused,
+    /// As a first input alone, however often.
+    FirstOnly,
+    /// As a later input too.
+    Otherwise,
+}
+
+impl EarlierUses {
+    fn clashes_with(self, is_first: bool) -> bool
+        ensures { result ≡ clashes_with self is_first }
+    {
+        match self {
+            EarlierUses::Unused => false,
+            EarlierUses::FirstOnly => !is_first,
+            EarlierUses::Otherwise => true,
+        }
+    }
+
+    // With one use more.
+    fn noted(self, is_first: bool) -> EarlierUses
+        ensures { result ≡ noted self is_first }
+    {
+        match self {
+            EarlierUses::Unused | EarlierUses::FirstOnly if is_first => EarlierUses::FirstOnly,
+            _ => EarlierUses::Otherwise,
+        }
+    }
+}
+
+/// The earlier uses of each event, by its number.
+#[derive(Drop)]
+struct SpareTable {
+    uses: Vec<EarlierUses>,
+}
+
+impl SpareTable {
+    fn new(alloc: Global, nodes: usize) -> Result<SpareTable, AllocError>
+        requires { nodes < usize.MAX }
+        ensures { IfOk result (λ table. table.uses.items ≡ replicate (nodes + 1) EarlierUses.Unused) }
+    {
+        Ok(SpareTable {
+            uses: vec![in alloc; EarlierUses::Unused; nodes + 1]?,
+        })
+    }
+
+    // Notes a use; the answer says whether it clashes with an earlier one.
+    fn note(&mut self, input: Numbered, is_first: bool) -> bool
+        requires { input.number < length self.old.uses.items }
+        ensures clash { result ≡ clashes_with (earlier_uses self.old.uses.items input.number) is_first }
+        ensures table { self.new.uses.items ≡ table_with self.old.uses.items
+            (record { input = input; is_first = is_first }) }
+        ensures room { length self.new.uses.items ≡ length self.old.uses.items }
+    {
+        let earlier = self.uses[input.number];
+        self.uses[input.number] = earlier.noted(is_first);
+        earlier.clashes_with(is_first)
+    }
+
+    // The first clash of inputs that are not first ones, which are noted up to there.
+    fn later_clash(&mut self, inputs: &[Numbered]) -> Option<Place>
+        requires { All (λ input. input.number < length self.old.uses.items) inputs.now }
+        ensures clash { result ≡ first (clashes_by self.old.uses.items (later_uses inputs.now)) }
+        ensures table { result ≡ None → self.new.uses.items ≡ table_after self.old.uses.items (later_uses inputs.now) }
+        ensures room { length self.new.uses.items ≡ length self.old.uses.items }
+    {
+        for input in inputs {
+            if self.note(*input, false) {
+                return Some(input.place);
+            }
+        }
+        None
+    }
+
+    fn clash_among(&mut self, inputs: &[Numbered]) -> Option<Place>
+        requires { All (λ input. input.number < length self.old.uses.items) inputs.now }
+        ensures clash { result ≡ first (clashes_by self.old.uses.items (uses_of inputs.now)) }
+        ensures table { result ≡ None → self.new.uses.items ≡ table_after self.old.uses.items (uses_of inputs.now) }
+        ensures room { length self.new.uses.items ≡ length self.old.uses.items }
+    {
+        match inputs {
+            [first, later @ ..] => {
+                if self.note(*first, true) {
+                    Some(first.place)
+                } else {
+                    self.later_clash(later)
+                }
+            }
+            [] => None,
+        }
+    }
+
+    // The first clash at a gate, whose uses are noted up to there.
+    fn clash_at(&mut self, gate: &NumberedGate) -> Option<Place>
+        requires { All (λ input. input.number < length self.old.uses.items) gate.now.inputs }
+        ensures clash { result ≡ first (clashes_by self.old.uses.items (spare_uses_in gate.now)) }
+        ensures table { result ≡ None → self.new.uses.items ≡ table_after self.old.uses.items (spare_uses_in gate.now) }
+        ensures room { length self.new.uses.items ≡ length self.old.uses.items }
+    {
+        if is_spare_kind(gate.kind) {
+            self.clash_among(gate.inputs.as_slice())
+        } else {
+            None
+        }
+    }
+}
+
+/// The first input of a spare gate that another spare gate has too, or the same gate earlier, unless each of the
+/// two is a first input. No number is above `nodes`.
+pub(crate) fn shared_spare(
+    alloc: Global,
+    nodes: usize,
+    gates: &[NumberedGate],
+) -> Result<Option<Place>, AllocError>
+    requires few { nodes < usize.MAX }
+    requires numbers { AreWithin nodes gates.now }
+    ensures { IfOk result (λ found. found ≡ first (shared_spares gates.now)) }
+{
+    let mut table = SpareTable::new(alloc, nodes)?;
+    for gate in gates {
+        if let Some(place) = table.clash_at(gate) {
+            return Ok(Some(place));
+        }
+    }
+    Ok(None)
+}

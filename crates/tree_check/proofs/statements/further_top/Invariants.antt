@@ -1,9 +1,0 @@
-use Rattle.std.proofs.Common.{◌≡◌, drop, map}
-use Rattle.tree_check.specs.Said.{tops}
-use Rattle.tree_check.specs.Classes.{first, further_tops}
-use Rattle.tree_check.proofs.statements.further_top.Given as goal
-
-abbrev pub invariant-loop-statement : goal.invariant-loop-statement
-invariant-loop-statement l =
-    first (map (λ top. top.word) (drop l.to_pass (tops (drop l.statement-index l.statements))))
-    ≡ first (further_tops l.statements)
