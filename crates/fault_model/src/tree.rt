@@ -1,5 +1,6 @@
 //! The fault tree that every crate above reads, and what it keeps.
 ghost use Rattle.std.specs.Prelude.{◌≡◌, ◌≢◌, ◌↔◌, ℕ, ◌-◌, ◌<◌, ◌≤◌, false, List, ◌++◌, All, IfOk, IfSome, IsNone};
+ghost use Rattle.fault_definitions.specs.declared.parts.TheConstants.{MOST_GATES};
 ghost use Rattle.fault_definitions.specs.Rank.{rank_over};
 ghost use Rattle.fault_definitions.specs.Tree.{ranked, unit_count, gate_count, kind_of, inputs_of, rank_of, name_of};
 ghost use Rattle.fault_definitions.specs.Tree.{attributes_of, is_fdep, IsGateOf, IsNodeOf, IsUnitOf};

@@ -1,6 +1,6 @@
 //! The names of a tree's nodes, in the order of the numbers.
-ghost use Rattle.std.specs.Prelude.{◌≡◌, ◌≢◌, ◌<◌, [], length, position, AllPairs, IfOk, slice_index_or};
-ghost use Rattle.fault_words.specs.Names.{same_name};
+ghost use Rattle.std.specs.Prelude.{◌≡◌, ◌≢◌, ◌<◌, [], length, is_some, position, AllPairs, IfOk, slice_index_or};
+ghost use Rattle.fault_words.specs.Names.{has_name, same_name};
 
 use fault_words::Name;
 use indexmap::IndexSet;
@@ -44,7 +44,8 @@ impl NodeNames {
 
     /// The place of a name, from 0, or `None` where it isn't there.
     pub fn place(&self, name: &Name) -> Option<usize>
-        ensures { result ≡ position (same_name name.now) self.now }
+        ensures place { result ≡ position (same_name name.now) self.now }
+        ensures there { is_some result ≡ has_name self.now name.now }
     {
         self.names.get_index_of(name)
     }
