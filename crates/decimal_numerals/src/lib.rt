@@ -9,9 +9,6 @@ ghost use Rattle.std.specs.List.{list_all};
 ghost use Rattle.std.specs.Char.{is_ascii_digit};
 ghost use Rattle.decimal_numerals.specs.Numeral.{are_digits, has_leading_zero, is_numeral, number_from};
 
-#[cfg(test)]
-mod tests;
-
 /// Whether a text is one digit or more, and no more than so many.
 pub fn are_digits(most: usize, text: &[u8]) -> bool
     ensures { result ≡ are_digits most text.now }

@@ -9,8 +9,6 @@ ghost use Rattle.std.specs.Prelude.{◌≡◌, ◌<◌, ◌≤◌, [], ◌∷◌
 ghost use Rattle.flat_rows.specs.Rows.{start_of, rows_from, Rise, between};
 
 mod growing;
-#[cfg(test)]
-mod tests;
 
 pub use growing::GrowingList;
 use std::alloc::{AllocError, Global};

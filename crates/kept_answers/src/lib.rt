@@ -6,7 +6,5 @@
 #![tactic(auto)]
 
 mod answers;
-#[cfg(test)]
-mod tests;
 
 pub use answers::{Answers, Entry, Operation, Question};

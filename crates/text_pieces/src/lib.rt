@@ -11,6 +11,3 @@ mod shown;
 pub use gate_word::put_gate_word;
 pub use pieces::put_all;
 pub use shown::{put_named, put_shown};
-
-#[cfg(test)]
-mod tests;

@@ -1,5 +1,7 @@
-//! Tests of `unit_sets`: sets of units, lists of cut sets, and their limits.
+//! Tests of `flat_rows` and `unit_sets`: rows, sets of units, lists of cut sets, and their limits.
 #![tactic(auto)]
 
+#[cfg(test)]
+mod rows;
 #[cfg(test)]
 mod tests;

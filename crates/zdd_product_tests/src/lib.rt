@@ -1,5 +1,8 @@
-//! Tests of `zdd_product`: what each operation makes of small families, full stores, and seats split off and joined.
+//! Tests of `kept_answers` and `zdd_product`: what is kept, what each operation makes of small families, full stores, and
+//! seats split off and joined.
 #![tactic(auto)]
 
+#[cfg(test)]
+mod answers;
 #[cfg(test)]
 mod tests;

@@ -1,5 +1,8 @@
-//! Tests of `zdd_shared_table`: nodes made by one seat and by several threads, full stores, and shares.
+//! Tests of `zdd_words` and `zdd_shared_table`: words and homes of nodes, nodes made by one seat and by several
+//! threads, full stores, and shares.
 #![tactic(auto)]
 
 #[cfg(test)]
 mod tests;
+#[cfg(test)]
+mod words;

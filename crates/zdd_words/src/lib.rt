@@ -6,8 +6,6 @@
 #![tactic(auto)]
 
 mod node_ref;
-#[cfg(test)]
-mod tests;
 mod word;
 
 pub use node_ref::NodeRef;

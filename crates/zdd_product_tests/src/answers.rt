@@ -1,7 +1,7 @@
 //! Answers to questions that are near each other, and to questions that differ in the operation alone.
 ghost use Rattle.std.specs.Prelude.{◌<◌};
 
-use super::*;
+use kept_answers::{Answers, Entry, Operation, Question};
 use std::alloc::Global;
 use std::process::Abort;
 use std::test::Fail;

@@ -1,6 +1,6 @@
 //! A count from its beginning.
 
-use super::*;
+use event_counts::Count;
 use std::test::Fail;
 
 #[test]

@@ -1,5 +1,5 @@
 //! Rows, put in and given back.
-use super::*;
+use flat_rows::Rows;
 use std::test::Fail;
 
 #[test]

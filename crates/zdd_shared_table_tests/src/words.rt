@@ -1,7 +1,7 @@
 //! Words and homes of some nodes, computed by hand.
-use super::*;
 use std::test::Fail;
 use unit_sets::UnitNo;
+use zdd_words::{NodeRef, Parts, home, pack, unpack};
 
 fn unit(number: u16) -> Result<UnitNo, Fail> {
     Ok(UnitNo::new(number).ok_or("no unit")?)

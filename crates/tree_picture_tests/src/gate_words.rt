@@ -1,8 +1,8 @@
 //! The words of gates, as a sink in memory takes them.
-use crate::put_gate_word;
 use edge_io::{Buffer, CallList, KeptSink, Out};
 use fault_words::GateKind;
 use std::test::Fail;
+use text_pieces::put_gate_word;
 
 #[test]
 fn each_kind_has_its_word(rt: HostRuntime) -> Result<(), Fail> {

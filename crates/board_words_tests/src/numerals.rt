@@ -1,5 +1,5 @@
 //! Digits, numerals and their numbers.
-use super::*;
+use decimal_numerals::{are_digits, is_numeral, number};
 use std::test::Fail;
 
 #[test]
