@@ -3,7 +3,8 @@ ghost use Rattle.std.specs.Prelude.{◌≡◌, ℕ, ◌<◌, ◌+◌, ◌++◌, 
 ghost use Rattle.std.specs.List.{flat_map, list_all, range_with_len};
 ghost use Rattle.edge_io.specs.Out.{has_failed, Puts};
 ghost use Rattle.fault_words.specs.Name.{is_name};
-ghost use Rattle.fault_definitions.specs.Tree.{IsGateOf, IsNodeOf, IsUnitOf, attributes_of, gate_count, inputs_of, kind_of};
+ghost use Rattle.fault_definitions.specs.Tree.{IsGateOf, IsNodeOf, IsUnitOf, attributes_of, gate_count, inputs_of};
+ghost use Rattle.fault_definitions.specs.Tree.{kind_of};
 ghost use Rattle.fault_definitions.specs.Tree.{name_of, unit_count};
 ghost use Rattle.fault_definitions.specs.WellFormed.{IsTree};
 ghost use Rattle.galileo_lexer.specs.Bytes.{is_word_byte};

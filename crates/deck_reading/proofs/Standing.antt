@@ -12,7 +12,8 @@ use Rattle.galileo_tree.specs.ReadTree.{ReadTree}
 use Rattle.statement_faults.specs.declared.fault.CheckCode.{CheckCode}
 use Rattle.tree_check.specs.Checked.{NoneOf, Stands, after_cycles, before_cycles, places}
 use Rattle.statement_faults.specs.Said.{basics, definitions}
-use Rattle.statement_faults.specs.Numbered.{drops_fdeps, is_fdep_in, kept_inputs, kinds, numbered_definitions, numbered_gates}
+use Rattle.statement_faults.specs.Numbered.{drops_fdeps, is_fdep_in, kept_inputs, kinds, numbered_definitions}
+use Rattle.statement_faults.specs.Numbered.{numbered_gates}
 use Rattle.statement_faults.specs.Numbered.{numbered_tops, unit_total}
 use Rattle.statement_faults.specs.TreeOf.{HasNoCycle, LeadsTo, first_number, input_lists, numbers, tree_of}
 use Rattle.deck_reading.specs.Unplaced.{SaysAll, nowhere, said_tree, unplaced, unplaced_attribute, unplaced_name}

@@ -14,9 +14,11 @@ use Rattle.fault_definitions.specs.Tree.{FaultTree, IsUnitOf, is_fdep, is_fdep_k
 use Rattle.fault_definitions.specs.Tree as trees
 use Rattle.fault_definitions.specs.WellFormed.{IsSoundGate, IsSoundKind, IsTree}
 use Rattle.statement_faults.specs.Classes.{dummies, dummies_in, fdep_tops, gates_after_first, gates_beyond, inputless}
-use Rattle.statement_faults.specs.Classes.{is_empty, is_short_fdep, places_where, reads_nothing, short_fdeps, wrong_vote}
+use Rattle.statement_faults.specs.Classes.{is_empty, is_short_fdep, places_where, reads_nothing, short_fdeps}
+use Rattle.statement_faults.specs.Classes.{wrong_vote}
 use Rattle.statement_faults.specs.Classes.{wrong_votes}
-use Rattle.statement_faults.specs.Numbered.{drops_fdeps, is_fdep_in, is_gate, is_spare_kind, kept_by, kept_inputs, kinds}
+use Rattle.statement_faults.specs.Numbered.{drops_fdeps, is_fdep_in, is_gate, is_spare_kind, kept_by, kept_inputs}
+use Rattle.statement_faults.specs.Numbered.{kinds}
 use Rattle.statement_faults.specs.TreeOf.{input_lists, numbers}
 use Rattle.deck_reading.proofs.Anywhere.{Numbered, NumberedGate}
 use Rattle.deck_reading.proofs.Passing.{map_through}

@@ -27,7 +27,8 @@ use Rattle.galileo_tree.specs.declared.raw.Statement.{Statement}
 use Rattle.statement_faults.specs.Said.{basic_in, basics, definition_in, definitions, gate_in, gates}
 use Rattle.fault_words.specs.Names.{has_name, same_name, number_in}
 use Rattle.statement_faults.specs.Said.{names, top_in, tops, uses, uses_in}
-use Rattle.statement_faults.specs.Numbered.{numbered, numbered_definitions, numbered_gate, numbered_gates, numbered_tops}
+use Rattle.statement_faults.specs.Numbered.{numbered, numbered_definitions, numbered_gate, numbered_gates}
+use Rattle.statement_faults.specs.Numbered.{numbered_tops}
 use Rattle.statement_faults.specs.Numbered.{unit_total}
 use Rattle.statement_faults.specs.TreeOf.{numbers}
 use Rattle.statement_faults.proofs.Differ.{same_is, same_itself}

@@ -17,7 +17,8 @@ use Rattle.fault_words.specs.declared.kind.GateKind.{GateKind}
 use Rattle.fault_words.specs.declared.kind.GateKind.TheVariants.{And, Or, Votes, Pand, Por, Seq, Fdep, Csp, Wsp, Hsp}
 use Rattle.fault_words.specs.Name.{is_bare_name, is_name}
 use Rattle.fault_definitions.proofs.RankLaws.{below_are_nodes, below_ranks, gate_sound, inputs_are_nodes}
-use Rattle.fault_definitions.specs.Tree.{FaultTree, IsNodeOf, attributes_of, gate_count, inputs_of, is_above_units, kind_of}
+use Rattle.fault_definitions.specs.Tree.{FaultTree, IsNodeOf, attributes_of, gate_count, inputs_of, is_above_units}
+use Rattle.fault_definitions.specs.Tree.{kind_of}
 use Rattle.fault_definitions.specs.Tree.{name_of, node_count, rank_of, unit_count}
 use Rattle.fault_definitions.specs.Tree as trees
 use Rattle.fault_definitions.specs.Trigger.{below}

@@ -16,7 +16,8 @@ use Rattle.unit_sets.proofs.Sorted.{Contains-nil, Contains-cons_cases, Contains-
 use Rattle.unit_sets.specs.UnitList.{among, with_unit, without_unit, IsRising}
 use Rattle.unit_sets.proofs.UnitListLemmas.{same_set, Contains-from_among}
 use Rattle.fault_definitions.specs.Cut.{IsMinimalCut, IsCutList}
-use Rattle.fault_definitions.proofs.MinimalCuts.{passing, passing-none, passing-more, passing_rises, passing_to, passing_from}
+use Rattle.fault_definitions.proofs.MinimalCuts.{passing, passing-none, passing-more, passing_rises, passing_to}
+use Rattle.fault_definitions.proofs.MinimalCuts.{passing_from}
 use Rattle.fault_definitions.proofs.MinimalCuts.{units_of_all}
 use Rattle.fault_definitions.specs.Reading.{reads}
 use Rattle.fault_definitions.specs.Tree.{FaultTree, IsUnitOf, unit_count}

@@ -10,7 +10,8 @@ use Rattle.std.proofs.lemmas.Slice.Zip.{length-zip, get_or-zip}
 use Rattle.unit_sets.specs.UnitList.{among}
 use Rattle.fault_words.specs.declared.kind.GateKind.{GateKind}
 use Rattle.fault_words.specs.declared.kind.GateKind.TheVariants.{And, Or, Votes, Pand, Por, Seq, Fdep, Csp, Wsp, Hsp}
-use Rattle.fault_definitions.specs.Tree.{FaultTree, IsNodeOf, IsGateOf, gates, kind_of, inputs_of, is_above_units, rank_of}
+use Rattle.fault_definitions.specs.Tree.{FaultTree, IsNodeOf, IsGateOf, gates, kind_of, inputs_of, is_above_units}
+use Rattle.fault_definitions.specs.Tree.{rank_of}
 use Rattle.fault_definitions.specs.Tree.{unit_count, gate_count}
 use Rattle.fault_definitions.specs.Trigger.{below, trigger_by, triggers_of}
 use Rattle.fault_definitions.specs.Rank.{rank_over, within, by_rank}

@@ -16,7 +16,8 @@ use Rattle.fault_definitions.proofs.RankLaws.{AgreesBelow, by_rank-node}
 use Rattle.fault_definitions.specs.WellFormed.{IsTree}
 use Rattle.fault_definitions.specs.Reading.{true_count, gate_reads, node_reads, reads}
 use Rattle.fault_definitions.proofs.ReadingLaws.{true_count-agree, list_all-agree}
-use Rattle.fault_definitions.specs.Step.{Step, never, no_later, earlier, later, earliest, latest, last_step, never_falls}
+use Rattle.fault_definitions.specs.Step.{Step, never, no_later, earlier, later, earliest, latest, last_step}
+use Rattle.fault_definitions.specs.Step.{never_falls}
 use Rattle.fault_definitions.specs.Step.{failed_by, kth_step, gate_step, place_from, place, node_step, step}
 
 -- ---- a node by what it reads

@@ -8,7 +8,8 @@ use Rattle.fault_words.specs.declared.attribute.Attribute.{Attribute}
 use Rattle.fault_words.specs.declared.kind.GateKind.{GateKind}
 use Rattle.fault_words.specs.declared.kind.GateKind.TheVariants.{And, Or, Votes, Pand, Por, Seq, Fdep, Csp, Wsp, Hsp}
 use Rattle.fault_words.specs.Name.{is_bare_name}
-use Rattle.fault_definitions.specs.Tree.{FaultTree, unit_count, gate_count, node_count, gates, is_fdep, IsNodeOf, IsUnitOf}
+use Rattle.fault_definitions.specs.Tree.{FaultTree, unit_count, gate_count, node_count, gates, is_fdep, IsNodeOf}
+use Rattle.fault_definitions.specs.Tree.{IsUnitOf}
 use Rattle.fault_definitions.specs.Rank.{IsRanked}
 
 -- ---- gates

@@ -9,7 +9,8 @@ use Rattle.fault_words.specs.declared.kind.GateKind.TheVariants.{And, Or, Votes,
 use Rattle.fault_definitions.specs.Tree.{FaultTree}
 use Rattle.fault_definitions.specs.Reading.{true_count}
 use Rattle.fault_definitions.specs.WellFormed.{IsSoundKind, IsSoundVote}
-use Rattle.fault_definitions.specs.Step.{Step, never, no_later, earlier, later, earliest, latest, last_step, never_falls}
+use Rattle.fault_definitions.specs.Step.{Step, never, no_later, earlier, later, earliest, latest, last_step}
+use Rattle.fault_definitions.specs.Step.{never_falls}
 use Rattle.fault_definitions.specs.Step.{failed_by, kth_step, first_step}
 use Rattle.replay_semantics.specs.Failing.{AsksSome, falls_not_after}
 

@@ -16,7 +16,8 @@ use Rattle.galileo_tree.specs.declared.raw.Statement.{Statement}
 use Rattle.statement_faults.specs.declared.numbered.Numbered.{Numbered}
 use Rattle.statement_faults.specs.declared.numbered.NumberedGate.{NumberedGate}
 use Rattle.statement_faults.specs.Said.{basics}
-use Rattle.statement_faults.specs.Numbered.{kinds, kept_inputs, kept_by, drops_fdeps, is_fdep_in, numbered_gates, unit_total}
+use Rattle.statement_faults.specs.Numbered.{kinds, kept_inputs, kept_by, drops_fdeps, is_fdep_in, numbered_gates}
+use Rattle.statement_faults.specs.Numbered.{unit_total}
 use Rattle.statement_faults.specs.TreeOf.{numbers, input_lists, tree_of, LeadsTo}
 use Rattle.statement_faults.specs.TreeOf.LeadsTo.{edge, way}
 use Rattle.statement_faults.specs.Triggers.{row_at, written_gate, IsGraphOf}

@@ -12,7 +12,8 @@ use Rattle.statement_faults.proofs.NonePass.{both_none}
 use Rattle.statement_faults.specs.declared.numbered.Numbered.{Numbered}
 use Rattle.statement_faults.specs.declared.numbered.NumberedGate.{NumberedGate}
 use Rattle.statement_faults.specs.Numbered.{is_spare_kind, is_fdep_in, kept_by, drops_fdeps}
-use Rattle.statement_faults.specs.Classes.{SpareUse, later_uses, uses_of, spare_uses_in, spare_uses, clash, shared_after}
+use Rattle.statement_faults.specs.Classes.{SpareUse, later_uses, uses_of, spare_uses_in, spare_uses, clash}
+use Rattle.statement_faults.specs.Classes.{shared_after}
 use Rattle.statement_faults.specs.Classes.{shared_spares}
 use Rattle.statement_faults.specs.TreeOf.{numbers}
 use Rattle.statement_faults.proofs.Edges.{kept_gates}

@@ -29,7 +29,8 @@ use Rattle.statement_faults.proofs.Differ.{same_itself, same_other_way, has-name
 use Rattle.statement_faults.proofs.Numbers.{number_some, number_none, number_within}
 use Rattle.statement_faults.proofs.SameEdges.{same_edges, to_graph, from_graph}
 use Rattle.statement_faults.proofs.Members.{Each, successor_is}
-use Rattle.statement_faults.proofs.Cyclic.{numbers_of, FirstMarked, first_marked, none_marked, defined_at, same_rank_over}
+use Rattle.statement_faults.proofs.Cyclic.{numbers_of, FirstMarked, first_marked, none_marked, defined_at}
+use Rattle.statement_faults.proofs.Cyclic.{same_rank_over}
 
 -- a number of a name of these
 abbrev pub IsNumber : ℕ → ℕ → Type 0

@@ -1,17 +1,24 @@
--- The classes of faults in groups, in their order, each with its places.
-use Rattle.std.specs.Prelude.{ℕ, List, [], ◌∷◌}
+-- The classes of faults in groups, in their order, each with its places, and what a search through them answers.
+use Rattle.std.specs.Prelude.{◌≡◌, ◌⊎◌, ℕ, List, [], ◌∷◌, Option, Some}
 use Rattle.fault_words.specs.declared.place.Place.{Place}
 use Rattle.galileo_tree.specs.declared.raw.Statement.{Statement}
 use Rattle.statement_faults.specs.Said.{basics}
+use Rattle.statement_faults.specs.Found.{IsFoundAs}
 use Rattle.statement_faults.specs.Classes.{missing_tops, further_tops, wrong_votes, dummies, inputless, short_fdeps}
-use Rattle.statement_faults.specs.Classes.{dependent_gates, spare_gates, shared_spares, replicated, fdep_tops, units_beyond}
+use Rattle.statement_faults.specs.Classes.{dependent_gates, spare_gates, shared_spares, replicated, fdep_tops}
+use Rattle.statement_faults.specs.Classes.{units_beyond}
 use Rattle.statement_faults.specs.Classes.{gates_beyond}
 use Rattle.statement_faults.specs.declared.numbered.Numbered.{Numbered}
 use Rattle.statement_faults.specs.declared.numbered.NumberedGate.{NumberedGate}
+use Rattle.statement_faults.specs.declared.fault.CheckFault.{CheckFault}
+use Rattle.statement_faults.specs.declared.fault.CheckFault.TheVariants.{Fault, NoMemory}
 use Rattle.statement_faults.specs.declared.fault.CheckCode.{CheckCode}
-use Rattle.statement_faults.specs.declared.fault.CheckCode.TheVariants.{NoToplevel, TwoToplevels, Votes, DummyInput, NoInputs}
-use Rattle.statement_faults.specs.declared.fault.CheckCode.TheVariants.{FdepShape, DependentGate, SpareNotBasic, SharedSpare}
-use Rattle.statement_faults.specs.declared.fault.CheckCode.TheVariants.{Replicated, TopIsFdep, TooManyUnits, TooManyGates}
+use Rattle.statement_faults.specs.declared.fault.CheckCode.TheVariants.{NoToplevel, TwoToplevels, Votes, DummyInput}
+use Rattle.statement_faults.specs.declared.fault.CheckCode.TheVariants.{NoInputs}
+use Rattle.statement_faults.specs.declared.fault.CheckCode.TheVariants.{FdepShape, DependentGate, SpareNotBasic}
+use Rattle.statement_faults.specs.declared.fault.CheckCode.TheVariants.{SharedSpare}
+use Rattle.statement_faults.specs.declared.fault.CheckCode.TheVariants.{Replicated, TopIsFdep, TooManyUnits}
+use Rattle.statement_faults.specs.declared.fault.CheckCode.TheVariants.{TooManyGates}
 
 abbrev pub top_classes : List Statement → Place → List (CheckCode × List Place)
 top_classes text end = (NoToplevel, missing_tops text end) ∷ (TwoToplevels, further_tops text) ∷ []
@@ -32,6 +39,8 @@ rest_classes units gates tops text =
 
 abbrev pub limit_classes : List NumberedGate → List Statement → List (CheckCode × List Place)
 limit_classes gates text = (TooManyUnits, units_beyond (basics text)) ∷ (TooManyGates, gates_beyond gates) ∷ []
+
+-- ---- classes one after another
 
 -- none of these classes has a place
 abbrev pub NoneIn : List (CheckCode × List Place) → Type 0

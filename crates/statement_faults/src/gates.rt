@@ -3,7 +3,8 @@ ghost use Rattle.std.specs.Prelude.{◌≡◌, true, drop};
 ghost use Rattle.fault_definitions.specs.Tree.{is_fdep_kind};
 ghost use Rattle.statement_faults.specs.Numbered.{is_fdep_in, is_gate, is_spare_kind, drops_fdeps, kept_by, kinds};
 ghost use Rattle.statement_faults.specs.Classes.{first, is_empty, is_short_fdep, wrong_vote, wrong_votes, short_fdeps};
-ghost use Rattle.statement_faults.specs.Classes.{gates_beyond, places_where, dummies, dummies_in, reads_nothing, inputless};
+ghost use Rattle.statement_faults.specs.Classes.{gates_beyond, places_where, dummies, dummies_in, reads_nothing};
+ghost use Rattle.statement_faults.specs.Classes.{inputless};
 ghost use Rattle.statement_faults.specs.Classes.{gates_after_first, dependent_gates, spare_gates, fdep_tops};
 
 use crate::numbered::{Numbered, NumberedGate};

@@ -1,7 +1,8 @@
 //! Spares that serve two gates, or one gate twice.
 ghost use Rattle.std.specs.Prelude.{◌≡◌, ◌+◌, ◌<◌, length, replicate, All, IfOk};
 ghost use Rattle.statement_faults.specs.Classes.{first, later_uses, uses_of, spare_uses_in, shared_spares};
-ghost use Rattle.statement_faults.specs.SpareTable.{AreWithin, noted, clashes_with, earlier_uses, table_with, table_after};
+ghost use Rattle.statement_faults.specs.SpareTable.{AreWithin, noted, clashes_with, earlier_uses, table_with};
+ghost use Rattle.statement_faults.specs.SpareTable.{table_after};
 ghost use Rattle.statement_faults.specs.SpareTable.{clashes_by};
 
 use crate::gates::is_spare_kind;

@@ -1,7 +1,8 @@
 //! Faults that show at the statements, before names have numbers.
 ghost use Rattle.std.specs.Prelude.{◌≡◌, drop, filter, map, not};
 ghost use Rattle.statement_faults.specs.Said.{basic_in, basics, top_in, tops};
-ghost use Rattle.statement_faults.specs.Classes.{first, is_empty, is_replicated, missing_tops, further_tops, replicated};
+ghost use Rattle.statement_faults.specs.Classes.{first, is_empty, is_replicated, missing_tops, further_tops};
+ghost use Rattle.statement_faults.specs.Classes.{replicated};
 ghost use Rattle.statement_faults.specs.Classes.{units_beyond};
 
 use fault_words::Place;

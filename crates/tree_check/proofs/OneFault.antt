@@ -12,9 +12,12 @@ use Rattle.statement_faults.specs.Classes.{first}
 use Rattle.statement_faults.specs.TreeOf.{FirstOnCycle, HasNoCycle}
 use Rattle.tree_check.specs.Checked.{IsFaultless, IsFirstFault, NoneOf, places, before_cycles, after_cycles}
 use Rattle.statement_faults.specs.declared.fault.CheckCode.{CheckCode}
-use Rattle.statement_faults.specs.declared.fault.CheckCode.TheVariants.{NoToplevel, TwoToplevels, DuplicateName, Undefined}
-use Rattle.statement_faults.specs.declared.fault.CheckCode.TheVariants.{Votes, DummyInput, NoInputs, FdepShape, DependentGate}
-use Rattle.statement_faults.specs.declared.fault.CheckCode.TheVariants.{SpareNotBasic, SharedSpare, Replicated, TopIsFdep}
+use Rattle.statement_faults.specs.declared.fault.CheckCode.TheVariants.{NoToplevel, TwoToplevels, DuplicateName}
+use Rattle.statement_faults.specs.declared.fault.CheckCode.TheVariants.{Undefined}
+use Rattle.statement_faults.specs.declared.fault.CheckCode.TheVariants.{Votes, DummyInput, NoInputs, FdepShape}
+use Rattle.statement_faults.specs.declared.fault.CheckCode.TheVariants.{DependentGate}
+use Rattle.statement_faults.specs.declared.fault.CheckCode.TheVariants.{SpareNotBasic, SharedSpare, Replicated}
+use Rattle.statement_faults.specs.declared.fault.CheckCode.TheVariants.{TopIsFdep}
 use Rattle.statement_faults.specs.declared.fault.CheckCode.TheVariants.{Cycle, TooManyUnits, TooManyGates}
 
 -- a class and its first place, or what the classes behind it give where it has none

@@ -5,9 +5,12 @@ use Rattle.fault_words.specs.declared.place.Place.{Place}
 use Rattle.galileo_tree.specs.declared.raw.Statement.{Statement}
 use Rattle.galileo_tree.specs.ReadTree.{ReadTree}
 use Rattle.statement_faults.specs.declared.fault.CheckCode.{CheckCode}
-use Rattle.statement_faults.specs.declared.fault.CheckCode.TheVariants.{NoToplevel, TwoToplevels, DuplicateName, Undefined}
-use Rattle.statement_faults.specs.declared.fault.CheckCode.TheVariants.{Votes, DummyInput, NoInputs, FdepShape, DependentGate}
-use Rattle.statement_faults.specs.declared.fault.CheckCode.TheVariants.{SpareNotBasic, SharedSpare, Replicated, TopIsFdep}
+use Rattle.statement_faults.specs.declared.fault.CheckCode.TheVariants.{NoToplevel, TwoToplevels, DuplicateName}
+use Rattle.statement_faults.specs.declared.fault.CheckCode.TheVariants.{Undefined}
+use Rattle.statement_faults.specs.declared.fault.CheckCode.TheVariants.{Votes, DummyInput, NoInputs, FdepShape}
+use Rattle.statement_faults.specs.declared.fault.CheckCode.TheVariants.{DependentGate}
+use Rattle.statement_faults.specs.declared.fault.CheckCode.TheVariants.{SpareNotBasic, SharedSpare, Replicated}
+use Rattle.statement_faults.specs.declared.fault.CheckCode.TheVariants.{TopIsFdep}
 use Rattle.statement_faults.specs.declared.fault.CheckCode.TheVariants.{TooManyUnits, TooManyGates}
 use Rattle.statement_faults.specs.declared.fault.CheckFault.{CheckFault}
 use Rattle.statement_faults.specs.declared.fault.CheckFault.TheVariants.{Fault, NoMemory}

@@ -17,9 +17,12 @@ use Rattle.fault_definitions.specs.WellFormed.{IsTree}
 use Rattle.graph_cycles.proofs.Surveys.{survey_exists}
 use Rattle.galileo_tree.specs.ReadTree.{ReadTree, KeepsForm}
 use Rattle.statement_faults.specs.declared.fault.CheckCode.{CheckCode}
-use Rattle.statement_faults.specs.declared.fault.CheckCode.TheVariants.{NoToplevel, TwoToplevels, DuplicateName, Undefined}
-use Rattle.statement_faults.specs.declared.fault.CheckCode.TheVariants.{Votes as WrongVotes, DummyInput, NoInputs, FdepShape}
-use Rattle.statement_faults.specs.declared.fault.CheckCode.TheVariants.{DependentGate, SpareNotBasic, SharedSpare, Replicated}
+use Rattle.statement_faults.specs.declared.fault.CheckCode.TheVariants.{NoToplevel, TwoToplevels, DuplicateName}
+use Rattle.statement_faults.specs.declared.fault.CheckCode.TheVariants.{Undefined}
+use Rattle.statement_faults.specs.declared.fault.CheckCode.TheVariants.{Votes as WrongVotes, DummyInput, NoInputs}
+use Rattle.statement_faults.specs.declared.fault.CheckCode.TheVariants.{FdepShape}
+use Rattle.statement_faults.specs.declared.fault.CheckCode.TheVariants.{DependentGate, SpareNotBasic, SharedSpare}
+use Rattle.statement_faults.specs.declared.fault.CheckCode.TheVariants.{Replicated}
 use Rattle.statement_faults.specs.declared.fault.CheckCode.TheVariants.{TopIsFdep, Cycle, TooManyUnits, TooManyGates}
 use Rattle.statement_faults.specs.declared.numbered.Numbered.{Numbered}
 use Rattle.statement_faults.specs.declared.numbered.NumberedGate.{NumberedGate}

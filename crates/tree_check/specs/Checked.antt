@@ -10,9 +10,12 @@ use Rattle.statement_faults.specs.Numbered.{numbered_gates, numbered_tops, unit_
 use Rattle.statement_faults.specs.Classes as classes
 use Rattle.statement_faults.specs.TreeOf.{FirstOnCycle, HasNoCycle, tree_of}
 use Rattle.statement_faults.specs.declared.fault.CheckCode.{CheckCode}
-use Rattle.statement_faults.specs.declared.fault.CheckCode.TheVariants.{NoToplevel, TwoToplevels, DuplicateName, Undefined}
-use Rattle.statement_faults.specs.declared.fault.CheckCode.TheVariants.{Votes, DummyInput, NoInputs, FdepShape, DependentGate}
-use Rattle.statement_faults.specs.declared.fault.CheckCode.TheVariants.{SpareNotBasic, SharedSpare, Replicated, TopIsFdep}
+use Rattle.statement_faults.specs.declared.fault.CheckCode.TheVariants.{NoToplevel, TwoToplevels, DuplicateName}
+use Rattle.statement_faults.specs.declared.fault.CheckCode.TheVariants.{Undefined}
+use Rattle.statement_faults.specs.declared.fault.CheckCode.TheVariants.{Votes, DummyInput, NoInputs, FdepShape}
+use Rattle.statement_faults.specs.declared.fault.CheckCode.TheVariants.{DependentGate}
+use Rattle.statement_faults.specs.declared.fault.CheckCode.TheVariants.{SpareNotBasic, SharedSpare, Replicated}
+use Rattle.statement_faults.specs.declared.fault.CheckCode.TheVariants.{TopIsFdep}
 use Rattle.statement_faults.specs.declared.fault.CheckCode.TheVariants.{Cycle, TooManyUnits, TooManyGates}
 use Rattle.statement_faults.specs.declared.fault.CheckFault.{CheckFault}
 use Rattle.statement_faults.specs.declared.fault.CheckFault.TheVariants.{Fault, NoMemory}
@@ -87,8 +90,6 @@ IsFirstFault read TooManyGates place = FirstAfter read (TooManyUnits ∷ []) Too
 abbrev pub IsRefusal : ReadTree → CheckFault → Type 0
 IsRefusal read (Fault code place) = IsFirstFault read code place
 IsRefusal read NoMemory = Unit {0}
-
--- ---- classes one after another
 
 -- ---- what checking gives
 

@@ -19,7 +19,8 @@ use Rattle.galileo_tree.specs.declared.raw.RawBasic.{RawBasic}
 use Rattle.galileo_tree.specs.declared.raw.Statement.{Statement}
 use Rattle.tree_check.specs.Checked.{IsFaultless}
 use Rattle.statement_faults.specs.Classes.{dependent_gates, dummies, fdep_tops, inputless, is_replicated, repeats}
-use Rattle.statement_faults.specs.Classes.{repeats_after, replicated, shared_spares, short_fdeps, spare_gates, undefined}
+use Rattle.statement_faults.specs.Classes.{repeats_after, replicated, shared_spares, short_fdeps, spare_gates}
+use Rattle.statement_faults.specs.Classes.{undefined}
 use Rattle.statement_faults.specs.Classes.{wrong_votes}
 use Rattle.statement_faults.specs.Numbered.{is_fdep_in, kinds, numbered, numbered_gate, numbered_gates, numbered_tops}
 use Rattle.statement_faults.specs.Numbered.{unit_total}

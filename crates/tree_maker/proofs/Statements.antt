@@ -12,7 +12,8 @@ use Rattle.galileo_tree.specs.declared.raw.Placed.{Placed}
 use Rattle.galileo_tree.specs.declared.raw.RawBasic.{RawBasic}
 use Rattle.galileo_tree.specs.declared.raw.RawGate.{RawGate}
 use Rattle.galileo_tree.specs.declared.raw.Statement.{Statement}
-use Rattle.statement_faults.specs.Said.{basics, basic_in, definition_in, definitions, gate_in, gates, names, top_in, tops}
+use Rattle.statement_faults.specs.Said.{basics, basic_in, definition_in, definitions, gate_in, gates, names, top_in}
+use Rattle.statement_faults.specs.Said.{tops}
 use Rattle.statement_faults.specs.Said.{uses, uses_in}
 use Rattle.deck_reading.specs.Written.{WrittenStatement, Bare, Top, Gate}
 use Rattle.deck_reading.specs.Unplaced.{nowhere, said}
