@@ -2,8 +2,8 @@
 //!
 //! The definitions in `specs/` are what every answer above is stated in: the tree, its triggers and ranks, the static
 //! reading, cuts and the cut list, steps and failing orders. They know no diagram, no cache and no counter. The crate
-//! stands on `fault_words` for names and kinds, on `unit_sets` for what a set of units has, and on `flat_rows` for lists
-//! that grow.
+//! stands on `fault_words` for names and kinds, on `unit_sets` for what a set of units has, and on `flat_rows` for
+//! lists that grow.
 //!
 //! A layer above gets the parts that a tree is made of, and the laws of the definitions, as functions with one clause
 //! each in `laws`.

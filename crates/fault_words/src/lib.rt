@@ -1,5 +1,5 @@
-//! The words of a fault tree: the names of its nodes, the kinds of its gates, the attributes of its units, and places in
-//! its text.
+//! The words of a fault tree: the names of its nodes, the kinds of its gates, the attributes of its units, and places
+//! in its text.
 //!
 //! It stands on the library alone, so that what reads a text need not wait for what says when a tree fails. A layer
 //! above gets names that keep their form, each seen as the list of its bytes, with the exact form of a name and of a

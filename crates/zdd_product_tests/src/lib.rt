@@ -1,5 +1,5 @@
-//! Tests of `kept_answers` and `zdd_product`: what is kept, what each operation makes of small families, full stores, and
-//! seats split off and joined.
+//! Tests of `kept_answers` and `zdd_product`: what is kept, what each operation makes of small families, full stores,
+//! and seats split off and joined.
 #![tactic(auto)]
 
 #[cfg(test)]
