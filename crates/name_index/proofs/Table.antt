@@ -1,10 +1,9 @@
 -- Names that all differ: each goes into the table once, and is found at its own place.
-use Rattle.std.proofs.Common.{◌≡◌, ◌≢◌, ℕ, zero, suc, ◌+◌, ◌-◌, ◌<◌, ◌≤◌, false, List, [], ◌∷◌, ◌++◌, length, get_or}
+use Rattle.std.proofs.Common.{◌≡◌, ◌≢◌, ℕ, suc, ◌+◌, ◌-◌, ◌<◌, false, List, [], ◌∷◌, ◌++◌, length, get_or}
 use Rattle.std.proofs.Common.{All, AllPairs, refl, sym, ◌∙◌, ap, subst, arith, append_assoc, length-append}
-use Rattle.std.specs.Prelude.{if◌then◌else◌, nat_eq, position, Option, Some, None, IfSome, IsNone, IsSome, ◌↔◌}
-use Rattle.std.proofs.lemmas.List.Quantifiers.{position-Some}
+use Rattle.std.specs.Prelude.{if◌then◌else◌, nat_eq}
 use Rattle.std.specs.List.{list_any}
-use Rattle.std.proofs.lemmas.Bool.{or_from, or_parts, false_from_ne_true, cond-false}
+use Rattle.std.proofs.lemmas.Bool.{or_from, false_from_ne_true, cond-false}
 use Rattle.std.proofs.lemmas.List.{get_or_append_left}
 use Rattle.std.proofs.lemmas.List.Elements.{All-head, All-tail}
 use lib.Pointwise.{pointwise, bytes_decides}
@@ -47,4 +46,3 @@ insert_next names keys rest keys' rest' name differ before next inserted =
     let pushed : keys' ≡ keys ++ name ∷ [] =
     inserted ∙ cond-false (list_any (pointwise nat_eq name) keys) keys (keys ++ name ∷ []) fresh in
     ap (λ k. k ++ rest') pushed ∙ append_assoc keys (name ∷ []) rest' ∙ whole
-

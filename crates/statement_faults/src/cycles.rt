@@ -14,13 +14,13 @@ ghost use Rattle.statement_faults.specs.Triggers.{Notes, AddsTriggers, HasTrigge
 ghost use Rattle.statement_faults.specs.Triggers.{dependents_of, written_gate};
 
 use crate::gates::{drops_fdeps, is_fdep};
-use name_index::NameIndex;
 use crate::numbered::{Numbered, NumberedGate, NumberedText};
 use crate::{CheckCode, CheckFault};
 use fault_words::{GateKind, Place};
 use flat_rows::{GrowingList, Rows};
 use galileo_tree::{Placed, Statement};
 use graph_cycles::find_cycles;
+use name_index::NameIndex;
 use std::alloc::{AllocError, Global};
 
 /// Numbers of nodes.

@@ -7,10 +7,10 @@ ghost use Rattle.fault_words.specs.Names.{all_differ};
 ghost use Rattle.statement_faults.specs.Naming.{Adds, name_list};
 ghost use Rattle.statement_faults.specs.Found.{IsFoundAs};
 
-use name_index::NameIndex;
 use crate::{CheckCode, CheckFault};
 use fault_words::{Name, Place};
 use galileo_tree::Statement;
+use name_index::NameIndex;
 use std::alloc::{AllocError, Global};
 
 fn basic_name(statement: &Statement) -> Option<&Name>
@@ -109,10 +109,7 @@ fn index_of<'a>(
 }
 
 /// The index of the names, each of which is defined once.
-pub fn name_all<'a>(
-    alloc: Global,
-    statements: &'a [Statement],
-) -> Result<NameIndex<'a>, CheckFault>
+pub fn name_all<'a>(alloc: Global, statements: &'a [Statement]) -> Result<NameIndex<'a>, CheckFault>
     ensures names { IfOk result (λ index. index ≡ names statements.now) }
     ensures once { OnOk result (repeats statements.now ≡ []) }
     ensures differ { OnOk result (all_differ (names statements.now) ≡ true) }

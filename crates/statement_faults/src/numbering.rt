@@ -6,10 +6,10 @@ ghost use Rattle.statement_faults.specs.Classes.{undefined};
 ghost use Rattle.statement_faults.specs.Found.{IsFoundAs};
 ghost use Rattle.statement_faults.specs.Numbering.{IsDeckOf, AddsStatement};
 
-use name_index::NameIndex;
 use crate::numbered::{InputRow, Numbered, NumberedGate, NumberedText};
 use crate::{CheckCode, CheckFault};
 use galileo_tree::{Placed, RawGate, Statement};
+use name_index::NameIndex;
 use std::alloc::Global;
 
 /// The number of a name that is used.

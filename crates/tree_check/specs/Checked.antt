@@ -1,8 +1,7 @@
 -- Whether statements stand for a tree, or which fault is the first. The classes are tried in one order, and of the
 -- first class that occurs the first place in the text is answered.
-use Rattle.std.specs.Prelude.{◌≡◌, ◌⊎◌, List, [], ◌∷◌, take, Option, Some}
+use Rattle.std.specs.Prelude.{◌≡◌, List, [], ◌∷◌, take, Some}
 use Rattle.fault_definitions.specs.Tree.{FaultTree}
-use Rattle.statement_faults.specs.Found.{IsFoundAs}
 use Rattle.fault_words.specs.declared.place.Place.{Place}
 use Rattle.galileo_tree.specs.ReadTree.{ReadTree}
 use Rattle.statement_faults.specs.Said.{basics, names, uses}
