@@ -1,10 +1,10 @@
 -- What the board at the end of a history has, and what a log can show of it.
 use Rattle.std.specs.Prelude.{◌≡◌, ℕ, zero, suc, ◌+◌, ◌<◌, ◌≤◌, Bool, true, false, if◌then◌else◌, List, [], ◌∷◌, ◌++◌}
-use Rattle.std.specs.Prelude.{length, map, drop, get_or, All, Option, Some, None, is_some, cond}
+use Rattle.std.specs.Prelude.{length, drop, get_or, All, Option, Some, None, is_some, cond}
 use Rattle.std.specs.List.{flat_map}
 use Rattle.std.proofs.Common.{refl, sym, ap, ◌∙◌, subst, arith, inl, inr, append-nil, append_assoc, add-one}
 use Rattle.std.proofs.lemmas.Bool.{cases_lt}
-use Rattle.std.proofs.lemmas.List.{length-map, drop_more, drop_all}
+use Rattle.std.proofs.lemmas.List.{drop_more, drop_all}
 use Rattle.std.proofs.lemmas.List.Concat.{flat_map-append}
 use Rattle.edge_io.specs.Out.{Output, Puts, has_failed}
 use Rattle.edge_io.proofs.OutLemmas.{Puts-none, Puts-trans}
@@ -15,26 +15,18 @@ use Rattle.unit_sets.specs.declared.request.CrewNo.{CrewNo}
 use Rattle.residual_ledger.proofs.Passing.{passing-more, passing-none, length-passing-more}
 use Rattle.residual_ledger.specs.Residual.{residual, cut_at}
 use Rattle.fault_definitions.specs.Tree.{FaultTree, unit_count}
-use Rattle.crew_script.specs.Dockets.{crew_at}
 use Rattle.crew_script.specs.declared.dockets.Crew.{Crew}
 use Rattle.margin_policy.specs.Held.{Held, holder_of, units_out}
 use Rattle.margin_policy.proofs.HeldLaws.{is_held, among-units_out}
 use Rattle.margin_policy.specs.Standing.{StandingView}
 use Rattle.outage_board.specs.declared.entry.Entry.{Entry}
-use Rattle.outage_board.specs.Requests.{requests_of}
-use Rattle.outage_board.specs.Histories.{standing_after, after_entry, docket_of}
+use Rattle.outage_board.specs.Histories.{standing_after, after_entry}
 use Rattle.outage_board.specs.Boards.{BoardView, standing_of}
 use Rattle.board_texts.specs.BoardText.{IsDeckOf, left_line, left_lines}
 use Rattle.board_texts.specs.LogText.{entry_line, entry_lines}
 use Rattle.text_pieces.proofs.Putting.{first_short}
 
 -- ---- the entries of a board
-
-docket_long : (tree : FaultTree) (crews : List Crew) (crew : ℕ)
-    → length (docket_of (map (requests_of tree) crews) crew) ≡ length (crew_at crews crew).docket
-docket_long tree [] crew = refl
-docket_long tree (first ∷ crews) zero = length-map first.docket _
-docket_long tree (first ∷ crews) (suc crew) = docket_long tree crews crew
 
 units_after : (standing : StandingView) (history : List Entry)
     → (standing_after standing history).units ≡ standing.units

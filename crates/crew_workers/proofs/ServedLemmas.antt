@@ -2,9 +2,8 @@
 use Rattle.std.proofs.Common.{◌≡◌, ℕ, ◌+◌, ◌<◌, List, [], ◌∷◌, ◌++◌, length, refl, sym, ◌∙◌, ap, subst, arith, inl, inr}
 use Rattle.std.proofs.Common.{⊎_elim, Contains, length-append}
 use Rattle.std.specs.Prelude.{Option, Some, None, is_some, IsNone, IfSome, IfNone, MatchBool, ◌↔◌, slice_get}
-use Rattle.std.specs.List.{All}
 use Rattle.std.proofs.lemmas.List.{length-map}
-use Rattle.std.proofs.lemmas.List.Elements.{All-nil, All-head, All-tail, All-cons, Contains-push_cases}
+use Rattle.std.proofs.lemmas.List.Elements.{All-head, All-tail, Contains-push_cases}
 use Rattle.std.proofs.lemmas.List.Elements.{Contains-append_cases}
 use Rattle.std.proofs.lemmas.Option.{slice_get_cases}
 use Rattle.unit_sets.proofs.Sorted.{Contains-nil}
@@ -57,12 +56,6 @@ pub same_length : (first second : List Pass) → crews_of first ≡ crews_of sec
 same_length first second same =
     sym (length-map first (λ (pass : Pass). pass.crew.0)) ∙ ap length same
     ∙ length-map second (λ (pass : Pass). pass.crew.0)
-
-last_all : (P : Pass → Type 0) (passes : List Pass) (pass : Pass) → All P (passes ++ pass ∷ []) → All P passes × P pass
-last_all P [] pass all = (All-nil P, All-head P pass [] all)
-last_all P (first ∷ passes) pass all =
-    let later = last_all P passes pass (All-tail P first (passes ++ pass ∷ []) all) in
-    (All-cons P first passes (All-head P first (passes ++ pass ∷ []) all) later.0, later.1)
 
 -- ---- the history
 

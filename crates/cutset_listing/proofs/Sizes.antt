@@ -380,9 +380,3 @@ next-ordered before sets cuts i set short same is ordered =
     subst (λ q. IsInCutOrder (q ++ set ∷ [])) (sym is)
     (sorted-front cut_cmp ((before ++ take i sets) ++ set ∷ []) (drop (i + 1) sets)
     (subst IsInCutOrder (next_front before sets i set short same) ordered))
-
-pub set-at : (P : List ℕ → Type 0) (sets : List (List ℕ)) (i : ℕ) → i < length sets → AllByRecursion P sets
-    → P (slice_index_or sets i [])
-set-at P [] i short all = absurd (omega arith)
-set-at P (set ∷ sets) zero short all = all.0
-set-at P (set ∷ sets) (suc i) short all = set-at P sets i (omega (arith, short)) all.1

@@ -68,11 +68,6 @@ take_right true false true r = refl
 take_right true false false r = refl
 take_right false y a r = refl
 
-take_both : (o y a r : Bool) → ((o && (y && true)) && (a && r)) ≡ (o && ((y && a) && (y && r)))
-take_both true true a r = refl
-take_both true false a r = refl
-take_both false y a r = refl
-
 less : (x y : ℕ) → x < y → nat_cmp x y ≡ Less
 less x y h = grind (arith, nat_tests)
 
@@ -139,25 +134,6 @@ module _ (left right : List ℕ) (i j : ℕ) (out : List ℕ) (at_left : i < len
         right_rises = λ l r. front_rises out (drop (j + 1) right) y (rising_right l r);
       }
 
-  pub takes_both : get_or left i 0 ≡ get_or right j 0
-      → IsMerging left right (i + 1) (j + 1) (out ++ get_or right j 0 ∷ [])
-  takes_both same =
-      let y : ℕ = get_or right j 0 in
-      record {
-        within = λ within.
-            ap (λ b. b && (list_all within (drop (i + 1) left) && list_all within (drop (j + 1) right)))
-            (list_all-append within out (y ∷ []))
-            ∙ take_both (list_all within out) (within y) (list_all within (drop (i + 1) left))
-            (list_all within (drop (j + 1) right))
-            ∙ ap (λ x. list_all within out && ((within x && list_all within (drop (i + 1) left))
-            && (within y && list_all within (drop (j + 1) right)))) (sym same)
-            ∙ within_before within;
-        left_rises =
-            λ l r. front_rises out (drop (i + 1) left) y (subst (λ x. IsRising (out ++ x ∷ drop (i + 1) left)) same
-            (rising_left l r));
-        right_rises = λ l r. front_rises out (drop (j + 1) right) y (rising_right l r);
-      }
-
 -- ---- the same of items as they are read
 
 module _ (left right : List ℕ) (i j : ℕ) (out new : List ℕ) (x y : ℕ) (at_left : i < length left)
@@ -180,12 +156,6 @@ module _ (left right : List ℕ) (i j : ℕ) (out new : List ℕ) (x y : ℕ) (a
       subst (IsMerging left right i (j + 1)) (sym is)
       (subst (λ (v : ℕ). IsMerging left right i (j + 1) (out ++ v ∷ [])) (sym Y)
       (takes_right left right i j out at_left at_right before (let p = X in let q = Y in omega arith)))
-
-  pub both_next : new ≡ out ++ y ∷ [] → x ≡ y → IsMerging left right (i + 1) (j + 1) new
-  both_next is same =
-      subst (IsMerging left right (i + 1) (j + 1)) (sym is)
-      (subst (λ (v : ℕ). IsMerging left right (i + 1) (j + 1) (out ++ v ∷ [])) (sym Y)
-      (takes_both left right i j out at_left at_right before (let p = X in let q = Y in omega arith)))
 
 -- ---- the end
 

@@ -76,19 +76,6 @@ Keeps-more nodes i node end old now new short is keeps raises = record {
 
 module _ (tree : FaultTree) (order until : List ℕ) (place above node : ℕ) (above_is : above ≡ place + 1)
     (short : place < length order) (is : node ≡ get_or order place 0) (plan : IsPlanFrom tree order until above) where
-  pub IsPlanFrom-skips : until_of until node ≤ place → IsPlanFrom tree order until place
-  IsPlanFrom-skips low = record {
-    all = plan.all;
-    top = plan.top;
-    served = λ q from within needed.
-        elim (cases_lt place q) [
-          | inl later ↦ plan.served q (omega arith) within needed
-          | inr here ↦
-              let same : q ≡ place = omega arith in
-              let at : until_of until (get_or order q 0) ≤ place =
-              subst (λ (n : ℕ). until_of until n ≤ place) (is ∙ ap (λ k. get_or order k 0) (sym same)) low in
-              absurd (omega arith)
-        ];
   }
 
   pub IsPlanFrom-keeps : (new : List ℕ) → Keeps (below tree node) above until new → IsPlanFrom tree order new place

@@ -58,14 +58,6 @@ cut_lo x f lo hi set cut above h =
 same_rest : (x : ℕ) (a b : List ℕ) → x ∷ a ≡ x ∷ b → a ≡ b
 same_rest x a b h = cc
 
--- a set of the family that begins with x is x and one of hi
-pub cut_hi : (x : ℕ) (f lo hi : List (List ℕ)) (set : List ℕ) → Cuts x f lo hi → Contains f (x ∷ set) → Contains hi set
-cut_hi x f lo hi set cut h =
-    elim (cut_cases x f lo hi (x ∷ set) cut h) [
-      | inl of_lo ↦ not_with x (x ∷ set) set (set_above x lo (x ∷ set) cut.lo_above of_lo) refl
-      | inr with_x ↦ subst (Contains hi) (sym (same_rest x set with_x.0 with_x.1)) with_x.2
-    ]
-
 -- ---- a family that has no sets with x
 
 pub branch-none : (x : ℕ) (lo : List (List ℕ)) → branch x lo [] ≡ lo

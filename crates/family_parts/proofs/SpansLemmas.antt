@@ -15,7 +15,7 @@ use Rattle.zdd_families.specs.Family.{IsFamily, IsAbove, IsSetAbove, branch, eac
 use Rattle.zdd_families.proofs.FamilyLemmas.{IsFamily-nil}
 use Rattle.zdd_families.proofs.Lists.{each-weaker}
 use Rattle.family_operations.specs.Cuts.{Cuts}
-use Rattle.family_operations.proofs.CutsLemmas.{each-from_contains, set_above, cut_has_lo, cut_has_hi}
+use Rattle.family_operations.proofs.CutsLemmas.{cut_has_lo, cut_has_hi}
 use Rattle.family_operations.proofs.InclusionLemmas.{above_first}
 use Rattle.family_operations.proofs.SetsLemmas.{IsRising-rest}
 use Rattle.family_parts.specs.Spans.{Spans}
@@ -301,22 +301,6 @@ module _ (low size x : ℕ) (f lo hi : List (List ℕ)) (cut : Cuts x f lo hi) (
   families : IsFamily lo × IsFamily hi
   families = branch_families x lo hi (subst IsFamily cut.is spans.is_family)
 
-  pub Spans-cut_lo : Spans low size lo
-  Spans-cut_lo = record {
-    is_family = families.0;
-    above =
-        each-from_contains (IsSetAbove low) lo (λ set has.
-        set_above low f set spans.above (cut_has_lo x f lo hi set cut has));
-    below = λ set has. spans.below set (cut_has_lo x f lo hi set cut has);
   }
 
-  pub Spans-cut_hi : Spans low size hi
-  Spans-cut_hi = record {
-    is_family = families.1;
-    above =
-        each-from_contains (IsSetAbove low) hi (λ set has.
-        (set_above low f (x ∷ set) spans.above (cut_has_hi x f lo hi set cut has)).1);
-    below =
-        λ set has unit member. spans.below (x ∷ set) (cut_has_hi x f lo hi set cut has) unit
-        (or_right (x == unit) (among set unit) member);
   }

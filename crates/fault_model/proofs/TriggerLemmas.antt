@@ -45,13 +45,6 @@ set_cases P values unit other value d one reach one' here there =
 
 module _ (units mark trigger : ℕ) (old_lists : List (List ℕ)) (old_marks : List ℕ)
     (low : (unit : ℕ) → IsUnitBelow units unit → get_or old_marks (unit - 1) 0 < mark) where
-  pub noted_none : length old_lists ≡ units → length old_marks ≡ units
-      → HasNoted units mark trigger [] old_lists old_marks old_lists old_marks
-  noted_none lists marks = record {
-    lists_all = lists;
-    marks_all = marks;
-    lists_at = λ unit is_unit. sym (append-nil (get_or old_lists (unit - 1) []));
-    marks_at = λ unit is_unit. refl;
   }
 
   module _ (done : List ℕ) (lists : List (List ℕ)) (marks : List ℕ) (unit : ℕ) (is_unit : IsUnitBelow units unit)

@@ -7,11 +7,6 @@ use Rattle.std.proofs.lemmas.List.{take-append-le, drop-append-le, drop_at, take
 use Rattle.std.proofs.lemmas.List.Sums.{sum_by-cons}
 use Rattle.flat_rows.specs.Rows.{Rise, between, rows_from, start_of}
 
--- the last end, or the place where the rows begin
-abbrev pub last_end : ℕ → List ℕ → ℕ
-last_end from [] = from
-last_end from (e ∷ es) = last_end e es
-
 -- there are as many rows as ends
 pub length-rows_from : {X : Type 0} (from : ℕ) (ends : List ℕ) (items : List X)
     → length (rows_from from ends items) ≡ length ends

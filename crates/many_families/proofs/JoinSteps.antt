@@ -1,6 +1,6 @@
 -- One family more in votes, call by call.
 use Rattle.std.proofs.Common.{Result, MatchResult, IfOk, IfErr, ◌≡◌, ℕ, zero, suc, ◌-◌, ◌<◌, Bool, true, false, ◌&&◌}
-use Rattle.std.proofs.Common.{◌||◌, List, [], Contains, refl, sym, ◌∙◌, ap, subst, arith}
+use Rattle.std.proofs.Common.{◌||◌, List, [], Contains, refl, sym, ap, subst, arith}
 use Rattle.unit_sets.proofs.Sorted.{Contains-cons_first}
 use Rattle.unit_sets.specs.UnitList.{some_within}
 use Rattle.zdd_words.specs.declared.word.Parts.{Parts}
@@ -8,7 +8,6 @@ use Rattle.zdd_families.specs.Family.{IsAbove, branch}
 use Rattle.zdd_families.specs.Map.{level_in}
 use Rattle.zdd_families.proofs.Canonical.{family-filled}
 use Rattle.zdd_families.proofs.MapLemmas.{family-empty, family-unit}
-use Rattle.family_operations.proofs.CutsLemmas.{branch-none}
 use Rattle.family_parts.specs.Antichains.{IsAntichain}
 use Rattle.minimal_families.specs.Least.{IsLeastUnion, IsLeastProduct}
 use Rattle.minimal_families.proofs.LeastLemmas.{IsLeastFor-same}
@@ -39,13 +38,6 @@ joined_any s0 s1 s2 voter same fewer more sound has gave result gives spent =
     (answers_of (IsLeastUnion (family_in s1 same) (family_in s1 more)) s1 s2 result gives spent)
 
 -- ---- a node of which a part may be empty
-
-pub made_without : (held : Held) (x lo hi : ℕ) → IsSound held → Has held lo → hi ≡ 0
-    → Gave (λ f. f ≡ branch x (family_in held lo) (family_in held hi)) held held lo
-made_without held x lo hi sound has none =
-    Gave-there (λ f. f ≡ branch x (family_in held lo) (family_in held hi)) held lo sound has
-    (sym (ap (branch x (family_in held lo)) (ap (family_in held) none ∙ family-empty (map_of held))
-    ∙ branch-none x (family_in held lo)))
 
 -- ---- a member below all others
 

@@ -7,11 +7,10 @@ use Rattle.fault_definitions.specs.Tree.{FaultTree}
 use Rattle.fault_definitions.specs.WellFormed.{IsTree}
 use Rattle.cutset_lists.specs.Generation.{HasHeavyCutList}
 use Rattle.tree_families.proofs.CutFamilies.{cut_list-from_family, no_empty_set}
-use Rattle.family_operations.specs.Nodes.{IsNodeCount}
 use Rattle.zdd_families.specs.Map.{family}
 use Rattle.zdd_shared_table.specs.Seats.{Seated, map_of}
 use Rattle.cutset_listing.specs.Listing.{HasHeavyList, HasSetsOf, LacksEmptySet}
-use Rattle.outage_engine.specs.Store.{AreNodesOf, IsDiagramOf, IsFoundBy, IsRootOf, method_by}
+use Rattle.outage_engine.specs.Store.{IsDiagramOf, IsFoundBy, IsRootOf, method_by}
 
 module _ (tree : FaultTree) (seat : Seated) (root : ℕ) (is : IsRootOf seat tree root) where
   pub no_empty_cut : IsTree tree → LacksEmptySet (family (map_of seat) root)
@@ -23,9 +22,6 @@ module _ (tree : FaultTree) (seat : Seated) (root : ℕ) (is : IsRootOf seat tre
 
   pub heavy_list : HasHeavyList (family (map_of seat) root) → HasHeavyCutList tree
   heavy_list heavy = (heavy.list, list_of_root heavy.list heavy.sets heavy.ordered, heavy.heavy)
-
-  pub nodes_of_root : (nodes : ℕ) → IsNodeCount (family (map_of seat) root) nodes → AreNodesOf tree (Some nodes)
-  nodes_of_root nodes count = (family (map_of seat) root, is.1, count)
 
 pub found_by : (before after : Seated) (tree : FaultTree) (root : Option ℕ) → IfSome root (IsDiagramOf after tree)
     → (root ≡ None → before.fulls < after.fulls)

@@ -9,9 +9,9 @@ use Rattle.fault_words.specs.declared.kind.GateKind.TheVariants.{And, Or, Votes,
 use Rattle.fault_definitions.specs.Tree.{FaultTree}
 use Rattle.fault_definitions.specs.Reading.{true_count}
 use Rattle.fault_definitions.specs.WellFormed.{IsSoundKind, IsSoundVote}
-use Rattle.fault_definitions.specs.Step.{Step, never, no_later, earlier, later, earliest, latest, last_step}
+use Rattle.fault_definitions.specs.Step.{Step, no_later, earlier, later, earliest, latest}
 use Rattle.fault_definitions.specs.Step.{never_falls}
-use Rattle.fault_definitions.specs.Step.{failed_by, kth_step, first_step}
+use Rattle.fault_definitions.specs.Step.{failed_by, kth_step}
 use Rattle.replay_semantics.specs.Failing.{AsksSome, falls_not_after}
 
 pub asks_some : (tree : FaultTree) (kind : GateKind) (inputs : List ℕ) → IsSoundKind tree kind inputs → AsksSome kind
@@ -78,12 +78,6 @@ module _ (f : ℕ → Step) where
   pub never_falls-after : (node : ℕ) (nodes : List ℕ) → never_falls f (node ∷ nodes) ≡ falls_not_after f (f node) nodes
   never_falls-after node [] = refl
   never_falls-after node (next ∷ nodes) = ap (λ b. no_later (f node) (f next) && b) (never_falls-after next nodes)
-
-  choice-some : (test : Bool) (at : Step) → is_some (if test then at else never) ≡ (is_some at && test)
-  choice-some true None = refl
-  choice-some true (Some n) = refl
-  choice-some false None = refl
-  choice-some false (Some n) = refl
 
   -- ---- K of N: the last of all steps is some node's, and by it all that have a step have failed
 
@@ -245,11 +239,3 @@ module _ (f : ℕ → Step) where
       ∙ same_test (list_any (λ node. is_some (f node) && counts least nodes node) nodes)
       (nat_le least (true_count (λ n. is_some (f n)) nodes))
       (reach_enough least nodes nodes) (enough_reach least nodes some)
-
-  pub pand-some : (nodes : List ℕ) → is_some (if never_falls f nodes then last_step f nodes else never)
-      ≡ (is_some (last_step f nodes) && never_falls f nodes)
-  pand-some nodes = choice-some (never_falls f nodes) (last_step f nodes)
-
-  pub por-some : (node : ℕ) (others : List ℕ) → is_some (first_step f (node ∷ others))
-      ≡ (is_some (f node) && list_all (λ other. no_later (f node) (f other)) others)
-  por-some node others = choice-some (list_all (λ other. no_later (f node) (f other)) others) (f node)

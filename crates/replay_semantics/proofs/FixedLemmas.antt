@@ -54,31 +54,14 @@ module _ (tree : FaultTree) (f : ℕ → Step) (node : ℕ) where
   choice_some true gate own triggered h = h
   choice_some false gate own triggered h = earlier-some own triggered ∙ or_right (is_some own) (is_some triggered) h
 
-  none_both : (own triggered : Step) → is_some own ≡ false → is_some triggered ≡ false → earlier own triggered ≡ never
-  none_both None None h k = refl
-  none_both None (Some n) h k = absurd cc
-  none_both (Some m) triggered h k = absurd cc
-
   is_none : (at : Step) → is_some at ≡ false → at ≡ never
   is_none None h = refl
   is_none (Some n) h = absurd cc
-
-  choice_none : (above : Bool) (gate own triggered : Step) → (if above then is_some gate else is_some triggered) ≡ false
-      → (above ≡ false → is_some own ≡ false)
-      → (if above then gate else earlier own triggered) ≡ never
-  choice_none true gate own triggered h k = is_none gate h
-  choice_none false gate own triggered h k = none_both own triggered (k refl) h
 
   pub node_step-some : (order : List ℕ) → node_fails tree f node ≡ true → is_some (node_step tree order f node) ≡ true
   node_step-some order h =
       choice_some (is_above_units tree node) (gate_step (kind_of tree node) f (inputs_of tree node)) (place order node)
       (earliest f (triggers_of tree node)) h
-
-  pub node_step-none : (order : List ℕ) → node_fails tree f node ≡ false
-      → (is_above_units tree node ≡ false → is_some (place order node) ≡ false) → node_step tree order f node ≡ never
-  node_step-none order h k =
-      choice_none (is_above_units tree node) (gate_step (kind_of tree node) f (inputs_of tree node)) (place order node)
-      (earliest f (triggers_of tree node)) h k
 
   -- a unit that has a place has a step
   pub node_step-placed : (order : List ℕ) → is_above_units tree node ≡ false → is_some (place order node) ≡ true

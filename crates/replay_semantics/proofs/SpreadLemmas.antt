@@ -4,7 +4,7 @@ use Rattle.std.proofs.Common.{◌≡◌, ◌≢◌, ◌⊎◌, ℕ, suc, ◌+◌
 use Rattle.std.proofs.Common.{length, drop, set, get_or, Some, None, is_some, if◌then◌else◌, refl, arith, ap, sym}
 use Rattle.std.proofs.Common.{subst, ◌∙◌, inl, inr}
 use Rattle.std.proofs.lemmas.Bool.{cases_Bool, cases_eq, or_left, or_right, or_cases, ne_eqb, eq-eqb, le-ltb}
-use Rattle.std.proofs.lemmas.Bool.{false_from_ne_true, cond-true}
+use Rattle.std.proofs.lemmas.Bool.{cond-true}
 use Rattle.std.proofs.lemmas.List.{take-append-le, drop-append-le, drop_all, drop_at, take_at, take_all, length_push}
 use Rattle.std.proofs.lemmas.List.{drop_more}
 use Rattle.unit_sets.specs.UnitList.{among}
@@ -21,7 +21,7 @@ use Rattle.replay_semantics.proofs.Places.{among-append, or_nothing, place-other
 use Rattle.replay_semantics.specs.Spread.{AreFailed, HaveFailed, IsSpreading, Turn, step_without, reads_some}
 use Rattle.replay_semantics.specs.Readers.{readers_in, AreReaders}
 use Rattle.replay_semantics.proofs.FixedLemmas.{fixed-step, settled_table, node_step-place, node_step-some}
-use Rattle.replay_semantics.proofs.FixedLemmas.{node_step-none, node_step-placed, node_step-others}
+use Rattle.replay_semantics.proofs.FixedLemmas.{node_step-placed, node_step-others}
 use Rattle.replay_semantics.proofs.LogLemmas.{step_in-set_same, step_in-set_other, node_or_never, few_distinct}
 
 -- ---- small facts
@@ -173,21 +173,6 @@ module _ (tree : FaultTree) (turn : Turn) (steps : List Step) (log todo : List �
       ]
     ];
   }
-
-  pub passes_failed : has_step steps node ≡ true → IsSpreading tree turn steps log todo next
-  passes_failed has =
-      passes (elim (spreading.right node is_node) [
-        | inl fits ↦ fits
-        | inr waits ↦ let e : has_step steps node ≡ false = ap is_some waits.0 in absurd cc
-      ])
-
-  pub passes_living : has_step steps node ≡ false → node_fails tree (step_in steps) node ≡ false
-      → IsSpreading tree turn steps log todo next
-  passes_living has lives =
-      passes (never_from (step_in steps node) has
-      ∙ sym (node_step-none tree (step_in steps) node turn.longer lives
-      (λ unit. false_from_ne_true (is_some (place turn.longer node))
-      (λ placed. let e : has_step steps node ≡ true = spreading.placed node is_node unit placed in absurd cc))))
 
   pub fails_more : has_step steps node ≡ false → node_fails tree (step_in steps) node ≡ true
       → IsSpreading tree turn (set steps node (Some turn.last)) (log ++ node ∷ []) todo next

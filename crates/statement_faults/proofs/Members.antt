@@ -22,9 +22,6 @@ abbrev pub Each : (ℕ → Type 0) → List NumberedGate → Type 0
 Each P gates = All (λ gate. All (λ input. P input.number) gate.inputs) gates
 
 module _ (P : ℕ → Type 0) where
-  Good : Numbered → Type 0
-  Good input = P input.number
-
   pub among_numbers : (inputs : List Numbered) (y : ℕ) → All (λ input. P input.number) inputs
       → among (numbers inputs) y ≡ true → P y
   among_numbers [] y all found = absurd cc

@@ -15,7 +15,6 @@ use Rattle.fault_words.specs.Names.{has_name, same_name, all_differ}
 use Rattle.statement_faults.specs.Said.{tops, gates, basics, uses, names}
 use Rattle.statement_faults.specs.Numbered.{numbered, numbered_gate, numbered_gates, numbered_tops}
 use Rattle.statement_faults.specs.Classes.{undefined}
-use Rattle.statement_faults.specs.SpareTable.{AreWithin}
 use Rattle.statement_faults.proofs.Differ.{same_itself}
 use Rattle.statement_faults.proofs.NonePass.{none_pass}
 use Rattle.statement_faults.proofs.Numbers.{number_within}
@@ -73,9 +72,6 @@ module _ (statements : List Statement) (none : undefined (names statements) (use
       (λ gate known. All-map (IsAmong (length (names statements))) (numbered (names statements)) gate.inputs known)
       (gates statements) (inputs_all (HasNumber (names statements)) statements
       (all_known (names statements) (uses statements) none)))
-
-  pub inputs_within : AreWithin (length (names statements)) (numbered_gates statements)
-  inputs_within k d short k' d' short' = (inputs_known k d short k' d' short').1
 
   pub tops_known : All (IsAmong (length (names statements))) (numbered_tops statements)
   tops_known =

@@ -1,10 +1,9 @@
 -- What a text by numbers keeps, for the parts of its tree, once the classes of faults are tried.
 use Rattle.std.proofs.Common.{◌≡◌, ◌+◌, ◌≤◌, List, [], ◌∷◌, length, map, sym, ap, subst, arith, length-append}
-use Rattle.std.specs.Prelude.{if◌then◌else◌, All}
+use Rattle.std.specs.Prelude.{All}
 use Rattle.std.proofs.lemmas.List.{length-map}
 use Rattle.unit_sets.specs.Unit.{most_units}
 use Rattle.fault_definitions.specs.declared.parts.TheConstants.{MOST_GATES}
-use Rattle.fault_words.specs.declared.place.Place.{Place}
 use Rattle.galileo_tree.specs.declared.raw.RawTop.{RawTop}
 use Rattle.galileo_tree.specs.declared.raw.RawGate.{RawGate}
 use Rattle.galileo_tree.specs.declared.raw.RawBasic.{RawBasic}
@@ -14,7 +13,7 @@ use Rattle.statement_faults.specs.declared.numbered.NumberedGate.{NumberedGate}
 use Rattle.statement_faults.specs.Said.{basics, gates, tops, names, uses, basic_names, gate_names}
 use Rattle.statement_faults.specs.Numbered.{numbered, numbered_gate, numbered_gates}
 use Rattle.statement_faults.specs.Numbering.{IsDeckOf}
-use Rattle.statement_faults.specs.Classes.{is_empty, missing_tops, undefined, units_beyond, gates_beyond}
+use Rattle.statement_faults.specs.Classes.{undefined, units_beyond, gates_beyond}
 use Rattle.statement_faults.specs.SpareTable.{AreWithin}
 use Rattle.statement_faults.specs.TreeOf.{first_number}
 use Rattle.statement_faults.proofs.NonePass.{none_beyond}
@@ -56,15 +55,6 @@ module _ (statements : List Statement) (deck : NumberedText) (is : IsDeckOf (nam
           → first_number (map (λ (top : RawTop). numbered (names statements) top.name) ts) ≤ length (names statements)
       low [] known = omega arith
       low (t ∷ ts) known = (known 0 (numbered (names statements) t.name) (omega arith)).1
-
-  pub deck_some : (end : Place) → missing_tops statements end ≡ [] → 1 ≤ length deck.tops.items
-  deck_some end some =
-      subst (λ ts. 1 ≤ length ts) (sym is.tops_all) (by (tops statements) some)
-    where
-      by : (ts : List RawTop) → (if is_empty ts then end ∷ [] else []) ≡ []
-          → 1 ≤ length (map (λ (top : RawTop). numbered (names statements) top.name) ts)
-      by [] none = absurd cc
-      by (t ∷ ts) none = omega arith
 
   pub deck_few_units : units_beyond (basics statements) ≡ [] → deck.units ≤ most_units
   deck_few_units none =

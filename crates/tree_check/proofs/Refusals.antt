@@ -5,8 +5,7 @@ use Rattle.fault_words.specs.declared.place.Place.{Place}
 use Rattle.galileo_tree.specs.declared.raw.Statement.{Statement}
 use Rattle.galileo_tree.specs.ReadTree.{ReadTree}
 use Rattle.statement_faults.specs.declared.fault.CheckCode.{CheckCode}
-use Rattle.statement_faults.specs.declared.fault.CheckCode.TheVariants.{NoToplevel, TwoToplevels, DuplicateName}
-use Rattle.statement_faults.specs.declared.fault.CheckCode.TheVariants.{Undefined}
+use Rattle.statement_faults.specs.declared.fault.CheckCode.TheVariants.{NoToplevel, TwoToplevels}
 use Rattle.statement_faults.specs.declared.fault.CheckCode.TheVariants.{Votes, DummyInput, NoInputs, FdepShape}
 use Rattle.statement_faults.specs.declared.fault.CheckCode.TheVariants.{DependentGate}
 use Rattle.statement_faults.specs.declared.fault.CheckCode.TheVariants.{SpareNotBasic, SharedSpare, Replicated}
@@ -22,7 +21,7 @@ use Rattle.statement_faults.specs.Numbered.{numbered_gates, numbered_tops, unit_
 use Rattle.statement_faults.specs.Numbering.{IsDeckOf}
 use Rattle.statement_faults.specs.Classes.{first}
 use Rattle.statement_faults.specs.TreeOf.{HasNoCycle}
-use Rattle.statement_faults.specs.Found.{IsFoundAs, IsCycleFault}
+use Rattle.statement_faults.specs.Found.{IsFoundAs}
 use Rattle.tree_check.specs.Checked.{places, NoneOf, IsFirstFault, IsRefusal, before_cycles}
 use Rattle.statement_faults.specs.Groups.{NoneIn, FirstIn}
 use Rattle.statement_faults.specs.Groups.{top_classes, kind_classes, later_classes, rest_classes, limit_classes}
@@ -51,14 +50,6 @@ module _ (read : ReadTree) where
       | inr (n2, last) ↦ memory read e last
     ]
   ]
-
-  pub name_refused : NoneOf read (take 2 before_cycles) → (e : CheckFault)
-      → IsFoundAs DuplicateName (places read DuplicateName) e → IsRefusal read e
-  name_refused none e f = refused_at read (take 2 before_cycles) DuplicateName (λ p q. q) none e f
-
-  pub use_refused : NoneOf read (take 3 before_cycles) → (e : CheckFault)
-      → IsFoundAs Undefined (places read Undefined) e → IsRefusal read e
-  use_refused none e f = refused_at read (take 3 before_cycles) Undefined (λ p q. q) none e f
 
   kind_first : NoneOf read (take 4 before_cycles) → (e : CheckFault)
       → FirstIn (kind_classes (unit_total read.statements) (numbered_gates read.statements)) e → IsRefusal read e
@@ -140,10 +131,6 @@ module _ (read : ReadTree) where
   rest_passed none n =
       NoneOf-more read (take 12 before_cycles) TopIsFdep (NoneOf-more read (take 11 before_cycles) Replicated none n.0)
       n.1.0
-
-  pub cycle_refused : NoneOf read before_cycles → (e : CheckFault) → IsCycleFault read.statements e → IsRefusal read e
-  cycle_refused none NoMemory h = tt
-  cycle_refused none (Fault found p) h = subst (λ c. IsFirstFault read c p) (sym h.0) (none, h.1)
 
   -- by the deck, whose gates a reference leads to
   module _ (deck : NumberedText) (d : IsDeckOf (names read.statements) read.statements deck) (all : List NumberedGate)

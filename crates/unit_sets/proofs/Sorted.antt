@@ -5,7 +5,7 @@ use Rattle.std.specs.List.{AllByRecursion}
 use Rattle.std.specs.List.Sorted.{IsStrictlySortedBy}
 use Rattle.std.specs.declared.cmp.Ordering.{Ordering}
 use Rattle.std.specs.declared.cmp.Ordering.TheVariants.{Less}
-use Rattle.std.proofs.Common.{refl, sym, ◌∙◌, ap, subst, inl, inr, add-one, arith}
+use Rattle.std.proofs.Common.{refl, sym, ap, subst, inl, inr, arith}
 use Rattle.std.proofs.lemmas.Cmp.{tied_itself}
 use Rattle.std.proofs.lemmas.List.Elements.{All-from_recursion, All-contains, All-head, All-tail}
 
@@ -101,14 +101,6 @@ unfolding IsStrictlySortedBy
 sorted-take R zero xs s = tt
 sorted-take R (suc n) [] s = tt
 sorted-take R (suc n) (x ∷ xs) s = (all-take (λ y. R x y ≡ Less) n xs s.0, sorted-take R n xs s.1)
-
--- a front and the member after it are the next longer front
-pub take-slice_get : {K : Type 0} (xs : List K) (i : ℕ) (x : K) → slice_get xs i ≡ Some x
-    → take i xs ++ x ∷ [] ≡ take (i + 1) xs
-take-slice_get [] i x h = absurd cc
-take-slice_get (y ∷ ys) zero x h = let same : y ≡ x = cc in ap (λ z. z ∷ []) (sym same)
-take-slice_get (y ∷ ys) (suc i) x h =
-    rw add-one (ap (λ zs. y ∷ zs) (take-slice_get ys i x h ∙ ap (λ n. take n ys) (add-one i)))
 
 -- what holds of each member holds of the one at a place
 pub All-slice_get : {K : Type 0} (P : K → Type 0) (xs : List K) (i : ℕ) (x : K) → All P xs → slice_get xs i ≡ Some x

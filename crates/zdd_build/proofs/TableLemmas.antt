@@ -15,7 +15,7 @@ use Rattle.zdd_families.proofs.MapLemmas.{family-empty}
 use Rattle.zdd_product.specs.Seats.{KnowsOne}
 use Rattle.zdd_nodes.specs.Reading.{KnowsBelow, reference_of}
 use Rattle.zdd_build.specs.declared.places.Place.{Place}
-use Rattle.zdd_build.specs.Building.{AreBuilt, AreMadeTo, CanMake, HasFamily, HasRoomFor, KeepsMade, KnowsCutFamilies}
+use Rattle.zdd_build.specs.Building.{AreBuilt, AreMadeTo, CanMake, HasFamily, HasRoomFor, KeepsMade}
 use Rattle.zdd_build.specs.Building.{is_made}
 use Rattle.zdd_build.specs.Places.{ArePlaces, IsPlace, IsRunTo, node_at, place_at}
 use Rattle.zdd_build.specs.declared.worker.Finding.{Finding}
@@ -93,10 +93,6 @@ module _ (known : ℕ → ℕ) (tree : FaultTree) (kept : IsTree tree) (places :
       ∙ at.2 in
       subst (HasFamily known tree references) (ap (λ (p : Place). p.node) same)
       (built.each at.0 at.1 (made_to at.0 at.1))
-
-  pub know_all : AreMadeTo made (length places) → KnowsCutFamilies known tree
-  know_all made_to node is_node read =
-      record { reference = reference_of references node; stands = all_made made_to node is_node read }
 
   pub room_for : HasRoomFor places references made
   room_for = record {

@@ -120,14 +120,6 @@ module _ (due : List (List ℕ) → Type 0) where
 
   -- ---- seats that are split off and joined
 
-  -- nothing was counted yet
-  pub CountsDue-fresh : (seat : Seated) → IsSoundSeat seat → seat.fulls ≡ 0 → seat.missed ≡ [] → seat.fills ≡ []
-      → CountsDue due seat
-  CountsDue-fresh seat sound fulls missed fills = record {
-    sound = sound;
-    fills = λ r has. Contains-nil r (subst (λ l. Contains l r) fills has);
-    missed = λ word has. Contains-nil word (subst (λ l. Contains l word) missed has);
-    fulls = fulls ∙ sym (ap (λ (l : List ℕ). length l) missed);
   }
 
   -- a seat goes on counting
