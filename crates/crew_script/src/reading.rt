@@ -164,11 +164,24 @@ impl Reading {
 fn all_crews(closed: GrowingList<Crew>, last: Option<Crew>) -> Result<GrowingList<Crew>, AllocError>
     ensures { IfOk result (λ crews. crews ≡ joined closed last) }
 {
-    let mut crews = closed;
-    if let Some(crew) = last {
-        crews.push(crew)?;
+    match last {
+        Some(crew) => with_last(closed, crew),
+        None => Ok(closed),
     }
-    Ok(crews)
+}
+
+// The crews, with one more at their end.
+fn with_last(crews: GrowingList<Crew>, crew: Crew) -> Result<GrowingList<Crew>, AllocError>
+    ensures { IfOk result (λ more. more ≡ crews ++ crew ∷ []) }
+{
+    let mut more = crews;
+    match more.push(crew) {
+        Ok(()) => Ok(more),
+        Err(end) => {
+            drop(more);
+            Err(end)
+        }
+    }
 }
 
 // The crew with one more request.
