@@ -1,11 +1,13 @@
 -- What follows from the definitions of `specs/Rows`.
 use Rattle.std.proofs.Common.{zero}
 use Rattle.std.specs.Prelude.{◌≡◌, ℕ, suc, ◌+◌, ◌-◌, ◌≤◌, ◌<◌, List, [], ◌∷◌, ◌++◌, length, take, drop, get_or, refl}
-use Rattle.std.specs.Prelude.{sum_by}
+use Rattle.std.specs.Prelude.{sum_by, flat_map}
 use Rattle.std.proofs.Common.{arith, ap, sym, ◌∙◌, length-drop}
 use Rattle.std.proofs.lemmas.List.{take-append-le, drop-append-le, drop_at, take_all, length-take-le}
+use Rattle.std.proofs.lemmas.List.{drop_all, drop-drop, take-append-drop}
 use Rattle.std.proofs.lemmas.List.Sums.{sum_by-cons}
-use Rattle.flat_rows.specs.Rows.{Rise, between, rows_from, start_of}
+use Rattle.std.proofs.Math.Seq.{drop-append-add}
+use Rattle.flat_rows.specs.Rows.{Rise, between, rows_from, start_of, raised}
 
 -- there are as many rows as ends
 pub length-rows_from : {X : Type 0} (from : ℕ) (ends : List ℕ) (items : List X)
@@ -84,3 +86,56 @@ items-rows_from from (e ∷ es) items h =
     counted (sum_by length (rows_from from (e ∷ es) items)) (length (between from e items))
     (sum_by length (rows_from e es items)) from e (length items)
     (sum_by-cons length (between from e items) (rows_from e es items)) size (items-rows_from e es items h.1) h.0
+
+-- ---- rows behind other rows
+
+-- a part of what stands behind other items
+between-behind : {X : Type 0} (items more : List X) (from to : ℕ)
+    → between (length items + from) (length items + to) (items ++ more) ≡ between from to more
+between-behind items more from to =
+    let size : length items + to - (length items + from) ≡ to - from = omega arith in
+    rw (size, drop-append-add items more from) refl
+
+rows_from-behind : {X : Type 0} (items more : List X) (from : ℕ) (ends : List ℕ)
+    → rows_from (length items + from) (raised (length items) ends) (items ++ more) ≡ rows_from from ends more
+rows_from-behind items more from [] = refl
+rows_from-behind items more from (e ∷ es) =
+    rw (between-behind items more from e, rows_from-behind items more e es) refl
+
+pub rows_from-append : {X : Type 0} (from : ℕ) (ends : List ℕ) (items : List X) (ends' : List ℕ) (items' : List X)
+    → Rise from ends (length items)
+    → rows_from from (ends ++ raised (length items) ends') (items ++ items')
+    ≡ rows_from from ends items ++ rows_from 0 ends' items'
+rows_from-append from [] items ends' items' h =
+    let start : from ≡ length items + 0 = omega (arith, h) in
+    ap (λ s. rows_from s (raised (length items) ends') (items ++ items')) start ∙ rows_from-behind items items' 0 ends'
+rows_from-append from (e ∷ es) items ends' items' h =
+    rw (
+      between-append from e items items' h.0 (Rise-le e es (length items) h.1),
+      rows_from-append e es items ends' items' h.1,
+    ) refl
+
+Rise-behind : (before from : ℕ) (ends : List ℕ) (total : ℕ) → Rise from ends total
+    → Rise (before + from) (raised before ends) (before + total)
+Rise-behind before from [] total h = ap (λ n. before + n) h
+Rise-behind before from (e ∷ es) total h = (omega (arith, h.0), Rise-behind before e es total h.1)
+
+pub Rise-append : (from : ℕ) (ends : List ℕ) (total : ℕ) (ends' : List ℕ) (total' : ℕ) → Rise from ends total
+    → Rise 0 ends' total' → Rise from (ends ++ raised total ends') (total + total')
+Rise-append from [] total ends' total' h h' =
+    let start : from ≡ total + 0 = omega (arith, h) in
+    rw start (Rise-behind total 0 ends' total' h')
+Rise-append from (e ∷ es) total ends' total' h h' = (h.0, Rise-append e es total ends' total' h.1 h')
+
+-- the rows one after the other are the items
+pub joined-rows_from : {X : Type 0} (from : ℕ) (ends : List ℕ) (items : List X) → Rise from ends (length items)
+    → flat_map (λ row. row) (rows_from from ends items) ≡ drop from items
+joined-rows_from from [] items h =
+    let whole : length items ≤ from = omega (arith, h) in
+    sym (drop_all from items whole)
+joined-rows_from from (e ∷ es) items h =
+    let up_to : from + (e - from) ≡ e = omega (arith, h.0) in
+    ap (λ rest. between from e items ++ rest) (joined-rows_from e es items h.1)
+    ∙ ap (λ n. between from e items ++ drop n items) (sym up_to)
+    ∙ ap (λ rest. between from e items ++ rest) (sym (drop-drop (e - from) from items))
+    ∙ take-append-drop (e - from) (drop from items)

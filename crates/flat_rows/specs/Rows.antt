@@ -1,6 +1,6 @@
 -- A list of rows, kept end to end in one list of items beside the places where the rows end.
 use Rattle.std.proofs.Common.{zero}
-use Rattle.std.specs.Prelude.{◌≡◌, ℕ, suc, ◌-◌, ◌≤◌, List, [], ◌∷◌, take, drop, get_or}
+use Rattle.std.specs.Prelude.{◌≡◌, ℕ, suc, ◌+◌, ◌-◌, ◌≤◌, List, [], ◌∷◌, map, take, drop, get_or}
 
 -- the items from one place up to another
 abbrev pub between : {X : Type 0} → ℕ → ℕ → List X → List X
@@ -20,3 +20,7 @@ Rise from (e ∷ es) total = (from ≤ e) × Rise e es total
 abbrev pub start_of : ℕ → List ℕ → ℕ → ℕ
 start_of from ends zero = from
 start_of from ends (suc i) = get_or ends i 0
+
+-- ends that come so many items later
+abbrev pub raised : ℕ → List ℕ → List ℕ
+raised before ends = map (λ end. before + end) ends

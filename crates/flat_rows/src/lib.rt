@@ -6,7 +6,8 @@
 #![tactic(auto)]
 
 ghost use Rattle.std.specs.Prelude.{◌≡◌, ◌<◌, ◌≤◌, [], ◌∷◌, ◌++◌, length, OnOk, OnErr, slice_index_or, ◌==◌, sum_by};
-ghost use Rattle.flat_rows.specs.Rows.{start_of, rows_from, Rise, between};
+ghost use Rattle.std.specs.Prelude.{◌+◌, ◌^◌, vec_len, vec_capacity, flat_map};
+ghost use Rattle.flat_rows.specs.Rows.{start_of, rows_from, Rise, between, raised};
 
 mod growing;
 
@@ -73,6 +74,13 @@ impl<T: Copy> Rows<T> {
         part(&self.items, &self.ends, i)
     }
 
+    /// The items of all rows, one row after the other.
+    pub fn items(&self) -> &[T]
+        ensures { result.now ≡ flat_map (λ row. row) self.now }
+    {
+        &self.items
+    }
+
     /// One more row at the end. Where memory is wanting the rows are as before.
     pub fn push(&mut self, row: &[T]) -> Result<(), AllocError>
         ensures ok { OnOk result (self.new ≡ self.old ++ row.now ∷ []) }
@@ -82,6 +90,30 @@ impl<T: Copy> Rows<T> {
         self.items.extend_from_slice(row)?;
         self.ends.push_reserved(self.items.len());
         Ok(())
+    }
+
+    /// All rows of another list behind these. Where memory is wanting the rows are as before.
+    pub fn append(&mut self, other: &Rows<T>) -> Result<(), AllocError>
+        ensures ok { OnOk result (self.new ≡ self.old ++ other.now) }
+        ensures err { OnErr result (self.new ≡ self.old) }
+    {
+        let before = self.items.len();
+        self.ends.reserve(other.ends.len())?;
+        self.items.extend_from_slice(&other.items)?;
+        push_raised(&mut self.ends, &other.ends, before, other.items.len());
+        Ok(())
+    }
+}
+
+// Puts ends behind the others, each raised by the items that stand before its row.
+fn push_raised(ends: &mut Vec<usize>, more: &[usize], before: usize, total: usize)
+    requires room { vec_len ends.old + length more.now ≤ vec_capacity ends.old }
+    requires rise { Rise 0 more.now total }
+    requires fits { before + total < 2 ^ 64 }
+    ensures { ends.new.items ≡ ends.old.items ++ raised before more.now }
+{
+    for end in more {
+        ends.push_reserved(before + *end);
     }
 }
 

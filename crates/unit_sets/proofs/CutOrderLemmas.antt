@@ -1,16 +1,19 @@
 -- What follows from the definitions of `specs/CutOrder`.
-use Rattle.std.specs.Prelude.{ℕ, suc, ◌+◌, ◌≡◌, List, [], ◌∷◌, length, slice_get, sum_by, Some}
+use Rattle.std.specs.Prelude.{ℕ, suc, ◌+◌, ◌≡◌, ◌<◌, ◌≤◌, List, [], ◌∷◌, ◌++◌, length, slice_get, sum_by, Some, All}
+use Rattle.std.specs.List.{AllByRecursion, flat_map}
 use Rattle.std.specs.List.Sorted.{IsStrictlySortedBy}
 use Rattle.std.specs.Cmp.Lexicographic.{slice_cmp}
 use Rattle.std.specs.Ordering.{nat_cmp, ordering_then}
 use Rattle.std.specs.declared.cmp.Ordering.{Ordering}
 use Rattle.std.specs.declared.cmp.Ordering.TheVariants.{Less, Equal, Greater}
 use Rattle.std.proofs.Common.{refl, arith}
-use Rattle.std.proofs.lemmas.List.Elements.{All-nil}
-use Rattle.std.proofs.lemmas.List.Sums.{sum_by-cons}
+use Rattle.std.proofs.lemmas.List.Elements.{All-nil, All-append, All-from_recursion, recursion_from_All}
+use Rattle.std.proofs.lemmas.List.Sums.{sum_by-cons, sum_by-append}
 use Rattle.std.specs.FinMap.{slice_cmp-IsAntisymmetric, nat_cmp-IsAntisymmetric}
 use Rattle.unit_sets.proofs.Sorted.{All-slice_get}
-use Rattle.unit_sets.specs.CutOrder.{IsCutSet, IsOrderedCuts, cut_cmp, weight}
+use Rattle.unit_sets.specs.CutOrder.{IsCutSet, IsInCutOrder, IsOrderedCuts, cut_cmp, weight, weight_limit}
+use Rattle.unit_sets.specs.Unit.{IsUnit}
+use Rattle.unit_sets.specs.UnitList.{IsRising}
 
 second_ties : (first second : Ordering) → ordering_then first second ≡ Equal → second ≡ Equal
 second_ties Less second h = absurd cc
@@ -46,3 +49,45 @@ IsOrderedCuts-nil = record { sets = All-nil IsCutSet; ordered = tt; within = ome
 pub cut_at : (cuts : List (List ℕ)) (i : ℕ) (cut : List ℕ) → IsOrderedCuts cuts → slice_get cuts i ≡ Some cut
     → IsCutSet cut
 cut_at cuts i cut ordered at = All-slice_get IsCutSet cuts i cut ordered.sets at
+
+-- ---- sets behind those of a list
+
+each_left : {K : Type 0} (P : K → Type 0) (xs ys : List K) → AllByRecursion P (xs ++ ys) → AllByRecursion P xs
+each_left P [] ys all = tt
+each_left P (x ∷ xs) ys all = (all.0, each_left P xs ys all.1)
+
+each_right : {K : Type 0} (P : K → Type 0) (xs ys : List K) → AllByRecursion P (xs ++ ys) → AllByRecursion P ys
+each_right P [] ys all = all
+each_right P (x ∷ xs) ys all = each_right P xs ys all.1
+
+-- filled and rising sets of units are sets that a list may have
+cut_sets : (sets : List (List ℕ)) → AllByRecursion (λ set. 0 < length set) sets → AllByRecursion IsRising sets
+    → AllByRecursion IsUnit (flat_map (λ set. set) sets) → AllByRecursion IsCutSet sets
+cut_sets [] filled rising units = tt
+cut_sets (set ∷ sets) filled rising units = (
+  record {
+    filled = filled.0;
+    rising = rising.0;
+    units = All-from_recursion IsUnit set (each_left IsUnit set (flat_map (λ (s : List ℕ). s) sets) units);
+  },
+  cut_sets sets filled.1 rising.1 (each_right IsUnit set (flat_map (λ (s : List ℕ). s) sets) units),
+)
+
+pub IsOrderedCuts-append : (cuts sets : List (List ℕ)) → IsOrderedCuts cuts → All (λ set. 0 < length set) sets
+    → All IsRising sets → All IsUnit (flat_map (λ set. set) sets) →
+    IsInCutOrder (cuts ++ sets) → weight (cuts ++ sets) ≤ weight_limit → IsOrderedCuts (cuts ++ sets)
+IsOrderedCuts-append cuts sets before filled rising units ordered within = record {
+  sets =
+      All-append IsCutSet cuts sets before.sets
+      (All-from_recursion IsCutSet sets (cut_sets sets
+      (recursion_from_All (λ (set : List ℕ). 0 < length set) sets filled) (recursion_from_All IsRising sets rising)
+      (recursion_from_All IsUnit (flat_map (λ (set : List ℕ). set) sets) units)));
+  ordered = ordered;
+  within = within;
+}
+
+pub weight-with : (cuts sets : List (List ℕ)) → weight (cuts ++ sets) ≡ weight cuts + (length sets + sum_by length sets)
+weight-with cuts sets =
+    let both = sum_by-append (λ (cut : List ℕ). 1 + length cut) cuts sets in
+    let counted = weight-counts sets in
+    omega (arith, both, counted)

@@ -1,5 +1,5 @@
 //! Lists of cut sets, by size and then by unit numbers.
-ghost use Rattle.std.specs.Prelude.{◌≡◌, ◌<◌, ◌≤◌, ◌↔◌, [], ◌∷◌, ◌++◌, length, OnOk};
+ghost use Rattle.std.specs.Prelude.{◌≡◌, ◌<◌, ◌≤◌, ◌↔◌, [], ◌∷◌, ◌++◌, length, OnOk, All, true, false};
 ghost use Rattle.std.specs.Prelude.{OnErr, IsErrOf, slice_get, Some};
 ghost use Rattle.unit_sets.specs.UnitList.{IsRising};
 ghost use Rattle.unit_sets.specs.CutOrder.{cut_cmp, IsInCutOrder, IsOrderedCuts, weight, weight_limit};
@@ -92,5 +92,36 @@ impl CutList {
         UnitNo::are_units(set);
         self.sets.push(set)?;
         Ok(())
+    }
+
+    /// Adds sets that stand after the last one. They are weighed before any of them is copied.
+    pub fn append(&mut self, sets: &Rows<UnitNo>) -> Result<(), PushEnd>
+        requires filled { All (λ set. 0 < length set) sets.now }
+        requires rising { All IsRising sets.now }
+        requires after_last { IsInCutOrder (self.old ++ sets.now) }
+
+        ensures added { OnOk result (self.new ≡ self.old ++ sets.now) }
+        ensures unchanged { OnErr result (self.new ≡ self.old) }
+
+        // Only a list that would be too heavy is refused so, and each such list is.
+        ensures limit { IsErrOf result PushEnd.ListLimit ↔ (weight_limit < weight (self.old ++ sets.now)) }
+    {
+        if !self.has_room(sets) {
+            return Err(PushEnd::ListLimit);
+        }
+        UnitNo::are_units(sets.items());
+        self.sets.append(sets)?;
+        Ok(())
+    }
+
+    // Whether the list may weigh as much as it does with these sets. No sum of theirs is taken before it is known to
+    // be small.
+    fn has_room(&self, sets: &Rows<UnitNo>) -> bool
+        ensures room { result ≡ true → weight (self.now ++ sets.now) ≤ weight_limit }
+        ensures none { result ≡ false → weight_limit < weight (self.now ++ sets.now) }
+    {
+        let room = CutList::WEIGHT_LIMIT - self.weight();
+        let count = sets.len() as u64;
+        count <= room && sets.item_count() as u64 <= room - count
     }
 }

@@ -1,4 +1,5 @@
 //! Units, sets and lists, each once.
+use flat_rows::Rows;
 use std::cmp::Ordering;
 use std::test::Fail;
 use unit_sets::{CutList, UnitNo, UnitSet, compare_cuts};
@@ -65,5 +66,20 @@ fn a_cut_list_gives_back_its_sets(rt: HostRuntime) -> Result<(), Fail> {
     assert_eq!(rt; copy.weight(), 5);
     assert_eq!(rt; copy.members(0), [a].as_slice());
     assert_eq!(rt; copy.members(1), [a, b].as_slice());
+    Ok(())
+}
+
+#[test]
+fn appended_sets_stand_behind_the_others(rt: HostRuntime) -> Result<(), Fail> {
+    let a = UnitNo::new(1).ok_or("no unit")?;
+    let b = UnitNo::new(2).ok_or("no unit")?;
+    let mut pair = Rows::new(rt.alloc());
+    pair.push(&[a, b])?;
+    let mut cuts = CutList::new(rt.alloc());
+    cuts.push(&[a])?;
+    cuts.append(&pair)?;
+    assert_eq!(rt; cuts.weight(), 5);
+    assert_eq!(rt; cuts.members(0), [a].as_slice());
+    assert_eq!(rt; cuts.members(1), [a, b].as_slice());
     Ok(())
 }

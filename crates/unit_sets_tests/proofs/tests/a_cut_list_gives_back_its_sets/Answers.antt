@@ -1,26 +1,8 @@
-use Rattle.std.proofs.Common.{rules, ◌≡◌, ℕ, List, [], ◌∷◌, ◌++◌, refl, sym, ◌∙◌, ap, subst}
-use Rattle.std.specs.List.Sorted.{IsStrictlySortedBy}
+use Rattle.std.proofs.Common.{rules, ◌≡◌, [], ◌∷◌, ◌++◌, sym, ◌∙◌, ap, subst}
 use Rattle.std.specs.Ordering.{nat_cmp}
-use Rattle.std.specs.declared.cmp.Ordering.TheVariants.{Less}
-use Rattle.unit_sets.specs.UnitList.{IsRising}
 use Rattle.unit_sets.specs.CutOrder.{IsInCutOrder}
+use Rattle.unit_sets_tests.proofs.ShortLists.{one_rises, two_rise, first_in_order, one_before_two}
 use Rattle.unit_sets_tests.proofs.tests.a_cut_list_gives_back_its_sets.Goals as goal
-
-one_rises : (a : ℕ) → IsRising (a ∷ [])
-unfolding IsStrictlySortedBy
-one_rises a = (tt, tt)
-
-two_rise : (a b : ℕ) → nat_cmp a b ≡ Less → IsRising (a ∷ b ∷ [])
-unfolding IsStrictlySortedBy
-two_rise a b less = ((less, tt), (tt, tt))
-
-first_in_order : (cut : List ℕ) → IsInCutOrder (cut ∷ [])
-unfolding IsStrictlySortedBy
-first_in_order cut = (tt, tt)
-
-one_before_two : (a b : ℕ) → IsInCutOrder ((a ∷ []) ∷ (a ∷ b ∷ []) ∷ [])
-unfolding IsStrictlySortedBy
-one_before_two a b = ((refl, tt), (tt, tt))
 
 pub push-requires-clause-rising : goal.push-requires-clause-rising
 push-requires-clause-rising g c = one_rises c.in_ok-a.a

@@ -1,0 +1,23 @@
+-- Sets of one and of two units, and a list of both.
+use Rattle.std.proofs.Common.{◌≡◌, ℕ, List, [], ◌∷◌, refl}
+use Rattle.std.specs.List.Sorted.{IsStrictlySortedBy}
+use Rattle.std.specs.Ordering.{nat_cmp}
+use Rattle.std.specs.declared.cmp.Ordering.TheVariants.{Less}
+use Rattle.unit_sets.specs.UnitList.{IsRising}
+use Rattle.unit_sets.specs.CutOrder.{IsInCutOrder}
+
+pub one_rises : (a : ℕ) → IsRising (a ∷ [])
+unfolding IsStrictlySortedBy
+one_rises a = (tt, tt)
+
+pub two_rise : (a b : ℕ) → nat_cmp a b ≡ Less → IsRising (a ∷ b ∷ [])
+unfolding IsStrictlySortedBy
+two_rise a b less = ((less, tt), (tt, tt))
+
+pub first_in_order : (cut : List ℕ) → IsInCutOrder (cut ∷ [])
+unfolding IsStrictlySortedBy
+first_in_order cut = (tt, tt)
+
+pub one_before_two : (a b : ℕ) → IsInCutOrder ((a ∷ []) ∷ (a ∷ b ∷ []) ∷ [])
+unfolding IsStrictlySortedBy
+one_before_two a b = ((refl, tt), (tt, tt))
