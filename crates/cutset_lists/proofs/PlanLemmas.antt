@@ -76,8 +76,6 @@ Keeps-more nodes i node end old now new short is keeps raises = record {
 
 module _ (tree : FaultTree) (order until : List ℕ) (place above node : ℕ) (above_is : above ≡ place + 1)
     (short : place < length order) (is : node ≡ get_or order place 0) (plan : IsPlanFrom tree order until above) where
-  }
-
   pub IsPlanFrom-keeps : (new : List ℕ) → Keeps (below tree node) above until new → IsPlanFrom tree order new place
   IsPlanFrom-keeps new keeps = record {
     all = keeps.all ∙ plan.all;

@@ -40,8 +40,6 @@ Puts-failed taken faults out text failed = record {
   steady = omega arith;
 }
 
-}
-
 -- one text put behind another: where the first put failed the second wrote nothing
 pub Puts-trans : {K : Type 0} (taken : K → Option (List ℕ)) (faults : K → ℕ) (old mid new : Output K)
     (text more : List ℕ)

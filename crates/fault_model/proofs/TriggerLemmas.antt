@@ -45,8 +45,6 @@ set_cases P values unit other value d one reach one' here there =
 
 module _ (units mark trigger : ℕ) (old_lists : List (List ℕ)) (old_marks : List ℕ)
     (low : (unit : ℕ) → IsUnitBelow units unit → get_or old_marks (unit - 1) 0 < mark) where
-  }
-
   module _ (done : List ℕ) (lists : List (List ℕ)) (marks : List ℕ) (unit : ℕ) (is_unit : IsUnitBelow units unit)
       (h : HasNoted units mark trigger done old_lists old_marks lists marks) where
     -- a unit with another mark was not noted

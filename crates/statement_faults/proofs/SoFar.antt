@@ -1,12 +1,10 @@
 -- The statements by numbers, as far as they are numbered.
-use Rattle.std.proofs.Common.{◌≡◌, ℕ, ◌+◌, ◌<◌, ◌≤◌, List, [], ◌∷◌, ◌++◌, length, map, drop, get_or}
-use Rattle.std.specs.Prelude.{Some}
+use Rattle.std.proofs.Common.{◌≡◌, ℕ, ◌+◌, ◌≤◌, List, ◌++◌, length, map, drop}
 use Rattle.galileo_tree.specs.declared.raw.Statement.{Statement}
-use Rattle.fault_words.specs.declared.place.Place.{Place}
 use Rattle.statement_faults.specs.declared.numbered.NumberedText.{NumberedText}
 use Rattle.statement_faults.specs.Said.{basics, gates, tops, uses}
 use Rattle.statement_faults.specs.Numbered.{numbered, numbered_gate}
-use Rattle.statement_faults.specs.Classes.{undefined, first}
+use Rattle.statement_faults.specs.Classes.{undefined}
 
 pub record SoFar (names : List (List ℕ)) (statements : List Statement) (i : ℕ) (deck : NumberedText) : Type 0 where
   pub units : deck.units + length (basics (drop i statements)) ≡ length (basics statements)
@@ -16,15 +14,3 @@ pub record SoFar (names : List (List ℕ)) (statements : List Statement) (i : �
   pub tops_all : deck.tops.items ++ map (λ top. numbered names top.name) (tops (drop i statements))
       ≡ map (λ top. numbered names top.name) (tops statements)
   pub known : undefined names (uses (drop i statements)) ≡ undefined names (uses statements)
-
-module _ (names : List (List ℕ)) (statements : List Statement) (i : ℕ) (statement : Statement) (old : NumberedText)
-    (l : i < length statements) (is : statement ≡ get_or statements i statement)
-    (s : SoFar names statements i old) where
-  rest : List Statement
-  rest = drop (i + 1) statements
-
-  }
-
-  first-append : (xs ys : List Place) (p : Place) → first xs ≡ Some p → first (xs ++ ys) ≡ Some p
-  first-append [] ys p h = absurd cc
-  first-append (x ∷ xs) ys p h = h

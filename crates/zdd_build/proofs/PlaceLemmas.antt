@@ -1,18 +1,11 @@
 -- Places by rank.
-use Rattle.std.proofs.Common.{ℕ, List}
+use Rattle.std.proofs.Common.{List}
 use Rattle.std.specs.List.Sorted.{IsPermutation, IsNonDecreasingBy}
 use Rattle.std.proofs.lemmas.List.Sorted.{All-permutation, Contains-permutation}
-use Rattle.fault_definitions.specs.Tree.{FaultTree, IsNodeOf, rank_of}
+use Rattle.fault_definitions.specs.Tree.{FaultTree, rank_of}
 use Rattle.fault_definitions.specs.WellFormed.{IsTree}
 use Rattle.zdd_build.specs.declared.places.Place.{Place}
-use Rattle.zdd_build.specs.Places.{ArePlaces, HasPlaces, HasPlacesTo, IsPlace}
-
-module _ (tree : FaultTree) (node : ℕ) (is_node : IsNodeOf tree node) (places : List Place)
-    (has : HasPlacesTo tree node places) where
-  -- the next node is an `fdep`
-  }
-
-  }
+use Rattle.zdd_build.specs.Places.{ArePlaces, HasPlaces, IsPlace}
 
 -- places that are put in order of rank
 pub places_sorted : (tree : FaultTree) → IsTree tree → (before after : List Place) → IsPermutation before after

@@ -120,8 +120,6 @@ module _ (due : List (List ℕ) → Type 0) where
 
   -- ---- seats that are split off and joined
 
-  }
-
   -- a seat goes on counting
   pub CountsDue-went : (before after : Seated) → CountsDue due before → WentAll due before after → CountsDue due after
   CountsDue-went before after counts went = record {
