@@ -40,6 +40,22 @@ Puts-failed taken faults out text failed = record {
   steady = omega arith;
 }
 
+-- a text that waits
+pub Puts-held : {K : Type 0} (taken : K → Option (List ℕ)) (faults : K → ℕ) (old new : Output K) (text : List ℕ)
+    → new.sink ≡ old.sink → new.waiting ≡ old.waiting ++ text → new.has_failed ≡ old.has_failed
+    → Puts taken faults old new text
+Puts-held taken faults old new text sink grown state = record {
+  same_sink = ap (λ s. s.ghost_name) sink;
+  front = [];
+  left = waiting old ++ text;
+  split = refl;
+  added = subst (λ s. Appends (taken (sink_of old)) (taken s.now) []) (sym sink) (Appends-nil (taken (sink_of old)));
+  waits = λ _. grown;
+  stopped = λ failed. (state ∙ failed, ap (λ s. s.now) sink);
+  rose = λ fine failed. absurd (true≢false (sym failed ∙ state ∙ fine));
+  steady = subst (λ s. faults (sink_of old) ≤ faults s.now) (sym sink) (omega arith);
+}
+
 -- one text put behind another: where the first put failed the second wrote nothing
 pub Puts-trans : {K : Type 0} (taken : K → Option (List ℕ)) (faults : K → ℕ) (old mid new : Output K)
     (text more : List ℕ)

@@ -7,8 +7,8 @@ use Rattle.std.proofs.lemmas.Bool.Decides.{nat_tests}
 use Rattle.std.proofs.lemmas.List.{get_or-map, length-map}
 use Rattle.std.proofs.lemmas.List.Sums.{get_or-le-sum_by}
 use Rattle.unit_sets.specs.CutOrder.{IsOrderedCuts, IsCutSet, weight}
-use Rattle.unit_sets.specs.UnitList.{among, IsRising, without_unit}
-use Rattle.unit_sets.proofs.UnitListLemmas.{among-without_unit}
+use Rattle.unit_sets.specs.UnitList.{among, IsRising, with_unit, without_unit}
+use Rattle.unit_sets.proofs.UnitListLemmas.{among-with_unit, among-without_unit}
 use Rattle.residual_ledger.specs.Residual.{residual, cut_at}
 use Rattle.residual_ledger.proofs.ResidualFacts.{residual-alike}
 use Rattle.residual_ledger.specs.Holding.{holding, between, HasRows}
@@ -70,6 +70,19 @@ row_within out cuts counts unit row is counted =
       (held_place cuts unit place (ap (λ xs. among xs place) (sym is) ∙ has)).0,
     ))
 
+pub row_positive : (out : List ℕ) (cuts : List (List ℕ)) (counts : List ℕ) (unit : ℕ) (row : List ℕ)
+    → row ≡ holding cuts unit → counts ≡ residuals out cuts → IsOrderedCuts cuts → among out unit ≡ false
+    → All (λ place. 0 < get_or counts place 0) row
+row_positive out cuts counts unit row is counted ordered free =
+    All-from_among (λ place. 0 < get_or counts place 0) row
+    (λ place has.
+    let held = held_place cuts unit place (ap (λ xs. among xs place) (sym is) ∙ has) in
+    omega (
+      arith,
+      count_at out cuts counts place counted held.0,
+      residual-taken unit out (cut_at cuts place) (cut_rises cuts place ordered held.0) free held.1,
+    ))
+
 pub row_room : (out : List ℕ) (cuts : List (List ℕ)) (counts : List ℕ) (unit : ℕ) (row : List ℕ)
     → row ≡ holding cuts unit → counts ≡ residuals out cuts → IsOrderedCuts cuts
     → All (λ place. get_or counts place 0 < 2 ^ 31) row
@@ -83,6 +96,9 @@ row_room out cuts counts unit row is counted ordered =
 
 -- ---- a unit goes out
 
+pub residual-with_unit : (unit : ℕ) (out cut : List ℕ) → residual (with_unit unit out) cut ≡ residual (unit ∷ out) cut
+residual-with_unit unit out cut = residual-alike (with_unit unit out) (unit ∷ out) (among-with_unit unit out) cut
+
 one_less : (unit : ℕ) (out cut : List ℕ) (low high : ℕ) → IsRising cut → among out unit ≡ false
     → high ≡ residual out cut → (among cut unit ≡ true → high ≡ suc low) → (among cut unit ≡ false → high ≡ low)
     → low ≡ residual (unit ∷ out) cut
@@ -91,6 +107,23 @@ one_less unit out cut low high rising free is more same =
       | inl has ↦ omega (arith, more has, residual-taken unit out cut rising free has)
       | inr none ↦ omega (arith, same none, residual-apart unit out cut none)
     ]
+
+pub lowered_counts : (out : List ℕ) (cuts : List (List ℕ)) (counts counts' : List ℕ) (unit : ℕ) (row : List ℕ)
+    → row ≡ holding cuts unit → counts ≡ residuals out cuts → IsOrderedCuts cuts → among out unit ≡ false
+    → IsOneMore row counts' counts → counts' ≡ residuals (with_unit unit out) cuts
+lowered_counts out cuts counts counts' unit row is counted ordered free more =
+    let many : length counts' ≡ length cuts = more.long ∙ as_many out cuts counts counted in
+    ext_get_or 0 counts' (residuals (with_unit unit out) cuts)
+    (many ∙ sym (length-map cuts (residual (with_unit unit out))))
+    (λ place short.
+    let inside : place < length cuts = omega (arith, short, many) in
+    let held : among row place ≡ among (cut_at cuts place) unit =
+    ap (λ xs. among xs place) is ∙ place_held cuts unit place inside in
+    one_less unit out (cut_at cuts place) (get_or counts' place 0) (get_or counts place 0)
+    (cut_rises cuts place ordered inside) free (count_at out cuts counts place counted inside)
+    (λ has. more.more place (held ∙ has)) (λ none. more.same place (held ∙ none))
+    ∙ sym (residual-with_unit unit out (cut_at cuts place))
+    ∙ sym (get_or-map (residual (with_unit unit out)) cuts place [] 0 inside))
 
 -- ---- a unit comes back
 
