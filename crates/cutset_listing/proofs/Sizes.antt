@@ -1,7 +1,7 @@
 -- Lists of the sets of each size, one after the other, are a list in the order of cut sets.
 use Rattle.std.proofs.Common.{◌≡◌, ℕ, zero, suc, ◌+◌, ◌-◌, ◌<◌, ◌≤◌, Bool, true, false, List, [], ◌∷◌, ◌++◌, length}
 use Rattle.std.proofs.Common.{take, drop, refl, sym, ◌∙◌, ap, subst, inl, inr, arith, append_assoc, eq-eqb}
-use Rattle.std.specs.Prelude.{filter, ◌==◌, Contains, slice_index_or, nat_le}
+use Rattle.std.specs.Prelude.{filter, ◌==◌, Contains, nat_le}
 use Rattle.std.specs.List.{AllByRecursion}
 use Rattle.std.specs.List.Sorted.{IsStrictlySortedBy}
 use Rattle.std.specs.Ordering.{nat_cmp, ordering_then}
@@ -10,7 +10,7 @@ use Rattle.std.specs.declared.cmp.Ordering.TheVariants.{Less}
 use Rattle.std.proofs.lemmas.Bool.{cases_Bool, cases_lt, cases_eq, cond-true, cond-false, ne_eqb, eqb-true}
 use Rattle.std.proofs.lemmas.Bool.Decides.{nat_tests}
 use Rattle.std.proofs.lemmas.Cmp.{nat_cmp_total, tied_itself}
-use Rattle.std.proofs.lemmas.List.{append-nil, take-append-drop, take_more}
+use Rattle.std.proofs.lemmas.List.{append-nil}
 use Rattle.std.proofs.lemmas.List.Elements.{Contains-append_cases, Contains-append_left, Contains-append_right}
 use Rattle.unit_sets.specs.CutOrder.{cut_cmp, IsInCutOrder, weight}
 use Rattle.unit_sets.specs.UnitList.{IsRising}
@@ -362,21 +362,3 @@ part-weight lists k cuts sets short same is =
     let b = ap weight (joined-front lists (suc k)) in
     let d = weight-append (joined (take (suc k) lists)) (joined (drop (suc k) lists)) in
     omega (arith, a, b, d)
-
--- ---- sets put one after the other
-
-next_front : (before sets : List (List ℕ)) (i : ℕ) (set : List ℕ) → i < length sets → set ≡ slice_index_or sets i []
-    → before ++ sets ≡ ((before ++ take i sets) ++ set ∷ []) ++ drop (i + 1) sets
-next_front before sets i set short same =
-    ap (λ q. before ++ q) (sym (take-append-drop (i + 1) sets)
-    ∙ ap (λ q. q ++ drop (i + 1) sets) (take_more sets i [] short ∙ ap (λ s. take i sets ++ s ∷ []) (sym same)))
-    ∙ sym (append_assoc before (take i sets ++ set ∷ []) (drop (i + 1) sets))
-    ∙ ap (λ q. q ++ drop (i + 1) sets) (sym (append_assoc before (take i sets) (set ∷ [])))
-
-pub next-ordered : (before sets cuts : List (List ℕ)) (i : ℕ) (set : List ℕ) → i < length sets
-    → set ≡ slice_index_or sets i [] → cuts ≡ before ++ take i sets → IsInCutOrder (before ++ sets)
-    → IsInCutOrder (cuts ++ set ∷ [])
-next-ordered before sets cuts i set short same is ordered =
-    subst (λ q. IsInCutOrder (q ++ set ∷ [])) (sym is)
-    (sorted-front cut_cmp ((before ++ take i sets) ++ set ∷ []) (drop (i + 1) sets)
-    (subst IsInCutOrder (next_front before sets i set short same) ordered))

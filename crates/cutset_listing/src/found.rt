@@ -1,5 +1,5 @@
 //! The sets that a walk has found, apart by their size.
-ghost use Rattle.std.specs.Prelude.{◌≡◌, ◌<◌, ◌≤◌, ℕ, [], ◌∷◌, ◌++◌, length, IfOk, OnOk, IsErrOf};
+ghost use Rattle.std.specs.Prelude.{◌≡◌, ◌<◌, ℕ, [], ◌∷◌, ◌++◌, length, IfOk, OnOk, IsErrOf};
 ghost use Rattle.std.specs.List.{AllByRecursion};
 ghost use Rattle.unit_sets.specs.CutOrder.{IsInCutOrder, weight, weight_limit};
 ghost use Rattle.unit_sets.specs.UnitList.{IsRising};
@@ -66,10 +66,7 @@ impl Found {
     {
         let mut cuts = CutList::new(alloc);
         for size in 0..self.sizes() {
-            match add_all(&mut cuts, self.sets_of(size)) {
-                Ok(()) => {}
-                Err(end) => return Err(end),
-            }
+            cuts.append(self.sets_of(size))?;
         }
         Ok(cuts)
     }
@@ -88,18 +85,4 @@ impl Found {
     {
         &self.lists[size]
     }
-}
-
-// Puts these sets behind those of the list.
-fn add_all(cuts: &mut CutList, sets: &Rows<UnitNo>) -> Result<(), ListEnd>
-    requires filled { AllByRecursion (λ set. 0 < length set) sets.now }
-    requires rising { AllByRecursion IsRising sets.now }
-    requires ordered { IsInCutOrder (cuts.old ++ sets.now) }
-    ensures added { OnOk result (cuts.new ≡ cuts.old ++ sets.now) }
-    ensures limit { IsErrOf result ListEnd.ListLimit → weight_limit < weight (cuts.old ++ sets.now) }
-{
-    for i in 0..sets.len() {
-        cuts.push(sets.row(i))?;
-    }
-    Ok(())
 }
