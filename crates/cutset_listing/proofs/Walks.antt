@@ -1,7 +1,7 @@
 -- What the steps of a walk leave to be found.
 use Rattle.std.proofs.Common.{◌≡◌, ◌≢◌, ℕ, ◌+◌, ◌*◌, ◌<◌, ◌≤◌, Bool, List, [], ◌∷◌, ◌++◌, length, take, refl, sym, ◌∙◌}
-use Rattle.std.proofs.Common.{ap, inl, inr, arith, append_assoc, length-append}
-use Rattle.std.specs.Prelude.{◌==◌, Err, IsErrOf}
+use Rattle.std.proofs.Common.{ap, subst, inl, inr, arith, append_assoc, length-append}
+use Rattle.std.specs.Prelude.{◌==◌, ◌⊎◌, Err, IsErrOf}
 use Rattle.std.specs.List.{AllByRecursion}
 use Rattle.std.proofs.lemmas.Bool.{cases_Bool, cond-true, cond-false, ne_eqb, eqb-true}
 use Rattle.std.proofs.Math.Seq.{take-length}
@@ -16,6 +16,7 @@ use Rattle.cutset_listing.specs.declared.walk.Pending.{Pending}
 use Rattle.cutset_listing.specs.declared.walk.Walk.{Walk}
 use Rattle.cutset_listing.specs.BySize.{of_size, at_size}
 use Rattle.cutset_listing.specs.Visits.{behind, still, IsPending, Nested, IsOn, Keeps, Stands, visits_left}
+use Rattle.cutset_listing.specs.Visits.{ahead, with_later, WalksOn, IsTooHeavy}
 
 -- ---- sets behind some units
 
@@ -396,6 +397,102 @@ parts_left known nodes nodes' last x lo hi n m is filled same =
     let less = parts_weigh_less x (family known lo) (family known hi) filled in
     omega (arith, a, b, c, d, e, less)
 
+-- ---- going down
+
+-- a node without sets that stands before the last one
+pub leaves_out : (known : ℕ → ℕ) (sets : List (List ℕ)) (path : List ℕ) (later : List Pending) (none last : Pending)
+    (found : List (List (List ℕ))) (weighs : ℕ) → none.node ≡ 0
+    → IsOn known sets path ((later ++ none ∷ []) ++ last ∷ []) found weighs →
+    IsOn known sets path (later ++ last ∷ []) found weighs
+leaves_out known sets path later none last found weighs empty on =
+    let below = nested-below (later ++ none ∷ []) last on.nested in
+    let H : List (List ℕ) = behind (take last.before path) (family known last.node) in
+    let same : still known path ((later ++ none ∷ []) ++ last ∷ []) ≡ still known path (later ++ last ∷ []) =
+    still-push known path (later ++ none ∷ []) last
+    ∙ ap (λ q. H ++ q) (still-push known path later none
+    ∙ ap (λ (q : List (List ℕ)). behind (take none.before path) q ++ still known path later)
+    (ap (family known) empty ∙ family-empty known))
+    ∙ sym (still-push known path later last) in
+    record {
+      each_pending =
+          each-push (IsPending known path) later last
+          (each-front (IsPending known path) later (none ∷ [])
+          (each-front (IsPending known path) (later ++ none ∷ []) (last ∷ []) on.each_pending))
+          (each-last (IsPending known path) (later ++ none ∷ []) last on.each_pending);
+      nested =
+          nested-push later last (nested-front later none (nested-front (later ++ none ∷ []) last on.nested))
+          (each-front (λ (node : Pending). node.before ≤ last.before) later (none ∷ []) below);
+      by_size = λ size. ap (λ q. at_size found size ++ of_size size q) (sym same) ∙ on.by_size size;
+      weight = ap (λ q. weighs + weight q) (sym same) ∙ on.weight;
+    }
+
+-- what a step down leaves of two walks
+pub record Opens (known : ℕ → ℕ) (old new : Walk) (node x lo hi : ℕ) : Type 0 where
+  pub parts : family known node ≡ branch x (family known lo) (family known hi)
+  pub knows_lo : Knows known lo
+  pub knows_hi : Knows known hi
+  pub path : new.path.items ≡ old.path.items ++ x ∷ []
+  pub pending : new.pending.items ≡ with_later old.pending.items (ahead old lo)
+  pub found : new.found ≡ old.found
+  pub weight : new.weight ≡ old.weight
+
+module _ (known : ℕ → ℕ) (old new : Walk) (node x lo hi : ℕ) (is : Opens known old new node x lo hi) where
+  abbrev hi_at : Pending
+  hi_at = record { node = hi; before = length old.path.items + 1 }
+
+  now : ahead new hi ≡ hi_at
+  now = ap (λ n. record { node = hi; before = n }) (ap length is.path ∙ length-append old.path.items (x ∷ []))
+
+  abbrev both : List Pending
+  both = (old.pending.items ++ ahead old lo ∷ []) ++ hi_at ∷ []
+
+  -- either both nodes are left, or lo has no sets and hi alone is left
+  abbrev left : List Pending → Type 0
+  left nodes = (nodes ≡ both) ⊎ ((nodes ≡ old.pending.items ++ hi_at ∷ []) × (lo ≡ 0))
+
+  left_now : left (new.pending.items ++ ahead new hi ∷ [])
+  left_now = elim (cases_Bool (lo == 0)) [
+    | inl empty ↦ inr (
+      ap (λ q. q ++ ahead new hi ∷ []) (is.pending
+          ∙ cond-true (lo == 0) old.pending.items (old.pending.items ++ ahead old lo ∷ []) empty)
+          ∙ ap (λ (at : Pending). old.pending.items ++ at ∷ []) now,
+      eqb-true lo 0 empty,
+    )
+    | inr filled ↦ inl (ap (λ q. q ++ ahead new hi ∷ []) (is.pending
+        ∙ cond-false (lo == 0) old.pending.items (old.pending.items ++ ahead old lo ∷ []) filled)
+        ∙ ap (λ (at : Pending). (old.pending.items ++ ahead old lo ∷ []) ++ at ∷ []) now)
+  ]
+
+  pub opens_on : (sets : List (List ℕ)) → Stands known sets old (old.pending.items ++ ahead old node ∷ [])
+      → Stands known sets new (new.pending.items ++ ahead new hi ∷ [])
+  opens_on sets on =
+      let same : IsOn known sets new.path.items both old.found old.weight =
+      opens known sets old.path.items old.pending.items (ahead old node) old.found old.weight on refl x lo hi is.parts
+      is.knows_lo is.knows_hi new.path.items both is.path refl in
+      let now_on : IsOn known sets new.path.items both new.found new.weight = rw (is.found, is.weight) same in
+      elim left_now [
+        | inl e ↦ subst (λ nodes. IsOn known sets new.path.items nodes new.found new.weight) (sym e) now_on
+        | inr e ↦ subst (λ nodes. IsOn known sets new.path.items nodes new.found new.weight) (sym e.0)
+            (leaves_out known sets new.path.items old.pending.items (ahead old lo) hi_at new.found new.weight e.1
+            now_on)
+      ]
+
+  pub opens_fewer : family known hi ≢ [] → visits_left known (new.pending.items ++ ahead new hi ∷ [])
+      < visits_left known (old.pending.items ++ ahead old node ∷ [])
+  opens_fewer filled =
+      let less : visits_left known both < visits_left known (old.pending.items ++ ahead old node ∷ []) =
+      parts_left known old.pending.items both (ahead old node) x lo hi (length old.path.items)
+      (length old.path.items + 1) is.parts filled refl in
+      elim left_now [
+        | inl e ↦ let f = ap (visits_left known) e in omega (arith, less, f)
+        | inr e ↦
+            let a = visits-push known (old.pending.items ++ ahead old lo ∷ []) hi_at in
+            let b = visits-push known old.pending.items (ahead old lo) in
+            let d = visits-push known old.pending.items hi_at in
+            let f = ap (visits_left known) e.0 in
+            omega (arith, less, a, b, d, f)
+      ]
+
 -- the empty set alone: the units of the path are a set
 pub keeps_on : (known : ℕ → ℕ) (sets : List (List ℕ)) (old new : Walk) (at : Pending) → Keeps old new
     → length old.path.items ≡ at.before → at.node ≡ 1 →
@@ -408,9 +505,35 @@ pub keeps_fewer : (known : ℕ → ℕ) (old new : Walk) (at : Pending) → Keep
     → visits_left known new.pending.items < visits_left known (old.pending.items ++ at ∷ [])
 keeps_fewer known old new at kept = rw kept.pending (fewer_left known old.pending.items at)
 
-pub pushed_twice : (nodes middle new : List Pending) (first second : Pending) → middle ≡ nodes ++ first ∷ []
-    → new ≡ middle ++ second ∷ [] → new ≡ (nodes ++ first ∷ []) ++ second ∷ []
-pushed_twice nodes middle new first second e f = f ∙ ap (λ q. q ++ second ∷ []) e
+-- ---- the first of a node's sets
+
+module _ (known : ℕ → ℕ) (old end : Walk) (at : Pending) (at_end : length old.path.items ≡ at.before)
+    (on : WalksOn known old (old.pending.items ++ ahead old at.node ∷ []) end
+    (end.pending.items ++ ahead end 1 ∷ [])) where
+  at_is : ahead old at.node ≡ at
+  at_is = ap (λ n. record { node = at.node; before = n }) at_end
+
+  at_end_on : (sets : List (List ℕ)) → Stands known sets old (old.pending.items ++ at ∷ [])
+      → Stands known sets end (end.pending.items ++ ahead end 1 ∷ [])
+  at_end_on sets stands =
+      on sets (subst (λ (q : Pending). Stands known sets old (old.pending.items ++ q ∷ [])) (sym at_is) stands)
+
+  pub finds_on : (new : Walk) → Keeps end new → WalksOn known old (old.pending.items ++ at ∷ []) new new.pending.items
+  finds_on new kept sets stands = keeps_on known sets end new (ahead end 1) kept refl refl (at_end_on sets stands)
+
+  pub finds_heavy : weight_limit < end.weight + (1 + length end.path.items)
+      → IsTooHeavy known old (old.pending.items ++ at ∷ [])
+  finds_heavy heavy sets stands =
+      too_heavy known sets end.path.items end.pending.items (ahead end 1) end.found end.weight (at_end_on sets stands)
+      refl refl heavy
+
+  pub finds_fewer : (new : Walk) → visits_left known (end.pending.items ++ ahead end 1 ∷ [])
+      ≤ visits_left known (old.pending.items ++ ahead old at.node ∷ []) → Keeps end new
+      → visits_left known new.pending.items < visits_left known (old.pending.items ++ at ∷ [])
+  finds_fewer new less kept =
+      let a = keeps_fewer known end new (ahead end 1) kept in
+      let b = ap (λ (q : Pending). visits_left known (old.pending.items ++ q ∷ [])) at_is in
+      omega (arith, less, a, b)
 
 -- a refusal that is handed on
 pub refused_so : {T U E : Type 0} (end why : E) → IsErrOf {T = T} (Err end) why → IsErrOf {T = U} (Err end) why

@@ -1,5 +1,6 @@
 -- What a walk through a diagram has still to find.
-use Rattle.std.specs.Prelude.{◌≡◌, ℕ, ◌+◌, ◌*◌, ◌<◌, ◌≤◌, List, [], ◌∷◌, ◌++◌, map, take, length}
+use Rattle.std.specs.Prelude.{◌≡◌, ℕ, ◌+◌, ◌*◌, ◌<◌, ◌≤◌, List, [], ◌∷◌, ◌++◌, map, take, length, ◌==◌}
+use Rattle.std.specs.Prelude.{if◌then◌else◌}
 use Rattle.std.specs.List.{AllByRecursion}
 use Rattle.unit_sets.specs.CutOrder.{weight, weight_limit}
 use Rattle.zdd_families.specs.Map.{Knows, family}
@@ -24,6 +25,14 @@ IsPending known path node = Knows known node.node × (node.before ≤ length pat
 abbrev pub Nested : List Pending → Type 0
 Nested [] = Unit {0}
 Nested (node ∷ later) = AllByRecursion (λ (other : Pending). node.before ≤ other.before) later × Nested later
+
+-- a node that stands at the end of a walk's path
+abbrev pub ahead : Walk → ℕ → Pending
+ahead walk node = record { node = node; before = length walk.path.items }
+
+-- a node more to be visited; one without sets is left out
+abbrev pub with_later : List Pending → Pending → List Pending
+with_later nodes node = if node.node == 0 then nodes else nodes ++ node ∷ []
 
 -- what was found, and what is found at these nodes, are the sets of a family, in each size in their order
 pub record IsOn (known : ℕ → ℕ) (sets : List (List ℕ)) (path : List ℕ) (nodes : List Pending)

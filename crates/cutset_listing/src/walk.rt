@@ -1,12 +1,12 @@
 //! The walk that finds the sets of a family: hi before lo, so that sets of one size come in lexicographic order.
-ghost use Rattle.std.specs.Prelude.{◌≡◌, ◌+◌, ◌<◌, ◌≤◌, ℕ, List, ◌∷◌, [], ◌++◌, true, false, length, IfOk, OnOk};
+ghost use Rattle.std.specs.Prelude.{◌≡◌, ◌≢◌, ◌+◌, ◌<◌, ◌≤◌, ℕ, List, ◌∷◌, [], ◌++◌, true, false, length, IfOk, OnOk};
 ghost use Rattle.std.specs.Prelude.{IsErrOf};
 ghost use Rattle.std.specs.List.{AllByRecursion};
 ghost use Rattle.unit_sets.specs.CutOrder.{weight, weight_limit};
 ghost use Rattle.zdd_families.specs.Map.{Knows, family};
 ghost use Rattle.zdd_shared_table.specs.Seats.{map_of};
 ghost use Rattle.cutset_listing.specs.BySize.{of_size, at_size};
-ghost use Rattle.cutset_listing.specs.Visits.{IsPending, Keeps, WalksOn, IsTooHeavy, visits_left};
+ghost use Rattle.cutset_listing.specs.Visits.{IsPending, Keeps, WalksOn, IsTooHeavy, ahead, visits_left, with_later};
 
 use crate::found::Found;
 use std::alloc::Global;
@@ -111,7 +111,7 @@ impl Walk {
         }
     }
 
-    // Enters a node at the end of the path: the end of a set is found, or the parts of the node are to be visited.
+    // Enters a node at the end of the path: the first of its sets is found, the others stay pending.
     fn enter(
         &mut self,
         alloc: Global,
@@ -135,20 +135,66 @@ impl Walk {
         if at.node == NodeRef::EMPTY {
             return Ok(());
         }
-        if at.node == NodeRef::UNIT {
-            return self.keep(alloc);
+        self.descend(store, seat, at.node)?;
+        self.keep(alloc)
+    }
+
+    // Goes down from a node that has sets, by hi as far as it goes: to the end of the first set.
+    fn descend(
+        &mut self,
+        store: &NodeStore,
+        seat: &mut StoreSeat,
+        node: NodeRef,
+    ) -> Result<(), NoMemory>
+        requires own { seat.old.store ≡ store.now }
+        requires knows { Knows (map_of seat.old) node }
+        requires filled { node ≢ 0 }
+        ensures on { OnOk result (WalksOn (map_of seat.old) self.old
+            (self.old.pending.items ++ ahead self.old node ∷ []) self.new
+            (self.new.pending.items ++ ahead self.new 1 ∷ [])) }
+        ensures fewer { OnOk result (visits_left (map_of seat.old) (self.new.pending.items ++ ahead self.new 1 ∷ [])
+            ≤ visits_left (map_of seat.old) (self.old.pending.items ++ ahead self.old node ∷ [])) }
+        ensures weight { OnOk result (self.new.weight ≡ self.old.weight) }
+        ensures seat { seat.new ≡ seat.old }
+    {
+        let mut at = node;
+        while at != NodeRef::UNIT {
+            at = self.open(store, seat, at)?;
         }
-        let parts = store.parts(seat, at.node);
-        self.pending.push(Pending {
-            node: parts.lo,
-            before: at.before,
-        })?;
-        self.pending.push(Pending {
-            node: parts.hi,
-            before: at.before + 1,
-        })?;
-        self.path.push(parts.level)?;
         Ok(())
+    }
+
+    // Takes the unit of a node at the end of the path, and puts off the sets without it. Gives those with it.
+    fn open(
+        &mut self,
+        store: &NodeStore,
+        seat: &mut StoreSeat,
+        node: NodeRef,
+    ) -> Result<NodeRef, NoMemory>
+        requires own { seat.old.store ≡ store.now }
+        requires knows { Knows (map_of seat.old) node }
+        requires inner { 2 ≤ node }
+        ensures on { IfOk result (λ hi. WalksOn (map_of seat.old) self.old
+            (self.old.pending.items ++ ahead self.old node ∷ []) self.new
+            (self.new.pending.items ++ ahead self.new hi ∷ [])) }
+        ensures fewer { IfOk result (λ hi. visits_left (map_of seat.old)
+            (self.new.pending.items ++ ahead self.new hi ∷ [])
+            < visits_left (map_of seat.old) (self.old.pending.items ++ ahead self.old node ∷ [])) }
+        ensures knows { IfOk result (Knows (map_of seat.old)) }
+        ensures filled { IfOk result (λ hi. hi ≢ 0) }
+        ensures weight { OnOk result (self.new.weight ≡ self.old.weight) }
+        ensures seat { seat.new ≡ seat.old }
+    {
+        let parts = store.parts(seat, node);
+        put_off(
+            &mut self.pending,
+            Pending {
+                node: parts.lo,
+                before: self.path.len(),
+            },
+        )?;
+        self.path.push(parts.level)?;
+        Ok(parts.hi)
     }
 
     // Keeps the units of the path, which are a set.
@@ -167,4 +213,14 @@ impl Walk {
         self.weight = weight;
         Ok(())
     }
+}
+
+// Puts a node to those that are to be visited, unless it has no sets.
+fn put_off(pending: &mut Vec<Pending>, at: Pending) -> Result<(), NoMemory>
+    ensures { OnOk result (pending.new.items ≡ with_later pending.old.items at) }
+{
+    if at.node != NodeRef::EMPTY {
+        pending.push(at)?;
+    }
+    Ok(())
 }

@@ -1,0 +1,42 @@
+use Rattle.std.proofs.Common.{rules, ◌≡◌, ◌∙◌, ap, length, refl}
+use Rattle.zdd_families.proofs.Canonical.{family-filled}
+use Rattle.zdd_shared_table.specs.Seats.{map_of}
+use Rattle.cutset_listing.specs.declared.walk.Walk.{Walk}
+use Rattle.cutset_listing.specs.Visits.{with_later}
+use Rattle.cutset_listing.proofs.Walks.{Opens, opens_on, opens_fewer}
+use Rattle.cutset_listing.proofs.walk.Walk.open.Goals.{In_ok-push}
+use Rattle.cutset_listing.proofs.walk.Walk.open.Goals as goal
+
+abbrev new_walk : In_ok-push → Walk
+new_walk c = record {
+  path = c.push.new.self;
+  pending = c.put_off.new.pending;
+  found = c.args.self.now.found;
+  weight = c.args.self.now.weight;
+}
+
+opened : (c : In_ok-push) → Opens (map_of c.args.seat.now) c.args.self.now (new_walk c) c.args.node
+    c.parts-parts.result.level c.parts-parts.result.lo c.parts-parts.result.hi
+opened c =
+    let seat = c.parts-parts.ensures.seat in
+    let long : c.len.result ≡ length c.args.self.now.path.items = search rules in
+    record {
+      parts = rw seat at c.parts-parts.ensures.branch;
+      knows_lo = rw seat at c.parts-parts.ensures.lo.0;
+      knows_hi = rw seat at c.parts-parts.ensures.hi.0;
+      path = c.in_ok-push.ensures.items;
+      pending = c.in_ok-put_off.ensures ∙ ap (λ n. with_later c.args.self.now.pending.items
+          (record { node = c.parts-parts.result.lo; before = n })) long;
+      found = refl;
+      weight = refl;
+    }
+
+pub returns-clause-on : goal.returns-clause-on
+returns-clause-on c = λ sets on. opens_on _ c.args.self.now (new_walk c) c.args.node _ _ _ (opened c) sets on
+
+pub returns-clause-fewer : goal.returns-clause-fewer
+returns-clause-fewer c =
+    let seat = c.parts-parts.ensures.seat in
+    opens_fewer _ c.args.self.now (new_walk c) c.args.node _ _ _ (opened c)
+    (family-filled _ c.parts-parts.result.hi (rw seat at c.parts-parts.ensures.sound.closed)
+    (rw seat at c.parts-parts.ensures.hi.0) c.parts-parts.ensures.filled)
