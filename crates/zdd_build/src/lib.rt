@@ -3,7 +3,7 @@
 //! The nodes are made rank by rank, each after all that it reads. A worker makes a node's family in a memory of
 //! its own, where operations keep families minimal all the way, and puts only the finished family into the
 //! store; where that memory is used up, the recipe over the store takes its place for the node. A rank that has
-//! shown itself to be heavy is spread over the workers, and so is the first rank of gates: each of them draws
+//! shown itself to be heavy is spread over the workers, and so is a first rank of not too many gates: each of them draws
 //! the next place until none is left.
 //!
 //! A layer above gets the reference of the minimal cuts, and knows one for each node. All memory is taken before

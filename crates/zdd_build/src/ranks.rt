@@ -19,6 +19,10 @@ use zdd_shared_table::{Full, NodeStore, StoreSeat};
 // A rank is heavy once the first worker has made so many nodes of diagrams for it.
 const HEAVY: usize = 20_000;
 
+// A first rank of gates that has more places is as a rule one of small gates under a large one, whose worker would have
+// to copy again what the others made.
+const MOST_AT_ONCE: usize = 512;
+
 // Makes the nodes of a run that are not made yet, by the first worker. It stops before a place once it has made as
 // many nodes of diagrams as the limit says, where at least two places are left. Answers where it stopped.
 fn make_rest<P: Pace>(
@@ -77,13 +81,17 @@ fn is_heavy(worker: &Worker, limit: Option<usize>) -> bool
     }
 }
 
-// Where the first worker stops in a rank, if the rest is spread. The first rank of gates is spread at once: it is as a
-// rule the widest, and the workers then hold the families of the units. A team of one has nobody to spread to.
-fn limit_of(team: &[Worker], rank: u32, spread_before: bool) -> Option<usize> {
+// Where the first worker stops in a rank, if the rest is spread. The first rank of gates is spread at once unless it has
+// many places: it is as a rule the widest, and the workers then hold the families of the units. A team of one has nobody
+// to spread to.
+fn limit_of(team: &[Worker], rank: u32, run: Run, spread_before: bool) -> Option<usize>
+    requires { run.from ≤ run.to }
+{
     if team.len() < 2 {
         return None;
     }
-    if rank > 0 && !spread_before {
+    let is_at_once = rank > 0 && !spread_before && run.to - run.from <= MOST_AT_ONCE;
+    if is_at_once {
         return Some(0);
     }
     Some(team[0].work.saturating_add(HEAVY))
@@ -204,7 +212,8 @@ pub(crate) fn make_ranks<R: Threads + Sync, P: Pace>(
     while from < places.len() {
         let rank = places[from].rank;
         let to = end_of_rank(places, from);
-        let limit = limit_of(team, rank, spread_before);
+        let run = Run { from, to };
+        let limit = limit_of(team, rank, run, spread_before);
         make_rank(
             rt,
             store,
@@ -213,7 +222,7 @@ pub(crate) fn make_ranks<R: Threads + Sync, P: Pace>(
             tree,
             places,
             table,
-            Run { from, to },
+            run,
             limit,
             pace,
         )?;
