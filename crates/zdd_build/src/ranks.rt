@@ -81,9 +81,9 @@ fn is_heavy(worker: &Worker, limit: Option<usize>) -> bool
     }
 }
 
-// Where the first worker stops in a rank, if the rest is spread. The first rank of gates is spread at once unless it has
-// many places: it is as a rule the widest, and the workers then hold the families of the units. A team of one has nobody
-// to spread to.
+// Where the first worker stops in a rank, if the rest is spread. The first rank of gates is spread at once unless it
+// has many places: it is as a rule the widest, and the workers then hold the families of the units. A team of one has
+// nobody to spread to.
 fn limit_of(team: &[Worker], rank: u32, run: Run, spread_before: bool) -> Option<usize>
     requires { run.from ≤ run.to }
 {
@@ -214,18 +214,7 @@ pub(crate) fn make_ranks<R: Threads + Sync, P: Pace>(
         let to = end_of_rank(places, from);
         let run = Run { from, to };
         let limit = limit_of(team, rank, run, spread_before);
-        make_rank(
-            rt,
-            store,
-            seat,
-            team,
-            tree,
-            places,
-            table,
-            run,
-            limit,
-            pace,
-        )?;
+        make_rank(rt, store, seat, team, tree, places, table, run, limit, pace)?;
         spread_before = spread_before || (rank > 0 && to - from > 1);
         from = to;
     }
