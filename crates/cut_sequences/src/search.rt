@@ -46,8 +46,8 @@ impl<'t> Search<'t> {
         ensures orders { IfOk result (λ search. search.orders ≡ []) }
     {
         Ok(Search {
-            replay: Replay::new(alloc, tree)?,
             left: Vec::with_capacity(alloc, tree.units() as usize)?,
+            replay: Replay::new(alloc, tree)?,
             orders: Rows::new(alloc),
         })
     }

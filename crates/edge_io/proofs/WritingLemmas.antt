@@ -2,7 +2,7 @@
 use Rattle.std.proofs.Common.{◌≡◌, ℕ, ◌+◌, ◌-◌, ◌<◌, ◌≤◌, Option, Some, None, List, [], ◌++◌, length, take, drop, sym}
 use Rattle.std.proofs.Common.{ap, subst, ◌∙◌, arith, length-drop, take-append-drop, append-nil}
 use Rattle.std.proofs.Math.Seq.{take-add}
-use Rattle.std.proofs.lemmas.List.{drop-drop}
+use Rattle.std.proofs.lemmas.List.{drop-drop, take_all}
 use Rattle.std.specs.Io.KnownBytes.{Appends, Keeps}
 use Rattle.std.proofs.KnownBytes.{Appends-nil, Appends-trans}
 use Rattle.edge_io.specs.Writing.{Writes, unwritten, write_more, TakesFront}
@@ -24,6 +24,10 @@ Written-none taken faults writes old bytes = record {
   steady = omega arith;
   run = unwritten;
 }
+
+-- what one more write is of
+pub left_all : (bytes : List ℕ) (done : ℕ) → take (length bytes - done) (drop done bytes) ≡ drop done bytes
+left_all bytes done = take_all (length bytes - done) (drop done bytes) (omega (arith, length-drop done bytes))
 
 -- one more write, of all that was left, took so many
 pub Written-more : {K : Type 0} (taken : K → Option (List ℕ)) (faults : K → ℕ)

@@ -64,10 +64,10 @@ impl Standing {
           held = nothing_held units;
         }) }
     {
+        let held = vec![in alloc; None; units as usize + 1]?;
         let ledger = Ledger::new(alloc, units, cuts)?;
         // The list tells the proof that it is in order and has known units alone.
         ledger.cuts();
-        let held = vec![in alloc; None; units as usize + 1]?;
         Ok(Standing {
             ledger,
             margin,

@@ -1,6 +1,6 @@
-use Rattle.std.proofs.Common.{◌≡◌, ◌-◌, length, take, drop, arith}
-use Rattle.std.proofs.lemmas.Grind.{common_steps}
-use Rattle.edge_io.proofs.WritingLemmas.{Written-none, Written-more, Written-front, Appends-nothing}
+use Rattle.std.proofs.Common.{◌-◌, length, take, drop, inl, inr, arith}
+use Rattle.std.proofs.KnownBytes.{Appends-nil}
+use Rattle.edge_io.proofs.WritingLemmas.{Written-none, Written-more, Written-front, Appends-nothing, left_all}
 use Rattle.edge_io.proofs.writing.write_all.Goals as goal
 
 pub loop-done-init : goal.loop-done-init
@@ -11,9 +11,8 @@ loop-done-preserved g c =
     let bytes = c.args.bytes.now in
     let done = c.loop-done.done in
     let left = take (length bytes - done) (drop done bytes) in
-    let rest : left ≡ drop done bytes = grind (arith, common_steps) in
     Written-more g.K.Sink.taken g.K.Sink.faults g.K.Sink.writes _ c.loop-done.sink c.write.new.self bytes left done
-    c.in-Ok.count c.loop-done.invariant rest (omega arith) c.in-Ok.ensures.bound c.in-Ok.ensures.added
+    c.in-Ok.count c.loop-done.invariant (left_all bytes done) (omega arith) c.in-Ok.ensures.bound c.in-Ok.ensures.added
     c.in-Ok.ensures.never_falls c.in-Ok.ensures.step
 
 pub returns-in-Ok-eq0-clause-front : goal.returns-in-Ok-eq0-clause-front
@@ -23,6 +22,15 @@ returns-in-Ok-eq0-clause-front g c = (
       c.loop-done.invariant (rw c.in-Ok-eq0.field-0-test at c.in-Ok-eq0.ensures.added),
 )
 
+pub returns-in-Ok-eq0-clause-writes : goal.returns-in-Ok-eq0-clause-writes
+returns-in-Ok-eq0-clause-writes g c =
+    let rest = left_all c.args.bytes.now c.loop-done.done in (
+      _,
+      c.loop-done.sink,
+      c.loop-done.invariant.run,
+      inr (rw (rest, c.in-Ok-eq0.field-0-test) at c.in-Ok-eq0.ensures.step),
+    )
+
 pub returns-in-Err-clause-front : goal.returns-in-Err-clause-front
 returns-in-Err-clause-front g c =
     let nothing =
@@ -31,3 +39,15 @@ returns-in-Err-clause-front g c =
       Written-front g.K.Sink.taken g.K.Sink.faults g.K.Sink.writes _ c.loop-done.sink _ _ c.loop-done.done
           c.loop-done.invariant nothing,
     )
+
+pub returns-in-Err-clause-writes : goal.returns-in-Err-clause-writes
+returns-in-Err-clause-writes g c =
+    let rest = left_all c.args.bytes.now c.loop-done.done in
+    (_, c.loop-done.sink, c.loop-done.invariant.run, inl (rw rest at c.in-Err.ensures.step))
+
+pub returns-clause-front : goal.returns-clause-front
+returns-clause-front g c = (
+  _,
+  Written-front g.K.Sink.taken g.K.Sink.faults g.K.Sink.writes _ c.loop-done.sink _ _ c.loop-done.done
+      c.loop-done.invariant (Appends-nil (g.K.Sink.taken c.loop-done.sink)),
+)

@@ -1,5 +1,6 @@
-use Rattle.std.proofs.Common.{◌∙◌, sym, ap, drop}
+use Rattle.std.proofs.Common.{ℕ, ◌<◌, ◌-◌, ◌∙◌, length, sym, ap, drop}
 use Rattle.std.proofs.lemmas.List.{take_rest}
+use Rattle.std.proofs.lemmas.List.Elements.{All-take, All-drop}
 use Rattle.fault_definitions.specs.Step.{Step}
 use Rattle.replay_semantics.specs.Failing.{falls_not_after}
 use Rattle.replay_semantics.specs.Table.{step_in}
@@ -14,3 +15,9 @@ returns-in-len1-up c =
     c.step_of.ensures
     ∙ sym (never_falls-first (step_in c.args.steps.now) c.args.nodes.now c.first-item.result c.in-len1-up.len_at_least
     c.first-item.is)
+
+pub fall_not_after-requires : goal.fall_not_after-requires
+fall_not_after-requires c =
+    let within = λ (node : ℕ). node < length c.args.steps.now in
+    All-take within (length c.args.nodes.now - 1) (drop 1 c.args.nodes.now)
+    (All-drop within 1 c.args.nodes.now c.requires)
