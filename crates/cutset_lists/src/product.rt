@@ -3,12 +3,12 @@
 //! A set of one list that has one of the other within it is its own union with that set, and all its other unions
 //! include it, so it stands for them all. Where lists share units such sets are split off, and only the rest is
 //! multiplied.
-ghost use Rattle.std.specs.Prelude.{◌≡◌, true, IfOk, OnOk};
-ghost use Rattle.cutset_lists.specs.Sets.{AddsBoth, AddsSetsOf, WithinBoth, AreSetsAs};
+ghost use Rattle.std.specs.Prelude.{◌≡◌, ℕ, List, true, IfOk, OnOk};
+ghost use Rattle.cutset_lists.specs.Sets.{AddsBoth, AddsSetsOf, WithinBoth, AreSetsAs, IsSplit};
 ghost use Rattle.cutset_lists.specs.Waiting.{AreFilled};
 
 use crate::combine::{add_all_unions, append};
-use crate::split::{are_filled, split};
+use crate::split::{Parts, are_filled, split};
 use crate::{NoMemory, Sets};
 use flat_rows::Rows;
 use std::alloc::Global;
@@ -24,6 +24,18 @@ fn are_split(left: &Sets, right: &Sets) -> bool
     left.len() >= MANY && right.len() >= MANY && are_filled(left) && are_filled(right)
 }
 
+// Adds the sets that stand for themselves and the unions of the others.
+fn add_parts(alloc: Global, sets: &mut Sets, lefts: &Parts, rights: &Parts) -> Result<(), NoMemory>
+    ensures { OnOk result ((left right : List (List ℕ)) → IsSplit left right lefts.now.including lefts.now.rest
+        → IsSplit right left rights.now.including rights.now.rest
+        → AddsBoth left right sets.old sets.new × AddsSetsOf left right sets.old sets.new) }
+{
+    append(sets, &lefts.including)?;
+    append(sets, &rights.including)?;
+    add_all_unions(alloc, sets, &lefts.rest, &rights.rest)?;
+    Ok(())
+}
+
 /// Adds the product by the sets that stand for themselves and the unions of the others.
 pub fn add_split(alloc: Global, sets: &mut Sets, left: &Sets, right: &Sets) -> Result<(), NoMemory>
     requires left { AreFilled left.now }
@@ -33,10 +45,10 @@ pub fn add_split(alloc: Global, sets: &mut Sets, left: &Sets, right: &Sets) -> R
 {
     let lefts = split(alloc, left, right)?;
     let rights = split(alloc, right, left)?;
-    append(sets, &lefts.including)?;
-    append(sets, &rights.including)?;
-    add_all_unions(alloc, sets, &lefts.rest, &rights.rest)?;
-    Ok(())
+    let added = add_parts(alloc, sets, &lefts, &rights);
+    drop(lefts);
+    drop(rights);
+    added
 }
 
 /// Adds the product of two lists. Where they are apart no set of one includes one of the other.

@@ -76,6 +76,26 @@ pub fn keep_unless(kept: &mut Sets, set: &[UnitNo], found: bool) -> Result<(), N
     Ok(())
 }
 
+// Keeps the minimal ones, where none waits and none is kept yet.
+fn sift(
+    waiting: &mut Waiting,
+    marked: &mut UnitSet,
+    kept: &mut Sets,
+    cuts: &[Cut],
+) -> Result<(), NoMemory>
+    requires order { IsInCutOrder (map units_of cuts.now) }
+    requires waiting { AreWaiting kept.old waiting.old.count waiting.old.at.items }
+    requires marked { marked.old ≡ [] }
+    requires none { kept.old ≡ [] }
+    ensures { OnOk result (IsMinimalFrom (map units_of cuts.now) kept.new) }
+{
+    for cut in cuts {
+        let found = has_smaller(waiting, marked, kept, cut.units)?;
+        keep_unless(kept, cut.units, found)?;
+    }
+    Ok(())
+}
+
 /// The minimal ones of sets in the order of cut lists.
 pub fn sifted(alloc: Global, cuts: &[Cut]) -> Result<Sets, NoMemory>
     requires { IsInCutOrder (map units_of cuts.now) }
@@ -84,9 +104,9 @@ pub fn sifted(alloc: Global, cuts: &[Cut]) -> Result<Sets, NoMemory>
     let mut waiting = Waiting::new(alloc)?;
     let mut marked = UnitSet::new(alloc)?;
     let mut kept = Rows::new(alloc);
-    for cut in cuts {
-        let found = has_smaller(&mut waiting, &mut marked, &kept, cut.units)?;
-        keep_unless(&mut kept, cut.units, found)?;
-    }
+    let ended = sift(&mut waiting, &mut marked, &mut kept, cuts);
+    drop(waiting);
+    drop(marked);
+    ended?;
     Ok(kept)
 }

@@ -1,5 +1,5 @@
 //! A list in two parts: the sets that include one of another list, and the rest.
-ghost use Rattle.std.specs.Prelude.{◌≡◌, [], true, IfOk};
+ghost use Rattle.std.specs.Prelude.{◌≡◌, [], true, IfOk, OnOk};
 ghost use Rattle.cutset_lists.specs.Sets.{Includes, IsSplit};
 ghost use Rattle.cutset_lists.specs.Waiting.{AreFilled, AreWaiting};
 
@@ -42,6 +42,29 @@ fn includes_some(waiting: &Waiting, marked: &mut UnitSet, sets: &Sets, set: &[Un
     found
 }
 
+// Puts the sets of a list into two parts, of which neither has a set yet.
+fn spread(
+    waiting: &Waiting,
+    marked: &mut UnitSet,
+    list: &Sets,
+    other: &Sets,
+    parts: &mut Parts,
+) -> Result<(), NoMemory>
+    requires waiting { AreWaiting other.now waiting.now.count waiting.now.at.items }
+    requires marked { marked.old ≡ [] }
+    requires including { parts.old.including ≡ [] }
+    requires rest { parts.old.rest ≡ [] }
+    ensures { OnOk result (IsSplit list.now other.now parts.new.including parts.new.rest) }
+{
+    for i in 0..list.len() {
+        let set = list.row(i);
+        let found = includes_some(waiting, marked, other, set);
+        keep_unless(&mut parts.including, set, !found)?;
+        keep_unless(&mut parts.rest, set, found)?;
+    }
+    Ok(())
+}
+
 /// Splits the sets that include one of another list off a list.
 pub fn split(alloc: Global, list: &Sets, other: &Sets) -> Result<Parts, NoMemory>
     requires { AreFilled other.now }
@@ -50,13 +73,13 @@ pub fn split(alloc: Global, list: &Sets, other: &Sets) -> Result<Parts, NoMemory
     let mut waiting = Waiting::new(alloc)?;
     waiting.take_up(other, usize::MAX)?;
     let mut marked = UnitSet::new(alloc)?;
-    let mut including = Rows::new(alloc);
-    let mut rest = Rows::new(alloc);
-    for i in 0..list.len() {
-        let set = list.row(i);
-        let found = includes_some(&waiting, &mut marked, other, set);
-        keep_unless(&mut including, set, !found)?;
-        keep_unless(&mut rest, set, found)?;
-    }
-    Ok(Parts { including, rest })
+    let mut parts = Parts {
+        including: Rows::new(alloc),
+        rest: Rows::new(alloc),
+    };
+    let ended = spread(&waiting, &mut marked, list, other, &mut parts);
+    drop(waiting);
+    drop(marked);
+    ended?;
+    Ok(parts)
 }

@@ -1,8 +1,9 @@
 -- The units of a take's names may be asked for.
 use Rattle.std.proofs.Common.{◌≡◌, ℕ, suc, ◌-◌, ◌≤◌, Bool, true, false, not, List, [], ◌∷◌, ◌++◌, length, get_or, refl}
-use Rattle.std.proofs.Common.{sym, ◌∙◌, ap, subst, arith, inl, inr}
+use Rattle.std.proofs.Common.{sym, ◌∙◌, ap, subst, arith, inl, inr, map, take, ◌+◌, ◌<◌}
 use Rattle.std.specs.Prelude.{nat_le, nat_lt, ◌||◌, ◌&&◌, ◌==◌, Option, Some, None, is_none}
 use Rattle.std.proofs.lemmas.Bool.{cases_lt, lt-ltb, le-ltb, leb-true, le-leb, and_parts, or_left, or_right}
+use Rattle.std.proofs.lemmas.List.{map-append, take_more}
 use lib.Pointwise.{bytes_decides}
 use Rattle.fault_definitions.specs.Tree.{FaultTree}
 use Rattle.unit_sets.specs.UnitList.{among}
@@ -147,3 +148,11 @@ module _ (tree : FaultTree) (names slice : List (List ℕ)) (units : List ℕ) (
       ∙ ap (λ (p : List (List ℕ) × List ℕ × ℕ). record { units = p.1; unknown = nat_lt p.2 (length p.0) })
       (λ i. (slice_is i, whole i, number i))
       ∙ ap (λ (b : Bool). record { units = units_of tree names; unknown = b }) (sym (unknown_is tree names))
+
+-- what was made of the first elements, with what is made of the next one put behind it
+pub map_take_more : {A B : Type 0} (f : A → B) (xs : List A) (i : ℕ) (d : A) (made more : List B) (x : B)
+    → i < length xs → made ≡ map f (take i xs) → x ≡ f (get_or xs i d) → more ≡ made ++ x ∷ []
+    → more ≡ map f (take (i + 1) xs)
+map_take_more f xs i d made more x within before is push =
+    push ∙ (λ k. before k ++ is k ∷ []) ∙ sym (map-append f (take i xs) (get_or xs i d ∷ []))
+    ∙ ap (map f) (sym (take_more xs i d within))

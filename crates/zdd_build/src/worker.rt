@@ -80,10 +80,11 @@ impl Tools {
             answers: OWN_ANSWERS.min(own_nodes),
         };
         Ok(Tools {
-            memory: FamilyMemory::new(alloc, room)?,
-            copies: Copies::new(alloc, own_nodes)?,
-            rooms: Rooms::new(alloc, tree)?,
             found: Vec::with_capacity(alloc, places)?,
+            rooms: Rooms::new(alloc, tree)?,
+            copies: Copies::new(alloc, own_nodes)?,
+            // The largest comes last, so that no failure has to let it go.
+            memory: FamilyMemory::new(alloc, room)?,
         })
     }
 }

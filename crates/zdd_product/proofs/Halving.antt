@@ -148,6 +148,17 @@ fewer_left known known' a b r q halves are above above' =
       | inr second ↦ inr second.level
     ])
 
+-- the lower halves of both references, over the same map
+pub lo_fewer : (known known' : ℕ → ℕ) (a b : ℕ) (halves : Halves) → known' ≡ known → AreHalves known a b halves
+    → (levels_left known' halves.first.lo halves.second.lo < levels_left known a b)
+    × (Knows known' halves.first.lo × Knows known' halves.second.lo)
+lo_fewer known known' a b halves same are =
+    subst (λ m. (levels_left m halves.first.lo halves.second.lo < levels_left known a b)
+    × (Knows m halves.first.lo × Knows m halves.second.lo)) (sym same) (
+      fewer_left known known a b halves.first.lo halves.second.lo halves are are.first.lo_above are.second.lo_above,
+      (are.first.knows_lo, are.second.knows_lo),
+    )
+
 -- of two halves at once
 abbrev pub levels_with : (ℕ → ℕ) → Half → Half → ℕ
 levels_with known first second =

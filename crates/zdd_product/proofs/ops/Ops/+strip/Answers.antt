@@ -1,4 +1,4 @@
-use Rattle.std.proofs.Common.{◌<◌, sym, subst, arith}
+use Rattle.std.proofs.Common.{◌<◌, sym, ap, subst, inl, arith}
 use Rattle.std.proofs.lemmas.Result.{err_from_is_err_and}
 use Rattle.family_operations.specs.Due.{IsInnerFamily}
 use Rattle.family_operations.specs.Without.{IsWithout}
@@ -9,7 +9,7 @@ use Rattle.kept_answers.specs.declared.answers.Operation.TheVariants.{Without}
 use Rattle.zdd_product.specs.Due.{IsMadeByWithout}
 use Rattle.zdd_product.specs.Seats.{Gave, WasFull}
 use Rattle.zdd_product.proofs.Entries.{told_made}
-use Rattle.zdd_product.proofs.Halving.{levels_left}
+use Rattle.zdd_product.proofs.Halving.{levels_left, lo_fewer}
 use Rattle.zdd_product.proofs.After.{Gave-known}
 use Rattle.zdd_product.proofs.WithoutParts.{without_ends}
 use Rattle.zdd_product.proofs.WithoutSteps.{without_lo_full, without_known1, without_hi_fewer, without_hi_full}
@@ -218,3 +218,13 @@ strip-returns-then-eq t c =
     let due = IsMadeByWithout (family known c.args.a) (family known c.args.b) in
     subst (λ (q : Seated). Gave is due c.args.self.now q c.strip_unit.result) (sym c.strip_unit.ensures.seat)
     (Gave-known due c.args.self.now c.is_sound.ensures.sound is c.strip_unit.result c.strip_unit.ensures.known)
+
+pub strip_halves-halves-requires-clause-some : goal.strip_halves-halves-requires-clause-some
+strip_halves-halves-requires-clause-some t c = inl c.requires.inner.0
+
+pub strip_halves-strip-requires : goal.strip_halves-strip-requires
+strip_halves-strip-requires t c =
+    let fewer =
+    lo_fewer (map_of c.args.self.now) (map_of c.halves.new.self) c.args.a c.args.b c.halves.result
+    (ap map_of c.halves.ensures.seat) c.halves.ensures.halves in
+    (let less = fewer.0 in omega (arith, less), fewer.1)

@@ -1,4 +1,4 @@
-use Rattle.std.proofs.Common.{◌<◌, subst, arith}
+use Rattle.std.proofs.Common.{ℕ, ◌≢◌, ◌⊎◌, ◌≤◌, ◌<◌, ap, subst, arith}
 use Rattle.std.proofs.lemmas.Result.{err_from_is_err_and}
 use Rattle.family_operations.specs.Due.{GoesOn}
 use Rattle.family_operations.specs.Union.{IsUnion}
@@ -8,12 +8,15 @@ use Rattle.kept_answers.specs.declared.answers.Operation.TheVariants.{Union}
 use Rattle.zdd_product.specs.Due.{IsMadeByUnion}
 use Rattle.zdd_product.specs.Seats.{Gave, WasFull}
 use Rattle.zdd_product.proofs.Entries.{told_made}
-use Rattle.zdd_product.proofs.Halving.{levels_left}
+use Rattle.zdd_product.proofs.Halving.{levels_left, lo_fewer}
 use Rattle.zdd_product.proofs.After.{Gave-known}
 use Rattle.zdd_product.proofs.UnionParts.{union_ends, union_goes_on}
 use Rattle.zdd_product.proofs.UnionSteps.{union_lo_full, union_hi_full, union_hi_knows, union_hi_fewer, union_lo_known}
 use Rattle.zdd_product.proofs.UnionSteps.{union_lo_above, union_hi_above, union_made}
 use Rattle.zdd_product.proofs.ops.Ops.+unite.Goals as goal
+
+inner_one : (a b : ℕ) → a ≢ 0 → b ≢ 0 → a ≢ b → (2 ≤ a) ⊎ (2 ≤ b)
+inner_one a b some some' differ = grind arith
 
 pub unite-returns-in-Some : goal.unite-returns-in-Some
 unite-returns-in-Some t c =
@@ -157,3 +160,14 @@ unite_halves-returns t c =
     c.in_ok-lo.lo) same c.in_ok-lo.ensures in
     union_made s c.args.a c.args.b cut sound are goes c.unite.new.self c.in_ok-lo.lo gave c.unite-2.new.self
     c.in_ok-hi.hi c.in_ok-hi.ensures c.make.new.self c.make.result c.make.ensures
+
+pub unite_halves-halves-level-requires-clause-some : goal.unite_halves-halves-level-requires-clause-some
+unite_halves-halves-level-requires-clause-some t c =
+    inner_one c.args.a c.args.b c.requires.goes_on.0 c.requires.goes_on.1 c.requires.goes_on.2
+
+pub unite_halves-unite-requires : goal.unite_halves-unite-requires
+unite_halves-unite-requires t c =
+    let fewer =
+    lo_fewer (map_of c.args.self.now) (map_of c.halves-level.new.self) c.args.a c.args.b c.halves-level.result
+    (ap map_of c.halves-level.ensures.seat) c.halves-level.ensures.halves in
+    (let less = fewer.0 in omega (arith, less), fewer.1)

@@ -11,3 +11,6 @@ invariant_of-self c = record {
       all_told (map_of c.self.inside.seat) (map_of c.node.new.seat) c.self.inside.answers
       c.self.invariant.sound.closed c.node.ensures.sound.closed c.node.ensures.keeps c.self.invariant.told;
 }
+
+pub returns : goal.returns
+returns c = rw (← c.self.invariant.own, c.self.view_is) at c.node.ensures

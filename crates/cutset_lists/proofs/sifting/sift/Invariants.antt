@@ -2,7 +2,7 @@ use Rattle.std.proofs.Common.{◌≡◌, [], map, take}
 use Rattle.cutset_lists.specs.Cuts.{units_of}
 use Rattle.cutset_lists.specs.Sets.{IsMinimalFrom}
 use Rattle.cutset_lists.specs.Waiting.{AreWaiting}
-use Rattle.cutset_lists.proofs.sifting.sifted.Given as goal
+use Rattle.cutset_lists.proofs.sifting.sift.Given as goal
 
 abbrev pub invariant-loop-cut : goal.invariant-loop-cut
 invariant-loop-cut l = record {
