@@ -1,10 +1,11 @@
 -- What a search for cycles in the graph of what nodes read says of a tree: no node lies on a cycle, so each has its
 -- rank and stands after what it reads.
 use Rattle.std.proofs.Common.{◌≡◌, ℕ, zero, suc, ◌-◌, ◌<◌, ◌≤◌, ◌↔◌, Bool, true, false, List, [], ◌∷◌, map, length}
+use Rattle.std.proofs.Common.{◌+◌, ◌++◌, append_assoc, get_or}
 use Rattle.std.proofs.Common.{take, All, Contains, IsTrue, refl, sym, ◌∙◌, ap, subst, inl, inr, arith}
 use Rattle.std.specs.Prelude.{slice_index, slice_index_or, ◌==◌}
 use Rattle.std.proofs.lemmas.Bool.{cases_Bool, cases_lt, or_cases, eqb-true}
-use Rattle.std.proofs.lemmas.List.{get_or-map, get_or_past, length-map, take-map}
+use Rattle.std.proofs.lemmas.List.{get_or-map, get_or_past, length-map, map_more, take-map}
 use Rattle.std.proofs.lemmas.List.Elements.{All-cons, All-contains, All-from_get_or, All-head, All-map, All-nil}
 use Rattle.std.proofs.lemmas.List.Elements.{All-tail, All-weaker, Contains-append_right}
 use Rattle.graph_cycles.specs.Graph.{IsGraph, Goes, IsReverseTopological, Leads, has, rank_over, successors}
@@ -19,6 +20,16 @@ use Rattle.fault_definitions.specs.WellFormed.{IsTree}
 use Rattle.fault_definitions.proofs.RankLaws.{below_are_nodes, below_ranks}
 
 -- ---- places
+
+-- the rows of some nodes behind others, with one more
+pub row_more : (before below : List (List ℕ)) (i : ℕ) (list row : List ℕ) (old new : List (List ℕ)) → i < length below
+    → list ≡ get_or below i list → row ≡ places list → old ≡ before ++ map places (take i below) → new ≡ old ++ row ∷ []
+    → new ≡ before ++ map places (take (i + 1) below)
+row_more before below i list row old new short is row_is old_is new_is =
+    new_is ∙ ap (λ rows. rows ++ row ∷ []) old_is
+    ∙ ap (λ r. (before ++ map places (take i below)) ++ r ∷ []) (row_is ∙ ap places is)
+    ∙ append_assoc before (map places (take i below)) (places (get_or below i list) ∷ [])
+    ∙ ap (λ rows. before ++ rows) (sym (map_more places below i list short))
 
 -- what the places of some nodes have is the place of one of them
 places_has : (nodes : List ℕ) (place : ℕ) → All (λ node. 1 ≤ node) nodes → IsTrue (has (places nodes) place)

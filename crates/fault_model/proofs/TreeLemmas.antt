@@ -1,10 +1,10 @@
 -- A tree is made of parts that keep the rules for some ranks: its tables and its own ranks keep them too.
 use Rattle.std.proofs.Common.{◌≡◌, ℕ, ◌-◌, List, [], ◌++◌, length, drop, get_or}
 use Rattle.std.proofs.Common.{sym, ◌∙◌, ap, inl, inr, arith, length-append}
-use Rattle.std.specs.Prelude.{zip}
+use Rattle.std.specs.Prelude.{All, zip}
 use Rattle.std.proofs.lemmas.Bool.{cases_lt, cond-true, cond-false, lt-ltb, le-ltb}
 use Rattle.std.proofs.lemmas.List.{get_or_append_left, get_or-append_right}
-use Rattle.std.proofs.lemmas.List.Elements.{All-weaker}
+use Rattle.std.proofs.lemmas.List.Elements.{All-nil, All-weaker}
 use Rattle.fault_words.specs.declared.kind.GateKind.{GateKind}
 use Rattle.fault_words.specs.declared.kind.GateKind.TheVariants.{And, Or, Votes, Pand, Por, Seq, Fdep, Csp, Wsp, Hsp}
 use Rattle.fault_definitions.specs.declared.parts.TreeParts.{TreeParts}
@@ -13,7 +13,7 @@ use lib.Seq.{drop-append_seam}
 use Rattle.fault_model.specs.declared.trigger.TriggerTable.{TriggerTable}
 use Rattle.fault_definitions.specs.Tree.{FaultTree, ranked, unit_count, node_count, gates, inputs_of, is_above_units}
 use Rattle.fault_definitions.specs.Tree.{IsNodeOf}
-use Rattle.fault_definitions.specs.Trigger.{below, triggers_of}
+use Rattle.fault_definitions.specs.Trigger.{below, dependents_in, triggers_of}
 use Rattle.fault_definitions.specs.Rank.{IsRanked}
 use Rattle.fault_definitions.specs.WellFormed.{IsTree, IsSoundGate, IsSoundKind}
 use Rattle.fault_model.specs.TriggerTable.{IsUnitBelow, IsTableOf}
@@ -21,6 +21,28 @@ use Rattle.fault_model.specs.Ranking.{AreRanks}
 use Rattle.fault_model.specs.TreeTables.{HoldsLists, HoldsTables, IsFromBelow, below_in}
 
 -- ---- the dependents of every gate are units
+
+units_triggered : (tree : FaultTree) (gate : GateKind × List ℕ) → IsSoundGate tree gate
+    → All (IsUnitBelow (unit_count tree)) (dependents_in gate)
+units_triggered tree (Fdep, inputs) sound = sound.kind.units
+units_triggered tree (And, inputs) sound = All-nil (IsUnitBelow (unit_count tree))
+units_triggered tree (Or, inputs) sound = All-nil (IsUnitBelow (unit_count tree))
+units_triggered tree (Votes least of, inputs) sound = All-nil (IsUnitBelow (unit_count tree))
+units_triggered tree (Pand, inputs) sound = All-nil (IsUnitBelow (unit_count tree))
+units_triggered tree (Por, inputs) sound = All-nil (IsUnitBelow (unit_count tree))
+units_triggered tree (Seq, inputs) sound = All-nil (IsUnitBelow (unit_count tree))
+units_triggered tree (Csp, inputs) sound = All-nil (IsUnitBelow (unit_count tree))
+units_triggered tree (Wsp, inputs) sound = All-nil (IsUnitBelow (unit_count tree))
+units_triggered tree (Hsp, inputs) sound = All-nil (IsUnitBelow (unit_count tree))
+
+pub dependents_below : (parts : TreeParts) (given : List ℕ) (units : ℕ) (attributes : List (List Attribute))
+    (kinds : List GateKind) (inputs : List (List ℕ)) → units ≡ length attributes
+    → attributes ≡ parts.attributes → kinds ≡ parts.kinds → inputs ≡ parts.inputs → IsTree (ranked parts given)
+    → All (λ gate. All (IsUnitBelow units) (dependents_in gate)) (zip kinds inputs)
+dependents_below parts given units attributes kinds inputs count a k i kept =
+    rw (count, a, k, i)
+    (All-weaker (IsSoundGate (ranked parts given)) (λ gate. All (IsUnitBelow (length parts.attributes))
+    (dependents_in gate)) (units_triggered (ranked parts given)) (gates (ranked parts given)) kept.gates_sound)
 
 -- ---- the lists of what each node reads
 

@@ -1,19 +1,39 @@
 -- How the table of triggers is filled.
 use Rattle.std.proofs.Common.{◌≡◌, ℕ, ◌+◌, ◌-◌, ◌<◌, ◌≤◌, Bool, true, false, List, [], ◌∷◌, ◌++◌, length, take, set}
 use Rattle.std.proofs.Common.{get_or, refl, sym, ◌∙◌, ap, subst, inl, inr, arith, length-set, get_or-set_same}
-use Rattle.std.proofs.Common.{get_or-set_other}
+use Rattle.std.proofs.Common.{get_or-set_other, replicate}
 use Rattle.std.specs.Prelude.{if◌then◌else◌, ◌==◌, ◌||◌, Option, Some, None, option_to_list, filter_map, zip, All}
 use Rattle.std.specs.List.{cons_option}
 use Rattle.std.proofs.lemmas.Bool.{cases_eq, cases_Bool, eq-eqb, ne_eqb, eqb-true, or_left, or_right}
-use Rattle.std.proofs.lemmas.List.{append-nil, take_all, take_more}
+use Rattle.std.proofs.lemmas.List.{append-nil, take_all, take_more, length-replicate, get_or-replicate}
 use Rattle.std.proofs.lemmas.List.Elements.{filter_map-append}
 use Rattle.std.proofs.lemmas.Slice.Zip.{length-zip, get_or-zip}
 use Rattle.std.proofs.lemmas.List.Folds.{list_any-append}
 use Rattle.unit_sets.specs.UnitList.{among}
 use Rattle.fault_words.specs.declared.kind.GateKind.{GateKind}
 use Rattle.fault_definitions.specs.Trigger.{dependents_in, trigger_by}
-use Rattle.fault_model.specs.TriggerTable.{IsUnitBelow, IsTableOf, AddsTriggers}
+use Rattle.fault_model.specs.TriggerTable.{IsUnitBelow, IsTableOf, AreMarks, AddsTriggers}
 use Rattle.fault_model.specs.declared.trigger.TriggerTable.{TriggerTable}
+
+-- a table with nothing in it
+pub no_lists : (units : ℕ) (table : TriggerTable) → table.lists.items ≡ replicate {A = List ℕ} units []
+    → IsTableOf units [] table
+no_lists units table is = record {
+  all = ap length is ∙ length-replicate {A = List ℕ} units [];
+  triggers = λ unit is_unit.
+      ap (λ lists. get_or lists (unit - 1) []) is
+      ∙ get_or-replicate {A = List ℕ} units (unit - 1) [] [] (omega (arith, is_unit.0, is_unit.1));
+}
+
+pub no_marks : (units : ℕ) (table : TriggerTable) → table.marks.items ≡ replicate units 0 → AreMarks units 1 table
+no_marks units table is = record {
+  all = ap length is ∙ length-replicate units 0;
+  low = λ unit is_unit.
+      let none : get_or table.marks.items (unit - 1) 0 ≡ 0 =
+      ap (λ marks. get_or marks (unit - 1) 0) is
+      ∙ get_or-replicate units (unit - 1) 0 0 (omega (arith, is_unit.0, is_unit.1)) in
+      omega arith;
+}
 
 -- among the dependents up to here each unit has the trigger once, and the mark of this `fdep`
 pub record HasNoted (units mark trigger : ℕ) (done : List ℕ) (old_lists : List (List ℕ)) (old_marks : List ℕ)

@@ -1,5 +1,5 @@
 //! The ranks of a tree's nodes and an order from below, by a search for cycles in the graph of what nodes read.
-ghost use Rattle.std.specs.Prelude.{◌≡◌, suc, ◌^◌, ◌<◌, ◌≤◌, length, map, All, IfOk, OnOk};
+ghost use Rattle.std.specs.Prelude.{◌≡◌, suc, ◌^◌, ◌<◌, ◌≤◌, ◌++◌, length, map, All, IfOk, OnOk};
 ghost use Rattle.fault_model.specs.Ranking.{AreRanks, places};
 ghost use Rattle.fault_definitions.specs.Tree.{FaultTree};
 ghost use Rattle.fault_model.specs.TreeTables.{HoldsLists, IsFromBelow};
@@ -40,13 +40,22 @@ fn graph_of(alloc: Global, below: &[NodeList]) -> Result<Rows<usize>, NoMemory>
     requires { All (All (λ node. 1 ≤ node)) below.now }
     ensures { IfOk result (λ graph. graph ≡ map places below.now) }
 {
-    let mut row = Vec::new(alloc);
     let mut graph = Rows::new(alloc);
+    add_rows(alloc, &mut graph, below)?;
+    Ok(graph)
+}
+
+/// Adds what each node reads.
+fn add_rows(alloc: Global, graph: &mut Rows<usize>, below: &[NodeList]) -> Result<(), NoMemory>
+    requires { All (All (λ node. 1 ≤ node)) below.now }
+    ensures { OnOk result (graph.new ≡ graph.old ++ map places below.now) }
+{
+    let mut row = Vec::new(alloc);
     for list in below {
         set_places(&mut row, list.as_slice())?;
         graph.push(&row)?;
     }
-    Ok(graph)
+    Ok(())
 }
 
 /// Makes a row of the places of these nodes, in the memory that it has.

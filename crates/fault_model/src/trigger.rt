@@ -1,6 +1,6 @@
 //! The table of triggers: one pass over the inputs of the `fdep` gates.
 ghost use Rattle.std.specs.Prelude.{◌≡◌, ◌≢◌, suc, ◌-◌, ◌^◌, ◌<◌, [], ◌∷◌, ◌++◌, length, drop, zip, All, IfOk, OnOk};
-ghost use Rattle.std.specs.Prelude.{slice_set};
+ghost use Rattle.std.specs.Prelude.{slice_set, replicate};
 ghost use Rattle.fault_definitions.specs.Trigger.{dependents_in};
 ghost use Rattle.fault_model.specs.TriggerTable.{IsUnitBelow, IsTableOf, AddsTriggers, AreMarks, at_unit, noted};
 
@@ -14,17 +14,26 @@ pub(crate) struct TriggerTable {
     marks: Vec<u32>,
 }
 
+/// A list for each unit, with nothing in it.
+fn empty_lists(alloc: Global, units: usize) -> Result<Vec<NodeList>, NoMemory>
+    ensures { IfOk result (λ lists. lists.items ≡ replicate units []) }
+{
+    let mut lists = Vec::with_capacity(alloc, units)?;
+    for _ in 0..units {
+        lists.push(NodeList::new(alloc))?;
+    }
+    Ok(lists)
+}
+
 impl TriggerTable {
     fn new(alloc: Global, units: usize) -> Result<TriggerTable, NoMemory>
         ensures lists { IfOk result (IsTableOf units []) }
         ensures marks { IfOk result (AreMarks units 1) }
     {
-        let mut lists = Vec::with_capacity(alloc, units)?;
-        for _ in 0..units {
-            lists.push(NodeList::new(alloc))?;
-        }
-        let marks = vec![in alloc; 0; units]?;
-        Ok(TriggerTable { lists, marks })
+        Ok(TriggerTable {
+            marks: vec![in alloc; 0; units]?,
+            lists: empty_lists(alloc, units)?,
+        })
     }
 
     // Notes a trigger of one unit, unless its mark says that this was done.

@@ -47,6 +47,10 @@ pub none_behind : {X : Type 0} (place_of : X → Place) (xs : List X) (n : ℕ) 
     → first (map place_of (drop n xs)) ≡ None
 none_behind place_of xs n long = ap (λ ys. first (map place_of ys)) (drop_all n xs long)
 
+pub some_behind : {X : Type 0} (place_of : X → Place) (xs : List X) (n : ℕ) (x : X) → n < length xs
+    → first (map place_of (drop n xs)) ≡ Some (place_of (get_or xs n x))
+some_behind place_of xs n x short = ap (λ ys. first (map place_of ys)) (at_drop_more (λ ys. ys) xs n x short)
+
 -- where parts of the items are passed over: an item with one part, and an item with none
 module _ {X Y : Type 0} (parts : X → List Y) (place_of : Y → Place) (xs : List X) (i : ℕ) (x : X) (n : ℕ) where
   pub passed_one : i < length xs → x ≡ get_or xs i x → (y : Y) → parts x ≡ y ∷ [] → (n ≡ 0 → ⊥) → (m : ℕ) → m ≡ n - 1

@@ -1,12 +1,12 @@
 //! Definitions that lead to themselves.
 ghost use Rattle.std.specs.Prelude.{◌≡◌, ◌+◌, ◌<◌, ◌≤◌, ◌||◌, ◌&&◌, ◌==◌, ◌∷◌, ◌++◌, ℕ, [], length, map, All, IfOk};
 ghost use Rattle.std.specs.Prelude.{IfErr, OnOk, slice_index_or, filter_map, replicate, true, false, drop};
-ghost use Rattle.statement_faults.specs.Said.{definitions, definition_in, names, uses};
+ghost use Rattle.statement_faults.specs.Said.{definitions, names, uses};
 ghost use Rattle.fault_words.specs.Names.{all_differ};
 ghost use Rattle.statement_faults.specs.Numbering.{IsDeckOf};
 ghost use Rattle.statement_faults.specs.Found.{IsCycleFault};
 ghost use Rattle.statement_faults.specs.Classes.{first, undefined, dependent_gates};
-ghost use Rattle.statement_faults.specs.Marked.{marked_places, placed_list};
+ghost use Rattle.statement_faults.specs.Marked.{marked_places};
 ghost use Rattle.unit_sets.specs.UnitList.{among};
 ghost use Rattle.statement_faults.specs.TreeOf.{numbers, input_lists, HasNoCycle, AreRanks};
 ghost use Rattle.statement_faults.specs.Numbered.{kinds, kept_inputs, kept_by, is_fdep_in, unit_total, numbered_gates};
@@ -14,6 +14,7 @@ ghost use Rattle.statement_faults.specs.Triggers.{Notes, AddsTriggers, HasTrigge
 ghost use Rattle.statement_faults.specs.Triggers.{dependents_of, written_gate};
 
 use crate::gates::{drops_fdeps, is_fdep};
+use crate::naming::definition;
 use crate::numbered::{Numbered, NumberedGate, NumberedText};
 use crate::{CheckCode, CheckFault};
 use fault_words::{GateKind, Place};
@@ -164,16 +165,6 @@ fn is_marked(marks: &[bool], number: usize) -> bool
     ensures { result ≡ slice_index_or marks.now number false }
 {
     marks.get(number).copied().unwrap_or(false)
-}
-
-fn definition(statement: &Statement) -> Option<&Placed>
-    ensures { definition_in statement.now ≡ placed_list result }
-{
-    match statement {
-        Statement::Top(_) => None,
-        Statement::Gate(gate) => Some(&gate.name),
-        Statement::Basic(basic) => Some(&basic.name),
-    }
 }
 
 /// The first definition of the text whose number is marked.

@@ -1,5 +1,5 @@
 //! Faults that show at one gate after another.
-ghost use Rattle.std.specs.Prelude.{◌≡◌, true, drop};
+ghost use Rattle.std.specs.Prelude.{◌≡◌, true, drop, map};
 ghost use Rattle.fault_definitions.specs.Tree.{is_fdep_kind};
 ghost use Rattle.statement_faults.specs.Numbered.{is_fdep_in, is_gate, is_spare_kind, drops_fdeps, kept_by, kinds};
 ghost use Rattle.statement_faults.specs.Classes.{first, is_empty, is_short_fdep, wrong_vote, wrong_votes, short_fdeps};
@@ -48,8 +48,14 @@ pub(crate) fn short_fdep(gates: &[NumberedGate]) -> Option<Place>
 pub(crate) fn gate_beyond(gates: &[NumberedGate]) -> Option<Place>
     ensures { result ≡ first (gates_beyond gates.now) }
 {
-    if gates.len() > MOST_GATES {
-        Some(gates[MOST_GATES].name)
+    name_at(gates, MOST_GATES)
+}
+
+fn name_at(gates: &[NumberedGate], number: usize) -> Option<Place>
+    ensures { result ≡ first (map (λ gate. gate.name) (drop number gates.now)) }
+{
+    if gates.len() > number {
+        Some(gates[number].name)
     } else {
         None
     }

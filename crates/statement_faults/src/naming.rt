@@ -1,7 +1,8 @@
 //! Names into numbers: each name is defined once, and each name that is used is defined.
 ghost use Rattle.std.specs.Prelude.{◌≡◌, ◌++◌, ◌∷◌, ℕ, [], true, false, length, map, IfOk, IfErr, IfSome, IfNone};
 ghost use Rattle.std.specs.Prelude.{is_some, OnOk, IsTrue};
-ghost use Rattle.statement_faults.specs.Said.{names, definitions, uses, basic_names, gate_names};
+ghost use Rattle.statement_faults.specs.Said.{names, definition_in, definitions, uses, basic_names, gate_names};
+ghost use Rattle.statement_faults.specs.Marked.{placed_list};
 ghost use Rattle.statement_faults.specs.Classes.{first, repeats, undefined};
 ghost use Rattle.fault_words.specs.Names.{all_differ};
 ghost use Rattle.statement_faults.specs.Naming.{Adds, name_list};
@@ -9,7 +10,7 @@ ghost use Rattle.statement_faults.specs.Found.{IsFoundAs};
 
 use crate::{CheckCode, CheckFault};
 use fault_words::{Name, Place};
-use galileo_tree::Statement;
+use galileo_tree::{Placed, Statement};
 use name_index::NameIndex;
 use std::alloc::{AllocError, Global};
 
@@ -72,22 +73,41 @@ fn add_gates<'a>(index: &mut NameIndex<'a>, statements: &'a [Statement]) -> Resu
     Ok(true)
 }
 
+/// The name that a statement defines.
+pub(crate) fn definition(statement: &Statement) -> Option<&Placed>
+    ensures { definition_in statement.now ≡ placed_list result }
+{
+    match statement {
+        Statement::Top(_) => None,
+        Statement::Gate(gate) => Some(&gate.name),
+        Statement::Basic(basic) => Some(&basic.name),
+    }
+}
+
+/// The first definition of a name that an earlier one defines, by an index that has no name yet.
+fn repeat_in<'a>(
+    index: &mut NameIndex<'a>,
+    statements: &'a [Statement],
+) -> Result<Option<Place>, AllocError>
+    requires { index.old ≡ [] }
+    ensures { IfOk result (λ found. found ≡ first (repeats statements.now)) }
+{
+    for statement in statements {
+        if let Some(definition) = definition(statement) {
+            if !index.insert(&definition.name)? {
+                return Ok(Some(definition.place));
+            }
+        }
+    }
+    Ok(None)
+}
+
 /// The first definition of a name that an earlier one defines.
 fn repeat(alloc: Global, statements: &[Statement]) -> Result<Option<Place>, AllocError>
     ensures { IfOk result (λ found. found ≡ first (repeats statements.now)) }
 {
     let mut index = NameIndex::with_room(alloc, statements.len())?;
-    for statement in statements {
-        let definition = match statement {
-            Statement::Top(_) => continue,
-            Statement::Gate(gate) => &gate.name,
-            Statement::Basic(basic) => &basic.name,
-        };
-        if !index.insert(&definition.name)? {
-            return Ok(Some(definition.place));
-        }
-    }
-    Ok(None)
+    repeat_in(&mut index, statements)
 }
 
 /// The index of the names, or `None` where some name is defined twice.

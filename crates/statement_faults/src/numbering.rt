@@ -84,6 +84,27 @@ impl NumberedText {
         }
         Ok(())
     }
+
+    /// Adds what each statement says, to a text that says nothing yet.
+    fn add_all(
+        &mut self,
+        alloc: Global,
+        index: &NameIndex<'_>,
+        statements: &[Statement],
+    ) -> Result<(), CheckFault>
+        requires units { self.old.units ≡ 0 }
+        requires gates { self.old.gates.items ≡ [] }
+        requires tops { self.old.tops.items ≡ [] }
+        ensures deck { OnOk result (IsDeckOf index.now statements.now self.new) }
+        ensures few { OnOk result (self.new.units ≤ length statements.now) }
+        ensures known { OnOk result (undefined index.now (uses statements.now) ≡ []) }
+        ensures fault { IfErr result (IsFoundAs CheckCode.Undefined (undefined index.now (uses statements.now))) }
+    {
+        for statement in statements {
+            self.add(alloc, index, statement)?;
+        }
+        Ok(())
+    }
 }
 
 /// The statements by numbers.
@@ -102,8 +123,11 @@ pub fn number_all(
         gates: Vec::new(alloc),
         tops: Vec::new(alloc),
     };
-    for statement in statements {
-        deck.add(alloc, index, statement)?;
+    match deck.add_all(alloc, index, statements) {
+        Ok(()) => Ok(deck),
+        Err(fault) => {
+            drop(deck);
+            Err(fault)
+        }
     }
-    Ok(deck)
 }

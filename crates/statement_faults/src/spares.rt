@@ -117,6 +117,20 @@ impl SpareTable {
             None
         }
     }
+
+    // The first clash at any of the gates, for a table that has no use yet.
+    fn shared(&mut self, nodes: usize, gates: &[NumberedGate]) -> Option<Place>
+        requires numbers { AreWithin nodes gates.now }
+        requires fresh { self.old.uses.items ≡ replicate (nodes + 1) EarlierUses.Unused }
+        ensures { result ≡ first (shared_spares gates.now) }
+    {
+        for gate in gates {
+            if let Some(place) = self.clash_at(gate) {
+                return Some(place);
+            }
+        }
+        None
+    }
 }
 
 /// The first input of a spare gate that another spare gate has too, or the same gate earlier, unless each of the
@@ -131,10 +145,5 @@ pub(crate) fn shared_spare(
     ensures { IfOk result (λ found. found ≡ first (shared_spares gates.now)) }
 {
     let mut table = SpareTable::new(alloc, nodes)?;
-    for gate in gates {
-        if let Some(place) = table.clash_at(gate) {
-            return Ok(Some(place));
-        }
-    }
-    Ok(None)
+    Ok(table.shared(nodes, gates))
 }

@@ -17,7 +17,8 @@ find_cycles-requires c =
 
 pub returns-in-Some-clause-fault : goal.returns-in-Some-clause-fault
 returns-in-Some-clause-fault c =
-    let whole : length c.in_ok-found.found.ranks.items ≡ length c.in_ok-graph.graph = grind arith in (
+    let whole : length c.in_ok-found.found.ranks.items ≡ length c.in_ok-graph.graph =
+    omega (arith, c.in_ok-found.ensures.all_ranks) in (
       refl,
       cycle_found c.args.statements.now c.in_ok-graph.graph c.in_ok-found.found.on_cycle.items
           c.in_ok-found.found.ranks.items
@@ -34,7 +35,8 @@ returns-in-Some-clause-fault c =
 
 pub returns-clause-acyclic : goal.returns-clause-acyclic
 returns-clause-acyclic c =
-    let whole : length c.in_ok-found.found.ranks.items ≡ length c.in_ok-graph.graph = grind arith in
+    let whole : length c.in_ok-found.found.ranks.items ≡ length c.in_ok-graph.graph =
+    omega (arith, c.in_ok-found.ensures.all_ranks) in
     no_cycle c.args.statements.now c.in_ok-graph.graph c.in_ok-found.found.on_cycle.items
     c.in_ok-found.found.ranks.items
     (survey_of c.args.statements.now c.args.deck.now c.deref.result.now c.in_ok-graph.graph
@@ -48,7 +50,8 @@ returns-clause-acyclic c =
 
 pub returns-clause-ranks : goal.returns-clause-ranks
 returns-clause-ranks c =
-    let whole : length c.in_ok-found.found.ranks.items ≡ length c.in_ok-graph.graph = grind arith in
+    let whole : length c.in_ok-found.found.ranks.items ≡ length c.in_ok-graph.graph =
+    omega (arith, c.in_ok-found.ensures.all_ranks) in
     are_ranks c.args.statements.now c.in_ok-graph.graph c.in_ok-found.found.on_cycle.items
     c.in_ok-found.found.ranks.items
     (survey_of c.args.statements.now c.args.deck.now c.deref.result.now c.in_ok-graph.graph

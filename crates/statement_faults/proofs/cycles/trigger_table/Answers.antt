@@ -1,4 +1,4 @@
-use Rattle.statement_faults.proofs.TriggerRows.{HasTriggers-next}
+use Rattle.statement_faults.proofs.TriggerRows.{HasTriggers-begun, HasTriggers-next}
 use Rattle.statement_faults.proofs.cycles.trigger_table.Goals as goal
 
 pub loop-gate-preserved : goal.loop-gate-preserved
@@ -6,3 +6,6 @@ loop-gate-preserved c =
     HasTriggers-next c.args.units c.args.gates.now c.loop-gate.gate-index c.gate-item.result c.loop-gate.table.items
     c.note_gate.new.table.items
     c.loop-gate-test.true c.gate-item.is c.loop-gate.invariant c.in_ok-note_gate.ensures
+
+pub loop-gate-init : goal.loop-gate-init
+loop-gate-init c = HasTriggers-begun c.args.units c.in_ok-table.table.items c.in_ok-table.ensures

@@ -12,7 +12,8 @@ find_cycles-requires c =
 
 pub ranks_of-requires : goal.ranks_of-requires
 ranks_of-requires c =
-    let whole : length c.in_ok-found.found.ranks.items ≡ length c.in_ok-graph.graph = grind arith in
+    let whole : length c.in_ok-found.found.ranks.items ≡ length c.in_ok-graph.graph =
+    omega (arith, c.in_ok-found.ensures.all_ranks) in
     let few : node_count c.requires.0 ≤ 2147483648 = omega (arith, c.requires.1.few_units, c.requires.1.few_gates) in
     rw c.deref.ensures.value
     (ranks_low c.requires.0 c.requires.1 c.args.below.now c.requires.2 c.in_ok-graph.graph c.in_ok-graph.ensures
@@ -21,7 +22,8 @@ ranks_of-requires c =
 
 pub returns-clause-ranks : goal.returns-clause-ranks
 returns-clause-ranks c = λ tree kept holds.
-    let whole : length c.in_ok-found.found.ranks.items ≡ length c.in_ok-graph.graph = grind arith in
+    let whole : length c.in_ok-found.found.ranks.items ≡ length c.in_ok-graph.graph =
+    omega (arith, c.in_ok-found.ensures.all_ranks) in
     rw (c.in_ok-ranks_of.ensures, c.deref.ensures.value)
     (are_ranks tree kept c.args.below.now holds c.in_ok-graph.graph c.in_ok-graph.ensures
     c.in_ok-found.found.on_cycle.items c.in_ok-found.found.ranks.items c.in_ok-found.found.order.items whole
@@ -29,7 +31,8 @@ returns-clause-ranks c = λ tree kept holds.
 
 pub returns-clause-order : goal.returns-clause-order
 returns-clause-order c = λ tree kept holds.
-    let whole : length c.in_ok-found.found.ranks.items ≡ length c.in_ok-graph.graph = grind arith in
+    let whole : length c.in_ok-found.found.ranks.items ≡ length c.in_ok-graph.graph =
+    omega (arith, c.in_ok-found.ensures.all_ranks) in
     rw (c.in_ok-nodes_at.ensures, c.deref-2.ensures.value)
     (from_below tree kept c.args.below.now holds c.in_ok-graph.graph c.in_ok-graph.ensures
     c.in_ok-found.found.on_cycle.items c.in_ok-found.found.ranks.items c.in_ok-found.found.order.items whole

@@ -1,7 +1,7 @@
 use Rattle.std.proofs.Common.{refl, ◌∙◌}
 use Rattle.fault_definitions.specs.Tree.{ranked}
 use Rattle.fault_model.specs.TreeTables.{HoldsLists}
-use Rattle.fault_model.proofs.TreeLemmas.{parts_lists, made_holds, table_for}
+use Rattle.fault_model.proofs.TreeLemmas.{dependents_below, parts_lists, made_holds, table_for}
 use Rattle.fault_model.proofs.tree.Tree.new.Goals as goal
 
 pub over-requires-2 : goal.over-requires-2
@@ -28,3 +28,8 @@ invariant_of-result c =
     (c.in_ok-ranking.ensures.ranks (ranked c.args.parts c.requires.0) c.requires.1 lists)
     (c.in_ok-ranking.ensures.order (ranked c.args.parts c.requires.0) c.requires.1 lists)
     _ (c.in_ok-of.ensures ∙ c.into_items.ensures)
+
+pub over-requires-clause-dependents : goal.over-requires-clause-dependents
+over-requires-clause-dependents c =
+    dependents_below c.args.parts c.requires.0 _ _ _ _ refl c.as_slice-units.ensures.items c.as_slice.ensures.items
+    c.as_slice-2.ensures.items c.requires.1

@@ -3,18 +3,18 @@ use Rattle.std.proofs.lemmas.List.{length-replicate}
 use Rattle.statement_faults.specs.declared.spares.EarlierUses.TheVariants.{Unused}
 use Rattle.statement_faults.proofs.FirstPlaces.{none_from_no_some}
 use Rattle.statement_faults.proofs.SpareLemmas.{begun, next_gate, clash_here}
-use Rattle.statement_faults.proofs.spares.shared_spare.Goals as goal
+use Rattle.statement_faults.proofs.spares.SpareTable.shared.Goals as goal
 
 pub loop-gate-init : goal.loop-gate-init
 loop-gate-init c = record {
-  room = ap length c.in_ok-table.ensures ∙ length-replicate (c.args.nodes + 1) Unused;
-  rest = begun c.args.nodes c.args.gates.now c.in_ok-table.table.uses.items c.requires.numbers c.in_ok-table.ensures;
+  room = ap length c.requires.fresh ∙ length-replicate (c.args.nodes + 1) Unused;
+  rest = begun c.args.nodes c.args.gates.now c.args.self.now.uses.items c.requires.numbers c.requires.fresh;
 }
 
 pub returns-in-Some : goal.returns-in-Some
 returns-in-Some c =
     sym (clash_here c.args.gates.now c.loop-gate.gate-index c.gate-item.result c.loop-gate-test.true c.gate-item.is
-    c.loop-gate.table.uses.items c.in-Some.place (sym c.in-Some.ensures.clash))
+    c.loop-gate.self.uses.items c.in-Some.place (sym c.in-Some.ensures.clash))
     ∙ c.loop-gate.invariant.rest
 
 pub loop-gate-preserved : goal.loop-gate-preserved
@@ -24,6 +24,6 @@ loop-gate-preserved c =
       room = c.clash_at.ensures.room ∙ c.loop-gate.invariant.room;
       rest =
           next_gate c.args.gates.now c.loop-gate.gate-index c.gate-item.result c.loop-gate-test.true c.gate-item.is
-          c.loop-gate.table.uses.items c.clash_at.new.self.uses.items (sym c.clash_at.ensures.clash ∙ none)
+          c.loop-gate.self.uses.items c.clash_at.new.self.uses.items (sym c.clash_at.ensures.clash ∙ none)
           (c.clash_at.ensures.table none) ∙ c.loop-gate.invariant.rest;
     }

@@ -1,7 +1,7 @@
 use Rattle.std.proofs.Common.{◌≡◌, drop}
 use Rattle.statement_faults.specs.Said.{definitions}
 use Rattle.statement_faults.specs.Classes.{first, repeats, repeats_after}
-use Rattle.statement_faults.proofs.naming.repeat.Given as goal
+use Rattle.statement_faults.proofs.naming.repeat_in.Given as goal
 
 abbrev pub invariant-loop-statement : goal.invariant-loop-statement
 invariant-loop-statement l =

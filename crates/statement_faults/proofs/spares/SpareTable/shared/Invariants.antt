@@ -1,12 +1,12 @@
 use Rattle.std.proofs.Common.{◌≡◌, ◌+◌, drop, length}
 use Rattle.statement_faults.specs.Classes.{first, spare_uses, shared_spares}
 use Rattle.statement_faults.specs.SpareTable.{clashes_by}
-use Rattle.statement_faults.proofs.spares.shared_spare.Given as goal
+use Rattle.statement_faults.proofs.spares.SpareTable.shared.Given as goal
 
 abbrev pub invariant-loop-gate : goal.invariant-loop-gate
 invariant-loop-gate l =
     record {
-      room : length l.table.uses.items ≡ l.nodes + 1;
-      rest : first (clashes_by l.table.uses.items (spare_uses (drop l.gate-index l.gates)))
+      room : length l.self.uses.items ≡ l.nodes + 1;
+      rest : first (clashes_by l.self.uses.items (spare_uses (drop l.gate-index l.gates)))
           ≡ first (shared_spares l.gates);
     }
