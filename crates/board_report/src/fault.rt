@@ -9,8 +9,8 @@ use fault_model::Place;
 use galileo_lexer::LexCode;
 use galileo_tree::What;
 use itoa::Buffer;
+use statement_faults::CheckCode;
 use text_pieces::put_all;
-use tree_check::CheckCode;
 
 /// What a fault of a deck is.
 #[derive(Clone, Copy, Debug, PartialEq, Eq)]

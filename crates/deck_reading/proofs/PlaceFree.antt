@@ -24,7 +24,7 @@ use Rattle.statement_faults.specs.declared.fault.CheckCode.TheVariants.{Dependen
 use Rattle.statement_faults.specs.declared.fault.CheckCode.TheVariants.{SpareNotBasic, SharedSpare, Replicated}
 use Rattle.statement_faults.specs.declared.fault.CheckCode.TheVariants.{TopIsFdep}
 use Rattle.statement_faults.specs.declared.fault.CheckCode.TheVariants.{Cycle, TooManyUnits, TooManyGates}
-use Rattle.tree_check.specs.Checked.{places}
+use Rattle.statement_faults.specs.Checked.{places}
 use Rattle.statement_faults.specs.Classes.{SpareUse, clash, dummies, dummies_in, fdep_tops, gates_after_first}
 use Rattle.statement_faults.specs.Classes.{gates_beyond}
 use Rattle.statement_faults.specs.Classes.{inputless, is_empty, is_replicated, is_short_fdep, places_where}

@@ -10,7 +10,7 @@ use Rattle.galileo_tree.specs.declared.raw.RawBasic.{RawBasic}
 use Rattle.galileo_tree.specs.declared.raw.Statement.{Statement}
 use Rattle.galileo_tree.specs.ReadTree.{ReadTree}
 use Rattle.statement_faults.specs.declared.fault.CheckCode.{CheckCode}
-use Rattle.tree_check.specs.Checked.{NoneOf, Stands, after_cycles, before_cycles, places}
+use Rattle.statement_faults.specs.Checked.{NoneOf, Stands, after_cycles, before_cycles, places}
 use Rattle.statement_faults.specs.Said.{basics, definitions}
 use Rattle.statement_faults.specs.Numbered.{drops_fdeps, is_fdep_in, kept_inputs, kinds, numbered_definitions}
 use Rattle.statement_faults.specs.Numbered.{numbered_gates}

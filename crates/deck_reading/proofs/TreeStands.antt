@@ -28,7 +28,7 @@ use Rattle.galileo_tree.specs.declared.raw.RawAttribute.{RawAttribute}
 use Rattle.galileo_tree.specs.declared.raw.RawBasic.{RawBasic}
 use Rattle.galileo_tree.specs.declared.raw.RawTop.{RawTop}
 use Rattle.galileo_tree.specs.ReadTree.{HasShortNumbers}
-use Rattle.tree_check.specs.Checked.{NoneOf, Stands, before_cycles}
+use Rattle.statement_faults.specs.Checked.{NoneOf, Stands, before_cycles}
 use Rattle.statement_faults.specs.Classes.{dummies, fdep_tops, gates_after_first, gates_beyond, inputless, is_empty}
 use Rattle.statement_faults.specs.Classes.{is_replicated, repeats, replicated, shared_spares, short_fdeps, undefined}
 use Rattle.statement_faults.specs.Classes.{units_beyond, wrong_votes}

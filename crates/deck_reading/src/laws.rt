@@ -5,7 +5,7 @@ ghost use Rattle.fault_definitions.specs.WellFormed.{IsTree};
 ghost use Rattle.galileo_tree.specs.declared.fault.ParseFault.{ParseFault};
 ghost use Rattle.galileo_tree.specs.Parsed.{parsed_text};
 ghost use Rattle.galileo_tree.specs.ReadTree.{ReadTree};
-ghost use Rattle.tree_check.specs.Checked.{Stands};
+ghost use Rattle.statement_faults.specs.Checked.{Stands};
 ghost use Rattle.crew_script.specs.Crews.{crews_of};
 ghost use Rattle.crew_script.specs.declared.dockets.Crew.{Crew};
 ghost use Rattle.crew_script.specs.declared.fault.CrewFault.{CrewFault};

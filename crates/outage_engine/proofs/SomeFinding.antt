@@ -11,7 +11,7 @@ use Rattle.galileo_tree.specs.Parsed.{lexemes_of, parsed_text}
 use Rattle.galileo_tree.specs.ReadTree.{KeepsForm, ReadTree}
 use Rattle.galileo_tree.specs.declared.fault.ParseFault.{ParseFault}
 use Rattle.galileo_tree.specs.declared.fault.ParseFault.TheVariants.{Lex, Expected, NoMemory}
-use Rattle.tree_check.specs.Checked.{IsFirstFault, Stands}
+use Rattle.statement_faults.specs.Checked.{IsFirstFault, Stands}
 use Rattle.statement_faults.specs.declared.fault.CheckCode.{CheckCode}
 use Rattle.crew_script.specs.Crews.{crews_of}
 use Rattle.crew_script.specs.CrewsOf.{Answers}

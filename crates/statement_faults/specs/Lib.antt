@@ -8,6 +8,8 @@ pub mod Classes
 pub mod SpareTable
 -- the tree that the statements stand for
 pub mod TreeOf
+-- whether they stand for one, or which fault is the first
+pub mod Checked
 -- a fault that one class answers
 pub mod Found
 -- what naming gives

@@ -33,7 +33,7 @@ use Rattle.statement_faults.specs.Numbered.{is_spare_kind}
 use Rattle.fault_definitions.specs.Tree.{is_fdep_kind}
 use Rattle.statement_faults.specs.TreeOf.{numbers, tree_of, first_number}
 use Rattle.statement_faults.proofs.Edges.{kept_gates}
-use Rattle.tree_check.specs.Checked.{NoneOf, before_cycles, after_cycles}
+use Rattle.statement_faults.specs.Checked.{NoneOf, before_cycles, after_cycles}
 use Rattle.statement_faults.proofs.Differ.{same_is}
 use Rattle.statement_faults.proofs.NonePass.{none_pass, none_each, none_beyond}
 use Rattle.statement_faults.proofs.SpareParts.{differing_spares, no_primary}

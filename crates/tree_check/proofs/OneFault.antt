@@ -10,7 +10,7 @@ use Rattle.galileo_tree.specs.ReadTree.{ReadTree}
 use Rattle.statement_faults.specs.Said.{definitions}
 use Rattle.statement_faults.specs.Classes.{first}
 use Rattle.statement_faults.specs.TreeOf.{FirstOnCycle, HasNoCycle}
-use Rattle.tree_check.specs.Checked.{IsFaultless, IsFirstFault, NoneOf, places, before_cycles, after_cycles}
+use Rattle.statement_faults.specs.Checked.{IsFaultless, IsFirstFault, NoneOf, places, before_cycles, after_cycles}
 use Rattle.statement_faults.specs.declared.fault.CheckCode.{CheckCode}
 use Rattle.statement_faults.specs.declared.fault.CheckCode.TheVariants.{NoToplevel, TwoToplevels, DuplicateName}
 use Rattle.statement_faults.specs.declared.fault.CheckCode.TheVariants.{Undefined}

@@ -10,7 +10,7 @@ use Rattle.fault_definitions.proofs.RankLaws.{below_ranks, below_are_nodes}
 use Rattle.fault_definitions.specs.WellFormed.{IsTree}
 use Rattle.galileo_tree.specs.declared.raw.Statement.{Statement}
 use Rattle.galileo_tree.specs.ReadTree.{ReadTree}
-use Rattle.tree_check.specs.Checked.{Stands}
+use Rattle.statement_faults.specs.Checked.{Stands}
 use Rattle.statement_faults.specs.TreeOf.{tree_of}
 
 -- nodes that have the same ranks in two trees have the same one above them

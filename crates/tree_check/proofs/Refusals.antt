@@ -22,7 +22,7 @@ use Rattle.statement_faults.specs.Numbering.{IsDeckOf}
 use Rattle.statement_faults.specs.Classes.{first}
 use Rattle.statement_faults.specs.TreeOf.{HasNoCycle}
 use Rattle.statement_faults.specs.Found.{IsFoundAs}
-use Rattle.tree_check.specs.Checked.{places, NoneOf, IsFirstFault, IsRefusal, before_cycles}
+use Rattle.statement_faults.specs.Checked.{places, NoneOf, IsFirstFault, IsRefusal, before_cycles}
 use Rattle.statement_faults.specs.Groups.{NoneIn, FirstIn}
 use Rattle.statement_faults.specs.Groups.{top_classes, kind_classes, later_classes, rest_classes, limit_classes}
 

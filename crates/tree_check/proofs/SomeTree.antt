@@ -26,7 +26,7 @@ use Rattle.statement_faults.specs.declared.fault.CheckCode.TheVariants.{Replicat
 use Rattle.statement_faults.specs.declared.fault.CheckCode.TheVariants.{TopIsFdep, Cycle, TooManyUnits, TooManyGates}
 use Rattle.statement_faults.specs.declared.numbered.Numbered.{Numbered}
 use Rattle.statement_faults.specs.declared.numbered.NumberedGate.{NumberedGate}
-use Rattle.tree_check.specs.Checked.{IsFirstFault, NoneOf, Stands, before_cycles, places}
+use Rattle.statement_faults.specs.Checked.{IsFirstFault, NoneOf, Stands, before_cycles, places}
 use Rattle.statement_faults.specs.Classes.{first}
 use Rattle.statement_faults.specs.Marked.{marked_places}
 use Rattle.fault_words.specs.Names.{all_differ}

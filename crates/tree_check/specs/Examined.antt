@@ -7,7 +7,7 @@ use Rattle.statement_faults.specs.Said.{names}
 use Rattle.fault_words.specs.Names.{all_differ}
 use Rattle.statement_faults.specs.Numbering.{IsDeckOf}
 use Rattle.statement_faults.specs.TreeOf.{AreRanks, HasNoCycle}
-use Rattle.tree_check.specs.Checked.{NoneOf, before_cycles, after_cycles}
+use Rattle.statement_faults.specs.Checked.{NoneOf, before_cycles, after_cycles}
 
 -- the names of the text, none of which is defined twice
 pub record IsIndexOf (read : ReadTree) (index : List (List ℕ)) : Type 0 where

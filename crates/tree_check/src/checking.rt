@@ -1,6 +1,6 @@
 //! The check of a text whose statements are read.
 ghost use Rattle.std.specs.Prelude.{◌≡◌, take, IfOk, IfErr};
-ghost use Rattle.tree_check.specs.Checked.{IsRefusal, Stands, NoneOf, before_cycles};
+ghost use Rattle.statement_faults.specs.Checked.{IsRefusal, Stands, NoneOf, before_cycles};
 ghost use Rattle.tree_check.specs.Examined.{IsExamined, IsIndexOf, IsSmallDeck, IsRankedText};
 
 use crate::assembly::assemble;

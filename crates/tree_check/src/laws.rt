@@ -4,7 +4,7 @@ ghost use Rattle.fault_definitions.specs.Tree.{FaultTree};
 ghost use Rattle.fault_definitions.specs.WellFormed.{IsTree};
 ghost use Rattle.fault_words.specs.declared.place.Place.{Place};
 ghost use Rattle.galileo_tree.specs.ReadTree.{KeepsForm, ReadTree};
-ghost use Rattle.tree_check.specs.Checked.{IsFaultless, IsFirstFault, Stands};
+ghost use Rattle.statement_faults.specs.Checked.{IsFaultless, IsFirstFault, Stands};
 ghost use Rattle.statement_faults.specs.declared.fault.CheckCode.{CheckCode};
 
 /// The statements of a text stand for at most one tree.

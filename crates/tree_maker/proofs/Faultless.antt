@@ -17,7 +17,7 @@ use Rattle.fault_definitions.specs.Tree.{is_fdep_kind}
 use Rattle.galileo_tree.specs.declared.raw.Placed.{Placed}
 use Rattle.galileo_tree.specs.declared.raw.RawBasic.{RawBasic}
 use Rattle.galileo_tree.specs.declared.raw.Statement.{Statement}
-use Rattle.tree_check.specs.Checked.{IsFaultless}
+use Rattle.statement_faults.specs.Checked.{IsFaultless}
 use Rattle.statement_faults.specs.Classes.{dependent_gates, dummies, fdep_tops, inputless, is_replicated, repeats}
 use Rattle.statement_faults.specs.Classes.{repeats_after, replicated, shared_spares, short_fdeps, spare_gates}
 use Rattle.statement_faults.specs.Classes.{undefined}

@@ -13,7 +13,7 @@ use Rattle.fault_definitions.specs.WellFormed.{IsTree}
 use Rattle.fault_words.specs.declared.attribute.Attribute.{Attribute}
 use Rattle.fault_words.specs.declared.place.Place.{Place}
 use Rattle.galileo_tree.specs.ReadTree.{HasBareWord, KeepsForm, ReadTree}
-use Rattle.tree_check.specs.Checked.{IsFaultless, IsFirstFault, Stands}
+use Rattle.statement_faults.specs.Checked.{IsFaultless, IsFirstFault, Stands}
 use Rattle.statement_faults.specs.Numbered.{numbered_gates}
 use Rattle.tree_check.proofs.OneFault.{no_fault}
 use Rattle.statement_faults.specs.Said.{basics}
