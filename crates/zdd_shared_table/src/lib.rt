@@ -18,6 +18,7 @@ mod search;
 mod seat;
 mod store;
 mod view;
+mod zeros;
 
 pub use seat::StoreSeat;
 pub use store::{Full, NodeStore, StoreStart};

@@ -11,6 +11,7 @@ use crate::rule::{Cuts, Given, Looks, Merges, NodeRule, Reads};
 use crate::search::{Place, Words, search};
 use crate::seat::StoreSeat;
 use crate::view::View;
+use crate::zeros::zeros;
 use atomic_table::Table;
 use std::alloc::{AllocError, Global};
 use std::marker::{Brand, Model};
@@ -62,8 +63,9 @@ impl NodeStore {
         ensures share { IfOk result (λ start. start.seat.share ≡ 2 ^ 32) }
         ensures sound { IfOk result (λ start. IsSoundSeat start.seat) }
     {
-        let zeros = vec![in alloc; 0u64; 1usize << bits]?;
-        let (table, place) = Table::of_words(alloc, zeros.as_slice(), &bits)?;
+        let mut heap = Vec::new(alloc);
+        let zeros = zeros(&mut heap, 1usize << bits)?;
+        let (table, place) = Table::of_words(alloc, zeros, &bits)?;
         Ok(StoreStart {
             store: NodeStore { table, bits },
             seat: StoreSeat { place },
