@@ -1,20 +1,10 @@
-//! Lists that are true where some, or all, of others are.
-ghost use Rattle.std.specs.Prelude.{◌≡◌, ◌++◌, OnOk};
+//! Lists that are true where two others are.
+ghost use Rattle.std.specs.Prelude.{OnOk};
 ghost use Rattle.cutset_lists.specs.Sets.{AddsWithin, AddsSets, AddsBoth, AddsSetsOf};
 
 use crate::merge::merge;
 use crate::{NoMemory, Sets, UnitNo};
 use std::alloc::Global;
-
-// Adds the sets of another list.
-pub fn append(sets: &mut Sets, more: &Sets) -> Result<(), NoMemory>
-    ensures { OnOk result (sets.new ≡ sets.old ++ more.now) }
-{
-    for i in 0..more.len() {
-        sets.push(more.row(i))?;
-    }
-    Ok(())
-}
 
 // Adds the unions of one set with each of a list.
 fn add_unions(

@@ -5,17 +5,23 @@ ghost use Rattle.unit_sets.specs.CutOrder.{IsInCutOrder, weight, weight_limit};
 ghost use Rattle.unit_sets.specs.UnitList.{IsRising};
 ghost use Rattle.cutset_lists.specs.Generation.{HasHeavyCutList};
 
-use crate::Sets;
 use crate::bottom_up::top_list;
 use crate::minimal::minimal;
+use crate::{Room, Sets};
 use fault_model::Tree;
+use linked_list_allocator::LocalHeap;
 use std::alloc::Global;
 use unit_sets::{CutList, ListEnd};
+
+/// How many bytes the lists on the way have together at most: 512 MiB, a multiple of what a cut list within its limit
+/// takes. What sorts and compares a list takes about as much again beside it.
+pub const ROOM: usize = 512 << 20;
 
 /// The minimal cut sets of a tree, by size and then lexicographically by unit numbers.
 ///
 /// They are sets of units that fail the top event in the static reading and no longer do without any one of their
-/// members. `NoMemory` may come of any tree, since the lists on the way may be larger than the answer.
+/// members. `NoMemory` may come of any tree, since the lists on the way may be larger than the answer: it comes where
+/// they would take more than `ROOM` bytes.
 pub fn mcs_by_lists(alloc: Global, tree: &Tree) -> Result<CutList, ListEnd>
     ensures cut_list { IfOk result (IsCutList tree.now) }
     ensures within { IfOk result (λ cuts. weight cuts ≤ weight_limit) }
@@ -23,7 +29,18 @@ pub fn mcs_by_lists(alloc: Global, tree: &Tree) -> Result<CutList, ListEnd>
     // Only the weight of the cut list itself counts, and not that of a list on the way.
     ensures limit { IsErrOf result ListEnd.ListLimit → HasHeavyCutList tree.now }
 {
-    let sets = minimal(alloc, &top_list(alloc, tree)?)?;
+    mcs_within(alloc, tree, ROOM)
+}
+
+/// The same, where the lists on the way have so many bytes together.
+pub fn mcs_within(alloc: Global, tree: &Tree, bytes: usize) -> Result<CutList, ListEnd>
+    ensures cut_list { IfOk result (IsCutList tree.now) }
+    ensures within { IfOk result (λ cuts. weight cuts ≤ weight_limit) }
+    ensures limit { IsErrOf result ListEnd.ListLimit → HasHeavyCutList tree.now }
+{
+    let heap = LocalHeap::new(alloc, bytes)?;
+    let room = Room { heap: &heap, alloc };
+    let sets = minimal(room, &top_list(room, tree)?)?;
     cut_list(alloc, &sets)
 }
 

@@ -8,8 +8,7 @@ ghost use Rattle.cutset_lists.specs.Sets.{is_smaller_within, IsSortedFrom, IsMin
 
 use crate::sifting::{keep_unless, sifted};
 use crate::sort::Cut;
-use crate::{NoMemory, Sets, UnitNo};
-use flat_rows::Rows;
+use crate::{NoMemory, Room, Sets, UnitNo};
 use std::alloc::Global;
 
 // From so many sets on, a table of those that wait pays for its making.
@@ -54,11 +53,11 @@ fn has_smaller_within(sets: &Sets, set: &[UnitNo]) -> bool
 }
 
 // The minimal ones of few sets in the order of cut lists: each is compared with all that were kept.
-fn few(alloc: Global, cuts: &[Cut]) -> Result<Sets, NoMemory>
+fn few<'h>(room: Room<'h>, cuts: &[Cut]) -> Result<Sets<'h>, NoMemory>
     requires { IsInCutOrder (map units_of cuts.now) }
     ensures { IfOk result (IsMinimalFrom (map units_of cuts.now)) }
 {
-    let mut kept = Rows::new(alloc);
+    let mut kept = room.no_sets();
     for cut in cuts {
         let found = has_smaller_within(&kept, cut.units);
         keep_unless(&mut kept, cut.units, found)?;
@@ -67,21 +66,21 @@ fn few(alloc: Global, cuts: &[Cut]) -> Result<Sets, NoMemory>
 }
 
 // The minimal ones of sets in the order of cut lists.
-fn minimal_of(alloc: Global, cuts: &[Cut]) -> Result<Sets, NoMemory>
+fn minimal_of<'h>(room: Room<'h>, cuts: &[Cut]) -> Result<Sets<'h>, NoMemory>
     requires { IsInCutOrder (map units_of cuts.now) }
     ensures { IfOk result (IsMinimalFrom (map units_of cuts.now)) }
 {
     if cuts.len() < MANY {
-        few(alloc, cuts)
+        few(room, cuts)
     } else {
-        sifted(alloc, cuts)
+        sifted(room, cuts)
     }
 }
 
 // The minimal sets of a list, in the order of cut lists.
-pub fn minimal(alloc: Global, sets: &Sets) -> Result<Sets, NoMemory>
+pub fn minimal<'h>(room: Room<'h>, sets: &Sets) -> Result<Sets<'h>, NoMemory>
     ensures { IfOk result (IsMinimalFrom sets.now) }
 {
-    let cuts = sorted(alloc, sets)?;
-    minimal_of(alloc, cuts.as_slice())
+    let cuts = sorted(room.alloc, sets)?;
+    minimal_of(room, cuts.as_slice())
 }

@@ -7,11 +7,9 @@ ghost use Rattle.std.specs.Prelude.{◌≡◌, ℕ, List, true, IfOk, OnOk};
 ghost use Rattle.cutset_lists.specs.Sets.{AddsBoth, AddsSetsOf, WithinBoth, AreSetsAs, IsSplit};
 ghost use Rattle.cutset_lists.specs.Waiting.{AreFilled};
 
-use crate::combine::{add_all_unions, append};
+use crate::combine::add_all_unions;
 use crate::split::{Parts, are_filled, split};
-use crate::{NoMemory, Sets};
-use flat_rows::Rows;
-use std::alloc::Global;
+use crate::{NoMemory, Room, Sets};
 
 // From so many sets on in both lists, a split pays for the tables of those that wait.
 const MANY: usize = 16;
@@ -25,36 +23,46 @@ fn are_split(left: &Sets, right: &Sets) -> bool
 }
 
 // Adds the sets that stand for themselves and the unions of the others.
-fn add_parts(alloc: Global, sets: &mut Sets, lefts: &Parts, rights: &Parts) -> Result<(), NoMemory>
+fn add_parts<'h>(
+    room: Room<'h>,
+    sets: &mut Sets<'h>,
+    lefts: &Parts<'h>,
+    rights: &Parts<'h>,
+) -> Result<(), NoMemory>
     ensures { OnOk result ((left right : List (List ℕ)) → IsSplit left right lefts.now.including lefts.now.rest
         → IsSplit right left rights.now.including rights.now.rest
         → AddsBoth left right sets.old sets.new × AddsSetsOf left right sets.old sets.new) }
 {
-    append(sets, &lefts.including)?;
-    append(sets, &rights.including)?;
-    add_all_unions(alloc, sets, &lefts.rest, &rights.rest)?;
+    sets.append(&lefts.including)?;
+    sets.append(&rights.including)?;
+    add_all_unions(room.alloc, sets, &lefts.rest, &rights.rest)?;
     Ok(())
 }
 
 /// Adds the product by the sets that stand for themselves and the unions of the others.
-pub fn add_split(alloc: Global, sets: &mut Sets, left: &Sets, right: &Sets) -> Result<(), NoMemory>
+pub fn add_split<'h>(
+    room: Room<'h>,
+    sets: &mut Sets<'h>,
+    left: &Sets,
+    right: &Sets,
+) -> Result<(), NoMemory>
     requires left { AreFilled left.now }
     requires right { AreFilled right.now }
     ensures within { OnOk result (AddsBoth left.now right.now sets.old sets.new) }
     ensures sets { OnOk result (AddsSetsOf left.now right.now sets.old sets.new) }
 {
-    let lefts = split(alloc, left, right)?;
-    let rights = split(alloc, right, left)?;
-    let added = add_parts(alloc, sets, &lefts, &rights);
+    let lefts = split(room, left, right)?;
+    let rights = split(room, right, left)?;
+    let added = add_parts(room, sets, &lefts, &rights);
     drop(lefts);
     drop(rights);
     added
 }
 
 /// Adds the product of two lists. Where they are apart no set of one includes one of the other.
-pub fn add_product(
-    alloc: Global,
-    sets: &mut Sets,
+pub fn add_product<'h>(
+    room: Room<'h>,
+    sets: &mut Sets<'h>,
     left: &Sets,
     right: &Sets,
     apart: bool,
@@ -63,18 +71,23 @@ pub fn add_product(
     ensures sets { OnOk result (AddsSetsOf left.now right.now sets.old sets.new) }
 {
     if !apart && are_split(left, right) {
-        add_split(alloc, sets, left, right)
+        add_split(room, sets, left, right)
     } else {
-        add_all_unions(alloc, sets, left, right)
+        add_all_unions(room.alloc, sets, left, right)
     }
 }
 
 /// The product of two lists.
-pub fn product(alloc: Global, left: &Sets, right: &Sets, apart: bool) -> Result<Sets, NoMemory>
+pub fn product<'h>(
+    room: Room<'h>,
+    left: &Sets,
+    right: &Sets,
+    apart: bool,
+) -> Result<Sets<'h>, NoMemory>
     ensures within { IfOk result (WithinBoth left.now right.now) }
     ensures sets { IfOk result (AreSetsAs left.now right.now) }
 {
-    let mut sets = Rows::new(alloc);
-    add_product(alloc, &mut sets, left, right, apart)?;
+    let mut sets = room.no_sets();
+    add_product(room, &mut sets, left, right, apart)?;
     Ok(sets)
 }

@@ -8,9 +8,7 @@ ghost use Rattle.cutset_lists.specs.Waiting.{AreAlike, AreFilled, AreWaiting, Ha
 
 use crate::sort::Cut;
 use crate::waiting::Waiting;
-use crate::{NoMemory, Sets, UnitNo};
-use flat_rows::Rows;
-use std::alloc::Global;
+use crate::{NoMemory, Room, Sets, UnitNo};
 use unit_sets::UnitSet;
 
 /// Puts the units of a set into an empty one.
@@ -97,13 +95,13 @@ fn sift(
 }
 
 /// The minimal ones of sets in the order of cut lists.
-pub fn sifted(alloc: Global, cuts: &[Cut]) -> Result<Sets, NoMemory>
+pub fn sifted<'h>(room: Room<'h>, cuts: &[Cut]) -> Result<Sets<'h>, NoMemory>
     requires { IsInCutOrder (map units_of cuts.now) }
     ensures { IfOk result (IsMinimalFrom (map units_of cuts.now)) }
 {
-    let mut waiting = Waiting::new(alloc)?;
-    let mut marked = UnitSet::new(alloc)?;
-    let mut kept = Rows::new(alloc);
+    let mut waiting = Waiting::new(room.alloc)?;
+    let mut marked = UnitSet::new(room.alloc)?;
+    let mut kept = room.no_sets();
     let ended = sift(&mut waiting, &mut marked, &mut kept, cuts);
     drop(waiting);
     drop(marked);

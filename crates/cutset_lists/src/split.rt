@@ -5,16 +5,14 @@ ghost use Rattle.cutset_lists.specs.Waiting.{AreFilled, AreWaiting};
 
 use crate::sifting::{keep_unless, mark, unmark};
 use crate::waiting::Waiting;
-use crate::{NoMemory, Sets, UnitNo};
-use flat_rows::Rows;
-use std::alloc::Global;
+use crate::{NoMemory, Room, Sets, UnitNo};
 use unit_sets::UnitSet;
 
 /// The sets of a list that have one of another within them, and the rest.
 #[derive(Drop)]
-pub struct Parts {
-    pub including: Sets,
-    pub rest: Sets,
+pub struct Parts<'h> {
+    pub including: Sets<'h>,
+    pub rest: Sets<'h>,
 }
 
 /// Whether each set has a unit. If so, the sets can wait at their units.
@@ -66,16 +64,16 @@ fn spread(
 }
 
 /// Splits the sets that include one of another list off a list.
-pub fn split(alloc: Global, list: &Sets, other: &Sets) -> Result<Parts, NoMemory>
+pub fn split<'h>(room: Room<'h>, list: &Sets, other: &Sets) -> Result<Parts<'h>, NoMemory>
     requires { AreFilled other.now }
     ensures { IfOk result (λ parts. IsSplit list.now other.now parts.including parts.rest) }
 {
-    let mut waiting = Waiting::new(alloc)?;
+    let mut waiting = Waiting::new(room.alloc)?;
     waiting.take_up(other, usize::MAX)?;
-    let mut marked = UnitSet::new(alloc)?;
+    let mut marked = UnitSet::new(room.alloc)?;
     let mut parts = Parts {
-        including: Rows::new(alloc),
-        rest: Rows::new(alloc),
+        including: room.no_sets(),
+        rest: room.no_sets(),
     };
     let ended = spread(&waiting, &mut marked, list, other, &mut parts);
     drop(waiting);

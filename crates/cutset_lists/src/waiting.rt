@@ -1,7 +1,7 @@
 //! Sets of a list that wait at their units, so that those within another set are found without a look at all.
 //!
 //! A set within another has all its units there, so it may wait at any one of them: it waits where the fewest do.
-ghost use Rattle.std.specs.Prelude.{◌≡◌, ℕ, ◌+◌, ◌<◌, ◌≤◌, true, List, [], length, vec_len, replicate, take, All, IfOk};
+ghost use Rattle.std.specs.Prelude.{◌≡◌, ℕ, ◌+◌, ◌<◌, ◌≤◌, true, List, [], length, vec_len, take, All, IfOk};
 ghost use Rattle.std.specs.Prelude.{OnOk};
 ghost use Rattle.std.specs.List.{list_any};
 ghost use Rattle.unit_sets.specs.UnitList.{among, is_within};
@@ -9,7 +9,7 @@ ghost use Rattle.cutset_lists.specs.Sets.{is_short_within};
 ghost use Rattle.cutset_lists.specs.declared.waiting.TheConstants.{UNITS};
 
 use crate::{NoMemory, Sets, UnitNo};
-use flat_rows::GrowingList;
+use flat_rows::{GrowingList, empty_lists};
 use std::alloc::Global;
 use unit_sets::UnitSet;
 
@@ -32,17 +32,6 @@ pub struct Waiting {
     ghost all_units: { vec_len at ≡ UNITS },
 }
 
-// No waiters at each of some units.
-fn no_waiters(alloc: Global, units: usize) -> Result<Vec<GrowingList<Waiter>>, NoMemory>
-    ensures { IfOk result (λ at. at.items ≡ replicate units []) }
-{
-    let mut at = Vec::with_capacity(alloc, units)?;
-    for _unit in 0..units {
-        at.push(GrowingList::new(alloc))?;
-    }
-    Ok(at)
-}
-
 // Whether the units of a set are all marked.
 fn are_marked(marked: &UnitSet, set: &[UnitNo]) -> bool
     ensures { result ≡ is_within marked.now set.now }
@@ -58,7 +47,7 @@ impl Waiting {
         ensures { IfOk result (λ waiting. (sets : List (List ℕ)) → AreWaiting sets waiting.count waiting.at.items) }
     {
         Ok(Waiting {
-            at: no_waiters(alloc, UNITS)?,
+            at: empty_lists(alloc, UNITS)?,
             count: 0,
         })
     }

@@ -1,5 +1,7 @@
 //! The cut lists of small trees, each set by the numbers of its units.
+use cutset_lists::{ROOM, mcs_within};
 use std::test::Fail;
+use unit_sets::ListEnd;
 use worked_trees::{cuts_of, sets_of, tree_of};
 
 #[test]
@@ -29,6 +31,37 @@ fn cut_lists_of_small_trees(rt: HostRuntime) -> Result<(), Fail> {
     ] {
         let cuts = cuts_of(alloc, &tree_of(alloc, text.as_bytes())?)?;
         assert_eq!(rt; sets_of(alloc, &cuts)?.as_str(), wanted, "{text}");
+    }
+    Ok(())
+}
+
+#[test]
+fn lists_that_outgrow_their_room_end_for_want_of_memory(rt: HostRuntime) -> Result<(), Fail> {
+    let alloc = rt.alloc();
+    let text = b"toplevel T; T and G H I J K; G or a b; H or c d; I or e f; J or g h; K or i j;
+        a; b; c; d; e; f; g; h; i; j;";
+    let tree = tree_of(alloc, text)?;
+    let wanted = cuts_of(alloc, &tree)?;
+    assert_eq!(rt; wanted.len(), 32);
+    // The list of the top event takes 576 bytes, and those of the gates some more.
+    for (bytes, is_enough) in [
+        (0, false),
+        (100, false),
+        (500, false),
+        (16_384, true),
+        (ROOM, true),
+    ] {
+        match mcs_within(alloc, &tree, bytes) {
+            Ok(cuts) => {
+                assert!(rt; is_enough, "{bytes}");
+                assert_eq!(rt;
+                    sets_of(alloc, &cuts)?.as_str(),
+                    sets_of(alloc, &wanted)?.as_str()
+                );
+            }
+            Err(ListEnd::NoMemory) => assert!(rt; !is_enough, "{bytes}"),
+            Err(ListEnd::ListLimit) => assert!(rt; false, "{bytes}: the list has room"),
+        }
     }
     Ok(())
 }

@@ -1,10 +1,11 @@
 //! The table of triggers: one pass over the inputs of the `fdep` gates.
 ghost use Rattle.std.specs.Prelude.{◌≡◌, ◌≢◌, suc, ◌-◌, ◌^◌, ◌<◌, [], ◌∷◌, ◌++◌, length, drop, zip, All, IfOk, OnOk};
-ghost use Rattle.std.specs.Prelude.{slice_set, replicate};
+ghost use Rattle.std.specs.Prelude.{slice_set};
 ghost use Rattle.fault_definitions.specs.Trigger.{dependents_in};
 ghost use Rattle.fault_model.specs.TriggerTable.{IsUnitBelow, IsTableOf, AddsTriggers, AreMarks, at_unit, noted};
 
 use crate::{GateKind, NoMemory, NodeList, NodeNo};
+use flat_rows::empty_lists;
 use std::alloc::Global;
 
 /// The triggers of each unit, and by which `fdep`, from 1, each unit was noted last.
@@ -12,17 +13,6 @@ use std::alloc::Global;
 pub(crate) struct TriggerTable {
     pub(crate) lists: Vec<NodeList>,
     marks: Vec<u32>,
-}
-
-/// A list for each unit, with nothing in it.
-fn empty_lists(alloc: Global, units: usize) -> Result<Vec<NodeList>, NoMemory>
-    ensures { IfOk result (λ lists. lists.items ≡ replicate units []) }
-{
-    let mut lists = Vec::with_capacity(alloc, units)?;
-    for _ in 0..units {
-        lists.push(NodeList::new(alloc))?;
-    }
-    Ok(lists)
 }
 
 impl TriggerTable {

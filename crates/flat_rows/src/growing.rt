@@ -1,5 +1,5 @@
 //! Lists that grow at their end.
-ghost use Rattle.std.specs.Prelude.{◌≡◌, ◌^◌, ◌<◌, [], ◌∷◌, ◌++◌, length, IfOk, OnOk, OnErr};
+ghost use Rattle.std.specs.Prelude.{◌≡◌, ◌^◌, ◌<◌, [], ◌∷◌, ◌++◌, length, replicate, IfOk, OnOk, OnErr};
 
 use std::alloc::{AllocError, Global};
 use std::marker::Model;
@@ -69,4 +69,15 @@ impl<T> GrowingList<T> {
     {
         self.items.as_slice()
     }
+}
+
+/// So many lists, all of them empty.
+pub fn empty_lists<T: Drop>(alloc: Global, count: usize) -> Result<Vec<GrowingList<T>>, AllocError>
+    ensures { IfOk result (λ lists. lists.items ≡ replicate count []) }
+{
+    let mut lists = Vec::with_capacity(alloc, count)?;
+    for _ in 0..count {
+        lists.push(GrowingList::new(alloc))?;
+    }
+    Ok(lists)
 }

@@ -11,19 +11,19 @@ ghost use Rattle.flat_rows.specs.Rows.{start_of, rows_from, Rise, between, raise
 
 mod growing;
 
-pub use growing::GrowingList;
-use std::alloc::{AllocError, Global};
+pub use growing::{GrowingList, empty_lists};
+use std::alloc::{AllocError, Allocator, Global};
 use std::marker::Model;
 
-/// A list of rows.
+/// A list of rows, whose memory comes from an allocator.
 #[derive(Clone, Drop)]
-pub struct Rows<T> {
-    items: Vec<T>,
+pub struct Rows<T, A: Allocator = Global> {
+    items: Vec<T, A>,
     // Where each row ends among the items; it begins where the row before it ends.
-    ends: Vec<usize>,
+    ends: Vec<usize, A>,
 }
 
-impl<T> Model for Rows<T> {
+impl<T, A: Allocator> Model for Rows<T, A> {
     ghost use Rattle.std.specs.Prelude.{List, length};
     ghost use Rattle.flat_rows.specs.Rows.{rows_from, Rise};
 
@@ -34,9 +34,9 @@ impl<T> Model for Rows<T> {
     ghost invariant = { λ r. Rise 0 r.ends.items (length r.items.items) };
 }
 
-impl<T: Copy> Rows<T> {
+impl<T: Copy, A: Allocator + Copy> Rows<T, A> {
     /// No rows. Takes no memory.
-    pub fn new(alloc: Global) -> Self
+    pub fn new(alloc: A) -> Self
         ensures { result ≡ [] }
     {
         Rows {
@@ -93,7 +93,7 @@ impl<T: Copy> Rows<T> {
     }
 
     /// All rows of another list behind these. Where memory is wanting the rows are as before.
-    pub fn append(&mut self, other: &Rows<T>) -> Result<(), AllocError>
+    pub fn append(&mut self, other: &Rows<T, A>) -> Result<(), AllocError>
         ensures ok { OnOk result (self.new ≡ self.old ++ other.now) }
         ensures err { OnErr result (self.new ≡ self.old) }
     {
@@ -106,7 +106,7 @@ impl<T: Copy> Rows<T> {
 }
 
 // Puts ends behind the others, each raised by the items that stand before its row.
-fn push_raised(ends: &mut Vec<usize>, more: &[usize], before: usize, total: usize)
+fn push_raised<A: Allocator>(ends: &mut Vec<usize, A>, more: &[usize], before: usize, total: usize)
     requires room { vec_len ends.old + length more.now ≤ vec_capacity ends.old }
     requires rise { Rise 0 more.now total }
     requires fits { before + total < 2 ^ 64 }

@@ -1,11 +1,11 @@
 //! By which nodes each node is read: the gates with it among their inputs, and the units that it triggers.
-ghost use Rattle.std.specs.Prelude.{◌≡◌, ◌<◌, true, length, All, IfOk, OnOk, [], ◌∷◌, replicate};
+ghost use Rattle.std.specs.Prelude.{◌≡◌, ◌<◌, true, length, All, IfOk, OnOk, [], ◌∷◌};
 ghost use Rattle.unit_sets.specs.UnitList.{among};
 ghost use Rattle.fault_definitions.specs.Tree.{node_count};
 ghost use Rattle.replay_semantics.specs.Readers.{AreReaders, MoreReaders};
 
 use fault_model::{NoMemory, NodeList, NodeNo, Tree};
-use flat_rows::Rows;
+use flat_rows::{Rows, empty_lists};
 use std::alloc::Global;
 
 fn ends_with(nodes: &[NodeNo], node: NodeNo) -> bool
@@ -39,16 +39,6 @@ fn add_each(lists: &mut [NodeList], nodes: &[NodeNo], reader: NodeNo) -> Result<
         add(lists, *node, reader)?;
     }
     Ok(())
-}
-
-fn empty_lists(alloc: Global, count: usize) -> Result<Vec<NodeList>, NoMemory>
-    ensures { IfOk result (λ lists. lists.items ≡ replicate count []) }
-{
-    let mut lists = Vec::with_capacity(alloc, count)?;
-    for _ in 0..count {
-        lists.push(NodeList::new(alloc))?;
-    }
-    Ok(lists)
 }
 
 // The readers of each node, as a list for each number.

@@ -1,6 +1,6 @@
 //! Definitions that lead to themselves.
 ghost use Rattle.std.specs.Prelude.{◌≡◌, ◌+◌, ◌<◌, ◌≤◌, ◌||◌, ◌&&◌, ◌==◌, ◌∷◌, ◌++◌, ℕ, [], length, map, All, IfOk};
-ghost use Rattle.std.specs.Prelude.{IfErr, OnOk, slice_index_or, filter_map, replicate, true, false, drop};
+ghost use Rattle.std.specs.Prelude.{IfErr, OnOk, slice_index_or, filter_map, true, false, drop};
 ghost use Rattle.statement_faults.specs.Said.{definitions, names, uses};
 ghost use Rattle.fault_words.specs.Names.{all_differ};
 ghost use Rattle.statement_faults.specs.Numbering.{IsDeckOf};
@@ -18,7 +18,7 @@ use crate::naming::definition;
 use crate::numbered::{Numbered, NumberedGate, NumberedText};
 use crate::{CheckCode, CheckFault};
 use fault_words::{GateKind, Place};
-use flat_rows::{GrowingList, Rows};
+use flat_rows::{GrowingList, Rows, empty_lists};
 use galileo_tree::{Placed, Statement};
 use graph_cycles::find_cycles;
 use name_index::NameIndex;
@@ -53,16 +53,6 @@ fn note_gate(table: &mut Vec<NumberRow>, gate: &NumberedGate) -> Result<(), Allo
     }
 }
 
-fn empty_rows(alloc: Global, rows: usize) -> Result<Vec<NumberRow>, AllocError>
-    ensures { IfOk result (λ table. table.items ≡ replicate rows []) }
-{
-    let mut table = Vec::with_capacity(alloc, rows)?;
-    for _ in 0..rows {
-        table.push(NumberRow::new(alloc))?;
-    }
-    Ok(table)
-}
-
 /// The triggers of each unit, in the row of its number.
 fn trigger_table(
     alloc: Global,
@@ -73,7 +63,7 @@ fn trigger_table(
     requires small { units + 1 < 18446744073709551616 }
     ensures { IfOk result (λ table. HasTriggers units (map written_gate gates.now) table.items) }
 {
-    let mut table = empty_rows(alloc, units + 1)?;
+    let mut table = empty_lists(alloc, units + 1)?;
     for gate in gates {
         note_gate(&mut table, gate)?;
     }

@@ -6,7 +6,7 @@ use Rattle.cutset_lists.proofs.gate.first_list.Goals as goal
 
 pub returns : goal.returns
 returns c =
-    IfOk-weaker c.some_of.result (AddsSome c.args.lists.now c.first_of.result.now c.new.result)
+    IfOk-weaker c.some_of.result (AddsSome c.args.lists.now c.first_of.result.now c.no_sets.result)
     (Follows c.args.lists.now (gate_rule Por c.args.inputs.now))
-    (λ made adds. por_list c.args.lists.now c.args.inputs.now c.first_of.result.now c.new.result made c.new.ensures
-    c.first_of.ensures adds) c.some_of.ensures
+    (λ made adds. por_list c.args.lists.now c.args.inputs.now c.first_of.result.now c.no_sets.result made
+    c.no_sets.ensures c.first_of.ensures adds) c.some_of.ensures

@@ -11,6 +11,7 @@ pub returns-in-Or : goal.returns-in-Or
 returns-in-Or c =
     subst (λ (k : GateKind). IfOk c.some_of.result (Follows c.args.lists.now (gate_rule k c.args.inputs.now)))
     (sym c.in-Or.is)
-    (IfOk-weaker c.some_of.result (AddsSome c.args.lists.now c.args.inputs.now c.new.result)
+    (IfOk-weaker c.some_of.result (AddsSome c.args.lists.now c.args.inputs.now c.no_sets.result)
     (Follows c.args.lists.now (gate_rule Or c.args.inputs.now))
-    (λ made adds. or_list c.args.lists.now c.args.inputs.now c.new.result made c.new.ensures adds) c.some_of.ensures)
+    (λ made adds. or_list c.args.lists.now c.args.inputs.now c.no_sets.result made c.no_sets.ensures adds)
+    c.some_of.ensures)

@@ -9,7 +9,7 @@ pub loop-node-preserved : goal.loop-node-preserved
 loop-node-preserved c =
     AddsSome-step c.args.lists.now c.args.nodes.now c.loop-node.node-index c.node-item.result c.index.result
     c.index-lists-index.result (omega arith) c.node-item.is c.requires c.index.ensures c.index-lists-index.is
-    c.args.sets c.loop-node.sets c.append.new.sets c.in_ok-append.ensures c.loop-node.invariant
+    c.args.sets c.loop-node.sets c.append.new.self c.in_ok-append.ensures.ok c.loop-node.invariant
 
 pub returns : goal.returns
 returns c =

@@ -7,7 +7,8 @@ use Rattle.cutset_lists.proofs.WaitingLemmas.{sifts_one}
 use Rattle.cutset_lists.proofs.minimal.few.Goals as goal
 
 pub loop-cut-init : goal.loop-cut-init
-loop-cut-init c = subst (IsMinimalFrom []) (sym c.new-kept.ensures) (IsMinimalFrom-none (map units_of c.args.cuts.now))
+loop-cut-init c =
+    subst (IsMinimalFrom []) (sym c.no_sets-kept.ensures) (IsMinimalFrom-none (map units_of c.args.cuts.now))
 
 pub loop-cut-preserved : goal.loop-cut-preserved
 loop-cut-preserved c =

@@ -1,8 +1,8 @@
 use Rattle.std.proofs.Common.{[], ◌∷◌, ◌++◌, ap, replicate, ◌∙◌}
 use Rattle.std.proofs.lemmas.List.{replicate_more}
-use Rattle.replay_semantics.proofs.readers.empty_lists.Goals as goal
+use Rattle.flat_rows.proofs.growing.empty_lists.Goals as goal
 
 pub loop-preserved : goal.loop-preserved
-loop-preserved c =
+loop-preserved g c =
     c.in_ok-push.ensures.items ∙ ap (λ l. l ++ c.new.result ∷ []) c.loop.invariant
     ∙ ap (λ x. replicate c.loop.counter [] ++ x ∷ []) c.new.ensures ∙ replicate_more c.loop.counter []

@@ -2,7 +2,7 @@ use Rattle.std.proofs.Common.{◌≡◌, subst, sym}
 use Rattle.std.proofs.lemmas.Result.{IfOk-weaker}
 use Rattle.fault_definitions.specs.Cut.{IsCutList}
 use Rattle.cutset_lists.proofs.CutLemmas.{all_filled, all_rising, IsCutList-minimal}
-use Rattle.cutset_lists.proofs.cut_list.mcs_by_lists.Goals as goal
+use Rattle.cutset_lists.proofs.cut_list.mcs_within.Goals as goal
 
 pub cut_list-requires-clause-filled : goal.cut_list-requires-clause-filled
 cut_list-requires-clause-filled c =
