@@ -4,4 +4,5 @@ pub mod DealLemmas
 pub mod GoingLemmas
 pub mod ShareLemmas
 pub mod RoundLemmas
+mod SizeLemmas
 pub mod PermutationLemmas

@@ -14,19 +14,23 @@ use unit_sets::CutList;
 /// The most orders that are listed over all sets.
 pub const ORDER_LIMIT: u64 = 2_000_000;
 
-// The place after the last set that is listed. All that come after it are larger.
+// The place after the last set that is listed. All that come after it are larger: the sets stand by their sizes, so it
+// is found by halves.
 fn end_of_listed(cuts: &CutList, most: u32) -> usize
     ensures within { result ≤ length cuts.now }
     ensures larger { All (λ cut. most < length cut) (drop result cuts.now) }
 {
-    let mut end = cuts.len();
-    while end > 0 {
-        if cuts.members(end - 1).len() <= most as usize {
-            return end;
+    let mut low = 0;
+    let mut high = cuts.len();
+    while low < high {
+        let middle = low + (high - low) / 2;
+        if cuts.members(middle).len() <= most as usize {
+            low = middle + 1;
+        } else {
+            high = middle;
         }
-        end -= 1;
     }
-    end
+    high
 }
 
 /// For each set of at most `most` members, its orders that can happen and fail the top event, in lexicographic order by

@@ -1,47 +1,187 @@
--- Texts that spell units.
-use Rattle.std.proofs.Common.{◌≡◌, ℕ, ◌+◌, ◌-◌, ◌≤◌, List, [], ◌∷◌, ◌++◌, length, take, sym, ap, ◌∙◌}
-use Rattle.std.proofs.Common.{arith, append_assoc, append-nil, length-append}
-use Rattle.std.specs.Prelude.{Some}
-use Rattle.std.proofs.lemmas.Grind.{common_steps}
-use Rattle.std.proofs.lemmas.List.Elements.{All-pop}
+-- Lines that are kept, and what changes them.
+use Rattle.std.specs.Prelude.{if◌then◌else◌}
+use Rattle.std.proofs.Common.{Bool, true, false, ◌≡◌, ℕ, ◌+◌, ◌-◌, ◌<◌, ◌≤◌, List, [], ◌∷◌, ◌++◌, length, take, drop}
+use Rattle.std.proofs.Common.{get_or, sym, ap, subst}
+use Rattle.std.proofs.Common.{◌∙◌, refl, arith, append_assoc, append-nil, length-append, take-append-drop, below_more}
+use Rattle.std.proofs.lemmas.List.{drop-take, drop_all, drop-append-le, get_or-take, get_or_append_left, get_or_push}
+use Rattle.std.proofs.lemmas.List.{length-drop, length-take-le, length_push, take-append-le, take-take, take_all}
+use Rattle.std.proofs.lemmas.List.{take_at}
+use Rattle.std.proofs.lemmas.List.Concat.{flat_map-append}
+use Rattle.std.proofs.lemmas.List.Elements.{All-nil, All-push, All-take}
 use Rattle.fault_definitions.specs.Tree.{FaultTree, IsUnitOf}
-use Rattle.cut_texts.specs.UnitTexts.{Spells, spaced, unit_text}
+use Rattle.cut_texts.specs.UnitTexts.{spaced, unit_text}
+use Rattle.cut_texts.specs.declared.line.Line.{Line}
+use Rattle.cut_texts.specs.Lines.{SameHead, Spells, StartsWith}
 
-spaced_push : (tree : FaultTree) (units : List ℕ) (unit : ℕ)
-    → spaced tree (units ++ unit ∷ []) ≡ spaced tree units ++ unit_text tree unit
-spaced_push tree [] unit = append-nil (unit_text tree unit)
-spaced_push tree (first ∷ units) unit =
-    ap (λ l. unit_text tree first ++ l) (spaced_push tree units unit)
-    ∙ sym (append_assoc (unit_text tree first) (spaced tree units) (unit_text tree unit))
+module _ (tree : FaultTree) where
+  spaced_split : (units : List ℕ) (count : ℕ)
+      → spaced tree units ≡ spaced tree (take count units) ++ spaced tree (drop count units)
+  spaced_split units count =
+      ap (spaced tree) (sym (take-append-drop count units))
+      ∙ flat_map-append (unit_text tree) (take count units) (drop count units)
 
-front : {X : Type 0} (xs ys : List X) → take (length xs) (xs ++ ys) ≡ xs
-front xs ys = grind (arith, common_steps)
+  spaced_push : (units : List ℕ) (unit : ℕ)
+      → spaced tree (units ++ unit ∷ []) ≡ spaced tree units ++ unit_text tree unit
+  spaced_push units unit =
+      flat_map-append (unit_text tree) units (unit ∷ [])
+      ∙ ap (λ l. spaced tree units ++ l) (append-nil (unit_text tree unit))
 
--- one unit less
-module _ (tree : FaultTree) (old new text : List ℕ) (unit : ℕ) (split : old ≡ new ++ unit ∷ [])
-    (spells : Spells tree old text) where
-  pub last_is : IsUnitOf tree unit
-  last_is = (All-pop (IsUnitOf tree) old new (Some unit) split spells.known).1
+  -- no units
+  pub spells_none : (head : ℕ) (text : List ℕ) → head ≡ length text → Spells tree head [] [] text []
+  spells_none head text all = record {
+    known = All-nil (IsUnitOf tree);
+    count = refl;
+    places = λ k short. absurd (omega (arith, short));
+    headed = omega (arith, all);
+    spelled = drop_all head text (omega (arith, all));
+  }
 
-  parts : text ≡ spaced tree new ++ unit_text tree unit
-  parts = spells.spelled ∙ ap (spaced tree) split ∙ spaced_push tree new unit
+  module _ (head : ℕ) (units ends text tail : List ℕ) (s : Spells tree head units ends text tail) where
+    -- ---- where the names of the first units end
+    pub first_end : (count end : ℕ) → count ≡ 0 → end ≡ head → end ≡ head + length (spaced tree (take count units))
+    first_end count end none is =
+        subst (λ n. end ≡ head + length (spaced tree (take n units))) (sym none) (omega (arith, is))
 
-  long : length text ≡ length (spaced tree new) + length (unit_text tree unit)
-  long = ap length parts ∙ length-append (spaced tree new) (unit_text tree unit)
+    pub later_end : (count end : ℕ) → 0 < count → count ≤ length units → end ≡ get_or ends (count - 1) 0
+        → end ≡ head + length (spaced tree (take count units))
+    later_end count end some within is =
+        let next : count - 1 + 1 ≡ count = omega (arith, some) in
+        is ∙ s.places (count - 1) (omega (arith, some, within))
+        ∙ ap (λ n. head + length (spaced tree (take n units))) next
 
-  module _ (piece : List ℕ) (same : piece ≡ unit_text tree unit) where
-    size : length piece ≡ length (unit_text tree unit)
-    size = ap length same
+    -- ---- only the first units are kept
+    module _ (count end : ℕ) (within : count ≤ length units)
+        (is : end ≡ head + length (spaced tree (take count units))) where
+      split : drop head text ≡ spaced tree (take count units) ++ (spaced tree (drop count units) ++ tail)
+      split =
+          s.spelled ∙ ap (λ l. l ++ tail) (spaced_split units count)
+          ∙ append_assoc (spaced tree (take count units)) (spaced tree (drop count units)) tail
 
-    pub fits : length piece ≤ length text
-    fits = omega (arith, long, size)
+      there : drop head (take end text) ≡ spaced tree (take count units)
+      there =
+          ap (λ n. drop head (take n text)) is ∙ drop-take head (length (spaced tree (take count units))) text
+          ∙ ap (take (length (spaced tree (take count units)))) split
+          ∙ take_at (spaced tree (take count units)) (spaced tree (drop count units) ++ tail)
+          (length (spaced tree (take count units))) refl
 
-    pub spells_less : (rest : ℕ) (left : List ℕ) → rest ≡ length text - length piece → left ≡ take rest text
-        → Spells tree new left
-    spells_less rest left less is =
-        let count : rest ≡ length (spaced tree new) = omega (arith, long, size, less) in
-        record {
-          known = (All-pop (IsUnitOf tree) old new (Some unit) split spells.known).0;
-          spelled = is ∙ ap (λ n. take n text) count ∙ ap (take (length (spaced tree new))) parts
-              ∙ front (spaced tree new) (unit_text tree unit);
-        }
+      end_within : end ≤ length text
+      end_within =
+          omega (
+            arith,
+            is,
+            s.headed,
+            length-drop head text,
+            ap length split,
+            length-append (spaced tree (take count units)) (spaced tree (drop count units) ++ tail),
+          )
+
+      pub kept : Spells tree head (take count units) (take count ends) (take end text) []
+      kept = record {
+        known = All-take (IsUnitOf tree) count units s.known;
+        count = length-take-le count ends (omega (arith, s.count, within)) ∙ sym (length-take-le count units within);
+        places = λ k short.
+            let below : k < count = omega (arith, short, length-take-le count units within) in
+            get_or-take count ends k 0 below ∙ s.places k (omega (arith, below, within))
+            ∙ ap (λ l. head + length (spaced tree l)) (sym (take-take (k + 1) count units (omega (arith, below))));
+        headed = omega (arith, length-take-le end text end_within, is);
+        spelled = there ∙ sym (append-nil (spaced tree (take count units)));
+      }
+
+      pub start_kept : take head (take end text) ≡ take head text
+      start_kept = take-take head end text (omega (arith, is))
+
+    -- ---- the head changes where it stands
+    pub counted : (new : List ℕ) → drop head new ≡ drop head text → length new ≡ length text
+        → Spells tree head units ends new tail
+    counted new same long = record {
+      known = s.known;
+      count = s.count;
+      places = s.places;
+      headed = omega (arith, s.headed, long);
+      spelled = same ∙ s.spelled;
+    }
+
+  module _ (head : ℕ) (units ends text : List ℕ) (s : Spells tree head units ends text []) where
+    names : drop head text ≡ spaced tree units
+    names = s.spelled ∙ append-nil (spaced tree units)
+
+    -- one unit more
+    module _ (unit : ℕ) (piece : List ℕ) (known : IsUnitOf tree unit) (same : piece ≡ unit_text tree unit) where
+      more : drop head (text ++ piece) ≡ spaced tree (units ++ unit ∷ [])
+      more =
+          drop-append-le head text piece s.headed ∙ ap (λ l. l ++ piece) names ∙ ap (λ l. spaced tree units ++ l) same
+          ∙ sym (spaced_push units unit)
+
+      long : length (text ++ piece) ≡ head + length (spaced tree (units ++ unit ∷ []))
+      long =
+          omega (arith, s.headed, length-append text piece, length-drop head (text ++ piece), ap length more)
+
+      pub added : (end : ℕ) → end ≡ length (text ++ piece)
+          → Spells tree head (units ++ unit ∷ []) (ends ++ end ∷ []) (text ++ piece) []
+      added end is =
+          let P : ℕ → Type 0 = λ k. get_or (ends ++ end ∷ []) k 0
+          ≡ head + length (spaced tree (take (k + 1) (units ++ unit ∷ []))) in
+          let below : (k : ℕ) → k < length units → P k = λ k short.
+          get_or_append_left ends (end ∷ []) 0 k (omega (arith, short, s.count)) ∙ s.places k short
+          ∙ ap (λ l. head + length (spaced tree l))
+          (sym (take-append-le (k + 1) units (unit ∷ []) (omega (arith, short)))) in
+          let here : P (length units) =
+          get_or_push ends end 0 (length units) s.count ∙ is ∙ long
+          ∙ ap (λ l. head + length (spaced tree l)) (sym (take_all (length units + 1) (units ++ unit ∷ [])
+          (omega (arith, length_push units unit)))) in
+          record {
+            known = All-push (IsUnitOf tree) units unit s.known known;
+            count = omega (arith, length_push ends end, length_push units unit, s.count);
+            places = λ k short. below_more P (length units) below here k (omega (arith, short, length_push units unit));
+            headed = omega (arith, s.headed, length-append text piece);
+            spelled = more ∙ sym (append-nil (spaced tree (units ++ unit ∷ [])));
+          }
+
+      pub start_added : take head (text ++ piece) ≡ take head text
+      start_added = take-append-le head text piece s.headed
+
+    -- a tail
+    pub ended : (tail : List ℕ) → Spells tree head units ends (text ++ tail) tail
+    ended tail = record {
+      known = s.known;
+      count = s.count;
+      places = s.places;
+      headed = omega (arith, s.headed, length-append text tail);
+      spelled = drop-append-le head text tail s.headed ∙ ap (λ l. l ++ tail) names;
+    }
+
+    -- or want of memory for it
+    pub ended_or_not : (fits : Bool) (tail new : List ℕ) → new ≡ (if fits then text ++ tail else text)
+        → (rest : List ℕ) × Spells tree head units ends new rest
+    ended_or_not true tail new is = (tail, subst (λ l. Spells tree head units ends l tail) (sym is) (ended tail))
+    ended_or_not false tail new is = ([], subst (λ l. Spells tree head units ends l []) (sym is) s)
+
+    -- the whole text
+    pub whole : (start tail new : List ℕ) → take head text ≡ start → new ≡ text ++ tail
+        → new ≡ start ++ (spaced tree units ++ tail)
+    whole start tail new is ends =
+        ends ∙ ap (λ l. l ++ tail) (sym (take-append-drop head text) ∙ ap (λ l. l ++ drop head text) is
+        ∙ ap (λ l. start ++ l) names)
+        ∙ append_assoc start (spaced tree units) tail
+
+-- ---- heads that stay
+
+pub start_ended : (head : ℕ) (text tail new : List ℕ) (fits : Bool) → new ≡ (if fits then text ++ tail else text)
+    → head ≤ length text → take head new ≡ take head text
+start_ended head text tail new true is within = ap (take head) is ∙ take-append-le head text tail within
+start_ended head text tail new false is within = ap (take head) is
+
+pub SameHead-trans : (old mid new : Line) → SameHead old mid → SameHead mid new → SameHead old new
+SameHead-trans old mid new first second = record {
+  head = second.head ∙ first.head;
+  start = subst (λ n. take n new.text.items ≡ take n mid.text.items) first.head second.start ∙ first.start;
+}
+
+pub StartsWith-same : (start : List ℕ) (old new : Line) → SameHead old new → StartsWith start old → StartsWith start new
+StartsWith-same start old new same starts some =
+    ap (λ n. take n new.text.items) same.head ∙ same.start ∙ starts (subst (λ n. 0 < n) same.head some)
+
+-- the start of a line that has a head
+pub start_is : (start : List ℕ) (old new : Line) → SameHead old new → take old.head old.text.items ≡ start
+    → take new.head new.text.items ≡ start
+start_is start old new same is = ap (λ n. take n new.text.items) same.head ∙ same.start ∙ is

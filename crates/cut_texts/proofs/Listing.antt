@@ -1,13 +1,15 @@
 -- The cut sets of a list with their orders, one after another, and how many there are.
 use Rattle.std.specs.Prelude.{◌≡◌, ℕ, zero, suc, ◌+◌, ◌<◌, ◌≤◌, List, [], ◌∷◌, ◌++◌, length, drop, get_or, All, Option}
-use Rattle.std.specs.Prelude.{Some, None, slice_get, unwrap_or}
-use Rattle.std.proofs.Common.{sym, ap, subst, ◌∙◌, refl, arith, append_assoc, append-nil}
+use Rattle.std.specs.Prelude.{Some, None, false, codes, is_some, slice_get, unwrap_or}
+use Rattle.std.proofs.Common.{sym, ap, subst, ◌∙◌, refl, arith, append_assoc, append-nil, true≢false}
 use Rattle.std.proofs.lemmas.List.{drop_more, drop_all}
 use Rattle.std.proofs.lemmas.Option.{slice_get_within, slice_get-get_or}
 use Rattle.cut_sequences.specs.Orders.{order_total}
 use Rattle.edge_io.specs.Out.{Output, Puts}
 use Rattle.fault_definitions.specs.Tree.{FaultTree, unit_count, gate_count}
-use Rattle.cut_texts.specs.CutsText.{Listed, count_line, cut_block, cut_blocks, listed_with, orders_in, tree_counts}
+use Rattle.cut_texts.specs.CutsText.{Listed, count_line, cut_block, cut_blocks, cut_number, listed_with, orders_in}
+use Rattle.cut_texts.specs.CutsText.{tree_counts}
+use Rattle.cut_texts.specs.UnitTexts.{spaced}
 
 -- the set at a place
 set_at : (cuts : List (List ℕ)) (i : ℕ) (set : List ℕ) → slice_get cuts i ≡ Some set → get_or cuts i set ≡ set
@@ -58,6 +60,15 @@ next_block tree cuts lists i set same at =
     ∙ ap (λ (listed : Listed). cut_block tree (i + 1) listed.0 listed.1
     ++ cut_blocks tree (i + 1 + 1) (drop (i + 1) (listed_with cuts lists)))
     (pair_at cuts lists i set None same ∙ ap (λ s. (s, get_or lists i None)) (set_at cuts i set at))
+
+-- the block of a set whose orders are not listed
+pub unlisted_block : (tree : FaultTree) (number : ℕ) (set : List ℕ) (orders : Option (List (List ℕ)))
+    → is_some orders ≡ false
+    → cut_number number ++ (spaced tree set ++ codes "\n  (not listed)\n") ≡ cut_block tree number set orders
+unlisted_block tree number set None unlisted =
+    sym (append_assoc (cut_number number) (spaced tree set ++ codes "\n") (codes "  (not listed)\n")
+    ∙ ap (λ l. cut_number number ++ l) (append_assoc (spaced tree set) (codes "\n") (codes "  (not listed)\n")))
+unlisted_block tree number set (Some orders) unlisted = absurd (true≢false unlisted)
 
 -- no block is left
 pub no_block : (tree : FaultTree) (cuts : List (List ℕ)) (lists : List (Option (List (List ℕ)))) (i : ℕ)

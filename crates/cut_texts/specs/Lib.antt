@@ -1,5 +1,7 @@
 -- the texts of units
 pub mod UnitTexts
+-- lines that are kept
+pub mod Lines
 -- orders listed for cut sets
 pub mod OrdersOfUnits
 -- the text of cut sets and their orders

@@ -1,5 +1,5 @@
 -- The texts of the units of a tree, and of some of them one after another.
-use Rattle.std.specs.Prelude.{◌≡◌, ℕ, ◌-◌, ◌≤◌, List, [], All, length, slice_index_or}
+use Rattle.std.specs.Prelude.{◌≡◌, ℕ, ◌-◌, ◌≤◌, List, [], length, slice_index_or}
 use Rattle.std.specs.List.{flat_map}
 use Rattle.fault_definitions.specs.Tree.{FaultTree, IsUnitOf, unit_count, name_of}
 use Rattle.text_pieces.specs.Shown.{named}
@@ -16,8 +16,3 @@ spaced tree units = flat_map (unit_text tree) units
 pub record AreTextsOf (tree : FaultTree) (texts : List (List ℕ)) : Type 0 where
   pub count : unit_count tree ≤ length texts
   pub each : (unit : ℕ) → IsUnitOf tree unit → slice_index_or texts (unit - 1) [] ≡ unit_text tree unit
-
--- a text that spells some units of the tree
-pub record Spells (tree : FaultTree) (units text : List ℕ) : Type 0 where
-  pub known : All (IsUnitOf tree) units
-  pub spelled : text ≡ spaced tree units

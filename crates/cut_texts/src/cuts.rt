@@ -1,16 +1,17 @@
 //! The text of cut sets.
-ghost use Rattle.std.specs.Prelude.{◌≡◌, ◌<◌, ◌+◌, is_err, length, false, All, None, slice_index_or};
+ghost use Rattle.std.specs.Prelude.{◌≡◌, ◌<◌, ◌+◌, ◌++◌, is_err, length, false, All, None, codes, slice_index_or};
 ghost use Rattle.cut_sequences.specs.Orders.{orders_at};
 ghost use Rattle.edge_io.specs.Out.{has_failed, Puts};
 ghost use Rattle.fault_definitions.specs.Tree.{IsUnitOf, name_of};
-ghost use Rattle.cut_texts.specs.CutsText.{count_line, cut_block, cut_blocks, cut_line, cut_number, cuts_text};
+ghost use Rattle.cut_texts.specs.CutsText.{count_line, cut_block, cut_blocks, cut_number, cuts_text};
 ghost use Rattle.cut_texts.specs.CutsText.{listed_with, titled_line, tree_counts, tree_line};
 ghost use Rattle.cut_texts.specs.OrdersOfUnits.{AreOrdersOf};
-ghost use Rattle.cut_texts.specs.UnitTexts.{AreTextsOf, Spells};
+ghost use Rattle.cut_texts.specs.Lines.{IsLine};
+ghost use Rattle.cut_texts.specs.UnitTexts.{AreTextsOf, spaced};
 
 use crate::line::Line;
 use crate::orders::put_order_lines;
-use crate::pieces::{Spelled, put_spaced};
+use crate::pieces::{Spelled, put_each};
 use crate::unit_texts::UnitTexts;
 use cut_sequences::OrderLists;
 use edge_io::{Out, Sink, WriteFault};
@@ -125,16 +126,19 @@ fn put_blocks<K: Sink>(
     ensures answer { is_err result ≡ has_failed out.new }
 {
     let mut line = names.texts.line();
+    let mut order_line = names.texts.line();
     for i in 0..cuts.len() {
-        put_block(out, &mut line, names, cuts.members(i), orders, i)?;
+        let set = cuts.members(i);
+        put_block(out, &mut line, &mut order_line, names, set, orders, i)?;
     }
     Ok(())
 }
 
-// The cut set of a place and its orders.
+// The cut set of a place and its orders. The lines are those of the set before, and of an order before.
 fn put_block<K: Sink>(
     out: &mut Out<K>,
     line: &mut Line,
+    order_line: &mut Line,
     names: &Spelled,
     set: &[UnitNo],
     orders: &OrderLists,
@@ -143,38 +147,69 @@ fn put_block<K: Sink>(
     requires within { i < length orders.now }
     requires countable { i < usize.MAX }
     requires texts { AreTextsOf names.now.tree.now names.now.texts.now }
-    requires spells { Spells names.now.tree.now line.old.units.items line.old.text.items }
+    requires line { IsLine names.now.tree.now (cut_number i) line.old }
+    requires order_line { IsLine names.now.tree.now (codes " ") order_line.old }
     requires set_units { All (IsUnitOf names.now.tree.now) set.now }
     requires units { All (All (IsUnitOf names.now.tree.now)) (orders_at orders.now i) }
-    ensures spells { Spells names.now.tree.now line.new.units.items line.new.text.items }
+    ensures line { IsLine names.now.tree.now (cut_number (i + 1)) line.new }
+    ensures order_line { IsLine names.now.tree.now (codes " ") order_line.new }
     ensures puts { Puts K.taken K.faults out.old out.new
         (cut_block names.now.tree.now (i + 1) set.now (slice_index_or orders.now i None)) }
     ensures answer { is_err result ≡ has_failed out.new }
 {
-    put_cut_line(out, line, names, i as u64 + 1, set)?;
-    put_order_lines(out, line, names, orders, i)
+    if !orders.listed(i) {
+        return put_cut_line(out, line, names, i, set, b"\n  (not listed)\n");
+    }
+    put_cut_line(out, line, names, i, set, b"\n")?;
+    put_order_lines(out, order_line, names, orders, i)
 }
 
+// The line of a cut set, with what stands behind its names.
+#[inline(always)]
 fn put_cut_line<K: Sink>(
     out: &mut Out<K>,
     line: &mut Line,
     names: &Spelled,
-    number: u64,
+    i: usize,
     set: &[UnitNo],
+    tail: &[u8],
 ) -> Result<(), WriteFault>
+    requires countable { i < usize.MAX }
     requires texts { AreTextsOf names.now.tree.now names.now.texts.now }
-    requires spells { Spells names.now.tree.now line.old.units.items line.old.text.items }
+    requires line { IsLine names.now.tree.now (cut_number i) line.old }
     requires units { All (IsUnitOf names.now.tree.now) set.now }
-    ensures spells { Spells names.now.tree.now line.new.units.items line.new.text.items }
-    ensures puts { Puts K.taken K.faults out.old out.new (cut_line names.now.tree.now number set.now) }
+    ensures line { IsLine names.now.tree.now (cut_number (i + 1)) line.new }
+    ensures puts { Puts K.taken K.faults out.old out.new
+        (cut_number (i + 1) ++ (spaced names.now.tree.now set.now ++ tail.now)) }
     ensures answer { is_err result ≡ has_failed out.new }
 {
-    put_cut_number(out, number)?;
-    put_spaced(out, line, names, set)?;
-    out.put(b"\n")
+    if line.turn_to_cut(names, i, set, tail) {
+        return out.put(line.as_bytes());
+    }
+    put_cut_pieces(out, names, i, set, tail)
 }
 
-fn put_cut_number<K: Sink>(out: &mut Out<K>, number: u64) -> Result<(), WriteFault>
+// The same without a line.
+fn put_cut_pieces<K: Sink>(
+    out: &mut Out<K>,
+    names: &Spelled,
+    i: usize,
+    set: &[UnitNo],
+    tail: &[u8],
+) -> Result<(), WriteFault>
+    requires countable { i < usize.MAX }
+    requires texts { AreTextsOf names.now.tree.now names.now.texts.now }
+    requires units { All (IsUnitOf names.now.tree.now) set.now }
+    ensures puts { Puts K.taken K.faults out.old out.new
+        (cut_number (i + 1) ++ (spaced names.now.tree.now set.now ++ tail.now)) }
+    ensures answer { is_err result ≡ has_failed out.new }
+{
+    put_cut_number(out, i + 1)?;
+    put_each(out, names, set)?;
+    out.put(tail)
+}
+
+fn put_cut_number<K: Sink>(out: &mut Out<K>, number: usize) -> Result<(), WriteFault>
     ensures puts { Puts K.taken K.faults out.old out.new (cut_number number) }
     ensures answer { is_err result ≡ has_failed out.new }
 {

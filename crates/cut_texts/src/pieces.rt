@@ -3,9 +3,8 @@ ghost use Rattle.std.specs.Prelude.{◌≡◌, ◌<◌, is_err, length, false, A
 ghost use Rattle.std.specs.List.{flat_map};
 ghost use Rattle.edge_io.specs.Out.{has_failed, Puts};
 ghost use Rattle.fault_definitions.specs.Tree.{IsUnitOf};
-ghost use Rattle.cut_texts.specs.UnitTexts.{AreTextsOf, Spells, spaced, unit_text};
+ghost use Rattle.cut_texts.specs.UnitTexts.{AreTextsOf, spaced, unit_text};
 
-use crate::line::Line;
 use crate::unit_texts::UnitTexts;
 use edge_io::{Out, Sink, WriteFault};
 use fault_model::Tree;
@@ -28,29 +27,12 @@ fn put_unit<K: Sink>(out: &mut Out<K>, names: &Spelled, unit: UnitNo) -> Result<
     out.put(names.texts.text(unit))
 }
 
-// Puts the names of units, each behind a blank. The line is that of the units before.
-pub(crate) fn put_spaced<K: Sink>(
+// Puts the names of units, each behind a blank.
+pub(crate) fn put_each<K: Sink>(
     out: &mut Out<K>,
-    line: &mut Line,
     names: &Spelled,
     units: &[UnitNo],
 ) -> Result<(), WriteFault>
-    requires units { All (IsUnitOf names.now.tree.now) units.now }
-    requires texts { AreTextsOf names.now.tree.now names.now.texts.now }
-    requires spells { Spells names.now.tree.now line.old.units.items line.old.text.items }
-    requires fine { has_failed out.old ≡ false }
-    ensures spells { Spells names.now.tree.now line.new.units.items line.new.text.items }
-    ensures puts { Puts K.taken K.faults out.old out.new (spaced names.now.tree.now units.now) }
-    ensures answer { is_err result ≡ has_failed out.new }
-{
-    if line.turn_to(names, units) {
-        return out.put(line.as_bytes());
-    }
-    put_each(out, names, units)
-}
-
-// The same without a line.
-fn put_each<K: Sink>(out: &mut Out<K>, names: &Spelled, units: &[UnitNo]) -> Result<(), WriteFault>
     requires units { All (IsUnitOf names.now.tree.now) units.now }
     requires texts { AreTextsOf names.now.tree.now names.now.texts.now }
     requires fine { has_failed out.old ≡ false }

@@ -1,8 +1,9 @@
 //! The text of each unit.
-ghost use Rattle.std.specs.Prelude.{◌≡◌, ◌-◌, ◌<◌, ◌≤◌, [], ◌++◌, ◌∷◌, length, IfOk, OnOk, slice_index_or};
+ghost use Rattle.std.specs.Prelude.{◌≡◌, ◌-◌, ◌<◌, ◌≤◌, ℕ, List, [], ◌++◌, ◌∷◌, length, IfOk, OnOk, slice_index_or};
 ghost use Rattle.fault_definitions.specs.Tree.{FaultTree, IsUnitOf, name_of};
 ghost use Rattle.text_pieces.specs.Shown.{named};
-ghost use Rattle.cut_texts.specs.UnitTexts.{AreTextsOf, Spells, unit_text};
+ghost use Rattle.cut_texts.specs.Lines.{IsLine};
+ghost use Rattle.cut_texts.specs.UnitTexts.{AreTextsOf, unit_text};
 
 use crate::line::Line;
 use edge_io::NoMemory;
@@ -45,7 +46,7 @@ impl UnitTexts {
 
     /// A line of texts, which has none yet.
     pub(crate) fn line(&self) -> Line
-        ensures { (tree : FaultTree) → Spells tree result.units.items result.text.items }
+        ensures { (tree : FaultTree) (start : List ℕ) → IsLine tree start result }
     {
         Line::new(self.alloc)
     }

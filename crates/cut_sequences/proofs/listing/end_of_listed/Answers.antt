@@ -1,25 +1,17 @@
-use Rattle.std.proofs.Common.{◌≡◌, ◌+◌, ◌-◌, ◌<◌, List, ℕ, [], ◌∷◌, All, drop, get_or, length}
-use Rattle.std.proofs.Common.{ap, arith, subst, sym, ◌∙◌}
-use Rattle.std.proofs.lemmas.List.{drop_more}
-use Rattle.std.proofs.lemmas.List.Elements.{All-cons}
+use Rattle.std.proofs.Common.{◌≡◌, ◌+◌, ◌-◌, ◌/◌, ◌<◌, List, ℕ, [], get_or, length, arith, subst, sym}
 use Rattle.cut_sequences.proofs.ShareLemmas.{get_or_from_get}
+use Rattle.cut_sequences.proofs.SizeLemmas.{larger_from}
 use Rattle.cut_sequences.proofs.listing.end_of_listed.Goals as goal
 
-pub loop-end-preserved : goal.loop-end-preserved
-loop-end-preserved c =
+pub loop-low-preserved : goal.loop-low-preserved
+loop-low-preserved c =
     let cuts : List (List ℕ) = c.args.cuts.now in
-    let inv = c.loop-end.invariant in
-    let last : ℕ = c.loop-end.end - 1 in
-    let short : last < length cuts = omega arith in
-    let next : last + 1 ≡ c.loop-end.end = omega arith in
-    let here : c.args.most < length (get_or cuts last []) =
+    let middle : ℕ = c.loop-low.low + (c.loop-low.high - c.loop-low.low) / 2 in
+    let large : c.args.most < length (get_or cuts middle []) =
     subst (λ (cut : List ℕ). c.args.most < length cut)
-    (sym (get_or_from_get cuts last c.members.result.now c.members.ensures.value)) (omega arith) in
+    (sym (get_or_from_get cuts middle c.members.result.now c.members.ensures.value)) (omega arith) in
     record {
-      within = omega arith;
-      larger =
-          subst (All (λ (cut : List ℕ). c.args.most < length cut))
-          (sym (drop_more cuts last [] short ∙ ap (λ n. get_or cuts last [] ∷ drop n cuts) next))
-          (All-cons (λ (cut : List ℕ). c.args.most < length cut) (get_or cuts last []) (drop c.loop-end.end cuts) here
-          inv.larger);
+      order = omega arith;
+      within = omega (arith, c.loop-low.invariant.within);
+      larger = larger_from cuts middle c.args.most c.members.ensures.ordered.ordered large;
     }

@@ -1,7 +1,8 @@
-use Rattle.std.proofs.Common.{sym, ◌∙◌, ap, subst, is_err, ◌≤◌}
-use Rattle.cut_texts.specs.CutsText.{cut_blocks, listed_with}
+use Rattle.std.proofs.Common.{sym, ◌∙◌, ap, subst, is_err, codes, ◌≤◌}
+use Rattle.cut_texts.specs.CutsText.{cut_blocks, cut_number, listed_with}
 use Rattle.text_pieces.proofs.Putting.{begun, whole_put, one_more, cut_short, PutsFront}
-use Rattle.cut_texts.proofs.Listing.{next_block, no_block}
+use Rattle.fault_definitions.specs.Tree.{IsUnitOf}
+use Rattle.cut_texts.proofs.Listing.{next_block, no_block, set_of}
 use Rattle.cut_texts.proofs.cuts.put_blocks.Goals as goal
 
 pub loop-i-init : goal.loop-i-init
@@ -10,27 +11,34 @@ loop-i-init g c = record {
       begun g.K.Sink.taken g.K.Sink.faults c.args.out.now
       (cut_blocks c.args.names.now.tree.now 1 (listed_with c.args.cuts.now c.args.orders.now));
   going = c.requires.fine;
-  spells = c.line-line.ensures c.args.names.now.tree.now;
+  line = c.line-line.ensures c.args.names.now.tree.now (cut_number 0);
+  order_line = c.line-order_line.ensures c.args.names.now.tree.now (codes " ");
 }
+
+pub put_block-requires-clause-set_units : goal.put_block-requires-clause-set_units
+put_block-requires-clause-set_units g c =
+    set_of (IsUnitOf c.args.names.now.tree.now) c.args.cuts.now c.loop-i.i c.members-set.result.now
+    c.members-set.ensures.value c.requires.units
 
 pub returns-in_err-put_block-clause-puts : goal.returns-in_err-put_block-clause-puts
 returns-in_err-put_block-clause-puts g c =
     cut_short g.K.Sink.taken g.K.Sink.faults c.args.out.now c.loop-i.out c.put_block.new.out _ _ _ _
     c.loop-i.invariant.so c.put_block.ensures.puts
-    (next_block c.args.names.now.tree.now c.args.cuts.now c.args.orders.now c.loop-i.i c.members.result.now
+    (next_block c.args.names.now.tree.now c.args.cuts.now c.args.orders.now c.loop-i.i c.members-set.result.now
     c.requires.made.each
-    c.members.ensures.value)
+    c.members-set.ensures.value)
     (sym c.put_block.ensures.answer ∙ ap is_err c.in_err-put_block.was)
 
 pub loop-i-preserved : goal.loop-i-preserved
 loop-i-preserved g c = record {
   so = one_more g.K.Sink.taken g.K.Sink.faults c.args.out.now c.loop-i.out c.put_block.new.out _ _ _ _
       c.loop-i.invariant.so c.put_block.ensures.puts
-      (next_block c.args.names.now.tree.now c.args.cuts.now c.args.orders.now c.loop-i.i c.members.result.now
+      (next_block c.args.names.now.tree.now c.args.cuts.now c.args.orders.now c.loop-i.i c.members-set.result.now
       c.requires.made.each
-      c.members.ensures.value);
+      c.members-set.ensures.value);
   going = sym c.put_block.ensures.answer ∙ ap is_err c.in_ok-put_block.was;
-  spells = c.put_block.ensures.spells;
+  line = c.put_block.ensures.line;
+  order_line = c.put_block.ensures.order_line;
 }
 
 pub returns-clause-puts : goal.returns-clause-puts

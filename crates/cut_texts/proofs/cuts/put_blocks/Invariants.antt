@@ -1,7 +1,7 @@
-use Rattle.std.proofs.Common.{◌≡◌, ◌+◌, false, drop}
+use Rattle.std.proofs.Common.{◌≡◌, ◌+◌, codes, false, drop}
 use Rattle.edge_io.specs.Out.{has_failed}
-use Rattle.cut_texts.specs.UnitTexts.{Spells}
-use Rattle.cut_texts.specs.CutsText.{cut_blocks, listed_with}
+use Rattle.cut_texts.specs.CutsText.{cut_blocks, cut_number, listed_with}
+use Rattle.cut_texts.specs.Lines.{IsLine}
 use Rattle.text_pieces.proofs.Putting.{PutsFront}
 use Rattle.cut_texts.proofs.cuts.put_blocks.Given as goal
 
@@ -11,5 +11,6 @@ invariant-loop-i g l = record {
       (cut_blocks l.names.tree.now (l.i + 1) (drop l.i (listed_with l.cuts l.orders)))
       (cut_blocks l.names.tree.now 1 (listed_with l.cuts l.orders));
   going : has_failed l.out ≡ false;
-  spells : Spells l.names.tree.now l.line.units.items l.line.text.items;
+  line : IsLine l.names.tree.now (cut_number l.i) l.line;
+  order_line : IsLine l.names.tree.now (codes " ") l.order_line;
 }

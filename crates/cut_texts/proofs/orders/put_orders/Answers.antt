@@ -12,7 +12,7 @@ loop-j-init g c = record {
       begun g.K.Sink.taken g.K.Sink.faults c.args.out.now
       (flat_map (order_line c.args.names.now.tree.now) (orders_at c.args.orders.now c.args.i));
   going = c.requires.fine;
-  spells = c.requires.spells;
+  line = c.requires.line;
 }
 
 pub returns-in_err-put_order-clause-puts : goal.returns-in_err-put_order-clause-puts
@@ -32,7 +32,7 @@ loop-j-preserved g c = record {
       c.order.result.now
       (subst (λ n. c.loop-j.j < n) c.count-j-end.ensures c.loop-j-test.true) c.order.ensures);
   going = sym c.put_order.ensures.answer ∙ ap is_err c.in_ok-put_order.was;
-  spells = c.put_order.ensures.spells;
+  line = c.put_order.ensures.line;
 }
 
 pub returns-clause-puts : goal.returns-clause-puts

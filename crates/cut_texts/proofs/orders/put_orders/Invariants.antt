@@ -1,8 +1,8 @@
-use Rattle.std.proofs.Common.{◌≡◌, false}
+use Rattle.std.proofs.Common.{◌≡◌, false, codes}
 use Rattle.std.specs.List.{flat_map}
 use Rattle.cut_sequences.specs.Orders.{orders_at}
 use Rattle.edge_io.specs.Out.{has_failed}
-use Rattle.cut_texts.specs.UnitTexts.{Spells}
+use Rattle.cut_texts.specs.Lines.{IsLine}
 use Rattle.cut_texts.specs.CutsText.{order_line}
 use Rattle.text_pieces.proofs.Putting.{PutsFront, left_of}
 use Rattle.cut_texts.proofs.orders.put_orders.Given as goal
@@ -13,5 +13,5 @@ invariant-loop-j g l = record {
       (left_of (order_line l.names.tree.now) (orders_at l.orders l.i) l.j)
       (flat_map (order_line l.names.tree.now) (orders_at l.orders l.i));
   going : has_failed l.out ≡ false;
-  spells : Spells l.names.tree.now l.line.units.items l.line.text.items;
+  line : IsLine l.names.tree.now (codes " ") l.line;
 }
