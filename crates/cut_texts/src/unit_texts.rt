@@ -5,7 +5,7 @@ ghost use Rattle.text_pieces.specs.Shown.{named};
 ghost use Rattle.cut_texts.specs.Lines.{IsLine};
 ghost use Rattle.cut_texts.specs.UnitTexts.{AreTextsOf, unit_text};
 
-use crate::line::Line;
+use crate::line::{Line, add_pieces};
 use edge_io::NoMemory;
 use fault_model::{Name, NodeNo, Tree};
 use flat_rows::Rows;
@@ -65,13 +65,9 @@ fn show(text: &mut Vec<u8>, name: &Name) -> Result<(), NoMemory>
     requires { text.old.items ≡ [] }
     ensures { OnOk result (text.new.items ≡ named name.now) }
 {
-    text.push(b' ')?;
     if name.is_bare() {
-        text.extend_from_slice(name.as_slice())?;
+        add_pieces(text, &[b" ", name.as_slice()])
     } else {
-        text.push(b'"')?;
-        text.extend_from_slice(name.as_slice())?;
-        text.push(b'"')?;
+        add_pieces(text, &[b" \"", name.as_slice(), b"\""])
     }
-    Ok(())
 }
