@@ -7,7 +7,7 @@ pub const MOST_GATES: usize = 16_383;
 
 /// The parts of a tree, each in the order of the numbers: a name for each node, a kind and a list of inputs for each
 /// gate, and a list of attributes for each unit.
-#[derive(Debug, Drop)]
+#[derive(Drop)]
 pub struct TreeParts {
     pub names: NameTable,
     pub kinds: KindList,

@@ -2,7 +2,7 @@
 use fault_words::{GateKind, Place};
 
 /// A name that stands in the text: its number in the tree, and its place.
-#[derive(Clone, Copy, Debug)]
+#[derive(Clone, Copy)]
 pub struct Numbered {
     pub number: usize,
     pub place: Place,

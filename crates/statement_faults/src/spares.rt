@@ -11,7 +11,7 @@ use fault_words::Place;
 use std::alloc::{AllocError, Global};
 
 /// How spare gates have used an event so far.
-#[derive(Clone, Copy, Debug)]
+#[derive(Clone, Copy)]
 pub(crate) enum EarlierUses {
     Unused,
     /// As a first input alone, however often.
