@@ -3,7 +3,7 @@ use fault_words::{Attribute, GateKind, Name, Place};
 use flat_rows::GrowingList;
 
 /// A name and the place of its token.
-#[derive(Debug, Drop)]
+#[derive(Drop)]
 pub struct Placed {
     pub name: Name,
     pub place: Place,
@@ -13,7 +13,7 @@ pub struct Placed {
 pub type PlacedList = GrowingList<Placed>;
 
 /// An attribute, and the place of its value.
-#[derive(Debug, Drop)]
+#[derive(Drop)]
 pub struct RawAttribute {
     pub attribute: Attribute,
     pub value_place: Place,
@@ -23,7 +23,7 @@ pub struct RawAttribute {
 pub type RawAttributes = GrowingList<RawAttribute>;
 
 /// `toplevel NAME;`
-#[derive(Debug, Drop)]
+#[derive(Drop)]
 pub struct RawTop {
     /// The place of the word `toplevel`.
     pub word: Place,
@@ -31,7 +31,7 @@ pub struct RawTop {
 }
 
 /// `NAME KIND INPUTS;`
-#[derive(Debug, Drop)]
+#[derive(Drop)]
 pub struct RawGate {
     pub name: Placed,
     /// The place of the gate word.
@@ -41,14 +41,14 @@ pub struct RawGate {
 }
 
 /// `NAME ATTRIBUTES;`
-#[derive(Debug, Drop)]
+#[derive(Drop)]
 pub struct RawBasic {
     pub name: Placed,
     pub attributes: RawAttributes,
 }
 
 /// A statement of a text.
-#[derive(Debug, Drop)]
+#[derive(Drop)]
 pub enum Statement {
     Top(RawTop),
     Gate(RawGate),

@@ -8,7 +8,7 @@ use std::marker::Model;
 
 /// The statements of a text in their order, and the place of its end. `parse` alone makes one. A contract sees
 /// it as a `ReadTree`.
-#[derive(Debug, Drop)]
+#[derive(Drop)]
 pub struct RawTree {
     statements: GrowingList<Statement>,
     end: Place,
