@@ -3,8 +3,8 @@
 //! The nodes are made rank by rank, each after all that it reads. A worker makes a node's family in a memory of
 //! its own, where operations keep families minimal all the way, and puts only the finished family into the
 //! store; where that memory is used up, the recipe over the store takes its place for the node. A rank that has
-//! shown itself to be heavy is spread over the workers, and so is a first rank of not too many gates: each of them
-//! draws the next place until none is left.
+//! shown itself to be heavy is spread over the workers, and so are the nodes that read units alone, if they are no more
+//! than workers: each of them draws the next place until none is left.
 //!
 //! A layer above gets the reference of the minimal cuts, and knows one for each node. All memory is taken before
 //! the first node is made. `Full` comes only where a search of this call passed every slot of the store.

@@ -19,10 +19,6 @@ use zdd_shared_table::{Full, NodeStore, StoreSeat};
 // A rank is heavy once the first worker has made so many nodes of diagrams for it.
 const HEAVY: usize = 20_000;
 
-// A first rank of gates that has more places is as a rule one of small gates under a large one, whose worker would have
-// to copy again what the others made.
-const MOST_AT_ONCE: usize = 512;
-
 // Makes the nodes of a run that are not made yet, by the first worker. It stops before a place once it has made as
 // many nodes of diagrams as the limit says, where at least two places are left. Answers where it stopped.
 fn make_rest<P: Pace>(
@@ -81,17 +77,16 @@ fn is_heavy(worker: &Worker, limit: Option<usize>) -> bool
     }
 }
 
-// Where the first worker stops in a rank, if the rest is spread. The first rank of gates is spread at once unless it
-// has many places: it is as a rule the widest, and the workers then hold the families of the units. A team of one has
-// nobody to spread to.
-fn limit_of(team: &[Worker], rank: u32, run: Run, spread_before: bool) -> Option<usize>
+// Where the first worker stops in a rank, if the rest is spread: once the rank has shown itself to be heavy. Nodes that
+// read units alone are spread at once where there are no more of them than workers: each worker then makes one, and
+// none waits for the first to be made. A team of one has nobody to spread to.
+fn limit_of(team: &[Worker], rank: u32, run: Run) -> Option<usize>
     requires { run.from ≤ run.to }
 {
     if team.len() < 2 {
         return None;
     }
-    let is_at_once = rank > 0 && !spread_before && run.to - run.from <= MOST_AT_ONCE;
-    if is_at_once {
+    if rank == 1 && run.to - run.from <= team.len() {
         return Some(0);
     }
     Some(team[0].work.saturating_add(HEAVY))
@@ -207,15 +202,13 @@ pub(crate) fn make_ranks<R: Threads + Sync, P: Pace>(
         table.new.made.items) }
 {
     seat.is_sound();
-    let mut spread_before = false;
     let mut from = 0;
     while from < places.len() {
         let rank = places[from].rank;
         let to = end_of_rank(places, from);
         let run = Run { from, to };
-        let limit = limit_of(team, rank, run, spread_before);
+        let limit = limit_of(team, rank, run);
         make_rank(rt, store, seat, team, tree, places, table, run, limit, pace)?;
-        spread_before = spread_before || (rank > 0 && to - from > 1);
         from = to;
     }
     Ok(())
