@@ -1,5 +1,7 @@
 //! The cut lists of small trees, each set by the numbers of its units.
 use cutset_lists::{ROOM, mcs_within};
+use fault_model::Tree;
+use std::alloc::Global;
 use std::test::Fail;
 use unit_sets::ListEnd;
 use worked_trees::{cuts_of, sets_of, tree_of};
@@ -35,33 +37,37 @@ fn cut_lists_of_small_trees(rt: HostRuntime) -> Result<(), Fail> {
     Ok(())
 }
 
+// The cut sets that are found where the lists on the way have so many bytes, or why there are none.
+fn sets_within(alloc: Global, tree: &Tree, bytes: usize) -> Result<String, Fail> {
+    match mcs_within(alloc, tree, bytes) {
+        Ok(cuts) => Ok(sets_of(alloc, &cuts)?),
+        Err(ListEnd::NoMemory) => Ok(String::from_str(alloc, "no memory")?),
+        Err(ListEnd::ListLimit) => Ok(String::from_str(alloc, "list limit")?),
+    }
+}
+
 #[test]
 fn lists_that_outgrow_their_room_end_for_want_of_memory(rt: HostRuntime) -> Result<(), Fail> {
     let alloc = rt.alloc();
     let text = b"toplevel T; T and G H I J K; G or a b; H or c d; I or e f; J or g h; K or i j;
         a; b; c; d; e; f; g; h; i; j;";
     let tree = tree_of(alloc, text)?;
-    let wanted = cuts_of(alloc, &tree)?;
-    assert_eq!(rt; wanted.len(), 32);
+    let cuts = cuts_of(alloc, &tree)?;
+    assert_eq!(rt; cuts.len(), 32);
+    let all = sets_of(alloc, &cuts)?;
     // The list of the top event takes 576 bytes, and those of the gates some more.
-    for (bytes, is_enough) in [
-        (0, false),
-        (100, false),
-        (500, false),
-        (16_384, true),
-        (ROOM, true),
+    for (bytes, wanted) in [
+        (0, "no memory"),
+        (100, "no memory"),
+        (500, "no memory"),
+        (16_384, all.as_str()),
+        (ROOM, all.as_str()),
     ] {
-        match mcs_within(alloc, &tree, bytes) {
-            Ok(cuts) => {
-                assert!(rt; is_enough, "{bytes}");
-                assert_eq!(rt;
-                    sets_of(alloc, &cuts)?.as_str(),
-                    sets_of(alloc, &wanted)?.as_str()
-                );
-            }
-            Err(ListEnd::NoMemory) => assert!(rt; !is_enough, "{bytes}"),
-            Err(ListEnd::ListLimit) => assert!(rt; false, "{bytes}: the list has room"),
-        }
+        assert_eq!(rt;
+            sets_within(alloc, &tree, bytes)?.as_str(),
+            wanted,
+            "{bytes}"
+        );
     }
     Ok(())
 }

@@ -73,6 +73,15 @@ impl Copies {
         self.reach(place);
         if place < self.shared.len() {
             self.shared[place] = shared;
+        }
+    }
+
+    /// Lets the note of a reference of the memory be found by the store's. It costs more than the note, so it is for
+    /// references that are likely to be asked for: those of whole families, and not of their parts.
+    pub(crate) fn enter(&mut self, own: NodeRef)
+        ensures { self.new ≡ self.old }
+    {
+        if self.shared_of(own) != NodeRef::EMPTY {
             self.by_shared.put(self.shared.as_slice(), own);
         }
     }

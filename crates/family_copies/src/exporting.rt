@@ -30,7 +30,9 @@ pub fn export(
     ensures full { IfErr result (λ _. WasFull (IsReached (family_in memory.now r)) ops.old ops.new) }
     ensures copies { AreCopies memory.now (map_of ops.new) copies.new }
 {
-    send(memory, copies, ops, r)
+    let shared = send(memory, copies, ops, r)?;
+    copies.enter(r);
+    Ok(shared)
 }
 
 // The same. A node that was copied before is not copied again.

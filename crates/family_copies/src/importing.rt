@@ -58,6 +58,7 @@ fn bring(
     }
     let own = bring_node(memory, copies, ops, r)?;
     copies.note(r, own);
+    copies.enter(own);
     Ok(own)
 }
 

@@ -12,9 +12,6 @@ const SPREAD: u64 = 11_400_714_819_323_198_485;
 // How many slots there are at first.
 const FIRST_SLOTS: usize = 1_024;
 
-// More references than this no memory has.
-const MOST_REFERENCES: usize = (1 << 25) + 2;
-
 /// Slots with references, where `EMPTY` means that the slot is free. A search begins at the place of the store's
 /// reference and goes on from slot to slot. How many are taken tells when there should be more of them.
 #[derive(Drop)]
@@ -72,7 +69,10 @@ impl Slots {
     /// Takes all references out.
     pub(crate) fn clear(&mut self) {
         let few = self.slots.capacity().min(FIRST_SLOTS);
-        self.begin(few);
+        self.taken = 0;
+        self.slots.clear();
+        // Within the room this takes no memory. With fewer slots fewer notes are found.
+        let _ = self.slots.resize(few, NodeRef::EMPTY);
     }
 
     // The slot where the search for a reference of the store ends: it has the memory's reference, or is free.
@@ -104,26 +104,31 @@ impl Slots {
         }
     }
 
-    // Makes the slots four times as many within their room, once half of them are taken.
+    // Makes the slots four times as many within their room, once half of them are taken. The last reference moves
+    // first: its new place is hardly ever before its old one, where others still wait.
     fn follow(&mut self, notes: &[NodeRef]) {
         let size = self.slots.len();
         if self.taken < size / 2 || size == self.slots.capacity() {
             return;
         }
         let more = size.saturating_mul(4).min(self.slots.capacity());
-        self.begin(more);
-        for place in 2..notes.len().min(MOST_REFERENCES) {
-            if notes[place] != NodeRef::EMPTY {
-                self.put_one(notes, NodeRef::at_slot((place - 2) as u32));
-            }
+        // Within the room this takes no memory. With fewer slots fewer notes are found.
+        let _ = self.slots.resize(more, NodeRef::EMPTY);
+        self.taken = 0;
+        for passed in 0..size {
+            self.move_one(notes, size - 1 - passed);
         }
     }
 
-    // So many free slots, no more than there is room for.
-    fn begin(&mut self, size: usize) {
-        self.taken = 0;
-        self.slots.clear();
-        // Within the room this takes no memory. With fewer slots fewer notes are found.
-        let _ = self.slots.resize(size, NodeRef::EMPTY);
+    // Puts the reference of a slot where the search for its note ends now.
+    fn move_one(&mut self, notes: &[NodeRef], slot: usize) {
+        if slot >= self.slots.len() {
+            return;
+        }
+        let own = self.slots[slot];
+        if own != NodeRef::EMPTY {
+            self.slots[slot] = NodeRef::EMPTY;
+            self.put_one(notes, own);
+        }
     }
 }

@@ -254,7 +254,14 @@ kept_refusing held after capacity entries extents taken same kept =
       taken = kept.taken;
       told =
           all_told held (refusing held) entries kept.sound (went_refusing held kept.sound) kept.told;
-      reach = record { count = kept.reach.count; each = kept.reach.each };
+      reach = record {
+        count = kept.reach.count;
+        each = kept.reach.each;
+        rests =
+            λ r inner has.
+            let is = kept.reach.rests r inner has in
+            record { has = is.has; above = is.above; some = is.some; others = is.others };
+      };
       reach_taken = kept.reach_taken;
     })
 

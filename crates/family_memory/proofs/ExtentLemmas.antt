@@ -12,10 +12,12 @@ use Rattle.family_memory.specs.Memory.{Held, Has, IsSound, family_in, map_of, wo
 use Rattle.family_memory.specs.declared.extents.Extent.{Extent}
 use Rattle.family_memory.specs.Extents.{IsExtent}
 use Rattle.family_memory.specs.Kept.{AreExtents, IsAdded, no_extent}
+use Rattle.family_memory.specs.Rests.{IsRest}
 use Rattle.family_memory.proofs.Adding.{went_added}
 use Rattle.family_memory.proofs.After.{still}
 use Rattle.family_memory.proofs.Empty.{no_nodes}
 use Rattle.family_memory.proofs.Nodes.{has_known}
+use Rattle.family_memory.proofs.RestLemmas.{rests_more}
 
 -- ---- a node that is yet to be added
 
@@ -42,7 +44,8 @@ extent_of_word held word level lo hi a b e sound node same of_lo of_hi is is' ma
 
 module _ (held after : Held) (word r : ℕ) (extent : Extent) (extents : List Extent) (sound : IsSound held)
     (is : IsAdded held word after r) (here : r ≡ length held.words) (are : AreExtents held extents)
-    (of_word : IsExtent (word_family held word) extent) where
+    (of_word : IsExtent (word_family held word) extent)
+    (rest : IsRest held (level_of word) (word_family held word) extent.rest) where
   longer : length after.words ≡ length held.words + 1
   longer = ap length is.words ∙ length-append held.words (word ∷ [])
 
@@ -67,6 +70,9 @@ module _ (held after : Held) (word r : ℕ) (extent : Extent) (extents : List Ex
     count =
         length-append extents (extent ∷ []) ∙ (let e = are.count in let f = longer in omega (arith, e, f));
     each = each_more;
+    rests =
+        λ q inner has. rests_more held after word r extent extents sound is here are rest q inner
+        (let e = longer in omega (arith, e, has));
   }
 
 -- ---- no nodes
@@ -85,7 +91,11 @@ module _ (none unit : Extent) (of_none : IsExtent [] none) (of_unit : IsExtent (
   extents_empty held extents no_words both =
       subst (λ l. AreExtents (record { words = l; room = held.room; refused = held.refused }) extents) (sym no_words)
       (subst (AreExtents (no_nodes held.room held.refused)) (sym both)
-      (record { count = refl; each = of_terminals held.room held.refused }))
+      (record {
+        count = refl;
+        each = of_terminals held.room held.refused;
+        rests = λ r inner has. absurd (omega (arith, inner, has));
+      }))
 
 -- the extents that are kept of a memory that is emptied
 pub first_two_extents : (held after : Held) (extents : List Extent) → IsSound held → AreExtents held extents

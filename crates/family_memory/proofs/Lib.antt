@@ -4,4 +4,5 @@ pub mod Entries
 pub mod Nodes
 pub mod After
 pub mod ExtentLemmas
+pub mod RestLemmas
 pub mod Sizes

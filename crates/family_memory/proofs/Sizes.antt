@@ -15,8 +15,9 @@ use Rattle.minimal_families.proofs.UnitsLemmas.{last-none, last-unit, last-branc
 use Rattle.family_memory.specs.declared.extents.Extent.{Extent}
 use Rattle.family_memory.specs.Extents.{HaveAtLeast, HaveAtMost, IncludesNone, IsExtent, Reach}
 
-pub extent-none : (reach least most : ℕ) → IsExtent [] (record { last = 0; reach = reach; least = least; most = most })
-extent-none reach least most = record {
+pub extent-none : (reach least most rest : ℕ)
+    → IsExtent [] (record { last = 0; reach = reach; least = least; most = most; rest = rest })
+extent-none reach least most rest = record {
   last = last-none;
   reach = λ some set has. absurd (Contains-nil set has);
   least = λ set has. Contains-nil set has;
@@ -30,8 +31,8 @@ empty_alone set has =
       | inr later ↦ Contains-nil set later
     ]
 
-pub extent-unit : IsExtent ([] ∷ []) (record { last = 0; reach = 0; least = 0; most = 0 })
-extent-unit = record {
+pub extent-unit : (rest : ℕ) → IsExtent ([] ∷ []) (record { last = 0; reach = 0; least = 0; most = 0; rest = rest })
+extent-unit rest = record {
   last = last-unit;
   reach = λ some set has. absurd (omega (arith, some));
   least = λ set has. omega arith;

@@ -1,22 +1,26 @@
 -- What the fields of a memory keep, and what a node that is added does.
 use Rattle.std.specs.Prelude.{◌≡◌, ℕ, ◌+◌, ◌≤◌, ◌^◌, List, [], ◌∷◌, ◌++◌, get_or, length}
 use Rattle.std.specs.List.{All}
-use Rattle.zdd_families.specs.Map.{Grown}
+use Rattle.zdd_families.specs.Map.{Grown, level_in}
 use Rattle.kept_answers.specs.declared.answers.Entry.{Entry}
 use Rattle.family_memory.specs.declared.extents.Extent.{Extent}
 use Rattle.family_memory.specs.Extents.{IsExtent}
 use Rattle.family_memory.specs.Answers.{IsTold}
+use Rattle.family_memory.specs.Rests.{IsRest}
 use Rattle.event_counts.specs.Count.{next_count}
 use Rattle.family_memory.specs.Memory.{Held, Has, IsSound, family_in, map_of, word_family}
 
 -- what stands behind the end of a list of extents
 abbrev pub no_extent : Extent
-no_extent = record { last = 0; reach = 0; least = 0; most = 0 }
+no_extent = record { last = 0; reach = 0; least = 0; most = 0; rest = 0 }
 
--- each reference of the memory has the extent of its family in its place of the list
+-- each reference of the memory has the extent of its family in its place of the list, and a node what is left of its
+-- sets
 pub record AreExtents (held : Held) (extents : List Extent) : Type 0 where
   pub count : length extents ≡ length held.words
   pub each : (r : ℕ) → Has held r → IsExtent (family_in held r) (get_or extents r no_extent)
+  pub rests : (r : ℕ) → 2 ≤ r → Has held r
+      → IsRest held (level_in (map_of held) r) (family_in held r) (get_or extents r no_extent).rest
 
 -- the room was taken before, also for the extents; references to it fit into words, and each entry is true
 pub record KeepsNodes (held : Held) (capacity : ℕ) (entries : List Entry) (extents : List Extent)

@@ -2,4 +2,5 @@ pub mod Memory
 pub mod Answers
 pub mod Extents
 pub mod Kept
+pub mod Rests
 pub mod Search

@@ -1,9 +1,10 @@
-//! How far the sets of a family reach.
+//! How far the sets of a family reach, and where those without its low units are.
 ghost use Rattle.std.specs.Prelude.{◌≡◌, ◌≢◌, ℕ, List, [], ◌∷◌, true};
 ghost use Rattle.zdd_families.specs.Family.{IsFamily, branch};
 ghost use Rattle.family_memory.specs.Extents.{IncludesNone, IsExtent};
 
 use unit_sets::UnitNo;
+use zdd_words::NodeRef;
 
 // Above the number of each unit.
 const NO_UNIT: u16 = 4_096;
@@ -12,13 +13,14 @@ const NO_UNIT: u16 = 4_096;
 const NO_SIZE: u16 = 4_096;
 
 /// The greatest unit of a family's sets, a unit that each of them reaches or passes, and how many units each of them
-/// has at least and at most.
+/// has at least and at most. `rest` leads to what is left of a node's sets without some low units.
 #[derive(Clone, Copy)]
 pub(crate) struct Extent {
     pub last: u16,
     pub reach: u16,
     pub least: u16,
     pub most: u16,
+    pub rest: NodeRef,
 }
 
 impl Extent {
@@ -31,6 +33,7 @@ impl Extent {
             reach: NO_UNIT,
             least: NO_SIZE,
             most: 0,
+            rest: NodeRef::EMPTY,
         }
     }
 
@@ -43,19 +46,22 @@ impl Extent {
             reach: 0,
             least: 0,
             most: 0,
+            rest: NodeRef::UNIT,
         }
     }
 
     /// That of a node, by those of its parts.
-    pub(crate) fn of_node(level: UnitNo, lo: Extent, hi: Extent) -> Extent
-        ensures { (f g : List (List ℕ)) → IsExtent f lo → IsExtent g hi → g ≢ []
+    pub(crate) fn of_node(level: UnitNo, lo: Extent, hi: Extent, rest: NodeRef) -> Extent
+        ensures extent { (f g : List (List ℕ)) → IsExtent f lo → IsExtent g hi → g ≢ []
             → IsExtent (branch level f g) result }
+        ensures rest { result.rest ≡ rest }
     {
         Extent {
             last: level.number().max(lo.last).max(hi.last),
             reach: lo.reach.min(level.number().max(hi.reach)),
             least: lo.least.min(hi.least.saturating_add(1)),
             most: lo.most.max(hi.most.saturating_add(1)),
+            rest,
         }
     }
 

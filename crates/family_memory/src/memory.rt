@@ -1,8 +1,8 @@
 //! The memory: node words with the extents of their families, an index of them, and answers.
 ghost use Rattle.std.specs.Prelude.{◌≡◌, ◌≢◌, ◌⊎◌, ◌+◌, ◌≤◌, ◌<◌, ◌^◌, [], ◌∷◌, ◌++◌, length, IfOk, IfErr, IfSome};
-ghost use Rattle.std.specs.Prelude.{MatchResult, true};
+ghost use Rattle.std.specs.Prelude.{ℕ, List, MatchResult, true};
 ghost use Rattle.event_counts.specs.Count.{next_count};
-ghost use Rattle.zdd_words.specs.Word.{packed};
+ghost use Rattle.zdd_words.specs.Word.{level_of, packed};
 ghost use Rattle.zdd_families.specs.Family.{IsAbove, branch};
 ghost use Rattle.zdd_families.specs.Map.{Grown, IsNode, level_in};
 ghost use Rattle.family_parts.specs.Antichains.{IsAntichain};
@@ -11,6 +11,7 @@ ghost use Rattle.family_memory.specs.Answers.{IsTold};
 ghost use Rattle.family_memory.specs.Extents.{IncludesNone, IsExtent};
 ghost use Rattle.family_memory.specs.Memory.{Has, IsNodeOf, IsSound, IsUsedUp, family_in, map_of, word_family};
 ghost use Rattle.family_memory.specs.Kept.{IsAdded, refusing};
+ghost use Rattle.family_memory.specs.Rests.{IsRest};
 
 use crate::extents::Extent;
 use crate::index::{Index, Search};
@@ -25,6 +26,10 @@ use zdd_words::{NodeRef, Parts, pack, unpack};
 const NO_LEVEL: u16 = 4_096;
 
 const LEVEL_SHIFT: u32 = 52;
+
+// So many units, from a multiple of it on, are a block: whoever looks for a higher level takes a step for each block
+// on the way, and for each unit of the last one.
+const BLOCK: u16 = 32;
 
 /// How much a memory takes: at most so many nodes, slots of the index (a power of two, twice the nodes is
 /// enough), and answers (a power of two).
@@ -148,13 +153,38 @@ impl FamilyMemory {
     // The extent of the family of a node that is yet to be added.
     fn extent_of(&self, word: u64) -> Extent
         requires { IsNode (map_of self.now) word }
-        ensures { IsExtent (word_family self.now word) result }
+        ensures extent { IsExtent (word_family self.now word) result }
+        ensures rest { IsRest self.now (level_of word) (word_family self.now word) result.rest }
     {
         self.is_sound();
         let parts = unpack(word);
         let lo = self.extent(parts.lo);
         let hi = self.extent(parts.hi);
-        Extent::of_node(parts.level, lo, hi)
+        let rest = self.rest_of(parts.level, parts.lo);
+        Extent::of_node(parts.level, lo, hi, rest)
+    }
+
+    // What is left of the sets of such a node: those without its level, or, where their level is in the same block of
+    // units, what is left of these.
+    fn rest_of(&self, level: UnitNo, lo: NodeRef) -> NodeRef
+        requires has { Has self.now lo }
+        requires above { level < level_in (map_of self.now) lo }
+        ensures { (hi : List (List ℕ)) → IsRest self.now level (branch level (family_in self.now lo) hi) result }
+    {
+        if lo.number() < 2 || self.level(lo) / BLOCK != level.number() / BLOCK {
+            return lo;
+        }
+        self.rest(lo)
+    }
+
+    /// What is left of a node's sets where some that have a low unit are passed over, mostly all that have one of the
+    /// node's block of units.
+    pub fn rest(&self, r: NodeRef) -> NodeRef
+        requires has { Has self.now r }
+        requires inner { 2 ≤ r }
+        ensures { IsRest self.now (level_in (map_of self.now) r) (family_in self.now r) result }
+    {
+        self.extents[r.number() as usize].rest
     }
 
     /// What the node of a reference is: the least unit of its sets, the sets without that unit, and the sets with it.

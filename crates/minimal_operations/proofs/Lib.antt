@@ -5,6 +5,7 @@ pub mod Steps
 pub mod RidSteps
 pub mod Singles
 pub mod SingleRests
+pub mod Nearing
 pub mod NothingLost
 pub mod Swapping
 pub mod Telling

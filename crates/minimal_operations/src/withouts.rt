@@ -1,5 +1,6 @@
 //! What is left of a family without the sets that include one of another.
-ghost use Rattle.std.specs.Prelude.{◌≡◌, ◌≤◌, ℕ, true, List, IfErr, IfOk, IfSome, MatchOption, MatchResult};
+ghost use Rattle.std.specs.Prelude.{◌≡◌, ◌<◌, ◌≤◌, ℕ, true, List, IfErr, IfOk, IfSome, MatchOption};
+ghost use Rattle.std.specs.Prelude.{MatchResult};
 ghost use Rattle.zdd_families.specs.Map.{level_in};
 ghost use Rattle.family_operations.specs.Without.{IsWithout};
 ghost use Rattle.family_memory.specs.Memory.{Gave, Has, RanOut, family_in, map_of};
@@ -80,9 +81,29 @@ fn lowered(memory: &FamilyMemory, a: NodeRef, b: NodeRef) -> NodeRef
     let level = memory.level(a);
     let mut part = b;
     while memory.level(part) < level {
-        part = memory.parts(part).lo;
+        part = nearer(memory, a, part);
     }
     part
+}
+
+// The same, nearer to it by a step: what is left beyond a block of units, or without the least unit alone where that
+// goes too far.
+#[inline(always)]
+fn nearer(memory: &FamilyMemory, a: NodeRef, b: NodeRef) -> NodeRef
+    requires has_a { Has memory.now a }
+    requires has_b { Has memory.now b }
+    requires lower { level_in (map_of memory.now) b < level_in (map_of memory.now) a }
+    ensures has { Has memory.now result }
+    ensures higher { level_in (map_of memory.now) b < level_in (map_of memory.now) result }
+    ensures same { (left : List (List ℕ)) → IsWithout (family_in memory.now a) (family_in memory.now result) left
+        → IsWithout (family_in memory.now a) (family_in memory.now b) left }
+{
+    memory.is_sound();
+    let rest = memory.rest(b);
+    if memory.level(rest) <= memory.level(a) {
+        return rest;
+    }
+    memory.parts(b).lo
 }
 
 /// The same, of which an end makes nothing. Most calls end at once, so they are inlined.

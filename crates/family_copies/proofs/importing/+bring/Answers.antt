@@ -21,9 +21,10 @@ bring-returns-in-Some-clause-answer t c =
 
 pub bring-returns-clause-copies : goal.bring-returns-clause-copies
 bring-returns-clause-copies t c =
-    c.note.ensures c.bring_node.new.memory (map_of c.args.ops.now)
+    subst (AreCopies c.bring_node.new.memory (map_of c.args.ops.now)) (sym c.enter.ensures)
+    (c.note.ensures c.bring_node.new.memory (map_of c.args.ops.now)
     (copy_made c.args.memory.now c.bring_node.new.memory (map_of c.args.ops.now) c.args.r c.in_ok-own.own
-    c.requires.knows c.in_ok-own.ensures.answer) c.in_ok-own.ensures.copies
+    c.requires.knows c.in_ok-own.ensures.answer) c.in_ok-own.ensures.copies)
 
 pub bring_node-bring-requires : goal.bring_node-bring-requires
 bring_node-bring-requires t c =

@@ -2,8 +2,8 @@ use Rattle.std.proofs.Common.{◌∙◌, ap, max, arith}
 use Rattle.family_memory.proofs.Sizes.{extent-branch}
 use Rattle.family_memory.proofs.extents.Extent.of_node.Goals as goal
 
-pub returns : goal.returns
-returns c f g is is' filled =
+pub returns-clause-extent : goal.returns-clause-extent
+returns-clause-extent c f g is is' filled =
     extent-branch c.args.level f g c.args.lo c.args.hi _ is is' filled
     (c.max-2.ensures ∙ ap (λ n. max n c.args.hi.last)
     (c.max.ensures ∙ ap (λ n. max n c.args.lo.last) c.number.ensures.value))

@@ -1,7 +1,9 @@
 use Rattle.std.proofs.Common.{◌<◌, ◌+◌, length, vec_capacity, refl, sym, ap, subst, arith}
 use Rattle.family_memory.specs.Extents.{IsExtent}
 use Rattle.family_memory.specs.Kept.{AreExtents}
+use Rattle.zdd_words.specs.Word.{level_of}
 use Rattle.family_memory.specs.Memory.{Held, word_family}
+use Rattle.family_memory.specs.Rests.{IsRest}
 use Rattle.family_memory.proofs.ExtentLemmas.{extent_added}
 use Rattle.family_memory.proofs.Adding.{added_to, kept_added, kept_refusing}
 use Rattle.family_memory.proofs.memory.FamilyMemory.add.Goals as goal
@@ -36,7 +38,9 @@ invariant_of-self-2 c =
     (extent_added inside after c.args.word (length inside.words) c.extent_of-extent.result c.self.inside.extents.items
     c.self.invariant.sound is refl c.self.invariant.reach
     (subst (λ (h : Held). IsExtent (word_family h c.args.word) c.extent_of-extent.result) (sym c.self.view_is)
-    c.extent_of-extent.ensures)))
+    c.extent_of-extent.ensures.extent)
+    (subst (λ (h : Held). IsRest h (level_of c.args.word) (word_family h c.args.word) c.extent_of-extent.result.rest)
+    (sym c.self.view_is) c.extent_of-extent.ensures.rest)))
     c.push-2.ensures.capacity
 
 pub returns : goal.returns
