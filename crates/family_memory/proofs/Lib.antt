@@ -1,6 +1,7 @@
 pub mod Adding
 pub mod Empty
 pub mod Entries
+pub mod Marks
 pub mod Nodes
 pub mod After
 pub mod ExtentLemmas

@@ -12,7 +12,7 @@ use Rattle.family_memory.specs.Memory.{Held, Has, IsSound, family_in, map_of, wo
 
 -- what stands behind the end of a list of extents
 abbrev pub no_extent : Extent
-no_extent = record { last = 0; reach = 0; least = 0; most = 0; rest = 0 }
+no_extent = record { last = 0; reach = 0; least = 0; most = 0; units = 0; common = 0; rest = 0 }
 
 -- each reference of the memory has the extent of its family in its place of the list, and a node what is left of its
 -- sets

@@ -13,13 +13,17 @@ const NO_UNIT: u16 = 4_096;
 const NO_SIZE: u16 = 4_096;
 
 /// The greatest unit of a family's sets, a unit that each of them reaches or passes, and how many units each of them
-/// has at least and at most. `rest` leads to what is left of a node's sets without some low units.
+/// has at least and at most. Units are marked by their numbers modulo 64, a bit for each: `units` has the marks of all
+/// units of the sets, and `common` some that each of the sets has. `rest` leads to what is left of a node's sets
+/// without some low units.
 #[derive(Clone, Copy)]
 pub(crate) struct Extent {
     pub last: u16,
     pub reach: u16,
     pub least: u16,
     pub most: u16,
+    pub units: u64,
+    pub common: u64,
     pub rest: NodeRef,
 }
 
@@ -33,6 +37,8 @@ impl Extent {
             reach: NO_UNIT,
             least: NO_SIZE,
             most: 0,
+            units: 0,
+            common: u64::MAX,
             rest: NodeRef::EMPTY,
         }
     }
@@ -46,6 +52,8 @@ impl Extent {
             reach: 0,
             least: 0,
             most: 0,
+            units: 0,
+            common: 0,
             rest: NodeRef::UNIT,
         }
     }
@@ -56,21 +64,27 @@ impl Extent {
             → IsExtent (branch level f g) result }
         ensures rest { result.rest ≡ rest }
     {
+        let own = 1 << (level.number() % 64);
         Extent {
             last: level.number().max(lo.last).max(hi.last),
             reach: lo.reach.min(level.number().max(hi.reach)),
             least: lo.least.min(hi.least.saturating_add(1)),
             most: lo.most.max(hi.most.saturating_add(1)),
+            units: lo.units | hi.units | own,
+            common: lo.common & (hi.common | own),
             rest,
         }
     }
 
     /// Whether no set of the first family can include one of the second: each of these has a unit past all of the
-    /// first family's, or more units. Where it says no this may not be known.
+    /// first family's, or more units, or a unit with a mark that none of the first family's has. Where it says no this
+    /// may not be known.
     pub(crate) fn includes_none(self, other: Extent) -> bool
         ensures { (f g : List (List ℕ)) → IsFamily f → IsFamily g → IsExtent f self → IsExtent g other
             → result ≡ true → IncludesNone f g }
     {
-        self.last < other.reach || self.most < other.least
+        self.last < other.reach
+            || self.most < other.least
+            || other.common & self.units != other.common
     }
 }

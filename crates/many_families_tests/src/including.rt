@@ -4,16 +4,18 @@ use std::test::Fail;
 
 // Two families as words, a bit for each set, and whether it is told that no set of the first includes one of the
 // second.
-const FAMILIES: [(u32, u32, bool); 9] = [
+const FAMILIES: [(u32, u32, bool); 10] = [
     // One, and two with three.
     (1 << 1, 1 << 6, true),
-    (1 << 6, 1 << 1, false),
+    (1 << 6, 1 << 1, true),
     // One, and two.
     (1 << 1, 1 << 2, true),
     // One with three, and two with four or one with five: each of these passes three.
     (1 << 5, 1 << 10 | 1 << 17, true),
-    // One with three, and two with four or two with three: not each does.
-    (1 << 5, 1 << 10 | 1 << 6, false),
+    // One with three, and two with four or two with three: not each does, but each has two.
+    (1 << 5, 1 << 10 | 1 << 6, true),
+    // One with three or two with four, and one with four or two with three: this is not told.
+    (1 << 5 | 1 << 10, 1 << 9 | 1 << 6, false),
     // One or two, and three with four or five.
     (1 << 1 | 1 << 2, 1 << 12 | 1 << 20, true),
     // One, or two with three, and three.

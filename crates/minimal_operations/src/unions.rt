@@ -5,7 +5,7 @@ ghost use Rattle.minimal_families.specs.Least.{IsLeastUnion};
 ghost use Rattle.family_memory.specs.Memory.{Gave, Has, RanOut, family_in, map_of};
 ghost use Rattle.minimal_operations.specs.Ends.{GoesOn, IsUnionEnd};
 
-use crate::nodes::make_rid;
+use crate::nodes::{is_single, make_rid};
 use family_memory::{FamilyMemory, Spent};
 use kept_answers::{Entry, Operation, Question};
 use zdd_words::NodeRef;
@@ -49,6 +49,10 @@ pub(crate) fn unite(memory: &mut FamilyMemory, a: NodeRef, b: NodeRef) -> Result
     memory.is_sound();
     if let Some(end) = union_end(a, b) {
         return Ok(end);
+    }
+    // One set of one unit goes down the other family's lo sides alone to where it belongs: no answer serves twice.
+    if is_single(memory, a) || is_single(memory, b) {
+        return unite_levels(memory, a, b);
     }
     let question = Question {
         operation: Operation::Union,

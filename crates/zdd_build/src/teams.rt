@@ -15,10 +15,6 @@ use zdd_shared_table::{NodeStore, StoreSeat};
 // The share that a worker gets.
 const SHARE: u64 = 2;
 
-// How many nodes the memory of a worker beside the first takes at most. The trees that were measured need no more than
-// half as many again, and each page of a larger memory costs time where it is touched first.
-const FURTHER_NODES: usize = 32_768;
-
 /// The seat and the worker tell each other all that they know.
 pub(crate) fn meet(store: &NodeStore, seat: &mut StoreSeat, worker: &mut Worker)
     requires own { seat.old.store ≡ store.now }
@@ -35,18 +31,6 @@ pub(crate) fn meet(store: &NodeStore, seat: &mut StoreSeat, worker: &mut Worker)
     worker.ops.join(told);
     let told = worker.ops.split(1);
     store.join(seat, told);
-}
-
-// How many nodes the memory of a worker takes. That of the first, which makes most nodes of a tree and those that are
-// too large for the others, takes as many as may be.
-fn nodes_of(number: usize, own_nodes: usize) -> usize
-    ensures { result ≤ own_nodes }
-{
-    if number == 0 {
-        own_nodes
-    } else {
-        FURTHER_NODES.min(own_nodes)
-    }
 }
 
 // A worker whose seat is split off. Where memory is refused, its share is given back.
@@ -113,9 +97,8 @@ pub(crate) fn open<'s>(
     ensures new { All IsNew team.new.items }
 {
     seat.is_sound();
-    for number in 0..count {
-        let nodes = nodes_of(number, own_nodes);
-        let worker = open_one(alloc, tree, places, nodes, store, seat)?;
+    for _number in 0..count {
+        let worker = open_one(alloc, tree, places, own_nodes, store, seat)?;
         team.push_reserved(worker);
     }
     Ok(())

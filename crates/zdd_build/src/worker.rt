@@ -208,7 +208,7 @@ pub(crate) fn make(
 }
 
 /// Makes the cut family of a node in the worker's own memory alone. Where that is too small there is none: the node is
-/// left to the first worker, which has most room.
+/// left to the first worker, which makes it by the recipe over the store.
 pub(crate) fn make_own(
     worker: &mut Worker,
     tree: &Tree,

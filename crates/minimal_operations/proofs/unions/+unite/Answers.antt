@@ -29,7 +29,7 @@ unite-returns-in-Some-recall t c =
 
 pub unite-remember-requires : goal.unite-remember-requires
 unite-remember-requires t c =
-    told_made Union c.args.memory.now c.unite_levels.new.memory c.args.a c.args.b c.in_ok-made.made c.is_sound.ensures
+    told_made Union c.args.memory.now c.unite_levels-2.new.memory c.args.a c.args.b c.in_ok-made.made c.is_sound.ensures
     c.requires.has_a c.requires.has_b c.in_ok-made.ensures
 
 pub unite-returns : goal.unite-returns

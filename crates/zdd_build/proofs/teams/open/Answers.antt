@@ -16,7 +16,7 @@ loop-number-preserved c =
           ∙ ap (λ n. n + 1) inv.count;
       room = let e = c.push_reserved.ensures.capacity in let h = inv.room in omega (arith, e, h);
       split =
-          split_then c.loop-number.number c.args.seat.now c.loop-number.seat c.open_one.new.seat inv.split
+          split_then c.loop-number._number c.args.seat.now c.loop-number.seat c.open_one.new.seat inv.split
           c.in_ok-worker.ensures.split;
       can =
           subst (All (CanWork c.args.store.now c.args.tree.now)) (sym pushed)

@@ -1,14 +1,17 @@
-use Rattle.std.proofs.Common.{arith}
-use Rattle.std.proofs.lemmas.Bool.{ltb-true}
-use Rattle.family_memory.proofs.Sizes.{none_by_reach, none_by_sizes}
+use Rattle.std.proofs.Common.{arith, bit_and, inl, inr}
+use Rattle.std.proofs.lemmas.Bool.{eqb-false, not-true}
+use Rattle.family_memory.proofs.Sizes.{none_by_marks, none_by_reach, none_by_sizes}
 use Rattle.family_memory.proofs.extents.Extent.includes_none.Goals as goal
 
-pub returns-then-self-other : goal.returns-then-self-other
-returns-then-self-other c f g is is' first second test =
-    none_by_reach f g c.args.self.last c.args.other.reach first.last second.reach
-    (ltb-true c.args.self.last c.args.other.reach test)
+pub returns-then-self-other-2 : goal.returns-then-self-other-2
+returns-then-self-other-2 c f g is is' first second test =
+    elim c.if-self-other-2.either [
+      | inl past ↦ none_by_reach f g c.args.self.last c.args.other.reach first.last second.reach past
+      | inr larger ↦
+          none_by_sizes f g c.args.self.most c.args.other.least (omega arith) is is' first.most second.least larger.1
+    ]
 
-pub returns-else-self-other : goal.returns-else-self-other
-returns-else-self-other c f g is is' first second test =
-    none_by_sizes f g c.args.self.most c.args.other.least (omega arith) is is' first.most second.least
-    (ltb-true c.args.self.most c.args.other.least test)
+pub returns-else-self-other-2 : goal.returns-else-self-other-2
+returns-else-self-other-2 c f g is is' first second test =
+    none_by_marks f g c.args.self.units c.args.other.common first.units second.common
+    (eqb-false (bit_and c.args.other.common c.args.self.units) c.args.other.common (not-true _ test))
