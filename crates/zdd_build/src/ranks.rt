@@ -16,8 +16,11 @@ use fault_model::Tree;
 use std::thread::Threads;
 use zdd_shared_table::{Full, NodeStore, StoreSeat};
 
-// A rank is heavy once the first worker has made so many nodes of diagrams for it.
+// A rank is heavy once the first worker has made so many nodes of diagrams for it, and so many for each of its places:
+// fewer are copied between workers as slowly as they are made.
 const HEAVY: usize = 20_000;
+
+const HEAVY_PLACE: usize = 16;
 
 // Makes the nodes of a run that are not made yet, by the first worker. It stops before a place once it has made as
 // many nodes of diagrams as the limit says, where at least two places are left. Answers where it stopped.
@@ -89,7 +92,8 @@ fn limit_of(team: &[Worker], rank: u32, run: Run) -> Option<usize>
     if rank == 1 && run.to - run.from <= team.len() {
         return Some(0);
     }
-    Some(team[0].work.saturating_add(HEAVY))
+    let heavy = (run.to - run.from).saturating_mul(HEAVY_PLACE).max(HEAVY);
+    Some(team[0].work.saturating_add(heavy))
 }
 
 // The first worker, as far as it gets. The seat and the worker know the same before and afterwards.
