@@ -37,11 +37,12 @@ impl Model for Tree {
     ghost use Rattle.std.specs.Prelude.{drop, length};
     ghost use Rattle.fault_definitions.specs.Tree.{FaultTree};
     ghost use Rattle.fault_model.specs.TreeTables.{HoldsTables};
+    ghost use Rattle.name_index.specs.NodeNames.{all_names};
 
     ghost Value = { FaultTree };
 
     ghost view = { λ tree. record {
-      names = tree.names;
+      names = all_names tree.names;
       kinds = tree.kinds;
       inputs = drop (length tree.attributes) tree.below.items;
       attributes = tree.attributes;
@@ -50,13 +51,13 @@ impl Model for Tree {
     } };
 
     ghost invariant = { λ tree. HoldsTables (record {
-      names = tree.names;
+      names = all_names tree.names;
       kinds = tree.kinds;
       inputs = drop (length tree.attributes) tree.below.items;
       attributes = tree.attributes;
       top = tree.top;
       ranks = tree.ranks.items;
-    }) tree.below.items tree.bottom_up.items };
+    }) (length tree.names.units) tree.below.items tree.bottom_up.items };
 }
 
 impl Tree {
@@ -77,7 +78,7 @@ impl Tree {
         let below = joined(table.lists, inputs)?;
         let ranking = Ranking::over(alloc, below.as_slice())?;
         Ok(Tree {
-            names: NodeNames::of(alloc, names.into_items())?,
+            names: NodeNames::of(alloc, names.into_items(), units)?,
             kinds,
             below,
             attributes,
@@ -204,12 +205,10 @@ impl Tree {
         ensures named { IfSome result (λ unit. IsUnitOf self.now unit × (name_of self.now unit ≡ name.now)) }
         ensures none { IsNone result ↔ ((unit : ℕ) → IsUnitOf self.now unit → name_of self.now unit ≢ name.now) }
     {
-        let place = self.names.place(name)?;
-        if place < self.units() as usize {
-            UnitNo::new(place as u16 + 1)
-        } else {
-            None
-        }
+        // Tells the proof what a tree keeps.
+        self.units();
+        let place = self.names.unit(name)?;
+        UnitNo::new(place as u16 + 1)
     }
 }
 

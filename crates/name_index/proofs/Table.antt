@@ -1,10 +1,10 @@
 -- Names that all differ: each goes into the table once, and is found at its own place.
-use Rattle.std.proofs.Common.{◌≡◌, ◌≢◌, ℕ, suc, ◌+◌, ◌-◌, ◌<◌, false, List, [], ◌∷◌, ◌++◌, length, get_or}
+use Rattle.std.proofs.Common.{◌≡◌, ◌≢◌, ℕ, ◌<◌, false, List, [], ◌∷◌, ◌++◌, length, get_or}
 use Rattle.std.proofs.Common.{All, AllPairs, refl, sym, ◌∙◌, ap, subst, arith, append_assoc, length-append}
-use Rattle.std.specs.Prelude.{if◌then◌else◌, nat_eq}
+use Rattle.std.specs.Prelude.{if◌then◌else◌, nat_eq, take}
 use Rattle.std.specs.List.{list_any}
 use Rattle.std.proofs.lemmas.Bool.{or_from, false_from_ne_true, cond-false}
-use Rattle.std.proofs.lemmas.List.{get_or_append_left}
+use Rattle.std.proofs.lemmas.List.{get_or_append_left, get_or-take, length-take}
 use Rattle.std.proofs.lemmas.List.Elements.{All-head, All-tail}
 use lib.Pointwise.{pointwise, bytes_decides}
 
@@ -46,3 +46,11 @@ insert_next names keys rest keys' rest' name differ before next inserted =
     let pushed : keys' ≡ keys ++ name ∷ [] =
     inserted ∙ cond-false (list_any (pointwise nat_eq name) keys) keys (keys ++ name ∷ []) fresh in
     ap (λ k. k ++ rest') pushed ∙ append_assoc keys (name ∷ []) rest' ∙ whole
+
+-- the first of them differ too
+pub differ-take : (n : ℕ) (names : List (List ℕ)) → Differ names → Differ (take n names)
+differ-take n names differ i j d before short =
+    let few = length-take n names in
+    subst (λ name. name ≢ get_or (take n names) j d) (sym (get_or-take n names i d (omega (arith, few, short, before))))
+    (subst (λ name. get_or names i d ≢ name) (sym (get_or-take n names j d (omega (arith, few, short))))
+    (differ i j d before (omega (arith, few, short))))

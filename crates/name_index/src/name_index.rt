@@ -1,5 +1,6 @@
 //! The numbers of names that stay where they are.
-ghost use Rattle.std.specs.Prelude.{◌≡◌, ◌+◌, ◌≤◌, [], ◌∷◌, ◌++◌, length, not, IfOk, if◌then◌else◌};
+ghost use Rattle.std.specs.Prelude.{◌≡◌, ◌+◌, ◌≤◌, ◌<◌, [], ◌∷◌, ◌++◌, length, not, true, IfOk, if◌then◌else◌};
+ghost use Rattle.std.specs.Prelude.{slice_index_or};
 ghost use Rattle.fault_words.specs.Names.{has_name, number_in};
 
 use fault_words::Name;
@@ -50,6 +51,31 @@ impl<'a> NameIndex<'a> {
         match self.names.get_index_of(name.as_slice()) {
             Some(place) => place + 1,
             None => 0,
+        }
+    }
+
+    // Whether a name stands at a place, from 0.
+    fn is_at(&self, name: &Name, place: usize) -> bool
+        ensures within { result ≡ true → place < length self.now }
+        ensures there { result ≡ true → slice_index_or self.now place [] ≡ name.now }
+    {
+        match self.names.get_index(place) {
+            Some(there) => *there == name.as_slice(),
+            None => false,
+        }
+    }
+
+    /// The same. The name at a place, from 0, is looked at first: names are often used as they were defined, one after
+    /// another.
+    pub fn number_near(&self, name: &Name, place: usize) -> usize
+        ensures { result ≡ number_in self.now name.now }
+    {
+        // A place is below the length, so its successor is a number too.
+        let _length = self.names.len();
+        if self.is_at(name, place) {
+            place + 1
+        } else {
+            self.number(name)
         }
     }
 }

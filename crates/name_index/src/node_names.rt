@@ -1,52 +1,67 @@
 //! The names of a tree's nodes, in the order of the numbers.
-ghost use Rattle.std.specs.Prelude.{◌≡◌, ◌≢◌, ◌<◌, [], length, is_some, position, AllPairs, IfOk, slice_index_or};
+ghost use Rattle.std.specs.Prelude.{◌≡◌, ◌≢◌, ◌<◌, ◌≤◌, [], length, is_some, position, AllPairs, IfOk, slice_index_or};
 ghost use Rattle.fault_words.specs.Names.{has_name, same_name};
+ghost use Rattle.name_index.specs.NodeNames.{all_names};
 
 use fault_words::Name;
 use indexmap::IndexSet;
 use std::alloc::{AllocError, Global};
 use std::marker::Model;
 
-/// Names that all differ. A contract sees their list.
+/// Names that all differ, those of units and those of gates. Only a unit is looked up by its name, so the gates, which
+/// may be many more, have no place in a table. A contract sees both lists.
 #[derive(Drop)]
 pub struct NodeNames {
-    names: IndexSet<Name>,
+    units: IndexSet<Name>,
+    gates: Vec<Name>,
 }
 
 impl Model for NodeNames {
-    ghost use Rattle.std.specs.Prelude.{List, ℕ};
+    ghost use Rattle.name_index.specs.NodeNames.{NodeNames as Lists};
 
-    ghost Value = { List (List ℕ) };
+    ghost Value = { Lists };
 
-    ghost view = { λ names. names.names.keys };
+    ghost view = { λ names. record { units = names.units.keys; gates = names.gates.items } };
 }
 
 impl NodeNames {
-    /// These names, which all differ.
-    pub fn of(alloc: Global, names: Vec<Name>) -> Result<NodeNames, AllocError>
-        requires { AllPairs (λ earlier later. earlier ≢ later) names.items }
-        ensures { IfOk result (λ made. made ≡ names.items) }
+    /// These names, which all differ: so many of units, and then those of gates.
+    pub fn of(alloc: Global, names: Vec<Name>, units: usize) -> Result<NodeNames, AllocError>
+        requires differ { AllPairs (λ earlier later. earlier ≢ later) names.items }
+        requires within { units ≤ length names.items }
+        ensures names { IfOk result (λ made. all_names made ≡ names.items) }
+        ensures units { IfOk result (λ made. length made.units ≡ units) }
     {
-        let mut table = IndexSet::with_capacity(alloc, names.len())?;
-        for name in names {
+        let mut first = names;
+        let gates = first.split_off(units)?;
+        let mut table = IndexSet::with_capacity(alloc, units)?;
+        for name in first {
             let _added = table.insert(name)?;
         }
-        Ok(NodeNames { names: table })
+        Ok(NodeNames {
+            units: table,
+            gates,
+        })
     }
 
     /// The name at a place, from 0.
     pub fn name(&self, place: usize) -> &Name
-        requires { place < length self.now }
-        ensures { result.now ≡ slice_index_or self.now place [] }
+        requires { place < length (all_names self.now) }
+        ensures { result.now ≡ slice_index_or (all_names self.now) place [] }
     {
-        &self.names.as_slice()[place]
+        let units = self.units.as_slice();
+        if place < units.len() {
+            &units[place]
+        } else {
+            &self.gates[place - units.len()]
+        }
     }
 
-    /// The place of a name, from 0, or `None` where it isn't there.
-    pub fn place(&self, name: &Name) -> Option<usize>
-        ensures place { result ≡ position (same_name name.now) self.now }
-        ensures there { is_some result ≡ has_name self.now name.now }
+    /// The place of a unit's name, from 0, or `None` where no unit has it.
+    pub fn unit(&self, name: &Name) -> Option<usize>
+        ensures place { result ≡ position (same_name name.now) self.now.units }
+        ensures there { is_some result ≡ has_name self.now.units name.now }
     {
-        self.names.get_index_of(name)
+        self.units.get_index_of(name)
     }
 }

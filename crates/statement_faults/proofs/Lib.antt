@@ -21,3 +21,4 @@ pub mod Surveyed
 pub mod Refused
 pub mod Edges
 pub mod SaidLemmas
+pub mod Unmarked

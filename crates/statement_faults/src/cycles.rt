@@ -157,10 +157,13 @@ fn is_marked(marks: &[bool], number: usize) -> bool
     marks.get(number).copied().unwrap_or(false)
 }
 
-/// The first definition of the text whose number is marked.
+/// The first definition of the text whose number is marked. Mostly none is, and then no name is looked up.
 fn first_marked(index: &NameIndex<'_>, marks: &[bool], statements: &[Statement]) -> Option<Place>
     ensures { result ≡ first (marked_places marks.now index.now (definitions statements.now)) }
 {
+    if !marks.contains(&true) {
+        return None;
+    }
     for statement in statements {
         if let Some(definition) = definition(statement) {
             if is_marked(marks, index.number(&definition.name)) {

@@ -12,16 +12,17 @@ use galileo_tree::{Placed, RawGate, Statement};
 use name_index::NameIndex;
 use std::alloc::Global;
 
-/// The number of a name that is used.
-fn number(index: &NameIndex<'_>, used: &Placed) -> Result<Numbered, CheckFault>
+/// The number of a name that is used. `last` is that of the name used before it, behind which it may well stand.
+fn number(index: &NameIndex<'_>, used: &Placed, last: &mut usize) -> Result<Numbered, CheckFault>
     ensures number { IfOk result (λ n. n ≡ numbered index.now used.now) }
     ensures known { OnOk result (undefined index.now (used.now ∷ []) ≡ []) }
     ensures fault { IfErr result (IsFoundAs CheckCode.Undefined (undefined index.now (used.now ∷ []))) }
 {
-    let number = index.number(&used.name);
+    let number = index.number_near(&used.name, *last);
     if number == 0 {
         return Err(CheckFault::Fault(CheckCode::Undefined, used.place));
     }
+    *last = number;
     Ok(Numbered {
         number,
         place: used.place,
@@ -33,6 +34,7 @@ fn number_inputs(
     alloc: Global,
     index: &NameIndex<'_>,
     inputs: &[Placed],
+    last: &mut usize,
 ) -> Result<InputRow, CheckFault>
     ensures row { IfOk result (λ row. row ≡ map (numbered index.now) inputs.now) }
     ensures known { OnOk result (undefined index.now inputs.now ≡ []) }
@@ -40,7 +42,7 @@ fn number_inputs(
 {
     let mut row = InputRow::new(alloc);
     for input in inputs {
-        let next = number(index, input)?;
+        let next = number(index, input, last)?;
         row.push(next)?;
     }
     Ok(row)
@@ -50,12 +52,13 @@ fn number_gate(
     alloc: Global,
     index: &NameIndex<'_>,
     gate: &RawGate,
+    last: &mut usize,
 ) -> Result<NumberedGate, CheckFault>
     ensures gate { IfOk result (λ g. g ≡ numbered_gate index.now gate.now) }
     ensures known { OnOk result (undefined index.now gate.now.inputs ≡ []) }
     ensures fault { IfErr result (IsFoundAs CheckCode.Undefined (undefined index.now gate.now.inputs)) }
 {
-    let inputs = number_inputs(alloc, index, gate.inputs.as_slice())?;
+    let inputs = number_inputs(alloc, index, gate.inputs.as_slice(), last)?;
     Ok(NumberedGate {
         kind: gate.kind,
         word: gate.word,
@@ -71,6 +74,7 @@ impl NumberedText {
         alloc: Global,
         index: &NameIndex<'_>,
         statement: &Statement,
+        last: &mut usize,
     ) -> Result<(), CheckFault>
         requires { self.old.units + 1 < 18446744073709551616 }
         ensures adds { OnOk result (AddsStatement index.now statement.now self.old self.new) }
@@ -78,8 +82,8 @@ impl NumberedText {
         ensures fault { IfErr result (IsFoundAs CheckCode.Undefined (undefined index.now (uses_in statement.now))) }
     {
         match statement {
-            Statement::Top(top) => self.tops.push(number(index, &top.name)?)?,
-            Statement::Gate(gate) => self.gates.push(number_gate(alloc, index, gate)?)?,
+            Statement::Top(top) => self.tops.push(number(index, &top.name, last)?)?,
+            Statement::Gate(gate) => self.gates.push(number_gate(alloc, index, gate, last)?)?,
             Statement::Basic(_) => self.units += 1,
         }
         Ok(())
@@ -100,8 +104,9 @@ impl NumberedText {
         ensures known { OnOk result (undefined index.now (uses statements.now) ≡ []) }
         ensures fault { IfErr result (IsFoundAs CheckCode.Undefined (undefined index.now (uses statements.now))) }
     {
+        let mut last = 0;
         for statement in statements {
-            self.add(alloc, index, statement)?;
+            self.add(alloc, index, statement, &mut last)?;
         }
         Ok(())
     }

@@ -12,4 +12,4 @@ returns-then-number-eq0-clause-fault c =
 
 pub returns-clause-known : goal.returns-clause-known
 returns-clause-known c =
-    known c.args.index.now c.args.used.now (λ none. c.if-number-eq0.false (c.number-number.ensures ∙ none))
+    known c.args.index.now c.args.used.now (λ none. c.if-number-eq0.false (c.number_near-number.ensures ∙ none))
