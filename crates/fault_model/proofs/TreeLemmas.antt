@@ -1,6 +1,6 @@
 -- A tree is made of parts that keep the rules for some ranks: its tables and its own ranks keep them too.
 use Rattle.std.proofs.Common.{◌≡◌, ℕ, ◌-◌, List, [], ◌++◌, length, drop, get_or}
-use Rattle.std.proofs.Common.{refl, sym, ◌∙◌, ap, inl, inr, arith, length-append}
+use Rattle.std.proofs.Common.{sym, ◌∙◌, ap, inl, inr, arith, length-append}
 use Rattle.std.specs.Prelude.{All, zip}
 use Rattle.std.proofs.lemmas.Bool.{cases_lt, cond-true, cond-false, lt-ltb, le-ltb}
 use Rattle.std.proofs.lemmas.List.{get_or_append_left, get_or-append_right}
@@ -124,9 +124,8 @@ module _ (parts : TreeParts) (given : List ℕ) (kept : IsTree (ranked parts giv
 
   module _ (ranks order : List ℕ) (are_ranks : AreRanks (ranked parts given) ranks)
       (from_below : IsFromBelow (ranked parts given) order) where
-    pub made_tables : HoldsTables (ranked parts ranks) (unit_count (ranked parts ranks)) lists order
+    pub made_tables : HoldsTables (ranked parts ranks) lists order
     made_tables = record {
-      named = refl;
       kept = tree_kept parts given ranks kept are_ranks.all are_ranks.ranked;
       holds_lists = record { all = parts_lists.all; each = parts_lists.each };
       from_below =
@@ -134,7 +133,7 @@ module _ (parts : TreeParts) (given : List ℕ) (kept : IsTree (ranked parts giv
     }
 
     -- the same of the value that the code keeps
-    pub made_holds : (names : List (List ℕ)) (units : ℕ) → names ≡ parts.names → units ≡ length parts.attributes
+    pub made_holds : (names : List (List ℕ)) → names ≡ parts.names
         → HoldsTables (record {
           names = names;
           kinds = parts.kinds;
@@ -142,13 +141,13 @@ module _ (parts : TreeParts) (given : List ℕ) (kept : IsTree (ranked parts giv
           attributes = parts.attributes;
           top = parts.top;
           ranks = ranks;
-        }) units lists order
-    made_holds names units same_names all =
+        }) lists order
+    made_holds names same_names =
         let inputs : drop (length parts.attributes) lists ≡ parts.inputs =
         ap (λ l. drop (length parts.attributes) l) joined
         ∙ ap (λ n. drop n (table.lists.items ++ parts.inputs)) (sym has_table.all)
         ∙ drop-append_seam table.lists.items parts.inputs in
-        rw (same_names, all, inputs) made_tables
+        rw (same_names, inputs) made_tables
 
 pub table_for : (parts : TreeParts) (given : List ℕ) (units : ℕ) (attributes : List (List Attribute))
     (kinds : List GateKind) (inputs : List (List ℕ)) (table : TriggerTable) → units ≡ length attributes

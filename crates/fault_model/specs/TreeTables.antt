@@ -1,6 +1,6 @@
 -- The tables that a tree is kept in: what each node reads, and the nodes from below.
 use Rattle.std.specs.Prelude.{◌≡◌, ℕ, ◌-◌, ◌<◌, List, [], length, take, All, Contains, slice_index, slice_index_or}
-use Rattle.fault_definitions.specs.Tree.{FaultTree, IsNodeOf, node_count, unit_count}
+use Rattle.fault_definitions.specs.Tree.{FaultTree, IsNodeOf, node_count}
 use Rattle.fault_definitions.specs.Trigger.{below}
 use Rattle.fault_definitions.specs.WellFormed.{IsTree}
 
@@ -19,9 +19,8 @@ pub record HoldsLists (tree : FaultTree) (lists : List (List ℕ)) : Type 0 wher
   pub all : length lists ≡ node_count tree
   pub each : (node : ℕ) → IsNodeOf tree node → below_in lists node ≡ below tree node
 
--- a tree, with how many names are those of units, what each of its nodes reads, and its nodes from below
-pub record HoldsTables (tree : FaultTree) (units : ℕ) (lists : List (List ℕ)) (order : List ℕ) : Type 0 where
+-- a tree, with what each of its nodes reads and its nodes from below
+pub record HoldsTables (tree : FaultTree) (lists : List (List ℕ)) (order : List ℕ) : Type 0 where
   pub kept : IsTree tree
-  pub named : units ≡ unit_count tree
   pub holds_lists : HoldsLists tree lists
   pub from_below : IsFromBelow tree order

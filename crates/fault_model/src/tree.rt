@@ -1,5 +1,7 @@
 //! The fault tree that every crate above reads, and what it keeps.
 ghost use Rattle.std.specs.Prelude.{◌≡◌, ◌≢◌, ◌↔◌, ℕ, ◌-◌, ◌<◌, ◌≤◌, false, List, ◌++◌, All, IfOk, IfSome, IsNone};
+ghost use Rattle.std.specs.Prelude.{position, take};
+ghost use Rattle.fault_words.specs.Names.{same_name};
 ghost use Rattle.fault_definitions.specs.declared.parts.TheConstants.{MOST_GATES};
 ghost use Rattle.fault_definitions.specs.Rank.{rank_over};
 ghost use Rattle.fault_definitions.specs.Tree.{ranked, unit_count, gate_count, kind_of, inputs_of, rank_of, name_of};
@@ -11,10 +13,9 @@ ghost use Rattle.fault_definitions.specs.WellFormed.{IsTree};
 use crate::ranking::Ranking;
 use crate::trigger::TriggerTable;
 use crate::{
-    Attribute, AttributeLists, GateKind, InputLists, KindList, Name, NoMemory, NodeList, NodeNo,
-    TreeParts,
+    Attribute, AttributeLists, GateKind, InputLists, KindList, Name, NameTable, NoMemory, NodeList,
+    NodeNo, TreeParts,
 };
-use name_index::NodeNames;
 use std::alloc::Global;
 use std::marker::Model;
 use unit_sets::UnitNo;
@@ -22,7 +23,7 @@ use unit_sets::UnitNo;
 /// A fault tree that is well formed. A contract sees it as its parts and the rank of each node.
 #[derive(Drop)]
 pub struct Tree {
-    names: NodeNames,
+    names: NameTable,
     kinds: KindList,
     // what each node reads: the triggers of each unit, then the inputs of each gate
     below: Vec<NodeList>,
@@ -37,12 +38,11 @@ impl Model for Tree {
     ghost use Rattle.std.specs.Prelude.{drop, length};
     ghost use Rattle.fault_definitions.specs.Tree.{FaultTree};
     ghost use Rattle.fault_model.specs.TreeTables.{HoldsTables};
-    ghost use Rattle.name_index.specs.NodeNames.{all_names};
 
     ghost Value = { FaultTree };
 
     ghost view = { λ tree. record {
-      names = all_names tree.names;
+      names = tree.names;
       kinds = tree.kinds;
       inputs = drop (length tree.attributes) tree.below.items;
       attributes = tree.attributes;
@@ -51,13 +51,13 @@ impl Model for Tree {
     } };
 
     ghost invariant = { λ tree. HoldsTables (record {
-      names = all_names tree.names;
+      names = tree.names;
       kinds = tree.kinds;
       inputs = drop (length tree.attributes) tree.below.items;
       attributes = tree.attributes;
       top = tree.top;
       ranks = tree.ranks.items;
-    }) (length tree.names.units) tree.below.items tree.bottom_up.items };
+    }) tree.below.items tree.bottom_up.items };
 }
 
 impl Tree {
@@ -78,7 +78,7 @@ impl Tree {
         let below = joined(table.lists, inputs)?;
         let ranking = Ranking::over(alloc, below.as_slice())?;
         Ok(Tree {
-            names: NodeNames::of(alloc, names.into_items(), units)?,
+            names,
             kinds,
             below,
             attributes,
@@ -189,7 +189,7 @@ impl Tree {
         requires { IsNodeOf self.now node }
         ensures { result.now ≡ name_of self.now node }
     {
-        self.names.name(node.index())
+        &self.names.as_slice()[node.index()]
     }
 
     /// The attributes of a unit, in the order of its definition.
@@ -200,16 +200,35 @@ impl Tree {
         self.attributes.as_slice()[unit.number() as usize - 1].as_slice()
     }
 
-    /// The unit of a name. A gate's name is no unit's.
+    /// The names of the units, in the order of their numbers.
+    pub fn unit_names(&self) -> &[Name]
+        ensures names { result.now ≡ take (unit_count self.now) self.now.names }
+        ensures kept { IsTree self.now }
+    {
+        let units = self.units() as usize;
+        &self.names.as_slice()[..units]
+    }
+
+    /// The unit of a name. A gate's name is no unit's. The names of all units are looked through: where many are asked
+    /// for, an index of them is faster.
     pub fn unit_named(&self, name: &Name) -> Option<UnitNo>
         ensures named { IfSome result (λ unit. IsUnitOf self.now unit × (name_of self.now unit ≡ name.now)) }
         ensures none { IsNone result ↔ ((unit : ℕ) → IsUnitOf self.now unit → name_of self.now unit ≢ name.now) }
     {
-        // Tells the proof what a tree keeps.
-        self.units();
-        let place = self.names.unit(name)?;
+        let place = place_of(self.unit_names(), name)?;
         UnitNo::new(place as u16 + 1)
     }
+}
+
+// The place of a name, from 0.
+fn place_of(names: &[Name], name: &Name) -> Option<usize>
+    ensures { result ≡ position (same_name name.now) names.now }
+{
+    names.iter().position(
+        |other| -> bool
+            ensures { result ≡ same_name name.entry.now other.entry.now }
+        { name == other },
+    )
 }
 
 // What each unit and then each gate reads.

@@ -57,7 +57,8 @@ apart_at key (other ∷ keys) name (suc place) apart short is =
 -- where no two are equal, a name is found at the place where it stands
 place_found : (keys : List (Bor (List ℕ))) (name : List ℕ) (place : ℕ)
     → IsDistinct (λ (key other : Bor (List ℕ)). same_name key.now other.now) keys → place < length keys
-    → get_or (behind keys) place [] ≡ name → position_or_len (λ (key : Bor (List ℕ)). same_name name key.now) keys ≡ place
+    → get_or (behind keys) place [] ≡ name
+    → position_or_len (λ (key : Bor (List ℕ)). same_name name key.now) keys ≡ place
 unfolding IsDistinct
 place_found [] name place apart short is = absurd (omega arith)
 place_found (key ∷ keys) name zero apart short is =
@@ -69,7 +70,8 @@ place_found (key ∷ keys) name (suc place) apart short is =
     let other : same_name name key.now ≡ false =
     false_from_ne_true (same_name name key.now) (λ same. (let turned : same_name key.now name ≡ true =
     (bytes_decides key.now name).1 (sym ((bytes_decides name key.now).0 same)) in cc)) in
-    let whole = ap (λ b. cond (not b) (1 + position_or_len (λ (o : Bor (List ℕ)). same_name name o.now) keys) 0) other in
+    let whole =
+    ap (λ b. cond (not b) (1 + position_or_len (λ (o : Bor (List ℕ)). same_name name o.now) keys) 0) other in
     omega (arith, whole, rest)
 
 -- and so its number is known

@@ -1,23 +1,23 @@
 -- Names that all differ: each goes into the table once, and is found at its own place.
-use Rattle.std.proofs.Common.{◌≡◌, ◌≢◌, ℕ, ◌<◌, false, List, [], ◌∷◌, ◌++◌, length, get_or}
+use Rattle.std.proofs.Common.{◌≡◌, ◌≢◌, ℕ, ◌<◌, Bool, false, not, List, [], ◌∷◌, ◌++◌, length, get_or}
 use Rattle.std.proofs.Common.{All, AllPairs, refl, sym, ◌∙◌, ap, subst, arith, append_assoc, length-append}
-use Rattle.std.specs.Prelude.{if◌then◌else◌, nat_eq, take}
-use Rattle.std.specs.List.{list_any}
-use Rattle.std.proofs.lemmas.Bool.{or_from, false_from_ne_true, cond-false}
-use Rattle.std.proofs.lemmas.List.{get_or_append_left, get_or-take, length-take}
+use Rattle.std.specs.Prelude.{if◌then◌else◌}
+use Rattle.std.proofs.lemmas.Bool.{or_from, false_from_ne_true, not_from_false, cond-true}
+use Rattle.std.proofs.lemmas.List.{get_or_append_left}
 use Rattle.std.proofs.lemmas.List.Elements.{All-head, All-tail}
-use lib.Pointwise.{pointwise, bytes_decides}
+use lib.Pointwise.{bytes_decides}
+use Rattle.fault_words.specs.Names.{has_name, same_name}
 
 -- no two are equal
 abbrev pub Differ : List (List ℕ) → Type 0
 Differ names = AllPairs (λ earlier later. earlier ≢ later) names
 
 no_such : (name : List ℕ) (names : List (List ℕ)) → All (λ other. other ≢ name) names
-    → list_any (pointwise nat_eq name) names ≡ false
+    → has_name names name ≡ false
 no_such name [] apart = refl
 no_such name (other ∷ names) apart =
-    or_from (pointwise nat_eq name other) (list_any (pointwise nat_eq name) names)
-    (false_from_ne_true (pointwise nat_eq name other)
+    or_from (same_name name other) (has_name names name)
+    (false_from_ne_true (same_name name other)
     (λ same. All-head (λ o. o ≢ name) other names apart (sym ((bytes_decides name other).0 same))))
     (no_such name names (All-tail (λ o. o ≢ name) other names apart))
 
@@ -36,21 +36,13 @@ earlier_differ names name rest differ k d short =
     get_or_middle (y ∷ xs) x ys e = get_or_middle xs x ys e
 
 -- the next name goes to the end of the table
-pub insert_next : (names keys rest keys' rest' : List (List ℕ)) (name : List ℕ) → Differ names → keys ++ rest ≡ names
-    → rest ≡ name ∷ rest'
-    → keys' ≡ (if list_any (pointwise nat_eq name) keys then keys else keys ++ name ∷ []) → keys' ++ rest' ≡ names
-insert_next names keys rest keys' rest' name differ before next inserted =
+pub insert_next : (names keys rest keys' rest' : List (List ℕ)) (name : List ℕ) (added : Bool) → Differ names
+    → keys ++ rest ≡ names → rest ≡ name ∷ rest' → added ≡ not (has_name keys name)
+    → keys' ≡ (if added then keys ++ name ∷ [] else keys) → keys' ++ rest' ≡ names
+insert_next names keys rest keys' rest' name added differ before next new inserted =
     let whole : keys ++ name ∷ rest' ≡ names = ap (λ r. keys ++ r) (sym next) ∙ before in
-    let fresh : list_any (pointwise nat_eq name) keys ≡ false =
+    let fresh : has_name keys name ≡ false =
     no_such name keys (earlier_differ keys name rest' (subst Differ (sym whole) differ)) in
     let pushed : keys' ≡ keys ++ name ∷ [] =
-    inserted ∙ cond-false (list_any (pointwise nat_eq name) keys) keys (keys ++ name ∷ []) fresh in
+    inserted ∙ cond-true added (keys ++ name ∷ []) keys (new ∙ not_from_false (has_name keys name) fresh) in
     ap (λ k. k ++ rest') pushed ∙ append_assoc keys (name ∷ []) rest' ∙ whole
-
--- the first of them differ too
-pub differ-take : (n : ℕ) (names : List (List ℕ)) → Differ names → Differ (take n names)
-differ-take n names differ i j d before short =
-    let few = length-take n names in
-    subst (λ name. name ≢ get_or (take n names) j d) (sym (get_or-take n names i d (omega (arith, few, short, before))))
-    (subst (λ name. get_or names i d ≢ name) (sym (get_or-take n names j d (omega (arith, few, short))))
-    (differ i j d before (omega (arith, few, short))))

@@ -1,6 +1,6 @@
 //! The numbers of names that stay where they are.
 ghost use Rattle.std.specs.Prelude.{◌≡◌, ◌+◌, ◌≤◌, ◌<◌, [], ◌∷◌, ◌++◌, length, not, true, IfOk, if◌then◌else◌};
-ghost use Rattle.std.specs.Prelude.{slice_index_or};
+ghost use Rattle.std.specs.Prelude.{◌≢◌, AllPairs, slice_index_or};
 ghost use Rattle.fault_words.specs.Names.{has_name, number_in};
 
 use fault_words::Name;
@@ -31,6 +31,18 @@ impl<'a> NameIndex<'a> {
         Ok(NameIndex {
             names: IndexSet::with_capacity(alloc, names)?,
         })
+    }
+
+    /// These names, which all differ.
+    pub fn of(alloc: Global, names: &'a [Name]) -> Result<NameIndex<'a>, AllocError>
+        requires { AllPairs (λ earlier later. earlier ≢ later) names.now }
+        ensures { IfOk result (λ index. index ≡ names.now) }
+    {
+        let mut index = NameIndex::with_room(alloc, names.len())?;
+        for name in names {
+            index.insert(name)?;
+        }
+        Ok(index)
     }
 
     /// Adds a name at the end, unless it is there; the answer says whether it was new.

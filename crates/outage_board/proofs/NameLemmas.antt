@@ -1,15 +1,19 @@
 -- The unit that a name names, and the units of a take.
 use Rattle.std.proofs.Common.{◌≡◌, ◌≢◌, ℕ, zero, suc, ◌+◌, ◌-◌, ◌<◌, ◌≤◌, Bool, true, false, List, [], ◌∷◌, length}
-use Rattle.std.proofs.Common.{get_or, AllPairs, refl, sym, ◌∙◌, ap, arith}
-use Rattle.std.specs.Prelude.{if◌then◌else◌, nat_le, Option, Some, None, IfSome, IsNone, ◌↔◌}
+use Rattle.std.proofs.Common.{get_or, AllPairs, refl, sym, ◌∙◌, ap, subst, arith}
+use Rattle.std.specs.Prelude.{if◌then◌else◌, nat_le, take, position, IsSome, Option, Some, None, IfSome, IsNone, ◌↔◌}
 use Rattle.std.proofs.lemmas.Bool.{leb-true, le-leb}
 use lib.Pointwise.{bytes_decides}
 use Rattle.fault_definitions.specs.Tree.{FaultTree, name_of, unit_count, IsUnitOf}
 use Rattle.fault_definitions.specs.WellFormed.{IsTree}
-use Rattle.fault_words.specs.Names.{same_name}
+use Rattle.fault_words.specs.Names.{same_name, number_in}
+use Rattle.fault_words.specs.Names.{number_at as name_number}
+use Rattle.fault_model.proofs.NameLemmas.{unnamed, named_unit, some_named, none_named, none_where_some}
+use Rattle.unit_sets.specs.Unit.{most_units}
+use Rattle.std.proofs.lemmas.List.{get_or-take, length-take}
 use Rattle.outage_board.specs.Requests.{unit_from, only_unit, unit_of}
 
-abbrev Differ : List (List ℕ) → Type 0
+abbrev pub Differ : List (List ℕ) → Type 0
 Differ names = AllPairs (λ earlier later. earlier ≢ later) names
 
 differ_tail : (name : List ℕ) (names : List (List ℕ)) → Differ (name ∷ names) → Differ names
@@ -116,3 +120,47 @@ named_by tree name unit is = by_found (unit_from 1 tree.names name) refl is
     by_found None found e = absurd cc
     by_found (Some node) found e =
         by_inside node (nat_le node (unit_count tree)) (leb-true node (unit_count tree)) found e
+
+-- ---- the units in an index of their names
+
+-- the first of some names that differ
+pub differ_first : (count : ℕ) (names : List (List ℕ)) → Differ names → Differ (take count names)
+differ_first count names differ i j d less short =
+    let few = length-take count names in
+    let at_i : get_or (take count names) i d ≡ get_or names i d =
+    get_or-take count names i d (omega (arith, few, short, less)) in
+    let at_j : get_or (take count names) j d ≡ get_or names j d =
+    get_or-take count names j d (omega (arith, few, short)) in
+    λ same. differ i j d less (omega (arith, few, short)) (sym at_i ∙ same ∙ at_j)
+
+abbrev HasName : FaultTree → List ℕ → ℕ → Type 0
+HasName tree name unit = IsUnitOf tree unit × (name_of tree unit ≡ name)
+
+none_told : (told : Option ℕ) → (IsSome told → ⊥) → told ≡ None
+none_told None never = refl
+none_told (Some unit) never = absurd (never refl)
+
+-- what an index of the units' names tells of a name is its unit
+pub number_is : (tree : FaultTree) → IsTree tree → (index : List (List ℕ)) → index ≡ take (unit_count tree) tree.names
+    → (name : List ℕ) (number : ℕ) → number ≡ number_in index name → (told : Option ℕ)
+    → (IsSome told ↔ (1 ≤ number) × (number ≤ most_units)) → IfSome told (λ unit. unit ≡ number)
+    → told ≡ unit_of tree name
+number_is tree kept index first name number is told valid value = by_place (position (same_name name) index) refl
+  where
+    by_place : (found : Option ℕ) → position (same_name name) index ≡ found → told ≡ unit_of tree name
+    by_place None none =
+        let low : number ≡ 0 = is ∙ ap name_number none in
+        let untold =
+        none_told told (λ some. (let within = valid.0 some in absurd (omega (arith, low, within.0)))) in
+        subst (λ t. t ≡ unit_of tree name) (sym untold)
+        (named_is tree name None kept tt (none_named None _ refl (unnamed tree kept index first name none)))
+    by_place (Some place) found =
+        let at : number ≡ suc place = is ∙ ap name_number found in
+        let there : place + 1 ≡ number = omega (arith, at) in
+        let named = named_unit tree kept index first name place found in
+        let few = kept.few_units in
+        let within = named.0.1 in
+        let made : IsSome told = valid.1 (omega (arith, at), omega (arith, at, few, within)) in
+        named_is tree name told kept
+        (some_named told (HasName tree name) number value (subst (HasName tree name) there named))
+        (none_where_some told _ made (λ all. all (place + 1) named.0 named.1))

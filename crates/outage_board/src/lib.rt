@@ -17,6 +17,7 @@ mod rule;
 mod state;
 mod table;
 mod turns;
+mod unit_names;
 mod view;
 
 pub use board::{Board, BoardStart};

@@ -4,30 +4,23 @@ ghost use Rattle.fault_words.specs.Names.{same_name};
 ghost use Rattle.crew_script.specs.Names.{are_taken};
 ghost use Rattle.crew_script.specs.Dockets.{crew_at};
 ghost use Rattle.crew_script.specs.declared.dockets.Ask.TheVariants.{Take};
-ghost use Rattle.outage_board.specs.Requests.{unit_of, units_of, some_unknown, request_of, requests_of, supervisor_of};
+ghost use Rattle.outage_board.specs.Requests.{units_of, some_unknown, request_of, requests_of, supervisor_of};
 
 use crate::docket::Docket;
+use crate::unit_names::UnitNames;
 use crew_script::{Ask, Dockets, NameList};
 use fault_model::{Name, Tree};
 use margin_policy::{AskedUnits, Request};
 use std::alloc::Global;
 use unit_sets::{CrewNo, NoMemory, UnitNo};
 
-// The unit of a name. A gate's name is no unit's.
-fn unit_of(tree: &Tree, name: &Name) -> Option<UnitNo>
-    ensures { result ≡ unit_of tree.now name.now }
-{
-    tree.units();
-    tree.unit_named(name)
-}
-
 // Puts the units that names name into a buffer, in the order of the names.
-fn gather(tree: &Tree, names: &[Name], units: &mut Vec<UnitNo>) -> Result<(), NoMemory>
+fn gather(tree: &UnitNames<'_>, names: &[Name], units: &mut Vec<UnitNo>) -> Result<(), NoMemory>
     ensures { OnOk result (units.new.items ≡ units_of tree.now names.now) }
 {
     units.clear();
     for name in names {
-        if let Some(unit) = unit_of(tree, name) {
+        if let Some(unit) = tree.unit(name) {
             units.push(unit)?;
         }
     }
@@ -35,7 +28,11 @@ fn gather(tree: &Tree, names: &[Name], units: &mut Vec<UnitNo>) -> Result<(), No
 }
 
 // The take of some names. A buffer serves all takes.
-fn take(tree: &Tree, names: &NameList, units: &mut Vec<UnitNo>) -> Result<Request, NoMemory>
+fn take(
+    tree: &UnitNames<'_>,
+    names: &NameList,
+    units: &mut Vec<UnitNo>,
+) -> Result<Request, NoMemory>
     ensures { IfOk result (λ request. request ≡ request_of tree.now (Take names.now)) }
 {
     let names = names.as_slice();
@@ -46,19 +43,19 @@ fn take(tree: &Tree, names: &NameList, units: &mut Vec<UnitNo>) -> Result<Reques
     }
 }
 
-fn request_of(tree: &Tree, ask: &Ask, units: &mut Vec<UnitNo>) -> Result<Request, NoMemory>
+fn request_of(tree: &UnitNames<'_>, ask: &Ask, units: &mut Vec<UnitNo>) -> Result<Request, NoMemory>
     ensures { IfOk result (λ request. request ≡ request_of tree.now ask.now) }
 {
     match ask {
         Ask::Take(names) => take(tree, names, units),
-        Ask::Return(name) => Ok(Request::Return(unit_of(tree, name))),
+        Ask::Return(name) => Ok(Request::Return(tree.unit(name))),
         Ask::Margin(number) => Ok(Request::Margin(*number)),
     }
 }
 
 fn requests_of(
     alloc: Global,
-    tree: &Tree,
+    tree: &UnitNames<'_>,
     dockets: &Dockets,
     crew: CrewNo,
     units: &mut Vec<UnitNo>,
@@ -82,10 +79,11 @@ pub(crate) fn all_requests(
 ) -> Result<Vec<Docket>, NoMemory>
     ensures { IfOk result (λ all. all.items ≡ map (requests_of tree.now) dockets.now) }
 {
+    let tree = UnitNames::of(alloc, tree)?;
     let mut units = Vec::with_capacity(alloc, AskedUnits::LIMIT)?;
     let mut all = Vec::with_capacity(alloc, dockets.crews() as usize)?;
     for crew in 0..dockets.crews() {
-        all.push(requests_of(alloc, tree, dockets, CrewNo(crew), &mut units)?)?;
+        all.push(requests_of(alloc, &tree, dockets, CrewNo(crew), &mut units)?)?;
     }
     Ok(all)
 }

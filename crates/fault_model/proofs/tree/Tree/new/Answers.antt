@@ -1,4 +1,4 @@
-use Rattle.std.proofs.Common.{refl, ap, ◌∙◌, length}
+use Rattle.std.proofs.Common.{refl}
 use Rattle.fault_definitions.specs.Tree.{ranked}
 use Rattle.fault_model.specs.TreeTables.{HoldsLists}
 use Rattle.fault_model.proofs.TreeLemmas.{dependents_below, parts_lists, made_holds, table_for}
@@ -27,8 +27,7 @@ invariant_of-result c =
     c.in_ok-below.ensures c.in_ok-ranking.ranking.ranks.items c.in_ok-ranking.ranking.order.items
     (c.in_ok-ranking.ensures.ranks (ranked c.args.parts c.requires.0) c.requires.1 lists)
     (c.in_ok-ranking.ensures.order (ranked c.args.parts c.requires.0) c.requires.1 lists)
-    _ _ (c.in_ok-of.ensures.names ∙ c.into_items.ensures)
-    (c.in_ok-of.ensures.units ∙ ap length c.as_slice-units.ensures.items)
+    _ refl
 
 pub over-requires-clause-dependents : goal.over-requires-clause-dependents
 over-requires-clause-dependents c =
