@@ -18,7 +18,7 @@ use zdd_shared_table::{Full, NodeStore, StoreSeat};
 
 // A rank is heavy once the first worker has made so many nodes of diagrams for it, and so many for each of its places:
 // fewer are copied between workers as slowly as they are made.
-const HEAVY: usize = 20_000;
+const HEAVY: usize = 3_000;
 
 const HEAVY_PLACE: usize = 16;
 
