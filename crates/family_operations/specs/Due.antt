@@ -26,6 +26,7 @@ pub record GoesOn (f g : List (List ℕ)) : Type 0 where
   pub second_some : g ≢ []
   pub differ : f ≢ g
 
+-- the family is the union of f and g, or due to one of the unions by which it is made
 pub data IsDueToUnion : List (List ℕ) → List (List ℕ) → List (List ℕ) → Type 0 where
   union_itself : {f g due : List (List ℕ)} → IsUnion f g due → IsDueToUnion f g due
   union_both_lo : {f g due : List (List ℕ)} {x : ℕ} {f0 f1 g0 g1 : List (List ℕ)} → GoesOn f g → Splits x f f0 f1
@@ -37,6 +38,7 @@ pub data IsDueToUnion : List (List ℕ) → List (List ℕ) → List (List ℕ) 
   union_second : {f g due : List (List ℕ)} {y : ℕ} {g0 g1 : List (List ℕ)} → GoesOn f g → Splits y g g0 g1 → IsAbove y f
       → IsDueToUnion f g0 due → IsDueToUnion f g due
 
+-- the family is the product of f and g, or due to an operation by which it is made
 pub data IsDueToProduct : List (List ℕ) → List (List ℕ) → List (List ℕ) → Type 0 where
   product_itself : {f g due : List (List ℕ)} → IsProduct f g due → IsDueToProduct f g due
   product_both_lo : {f g due : List (List ℕ)} {x : ℕ} {f0 f1 g0 g1 : List (List ℕ)} → IsInnerFamily f → IsInnerFamily g
@@ -62,6 +64,7 @@ pub data IsDueToProduct : List (List ℕ) → List (List ℕ) → List (List ℕ
   product_second_hi : {f g due : List (List ℕ)} {y : ℕ} {g0 g1 : List (List ℕ)} → IsInnerFamily f → IsInnerFamily g
       → Splits y g g0 g1 → IsAbove y f → IsDueToProduct f g1 due → IsDueToProduct f g due
 
+-- the family is f without the sets that include one of g, or due to an operation by which that is made
 pub data IsDueToWithout : List (List ℕ) → List (List ℕ) → List (List ℕ) → Type 0 where
   without_itself : {f g due : List (List ℕ)} → IsWithout f g due → IsDueToWithout f g due
   without_both_lo : {f g due : List (List ℕ)} {x : ℕ} {f0 f1 g0 g1 : List (List ℕ)} → IsInnerFamily f → IsInnerFamily g
@@ -78,6 +81,7 @@ pub data IsDueToWithout : List (List ℕ) → List (List ℕ) → List (List ℕ
   without_second : {f g due : List (List ℕ)} {y : ℕ} {g0 g1 : List (List ℕ)} → IsInnerFamily f → IsInnerFamily g
       → Splits y g g0 g1 → IsAbove y f → IsDueToWithout f g0 due → IsDueToWithout f g due
 
+-- the family has the minimal sets of f, or is due to an operation by which these are found
 pub data IsDueToMinimal : List (List ℕ) → List (List ℕ) → Type 0 where
   minimal_itself : {f due : List (List ℕ)} → IsMinimal f due → IsDueToMinimal f due
   minimal_lo : {f due : List (List ℕ)} {x : ℕ} {f0 f1 : List (List ℕ)} → Splits x f f0 f1 → IsDueToMinimal f0 due

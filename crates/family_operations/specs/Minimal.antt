@@ -18,6 +18,7 @@ pub record IsMinimal (f least : List (List ℕ)) : Type 0 where
 abbrev pub is_smaller : List ℕ → List ℕ → Bool
 is_smaller set other = is_within set other && not (is_within other set)
 
+-- some set of the family is smaller than this one
 pub record Smaller (f : List (List ℕ)) (set : List ℕ) : Type 0 where
   pub other : List ℕ
   pub has : Contains f other

@@ -3,6 +3,7 @@ use Rattle.std.specs.Prelude.{ℕ, List, [], ◌∷◌, Contains}
 use Rattle.family_operations.specs.Nodes.{IsReached}
 use Rattle.family_parts.specs.Spans.{Spans}
 
+-- each family of the list has units from above the one number to the other alone
 abbrev pub SpanEach : ℕ → ℕ → List (List (List ℕ)) → Type 0
 SpanEach low size [] = Unit {0}
 SpanEach low size (family ∷ families) = Spans low size family × SpanEach low size families

@@ -16,6 +16,7 @@ pub record IsMinimalFor (tree : FaultTree) (node : ℕ) (set : List ℕ) : Type 
 abbrev pub is_cut : FaultTree → List ℕ → Bool
 is_cut tree set = reads tree (among set) tree.top
 
+-- a minimal cut set: it fails the top event, and no longer does without any one of its members
 abbrev pub IsMinimalCut : FaultTree → List ℕ → Type 0
 IsMinimalCut tree set = IsMinimalFor tree tree.top set
 

@@ -13,6 +13,7 @@ abbrev pub true_count : (ℕ → Bool) → List ℕ → ℕ
 true_count reading [] = 0
 true_count reading (input ∷ inputs) = (if reading input then 1 else 0) + true_count reading inputs
 
+-- the reading of the first input, whatever the others read
 abbrev pub first_reads : (ℕ → Bool) → List ℕ → Bool
 first_reads reading [] = false
 first_reads reading (input ∷ inputs) = reading input

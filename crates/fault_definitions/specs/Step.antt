@@ -15,6 +15,7 @@ use Rattle.fault_definitions.specs.Reading.{true_count}
 abbrev pub Step : Type 0
 Step = Option ℕ
 
+-- the step of a node that does not fail
 abbrev pub never : Step
 never = None
 
@@ -24,12 +25,15 @@ no_later step None = true
 no_later None (Some number) = false
 no_later (Some number) (Some other) = nat_le number other
 
+-- a step is smaller than another: nothing is before a step as early as itself
 abbrev pub is_before : Step → Step → Bool
 is_before step other = not (no_later other step)
 
+-- the smaller of two steps
 abbrev pub earlier : Step → Step → Step
 earlier step other = if no_later step other then step else other
 
+-- the greater of two steps
 abbrev pub later : Step → Step → Step
 later step other = if no_later step other then other else step
 
@@ -92,6 +96,7 @@ abbrev pub place_from : ℕ → List ℕ → ℕ → Step
 place_from first [] unit = never
 place_from first (failed ∷ order) unit = if failed == unit then Some first else place_from (suc first) order unit
 
+-- the place of a unit in an order, counted from 1, or never where the order does not have it
 abbrev pub place : List ℕ → ℕ → Step
 place order unit = place_from 1 order unit
 

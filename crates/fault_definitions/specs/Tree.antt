@@ -34,18 +34,23 @@ ranked parts ranks = record {
 abbrev pub unit_count : FaultTree → ℕ
 unit_count tree = length tree.attributes
 
+-- G, the number of gates
 abbrev pub gate_count : FaultTree → ℕ
 gate_count tree = length tree.kinds
 
+-- U + G, the number of nodes
 abbrev pub node_count : FaultTree → ℕ
 node_count tree = unit_count tree + gate_count tree
 
+-- the number is that of a unit
 abbrev pub IsUnitOf : FaultTree → ℕ → Type 0
 IsUnitOf tree unit = (1 ≤ unit) × (unit ≤ unit_count tree)
 
+-- the number is that of a gate
 abbrev pub IsGateOf : FaultTree → ℕ → Type 0
 IsGateOf tree gate = (unit_count tree < gate) × (gate ≤ node_count tree)
 
+-- the number is that of a unit or of a gate
 abbrev pub IsNodeOf : FaultTree → ℕ → Type 0
 IsNodeOf tree node = (1 ≤ node) × (node ≤ node_count tree)
 
@@ -57,6 +62,7 @@ is_above_units tree node = nat_lt (unit_count tree) node
 abbrev pub kind_of : FaultTree → ℕ → GateKind
 kind_of tree gate = slice_index_or tree.kinds (gate - unit_count tree - 1) Fdep
 
+-- the inputs of a gate from left to right. A number of no gate has none.
 abbrev pub inputs_of : FaultTree → ℕ → List ℕ
 inputs_of tree gate = slice_index_or tree.inputs (gate - unit_count tree - 1) []
 
@@ -64,15 +70,19 @@ inputs_of tree gate = slice_index_or tree.inputs (gate - unit_count tree - 1) []
 abbrev pub gates : FaultTree → List (GateKind × List ℕ)
 gates tree = zip tree.kinds tree.inputs
 
+-- the name of a unit or of a gate
 abbrev pub name_of : FaultTree → ℕ → List ℕ
 name_of tree node = slice_index_or tree.names (node - 1) []
 
+-- the attributes of a unit, in the order of the text
 abbrev pub attributes_of : FaultTree → ℕ → List Attribute
 attributes_of tree unit = slice_index_or tree.attributes (unit - 1) []
 
+-- how far a node stands above what it reads
 abbrev pub rank_of : FaultTree → ℕ → ℕ
 rank_of tree node = slice_index (0 ∷ tree.ranks) node
 
+-- the kind is that of a functional dependency
 abbrev pub is_fdep_kind : GateKind → Bool
 is_fdep_kind And = false
 is_fdep_kind Or = false
@@ -85,5 +95,6 @@ is_fdep_kind Csp = false
 is_fdep_kind Wsp = false
 is_fdep_kind Hsp = false
 
+-- the node is a functional dependency, which no gate reads
 abbrev pub is_fdep : FaultTree → ℕ → Bool
 is_fdep tree node = is_above_units tree node && is_fdep_kind (kind_of tree node)

@@ -10,6 +10,7 @@ abbrev pub trigger_among : ℕ → List ℕ → Option ℕ
 trigger_among unit [] = None
 trigger_among unit (trigger ∷ dependents) = if among dependents unit then Some trigger else None
 
+-- the trigger of a unit by one gate: an `fdep` gives its first input to each other one, no other gate any
 abbrev pub trigger_by : ℕ → GateKind × List ℕ → Option ℕ
 trigger_by unit (Fdep, inputs) = trigger_among unit inputs
 trigger_by unit (And, inputs) = None

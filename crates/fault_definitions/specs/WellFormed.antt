@@ -60,6 +60,7 @@ primary_in (Por, inputs) = []
 primary_in (Seq, inputs) = []
 primary_in (Fdep, inputs) = []
 
+-- the spares of a spare gate: its inputs after the primary
 abbrev pub spares_in : GateKind × List ℕ → List ℕ
 spares_in (Csp, inputs) = drop 1 inputs
 spares_in (Wsp, inputs) = drop 1 inputs
@@ -72,9 +73,11 @@ spares_in (Por, inputs) = []
 spares_in (Seq, inputs) = []
 spares_in (Fdep, inputs) = []
 
+-- the primaries of all spare gates
 abbrev pub primaries : FaultTree → List ℕ
 primaries tree = flat_map primary_in (gates tree)
 
+-- the spares of all spare gates
 abbrev pub spares : FaultTree → List ℕ
 spares tree = flat_map spares_in (gates tree)
 
@@ -87,6 +90,7 @@ pub record IsSoundAttribute (attribute : Attribute) : Type 0 where
 
 -- ---- the tree
 
+-- the rules that every tree keeps
 pub record IsTree (tree : FaultTree) : Type 0 where
   pub names_all : length tree.names ≡ node_count tree
   pub inputs_all : length tree.inputs ≡ gate_count tree

@@ -9,9 +9,11 @@ use Rattle.fault_definitions.specs.Trigger.{trigger_by}
 abbrev pub at_unit : List ℕ → ℕ → ℕ
 at_unit values unit = slice_index values (unit - 1)
 
+-- the number is that of one of so many units
 abbrev pub IsUnitBelow : ℕ → ℕ → Type 0
 IsUnitBelow units unit = (1 ≤ unit) × (unit ≤ units)
 
+-- the triggers that the table has for a unit so far
 abbrev pub noted : TriggerTable → ℕ → List ℕ
 noted table unit = slice_index_or table.lists.items (unit - 1) []
 

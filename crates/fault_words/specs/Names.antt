@@ -21,5 +21,6 @@ abbrev pub number_at : Option ℕ → ℕ
 number_at None = 0
 number_at (Some place) = suc place
 
+-- the place of a name in the list, counted from 1, or 0 where the list has no such name
 abbrev pub number_in : List (List ℕ) → List ℕ → ℕ
 number_in names name = number_at (position (same_name name) names)

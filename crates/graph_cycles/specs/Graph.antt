@@ -3,6 +3,7 @@ use Rattle.std.specs.Prelude.{ℕ, suc, max, ◌<◌, ◌==◌, Bool, List, [], 
 use Rattle.std.specs.Prelude.{slice_index, slice_index_or}
 use Rattle.std.specs.List.{list_any}
 
+-- the nodes to which an edge goes from x; a number of no node has none
 abbrev pub successors : List (List ℕ) → ℕ → List ℕ
 successors graph x = slice_index_or graph x []
 

@@ -6,6 +6,7 @@ use Rattle.graph_cycles.specs.declared.walk.Stage.TheVariants.{New, Open, Closed
 use Rattle.graph_cycles.specs.Graph.{successors, rank_over}
 use Rattle.graph_cycles.specs.Walk.{IsSound, HasRanks, AreOrdered, Closes, piece_cycles, stage_at, work_left}
 
+-- the walk keeps what it is for: it is sound, its closed nodes have their ranks, and they stand in order
 pub record Stands (graph : List (List ℕ)) (w : Walk) : Type 0 where
   pub sound : IsSound graph w.stages.items w.explored.items w.unclosed.items w.pieces.items w.path.items
       w.on_cycle.items

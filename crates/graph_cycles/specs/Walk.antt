@@ -9,6 +9,7 @@ use Rattle.graph_cycles.specs.declared.walk.Stage.TheVariants.{New, Open, Closed
 abbrev pub stage_at : List Stage → ℕ → Stage
 stage_at stages x = slice_index_or stages x New
 
+-- whether a node is marked as lying on a cycle; a number of no node is not
 abbrev pub mark_at : List Bool → ℕ → Bool
 mark_at marks x = slice_index_or marks x false
 
@@ -24,6 +25,7 @@ Within pieces i j = (c : ℕ) → c < length pieces → slice_index pieces c ≤
 abbrev pub IsOn : List ℕ → ℕ → Type 0
 IsOn path i = (p : ℕ) × (p < length path) × (slice_index path p ≡ i)
 
+-- each number of the list is greater than all before it
 abbrev pub Rises : List ℕ → Type 0
 Rises places = (p q : ℕ) → p < q → q < length places → slice_index places p < slice_index places q
 
@@ -35,6 +37,7 @@ IsKnown stages pieces i y = (stage_at stages y ≡ Closed) ⊎ ((j : ℕ) × (st
 abbrev pub seen_of : List (List ℕ) → List ℕ → ℕ → List ℕ
 seen_of graph explored x = take (slice_index explored x) (successors graph x)
 
+-- what is true of the walk between two steps, after the search for strongly connected components by one path
 pub record IsSound (graph : List (List ℕ)) (stages : List Stage) (explored unclosed pieces path : List ℕ)
     (marks : List Bool) : Type 0 where
   pub stages_all : length stages ≡ length graph

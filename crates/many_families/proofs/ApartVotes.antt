@@ -122,7 +122,7 @@ module _ (floor count : ℕ) (fs : List (List (List ℕ))) (are : AreApartFrom f
         let less : count_within fs (among set) ≤ suc (count_within fs (except u (among set))) =
         one_fewer floor u fs (among set) are in
         let hit : some_within fewer (except u (among set)) ≡ true =
-        fewer_is.hit (except u (among set)) ∙ le-leb count (count_within fs (except u (among set)))
+        fewer_is.some_within (except u (among set)) ∙ le-leb count (count_within fs (except u (among set)))
         (omega (arith, less, more)) in
         let found : HasWithin fewer (except u (among set)) = HasWithin-from_test fewer (except u (among set)) hit in
         let passes : (v : ℕ) → among found.set v ≡ true → except u (among set) v ≡ true =
@@ -138,7 +138,7 @@ module _ (floor count : ℕ) (fs : List (List (List ℕ))) (are : AreApartFrom f
     pub votes_include_none : (same : List (List ℕ)) → IsLeastVotes (suc count) fs same → IncludesNoneOf same fewer
     votes_include_none same same_is set has =
         false_from_ne_true (includes_one same set) (λ t.
-        let more = leb-true (suc count) (count_within fs (among set)) (sym (same_is.hit (among set)) ∙ t) in
+        let more = leb-true (suc count) (count_within fs (among set)) (sym (same_is.some_within (among set)) ∙ t) in
         no_more set has (omega (arith, more)))
 
     pub is_below : (low : ℕ) (voter same : List (List ℕ)) → IsBetween low floor voter
@@ -182,5 +182,5 @@ pub votes_joined : (count : ℕ) (f : List (List ℕ)) (fs : List (List (List �
     → IsLeastVotes (suc count) (f ∷ fs) h
 votes_joined count f fs same fewer h same_is fewer_is is =
     IsLeastFor-same (λ within. some_within same within || (some_within fewer within && some_within f within)) _ h is
-    (λ within. both_of _ _ _ _ (some_within f within) (same_is.hit within) (fewer_is.hit within)
+    (λ within. both_of _ _ _ _ (some_within f within) (same_is.some_within within) (fewer_is.some_within within)
     ∙ sym (one_vote count (count_within fs within) (some_within f within)))

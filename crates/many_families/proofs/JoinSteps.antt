@@ -34,7 +34,7 @@ joined_any s0 s1 s2 voter same fewer more sound has gave result gives spent =
     (λ h is.
     IsLeastFor-same (λ within. some_within (family_in s1 same) within || some_within (family_in s1 more) within) _ h is
     (λ within. or_of _ _ _ _ (ap (λ f. some_within f within) (still s0 s1 sound gave.went same has))
-    (gave.is.hit within)))
+    (gave.is.some_within within)))
     (answers_of (IsLeastUnion (family_in s1 same) (family_in s1 more)) s1 s2 result gives spent)
 
 -- ---- a node of which a part may be empty
@@ -48,7 +48,7 @@ none_more false false = refl
 
 joined_none : (same fewer : List (List ℕ)) → IsAntichain same → IsJoined [] same fewer same
 joined_none same fewer is =
-    record { antichain = is; hit = λ within. none_more (some_within same within) (some_within fewer within) }
+    record { antichain = is; some_within = λ within. none_more (some_within same within) (some_within fewer within) }
 
 pub joined_end : (held : Held) (voter same fewer : ℕ) → IsSound held → Has held same → voter < 2
     → IsBelow (family_in held voter) (family_in held same) (family_in held fewer)

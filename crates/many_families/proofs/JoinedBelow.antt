@@ -87,7 +87,7 @@ module _ (x : ℕ) (voter v0 v1 same fewer : List (List ℕ)) (cut : Cuts x vote
     includes_no_lo : IncludesNoneOf lo hi
     includes_no_lo set has =
         false_from_ne_true (includes_one lo set) (λ t.
-        none_of set (covered v1 fewer hi set hi_is has) (sym (lo_is.hit (among set)) ∙ t))
+        none_of set (covered v1 fewer hi set hi_is has) (sym (lo_is.some_within (among set)) ∙ t))
 
     -- nothing need be taken out of the parts
     pub joined_by_parts : IsJoined voter same fewer (branch x lo hi)

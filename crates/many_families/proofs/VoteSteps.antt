@@ -35,7 +35,7 @@ too_many held fs votes many =
     subst (IsLeastVotes votes fs) (sym (family-empty (map_of held)))
     record {
       antichain = minimal-none;
-      hit = λ within. sym (lt-leb votes (count_within fs within) (let h = hits_few fs within in omega arith));
+      some_within = λ within. sym (lt-leb votes (count_within fs within) (let h = hits_few fs within in omega arith));
     }
 
 pub given_no_votes : (held : Held) (list : List ℕ) (votes : ℕ) → IsSound held → votes ≡ 0

@@ -34,7 +34,7 @@ module _ (f g least : List (List ℕ)) (set : List ℕ) (is : IsLeastProduct f g
   both : (some_within f (among set) ≡ true) × (some_within g (among set) ≡ true)
   both =
       and_parts (some_within f (among set)) (some_within g (among set))
-      (sym (is.hit (among set)) ∙ some_within-from_set least (among set) set has (within_itself set))
+      (sym (is.some_within (among set)) ∙ some_within-from_set least (among set) set has (within_itself set))
 
   in_f : HasWithin f (among set)
   in_f = HasWithin-from_test f (among set) both.0
@@ -47,7 +47,7 @@ module _ (f g least : List (List ℕ)) (set : List ℕ) (is : IsLeastProduct f g
 
   part : HasWithin least either
   part =
-      HasWithin-from_test least either (is.hit either
+      HasWithin-from_test least either (is.some_within either
       ∙ and_from (some_within f either) (some_within g either)
       (some_within-from_set f either in_f.set in_f.has (passes_from either in_f.set (λ unit h.
       or_left (among in_f.set unit) (among in_g.set unit) h)))

@@ -52,25 +52,25 @@ and_same true = refl
 and_same false = refl
 
 pub least_union-none : (g : List (List ℕ)) → IsAntichain g → IsLeastUnion [] g g
-least_union-none g is = record { antichain = is; hit = λ within. refl }
+least_union-none g is = record { antichain = is; some_within = λ within. refl }
 
 pub least_union-itself : (f : List (List ℕ)) → IsAntichain f → IsLeastUnion f f f
-least_union-itself f is = record { antichain = is; hit = λ within. or_same (some_within f within) }
+least_union-itself f is = record { antichain = is; some_within = λ within. or_same (some_within f within) }
 
 -- every set includes the empty set
 pub least_union-unit : (g : List (List ℕ)) → IsLeastUnion ([] ∷ []) g ([] ∷ [])
-least_union-unit g = record { antichain = minimal-unit; hit = λ within. refl }
+least_union-unit g = record { antichain = minimal-unit; some_within = λ within. refl }
 
 -- ---- products
 
 pub least_product-none : (g : List (List ℕ)) → IsLeastProduct [] g []
-least_product-none g = record { antichain = minimal-none; hit = λ within. refl }
+least_product-none g = record { antichain = minimal-none; some_within = λ within. refl }
 
 pub least_product-itself : (f : List (List ℕ)) → IsAntichain f → IsLeastProduct f f f
-least_product-itself f is = record { antichain = is; hit = λ within. and_same (some_within f within) }
+least_product-itself f is = record { antichain = is; some_within = λ within. and_same (some_within f within) }
 
 pub least_product-unit : (g : List (List ℕ)) → IsAntichain g → IsLeastProduct ([] ∷ []) g g
-least_product-unit g is = record { antichain = is; hit = λ within. refl }
+least_product-unit g is = record { antichain = is; some_within = λ within. refl }
 
 -- ---- rests
 

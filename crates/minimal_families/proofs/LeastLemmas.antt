@@ -24,11 +24,12 @@ use Rattle.minimal_families.specs.Least.{IsLeastFor, IsLeastProduct, IsLeastUnio
 
 pub IsLeastFor-same : (p q : (ℕ → Bool) → Bool) (least : List (List ℕ)) → IsLeastFor p least
     → ((within : ℕ → Bool) → p within ≡ q within) → IsLeastFor q least
-IsLeastFor-same p q least is same = record { antichain = is.antichain; hit = λ within. is.hit within ∙ same within }
+IsLeastFor-same p q least is same =
+    record { antichain = is.antichain; some_within = λ within. is.some_within within ∙ same within }
 
 -- an antichain is the minimal family of where it is true
 pub IsLeastFor-itself : (f : List (List ℕ)) → IsAntichain f → IsLeastFor (some_within f) f
-IsLeastFor-itself f is = record { antichain = is; hit = λ within. refl }
+IsLeastFor-itself f is = record { antichain = is; some_within = λ within. refl }
 
 -- ---- an antichain that is true as a family is has its minimal sets
 
@@ -38,12 +39,12 @@ module _ (f least : List (List ℕ)) (is_family : IsFamily f) (is : IsLeastFor (
 
   below : (set : List ℕ) → Contains least set → HasWithin f (among set)
   below set has =
-      HasWithin-from_test f (among set) (sym (is.hit (among set))
+      HasWithin-from_test f (among set) (sym (is.some_within (among set))
       ∙ some_within-from_set least (among set) set has (within_itself set))
 
   under : (set : List ℕ) → Contains f set → HasWithin least (among set)
   under set has =
-      HasWithin-from_test least (among set) (is.hit (among set)
+      HasWithin-from_test least (among set) (is.some_within (among set)
       ∙ some_within-from_set f (among set) set has (within_itself set))
 
   -- a set of the family within one of the antichain is the same set
@@ -87,14 +88,17 @@ antichain-minimal f least is = record {
 
 pub IsLeastFor-minimal : (f least : List (List ℕ)) → IsFamily f → IsMinimal f least → IsLeastFor (some_within f) least
 IsLeastFor-minimal f least is_family is =
-    record { antichain = antichain-minimal f least is; hit = λ within. some_within-minimal f least within is_family is }
+    record {
+      antichain = antichain-minimal f least is;
+      some_within = λ within. some_within-minimal f least within is_family is;
+    }
 
 -- two antichains that are true of the same sets of units are equal
 pub least-one : (test : (ℕ → Bool) → Bool) (f g : List (List ℕ)) → IsLeastFor test f → IsLeastFor test g → f ≡ g
 least-one test f g is is' =
     minimal-one g f g
     (minimal-from_within g f is'.antichain.is_family
-    (record { antichain = is.antichain; hit = λ within. is.hit within ∙ sym (is'.hit within) }))
+    (record { antichain = is.antichain; some_within = λ within. is.some_within within ∙ sym (is'.some_within within) }))
     is'.antichain
 
 -- ---- what the words say, in those of the operations
@@ -138,7 +142,7 @@ least-above test x least is asks =
     each-from_contains (IsSetAbove x) least (λ set has.
     let within : ℕ → Bool = above_only x (among set) in
     let found : HasWithin least within =
-    HasWithin-from_test least within (is.hit within ∙ asks (among set) ∙ sym (is.hit (among set))
+    HasWithin-from_test least within (is.some_within within ∙ asks (among set) ∙ sym (is.some_within (among set))
     ∙ some_within-from_set least (among set) set has (within_itself set)) in
     let passes : (unit : ℕ) → among found.set unit ≡ true → within unit ≡ true =
     λ unit h. passes_at within found.set unit found.passes h in

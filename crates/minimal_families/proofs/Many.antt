@@ -30,25 +30,25 @@ any_append (f ∷ fs) gs within =
     (list_any (λ g. some_within g within) gs)
 
 pub least_of_none : IsLeastOfAll [] []
-least_of_none = record { antichain = minimal-none; hit = λ within. refl }
+least_of_none = record { antichain = minimal-none; some_within = λ within. refl }
 
 or_none : (a : Bool) → a ≡ (a || false)
 or_none true = refl
 or_none false = refl
 
 pub least_of_one : (f : List (List ℕ)) → IsAntichain f → IsLeastOfAll (f ∷ []) f
-least_of_one f is = record { antichain = is; hit = λ within. or_none (some_within f within) }
+least_of_one f is = record { antichain = is; some_within = λ within. or_none (some_within f within) }
 
 pub least_of_both : (fs gs : List (List (List ℕ))) (f g h : List (List ℕ)) → IsLeastOfAll fs f → IsLeastOfAll gs g
     → IsLeastUnion f g h → IsLeastOfAll (fs ++ gs) h
 least_of_both fs gs f g h of_fs of_gs is =
     IsLeastFor-same (λ within. some_within f within || some_within g within) _ h is
-    (λ within. or_of _ _ _ _ (of_fs.hit within) (of_gs.hit within) ∙ sym (any_append fs gs within))
+    (λ within. or_of _ _ _ _ (of_fs.some_within within) (of_gs.some_within within) ∙ sym (any_append fs gs within))
 
 -- ---- products, one family more
 
 pub product_of_none : IsLeastProductOfAll [] ([] ∷ [])
-product_of_none = record { antichain = minimal-unit; hit = λ within. refl }
+product_of_none = record { antichain = minimal-unit; some_within = λ within. refl }
 
 and_assoc : (a b c : Bool) → (a && (b && c)) ≡ ((a && b) && c)
 and_assoc true b c = refl
@@ -71,13 +71,14 @@ pub product_of_more : (fs : List (List (List ℕ))) (f g h : List (List ℕ)) �
     → IsLeastProduct f g h → IsLeastProductOfAll (fs ++ g ∷ []) h
 product_of_more fs f g h of_fs is =
     IsLeastFor-same (λ within. some_within f within && some_within g within) _ h is
-    (λ within. and_of _ _ _ _ (of_fs.hit within) (sym (and_one (some_within g within)))
+    (λ within. and_of _ _ _ _ (of_fs.some_within within) (sym (and_one (some_within g within)))
     ∙ sym (all_append fs (g ∷ []) within))
 
 -- ---- votes, one family more in front
 
 pub no_votes : (fs : List (List (List ℕ))) → IsLeastVotes 0 fs ([] ∷ [])
-no_votes fs = record { antichain = minimal-unit; hit = λ within. sym (le-leb 0 (count_within fs within) (omega arith)) }
+no_votes fs =
+    record { antichain = minimal-unit; some_within = λ within. sym (le-leb 0 (count_within fs within) (omega arith)) }
 
 vote_to : (p c : ℕ) → nat_le (suc p) (1 + c) ≡ true → (nat_le (suc p) c || (nat_le p c && true)) ≡ true
 vote_to p c t =
@@ -109,5 +110,6 @@ pub votes_of_more : (count : ℕ) (f : List (List ℕ)) (fs : List (List (List �
 votes_of_more count f fs same fewer more h same_is fewer_is more_is is =
     IsLeastFor-same (λ within. some_within same within || some_within more within) _ h is
     (λ within.
-    or_of _ _ _ _ (same_is.hit within) (more_is.hit within ∙ and_of _ _ _ _ (fewer_is.hit within) refl)
+    or_of _ _ _ _ (same_is.some_within within)
+    (more_is.some_within within ∙ and_of _ _ _ _ (fewer_is.some_within within) refl)
     ∙ sym (one_vote count (count_within fs within) (some_within f within)))

@@ -153,7 +153,7 @@ least-node x lo all hi p q above above' is is' left = record {
   antichain =
       antichain-branch x lo hi above (without-above x all lo hi left above') is.antichain
       (antichain-without all lo hi is'.antichain left) (none_left all lo hi left);
-  hit = λ within.
+  some_within = λ within.
       some_within-cut x (branch x lo hi) lo hi (record {
         is = refl;
         lo_above = above;
@@ -162,6 +162,6 @@ least-node x lo all hi p q above above' is is' left = record {
       }) within
       ∙ absorbed (some_within lo within) (within x) (some_within hi within) (some_within all within)
       (some_within-left all lo hi left within)
-      ∙ ap (λ b. b || (within x && some_within all within)) (is.hit within)
-      ∙ ap (λ b. p within || (within x && b)) (is'.hit within);
+      ∙ ap (λ b. b || (within x && some_within all within)) (is.some_within within)
+      ∙ ap (λ b. p within || (within x && b)) (is'.some_within within);
 }

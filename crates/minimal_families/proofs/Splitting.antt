@@ -75,7 +75,7 @@ least_product-split f g rest rest' common common' alone joined least left left' 
     some_within-split g f rest' common' left' split' within in
     or_of (some_within alone within) (some_within common within || some_within common' within)
     (some_within joined within)
-    (some_within rest within && some_within rest' within) (alone_is.hit within) (joined_is.hit within)
+    (some_within rest within && some_within rest' within) (alone_is.some_within within) (joined_is.some_within within)
     ∙ split_cases (some_within rest within) (some_within common within) (some_within rest' within)
     (some_within common' within)
     (λ t. sym of_g ∙ common_hits_other f g rest common left split within t)

@@ -87,7 +87,7 @@ pub least_sides : (f0 f1 g0 g1 c d all : List (List ℕ)) → IsLeastUnion f0 f1
 least_sides f0 f1 g0 g1 c d all of_f of_g is =
     IsLeastFor-same (λ within. some_within c within && some_within d within) _ all is
     (λ within. and_of (some_within c within) (some_within f0 within || some_within f1 within) (some_within d within)
-    (some_within g0 within || some_within g1 within) (of_f.hit within) (of_g.hit within))
+    (some_within g0 within || some_within g1 within) (of_f.some_within within) (of_g.some_within within))
 
 pub least_sides-above : (x : ℕ) (f0 f1 g0 g1 all : List (List ℕ)) → IsAbove x f0 → IsAbove x f1 → IsAbove x g0
     → IsAbove x g1 → IsLeastSides f0 f1 g0 g1 all → IsAbove x all
@@ -148,21 +148,21 @@ includes_second : (f g all : List (List ℕ)) (set : List ℕ) → IsLeastProduc
     → some_within g (among set) ≡ true
 includes_second f g all set is has =
     (and_parts (some_within f (among set)) (some_within g (among set))
-    (sym (is.hit (among set)) ∙ some_within-from_set all (among set) set has (within_itself set))).1
+    (sym (is.some_within (among set)) ∙ some_within-from_set all (among set) set has (within_itself set))).1
 
 module _ (x : ℕ) (f f0 f1 g lo : List (List ℕ)) (cut : Cuts x f f0 f1) where
   -- a set of hi includes one of lo exactly where it includes one of the other family
   pub least_union-rest : IsAntichain f → IsLeastUnion f0 g lo → (hi : List (List ℕ)) → IsWithout f1 g hi
       → IsWithout f1 lo hi
   least_union-rest antichain is hi left =
-      without-same f1 g lo hi (λ set has. sym (is.hit (among set)
+      without-same f1 g lo hi (λ set has. sym (is.some_within (among set)
       ∙ ap (λ q. q || some_within g (among set)) (hi_includes_none x f f0 f1 cut antichain set has))) left
 
   -- each set of the product with x includes one of the other family, so lo says no more than f's sets without x
   pub least_product-rest : (all : List (List ℕ)) → IsLeastProduct f0 g lo → IsLeastProduct f1 g all
       → (hi : List (List ℕ)) → IsWithout all f0 hi → IsWithout all lo hi
   least_product-rest all is is' hi left =
-      without-same all f0 lo hi (λ set has. sym (is.hit (among set)
+      without-same all f0 lo hi (λ set has. sym (is.some_within (among set)
       ∙ with_second (some_within f0 (among set)) (some_within g (among set))
       (includes_second f1 g all set is' has))) left
 

@@ -8,7 +8,7 @@ use Rattle.unit_sets.specs.UnitList.{some_within}
 -- no set of the family includes another, and a set of units includes one of them exactly where the test says
 pub record IsLeastFor (test : (ℕ → Bool) → Bool) (least : List (List ℕ)) : Type 0 where
   pub antichain : IsAntichain least
-  pub hit : (within : ℕ → Bool) → some_within least within ≡ test within
+  pub some_within : (within : ℕ → Bool) → some_within least within ≡ test within
 
 -- the minimal sets of the union of two families
 abbrev pub IsLeastUnion : List (List ℕ) → List (List ℕ) → List (List ℕ) → Type 0

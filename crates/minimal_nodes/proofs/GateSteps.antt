@@ -56,7 +56,7 @@ pub never_given : (held : Held) (fs : List (List (List ℕ))) → IsSound held �
 never_given held fs sound =
     Gave-there (IsLeastOfGate Fdep fs) held 0 sound (let few = sound.terminals in omega arith)
     (subst (IsLeastOfGate Fdep fs) (sym (family-empty (map_of held)))
-    record { antichain = minimal-none; hit = λ within. refl })
+    record { antichain = minimal-none; some_within = λ within. refl })
 
 -- the first family alone
 first_is : (held : Held) (list : List ℕ) (r : ℕ) → IsSound held → All (Has held) list
@@ -66,7 +66,7 @@ first_is held [] r sound has is =
     subst (Gave (IsLeastOfGate Por []) held held) (sym is)
     (Gave-there (IsLeastOfGate Por []) held 0 sound (let few = sound.terminals in omega arith)
     (subst (IsLeastOfGate Por []) (sym (family-empty (map_of held)))
-    record { antichain = minimal-none; hit = λ within. refl }))
+    record { antichain = minimal-none; some_within = λ within. refl }))
 first_is held (q ∷ list) r sound has is =
     let here : r ≡ q = is ∙ cond-true (nat_lt 0 (length (q ∷ list))) q 0 (lt-ltb 0 (length (q ∷ list)) (omega arith)) in
     let there : Has held q = has 0 0 (omega arith) in
@@ -102,7 +102,7 @@ module _ (s0 : Held) (unit : ℕ) (list : List ℕ) (sound : IsSound s0) (s1 : H
     is =
         IsLeastFor-same (λ within. some_within (family_in s2 own) within || some_within (family_in s2 others) within) _
         (family_in s3 r) gave.is
-        (λ within. or_of _ _ _ _ (ap (λ f. some_within f within) gave2.is) (others_is.hit within));
+        (λ within. or_of _ _ _ _ (ap (λ f. some_within f within) gave2.is) (others_is.some_within within));
   }
   unit_gives s3 (Err e) gave = tt
 

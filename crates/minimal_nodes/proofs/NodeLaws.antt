@@ -20,8 +20,8 @@ use Rattle.minimal_nodes.specs.Gates.{first_within, gate_within, IsLeastOfGate}
 use Rattle.fault_definitions.proofs.RankLaws.{below_are_nodes}
 use Rattle.tree_families.proofs.Building.{all_generate, gate_below, unit_below}
 use Rattle.tree_families.proofs.CutFamilies.{cut_family-minimal}
-use Rattle.tree_families.proofs.FailingSets.{Generates-cut_family}
-use Rattle.tree_families.specs.Generation.{Generates}
+use Rattle.tree_families.proofs.FailingSets.{IsFamilyFor-cut_family}
+use Rattle.tree_families.specs.Generation.{IsFamilyFor}
 use Rattle.tree_families.specs.Recipe.{StandFor, alone}
 use Rattle.tree_families.proofs.TreeParts.{has_cut_family}
 use Rattle.unit_sets.specs.UnitList.{some_within}
@@ -30,52 +30,52 @@ pub cut_family-least : (tree : FaultTree) → IsTree tree → (node : ℕ) → I
     → IsLeastFor (λ within. reads tree within node) least → IsCutFamily tree node least
 cut_family-least tree kept node is_node least is =
     let found = has_cut_family tree kept node is_node in
-    let generates : Generates tree node found.family =
-    Generates-cut_family tree kept node is_node found.family found.is in
+    let generates : IsFamilyFor tree node found.family =
+    IsFamilyFor-cut_family tree kept node is_node found.family found.is in
     cut_family-minimal tree node found.family least generates
     (minimal-from_within found.family least generates.of_tree.is_family
     (IsLeastFor-same (λ within. reads tree within node) (some_within found.family) least is
-    (λ within. sym (generates.hit within))))
+    (λ within. sym (generates.some_within within))))
 
 -- ---- the families of what a node reads are true where these fail
 
 module _ (tree : FaultTree) (within : ℕ → Bool) where
-  any_fails : (nodes : List ℕ) (families : List (List (List ℕ))) → StandFor (Generates tree) nodes families
+  any_fails : (nodes : List ℕ) (families : List (List (List ℕ))) → StandFor (IsFamilyFor tree) nodes families
       → list_any (λ family. some_within family within) families ≡ list_any (reads tree within) nodes
   any_fails [] [] stand = refl
   any_fails [] (family ∷ families) stand = absurd stand
   any_fails (node ∷ nodes) [] stand = absurd stand
   any_fails (node ∷ nodes) (family ∷ families) stand =
-      ap (λ b. b || list_any (λ f. some_within f within) families) (stand.0.hit within)
+      ap (λ b. b || list_any (λ f. some_within f within) families) (stand.0.some_within within)
       ∙ ap (λ b. reads tree within node || b) (any_fails nodes families stand.1)
 
-  all_fail : (nodes : List ℕ) (families : List (List (List ℕ))) → StandFor (Generates tree) nodes families
+  all_fail : (nodes : List ℕ) (families : List (List (List ℕ))) → StandFor (IsFamilyFor tree) nodes families
       → list_all (λ family. some_within family within) families ≡ list_all (reads tree within) nodes
   all_fail [] [] stand = refl
   all_fail [] (family ∷ families) stand = absurd stand
   all_fail (node ∷ nodes) [] stand = absurd stand
   all_fail (node ∷ nodes) (family ∷ families) stand =
-      ap (λ b. b && list_all (λ f. some_within f within) families) (stand.0.hit within)
+      ap (λ b. b && list_all (λ f. some_within f within) families) (stand.0.some_within within)
       ∙ ap (λ b. reads tree within node && b) (all_fail nodes families stand.1)
 
-  so_many_fail : (nodes : List ℕ) (families : List (List (List ℕ))) → StandFor (Generates tree) nodes families
+  so_many_fail : (nodes : List ℕ) (families : List (List (List ℕ))) → StandFor (IsFamilyFor tree) nodes families
       → count_within families within ≡ true_count (reads tree within) nodes
   so_many_fail [] [] stand = refl
   so_many_fail [] (family ∷ families) stand = absurd stand
   so_many_fail (node ∷ nodes) [] stand = absurd stand
   so_many_fail (node ∷ nodes) (family ∷ families) stand =
-      ap (λ b. (if b then 1 else 0) + count_within families within) (stand.0.hit within)
+      ap (λ b. (if b then 1 else 0) + count_within families within) (stand.0.some_within within)
       ∙ ap (λ n. (if reads tree within node then 1 else 0) + n) (so_many_fail nodes families stand.1)
 
-  first_fails : (nodes : List ℕ) (families : List (List (List ℕ))) → StandFor (Generates tree) nodes families
+  first_fails : (nodes : List ℕ) (families : List (List (List ℕ))) → StandFor (IsFamilyFor tree) nodes families
       → first_within families within ≡ first_reads (reads tree within) nodes
   first_fails [] [] stand = refl
   first_fails [] (family ∷ families) stand = absurd stand
   first_fails (node ∷ nodes) [] stand = absurd stand
-  first_fails (node ∷ nodes) (family ∷ families) stand = stand.0.hit within
+  first_fails (node ∷ nodes) (family ∷ families) stand = stand.0.some_within within
 
   gate_fails : (kind : GateKind) (nodes : List ℕ) (families : List (List (List ℕ)))
-      → StandFor (Generates tree) nodes families → gate_within kind families within
+      → StandFor (IsFamilyFor tree) nodes families → gate_within kind families within
       ≡ gate_reads kind (reads tree within) nodes
   gate_fails And nodes families stand = all_fail nodes families stand
   gate_fails Or nodes families stand = any_fails nodes families stand
@@ -94,14 +94,14 @@ one false = refl
 
 module _ (tree : FaultTree) (kept : IsTree tree) (node : ℕ) (is_node : IsNodeOf tree node)
     (families : List (List (List ℕ))) (stand : StandFor (IsCutFamily tree) (below tree node) families) where
-  generate : StandFor (Generates tree) (below tree node) families
+  generate : StandFor (IsFamilyFor tree) (below tree node) families
   generate = all_generate tree kept (below tree node) families (below_are_nodes tree kept node) stand
 
   pub gate_cut_family : IsGateOf tree node → (least : List (List ℕ)) → IsLeastOfGate (kind_of tree node) families least
       → IsCutFamily tree node least
   gate_cut_family is_gate least is =
-      let inputs : StandFor (Generates tree) (inputs_of tree node) families =
-      subst (λ nodes. StandFor (Generates tree) nodes families) (gate_below tree node is_gate) generate in
+      let inputs : StandFor (IsFamilyFor tree) (inputs_of tree node) families =
+      subst (λ nodes. StandFor (IsFamilyFor tree) nodes families) (gate_below tree node is_gate) generate in
       cut_family-least tree kept node is_node least
       (IsLeastFor-same (gate_within (kind_of tree node) families) (λ within. reads tree within node) least is
       (λ within.
@@ -117,8 +117,8 @@ module _ (tree : FaultTree) (kept : IsTree tree) (node : ℕ) (is_node : IsNodeO
       || list_any (λ family. some_within family within) families) least
       → IsCutFamily tree node least
   unit_cut_family is_unit least is =
-      let triggers : StandFor (Generates tree) (triggers_of tree node) families =
-      subst (λ nodes. StandFor (Generates tree) nodes families) (unit_below tree node is_unit) generate in
+      let triggers : StandFor (IsFamilyFor tree) (triggers_of tree node) families =
+      subst (λ nodes. StandFor (IsFamilyFor tree) nodes families) (unit_below tree node is_unit) generate in
       cut_family-least tree kept node is_node least
       (IsLeastFor-same _ (λ within. reads tree within node) least is
       (λ within.

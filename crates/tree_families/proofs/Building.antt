@@ -11,13 +11,13 @@ use Rattle.fault_definitions.specs.Tree.{is_fdep_kind, kind_of, unit_count}
 use Rattle.fault_definitions.specs.Trigger.{below, triggers_of}
 use Rattle.fault_definitions.specs.WellFormed.{IsTree}
 use Rattle.family_operations.specs.Minimal.{IsMinimal}
-use Rattle.tree_families.specs.Generation.{Generates}
+use Rattle.tree_families.specs.Generation.{IsFamilyFor}
 use Rattle.tree_families.specs.Due.{IsDueToRecipe, IsDueToTree, one_node}
 use Rattle.tree_families.specs.Recipe.{Recipe, unions, IsMadeBy, IsUnionOfAll, alone, gate_recipe, node_recipe}
 use Rattle.tree_families.specs.Recipe.{StandFor}
 use Rattle.tree_families.proofs.CutFamilies.{cut_family-minimal}
-use Rattle.tree_families.proofs.FailingSets.{Generates-cut_family}
-use Rattle.tree_families.proofs.Steps.{Generates-made}
+use Rattle.tree_families.proofs.FailingSets.{IsFamilyFor-cut_family}
+use Rattle.tree_families.proofs.Steps.{IsFamilyFor-made}
 
 -- a table that has a family for each of the nodes has the families in their order
 pub StandFor-table : (stands : ℕ → List (List ℕ) → Type 0) (table : ℕ → List (List ℕ)) (nodes : List ℕ)
@@ -29,21 +29,22 @@ StandFor-table stands table (node ∷ nodes) all = (
 )
 
 pub all_generate : (tree : FaultTree) → IsTree tree → (nodes : List ℕ) (families : List (List (List ℕ)))
-    → All (IsNodeOf tree) nodes → StandFor (IsCutFamily tree) nodes families → StandFor (Generates tree) nodes families
+    → All (IsNodeOf tree) nodes → StandFor (IsCutFamily tree) nodes families
+    → StandFor (IsFamilyFor tree) nodes families
 all_generate tree kept [] [] are stand = tt
 all_generate tree kept [] (family ∷ families) are stand = stand
 all_generate tree kept (node ∷ nodes) [] are stand = stand
 all_generate tree kept (node ∷ nodes) (family ∷ families) are stand = (
-  Generates-cut_family tree kept node (All-head (IsNodeOf tree) node nodes are) family stand.0,
+  IsFamilyFor-cut_family tree kept node (All-head (IsNodeOf tree) node nodes are) family stand.0,
   all_generate tree kept nodes families (All-tail (IsNodeOf tree) node nodes are) stand.1,
 )
 
 -- what a node's recipe makes generates the node
 pub recipe-generates : (tree : FaultTree) → IsTree tree → (node : ℕ) → IsNodeOf tree node
     → (families : List (List (List ℕ))) (made : List (List ℕ)) → StandFor (IsCutFamily tree) (below tree node) families
-    → IsMadeBy (node_recipe tree node families) made → Generates tree node made
+    → IsMadeBy (node_recipe tree node families) made → IsFamilyFor tree node made
 recipe-generates tree kept node is_node families made stand is =
-    Generates-made tree kept node is_node families made
+    IsFamilyFor-made tree kept node is_node families made
     (all_generate tree kept (below tree node) families (below_are_nodes tree kept node) stand) is
 
 -- and its minimal sets are the node's cut family

@@ -26,7 +26,7 @@ use Rattle.family_operations.specs.Inclusion.{Includes}
 use Rattle.family_operations.proofs.InclusionLemmas.{within_itself, within_trans, same_within}
 use Rattle.family_operations.specs.Minimal.{IsMinimal}
 use Rattle.family_operations.proofs.MinimalLemmas.{minimal-covers}
-use Rattle.tree_families.specs.Generation.{Generates}
+use Rattle.tree_families.specs.Generation.{IsFamilyFor}
 
 -- a node has one cut family
 pub cut_family-one : (tree : FaultTree) (node : ℕ) (f g : List (List ℕ)) → IsCutFamily tree node f
@@ -66,19 +66,19 @@ within_without set part unit within none =
     (not_from_false (n == unit) (ne_eqb n unit (λ same.
     false≢true (sym none ∙ subst (λ (q : ℕ). among part q ≡ true) same has)))))
 
-module _ (tree : FaultTree) (node : ℕ) (f least : List (List ℕ)) (generates : Generates tree node f)
+module _ (tree : FaultTree) (node : ℕ) (f least : List (List ℕ)) (generates : IsFamilyFor tree node f)
     (is : IsMinimal f least) where
   is_family : IsFamily f
   is_family = generates.of_tree.is_family
 
   -- the minimal sets generate the node too
-  pub Generates-minimal : Generates tree node least
-  Generates-minimal = record {
+  pub IsFamilyFor-minimal : IsFamilyFor tree node least
+  IsFamilyFor-minimal = record {
     of_tree = record {
       is_family = is.is_family;
       units = λ set has. generates.of_tree.units set ((is.sets set).0 has).0;
     };
-    hit = λ within. some_within-minimal f least within is_family is ∙ generates.hit within;
+    some_within = λ within. some_within-minimal f least within is_family is ∙ generates.some_within within;
   }
 
   -- a set without one unit includes no set of the family, where it is minimal
@@ -86,7 +86,7 @@ module _ (tree : FaultTree) (node : ℕ) (f least : List (List ℕ)) (generates 
       → reads tree (among (without_unit unit set)) node ≡ false
   needs set has unit member =
       let both = (is.sets set).0 has in
-      sym (generates.hit (among (without_unit unit set)))
+      sym (generates.some_within (among (without_unit unit set)))
       ∙ false_from_ne_true (some_within f (among (without_unit unit set))) (λ hit.
       let found : HasWithin f (among (without_unit unit set)) =
       HasWithin-from_test f (among (without_unit unit set)) hit in
@@ -99,7 +99,8 @@ module _ (tree : FaultTree) (node : ℕ) (f least : List (List ℕ)) (generates 
       record {
         rising = set_rises f set is_family of_f;
         units = units_of_all tree set (generates.of_tree.units set of_f);
-        fails = sym (generates.hit (among set)) ∙ some_within-from_set f (among set) set of_f (within_itself set);
+        fails =
+            sym (generates.some_within (among set)) ∙ some_within-from_set f (among set) set of_f (within_itself set);
         needed =
             All-weaker (Contains set) (λ unit. reads tree (among (without_unit unit set)) node ≡ false)
             (λ unit member. needs set has unit (among-from_Contains set unit member)) set (All-contains_itself set);
@@ -113,7 +114,7 @@ module _ (tree : FaultTree) (node : ℕ) (f least : List (List ℕ)) (generates 
         | inl has ↦ has
         | inr lacks ↦
             let fails : reads tree (among (without_unit unit set)) node ≡ true =
-            sym (generates.hit (among (without_unit unit set)))
+            sym (generates.some_within (among (without_unit unit set)))
             ∙ some_within-from_set f (among (without_unit unit set)) part of_f
             (within_without set part unit within lacks) in
             let lives : reads tree (among (without_unit unit set)) node ≡ false =
@@ -132,7 +133,7 @@ module _ (tree : FaultTree) (node : ℕ) (f least : List (List ℕ)) (generates 
   complete : (set : List ℕ) → IsMinimalFor tree node set → Contains least set
   complete set minimal =
       let found : HasWithin f (among set) =
-      HasWithin-from_test f (among set) (generates.hit (among set) ∙ minimal.fails) in
+      HasWithin-from_test f (among set) (generates.some_within (among set) ∙ minimal.fails) in
       let part : Includes least found.set = minimal-covers f least is_family is found.set found.has in
       let within : is_within set part.part ≡ true = within_trans set found.set part.part found.passes part.within in
       subst (Contains least) (same_part set part.part minimal part.has within) part.has

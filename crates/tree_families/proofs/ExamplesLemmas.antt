@@ -136,7 +136,7 @@ family_by : (tree : FaultTree) (node : ℕ) (f : List (List ℕ)) → IsFamily f
     → list_all (list_all (is_unit_of tree)) f ≡ true → is_antichain f ≡ true
     → ((within : ℕ → Bool) → some_within f within ≡ reads tree within node) → IsCutFamily tree node f
 family_by tree node f is units anti hit =
-    cut_family-minimal tree node f f (record { of_tree = of_tree tree f is units; hit = hit })
+    cut_family-minimal tree node f f (record { of_tree = of_tree tree f is units; some_within = hit })
     (minimal_itself f is anti)
 
 pub two_of_three-top : IsCutFamily two_of_three 4 pairs_of_three

@@ -14,7 +14,7 @@ use Rattle.family_operations.proofs.CutsLemmas.{each-from_contains}
 use Rattle.family_operations.proofs.WithinLemmas.{HasWithin, HasWithin-from_test, some_within-from_set, passes_at}
 use Rattle.family_operations.proofs.WithinLemmas.{passes_from}
 use Rattle.family_operations.proofs.InclusionLemmas.{same_Bool}
-use Rattle.tree_families.specs.Generation.{Generates}
+use Rattle.tree_families.specs.Generation.{IsFamilyFor}
 
 module _ (tree : FaultTree) (kept : IsTree tree) (node : ℕ) (is_node : IsNodeOf tree node) (family : List (List ℕ))
     (is : IsCutFamily tree node family) where
@@ -35,8 +35,8 @@ module _ (tree : FaultTree) (kept : IsTree tree) (node : ℕ) (is_node : IsNodeO
       some_within-from_set family within found.0.part (is.complete found.0.part found.0.minimal)
       (passes_from within found.0.part found.1)
 
-  pub Generates-cut_family : Generates tree node family
-  Generates-cut_family = record {
+  pub IsFamilyFor-cut_family : IsFamilyFor tree node family
+  IsFamilyFor-cut_family = record {
     of_tree = record {
       is_family =
           record {
@@ -48,5 +48,6 @@ module _ (tree : FaultTree) (kept : IsTree tree) (node : ℕ) (is_node : IsNodeO
           λ set has unit member. All-contains (IsUnitOf tree) set unit (minimal_at set has).units
           (Contains-from_among set unit member);
     };
-    hit = λ within. same_Bool (some_within family within) (reads tree within node) (hit_to within) (hit_from within);
+    some_within =
+        λ within. same_Bool (some_within family within) (reads tree within node) (hit_to within) (hit_from within);
   }

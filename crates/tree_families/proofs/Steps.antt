@@ -24,7 +24,7 @@ use Rattle.family_operations.specs.Sets.{joined}
 use Rattle.family_operations.proofs.SetsLemmas.{among-joined}
 use Rattle.family_operations.specs.Union.{IsUnion}
 use Rattle.family_operations.specs.Votes.{IsVotes, IsChoice}
-use Rattle.tree_families.specs.Generation.{IsFamilyOf, AreFamiliesOf, Generates}
+use Rattle.tree_families.specs.Generation.{IsFamilyOf, AreFamiliesOf, IsFamilyFor}
 use Rattle.family_parts.proofs.Parts.{empty_unit}
 use Rattle.tree_families.specs.Recipe.{Recipe, unions, IsUnionOfAll, IsProductOfAll, IsMadeBy, all_united}
 use Rattle.tree_families.specs.Recipe.{all_multiplied, first_alone, gate_recipe, alone, node_recipe, StandFor}
@@ -148,7 +148,7 @@ module _ (tree : FaultTree) where
 -- ---- families that generate the nodes that are read
 
 module _ (tree : FaultTree) where
-  all_of_tree : (nodes : List ℕ) (families : List (List (List ℕ))) → StandFor (Generates tree) nodes families
+  all_of_tree : (nodes : List ℕ) (families : List (List (List ℕ))) → StandFor (IsFamilyFor tree) nodes families
       → AreFamiliesOf tree families
   all_of_tree [] [] stand = tt
   all_of_tree [] (family ∷ families) stand = absurd stand
@@ -156,98 +156,107 @@ module _ (tree : FaultTree) where
   all_of_tree (node ∷ nodes) (family ∷ families) stand = (stand.0.of_tree, all_of_tree nodes families stand.1)
 
   module _ (within : ℕ → Bool) where
-    some_hit : (nodes : List ℕ) (families : List (List (List ℕ))) → StandFor (Generates tree) nodes families
+    some_hit : (nodes : List ℕ) (families : List (List (List ℕ))) → StandFor (IsFamilyFor tree) nodes families
         → list_any (hit_by within) families ≡ list_any (reads tree within) nodes
     some_hit [] [] stand = refl
     some_hit [] (family ∷ families) stand = absurd stand
     some_hit (node ∷ nodes) [] stand = absurd stand
     some_hit (node ∷ nodes) (family ∷ families) stand =
-        let e = stand.0.hit within in let rest = some_hit nodes families stand.1 in cc
+        let e = stand.0.some_within within in let rest = some_hit nodes families stand.1 in cc
 
-    pub all_hit : (nodes : List ℕ) (families : List (List (List ℕ))) → StandFor (Generates tree) nodes families
+    pub all_hit : (nodes : List ℕ) (families : List (List (List ℕ))) → StandFor (IsFamilyFor tree) nodes families
         → list_all (hit_by within) families ≡ list_all (reads tree within) nodes
     all_hit [] [] stand = refl
     all_hit [] (family ∷ families) stand = absurd stand
     all_hit (node ∷ nodes) [] stand = absurd stand
     all_hit (node ∷ nodes) (family ∷ families) stand =
-        let e = stand.0.hit within in let rest = all_hit nodes families stand.1 in cc
+        let e = stand.0.some_within within in let rest = all_hit nodes families stand.1 in cc
 
-    count_hit : (nodes : List ℕ) (families : List (List (List ℕ))) → StandFor (Generates tree) nodes families
+    count_hit : (nodes : List ℕ) (families : List (List (List ℕ))) → StandFor (IsFamilyFor tree) nodes families
         → count_within families within ≡ true_count (reads tree within) nodes
     count_hit [] [] stand = refl
     count_hit [] (family ∷ families) stand = absurd stand
     count_hit (node ∷ nodes) [] stand = absurd stand
     count_hit (node ∷ nodes) (family ∷ families) stand =
-        let e = stand.0.hit within in let rest = count_hit nodes families stand.1 in cc
+        let e = stand.0.some_within within in let rest = count_hit nodes families stand.1 in cc
 
 -- ---- gates
 
 -- a family that is true where a test of sets says so
 record IsTrueWhere (tree : FaultTree) (test : (ℕ → Bool) → Bool) (made : List (List ℕ)) : Type 0 where
   of_tree : IsFamilyOf tree made
-  hit : (within : ℕ → Bool) → some_within made within ≡ test within
+  some_within : (within : ℕ → Bool) → some_within made within ≡ test within
 
 module _ (tree : FaultTree) where
   united : (nodes : List ℕ) (families : List (List (List ℕ))) (made : List (List ℕ))
-      → StandFor (Generates tree) nodes families → IsMadeBy (all_united families) made
+      → StandFor (IsFamilyFor tree) nodes families → IsMadeBy (all_united families) made
       → IsTrueWhere tree (λ within. list_any (reads tree within) nodes) made
   united [] [] made stand same =
-      record { of_tree = subst (IsFamilyOf tree) (sym same) (of_none tree); hit = λ within. ap (hit_by within) same }
+      record {
+        of_tree = subst (IsFamilyOf tree) (sym same) (of_none tree);
+        some_within = λ within. ap (hit_by within) same;
+      }
   united [] (family ∷ families) made stand is = absurd stand
   united (node ∷ nodes) [] made stand is = absurd stand
   united (node ∷ nodes) (family ∷ families) made stand is = record {
     of_tree = of_unions tree family families made stand.0.of_tree (all_of_tree tree nodes families stand.1) is;
-    hit =
+    some_within =
         λ within. some_within-unions within family families made is
         ∙ some_hit tree within (node ∷ nodes) (family ∷ families) stand;
   }
 
   multiplied : (nodes : List ℕ) (families : List (List (List ℕ))) (made : List (List ℕ))
-      → StandFor (Generates tree) nodes families → IsMadeBy (all_multiplied families) made
+      → StandFor (IsFamilyFor tree) nodes families → IsMadeBy (all_multiplied families) made
       → IsTrueWhere tree (λ within. list_all (reads tree within) nodes) made
   multiplied [] [] made stand same =
       record {
         of_tree = subst (IsFamilyOf tree) (sym same) (of_empty_set tree);
-        hit =
+        some_within =
             λ within. ap (hit_by within) same;
       }
   multiplied [] (family ∷ families) made stand is = absurd stand
   multiplied (node ∷ nodes) [] made stand is = absurd stand
   multiplied (node ∷ nodes) (family ∷ families) made stand is = record {
     of_tree = of_products tree family families made stand.0.of_tree (all_of_tree tree nodes families stand.1) is;
-    hit =
+    some_within =
         λ within. some_within-products within family families made is
         ∙ all_hit tree within (node ∷ nodes) (family ∷ families) stand;
   }
 
   voted : (least : ℕ) (nodes : List ℕ) (families : List (List (List ℕ))) (made : List (List ℕ))
-      → StandFor (Generates tree) nodes families → IsVotes least families made
+      → StandFor (IsFamilyFor tree) nodes families → IsVotes least families made
       → IsTrueWhere tree (λ within. nat_le least (true_count (reads tree within) nodes)) made
   voted least nodes families made stand is = record {
     of_tree = of_votes tree least families made (all_of_tree tree nodes families stand) is;
-    hit =
+    some_within =
         λ within. some_within-votes least families made within is
         ∙ ap (nat_le least) (count_hit tree within nodes families stand);
   }
 
   first : (nodes : List ℕ) (families : List (List (List ℕ))) (made : List (List ℕ))
-      → StandFor (Generates tree) nodes families → IsMadeBy (first_alone families) made
+      → StandFor (IsFamilyFor tree) nodes families → IsMadeBy (first_alone families) made
       → IsTrueWhere tree (λ within. first_reads (reads tree within) nodes) made
   first [] [] made stand same =
-      record { of_tree = subst (IsFamilyOf tree) (sym same) (of_none tree); hit = λ within. ap (hit_by within) same }
+      record {
+        of_tree = subst (IsFamilyOf tree) (sym same) (of_none tree);
+        some_within = λ within. ap (hit_by within) same;
+      }
   first [] (family ∷ families) made stand is = absurd stand
   first (node ∷ nodes) [] made stand is = absurd stand
   first (node ∷ nodes) (family ∷ families) made stand same = record {
     of_tree = subst (IsFamilyOf tree) (sym same) stand.0.of_tree;
-    hit = λ within. ap (hit_by within) same ∙ stand.0.hit within;
+    some_within = λ within. ap (hit_by within) same ∙ stand.0.some_within within;
   }
 
   never : (made : List (List ℕ)) → made ≡ [] → IsTrueWhere tree (λ within. false) made
   never made same =
-      record { of_tree = subst (IsFamilyOf tree) (sym same) (of_none tree); hit = λ within. ap (hit_by within) same }
+      record {
+        of_tree = subst (IsFamilyOf tree) (sym same) (of_none tree);
+        some_within = λ within. ap (hit_by within) same;
+      }
 
   gate : (kind : GateKind) (nodes : List ℕ) (families : List (List (List ℕ))) (made : List (List ℕ))
-      → StandFor (Generates tree) nodes families → IsMadeBy (gate_recipe kind families) made
+      → StandFor (IsFamilyFor tree) nodes families → IsMadeBy (gate_recipe kind families) made
       → IsTrueWhere tree (λ within. gate_reads kind (reads tree within) nodes) made
   gate And nodes families made stand is = multiplied nodes families made stand is
   gate Or nodes families made stand is = united nodes families made stand is
@@ -290,12 +299,12 @@ module _ (tree : FaultTree) where
   alone_hit false l = refl
 
   unit : (node : ℕ) (nodes : List ℕ) (families : List (List (List ℕ))) (made : List (List ℕ)) → IsUnitOf tree node
-      → StandFor (Generates tree) nodes families → IsUnionOfAll (alone node) families made
+      → StandFor (IsFamilyFor tree) nodes families → IsUnionOfAll (alone node) families made
       → IsTrueWhere tree (λ within. within node || list_any (reads tree within) nodes) made
   unit node nodes families made is_unit stand is = record {
     of_tree =
         of_unions tree (alone node) families made (of_alone node is_unit) (all_of_tree tree nodes families stand) is;
-    hit = λ within.
+    some_within = λ within.
         some_within-unions within (alone node) families made is
         ∙ ap (λ b. some_within (alone node) within || b) (some_hit tree within nodes families stand)
         ∙ alone_hit (within node) (list_any (reads tree within) nodes);
@@ -304,12 +313,12 @@ module _ (tree : FaultTree) where
   -- ---- nodes
 
   module _ (kept : IsTree tree) (node : ℕ) (is_node : IsNodeOf tree node) (families : List (List (List ℕ)))
-      (made : List (List ℕ)) (stand : StandFor (Generates tree) (below tree node) families)
+      (made : List (List ℕ)) (stand : StandFor (IsFamilyFor tree) (below tree node) families)
       (is : IsMadeBy (node_recipe tree node families) made) where
-    gate_made : is_above_units tree node ≡ true → Generates tree node made
+    gate_made : is_above_units tree node ≡ true → IsFamilyFor tree node made
     gate_made above =
-        let stand' : StandFor (Generates tree) (inputs_of tree node) families =
-        subst (λ (q : List ℕ). StandFor (Generates tree) q families)
+        let stand' : StandFor (IsFamilyFor tree) (inputs_of tree node) families =
+        subst (λ (q : List ℕ). StandFor (IsFamilyFor tree) q families)
         (cond-true (is_above_units tree node) (inputs_of tree node) (triggers_of tree node) above) stand in
         let is' : IsMadeBy (gate_recipe (kind_of tree node) families) made =
         subst (λ (q : Recipe). IsMadeBy q made) (cond-true (is_above_units tree node)
@@ -317,15 +326,15 @@ module _ (tree : FaultTree) where
         let here = gate (kind_of tree node) (inputs_of tree node) families made stand' is' in
         record {
           of_tree = here.of_tree;
-          hit =
-              λ within. here.hit within ∙ sym (reads-node tree kept within node is_node
+          some_within =
+              λ within. here.some_within within ∙ sym (reads-node tree kept within node is_node
               ∙ cond-true (is_above_units tree node) _ _ above);
         }
 
-    unit_made : is_above_units tree node ≡ false → Generates tree node made
+    unit_made : is_above_units tree node ≡ false → IsFamilyFor tree node made
     unit_made low =
-        let stand' : StandFor (Generates tree) (triggers_of tree node) families =
-        subst (λ (q : List ℕ). StandFor (Generates tree) q families)
+        let stand' : StandFor (IsFamilyFor tree) (triggers_of tree node) families =
+        subst (λ (q : List ℕ). StandFor (IsFamilyFor tree) q families)
         (cond-false (is_above_units tree node) (inputs_of tree node) (triggers_of tree node) low) stand in
         let is' : IsUnionOfAll (alone node) families made =
         subst (λ (q : Recipe). IsMadeBy q made) (cond-false (is_above_units tree node)
@@ -335,14 +344,14 @@ module _ (tree : FaultTree) where
         is' in
         record {
           of_tree = here.of_tree;
-          hit =
-              λ within. here.hit within ∙ sym (reads-node tree kept within node is_node
+          some_within =
+              λ within. here.some_within within ∙ sym (reads-node tree kept within node is_node
               ∙ cond-false (is_above_units tree node) _ _ low);
         }
 
     -- what a node's recipe makes generates the node, where the families of what it reads do
-    pub Generates-made : Generates tree node made
-    Generates-made =
+    pub IsFamilyFor-made : IsFamilyFor tree node made
+    IsFamilyFor-made =
         elim (cases_Bool (is_above_units tree node)) [
           | inl above ↦ gate_made above
           | inr low ↦ unit_made low

@@ -23,7 +23,7 @@ use Rattle.tree_families.specs.Recipe.{alone, node_recipe, StandFor}
 use Rattle.tree_families.specs.Due.{IsDueToTree, one_unit, one_node}
 use Rattle.tree_families.specs.Generation.{IsFamilyOf}
 use Rattle.tree_families.proofs.CutFamilies.{cut_family-one}
-use Rattle.tree_families.proofs.FailingSets.{Generates-cut_family}
+use Rattle.tree_families.proofs.FailingSets.{IsFamilyFor-cut_family}
 use Rattle.tree_families.proofs.Steps.{of_alone}
 use Rattle.tree_families.proofs.Building.{recipe-cut_family}
 use Rattle.family_parts.specs.Spans.{Spans}
@@ -52,7 +52,7 @@ all_span tree kept [] [] are stand = tt
 all_span tree kept [] (family ∷ families) are stand = absurd stand
 all_span tree kept (node ∷ nodes) [] are stand = tt
 all_span tree kept (node ∷ nodes) (family ∷ families) are stand = (
-  Spans-of_tree tree family (Generates-cut_family tree kept node (are node (Contains-cons_first node nodes)) family
+  Spans-of_tree tree family (IsFamilyFor-cut_family tree kept node (are node (Contains-cons_first node nodes)) family
       stand.0).of_tree,
   all_span tree kept nodes families (λ n has. are n (Contains-cons_other node n nodes has)) stand.1,
 )

@@ -46,6 +46,7 @@ pub record IsDueToNode (tree : FaultTree) (node : ℕ) (due : List (List ℕ)) :
   pub cut_families : StandFor (IsCutFamily tree) (below tree node) families
   pub is : IsDueToRecipe (node_recipe tree node families) due
 
+-- the family of a unit of the tree alone, or one that is due to a node of the tree
 pub data IsDueToTree (tree : FaultTree) : List (List ℕ) → Type 0 where
   one_unit : {unit : ℕ} → IsUnitOf tree unit → IsDueToTree tree (alone unit)
   one_node : {node : ℕ} {due : List (List ℕ)} → IsDueToNode tree node due → IsDueToTree tree due

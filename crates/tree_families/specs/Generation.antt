@@ -10,11 +10,12 @@ pub record IsFamilyOf (tree : FaultTree) (family : List (List ℕ)) : Type 0 whe
   pub is_family : IsFamily family
   pub units : (set : List ℕ) → Contains family set → (unit : ℕ) → among set unit ≡ true → IsUnitOf tree unit
 
+-- each family of the list has sets with units of the tree alone
 abbrev pub AreFamiliesOf : FaultTree → List (List (List ℕ)) → Type 0
 AreFamiliesOf tree [] = Unit {0}
 AreFamiliesOf tree (family ∷ families) = IsFamilyOf tree family × AreFamiliesOf tree families
 
--- it is true exactly where the node reads failed
-pub record Generates (tree : FaultTree) (node : ℕ) (family : List (List ℕ)) : Type 0 where
+-- a family of the tree's units: a set of units includes a set of it exactly where the node reads failed
+pub record IsFamilyFor (tree : FaultTree) (node : ℕ) (family : List (List ℕ)) : Type 0 where
   pub of_tree : IsFamilyOf tree family
-  pub hit : (within : ℕ → Bool) → some_within family within ≡ reads tree within node
+  pub some_within : (within : ℕ → Bool) → some_within family within ≡ reads tree within node

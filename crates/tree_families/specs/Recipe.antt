@@ -20,17 +20,20 @@ pub data Recipe : Type 0 where
 
 -- ---- what a recipe makes
 
+-- the first family, united with each of the others in turn
 abbrev pub IsUnionOfAll : List (List ℕ) → List (List (List ℕ)) → List (List ℕ) → Type 0
 IsUnionOfAll first [] made = made ≡ first
 IsUnionOfAll first (family ∷ others) made =
     (union : List (List ℕ)) × IsUnion first family union × IsUnionOfAll union others made
 
+-- the first family, multiplied with each of the others in turn, of each product the minimal sets alone
 abbrev pub IsProductOfAll : List (List ℕ) → List (List (List ℕ)) → List (List ℕ) → Type 0
 IsProductOfAll first [] made = made ≡ first
 IsProductOfAll first (family ∷ others) made =
     (product : List (List ℕ)) × (least : List (List ℕ)) × IsProduct first family product × IsMinimal product least
     × IsProductOfAll least others made
 
+-- what the recipe makes of its families
 abbrev pub IsMadeBy : Recipe → List (List ℕ) → Type 0
 IsMadeBy (unions first others) made = IsUnionOfAll first others made
 IsMadeBy (products first others) made = IsProductOfAll first others made
@@ -44,6 +47,7 @@ abbrev pub all_united : List (List (List ℕ)) → Recipe
 all_united [] = unions [] []
 all_united (first ∷ others) = unions first others
 
+-- the product of all the families, which of none has the empty set alone
 abbrev pub all_multiplied : List (List (List ℕ)) → Recipe
 all_multiplied [] = products ([] ∷ []) []
 all_multiplied (first ∷ others) = products first others

@@ -19,7 +19,7 @@ ghost use Rattle.family_operations.specs.Product.{IsProduct};
 ghost use Rattle.family_operations.specs.Union.{IsUnion};
 ghost use Rattle.tree_families.specs.Due.{IsDueToUnions, IsDueToProducts, IsDueToRecipe, IsDueToTree};
 ghost use Rattle.tree_families.specs.Examples.{superset_absorbed, two_of_three};
-ghost use Rattle.tree_families.specs.Generation.{AreFamiliesOf, Generates, IsFamilyOf};
+ghost use Rattle.tree_families.specs.Generation.{AreFamiliesOf, IsFamilyFor, IsFamilyOf};
 ghost use Rattle.tree_families.specs.Recipe.{IsMadeBy, IsProductOfAll, IsUnionOfAll, StandFor, alone, gate_recipe};
 ghost use Rattle.tree_families.specs.Recipe.{needs_all, node_recipe, unions};
 
@@ -31,10 +31,10 @@ pub fn one_cut_family()
 
 /// The minimal sets of any family that generates a node are the node's cut family, and generate it too.
 pub fn minimal_sets_of_a_generating_family()
-    ensures cut_family { (tree : FaultTree) (node : ℕ) (f least : List (List ℕ)) → Generates tree node f
+    ensures cut_family { (tree : FaultTree) (node : ℕ) (f least : List (List ℕ)) → IsFamilyFor tree node f
         → IsMinimal f least → IsCutFamily tree node least }
-    ensures generates { (tree : FaultTree) (node : ℕ) (f least : List (List ℕ)) → Generates tree node f
-        → IsMinimal f least → Generates tree node least }
+    ensures generates { (tree : FaultTree) (node : ℕ) (f least : List (List ℕ)) → IsFamilyFor tree node f
+        → IsMinimal f least → IsFamilyFor tree node least }
 {}
 
 /// The cut family of the top event has exactly the minimal cuts, so a list of its sets in the order of
@@ -55,7 +55,7 @@ pub fn cut_families_lack_the_empty_set()
 /// The cut family of a node generates it: each set of units that fails the node includes one of its sets.
 pub fn cut_families_generate()
     ensures { (tree : FaultTree) → IsTree tree → (node : ℕ) → IsNodeOf tree node → (family : List (List ℕ))
-        → IsCutFamily tree node family → Generates tree node family }
+        → IsCutFamily tree node family → IsFamilyFor tree node family }
 {}
 
 /// The recipe of a node, followed to its end from the cut families of what the node reads, gives the
@@ -74,7 +74,7 @@ pub fn building_gives_cut_families()
     ensures generates { (tree : FaultTree) → IsTree tree → (node : ℕ) → IsNodeOf tree node
         → (families : List (List (List ℕ))) (made : List (List ℕ))
         → StandFor (IsCutFamily tree) (below tree node) families → IsMadeBy (node_recipe tree node families) made
-        → Generates tree node made }
+        → IsFamilyFor tree node made }
 {}
 
 /// What is due to the recipe of a unit or of a gate, from the cut families of what it reads, is due to

@@ -23,8 +23,8 @@ use Rattle.family_memory.specs.Memory.{Gave, Held, Has, RanOut, Went, IsSound, f
 use Rattle.family_memory.proofs.After.{still, still_has}
 use Rattle.many_families.specs.Lists.{families}
 use Rattle.tree_families.proofs.CutFamilies.{cut_family-minimal, cut_family-one}
-use Rattle.tree_families.proofs.FailingSets.{Generates-cut_family}
-use Rattle.tree_families.specs.Generation.{Generates}
+use Rattle.tree_families.proofs.FailingSets.{IsFamilyFor-cut_family}
+use Rattle.tree_families.specs.Generation.{IsFamilyFor}
 use Rattle.tree_families.specs.Recipe.{StandFor}
 use Rattle.tree_families.proofs.TreeParts.{Spans-of_tree}
 use Rattle.zdd_build.proofs.OwnReferences.{AreRead}
@@ -34,7 +34,7 @@ use Rattle.zdd_build.proofs.OwnReferences.{AreRead}
 pub cut_family_antichain : (tree : FaultTree) → IsTree tree → (node : ℕ) → IsNodeOf tree node → (family : List (List ℕ))
     → IsCutFamily tree node family → IsAntichain family
 cut_family_antichain tree kept node is_node family is =
-    let generates : Generates tree node family = Generates-cut_family tree kept node is_node family is in
+    let generates : IsFamilyFor tree node family = IsFamilyFor-cut_family tree kept node is_node family is in
     let found : HasLeast 0 (unit_count tree) family =
     minimal-exists (unit_count tree) 0 family (Spans-of_tree tree family generates.of_tree) in
     let same : found.least ≡ family =

@@ -9,6 +9,7 @@ use Rattle.zdd_build.specs.declared.places.Place.{Place}
 abbrev pub place_at : List Place → ℕ → Place
 place_at places k = slice_index_or places k (record { rank = 0; node = 0 })
 
+-- the number of the node at a place
 abbrev pub node_at : List Place → ℕ → ℕ
 node_at places k = (place_at places k).node
 

@@ -59,6 +59,7 @@ abbrev pub IsFound : (ℕ → ℕ) → FaultTree → List Place → Finding → 
 IsFound known tree places finding =
     (finding.place < length places) × KnowsOne known finding.family (IsCutFamily tree (node_at places finding.place))
 
+-- each finding is the known cut family of the node at its place
 abbrev pub AreFound : (ℕ → ℕ) → FaultTree → List Place → List Finding → Type 0
 AreFound known tree places findings = All (IsFound known tree places) findings
 

@@ -5,15 +5,19 @@ use Rattle.family_operations.specs.Product.{IsProduct}
 use Rattle.family_operations.specs.Due.{GoesOn, IsInnerFamily, IsDueToUnion, IsDueToProduct, IsDueToWithout}
 use Rattle.family_operations.specs.Due.{IsDueToMinimal}
 
+-- a family that the union of f and g makes on its way, where it is no end
 abbrev pub IsMadeByUnion : List (List ℕ) → List (List ℕ) → List (List ℕ) → Type 0
 IsMadeByUnion f g due = GoesOn f g × IsDueToUnion f g due
 
+-- a family that the product of f and g makes on its way, where it is no end
 abbrev pub IsMadeByProduct : List (List ℕ) → List (List ℕ) → List (List ℕ) → Type 0
 IsMadeByProduct f g due = IsInnerFamily f × IsInnerFamily g × IsDueToProduct f g due
 
+-- a family that taking out of f what includes a set of g makes on its way, where it is no end
 abbrev pub IsMadeByWithout : List (List ℕ) → List (List ℕ) → List (List ℕ) → Type 0
 IsMadeByWithout f g due = IsInnerFamily f × IsInnerFamily g × IsDueToWithout f g due
 
+-- a family that finding the minimal sets of f makes on its way, where it is no end
 abbrev pub IsMadeByMinimal : List (List ℕ) → List (List ℕ) → Type 0
 IsMadeByMinimal f due = IsInnerFamily f × IsDueToMinimal f due
 

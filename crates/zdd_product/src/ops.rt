@@ -1,8 +1,10 @@
 //! The operations' seat and their answers, and the store's calls on that seat.
-ghost use Rattle.std.specs.Prelude.{◌≡◌, ◌≢◌, ◌+◌, ◌-◌, ◌<◌, ◌≤◌, ◌⊎◌, [], ◌∷◌, ◌++◌, IfOk, IfErr, IfSome, MatchResult};
+ghost use Rattle.std.specs.Prelude.{◌≡◌, ◌≢◌, ◌+◌, ◌-◌, ◌<◌, ◌≤◌, [], ◌++◌, IfSome, MatchResult};
 ghost use Rattle.zdd_words.specs.Word.{packed};
 ghost use Rattle.zdd_families.specs.Family.{IsAbove, branch, first_unit, sets_with, sets_without};
 ghost use Rattle.zdd_families.specs.Map.{Knows, KnowsAs, Grown, family};
+ghost use Rattle.zdd_shared_table.specs.Making.{KnowsBranch, LearnsWord, CountsRefused, NotesRefused, PassesSlots};
+ghost use Rattle.zdd_shared_table.specs.Making.{FillsAtMostOne};
 ghost use Rattle.zdd_shared_table.specs.Seats.{IsSoundSeat, map_of};
 ghost use Rattle.zdd_shared_table.specs.Views.{no_probe};
 ghost use Rattle.zdd_product.specs.Seats.{Gave, IsBranch, WasFull};
@@ -90,21 +92,15 @@ impl<'s> Ops<'s> {
         requires lo_above { IsAbove level (family (map_of self.old) lo) }
         requires hi_above { IsAbove level (family (map_of self.old) hi) }
 
-        ensures family { IfOk result (λ r. KnowsAs (map_of self.new) r
-            (branch level (family (map_of self.old) lo) (family (map_of self.old) hi))) }
+        ensures family { KnowsBranch level lo hi result self.old self.new }
         ensures keeps { Grown (map_of self.old) (map_of self.new) }
-        ensures known { MatchResult result (λ r. self.new.known ≡ self.old.known ++ (r, packed level lo hi) ∷ [])
-            (λ _. self.new.known ≡ self.old.known) }
+        ensures known { LearnsWord (packed level lo hi) result self.old self.new }
 
         // A refused search passed every slot of the store and is counted, and no other is.
-        ensures fulls { MatchResult result (λ _. self.new.fulls ≡ self.old.fulls)
-            (λ _. self.new.fulls ≡ self.old.fulls + 1) }
-        ensures missed { MatchResult result (λ _. self.new.missed ≡ self.old.missed)
-            (λ _. self.new.missed ≡ self.old.missed ++ packed level lo hi ∷ []) }
-        ensures passed { IfErr result (λ _. self.new.probe
-            ≡ record { word = packed level lo hi; passed = self.old.store.words }) }
-        ensures fills { MatchResult result (λ r. (self.new.fills ≡ self.old.fills)
-            ⊎ (self.new.fills ≡ self.old.fills ++ r ∷ [])) (λ _. self.new.fills ≡ self.old.fills) }
+        ensures fulls { CountsRefused result self.old self.new }
+        ensures missed { NotesRefused (packed level lo hi) result self.old self.new }
+        ensures passed { PassesSlots self.old.store.words (packed level lo hi) result self.new }
+        ensures fills { FillsAtMostOne result self.old self.new }
         ensures share { self.new.share ≡ self.old.share }
         ensures store { self.new.store ≡ self.old.store }
         ensures sound { IsSoundSeat self.new }

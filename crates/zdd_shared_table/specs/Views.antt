@@ -3,6 +3,7 @@ use Rattle.std.specs.Prelude.{ℕ, ◌+◌, ◌-◌, ◌==◌, [], ◌∷◌, �
 use Rattle.zdd_shared_table.specs.declared.view.View.{View}
 use Rattle.zdd_shared_table.specs.declared.view.Probe.{Probe}
 
+-- no search goes on
 abbrev pub no_probe : Probe
 no_probe = record { word = 0; passed = 0 }
 
@@ -51,6 +52,7 @@ exchanged word before slot found v =
 abbrev pub kept_back : ℕ → View → View
 kept_back share v = record v { share = v.share - share }
 
+-- the new seat, with the share that was asked for and counts of its own
 abbrev pub split_off : ℕ → View → View
 split_off share v = record v { fulls = 0; missed = []; fills = []; share = share; probe = no_probe }
 

@@ -1,9 +1,11 @@
 //! The store of nodes that threads share.
-ghost use Rattle.std.specs.Prelude.{◌≡◌, ◌≢◌, ◌+◌, ◌-◌, ◌<◌, ◌≤◌, ◌^◌, ◌↔◌, ◌⊎◌, [], ◌∷◌, ◌++◌, IfOk, IfErr};
-ghost use Rattle.std.specs.Prelude.{MatchResult, IsTrue};
+ghost use Rattle.std.specs.Prelude.{◌≡◌, ◌≢◌, ◌+◌, ◌-◌, ◌<◌, ◌≤◌, ◌^◌, ◌↔◌, [], ◌++◌, IfOk};
+ghost use Rattle.std.specs.Prelude.{IsTrue};
 ghost use Rattle.zdd_words.specs.Word.{packed};
 ghost use Rattle.zdd_families.specs.Family.{IsAbove, branch, first_unit, sets_with, sets_without};
 ghost use Rattle.zdd_families.specs.Map.{Knows, KnowsAs, Grown, family};
+ghost use Rattle.zdd_shared_table.specs.Making.{KnowsBranch, LearnsWord, CountsRefused, NotesRefused, PassesSlots};
+ghost use Rattle.zdd_shared_table.specs.Making.{FillsAtMostOne};
 ghost use Rattle.zdd_shared_table.specs.Seats.{IsSoundSeat, map_of};
 ghost use Rattle.zdd_shared_table.specs.Views.{no_probe, kept_back, split_off};
 
@@ -87,21 +89,15 @@ impl NodeStore {
         requires lo_above { IsAbove level (family (map_of seat.old) lo) }
         requires hi_above { IsAbove level (family (map_of seat.old) hi) }
 
-        ensures family { IfOk result (λ r. KnowsAs (map_of seat.new) r
-            (branch level (family (map_of seat.old) lo) (family (map_of seat.old) hi))) }
+        ensures family { KnowsBranch level lo hi result seat.old seat.new }
         ensures keeps { Grown (map_of seat.old) (map_of seat.new) }
-        ensures known { MatchResult result (λ r. seat.new.known ≡ seat.old.known ++ (r, packed level lo hi) ∷ [])
-            (λ _. seat.new.known ≡ seat.old.known) }
+        ensures known { LearnsWord (packed level lo hi) result seat.old seat.new }
 
         // A refused search passed every slot of the store and is counted, and no other is.
-        ensures fulls { MatchResult result (λ _. seat.new.fulls ≡ seat.old.fulls)
-            (λ _. seat.new.fulls ≡ seat.old.fulls + 1) }
-        ensures missed { MatchResult result (λ _. seat.new.missed ≡ seat.old.missed)
-            (λ _. seat.new.missed ≡ seat.old.missed ++ packed level lo hi ∷ []) }
-        ensures passed { IfErr result (λ _. seat.new.probe
-            ≡ record { word = packed level lo hi; passed = self.now.words }) }
-        ensures fills { MatchResult result (λ r. (seat.new.fills ≡ seat.old.fills)
-            ⊎ (seat.new.fills ≡ seat.old.fills ++ r ∷ [])) (λ _. seat.new.fills ≡ seat.old.fills) }
+        ensures fulls { CountsRefused result seat.old seat.new }
+        ensures missed { NotesRefused (packed level lo hi) result seat.old seat.new }
+        ensures passed { PassesSlots self.now.words (packed level lo hi) result seat.new }
+        ensures fills { FillsAtMostOne result seat.old seat.new }
         ensures share { seat.new.share ≡ seat.old.share }
         ensures store { seat.new.store ≡ seat.old.store }
         ensures sound { IsSoundSeat seat.new }

@@ -3,5 +3,5 @@ use Rattle.minimal_families.proofs.LeastLemmas.{least-one, IsLeastFor-itself}
 use Rattle.minimal_families.proofs.laws.sets_within_tell_a_minimal_family.Goals as goal
 
 pub returns : goal.returns
-returns c = λ f g is is' same. least-one (some_within g) f g (record { antichain = is; hit = same })
+returns c = λ f g is is' same. least-one (some_within g) f g (record { antichain = is; some_within = same })
     (IsLeastFor-itself g is')
