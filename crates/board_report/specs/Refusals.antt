@@ -14,6 +14,7 @@ use Rattle.board_report.specs.declared.fault.DeckFault.{DeckFault}
 use Rattle.board_report.specs.declared.notice.Notice.{Notice}
 use Rattle.board_report.specs.declared.notice.Notice.TheVariants.{Usage, ReadFault, TooLong, ListLimit, OrderLimit}
 
+-- a fault of the tokens: its code, `L1` to `L5`, and what it is
 abbrev pub lex_text : LexCode → List ℕ
 lex_text lex.BadByte = codes "L1 bad byte"
 lex_text lex.OpenQuote = codes "L2 open quote"
@@ -21,6 +22,7 @@ lex_text lex.OpenComment = codes "L3 open comment"
 lex_text lex.EmptyName = codes "L4 empty name"
 lex_text lex.NameTooLong = codes "L5 name too long"
 
+-- a fault of the grammar: its code, `P1`, and what is expected there
 abbrev pub what_text : What → List ℕ
 what_text what.Statement = codes "P1 expected statement"
 what_text what.Name = codes "P1 expected name"
@@ -31,6 +33,7 @@ what_text what.Input = codes "P1 expected input"
 what_text what.Value = codes "P1 expected value"
 what_text what.Attribute = codes "P1 expected attribute"
 
+-- a fault of the statements: its code, `C1` to `C16`, and what it is
 abbrev pub check_text : CheckCode → List ℕ
 check_text check.NoToplevel = codes "C1 no toplevel"
 check_text check.TwoToplevels = codes "C2 two toplevels"
@@ -49,6 +52,7 @@ check_text check.Cycle = codes "C14 cycle"
 check_text check.TooManyUnits = codes "C15 too many units"
 check_text check.TooManyGates = codes "C16 too many gates"
 
+-- a fault of the crew part: its code, `S1` to `S6`, and what it is
 abbrev pub crew_text : CrewCode → List ℕ
 crew_text crew.NoCrewPart = codes "S1 no crew part"
 crew_text crew.BadLine = codes "S2 bad line"
@@ -57,6 +61,7 @@ crew_text crew.RequestBeforeCrew = codes "S4 request before crew"
 crew_text crew.TooManyCrews = codes "S5 too many crews"
 crew_text crew.TooManyRequests = codes "S6 too many requests"
 
+-- a fault of a deck, whichever part has it: its code and what it is
 abbrev pub code_text : FaultCode → List ℕ
 code_text (Lex code) = lex_text code
 code_text (Expected wanted) = what_text wanted
@@ -70,6 +75,7 @@ fault_line fault =
     ++ decimal fault.place.column
     ++ codes "\n"
 
+-- the usage line, or the line of a refusal that has no place in the deck
 abbrev pub notice_line : Notice → List ℕ
 notice_line Usage =
     codes

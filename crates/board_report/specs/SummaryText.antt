@@ -60,6 +60,7 @@ decided_line history =
 
 -- ---- all of it
 
+-- four lines: how large the tree is, cut sets and listed orders, requests by their replies, how many units are out
 abbrev pub summary_text : ℕ → FaultTree → List (Option (List (List ℕ))) → BoardView → List ℕ
 summary_text number tree orders board =
     made_line number (unit_count tree) (gate_count tree)

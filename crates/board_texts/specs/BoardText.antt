@@ -28,6 +28,7 @@ margin_line margin = codes "margin: " ++ (decimal margin ++ codes "\n")
 
 -- ---- the margin at the end
 
+-- a request is the wish for a margin
 abbrev pub is_margin : Request → Bool
 is_margin (Take asked) = false
 is_margin (Return unit) = false
@@ -80,6 +81,7 @@ left_lines out number (cut ∷ cuts) = left_line number (residual out cut) (leng
 abbrev pub end_text : FaultTree → List Crew → StandingView → List ℕ
 end_text tree crews standing = out_text tree crews standing.held ++ left_lines (units_out standing.held) 1 standing.cuts
 
+-- the opening margin, the log, the margin now, where one was granted, the units out, and what is left of each cut set
 abbrev pub board_text : FaultTree → BoardView → List ℕ
 board_text tree board =
     margin_line board.deck.opening.margin

@@ -22,6 +22,7 @@ ask_text (Take names) = codes " take" ++ flat_map named names
 ask_text (Return name) = codes " return" ++ named name
 ask_text (Margin number) = codes " margin " ++ decimal number
 
+-- `granted`, `denied, cut K`, or a named error, `E1` to `E5`, where a unit is held with the name of its holder
 abbrev pub reply_text : List Crew → Reply → List ℕ
 reply_text crews Granted = codes "granted"
 reply_text crews (Denied number) = codes "denied, cut " ++ decimal number

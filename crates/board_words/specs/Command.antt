@@ -10,15 +10,19 @@ use Rattle.board_words.specs.Options.{is_same, are_options, value_of, number_sai
 
 -- ---- the options of each command
 
+-- `cuts` has the options `--most` and `--workers`
 abbrev pub cuts_options : List (List ℕ)
 cuts_options = codes "--most" ∷ codes "--workers" ∷ []
 
+-- `board` has the options `--margin`, `--most` and `--workers`
 abbrev pub board_options : List (List ℕ)
 board_options = codes "--margin" ∷ codes "--most" ∷ codes "--workers" ∷ []
 
+-- `diagram` has the option `--workers`
 abbrev pub diagram_options : List (List ℕ)
 diagram_options = codes "--workers" ∷ []
 
+-- `make` has the options `--number` and `--show`
 abbrev pub make_options : List (List ℕ)
 make_options = codes "--number" ∷ codes "--show" ∷ []
 
@@ -46,26 +50,31 @@ show_said None = Some Summary
 show_said (Some value) =
     if is_same value (codes "deck") then Some Deck else (if is_same value (codes "summary") then Some Summary else None)
 
+-- what `--show` says: `deck` or `summary`, and a summary where it isn't said
 abbrev pub show_in : List (List ℕ) → Option Show
 show_in options = show_said (value_of (codes "--show") options)
 
 -- ---- commands with what their options say, where each says something
 
+-- `cuts` with the most members of a listed set and the number of workers, where both are sound
 abbrev pub cuts_with : Option ℕ → Option ℕ → Option Command
 cuts_with None workers = None
 cuts_with (Some most) None = None
 cuts_with (Some most) (Some workers) = Some (Cuts most workers)
 
+-- `board` with the opening margin, the most members of a listed set and the number of workers, where all are sound
 abbrev pub board_with : Option ℕ → Option ℕ → Option ℕ → Option Command
 board_with None most workers = None
 board_with (Some margin) None workers = None
 board_with (Some margin) (Some most) None = None
 board_with (Some margin) (Some most) (Some workers) = Some (Board margin most workers)
 
+-- `diagram` with the number of workers, where that is sound
 abbrev pub diagram_with : Option ℕ → Option Command
 diagram_with None = None
 diagram_with (Some workers) = Some (Diagram workers)
 
+-- `make` with the number of the made deck and what is to be shown of it, where both are sound
 abbrev pub make_with : Option ℕ → Option Show → Option Command
 make_with None show = None
 make_with (Some number) None = None
@@ -77,16 +86,20 @@ make_with (Some number) (Some show) = Some (Make number show)
 abbrev pub if_options : List (List ℕ) → List (List ℕ) → Option Command → Option Command
 if_options known options command = if are_options known options then command else None
 
+-- the command `cuts` with these options, where they are such and what they say is sound
 abbrev pub cuts_of : List (List ℕ) → Option Command
 cuts_of options = if_options cuts_options options (cuts_with (most_in options) (workers_in options))
 
+-- the command `board` with these options, where they are such and what they say is sound
 abbrev pub board_of : List (List ℕ) → Option Command
 board_of options =
     if_options board_options options (board_with (margin_in options) (most_in options) (workers_in options))
 
+-- the command `diagram` with these options, where they are such and what they say is sound
 abbrev pub diagram_of : List (List ℕ) → Option Command
 diagram_of options = if_options diagram_options options (diagram_with (workers_in options))
 
+-- the command `make` with these options, where they are such and what they say is sound
 abbrev pub make_of : List (List ℕ) → Option Command
 make_of options = if_options make_options options (make_with (number_in options) (show_in options))
 
@@ -95,6 +108,7 @@ abbrev pub if_alone : Command → List (List ℕ) → Option Command
 if_alone command [] = Some command
 if_alone command (option ∷ options) = None
 
+-- the command that the words of a command line say; none where they are no spelling of one
 abbrev pub command_of : List (List ℕ) → Option Command
 command_of [] = None
 command_of (first ∷ options) =

@@ -10,6 +10,7 @@ use Rattle.board_words.specs.Command.{cuts_options, board_options, diagram_optio
 
 -- ---- options with their values
 
+-- an option, and the value that is written behind it
 pub record Said : Type 0 where
   pub option : List ℕ
   pub value : List ℕ

@@ -32,6 +32,7 @@ HasMargin (Take names) = Unit {0}
 HasMargin (Return name) = Unit {0}
 HasMargin (Margin number) = number ≤ GREATEST_MARGIN
 
+-- no request of the crew is for a margin above the greatest
 abbrev pub HasMargins : Crew → Type 0
 HasMargins crew = All HasMargin crew.docket
 

@@ -15,11 +15,13 @@ use Rattle.crew_script.specs.declared.dockets.Ask.TheVariants.{Take, Return, Mar
 use Rattle.crew_script.specs.declared.line.Line.{Line}
 use Rattle.crew_script.specs.declared.line.Line.TheVariants.{Nothing, Crew, Request, Bad}
 
+-- a word that does not begin with a quotation mark
 abbrev pub is_bare_kind : WordKind → Bool
 is_bare_kind Bare = true
 is_bare_kind Quoted = false
 is_bare_kind Broken = false
 
+-- a word between two quotation marks, with a blank or the line's end behind the second
 abbrev pub is_quoted_kind : WordKind → Bool
 is_quoted_kind Bare = false
 is_quoted_kind Quoted = true
@@ -34,6 +36,7 @@ is_name_word word = is_name word.text && (is_quoted_kind word.kind
 abbrev pub says : Word → List ℕ → Bool
 says word form = is_bare_kind word.kind && str_eq_ignore_ascii_case word.text form
 
+-- a text whose first byte is `#`
 abbrev pub begins_comment : List ℕ → Bool
 begins_comment [] = false
 begins_comment (byte ∷ bytes) = byte == 35
@@ -51,6 +54,7 @@ margin_of text =
 
 -- ---- forms
 
+-- the name that a word says, where it has the form of a name
 abbrev pub name_in : Word → Option (List ℕ)
 name_in word = if is_name_word word then Some word.text else None
 
@@ -66,14 +70,17 @@ only_margin [] = None
 only_margin (word ∷ []) = if is_bare_kind word.kind then margin_of word.text else None
 only_margin (word ∷ next ∷ rest) = None
 
+-- what a `crew` line says: that a crew of this name begins; the line is bad without one name
 abbrev pub crew_line : Option (List ℕ) → Line
 crew_line None = Bad
 crew_line (Some name) = Crew name
 
+-- what a `return` line says: the return of the unit of this name; the line is bad without one name
 abbrev pub return_line : Option (List ℕ) → Line
 return_line None = Bad
 return_line (Some name) = Request (Return name)
 
+-- what a `margin` line says: the wish for this margin; the line is bad without one margin
 abbrev pub margin_line : Option ℕ → Line
 margin_line None = Bad
 margin_line (Some number) = Request (Margin number)

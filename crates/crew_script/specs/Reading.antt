@@ -3,6 +3,7 @@ use Rattle.std.specs.Prelude.{◌≡◌, ℕ, List, [], ◌∷◌, ◌++◌, Opt
 use Rattle.crew_script.specs.declared.dockets.Crew.{Crew}
 use Rattle.crew_script.specs.Dockets.{IsDockets, names_of, request_count}
 
+-- all crews so far, in order: the closed ones, and behind them the last one, where there is one
 abbrev pub joined : List Crew → Option Crew → List Crew
 joined closed None = closed
 joined closed (Some crew) = closed ++ crew ∷ []

@@ -19,9 +19,11 @@ pub record Word : Type 0 where
   pub kind : WordKind
   pub text : List ℕ
 
+-- a word that stands without quotation marks, of these bytes
 abbrev pub bare : List ℕ → Word
 bare text = record { kind = Bare; text = text }
 
+-- a word that stands in quotation marks, with these bytes between them
 abbrev pub quoted : List ℕ → Word
 quoted text = record { kind = Quoted; text = text }
 

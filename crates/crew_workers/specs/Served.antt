@@ -11,6 +11,7 @@ docket_size pass = length (docket_of pass.board.deck.dockets pass.crew.0)
 abbrev pub IsServed : Pass → Type 0
 IsServed pass = length pass.made ≡ docket_size pass
 
+-- with each of the passes all requests of its crew were made
 abbrev pub AreServed : List Pass → Type 0
 AreServed passes = All IsServed passes
 

@@ -25,6 +25,7 @@ abbrev pub order_count : Option (List (List ℕ)) → ℕ
 order_count None = 0
 order_count (Some orders) = length orders
 
+-- how many orders are listed over all sets; a set that is not listed adds none
 abbrev pub order_total : List (Option (List (List ℕ))) → ℕ
 order_total [] = 0
 order_total (orders ∷ lists) = order_count orders + order_total lists
@@ -37,6 +38,7 @@ order_limit = ORDER_LIMIT
 abbrev pub is_listed : List (Option (List (List ℕ))) → ℕ → Bool
 is_listed lists i = is_some (slice_index_or lists i None)
 
+-- the orders that are listed for the set of a place; none where it is not listed
 abbrev pub orders_at : List (Option (List (List ℕ))) → ℕ → List (List ℕ)
 orders_at lists i = unwrap_or (slice_index_or lists i None) []
 

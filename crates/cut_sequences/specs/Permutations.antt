@@ -16,6 +16,7 @@ arrangements (suc others) units =
     flat_map (λ (pick : ℕ × List ℕ). map (λ (order : List ℕ). pick.0 ∷ order) (arrangements others pick.1))
     (picks units)
 
+-- all orders of some units
 abbrev pub permutations : List ℕ → List (List ℕ)
 permutations units = arrangements (length units) units
 

@@ -63,6 +63,7 @@ cut_blocks tree number (listed ∷ more) = cut_block tree number listed.0 listed
 abbrev pub orders_in : List Listed → List (Option (List (List ℕ)))
 orders_in cuts = map (λ (listed : Listed). listed.1) cuts
 
+-- the whole text: the tree, how many cut sets and listed orders there are, and each cut set, from 1 on, with its orders
 abbrev pub cuts_text : FaultTree → List Listed → List ℕ
 cuts_text tree cuts = tree_line tree ++ (count_line (length cuts) (order_total (orders_in cuts))
     ++ cut_blocks tree 1 cuts)

@@ -17,5 +17,6 @@ member_count cuts = sum_by (λ cut. length cut) cuts
 abbrev pub sizes_text : ℕ → ℕ → List ℕ
 sizes_text cuts members = codes "cuts: " ++ (decimal cuts ++ (codes "\nmembers: " ++ (decimal members ++ codes "\n")))
 
+-- the whole text: the tree, how its cut sets were found, how many they are, and how many members they have in all
 abbrev pub diagram_text : FaultTree → List (List ℕ) → Option ℕ → List ℕ
 diagram_text tree cuts nodes = tree_line tree ++ (method_text nodes ++ sizes_text (length cuts) (member_count cuts))

@@ -6,6 +6,7 @@ use Rattle.cutset_lists.specs.Sets.{AreSetsOf}
 use Rattle.cutset_lists.specs.Generation.{reading_of}
 use Rattle.unit_sets.specs.UnitList.{some_within}
 
+-- the list for a count of nodes; the empty list, which is never true, where the counts do not go so far
 abbrev pub count_at : List (List (List ℕ)) → ℕ → List (List ℕ)
 count_at counts at = slice_index_or counts at []
 

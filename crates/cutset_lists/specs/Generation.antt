@@ -15,9 +15,11 @@ HasHeavyCutList tree = (cuts : List (List ℕ)) × IsCutList tree cuts × (weigh
 
 -- ---- a list for each node, from 1 on
 
+-- the list of a node, by the node's number from 1; the empty list for a number above all lists
 abbrev pub list_at : List (List (List ℕ)) → ℕ → List (List ℕ)
 list_at lists node = slice_index_or lists (node - 1) []
 
+-- the number is that of a node with a list: from 1 to how many lists there are
 abbrev pub HasList : List (List (List ℕ)) → ℕ → Type 0
 HasList lists node = (1 ≤ node) × (node ≤ length lists)
 
@@ -32,12 +34,15 @@ pub record Follows (lists : List (List (List ℕ))) (rule : (ℕ → Bool) → (
   pub sets : (passes : ℕ → Bool) → All (AreSetsOf passes) lists → AreSetsOf passes made
 
 -- the rules of nodes
+-- all of these nodes read true
 abbrev pub each_rule : List ℕ → (ℕ → Bool) → (ℕ → Bool) → Bool
 each_rule nodes within reading = list_all reading nodes
 
+-- so many positions of these nodes read true, or more
 abbrev pub at_least_rule : ℕ → List ℕ → (ℕ → Bool) → (ℕ → Bool) → Bool
 at_least_rule least nodes within reading = nat_le least (true_count reading nodes)
 
+-- a gate of this kind fails in the static reading, by the readings of its inputs
 abbrev pub gate_rule : GateKind → List ℕ → (ℕ → Bool) → (ℕ → Bool) → Bool
 gate_rule kind inputs within reading = gate_reads kind reading inputs
 
@@ -49,6 +54,7 @@ pub record AddsSome (lists : List (List (List ℕ))) (nodes : List ℕ) (old new
 
 -- ---- the tree
 
+-- whether a number is that of a unit of the tree, from 1 to how many units it has
 abbrev pub is_unit_of : FaultTree → ℕ → Bool
 is_unit_of tree unit = nat_le 1 unit && nat_le unit (unit_count tree)
 

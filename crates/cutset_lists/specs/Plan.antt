@@ -6,9 +6,11 @@ use Rattle.fault_definitions.specs.Reading.{reads}
 use Rattle.cutset_lists.specs.Sets.{AreSetsOf}
 use Rattle.cutset_lists.specs.Generation.{list_at, reading_of, is_unit_of}
 
+-- the end of a node: the place of the order until which the node's list is needed
 abbrev pub until_of : List ℕ → ℕ → ℕ
 until_of until node = slice_index until (node - 1)
 
+-- the number is that of a node with an end: from 1 to how many ends there are
 abbrev pub HasEnd : List ℕ → ℕ → Type 0
 HasEnd until node = (1 ≤ node) × (node ≤ length until)
 
@@ -31,6 +33,7 @@ pub record IsPlanFrom (tree : FaultTree) (order until : List ℕ) (from : ℕ) :
   pub top : length order < until_of until tree.top
   pub served : AreServedFrom tree order until from
 
+-- a plan for the whole order: the top event is needed past its end, and each reader that is needed is served
 abbrev pub IsPlan : FaultTree → List ℕ → List ℕ → Type 0
 IsPlan tree order until = IsPlanFrom tree order until 0
 

@@ -9,6 +9,7 @@ pub record IsSetOf (passes : ℕ → Bool) (set : List ℕ) : Type 0 where
   pub rising : IsRising set
   pub pass : list_all passes set ≡ true
 
+-- each set of a list has only units that pass a test, in rising order
 abbrev pub AreSetsOf : (ℕ → Bool) → List (List ℕ) → Type 0
 AreSetsOf passes sets = All (IsSetOf passes) sets
 

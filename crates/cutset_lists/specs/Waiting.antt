@@ -3,9 +3,11 @@ use Rattle.std.specs.Prelude.{◌≡◌, ℕ, ◌<◌, ◌≤◌, true, List, []
 use Rattle.unit_sets.specs.UnitList.{among}
 use Rattle.cutset_lists.specs.declared.waiting.Waiter.{Waiter}
 
+-- the set at a place of a list; the empty set behind its end
 abbrev pub set_at : List (List ℕ) → ℕ → List ℕ
 set_at sets place = slice_index_or sets place []
 
+-- the waiters that stand at a unit; none where there is no place for the unit
 abbrev pub waiters_at : List (List Waiter) → ℕ → List Waiter
 waiters_at at unit = slice_index_or at unit []
 

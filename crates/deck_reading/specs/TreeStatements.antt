@@ -10,12 +10,15 @@ use Rattle.deck_reading.specs.Written.{InQuotes, Top, Gate, Basic, WrittenName, 
 abbrev pub node_name : FaultTree → ℕ → WrittenName
 node_name tree node = InQuotes (name_of tree node)
 
+-- the statement that says which node is the top event
 abbrev pub top_statement : FaultTree → WrittenStatement
 top_statement tree = Top (node_name tree tree.top)
 
+-- the definition of a gate: its name, its kind, and the names of its inputs from left to right
 abbrev pub gate_statement : FaultTree → ℕ → WrittenStatement
 gate_statement tree gate = Gate (node_name tree gate) (kind_of tree gate) (map (node_name tree) (inputs_of tree gate))
 
+-- the definition of a basic event: its name and its attributes
 abbrev pub unit_statement : FaultTree → ℕ → WrittenStatement
 unit_statement tree unit = Basic (node_name tree unit) (attributes_of tree unit)
 
@@ -23,6 +26,7 @@ unit_statement tree unit = Basic (node_name tree unit) (attributes_of tree unit)
 abbrev pub gate_numbers : FaultTree → List ℕ
 gate_numbers tree = range_with_len (unit_count tree + 1) (gate_count tree)
 
+-- the numbers of the units, from 1 on
 abbrev pub unit_numbers : FaultTree → List ℕ
 unit_numbers tree = range_with_len 1 (unit_count tree)
 

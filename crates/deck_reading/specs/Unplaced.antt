@@ -17,12 +17,15 @@ nowhere = record { line = 0; column = 0 }
 
 -- ---- statements whose places are put aside
 
+-- a name, with its place put aside
 abbrev pub unplaced_name : Placed → Placed
 unplaced_name placed = record { name = placed.name; place = nowhere }
 
+-- an attribute, with the place of its value put aside
 abbrev pub unplaced_attribute : RawAttribute → RawAttribute
 unplaced_attribute raw = record { attribute = raw.attribute; value_place = nowhere }
 
+-- a statement, with all places in it put aside
 abbrev pub unplaced : Statement → Statement
 unplaced (raw.Top top) = raw.Top (record { word = nowhere; name = unplaced_name top.name })
 unplaced (raw.Gate gate) =
@@ -37,12 +40,15 @@ unplaced (raw.Basic basic) =
 
 -- ---- what is written says a statement without places
 
+-- a written name, as it is read but for its place
 abbrev pub named : WrittenName → Placed
 named name = record { name = name_in name; place = nowhere }
 
+-- a written attribute, as it is read but for the place of its value
 abbrev pub attributed : Attribute → RawAttribute
 attributed attribute = record { attribute = attribute; value_place = nowhere }
 
+-- a written statement, as it is read but for its places
 abbrev pub said : WrittenStatement → Statement
 said (Top name) = raw.Top (record { word = nowhere; name = named name })
 said (Gate name kind inputs) =

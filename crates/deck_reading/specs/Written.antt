@@ -26,6 +26,7 @@ abbrev pub name_in : WrittenName → List ℕ
 name_in (Bare name) = name
 name_in (InQuotes name) = name
 
+-- a name as it is written: bare or in quotes
 abbrev pub name_text : WrittenName → List ℕ
 name_text (Bare name) = name
 name_text (InQuotes name) = quoted name
@@ -87,5 +88,6 @@ IsGood (Gate name kind inputs) = (is_good_definition name ≡ true) × HasShortN
     × (list_all is_good_name inputs ≡ true)
 IsGood (Basic name attributes) = (is_good_definition name ≡ true) × (list_all is_good_attribute attributes ≡ true)
 
+-- each statement is good: its names and attributes have their forms, and the numbers of a `KofN` their bound
 abbrev pub AreGood : List WrittenStatement → Type 0
 AreGood statements = All IsGood statements

@@ -4,6 +4,7 @@ use Rattle.std.proofs.Common.{refl}
 use Rattle.margin_policy.specs.declared.asked.AskedUnits.TheInside.{Inside}
 use Rattle.margin_policy.specs.Asked.{HoldsAsked, padded, padded-take, length-asked}
 
+-- the fields of a take made anew from its units: their count, and the places behind them filled with the unit 1
 abbrev pub from_fields : Inside → Inside
 from_fields a = record {
   places = padded (take a.count a.places);

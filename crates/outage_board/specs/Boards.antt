@@ -11,6 +11,7 @@ use Rattle.outage_board.specs.declared.entry.Entry.{Entry}
 use Rattle.outage_board.specs.Requests.{requests_of, supervisor_of}
 use Rattle.outage_board.specs.Histories.{standing_after, IsLegal, IsWholeUpTo, served, docket_of}
 
+-- what a board is opened for: how things stand at first, the crews, and the requests of each crew in order
 pub record Deck : Type 0 where
   -- nothing is out, at the opening margin
   pub opening : StandingView
@@ -32,6 +33,7 @@ deck_of tree cuts crews margin = record {
   dockets = map (requests_of tree) crews;
 }
 
+-- a board: the deck that it was opened for, and the entries that were made on it, in order
 pub record BoardView : Type 0 where
   pub deck : Deck
   pub history : List Entry

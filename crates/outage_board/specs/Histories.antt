@@ -5,6 +5,7 @@ use Rattle.margin_policy.specs.Standing.{StandingView, reply_of, after}
 use Rattle.margin_policy.specs.declared.request.Request.{Request}
 use Rattle.outage_board.specs.declared.entry.Entry.{Entry}
 
+-- the standing after an entry: after the request of its crew with the reply that it got
 abbrev pub after_entry : StandingView → Entry → StandingView
 after_entry standing entry = after standing entry.crew entry.request entry.reply
 

@@ -30,6 +30,7 @@ abbrev pub entries_made : List Made → List Entry
 entries_made [] = []
 entries_made (made ∷ crews) = made.entries
 
+-- the pass of a crew: on the board of this table with the opened deck, and with what was made for its first crew
 abbrev pub pass_of : TableId → View → CrewNo → Pass
 pass_of table v crew = record {
   board = record { table = table; deck = v.opened.deck };

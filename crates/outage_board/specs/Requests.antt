@@ -26,6 +26,7 @@ only_unit tree (Some node) = if nat_le node (unit_count tree) then Some node els
 abbrev pub unit_of : FaultTree → List ℕ → Option ℕ
 unit_of tree name = only_unit tree (unit_from 1 tree.names name)
 
+-- units behind one more unit, where there is one
 abbrev pub with_unit : Option ℕ → List ℕ → List ℕ
 with_unit None units = units
 with_unit (Some unit) units = unit ∷ units
@@ -45,6 +46,7 @@ request_of tree (asks.Take names) = Take record { units = units_of tree names; u
 request_of tree (asks.Return name) = Return (unit_of tree name)
 request_of tree (asks.Margin number) = Margin number
 
+-- the docket of a crew, by the units of the tree
 abbrev pub requests_of : FaultTree → Crew → List Request
 requests_of tree crew = map (request_of tree) crew.docket
 

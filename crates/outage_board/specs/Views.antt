@@ -52,10 +52,12 @@ made_in history crews = map (λ (made : Made). record { crew = made.crew; entrie
 abbrev pub settled : List Entry → View → View
 settled history v = record v { crews = made_in history v.crews; turn = false; taken = [] }
 
+-- the first of some crews alone, with what was made for it; none where there is none
 abbrev pub first_of : List Made → List Made
 first_of [] = []
 first_of (made ∷ crews) = made ∷ []
 
+-- all of some crews but the first, each with what was made for it
 abbrev pub rest_of : List Made → List Made
 rest_of [] = []
 rest_of (made ∷ crews) = crews
@@ -64,6 +66,7 @@ rest_of (made ∷ crews) = crews
 abbrev pub of_first : View → View
 of_first v = record v { crews = first_of v.crews }
 
+-- the pass of all its crews but the first
 abbrev pub of_others : View → View
 of_others v = record v { crews = rest_of v.crews }
 

@@ -51,6 +51,7 @@ use Rattle.outage_engine.specs.Store.{AreNodesOf, method_by}
 
 -- ---- an answer and its text
 
+-- the status of a run that ends with a refusal
 abbrev pub refusal_status : Refusal → Status
 refusal_status Usage = status.Usage
 refusal_status ReadFault = status.ReadFault
@@ -59,6 +60,7 @@ refusal_status (Fault fault) = status.Refused fault
 refusal_status ListLimit = status.ListLimit
 refusal_status OrderLimit = status.OrderLimit
 
+-- the line that a refusal writes
 abbrev pub refusal_line : Refusal → List ℕ
 refusal_line Usage = notice_line notice.Usage
 refusal_line ReadFault = notice_line notice.ReadFault
@@ -67,6 +69,7 @@ refusal_line (Fault fault) = fault_line fault
 refusal_line ListLimit = notice_line notice.ListLimit
 refusal_line OrderLimit = notice_line notice.OrderLimit
 
+-- the status of an answer once it is written: a refusal's own, else done, with how cut sets were found, if they were
 abbrev pub status_of : Answer → Status
 status_of (Cuts listing) = status.Done (method_by listing.root)
 status_of (Diagram sizes) = status.Done (method_by sizes.nodes)
@@ -77,12 +80,15 @@ status_of (Summed summary) = status.Done (method_by summary.listing.root)
 status_of Help = status.Done Plain
 status_of (Refused refusal) = refusal_status refusal
 
+-- the text of `cuts` for a listing: its tree, and its cut sets with their failing orders
 abbrev pub listing_text : Listing → List ℕ
 listing_text listing = cuts_text listing.tree (listed_with listing.cuts listing.orders)
 
+-- the text of `make` for a summary: what its made deck has, and what came of the requests on its board
 abbrev pub summed_text : Summary → List ℕ
 summed_text summary = summary_text summary.number summary.listing.tree summary.listing.orders summary.board
 
+-- what is written for an answer: the text of its command, or the refusal's line
 abbrev pub text_of : Answer → List ℕ
 text_of (Cuts listing) = listing_text listing
 text_of (Diagram sizes) = diagram_text sizes.tree sizes.cuts sizes.nodes
@@ -103,6 +109,7 @@ IsOfUnits listing =
 abbrev pub HasOrders : Summary → Type 0
 HasOrders summary = AreOrdersOf summary.listing.tree summary.board.deck.opening.cuts summary.listing.orders
 
+-- an answer can be written: a listing is of its tree's units and has their texts; a summary has orders for its cut list
 abbrev pub IsWritable : Answer → Type 0
 IsWritable (Cuts listing) = IsOfUnits listing
 IsWritable (Diagram sizes) = Unit {0}

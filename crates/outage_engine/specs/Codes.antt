@@ -4,6 +4,7 @@ use Rattle.outage_engine.specs.declared.status.Status.{Status}
 use Rattle.outage_engine.specs.declared.status.Status.TheVariants.{Done, Refused, ListLimit, OrderLimit, Usage}
 use Rattle.outage_engine.specs.declared.status.Status.TheVariants.{ReadFault, TooLong, WriteFault, NoMemory}
 
+-- 0 for done, 1 for a fault of the deck or a limit, 2 for usage, 3 for the input, 4 for the sink, 5 for want of memory
 abbrev pub code_of : Status → ℕ
 code_of (Done method) = 0
 code_of (Refused fault) = 1

@@ -59,6 +59,7 @@ crews_said None = Ok None
 crews_said (Some (Ok crews)) = Ok (Some crews)
 crews_said (Some (Err fault)) = Err fault
 
+-- the crews that a command reads in a deck, none where it reads no crew part or there is none; or the part's fault
 abbrev pub crews_read : CrewPart → List ℕ → Result (Option (List Crew)) CrewFault
 crews_read part bytes = crews_said (part_read part (crew_part bytes))
 

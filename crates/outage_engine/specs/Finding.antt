@@ -28,6 +28,7 @@ pub record Found : Type 0 where
   pub cuts : List (List ℕ)
   pub crews : Option (List Crew)
 
+-- the first fault of a deck, a cut list that is too heavy, too many failing orders, or all that was wanted
 pub data Finding : Type 0 where
   Faulty : DeckFault → Finding
   TooHeavy : Finding

@@ -69,6 +69,7 @@ pub record IsServed (start : BoardStart) (state : BoardView) : Type 0 where
   pub whole : IsWhole state.deck.dockets state.history
   pub kept : IsBoard state
 
+-- the run told the listing, and behind it the board as it was once all its crews were served
 abbrev pub TellsBoard : {K : Type 0} → Listing → BoardStart → (K → Option (List ℕ)) → (K → ℕ) → K → K → Status → Type 0
 TellsBoard listing start taken faults old new result =
     (state : BoardView) × IsServed start state × Tells taken faults old new (status.Done (method_by listing.root))

@@ -44,6 +44,7 @@ pub record Told {K : Type 0} (words : List (List ℕ)) (held left : Option (List
   pub gives : Gives words held left rose status text
   pub told : Tells taken faults old new status text result
 
+-- the run gave up for want of memory and wrote nothing, or it told a text that the words and the input give
 abbrev pub Runs : {K : Type 0} → List (List ℕ) → Option (List ℕ) → Option (List ℕ) → Type 0 → (K → Option (List ℕ))
     → (K → ℕ) → K → K → Status → Type 0
 Runs words held left rose taken faults old new result =
@@ -55,6 +56,7 @@ Runs words held left rose taken faults old new result =
 abbrev pub IsBoard : List (List ℕ) → Type 0
 IsBoard words = (margin : ℕ) × (most : ℕ) × (workers : ℕ) × (command_of words ≡ Some (Board margin most workers))
 
+-- the words are no command `board`
 abbrev pub IsNoBoard : List (List ℕ) → Type 0
 IsNoBoard words = (margin most workers : ℕ) → ¬ (command_of words ≡ Some (Board margin most workers))
 
@@ -74,12 +76,14 @@ IsOfCommand words result =
     (method : Method) → result ≡ Done method → (command : Command) × (command_of words ≡ Some command)
     × IsMethodOf command method
 
+-- `cuts`, where done, wrote the cut list of the input's tree with the failing orders of the sets that are small enough
 abbrev pub PrintsCuts : {K : Type 0} → List (List ℕ) → Option (List ℕ) → Option (List ℕ) → (K → Option (List ℕ)) → K → K
     → Status → Type 0
 PrintsCuts words held left taken old new result =
     (most workers : ℕ) → command_of words ≡ Some (Cuts most workers) → IsDone result
     → Writes taken old new (λ text. OfInput held left (λ bytes. IsCutsText most bytes text))
 
+-- `board`, where done, wrote the text of `cuts`, and a board with a history that is legal and whole for the input
 abbrev pub PrintsBoard : {K : Type 0} → List (List ℕ) → Option (List ℕ) → Option (List ℕ) → (K → Option (List ℕ)) → K
     → K → Status → Type 0
 PrintsBoard words held left taken old new result =
@@ -94,12 +98,14 @@ PrintsSafely words held left taken old new result =
     (margin most workers : ℕ) → command_of words ≡ Some (Board margin most workers) → IsDone result
     → Writes taken old new (λ text. OfInput held left (λ bytes. IsSafeText margin most bytes text))
 
+-- `check`, where done, wrote how large the input's tree is and, where it has a crew part, how many crews and requests
 abbrev pub PrintsCheck : {K : Type 0} → List (List ℕ) → Option (List ℕ) → Option (List ℕ) → (K → Option (List ℕ)) → K
     → K → Status → Type 0
 PrintsCheck words held left taken old new result =
     command_of words ≡ Some Check → IsDone result → Writes taken old new
     (λ text. OfInput held left (λ bytes. IsCheckText bytes text))
 
+-- `print`, where done, wrote the input's tree in the grammar of decks
 abbrev pub PrintsTree : {K : Type 0} → List (List ℕ) → Option (List ℕ) → Option (List ℕ) → (K → Option (List ℕ)) → K → K
     → Status → Type 0
 PrintsTree words held left taken old new result =
@@ -125,12 +131,14 @@ PrintsSummary words taken old new result =
     (number : ℕ) → command_of words ≡ Some (Make number shown.Summary) → IsDone result
     → Writes taken old new (IsSummaryText number)
 
+-- `help`, where done, wrote the usage line
 abbrev pub PrintsHelp : {K : Type 0} → List (List ℕ) → (K → Option (List ℕ)) → K → K → Status → Type 0
 PrintsHelp words taken old new result =
     command_of words ≡ Some Help → IsDone result → Appends (taken old) (taken new) (notice_line notice.Usage)
 
 -- ---- the clauses: each refusal has its cause, and its line was written
 
+-- at Usage the words are no command, and the usage line was written
 abbrev pub RefusesWords : {K : Type 0} → List (List ℕ) → (K → Option (List ℕ)) → K → K → Status → Type 0
 RefusesWords words taken old new result =
     result ≡ Usage → (command_of words ≡ None) × Appends (taken old) (taken new) (notice_line notice.Usage)
@@ -140,30 +148,35 @@ abbrev pub HasFound : List (List ℕ) → Option (List ℕ) → Option (List ℕ
 HasFound words held left finding =
     (wants : Wants) × (wanted words ≡ Some wants) × OfDeck words held left (λ bytes. Finds wants bytes finding)
 
+-- at Refused the deck that the run is about has this fault first, and the line of the fault was written
 abbrev pub RefusesDeck : {K : Type 0} → List (List ℕ) → Option (List ℕ) → Option (List ℕ) → (K → Option (List ℕ)) → K
     → K → Status → Type 0
 RefusesDeck words held left taken old new result =
     (fault : DeckFault) → result ≡ Refused fault → HasFound words held left (Faulty fault)
     × Appends (taken old) (taken new) (fault_line fault)
 
+-- at ListLimit the cut list of the deck that the run is about is too heavy, and the line of that limit was written
 abbrev pub RefusesWeight : {K : Type 0} → List (List ℕ) → Option (List ℕ) → Option (List ℕ) → (K → Option (List ℕ)) → K
     → K → Status → Type 0
 RefusesWeight words held left taken old new result =
     result ≡ ListLimit → HasFound words held left TooHeavy
     × Appends (taken old) (taken new) (notice_line notice.ListLimit)
 
+-- at OrderLimit the small enough cut sets of the run's deck have too many failing orders; that limit's line was written
 abbrev pub RefusesOrders : {K : Type 0} → List (List ℕ) → Option (List ℕ) → Option (List ℕ) → (K → Option (List ℕ)) → K
     → K → Status → Type 0
 RefusesOrders words held left taken old new result =
     result ≡ OrderLimit → HasFound words held left TooManyOrders
     × Appends (taken old) (taken new) (notice_line notice.OrderLimit)
 
+-- at TooLong the command reads the input, which is longer than an input may be, and the line of that was written
 abbrev pub RefusesLength : {K : Type 0} → List (List ℕ) → Option (List ℕ) → Option (List ℕ) → (K → Option (List ℕ)) → K
     → K → Status → Type 0
 RefusesLength words held left taken old new result =
     result ≡ TooLong → AreReading words × IsBeyond held left
     × Appends (taken old) (taken new) (notice_line notice.TooLong)
 
+-- at ReadFault the command reads the input, the source's faults rose, and the line of that was written
 abbrev pub FailsToRead : {K : Type 0} → List (List ℕ) → Type 0 → (K → Option (List ℕ)) → K → K → Status → Type 0
 FailsToRead words rose taken old new result =
     result ≡ ReadFault → AreReading words × rose × Appends (taken old) (taken new) (notice_line notice.ReadFault)

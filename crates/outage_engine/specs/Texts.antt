@@ -19,18 +19,23 @@ use Rattle.outage_engine.specs.Store.{AreNodesOf, method_by}
 
 -- ---- what each command wants of a deck
 
+-- `cuts` wants the cut list and the failing orders of the sets of at most so many members, and no crews
 abbrev pub for_cuts : ℕ → Wants
 for_cuts most = record { crews = Unread; cuts = WithOrders most }
 
+-- `board` wants the cut list, the failing orders of the sets of at most so many members, and a crew part
 abbrev pub for_board : ℕ → Wants
 for_board most = record { crews = Needed; cuts = WithOrders most }
 
+-- `check` wants no cut sets, and the crews where there is a crew part
 abbrev pub for_check : Wants
 for_check = record { crews = IfAny; cuts = NoCuts }
 
+-- `print` wants the tree alone
 abbrev pub for_print : Wants
 for_print = record { crews = Unread; cuts = NoCuts }
 
+-- `diagram` wants the cut list alone, without orders and crews
 abbrev pub for_diagram : Wants
 for_diagram = record { crews = Unread; cuts = CutsAlone }
 
@@ -38,6 +43,7 @@ for_diagram = record { crews = Unread; cuts = CutsAlone }
 abbrev pub summed_most : ℕ
 summed_most = 6
 
+-- the summary of a made deck wants what `board` does, with the orders of the sets of at most 6 members
 abbrev pub for_summary : Wants
 for_summary = for_board summed_most
 

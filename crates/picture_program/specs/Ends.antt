@@ -18,6 +18,7 @@ refusal_code (refusal.Fault fault) = 1
 refusal_code refusal.ListLimit = 1
 refusal_code (refusal.NoSuchCut number count) = 1
 
+-- the exit status of a run: 0 with a picture, 1 to 3 with a refusal, 4 where the output failed, 5 for want of memory
 abbrev pub code_of : PictureEnd → ℕ
 code_of Done = 0
 code_of (Refused refusal) = refusal_code refusal

@@ -6,6 +6,8 @@ use Rattle.picture_program.specs.declared.refusal.Refusal.{Refusal}
 use Rattle.picture_program.specs.declared.end.PictureEnd.{PictureEnd}
 use Rattle.picture_program.specs.declared.end.PictureEnd.TheVariants.{NoMemory, Refused}
 
+-- A run wrote nothing for want of memory; or it refused for a cause, and wrote its line to the notes alone; or it wrote
+-- the picture that was asked for to the output alone. Where the writing failed it was a front of the line or picture.
 pub data Runs {K N : Type 0} (words : List (List ℕ)) (held left : Option (List ℕ)) (rose : Type 0)
     (taken : K → Option (List ℕ)) (faults : K → ℕ) (noted : N → Option (List ℕ)) (note_faults : N → ℕ)
     (old new : K) (notes after : N) (result : PictureEnd) : Type 0 where

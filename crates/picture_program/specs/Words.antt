@@ -5,6 +5,7 @@ use Rattle.board_words.specs.Options.{are_options, is_same, value_of}
 use Rattle.picture_program.specs.declared.words.Mark.{Mark}
 use Rattle.picture_program.specs.declared.words.Mark.TheVariants.{Nothing, Cut}
 
+-- `picture` has the option `--cut`
 abbrev pub picture_options : List (List ℕ)
 picture_options = codes "--cut" ∷ []
 
@@ -18,6 +19,7 @@ abbrev pub mark_said : Option (List ℕ) → Option Mark
 mark_said None = Some Nothing
 mark_said (Some value) = cut_of (number_within 1 999999 value)
 
+-- what the options of `picture` ask to be marked, where they are such and the number is sound
 abbrev pub mark_in : List (List ℕ) → Option Mark
 mark_in options =
     if are_options picture_options options then mark_said (value_of (codes "--cut") options) else None

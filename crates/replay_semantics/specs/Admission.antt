@@ -45,6 +45,7 @@ abbrev pub node_awaits : FaultTree → (ℕ → Step) → ℕ → ℕ → Bool
 node_awaits tree step_of unit node =
     if is_above_units tree node then gate_awaits step_of unit (kind_of tree node) (inputs_of tree node) else true
 
+-- a node is in turn where it is no `seq`, or where the steps of its inputs never fall from left to right
 abbrev pub node_in_turn : FaultTree → (ℕ → Step) → ℕ → Bool
 node_in_turn tree step_of node =
     if is_above_units tree node then gate_in_turn step_of (kind_of tree node) (inputs_of tree node) else true

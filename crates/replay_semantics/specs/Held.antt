@@ -19,6 +19,7 @@ GoesBack tree order steps log start =
     (place : ℕ) → place ≤ length order → (node : ℕ) → IsNodeOf tree node
     → step_without (drop (start place) log) steps node ≡ step tree (take place order) node
 
+-- the starts never fall from one place to a later one, as far as the last place
 abbrev pub StartsRise : ℕ → (ℕ → ℕ) → Type 0
 StartsRise last start = (place later : ℕ) → place ≤ later → later ≤ last → start place ≤ start later
 
@@ -31,6 +32,8 @@ IsAdmittedUpTo tree order admitted =
 abbrev pub admitted_after : ℕ → ℕ → Bool → ℕ
 admitted_after up_to units fits = if up_to == units && fits then suc units else up_to
 
+-- What a replay keeps of a well-formed tree and an order of different units of it: who reads each node, the steps under
+-- the order, which nodes failed at each place of it, and how long its longest admissible beginning is.
 pub record HoldsReplay (tree : FaultTree) (rows : List (List ℕ)) (steps : List Step) (log order starts : List ℕ)
     (up_to : ℕ) : Type 0 where
   pub kept : IsTree tree

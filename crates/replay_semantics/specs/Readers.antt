@@ -4,6 +4,7 @@ use Rattle.unit_sets.specs.UnitList.{among}
 use Rattle.fault_definitions.specs.Tree.{FaultTree, IsNodeOf, node_count}
 use Rattle.fault_definitions.specs.Trigger.{below}
 
+-- the nodes that the row of a node lists as its readers; none where it has no row
 abbrev pub readers_in : List (List ℕ) → ℕ → List ℕ
 readers_in rows node = slice_index_or rows node []
 

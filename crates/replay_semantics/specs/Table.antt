@@ -7,6 +7,7 @@ use Rattle.fault_definitions.specs.Step.{Step, never, step}
 abbrev pub step_in : List Step → ℕ → Step
 step_in steps node = slice_index_or steps node never
 
+-- whether the table has a step for a node, which is to say that the node has failed
 abbrev pub has_step : List Step → ℕ → Bool
 has_step steps node = is_some (step_in steps node)
 

@@ -31,6 +31,7 @@ groups number = range_with_len 0 (group_count number)
 abbrev pub kinds : List GateKind
 kinds = And ∷ Pand ∷ Votes 2 3 ∷ Seq ∷ Csp ∷ Wsp ∷ Hsp ∷ []
 
+-- the kind of a group's gate: the seven kinds go round, by the sum of the group and the deck's number
 abbrev pub kind_in : ℕ → ℕ → GateKind
 kind_in number group = slice_index_or kinds ((group + number) % 7) And
 
@@ -83,5 +84,6 @@ crew_lines number =
 
 -- ---- the deck
 
+-- the bytes of the made deck of a number: its statements, the line `@crews`, and the lines of its one crew
 abbrev pub made_deck : ℕ → List ℕ
 made_deck number = written (made_statements number) ++ (codes "@crews\n" ++ crew_lines number)

@@ -21,5 +21,6 @@ trigger_name trigger = codes "x" ++ decimal trigger
 abbrev pub unit_name : ℕ → List ℕ → List ℕ
 unit_name group letter = codes "u" ++ (decimal group ++ letter)
 
+-- the names of the three units of a group
 abbrev pub units_in : ℕ → List (List ℕ)
 units_in group = unit_name group (codes "a") ∷ unit_name group (codes "b") ∷ unit_name group (codes "c") ∷ []

@@ -76,9 +76,11 @@ input_line tree gate input =
 abbrev pub ended : List ℕ → List ℕ
 ended line = line ++ codes "\n"
 
+-- a unit, on a line of its own
 abbrev pub unit_text : FaultTree → List ℕ → ℕ → List ℕ
 unit_text tree marked unit = ended (unit_line tree marked unit)
 
+-- an input of a gate, on a line of its own
 abbrev pub input_text : FaultTree → ℕ → ℕ → List ℕ
 input_text tree gate input = ended (input_line tree gate input)
 
