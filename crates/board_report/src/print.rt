@@ -21,7 +21,6 @@ use edge_io::{Out, Sink, WriteFault};
 use fault_model::{Attribute, GateKind, Name, NodeNo, Tree};
 use itoa::Buffer;
 use text_pieces::{put_all, put_gate_word};
-use unit_sets::UnitNo;
 
 /// Puts a tree as a text: the top event, then the gates and the units by number. Every name stands in quotes. Where all
 /// of it is put
@@ -141,10 +140,7 @@ fn attributes_at(tree: &Tree, unit: u32) -> &[Attribute]
 {
     // The number of units tells the proof that each can be a `UnitNo`.
     tree.units();
-    match UnitNo::new(unit as u16) {
-        Some(unit) => tree.attributes(unit),
-        None => &[],
-    }
+    tree.attributes(NodeNo(unit).unit())
 }
 
 fn put_attributes<K: Sink>(out: &mut Out<K>, attributes: &[Attribute]) -> Result<(), WriteFault>

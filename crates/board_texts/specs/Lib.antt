@@ -1,6 +1,6 @@
 -- the log of a board
 pub mod LogText
--- crews and entries that a log can show
+-- entries that a log can show
 pub mod Logged
 -- the text of a board
 pub mod BoardText

@@ -13,7 +13,7 @@ use Rattle.crew_script.specs.declared.dockets.Crew.{Crew}
 abbrev pub names_of : List Crew → List (List ℕ)
 names_of crews = map (λ (crew : Crew). crew.name) crews
 
--- the requests of all crews
+-- how many requests all crews have together
 abbrev pub request_count : List Crew → ℕ
 request_count [] = 0
 request_count (crew ∷ crews) = length crew.docket + request_count crews

@@ -2,7 +2,7 @@
 pub mod Deck
 -- the words of a line
 pub mod Words
--- names that differ
+-- the names of a request to take units
 pub mod Names
 -- crews and requests
 pub mod Dockets

@@ -27,7 +27,7 @@ bare text = record { kind = Bare; text = text }
 abbrev pub quoted : List ℕ → Word
 quoted text = record { kind = Quoted; text = text }
 
--- a quotation mark without its other, or with more than a blank behind that
+-- no word: a quotation mark without its other, or with a byte right behind the other that is no blank
 abbrev pub broken : Word
 broken = record { kind = Broken; text = [] }
 

@@ -14,7 +14,8 @@ use std::marker::Model;
 
 const QUOTE: u8 = b'"';
 
-// How a word is written. A broken one is none: its quotation mark has no other, or more than a blank behind that.
+// How a word is written. A broken one is none: its quotation mark has no other, or a byte that is no blank right
+// behind that.
 #[derive(Clone, Copy, Debug, PartialEq, Eq)]
 pub(crate) enum WordKind {
     Bare,

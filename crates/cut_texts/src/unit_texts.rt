@@ -56,7 +56,7 @@ impl UnitTexts {
         requires { unit ≤ length self.now }
         ensures { result.now ≡ slice_index_or self.now (unit - 1) [] }
     {
-        self.rows.row(unit.number() as usize - 1)
+        self.rows.row(unit.index())
     }
 }
 

@@ -14,7 +14,7 @@ until_of until node = slice_index until (node - 1)
 abbrev pub HasEnd : List ℕ → ℕ → Type 0
 HasEnd until node = (1 ≤ node) × (node ≤ length until)
 
--- the nodes' ends reach to a place at least; no end falls, and one that rose is that place
+-- the nodes' ends reach to a place at least; no end falls, and none that lies behind that place has changed
 pub record Keeps (nodes : List ℕ) (end : ℕ) (old new : List ℕ) : Type 0 where
   pub all : length new ≡ length old
   pub reached : All (λ node. end ≤ until_of new node) nodes

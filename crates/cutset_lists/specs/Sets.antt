@@ -61,7 +61,7 @@ is_smaller_within set smaller = is_short_within (length set) set smaller
 abbrev pub IsSharp : List (List ℕ) → Type 0
 IsSharp sets = All (λ set. list_any (is_smaller_within set) sets ≡ false) sets
 
--- the sets of a list in the order of cut lists, each once
+-- sets of a list in the order of cut lists, each once, that are true where the list is
 pub record IsSortedFrom (sets sorted : List (List ℕ)) : Type 0 where
   pub some_within : (within : ℕ → Bool) → some_within sorted within ≡ some_within sets within
   pub members : All (Contains sets) sorted
@@ -74,14 +74,14 @@ pub record IsMinimalFrom (sets minimal : List (List ℕ)) : Type 0 where
   pub ordered : IsInCutOrder minimal
   pub sharp : IsSharp minimal
 
--- fewer sets of a list, which are true where it is
+-- a list that is true where another is, and has sets of units where that has
 pub record IsReducedFrom (list reduced : List (List ℕ)) : Type 0 where
   pub some_within : (within : ℕ → Bool) → some_within reduced within ≡ some_within list within
   pub sets : (passes : ℕ → Bool) → AreSetsOf passes list → AreSetsOf passes reduced
 
 -- ---- sets that include one of another list
 
--- a set has one of the list within it, and is its own union with that one
+-- a set has one of the list within it
 abbrev pub Includes : List (List ℕ) → List ℕ → Type 0
 Includes list set = list_any (is_within set) list ≡ true
 

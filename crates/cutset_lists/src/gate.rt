@@ -152,8 +152,5 @@ pub fn node_list<'h>(
     if node.0 > tree.units() {
         return gate_list(room, lists, tree.kind(node), below);
     }
-    match UnitNo::new(node.0 as u16) {
-        Some(unit) => unit_list(room, lists, unit, below),
-        None => unreachable!(),
-    }
+    unit_list(room, lists, node.unit(), below)
 }

@@ -1,6 +1,5 @@
 -- What statements say, wherever they stand in a text: two are the same but for their places where they are equal once
--- each
--- place is put aside.
+-- each place is put aside.
 use Rattle.std.specs.Prelude.{◌≡◌, List, map}
 use Rattle.fault_words.specs.declared.attribute.Attribute.{Attribute}
 use Rattle.fault_words.specs.declared.place.Place.{Place}

@@ -1,7 +1,9 @@
 //! The numbers of a tree's nodes.
 ghost use Rattle.std.specs.Prelude.{◌≡◌, ◌-◌, ◌≤◌};
+ghost use Rattle.unit_sets.specs.Unit.{IsUnit};
 
 use std::marker::Model;
+use unit_sets::UnitNo;
 
 /// The number of a node of a tree. The units are 1 to U in the order of their definitions, and the gates U+1 to U+G in
 /// the order of theirs. A contract sees it as that number.
@@ -32,5 +34,16 @@ impl NodeNo {
         ensures { result ≡ self - 1 }
     {
         self.0 as usize - 1
+    }
+
+    /// The unit of this number.
+    pub fn unit(self) -> UnitNo
+        requires { IsUnit self }
+        ensures { result ≡ self }
+    {
+        match UnitNo::new(self.0 as u16) {
+            Some(unit) => unit,
+            None => unreachable!(),
+        }
     }
 }

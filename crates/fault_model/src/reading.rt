@@ -1,7 +1,6 @@
 //! The static reading of a node under a set of units, in one pass over the tree from below.
 ghost use Rattle.std.specs.Prelude.{◌≡◌, ℕ, ◌<◌, false, Bool, List, length, All, slice_index_or, IfOk};
 ghost use Rattle.std.specs.List.{list_any, list_all};
-ghost use Rattle.unit_sets.specs.Unit.{IsUnit};
 ghost use Rattle.unit_sets.specs.UnitList.{among};
 ghost use Rattle.fault_definitions.specs.Reading.{first_reads, gate_reads, node_reads, reads, true_count};
 ghost use Rattle.fault_model.specs.Scratch.{value_in, IsScratchFor, AreIn};
@@ -10,7 +9,7 @@ ghost use Rattle.fault_definitions.specs.Tree.{is_fdep, IsNodeOf};
 use crate::{GateKind, NoMemory, NodeNo, Tree};
 use std::alloc::Global;
 use std::marker::Model;
-use unit_sets::{UnitNo, UnitSet};
+use unit_sets::UnitSet;
 
 /// Room for the readings of all nodes of a tree. A contract sees it as how many places it has.
 #[derive(Drop)]
@@ -103,18 +102,7 @@ fn node_value(tree: &Tree, values: &[bool], node: NodeNo, set: &UnitSet) -> bool
     if node.number() > tree.units() {
         return gate_value(tree.kind(node), values, below);
     }
-    has_unit(set, node) || any_value(values, below)
-}
-
-// Whether a unit, given as a node, is in the set.
-fn has_unit(set: &UnitSet, unit: NodeNo) -> bool
-    requires { IsUnit unit }
-    ensures { result ≡ among set.now unit }
-{
-    match UnitNo::new(unit.number() as u16) {
-        Some(unit) => set.contains(unit),
-        None => unreachable!(),
-    }
+    set.contains(node.unit()) || any_value(values, below)
 }
 
 /// The static reading of a node of the tree, other than an `fdep`, under a set of units.

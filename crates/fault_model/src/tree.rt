@@ -197,7 +197,7 @@ impl Tree {
         requires { IsUnitOf self.now unit }
         ensures { result.now ≡ attributes_of self.now unit }
     {
-        self.attributes.as_slice()[unit.number() as usize - 1].as_slice()
+        self.attributes.as_slice()[unit.index()].as_slice()
     }
 
     /// The names of the units, in the order of their numbers.

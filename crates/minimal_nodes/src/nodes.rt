@@ -10,7 +10,6 @@ ghost use Rattle.tree_families.specs.Recipe.{StandFor};
 use crate::gates::{make_gate, make_unit};
 use family_memory::{FamilyMemory, Spent};
 use fault_model::{NodeNo, Tree};
-use unit_sets::UnitNo;
 use zdd_words::NodeRef;
 
 /// The cut family of a node, from the references of what it reads, each to its cut family, in the order in which
@@ -32,8 +31,5 @@ pub fn cut_family(
     if node.number() > tree.units() {
         return make_gate(memory, tree.kind(node), list, table);
     }
-    match UnitNo::new(node.number() as u16) {
-        Some(unit) => make_unit(memory, unit, list),
-        None => unreachable!(),
-    }
+    make_unit(memory, node.unit(), list)
 }

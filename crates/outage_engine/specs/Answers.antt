@@ -202,42 +202,42 @@ found_in listing crews = record { tree = listing.tree; cuts = listing.cuts; crew
 
 -- ---- why there is no tree or there are no crews
 
--- want of memory is free
+-- why a text gives no tree: it has this fault, or memory was refused, for which no cause is owed
 abbrev pub IsTreeEnd : List ℕ → DeckEnd → Type 0
 IsTreeEnd bytes (end.Fault fault) = IsTreeFault bytes fault
 IsTreeEnd bytes end.NoMemory = Unit {0}
 
--- the same of statements
+-- why statements that were read give no tree: this is their first fault, or memory was refused
 abbrev pub IsCheckEnd : ReadTree → DeckEnd → Type 0
 IsCheckEnd read (end.Fault fault) =
     (code : CheckCode) × (fault.code ≡ report.Check code) × IsFirstFault read code fault.place
 IsCheckEnd read end.NoMemory = Unit {0}
 
--- of a fault of tokens or of the grammar
+-- how the reading of a deck ends by a fault of tokens or of the grammar, or by want of memory
 abbrev pub end_of : ParseFault → DeckEnd
 end_of (parse.Lex fault) = end.Fault (record { code = report.Lex fault.code; place = place_at fault.place })
 end_of (parse.Expected wanted place) = end.Fault (record { code = report.Expected wanted; place = place })
 end_of parse.NoMemory = end.NoMemory
 
--- of a crew part
+-- why a crew part gives no crews: this is its first fault, or memory was refused
 abbrev pub IsCrewEnd : {A : Type 0} → Result A CrewFault → DeckEnd → Type 0
 IsCrewEnd said (end.Fault fault) =
     (code : CrewCode) × (place : Place) × (said ≡ Err (crew.Fault code place))
     × (fault ≡ record { code = report.Crew code; place = place })
 IsCrewEnd said end.NoMemory = Unit {0}
 
--- of a tree part, or of the crew part behind it
+-- why a tree part and a crew part give no deck: a fault of the tree part, else one of the crew part, or no memory
 abbrev pub IsPartsEnd : {A : Type 0} → List ℕ → Result A CrewFault → DeckEnd → Type 0
 IsPartsEnd bytes said (end.Fault fault) =
     IsTreeFault bytes fault ⊎ ((tree : FaultTree) × StandsFor bytes tree × IsCrewEnd said (end.Fault fault))
 IsPartsEnd bytes said end.NoMemory = Unit {0}
 
--- of a deck
+-- why a deck is not read: it has this fault, or memory was refused
 abbrev pub IsDeckEnd : CrewPart → List ℕ → DeckEnd → Type 0
 IsDeckEnd part bytes (end.Fault fault) = IsDeckFault part bytes fault
 IsDeckEnd part bytes end.NoMemory = Unit {0}
 
--- as the end of a run
+-- how a run ends whose deck is not read
 abbrev pub run_end : DeckEnd → RunEnd
 run_end (end.Fault fault) = run.Refused (Fault fault)
 run_end end.NoMemory = run.NoMemory

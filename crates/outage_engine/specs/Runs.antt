@@ -90,8 +90,8 @@ PrintsBoard words held left taken old new result =
     (margin most workers : ℕ) → command_of words ≡ Some (Board margin most workers) → IsDone result
     → Writes taken old new (λ text. OfInput held left (λ bytes. IsBoardText margin most bytes text))
 
--- and the tree bears what the margin says after each granted take and each granted margin of the history that was
--- printed
+-- `board`, where done, let no margin be broken: after each granted take and each granted margin of the history that was
+-- printed the tree bears what the margin says
 abbrev pub PrintsSafely : {K : Type 0} → List (List ℕ) → Option (List ℕ) → Option (List ℕ) → (K → Option (List ℕ)) → K
     → K → Status → Type 0
 PrintsSafely words held left taken old new result =
@@ -112,7 +112,7 @@ PrintsTree words held left taken old new result =
     command_of words ≡ Some Print → IsDone result → Writes taken old new
     (λ text. OfInput held left (λ bytes. IsPrintText bytes text))
 
--- without a line of nodes exactly where the cut sets were found by lists
+-- `diagram`, where done, wrote its text, without a line of nodes exactly where the cut sets were found by lists
 abbrev pub PrintsDiagram : {K : Type 0} → List (List ℕ) → Option (List ℕ) → Option (List ℕ) → (K → Option (List ℕ)) → K
     → K → Status → Type 0
 PrintsDiagram words held left taken old new result =

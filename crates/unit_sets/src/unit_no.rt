@@ -1,5 +1,5 @@
 //! The number of a unit.
-ghost use Rattle.std.specs.Prelude.{◌≡◌, ◌↔◌, All, IsSome, IfSome};
+ghost use Rattle.std.specs.Prelude.{◌≡◌, ◌-◌, ◌↔◌, All, IsSome, IfSome};
 ghost use Rattle.unit_sets.specs.Unit.{IsUnit};
 
 use std::marker::Model;
@@ -45,6 +45,14 @@ impl UnitNo {
         ensures unit { IsUnit self }
     {
         self.number
+    }
+
+    /// The unit's place, from 0, in a list that has an item for each unit.
+    pub fn index(self) -> usize
+        ensures value { result ≡ self - 1 }
+        ensures unit { IsUnit self }
+    {
+        self.number() as usize - 1
     }
 
     /// Tells a proof that each unit of the slice has a unit's number. Nothing is computed.

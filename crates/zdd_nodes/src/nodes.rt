@@ -15,7 +15,6 @@ ghost use Rattle.zdd_nodes.specs.Room.{HaveRoomFor};
 use crate::recipes::{make_gate, make_unit};
 use crate::rooms::{Rooms, gather};
 use fault_model::{NodeNo, Tree};
-use unit_sets::UnitNo;
 use zdd_product::Ops;
 use zdd_shared_table::Full;
 use zdd_words::NodeRef;
@@ -97,8 +96,5 @@ fn make(
     if node.number() > tree.units() {
         return make_gate(ops, tree.kind(node), list, room);
     }
-    match UnitNo::new(node.number() as u16) {
-        Some(unit) => make_unit(ops, unit, list),
-        None => unreachable!(),
-    }
+    make_unit(ops, node.unit(), list)
 }

@@ -19,9 +19,8 @@ returns c =
     let low : c.args.node ≤ unit_count c.args.tree.now =
     omega (arith, c.node.view_is, c.if-node-units.false, c.units.ensures.count) in
     let some : 1 ≤ c.args.node = c.requires.node.0 in
-    let unit : c.in-Some.unit ≡ c.args.node = omega (arith, c.in-Some.ensures.value, c.node.view_is) in
-    let old_is : (c.in-Some.unit ∷ []) ∷ [] ≡ (c.args.node ∷ []) ∷ [] = ap (λ (n : ℕ). (n ∷ []) ∷ []) unit in
-    IfOk-weaker c.unit_list.result (AddsSome c.args.lists.now c.below-below.result.now ((c.in-Some.unit ∷ []) ∷ []))
+    let old_is : (c.unit.result ∷ []) ∷ [] ≡ (c.args.node ∷ []) ∷ [] = ap (λ (n : ℕ). (n ∷ []) ∷ []) c.unit.ensures in
+    IfOk-weaker c.unit_list.result (AddsSome c.args.lists.now c.below-below.result.now ((c.unit.result ∷ []) ∷ []))
     (IsNodeList c.args.tree.now c.args.lists.now c.args.node)
     (λ made adds. unit_node c.args.tree.now c.args.lists.now c.args.node c.below-below.result.now
-    c.below-below.ensures.below made ((c.in-Some.unit ∷ []) ∷ []) some low old_is adds) c.unit_list.ensures
+    c.below-below.ensures.below made ((c.unit.result ∷ []) ∷ []) some low old_is adds) c.unit_list.ensures

@@ -15,8 +15,6 @@ pub returns-clause-gives : goal.returns-clause-gives
 returns-clause-gives c =
     let node = c.args.node in
     let is_unit : IsUnitOf c.args.tree.now node = (c.requires.node.0, omega arith) in
-    let few = c.units.ensures.kept.few_units in
-    let same : c.in-Some.unit ≡ node = let value = c.in-Some.ensures.value in omega (arith, few, value) in
     unit_node c.args.tree.now c.units.ensures.kept node c.requires.node (families c.args.memory.now c.args.list.now)
     c.requires.stand c.args.memory.now c.make_unit.new.memory
-    c.in-Some.unit same is_unit c.make_unit.result c.make_unit.ensures.gives
+    c.unit.result c.unit.ensures is_unit c.make_unit.result c.make_unit.ensures.gives

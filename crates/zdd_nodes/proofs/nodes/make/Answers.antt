@@ -61,9 +61,7 @@ returns-clause-made c =
     let node = c.args.node in
     let fs = families (map_of c.args.ops.now) c.args.list.now in
     let is_unit : IsUnitOf tree node = (c.requires.node.0, omega arith) in
-    let few = c.units.ensures.kept.few_units in
-    let same : c.in-Some.unit ≡ node = let value = c.in-Some.ensures.value in omega (arith, few, value) in
     unit_node_made tree node c.requires.node c.requires.read fs c.requires.stand is_unit c.args.ops.now
     c.make_unit.new.ops c.make_unit.result
     (subst (λ unit. Answer (IsUnionOfAll (alone unit) fs) (IsDueToUnit unit fs) c.args.ops.now c.make_unit.new.ops
-    c.make_unit.result) same c.make_unit.ensures)
+    c.make_unit.result) c.unit.ensures c.make_unit.ensures)
