@@ -79,6 +79,15 @@ fn prints_the_sizes_of_a_diagram(rt: HostRuntime) -> Result<(), Fail> {
 }
 
 #[test]
+fn commands_that_find_no_cut_sets_name_no_method(rt: HostRuntime) -> Result<(), Fail> {
+    for word in ["check", "print", "help"] {
+        let (status, _) = begun(&rt, rt.alloc(), 10, &[word], PAIR)?;
+        assert_eq!(rt; status, Status::Done(Method::Plain), "{word}");
+    }
+    Ok(())
+}
+
+#[test]
 fn limits_of_the_list_hold_for_diagrams_and_that_of_orders_does_not(
     rt: HostRuntime,
 ) -> Result<(), Fail> {

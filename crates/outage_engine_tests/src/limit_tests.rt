@@ -31,6 +31,30 @@ fn gates_of_one_unit(alloc: Global, gates: usize) -> Result<String, AllocError> 
     Ok(deck)
 }
 
+// So many units, the first of them the top event.
+fn units_alone(alloc: Global, units: usize) -> Result<String, AllocError> {
+    let mut deck = format!(in alloc; "toplevel u1;\n")?;
+    for i in 0..units {
+        let n = i + 1;
+        deck.push_str(format!(in alloc; "u{n};\n")?.as_str())?;
+    }
+    Ok(deck)
+}
+
+#[test]
+fn units_have_a_limit(rt: HostRuntime) -> Result<(), Fail> {
+    for (units, status, text) in [
+        (4_095, 0, "well formed: 4095 units, 0 gates, top u1\n"),
+        (4_096, 1, "refused: C15 too many units at 4097:1\n"),
+    ] {
+        let deck = units_alone(rt.alloc(), units)?;
+        let (code, bytes) = told(&rt, rt.alloc(), &["check"], deck.as_bytes())?;
+        assert_eq!(rt; bytes.as_slice(), text.as_bytes());
+        assert_eq!(rt; code, status);
+    }
+    Ok(())
+}
+
 #[test]
 fn names_and_gates_have_a_limit(rt: HostRuntime) -> Result<(), Fail> {
     let alloc = rt.alloc();

@@ -60,11 +60,15 @@ fn sums_up_the_last_made_deck(rt: HostRuntime) -> Result<(), Fail> {
 }
 
 #[test]
-fn numbers_out_of_form_get_the_usage_line(rt: HostRuntime) -> Result<(), Fail> {
+fn options_out_of_form_get_the_usage_line(rt: HostRuntime) -> Result<(), Fail> {
     for words in [
         ["make", "--number", "1000000", "--show", "deck"],
         ["make", "--number", "1000000", "--show", "summary"],
         ["make", "--number", "00", "--show", "summary"],
+        ["make", "--number", "0", "--number", "0"],
+        ["make", "--show", "deck", "--show", "deck"],
+        ["make", "--number", "0", "--show", "tree"],
+        ["cuts", "--most", "0", "--most", "0"],
     ] {
         let (code, bytes) = told(&rt, rt.alloc(), &words, b"")?;
         assert_eq!(rt; bytes.as_slice(), USAGE.as_bytes());

@@ -152,6 +152,19 @@ fn prints_the_failing_orders(rt: HostRuntime) -> Result<(), Fail> {
             "tree: 2 units, 2 gates, top T\ncuts: 1, orders: 1\ncut 1: A B\n  A B\n",
         ),
         (
+            "toplevel T; T and G B; G por A B; F fdep X A B; A; B; X;",
+            "tree: 3 units, 3 gates, top T\ncuts: 2, orders: 2\ncut 1: X\n  X\ncut 2: A B\n  A B\n",
+        ),
+        (
+            "toplevel T; T 2of3 A B C; A; B; C;",
+            "tree: 3 units, 1 gates, top T\ncuts: 3, orders: 6\ncut 1: A B\n  A B\n  B A\n\
+             cut 2: A C\n  A C\n  C A\ncut 3: B C\n  B C\n  C B\n",
+        ),
+        (
+            "toplevel T; T 2of3 A A B; A; B;",
+            "tree: 2 units, 1 gates, top T\ncuts: 1, orders: 1\ncut 1: A\n  A\n",
+        ),
+        (
             "toplevel A; A por=1;",
             "tree: 1 units, 0 gates, top A\ncuts: 1, orders: 1\ncut 1: A\n  A\n",
         ),
@@ -342,6 +355,7 @@ fn prints_what_it_printed_again(rt: HostRuntime) -> Result<(), Fail> {
             "toplevel T; T and G B; G por A B; A; B;",
             "toplevel \"T\";\n\"T\" and \"G\" \"B\";\n\"G\" por \"A\" \"B\";\n\"A\";\n\"B\";\n",
         ),
+        ("A; toplevel T; B; T and A B;", PAIR_PRINTED),
     ] {
         for given in [deck, text] {
             let (code, bytes) = told(&rt, rt.alloc(), &["print"], given.as_bytes())?;
