@@ -4,7 +4,7 @@ use cutset_lists::mcs_by_lists;
 use std::alloc::Global;
 use std::process::Abort;
 use std::test::Fail;
-use worked_trees::tree_of;
+use worked_trees::{random_text, tree_of};
 
 // How many trees are drawn.
 const TREES: u64 = 40;
@@ -20,56 +20,9 @@ fn agrees(alloc: Global, text: &[u8]) -> Result<bool, Fail> {
     Ok(has_sets(&memory, family, &cuts))
 }
 
-// The next number, from the one before.
-fn next(seed: u64) -> u64 {
-    seed.wrapping_mul(6_364_136_223_846_793_005)
-        .wrapping_add(1_442_695_040_888_963_407)
-}
-
-const DIGITS: [&str; 8] = ["0", "1", "2", "3", "4", "5", "6", "7"];
-
-const KINDS: [&str; 8] = ["and", "or", "2of3", "pand", "por", "seq", "1of3", "3of3"];
-
-// One of eight units, or of so many gates.
-fn push_input(text: &mut String, gates: u64, drawn: u64) -> Result<(), Fail> {
-    let number = (drawn >> 33) % (8 + gates.min(8));
-    text.push_str(if number < 8 { " u" } else { " G" })?;
-    text.push_str(DIGITS[(number % 8) as usize])?;
-    Ok(())
-}
-
-// A gate over three of the units and the gates before it.
-fn push_gate(text: &mut String, gate: u64, seed: u64) -> Result<u64, Fail> {
-    let mut drawn = next(seed);
-    text.push_str("G")?;
-    text.push_str(DIGITS[(gate % 8) as usize])?;
-    text.push_str(" ")?;
-    text.push_str(KINDS[((drawn >> 33) % 8) as usize])?;
-    for _ in 0..3 {
-        drawn = next(drawn);
-        push_input(text, gate, drawn)?;
-    }
-    text.push_str(";\n")?;
-    Ok(drawn)
-}
-
-// Six gates over eight units, a spare gate above the fourth, and a trigger of two units; any gate is the top event.
-fn random_text(alloc: Global, seed: u64, top: &str) -> Result<String, Fail> {
-    let mut text = String::new(alloc);
-    text.push_str("toplevel ")?;
-    text.push_str(top)?;
-    text.push_str("; S csp G3 spare; F fdep u7 u0 u1;\n")?;
-    let mut drawn = seed;
-    for gate in 0..6u64 {
-        drawn = push_gate(&mut text, gate, drawn)?;
-    }
-    text.push_str("u0; u1; u2; u3; u4; u5; u6; u7; spare;\n")?;
-    Ok(text)
-}
-
 fn compare(rt: &impl Abort, alloc: Global, seed: u64) -> Result<(), Fail> {
-    for top in ["u0", "u7", "G0", "G1", "G2", "G3", "G4", "G5", "S"] {
-        let text = random_text(alloc, seed, top)?;
+    for top in ["u0", "u7", "g0", "g1", "g2", "g3", "g4", "g5", "s"] {
+        let text = random_text(alloc, top, seed)?;
         assert!(rt; agrees(alloc, text.as_bytes())?, "{top} of {seed}");
     }
     Ok(())

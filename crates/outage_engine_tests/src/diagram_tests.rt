@@ -10,6 +10,7 @@ use std::sync::Wait;
 use std::test::Fail;
 use std::thread::Threads;
 use worked_stores::store_with;
+use worked_trees::or_of_pairs;
 use zdd_shared_table::{NodeStore, StoreSeat, StoreStart};
 
 // How a run over a store ends, and what it writes.
@@ -113,21 +114,6 @@ fn limits_of_the_list_hold_for_diagrams_and_that_of_orders_does_not(
         assert_eq!(rt; ended, status);
     }
     Ok(())
-}
-
-// An `or` of so many gates, each an `and` of two units that come next to each other.
-fn or_of_pairs(alloc: Global, gates: usize) -> Result<String, AllocError> {
-    let mut deck = format!(in alloc; "toplevel T;\nT or")?;
-    for i in 0..gates {
-        let n = i + 1;
-        deck.push_str(format!(in alloc; " g{n}")?.as_str())?;
-    }
-    deck.push_str(";\n")?;
-    for i in 0..gates {
-        let n = i + 1;
-        deck.push_str(format!(in alloc; "g{n} and a{n} b{n};\na{n};\nb{n};\n")?.as_str())?;
-    }
-    Ok(deck)
 }
 
 #[test]

@@ -5,6 +5,10 @@ ghost use Rattle.std.specs.Prelude.{◌<◌, ◌+◌, All, IfOk};
 ghost use Rattle.fault_definitions.specs.Cut.{IsCutList};
 ghost use Rattle.fault_definitions.specs.Tree.{IsUnitOf, unit_count};
 
+mod texts;
+
+pub use texts::{or_of_pairs, random_text};
+
 use crew_script::{Dockets, LONGEST_DECK, read_crews};
 use cutset_lists::mcs_by_lists;
 use fault_model::Tree;

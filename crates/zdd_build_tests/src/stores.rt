@@ -8,7 +8,7 @@ use std::process::Abort;
 use std::test::Fail;
 use std::thread::Threads;
 use worked_stores::store_with;
-use worked_trees::tree_of;
+use worked_trees::{or_of_pairs, tree_of};
 use zdd_build::{BuildEnd, build, build_within};
 use zdd_shared_table::{NodeStore, StoreStart};
 use zdd_words::NodeRef;
@@ -35,19 +35,6 @@ fn three_nodes_are_enough_for_two_units(rt: HostRuntime) -> Result<(), Fail> {
         }
     }
     Ok(())
-}
-
-// An `or` of so many gates, each an `and` of two units of its own.
-fn or_of_pairs(alloc: Global, gates: usize) -> Result<String, Fail> {
-    let mut deck = format!(in alloc; "toplevel T; T or")?;
-    for i in 0..gates {
-        deck.push_str(format!(in alloc; " g{i}")?.as_str())?;
-    }
-    deck.push_str(";\n")?;
-    for i in 0..gates {
-        deck.push_str(format!(in alloc; "g{i} and a{i} b{i}; a{i}; b{i};\n")?.as_str())?;
-    }
-    Ok(deck)
 }
 
 // An `or` of so many units.
