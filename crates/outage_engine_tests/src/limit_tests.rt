@@ -104,17 +104,17 @@ pub(super) fn and_of_ors(alloc: Global, gates: usize) -> Result<String, AllocErr
 
 #[test]
 fn all_cut_sets_of_many_are_printed(rt: HostRuntime) -> Result<(), Fail> {
-    let deck = and_of_ors(rt.alloc(), 12)?;
+    let deck = and_of_ors(rt.alloc(), 19)?;
     let source = HeldSource::new(
         Bytes::of(rt.alloc(), deck.as_bytes())?,
         4096,
         calls_of(rt.alloc(), None)?,
     );
-    let sink = KeptSink::new(rt.alloc(), 1_000_000, calls_of(rt.alloc(), None)?)?;
+    let sink = KeptSink::new(rt.alloc(), 100_000_000, calls_of(rt.alloc(), None)?)?;
     let (code, bytes) = ran(&rt, rt.alloc(), &["cuts", "--most", "0"], source, sink)?;
     let head =
-        b"tree: 24 units, 13 gates, top T\ncuts: 4096, orders: 0\ncut 1: a0 a1 a2 a3 a4 a5 a6 a7 a8 a9 a10 a11\n";
-    let foot = b"cut 4096: b0 b1 b2 b3 b4 b5 b6 b7 b8 b9 b10 b11\n  (not listed)\n";
+        b"tree: 38 units, 20 gates, top T\ncuts: 524288, orders: 0\ncut 1: a0 a1 a2 a3 a4 a5 a6 a7 a8 a9 a10 a11 a12 ";
+    let foot = b" b10 b11 b12 b13 b14 b15 b16 b17 b18\n  (not listed)\n";
     assert!(rt; bytes.as_slice().starts_with(head));
     assert!(rt; bytes.as_slice().ends_with(foot));
     assert_eq!(rt; code, 0);

@@ -186,6 +186,7 @@ impl<'t> Replay<'t> {
         ensures bound { is_some (step self.old.tree order.now self.old.tree.top) ≡ true
             → is_cut self.old.tree order.now ≡ true }
     {
+        // Tells the proof what the tree keeps.
         let _ = &self.tree;
         let mut failing = false;
         for unit in order.as_slice() {

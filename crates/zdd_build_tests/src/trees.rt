@@ -53,10 +53,12 @@ pub(crate) fn agrees<R: Threads + Sync>(rt: &R, alloc: Global, text: &[u8]) -> R
     let tree = tree_of(alloc, text)?;
     let wanted = mcs_by_lists(alloc, &tree)?;
     let alone = cuts_built(rt, alloc, &tree, 1, 4_096)?;
+    let two = cuts_built(rt, alloc, &tree, 2, 4_096)?;
     let many = cuts_built(rt, alloc, &tree, 4, 4_096)?;
     let most = cuts_built(rt, alloc, &tree, 16, 4_096)?;
     let bare = cuts_built(rt, alloc, &tree, 2, 0)?;
     let with_memory = same_cuts(&wanted, &alone)
+        && same_cuts(&wanted, &two)
         && same_cuts(&wanted, &many)
         && same_cuts(&wanted, &most);
     Ok(with_memory && same_cuts(&wanted, &bare))
