@@ -10,6 +10,7 @@ use Rattle.galileo_lexer.specs.declared.constructs.Found.TheVariants.{Token, End
 use Rattle.galileo_lexer.specs.Spot.{IsSpot, along, place_of}
 use Rattle.galileo_lexer.specs.Lexed.{Lexed, Between, lexed, finished, with_token, token_from}
 
+-- the fault of this kind at a spot
 abbrev pub fault_at : LexCode → Spot → LexFault
 fault_at code spot = record { code = code; place = place_of spot }
 

@@ -85,12 +85,15 @@ act (Opening start) spot byte rest = Go (InBlock start false)
 act (InBlock start starred) spot byte rest =
     if starred && byte == 47 then Go Between else Go (InBlock start (byte == 42))
 
+-- no token, and the fault of this kind at a spot
 abbrev pub failed : LexCode → Spot → Lexed
 failed code spot = record { tokens = []; ending = Err (record { code = code; place = place_of spot }) }
 
+-- no token, and the text ends without a fault at a spot
 abbrev pub finished : Spot → Lexed
 finished spot = record { tokens = []; ending = Ok (place_of spot) }
 
+-- a token in front of what is read behind it
 abbrev pub with_token : Token → Lexed → Lexed
 with_token token more = record { tokens = token ∷ more.tokens; ending = more.ending }
 
@@ -109,6 +112,7 @@ proceed (Go mode) next = next mode
 proceed (Give token) next = with_token token (next Between)
 proceed (Fail code spot) next = failed code spot
 
+-- what these bytes give, from a mode and a spot on
 abbrev pub lexed : Mode → Spot → List ℕ → Lexed
 lexed mode spot [] = ended mode spot
 lexed mode spot (byte ∷ rest) = proceed (act mode spot byte rest) (λ then_mode. lexed then_mode (step spot byte) rest)

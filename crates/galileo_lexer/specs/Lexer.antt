@@ -12,9 +12,11 @@ abbrev pub to_come : List ℕ → Spot → Option LexFault → Lexed
 to_come text spot None = lexed Between spot (drop spot.offset text)
 to_come text spot (Some fault) = record { tokens = []; ending = Err fault }
 
+-- what a lexer still gives, by its text, its spot and the fault that it found
 abbrev pub still_to_come : Inside → Lexed
 still_to_come a = to_come a.text.now a.spot a.fault
 
+-- what holds of a lexer at any time: its text is not too long, and its spot lies in the text
 pub record IsLexer (a : Inside) : Type 0 where
   pub small : length a.text.now ≤ LONGEST_TEXT
   pub spot : IsSpot a.spot a.text.now

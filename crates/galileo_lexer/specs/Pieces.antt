@@ -15,6 +15,7 @@ use Rattle.galileo_lexer.specs.Spot.{origin, walk, place_of}
 use Rattle.galileo_lexer.specs.Lexed.{Lexed, token_from}
 use Rattle.galileo_lexer.specs.Found.{fault_at}
 
+-- a blank, a comment or a token of the text, by its bytes
 pub data Piece : Type 0 where
   Blank : ℕ → Piece
   -- the bytes behind `//`

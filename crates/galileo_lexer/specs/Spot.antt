@@ -22,6 +22,7 @@ abbrev pub walk : Spot → List ℕ → Spot
 walk spot [] = spot
 walk spot (byte ∷ bytes) = walk (step spot byte) bytes
 
+-- a spot's line, and its column, which counts from 1 on
 abbrev pub place_of : Spot → LexPlace
 place_of spot = record { line = spot.line; column = (spot.offset - spot.line_start) + 1 }
 

@@ -58,6 +58,7 @@ pub record Written : Type 0 where
   pub equals : Lexeme
   pub value : Lexeme
 
+-- the lexemes of an attribute, in their order
 abbrev pub lexemes_in : Written → List Lexeme
 lexemes_in written = written.word ∷ written.equals ∷ written.value ∷ []
 
@@ -67,6 +68,7 @@ pub record IsAttribute (written : Written) : Type 0 where
   pub equals : is_equals written.equals ≡ true
   pub value : is_value written.value ≡ true
 
+-- the attribute that its three lexemes stand for
 abbrev pub attribute_in : Written → RawAttribute
 attribute_in written = attribute_of written.word.text written.value
 
@@ -86,6 +88,7 @@ pub record SpellsBasic (basic : RawBasic) (lexemes : List Lexeme) : Type 0 where
   pub closed : is_semicolon close ≡ true
   pub is : basic ≡ record { name = placed name; attributes = map attribute_in attributes }
 
+-- the lexemes are the spelling of this one statement
 abbrev pub Spells : Statement → List Lexeme → Type 0
 Spells (Top top) lexemes = SpellsTop top lexemes
 Spells (Gate gate) lexemes = SpellsGate gate lexemes
@@ -146,6 +149,7 @@ Expects before wanted =
 
 -- ---- the first fault, and what a text reads as
 
+-- the fault is the first that the lexemes, or the end behind them, have: one of three kinds
 pub data IsFirstFault (stream : Stream) (fault : ParseFault) : Type 0 where
   -- the first lexeme with which no viable list goes on
   at_lexeme : (front : List Lexeme) (lexeme : Lexeme) (back : List Lexeme) (wanted : What) →

@@ -16,6 +16,7 @@ pub record Lexeme : Type 0 where
   pub text : List ℕ
   pub place : Place
 
+-- the lexer's place, as one of the tree
 abbrev pub place_at : LexPlace → Place
 place_at place = record { line = place.line; column = place.column }
 
@@ -26,6 +27,7 @@ text_between Quoted text start stop = slice_range text (start + 1) (stop - 1)
 text_between Equals text start stop = slice_range text start stop
 text_between Semicolon text start stop = slice_range text start stop
 
+-- the lexeme of a token that lies in this text
 abbrev pub lexeme_of : List ℕ → Token → Lexeme
 lexeme_of text token =
     record {
@@ -42,33 +44,39 @@ pub record Stream : Type 0 where
 
 -- ---- tests of a lexeme's kind
 
+-- the token is a word
 abbrev pub is_word_kind : TokenKind → Bool
 is_word_kind Word = true
 is_word_kind Quoted = false
 is_word_kind Equals = false
 is_word_kind Semicolon = false
 
+-- the token stands in quotes
 abbrev pub is_quoted_kind : TokenKind → Bool
 is_quoted_kind Word = false
 is_quoted_kind Quoted = true
 is_quoted_kind Equals = false
 is_quoted_kind Semicolon = false
 
+-- the token is an `=`
 abbrev pub is_equals_kind : TokenKind → Bool
 is_equals_kind Word = false
 is_equals_kind Quoted = false
 is_equals_kind Equals = true
 is_equals_kind Semicolon = false
 
+-- the token is a `;`
 abbrev pub is_semicolon_kind : TokenKind → Bool
 is_semicolon_kind Word = false
 is_semicolon_kind Quoted = false
 is_semicolon_kind Equals = false
 is_semicolon_kind Semicolon = true
 
+-- the lexeme is an `=`
 unfoldable pub is_equals : Lexeme → Bool
 is_equals lexeme = is_equals_kind lexeme.kind
 
+-- the lexeme is a `;`
 unfoldable pub is_semicolon : Lexeme → Bool
 is_semicolon lexeme = is_semicolon_kind lexeme.kind
 

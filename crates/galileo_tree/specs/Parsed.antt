@@ -56,12 +56,15 @@ pub data Step : Type 0 where
   Whole : Statement → Step
   Stop : Step
 
+-- a top statement, of the place of its first word and its name
 abbrev pub top_of : Place → Placed → Statement
 top_of word name = Top (record { word = word; name = name })
 
+-- a gate's statement, of its name, the place of its gate word, its kind and its inputs
 abbrev pub gate_of : Placed → Place → GateKind → List Placed → Statement
 gate_of name word kind inputs = Gate (record { name = name; word = word; kind = kind; inputs = inputs })
 
+-- a basic event's statement, of its name and its attributes
 abbrev pub basic_of : Placed → List RawAttribute → Statement
 basic_of name attributes = Basic (record { name = name; attributes = attributes })
 
@@ -75,6 +78,7 @@ abbrev pub defined_step : Placed → Lexeme → Option GateKind → Step
 defined_step name lexeme (Some kind) = On (GateWord name lexeme kind)
 defined_step name lexeme None = if is_bare lexeme then On (AttributeWord name [] lexeme.text) else Stop
 
+-- what a lexeme does in each state
 abbrev pub step : State → Lexeme → Step
 step Outside lexeme =
     if is_top_word lexeme then On (TopWord lexeme.place)
@@ -114,6 +118,7 @@ abbrev pub closed : Result LexPlace LexFault → Result ReadTree ParseFault
 closed (Ok place) = Ok (record { statements = []; end = place_at place })
 closed (Err fault) = Err (Lex fault)
 
+-- what is read where no lexeme is left: the end of the tree, or what is missing or wrong there
 abbrev pub ended : State → Result LexPlace LexFault → Result ReadTree ParseFault
 ended Outside ending = closed ending
 ended (TopWord word) ending = Err (missing what.Name ending)
@@ -143,6 +148,7 @@ abbrev pub lexemes_of : List ℕ → Stream
 lexemes_of text =
     let read = tokens_of text in record { lexemes = map (lexeme_of text) read.tokens; ending = read.ending }
 
+-- what the lexemes to come and their ending give, from a state on
 abbrev pub parsed_from : State → Stream → Result ReadTree ParseFault
 parsed_from state stream = parsed state stream.lexemes stream.ending
 

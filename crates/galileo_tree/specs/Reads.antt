@@ -57,11 +57,6 @@ abbrev pub Reads : State → Stream → Result Statement ParseFault → Stream �
 Reads state old (Ok statement) new = Closes state old statement new
 Reads state old (Err fault) new = FailsAs fault (parsed_from state old)
 
--- the statement goes on in the state of what was read
-abbrev pub Moves : {A : Type 0} → State → Stream → (A → State) → Result A ParseFault → Stream → Type 0
-Moves state old later (Ok x) new = GoesOn state old (later x) new
-Moves state old later (Err fault) new = FailsAs fault (parsed_from state old)
-
 -- the statement goes on in a state that does not depend on a value
 abbrev pub Steps : {A : Type 0} → State → Stream → State → Result A ParseFault → Stream → Type 0
 Steps state old later (Ok x) new = GoesOn state old later new

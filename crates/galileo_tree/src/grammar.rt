@@ -6,9 +6,9 @@ ghost use Rattle.galileo_tree.specs.declared.raw.RawAttribute.{RawAttribute};
 ghost use Rattle.galileo_tree.specs.declared.fault.ParseFault.TheVariants.{NoMemory};
 ghost use Rattle.galileo_tree.specs.ReadTree.{HasShortNumbers, HasBareWord};
 ghost use Rattle.galileo_tree.specs.Lexeme.{is_value, placed};
-ghost use Rattle.galileo_tree.specs.Parsed.{Outside, TopWord, TopName, Defined, GateWord, Inputs, AttributeWord};
+ghost use Rattle.galileo_tree.specs.Parsed.{Outside, TopWord, Defined, GateWord, Inputs, AttributeWord};
 ghost use Rattle.galileo_tree.specs.Parsed.{AttributeEquals, parsed_text};
-ghost use Rattle.galileo_tree.specs.Reads.{Reads, Moves, Steps, Values, NextWord, FailsAs, before};
+ghost use Rattle.galileo_tree.specs.Reads.{Reads, Steps, Values, NextWord, FailsAs, before};
 
 use crate::fault::{ParseFault, What};
 use crate::lexeme::Lexeme;
@@ -33,18 +33,11 @@ pub fn parse(alloc: Global, text: &[u8]) -> Result<RawTree, ParseFault>
 {
     let mut reader = Reader::new(text);
     let mut statements = GrowingList::new(alloc);
-    loop {
-        let first = match reader.next() {
-            Ok(Some(first)) => first,
-            Ok(None) => return Ok(RawTree::new(statements, reader.end())),
-            Err(fault) => return Err(fault),
-        };
-        let read = match statement(alloc, &mut reader, &first) {
-            Ok(read) => read,
-            Err(fault) => return Err(fault),
-        };
+    while let Some(first) = reader.next()? {
+        let read = statement(alloc, &mut reader, &first)?;
         statements.push(read)?;
     }
+    Ok(RawTree::new(statements, reader.end()))
 }
 
 // The statement that begins with this lexeme.
@@ -57,50 +50,31 @@ fn statement(alloc: Global, reader: &mut Reader, first: &Lexeme) -> Result<State
     if !first.is_name() {
         return Err(ParseFault::Expected(What::Statement, first.place()));
     }
-    match first.placed(alloc) {
-        Ok(name) => definition(alloc, reader, name),
-        Err(fault) => Err(fault),
-    }
+    let name = first.placed(alloc)?;
+    definition(alloc, reader, name)
 }
 
 // The rest of a top statement, behind the word `toplevel`.
 fn top(alloc: Global, reader: &mut Reader, word: Place) -> Result<Statement, ParseFault>
     ensures { Reads (TopWord word) reader.old result reader.new }
 {
-    match top_name(alloc, reader, word) {
-        Ok(name) => top_end(reader, word, name),
-        Err(fault) => Err(fault),
+    let lexeme = reader.want(What::Name)?;
+    if !lexeme.is_name() {
+        return Err(ParseFault::Expected(What::Name, lexeme.place()));
     }
-}
-
-fn top_name(alloc: Global, reader: &mut Reader, word: Place) -> Result<Placed, ParseFault>
-    ensures { Moves (TopWord word) reader.old (TopName word) result reader.new }
-{
-    match reader.want(What::Name) {
-        Ok(lexeme) if lexeme.is_name() => lexeme.placed(alloc),
-        Ok(lexeme) => Err(ParseFault::Expected(What::Name, lexeme.place())),
-        Err(fault) => Err(fault),
+    let name = lexeme.placed(alloc)?;
+    let close = reader.want(What::Semicolon)?;
+    if !close.is_semicolon() {
+        return Err(ParseFault::Expected(What::Semicolon, close.place()));
     }
-}
-
-fn top_end(reader: &mut Reader, word: Place, name: Placed) -> Result<Statement, ParseFault>
-    ensures { Reads (TopName word name) reader.old result reader.new }
-{
-    match reader.want(What::Semicolon) {
-        Ok(lexeme) if lexeme.is_semicolon() => Ok(Statement::Top(RawTop { word, name })),
-        Ok(lexeme) => Err(ParseFault::Expected(What::Semicolon, lexeme.place())),
-        Err(fault) => Err(fault),
-    }
+    Ok(Statement::Top(RawTop { word, name }))
 }
 
 // The rest of a gate or a basic event, behind its name.
 fn definition(alloc: Global, reader: &mut Reader, name: Placed) -> Result<Statement, ParseFault>
     ensures { Reads (Defined name) reader.old result reader.new }
 {
-    let lexeme = match reader.want(What::GateOrAttribute) {
-        Ok(lexeme) => lexeme,
-        Err(fault) => return Err(fault),
-    };
+    let lexeme = reader.want(What::GateOrAttribute)?;
     if lexeme.is_semicolon() {
         return Ok(Statement::Basic(basic(alloc, name)));
     }
@@ -110,14 +84,9 @@ fn definition(alloc: Global, reader: &mut Reader, name: Placed) -> Result<Statem
     if !lexeme.is_bare() {
         return Err(ParseFault::Expected(What::GateOrAttribute, lexeme.place()));
     }
-    match equals(reader) {
-        Ok(()) => {}
-        Err(fault) => return Err(fault),
-    }
-    match lexeme.name(alloc) {
-        Ok(word) => attributes(alloc, reader, basic(alloc, name), word),
-        Err(fault) => Err(fault),
-    }
+    equals(reader)?;
+    let word = lexeme.name(alloc)?;
+    attributes(alloc, reader, basic(alloc, name), word)
 }
 
 // A basic event without attributes.
@@ -141,15 +110,10 @@ fn gate(
     requires { HasShortNumbers kind }
     ensures { Reads (GateWord name word.now kind) reader.old result reader.new }
 {
-    let lexeme = match reader.want(What::Input) {
-        Ok(lexeme) => lexeme,
-        Err(fault) => return Err(fault),
-    };
+    let lexeme = reader.want(What::Input)?;
     if lexeme.is_equals() && word.is_bare() {
-        return match word.name(alloc) {
-            Ok(word) => attributes(alloc, reader, basic(alloc, name), word),
-            Err(fault) => Err(fault),
-        };
+        let word = word.name(alloc)?;
+        return attributes(alloc, reader, basic(alloc, name), word);
     }
     let mut gate = RawGate {
         name,
@@ -163,10 +127,8 @@ fn gate(
     if !lexeme.is_name() {
         return Err(ParseFault::Expected(What::Input, lexeme.place()));
     }
-    match lexeme.add_to(alloc, &mut gate.inputs) {
-        Ok(()) => inputs(alloc, reader, gate),
-        Err(fault) => Err(fault),
-    }
+    lexeme.add_to(alloc, &mut gate.inputs)?;
+    inputs(alloc, reader, gate)
 }
 
 // The rest of a gate behind its inputs so far.
@@ -176,20 +138,14 @@ fn inputs(alloc: Global, reader: &mut Reader, begun: RawGate) -> Result<Statemen
 {
     let mut gate = begun;
     loop {
-        let lexeme = match reader.want(What::Input) {
-            Ok(lexeme) => lexeme,
-            Err(fault) => return Err(fault),
-        };
+        let lexeme = reader.want(What::Input)?;
         if lexeme.is_semicolon() {
             return Ok(Statement::Gate(gate));
         }
         if !lexeme.is_name() {
             return Err(ParseFault::Expected(What::Input, lexeme.place()));
         }
-        match lexeme.add_to(alloc, &mut gate.inputs) {
-            Ok(()) => {}
-            Err(fault) => return Err(fault),
-        }
+        lexeme.add_to(alloc, &mut gate.inputs)?;
     }
 }
 
@@ -207,15 +163,11 @@ fn attributes(
     let mut basic = begun;
     let mut word = first;
     loop {
-        let read = match attribute(alloc, reader, word) {
-            Ok(read) => read,
-            Err(fault) => return Err(fault),
-        };
+        let read = attribute(alloc, reader, word)?;
         basic.attributes.push(read)?;
-        word = match next_word(alloc, reader) {
-            Ok(Some(next)) => next,
-            Ok(None) => return Ok(Statement::Basic(basic)),
-            Err(fault) => return Err(fault),
+        word = match next_word(alloc, reader)? {
+            Some(next) => next,
+            None => return Ok(Statement::Basic(basic)),
         };
     }
 }
@@ -227,21 +179,15 @@ fn attribute(alloc: Global, reader: &mut Reader, word: Name) -> Result<RawAttrib
         → Values name attributes word reader.old result reader.new }
     ensures form { IfOk result HasBareWord }
 {
-    let lexeme = match reader.want(What::Value) {
-        Ok(lexeme) => lexeme,
-        Err(fault) => return Err(fault),
-    };
+    let lexeme = reader.want(What::Value)?;
     if !lexeme.is_value() {
         return Err(ParseFault::Expected(What::Value, lexeme.place()));
     }
-    let value_place = lexeme.place();
-    match lexeme.name(alloc) {
-        Ok(value) => Ok(RawAttribute {
-            attribute: Attribute { word, value },
-            value_place,
-        }),
-        Err(fault) => Err(fault),
-    }
+    let value = lexeme.name(alloc)?;
+    Ok(RawAttribute {
+        attribute: Attribute { word, value },
+        value_place: lexeme.place(),
+    })
 }
 
 // Behind a value: the word of the next attribute, with its `=` read, or None behind the `;`.
@@ -250,24 +196,16 @@ fn next_word(alloc: Global, reader: &mut Reader) -> Result<Option<Name>, ParseFa
         → NextWord name attributes reader.old result reader.new }
     ensures bare { IfOk result (λ found. IfSome found (λ word. is_bare_name word ≡ true)) }
 {
-    let lexeme = match reader.want(What::Attribute) {
-        Ok(lexeme) => lexeme,
-        Err(fault) => return Err(fault),
-    };
+    let lexeme = reader.want(What::Attribute)?;
     if lexeme.is_semicolon() {
         return Ok(None);
     }
     if !lexeme.is_bare() {
         return Err(ParseFault::Expected(What::Attribute, lexeme.place()));
     }
-    match equals(reader) {
-        Ok(()) => {}
-        Err(fault) => return Err(fault),
-    }
-    match lexeme.name(alloc) {
-        Ok(word) => Ok(Some(word)),
-        Err(fault) => Err(fault),
-    }
+    equals(reader)?;
+    let word = lexeme.name(alloc)?;
+    Ok(Some(word))
 }
 
 // The `=` behind the word of an attribute.
@@ -275,9 +213,9 @@ fn equals(reader: &mut Reader) -> Result<(), ParseFault>
     ensures { (name : Placed) (attributes : List RawAttribute) (word : List ℕ) →
         Steps (AttributeWord name attributes word) reader.old (AttributeEquals name attributes word) result reader.new }
 {
-    match reader.want(What::Equals) {
-        Ok(lexeme) if lexeme.is_equals() => Ok(()),
-        Ok(lexeme) => Err(ParseFault::Expected(What::Equals, lexeme.place())),
-        Err(fault) => Err(fault),
+    let lexeme = reader.want(What::Equals)?;
+    if !lexeme.is_equals() {
+        return Err(ParseFault::Expected(What::Equals, lexeme.place()));
     }
+    Ok(())
 }

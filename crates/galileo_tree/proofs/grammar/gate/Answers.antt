@@ -3,20 +3,14 @@ use Rattle.galileo_tree.specs.Parsed.{GateWord, AttributeEquals}
 use Rattle.galileo_tree.proofs.LexemeKinds.{equals_alone}
 use Rattle.galileo_tree.proofs.Parses.{goes_by, reads_after}
 use Rattle.galileo_tree.proofs.grammar.gate.Goals as goal
-use Rattle.galileo_tree.proofs.grammar.gate.Goals.{in-Ok-name, in-Err-name}
 
 -- the gate word was the word of an attribute
 pub returns-then-is_bare : goal.returns-then-is_bare
 returns-then-is_bare c =
     let word = c.args.word.now in
     let first = GateWord c.args.name word c.args.kind in
-    let alone = equals_alone c.in-Ok.lexeme (sym c.if-is_equals.ensures) in
-    let goes = goes_by first (AttributeEquals c.args.name [] word.text) _ _ c.in-Ok.lexeme c.in-Ok.ensures
+    let alone = equals_alone c.in_ok-lexeme.lexeme (sym c.if-is_equals.ensures) in
+    let goes = goes_by first (AttributeEquals c.args.name [] word.text) _ _ c.in_ok-lexeme.lexeme c.in_ok-lexeme.ensures
     (rw (alone.0, alone.1, sym c.if-is_equals.ensures, sym c.if-is_bare.ensures.bare) refl) in
-    elim c.match-name.branch [
-      | in-Ok-name w ↦
-          rw (w.result-is, w.reader-is)
-          (reads_after first (AttributeEquals c.args.name [] word.text) _ _ _ goes _
-          (rw (w.basic.ensures, w.in-Ok-name.ensures.name) at w.attributes.ensures))
-      | in-Err-name w ↦ rw (w.result-is, w.in-Err-name.ensures.memory) tt
-    ]
+    reads_after first (AttributeEquals c.args.name [] word.text) _ _ _ goes _
+    (rw (c.basic.ensures, c.in_ok-word.ensures.name) at c.attributes.ensures)

@@ -5,13 +5,15 @@ use Rattle.galileo_tree.proofs.Parses.{front_grows}
 use Rattle.galileo_tree.proofs.grammar.parse.Goals as goal
 
 -- the statement that was read stands behind those before it
-pub loop-first-preserved : goal.loop-first-preserved
-loop-first-preserved c =
-    let takes = rw c.in-Ok-Some.field-0-is at c.in-Ok-Some.ensures in
+pub loop-statements-preserved : goal.loop-statements-preserved
+loop-statements-preserved c =
+    let before = c.loop-statements.statements in
+    let read = c.in_ok-read.read in
+    let takes = rw c.in-Some.is at c.in_ok-first.ensures in
     rw c.in_ok-push.ensures.added
     (record {
       same =
-          front_grows (parsed_text c.args.text.now) c.loop-first.statements _ _ _ c.in-Ok-Some.first c.in-Ok.read
-          c.loop-first.invariant.same takes c.in-Ok.ensures;
-      form = All-push KeepsForm c.loop-first.statements c.in-Ok.read c.loop-first.invariant.form c.in-Ok.ensures.form;
+          front_grows (parsed_text c.args.text.now) before _ _ _ c.in-Some.first read c.loop-statements.invariant.same
+          takes c.in_ok-read.ensures;
+      form = All-push KeepsForm before read c.loop-statements.invariant.form c.in_ok-read.ensures.form;
     })

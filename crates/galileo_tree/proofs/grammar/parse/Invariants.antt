@@ -5,11 +5,11 @@ use Rattle.galileo_tree.specs.Parsed.{Outside, parsed_from, parsed_text}
 use Rattle.galileo_tree.proofs.Parses.{with_front}
 use Rattle.galileo_tree.proofs.grammar.parse.Given as goal
 
-abbrev pub invariant-loop-first : goal.invariant-loop-first
-invariant-loop-first l = record {
+abbrev pub invariant-loop-statements : goal.invariant-loop-statements
+invariant-loop-statements l = record {
   same : parsed_text l.text ≡ with_front l.statements (parsed_from Outside l.reader);
   form : All KeepsForm l.statements;
 }
 
-abbrev pub decreases-loop-first : goal.decreases-loop-first
-decreases-loop-first l = length l.reader.lexemes
+abbrev pub decreases-loop-statements : goal.decreases-loop-statements
+decreases-loop-statements l = length l.reader.lexemes
