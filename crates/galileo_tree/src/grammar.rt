@@ -22,7 +22,7 @@ use flat_rows::GrowingList;
 use galileo_lexer::LONGEST_TEXT;
 use std::alloc::Global;
 
-// Most gates have two inputs, so the first room is for these.
+// Most gates have two inputs, so the first room of a gate with more than one is for these.
 const USUAL_INPUTS: usize = 2;
 
 /// The statements of a text that is in the grammar, else its first fault.
@@ -119,7 +119,7 @@ fn gate(
         name,
         word: word.place(),
         kind,
-        inputs: PlacedList::with_room(alloc, USUAL_INPUTS)?,
+        inputs: PlacedList::new(alloc),
     };
     if lexeme.is_semicolon() {
         return Ok(Statement::Gate(gate));
@@ -127,26 +127,35 @@ fn gate(
     if !lexeme.is_name() {
         return Err(ParseFault::Expected(What::Input, lexeme.place()));
     }
+    // A text may have hundreds of thousands of gates with one input: what stands behind it says whether it is alone.
+    let next = reader.want(What::Input)?;
+    let room = if next.is_semicolon() { 1 } else { USUAL_INPUTS };
+    gate.inputs = PlacedList::with_room(alloc, room)?;
     lexeme.add_to(alloc, &mut gate.inputs)?;
-    inputs(alloc, reader, gate)
+    inputs(alloc, reader, gate, next)
 }
 
-// The rest of a gate behind its inputs so far.
-fn inputs(alloc: Global, reader: &mut Reader, begun: RawGate) -> Result<Statement, ParseFault>
+// The rest of a gate behind its inputs so far, from this lexeme on.
+fn inputs<'a>(
+    alloc: Global,
+    reader: &mut Reader<'a>,
+    begun: RawGate,
+    first: Lexeme<'a>,
+) -> Result<Statement, ParseFault>
     requires { HasShortNumbers begun.kind }
-    ensures { Reads (Inputs begun.name begun.word begun.kind begun.inputs) reader.old result reader.new }
+    ensures { Reads (Inputs begun.name begun.word begun.kind begun.inputs) (before first.entry reader.old) result
+        reader.new }
 {
     let mut gate = begun;
-    loop {
-        let lexeme = reader.want(What::Input)?;
-        if lexeme.is_semicolon() {
-            return Ok(Statement::Gate(gate));
-        }
+    let mut lexeme = first;
+    while !lexeme.is_semicolon() {
         if !lexeme.is_name() {
             return Err(ParseFault::Expected(What::Input, lexeme.place()));
         }
         lexeme.add_to(alloc, &mut gate.inputs)?;
+        lexeme = reader.want(What::Input)?;
     }
+    Ok(Statement::Gate(gate))
 }
 
 // The rest of a basic event behind the `=` of this attribute word.

@@ -1,15 +1,17 @@
 use Rattle.std.proofs.Common.{◌≡◌, ◌≤◌, length}
 use Rattle.galileo_tree.specs.ReadTree.{HasShortNumbers}
 use Rattle.galileo_tree.specs.Parsed.{Inputs, parsed_from}
+use Rattle.galileo_tree.specs.Reads.{before}
 use Rattle.galileo_tree.proofs.grammar.inputs.Given as goal
 
-abbrev pub invariant-loop-gate : goal.invariant-loop-gate
-invariant-loop-gate l = record {
-  same : parsed_from (Inputs l.fn.begun.name l.fn.begun.word l.fn.begun.kind l.fn.begun.inputs) l.fn.reader
-      ≡ parsed_from (Inputs l.gate.name l.gate.word l.gate.kind l.gate.inputs) l.reader;
+abbrev pub invariant-loop-lexeme : goal.invariant-loop-lexeme
+invariant-loop-lexeme l = record {
+  same : parsed_from (Inputs l.fn.begun.name l.fn.begun.word l.fn.begun.kind l.fn.begun.inputs)
+      (before l.fn.first l.fn.reader)
+      ≡ parsed_from (Inputs l.gate.name l.gate.word l.gate.kind l.gate.inputs) (before l.lexeme l.reader);
   short : HasShortNumbers l.gate.kind;
   fewer : length l.reader.lexemes ≤ length l.fn.reader.lexemes;
 }
 
-abbrev pub decreases-loop-gate : goal.decreases-loop-gate
-decreases-loop-gate l = length l.reader.lexemes
+abbrev pub decreases-loop-lexeme : goal.decreases-loop-lexeme
+decreases-loop-lexeme l = length l.reader.lexemes
