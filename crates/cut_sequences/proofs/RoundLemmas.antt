@@ -11,7 +11,7 @@ use Rattle.cut_sequences.specs.declared.refusal.OrderEnd.TheVariants.{OrderLimit
 use Rattle.cut_sequences.specs.declared.share.Work.{Work}
 use Rattle.cut_sequences.specs.declared.share.Stop.{Stop}
 use Rattle.cut_sequences.specs.Orders.{order_limit, order_total, IsOver}
-use Rattle.cut_sequences.specs.Dealing.{dealt, Share, AreShares}
+use Rattle.cut_sequences.specs.Dealing.{dealt, most_workers, Share, AreShares}
 use Rattle.cut_sequences.specs.Working.{whole, HasStopped, WentOn, AreAtWork, orders_of_work}
 use Rattle.cut_sequences.proofs.DealLemmas.{dealt-le, dealt-drop, dealt-none, dealt_total, dealt_total-all}
 use Rattle.cut_sequences.proofs.ListLemmas.{IsOver-more, order_total-append}
@@ -112,7 +112,7 @@ module _ (lists : Share) (stop : Stop) (works : List Work) (answers : List (Resu
 
 -- ---- the first round and the last
 
-pub all_start : (lists : Share) (works : List Work) → 0 < length works → length works ≤ 16
+pub all_start : (lists : Share) (works : List Work) → 0 < length works → length works ≤ most_workers
     → ((worker : ℕ) (d : Work) → worker < length works → get_or works worker d ≡ record { share = []; next = worker })
     → AreAtWork lists works
 all_start lists works some few each = record {

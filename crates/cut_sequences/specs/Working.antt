@@ -1,11 +1,22 @@
 -- What the workers have listed so far, and what they still have to list.
-use Rattle.std.specs.Prelude.{◌≡◌, ℕ, ◌-◌, ◌<◌, ◌≤◌, Bool, List, ◌++◌, length, drop, Result, Ok, Err, slice_index_or}
+use Rattle.std.specs.Prelude.{◌≡◌, ℕ, ◌-◌, ◌<◌, ◌≤◌, Bool, List, ◌++◌, length, drop, All, Result, Ok, Err}
+use Rattle.std.specs.Prelude.{slice_index_or}
+use Rattle.fault_definitions.specs.Tree.{IsUnitOf}
 use Rattle.cut_sequences.specs.declared.refusal.OrderEnd.{OrderEnd}
+use Rattle.cut_sequences.specs.declared.share.Sets.{Sets}
 use Rattle.cut_sequences.specs.declared.share.Work.{Work}
 use Rattle.cut_sequences.specs.declared.share.Stop.{Stop}
 use Rattle.cut_sequences.specs.Holding.{lists_of, HoldsShare}
-use Rattle.cut_sequences.specs.Orders.{order_total, IsOver}
-use Rattle.cut_sequences.specs.Dealing.{dealt, Share}
+use Rattle.cut_sequences.specs.Orders.{order_lists, order_total, IsOver}
+use Rattle.cut_sequences.specs.Dealing.{dealt, most_workers, Share}
+
+-- each of the sets has units of the tree alone
+abbrev pub AreOfTree : Sets → Type 0
+AreOfTree sets = All (λ (cut : List ℕ). All (IsUnitOf sets.tree.now) cut) sets.cuts.now
+
+-- the lists that the workers are to make together: of each set its failing orders, if it is not too large
+abbrev pub lists_due : Sets → Share
+lists_due sets = order_lists sets.tree.now sets.cuts.now sets.most
 
 -- the lists that a worker has, and those that it still has to add
 abbrev pub whole : Share → ℕ → Work → Share
@@ -34,7 +45,7 @@ AddsSets lists workers stop work listed ends orders (Err end) = WentOn lists wor
 -- each of the workers gets what is dealt to it
 pub record AreAtWork (lists : Share) (works : List Work) : Type 0 where
   pub some : 0 < length works
-  pub few : length works ≤ 16
+  pub few : length works ≤ most_workers
   pub each : (worker : ℕ) (d : Work) → worker < length works
       → whole lists (length works) (slice_index_or works worker d) ≡ dealt worker (length works - 1) lists
 

@@ -1,10 +1,12 @@
 //! The orders of each cut set that fail the top event.
 ghost use Rattle.std.specs.Prelude.{◌≡◌, ◌<◌, ◌≤◌, length, All, IfOk, IsErrOf, drop};
 ghost use Rattle.fault_definitions.specs.Tree.{IsUnitOf};
+ghost use Rattle.cut_sequences.specs.Dealing.{most_workers};
 ghost use Rattle.cut_sequences.specs.Orders.{order_limit, order_lists, order_total};
 
 use crate::lists::gather;
 use crate::rounds::all_shares;
+use crate::share::Sets;
 use crate::{OrderEnd, OrderLists};
 use fault_model::Tree;
 use std::alloc::Global;
@@ -47,7 +49,7 @@ pub fn orders<R: Threads + Sync>(
 ) -> Result<OrderLists, OrderEnd>
     requires most { most ≤ 8 }
     requires some { 1 ≤ workers }
-    requires few { workers ≤ 16 }
+    requires few { workers ≤ most_workers }
     requires units { All (λ cut. All (IsUnitOf tree.now) cut) cuts.now }
 
     ensures listed { IfOk result (λ lists. lists ≡ order_lists tree.now cuts.now most) }
@@ -60,6 +62,7 @@ pub fn orders<R: Threads + Sync>(
     let end = end_of_listed(cuts, most);
     // A worker without a set would cost its thread.
     let workers = (workers as usize).min(end.max(1));
-    let shares = all_shares(rt, alloc, tree, cuts, most, end, workers)?;
+    let sets = Sets { tree, cuts, most };
+    let shares = all_shares(rt, alloc, sets, end, workers)?;
     gather(shares, cuts.len())
 }

@@ -1,6 +1,6 @@
 //! The orders of the sets of a cut list.
 ghost use Rattle.std.specs.Prelude.{◌≡◌, ◌<◌, ◌≤◌, [], length, true, IfOk, IsErrOf, slice_index_or, sum_by};
-ghost use Rattle.cut_sequences.specs.Dealing.{AreShares, gathered};
+ghost use Rattle.cut_sequences.specs.Dealing.{AreShares, gathered, most_workers};
 ghost use Rattle.cut_sequences.specs.Orders.{is_listed, orders_at, order_limit, order_total};
 
 use crate::share::Share;
@@ -80,7 +80,7 @@ impl OrderLists {
 
 // The number of orders of some shares.
 fn total_of(shares: &[Share]) -> u64
-    requires { length shares.now ≤ 16 }
+    requires { length shares.now ≤ most_workers }
     ensures { result ≡ sum_by order_total shares.now }
 {
     let mut total = 0;
@@ -93,7 +93,7 @@ fn total_of(shares: &[Share]) -> u64
 /// The lists of so many sets, from the shares of all workers.
 pub fn gather(shares: Vec<Share>, sets: usize) -> Result<OrderLists, OrderEnd>
     requires shares { AreShares (gathered sets shares.items) shares.items }
-    requires few { length shares.items ≤ 16 }
+    requires few { length shares.items ≤ most_workers }
 
     ensures lists { IfOk result (λ lists. lists ≡ gathered sets shares.items) }
     ensures within { IfOk result (λ lists. order_total lists ≤ order_limit) }

@@ -3,18 +3,15 @@
 //! No worker runs far ahead of the others, so that all stop soon after they have too many orders together.
 ghost use Rattle.std.specs.Prelude.{◌≡◌, ◌<◌, ◌≤◌, ℕ, true, false, length, map, slice_index_or, All, IfOk, IsErrOf};
 ghost use Rattle.std.specs.Prelude.{Contains, Ok, Err, drop, sum_by};
-ghost use Rattle.fault_definitions.specs.Tree.{IsUnitOf};
-ghost use Rattle.cut_sequences.specs.Dealing.{AreShares, Share as Lists};
-ghost use Rattle.cut_sequences.specs.Orders.{order_limit, order_lists, order_total};
-ghost use Rattle.cut_sequences.specs.Working.{WentOn, AreAtWork, HasStopped, orders_of_work};
+ghost use Rattle.cut_sequences.specs.Dealing.{AreShares, Share as Lists, most_workers};
+ghost use Rattle.cut_sequences.specs.Orders.{order_limit, order_total};
+ghost use Rattle.cut_sequences.specs.Working.{AreOfTree, WentOn, AreAtWork, HasStopped, lists_due, orders_of_work};
 
-use crate::share::{Share, Stop, Work, go_on};
+use crate::share::{Sets, Share, Stop, Work, go_on};
 use crate::{ORDER_LIMIT, OrderEnd};
-use fault_model::Tree;
 use std::alloc::{AllocError, Global};
 use std::thread;
 use std::thread::Threads;
-use unit_sets::CutList;
 
 // The sets before the first stop; each later stop stands about four times as far.
 const FIRST_SETS: usize = 256;
@@ -26,26 +23,24 @@ const ORDERS_A_ROUND: usize = 125_000;
 fn answers_of<R: Threads + Sync>(
     rt: &R,
     alloc: Global,
-    tree: &Tree,
-    cuts: &CutList,
-    most: u32,
+    sets: Sets,
     stop: Stop,
     works: Vec<Work>,
 ) -> Result<Vec<Result<Work, OrderEnd>>, AllocError>
     requires some { 0 < length works.items }
-    requires few { length works.items ≤ 16 }
-    requires place { stop.place ≤ length cuts.now }
-    requires units { All (λ cut. All (IsUnitOf tree.now) cut) cuts.now }
+    requires few { length works.items ≤ most_workers }
+    requires place { stop.place ≤ length sets.cuts.now }
+    requires units { AreOfTree sets }
     ensures all { IfOk result (λ answers. length answers.items ≡ length works.items) }
     ensures each { IfOk result (λ answers. (worker : ℕ) (work : _) (d : _) → worker < length works.items
-        → WentOn (order_lists tree.now cuts.now most) (length works.items) stop (slice_index_or works.items worker work)
+        → WentOn (lists_due sets.entry) (length works.items) stop (slice_index_or works.items worker work)
         (slice_index_or answers.items worker d)) }
 {
     let workers = works.len();
     thread::map_vec(
         rt,
         works,
-        &|work| { go_on(alloc, tree, cuts, most, workers, stop, work) },
+        &|work| { go_on(alloc, sets, workers, stop, work) },
     )
 }
 
@@ -63,7 +58,7 @@ fn works_of(alloc: Global, answers: Vec<Result<Work, OrderEnd>>) -> Result<Vec<W
 
 // The number of orders that the workers have together.
 fn orders_so_far(works: &[Work]) -> u64
-    requires { length works.now ≤ 16 }
+    requires { length works.now ≤ most_workers }
     ensures { result ≡ sum_by orders_of_work works.now }
 {
     let mut total = 0;
@@ -77,22 +72,19 @@ fn orders_so_far(works: &[Work]) -> u64
 fn round<R: Threads + Sync>(
     rt: &R,
     alloc: Global,
-    tree: &Tree,
-    cuts: &CutList,
-    most: u32,
+    sets: Sets,
     stop: Stop,
     works: Vec<Work>,
 ) -> Result<Vec<Work>, OrderEnd>
-    requires at_work { AreAtWork (order_lists tree.now cuts.now most) works.items }
-    requires place { stop.place ≤ length cuts.now }
-    requires units { All (λ cut. All (IsUnitOf tree.now) cut) cuts.now }
-    ensures at_work { IfOk result (λ later. AreAtWork (order_lists tree.now cuts.now most) later.items) }
+    requires at_work { AreAtWork (lists_due sets) works.items }
+    requires place { stop.place ≤ length sets.cuts.now }
+    requires units { AreOfTree sets }
+    ensures at_work { IfOk result (λ later. AreAtWork (lists_due sets.entry) later.items) }
     ensures stopped { IfOk result (λ later. All (HasStopped stop) later.items) }
     ensures workers { IfOk result (λ later. length later.items ≡ length works.items) }
-    ensures limit { IsErrOf result OrderEnd.OrderLimit
-        → order_limit < order_total (order_lists tree.now cuts.now most) }
+    ensures limit { IsErrOf result OrderEnd.OrderLimit → order_limit < order_total (lists_due sets.entry) }
 {
-    let works = works_of(alloc, answers_of(rt, alloc, tree, cuts, most, stop, works)?)?;
+    let works = works_of(alloc, answers_of(rt, alloc, sets, stop, works)?)?;
     if orders_so_far(works.as_slice()) > ORDER_LIMIT {
         return Err(OrderEnd::OrderLimit);
     }
@@ -117,30 +109,27 @@ fn has_enough(works: &[Work], stop: Stop) -> bool
 fn all_rounds<R: Threads + Sync>(
     rt: &R,
     alloc: Global,
-    tree: &Tree,
-    cuts: &CutList,
-    most: u32,
+    sets: Sets,
     end: usize,
     stop: Stop,
     works: Vec<Work>,
 ) -> Result<Vec<Work>, OrderEnd>
-    requires at_work { AreAtWork (order_lists tree.now cuts.now most) works.items }
-    requires end { end ≤ length cuts.now }
+    requires at_work { AreAtWork (lists_due sets) works.items }
+    requires end { end ≤ length sets.cuts.now }
     requires place { stop.place ≤ end }
-    requires units { All (λ cut. All (IsUnitOf tree.now) cut) cuts.now }
-    ensures at_work { IfOk result (λ later. AreAtWork (order_lists tree.now cuts.now most) later.items) }
+    requires units { AreOfTree sets }
+    ensures at_work { IfOk result (λ later. AreAtWork (lists_due sets.entry) later.items) }
     ensures done { IfOk result (λ later. All (λ work. end ≤ work.next) later.items) }
     ensures workers { IfOk result (λ later. length later.items ≡ length works.items) }
-    ensures limit { IsErrOf result OrderEnd.OrderLimit
-        → order_limit < order_total (order_lists tree.now cuts.now most) }
+    ensures limit { IsErrOf result OrderEnd.OrderLimit → order_limit < order_total (lists_due sets.entry) }
 {
-    let works = round(rt, alloc, tree, cuts, most, stop, works)?;
+    let works = round(rt, alloc, sets, stop, works)?;
     if has_enough(works.as_slice(), stop) {
         let more = Stop {
             orders: stop.orders + ORDERS_A_ROUND,
             ..stop
         };
-        return all_rounds(rt, alloc, tree, cuts, most, end, more, works);
+        return all_rounds(rt, alloc, sets, end, more, works);
     }
     if stop.place < end {
         let further = Stop {
@@ -151,7 +140,7 @@ fn all_rounds<R: Threads + Sync>(
                 .min(end),
             ..stop
         };
-        return all_rounds(rt, alloc, tree, cuts, most, end, further, works);
+        return all_rounds(rt, alloc, sets, end, further, works);
     }
     Ok(works)
 }
@@ -159,7 +148,7 @@ fn all_rounds<R: Threads + Sync>(
 // No worker has listed a set: each begins with the set of its number.
 fn starts(alloc: Global, workers: usize) -> Result<Vec<Work>, OrderEnd>
     requires some { 0 < workers }
-    requires few { workers ≤ 16 }
+    requires few { workers ≤ most_workers }
     ensures at_work { IfOk result (λ works. (lists : Lists) → AreAtWork lists works.items) }
     ensures workers { IfOk result (λ works. length works.items ≡ workers) }
     ensures memory { IsErrOf result OrderEnd.OrderLimit → ⊥ }
@@ -191,29 +180,23 @@ fn shares_of(alloc: Global, works: Vec<Work>) -> Result<Vec<Share>, OrderEnd>
 pub fn all_shares<R: Threads + Sync>(
     rt: &R,
     alloc: Global,
-    tree: &Tree,
-    cuts: &CutList,
-    most: u32,
+    sets: Sets,
     end: usize,
     workers: usize,
 ) -> Result<Vec<Share>, OrderEnd>
-    requires within { end ≤ length cuts.now }
-    requires larger { All (λ cut. most < length cut) (drop end cuts.now) }
+    requires within { end ≤ length sets.cuts.now }
+    requires larger { All (λ cut. sets.most < length cut) (drop end sets.cuts.now) }
     requires some { 0 < workers }
-    requires few { workers ≤ 16 }
-    requires units { All (λ cut. All (IsUnitOf tree.now) cut) cuts.now }
-    ensures shares { IfOk result (λ shares. AreShares (order_lists tree.now cuts.now most) shares.items) }
+    requires few { workers ≤ most_workers }
+    requires units { AreOfTree sets }
+    ensures shares { IfOk result (λ shares. AreShares (lists_due sets.entry) shares.items) }
     ensures workers { IfOk result (λ shares. length shares.items ≡ workers) }
-    ensures limit { IsErrOf result OrderEnd.OrderLimit
-        → order_limit < order_total (order_lists tree.now cuts.now most) }
+    ensures limit { IsErrOf result OrderEnd.OrderLimit → order_limit < order_total (lists_due sets.entry) }
 {
     let stop = Stop {
         place: FIRST_SETS.min(end),
         orders: ORDERS_A_ROUND,
     };
     let works = starts(alloc, workers)?;
-    shares_of(
-        alloc,
-        all_rounds(rt, alloc, tree, cuts, most, end, stop, works)?,
-    )
+    shares_of(alloc, all_rounds(rt, alloc, sets, end, stop, works)?)
 }

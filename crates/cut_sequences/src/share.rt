@@ -3,7 +3,8 @@ ghost use Rattle.std.specs.Prelude.{◌≡◌, ◌<◌, ◌≤◌, [], length, A
 ghost use Rattle.fault_definitions.specs.Tree.{IsUnitOf};
 ghost use Rattle.fault_definitions.specs.WellFormed.{IsTree};
 ghost use Rattle.cut_sequences.specs.Going.{CanGoOn};
-ghost use Rattle.cut_sequences.specs.Working.{AddsSets, WentOn, work_of};
+ghost use Rattle.cut_sequences.specs.Dealing.{most_workers};
+ghost use Rattle.cut_sequences.specs.Working.{AddsSets, AreOfTree, WentOn, lists_due, work_of};
 ghost use Rattle.flat_rows.specs.Rows.{start_of};
 ghost use Rattle.cut_sequences.specs.Holding.{lists_of, HoldsShare, AddsList};
 ghost use Rattle.cut_sequences.specs.Orders.{order_limit, order_lists, order_total, orders_of, orders_at, is_listed};
@@ -34,6 +35,14 @@ impl Model for Share {
     ghost view = { λ share. lists_of share.listed.items share.ends.items share.orders };
 
     ghost invariant = { λ share. HoldsShare share.listed.items share.ends.items share.orders };
+}
+
+/// The sets whose orders the workers list: those of a tree's cut list with at most so many members.
+#[derive(Clone, Copy)]
+pub struct Sets<'a> {
+    pub tree: &'a Tree,
+    pub cuts: &'a CutList,
+    pub most: u32,
 }
 
 /// The share of a worker so far, and the place of the first set that it still lacks.
@@ -104,99 +113,102 @@ impl Share {
     }
 }
 
-// Lists the orders of one set more, if it is not too large.
-fn add_set(
-    search: &mut Search,
-    ends: &mut Vec<usize>,
-    listed: &mut Vec<bool>,
-    set: &[UnitNo],
-    most: u32,
-) -> Result<(), OrderEnd>
-    requires start { search.old.replay.order ≡ [] }
-    requires set { CanGoOn search.old.replay.tree [] set.now }
-    requires some { 0 < length set.now }
-    requires held { HoldsShare listed.old.items ends.old.items search.old.orders }
-
-    ensures tree { OnOk result (search.new.replay.tree ≡ search.old.replay.tree) }
-    ensures order { OnOk result (search.new.replay.order ≡ []) }
-    ensures added { AddsList listed.old.items ends.old.items search.old.orders
-        listed.new.items ends.new.items search.new.orders (orders_of search.old.replay.tree most set.now) result }
-{
-    let small = set.len() <= most as usize;
-    if small {
-        search.list_set(set)?;
-    }
-    ends.push(search.orders.len())?;
-    listed.push(small)?;
-    Ok(())
+// A share that grows: the search has its orders, and goes on with those of the next set.
+#[derive(Drop)]
+struct GrowingShare<'t> {
+    search: Search<'t>,
+    ends: Vec<usize>,
+    listed: Vec<bool>,
 }
 
-// Lists the orders of a worker's sets from a place on, until the worker has to stop: answers the place of the next set.
-fn add_sets(
-    search: &mut Search,
-    ends: &mut Vec<usize>,
-    listed: &mut Vec<bool>,
-    cuts: &CutList,
-    most: u32,
-    workers: usize,
-    stop: Stop,
-    from: usize,
-) -> Result<usize, OrderEnd>
-    requires kept { IsTree search.old.replay.tree }
-    requires start { search.old.replay.order ≡ [] }
-    requires some { 0 < workers }
-    requires few { workers ≤ 16 }
-    requires place { stop.place ≤ length cuts.now }
-    requires units { All (λ cut. All (IsUnitOf search.old.replay.tree) cut) cuts.now }
-    requires held { HoldsShare listed.old.items ends.old.items search.old.orders }
+impl<'t> GrowingShare<'t> {
+    // Lists the orders of one set more, if it is not too large.
+    fn add_set(&mut self, set: &[UnitNo], most: u32) -> Result<(), OrderEnd>
+        requires start { self.old.search.replay.order ≡ [] }
+        requires set { CanGoOn self.old.search.replay.tree [] set.now }
+        requires some { 0 < length set.now }
+        requires held { HoldsShare self.old.listed.items self.old.ends.items self.old.search.orders }
 
-    ensures { AddsSets (order_lists search.old.replay.tree cuts.now most) workers stop
-        (work_of listed.old.items ends.old.items search.old.orders from)
-        listed.new.items ends.new.items search.new.orders result }
-{
-    let mut next = from;
-    while next < stop.place && search.orders.len() <= stop.orders {
-        add_set(search, ends, listed, cuts.members(next), most)?;
-        next += workers;
+        ensures tree { OnOk result (self.new.search.replay.tree ≡ self.old.search.replay.tree) }
+        ensures order { OnOk result (self.new.search.replay.order ≡ []) }
+        ensures added { AddsList self.old.listed.items self.old.ends.items self.old.search.orders
+            self.new.listed.items self.new.ends.items self.new.search.orders
+            (orders_of self.old.search.replay.tree most set.now) result }
+    {
+        let small = set.len() <= most as usize;
+        if small {
+            self.search.list_set(set)?;
+        }
+        self.ends.push(self.search.orders.len())?;
+        self.listed.push(small)?;
+        Ok(())
     }
-    Ok(next)
+
+    // Lists the orders of a worker's sets from a place on, until the worker has to stop: answers the place of the next
+    // set.
+    fn add_sets(
+        &mut self,
+        cuts: &CutList,
+        most: u32,
+        workers: usize,
+        stop: Stop,
+        from: usize,
+    ) -> Result<usize, OrderEnd>
+        requires kept { IsTree self.old.search.replay.tree }
+        requires start { self.old.search.replay.order ≡ [] }
+        requires some { 0 < workers }
+        requires few { workers ≤ most_workers }
+        requires place { stop.place ≤ length cuts.now }
+        requires units { All (λ cut. All (IsUnitOf self.old.search.replay.tree) cut) cuts.now }
+        requires held { HoldsShare self.old.listed.items self.old.ends.items self.old.search.orders }
+
+        ensures { AddsSets (order_lists self.old.search.replay.tree cuts.now most) workers stop
+            (work_of self.old.listed.items self.old.ends.items self.old.search.orders from)
+            self.new.listed.items self.new.ends.items self.new.search.orders result }
+    {
+        let mut next = from;
+        while next < stop.place && self.search.orders.len() <= stop.orders {
+            self.add_set(cuts.members(next), most)?;
+            next += workers;
+        }
+        Ok(next)
+    }
 }
 
 /// Goes on with a worker's sets, every so many sets one, until it has to stop.
 pub fn go_on(
     alloc: Global,
-    tree: &Tree,
-    cuts: &CutList,
-    most: u32,
+    sets: Sets,
     workers: usize,
     stop: Stop,
     work: Work,
 ) -> Result<Work, OrderEnd>
     requires some { 0 < workers }
-    requires few { workers ≤ 16 }
-    requires place { stop.place ≤ length cuts.now }
-    requires units { All (λ cut. All (IsUnitOf tree.now) cut) cuts.now }
+    requires few { workers ≤ most_workers }
+    requires place { stop.place ≤ length sets.cuts.now }
+    requires units { AreOfTree sets }
 
-    ensures { WentOn (order_lists tree.now cuts.now most) workers stop work result }
+    ensures { WentOn (lists_due sets.entry) workers stop work result }
 {
-    let mut search = Search::new(alloc, tree)?;
+    let mut search = Search::new(alloc, sets.tree)?;
     let Work { share, next } = work;
     let Share {
         orders,
-        mut ends,
-        mut listed,
+        ends,
+        listed,
     } = share;
     search.orders = orders;
-    let next = add_sets(
-        &mut search,
-        &mut ends,
-        &mut listed,
-        cuts,
-        most,
-        workers,
-        stop,
-        next,
-    )?;
+    let mut growing = GrowingShare {
+        search,
+        ends,
+        listed,
+    };
+    let next = growing.add_sets(sets.cuts, sets.most, workers, stop, next)?;
+    let GrowingShare {
+        search,
+        ends,
+        listed,
+    } = growing;
     let Search { orders, .. } = search;
     Ok(Work {
         share: Share {
