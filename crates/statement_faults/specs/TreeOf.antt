@@ -68,3 +68,8 @@ HasNoCycle statements = (i : ℕ) → i < length (definitions statements) → ¬
 pub record AreRanks (statements : List Statement) (ranks : List ℕ) : Type 0 where
   pub all : length ranks ≡ length (names statements)
   pub ranked : IsRanked (tree_of statements ranks)
+
+-- the nodes of the statements' tree have ranks
+pub record HasRanks (statements : List Statement) : Type 0 where
+  pub ranks : List ℕ
+  pub are : AreRanks statements ranks
