@@ -44,12 +44,13 @@ abbrev pub NoneOf : ReadTree → List CheckCode → Type 0
 NoneOf read [] = Unit {0}
 NoneOf read (code ∷ codes) = (places read code ≡ []) × NoneOf read codes
 
--- the classes that come before the cycles and after them
+-- the classes that come before the cycles, in their order
 abbrev pub before_cycles : List CheckCode
 before_cycles =
     NoToplevel ∷ TwoToplevels ∷ DuplicateName ∷ Undefined ∷ Votes ∷ DummyInput ∷ NoInputs ∷ FdepShape ∷ DependentGate
     ∷ SpareNotBasic ∷ SharedSpare ∷ Replicated ∷ TopIsFdep ∷ []
 
+-- the classes that come after the cycles: those of the limits of a tree
 abbrev pub after_cycles : List CheckCode
 after_cycles = TooManyUnits ∷ TooManyGates ∷ []
 
@@ -63,10 +64,12 @@ pub record IsFaultless (read : ReadTree) : Type 0 where
 abbrev pub FirstOf : ReadTree → List CheckCode → CheckCode → Place → Type 0
 FirstOf read earlier code place = NoneOf read earlier × (classes.first (places read code) ≡ Some place)
 
+-- this class after the cycles occurs first: none of those before it does, and no definition leads to itself
 abbrev pub FirstAfter : ReadTree → List CheckCode → CheckCode → Place → Type 0
 FirstAfter read earlier code place =
     NoneOf read before_cycles × HasNoCycle read.statements × FirstOf read earlier code place
 
+-- of all the classes this is the first that occurs, and this is its first place in the text
 abbrev pub IsFirstFault : ReadTree → CheckCode → Place → Type 0
 IsFirstFault read NoToplevel place = FirstOf read (take 0 before_cycles) NoToplevel place
 IsFirstFault read TwoToplevels place = FirstOf read (take 1 before_cycles) TwoToplevels place

@@ -20,23 +20,28 @@ use Rattle.statement_faults.specs.declared.fault.CheckCode.TheVariants.{SharedSp
 use Rattle.statement_faults.specs.declared.fault.CheckCode.TheVariants.{Replicated, TopIsFdep, TooManyUnits}
 use Rattle.statement_faults.specs.declared.fault.CheckCode.TheVariants.{TooManyGates}
 
+-- the classes of the top statements
 abbrev pub top_classes : List Statement → Place → List (CheckCode × List Place)
 top_classes text end = (NoToplevel, missing_tops text end) ∷ (TwoToplevels, further_tops text) ∷ []
 
+-- the classes of a gate's kind and inputs
 abbrev pub kind_classes : ℕ → List NumberedGate → List (CheckCode × List Place)
 kind_classes units gates =
     (Votes, wrong_votes gates) ∷ (DummyInput, dummies units gates) ∷ (NoInputs, inputless units gates)
     ∷ (FdepShape, short_fdeps gates) ∷ []
 
+-- the classes of what may stand after a gate's first input
 abbrev pub later_classes : ℕ → List NumberedGate → List (CheckCode × List Place)
 later_classes units gates =
     (DependentGate, dependent_gates units gates) ∷ (SpareNotBasic, spare_gates units gates)
     ∷ (SharedSpare, shared_spares gates) ∷ []
 
+-- the classes of attributes and of the top event
 abbrev pub rest_classes : ℕ → List NumberedGate → List Numbered → List Statement → List (CheckCode × List Place)
 rest_classes units gates tops text =
     (Replicated, replicated (basics text)) ∷ (TopIsFdep, fdep_tops units gates tops) ∷ []
 
+-- the classes of the limits on units and gates
 abbrev pub limit_classes : List NumberedGate → List Statement → List (CheckCode × List Place)
 limit_classes gates text = (TooManyUnits, units_beyond (basics text)) ∷ (TooManyGates, gates_beyond gates) ∷ []
 

@@ -10,6 +10,7 @@ abbrev pub placed_list : Option (Bor Placed) → List Placed
 placed_list None = []
 placed_list (Some placed) = placed.now ∷ []
 
+-- whether the number of the name that is defined is marked
 abbrev pub is_marked : List Bool → List (List ℕ) → Placed → Bool
 is_marked marks names definition = slice_index_or marks (number_in names definition.name) false
 

@@ -26,14 +26,16 @@ clashes_with Unused is_first = false
 clashes_with FirstOnly is_first = not is_first
 clashes_with Otherwise is_first = true
 
+-- how an event was used before, by its number in the table
 abbrev pub earlier_uses : List EarlierUses → ℕ → EarlierUses
 earlier_uses table number = slice_index_or table number Unused
 
--- the table after a use, and after some
+-- the table after one use
 abbrev pub table_with : List EarlierUses → SpareUse → List EarlierUses
 table_with table later =
     slice_set table later.input.number (noted (earlier_uses table later.input.number) later.is_first)
 
+-- the table after some uses
 abbrev pub table_after : List EarlierUses → List SpareUse → List EarlierUses
 table_after table [] = table
 table_after table (later ∷ uses) = table_after (table_with table later) uses

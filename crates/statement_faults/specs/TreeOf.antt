@@ -12,6 +12,7 @@ use Rattle.statement_faults.specs.Numbered.{unit_total}
 use Rattle.statement_faults.specs.declared.numbered.Numbered.{Numbered}
 use Rattle.statement_faults.specs.declared.numbered.NumberedGate.{NumberedGate}
 
+-- the numbers of names, without their places
 abbrev pub numbers : List Numbered → List ℕ
 numbers inputs = map (λ input. input.number) inputs
 
@@ -42,7 +43,7 @@ pub data LeadsTo (tree : FaultTree) : ℕ → ℕ → Type 0 where
   edge : {x y : ℕ} → IsTrue (among (below tree x) y) → LeadsTo tree x y
   way : {x y z : ℕ} → IsTrue (among (below tree x) y) → LeadsTo tree y z → LeadsTo tree x z
 
--- the numbers and the places of definitions
+-- the number of the definition at an index
 abbrev pub number_at : List Numbered → ℕ → ℕ
 number_at definitions i = slice_index (numbers definitions) i
 
@@ -67,3 +68,8 @@ HasNoCycle statements = (i : ℕ) → i < length (definitions statements) → ¬
 pub record AreRanks (statements : List Statement) (ranks : List ℕ) : Type 0 where
   pub all : length ranks ≡ length (names statements)
   pub ranked : IsRanked (tree_of statements ranks)
+
+-- the nodes of the statements' tree have ranks
+pub record HasRanks (statements : List Statement) : Type 0 where
+  pub ranks : List ℕ
+  pub are : AreRanks statements ranks

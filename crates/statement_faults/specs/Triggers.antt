@@ -9,6 +9,7 @@ use Rattle.statement_faults.specs.declared.numbered.Numbered.{Numbered}
 use Rattle.statement_faults.specs.declared.numbered.NumberedGate.{NumberedGate}
 use Rattle.unit_sets.specs.UnitList.{among}
 
+-- the row of a number, which is empty where the table has none
 abbrev pub row_at : List (List ℕ) → ℕ → List ℕ
 row_at rows i = slice_index_or rows i []
 
@@ -27,6 +28,7 @@ abbrev pub dependents_by : Bool → List Numbered → List Numbered
 dependents_by true inputs = drop 1 inputs
 dependents_by false inputs = []
 
+-- the dependents of a gate: none, unless it is an `fdep`
 abbrev pub dependents_of : NumberedGate → List Numbered
 dependents_of gate = dependents_by (is_fdep_kind gate.kind) gate.inputs
 

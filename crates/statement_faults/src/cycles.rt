@@ -1,6 +1,6 @@
 //! Definitions that lead to themselves.
 ghost use Rattle.std.specs.Prelude.{◌≡◌, ◌+◌, ◌<◌, ◌≤◌, ◌||◌, ◌&&◌, ◌==◌, ◌∷◌, ◌++◌, ℕ, [], length, map, All, IfOk};
-ghost use Rattle.std.specs.Prelude.{IfErr, OnOk, slice_index_or, filter_map, true, false, drop};
+ghost use Rattle.std.specs.Prelude.{IfErr, OnOk, slice_index_or, filter_map, true, false};
 ghost use Rattle.statement_faults.specs.Said.{definitions, names, uses};
 ghost use Rattle.fault_words.specs.Names.{all_differ};
 ghost use Rattle.statement_faults.specs.Numbering.{IsDeckOf};
@@ -8,7 +8,7 @@ ghost use Rattle.statement_faults.specs.Found.{IsCycleFault};
 ghost use Rattle.statement_faults.specs.Classes.{first, undefined, dependent_gates};
 ghost use Rattle.statement_faults.specs.Marked.{marked_places};
 ghost use Rattle.unit_sets.specs.UnitList.{among};
-ghost use Rattle.statement_faults.specs.TreeOf.{numbers, input_lists, HasNoCycle, AreRanks};
+ghost use Rattle.statement_faults.specs.TreeOf.{numbers, input_lists, HasNoCycle, HasRanks};
 ghost use Rattle.statement_faults.specs.Numbered.{kinds, kept_inputs, kept_by, is_fdep_in, unit_total, numbered_gates};
 ghost use Rattle.statement_faults.specs.Triggers.{Notes, AddsTriggers, HasTriggers, HasUnitDependents, IsGraphOf};
 ghost use Rattle.statement_faults.specs.Triggers.{dependents_of, written_gate};
@@ -174,13 +174,13 @@ fn first_marked(index: &NameIndex<'_>, marks: &[bool], statements: &[Statement])
     None
 }
 
-/// The ranks of the nodes from 0, where no definition leads to itself.
-pub fn rank_all(
+/// The class of definitions that lead to themselves. Where there is none the nodes have ranks.
+pub fn check_cycles(
     alloc: Global,
     index: &NameIndex<'_>,
     statements: &[Statement],
     deck: &NumberedText,
-) -> Result<Vec<usize>, CheckFault>
+) -> Result<(), CheckFault>
     requires names { index.now ≡ names statements.now }
     requires deck { IsDeckOf (names statements.now) statements.now deck.now }
     requires once { all_differ (names statements.now) ≡ true }
@@ -188,13 +188,13 @@ pub fn rank_all(
     requires dependents { dependent_gates (unit_total statements.now) (numbered_gates statements.now) ≡ [] }
     requires small { deck.now.units + 1 < 18446744073709551616 }
     ensures acyclic { OnOk result (HasNoCycle statements.now) }
-    ensures ranks { IfOk result (λ ranks. AreRanks statements.now (drop 1 ranks.items)) }
+    ensures ranks { OnOk result (HasRanks statements.now) }
     ensures fault { IfErr result (IsCycleFault statements.now) }
 {
     let graph = graph_of(alloc, deck.units, &deck.gates)?;
     let found = find_cycles(alloc, &graph)?;
     match first_marked(index, &found.on_cycle, statements) {
         Some(place) => Err(CheckFault::Fault(CheckCode::Cycle, place)),
-        None => Ok(found.ranks),
+        None => Ok(()),
     }
 }

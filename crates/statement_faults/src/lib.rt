@@ -16,7 +16,7 @@ mod spares;
 mod statements;
 
 pub use classes::{check_kinds, check_later_inputs, check_limits, check_rest, check_tops};
-pub use cycles::rank_all;
+pub use cycles::check_cycles;
 pub use fault::{CheckCode, CheckFault};
 pub use gates::{drops_fdeps, is_fdep};
 pub use naming::name_all;

@@ -40,7 +40,7 @@ fn number_inputs(
     ensures known { OnOk result (undefined index.now inputs.now ≡ []) }
     ensures fault { IfErr result (IsFoundAs CheckCode.Undefined (undefined index.now inputs.now)) }
 {
-    let mut row = InputRow::new(alloc);
+    let mut row = InputRow::with_room(alloc, inputs.len())?;
     for input in inputs {
         let next = number(index, input, last)?;
         row.push(next)?;

@@ -1,11 +1,13 @@
--- A fault of a class, where the classes before it don't occur, is the first fault.
-use Rattle.std.proofs.Common.{◌≡◌, List, [], ◌∷◌, ◌++◌, take, sym, ◌∙◌, subst, inl, inr}
+-- A fault of a class, where the classes before it don't occur, is the first fault; and what is known of the text once a
+-- group of classes is tried.
+use Rattle.std.proofs.Common.{◌≡◌, ℕ, List, [], ◌∷◌, ◌++◌, take, sym, ap, ◌∙◌, subst, inl, inr}
 use Rattle.std.specs.Prelude.{Some}
 use Rattle.fault_words.specs.declared.place.Place.{Place}
 use Rattle.galileo_tree.specs.declared.raw.Statement.{Statement}
 use Rattle.galileo_tree.specs.ReadTree.{ReadTree}
 use Rattle.statement_faults.specs.declared.fault.CheckCode.{CheckCode}
-use Rattle.statement_faults.specs.declared.fault.CheckCode.TheVariants.{NoToplevel, TwoToplevels}
+use Rattle.statement_faults.specs.declared.fault.CheckCode.TheVariants.{NoToplevel, TwoToplevels, DuplicateName}
+use Rattle.statement_faults.specs.declared.fault.CheckCode.TheVariants.{Undefined}
 use Rattle.statement_faults.specs.declared.fault.CheckCode.TheVariants.{Votes, DummyInput, NoInputs, FdepShape}
 use Rattle.statement_faults.specs.declared.fault.CheckCode.TheVariants.{DependentGate}
 use Rattle.statement_faults.specs.declared.fault.CheckCode.TheVariants.{SpareNotBasic, SharedSpare, Replicated}
@@ -16,13 +18,13 @@ use Rattle.statement_faults.specs.declared.fault.CheckFault.TheVariants.{Fault, 
 use Rattle.statement_faults.specs.declared.numbered.NumberedText.{NumberedText}
 use Rattle.statement_faults.specs.declared.numbered.Numbered.{Numbered}
 use Rattle.statement_faults.specs.declared.numbered.NumberedGate.{NumberedGate}
-use Rattle.statement_faults.specs.Said.{names}
+use Rattle.statement_faults.specs.Said.{names, uses}
 use Rattle.statement_faults.specs.Numbered.{numbered_gates, numbered_tops, unit_total}
 use Rattle.statement_faults.specs.Numbering.{IsDeckOf}
-use Rattle.statement_faults.specs.Classes.{first}
-use Rattle.statement_faults.specs.TreeOf.{HasNoCycle}
-use Rattle.statement_faults.specs.Found.{IsFoundAs}
-use Rattle.statement_faults.specs.Checked.{places, NoneOf, IsFirstFault, IsRefusal, before_cycles}
+use Rattle.statement_faults.specs.Classes.{first, repeats, undefined}
+use Rattle.statement_faults.specs.TreeOf.{HasNoCycle, FirstOnCycle}
+use Rattle.statement_faults.specs.Found.{IsFoundAs, IsCycleFault}
+use Rattle.statement_faults.specs.Checked.{places, NoneOf, IsFirstFault, IsRefusal, before_cycles, after_cycles}
 use Rattle.statement_faults.specs.Groups.{NoneIn, FirstIn}
 use Rattle.statement_faults.specs.Groups.{top_classes, kind_classes, later_classes, rest_classes, limit_classes}
 
@@ -41,15 +43,65 @@ pub NoneOf-more : (read : ReadTree) (codes : List CheckCode) (code : CheckCode) 
 NoneOf-more read [] code none n = (n, tt)
 NoneOf-more read (c ∷ codes) code none n = (none.0, NoneOf-more read codes code none.1 n)
 
+-- what is said of the names of one reading of the statements, of the statements read anew
+pub by_names : (read : ReadTree) (P : List (List ℕ) → List Statement → Type 0) (index : List (List ℕ))
+    (earlier later : List Statement) → index ≡ names earlier → earlier ≡ read.statements → later ≡ read.statements
+    → P index later → P (names read.statements) read.statements
+by_names read P index earlier later is same same' h =
+    subst (λ t. P (names read.statements) t) same' (subst (λ n. P n later) (is ∙ ap names same) h)
+
+-- a text by numbers, each name of which is defined once
+pub record IsRead (read : ReadTree) (deck : NumberedText) : Type 0 where
+  pub text : IsDeckOf (names read.statements) read.statements deck
+  pub none : NoneOf read (take 4 before_cycles)
+
 module _ (read : ReadTree) where
-  pub top_refused : (e : CheckFault) → FirstIn (top_classes read.statements read.end) e → IsRefusal read e
-  top_refused e h = elim h [
+  top_first : (e : CheckFault) → FirstIn (top_classes read.statements read.end) e → IsRefusal read e
+  top_first e h = elim h [
     | inl f ↦ refused_at read (take 0 before_cycles) NoToplevel (λ p q. q) tt e f
     | inr (n1, r) ↦ elim r [
       | inl f ↦ refused_at read (take 1 before_cycles) TwoToplevels (λ p q. q) (n1, tt) e f
       | inr (n2, last) ↦ memory read e last
     ]
   ]
+
+  pub top_refused : (text : List Statement) → text ≡ read.statements → (end : Place) → end ≡ read.end
+      → (e : CheckFault) → FirstIn (top_classes text end) e → IsRefusal read e
+  top_refused text same end same' e h =
+      top_first e (subst (λ p. FirstIn (top_classes read.statements p) e) same'
+      (subst (λ t. FirstIn (top_classes t end) e) same h))
+
+  pub top_done : (text : List Statement) → text ≡ read.statements → (end : Place) → end ≡ read.end
+      → NoneIn (top_classes text end) → NoneOf read (take 2 before_cycles)
+  top_done text same end same' n =
+      let n' : NoneIn (top_classes read.statements read.end) =
+      subst (λ p. NoneIn (top_classes read.statements p)) same' (subst (λ t. NoneIn (top_classes t end)) same n) in
+      (n'.0, (n'.1.0, tt))
+
+  pub name_refused : (text : List Statement) → text ≡ read.statements → NoneOf read (take 2 before_cycles)
+      → (e : CheckFault) → IsFoundAs DuplicateName (repeats text) e → IsRefusal read e
+  name_refused text same none e f =
+      refused_at read (take 2 before_cycles) DuplicateName (λ p q. q) none e
+      (subst (λ t. IsFoundAs DuplicateName (repeats t) e) same f)
+
+  pub name_done : (text : List Statement) → text ≡ read.statements → NoneOf read (take 2 before_cycles)
+      → repeats text ≡ [] → NoneOf read (take 3 before_cycles)
+  name_done text same none n =
+      NoneOf-more read (take 2 before_cycles) DuplicateName none (subst (λ t. repeats t ≡ []) same n)
+
+  pub use_refused : NoneOf read (take 3 before_cycles) → (e : CheckFault)
+      → IsFoundAs Undefined (undefined (names read.statements) (uses read.statements)) e → IsRefusal read e
+  use_refused none e f = refused_at read (take 3 before_cycles) Undefined (λ p q. q) none e f
+
+  pub use_done : NoneOf read (take 3 before_cycles) → undefined (names read.statements) (uses read.statements) ≡ []
+      → NoneOf read (take 4 before_cycles)
+  use_done none n = NoneOf-more read (take 3 before_cycles) Undefined none n
+
+  pub cycle_refused : (text : List Statement) → text ≡ read.statements → NoneOf read before_cycles → (e : CheckFault)
+      → IsCycleFault text e → IsRefusal read e
+  cycle_refused text same none NoMemory h = tt
+  cycle_refused text same none (Fault found p) h =
+      subst (λ c. IsFirstFault read c p) (sym h.0) (none, subst (λ t. FirstOnCycle t p) same h.1)
 
   kind_first : NoneOf read (take 4 before_cycles) → (e : CheckFault)
       → FirstIn (kind_classes (unit_total read.statements) (numbered_gates read.statements)) e → IsRefusal read e
@@ -199,3 +251,12 @@ limit_refused read all text same same' none acyclic e h =
         | inr (n', last) ↦ memory read e last
       ]
     ]
+
+pub limit_done : (read : ReadTree) (all : List NumberedGate) (text : List Statement)
+    → all ≡ numbered_gates read.statements → text ≡ read.statements → NoneIn (limit_classes all text)
+    → NoneOf read after_cycles
+limit_done read all text same same' n =
+    let n' : NoneIn (limit_classes (numbered_gates read.statements) read.statements) =
+    subst (λ t. NoneIn (limit_classes (numbered_gates read.statements) t)) same'
+    (subst (λ gs. NoneIn (limit_classes gs text)) same n) in
+    (n'.0, (n'.1.0, tt))

@@ -6,10 +6,11 @@ use Rattle.galileo_tree.specs.declared.raw.Statement.{Statement}
 use Rattle.statement_faults.specs.Said.{basics, basic_names, gate_names}
 use Rattle.tree_check.specs.declared.assembly.Taken.{Taken}
 
--- the attributes of one basic event, and of all
+-- the attributes of one basic event
 abbrev pub attributes_in : List RawAttribute → List Attribute
 attributes_in raws = map (λ raw. raw.attribute) raws
 
+-- the attributes of each basic event of a text
 abbrev pub attribute_lists : List Statement → List (List Attribute)
 attribute_lists statements = map (λ basic. attributes_in basic.attributes) (basics statements)
 

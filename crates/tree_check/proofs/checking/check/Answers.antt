@@ -1,4 +1,4 @@
-use Rattle.std.proofs.Common.{sym, subst, ap, ◌∙◌, drop}
+use Rattle.std.proofs.Common.{sym, subst, ap, ◌∙◌}
 use Rattle.std.specs.Prelude.{All}
 use Rattle.fault_definitions.specs.WellFormed.{IsTree}
 use Rattle.galileo_tree.specs.ReadTree.{KeepsForm}
@@ -8,47 +8,42 @@ use Rattle.tree_check.proofs.Faultless.{IsTree-faultless}
 use Rattle.tree_check.proofs.checking.check.Goals as goal
 
 pub assemble-requires-clause-deck : goal.assemble-requires-clause-deck
-assemble-requires-clause-deck c = rw c.into_statements.ensures.statements c.in_ok-examined.ensures.examined.deck
+assemble-requires-clause-deck c = rw c.into_statements.ensures.statements c.in_ok-deck.ensures.examined.numbered
 
 pub assemble-requires-clause-inputs : goal.assemble-requires-clause-inputs
 assemble-requires-clause-inputs c =
-    deck_within c.args.raw.statements c.in_ok-examined.examined.deck c.in_ok-examined.ensures.examined.deck
+    deck_within c.args.raw.statements c.in_ok-deck.deck c.in_ok-deck.ensures.examined.numbered
 
 pub assemble-requires-clause-top : goal.assemble-requires-clause-top
 assemble-requires-clause-top c =
-    deck_top c.args.raw.statements c.in_ok-examined.examined.deck c.in_ok-examined.ensures.examined.deck
-    c.in_ok-examined.ensures.examined.before.1.1.1.0
+    deck_top c.args.raw.statements c.in_ok-deck.deck c.in_ok-deck.ensures.examined.numbered
+    c.in_ok-deck.ensures.examined.faultless.before.1.1.1.0
 
 pub assemble-requires-clause-few_units : goal.assemble-requires-clause-few_units
 assemble-requires-clause-few_units c =
-    deck_few_units c.args.raw.statements c.in_ok-examined.examined.deck c.in_ok-examined.ensures.examined.deck
-    c.in_ok-examined.ensures.examined.after.0
+    deck_few_units c.args.raw.statements c.in_ok-deck.deck c.in_ok-deck.ensures.examined.numbered
+    c.in_ok-deck.ensures.examined.faultless.after.0
 
 pub assemble-requires-clause-few_gates : goal.assemble-requires-clause-few_gates
 assemble-requires-clause-few_gates c =
-    deck_few_gates c.args.raw.statements c.in_ok-examined.examined.deck c.in_ok-examined.ensures.examined.deck
-    c.in_ok-examined.ensures.examined.after.1.0
+    deck_few_gates c.args.raw.statements c.in_ok-deck.deck c.in_ok-deck.ensures.examined.numbered
+    c.in_ok-deck.ensures.examined.faultless.after.1.0
 
 pub new-requires : goal.new-requires
 new-requires c =
     let form : All KeepsForm c.args.raw.statements =
-    subst (λ r. All KeepsForm r.statements) c.raw.view_is c.raw.invariant in (
-      drop 1 c.in_ok-examined.examined.ranks.items,
-      subst IsTree (sym (c.in_ok-parts.ensures (drop 1 c.in_ok-examined.examined.ranks.items)
-          ∙ ap (λ s. tree_of s (drop 1 c.in_ok-examined.examined.ranks.items)) c.into_statements.ensures.statements))
-          (IsTree-faultless c.args.raw (drop 1 c.in_ok-examined.examined.ranks.items) form
-          c.in_ok-examined.ensures.examined.once
-          c.in_ok-examined.ensures.examined.before c.in_ok-examined.ensures.examined.after
-          c.in_ok-examined.ensures.examined.ranks.all c.in_ok-examined.ensures.examined.ranks.ranked),
+    subst (λ r. All KeepsForm r.statements) c.raw.view_is c.raw.invariant in
+    let examined = c.in_ok-deck.ensures.examined in (
+      examined.ranks.ranks,
+      subst IsTree (sym (c.in_ok-parts.ensures examined.ranks.ranks
+          ∙ ap (λ s. tree_of s examined.ranks.ranks) c.into_statements.ensures.statements))
+          (IsTree-faultless c.args.raw examined.ranks.ranks form examined.once examined.faultless.before
+          examined.faultless.after examined.ranks.are.all examined.ranks.are.ranked),
     )
 
 pub returns-clause-tree : goal.returns-clause-tree
 returns-clause-tree c = record {
-  faultless = record {
-    before = c.in_ok-examined.ensures.examined.before;
-    acyclic = c.in_ok-examined.ensures.examined.acyclic;
-    after = c.in_ok-examined.ensures.examined.after;
-  };
+  faultless = c.in_ok-deck.ensures.examined.faultless;
   is =
       c.in_ok-tree.ensures ∙ (c.in_ok-parts.ensures c.in_ok-tree.tree.ranks
       ∙ ap (λ s. tree_of s c.in_ok-tree.tree.ranks) c.into_statements.ensures.statements);
