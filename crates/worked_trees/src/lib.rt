@@ -7,14 +7,13 @@ ghost use Rattle.fault_definitions.specs.Tree.{IsUnitOf, unit_count};
 
 mod texts;
 
-pub use texts::{or_of_pairs, random_text};
-
 use crew_script::{Dockets, LONGEST_DECK, read_crews};
 use cutset_lists::mcs_by_lists;
 use fault_model::Tree;
 use galileo_tree::parse;
 use std::alloc::Global;
 use std::test::Fail;
+pub use texts::{or_of_pairs, random_text};
 use tree_check::check;
 use unit_sets::{CutList, UnitNo};
 
