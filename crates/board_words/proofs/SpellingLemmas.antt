@@ -2,7 +2,7 @@
 use Rattle.std.specs.Prelude.{◌≡◌, ℕ, ◌≤◌, Bool, true, false, if◌then◌else◌, List, [], ◌∷◌, codes, Option, Some, None}
 use Rattle.std.specs.Prelude.{unwrap_or}
 use Rattle.std.proofs.Common.{refl, arith, sym, ap, ◌∙◌, subst}
-use Rattle.deck_limits.specs.declared.TheConstants.{GREATEST_MARGIN}
+use Rattle.deck_limits.specs.declared.TheConstants.{GREATEST_MARGIN, HIGHEST_MADE, MOST_ORDERED, MOST_WORKERS}
 use Rattle.board_words.specs.declared.command.Command.{Command}
 use Rattle.board_words.specs.declared.command.Command.TheVariants.{Cuts, Board, Check, Print, Diagram, Make, Help}
 use Rattle.board_words.specs.declared.command.Show.{Show}
@@ -51,8 +51,9 @@ pub spelling_read : (command : Command) (words : List (List ℕ)) → Spells com
 spelling_read command words (said.cuts options most workers all says_most says_workers) =
     with_options cuts_options options (cuts_with (most_in (words_of options)) (workers_in (words_of options))) all
     ∙ cuts_read (most_in (words_of options)) (workers_in (words_of options)) most workers
-    (number_read 0 8 (Some 6) cuts_options (codes "--most") options most (omega arith) all says_most)
-    (number_read 1 16 (Some 4) cuts_options (codes "--workers") options workers (omega arith) all says_workers)
+    (number_read 0 MOST_ORDERED (Some 6) cuts_options (codes "--most") options most (omega arith) all says_most)
+    (number_read 1 MOST_WORKERS (Some 4) cuts_options (codes "--workers") options workers (omega arith) all
+    says_workers)
 spelling_read command words (said.board options margin most workers all says_margin says_most says_workers) =
     with_options board_options options (board_with (margin_in (words_of options)) (most_in (words_of options))
     (workers_in (words_of options))) all
@@ -60,18 +61,19 @@ spelling_read command words (said.board options margin most workers all says_mar
     workers
     (number_read 0 GREATEST_MARGIN (Some 0) board_options (codes "--margin") options margin (omega arith) all
     says_margin)
-    (number_read 0 8 (Some 6) board_options (codes "--most") options most (omega arith) all says_most)
-    (number_read 1 16 (Some 4) board_options (codes "--workers") options workers (omega arith) all says_workers)
+    (number_read 0 MOST_ORDERED (Some 6) board_options (codes "--most") options most (omega arith) all says_most)
+    (number_read 1 MOST_WORKERS (Some 4) board_options (codes "--workers") options workers (omega arith) all
+    says_workers)
 spelling_read command words said.check = refl
 spelling_read command words said.print = refl
 spelling_read command words (said.diagram options workers all says_workers) =
     with_options diagram_options options (diagram_with (workers_in (words_of options))) all
-    ∙ ap diagram_with (number_read 1 16 (Some 4) diagram_options (codes "--workers") options workers (omega arith) all
-    says_workers)
+    ∙ ap diagram_with (number_read 1 MOST_WORKERS (Some 4) diagram_options (codes "--workers") options workers
+    (omega arith) all says_workers)
 spelling_read command words (said.make options number show all says_number says_show) =
     with_options make_options options (make_with (number_in (words_of options)) (show_in (words_of options))) all
     ∙ make_read (number_in (words_of options)) (show_in (words_of options)) number show
-    (number_read 0 999999 None make_options (codes "--number") options number (omega arith) all says_number)
+    (number_read 0 HIGHEST_MADE None make_options (codes "--number") options number (omega arith) all says_number)
     (show_read make_options options show all says_show)
 spelling_read command words said.help = refl
 
@@ -136,8 +138,8 @@ module _ (command : Command) where
       subst (λ w. Spells command (codes "cuts" ∷ w)) (sym pairs.are)
       (as_read (Cuts both.first both.second) (codes "cuts" ∷ words_of pairs.options) both.is
       (said.cuts pairs.options both.first both.second pairs.all
-      (number_says 0 8 (Some 6) (codes "--most") pairs.options both.first both.one_is)
-      (number_says 1 16 (Some 4) (codes "--workers") pairs.options both.second both.two_is)))
+      (number_says 0 MOST_ORDERED (Some 6) (codes "--most") pairs.options both.first both.one_is)
+      (number_says 1 MOST_WORKERS (Some 4) (codes "--workers") pairs.options both.second both.two_is)))
 
   board_spelled : (options : List (List ℕ)) → board_of options ≡ Some command → Spells command (codes "board" ∷ options)
   board_spelled options e =
@@ -153,8 +155,8 @@ module _ (command : Command) where
       (as_read (Board three.first three.second three.third) (codes "board" ∷ words_of pairs.options) three.is
       (said.board pairs.options three.first three.second three.third pairs.all
       (number_says 0 GREATEST_MARGIN (Some 0) (codes "--margin") pairs.options three.first three.one_is)
-      (number_says 0 8 (Some 6) (codes "--most") pairs.options three.second three.two_is)
-      (number_says 1 16 (Some 4) (codes "--workers") pairs.options three.third three.three_is)))
+      (number_says 0 MOST_ORDERED (Some 6) (codes "--most") pairs.options three.second three.two_is)
+      (number_says 1 MOST_WORKERS (Some 4) (codes "--workers") pairs.options three.third three.three_is)))
 
   diagram_spelled : (options : List (List ℕ)) → diagram_of options ≡ Some command
       → Spells command (codes "diagram" ∷ options)
@@ -166,8 +168,8 @@ module _ (command : Command) where
       (subst (λ w. diagram_with (workers_in w) ≡ Some command) pairs.are parts.1) in
       subst (λ w. Spells command (codes "diagram" ∷ w)) (sym pairs.are)
       (as_read (Diagram one.0) (codes "diagram" ∷ words_of pairs.options) one.2
-      (said.diagram pairs.options one.0 pairs.all (number_says 1 16 (Some 4) (codes "--workers") pairs.options one.0
-      one.1)))
+      (said.diagram pairs.options one.0 pairs.all (number_says 1 MOST_WORKERS (Some 4) (codes "--workers") pairs.options
+      one.0 one.1)))
 
   show_says : (options : List Said) (show : Show) → show_in (words_of options) ≡ Some show → SaysShow options show
   show_says options show e = by_value (value_of (codes "--show") (words_of options)) refl e
@@ -203,7 +205,7 @@ module _ (command : Command) where
       subst (λ w. Spells command (codes "make" ∷ w)) (sym pairs.are)
       (as_read (Make both.first both.second) (codes "make" ∷ words_of pairs.options) both.is
       (said.make pairs.options both.first both.second pairs.all
-      (number_says 0 999999 None (codes "--number") pairs.options both.first both.one_is)
+      (number_says 0 HIGHEST_MADE None (codes "--number") pairs.options both.first both.one_is)
       (show_says pairs.options both.second both.two_is)))
 
   alone_spelled : (other : Command) (word : List ℕ) (options : List (List ℕ)) → Spells other (word ∷ [])
@@ -253,27 +255,27 @@ number_high least most default option options number high (said.written has abov
 number_high least most default option options number high (said.unsaid lacks is) =
     subst (λ n. n ≤ most) (some_is default number is) high
 
-deck_number_high : (options : List Said) (number : ℕ) → SaysDeckNumber options number → number ≤ 999999
+deck_number_high : (options : List Said) (number : ℕ) → SaysDeckNumber options number → number ≤ HIGHEST_MADE
 deck_number_high options number (said.written has above below) = below
 deck_number_high options number (said.unsaid lacks is) = absurd cc
 
 pub within_bounds : (command : Command) (words : List (List ℕ)) → Spells command words → IsWithinBounds command
 within_bounds command words (said.cuts options most workers all says_most says_workers) = (
-  number_high 0 8 6 (codes "--most") options most (omega arith) says_most,
-  number_low 1 16 4 (codes "--workers") options workers (omega arith) says_workers,
-  number_high 1 16 4 (codes "--workers") options workers (omega arith) says_workers,
+  number_high 0 MOST_ORDERED 6 (codes "--most") options most (omega arith) says_most,
+  number_low 1 MOST_WORKERS 4 (codes "--workers") options workers (omega arith) says_workers,
+  number_high 1 MOST_WORKERS 4 (codes "--workers") options workers (omega arith) says_workers,
 )
 within_bounds command words (said.board options margin most workers all says_margin says_most says_workers) = (
   number_high 0 GREATEST_MARGIN 0 (codes "--margin") options margin (omega arith) says_margin,
-  number_high 0 8 6 (codes "--most") options most (omega arith) says_most,
-  number_low 1 16 4 (codes "--workers") options workers (omega arith) says_workers,
-  number_high 1 16 4 (codes "--workers") options workers (omega arith) says_workers,
+  number_high 0 MOST_ORDERED 6 (codes "--most") options most (omega arith) says_most,
+  number_low 1 MOST_WORKERS 4 (codes "--workers") options workers (omega arith) says_workers,
+  number_high 1 MOST_WORKERS 4 (codes "--workers") options workers (omega arith) says_workers,
 )
 within_bounds command words said.check = tt
 within_bounds command words said.print = tt
 within_bounds command words (said.diagram options workers all says_workers) = (
-  number_low 1 16 4 (codes "--workers") options workers (omega arith) says_workers,
-  number_high 1 16 4 (codes "--workers") options workers (omega arith) says_workers,
+  number_low 1 MOST_WORKERS 4 (codes "--workers") options workers (omega arith) says_workers,
+  number_high 1 MOST_WORKERS 4 (codes "--workers") options workers (omega arith) says_workers,
 )
 within_bounds command words (said.make options number show all says_number says_show) =
     deck_number_high options number says_number

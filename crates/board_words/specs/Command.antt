@@ -1,7 +1,7 @@
 -- The command that the words of a command line say. The first word is exactly a command, and options with their values
 -- follow it, in any order and each once at most.
 use Rattle.std.specs.Prelude.{ℕ, if◌then◌else◌, List, [], ◌∷◌, codes, Option, Some, None}
-use Rattle.deck_limits.specs.declared.TheConstants.{GREATEST_MARGIN}
+use Rattle.deck_limits.specs.declared.TheConstants.{GREATEST_MARGIN, HIGHEST_MADE, MOST_ORDERED, MOST_WORKERS}
 use Rattle.board_words.specs.declared.command.Command.{Command}
 use Rattle.board_words.specs.declared.command.Command.TheVariants.{Cuts, Board, Check, Print, Diagram, Make, Help}
 use Rattle.board_words.specs.declared.command.Show.{Show}
@@ -34,15 +34,15 @@ margin_in options = number_said 0 GREATEST_MARGIN (Some 0) (value_of (codes "--m
 
 -- the most members of a set whose orders are listed, 0 to 8, and 6 where it isn't said
 abbrev pub most_in : List (List ℕ) → Option ℕ
-most_in options = number_said 0 8 (Some 6) (value_of (codes "--most") options)
+most_in options = number_said 0 MOST_ORDERED (Some 6) (value_of (codes "--most") options)
 
 -- 1 to 16 workers, and 4 where it isn't said
 abbrev pub workers_in : List (List ℕ) → Option ℕ
-workers_in options = number_said 1 16 (Some 4) (value_of (codes "--workers") options)
+workers_in options = number_said 1 MOST_WORKERS (Some 4) (value_of (codes "--workers") options)
 
 -- the number of a deck that is made, 0 to 999,999, which has to be said
 abbrev pub number_in : List (List ℕ) → Option ℕ
-number_in options = number_said 0 999999 None (value_of (codes "--number") options)
+number_in options = number_said 0 HIGHEST_MADE None (value_of (codes "--number") options)
 
 -- `deck` or `summary`, and a summary where nothing is said
 abbrev pub show_said : Option (List ℕ) → Option Show

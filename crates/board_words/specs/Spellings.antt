@@ -1,7 +1,7 @@
 -- The spellings of the commands.
 use Rattle.std.specs.Prelude.{◌≡◌, ◌≢◌, ℕ, ◌≤◌, ◌⊎◌, List, [], ◌∷◌, codes, decimal, Option, Some, None}
 use Rattle.std.specs.List.{Any}
-use Rattle.deck_limits.specs.declared.TheConstants.{GREATEST_MARGIN}
+use Rattle.deck_limits.specs.declared.TheConstants.{GREATEST_MARGIN, HIGHEST_MADE, MOST_ORDERED, MOST_WORKERS}
 use Rattle.board_words.specs.declared.command.Command.{Command}
 use Rattle.board_words.specs.declared.command.Command.TheVariants.{Cuts, Board, Check, Print, Diagram, Make, Help}
 use Rattle.board_words.specs.declared.command.Show.{Show}
@@ -51,15 +51,15 @@ SaysMargin options margin = SaysNumber 0 GREATEST_MARGIN (Some 0) (codes "--marg
 
 -- the most members of a set whose orders are listed, 0 to 8, and 6 where it isn't said
 abbrev pub SaysMost : List Said → ℕ → Type 0
-SaysMost options most = SaysNumber 0 8 (Some 6) (codes "--most") options most
+SaysMost options most = SaysNumber 0 MOST_ORDERED (Some 6) (codes "--most") options most
 
 -- 1 to 16 workers, and 4 where it isn't said
 abbrev pub SaysWorkers : List Said → ℕ → Type 0
-SaysWorkers options workers = SaysNumber 1 16 (Some 4) (codes "--workers") options workers
+SaysWorkers options workers = SaysNumber 1 MOST_WORKERS (Some 4) (codes "--workers") options workers
 
 -- the number of a deck that is made, 0 to 999,999, which has to be said
 abbrev pub SaysDeckNumber : List Said → ℕ → Type 0
-SaysDeckNumber options number = SaysNumber 0 999999 None (codes "--number") options number
+SaysDeckNumber options number = SaysNumber 0 HIGHEST_MADE None (codes "--number") options number
 
 -- `deck` or `summary`, and a summary where nothing is said
 pub data SaysShow (options : List Said) : Show → Type 0 where
@@ -89,10 +89,11 @@ pub data Spells : Command → List (List ℕ) → Type 0 where
 
 -- the numbers of a command are within their bounds
 abbrev pub IsWithinBounds : Command → Type 0
-IsWithinBounds (Cuts most workers) = (most ≤ 8) × (1 ≤ workers) × (workers ≤ 16)
-IsWithinBounds (Board margin most workers) = (margin ≤ GREATEST_MARGIN) × (most ≤ 8) × (1 ≤ workers) × (workers ≤ 16)
+IsWithinBounds (Cuts most workers) = (most ≤ MOST_ORDERED) × (1 ≤ workers) × (workers ≤ MOST_WORKERS)
+IsWithinBounds (Board margin most workers) =
+    (margin ≤ GREATEST_MARGIN) × (most ≤ MOST_ORDERED) × (1 ≤ workers) × (workers ≤ MOST_WORKERS)
 IsWithinBounds Check = Unit {0}
 IsWithinBounds Print = Unit {0}
-IsWithinBounds (Diagram workers) = (1 ≤ workers) × (workers ≤ 16)
-IsWithinBounds (Make number show) = number ≤ 999999
+IsWithinBounds (Diagram workers) = (1 ≤ workers) × (workers ≤ MOST_WORKERS)
+IsWithinBounds (Make number show) = number ≤ HIGHEST_MADE
 IsWithinBounds Help = Unit {0}

@@ -5,7 +5,7 @@ ghost use Rattle.board_words.specs.Command.{most_in, workers_in, show_in, show_s
 
 use crate::Word;
 use crate::options::{are_options, number_said, value_of};
-use deck_limits::GREATEST_MARGIN;
+use deck_limits::{GREATEST_MARGIN, HIGHEST_MADE, MOST_ORDERED, MOST_WORKERS};
 
 /// What of a made deck is printed.
 #[derive(Clone, Copy, Debug, PartialEq, Eq)]
@@ -130,7 +130,7 @@ fn make(options: &[Word]) -> Option<Command>
     if !are_options(&[b"--number", b"--show"], options) {
         return None;
     }
-    let number = number_said(options, b"--number", 0, 999_999, None)?;
+    let number = number_said(options, b"--number", 0, HIGHEST_MADE, None)?;
     let show = shown(options)?;
     Some(Command::Make { number, show })
 }
@@ -139,13 +139,13 @@ fn make(options: &[Word]) -> Option<Command>
 fn most(options: &[Word]) -> Option<u32>
     ensures { result ≡ most_in options.now }
 {
-    number_said(options, b"--most", 0, 8, Some(6))
+    number_said(options, b"--most", 0, MOST_ORDERED, Some(6))
 }
 
 fn workers(options: &[Word]) -> Option<u32>
     ensures { result ≡ workers_in options.now }
 {
-    number_said(options, b"--workers", 1, 16, Some(4))
+    number_said(options, b"--workers", 1, MOST_WORKERS, Some(4))
 }
 
 fn shown(options: &[Word]) -> Option<Show>

@@ -1,7 +1,7 @@
 -- The names of a take.
 use Rattle.std.specs.Prelude.{ℕ, Bool, ◌&&◌, nat_le, List, length}
+use Rattle.deck_limits.specs.declared.TheConstants.{MOST_TAKEN}
 use Rattle.fault_words.specs.Names.{all_differ}
-use Rattle.crew_script.specs.declared.line.TheConstants.{MOST_TAKEN}
 
 -- the most names of a take
 abbrev pub most_taken : ℕ

@@ -9,12 +9,9 @@ use crate::dockets::Ask;
 use crate::names::NameList;
 use crate::word::{Word, Words};
 use decimal_numerals::{is_numeral, number};
-use deck_limits::GREATEST_MARGIN;
+use deck_limits::{GREATEST_MARGIN, MOST_TAKEN};
 use fault_words::Name;
 use std::alloc::{AllocError, Global};
-
-// The most names of a take.
-const MOST_TAKEN: usize = 16;
 
 // The digits of the greatest margin.
 const MARGIN_DIGITS: usize = 4;

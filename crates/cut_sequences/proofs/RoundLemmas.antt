@@ -6,12 +6,13 @@ use Rattle.std.specs.List.{sum_by}
 use Rattle.std.proofs.lemmas.List.{take_all, take_more, drop-drop, length-map, get_or-map}
 use Rattle.std.proofs.lemmas.List.Elements.{All-from_get_or, All-get_or, All-push, All-contains, All-drop}
 use Rattle.std.proofs.lemmas.List.Sums.{sum_by_more}
+use Rattle.deck_limits.specs.declared.TheConstants.{MOST_WORKERS}
 use Rattle.cut_sequences.specs.declared.refusal.OrderEnd.{OrderEnd}
 use Rattle.cut_sequences.specs.declared.refusal.OrderEnd.TheVariants.{OrderLimit}
 use Rattle.cut_sequences.specs.declared.share.Work.{Work}
 use Rattle.cut_sequences.specs.declared.share.Stop.{Stop}
 use Rattle.cut_sequences.specs.Orders.{order_limit, order_total, IsOver}
-use Rattle.cut_sequences.specs.Dealing.{dealt, most_workers, Share, AreShares}
+use Rattle.cut_sequences.specs.Dealing.{dealt, Share, AreShares}
 use Rattle.cut_sequences.specs.Working.{whole, HasStopped, WentOn, AreAtWork, orders_of_work}
 use Rattle.cut_sequences.proofs.DealLemmas.{dealt-le, dealt-drop, dealt-none, dealt_total, dealt_total-all}
 use Rattle.cut_sequences.proofs.ListLemmas.{IsOver-more, order_total-append}
@@ -112,7 +113,7 @@ module _ (lists : Share) (stop : Stop) (works : List Work) (answers : List (Resu
 
 -- ---- the first round and the last
 
-pub all_start : (lists : Share) (works : List Work) → 0 < length works → length works ≤ most_workers
+pub all_start : (lists : Share) (works : List Work) → 0 < length works → length works ≤ MOST_WORKERS
     → ((worker : ℕ) (d : Work) → worker < length works → get_or works worker d ≡ record { share = []; next = worker })
     → AreAtWork lists works
 all_start lists works some few each = record {

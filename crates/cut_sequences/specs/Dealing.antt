@@ -8,10 +8,6 @@ dealt waits others [] = []
 dealt zero others (item ∷ items) = item ∷ dealt others others items
 dealt (suc waits) others (item ∷ items) = dealt waits others items
 
--- the most workers that sets are dealt to
-abbrev pub most_workers : ℕ
-most_workers = 16
-
 -- the lists of orders of the sets that one worker gets, a list for each set
 abbrev pub Share : Type 0
 Share = List (Option (List (List ℕ)))

@@ -1,6 +1,7 @@
 -- What the workers have listed so far, and what they still have to list.
 use Rattle.std.specs.Prelude.{◌≡◌, ℕ, ◌-◌, ◌<◌, ◌≤◌, Bool, List, ◌++◌, length, drop, All, Result, Ok, Err}
 use Rattle.std.specs.Prelude.{slice_index_or}
+use Rattle.deck_limits.specs.declared.TheConstants.{MOST_WORKERS}
 use Rattle.fault_definitions.specs.Tree.{IsUnitOf}
 use Rattle.cut_sequences.specs.declared.refusal.OrderEnd.{OrderEnd}
 use Rattle.cut_sequences.specs.declared.share.Sets.{Sets}
@@ -8,7 +9,7 @@ use Rattle.cut_sequences.specs.declared.share.Work.{Work}
 use Rattle.cut_sequences.specs.declared.share.Stop.{Stop}
 use Rattle.cut_sequences.specs.Holding.{lists_of, HoldsShare}
 use Rattle.cut_sequences.specs.Orders.{order_lists, order_total, IsOver}
-use Rattle.cut_sequences.specs.Dealing.{dealt, most_workers, Share}
+use Rattle.cut_sequences.specs.Dealing.{dealt, Share}
 
 -- each of the sets has units of the tree alone
 abbrev pub AreOfTree : Sets → Type 0
@@ -45,7 +46,7 @@ AddsSets lists workers stop work listed ends orders (Err end) = WentOn lists wor
 -- each of the workers gets what is dealt to it
 pub record AreAtWork (lists : Share) (works : List Work) : Type 0 where
   pub some : 0 < length works
-  pub few : length works ≤ most_workers
+  pub few : length works ≤ MOST_WORKERS
   pub each : (worker : ℕ) (d : Work) → worker < length works
       → whole lists (length works) (slice_index_or works worker d) ≡ dealt worker (length works - 1) lists
 

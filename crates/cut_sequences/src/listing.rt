@@ -1,13 +1,13 @@
 //! The orders of each cut set that fail the top event.
 ghost use Rattle.std.specs.Prelude.{◌≡◌, ◌<◌, ◌≤◌, length, All, IfOk, IsErrOf, drop};
 ghost use Rattle.fault_definitions.specs.Tree.{IsUnitOf};
-ghost use Rattle.cut_sequences.specs.Dealing.{most_workers};
 ghost use Rattle.cut_sequences.specs.Orders.{order_limit, order_lists, order_total};
 
 use crate::lists::gather;
 use crate::rounds::all_shares;
 use crate::share::Sets;
 use crate::{OrderEnd, OrderLists};
+use deck_limits::{MOST_ORDERED, MOST_WORKERS};
 use fault_model::Tree;
 use std::alloc::Global;
 use std::thread::Threads;
@@ -47,9 +47,9 @@ pub fn orders<R: Threads + Sync>(
     most: u32,
     workers: u32,
 ) -> Result<OrderLists, OrderEnd>
-    requires most { most ≤ 8 }
+    requires most { most ≤ MOST_ORDERED }
     requires some { 1 ≤ workers }
-    requires few { workers ≤ most_workers }
+    requires few { workers ≤ MOST_WORKERS }
     requires units { All (λ cut. All (IsUnitOf tree.now) cut) cuts.now }
 
     ensures listed { IfOk result (λ lists. lists ≡ order_lists tree.now cuts.now most) }

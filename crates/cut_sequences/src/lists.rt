@@ -1,10 +1,11 @@
 //! The orders of the sets of a cut list.
 ghost use Rattle.std.specs.Prelude.{◌≡◌, ◌<◌, ◌≤◌, [], length, true, IfOk, IsErrOf, slice_index_or, sum_by};
-ghost use Rattle.cut_sequences.specs.Dealing.{AreShares, gathered, most_workers};
+ghost use Rattle.cut_sequences.specs.Dealing.{AreShares, gathered};
 ghost use Rattle.cut_sequences.specs.Orders.{is_listed, orders_at, order_limit, order_total};
 
 use crate::share::Share;
 use crate::{ORDER_LIMIT, OrderEnd};
+use deck_limits::MOST_WORKERS;
 use std::marker::Model;
 use unit_sets::UnitNo;
 
@@ -80,7 +81,7 @@ impl OrderLists {
 
 // The number of orders of some shares.
 fn total_of(shares: &[Share]) -> u64
-    requires { length shares.now ≤ most_workers }
+    requires { length shares.now ≤ MOST_WORKERS }
     ensures { result ≡ sum_by order_total shares.now }
 {
     let mut total = 0;
@@ -93,7 +94,7 @@ fn total_of(shares: &[Share]) -> u64
 /// The lists of so many sets, from the shares of all workers.
 pub fn gather(shares: Vec<Share>, sets: usize) -> Result<OrderLists, OrderEnd>
     requires shares { AreShares (gathered sets shares.items) shares.items }
-    requires few { length shares.items ≤ most_workers }
+    requires few { length shares.items ≤ MOST_WORKERS }
 
     ensures lists { IfOk result (λ lists. lists ≡ gathered sets shares.items) }
     ensures within { IfOk result (λ lists. order_total lists ≤ order_limit) }

@@ -3,12 +3,13 @@
 //! No worker runs far ahead of the others, so that all stop soon after they have too many orders together.
 ghost use Rattle.std.specs.Prelude.{◌≡◌, ◌<◌, ◌≤◌, ℕ, true, false, length, map, slice_index_or, All, IfOk, IsErrOf};
 ghost use Rattle.std.specs.Prelude.{Contains, Ok, Err, drop, sum_by};
-ghost use Rattle.cut_sequences.specs.Dealing.{AreShares, Share as Lists, most_workers};
+ghost use Rattle.cut_sequences.specs.Dealing.{AreShares, Share as Lists};
 ghost use Rattle.cut_sequences.specs.Orders.{order_limit, order_total};
 ghost use Rattle.cut_sequences.specs.Working.{AreOfTree, WentOn, AreAtWork, HasStopped, lists_due, orders_of_work};
 
 use crate::share::{Sets, Share, Stop, Work, go_on};
 use crate::{ORDER_LIMIT, OrderEnd};
+use deck_limits::MOST_WORKERS;
 use std::alloc::{AllocError, Global};
 use std::thread;
 use std::thread::Threads;
@@ -28,7 +29,7 @@ fn answers_of<R: Threads + Sync>(
     works: Vec<Work>,
 ) -> Result<Vec<Result<Work, OrderEnd>>, AllocError>
     requires some { 0 < length works.items }
-    requires few { length works.items ≤ most_workers }
+    requires few { length works.items ≤ MOST_WORKERS }
     requires place { stop.place ≤ length sets.cuts.now }
     requires units { AreOfTree sets }
     ensures all { IfOk result (λ answers. length answers.items ≡ length works.items) }
@@ -58,7 +59,7 @@ fn works_of(alloc: Global, answers: Vec<Result<Work, OrderEnd>>) -> Result<Vec<W
 
 // The number of orders that the workers have together.
 fn orders_so_far(works: &[Work]) -> u64
-    requires { length works.now ≤ most_workers }
+    requires { length works.now ≤ MOST_WORKERS }
     ensures { result ≡ sum_by orders_of_work works.now }
 {
     let mut total = 0;
@@ -148,7 +149,7 @@ fn all_rounds<R: Threads + Sync>(
 // No worker has listed a set: each begins with the set of its number.
 fn starts(alloc: Global, workers: usize) -> Result<Vec<Work>, OrderEnd>
     requires some { 0 < workers }
-    requires few { workers ≤ most_workers }
+    requires few { workers ≤ MOST_WORKERS }
     ensures at_work { IfOk result (λ works. (lists : Lists) → AreAtWork lists works.items) }
     ensures workers { IfOk result (λ works. length works.items ≡ workers) }
     ensures memory { IsErrOf result OrderEnd.OrderLimit → ⊥ }
@@ -187,7 +188,7 @@ pub fn all_shares<R: Threads + Sync>(
     requires within { end ≤ length sets.cuts.now }
     requires larger { All (λ cut. sets.most < length cut) (drop end sets.cuts.now) }
     requires some { 0 < workers }
-    requires few { workers ≤ most_workers }
+    requires few { workers ≤ MOST_WORKERS }
     requires units { AreOfTree sets }
     ensures shares { IfOk result (λ shares. AreShares (lists_due sets.entry) shares.items) }
     ensures workers { IfOk result (λ shares. length shares.items ≡ workers) }

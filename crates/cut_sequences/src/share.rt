@@ -3,7 +3,6 @@ ghost use Rattle.std.specs.Prelude.{◌≡◌, ◌<◌, ◌≤◌, [], length, A
 ghost use Rattle.fault_definitions.specs.Tree.{IsUnitOf};
 ghost use Rattle.fault_definitions.specs.WellFormed.{IsTree};
 ghost use Rattle.cut_sequences.specs.Going.{CanGoOn};
-ghost use Rattle.cut_sequences.specs.Dealing.{most_workers};
 ghost use Rattle.cut_sequences.specs.Working.{AddsSets, AreOfTree, WentOn, lists_due, work_of};
 ghost use Rattle.flat_rows.specs.Rows.{start_of};
 ghost use Rattle.cut_sequences.specs.Holding.{lists_of, HoldsShare, AddsList};
@@ -11,6 +10,7 @@ ghost use Rattle.cut_sequences.specs.Orders.{order_limit, order_lists, order_tot
 
 use crate::OrderEnd;
 use crate::search::Search;
+use deck_limits::MOST_WORKERS;
 use fault_model::Tree;
 use flat_rows::Rows;
 use std::alloc::Global;
@@ -157,7 +157,7 @@ impl<'t> GrowingShare<'t> {
         requires kept { IsTree self.old.search.replay.tree }
         requires start { self.old.search.replay.order ≡ [] }
         requires some { 0 < workers }
-        requires few { workers ≤ most_workers }
+        requires few { workers ≤ MOST_WORKERS }
         requires place { stop.place ≤ length cuts.now }
         requires units { All (λ cut. All (IsUnitOf self.old.search.replay.tree) cut) cuts.now }
         requires held { HoldsShare self.old.listed.items self.old.ends.items self.old.search.orders }
@@ -184,7 +184,7 @@ pub fn go_on(
     work: Work,
 ) -> Result<Work, OrderEnd>
     requires some { 0 < workers }
-    requires few { workers ≤ most_workers }
+    requires few { workers ≤ MOST_WORKERS }
     requires place { stop.place ≤ length sets.cuts.now }
     requires units { AreOfTree sets }
 

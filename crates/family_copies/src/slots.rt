@@ -4,10 +4,7 @@ ghost use Rattle.std.specs.Prelude.{◌≡◌, ◌<◌, IfSome, length, slice_in
 
 use std::alloc::Global;
 use unit_sets::NoMemory;
-use zdd_words::NodeRef;
-
-// An odd number near 2^64 divided by the golden ratio: its products spread neighbouring references.
-const SPREAD: u64 = 11_400_714_819_323_198_485;
+use zdd_words::{NodeRef, SPREAD};
 
 // How many slots there are at first.
 const FIRST_SLOTS: usize = 1_024;

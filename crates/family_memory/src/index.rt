@@ -4,10 +4,7 @@ ghost use Rattle.family_memory.specs.Search.{IsSearched};
 
 use std::alloc::Global;
 use unit_sets::NoMemory;
-use zdd_words::NodeRef;
-
-// An odd number near 2^64 divided by the golden ratio: its products spread neighbouring words.
-const SPREAD: u64 = 11_400_714_819_323_198_485;
+use zdd_words::{NodeRef, SPREAD};
 
 // How many slots an index begins with.
 const FIRST_SLOTS: usize = 2_048;

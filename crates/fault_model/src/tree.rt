@@ -143,6 +143,7 @@ impl Tree {
         ensures below { result.now ≡ below self.now node }
         ensures nodes { All (IsNodeOf self.now) result.now }
     {
+        // What a node reads are nodes, as the list keeps.
         let _ = &self.below;
         self.list(node)
     }

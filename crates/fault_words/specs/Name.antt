@@ -2,6 +2,7 @@
 use Rattle.std.specs.Prelude.{ℕ, Bool, false, not, ◌==◌, ◌&&◌, ◌||◌, nat_le, List, [], ◌∷◌, length}
 use Rattle.std.specs.List.{list_all}
 use Rattle.std.specs.Char.{is_ascii_alphabetic, is_ascii_alphanumeric}
+use Rattle.deck_limits.specs.declared.TheConstants.{LONGEST_NAME}
 
 -- printable ASCII other than the quotation mark
 abbrev pub is_name_byte : ℕ → Bool
@@ -9,7 +10,7 @@ is_name_byte byte = nat_le 32 byte && nat_le byte 126 && not (byte == 34)
 
 -- a name has 1 to 255 such bytes
 abbrev pub is_name : List ℕ → Bool
-is_name bytes = nat_le 1 (length bytes) && nat_le (length bytes) 255 && list_all is_name_byte bytes
+is_name bytes = nat_le 1 (length bytes) && nat_le (length bytes) LONGEST_NAME && list_all is_name_byte bytes
 
 -- a letter, a digit, `_`, `-` or `.`
 abbrev pub is_bare_byte : ℕ → Bool

@@ -10,6 +10,7 @@ ghost use Rattle.fault_words.specs.declared.name_bytes.TheConstants.{SHORT_NAME}
 ghost use Rattle.std.specs.List.{list_all};
 
 use crate::name_bytes::NameBytes;
+use deck_limits::LONGEST_NAME;
 use std::alloc::{AllocError, Global};
 use std::hash::{Hash, Hasher};
 use std::marker::Model;
@@ -98,7 +99,7 @@ impl Name {
 fn is_name(bytes: &[u8]) -> bool
     ensures { result ≡ is_name bytes.now }
 {
-    1 <= bytes.len() && bytes.len() <= 255 && all_name_bytes(bytes)
+    1 <= bytes.len() && bytes.len() <= LONGEST_NAME && all_name_bytes(bytes)
 }
 
 fn all_name_bytes(bytes: &[u8]) -> bool

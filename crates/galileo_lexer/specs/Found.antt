@@ -1,5 +1,6 @@
 -- What a step of the lexer finds is what the text gives from there on.
 use Rattle.std.specs.Prelude.{◌≡◌, ℕ, ◌<◌, List, [], drop, nat_le, if◌then◌else◌, Result, Ok, Err}
+use Rattle.deck_limits.specs.declared.TheConstants.{LONGEST_NAME}
 use Rattle.galileo_lexer.specs.declared.spot.Spot.{Spot}
 use Rattle.galileo_lexer.specs.declared.token.TokenKind.{TokenKind}
 use Rattle.galileo_lexer.specs.declared.token.LexCode.{LexCode}
@@ -17,7 +18,7 @@ fault_at code spot = record { code = code; place = place_of spot }
 -- the token of a name, or that it is too long
 abbrev pub named : TokenKind → Spot → ℕ → ℕ → Found
 named kind start stop size =
-    if nat_le size 255 then Token (token_from kind start stop) (along start stop)
+    if nat_le size LONGEST_NAME then Token (token_from kind start stop) (along start stop)
     else Fault (fault_at NameTooLong start)
 
 -- what is given from a spot on begins with what was found

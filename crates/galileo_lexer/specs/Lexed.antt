@@ -1,6 +1,7 @@
 -- What a text gives from a spot on, read byte by byte: the tokens, and then the place of the end or the fault.
 use Rattle.std.specs.Prelude.{ℕ, ◌+◌, ◌-◌, Bool, false, ◌&&◌, ◌==◌, nat_le, if◌then◌else◌, List, [], ◌∷◌, drop, Result}
 use Rattle.std.specs.Prelude.{Ok, Err, Option, Some, None}
+use Rattle.deck_limits.specs.declared.TheConstants.{LONGEST_NAME}
 use Rattle.galileo_lexer.specs.declared.spot.Spot.{Spot}
 use Rattle.galileo_lexer.specs.declared.token.LexPlace.{LexPlace}
 use Rattle.galileo_lexer.specs.declared.token.Token.{Token}
@@ -41,7 +42,8 @@ token_from kind start stop = record { kind = kind; start = start.offset; end = s
 
 -- a token of a name, which has 255 bytes at most
 abbrev pub name_ends : TokenKind → Spot → ℕ → ℕ → Act
-name_ends kind start stop size = if nat_le size 255 then Give (token_from kind start stop) else Fail NameTooLong start
+name_ends kind start stop size =
+    if nat_le size LONGEST_NAME then Give (token_from kind start stop) else Fail NameTooLong start
 
 -- a word's byte, in front of an offset: the word goes on where a byte of a word follows
 abbrev pub in_word : Spot → ℕ → List ℕ → Act

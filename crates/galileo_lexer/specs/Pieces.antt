@@ -3,6 +3,7 @@
 use Rattle.std.specs.Prelude.{◌≡◌, ℕ, ◌+◌, ◌<◌, ◌≤◌, Bool, true, false, ◌&&◌, ◌||◌, ◌==◌, not, List, [], ◌∷◌, ◌++◌}
 use Rattle.std.specs.Prelude.{length, Result, Ok, Err}
 use Rattle.std.specs.List.{flat_map, list_all}
+use Rattle.deck_limits.specs.declared.TheConstants.{LONGEST_NAME}
 use Rattle.galileo_lexer.specs.declared.spot.Spot.{Spot}
 use Rattle.galileo_lexer.specs.declared.token.Token.{Token}
 use Rattle.galileo_lexer.specs.declared.token.TokenKind.TheVariants.{Word, Quoted, Equals, Semicolon}
@@ -46,7 +47,7 @@ has_close (byte ∷ bytes) = ((byte == 42) && begins_with (λ next. next == 47) 
 -- the text of a name has 1 to 255 bytes, each of them allowed
 pub record IsNameText (allowed : ℕ → Bool) (bytes : List ℕ) : Type 0 where
   pub some : 0 < length bytes
-  pub few : length bytes ≤ 255
+  pub few : length bytes ≤ LONGEST_NAME
   pub each : list_all allowed bytes ≡ true
 
 -- A piece with what follows it. A word ends where no byte of a word follows, a comment of a line in front of a
@@ -109,11 +110,11 @@ pub data IsFault (spot : Spot) (rest : List ℕ) (fault : LexFault) : Type 0 whe
   empty_name : (more : List ℕ) → rest ≡ 34 ∷ 34 ∷ more → fault ≡ fault_at EmptyName spot → IsFault spot rest fault
   -- a word of more than 255 bytes
   long_word : (bytes more : List ℕ) → rest ≡ bytes ++ more → list_all is_word_byte bytes ≡ true →
-      begins_with is_word_byte more ≡ false → 255 < length bytes → fault ≡ fault_at NameTooLong spot
+      begins_with is_word_byte more ≡ false → LONGEST_NAME < length bytes → fault ≡ fault_at NameTooLong spot
       → IsFault spot rest fault
   -- a quoted text of more than 255 bytes
   long_quoted : (bytes more : List ℕ) → rest ≡ 34 ∷ bytes ++ 34 ∷ more → list_all is_quotable bytes ≡ true →
-      255 < length bytes → fault ≡ fault_at NameTooLong spot → IsFault spot rest fault
+      LONGEST_NAME < length bytes → fault ≡ fault_at NameTooLong spot → IsFault spot rest fault
 
 -- the reading ends as the rest behind the pieces says: at the end of the text, or with the fault of the rest
 abbrev pub EndsAs : Spot → List ℕ → Result LexPlace LexFault → Type 0

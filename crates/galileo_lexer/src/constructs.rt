@@ -8,7 +8,8 @@ ghost use Rattle.galileo_lexer.specs.Found.{Finds, Passes, fault_at, named};
 use crate::bytes::{LINE_FEED, QUOTE, SLASH, STAR, is_quotable, is_word_byte};
 use crate::lexer::LONGEST_TEXT;
 use crate::spot::Spot;
-use crate::token::{LONGEST_NAME, LexCode, LexFault, Token, TokenKind};
+use crate::token::{LexCode, LexFault, Token, TokenKind};
+use deck_limits::LONGEST_NAME;
 
 // What stands next in the text, with the spot behind it.
 #[derive(Clone, Copy)]

@@ -1,8 +1,5 @@
 //! What the lexer gives: tokens, faults and their places in the text.
 
-/// The last number of bytes that a word, or the text of a quoted token, may have.
-pub const LONGEST_NAME: usize = 255;
-
 /// A place in the text. Lines and columns begin at 1, each byte is one column wide, and a line feed, and nothing
 /// else, ends a line.
 #[derive(Clone, Copy, Debug, PartialEq, Eq)]

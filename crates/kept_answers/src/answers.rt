@@ -5,10 +5,7 @@ ghost use Rattle.kept_answers.specs.Kept.{AreKept};
 use std::alloc::Global;
 use std::marker::Model;
 use unit_sets::NoMemory;
-use zdd_words::NodeRef;
-
-// An odd number near 2^64 divided by the golden ratio: its products spread neighbouring questions.
-const SPREAD: u64 = 11_400_714_819_323_198_485;
+use zdd_words::{NodeRef, SPREAD};
 
 const FIRST_SHIFT: u32 = 26;
 

@@ -2,6 +2,7 @@
 use Rattle.std.specs.Prelude.{◌≡◌, ℕ, ◌-◌, ◌≤◌, Bool, true, false, not, ◌&&◌, ◌||◌, nat_le, List, [], ◌∷◌, ◌++◌}
 use Rattle.std.specs.Prelude.{length, take, drop, replicate}
 use Rattle.std.proofs.Common.{ap, sym, ◌∙◌, arith, length-take-le, take-append-drop}
+use Rattle.deck_limits.specs.declared.TheConstants.{MOST_TAKEN}
 use Rattle.unit_sets.specs.UnitList.{among}
 
 -- the units in the order asked, and whether some name of the take names no unit
@@ -21,7 +22,7 @@ is_none_asked (unit ∷ others) = false
 
 -- the most units that one take may ask for
 abbrev pub asked_limit : ℕ
-asked_limit = 16
+asked_limit = MOST_TAKEN
 
 -- whether a take may ask for these: not too many, none twice, and something at all
 abbrev pub can_be_asked : List ℕ → Bool → Bool

@@ -2,6 +2,7 @@
 ghost use Rattle.std.specs.Prelude.{◌≡◌, is_some, IfSome, true};
 ghost use Rattle.margin_policy.specs.Asked.{has_repeat, can_be_asked};
 
+use deck_limits::MOST_TAKEN;
 use std::marker::Model;
 use unit_sets::UnitNo;
 
@@ -11,7 +12,7 @@ use unit_sets::UnitNo;
 #[derive(Clone, Copy, Debug)]
 pub struct AskedUnits {
     // The places from the count on are filled with the unit 1.
-    places: [UnitNo; 16],
+    places: [UnitNo; MOST_TAKEN],
     count: u8,
     unknown: bool,
 }
@@ -54,7 +55,7 @@ fn may_be_asked(units: &[UnitNo], unknown: bool) -> bool
 
 impl AskedUnits {
     /// The most units that one take may ask for.
-    pub const LIMIT: usize = 16;
+    pub const LIMIT: usize = MOST_TAKEN;
 
     /// A take of these units, or `None` where there are too many, one twice, or nothing at all.
     pub fn new(units: &[UnitNo], unknown: bool) -> Option<AskedUnits>

@@ -20,11 +20,13 @@ use crate::sizes::{Sizes, size_tree};
 use crate::summary::{Summary, sum_made};
 use crate::{Method, Status};
 use board_words::{Command, Show, Word, numbers_are_within_bounds, read};
+use deck_limits::{MOST_ORDERED, MOST_WORKERS};
 use edge_io::{Bytes, Source};
 use fault_model::Tree;
 use std::alloc::Global;
 use std::thread::Threads;
 use tree_maker::made;
+use zdd_build::TEAM_SHARE;
 use zdd_shared_table::{NodeStore, StoreSeat};
 
 /// What is to be written.
@@ -76,7 +78,7 @@ pub(crate) fn answer_words<R: Threads + Sync, S: Source>(
 ) -> Result<Answer, RunEnd>
     requires command { IsNoBoard words.now }
     requires own { seat.old.store ≡ store.now }
-    requires share { 64 ≤ seat.old.share }
+    requires share { TEAM_SHARE ≤ seat.old.share }
     ensures gives { IfOk result (λ answer. Gives words.now (S.held source.old) (S.held source.new)
         (Rose (S.faults source.old) (S.faults source.new)) (status_of answer) (text_of answer)) }
     ensures refused { IfErr result (IfRefused (IsRefusalBy words.now (S.held source.old) (S.held source.new)
@@ -128,11 +130,11 @@ fn list_input<R: Threads + Sync, S: Source>(
     store: &NodeStore,
     seat: &mut StoreSeat,
 ) -> Result<Listing, RunEnd>
-    requires most { most ≤ 8 }
+    requires most { most ≤ MOST_ORDERED }
     requires some { 1 ≤ workers }
-    requires few { workers ≤ 16 }
+    requires few { workers ≤ MOST_WORKERS }
     requires own { seat.old.store ≡ store.now }
-    requires share { 64 ≤ seat.old.share }
+    requires share { TEAM_SHARE ≤ seat.old.share }
     ensures text { IfOk result (λ listing. OfInput (S.held source.old) (S.held source.new)
         (λ bytes. IsCutsText most bytes (listing_text listing))) }
     ensures writable { IfOk result IsOfUnits }
@@ -157,9 +159,9 @@ fn size_input<R: Threads + Sync, S: Source>(
     seat: &mut StoreSeat,
 ) -> Result<Sizes, RunEnd>
     requires some { 1 ≤ workers }
-    requires few { workers ≤ 16 }
+    requires few { workers ≤ MOST_WORKERS }
     requires own { seat.old.store ≡ store.now }
-    requires share { 64 ≤ seat.old.share }
+    requires share { TEAM_SHARE ≤ seat.old.share }
     ensures text { IfOk result (λ sizes. OfInput (S.held source.old) (S.held source.new)
         (λ bytes. IsDiagramText (method_by sizes.nodes) bytes (diagram_text sizes.tree sizes.cuts sizes.nodes))) }
     ensures refused { IfErr result (IfRefused (IsRefusalFor for_diagram (S.held source.old) (S.held source.new)

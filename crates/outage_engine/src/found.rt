@@ -9,12 +9,13 @@ ghost use Rattle.outage_engine.specs.Store.{IsDiagramOf, IsRootOf};
 
 use cutset_listing::list;
 use cutset_lists::mcs_by_lists;
+use deck_limits::MOST_WORKERS;
 use edge_io::Pace;
 use fault_model::Tree;
 use std::alloc::Global;
 use std::thread::Threads;
 use unit_sets::{CutList, ListEnd};
-use zdd_build::{BuildEnd, build};
+use zdd_build::{BuildEnd, TEAM_SHARE, build};
 use zdd_shared_table::{NodeStore, StoreSeat};
 use zdd_words::NodeRef;
 
@@ -38,8 +39,8 @@ pub fn find_cuts<R: Threads + Sync, P: Pace>(
 ) -> Result<Found, ListEnd>
     requires own { seat.old.store ≡ store.now }
     requires some { 1 ≤ workers }
-    requires few { workers ≤ 16 }
-    requires share { 64 ≤ seat.old.share }
+    requires few { workers ≤ MOST_WORKERS }
+    requires share { TEAM_SHARE ≤ seat.old.share }
     ensures cuts { IfOk result (λ found. IsCutList tree.now found.cuts) }
     ensures within { IfOk result (λ found. weight found.cuts ≤ weight_limit) }
 

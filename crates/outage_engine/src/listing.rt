@@ -14,11 +14,13 @@ use crate::found::{Found, find_cuts};
 use crate::refusal::{Refusal, RunEnd};
 use board_report::UnitTexts;
 use cut_sequences::{OrderEnd, OrderLists, orders};
+use deck_limits::{MOST_ORDERED, MOST_WORKERS};
 use edge_io::Free;
 use fault_model::Tree;
 use std::alloc::Global;
 use std::thread::Threads;
 use unit_sets::{CutList, ListEnd};
+use zdd_build::TEAM_SHARE;
 use zdd_shared_table::{NodeStore, StoreSeat};
 use zdd_words::NodeRef;
 
@@ -55,11 +57,11 @@ pub(crate) fn list_tree<R: Threads + Sync>(
     store: &NodeStore,
     seat: &mut StoreSeat,
 ) -> Result<Listing, RunEnd>
-    requires most { most ≤ 8 }
+    requires most { most ≤ MOST_ORDERED }
     requires some { 1 ≤ workers }
-    requires few { workers ≤ 16 }
+    requires few { workers ≤ MOST_WORKERS }
     requires own { seat.old.store ≡ store.now }
-    requires share { 64 ≤ seat.old.share }
+    requires share { TEAM_SHARE ≤ seat.old.share }
     ensures listed { IfOk result (IsListingOf most tree) }
     ensures writable { IfOk result IsOfUnits }
     ensures limit { IfErr result (IfRefused (IsLimitOf most tree)) }
@@ -101,11 +103,11 @@ fn list_cuts<R: Threads + Sync>(
     store: &NodeStore,
     seat: &mut StoreSeat,
 ) -> Result<Listed, RunEnd>
-    requires most { most ≤ 8 }
+    requires most { most ≤ MOST_ORDERED }
     requires some { 1 ≤ workers }
-    requires few { workers ≤ 16 }
+    requires few { workers ≤ MOST_WORKERS }
     requires own { seat.old.store ≡ store.now }
-    requires share { 64 ≤ seat.old.share }
+    requires share { TEAM_SHARE ≤ seat.old.share }
     ensures all { IfOk result (λ listed. IsCutList tree.now listed.cuts) }
     ensures light { IfOk result (λ listed. weight listed.cuts ≤ weight_limit) }
     ensures orders { IfOk result (λ listed. listed.orders ≡ order_lists tree.now listed.cuts most) }
@@ -132,9 +134,9 @@ fn list_orders<R: Threads + Sync>(
     tree: &Tree,
     found: Found,
 ) -> Result<Listed, RunEnd>
-    requires most { most ≤ 8 }
+    requires most { most ≤ MOST_ORDERED }
     requires some { 1 ≤ workers }
-    requires few { workers ≤ 16 }
+    requires few { workers ≤ MOST_WORKERS }
     requires all { IsCutList tree.now found.cuts }
     requires light { weight found.cuts ≤ weight_limit }
     ensures all { IfOk result (λ listed. IsCutList tree.now listed.cuts) }

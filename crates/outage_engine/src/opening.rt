@@ -19,12 +19,13 @@ use crate::listing::{Listing, list_tree};
 use crate::refusal::RunEnd;
 use board_words::{Command, Word, numbers_are_within_bounds, read};
 use crew_script::Dockets;
-use deck_limits::GREATEST_MARGIN;
+use deck_limits::{GREATEST_MARGIN, MOST_ORDERED, MOST_WORKERS};
 use edge_io::{NoMemory, Source};
 use fault_model::Tree;
 use outage_board::{Board, BoardStart};
 use std::alloc::Global;
 use std::thread::Threads;
+use zdd_build::TEAM_SHARE;
 use zdd_shared_table::{NodeStore, StoreSeat};
 
 /// A board that is open, with what is printed before its log.
@@ -45,7 +46,7 @@ pub(crate) fn open_words<R: Threads + Sync, S: Source>(
 ) -> Result<Opened, RunEnd>
     requires command { IsBoard words.now }
     requires own { seat.old.store ≡ store.now }
-    requires share { 64 ≤ seat.old.share }
+    requires share { TEAM_SHARE ≤ seat.old.share }
     ensures opened { IfOk result (IsOpenedBy words.now (S.held source.old) (S.held source.new)) }
     ensures ready { IfOk result IsReady }
     ensures refused { IfErr result (IfRefused (IsRefusalBy words.now (S.held source.old) (S.held source.new)
@@ -80,11 +81,11 @@ fn open_input<R: Threads + Sync, S: Source>(
     seat: &mut StoreSeat,
 ) -> Result<Opened, RunEnd>
     requires margin { margin ≤ GREATEST_MARGIN }
-    requires most { most ≤ 8 }
+    requires most { most ≤ MOST_ORDERED }
     requires some { 1 ≤ workers }
-    requires few { workers ≤ 16 }
+    requires few { workers ≤ MOST_WORKERS }
     requires own { seat.old.store ≡ store.now }
-    requires share { 64 ≤ seat.old.share }
+    requires share { TEAM_SHARE ≤ seat.old.share }
     ensures opened { IfOk result (λ opened. OfInput (S.held source.old) (S.held source.new)
         (λ bytes. IsOpened margin most bytes opened)) }
     ensures ready { IfOk result IsReady }
@@ -114,12 +115,12 @@ fn open_deck<R: Threads + Sync>(
     seat: &mut StoreSeat,
 ) -> Result<Opened, RunEnd>
     requires margin { margin ≤ GREATEST_MARGIN }
-    requires most { most ≤ 8 }
+    requires most { most ≤ MOST_ORDERED }
     requires some { 1 ≤ workers }
-    requires few { workers ≤ 16 }
+    requires few { workers ≤ MOST_WORKERS }
     requires crews { IsSome crews }
     requires own { seat.old.store ≡ store.now }
-    requires share { 64 ≤ seat.old.share }
+    requires share { TEAM_SHARE ≤ seat.old.share }
     ensures opened { IfOk result (IsOpenedFor margin most tree crews) }
     ensures ready { IfOk result IsReady }
     ensures limit { IfErr result (IfRefused (IsLimitOf most tree)) }

@@ -30,6 +30,7 @@ use outage_board::BoardStart;
 use std::alloc::Global;
 use std::sync::Wait;
 use std::thread::Threads;
+use zdd_build::TEAM_SHARE;
 use zdd_shared_table::{NodeStore, StoreSeat};
 
 /// Does all that the program does: the words after its name say what, the source is its input, and the sink its output.
@@ -50,7 +51,7 @@ pub fn run<R: Threads + Wait + Sync, S: Source, K: Sink>(
     seat: &mut StoreSeat,
 ) -> Status
     requires own { seat.old.store ≡ store.now }
-    requires share { 64 ≤ seat.old.share }
+    requires share { TEAM_SHARE ≤ seat.old.share }
 
     // What was written, for which input, where the run ends well.
     ensures command { IsOfCommand words.now result }
@@ -125,7 +126,7 @@ pub fn run_cuts<R: Threads + Sync, S: Source, K: Sink>(
 ) -> Status
     requires command { IsNoBoard words.now }
     requires own { seat.old.store ≡ store.now }
-    requires share { 64 ≤ seat.old.share }
+    requires share { TEAM_SHARE ≤ seat.old.share }
 
     // What was written, for which input, where the run ends well.
     ensures command { IsOfCommand words.now result }
@@ -186,7 +187,7 @@ fn answer_and_tell<R: Threads + Sync, S: Source, K: Sink>(
 ) -> Status
     requires command { IsNoBoard words.now }
     requires own { seat.old.store ≡ store.now }
-    requires share { 64 ≤ seat.old.share }
+    requires share { TEAM_SHARE ≤ seat.old.share }
     ensures runs { Runs words.now (S.held source.old) (S.held source.new)
         (Rose (S.faults source.old) (S.faults source.new))
         K.taken K.faults sink.old sink.new result }
@@ -219,7 +220,7 @@ pub fn run_board<R: Threads + Wait + Sync, S: Source, K: Sink>(
 ) -> Status
     requires command { IsBoard words.now }
     requires own { seat.old.store ≡ store.now }
-    requires share { 64 ≤ seat.old.share }
+    requires share { TEAM_SHARE ≤ seat.old.share }
 
     // What was written, for which input, where the run ends well.
     ensures command { IsOfCommand words.now result }
@@ -275,7 +276,7 @@ fn serve_and_tell<R: Threads + Wait + Sync, S: Source, K: Sink>(
 ) -> Status
     requires command { IsBoard words.now }
     requires own { seat.old.store ≡ store.now }
-    requires share { 64 ≤ seat.old.share }
+    requires share { TEAM_SHARE ≤ seat.old.share }
     ensures runs { Runs words.now (S.held source.old) (S.held source.new)
         (Rose (S.faults source.old) (S.faults source.new))
         K.taken K.faults sink.old sink.new result }

@@ -11,11 +11,13 @@ use crate::Method;
 use crate::found::{Found, find_cuts};
 use crate::refusal::{Refusal, RunEnd};
 use cutset_listing::node_count;
+use deck_limits::MOST_WORKERS;
 use edge_io::{Free, NoMemory};
 use fault_model::Tree;
 use std::alloc::Global;
 use std::thread::Threads;
 use unit_sets::{CutList, ListEnd};
+use zdd_build::TEAM_SHARE;
 use zdd_shared_table::{NodeStore, StoreSeat};
 use zdd_words::NodeRef;
 
@@ -49,9 +51,9 @@ pub(crate) fn size_tree<R: Threads + Sync>(
     seat: &mut StoreSeat,
 ) -> Result<Sizes, RunEnd>
     requires some { 1 ≤ workers }
-    requires few { workers ≤ 16 }
+    requires few { workers ≤ MOST_WORKERS }
     requires own { seat.old.store ≡ store.now }
-    requires share { 64 ≤ seat.old.share }
+    requires share { TEAM_SHARE ≤ seat.old.share }
     ensures sizes { IfOk result (AreSizesOf tree) }
     ensures limit { IfErr result (IfRefused (IsWeightLimitOf tree)) }
     ensures found { IfOk result (λ sizes. IsFoundBy seat.old seat.new tree (method_by sizes.nodes)) }
@@ -79,9 +81,9 @@ fn find_sizes<R: Threads + Sync>(
     seat: &mut StoreSeat,
 ) -> Result<CutSizes, RunEnd>
     requires some { 1 ≤ workers }
-    requires few { workers ≤ 16 }
+    requires few { workers ≤ MOST_WORKERS }
     requires own { seat.old.store ≡ store.now }
-    requires share { 64 ≤ seat.old.share }
+    requires share { TEAM_SHARE ≤ seat.old.share }
     ensures cuts { IfOk result (λ sizes. IsCutList tree.now sizes.cuts) }
     ensures within { IfOk result (λ sizes. weight sizes.cuts ≤ weight_limit) }
     ensures nodes { IfOk result (λ sizes. AreNodesOf tree.now sizes.nodes) }

@@ -19,6 +19,7 @@ use crate::deck::{CrewPart, DeckParts, read_deck};
 use crate::listing::{Listing, list_tree};
 use crate::refusal::RunEnd;
 use crew_script::Dockets;
+use deck_limits::HIGHEST_MADE;
 use edge_io::NoMemory;
 use fault_model::Tree;
 use outage_board::BoardState;
@@ -26,6 +27,7 @@ use std::alloc::Global;
 use std::thread::Threads;
 use tree_maker::made;
 use unit_sets::CrewNo;
+use zdd_build::TEAM_SHARE;
 use zdd_shared_table::{NodeStore, StoreSeat};
 
 /// Orders are listed for sets of at most so many members.
@@ -54,9 +56,9 @@ pub(crate) fn sum_made<R: Threads + Sync>(
     store: &NodeStore,
     seat: &mut StoreSeat,
 ) -> Result<Summary, RunEnd>
-    requires number { number ≤ 999999 }
+    requires number { number ≤ HIGHEST_MADE }
     requires own { seat.old.store ≡ store.now }
-    requires share { 64 ≤ seat.old.share }
+    requires share { TEAM_SHARE ≤ seat.old.share }
     ensures text { IfOk result (λ summary. IsSummaryText number (summed_text summary)) }
     ensures writable { IfOk result HasOrders }
     ensures refused { IfErr result (IfRefused (IsDeckRefusal for_summary (made_deck number))) }
@@ -71,7 +73,7 @@ pub(crate) fn sum_made<R: Threads + Sync>(
 
 // The tree and the crew of the made deck of a number, read as any deck is.
 fn read_made(alloc: Global, number: u32) -> Result<DeckParts, RunEnd>
-    requires { number ≤ 999999 }
+    requires { number ≤ HIGHEST_MADE }
     ensures deck { IfOk result (λ deck. IsWellFormed Needed (made_deck number) deck.tree deck.crews) }
     ensures crew { IfOk result (λ deck. deck.crews ≡ Some (made_crew number ∷ [])) }
     ensures refused { IfErr result (IfRefused (IsDeckRefusal for_summary (made_deck number))) }
@@ -92,7 +94,7 @@ fn sum_deck<R: Threads + Sync>(
 ) -> Result<Summary, RunEnd>
     requires crew { crews ≡ Some (made_crew number ∷ []) }
     requires own { seat.old.store ≡ store.now }
-    requires share { 64 ≤ seat.old.share }
+    requires share { TEAM_SHARE ≤ seat.old.share }
     ensures summed { IfOk result (IsSummaryOf number tree (made_crew number ∷ [])) }
     ensures limit { IfErr result (IfRefused (IsLimitOf summed_most tree)) }
     ensures found { IfOk result (λ summary. IsFoundBy seat.old seat.new tree (method_by summary.listing.root)) }

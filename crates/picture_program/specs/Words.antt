@@ -1,5 +1,6 @@
 -- The words of the program: `picture`, and which cut set is to be marked.
 use Rattle.std.specs.Prelude.{ℕ, ◌≤◌, if◌then◌else◌, List, [], ◌∷◌, codes, Option, Some, None}
+use Rattle.deck_limits.specs.declared.TheConstants.{HIGHEST_CUT}
 use Rattle.board_words.specs.Number.{number_within}
 use Rattle.board_words.specs.Options.{are_options, is_same, value_of}
 use Rattle.picture_program.specs.declared.words.Mark.{Mark}
@@ -17,7 +18,7 @@ cut_of (Some number) = Some (Cut number)
 -- nothing where no number is said, and else the cut set of a number from 1 to 999,999
 abbrev pub mark_said : Option (List ℕ) → Option Mark
 mark_said None = Some Nothing
-mark_said (Some value) = cut_of (number_within 1 999999 value)
+mark_said (Some value) = cut_of (number_within 1 HIGHEST_CUT value)
 
 -- what the options of `picture` ask to be marked, where they are such and the number is sound
 abbrev pub mark_in : List (List ℕ) → Option Mark

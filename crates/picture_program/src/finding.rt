@@ -19,6 +19,7 @@ use outage_engine::find_cuts;
 use std::alloc::Global;
 use std::thread::Threads;
 use unit_sets::{CutList, ListEnd, UnitNo};
+use zdd_build::TEAM_SHARE;
 use zdd_shared_table::{NodeStore, StoreSeat};
 
 // How many threads make the diagrams from which cut sets are listed.
@@ -42,7 +43,7 @@ pub(crate) fn find_picture<R: Threads + Sync, S: Source>(
     seat: &mut StoreSeat,
 ) -> Result<Picture, NoPicture>
     requires own { seat.old.store ≡ store.now }
-    requires share { 64 ≤ seat.old.share }
+    requires share { TEAM_SHARE ≤ seat.old.share }
     ensures picture { IfOk result (IsPictureOf words.now (S.held source.old) (S.held source.new)) }
     ensures refused { IfErr result (IfRefused (HasCause words.now (S.held source.old) (S.held source.new)
         (Rose (S.faults source.old) (S.faults source.new)))) }
@@ -80,7 +81,7 @@ fn mark_tree<R: Threads + Sync>(
     seat: &mut StoreSeat,
 ) -> Result<Picture, NoPicture>
     requires own { seat.old.store ≡ store.now }
-    requires share { 64 ≤ seat.old.share }
+    requires share { TEAM_SHARE ≤ seat.old.share }
     requires numbered { IsNumbered mark }
     ensures picture { IfOk result (IsMarkedTree mark tree) }
     ensures refused { IfErr result (IfRefused (IsMarkRefusal mark tree)) }
@@ -107,7 +108,7 @@ fn find_cut<R: Threads + Sync>(
     seat: &mut StoreSeat,
 ) -> Result<Vec<UnitNo>, NoPicture>
     requires own { seat.old.store ≡ store.now }
-    requires share { 64 ≤ seat.old.share }
+    requires share { TEAM_SHARE ≤ seat.old.share }
     requires some { 1 ≤ number }
     ensures units { IfOk result (λ units. IsCutNumbered tree.now number units.items) }
     ensures refused { IfErr result (IfRefused (IsCutRefusal number tree.now)) }

@@ -15,6 +15,7 @@ use board_words::Word;
 use edge_io::{Buffer, Sink, Source};
 use std::alloc::Global;
 use std::thread::Threads;
+use zdd_build::TEAM_SHARE;
 use zdd_shared_table::{NodeStore, StoreSeat};
 
 /// Writes the picture that the words ask for of the deck that the source holds. Where there is none the line that says
@@ -32,7 +33,7 @@ pub(crate) fn run<R: Threads + Sync, S: Source, K: Sink, N: Sink>(
     seat: &mut StoreSeat,
 ) -> PictureEnd
     requires own { seat.old.store ≡ store.now }
-    requires share { 64 ≤ seat.old.share }
+    requires share { TEAM_SHARE ≤ seat.old.share }
 
     // A run that is done wrote exactly the picture, and one whose output failed a front of it.
     ensures picture { WritesPicture words.now (S.held source.old) (S.held source.new) K.taken sink.old sink.new result }
@@ -61,7 +62,7 @@ fn find_and_tell<R: Threads + Sync, S: Source, K: Sink, N: Sink>(
     seat: &mut StoreSeat,
 ) -> PictureEnd
     requires own { seat.old.store ≡ store.now }
-    requires share { 64 ≤ seat.old.share }
+    requires share { TEAM_SHARE ≤ seat.old.share }
     ensures runs { Runs words.now (S.held source.old) (S.held source.new)
         (Rose (S.faults source.old) (S.faults source.new)) K.taken K.faults N.taken N.faults sink.old sink.new notes.old
         notes.new result }

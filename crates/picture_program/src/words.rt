@@ -3,6 +3,7 @@ ghost use Rattle.std.specs.Prelude.{◌≡◌, IfSome, Some};
 ghost use Rattle.picture_program.specs.Words.{IsNumbered, asked, mark_in, mark_said};
 
 use board_words::{Word, are_options, number_within, value_of};
+use deck_limits::HIGHEST_CUT;
 
 /// What is marked in a picture.
 #[derive(Clone, Copy, Debug, PartialEq, Eq)]
@@ -46,6 +47,6 @@ fn cut_said(number: &[u8]) -> Option<Mark>
     ensures mark { result ≡ mark_said (Some number.now) }
     ensures numbered { IfSome result IsNumbered }
 {
-    let number = number_within(1, 999_999, number)?;
+    let number = number_within(1, HIGHEST_CUT, number)?;
     Some(Mark::Cut(number))
 }

@@ -7,15 +7,13 @@ ghost use Rattle.tree_maker.specs.WellMade.{IsWellMade};
 use crate::crew::add_crew;
 use crate::laws::made_decks_are_well_made;
 use crate::tree::add_tree;
+use deck_limits::HIGHEST_MADE;
 use edge_io::{Bytes, NoMemory};
 use std::alloc::Global;
 
-/// The highest number of a made deck.
-pub const HIGHEST_NUMBER: u32 = 999_999;
-
 /// The made deck of a number, which is a deck without a fault.
 pub fn made(alloc: Global, number: u32) -> Result<Bytes, NoMemory>
-    requires { number ≤ 999999 }
+    requires { number ≤ HIGHEST_MADE }
     ensures text { IfOk result (λ bytes. bytes ≡ made_deck number) }
     ensures well_formed { IfOk result (λ bytes. (tree : FaultTree) × IsWellMade number bytes tree) }
 {

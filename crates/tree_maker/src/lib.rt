@@ -11,4 +11,4 @@ pub mod laws;
 mod text;
 mod tree;
 
-pub use deck::{HIGHEST_NUMBER, made};
+pub use deck::made;

@@ -7,6 +7,7 @@ ghost use Rattle.tree_maker.specs.Names.{gate_name, trigger_name, units_in};
 ghost use Rattle.tree_maker.specs.MadeDeck.{fdep_gate, group_count, group_gate, kind_in, made_statements, unit_line};
 
 use crate::text::add;
+use deck_limits::HIGHEST_MADE;
 use edge_io::NoMemory;
 use itoa::Buffer;
 
@@ -14,7 +15,7 @@ const TRIGGERS: u32 = 10;
 
 // Adds the statements of the tree, of so many groups.
 pub(crate) fn add_tree(text: &mut Vec<u8>, number: u32, count: u32) -> Result<(), NoMemory>
-    requires number { number ≤ 999999 }
+    requires number { number ≤ HIGHEST_MADE }
     requires count { count ≡ group_count number }
     ensures { OnOk result (text.new.items ≡ text.old.items ++ written (made_statements number)) }
 {
@@ -41,7 +42,7 @@ fn add_inputs(text: &mut Vec<u8>, count: u32) -> Result<(), NoMemory>
 
 // Adds the gates of all groups.
 fn add_groups(text: &mut Vec<u8>, number: u32, count: u32) -> Result<(), NoMemory>
-    requires number { number ≤ 999999 }
+    requires number { number ≤ HIGHEST_MADE }
     requires count { count ≤ 200 }
     ensures { OnOk result (text.new.items ≡ text.old.items
         ++ flat_map (λ group. statement_text (group_gate number group)) (range_with_len 0 count)) }
@@ -53,7 +54,7 @@ fn add_groups(text: &mut Vec<u8>, number: u32, count: u32) -> Result<(), NoMemor
 }
 
 fn add_group(text: &mut Vec<u8>, number: u32, group: u32) -> Result<(), NoMemory>
-    requires number { number ≤ 999999 }
+    requires number { number ≤ HIGHEST_MADE }
     requires group { group < 200 }
     ensures { OnOk result (text.new.items ≡ text.old.items ++ statement_text (group_gate number group)) }
 {
@@ -70,7 +71,7 @@ fn add_group(text: &mut Vec<u8>, number: u32, group: u32) -> Result<(), NoMemory
 
 // The word of a group's gate.
 fn kind_word(number: u32, group: u32) -> &'static [u8]
-    requires number { number ≤ 999999 }
+    requires number { number ≤ HIGHEST_MADE }
     requires group { group < 200 }
     ensures { result.now ≡ gate_word (kind_in number group) }
 {

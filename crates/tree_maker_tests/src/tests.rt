@@ -1,14 +1,15 @@
 //! Made decks as text, and read again.
 use crew_script::{CrewsAt, Dockets, LONGEST_DECK, split_deck};
+use deck_limits::HIGHEST_MADE;
 use fault_model::Tree;
 use std::alloc::Global;
 use std::test::Fail;
-use tree_maker::{HIGHEST_NUMBER, made};
+use tree_maker::made;
 use worked_trees::{dockets_of, tree_of};
 
 // The deck of a number, which has to be a text.
 fn text_of(alloc: Global, number: u32) -> Result<String, Fail> {
-    if number > HIGHEST_NUMBER {
+    if number > HIGHEST_MADE {
         return Err("the number is too high".into());
     }
     let deck = made(alloc, number)?;

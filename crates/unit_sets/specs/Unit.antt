@@ -1,3 +1,4 @@
+-- Units by their numbers.
 use Rattle.std.specs.Prelude.{ℕ, ◌≤◌}
 use Rattle.unit_sets.specs.declared.unit_no.TheConstants.UnitNo.{MAX}
 

@@ -12,12 +12,17 @@ use crate::ranks::make_ranks;
 use crate::table::Table;
 use crate::teams::{close, open};
 use crate::worker::OWN_NODES;
+use deck_limits::MOST_WORKERS;
 use edge_io::Pace;
 use fault_model::Tree;
 use std::alloc::{AllocError, Global};
 use std::thread::Threads;
 use zdd_shared_table::{Full, NodeStore, StoreSeat};
 use zdd_words::NodeRef;
+
+/// The share that a seat needs to build: as many workers as may be asked for are split off it, and one more while two
+/// tell each other what they know.
+pub const TEAM_SHARE: u64 = 64;
 
 /// Why the families were not all made.
 #[derive(Clone, Copy, Debug, PartialEq, Eq)]
@@ -63,8 +68,8 @@ pub fn build<R: Threads + Sync, P: Pace>(
 ) -> Result<NodeRef, BuildEnd>
     requires own { seat.old.store ≡ store.now }
     requires some { 1 ≤ workers }
-    requires few { workers ≤ 16 }
-    requires share { 64 ≤ seat.old.share }
+    requires few { workers ≤ MOST_WORKERS }
+    requires share { TEAM_SHARE ≤ seat.old.share }
     ensures top { IfOk result (λ r. KnowsOne (map_of seat.new) r (IsCutFamily tree.now tree.now.top)) }
     ensures nodes { OnOk result (KnowsCutFamilies (map_of seat.new) tree.now) }
 
@@ -90,8 +95,8 @@ pub fn build_within<R: Threads + Sync, P: Pace>(
 ) -> Result<NodeRef, BuildEnd>
     requires own { seat.old.store ≡ store.now }
     requires some { 1 ≤ workers }
-    requires few { workers ≤ 16 }
-    requires share { 64 ≤ seat.old.share }
+    requires few { workers ≤ MOST_WORKERS }
+    requires share { TEAM_SHARE ≤ seat.old.share }
     requires room { own_nodes ≤ 262144 }
     ensures top { IfOk result (λ r. KnowsOne (map_of seat.new) r (IsCutFamily tree.now tree.now.top)) }
     ensures nodes { OnOk result (KnowsCutFamilies (map_of seat.new) tree.now) }

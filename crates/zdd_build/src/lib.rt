@@ -19,4 +19,4 @@ mod table;
 mod teams;
 mod worker;
 
-pub use building::{BuildEnd, build, build_within};
+pub use building::{BuildEnd, TEAM_SHARE, build, build_within};

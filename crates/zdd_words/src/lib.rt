@@ -9,4 +9,4 @@ mod node_ref;
 mod word;
 
 pub use node_ref::NodeRef;
-pub use word::{Parts, home, pack, unpack};
+pub use word::{Parts, SPREAD, home, pack, unpack};

@@ -10,8 +10,9 @@ const LO_SHIFT: u32 = 26;
 
 const LEVEL_SHIFT: u32 = 52;
 
-// An odd number near 2^64 divided by the golden ratio: its products spread neighbouring words.
-const SPREAD: u64 = 11_400_714_819_323_198_485;
+/// An odd number near 2^64 divided by the golden ratio: its products spread neighbouring keys of a table, as Knuth's
+/// section 6.4 says of multiplicative hashing.
+pub const SPREAD: u64 = 11_400_714_819_323_198_485;
 
 /// What a node word says: a level, and the references of both parts.
 #[derive(Clone, Copy, Debug, PartialEq, Eq)]
