@@ -1,3 +1,4 @@
+mod Behind
 mod Meets
 mod Sizes
 mod Walks

@@ -19,7 +19,8 @@ use Rattle.zdd_families.specs.Family.{IsFamily, set_cmp}
 use Rattle.zdd_families.proofs.Lists.{each-append, each-weaker, sorted-append, filter-all}
 use Rattle.cutset_listing.specs.BySize.{of_size, at_size, joined}
 use Rattle.cutset_listing.specs.Listing.{HasSetsOf, LacksEmptySet}
-use Rattle.cutset_listing.proofs.Walks.{weight-append, weight-cons, each-front}
+use Rattle.cutset_listing.proofs.Behind.{weight-append, weight-cons}
+use Rattle.cutset_listing.proofs.Walks.{each-front}
 
 each-back : {K : Type 0} (P : K → Type 0) (xs ys : List K) → AllByRecursion P (xs ++ ys) → AllByRecursion P ys
 each-back P [] ys all = all

@@ -25,6 +25,9 @@ use std::alloc::Global;
 // Most gates have two inputs, so the first room of a gate with more than one is for these.
 const USUAL_INPUTS: usize = 2;
 
+// Most basic events with attributes have a rate of failure alone, or a dormancy factor beside it.
+const USUAL_ATTRIBUTES: usize = 2;
+
 /// The statements of a text that is in the grammar, else its first fault.
 pub fn parse(alloc: Global, text: &[u8]) -> Result<RawTree, ParseFault>
     requires { length text.now ≤ LONGEST_TEXT }
@@ -86,7 +89,7 @@ fn definition(alloc: Global, reader: &mut Reader, name: Placed) -> Result<Statem
     }
     equals(reader)?;
     let word = lexeme.name(alloc)?;
-    attributes(alloc, reader, basic(alloc, name), word)
+    attributes(alloc, reader, basic_with_room(alloc, name)?, word)
 }
 
 // A basic event without attributes.
@@ -97,6 +100,17 @@ fn basic(alloc: Global, name: Placed) -> RawBasic
         name,
         attributes: RawAttributes::new(alloc),
     }
+}
+
+// A basic event whose attributes are read next.
+fn basic_with_room(alloc: Global, name: Placed) -> Result<RawBasic, ParseFault>
+    ensures basic { IfOk result (λ basic. basic ≡ record { name = name; attributes = [] }) }
+    ensures memory { IfErr result (λ fault. fault ≡ NoMemory) }
+{
+    Ok(RawBasic {
+        name,
+        attributes: RawAttributes::with_room(alloc, USUAL_ATTRIBUTES)?,
+    })
 }
 
 // The rest behind a name and a gate word, which may yet be the word of an attribute.
@@ -113,7 +127,7 @@ fn gate(
     let lexeme = reader.want(What::Input)?;
     if lexeme.is_equals() && word.is_bare() {
         let word = word.name(alloc)?;
-        return attributes(alloc, reader, basic(alloc, name), word);
+        return attributes(alloc, reader, basic_with_room(alloc, name)?, word);
     }
     let mut gate = RawGate {
         name,

@@ -61,10 +61,9 @@ impl<'a> Reader<'a> {
     pub(crate) fn want(&mut self, wanted: What) -> Result<Lexeme<'a>, ParseFault>
         ensures { Wants wanted self.old result self.new }
     {
-        match self.next() {
-            Ok(Some(lexeme)) => Ok(lexeme),
-            Ok(None) => Err(ParseFault::Expected(wanted, self.end())),
-            Err(fault) => Err(fault),
+        match self.next()? {
+            Some(lexeme) => Ok(lexeme),
+            None => Err(ParseFault::Expected(wanted, self.end())),
         }
     }
 

@@ -13,4 +13,4 @@ returns-then-is_bare c =
     let goes = goes_by first (AttributeEquals c.args.name [] word.text) _ _ c.in_ok-lexeme.lexeme c.in_ok-lexeme.ensures
     (rw (alone.0, alone.1, sym c.if-is_equals.ensures, sym c.if-is_bare.ensures.bare) refl) in
     reads_after first (AttributeEquals c.args.name [] word.text) _ _ _ goes _
-    (rw (c.basic.ensures, c.in_ok-word.ensures.name) at c.attributes.ensures)
+    (rw (c.in_ok-basic_with_room.ensures.basic, c.in_ok-word.ensures.name) at c.attributes.ensures)
