@@ -6,6 +6,7 @@ pub mod OpeningLemmas
 pub mod SafetyLemmas
 pub mod TimesLemmas
 pub mod StepLemmas
+pub mod TableLemmas
 pub mod PassLemmas
 pub mod ServingLemmas
 -- when a history is whole

@@ -3,7 +3,7 @@ use Rattle.atomic_table.specs.Table.{opening}
 use Rattle.outage_board.specs.Boards.{BoardView}
 use Rattle.outage_board.specs.Rule.{KeepsTurns}
 use Rattle.outage_board.specs.Views.{first_view}
-use Rattle.outage_board.proofs.StepLemmas.{opens_table}
+use Rattle.outage_board.proofs.TableLemmas.{opens_table}
 use Rattle.outage_board.proofs.table.laid.Goals as goal
 
 pub new-requires : goal.new-requires

@@ -1,7 +1,7 @@
 use Rattle.std.proofs.Common.{◌≡◌, ℕ, ◌<◌, length, sym, ◌∙◌, ap, subst}
 use Rattle.outage_board.specs.Rule.{times_of}
 use Rattle.outage_board.proofs.TimesLemmas.{AreMade}
-use Rattle.outage_board.proofs.StepLemmas.{IsClosed, closes_table}
+use Rattle.outage_board.proofs.TableLemmas.{IsClosed, closes_table}
 use Rattle.outage_board.proofs.PassLemmas.{made_all, times_back}
 use Rattle.outage_board.proofs.board.Board.close.Goals as goal
 use Rattle.outage_board.proofs.board.Board.close.Goals.{After-emptied}
