@@ -6,8 +6,7 @@ use Rattle.cut_sequences.specs.Orders.{order_total}
 use Rattle.margin_policy.specs.Decide.{is_granted}
 use Rattle.margin_policy.specs.Held.{units_out}
 use Rattle.margin_policy.specs.declared.request.Reply.{Reply}
-use Rattle.margin_policy.specs.declared.request.Reply.TheVariants.{Granted, Denied, UnknownUnit, AlreadyOut, NotOut}
-use Rattle.margin_policy.specs.declared.request.Reply.TheVariants.{HeldBy, NotSupervisor}
+use Rattle.margin_policy.specs.declared.request.Reply.TheVariants.{Granted, Denied}
 use Rattle.outage_board.specs.Boards.{BoardView, standing_of}
 use Rattle.outage_board.specs.declared.entry.Entry.{Entry}
 use Rattle.board_texts.specs.BoardText.{out_head}
@@ -22,23 +21,14 @@ made_line number units gates = codes "made "
 
 -- whether a reply denies its request for a cut set
 abbrev pub is_denied : Reply → Bool
-is_denied Granted = false
 is_denied (Denied number) = true
-is_denied UnknownUnit = false
-is_denied (AlreadyOut holder) = false
-is_denied NotOut = false
-is_denied (HeldBy holder) = false
-is_denied NotSupervisor = false
+is_denied _ = false
 
 -- whether a reply names an error, E1 to E5
 abbrev pub is_error : Reply → Bool
 is_error Granted = false
 is_error (Denied number) = false
-is_error UnknownUnit = true
-is_error (AlreadyOut holder) = true
-is_error NotOut = true
-is_error (HeldBy holder) = true
-is_error NotSupervisor = true
+is_error _ = true
 
 -- how many entries have a reply of a kind
 abbrev pub reply_count : (Reply → Bool) → List Entry → ℕ

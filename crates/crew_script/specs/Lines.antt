@@ -112,7 +112,5 @@ line_of (first ∷ words) =
 
 -- a margin's number is the greatest at most
 abbrev pub SaysMargin : Line → Type 0
-SaysMargin Nothing = Unit {0}
-SaysMargin Bad = Unit {0}
-SaysMargin (Crew name) = Unit {0}
 SaysMargin (Request ask) = HasMargin ask
+SaysMargin _ = Unit {0}

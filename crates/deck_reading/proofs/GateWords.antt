@@ -11,7 +11,7 @@ use Rattle.std.proofs.lemmas.List.{take_at}
 use Rattle.std.proofs.lemmas.List.Folds.{list_all-append}
 use Rattle.std.proofs.lemmas.List.Prefix.{front_rest}
 use Rattle.fault_words.specs.declared.kind.GateKind.{GateKind}
-use Rattle.fault_words.specs.declared.kind.GateKind.TheVariants.{And, Or, Votes, Pand, Por, Seq, Fdep, Csp, Wsp, Hsp}
+use Rattle.fault_words.specs.declared.kind.GateKind.TheVariants.{Votes}
 use Rattle.galileo_lexer.specs.Bytes.{is_word_byte}
 use Rattle.galileo_lexer.specs.Pieces.{IsNameText}
 use Rattle.galileo_tree.specs.ReadTree.{HasShortNumbers}
@@ -198,19 +198,11 @@ votes_alone (digit ∷ digits) rest each some =
 
 pub gate_word_said : (kind : GateKind) → HasShortNumbers kind → kind_in (gate_word kind) ≡ Some kind
 unfolding kind_in
-gate_word_said And short = refl
-gate_word_said Or short = refl
 gate_word_said (Votes least of) short =
     let front = few_digits least short.0 in
     votes_alone (decimal least) (codes "of" ++ decimal of) front.0.each front.0.some
     ∙ number_kind least of short.0 short.1
-gate_word_said Pand short = refl
-gate_word_said Por short = refl
-gate_word_said Seq short = refl
-gate_word_said Fdep short = refl
-gate_word_said Csp short = refl
-gate_word_said Wsp short = refl
-gate_word_said Hsp short = refl
+gate_word_said _ short = refl
 
 digit_in_word : (byte : ℕ) → is_ascii_digit byte ≡ true → is_word_byte byte ≡ true
 unfolding is_word_byte
@@ -229,8 +221,6 @@ of_in_word = refl
 
 pub gate_word_text : (kind : GateKind) → HasShortNumbers kind → IsNameText is_word_byte (gate_word kind)
 unfolding is_word_byte
-gate_word_text And short = record { some = omega arith; few = omega arith; each = refl }
-gate_word_text Or short = record { some = omega arith; few = omega arith; each = refl }
 gate_word_text (Votes least of) short =
     let front = few_digits least short.0 in
     let back = few_digits of short.1 in
@@ -244,10 +234,4 @@ gate_word_text (Votes least of) short =
           (digits_in_word (decimal least) front.0.each)
           (list_all-both is_word_byte (codes "of") (decimal of) of_in_word (digits_in_word (decimal of) back.0.each));
     }
-gate_word_text Pand short = record { some = omega arith; few = omega arith; each = refl }
-gate_word_text Por short = record { some = omega arith; few = omega arith; each = refl }
-gate_word_text Seq short = record { some = omega arith; few = omega arith; each = refl }
-gate_word_text Fdep short = record { some = omega arith; few = omega arith; each = refl }
-gate_word_text Csp short = record { some = omega arith; few = omega arith; each = refl }
-gate_word_text Wsp short = record { some = omega arith; few = omega arith; each = refl }
-gate_word_text Hsp short = record { some = omega arith; few = omega arith; each = refl }
+gate_word_text _ short = record { some = omega arith; few = omega arith; each = refl }

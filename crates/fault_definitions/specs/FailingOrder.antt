@@ -3,7 +3,7 @@ use Rattle.std.specs.Prelude.{ℕ, Bool, true, not, ◌&&◌, ◌||◌, is_some,
 use Rattle.std.specs.List.{list_all}
 use Rattle.unit_sets.specs.UnitList.{among}
 use Rattle.fault_words.specs.declared.kind.GateKind.{GateKind}
-use Rattle.fault_words.specs.declared.kind.GateKind.TheVariants.{And, Or, Votes, Pand, Por, Seq, Fdep, Csp, Wsp, Hsp}
+use Rattle.fault_words.specs.declared.kind.GateKind.TheVariants.{Seq, Csp}
 use Rattle.fault_definitions.specs.Tree.{FaultTree, gates}
 use Rattle.fault_definitions.specs.Step.{Step, is_before, never_falls, place, step}
 
@@ -18,14 +18,7 @@ spares_wait step_of order (input ∷ spares) =
 abbrev pub gate_admits : (ℕ → Step) → List ℕ → GateKind × List ℕ → Bool
 gate_admits step_of order (Seq, inputs) = never_falls step_of inputs
 gate_admits step_of order (Csp, inputs) = spares_wait step_of order inputs
-gate_admits step_of order (And, inputs) = true
-gate_admits step_of order (Or, inputs) = true
-gate_admits step_of order (Votes least of, inputs) = true
-gate_admits step_of order (Pand, inputs) = true
-gate_admits step_of order (Por, inputs) = true
-gate_admits step_of order (Fdep, inputs) = true
-gate_admits step_of order (Wsp, inputs) = true
-gate_admits step_of order (Hsp, inputs) = true
+gate_admits step_of order _ = true
 
 -- every gate of the tree lets the order happen, whether or not the top event reaches it
 abbrev pub is_admissible : FaultTree → List ℕ → Bool

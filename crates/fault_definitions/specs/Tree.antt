@@ -3,7 +3,7 @@ use Rattle.std.specs.Prelude.{ℕ, ◌+◌, ◌-◌, ◌<◌, ◌≤◌, Bool, t
 use Rattle.std.specs.Prelude.{slice_index, slice_index_or}
 use Rattle.fault_words.specs.declared.attribute.Attribute.{Attribute}
 use Rattle.fault_words.specs.declared.kind.GateKind.{GateKind}
-use Rattle.fault_words.specs.declared.kind.GateKind.TheVariants.{And, Or, Votes, Pand, Por, Seq, Fdep, Csp, Wsp, Hsp}
+use Rattle.fault_words.specs.declared.kind.GateKind.TheVariants.{Fdep}
 use Rattle.fault_definitions.specs.declared.parts.TreeParts.{TreeParts}
 
 -- The units are 1 to U, and the gates U+1 to U+G. Each list goes in the order of the numbers.
@@ -84,16 +84,8 @@ rank_of tree node = slice_index (0 ∷ tree.ranks) node
 
 -- the kind is that of a functional dependency
 abbrev pub is_fdep_kind : GateKind → Bool
-is_fdep_kind And = false
-is_fdep_kind Or = false
-is_fdep_kind (Votes least inputs) = false
-is_fdep_kind Pand = false
-is_fdep_kind Por = false
-is_fdep_kind Seq = false
 is_fdep_kind Fdep = true
-is_fdep_kind Csp = false
-is_fdep_kind Wsp = false
-is_fdep_kind Hsp = false
+is_fdep_kind _ = false
 
 -- the node is a functional dependency, which no gate reads
 abbrev pub is_fdep : FaultTree → ℕ → Bool

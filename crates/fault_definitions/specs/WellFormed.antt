@@ -52,26 +52,14 @@ abbrev pub primary_in : GateKind × List ℕ → List ℕ
 primary_in (Csp, inputs) = take 1 inputs
 primary_in (Wsp, inputs) = take 1 inputs
 primary_in (Hsp, inputs) = take 1 inputs
-primary_in (And, inputs) = []
-primary_in (Or, inputs) = []
-primary_in (Votes least of, inputs) = []
-primary_in (Pand, inputs) = []
-primary_in (Por, inputs) = []
-primary_in (Seq, inputs) = []
-primary_in (Fdep, inputs) = []
+primary_in _ = []
 
 -- the spares of a spare gate: its inputs after the primary
 abbrev pub spares_in : GateKind × List ℕ → List ℕ
 spares_in (Csp, inputs) = drop 1 inputs
 spares_in (Wsp, inputs) = drop 1 inputs
 spares_in (Hsp, inputs) = drop 1 inputs
-spares_in (And, inputs) = []
-spares_in (Or, inputs) = []
-spares_in (Votes least of, inputs) = []
-spares_in (Pand, inputs) = []
-spares_in (Por, inputs) = []
-spares_in (Seq, inputs) = []
-spares_in (Fdep, inputs) = []
+spares_in _ = []
 
 -- the primaries of all spare gates
 abbrev pub primaries : FaultTree → List ℕ

@@ -25,15 +25,7 @@ use Rattle.fault_model.specs.TreeTables.{HoldsLists, HoldsTables, IsFromBelow, b
 units_triggered : (tree : FaultTree) (gate : GateKind × List ℕ) → IsSoundGate tree gate
     → All (IsUnitBelow (unit_count tree)) (dependents_in gate)
 units_triggered tree (Fdep, inputs) sound = sound.kind.units
-units_triggered tree (And, inputs) sound = All-nil (IsUnitBelow (unit_count tree))
-units_triggered tree (Or, inputs) sound = All-nil (IsUnitBelow (unit_count tree))
-units_triggered tree (Votes least of, inputs) sound = All-nil (IsUnitBelow (unit_count tree))
-units_triggered tree (Pand, inputs) sound = All-nil (IsUnitBelow (unit_count tree))
-units_triggered tree (Por, inputs) sound = All-nil (IsUnitBelow (unit_count tree))
-units_triggered tree (Seq, inputs) sound = All-nil (IsUnitBelow (unit_count tree))
-units_triggered tree (Csp, inputs) sound = All-nil (IsUnitBelow (unit_count tree))
-units_triggered tree (Wsp, inputs) sound = All-nil (IsUnitBelow (unit_count tree))
-units_triggered tree (Hsp, inputs) sound = All-nil (IsUnitBelow (unit_count tree))
+units_triggered tree _ sound = All-nil (IsUnitBelow (unit_count tree))
 
 pub dependents_below : (parts : TreeParts) (given : List ℕ) (units : ℕ) (attributes : List (List Attribute))
     (kinds : List GateKind) (inputs : List (List ℕ)) → units ≡ length attributes

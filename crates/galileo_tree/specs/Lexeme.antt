@@ -22,10 +22,8 @@ place_at place = record { line = place.line; column = place.column }
 
 -- the text of a token of each kind: a quoted one's stands between the quotes
 abbrev pub text_between : TokenKind → List ℕ → ℕ → ℕ → List ℕ
-text_between Word text start stop = slice_range text start stop
 text_between Quoted text start stop = slice_range text (start + 1) (stop - 1)
-text_between Equals text start stop = slice_range text start stop
-text_between Semicolon text start stop = slice_range text start stop
+text_between _ text start stop = slice_range text start stop
 
 -- the lexeme of a token that lies in this text
 abbrev pub lexeme_of : List ℕ → Token → Lexeme
@@ -47,30 +45,22 @@ pub record Stream : Type 0 where
 -- the token is a word
 abbrev pub is_word_kind : TokenKind → Bool
 is_word_kind Word = true
-is_word_kind Quoted = false
-is_word_kind Equals = false
-is_word_kind Semicolon = false
+is_word_kind _ = false
 
 -- the token stands in quotes
 abbrev pub is_quoted_kind : TokenKind → Bool
-is_quoted_kind Word = false
 is_quoted_kind Quoted = true
-is_quoted_kind Equals = false
-is_quoted_kind Semicolon = false
+is_quoted_kind _ = false
 
 -- the token is an `=`
 abbrev pub is_equals_kind : TokenKind → Bool
-is_equals_kind Word = false
-is_equals_kind Quoted = false
 is_equals_kind Equals = true
-is_equals_kind Semicolon = false
+is_equals_kind _ = false
 
 -- the token is a `;`
 abbrev pub is_semicolon_kind : TokenKind → Bool
-is_semicolon_kind Word = false
-is_semicolon_kind Quoted = false
-is_semicolon_kind Equals = false
 is_semicolon_kind Semicolon = true
+is_semicolon_kind _ = false
 
 -- the lexeme is an `=`
 unfoldable pub is_equals : Lexeme → Bool

@@ -1,7 +1,7 @@
 -- What is read of a text that is in the grammar.
 use Rattle.std.specs.Prelude.{◌≡◌, ◌≤◌, true, List, All}
 use Rattle.fault_words.specs.declared.kind.GateKind.{GateKind}
-use Rattle.fault_words.specs.declared.kind.GateKind.TheVariants.{And, Or, Votes, Pand, Por, Seq, Fdep, Csp, Wsp, Hsp}
+use Rattle.fault_words.specs.declared.kind.GateKind.TheVariants.{Votes}
 use Rattle.fault_words.specs.declared.place.Place.{Place}
 use Rattle.fault_words.specs.Name.{is_bare_name}
 use Rattle.galileo_tree.specs.declared.raw.Statement.{Statement}
@@ -16,15 +16,7 @@ pub record ReadTree : Type 0 where
 -- the numbers of `KofN` have at most nine digits
 abbrev pub HasShortNumbers : GateKind → Type 0
 HasShortNumbers (Votes least of) = (least ≤ 999999999) × (of ≤ 999999999)
-HasShortNumbers And = Unit {0}
-HasShortNumbers Or = Unit {0}
-HasShortNumbers Pand = Unit {0}
-HasShortNumbers Por = Unit {0}
-HasShortNumbers Seq = Unit {0}
-HasShortNumbers Fdep = Unit {0}
-HasShortNumbers Csp = Unit {0}
-HasShortNumbers Wsp = Unit {0}
-HasShortNumbers Hsp = Unit {0}
+HasShortNumbers _ = Unit {0}
 
 -- the word of an attribute is a bare name
 abbrev pub HasBareWord : RawAttribute → Type 0

@@ -15,8 +15,7 @@ use Rattle.residual_ledger.specs.Tight.{is_tight, numbers_from, tight}
 use Rattle.margin_policy.specs.declared.request.Request.{Request}
 use Rattle.margin_policy.specs.declared.request.Request.TheVariants.{Take, Return, Margin}
 use Rattle.margin_policy.specs.declared.request.Reply.{Reply}
-use Rattle.margin_policy.specs.declared.request.Reply.TheVariants.{Granted, Denied, UnknownUnit, AlreadyOut, NotOut}
-use Rattle.margin_policy.specs.declared.request.Reply.TheVariants.{HeldBy, NotSupervisor}
+use Rattle.margin_policy.specs.declared.request.Reply.TheVariants.{Granted}
 use Rattle.margin_policy.specs.Held.{Held, holder_of, units_out, without_held}
 use Rattle.margin_policy.proofs.HeldLaws.{is_held, among-units_out, length-with_all_held}
 use Rattle.margin_policy.specs.Decide.{decide_return, is_granted, held_after_granted}
@@ -117,21 +116,11 @@ granted_keeps_more standing crew (Margin number) all fits judged granted =
 pub ungranted_changes_nothing : (standing : StandingView) (crew : CrewNo) (request : Request) (reply : Reply)
     → is_granted reply ≡ false → after standing crew request reply ≡ standing
 ungranted_changes_nothing standing crew request Granted miss = absurd cc
-ungranted_changes_nothing standing crew request (Denied number) miss = refl
-ungranted_changes_nothing standing crew request UnknownUnit miss = refl
-ungranted_changes_nothing standing crew request (AlreadyOut holder) miss = refl
-ungranted_changes_nothing standing crew request NotOut miss = refl
-ungranted_changes_nothing standing crew request (HeldBy holder) miss = refl
-ungranted_changes_nothing standing crew request NotSupervisor miss = refl
+ungranted_changes_nothing standing crew request _ miss = refl
 
 granted_is : (reply : Reply) → is_granted reply ≡ true → reply ≡ Granted
 granted_is Granted hit = refl
-granted_is (Denied number) hit = absurd cc
-granted_is UnknownUnit hit = absurd cc
-granted_is (AlreadyOut holder) hit = absurd cc
-granted_is NotOut hit = absurd cc
-granted_is (HeldBy holder) hit = absurd cc
-granted_is NotSupervisor hit = absurd cc
+granted_is _ hit = absurd cc
 
 granted_still : (standing : StandingView) (crew : CrewNo) (request : Request) → HasAllUnits standing
     → IsRequestFor standing.units request → KeepsMore standing

@@ -70,12 +70,7 @@ margin_after_granted (Margin number) margin = number
 -- whether a reply grants its request
 abbrev pub is_granted : Reply → Bool
 is_granted Granted = true
-is_granted (Denied number) = false
-is_granted UnknownUnit = false
-is_granted (AlreadyOut holder) = false
-is_granted NotOut = false
-is_granted (HeldBy holder) = false
-is_granted NotSupervisor = false
+is_granted _ = false
 
 -- who holds what after a request and its reply: only a granted one changes anything
 abbrev pub held_after : CrewNo → Request → Reply → Held → Held

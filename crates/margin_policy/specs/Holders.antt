@@ -2,8 +2,8 @@
 use Rattle.std.specs.Prelude.{ℕ, ◌<◌, Option, Some, None}
 use Rattle.unit_sets.specs.declared.request.CrewNo.{CrewNo}
 use Rattle.margin_policy.specs.declared.request.Reply.{Reply}
-use Rattle.margin_policy.specs.declared.request.Reply.TheVariants.{Granted, Denied, UnknownUnit, AlreadyOut, NotOut}
-use Rattle.margin_policy.specs.declared.request.Reply.TheVariants.{HeldBy, NotSupervisor}
+use Rattle.margin_policy.specs.declared.request.Reply.TheVariants.{AlreadyOut}
+use Rattle.margin_policy.specs.declared.request.Reply.TheVariants.{HeldBy}
 use Rattle.margin_policy.specs.Held.{Held, holder_of}
 
 -- a holder is one of so many crews
@@ -17,10 +17,6 @@ HoldersBelow crews held = (unit : ℕ) → HolderBelow crews (holder_of held uni
 
 -- the crew that a reply names is, where it names one
 abbrev pub NamesCrewBelow : ℕ → Reply → Type 0
-NamesCrewBelow crews Granted = Unit {0}
-NamesCrewBelow crews (Denied number) = Unit {0}
-NamesCrewBelow crews UnknownUnit = Unit {0}
 NamesCrewBelow crews (AlreadyOut holder) = holder.0 < crews
-NamesCrewBelow crews NotOut = Unit {0}
 NamesCrewBelow crews (HeldBy holder) = holder.0 < crews
-NamesCrewBelow crews NotSupervisor = Unit {0}
+NamesCrewBelow crews _ = Unit {0}

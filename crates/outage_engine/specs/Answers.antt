@@ -112,13 +112,8 @@ HasOrders summary = AreOrdersOf summary.listing.tree summary.board.deck.opening.
 -- an answer can be written: a listing is of its tree's units and has their texts; a summary has orders for its cut list
 abbrev pub IsWritable : Answer → Type 0
 IsWritable (Cuts listing) = IsOfUnits listing
-IsWritable (Diagram sizes) = Unit {0}
-IsWritable (Checked deck) = Unit {0}
-IsWritable (Printed tree) = Unit {0}
-IsWritable (Made deck) = Unit {0}
 IsWritable (Summed summary) = HasOrders summary
-IsWritable Help = Unit {0}
-IsWritable (Refused refusal) = Unit {0}
+IsWritable _ = Unit {0}
 
 -- ---- why there is no answer
 
@@ -175,10 +170,7 @@ IsLimitOf most tree ListLimit = HasHeavyCutList tree
 IsLimitOf most tree OrderLimit =
     (cuts : List (List ℕ)) × IsCutList tree cuts × (weight cuts ≤ weight_limit)
     × (order_limit < order_total (order_lists tree cuts most))
-IsLimitOf most tree ReadFault = ⊥
-IsLimitOf most tree TooLong = ⊥
-IsLimitOf most tree (Fault fault) = ⊥
-IsLimitOf most tree Usage = ⊥
+IsLimitOf most tree _ = ⊥
 
 -- the cut list of a tree within its limit, and the number of nodes of its family, where that is known
 pub record AreSizesOf (tree : FaultTree) (sizes : Sizes) : Type 0 where
@@ -190,11 +182,7 @@ pub record AreSizesOf (tree : FaultTree) (sizes : Sizes) : Type 0 where
 -- the limit of weight is passed
 abbrev pub IsWeightLimitOf : FaultTree → Refusal → Type 0
 IsWeightLimitOf tree ListLimit = HasHeavyCutList tree
-IsWeightLimitOf tree OrderLimit = ⊥
-IsWeightLimitOf tree ReadFault = ⊥
-IsWeightLimitOf tree TooLong = ⊥
-IsWeightLimitOf tree (Fault fault) = ⊥
-IsWeightLimitOf tree Usage = ⊥
+IsWeightLimitOf tree _ = ⊥
 
 -- what was found, as the deck's tree, cut list and crews
 abbrev pub found_in : Listing → Option (List Crew) → Found

@@ -54,15 +54,8 @@ IsBeyond held left = IfTold held left (λ bytes rest. INPUT_LIMIT + length rest 
 
 -- the deck that a command makes itself, where it is about such a one
 abbrev pub own_deck : Option Command → Option (List ℕ)
-own_deck (Some (Cuts most workers)) = None
-own_deck (Some (Board margin most workers)) = None
-own_deck (Some Check) = None
-own_deck (Some Print) = None
-own_deck (Some Help) = None
-own_deck (Some (Diagram workers)) = None
-own_deck (Some (Make number shown.Deck)) = None
 own_deck (Some (Make number shown.Summary)) = Some (made_deck number)
-own_deck None = None
+own_deck _ = None
 
 -- a fact of this deck where there is one, and else of the input
 abbrev pub OfDeckOr : Option (List ℕ) → Option (List ℕ) → Option (List ℕ) → (List ℕ → Type 0) → Type 0

@@ -5,10 +5,9 @@ use Rattle.tree_families.specs.Due.{IsDueToTree}
 use Rattle.board_words.specs.Command.{command_of}
 use Rattle.zdd_shared_table.specs.Seats.{Seated}
 use Rattle.zdd_product.specs.Seats.{WentAll}
-use Rattle.outage_engine.specs.declared.status.Method.TheVariants.{Plain, Lists, Diagram}
+use Rattle.outage_engine.specs.declared.status.Method.TheVariants.{Lists, Diagram}
 use Rattle.outage_engine.specs.declared.status.Status.{Status}
-use Rattle.outage_engine.specs.declared.status.Status.TheVariants.{Done, Refused, ListLimit, OrderLimit, Usage}
-use Rattle.outage_engine.specs.declared.status.Status.TheVariants.{ReadFault, TooLong, WriteFault, NoMemory}
+use Rattle.outage_engine.specs.declared.status.Status.TheVariants.{Done}
 use Rattle.deck_reading.specs.Deck.{StandsFor}
 use Rattle.outage_engine.specs.Gives.{OfDeckOr, own_deck}
 use Rattle.outage_engine.specs.Store.{KnowsDiagram}
@@ -40,12 +39,4 @@ FindsFull before after result = result ≡ Done Lists → before.fulls < after.f
 abbrev pub BearsOut : Option (List ℕ) → Option (List ℕ) → Option (List ℕ) → Seated → Seated → Status → Type 0
 BearsOut own held left before after (Done Diagram) = OfTreeOr own held left (KnowsDiagram after)
 BearsOut own held left before after (Done Lists) = before.fulls < after.fulls
-BearsOut own held left before after (Done Plain) = Unit {0}
-BearsOut own held left before after (Refused fault) = Unit {0}
-BearsOut own held left before after ListLimit = Unit {0}
-BearsOut own held left before after OrderLimit = Unit {0}
-BearsOut own held left before after Usage = Unit {0}
-BearsOut own held left before after ReadFault = Unit {0}
-BearsOut own held left before after TooLong = Unit {0}
-BearsOut own held left before after WriteFault = Unit {0}
-BearsOut own held left before after NoMemory = Unit {0}
+BearsOut own held left before after _ = Unit {0}

@@ -61,21 +61,14 @@ IsReadRefusal held left rose Usage = ⊥
 -- a list of so many sets has none of this number
 abbrev pub IsNumberRefusal : ℕ → ℕ → Refusal → Type 0
 IsNumberRefusal number count (NoSuchCut asked there) = (asked ≡ number) × (there ≡ count) × (count < number)
-IsNumberRefusal number count ReadFault = ⊥
-IsNumberRefusal number count TooLong = ⊥
-IsNumberRefusal number count (Fault fault) = ⊥
-IsNumberRefusal number count ListLimit = ⊥
-IsNumberRefusal number count Usage = ⊥
+IsNumberRefusal number count _ = ⊥
 
 -- the cut list is too heavy, or has no set of this number
 abbrev pub IsCutRefusal : ℕ → FaultTree → Refusal → Type 0
 IsCutRefusal number tree ListLimit = HasHeavyCutList tree
 IsCutRefusal number tree (NoSuchCut asked there) =
     (asked ≡ number) × (cuts : List (List ℕ)) × IsCutList tree cuts × (there ≡ length cuts) × (there < number)
-IsCutRefusal number tree ReadFault = ⊥
-IsCutRefusal number tree TooLong = ⊥
-IsCutRefusal number tree (Fault fault) = ⊥
-IsCutRefusal number tree Usage = ⊥
+IsCutRefusal number tree _ = ⊥
 
 -- a cut set was asked for, and isn't found
 abbrev pub IsMarkRefusal : Mark → FaultTree → Refusal → Type 0

@@ -8,7 +8,7 @@ use Rattle.std.proofs.lemmas.Bool.{ltb-true, lt-ltb}
 use Rattle.std.proofs.lemmas.List.Elements.{All-head, All-tail}
 use Rattle.unit_sets.specs.UnitList.{among}
 use Rattle.fault_words.specs.declared.kind.GateKind.{GateKind}
-use Rattle.fault_words.specs.declared.kind.GateKind.TheVariants.{And, Or, Votes, Pand, Por, Seq, Fdep, Csp, Wsp, Hsp}
+use Rattle.fault_words.specs.declared.kind.GateKind.TheVariants.{Seq, Csp}
 use Rattle.fault_definitions.specs.Tree.{FaultTree, IsNodeOf, IsGateOf, kind_of, inputs_of, is_above_units, unit_count}
 use Rattle.fault_definitions.specs.Trigger.{below, triggers_of}
 use Rattle.fault_definitions.proofs.RankLaws.{inputs_are_nodes}
@@ -41,28 +41,12 @@ is_awaited-agree f h unit failed (input ∷ inputs) same =
 gate_awaits-agree : (f h : ℕ → Step) (unit : ℕ) (kind : GateKind) (inputs : List ℕ) → All (λ n. f n ≡ h n) inputs
     → gate_awaits f unit kind inputs ≡ gate_awaits h unit kind inputs
 gate_awaits-agree f h unit Csp inputs same = is_awaited-agree f h unit true inputs same
-gate_awaits-agree f h unit Seq inputs same = refl
-gate_awaits-agree f h unit And inputs same = refl
-gate_awaits-agree f h unit Or inputs same = refl
-gate_awaits-agree f h unit (Votes least of) inputs same = refl
-gate_awaits-agree f h unit Pand inputs same = refl
-gate_awaits-agree f h unit Por inputs same = refl
-gate_awaits-agree f h unit Fdep inputs same = refl
-gate_awaits-agree f h unit Wsp inputs same = refl
-gate_awaits-agree f h unit Hsp inputs same = refl
+gate_awaits-agree f h unit _ inputs same = refl
 
 gate_in_turn-agree : (f h : ℕ → Step) (kind : GateKind) (inputs : List ℕ) → All (λ n. f n ≡ h n) inputs
     → gate_in_turn f kind inputs ≡ gate_in_turn h kind inputs
 gate_in_turn-agree f h Seq inputs same = never_falls-agree f h inputs same
-gate_in_turn-agree f h Csp inputs same = refl
-gate_in_turn-agree f h And inputs same = refl
-gate_in_turn-agree f h Or inputs same = refl
-gate_in_turn-agree f h (Votes least of) inputs same = refl
-gate_in_turn-agree f h Pand inputs same = refl
-gate_in_turn-agree f h Por inputs same = refl
-gate_in_turn-agree f h Fdep inputs same = refl
-gate_in_turn-agree f h Wsp inputs same = refl
-gate_in_turn-agree f h Hsp inputs same = refl
+gate_in_turn-agree f h _ inputs same = refl
 
 -- ---- the whole tree
 

@@ -5,7 +5,7 @@ use Rattle.std.specs.List.{list_all, list_any}
 use Rattle.std.proofs.Common.{refl, sym, ◌∙◌, ap, subst, inl, inr, arith}
 use Rattle.std.proofs.lemmas.Bool.{cases_lt, leb-true, le-leb, eq-eqb, eqb-true, or_left, or_right, or_cases, and_parts}
 use Rattle.fault_words.specs.declared.kind.GateKind.{GateKind}
-use Rattle.fault_words.specs.declared.kind.GateKind.TheVariants.{And, Or, Votes, Pand, Por, Seq, Fdep, Csp, Wsp, Hsp}
+use Rattle.fault_words.specs.declared.kind.GateKind.TheVariants.{Votes}
 use Rattle.fault_definitions.specs.Tree.{FaultTree}
 use Rattle.fault_definitions.specs.Reading.{true_count}
 use Rattle.fault_definitions.specs.WellFormed.{IsSoundKind, IsSoundVote}
@@ -16,15 +16,7 @@ use Rattle.replay_semantics.specs.Failing.{AsksSome, falls_not_after}
 
 pub asks_some : (tree : FaultTree) (kind : GateKind) (inputs : List ℕ) → IsSoundKind tree kind inputs → AsksSome kind
 asks_some tree (Votes least of) inputs sound = let vote : IsSoundVote least of inputs = sound in vote.some
-asks_some tree And inputs sound = tt
-asks_some tree Or inputs sound = tt
-asks_some tree Pand inputs sound = tt
-asks_some tree Por inputs sound = tt
-asks_some tree Seq inputs sound = tt
-asks_some tree Fdep inputs sound = tt
-asks_some tree Csp inputs sound = tt
-asks_some tree Wsp inputs sound = tt
-asks_some tree Hsp inputs sound = tt
+asks_some tree _ inputs sound = tt
 
 -- ---- tests
 

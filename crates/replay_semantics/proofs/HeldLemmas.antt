@@ -14,7 +14,7 @@ use Rattle.std.proofs.lemmas.List.Quantifiers.{all_pairs_push}
 use Rattle.unit_sets.specs.UnitList.{among}
 use Rattle.unit_sets.proofs.UnitListLemmas.{Contains-from_among, among-from_Contains}
 use Rattle.fault_words.specs.declared.kind.GateKind.{GateKind}
-use Rattle.fault_words.specs.declared.kind.GateKind.TheVariants.{And, Or, Votes, Pand, Por, Seq, Fdep, Csp, Wsp, Hsp}
+use Rattle.fault_words.specs.declared.kind.GateKind.TheVariants.{Seq, Csp}
 use Rattle.fault_model.specs.Order.{AreDistinct}
 use Rattle.fault_definitions.specs.Tree.{FaultTree, IsNodeOf, IsUnitOf, node_count, unit_count, kind_of, inputs_of}
 use Rattle.fault_definitions.specs.WellFormed.{IsTree}
@@ -87,14 +87,7 @@ gate_free : (f : ℕ → Step) → ((n : ℕ) → f n ≡ never) → (kind : Gat
     → gate_admits f [] (kind, inputs) ≡ true
 gate_free f none Seq inputs = falls_never f none inputs
 gate_free f none Csp inputs = spares_free f inputs
-gate_free f none And inputs = refl
-gate_free f none Or inputs = refl
-gate_free f none (Votes least of) inputs = refl
-gate_free f none Pand inputs = refl
-gate_free f none Por inputs = refl
-gate_free f none Fdep inputs = refl
-gate_free f none Wsp inputs = refl
-gate_free f none Hsp inputs = refl
+gate_free f none _ inputs = refl
 
 pub admissible-none : (tree : FaultTree) → IsTree tree → is_admissible tree [] ≡ true
 admissible-none tree kept =

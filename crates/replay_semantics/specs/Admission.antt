@@ -2,7 +2,7 @@
 use Rattle.std.specs.Prelude.{ℕ, Bool, true, ◌&&◌, ◌||◌, ◌==◌, not, is_some, List, [], ◌∷◌, if◌then◌else◌}
 use Rattle.std.specs.List.{list_all}
 use Rattle.fault_words.specs.declared.kind.GateKind.{GateKind}
-use Rattle.fault_words.specs.declared.kind.GateKind.TheVariants.{And, Or, Votes, Pand, Por, Seq, Fdep, Csp, Wsp, Hsp}
+use Rattle.fault_words.specs.declared.kind.GateKind.TheVariants.{Seq, Csp}
 use Rattle.fault_definitions.specs.Tree.{FaultTree, kind_of, inputs_of, is_above_units}
 use Rattle.fault_definitions.specs.Step.{Step, never_falls}
 use Rattle.replay_semantics.specs.Readers.{readers_in}
@@ -17,28 +17,12 @@ is_awaited step_of unit failed (input ∷ inputs) =
 -- whether a gate lets a unit fail next, by the steps before
 abbrev pub gate_awaits : (ℕ → Step) → ℕ → GateKind → List ℕ → Bool
 gate_awaits step_of unit Csp inputs = is_awaited step_of unit true inputs
-gate_awaits step_of unit And inputs = true
-gate_awaits step_of unit Or inputs = true
-gate_awaits step_of unit (Votes least of) inputs = true
-gate_awaits step_of unit Pand inputs = true
-gate_awaits step_of unit Por inputs = true
-gate_awaits step_of unit Seq inputs = true
-gate_awaits step_of unit Fdep inputs = true
-gate_awaits step_of unit Wsp inputs = true
-gate_awaits step_of unit Hsp inputs = true
+gate_awaits step_of unit _ inputs = true
 
 -- whether a gate's inputs have failed from left to right, where it asks for that
 abbrev pub gate_in_turn : (ℕ → Step) → GateKind → List ℕ → Bool
 gate_in_turn step_of Seq inputs = never_falls step_of inputs
-gate_in_turn step_of And inputs = true
-gate_in_turn step_of Or inputs = true
-gate_in_turn step_of (Votes least of) inputs = true
-gate_in_turn step_of Pand inputs = true
-gate_in_turn step_of Por inputs = true
-gate_in_turn step_of Csp inputs = true
-gate_in_turn step_of Fdep inputs = true
-gate_in_turn step_of Wsp inputs = true
-gate_in_turn step_of Hsp inputs = true
+gate_in_turn step_of _ inputs = true
 
 -- the same of a node; a unit asks for nothing
 abbrev pub node_awaits : FaultTree → (ℕ → Step) → ℕ → ℕ → Bool

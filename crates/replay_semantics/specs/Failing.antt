@@ -2,7 +2,7 @@
 use Rattle.std.specs.Prelude.{ℕ, ◌≤◌, Bool, true, ◌&&◌, List, [], ◌∷◌}
 use Rattle.std.specs.Prelude.{is_some, if◌then◌else◌}
 use Rattle.fault_words.specs.declared.kind.GateKind.{GateKind}
-use Rattle.fault_words.specs.declared.kind.GateKind.TheVariants.{And, Or, Votes, Pand, Por, Seq, Fdep, Csp, Wsp, Hsp}
+use Rattle.fault_words.specs.declared.kind.GateKind.TheVariants.{Votes}
 use Rattle.fault_definitions.specs.Tree.{FaultTree, kind_of, inputs_of, is_above_units}
 use Rattle.fault_definitions.specs.Trigger.{triggers_of}
 use Rattle.fault_definitions.specs.Step.{Step, no_later, earliest}
@@ -21,15 +21,7 @@ node_fails tree step_of node =
 -- K is not 0
 abbrev pub AsksSome : GateKind → Type 0
 AsksSome (Votes least of) = 1 ≤ least
-AsksSome And = Unit {0}
-AsksSome Or = Unit {0}
-AsksSome Pand = Unit {0}
-AsksSome Por = Unit {0}
-AsksSome Seq = Unit {0}
-AsksSome Fdep = Unit {0}
-AsksSome Csp = Unit {0}
-AsksSome Wsp = Unit {0}
-AsksSome Hsp = Unit {0}
+AsksSome _ = Unit {0}
 
 -- the steps never fall after a step
 abbrev pub falls_not_after : (ℕ → Step) → Step → List ℕ → Bool

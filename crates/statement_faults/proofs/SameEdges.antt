@@ -7,7 +7,7 @@ use Rattle.std.proofs.lemmas.List.{get_or_append_left, get_or-append_right, leng
 use Rattle.std.proofs.lemmas.Bool.{cases_lt, cond-true, cond-false, lt-ltb, le-ltb}
 use Rattle.unit_sets.specs.UnitList.{among}
 use Rattle.fault_words.specs.declared.kind.GateKind.{GateKind}
-use Rattle.fault_words.specs.declared.kind.GateKind.TheVariants.{And, Or, Votes, Pand, Por, Seq, Fdep, Csp, Wsp, Hsp}
+use Rattle.fault_words.specs.declared.kind.GateKind.TheVariants.{And}
 use Rattle.fault_definitions.specs.Tree.{FaultTree, is_above_units, inputs_of, unit_count}
 use Rattle.fault_definitions.specs.Trigger.{trigger_by, triggers_of, below}
 use Rattle.graph_cycles.specs.Graph.{successors, Leads}
@@ -28,15 +28,7 @@ trigger_kept : (unit : ℕ) (is_fdep : ℕ → Bool) (kind : GateKind) (inputs :
     → trigger_by unit (kind, numbers (kept_by (drops_fdeps kind) is_fdep inputs))
     ≡ trigger_by unit (kind, numbers inputs)
 trigger_kept unit is_fdep And inputs = refl
-trigger_kept unit is_fdep Or inputs = refl
-trigger_kept unit is_fdep (Votes least of) inputs = refl
-trigger_kept unit is_fdep Pand inputs = refl
-trigger_kept unit is_fdep Por inputs = refl
-trigger_kept unit is_fdep Seq inputs = refl
-trigger_kept unit is_fdep Fdep inputs = refl
-trigger_kept unit is_fdep Csp inputs = refl
-trigger_kept unit is_fdep Wsp inputs = refl
-trigger_kept unit is_fdep Hsp inputs = refl
+trigger_kept unit is_fdep _ inputs = refl
 
 -- the gates of the tree, beside their kept inputs
 triggers_kept : (units : ℕ) (all : List GateKind) (unit : ℕ) (gates : List NumberedGate)

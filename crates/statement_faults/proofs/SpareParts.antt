@@ -6,7 +6,7 @@ use Rattle.std.specs.List.{list_any, flat_map}
 use Rattle.std.proofs.lemmas.Bool.{cases_Bool, or_parts, and_cases, and_parts, not-false, eqb-false}
 use Rattle.std.proofs.lemmas.List.Elements.{All-nil, All-cons, All-head, All-tail}
 use Rattle.fault_words.specs.declared.kind.GateKind.{GateKind}
-use Rattle.fault_words.specs.declared.kind.GateKind.TheVariants.{And, Or, Votes, Pand, Por, Seq, Fdep, Csp, Wsp, Hsp}
+use Rattle.fault_words.specs.declared.kind.GateKind.TheVariants.{Csp, Wsp, Hsp}
 use Rattle.fault_definitions.specs.WellFormed.{primary_in, spares_in}
 use Rattle.statement_faults.proofs.NonePass.{both_none}
 use Rattle.statement_faults.specs.declared.numbered.Numbered.{Numbered}
@@ -79,30 +79,18 @@ firsts-uses (input ∷ inputs) = ap (λ rest. input.number ∷ rest) (sym (first
 spares_of_kind : (kind : GateKind) (is_fdep : ℕ → Bool) (inputs : List Numbered)
     → spares_in (kind, numbers (kept_by (drops_fdeps kind) is_fdep inputs))
     ≡ laters (if is_spare_kind kind then uses_of inputs else [])
-spares_of_kind And is_fdep inputs = refl
-spares_of_kind Or is_fdep inputs = refl
-spares_of_kind (Votes least of) is_fdep inputs = refl
-spares_of_kind Pand is_fdep inputs = refl
-spares_of_kind Por is_fdep inputs = refl
-spares_of_kind Seq is_fdep inputs = refl
-spares_of_kind Fdep is_fdep inputs = refl
 spares_of_kind Csp is_fdep inputs = laters-uses inputs
 spares_of_kind Wsp is_fdep inputs = laters-uses inputs
 spares_of_kind Hsp is_fdep inputs = laters-uses inputs
+spares_of_kind _ is_fdep inputs = refl
 
 primary_of_kind : (kind : GateKind) (is_fdep : ℕ → Bool) (inputs : List Numbered)
     → primary_in (kind, numbers (kept_by (drops_fdeps kind) is_fdep inputs))
     ≡ firsts (if is_spare_kind kind then uses_of inputs else [])
-primary_of_kind And is_fdep inputs = refl
-primary_of_kind Or is_fdep inputs = refl
-primary_of_kind (Votes least of) is_fdep inputs = refl
-primary_of_kind Pand is_fdep inputs = refl
-primary_of_kind Por is_fdep inputs = refl
-primary_of_kind Seq is_fdep inputs = refl
-primary_of_kind Fdep is_fdep inputs = refl
 primary_of_kind Csp is_fdep inputs = firsts-uses inputs
 primary_of_kind Wsp is_fdep inputs = firsts-uses inputs
 primary_of_kind Hsp is_fdep inputs = firsts-uses inputs
+primary_of_kind _ is_fdep inputs = refl
 
 -- ---- no two uses clash
 

@@ -7,7 +7,7 @@ use Rattle.unit_sets.specs.Unit.{most_units}
 use Rattle.fault_definitions.specs.declared.parts.TheConstants.{MOST_GATES}
 use Rattle.fault_words.specs.declared.place.Place.{Place}
 use Rattle.fault_words.specs.declared.kind.GateKind.{GateKind}
-use Rattle.fault_words.specs.declared.kind.GateKind.TheVariants.{And, Or, Votes, Pand, Por, Seq, Fdep, Csp, Wsp, Hsp}
+use Rattle.fault_words.specs.declared.kind.GateKind.TheVariants.{Votes}
 use Rattle.fault_definitions.specs.Tree.{is_fdep_kind}
 use Rattle.galileo_tree.specs.declared.raw.Placed.{Placed}
 use Rattle.galileo_tree.specs.declared.raw.RawAttribute.{RawAttribute}
@@ -77,15 +77,7 @@ gates_beyond gates = map (λ gate. gate.name) (drop MOST_GATES gates)
 -- K is 0 or above N, or there are not exactly N inputs, repeats counted
 abbrev pub wrong_vote : GateKind → ℕ → Bool
 wrong_vote (Votes least of) inputs = least == 0 || nat_lt of least || not (of == inputs)
-wrong_vote And inputs = false
-wrong_vote Or inputs = false
-wrong_vote Pand inputs = false
-wrong_vote Por inputs = false
-wrong_vote Seq inputs = false
-wrong_vote Fdep inputs = false
-wrong_vote Csp inputs = false
-wrong_vote Wsp inputs = false
-wrong_vote Hsp inputs = false
+wrong_vote _ inputs = false
 
 -- each gate with wrong votes, at its word
 abbrev pub wrong_votes : List NumberedGate → List Place

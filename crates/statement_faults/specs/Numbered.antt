@@ -2,7 +2,7 @@
 -- may be answered at.
 use Rattle.std.specs.Prelude.{ℕ, ◌-◌, Bool, true, false, nat_lt, ◌&&◌, not, List, length, map, filter, slice_index_or}
 use Rattle.fault_words.specs.declared.kind.GateKind.{GateKind}
-use Rattle.fault_words.specs.declared.kind.GateKind.TheVariants.{And, Or, Votes, Pand, Por, Seq, Fdep, Csp, Wsp, Hsp}
+use Rattle.fault_words.specs.declared.kind.GateKind.TheVariants.{And, Or, Fdep, Csp, Wsp, Hsp}
 use Rattle.fault_definitions.specs.Tree.{is_fdep_kind}
 use Rattle.galileo_tree.specs.declared.raw.Placed.{Placed}
 use Rattle.galileo_tree.specs.declared.raw.RawGate.{RawGate}
@@ -55,27 +55,14 @@ is_fdep_in units kinds number = nat_lt units number && is_fdep_kind (slice_index
 abbrev pub drops_fdeps : GateKind → Bool
 drops_fdeps And = true
 drops_fdeps Or = true
-drops_fdeps (Votes least of) = false
-drops_fdeps Pand = false
-drops_fdeps Por = false
-drops_fdeps Seq = false
-drops_fdeps Fdep = false
-drops_fdeps Csp = false
-drops_fdeps Wsp = false
-drops_fdeps Hsp = false
+drops_fdeps _ = false
 
 -- whether a gate of this kind has spares: cold, warm or hot ones
 abbrev pub is_spare_kind : GateKind → Bool
-is_spare_kind And = false
-is_spare_kind Or = false
-is_spare_kind (Votes least of) = false
-is_spare_kind Pand = false
-is_spare_kind Por = false
-is_spare_kind Seq = false
-is_spare_kind Fdep = false
 is_spare_kind Csp = true
 is_spare_kind Wsp = true
 is_spare_kind Hsp = true
+is_spare_kind _ = false
 
 -- the inputs that are left after dropping
 abbrev pub kept_by : Bool → (ℕ → Bool) → List Numbered → List Numbered

@@ -30,16 +30,8 @@ needs_all_recipe Wsp families all = refl
 needs_all_recipe Hsp families all = refl
 
 no_fdep : (kind : GateKind) → needs_all kind ≡ true → is_fdep_kind kind ≡ false
-no_fdep And all = refl
-no_fdep Or all = refl
-no_fdep (Votes least of) all = refl
-no_fdep Pand all = refl
-no_fdep Por all = refl
-no_fdep Seq all = refl
 no_fdep Fdep all = absurd cc
-no_fdep Csp all = refl
-no_fdep Wsp all = refl
-no_fdep Hsp all = refl
+no_fdep _ all = refl
 
 module _ (tree : FaultTree) (unit : ℕ) (is_unit : IsUnitOf tree unit) (families : List (List (List ℕ)))
     (stand : StandFor (IsCutFamily tree) (triggers_of tree unit) families) where

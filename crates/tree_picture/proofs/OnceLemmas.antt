@@ -13,7 +13,7 @@ use Rattle.std.proofs.lemmas.List.Elements.{filter-append}
 use Rattle.std.proofs.lemmas.List.Folds.{flat_map-map}
 use Rattle.unit_sets.specs.UnitList.{among}
 use Rattle.fault_words.specs.declared.kind.GateKind.{GateKind}
-use Rattle.fault_words.specs.declared.kind.GateKind.TheVariants.{And, Or, Votes, Pand, Por, Seq, Fdep, Csp, Wsp, Hsp}
+use Rattle.fault_words.specs.declared.kind.GateKind.TheVariants.{And}
 use Rattle.fault_words.specs.Name.{is_name, is_name_byte}
 use Rattle.fault_definitions.specs.Tree.{FaultTree, IsGateOf, IsNodeOf, gate_count, inputs_of}
 use Rattle.fault_definitions.specs.Tree.{is_fdep_kind, kind_of, name_of, node_count, unit_count}
@@ -104,15 +104,7 @@ unit_shape_stays marked unit =
 
 gate_shape_stays : (kind : GateKind) → IsOneLine (gate_shape kind)
 gate_shape_stays And = refl
-gate_shape_stays Or = refl
-gate_shape_stays (Votes least of) = refl
-gate_shape_stays Pand = refl
-gate_shape_stays Por = refl
-gate_shape_stays Seq = refl
-gate_shape_stays Fdep = refl
-gate_shape_stays Csp = refl
-gate_shape_stays Wsp = refl
-gate_shape_stays Hsp = refl
+gate_shape_stays _ = refl
 
 input_style_stays : (kind : GateKind) → IsOneLine (input_style kind)
 input_style_stays kind =

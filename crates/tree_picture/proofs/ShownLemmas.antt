@@ -8,7 +8,7 @@ use Rattle.std.specs.Str.{all_ascii_digits}
 use Rattle.std.proofs.lemmas.List.Folds.{list_all-append}
 use Rattle.std.proofs.lemmas.Bool.{and_from, and_parts}
 use Rattle.fault_words.specs.declared.kind.GateKind.{GateKind}
-use Rattle.fault_words.specs.declared.kind.GateKind.TheVariants.{And, Or, Votes, Pand, Por, Seq, Fdep, Csp, Wsp, Hsp}
+use Rattle.fault_words.specs.declared.kind.GateKind.TheVariants.{Votes}
 use Rattle.fault_definitions.specs.Tree.{FaultTree, IsGateOf, IsNodeOf, inputs_of, kind_of, name_of}
 use Rattle.fault_definitions.specs.WellFormed.{IsSoundKind, IsTree}
 use Rattle.fault_definitions.proofs.RankLaws.{gate_sound}
@@ -72,21 +72,13 @@ simple-append front back first second =
 
 kind_simple : (tree : FaultTree) (kind : GateKind) (inputs : List ℕ) → IsSoundKind tree kind inputs
     → list_all is_simple (gate_word kind) ≡ true
-kind_simple tree And inputs sound = refl
-kind_simple tree Or inputs sound = refl
 kind_simple tree (Votes least of) inputs sound =
     let enough = sound.enough in
     let short = sound.short in
     simple-append (decimal least) (codes "of" ++ decimal of)
     (digits_simple (decimal least) (decimal_digits least (omega arith)))
     (simple-append (codes "of") (decimal of) refl (digits_simple (decimal of) (decimal_digits of (omega arith))))
-kind_simple tree Pand inputs sound = refl
-kind_simple tree Por inputs sound = refl
-kind_simple tree Seq inputs sound = refl
-kind_simple tree Fdep inputs sound = refl
-kind_simple tree Csp inputs sound = refl
-kind_simple tree Wsp inputs sound = refl
-kind_simple tree Hsp inputs sound = refl
+kind_simple tree _ inputs sound = refl
 
 all_weaker : (test other : ℕ → Bool) → ((byte : ℕ) → test byte ≡ true → other byte ≡ true) → (text : List ℕ)
     → list_all test text ≡ true → list_all other text ≡ true

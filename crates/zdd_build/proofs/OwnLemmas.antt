@@ -8,7 +8,7 @@ use Rattle.std.proofs.lemmas.List.{get_or_default, get_or-take}
 use Rattle.std.proofs.lemmas.List.Elements.{All-nil}
 use Rattle.unit_sets.specs.UnitList.{among}
 use Rattle.fault_words.specs.declared.kind.GateKind.{GateKind}
-use Rattle.fault_words.specs.declared.kind.GateKind.TheVariants.{And, Or, Votes, Pand, Por, Seq, Fdep, Csp, Wsp, Hsp}
+use Rattle.fault_words.specs.declared.kind.GateKind.TheVariants.{Fdep}
 use Rattle.fault_definitions.specs.Cut.{IsMinimalFor}
 use Rattle.fault_definitions.specs.CutFamily.{IsCutFamily}
 use Rattle.fault_definitions.specs.Reading.{reads, gate_reads}
@@ -46,16 +46,8 @@ cut_family_antichain tree kept node is_node family is =
 
 fdep_reads : (kind : GateKind) (read : ℕ → Bool) (inputs : List ℕ) → is_fdep_kind kind ≡ true
     → gate_reads kind read inputs ≡ false
-fdep_reads And read inputs fdep = absurd cc
-fdep_reads Or read inputs fdep = absurd cc
-fdep_reads (Votes least of) read inputs fdep = absurd cc
-fdep_reads Pand read inputs fdep = absurd cc
-fdep_reads Por read inputs fdep = absurd cc
-fdep_reads Seq read inputs fdep = absurd cc
 fdep_reads Fdep read inputs fdep = refl
-fdep_reads Csp read inputs fdep = absurd cc
-fdep_reads Wsp read inputs fdep = absurd cc
-fdep_reads Hsp read inputs fdep = absurd cc
+fdep_reads _ read inputs fdep = absurd cc
 
 module _ (tree : FaultTree) (kept : IsTree tree) (node : ℕ) (is_node : IsNodeOf tree node)
     (fdep : is_fdep tree node ≡ true) where

@@ -70,17 +70,9 @@ sound_some tree Hsp inputs sound = sound.enough
 -- and where there is room for all inputs, there is room for the votes
 pub sound_votes : (tree : FaultTree) (kind : GateKind) (inputs : List ℕ) (places : ℕ) → IsSoundKind tree kind inputs
     → length inputs ≤ places → CanVote kind places
-sound_votes tree And inputs places sound room = tt
-sound_votes tree Or inputs places sound room = tt
 sound_votes tree (Votes least of) inputs places sound room =
     (sound.some, let b = sound.enough in let e = sound.counted in omega (arith, b, e, room))
-sound_votes tree Pand inputs places sound room = tt
-sound_votes tree Por inputs places sound room = tt
-sound_votes tree Seq inputs places sound room = tt
-sound_votes tree Fdep inputs places sound room = tt
-sound_votes tree Csp inputs places sound room = tt
-sound_votes tree Wsp inputs places sound room = tt
-sound_votes tree Hsp inputs places sound room = tt
+sound_votes tree _ inputs places sound room = tt
 
 -- the first of some families and the others
 pub first_and_others : (known : ℕ → ℕ) (list : List ℕ) → 1 ≤ length list

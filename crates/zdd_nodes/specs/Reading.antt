@@ -1,7 +1,7 @@
 -- The references of what a node reads.
 use Rattle.std.specs.Prelude.{ℕ, ◌-◌, ◌≤◌, List, All, map, slice_index}
 use Rattle.fault_words.specs.declared.kind.GateKind.{GateKind}
-use Rattle.fault_words.specs.declared.kind.GateKind.TheVariants.{And, Or, Votes, Pand, Por, Seq, Fdep, Csp, Wsp, Hsp}
+use Rattle.fault_words.specs.declared.kind.GateKind.TheVariants.{Votes}
 use Rattle.fault_definitions.specs.CutFamily.{IsCutFamily}
 use Rattle.fault_definitions.specs.Tree.{FaultTree}
 use Rattle.fault_definitions.specs.Trigger.{below}
@@ -23,13 +23,5 @@ families_below known tree references node = families known (map (reference_of re
 
 -- a gate that votes has some votes, and there is room for each number of them
 abbrev pub CanVote : GateKind → ℕ → Type 0
-CanVote And places = Unit {0}
-CanVote Or places = Unit {0}
 CanVote (Votes least of) places = (1 ≤ least) × (least ≤ places)
-CanVote Pand places = Unit {0}
-CanVote Por places = Unit {0}
-CanVote Seq places = Unit {0}
-CanVote Fdep places = Unit {0}
-CanVote Csp places = Unit {0}
-CanVote Wsp places = Unit {0}
-CanVote Hsp places = Unit {0}
+CanVote _ places = Unit {0}
