@@ -1,7 +1,7 @@
 use Rattle.tree_families.proofs.CutFamilies.{no_empty_set}
 use Rattle.zdd_families.specs.Map.{family}
 use Rattle.zdd_shared_table.specs.Seats.{map_of}
-use Rattle.zdd_build_tests.proofs.trees.cuts_built.Goals as goal
+use Rattle.zdd_build_tests.proofs.trees.cuts_in.Goals as goal
 
 pub list-requires-clause-filled : goal.list-requires-clause-filled
 list-requires-clause-filled g c =
