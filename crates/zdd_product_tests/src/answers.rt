@@ -37,33 +37,58 @@ fn kept_of(answers: &mut Answers, count: u32) -> u32
     kept
 }
 
+// How many answers are kept of a thousand when the table has grown to its room, and of six hundred when it was cleared.
+fn kept_in(answers: &mut Answers) -> (u32, u32) {
+    // So many that the table has grown to its room.
+    kept_of(answers, 5_000);
+    let grown = kept_of(answers, 1_000);
+    answers.clear();
+    (grown, kept_of(answers, 600))
+}
+
+fn kept(alloc: Global) -> Result<(u32, u32), Fail> {
+    let mut answers = Answers::new(alloc, 16_384)?;
+    Ok(kept_in(&mut answers))
+}
+
 #[test]
 fn most_answers_to_neighbouring_questions_are_kept(rt: HostRuntime) -> Result<(), Fail> {
-    let mut answers = Answers::new(rt.alloc(), 16_384)?;
-    // So many that the table has grown to its room.
-    kept_of(&mut answers, 5_000);
-    let kept = kept_of(&mut answers, 1_000);
-    assert!(rt; kept >= 900, "{kept} are kept");
-    answers.clear();
-    let kept = kept_of(&mut answers, 600);
-    assert!(rt; kept >= 400, "{kept} are kept at first");
+    let (grown, first) = kept(rt.alloc())?;
+    assert!(rt; grown >= 900, "{grown} are kept");
+    assert!(rt; first >= 400, "{first} are kept at first");
     Ok(())
+}
+
+// Whether the one question has this answer.
+fn is_kept(answers: &Answers, operation: Operation, answer: NodeRef) -> bool {
+    answers.answer(&question(operation, 7)) == Some(answer)
+}
+
+fn has_answer(answers: &Answers, operation: Operation) -> bool {
+    answers.answer(&question(operation, 7)).is_some()
+}
+
+// Whether an answer is kept for its operation, for no other, and not beyond a clearing.
+fn is_of_its_operation(answers: &mut Answers) -> bool {
+    answers.keep(Entry {
+        question: question(Operation::Union, 7),
+        answer: NodeRef::UNIT,
+    });
+    let own = is_kept(answers, Operation::Union, NodeRef::UNIT);
+    let other = has_answer(answers, Operation::Without)
+        || has_answer(answers, Operation::Product)
+        || has_answer(answers, Operation::Minimal);
+    answers.clear();
+    own && !other && !has_answer(answers, Operation::Union)
+}
+
+fn told_alone(alloc: Global) -> Result<bool, Fail> {
+    let mut answers = Answers::new(alloc, 1)?;
+    Ok(is_of_its_operation(&mut answers))
 }
 
 #[test]
 fn an_answer_is_of_its_operation(rt: HostRuntime) -> Result<(), Fail> {
-    let mut answers = Answers::new(rt.alloc(), 1)?;
-    let asked = question(Operation::Union, 7);
-    let answer = NodeRef::UNIT;
-    answers.keep(Entry {
-        question: asked,
-        answer,
-    });
-    assert_eq!(rt; answers.answer(&asked), Some(answer));
-    for operation in [Operation::Without, Operation::Product, Operation::Minimal] {
-        assert_eq!(rt; answers.answer(&question(operation, 7)), None);
-    }
-    answers.clear();
-    assert_eq!(rt; answers.answer(&asked), None);
+    assert!(rt; told_alone(rt.alloc())?);
     Ok(())
 }

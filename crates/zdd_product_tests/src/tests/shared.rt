@@ -5,6 +5,7 @@ ghost use Rattle.zdd_families.specs.Map.{Knows, Grown};
 ghost use Rattle.zdd_shared_table.specs.Seats.{map_of};
 
 use super::*;
+use worked_families::family_of;
 
 // How many pairs of units there are: with a pair the ways down are twice as many.
 const PAIRS: u16 = 60;
@@ -14,9 +15,7 @@ fn either(ops: &mut Ops, first: u16, second: u16) -> Result<NodeRef, Fail>
     ensures keeps { OnOk result (Grown (map_of ops.old) (map_of ops.new)) }
     ensures knows { IfOk result (λ r. Knows (map_of ops.new) r) }
 {
-    let one = single(ops, unit(first)?)?;
-    let other = single(ops, unit(second)?)?;
-    Ok(ops.union(one, other)?)
+    family_of(ops, &[first, 0, second, 0])
 }
 
 // The sets of one unit of each pair, with those of a family of later units.
@@ -43,17 +42,26 @@ fn with_one(ops: &mut Ops, later: u16) -> Result<NodeRef, Fail>
     with_pairs(ops, one)
 }
 
+// Whether the union of the pairs with one unit and of those with another are the pairs with either, and whether these
+// without the second are the first.
+fn agree_in(ops: &mut Ops) -> Result<bool, Fail> {
+    let first = with_one(ops, 2 * PAIRS + 1)?;
+    let second = with_one(ops, 2 * PAIRS + 2)?;
+    let later = either(ops, 2 * PAIRS + 1, 2 * PAIRS + 2)?;
+    let both = with_pairs(ops, later)?;
+    let all = ops.union(first, second)?;
+    let left = ops.without(both, second)?;
+    Ok(all == both && left == first)
+}
+
+fn agree(alloc: Global) -> Result<bool, Fail> {
+    let StoreStart { store, seat } = NodeStore::new(alloc, 16)?;
+    let mut ops = ops_on(alloc, &store, seat)?;
+    agree_in(&mut ops)
+}
+
 #[test]
 fn families_with_many_ways_down_are_joined_and_parted(rt: HostRuntime) -> Result<(), Fail> {
-    let StoreStart { store, seat } = NodeStore::new(rt.alloc(), 16)?;
-    let mut ops = ops_on(rt.alloc(), &store, seat)?;
-    let first = with_one(&mut ops, 2 * PAIRS + 1)?;
-    let second = with_one(&mut ops, 2 * PAIRS + 2)?;
-    let later = either(&mut ops, 2 * PAIRS + 1, 2 * PAIRS + 2)?;
-    let both = with_pairs(&mut ops, later)?;
-    let all = ops.union(first, second)?;
-    assert_eq!(rt; all.number(), both.number());
-    let left = ops.without(both, second)?;
-    assert_eq!(rt; left.number(), first.number());
+    assert!(rt; agree(rt.alloc())?);
     Ok(())
 }

@@ -1,223 +1,166 @@
 //! Small tables for each operation, and the two examples of the store.
-ghost use Rattle.std.specs.Prelude.{◌<◌, ◌≤◌};
+ghost use Rattle.std.specs.Prelude.{◌<◌, ◌≤◌, IfOk};
+ghost use Rattle.zdd_families.specs.Map.{Knows};
+ghost use Rattle.zdd_shared_table.specs.Seats.{map_of};
 
+use super::spelling::{family, part, sets_of};
 use super::*;
+use kept_answers::Operation;
+use unit_sets::UnitNo;
 
-// Two families, and what the operations make of them.
-struct Row {
-    a: &'static [u16],
-    b: &'static [u16],
-    union: &'static [u16],
-    product: &'static [u16],
-    without: &'static [u16],
-    // the minimal sets of the union
-    minimal: &'static [u16],
+// Two families, their union, their product, the first without the second, and the minimal sets of the union.
+const ROWS: &str = "\
+|1.23.|1.23.|||1.23.
+.|1.23.|1.23..|1.23.|.|.
+.|.23.|23..|23..||.
+1.2.|2.3.|1.2.3.|12.13.23.2.|1.|1.2.3.
+124.23.4.|2.34.14.|124.14.23.2.34.4.|1234.124.14.234.23.24.34.|4.|2.4.
+25.3.5.|15.4.|15.25.3.4.5.|125.135.15.245.34.45.|25.3.5.|3.4.5.
+.1.12.34.|12.3.24.|12.1.24.34.3..|1234.123.124.12.13.234.24.34.3.|1..|.
+123.12.23.45.|34.5.|123.12.23.34.45.5.|1234.1235.125.234.235.345.45.|123.12.23.|12.23.34.5.";
+
+// What an operation makes of two families. The minimal sets are those of their union.
+fn made(
+    ops: &mut Ops,
+    operation: Operation,
+    first: NodeRef,
+    second: NodeRef,
+) -> Result<NodeRef, Full>
+    requires first { Knows (map_of ops.old) first }
+    requires second { Knows (map_of ops.old) second }
+    ensures { IfOk result (λ r. Knows (map_of ops.new) r) }
+{
+    match operation {
+        Operation::Union => ops.union(first, second),
+        Operation::Product => ops.product(first, second),
+        Operation::Without => ops.without(first, second),
+        Operation::Minimal => {
+            let union = ops.union(first, second)?;
+            ops.minimal(union)
+        }
+    }
 }
 
-const ROWS: [Row; 8] = [
-    Row {
-        a: &[],
-        b: &[1, 0, 2, 3, 0],
-        union: &[1, 0, 2, 3, 0],
-        product: &[],
-        without: &[],
-        minimal: &[1, 0, 2, 3, 0],
-    },
-    Row {
-        a: &[0],
-        b: &[1, 0, 2, 3, 0],
-        union: &[1, 0, 2, 3, 0, 0],
-        product: &[1, 0, 2, 3, 0],
-        without: &[0],
-        minimal: &[0],
-    },
-    Row {
-        a: &[0],
-        b: &[0, 2, 3, 0],
-        union: &[2, 3, 0, 0],
-        product: &[2, 3, 0, 0],
-        without: &[],
-        minimal: &[0],
-    },
-    Row {
-        a: &[1, 0, 2, 0],
-        b: &[2, 0, 3, 0],
-        union: &[1, 0, 2, 0, 3, 0],
-        product: &[1, 2, 0, 1, 3, 0, 2, 3, 0, 2, 0],
-        without: &[1, 0],
-        minimal: &[1, 0, 2, 0, 3, 0],
-    },
-    Row {
-        a: &[1, 2, 4, 0, 2, 3, 0, 4, 0],
-        b: &[2, 0, 3, 4, 0, 1, 4, 0],
-        union: &[1, 2, 4, 0, 1, 4, 0, 2, 3, 0, 2, 0, 3, 4, 0, 4, 0],
-        product: &[
-            1, 2, 3, 4, 0, 1, 2, 4, 0, 1, 4, 0, 2, 3, 4, 0, 2, 3, 0, 2, 4, 0, 3, 4, 0,
-        ],
-        without: &[4, 0],
-        minimal: &[2, 0, 4, 0],
-    },
-    Row {
-        a: &[2, 5, 0, 3, 0, 5, 0],
-        b: &[1, 5, 0, 4, 0],
-        union: &[1, 5, 0, 2, 5, 0, 3, 0, 4, 0, 5, 0],
-        product: &[
-            1, 2, 5, 0, 1, 3, 5, 0, 1, 5, 0, 2, 4, 5, 0, 3, 4, 0, 4, 5, 0,
-        ],
-        without: &[2, 5, 0, 3, 0, 5, 0],
-        minimal: &[3, 0, 4, 0, 5, 0],
-    },
-    Row {
-        a: &[0, 1, 0, 1, 2, 0, 3, 4, 0],
-        b: &[1, 2, 0, 3, 0, 2, 4, 0],
-        union: &[1, 2, 0, 1, 0, 2, 4, 0, 3, 4, 0, 3, 0, 0],
-        product: &[
-            1, 2, 3, 4, 0, 1, 2, 3, 0, 1, 2, 4, 0, 1, 2, 0, 1, 3, 0, 2, 3, 4, 0, 2, 4, 0, 3, 4, 0,
-            3, 0,
-        ],
-        without: &[1, 0, 0],
-        minimal: &[0],
-    },
-    Row {
-        a: &[1, 2, 3, 0, 1, 2, 0, 2, 3, 0, 4, 5, 0],
-        b: &[3, 4, 0, 5, 0],
-        union: &[1, 2, 3, 0, 1, 2, 0, 2, 3, 0, 3, 4, 0, 4, 5, 0, 5, 0],
-        product: &[
-            1, 2, 3, 4, 0, 1, 2, 3, 5, 0, 1, 2, 5, 0, 2, 3, 4, 0, 2, 3, 5, 0, 3, 4, 5, 0, 4, 5, 0,
-        ],
-        without: &[1, 2, 3, 0, 1, 2, 0, 2, 3, 0],
-        minimal: &[1, 2, 0, 2, 3, 0, 3, 4, 0, 5, 0],
-    },
-];
-
-fn union_of(alloc: Global, row: &Row) -> Result<Vec<u16>, Fail> {
-    let StoreStart { store, seat } = NodeStore::new(alloc, 10)?;
-    let mut ops = ops_on(alloc, &store, seat)?;
-    let a = family_of(&mut ops, row.a)?;
-    let b = family_of(&mut ops, row.b)?;
-    let union = ops.union(a, b)?;
-    spelled(alloc, &mut ops, union)
+// The same of two texts.
+fn made_in(alloc: Global, ops: &mut Ops, operation: Operation, row: &str) -> Result<String, Fail> {
+    let first = family(alloc, ops, part(row, 0))?;
+    let second = family(alloc, ops, part(row, 1))?;
+    let made = made(ops, operation, first, second)?;
+    sets_of(alloc, ops, made)
 }
 
-fn product_of(alloc: Global, row: &Row) -> Result<Vec<u16>, Fail> {
+// The same in a store of its own.
+fn made_of(alloc: Global, operation: Operation, row: &str) -> Result<String, Fail> {
     let StoreStart { store, seat } = NodeStore::new(alloc, 10)?;
     let mut ops = ops_on(alloc, &store, seat)?;
-    let a = family_of(&mut ops, row.a)?;
-    let b = family_of(&mut ops, row.b)?;
-    let product = ops.product(a, b)?;
-    spelled(alloc, &mut ops, product)
+    made_in(alloc, &mut ops, operation, row)
 }
 
-fn without_of(alloc: Global, row: &Row) -> Result<Vec<u16>, Fail> {
-    let StoreStart { store, seat } = NodeStore::new(alloc, 10)?;
-    let mut ops = ops_on(alloc, &store, seat)?;
-    let a = family_of(&mut ops, row.a)?;
-    let b = family_of(&mut ops, row.b)?;
-    let without = ops.without(a, b)?;
-    spelled(alloc, &mut ops, without)
-}
-
-fn minimal_of(alloc: Global, row: &Row) -> Result<Vec<u16>, Fail> {
-    let StoreStart { store, seat } = NodeStore::new(alloc, 10)?;
-    let mut ops = ops_on(alloc, &store, seat)?;
-    let all = family_of(&mut ops, row.union)?;
-    let minimal = ops.minimal(all)?;
-    spelled(alloc, &mut ops, minimal)
+// Whether it is what the row has at a place.
+fn gives(alloc: Global, operation: Operation, row: &str, place: usize) -> Result<bool, Fail> {
+    let made = made_of(alloc, operation, row)?;
+    Ok(made.as_str() == part(row, place))
 }
 
 #[test]
 fn operations_give_their_families(rt: HostRuntime) -> Result<(), Fail> {
-    for row in &ROWS {
-        assert!(rt; union_of(rt.alloc(), row)?.as_slice() == row.union);
-        assert!(rt; product_of(rt.alloc(), row)?.as_slice() == row.product);
-        assert!(rt; without_of(rt.alloc(), row)?.as_slice() == row.without);
-        assert!(rt; minimal_of(rt.alloc(), row)?.as_slice() == row.minimal);
+    for row in ROWS.lines() {
+        assert!(rt; gives(rt.alloc(), Operation::Union, row, 2)?, "{row}");
+        assert!(rt; gives(rt.alloc(), Operation::Product, row, 3)?, "{row}");
+        assert!(rt; gives(rt.alloc(), Operation::Without, row, 4)?, "{row}");
+        assert!(rt; gives(rt.alloc(), Operation::Minimal, row, 5)?, "{row}");
     }
     Ok(())
 }
 
-// The votes over three families.
-fn votes_of(alloc: Global, k: u32, families: [&[u16]; 3]) -> Result<Vec<u16>, Fail>
-    requires some { 1 ≤ k }
-    requires few { k ≤ 3 }
+// The votes over two families and the third of a row.
+fn votes_with(
+    alloc: Global,
+    ops: &mut Ops,
+    votes: u32,
+    first: NodeRef,
+    second: NodeRef,
+    row: &str,
+) -> Result<String, Fail>
+    requires some { 1 ≤ votes }
+    requires few { votes ≤ 3 }
+    requires first { Knows (map_of ops.old) first }
+    requires second { Knows (map_of ops.old) second }
 {
+    let third = family(alloc, ops, part(row, 3))?;
+    let mut room = [NodeRef::EMPTY; 3];
+    let made = ops.votes(votes, &[first, second, third], &mut room)?;
+    sets_of(alloc, ops, made)
+}
+
+// The votes over the three families of a row.
+fn votes_in(alloc: Global, ops: &mut Ops, votes: u32, row: &str) -> Result<String, Fail>
+    requires some { 1 ≤ votes }
+    requires few { votes ≤ 3 }
+{
+    let first = family(alloc, ops, part(row, 1))?;
+    let second = family(alloc, ops, part(row, 2))?;
+    votes_with(alloc, ops, votes, first, second, row)
+}
+
+// The same in a store of its own.
+fn votes_of(alloc: Global, row: &str) -> Result<String, Fail> {
+    let votes = part(row, 0).parse::<u32>()?;
+    if votes < 1 || votes > 3 {
+        return Err("no votes of three".into());
+    }
     let StoreStart { store, seat } = NodeStore::new(alloc, 10)?;
     let mut ops = ops_on(alloc, &store, seat)?;
-    let first = family_of(&mut ops, families[0])?;
-    let second = family_of(&mut ops, families[1])?;
-    let third = family_of(&mut ops, families[2])?;
-    let list = [first, second, third];
-    let mut room = [NodeRef::EMPTY; 3];
-    let votes = ops.votes(k, &list, &mut room)?;
-    spelled(alloc, &mut ops, votes)
+    votes_in(alloc, &mut ops, votes, row)
 }
 
+// How many votes there have to be, three families, and the votes over them. In the second row a family stands twice.
+const VOTES: &str = "\
+2|1.|2.|3.|12.13.23.
+2|1.|1.|2.|12.1.
+1|12.3.|2.4.|1.5.|12.1.2.3.4.5.
+2|12.3.|2.4.|1.5.|124.125.12.13.14.23.25.34.35.45.
+3|12.3.|2.4.|1.5.|123.1245.124.125.12.134.235.345.";
+
 #[test]
-fn two_of_three_units_vote(rt: HostRuntime) -> Result<(), Fail> {
-    let votes = votes_of(rt.alloc(), 2, [&[1, 0], &[2, 0], &[3, 0]])?;
-    assert_eq!(rt; votes.as_slice(), [1, 2, 0, 1, 3, 0, 2, 3, 0].as_slice());
+fn families_vote(rt: HostRuntime) -> Result<(), Fail> {
+    for row in VOTES.lines() {
+        let votes = votes_of(rt.alloc(), row)?;
+        assert_eq!(rt; votes.as_str(), part(row, 4));
+    }
     Ok(())
 }
 
-#[test]
-fn a_family_that_stands_twice_has_two_votes(rt: HostRuntime) -> Result<(), Fail> {
-    let votes = votes_of(rt.alloc(), 2, [&[1, 0], &[1, 0], &[2, 0]])?;
-    assert_eq!(rt; votes.as_slice(), [1, 2, 0, 1, 0].as_slice());
-    Ok(())
-}
-
-#[test]
-fn families_of_several_sets_vote(rt: HostRuntime) -> Result<(), Fail> {
-    let families: [&[u16]; 3] = [&[1, 2, 0, 3, 0], &[2, 0, 4, 0], &[1, 0, 5, 0]];
-    let one = votes_of(rt.alloc(), 1, families)?;
-    assert_eq!(rt;
-        one.as_slice(),
-        [1, 2, 0, 1, 0, 2, 0, 3, 0, 4, 0, 5, 0].as_slice()
-    );
-    let two = votes_of(rt.alloc(), 2, families)?;
-    assert_eq!(rt;
-        two.as_slice(),
-        [
-            1, 2, 4, 0, 1, 2, 5, 0, 1, 2, 0, 1, 3, 0, 1, 4, 0, 2, 3, 0, 2, 5, 0, 3, 4, 0, 3, 5, 0,
-            4, 5, 0
-        ]
-        .as_slice()
-    );
-    let three = votes_of(rt.alloc(), 3, families)?;
-    assert_eq!(rt;
-        three.as_slice(),
-        [
-            1, 2, 3, 0, 1, 2, 4, 5, 0, 1, 2, 4, 0, 1, 2, 5, 0, 1, 2, 0, 1, 3, 4, 0, 2, 3, 5, 0, 3,
-            4, 5, 0
-        ]
-        .as_slice()
-    );
-    Ok(())
-}
-
-// The node of two sets of one unit each, after the union of both.
-fn union_and_node(ops: &mut Ops, low: UnitNo, high: UnitNo) -> Result<(NodeRef, NodeRef), Full>
+// The node of two sets of one unit each.
+fn node_of_both(ops: &mut Ops, low: UnitNo, high: UnitNo) -> Result<NodeRef, Full>
     requires { low < high }
 {
-    let first = single(ops, low)?;
-    let second = single(ops, high)?;
-    let union = ops.union(first, second)?;
-    let again = single(ops, high)?;
-    let node = ops.node(low, again, NodeRef::UNIT)?;
-    Ok((union, node))
+    let lo = single(ops, high)?;
+    ops.node(low, lo, NodeRef::UNIT)
+}
+
+// The references of the sets of one unit each, and whether their union is the node of both.
+fn examples_in(alloc: Global, ops: &mut Ops) -> Result<String, Fail> {
+    let low = unit(1)?;
+    let high = unit(2)?;
+    if low >= high {
+        return Err("units fall".into());
+    }
+    let first = single(ops, low)?.number();
+    let second = single(ops, high)?.number();
+    let union = family(alloc, ops, "1.2.")?;
+    let same = node_of_both(ops, low, high)? == union;
+    Ok(format!(in alloc; "{first} {second} {same}")?)
+}
+
+fn examples(alloc: Global) -> Result<String, Fail> {
+    let StoreStart { store, seat } = NodeStore::new(alloc, 10)?;
+    let mut ops = ops_on(alloc, &store, seat)?;
+    examples_in(alloc, &mut ops)
 }
 
 #[test]
 fn a_union_is_the_node_of_its_family(rt: HostRuntime) -> Result<(), Fail> {
-    let StoreStart { store, seat } = NodeStore::new(rt.alloc(), 10)?;
-    let mut ops = ops_on(rt.alloc(), &store, seat)?;
-    let low = unit(1)?;
-    let high = unit(2)?;
-    assert_eq!(rt; single(&mut ops, low)?.number(), 384);
-    assert_eq!(rt; single(&mut ops, high)?.number(), 133);
-    if low < high {
-        let (union, node) = union_and_node(&mut ops, low, high)?;
-        assert_eq!(rt; union.number(), node.number());
-    }
+    assert_eq!(rt; examples(rt.alloc())?.as_str(), "384 133 true");
     Ok(())
 }
