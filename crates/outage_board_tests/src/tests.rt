@@ -1,9 +1,8 @@
-//! Boards over small trees: the replies to crews that are served in some order.
+//! Boards over small trees: what they tell once crews were served in some order.
 mod threads;
 
-use margin_policy::Reply;
 use outage_board::BoardState;
-use std::alloc::Global;
+use std::alloc::{AllocError, Global};
 use std::test::Fail;
 use unit_sets::CrewNo;
 use worked_trees::{cuts_of, dockets_of, tree_of};
@@ -12,90 +11,212 @@ const THREE: &[u8] = b"toplevel T; T and A B C; A; B; C;";
 
 const PAIRS: &[u8] = b"toplevel T; T or G H; G and A B; H and C D; A; B; C; D;";
 
-// A board at the margin 0.
+// A board at the margin 0. What it is made of is let go by calls: the proof of each way out is short then.
 fn board_of(alloc: Global, deck: &[u8], crews: &[u8]) -> Result<BoardState, Fail> {
-    let tree = tree_of(alloc, deck)?;
-    let cuts = cuts_of(alloc, &tree)?;
     let dockets = dockets_of(alloc, crews)?;
-    Ok(BoardState::open(alloc, &tree, &cuts, &dockets, 0)?)
+    let tree = match tree_of(alloc, deck) {
+        Ok(tree) => tree,
+        Err(fail) => {
+            drop(dockets);
+            return Err(fail);
+        }
+    };
+    let cuts = match cuts_of(alloc, &tree) {
+        Ok(cuts) => cuts,
+        Err(fail) => {
+            drop(dockets);
+            drop(tree);
+            return Err(fail);
+        }
+    };
+    let board = BoardState::open(alloc, &tree, &cuts, &dockets, 0);
+    drop(dockets);
+    drop(cuts);
+    drop(tree);
+    Ok(board?)
 }
 
-// The replies to the next requests of crews, each crew a digit. Where a crew has no request left, `-` stands.
-fn replies(alloc: Global, board: &mut BoardState, crews: &str) -> Result<String, Fail> {
-    let mut told = String::new(alloc);
-    for digit in crews.as_bytes() {
-        let crew = u32::from(digit.wrapping_sub(b'0'));
-        if crew >= board.crews() {
-            return Err("no such crew".into());
-        }
-        match board.serve(CrewNo(crew)) {
-            Some(entry) => write_reply(alloc, &mut told, entry.reply)?,
-            None => told.push_str("- ")?,
-        }
+// The margin at first, the number of all requests, and how many each crew has left.
+fn tell_opening(alloc: Global, told: &mut String, board: &BoardState) -> Result<(), AllocError> {
+    let margin = board.opening_margin();
+    let total = board.dockets().total();
+    told.push_str(format!(in alloc; "margin {margin}, {total} requests:")?.as_str())?;
+    for crew in 0..board.crews() {
+        let left = board.left(CrewNo(crew));
+        told.push_str(format!(in alloc; " {left}")?.as_str())?;
     }
+    Ok(())
+}
+
+// The reply to the next request of a crew. Where it has no request left, `-` stands.
+fn tell_reply(
+    alloc: Global,
+    told: &mut String,
+    board: &mut BoardState,
+    crew: u32,
+) -> Result<(), Fail> {
+    if crew >= board.crews() {
+        return Err("no such crew".into());
+    }
+    match board.serve(CrewNo(crew)) {
+        Some(entry) => told.push_str(format!(in alloc; "\n{:?}", entry.reply)?.as_str())?,
+        None => told.push_str("\n-")?,
+    }
+    Ok(())
+}
+
+// The replies to the next requests of crews, each crew a digit.
+fn tell_replies(
+    alloc: Global,
+    told: &mut String,
+    board: &mut BoardState,
+    crews: &str,
+) -> Result<(), Fail> {
+    for digit in crews.as_bytes() {
+        tell_reply(alloc, told, board, u32::from(digit.wrapping_sub(b'0')))?;
+    }
+    Ok(())
+}
+
+// The entries of the history, each by its crew, its place and its reply.
+fn tell_entries(alloc: Global, told: &mut String, board: &BoardState) -> Result<(), AllocError> {
+    let length = board.history_len();
+    told.push_str(format!(in alloc; "\n{length} entries:")?.as_str())?;
+    for entry in board.entries() {
+        let crew = entry.crew.0;
+        let place = entry.place;
+        let reply = entry.reply;
+        told.push_str(format!(in alloc; "\n{crew} {place} {reply:?}")?.as_str())?;
+    }
+    Ok(())
+}
+
+// The margin at the end, and how many members of each cut set are in service.
+fn tell_standing(alloc: Global, told: &mut String, board: &BoardState) -> Result<(), AllocError> {
+    let standing = board.standing();
+    let margin = standing.margin();
+    told.push_str(format!(in alloc; "\nmargin {margin}:")?.as_str())?;
+    for count in standing.ledger().counts() {
+        told.push_str(format!(in alloc; " {count}")?.as_str())?;
+    }
+    Ok(())
+}
+
+fn tell_board(
+    alloc: Global,
+    told: &mut String,
+    board: &mut BoardState,
+    crews: &str,
+) -> Result<(), Fail> {
+    tell_opening(alloc, told, board)?;
+    tell_replies(alloc, told, board, crews)?;
+    tell_entries(alloc, told, board)?;
+    tell_standing(alloc, told, board)?;
+    Ok(())
+}
+
+// Adds what a board tells before, while and after crews are served in an order. It lets the board go by a call.
+fn tell_day(
+    alloc: Global,
+    told: &mut String,
+    deck: &[u8],
+    crews: &[u8],
+    order: &str,
+) -> Result<(), Fail> {
+    let mut board = board_of(alloc, deck, crews)?;
+    let end = tell_board(alloc, told, &mut board, order);
+    drop(board);
+    end
+}
+
+fn day(alloc: Global, deck: &[u8], crews: &[u8], order: &str) -> Result<String, Fail> {
+    let mut told = String::new(alloc);
+    tell_day(alloc, &mut told, deck, crews, order)?;
     Ok(told)
 }
 
-fn write_reply(alloc: Global, told: &mut String, reply: Reply) -> Result<(), Fail> {
-    told.push_str(format!(in alloc; "{reply:?} ")?.as_str())?;
-    Ok(())
-}
+const ERRORS: &str = "margin 0, 8 requests: 6 2
+Granted
+AlreadyOut(CrewNo(0))
+HeldBy(CrewNo(0))
+AlreadyOut(CrewNo(0))
+NotOut
+UnknownUnit
+Granted
+Granted
+-
+-
+8 entries:
+0 0 Granted
+0 1 AlreadyOut(CrewNo(0))
+1 0 HeldBy(CrewNo(0))
+1 1 AlreadyOut(CrewNo(0))
+0 2 NotOut
+0 3 UnknownUnit
+0 4 Granted
+0 5 Granted
+margin 0: 2";
 
 #[test]
 fn errors_are_named(rt: HostRuntime) -> Result<(), Fail> {
     let crews =
         b"crew c\ntake A\ntake A\nreturn B\ntake Z\nreturn A\ntake A\ncrew d\nreturn A\ntake A\n";
-    let mut board = board_of(rt.alloc(), THREE, crews)?;
-    assert_eq!(rt; board.opening_margin(), 0);
-    let told = replies(rt.alloc(), &mut board, "0011000001")?;
-    assert_eq!(rt;
-        told.as_str(),
-        "Granted AlreadyOut(CrewNo(0)) HeldBy(CrewNo(0)) AlreadyOut(CrewNo(0)) NotOut \
-         UnknownUnit Granted Granted - - "
-    );
-    assert_eq!(rt; board.history_len(), 8);
+    let told = day(rt.alloc(), THREE, crews, "0011000001")?;
+    assert_eq!(rt; told.as_str(), ERRORS);
     Ok(())
 }
+
+const MARGINS: &str = "margin 0, 12 requests: 12
+Granted
+Denied(1)
+Granted
+Denied(2)
+Granted
+Granted
+Denied(1)
+Granted
+Denied(1)
+Granted
+UnknownUnit
+AlreadyOut(CrewNo(0))
+-
+12 entries:
+0 0 Granted
+0 1 Denied(1)
+0 2 Granted
+0 3 Denied(2)
+0 4 Granted
+0 5 Granted
+0 6 Denied(1)
+0 7 Granted
+0 8 Denied(1)
+0 9 Granted
+0 10 UnknownUnit
+0 11 AlreadyOut(CrewNo(0))
+margin 0: 1 1";
 
 #[test]
 fn the_supervisor_changes_the_margin(rt: HostRuntime) -> Result<(), Fail> {
     let crews =
         b"crew supervisor\ntake A C\nmargin 1\nreturn A\nmargin 1\nreturn C\nmargin 1\ntake A\n\
         margin 0\ntake A B\ntake C A\ntake B Z\ntake B A\n";
-    let mut board = board_of(rt.alloc(), PAIRS, crews)?;
-    let told = replies(rt.alloc(), &mut board, "0000000000000")?;
-    assert_eq!(rt;
-        told.as_str(),
-        "Granted Denied(1) Granted Denied(2) Granted Granted Denied(1) Granted Denied(1) \
-         Granted UnknownUnit AlreadyOut(CrewNo(0)) - "
-    );
-    let standing = board.standing();
-    assert_eq!(rt; standing.margin(), 0);
-    assert_eq!(rt; standing.ledger().counts(), [1, 1].as_slice());
+    let told = day(rt.alloc(), PAIRS, crews, "0000000000000")?;
+    assert_eq!(rt; told.as_str(), MARGINS);
     Ok(())
 }
+
+const READ: &str = "margin 0, 3 requests: 1 2
+Granted
+AlreadyOut(CrewNo(1))
+2 entries:
+1 0 Granted
+0 0 AlreadyOut(CrewNo(1))
+margin 0: 1";
 
 #[test]
 fn readers_tell_the_board(rt: HostRuntime) -> Result<(), Fail> {
     let crews = b"crew c\ntake A\ncrew d\ntake B A\nreturn Z\n";
-    let mut board = board_of(rt.alloc(), THREE, crews)?;
-    if board.crews() != 2 {
-        return Err("not two crews".into());
-    }
-    assert_eq!(rt; (board.left(CrewNo(0)), board.left(CrewNo(1))), (1, 2));
-    let told = replies(rt.alloc(), &mut board, "10")?;
-    assert_eq!(rt; told.as_str(), "Granted AlreadyOut(CrewNo(1)) ");
-    let [first, second] = board.entries() else {
-        return Err("not two entries".into());
-    };
-    assert_eq!(rt;
-        (first.crew.0, first.place, first.reply),
-        (1, 0, Reply::Granted)
-    );
-    assert_eq!(rt;
-        (second.crew.0, second.place, second.reply),
-        (0, 0, Reply::AlreadyOut(CrewNo(1)))
-    );
-    assert_eq!(rt; board.dockets().total(), 3);
+    let told = day(rt.alloc(), THREE, crews, "10")?;
+    assert_eq!(rt; told.as_str(), READ);
     Ok(())
 }

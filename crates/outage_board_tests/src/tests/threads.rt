@@ -12,15 +12,32 @@ use std::test::Fail;
 use std::thread::{Threads, join};
 use worked_trees::{cuts_of, dockets_of, tree_of};
 
-// A board of two pairs at the margin 0.
+// A board of two pairs at the margin 0. What it is made of is let go by calls.
 fn shared_pairs(alloc: Global, text: &[u8]) -> Result<BoardStart, Fail>
     ensures own { IfOk result (λ start. AreOf start.board start.passes.passes) }
     ensures all { IfOk result (λ start. HaveAll start.board.deck start.passes.passes) }
 {
-    let tree = tree_of(alloc, PAIRS)?;
-    let cuts = cuts_of(alloc, &tree)?;
     let dockets = dockets_of(alloc, text)?;
-    Ok(Board::open(alloc, &tree, &cuts, &dockets, 0)?)
+    let tree = match tree_of(alloc, PAIRS) {
+        Ok(tree) => tree,
+        Err(fail) => {
+            drop(dockets);
+            return Err(fail);
+        }
+    };
+    let cuts = match cuts_of(alloc, &tree) {
+        Ok(cuts) => cuts,
+        Err(fail) => {
+            drop(dockets);
+            drop(tree);
+            return Err(fail);
+        }
+    };
+    let start = Board::open(alloc, &tree, &cuts, &dockets, 0);
+    drop(dockets);
+    drop(cuts);
+    drop(tree);
+    Ok(start?)
 }
 
 // The last pass of a board.
@@ -43,8 +60,11 @@ fn reply_with(rt: &impl Wait, board: &Board, pass: &mut CrewPass) -> Option<Repl
     }
 }
 
+// The replies to the requests of one thread.
+type Replies = (Option<Reply>, Option<Reply>);
+
 // One thread serves two requests.
-fn serve_two(rt: &impl Wait, board: &Board, mut pass: CrewPass) -> (Option<Reply>, Option<Reply>)
+fn serve_two(rt: &impl Wait, board: &Board, mut pass: CrewPass) -> Replies
     requires { pass.board ≡ board.now }
 {
     let first = reply_with(rt, board, &mut pass);
@@ -58,45 +78,74 @@ fn serve_at_once<R: Threads + Wait + Sync>(
     board: &Board,
     one: CrewPass,
     other: CrewPass,
-) -> (
-    (Option<Reply>, Option<Reply>),
-    (Option<Reply>, Option<Reply>),
-)
+) -> (Replies, Replies)
     requires { (one.board ≡ board.now) × (other.board ≡ board.now) }
 {
     join(
         rt,
-        move || -> (Option<Reply>, Option<Reply>)
+        move || -> Replies
             requires { IsSync R.row × (one.board ≡ board.now) }
         { serve_two(rt, board, one) },
-        move || -> (Option<Reply>, Option<Reply>)
+        move || -> Replies
             requires { IsSync R.row × (other.board ≡ board.now) }
         { serve_two(rt, board, other) },
     )
 }
 
+// What two threads that serve a crew each get to know: how many passes there are and how many there is room for, the
+// crews of the last one and the one before it, and the replies to each.
+type Told = ((usize, usize), (u32, u32), (Replies, Replies));
+
+fn crews_of(one: &CrewPass, other: &CrewPass) -> (u32, u32) {
+    (one.crew().0, other.crew().0)
+}
+
+fn served_at_once<R: Threads + Wait + Sync>(
+    rt: &R,
+    board: &Board,
+    passes: &mut Passes,
+) -> Option<Told>
+    requires own { AreOf board.now passes.old.passes }
+{
+    let sizes = (passes.len(), passes.room());
+    let one = last_pass(board, passes)?;
+    let other = last_pass(board, passes)?;
+    let crews = crews_of(&one, &other);
+    Some((sizes, crews, serve_at_once(rt, board, one, other)))
+}
+
+// The board and its passes are let go by a call.
+fn told<R: Threads + Wait + Sync>(rt: &R, alloc: Global, text: &[u8]) -> Result<Told, Fail> {
+    let BoardStart { board, mut passes } = shared_pairs(alloc, text)?;
+    let told = served_at_once(rt, &board, &mut passes);
+    drop(passes);
+    drop(board);
+    Ok(told.ok_or("no pass")?)
+}
+
 #[test]
 fn two_threads_serve_a_crew_each(rt: HostRuntime) -> Result<(), Fail> {
     let text = b"crew c\ntake A\nreturn B\ncrew d\ntake C\n".as_slice();
-    let BoardStart { board, mut passes } = shared_pairs(rt.alloc(), text)?;
-    assert_eq!(&rt; (passes.len(), passes.room()), (2, 2));
-    let one = last_pass(&board, &mut passes).ok_or("no pass")?;
-    let other = last_pass(&board, &mut passes).ok_or("no pass")?;
-    assert_eq!(&rt; (one.crew().0, other.crew().0), (1, 0));
-    let (newer, older) = serve_at_once(&rt, &board, one, other);
+    let (sizes, crews, (newer, older)) = told(&rt, rt.alloc(), text)?;
+    assert_eq!(&rt; sizes, (2, 2));
+    assert_eq!(&rt; crews, (1, 0));
     assert_eq!(&rt; newer, (Some(Reply::Granted), None));
     assert_eq!(&rt; older, (Some(Reply::Granted), Some(Reply::NotOut)));
     Ok(())
 }
 
+// The crews, the length of the history and the margin of a board that is closed before any crew is served.
+fn closed(alloc: Global, text: &[u8]) -> Result<(u32, usize, u32), Fail> {
+    let BoardStart { board, passes } = shared_pairs(alloc, text)?;
+    let state = board.close(passes);
+    let told = (state.crews(), state.history_len(), state.opening_margin());
+    drop(state);
+    Ok(told)
+}
+
 #[test]
 fn a_board_without_entries_is_closed(rt: HostRuntime) -> Result<(), Fail> {
     let text = b"crew c\ntake A\ncrew d\ntake C\n".as_slice();
-    let BoardStart { board, passes } = shared_pairs(rt.alloc(), text)?;
-    let state = board.close(passes);
-    assert_eq!(&rt;
-        (state.crews(), state.history_len(), state.opening_margin()),
-        (2, 0, 0)
-    );
+    assert_eq!(&rt; closed(rt.alloc(), text)?, (2, 0, 0));
     Ok(())
 }
