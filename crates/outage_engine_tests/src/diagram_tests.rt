@@ -1,160 +1,171 @@
 //! Runs of `diagram`, and runs over stores that are full or nearly so.
-ghost use Rattle.std.specs.Prelude.{◌≡◌, ◌≤◌};
-
-use super::limit_tests::{and_of_ors, or_of_eights};
-use super::tests::{PAIR, PAIR_ORDERS, PAIR_SIZES, calls_of, words_of};
-use edge_io::{Bytes, HeldSource, KeptSink};
-use outage_engine::{Method, Status, run};
-use std::alloc::{AllocError, Global};
+use super::runs::{ONCE, SOUND, Trial, answer_over, check_table, check_told};
+use super::tests::PAIR;
+use std::alloc::Global;
+use std::process::Abort;
 use std::sync::Wait;
 use std::test::Fail;
 use std::thread::Threads;
 use worked_stores::store_with;
-use worked_trees::or_of_pairs;
-use zdd_shared_table::{NodeStore, StoreSeat, StoreStart};
+use zdd_shared_table::StoreStart;
 
-// How a run over a store ends, and what it writes.
-fn ended<R: Threads + Wait + Sync>(
-    rt: &R,
-    alloc: Global,
-    words: &[&str],
-    deck: &str,
-    store: &NodeStore,
-    seat: &mut StoreSeat,
-) -> Result<(Status, Bytes), AllocError>
-    requires own { seat.old.store ≡ store.now }
-    requires share { 64 ≤ seat.old.share }
-{
-    let words = words_of(alloc, words)?;
-    let mut source = HeldSource::new(
-        Bytes::of(alloc, deck.as_bytes())?,
-        4096,
-        calls_of(alloc, None)?,
-    );
-    let mut sink = KeptSink::new(alloc, 4_096, calls_of(alloc, None)?)?;
-    let status = run(
-        rt,
-        alloc,
-        words.as_slice(),
-        &mut source,
-        &mut sink,
-        store,
-        seat,
-    );
-    Ok((status, Bytes::of(alloc, sink.bytes())?))
-}
+// Commands that find no cut sets name no method.
+const SIZES: &str = r#"
+$ diagram --workers 2
+toplevel T; T 2of3 A B C; A; B; C;
+=> 0 done by diagram
+tree: 3 units, 1 gates, top T
+method diagram
+nodes: 4
+cuts: 3
+members: 6
 
-// How a run over a new store of two to the power of so many slots ends, and what it writes.
-fn begun<R: Threads + Wait + Sync>(
-    rt: &R,
-    alloc: Global,
-    bits: u32,
-    words: &[&str],
-    deck: &str,
-) -> Result<(Status, Bytes), AllocError>
-    requires few { 10 ≤ bits }
-    requires many { bits ≤ 20 }
-{
-    let StoreStart { store, mut seat } = NodeStore::new(alloc, bits)?;
-    ended(rt, alloc, words, deck, &store, &mut seat)
-}
+$ diagram --workers 2
+toplevel T; T and A B; A; B;
+=> 0 done by diagram
+tree: 2 units, 1 gates, top T
+method diagram
+nodes: 2
+cuts: 1
+members: 2
+
+$ diagram --workers 2
+toplevel A; A;
+@crews
+take
+=> 0 done by diagram
+tree: 1 units, 0 gates, top A
+method diagram
+nodes: 1
+cuts: 1
+members: 1
+
+$ check | print | help
+toplevel T; T and A B; A; B;
+=> 0 done
+[...]"#;
 
 #[test]
 fn prints_the_sizes_of_a_diagram(rt: HostRuntime) -> Result<(), Fail> {
-    for (deck, text) in [
-        (
-            "toplevel T; T 2of3 A B C; A; B; C;",
-            "tree: 3 units, 1 gates, top T\nmethod diagram\nnodes: 4\ncuts: 3\nmembers: 6\n",
-        ),
-        (PAIR, PAIR_SIZES),
-        (
-            "toplevel A; A;\n@crews\ntake",
-            "tree: 1 units, 0 gates, top A\nmethod diagram\nnodes: 1\ncuts: 1\nmembers: 1\n",
-        ),
-    ] {
-        let (status, bytes) = begun(&rt, rt.alloc(), 10, &["diagram", "--workers", "2"], deck)?;
-        assert_eq!(rt; bytes.as_slice(), text.as_bytes(), "{deck}");
-        assert_eq!(rt; status, Status::Done(Method::Diagram));
-    }
-    Ok(())
+    check_table(&rt, rt.alloc(), Trial::Once(10, SOUND.room), 4, SIZES)
 }
 
-#[test]
-fn commands_that_find_no_cut_sets_name_no_method(rt: HostRuntime) -> Result<(), Fail> {
-    for word in ["check", "print", "help"] {
-        let (status, _) = begun(&rt, rt.alloc(), 10, &[word], PAIR)?;
-        assert_eq!(rt; status, Status::Done(Method::Plain), "{word}");
-    }
-    Ok(())
-}
+const LIMITS: &str = r#"
+$ diagram
+(19) toplevel T; T and|* g#|;
+|*g# or a# b#; a#; b#;
+
+=> 0 done by diagram
+tree: 38 units, 20 gates, top T
+method diagram
+nodes: 38
+cuts: 524288
+members: 9961472
+
+$ diagram
+(20) toplevel T; T and|* g#|;
+|*g# or a# b#; a#; b#;
+
+=> 1 list limit
+refused: list limit 16777216
+
+$ diagram
+(50) toplevel T; T or|* g#|;
+|*g# and a# b# c# d# e# f# h# i#;
+|*a#; b#; c#; d#; e#; f#; h#; i#;
+
+=> 0 done by diagram
+tree: 400 units, 51 gates, top T
+method diagram
+nodes: 400
+cuts: 50
+members: 400
+"#;
 
 #[test]
 fn limits_of_the_list_hold_for_diagrams_and_that_of_orders_does_not(
     rt: HostRuntime,
 ) -> Result<(), Fail> {
-    for (deck, status, text) in [
-        (
-            and_of_ors(rt.alloc(), 19)?,
-            Status::Done(Method::Diagram),
-            "tree: 38 units, 20 gates, top T\nmethod diagram\nnodes: 38\ncuts: 524288\nmembers: 9961472\n",
-        ),
-        (
-            and_of_ors(rt.alloc(), 20)?,
-            Status::ListLimit,
-            "refused: list limit 16777216\n",
-        ),
-        (
-            or_of_eights(rt.alloc(), 50, "and")?,
-            Status::Done(Method::Diagram),
-            "tree: 400 units, 51 gates, top T\nmethod diagram\nnodes: 400\ncuts: 50\nmembers: 400\n",
-        ),
-    ] {
-        let (ended, bytes) = begun(&rt, rt.alloc(), 12, &["diagram"], deck.as_str())?;
-        assert_eq!(rt; bytes.as_slice(), text.as_bytes());
-        assert_eq!(rt; ended, status);
-    }
-    Ok(())
+    check_table(&rt, rt.alloc(), ONCE, 3, LIMITS)
 }
+
+const PAIRS_BY_LISTS: &str = r#"
+$ diagram
+(600) toplevel T;
+T or|* g#|;
+|*g# and a# b#;
+a#;
+b#;
+
+=> 0 done by lists
+tree: 1200 units, 601 gates, top T
+method lists
+cuts: 600
+members: 1200
+"#;
+
+const PAIRS_BY_DIAGRAM: &str = r#"
+$ diagram
+(600) toplevel T;
+T or|* g#|;
+|*g# and a# b#;
+a#;
+b#;
+
+=> 0 done by diagram
+tree: 1200 units, 601 gates, top T
+method diagram
+nodes: 1200
+cuts: 600
+members: 1200
+"#;
 
 #[test]
 fn six_hundred_pairs_by_the_diagram_and_by_lists(rt: HostRuntime) -> Result<(), Fail> {
-    let deck = or_of_pairs(rt.alloc(), 600)?;
-    for (bits, method, how) in [
-        (20, Method::Diagram, "diagram\nnodes: 1200"),
-        (10, Method::Lists, "lists"),
-    ] {
-        let (status, bytes) = begun(&rt, rt.alloc(), bits, &["diagram"], deck.as_str())?;
-        let text = format!(in rt.alloc();
-            "tree: 1200 units, 601 gates, top T\nmethod {how}\ncuts: 600\nmembers: 1200\n"
-        )?;
-        assert_eq!(rt; bytes.as_slice(), text.as_bytes());
-        assert_eq!(rt; status, Status::Done(method));
-    }
-    Ok(())
+    check_table(
+        &rt,
+        rt.alloc(),
+        Trial::Once(10, SOUND.room),
+        1,
+        PAIRS_BY_LISTS,
+    )?;
+    check_table(
+        &rt,
+        rt.alloc(),
+        Trial::Once(20, SOUND.room),
+        1,
+        PAIRS_BY_DIAGRAM,
+    )
 }
 
-// How `cuts` ends over a store of 2^10 slots of which so many are left, and what it writes.
-fn begun_with<R: Threads + Wait + Sync>(
+// What `cuts` tells of two units over a store of 2^10 slots of which so many are left.
+fn answer_with<R: Threads + Wait + Sync>(rt: &R, alloc: Global, left: u16) -> Result<String, Fail> {
+    let StoreStart { store, mut seat } = store_with(alloc, left)?;
+    answer_over(rt, alloc, "cuts", PAIR.as_bytes(), SOUND, &store, &mut seat)
+}
+
+const BY_LISTS: &str =
+    "0 done by lists\ntree: 2 units, 1 gates, top T\ncuts: 1, orders: 2\ncut 1: A B\n  A B\n  B A\n";
+
+const BY_DIAGRAM: &str =
+    "0 done by diagram\ntree: 2 units, 1 gates, top T\ncuts: 1, orders: 2\ncut 1: A B\n  A B\n  B A\n";
+
+// The diagram of two units needs three nodes.
+fn check_left<R: Abort + Threads + Wait + Sync>(
     rt: &R,
     alloc: Global,
     left: u16,
-) -> Result<(Status, Bytes), Fail> {
-    let StoreStart { store, mut seat } = store_with(alloc, left)?;
-    Ok(ended(rt, alloc, &["cuts"], PAIR, &store, &mut seat)?)
+) -> Result<(), Fail> {
+    let got = answer_with(rt, alloc, left)?;
+    let due = if left < 3 { BY_LISTS } else { BY_DIAGRAM };
+    check_told(rt, "cuts", got.as_str(), due);
+    Ok(())
 }
 
-// The diagram of two units needs three nodes.
 #[test]
 fn a_full_store_changes_the_method_alone(rt: HostRuntime) -> Result<(), Fail> {
     for left in 0..65u16 {
-        let (status, bytes) = begun_with(&rt, rt.alloc(), left)?;
-        assert_eq!(rt; bytes.as_slice(), PAIR_ORDERS.as_bytes(), "{left}");
-        let method = if left < 3 {
-            Method::Lists
-        } else {
-            Method::Diagram
-        };
-        assert_eq!(rt; status, Status::Done(method), "{left}");
+        check_left(&rt, rt.alloc(), left)?;
     }
     Ok(())
 }

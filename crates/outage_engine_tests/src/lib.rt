@@ -12,4 +12,6 @@ mod limit_tests;
 #[cfg(test)]
 mod make_tests;
 #[cfg(test)]
+mod runs;
+#[cfg(test)]
 mod tests;

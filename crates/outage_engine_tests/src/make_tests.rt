@@ -1,115 +1,143 @@
 //! Runs of `make`, and of `check` on what it prints.
-use super::tests::{USAGE, calls_of, kept, ran, told};
-use edge_io::{Bytes, HeldSource, KeptSink};
+use super::runs::{
+    ONCE, SOUND, answer, check_calls, check_room, check_run, check_table, check_told,
+};
+use super::tests::USAGE_ALONE;
+use std::alloc::Global;
+use std::process::Abort;
+use std::sync::Wait;
 use std::test::Fail;
+use std::thread::Threads;
 
-const FRONT: &str = "toplevel t;\nt or g0 g1 g2 ";
+// Of the 101 groups of the last deck the kinds 0 to 2 have 15 each and the others 14. Each kind has 3 of the 21 groups
+// with a trigger.
+const MADE: &str = r#"
+$ make --number 0 --show deck | make --show deck --number 0
+toplevel T;
+=> 0 done
+toplevel t;
+t or g0 g1 g2 [...]return u194a
+return u196a
+return u198a
 
-const END: &str = "return u194a\nreturn u196a\nreturn u198a\n";
+$ make --number 0
+toplevel T;
+=> 0 done by diagram
+made 0: 610 units, 241 gates
+cuts: 303, orders: 851
+requests: 700, granted: 256, denied: 429, named errors: 15
+out: 86
+
+$ make --show summary --number 0
+
+=> 0 done by diagram
+made 0: 610 units, 241 gates
+cuts: 303, orders: 851
+requests: 700, granted: 256, denied: 429, named errors: 15
+out: 86
+
+$ make --number 999999
+
+=> 0 done by diagram
+made 999999: 313 units, 123 gates
+cuts: 155, orders: 461
+requests: 354, granted: 129, denied: 217, named errors: 8
+out: 43
+"#;
 
 #[test]
-fn prints_the_made_deck_of_a_number(rt: HostRuntime) -> Result<(), Fail> {
-    for words in [
-        ["make", "--number", "0", "--show", "deck"],
-        ["make", "--show", "deck", "--number", "0"],
-    ] {
-        let (code, bytes) = told(&rt, rt.alloc(), &words, b"toplevel T;")?;
-        assert!(rt; bytes.as_slice().starts_with(FRONT.as_bytes()));
-        assert!(rt; bytes.as_slice().ends_with(END.as_bytes()));
-        assert_eq!(rt; code, 0);
+fn prints_made_decks_and_sums_them_up(rt: HostRuntime) -> Result<(), Fail> {
+    check_table(&rt, rt.alloc(), ONCE, 4, MADE)
+}
+
+const WELL_FORMED: &str =
+    "0 done\nwell formed: 589 units, 233 gates, top t\ncrews: 1, requests: 676\n";
+
+// The deck behind the end of its run is well formed.
+fn check_deck<R: Abort + Threads + Wait + Sync>(
+    rt: &R,
+    alloc: Global,
+    made: &str,
+) -> Result<(), Fail> {
+    match made.strip_prefix("0 done\n") {
+        Some(deck) => check_run(rt, alloc, "check", deck.as_bytes(), WELL_FORMED),
+        None => Err("another end".into()),
     }
-    Ok(())
 }
 
 #[test]
 fn a_made_deck_is_well_formed(rt: HostRuntime) -> Result<(), Fail> {
-    let words = ["make", "--number", "7", "--show", "deck"];
-    let (code, deck) = told(&rt, rt.alloc(), &words, b"")?;
-    assert_eq!(rt; code, 0);
-    let (code, bytes) = told(&rt, rt.alloc(), &["check"], deck.as_slice())?;
-    let text = "well formed: 589 units, 233 gates, top t\ncrews: 1, requests: 676\n";
-    assert_eq!(rt; bytes.as_slice(), text.as_bytes());
-    assert_eq!(rt; code, 0);
+    let made = answer(&rt, rt.alloc(), "make --number 7 --show deck", b"", SOUND)?;
+    check_deck(&rt, rt.alloc(), made.as_str())
+}
+
+// A sink that fails has a front of what is made, wherever it fails.
+fn check_made_text<R: Abort + Threads + Wait + Sync>(
+    rt: &R,
+    alloc: Global,
+    line: &str,
+    due: (&str, &str),
+) -> Result<(), Fail> {
+    let size = due.1.len();
+    for room in [0, 1, size / 2, size.saturating_sub(1), size] {
+        check_room(rt, alloc, line, b"", due, room)?;
+    }
+    check_calls(rt, alloc, line, b"", due)
+}
+
+fn check_made<R: Abort + Threads + Wait + Sync>(
+    rt: &R,
+    alloc: Global,
+    line: &str,
+    end: &str,
+) -> Result<(), Fail> {
+    let made = answer(rt, alloc, line, b"", SOUND)?;
+    match made.as_str().split_once('\n') {
+        Some((_, text)) => check_made_text(rt, alloc, line, (end, text)),
+        None => Err("no end".into()),
+    }
+}
+
+#[test]
+fn a_sink_that_fails_has_a_front_of_a_made_deck(rt: HostRuntime) -> Result<(), Fail> {
+    check_made(
+        &rt,
+        rt.alloc(),
+        "make --number 999999 --show deck",
+        "0 done",
+    )
+}
+
+#[test]
+fn a_sink_that_fails_has_a_front_of_a_summary(rt: HostRuntime) -> Result<(), Fail> {
+    let line = "make --number 999999 --show summary";
+    check_made(&rt, rt.alloc(), line, "0 done by diagram")
+}
+
+// What is told where the first read would fail.
+fn check_unread<R: Abort + Threads + Wait + Sync>(
+    rt: &R,
+    alloc: Global,
+    line: &str,
+    due: &str,
+) -> Result<(), Fail> {
+    let mut edges = SOUND;
+    edges.failing_read = Some(0);
+    let got = answer(rt, alloc, line, b"toplevel T;", edges)?;
+    check_told(rt, line, got.as_str(), due);
     Ok(())
 }
 
-const SUMMARY: &str = "made 0: 610 units, 241 gates\ncuts: 303, orders: 851\n\
+const SUMMARY: &str = "0 done by diagram\nmade 0: 610 units, 241 gates\ncuts: 303, orders: 851\n\
     requests: 700, granted: 256, denied: 429, named errors: 15\nout: 86\n";
 
 #[test]
-fn sums_up_the_first_made_deck(rt: HostRuntime) -> Result<(), Fail> {
-    let (code, bytes) = told(&rt, rt.alloc(), &["make", "--number", "0"], b"toplevel T;")?;
-    assert_eq!(rt; bytes.as_slice(), SUMMARY.as_bytes());
-    assert_eq!(rt; code, 0);
-    let words = ["make", "--show", "summary", "--number", "0"];
-    let (code, bytes) = told(&rt, rt.alloc(), &words, b"")?;
-    assert_eq!(rt; bytes.as_slice(), SUMMARY.as_bytes());
-    assert_eq!(rt; code, 0);
-    Ok(())
-}
-
-// Of 101 groups the kinds 0 to 2 have 15 each and the others 14. Each kind has 3 of the 21 groups with a trigger.
-#[test]
-fn sums_up_the_last_made_deck(rt: HostRuntime) -> Result<(), Fail> {
-    let text = "made 999999: 313 units, 123 gates\ncuts: 155, orders: 461\n\
-        requests: 354, granted: 129, denied: 217, named errors: 8\nout: 43\n";
-    let (code, bytes) = told(&rt, rt.alloc(), &["make", "--number", "999999"], b"")?;
-    assert_eq!(rt; bytes.as_slice(), text.as_bytes());
-    assert_eq!(rt; code, 0);
-    Ok(())
-}
-
-#[test]
-fn options_out_of_form_get_the_usage_line(rt: HostRuntime) -> Result<(), Fail> {
-    for words in [
-        ["make", "--number", "1000000", "--show", "deck"],
-        ["make", "--number", "1000000", "--show", "summary"],
-        ["make", "--number", "00", "--show", "summary"],
-        ["make", "--number", "0", "--number", "0"],
-        ["make", "--show", "deck", "--show", "deck"],
-        ["make", "--number", "0", "--show", "tree"],
-        ["cuts", "--most", "0", "--most", "0"],
-    ] {
-        let (code, bytes) = told(&rt, rt.alloc(), &words, b"")?;
-        assert_eq!(rt; bytes.as_slice(), USAGE.as_bytes());
-        assert_eq!(rt; code, 2);
-    }
-    Ok(())
-}
-
-#[test]
-fn a_sink_that_fails_has_a_front_of_what_is_made(rt: HostRuntime) -> Result<(), Fail> {
-    for show in ["deck", "summary"] {
-        let words = ["make", "--number", "999999", "--show", show];
-        let (_, text) = told(&rt, rt.alloc(), &words, b"")?;
-        let size = text.as_slice().len();
-        for room in [0, 1, size / 2, size.saturating_sub(1), size] {
-            let (code, bytes) = kept(&rt, rt.alloc(), &words, "", room, None)?;
-            assert!(rt; text.as_slice().starts_with(bytes.as_slice()), "at {room}");
-            assert_eq!(rt; bytes.as_slice().len(), room);
-            assert_eq!(rt; code, if room < size { 4 } else { 0 }, "at {room}");
-        }
-        // One write, and then the flush.
-        for (call, length, status) in [(0, 0, 4), (1, size, 4), (2, size, 0)] {
-            let (code, bytes) = kept(&rt, rt.alloc(), &words, "", size, Some(call))?;
-            assert_eq!(rt; bytes.as_slice().len(), length, "at {call}");
-            assert_eq!(rt; code, status, "at {call}");
-        }
-    }
-    Ok(())
-}
-
-#[test]
 fn nothing_is_read_for_a_made_deck(rt: HostRuntime) -> Result<(), Fail> {
-    for (words, text) in [
-        (["make", "--number", "0", "--show", "summary"], SUMMARY),
-        (["make", "--number", "1000000", "--show", "summary"], USAGE),
-    ] {
-        let failing = calls_of(rt.alloc(), Some(0))?;
-        let source = HeldSource::new(Bytes::of(rt.alloc(), b"toplevel T;")?, 1, failing);
-        let sink = KeptSink::new(rt.alloc(), 200, calls_of(rt.alloc(), None)?)?;
-        let (_, bytes) = ran(&rt, rt.alloc(), &words, source, sink)?;
-        assert_eq!(rt; bytes.as_slice(), text.as_bytes());
-    }
-    Ok(())
+    check_unread(&rt, rt.alloc(), "make --number 0 --show summary", SUMMARY)?;
+    check_unread(
+        &rt,
+        rt.alloc(),
+        "make --number 1000000 --show summary",
+        USAGE_ALONE,
+    )
 }
