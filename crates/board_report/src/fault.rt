@@ -13,7 +13,7 @@ use statement_faults::CheckCode;
 use text_pieces::put_all;
 
 /// What a fault of a deck is.
-#[derive(Clone, Copy, Debug, PartialEq, Eq)]
+#[derive(Clone, Copy, PartialEq, Eq)]
 pub enum FaultCode {
     /// A token that can't be formed.
     Lex(LexCode),
@@ -26,7 +26,7 @@ pub enum FaultCode {
 }
 
 /// A fault of a deck, and its place.
-#[derive(Clone, Copy, Debug, PartialEq, Eq)]
+#[derive(Clone, Copy, PartialEq, Eq)]
 pub struct DeckFault {
     pub code: FaultCode,
     pub place: Place,

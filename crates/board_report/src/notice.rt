@@ -6,7 +6,7 @@ ghost use Rattle.board_report.specs.Refusals.{notice_line};
 use edge_io::{Out, Sink, WriteFault};
 
 /// A line that says always the same.
-#[derive(Clone, Copy, Debug, PartialEq, Eq)]
+#[derive(Clone, Copy, PartialEq, Eq)]
 pub enum Notice {
     /// How the program is called.
     Usage,

@@ -17,7 +17,7 @@ pub struct CrewsAt {
 }
 
 /// The parts of a deck: how many bytes the tree part has, and where the crew part begins, if the deck has one.
-#[derive(Clone, Copy, Debug, PartialEq, Eq)]
+#[derive(Clone, Copy, PartialEq, Eq)]
 pub struct Split {
     pub tree: usize,
     pub crews: Option<CrewsAt>,

@@ -17,7 +17,7 @@ pub const MOST_CREWS: usize = 64;
 pub const MOST_REQUESTS: u32 = 100_000;
 
 /// One request of a crew.
-#[derive(Debug, Drop)]
+#[derive(Drop)]
 pub enum Ask {
     /// To take these units out of service.
     Take(NameList),
@@ -31,14 +31,14 @@ pub enum Ask {
 pub type AskList = GrowingList<Ask>;
 
 /// A crew with its requests.
-#[derive(Debug, Drop)]
+#[derive(Drop)]
 pub struct Crew {
     pub name: Name,
     pub docket: AskList,
 }
 
 /// The crews of a deck with their requests. A contract sees the list of crews, in the order of their numbers from 0.
-#[derive(Debug, Drop)]
+#[derive(Drop)]
 pub struct Dockets {
     crews: GrowingList<Crew>,
     total: u32,

@@ -17,7 +17,7 @@ use std::alloc::{AllocError, Global};
 const MARGIN_DIGITS: usize = 4;
 
 /// What a line says: nothing, a new crew, a request of the crew before it, or what is of no form.
-#[derive(Debug, Drop)]
+#[derive(Drop)]
 pub(crate) enum Line {
     Nothing,
     Crew(Name),

@@ -6,7 +6,7 @@ use fault_words::Name;
 use std::marker::Model;
 
 /// The names of the units that a crew asks to take: 1 to 16, all different. A contract sees their list.
-#[derive(Debug, Drop)]
+#[derive(Drop)]
 pub struct NameList {
     names: Vec<Name>,
 }

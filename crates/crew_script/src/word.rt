@@ -16,7 +16,7 @@ const QUOTE: u8 = b'"';
 
 // How a word is written. A broken one is none: its quotation mark has no other, or a byte that is no blank right
 // behind that.
-#[derive(Clone, Copy, Debug, PartialEq, Eq)]
+#[derive(Clone, Copy, PartialEq, Eq)]
 pub(crate) enum WordKind {
     Bare,
     Quoted,

@@ -53,7 +53,7 @@ pub struct Work {
 }
 
 /// Where the workers stop: at the set of a place, or as soon as they have more than so many orders each.
-#[derive(Clone, Copy, Debug)]
+#[derive(Clone, Copy)]
 pub struct Stop {
     pub place: usize,
     pub orders: usize,

@@ -10,7 +10,7 @@ pub trait Pace: Sync {
 }
 
 /// Holds no worker back.
-#[derive(Clone, Copy, Debug, Default)]
+#[derive(Clone, Copy, Default)]
 pub struct Free;
 
 impl Pace for Free {

@@ -7,7 +7,7 @@ ghost use Rattle.event_counts.specs.Count.{Rose};
 ghost use Rattle.edge_io.specs.Reading.{given};
 
 /// A read, a write or a flush failed.
-#[derive(Clone, Copy, Debug, PartialEq, Eq)]
+#[derive(Clone, Copy, PartialEq, Eq)]
 pub struct Failed;
 
 /// Where bytes come from.

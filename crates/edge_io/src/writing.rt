@@ -7,7 +7,7 @@ ghost use Rattle.edge_io.specs.Writing.{TakesFront, WritesAll};
 use crate::Sink;
 
 /// Not all bytes could be written.
-#[derive(Clone, Copy, Debug, PartialEq, Eq)]
+#[derive(Clone, Copy, PartialEq, Eq)]
 pub struct WriteFault;
 
 // Writes all of `bytes`, in as many writes as the sink wants.

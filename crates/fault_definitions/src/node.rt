@@ -7,7 +7,7 @@ use unit_sets::UnitNo;
 
 /// The number of a node of a tree. The units are 1 to U in the order of their definitions, and the gates U+1 to U+G in
 /// the order of theirs. A contract sees it as that number.
-#[derive(Clone, Copy, Debug, PartialEq, Eq, PartialOrd, Ord, Hash)]
+#[derive(Clone, Copy, PartialEq, Eq, PartialOrd, Ord)]
 pub struct NodeNo(pub u32);
 
 impl Model for NodeNo {

@@ -8,7 +8,7 @@ use std::marker::Model;
 use unit_sets::{UnitNo, UnitSet};
 
 /// An order in which units fail, each once. A contract sees it as the list of their numbers.
-#[derive(Debug, Drop)]
+#[derive(Drop)]
 pub struct Order {
     units: Vec<UnitNo>,
 }

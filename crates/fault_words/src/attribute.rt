@@ -2,7 +2,7 @@
 use crate::Name;
 
 /// An attribute of a unit, as `lambda` = `0.2`. No attribute has a meaning here.
-#[derive(Debug, Drop)]
+#[derive(Drop)]
 pub struct Attribute {
     pub word: Name,
     pub value: Name,

@@ -16,7 +16,7 @@ use std::hash::{Hash, Hasher};
 use std::marker::Model;
 
 /// A name: 1 to 255 bytes of printable ASCII other than `"`. A contract sees it as the list of its bytes.
-#[derive(Debug, Drop)]
+#[derive(Drop)]
 pub struct Name {
     bytes: NameBytes,
 }

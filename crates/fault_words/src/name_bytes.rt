@@ -10,7 +10,7 @@ use std::marker::Model;
 pub const SHORT_NAME: usize = 22;
 
 /// Up to 22 bytes. A contract sees them as a list.
-#[derive(Debug, Drop)]
+#[derive(Drop)]
 pub(crate) struct FewBytes {
     count: u8,
     room: [u8; SHORT_NAME],
@@ -81,7 +81,6 @@ impl FewBytes {
 }
 
 /// The bytes of a name.
-#[derive(Debug)]
 pub(crate) enum NameBytes {
     Few(FewBytes),
     Many(Box<Vec<u8>>),

@@ -5,7 +5,7 @@ use std::alloc::{AllocError, Global};
 use std::marker::Model;
 
 /// A list that grows at its end. A contract sees it as the list of its items.
-#[derive(Debug, Drop)]
+#[derive(Drop)]
 pub struct GrowingList<T> {
     items: Vec<T>,
 }

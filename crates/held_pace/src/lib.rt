@@ -11,7 +11,7 @@ use std::sync::atomic::{AtomicU64, Ordering};
 const MOST_LOOKS: u64 = 50_000_000;
 
 /// A piece of work, as a worker tells it: its group, and its place in it.
-#[derive(Clone, Copy, Debug, PartialEq, Eq)]
+#[derive(Clone, Copy, PartialEq, Eq)]
 pub struct Piece {
     pub group: u32,
     pub place: u32,

@@ -9,7 +9,7 @@ use unit_sets::UnitNo;
 /// The units of one take, in the order asked, and the mark that some name of it names no unit.
 ///
 /// They stand in place, so no call takes memory.
-#[derive(Clone, Copy, Debug)]
+#[derive(Clone, Copy)]
 pub struct AskedUnits {
     // The places from the count on are filled with the unit 1.
     places: [UnitNo; MOST_TAKEN],

@@ -3,7 +3,7 @@ use crate::AskedUnits;
 use unit_sets::{CrewNo, UnitNo};
 
 /// What a crew asks for.
-#[derive(Clone, Copy, Debug)]
+#[derive(Clone, Copy)]
 pub enum Request {
     /// All of these units out of service.
     Take(AskedUnits),

@@ -5,7 +5,7 @@ ghost use Rattle.outage_engine.specs.Codes.{code_of};
 use board_report::DeckFault;
 
 /// How the cut sets were found, if they were asked for.
-#[derive(Clone, Copy, Debug, PartialEq, Eq)]
+#[derive(Clone, Copy, PartialEq, Eq)]
 pub enum Method {
     /// No cut sets were asked for.
     Plain,
@@ -16,7 +16,7 @@ pub enum Method {
 }
 
 /// How a run ends.
-#[derive(Clone, Copy, Debug, PartialEq, Eq)]
+#[derive(Clone, Copy, PartialEq, Eq)]
 pub enum Status {
     /// The command's text was written.
     Done(Method),

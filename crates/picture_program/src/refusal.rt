@@ -12,7 +12,7 @@ use std::alloc::AllocError;
 use text_pieces::put_all;
 
 /// Why there is no picture.
-#[derive(Clone, Copy, Debug, PartialEq, Eq)]
+#[derive(Clone, Copy, PartialEq, Eq)]
 pub(crate) enum Refusal {
     /// The words ask for no picture.
     Usage,

@@ -6,7 +6,7 @@ use board_words::{Word, are_options, number_within, value_of};
 use deck_limits::HIGHEST_CUT;
 
 /// What is marked in a picture.
-#[derive(Clone, Copy, Debug, PartialEq, Eq)]
+#[derive(Clone, Copy, PartialEq, Eq)]
 pub(crate) enum Mark {
     /// Nothing.
     Nothing,

@@ -23,7 +23,7 @@ use std::marker::Model;
 use unit_sets::UnitNo;
 
 /// What a unit that fails last makes of an order.
-#[derive(Clone, Copy, Debug, PartialEq, Eq)]
+#[derive(Clone, Copy, PartialEq, Eq)]
 pub struct Pushed {
     /// Whether the order can happen.
     pub admissible: bool,

@@ -5,7 +5,7 @@ ghost use Rattle.unit_sets.specs.Unit.{IsUnit};
 use std::marker::Model;
 
 /// The number of a unit, a basic event of a fault tree: 1 to 4095.
-#[derive(Clone, Copy, Debug, PartialEq, Eq, Hash, PartialOrd, Ord)]
+#[derive(Clone, Copy, Debug, PartialEq, Eq, PartialOrd, Ord)]
 pub struct UnitNo {
     number: u16,
 }

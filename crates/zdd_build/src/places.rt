@@ -7,7 +7,7 @@ use fault_model::{GateKind, NoMemory, NodeNo, Tree};
 use std::alloc::Global;
 
 /// A node to be made, and its rank.
-#[derive(Clone, Copy, Debug)]
+#[derive(Clone, Copy)]
 pub(crate) struct Place {
     pub rank: u32,
     pub node: NodeNo,

@@ -23,7 +23,7 @@ use zdd_shared_table::{Full, NodeStore, StoreSeat};
 use zdd_words::NodeRef;
 
 /// Places of one rank, from one to another.
-#[derive(Clone, Copy, Debug)]
+#[derive(Clone, Copy)]
 pub(crate) struct Run {
     pub from: usize,
     pub to: usize,

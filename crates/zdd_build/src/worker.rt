@@ -32,7 +32,7 @@ const KEPT_NODES: usize = 131_072;
 const OWN_ANSWERS: usize = 65_536;
 
 /// The reference that was found for the node at a place.
-#[derive(Clone, Copy, Debug)]
+#[derive(Clone, Copy)]
 pub(crate) struct Finding {
     pub place: usize,
     pub family: NodeRef,

@@ -10,7 +10,7 @@ use zdd_words::NodeRef;
 
 /// Room that the families of the nodes of a tree are built in: for the references of what a node reads,
 /// and for its votes.
-#[derive(Debug, Drop)]
+#[derive(Drop)]
 pub struct Rooms {
     pub list: Vec<NodeRef>,
     pub votes: Vec<NodeRef>,
