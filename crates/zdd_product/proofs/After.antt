@@ -147,6 +147,14 @@ module _ (due inner : List (List ℕ) → Type 0) (a b c : Seated) (on : WentOn 
   pub WasFull-next : WasFull inner b c → WasFull due a c
   WasFull-next full = WasFull-then due a b c on (WasFull-as inner due to_due b c full)
 
+-- what is known of a reference stays true of it afterwards
+pub known_stays : {due : List (List ℕ) → Type 0} {before after : Seated} (is : List (List ℕ) → Type 0) (r : ℕ)
+    → IsSoundSeat before → WentOn due before after → KnowsOne (map_of before) r is → KnowsOne (map_of after) r is
+known_stays {before = before} {after = after} is r sound on known =
+    let at : KnowsAs (map_of after) r (family (map_of before) r) =
+    stays before after r sound on.went.sound on.went.keeps known.0 in
+    (at.0, subst is (sym at.1) known.1)
+
 -- a fact of two families, at families that are equal to them
 pub at_both : (R : List (List ℕ) → List (List ℕ) → Type 0) (f f' g g' : List (List ℕ)) → f ≡ f' → g ≡ g' → R f g
     → R f' g'

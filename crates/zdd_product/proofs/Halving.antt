@@ -12,6 +12,7 @@ use Rattle.family_operations.proofs.CutsLemmas.{cut_above}
 use Rattle.family_operations.specs.Due.{Splits}
 use Rattle.zdd_product.specs.declared.halves.Half.{Half}
 use Rattle.zdd_product.specs.declared.halves.Halves.{Halves}
+use Rattle.zdd_product.specs.declared.halves.Split.{Split}
 use Rattle.zdd_product.specs.Halves.{IsHalved, IsHalf, IsSplit, AreHalves}
 
 pub inner_known : (known : ℕ → ℕ) (r : ℕ) → Knows known r → 2 ≤ r → known r ≢ 0
@@ -87,31 +88,49 @@ terminal_above known x r unit small =
 
 -- ---- two references
 
-module _ (known : ℕ → ℕ) (a b x y : ℕ) (one other : Half) (closed : IsClosed known) (knows_a : Knows known a)
-    (knows_b : Knows known b) (unit : IsUnit x) (unit' : IsUnit y)
-    (half : IsHalf known x a one) (split : IsSplit known x a one) (half' : IsHalf known y b other)
-    (split' : IsSplit known y b other) where
-  pub first_lower : (whole : Half) → whole ≡ record { lo = b; hi = 0 } → x < y
-      → AreHalves known a b (record { level = x; first = one; second = whole })
+-- both references are split, each at its own level
+pub record AreSplit (known : ℕ → ℕ) (a b : ℕ) (one other : Split) : Type 0 where
+  pub closed : IsClosed known
+  pub knows_a : Knows known a
+  pub knows_b : Knows known b
+  pub one_unit : IsUnit one.level
+  pub other_unit : IsUnit other.level
+  pub one_half : IsHalf known one.level a one.half
+  pub one_split : IsSplit known one.level a one.half
+  pub other_half : IsHalf known other.level b other.half
+  pub other_split : IsSplit known other.level b other.half
+
+module _ {known : ℕ → ℕ} {a b : ℕ} {one other : Split} (are : AreSplit known a b one other) where
+  pub first_lower : (whole : Half) → whole ≡ record { lo = b; hi = 0 } → one.level < other.level
+      → AreHalves known a b (record { level = one.level; first = one.half; second = whole })
   first_lower whole is lower = record {
-    unit = unit;
-    first = half;
-    second = IsHalf-whole known x b whole closed unit knows_b (let e = split'.level in omega (arith, e)) is;
-    least = inl split;
+    unit = are.one_unit;
+    first = are.one_half;
+    second =
+        IsHalf-whole known one.level b whole are.closed are.one_unit are.knows_b
+        (let e = are.other_split.level in omega (arith, e)) is;
+    least = inl are.one_split;
   }
 
-  pub second_lower : (whole : Half) → whole ≡ record { lo = a; hi = 0 } → y < x
-      → AreHalves known a b (record { level = y; first = whole; second = other })
+  pub second_lower : (whole : Half) → whole ≡ record { lo = a; hi = 0 } → other.level < one.level
+      → AreHalves known a b (record { level = other.level; first = whole; second = other.half })
   second_lower whole is lower = record {
-    unit = unit';
-    first = IsHalf-whole known y a whole closed unit' knows_a (let e = split.level in omega (arith, e)) is;
-    second = half';
-    least = inr split';
+    unit = are.other_unit;
+    first =
+        IsHalf-whole known other.level a whole are.closed are.other_unit are.knows_a
+        (let e = are.one_split.level in omega (arith, e)) is;
+    second = are.other_half;
+    least = inr are.other_split;
   }
 
-  pub same_level : y ≡ x → AreHalves known a b (record { level = x; first = one; second = other })
-  same_level same =
-      record { unit = unit; first = half; second = subst (λ n. IsHalf known n b other) same half'; least = inl split }
+  pub same_level : other.level ≡ one.level
+      → AreHalves known a b (record { level = one.level; first = one.half; second = other.half })
+  same_level same = record {
+    unit = are.one_unit;
+    first = are.one_half;
+    second = subst (λ n. IsHalf known n b other.half) same are.other_half;
+    least = inl are.one_split;
+  }
 
 -- ---- cuts
 

@@ -1,5 +1,6 @@
 pub mod Entries
 pub mod Halving
+pub mod Halved
 pub mod UnionParts
 pub mod UnionSteps
 pub mod ProductParts

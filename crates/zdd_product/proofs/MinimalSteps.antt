@@ -1,6 +1,6 @@
 -- The minimal sets of a node: those of its lo, and those of its hi without the sets that include one of lo.
-use Rattle.std.proofs.Common.{Result, MatchResult, ◌≡◌, ◌≢◌, ℕ, zero, suc, ◌-◌, ◌<◌, List, [], ◌∷◌, Contains, refl, sym}
-use Rattle.std.proofs.Common.{◌∙◌, subst, inl, inr, arith}
+use Rattle.std.proofs.Common.{Result, MatchResult, ◌≡◌, ◌≢◌, ℕ, zero, suc, ◌-◌, ◌<◌, ◌≤◌, List, [], ◌∷◌}
+use Rattle.std.proofs.Common.{Contains, refl, sym, ◌∙◌, subst, inl, inr, arith}
 use Rattle.std.proofs.lemmas.Bool.{cases_Bool}
 use Rattle.unit_sets.specs.Unit.{IsUnit}
 use Rattle.unit_sets.proofs.Sorted.{Contains-nil, Contains-cons_first, Contains-cons_cases}
@@ -16,12 +16,13 @@ use Rattle.family_operations.proofs.WithoutLemmas.{without-above}
 use Rattle.family_operations.specs.Minimal.{IsMinimal}
 use Rattle.family_operations.proofs.MinimalLemmas.{minimal-none, minimal-unit, minimal-above, minimal-step}
 use Rattle.family_operations.specs.Due.{IsInnerFamily, minimal_itself, minimal_lo, minimal_hi, minimal_rest}
+use Rattle.family_operations.proofs.References.{IsInnerFamily-reference}
 use Rattle.zdd_shared_table.specs.Seats.{Seated, IsSoundSeat, map_of}
 use Rattle.zdd_product.specs.declared.halves.Half.{Half}
 use Rattle.zdd_product.specs.Due.{IsMadeByMinimal, IsMadeByWithout}
 use Rattle.zdd_product.specs.Halves.{IsHalf, IsSplit}
 use Rattle.zdd_product.specs.Seats.{IsBranch, KnowsOne, WentOn, Gave, WasFull}
-use Rattle.zdd_product.proofs.After.{stays, WentOn-as, WasFull-as, WentOn-next, WasFull-next, made_after}
+use Rattle.zdd_product.proofs.After.{stays, known_stays, WentOn-as, WasFull-as, WentOn-next, WasFull-next, made_after}
 use Rattle.zdd_product.proofs.WithoutParts.{has_empty, unit_stays}
 
 -- ---- ends
@@ -67,36 +68,68 @@ fewer_alone known known' x a r unit here above = omega arith
 
 -- ---- the steps
 
-module _ (s : Seated) (a x : ℕ) (half : Half) (sound : IsSoundSeat s) (unit : IsUnit x)
-    (is_half : IsHalf (map_of s) x a half) (split : IsSplit (map_of s) x a half)
-    (inner : IsInnerFamily (family (map_of s) a)) where
+-- The reference a, which is no end, was split at its least unit: the seat q afterwards is the seat s before.
+pub record IsParted (q s : Seated) (a x : ℕ) (half : Half) : Type 0 where
+  pub same : q ≡ s
+  pub sound : IsSoundSeat s
+  pub unit : IsUnit x
+  pub is_half : IsHalf (map_of s) x a half
+  pub split : IsSplit (map_of s) x a half
+  pub inner : IsInnerFamily (family (map_of s) a)
+
+pub parted : {q s : Seated} {a x : ℕ} {half : Half} → q ≡ s → IsSoundSeat q → IsUnit x → IsHalf (map_of s) x a half
+    → IsSplit (map_of s) x a half → Knows (map_of s) a → 2 ≤ a → IsParted q s a x half
+parted {s = s} {a = a} same sound unit is_half split knows inner =
+    let sound' : IsSoundSeat s = subst IsSoundSeat same sound in
+    record {
+      same = same;
+      sound = sound';
+      unit = unit;
+      is_half = is_half;
+      split = split;
+      inner = IsInnerFamily-reference (map_of s) a sound'.closed sound'.unique knows inner;
+    }
+
+module _ {q s : Seated} {a x : ℕ} {half : Half} (cut : IsParted q s a x half) where
   abbrev all : List (List ℕ) → Type 0
   all = IsMadeByMinimal (family (map_of s) a)
 
-  abbrev lo_due : List (List ℕ) → Type 0
-  lo_due = IsMadeByMinimal (family (map_of s) half.lo)
+  abbrev lo_due : Seated → List (List ℕ) → Type 0
+  lo_due p = IsMadeByMinimal (family (map_of p) half.lo)
 
-  to_lo : (h : List (List ℕ)) → lo_due h → all h
-  to_lo h made = (inner, minimal_lo split.splits made.1)
+  abbrev lo_least : Seated → List (List ℕ) → Type 0
+  lo_least p = IsMinimal (family (map_of p) half.lo)
 
-  pub minimal_lo_full : (s1 : Seated) → WasFull lo_due s s1 → WasFull all s s1
-  minimal_lo_full s1 full = WasFull-as lo_due all to_lo s s1 full
+  to_lo : (h : List (List ℕ)) → lo_due s h → all h
+  to_lo h made = (cut.inner, minimal_lo cut.split.splits made.1)
 
-  module _ (s1 : Seated) (lo : ℕ) (gave : Gave (IsMinimal (family (map_of s) half.lo)) lo_due s s1 lo) where
+  fewer : (p : Seated) (r : ℕ) → x < level_in (map_of p) r → levels_above (map_of p) r < levels_above (map_of s) a
+  fewer p r above =
+      fewer_alone (map_of s) (map_of p) x a r (let u = cut.unit.1 in omega arith) cut.split.level above
+
+  pub minimal_lo_next : (levels_above (map_of q) half.lo < levels_above (map_of s) a) × Knows (map_of q) half.lo
+  minimal_lo_next =
+      subst (λ (p : Seated). (levels_above (map_of p) half.lo < levels_above (map_of s) a) × Knows (map_of p) half.lo)
+      (sym cut.same) (fewer s half.lo cut.is_half.lo_above, cut.is_half.knows_lo)
+
+  pub minimal_lo_full : {s1 : Seated} → WasFull (lo_due q) q s1 → WasFull all s s1
+  minimal_lo_full {s1 = s1} full =
+      WasFull-as (lo_due s) all to_lo s s1 (subst (λ (p : Seated). WasFull (lo_due p) p s1) cut.same full)
+
+  module _ {s1 : Seated} {lo : ℕ} (gave_lo : Gave (lo_least q) (lo_due q) q s1 lo) where
+    gave : Gave (lo_least s) (lo_due s) s s1 lo
+    gave = subst (λ (p : Seated). Gave (lo_least p) (lo_due p) p s1 lo) cut.same gave_lo
+
     on1 : WentOn all s s1
-    on1 = WentOn-as lo_due all to_lo s s1 gave.on
+    on1 = WentOn-as (lo_due s) all to_lo s s1 gave.on
 
     hi_at1 : KnowsAs (map_of s1) half.hi (family (map_of s) half.hi)
-    hi_at1 = stays s s1 half.hi sound on1.went.sound on1.went.keeps is_half.knows_hi
+    hi_at1 = stays s s1 half.hi cut.sound on1.went.sound on1.went.keeps cut.is_half.knows_hi
 
-    pub minimal_hi_knows : Knows (map_of s1) half.hi
-    minimal_hi_knows = hi_at1.0
-
-    pub minimal_hi_fewer : levels_above (map_of s1) half.hi < levels_above (map_of s) a
-    minimal_hi_fewer =
-        fewer_alone (map_of s) (map_of s1) x a half.hi (let u = unit.1 in omega arith) split.level
-        (subst (λ n. x < n) (sym (level_in-grown (map_of s) (map_of s1) half.hi on1.went.keeps is_half.knows_hi))
-        is_half.hi_above)
+    pub minimal_hi_next : (levels_above (map_of s1) half.hi < levels_above (map_of s) a) × Knows (map_of s1) half.hi
+    minimal_hi_next =
+        let later = level_in-grown (map_of s) (map_of s1) half.hi on1.went.keeps cut.is_half.knows_hi in
+        (fewer s1 half.hi (subst (λ n. x < n) (sym later) cut.is_half.hi_above), hi_at1.0)
 
     abbrev hi_due : List (List ℕ) → Type 0
     hi_due = IsMadeByMinimal (family (map_of s1) half.hi)
@@ -104,23 +137,20 @@ module _ (s : Seated) (a x : ℕ) (half : Half) (sound : IsSoundSeat s) (unit : 
     to_hi : (h : List (List ℕ)) → hi_due h → all h
     to_hi h made =
         let at : IsMadeByMinimal (family (map_of s) half.hi) h = subst (λ f. IsMadeByMinimal f h) hi_at1.1 made in
-        (inner, minimal_hi split.splits at.1)
+        (cut.inner, minimal_hi cut.split.splits at.1)
 
-    pub minimal_hi_full : (s2 : Seated) → WasFull hi_due s1 s2 → WasFull all s s2
-    minimal_hi_full s2 full = WasFull-next all hi_due s s1 s2 on1 to_hi full
+    pub minimal_hi_full : {s2 : Seated} → WasFull hi_due s1 s2 → WasFull all s s2
+    minimal_hi_full {s2 = s2} full = WasFull-next all hi_due s s1 s2 on1 to_hi full
 
-    module _ (s2 : Seated) (high : ℕ) (gave2 : Gave (IsMinimal (family (map_of s1) half.hi)) hi_due s1 s2 high) where
+    module _ {s2 : Seated} {high : ℕ} (gave2 : Gave (IsMinimal (family (map_of s1) half.hi)) hi_due s1 s2 high) where
       on2 : WentOn all s s2
       on2 = WentOn-next all hi_due s s1 s2 on1 to_hi gave2.on
 
-      lo_at2 : KnowsAs (map_of s2) lo (family (map_of s1) lo)
-      lo_at2 = stays s1 s2 lo gave.on.went.sound gave2.on.went.sound gave2.on.went.keeps gave.known.0
-
-      lo_is : IsMinimal (family (map_of s) half.lo) (family (map_of s2) lo)
-      lo_is = subst (IsMinimal (family (map_of s) half.lo)) (sym lo_at2.1) gave.known.1
+      lo_known : KnowsOne (map_of s2) lo (lo_least s)
+      lo_known = known_stays (lo_least s) lo gave.on.went.sound gave2.on gave.known
 
       pub minimal_lo_known : Knows (map_of s2) lo × ((f : List (List ℕ)) × IsMinimal f (family (map_of s2) lo))
-      minimal_lo_known = (lo_at2.0, (family (map_of s) half.lo, lo_is))
+      minimal_lo_known = (lo_known.0, (family (map_of s) half.lo, lo_known.1))
 
       high_is : IsMinimal (family (map_of s) half.hi) (family (map_of s2) high)
       high_is = subst (λ f. IsMinimal f (family (map_of s2) high)) hi_at1.1 gave2.known.1
@@ -129,28 +159,30 @@ module _ (s : Seated) (a x : ℕ) (half : Half) (sound : IsSoundSeat s) (unit : 
       rest_due = IsMadeByWithout (family (map_of s2) high) (family (map_of s2) lo)
 
       to_rest : (h : List (List ℕ)) → rest_due h → all h
-      to_rest h made = (inner, minimal_rest split.splits lo_is high_is made.2)
+      to_rest h made = (cut.inner, minimal_rest cut.split.splits lo_known.1 high_is made.2)
 
-      pub minimal_rest_full : (s3 : Seated) → WasFull rest_due s2 s3 → WasFull all s s3
-      minimal_rest_full s3 full = WasFull-next all rest_due s s2 s3 on2 to_rest full
+      pub minimal_rest_full : {s3 : Seated} → WasFull rest_due s2 s3 → WasFull all s s3
+      minimal_rest_full {s3 = s3} full = WasFull-next all rest_due s s2 s3 on2 to_rest full
 
-      module _ (s3 : Seated) (hi : ℕ) (gave3 : Gave (IsWithout (family (map_of s2) high) (family (map_of s2) lo))
+      module _ {s3 : Seated} {hi : ℕ} (gave3 : Gave (IsWithout (family (map_of s2) high) (family (map_of s2) lo))
           rest_due s2 s3 hi) where
         lo_at3 : KnowsAs (map_of s3) lo (family (map_of s2) lo)
-        lo_at3 = stays s2 s3 lo gave2.on.went.sound gave3.on.went.sound gave3.on.went.keeps lo_at2.0
+        lo_at3 = stays s2 s3 lo gave2.on.went.sound gave3.on.went.sound gave3.on.went.keeps lo_known.0
 
         pub minimal_lo_knows : Knows (map_of s3) lo
         minimal_lo_knows = lo_at3.0
 
         pub minimal_lo_above : IsAbove x (family (map_of s3) lo)
         minimal_lo_above =
-            subst (IsAbove x) (sym lo_at3.1) (minimal-above x (family (map_of s) half.lo) (family (map_of s2) lo) lo_is
-            split.splits.cut.lo_above)
+            subst (IsAbove x) (sym lo_at3.1)
+            (minimal-above x (family (map_of s) half.lo) (family (map_of s2) lo) lo_known.1
+            cut.split.splits.cut.lo_above)
 
         pub minimal_hi_above : IsAbove x (family (map_of s3) hi)
         minimal_hi_above =
             without-above x (family (map_of s2) high) (family (map_of s2) lo) (family (map_of s3) hi) gave3.known.1
-            (minimal-above x (family (map_of s) half.hi) (family (map_of s2) high) high_is split.splits.cut.hi_above)
+            (minimal-above x (family (map_of s) half.hi) (family (map_of s2) high) high_is
+            cut.split.splits.cut.hi_above)
 
         abbrev made : List (List ℕ) → Type 0
         made = IsBranch x (family (map_of s3) lo) (family (map_of s3) hi)
@@ -160,13 +192,14 @@ module _ (s : Seated) (a x : ℕ) (half : Half) (sound : IsSoundSeat s) (unit : 
             subst (IsMinimal (family (map_of s) a)) (sym is)
             (subst (λ l. IsMinimal (family (map_of s) a) (branch x l (family (map_of s3) hi))) (sym lo_at3.1)
             (minimal-step x (family (map_of s) a) (family (map_of s) half.lo) (family (map_of s) half.hi)
-            (family (map_of s2) lo) (family (map_of s2) high) (family (map_of s3) hi) split.splits.cut
-            (IsFamily-family (map_of s) half.lo sound.closed is_half.knows_lo) lo_is high_is gave3.known.1))
+            (family (map_of s2) lo) (family (map_of s2) high) (family (map_of s3) hi) cut.split.splits.cut
+            (IsFamily-family (map_of s) half.lo cut.sound.closed cut.is_half.knows_lo) lo_known.1 high_is
+            gave3.known.1))
 
         pub minimal_made : {E : Type 0} (s4 : Seated) (result : Result ℕ E)
             → MatchResult result (Gave made made s3 s4) (λ _. WasFull made s3 s4)
             → MatchResult result (Gave (IsMinimal (family (map_of s) a)) all s s4) (λ _. WasFull all s s4)
         minimal_made s4 result m =
-            made_after made (IsMinimal (family (map_of s) a)) all to_is (λ h is. (inner, minimal_itself (to_is h is))) s
-            s3 s4
+            made_after made (IsMinimal (family (map_of s) a)) all to_is
+            (λ h is. (cut.inner, minimal_itself (to_is h is))) s s3 s4
             (WentOn-next all rest_due s s2 s3 on2 to_rest gave3.on) result m

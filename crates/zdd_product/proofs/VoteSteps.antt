@@ -69,11 +69,21 @@ one_more : (fs : List (List (List ℕ))) (i : ℕ) (f : List (List ℕ)) → i <
     → take (i + 1) fs ≡ take i fs ++ f ∷ []
 one_more fs i f inside here = take_more fs i [] inside ∙ ap (λ q. take i fs ++ q ∷ []) here
 
-module _ (s0 : Seated) (list : List ℕ) (k i place : ℕ) (room : List ℕ) (sound : IsSoundSeat s0)
-    (knows : All (Knows (map_of s0)) list) (within : i < length list) (here : place < k) (space : k ≤ length room)
-    (held : IsVoting (map_of s0) list k i (place + 1) room)
-    (fewer : ℕ) (fewer_is : fewer ≡ (if place == 0 then 1 else get_or room (place - 1) 0)) (member : ℕ)
-    (member_is : member ≡ get_or list i 0) (same : ℕ) (same_is : same ≡ get_or room place 0) where
+-- The member at i is to vote at a place, after it has at all higher ones: the votes one fewer, the member and the votes
+-- at the place were read.
+pub record IsVotingAt (s0 : Seated) (list room : List ℕ) (k i place fewer member same : ℕ) : Type 0 where
+  pub sound : IsSoundSeat s0
+  pub knows : All (Knows (map_of s0)) list
+  pub within : i < length list
+  pub here : place < k
+  pub space : k ≤ length room
+  pub held : IsVoting (map_of s0) list k i (place + 1) room
+  pub fewer_is : fewer ≡ (if place == 0 then 1 else get_or room (place - 1) 0)
+  pub member_is : member ≡ get_or list i 0
+  pub same_is : same ≡ get_or room place 0
+
+module _ {s0 : Seated} {list room : List ℕ} {k i place fewer member same : ℕ}
+    (turn : IsVotingAt s0 list room k i place fewer member same) where
   abbrev fams : List (List (List ℕ))
   fams = families (map_of s0) list
 
@@ -81,20 +91,20 @@ module _ (s0 : Seated) (list : List ℕ) (k i place : ℕ) (room : List ℕ) (so
   due = IsDueToVotes k fams
 
   pub vote_member : Knows (map_of s0) member
-  vote_member = subst (Knows (map_of s0)) (sym member_is) (knows i 0 within)
+  vote_member = subst (Knows (map_of s0)) (sym turn.member_is) (turn.knows i 0 turn.within)
 
   in_fams : i < length fams
   in_fams = let e : length fams ≡ length list = length-map list (family (map_of s0)) in omega (arith, e)
 
   member_here : get_or fams i [] ≡ family (map_of s0) member
-  member_here = get_or-map (family (map_of s0)) list i 0 [] within ∙ ap (family (map_of s0)) (sym member_is)
+  member_here = get_or-map (family (map_of s0)) list i 0 [] turn.within ∙ ap (family (map_of s0)) (sym turn.member_is)
 
   pub vote_fewer : KnowsOne (map_of s0) fewer (IsVotes place (take i fams))
   vote_fewer =
       elim (cases_eq place 0) [
         | inl none ↦
             let unit : fewer ≡ 1 =
-            fewer_is ∙ cond-true (place == 0) 1 (get_or room (place - 1) 0) (ap (λ n. n == 0) none) in (
+            turn.fewer_is ∙ cond-true (place == 0) 1 (get_or room (place - 1) 0) (ap (λ n. n == 0) none) in (
               inl (omega arith),
               subst (λ n. IsVotes n (take i fams) (family (map_of s0) fewer)) (sym none)
                   (subst (IsVotes 0 (take i fams)) (sym (ap (family (map_of s0)) unit ∙ family-unit (map_of s0)))
@@ -102,36 +112,36 @@ module _ (s0 : Seated) (list : List ℕ) (k i place : ℕ) (room : List ℕ) (so
             )
         | inr some ↦
             let at : fewer ≡ get_or room (place - 1) 0 =
-            fewer_is ∙ cond-false (place == 0) 1 (get_or room (place - 1) 0) (ne_eqb place 0 some) in
+            turn.fewer_is ∙ cond-false (place == 0) 1 (get_or room (place - 1) 0) (ne_eqb place 0 some) in
             let one : suc (place - 1) ≡ place = omega arith in
             subst (λ r. KnowsOne (map_of s0) r (IsVotes place (take i fams))) (sym at)
             (subst (λ n. KnowsOne (map_of s0) (get_or room (place - 1) 0) (IsVotes n (take i fams))) one
-            (held.before (place - 1) (omega arith) (omega arith)))
+            (turn.held.before (place - 1) (omega arith) (omega arith)))
       ]
 
   vote_same : KnowsOne (map_of s0) same (IsVotes (suc place) (take i fams))
   vote_same =
-      subst (λ r. KnowsOne (map_of s0) r (IsVotes (suc place) (take i fams))) (sym same_is)
-      (held.before place (omega arith) (omega arith))
+      subst (λ r. KnowsOne (map_of s0) r (IsVotes (suc place) (take i fams))) (sym turn.same_is)
+      (turn.held.before place (omega arith) (omega arith))
 
   abbrev product_due : List (List ℕ) → Type 0
   product_due = IsMadeByProduct (family (map_of s0) fewer) (family (map_of s0) member)
 
   to_product : (h : List (List ℕ)) → product_due h → due h
   to_product h made =
-      votes_product (take i fams) (drop (suc i) fams) place here
+      votes_product (take i fams) (drop (suc i) fams) place turn.here
       (parts_of_list fams i (family (map_of s0) member) in_fams member_here) vote_fewer.1 made.2
 
-  pub vote_product_full : (s1 : Seated) → WasFull product_due s0 s1 → WasFull due s0 s1
-  vote_product_full s1 full = WasFull-as product_due due to_product s0 s1 full
+  pub vote_product_full : {s1 : Seated} → WasFull product_due s0 s1 → WasFull due s0 s1
+  vote_product_full {s1 = s1} full = WasFull-as product_due due to_product s0 s1 full
 
-  module _ (s1 : Seated) (more : ℕ) (gave : Gave (IsProduct (family (map_of s0) fewer) (family (map_of s0) member))
+  module _ {s1 : Seated} {more : ℕ} (gave : Gave (IsProduct (family (map_of s0) fewer) (family (map_of s0) member))
       product_due s0 s1 more) where
     on1 : WentOn due s0 s1
     on1 = WentOn-as product_due due to_product s0 s1 gave.on
 
     same_at : KnowsAs (map_of s1) same (family (map_of s0) same)
-    same_at = stays s0 s1 same sound on1.went.sound on1.went.keeps vote_same.0
+    same_at = stays s0 s1 same turn.sound on1.went.sound on1.went.keeps vote_same.0
 
     pub vote_same_known : Knows (map_of s1) same
     vote_same_known = same_at.0
@@ -143,14 +153,14 @@ module _ (s0 : Seated) (list : List ℕ) (k i place : ℕ) (room : List ℕ) (so
     to_union h made =
         let at : IsMadeByUnion (family (map_of s0) same) (family (map_of s1) more) h =
         subst (λ f. IsMadeByUnion f (family (map_of s1) more) h) same_at.1 made in
-        votes_union (take i fams) (drop (suc i) fams) place here
+        votes_union (take i fams) (drop (suc i) fams) place turn.here
         (parts_of_list fams i (family (map_of s0) member) in_fams member_here) vote_same.1 vote_fewer.1 gave.known.1
         at.1
 
-    pub vote_union_full : (s2 : Seated) → WasFull union_due s1 s2 → WasFull due s0 s2
-    vote_union_full s2 full = WasFull-next due union_due s0 s1 s2 on1 to_union full
+    pub vote_union_full : {s2 : Seated} → WasFull union_due s1 s2 → WasFull due s0 s2
+    vote_union_full {s2 = s2} full = WasFull-next due union_due s0 s1 s2 on1 to_union full
 
-    module _ (s2 : Seated) (made : ℕ) (gave2 : Gave (IsUnion (family (map_of s1) same) (family (map_of s1) more))
+    module _ {s2 : Seated} {made : ℕ} (gave2 : Gave (IsUnion (family (map_of s1) same) (family (map_of s1) more))
         union_due s1 s2 made) where
       pub vote_on : WentOn due s0 s2
       vote_on = WentOn-next due union_due s0 s1 s2 on1 to_union gave2.on
@@ -159,7 +169,7 @@ module _ (s0 : Seated) (list : List ℕ) (k i place : ℕ) (room : List ℕ) (so
       made_is =
           subst (λ fs. IsVotes (suc place) fs (family (map_of s2) made))
           (sym (one_more fams i (family (map_of s0) member) in_fams member_here))
-          (votes-step (family (map_of s0) member) (IsFamily-family (map_of s0) member sound.closed vote_member)
+          (votes-step (family (map_of s0) member) (IsFamily-family (map_of s0) member turn.sound.closed vote_member)
           (take i fams) place (family (map_of s0) same) (family (map_of s0) fewer) (family (map_of s1) more)
           (family (map_of s2) made)
           vote_same.1 vote_fewer.1 gave.known.1 (subst (λ f.
@@ -169,7 +179,7 @@ module _ (s0 : Seated) (list : List ℕ) (k i place : ℕ) (room : List ℕ) (so
       made_known = (
         gave2.known.0,
         subst (λ fs. IsVotes (suc place) (take (i + 1) fs) (family (map_of s2) made))
-            (sym (families_stay s0 s2 list sound vote_on.went.sound vote_on.went.keeps knows)) made_is,
+            (sym (families_stay s0 s2 list turn.sound vote_on.went.sound vote_on.went.keeps turn.knows)) made_is,
       )
 
       other_known : (members q : ℕ) → q ≢ place → KnowsOne (map_of s0) (get_or room q 0)
@@ -178,8 +188,8 @@ module _ (s0 : Seated) (list : List ℕ) (k i place : ℕ) (room : List ℕ) (so
       other_known members q other known =
           subst (λ r. KnowsOne (map_of s2) r (IsVotes (suc q) (take members (families (map_of s2) list))))
           (sym (get_or-set_other room place q made 0 other))
-          (votes_stay s0 s2 list sound vote_on.went.sound vote_on.went.keeps knows members (suc q) (get_or room q 0)
-          known)
+          (votes_stay s0 s2 list turn.sound vote_on.went.sound vote_on.went.keeps turn.knows members (suc q)
+          (get_or room q 0) known)
 
       here_known : (q : ℕ) → q ≡ place → KnowsOne (map_of s2) (get_or (set room place made) q 0)
           (IsVotes (suc q) (take (i + 1) (families (map_of s2) list)))
@@ -191,10 +201,10 @@ module _ (s0 : Seated) (list : List ℕ) (k i place : ℕ) (room : List ℕ) (so
 
       pub vote_held : IsVoting (map_of s2) list k i place (set room place made)
       vote_held = record {
-        before = λ q low high. other_known i q (λ e. omega arith) (held.before q low (omega arith));
+        before = λ q low high. other_known i q (λ e. omega arith) (turn.held.before q low (omega arith));
         after = λ q low high. elim (cases_eq q place) [
           | inl at ↦ here_known q at
-          | inr other ↦ other_known (i + 1) q other (held.after q (omega arith) high)
+          | inr other ↦ other_known (i + 1) q other (turn.held.after q (omega arith) high)
         ];
       }
 

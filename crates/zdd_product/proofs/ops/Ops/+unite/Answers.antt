@@ -1,19 +1,19 @@
-use Rattle.std.proofs.Common.{ℕ, ◌≢◌, ◌⊎◌, ◌≤◌, ◌<◌, ap, subst, arith}
+use Rattle.std.proofs.Common.{ℕ, ◌≢◌, ◌⊎◌, ◌≤◌, arith}
 use Rattle.std.proofs.lemmas.Result.{err_from_is_err_and}
 use Rattle.family_operations.specs.Due.{GoesOn}
 use Rattle.family_operations.specs.Union.{IsUnion}
 use Rattle.zdd_families.specs.Map.{family}
-use Rattle.zdd_shared_table.specs.Seats.{Seated, IsSoundSeat, map_of}
+use Rattle.zdd_shared_table.specs.Seats.{map_of}
 use Rattle.kept_answers.specs.declared.answers.Operation.TheVariants.{Union}
 use Rattle.zdd_product.specs.Due.{IsMadeByUnion}
-use Rattle.zdd_product.specs.Seats.{Gave, WasFull}
 use Rattle.zdd_product.proofs.Entries.{told_made}
-use Rattle.zdd_product.proofs.Halving.{levels_left, lo_fewer}
 use Rattle.zdd_product.proofs.After.{Gave-known}
-use Rattle.zdd_product.proofs.UnionParts.{union_ends, union_goes_on}
-use Rattle.zdd_product.proofs.UnionSteps.{union_lo_full, union_hi_full, union_hi_knows, union_hi_fewer, union_lo_known}
+use Rattle.zdd_product.proofs.UnionParts.{union_ends}
+use Rattle.zdd_product.proofs.Halved.{Halved, los_next, his_next}
+use Rattle.zdd_product.proofs.UnionSteps.{union_halved, union_lo_full, union_lo_on, union_hi_full, union_lo_known}
 use Rattle.zdd_product.proofs.UnionSteps.{union_lo_above, union_hi_above, union_made}
 use Rattle.zdd_product.proofs.ops.Ops.+unite.Goals as goal
+use Rattle.zdd_product.proofs.ops.Ops.+unite.Goals.{unite_halves-After-halves-level}
 
 inner_one : (a b : ℕ) → a ≢ 0 → b ≢ 0 → a ≢ b → (2 ≤ a) ⊎ (2 ≤ b)
 inner_one a b some some' differ = grind arith
@@ -40,126 +40,50 @@ unite-remember-requires t c =
     c.unite_halves.new.self c.args.a c.args.b c.in_ok-made.made
     c.is_sound.ensures.sound c.requires.knows_a c.requires.knows_b c.in_ok-made.ensures
 
+-- both references were cut
+halved : (t : ℕ) (c : unite_halves-After-halves-level t) → Halved GoesOn c.halves-level.new.self c.args.self.now
+    c.args.a c.args.b c.halves-level.result
+halved t c =
+    union_halved c.halves-level.ensures.seat c.halves-level.ensures.sound c.halves-level.ensures.halves
+    c.requires.knows_a c.requires.knows_b c.requires.goes_on
+
 pub unite_halves-returns-in_err-lo : goal.unite_halves-returns-in_err-lo
 unite_halves-returns-in_err-lo t c =
-    let s = c.args.self.now in
-    let cut = c.halves-level.result in
-    let same = c.halves-level.ensures.seat in
-    let sound : IsSoundSeat s = subst IsSoundSeat same c.halves-level.ensures.sound in
-    let are = c.halves-level.ensures.halves in
-    let goes : GoesOn (family (map_of s) c.args.a) (family (map_of s) c.args.b) =
-    union_goes_on (map_of s) c.args.a c.args.b sound.closed sound.unique c.requires.knows_a c.requires.knows_b
-    c.requires.goes_on.0 c.requires.goes_on.1 c.requires.goes_on.2 in
-    let full =
-    subst (λ (q : Seated). WasFull (IsMadeByUnion (family (map_of q) cut.first.lo)
-    (family (map_of q) cut.second.lo)) q c.unite.new.self) same c.in_err-lo.ensures in
+    let cut = halved t (goal.at.unite_halves-returns-in_err-lo t c).After-halves-level in
     let p = err_from_is_err_and c.from_residual.result c.from_residual.ensures.1 in
-    rw p.1 (union_lo_full s c.args.a c.args.b cut sound are goes c.unite.new.self full)
+    rw p.1 (union_lo_full cut c.in_err-lo.ensures)
 
 pub unite_halves-unite-requires-2 : goal.unite_halves-unite-requires-2
 unite_halves-unite-requires-2 t c =
-    let s = c.args.self.now in
-    let cut = c.halves-level.result in
-    let same = c.halves-level.ensures.seat in
-    let sound : IsSoundSeat s = subst IsSoundSeat same c.halves-level.ensures.sound in
-    let are = c.halves-level.ensures.halves in
-    let goes : GoesOn (family (map_of s) c.args.a) (family (map_of s) c.args.b) =
-    union_goes_on (map_of s) c.args.a c.args.b sound.closed sound.unique c.requires.knows_a c.requires.knows_b
-    c.requires.goes_on.0 c.requires.goes_on.1 c.requires.goes_on.2 in
-    let gave =
-    subst (λ (q : Seated). Gave (IsUnion (family (map_of q) cut.first.lo) (family (map_of q) cut.second.lo))
-    (IsMadeByUnion (family (map_of q) cut.first.lo) (family (map_of q) cut.second.lo)) q c.unite.new.self
-    c.in_ok-lo.lo) same c.in_ok-lo.ensures in
-    let fewer : levels_left (map_of c.unite.new.self) cut.first.hi cut.second.hi
-    < levels_left (map_of s) c.args.a c.args.b = union_hi_fewer s c.args.a c.args.b cut sound are goes
-    c.unite.new.self c.in_ok-lo.lo gave in
-    (omega (arith, fewer), union_hi_knows s c.args.a c.args.b cut sound are goes c.unite.new.self c.in_ok-lo.lo gave)
+    let cut = halved t (goal.at.unite_halves-unite-requires-2 t c).After-halves-level in
+    let next = his_next cut (union_lo_on cut c.in_ok-lo.ensures) in
+    (let less = next.0 in omega (arith, less), next.1)
 
 pub unite_halves-returns-in_err-hi : goal.unite_halves-returns-in_err-hi
 unite_halves-returns-in_err-hi t c =
-    let s = c.args.self.now in
-    let cut = c.halves-level.result in
-    let same = c.halves-level.ensures.seat in
-    let sound : IsSoundSeat s = subst IsSoundSeat same c.halves-level.ensures.sound in
-    let are = c.halves-level.ensures.halves in
-    let goes : GoesOn (family (map_of s) c.args.a) (family (map_of s) c.args.b) =
-    union_goes_on (map_of s) c.args.a c.args.b sound.closed sound.unique c.requires.knows_a c.requires.knows_b
-    c.requires.goes_on.0 c.requires.goes_on.1 c.requires.goes_on.2 in
-    let gave =
-    subst (λ (q : Seated). Gave (IsUnion (family (map_of q) cut.first.lo) (family (map_of q) cut.second.lo))
-    (IsMadeByUnion (family (map_of q) cut.first.lo) (family (map_of q) cut.second.lo)) q c.unite.new.self
-    c.in_ok-lo.lo) same c.in_ok-lo.ensures in
+    let cut = halved t (goal.at.unite_halves-returns-in_err-hi t c).After-halves-level in
     let p = err_from_is_err_and c.from_residual-in_err-hi.result c.from_residual-in_err-hi.ensures.1 in
-    rw p.1 (union_hi_full s c.args.a c.args.b cut sound are goes c.unite.new.self c.in_ok-lo.lo gave c.unite-2.new.self
-    c.in_err-hi.ensures)
+    rw p.1 (union_hi_full cut c.in_ok-lo.ensures c.in_err-hi.ensures)
 
 pub unite_halves-make-requires-clause-knows_lo : goal.unite_halves-make-requires-clause-knows_lo
 unite_halves-make-requires-clause-knows_lo t c =
-    let s = c.args.self.now in
-    let cut = c.halves-level.result in
-    let same = c.halves-level.ensures.seat in
-    let sound : IsSoundSeat s = subst IsSoundSeat same c.halves-level.ensures.sound in
-    let are = c.halves-level.ensures.halves in
-    let goes : GoesOn (family (map_of s) c.args.a) (family (map_of s) c.args.b) =
-    union_goes_on (map_of s) c.args.a c.args.b sound.closed sound.unique c.requires.knows_a c.requires.knows_b
-    c.requires.goes_on.0 c.requires.goes_on.1 c.requires.goes_on.2 in
-    let gave =
-    subst (λ (q : Seated). Gave (IsUnion (family (map_of q) cut.first.lo) (family (map_of q) cut.second.lo))
-    (IsMadeByUnion (family (map_of q) cut.first.lo) (family (map_of q) cut.second.lo)) q c.unite.new.self
-    c.in_ok-lo.lo) same c.in_ok-lo.ensures in
-    (union_lo_known s c.args.a c.args.b cut sound are goes c.unite.new.self c.in_ok-lo.lo gave c.unite-2.new.self
-    c.in_ok-hi.hi c.in_ok-hi.ensures).0
+    let cut = halved t (goal.at.unite_halves-make-requires-clause-knows_lo t c).After-halves-level in
+    (union_lo_known cut c.in_ok-lo.ensures c.in_ok-hi.ensures).0
 
 pub unite_halves-make-requires-clause-lo_above : goal.unite_halves-make-requires-clause-lo_above
 unite_halves-make-requires-clause-lo_above t c =
-    let s = c.args.self.now in
-    let cut = c.halves-level.result in
-    let same = c.halves-level.ensures.seat in
-    let sound : IsSoundSeat s = subst IsSoundSeat same c.halves-level.ensures.sound in
-    let are = c.halves-level.ensures.halves in
-    let goes : GoesOn (family (map_of s) c.args.a) (family (map_of s) c.args.b) =
-    union_goes_on (map_of s) c.args.a c.args.b sound.closed sound.unique c.requires.knows_a c.requires.knows_b
-    c.requires.goes_on.0 c.requires.goes_on.1 c.requires.goes_on.2 in
-    let gave =
-    subst (λ (q : Seated). Gave (IsUnion (family (map_of q) cut.first.lo) (family (map_of q) cut.second.lo))
-    (IsMadeByUnion (family (map_of q) cut.first.lo) (family (map_of q) cut.second.lo)) q c.unite.new.self
-    c.in_ok-lo.lo) same c.in_ok-lo.ensures in
-    union_lo_above s c.args.a c.args.b cut sound are goes c.unite.new.self c.in_ok-lo.lo gave c.unite-2.new.self
-    c.in_ok-hi.hi c.in_ok-hi.ensures
+    let cut = halved t (goal.at.unite_halves-make-requires-clause-lo_above t c).After-halves-level in
+    union_lo_above cut c.in_ok-lo.ensures c.in_ok-hi.ensures
 
 pub unite_halves-make-requires-clause-hi_above : goal.unite_halves-make-requires-clause-hi_above
 unite_halves-make-requires-clause-hi_above t c =
-    let s = c.args.self.now in
-    let cut = c.halves-level.result in
-    let same = c.halves-level.ensures.seat in
-    let sound : IsSoundSeat s = subst IsSoundSeat same c.halves-level.ensures.sound in
-    let are = c.halves-level.ensures.halves in
-    let goes : GoesOn (family (map_of s) c.args.a) (family (map_of s) c.args.b) =
-    union_goes_on (map_of s) c.args.a c.args.b sound.closed sound.unique c.requires.knows_a c.requires.knows_b
-    c.requires.goes_on.0 c.requires.goes_on.1 c.requires.goes_on.2 in
-    let gave =
-    subst (λ (q : Seated). Gave (IsUnion (family (map_of q) cut.first.lo) (family (map_of q) cut.second.lo))
-    (IsMadeByUnion (family (map_of q) cut.first.lo) (family (map_of q) cut.second.lo)) q c.unite.new.self
-    c.in_ok-lo.lo) same c.in_ok-lo.ensures in
-    union_hi_above s c.args.a c.args.b cut sound are goes c.unite.new.self c.in_ok-lo.lo gave c.unite-2.new.self
-    c.in_ok-hi.hi c.in_ok-hi.ensures
+    let cut = halved t (goal.at.unite_halves-make-requires-clause-hi_above t c).After-halves-level in
+    union_hi_above cut c.in_ok-lo.ensures c.in_ok-hi.ensures
 
 pub unite_halves-returns : goal.unite_halves-returns
 unite_halves-returns t c =
-    let s = c.args.self.now in
-    let cut = c.halves-level.result in
-    let same = c.halves-level.ensures.seat in
-    let sound : IsSoundSeat s = subst IsSoundSeat same c.halves-level.ensures.sound in
-    let are = c.halves-level.ensures.halves in
-    let goes : GoesOn (family (map_of s) c.args.a) (family (map_of s) c.args.b) =
-    union_goes_on (map_of s) c.args.a c.args.b sound.closed sound.unique c.requires.knows_a c.requires.knows_b
-    c.requires.goes_on.0 c.requires.goes_on.1 c.requires.goes_on.2 in
-    let gave =
-    subst (λ (q : Seated). Gave (IsUnion (family (map_of q) cut.first.lo) (family (map_of q) cut.second.lo))
-    (IsMadeByUnion (family (map_of q) cut.first.lo) (family (map_of q) cut.second.lo)) q c.unite.new.self
-    c.in_ok-lo.lo) same c.in_ok-lo.ensures in
-    union_made s c.args.a c.args.b cut sound are goes c.unite.new.self c.in_ok-lo.lo gave c.unite-2.new.self
-    c.in_ok-hi.hi c.in_ok-hi.ensures c.make.new.self c.make.result c.make.ensures
+    let cut = halved t (goal.at.unite_halves-returns t c).After-halves-level in
+    union_made cut c.in_ok-lo.ensures c.in_ok-hi.ensures c.make.new.self c.make.result c.make.ensures
 
 pub unite_halves-halves-level-requires-clause-some : goal.unite_halves-halves-level-requires-clause-some
 unite_halves-halves-level-requires-clause-some t c =
@@ -167,7 +91,5 @@ unite_halves-halves-level-requires-clause-some t c =
 
 pub unite_halves-unite-requires : goal.unite_halves-unite-requires
 unite_halves-unite-requires t c =
-    let fewer =
-    lo_fewer (map_of c.args.self.now) (map_of c.halves-level.new.self) c.args.a c.args.b c.halves-level.result
-    (ap map_of c.halves-level.ensures.seat) c.halves-level.ensures.halves in
-    (let less = fewer.0 in omega (arith, less), fewer.1)
+    let next = los_next (halved t (goal.at.unite_halves-unite-requires t c).After-halves-level) in
+    (let less = next.0 in omega (arith, less), next.1)

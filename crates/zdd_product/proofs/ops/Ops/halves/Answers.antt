@@ -1,21 +1,32 @@
-use Rattle.std.proofs.Common.{ℕ, ◌≡◌, ◌<◌, subst, inl, inr, arith}
+use Rattle.std.proofs.Common.{◌≡◌, ◌<◌, subst, inl, inr, arith}
 use Rattle.zdd_families.specs.Map.{IsClosed}
 use Rattle.zdd_shared_table.specs.Seats.{Seated, IsSoundSeat, map_of}
-use Rattle.zdd_product.specs.declared.halves.Half.{Half}
 use Rattle.zdd_product.specs.Halves.{IsHalf, IsSplit}
-use Rattle.zdd_product.proofs.Halving.{IsHalf-whole, terminal_above, first_lower, second_lower, same_level}
+use Rattle.zdd_product.proofs.Halving.{IsHalf-whole, terminal_above, AreSplit, first_lower, second_lower, same_level}
 use Rattle.zdd_product.proofs.ops.Ops.halves.Goals as goal
+use Rattle.zdd_product.proofs.ops.Ops.halves.Goals.{After-split_node-other-2}
 
 closed_before : (before after : Seated) → after ≡ before → IsSoundSeat after → IsClosed (map_of before)
 closed_before before after same sound = subst (λ (s : Seated). IsClosed (map_of s)) same sound.closed
 
-half_before : (before after : Seated) → after ≡ before → (x r : ℕ) (half : Half) → IsHalf (map_of after) x r half
-    → IsHalf (map_of before) x r half
-half_before before after same x r half is = subst (λ (s : Seated). IsHalf (map_of s) x r half) same is
-
-split_before : (before after : Seated) → after ≡ before → (x r : ℕ) (half : Half) → IsSplit (map_of after) x r half
-    → IsSplit (map_of before) x r half
-split_before before after same x r half is = subst (λ (s : Seated). IsSplit (map_of s) x r half) same is
+-- both references were split, the second over the map that the first left as it was
+split : (c : After-split_node-other-2) → AreSplit (map_of c.args.self.now) c.args.a c.args.b c.split_node-one.result
+    c.split_node-other-2.result
+split c =
+    let one = c.split_node-one.ensures in
+    let other = c.split_node-other-2.ensures in
+    let second = c.split_node-other-2.result in
+    record {
+      closed = closed_before c.args.self.now c.split_node-one.new.self one.seat one.sound;
+      knows_a = c.requires.knows_a;
+      knows_b = c.requires.knows_b;
+      one_unit = one.unit;
+      other_unit = other.unit;
+      one_half = one.half;
+      one_split = one.split;
+      other_half = subst (λ (s : Seated). IsHalf (map_of s) second.level c.args.b second.half) one.seat other.half;
+      other_split = subst (λ (s : Seated). IsSplit (map_of s) second.level c.args.b second.half) one.seat other.split;
+    }
 
 pub returns-then-number-lt2-clause-halves : goal.returns-then-number-lt2-clause-halves
 returns-then-number-lt2-clause-halves c =
@@ -52,45 +63,14 @@ returns-then-number-lt2-2-clause-halves c =
 
 pub returns-then-first-second-clause-halves : goal.returns-then-first-second-clause-halves
 returns-then-first-second-clause-halves c =
-    let one = c.split_node-one.ensures in
-    let other = c.split_node-other-2.ensures in
-    let lower : c.split_node-one.result.level < c.split_node-other-2.result.level = omega arith in
-    first_lower (map_of c.args.self.now) c.args.a c.args.b c.split_node-one.result.level
-    c.split_node-other-2.result.level c.split_node-one.result.half c.split_node-other-2.result.half
-    (closed_before c.args.self.now c.split_node-one.new.self one.seat one.sound) c.requires.knows_a c.requires.knows_b
-    one.unit other.unit one.half one.split
-    (half_before c.args.self.now c.split_node-one.new.self one.seat c.split_node-other-2.result.level c.args.b
-    c.split_node-other-2.result.half other.half)
-    (split_before c.args.self.now c.split_node-one.new.self one.seat c.split_node-other-2.result.level c.args.b
-    c.split_node-other-2.result.half other.split)
-    c.whole-then-first-second.result c.whole-then-first-second.ensures lower
+    first_lower (split (goal.at.returns-then-first-second-clause-halves c).After-split_node-other-2)
+    c.whole-then-first-second.result c.whole-then-first-second.ensures (omega arith)
 
 pub returns-then-second-first-clause-halves : goal.returns-then-second-first-clause-halves
 returns-then-second-first-clause-halves c =
-    let one = c.split_node-one.ensures in
-    let other = c.split_node-other-2.ensures in
-    let lower : c.split_node-other-2.result.level < c.split_node-one.result.level = omega arith in
-    second_lower (map_of c.args.self.now) c.args.a c.args.b c.split_node-one.result.level
-    c.split_node-other-2.result.level c.split_node-one.result.half c.split_node-other-2.result.half
-    (closed_before c.args.self.now c.split_node-one.new.self one.seat one.sound) c.requires.knows_a c.requires.knows_b
-    one.unit other.unit one.half one.split
-    (half_before c.args.self.now c.split_node-one.new.self one.seat c.split_node-other-2.result.level c.args.b
-    c.split_node-other-2.result.half other.half)
-    (split_before c.args.self.now c.split_node-one.new.self one.seat c.split_node-other-2.result.level c.args.b
-    c.split_node-other-2.result.half other.split)
-    c.whole-then-second-first.result c.whole-then-second-first.ensures lower
+    second_lower (split (goal.at.returns-then-second-first-clause-halves c).After-split_node-other-2)
+    c.whole-then-second-first.result c.whole-then-second-first.ensures (omega arith)
 
 pub returns-clause-halves : goal.returns-clause-halves
 returns-clause-halves c =
-    let one = c.split_node-one.ensures in
-    let other = c.split_node-other-2.ensures in
-    let same : c.split_node-other-2.result.level ≡ c.split_node-one.result.level = omega arith in
-    same_level (map_of c.args.self.now) c.args.a c.args.b c.split_node-one.result.level
-    c.split_node-other-2.result.level c.split_node-one.result.half c.split_node-other-2.result.half
-    (closed_before c.args.self.now c.split_node-one.new.self one.seat one.sound) c.requires.knows_a c.requires.knows_b
-    one.unit other.unit one.half one.split
-    (half_before c.args.self.now c.split_node-one.new.self one.seat c.split_node-other-2.result.level c.args.b
-    c.split_node-other-2.result.half other.half)
-    (split_before c.args.self.now c.split_node-one.new.self one.seat c.split_node-other-2.result.level c.args.b
-    c.split_node-other-2.result.half other.split)
-    same
+    same_level (split (goal.at.returns-clause-halves c).After-split_node-other-2) (omega arith)

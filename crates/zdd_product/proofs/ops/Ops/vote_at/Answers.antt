@@ -1,69 +1,54 @@
-use Rattle.std.proofs.Common.{◌≡◌, get_or, refl, arith}
+use Rattle.std.proofs.Common.{◌≡◌, ℕ, get_or, refl, arith}
 use Rattle.std.proofs.lemmas.List.{get_or_read}
 use Rattle.std.proofs.lemmas.Result.{err_from_is_err_and}
-use Rattle.zdd_product.proofs.VoteSteps.{vote_product_full, vote_same_known, vote_union_full, vote_on, vote_held}
+use Rattle.zdd_product.proofs.VoteSteps.{IsVotingAt, vote_product_full, vote_same_known, vote_union_full, vote_on}
+use Rattle.zdd_product.proofs.VoteSteps.{vote_held}
 use Rattle.zdd_product.proofs.ops.Ops.vote_at.Goals as goal
+use Rattle.zdd_product.proofs.ops.Ops.vote_at.Goals.{After-multiply, After-index-room-place}
+
+-- what is known once the votes one fewer and the member were read
+turn : (c : After-multiply) (same : ℕ) → same ≡ get_or c.args.room.now c.args.place 0
+    → IsVotingAt c.args.self.now c.args.list.now c.args.room.now c.args.k c.args.i c.args.place
+    c.fewer_votes-fewer.result c.index-list-i.result same
+turn c same same_is = record {
+  sound = c.is_sound.ensures.sound;
+  knows = c.requires.knows;
+  within = c.requires.within;
+  here = c.requires.place;
+  space = c.requires.room;
+  held = c.requires.held;
+  fewer_is = c.fewer_votes-fewer.ensures;
+  member_is = get_or_read c.args.list.now c.args.i c.index-list-i.result c.requires.within c.index-list-i.is 0;
+  same_is = same_is;
+}
+
+-- the votes at the place
+same_read : (c : After-index-room-place) → c.index-room-place.result ≡ get_or c.args.room.now c.args.place 0
+same_read c =
+    let here = c.requires.place in
+    let space = c.requires.room in
+    get_or_read c.args.room.now c.args.place c.index-room-place.result (omega arith) c.index-room-place.is 0
 
 pub returns-in_err-more : goal.returns-in_err-more
 returns-in_err-more c =
-    let list = c.args.list.now in
-    let room = c.args.room.now in
-    let needs = c.requires in
-    let member_is : c.index-list-i.result ≡ get_or list c.args.i 0 =
-    get_or_read list c.args.i c.index-list-i.result needs.within c.index-list-i.is 0 in
+    let at = turn (goal.at.returns-in_err-more c).After-multiply _ refl in
     let p = err_from_is_err_and c.from_residual.result c.from_residual.ensures.1 in
-    rw p.1 (vote_product_full c.args.self.now list c.args.k c.args.i c.args.place room c.is_sound.ensures.sound
-    needs.knows needs.within needs.place needs.room needs.held c.fewer_votes-fewer.result
-    c.fewer_votes-fewer.ensures c.index-list-i.result member_is (get_or room c.args.place 0) refl
-    c.multiply.new.self c.in_err-more.ensures)
+    rw p.1 (vote_product_full at c.in_err-more.ensures)
 
 pub unite-requires-clause-knows_a : goal.unite-requires-clause-knows_a
 unite-requires-clause-knows_a c =
-    let list = c.args.list.now in
-    let room = c.args.room.now in
-    let needs = c.requires in
-    let member_is : c.index-list-i.result ≡ get_or list c.args.i 0 =
-    get_or_read list c.args.i c.index-list-i.result needs.within c.index-list-i.is 0 in
-    let same_is : c.index-room-place.result ≡ get_or room c.args.place 0 =
-    get_or_read room c.args.place c.index-room-place.result
-    (let h = needs.place in let k = needs.room in omega arith) c.index-room-place.is 0 in
-    vote_same_known c.args.self.now list c.args.k c.args.i c.args.place room c.is_sound.ensures.sound needs.knows
-    needs.within needs.place needs.room needs.held c.fewer_votes-fewer.result c.fewer_votes-fewer.ensures
-    c.index-list-i.result member_is c.index-room-place.result same_is c.multiply.new.self c.in_ok-more.more
-    c.in_ok-more.ensures
+    let to = goal.at.unite-requires-clause-knows_a c in
+    vote_same_known (turn to.After-multiply _ (same_read to.After-index-room-place)) c.in_ok-more.ensures
 
 pub returns-in_err-made : goal.returns-in_err-made
 returns-in_err-made c =
-    let list = c.args.list.now in
-    let room = c.args.room.now in
-    let needs = c.requires in
-    let member_is : c.index-list-i.result ≡ get_or list c.args.i 0 =
-    get_or_read list c.args.i c.index-list-i.result needs.within c.index-list-i.is 0 in
-    let same_is : c.index-room-place.result ≡ get_or room c.args.place 0 =
-    get_or_read room c.args.place c.index-room-place.result
-    (let h = needs.place in let k = needs.room in omega arith) c.index-room-place.is 0 in
+    let to = goal.at.returns-in_err-made c in
+    let at = turn to.After-multiply _ (same_read to.After-index-room-place) in
     let p = err_from_is_err_and c.from_residual-in_err-made.result c.from_residual-in_err-made.ensures.1 in
-    rw p.1 (vote_union_full c.args.self.now list c.args.k c.args.i c.args.place room c.is_sound.ensures.sound
-    needs.knows needs.within needs.place needs.room needs.held c.fewer_votes-fewer.result
-    c.fewer_votes-fewer.ensures c.index-list-i.result member_is c.index-room-place.result same_is
-    c.multiply.new.self c.in_ok-more.more c.in_ok-more.ensures c.unite.new.self c.in_err-made.ensures)
+    rw p.1 (vote_union_full at c.in_ok-more.ensures c.in_err-made.ensures)
 
 pub returns : goal.returns
 returns c =
-    let list = c.args.list.now in
-    let room = c.args.room.now in
-    let needs = c.requires in
-    let member_is : c.index-list-i.result ≡ get_or list c.args.i 0 =
-    get_or_read list c.args.i c.index-list-i.result needs.within c.index-list-i.is 0 in
-    let same_is : c.index-room-place.result ≡ get_or room c.args.place 0 =
-    get_or_read room c.args.place c.index-room-place.result
-    (let h = needs.place in let k = needs.room in omega arith) c.index-room-place.is 0 in (
-      vote_on c.args.self.now list c.args.k c.args.i c.args.place room c.is_sound.ensures.sound needs.knows needs.within
-          needs.place needs.room needs.held c.fewer_votes-fewer.result c.fewer_votes-fewer.ensures c.index-list-i.result
-          member_is c.index-room-place.result same_is c.multiply.new.self c.in_ok-more.more c.in_ok-more.ensures
-          c.unite.new.self c.in_ok-made.made c.in_ok-made.ensures,
-      vote_held c.args.self.now list c.args.k c.args.i c.args.place room c.is_sound.ensures.sound needs.knows
-          needs.within needs.place needs.room needs.held c.fewer_votes-fewer.result c.fewer_votes-fewer.ensures
-          c.index-list-i.result member_is c.index-room-place.result same_is c.multiply.new.self c.in_ok-more.more
-          c.in_ok-more.ensures c.unite.new.self c.in_ok-made.made c.in_ok-made.ensures,
-    )
+    let to = goal.at.returns c in
+    let at = turn to.After-multiply _ (same_read to.After-index-room-place) in
+    (vote_on at c.in_ok-more.ensures c.in_ok-made.ensures, vote_held at c.in_ok-more.ensures c.in_ok-made.ensures)
