@@ -12,39 +12,33 @@ use Rattle.zdd_nodes.specs.Reading.{families_below}
 use Rattle.zdd_nodes.proofs.NodeAnswers.{Answer, node_ends}
 use Rattle.zdd_nodes.proofs.NodeParts.{stand_of}
 use Rattle.zdd_nodes.proofs.nodes.cut_family.Goals as goal
+use Rattle.zdd_nodes.proofs.nodes.cut_family.Goals.{After-minimal}
+
+-- what the recipe made, then cut down to its minimal sets, answers for both clauses
+ends : (c : After-minimal) → Answer (IsCutFamily c.args.tree.now c.args.node) (IsDueToTree c.args.tree.now)
+    c.args.ops.now c.minimal.new.self c.minimal.result
+ends c =
+    let tree = c.args.tree.now in
+    let node = c.args.node in
+    let known = map_of c.args.ops.now in
+    let references = c.args.families.now in
+    let mid = c.follow.new.ops in
+    let after = c.minimal.new.self in
+    let made = family (map_of mid) c.in_ok-made.made in
+    node_ends tree node c.requires.node c.requires.read (families_below known tree references node)
+    (stand_of known tree references (below tree node) c.requires.below) c.units.ensures.kept
+    c.args.ops.now mid after c.in_ok-made.made c.in_ok-made.ensures.made c.minimal.result
+    (MatchResult-from_both c.minimal.result (Gave (IsMinimal made) (IsDueToMinimal made) mid after)
+    (λ _. WasFull (IsDueToMinimal made) mid after) c.minimal.ensures.gives c.minimal.ensures.full)
 
 pub returns-clause-gives : goal.returns-clause-gives
 returns-clause-gives c =
-    let tree = c.args.tree.now in
-    let node = c.args.node in
-    let known = map_of c.args.ops.now in
-    let references = c.args.families.now in
-    let mid = c.follow.new.ops in
-    let after = c.minimal.new.self in
-    let made = family (map_of mid) c.in_ok-made.made in
-    let ends : Answer (IsCutFamily tree node) (IsDueToTree tree) c.args.ops.now after c.minimal.result =
-    node_ends tree node c.requires.node c.requires.read (families_below known tree references node)
-    (stand_of known tree references (below tree node) c.requires.below) c.units.ensures.kept
-    c.args.ops.now mid after c.in_ok-made.made c.in_ok-made.ensures.made c.minimal.result
-    (MatchResult-from_both c.minimal.result (Gave (IsMinimal made) (IsDueToMinimal made) mid after)
-    (λ _. WasFull (IsDueToMinimal made) mid after) c.minimal.ensures.gives c.minimal.ensures.full) in
-    gave_of (IsCutFamily tree node) (IsDueToTree tree) (IsDueToTree tree) (λ h due. due) c.args.ops.now after
-    c.minimal.result ends
+    gave_of (IsCutFamily c.args.tree.now c.args.node) (IsDueToTree c.args.tree.now) (IsDueToTree c.args.tree.now)
+    (λ h due. due) c.args.ops.now c.minimal.new.self c.minimal.result
+    (ends (goal.at.returns-clause-gives c).After-minimal)
 
 pub returns-clause-full : goal.returns-clause-full
 returns-clause-full c =
-    let tree = c.args.tree.now in
-    let node = c.args.node in
-    let known = map_of c.args.ops.now in
-    let references = c.args.families.now in
-    let mid = c.follow.new.ops in
-    let after = c.minimal.new.self in
-    let made = family (map_of mid) c.in_ok-made.made in
-    let ends : Answer (IsCutFamily tree node) (IsDueToTree tree) c.args.ops.now after c.minimal.result =
-    node_ends tree node c.requires.node c.requires.read (families_below known tree references node)
-    (stand_of known tree references (below tree node) c.requires.below) c.units.ensures.kept
-    c.args.ops.now mid after c.in_ok-made.made c.in_ok-made.ensures.made c.minimal.result
-    (MatchResult-from_both c.minimal.result (Gave (IsMinimal made) (IsDueToMinimal made) mid after)
-    (λ _. WasFull (IsDueToMinimal made) mid after) c.minimal.ensures.gives c.minimal.ensures.full) in
-    full_of (IsCutFamily tree node) (IsDueToTree tree) (IsDueToTree tree) (λ h due. due) c.args.ops.now after
-    c.minimal.result ends
+    full_of (IsCutFamily c.args.tree.now c.args.node) (IsDueToTree c.args.tree.now) (IsDueToTree c.args.tree.now)
+    (λ h due. due) c.args.ops.now c.minimal.new.self c.minimal.result
+    (ends (goal.at.returns-clause-full c).After-minimal)

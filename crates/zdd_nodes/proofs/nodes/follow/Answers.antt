@@ -8,38 +8,31 @@ use Rattle.zdd_product.specs.Voting.{families}
 use Rattle.zdd_nodes.specs.Reading.{reference_of}
 use Rattle.zdd_nodes.proofs.NodeParts.{front_of, known_of, stand_of}
 use Rattle.zdd_nodes.proofs.nodes.follow.Goals as goal
+use Rattle.zdd_nodes.proofs.nodes.follow.Goals.{After-deref}
 
-pub make-requires-clause-knows : goal.make-requires-clause-knows
-make-requires-clause-knows c =
-    let tree = c.args.tree.now in
-    let known = map_of c.args.ops.now in
-    let references = c.args.families.now in
+-- the front of the room holds the references of what the node reads
+gathered : (c : After-deref) → take (length c.below-nodes.result.now) c.deref.result.now
+    ≡ map (reference_of c.args.families.now) (below c.args.tree.now c.args.node)
+gathered c =
     let nodes = c.below-nodes.result.now in
-    let gathered : take (length nodes) c.deref.result.now ≡ map (reference_of references) (below tree c.args.node) =
+    let fits = c.requires.room.list c.args.node c.requires.node in
+    let reads = ap (λ q. length q) c.below-nodes.ensures.below in
     ap (take (length nodes)) c.deref.ensures.value
     ∙ front_of (length nodes) c.args.rooms.now.list.len c.gather.new.list
     (drop (length c.gather.new.list) c.args.rooms.now.list.items)
-    (let fits = c.requires.room.list c.args.node c.requires.node in
-    let reads = ap (λ q. length q) c.below-nodes.ensures.below in omega (arith, fits, reads))
-    (let fits = c.requires.room.list c.args.node c.requires.node in
-    let reads = ap (λ q. length q) c.below-nodes.ensures.below in omega (arith, fits, reads, c.gather.ensures.size))
-    ∙ c.gather.ensures.list ∙ ap (map (reference_of references)) c.below-nodes.ensures.below in
-    subst (All (Knows known)) (sym gathered) (known_of known tree references (below tree c.args.node) c.requires.below)
+    (omega (arith, fits, reads)) (omega (arith, fits, reads, c.gather.ensures.size))
+    ∙ c.gather.ensures.list ∙ ap (map (reference_of c.args.families.now)) c.below-nodes.ensures.below
+
+pub make-requires-clause-knows : goal.make-requires-clause-knows
+make-requires-clause-knows c =
+    let known = map_of c.args.ops.now in
+    subst (All (Knows known)) (sym (gathered (goal.at.make-requires-clause-knows c).After-deref))
+    (known_of known c.args.tree.now c.args.families.now (below c.args.tree.now c.args.node) c.requires.below)
 
 pub make-requires-clause-stand : goal.make-requires-clause-stand
 make-requires-clause-stand c =
     let tree = c.args.tree.now in
     let known = map_of c.args.ops.now in
-    let references = c.args.families.now in
-    let nodes = c.below-nodes.result.now in
-    let gathered : take (length nodes) c.deref.result.now ≡ map (reference_of references) (below tree c.args.node) =
-    ap (take (length nodes)) c.deref.ensures.value
-    ∙ front_of (length nodes) c.args.rooms.now.list.len c.gather.new.list
-    (drop (length c.gather.new.list) c.args.rooms.now.list.items)
-    (let fits = c.requires.room.list c.args.node c.requires.node in
-    let reads = ap (λ q. length q) c.below-nodes.ensures.below in omega (arith, fits, reads))
-    (let fits = c.requires.room.list c.args.node c.requires.node in
-    let reads = ap (λ q. length q) c.below-nodes.ensures.below in omega (arith, fits, reads, c.gather.ensures.size))
-    ∙ c.gather.ensures.list ∙ ap (map (reference_of references)) c.below-nodes.ensures.below in
-    subst (λ q. StandFor (IsCutFamily tree) (below tree c.args.node) (families known q)) (sym gathered)
-    (stand_of known tree references (below tree c.args.node) c.requires.below)
+    subst (λ q. StandFor (IsCutFamily tree) (below tree c.args.node) (families known q))
+    (sym (gathered (goal.at.make-requires-clause-stand c).After-deref))
+    (stand_of known tree c.args.families.now (below tree c.args.node) c.requires.below)
