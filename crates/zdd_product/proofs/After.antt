@@ -58,8 +58,7 @@ module _ (due due' : List (List ℕ) → Type 0) (outer : (f : List (List ℕ)) 
       record {
         gained = fills.gained;
         fills = fills.fills;
-        each =
-            λ r has. outer (family (map_of after) r) (fills.each r has);
+        each = λ r has. outer (family (map_of after) r) (fills.each r has);
       }
 
   Went-as : Went due before after → Went due' before after
@@ -69,8 +68,7 @@ module _ (due due' : List (List ℕ) → Type 0) (outer : (f : List (List ℕ)) 
         share = went.share;
         keeps = went.keeps;
         sound = went.sound;
-        fills =
-            FillsDue-as went.fills;
+        fills = FillsDue-as went.fills;
       }
 
   pub WentOn-as : WentOn due before after → WentOn due' before after
@@ -81,8 +79,7 @@ module _ (due due' : List (List ℕ) → Type 0) (outer : (f : List (List ℕ)) 
       record {
         word = misses.word;
         missed = misses.missed;
-        is =
-            outer (word_family (map_of after) misses.word) misses.is;
+        is = outer (word_family (map_of after) misses.word) misses.is;
       }
 
   pub WasFull-as : WasFull due before after → WasFull due' before after
@@ -250,8 +247,7 @@ module _ (made is due : List (List ℕ) → Type 0) (to_is : (h : List (List ℕ
   Gave-made r gave =
       Gave-then due a b c on is r (record {
         on = WentOn-as made due to_due b c gave.on;
-        known =
-            (gave.known.0, to_is (family (map_of c) r) gave.known.1);
+        known = (gave.known.0, to_is (family (map_of c) r) gave.known.1);
       })
 
   pub made_after : {E : Type 0} (result : Result ℕ E) → MatchResult result (Gave made made b c) (λ _. WasFull made b c)
@@ -269,8 +265,7 @@ module _ {E : Type 0} (is due due' : List (List ℕ) → Type 0) (to_due : (h : 
   gave_of =
       MatchResult-weaker result both (λ r gave. record {
         on = WentOn-as due due' to_due before after gave.on;
-        known =
-            gave.known;
+        known = gave.known;
       }) (λ _ _. tt)
 
   pub full_of : IfErr result (λ _. WasFull due' before after)

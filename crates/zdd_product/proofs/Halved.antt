@@ -20,6 +20,13 @@ pub record Halved (GoOn : List (List ℕ) → List (List ℕ) → Type 0) (q s :
   pub are : AreHalves (map_of s) a b halves
   pub go_on : GoOn (family (map_of s) a) (family (map_of s) b)
 
+pub halved_by : {GoOn : List (List ℕ) → List (List ℕ) → Type 0} {q s : Seated} {a b : ℕ} {halves : Halves} → q ≡ s
+    → IsSoundSeat q → AreHalves (map_of s) a b halves
+    → (IsSoundSeat s → GoOn (family (map_of s) a) (family (map_of s) b)) → Halved GoOn q s a b halves
+halved_by {s = s} same sound are go_on =
+    let sound' : IsSoundSeat s = subst IsSoundSeat same sound in
+    record { same = same; sound = sound'; are = are; go_on = go_on sound' }
+
 -- neither family is an end of a product, or of taking out
 abbrev pub AreInner : List (List ℕ) → List (List ℕ) → Type 0
 AreInner f g = IsInnerFamily f × IsInnerFamily g
@@ -27,16 +34,10 @@ AreInner f g = IsInnerFamily f × IsInnerFamily g
 pub inner_halved : {q s : Seated} {a b : ℕ} {halves : Halves} → q ≡ s → IsSoundSeat q → AreHalves (map_of s) a b halves
     → Knows (map_of s) a → Knows (map_of s) b → (2 ≤ a) × (2 ≤ b) → Halved AreInner q s a b halves
 inner_halved {s = s} {a = a} {b = b} same sound are knows_a knows_b inner =
-    let sound' : IsSoundSeat s = subst IsSoundSeat same sound in
-    record {
-      same = same;
-      sound = sound';
-      are = are;
-      go_on = (
-        IsInnerFamily-reference (map_of s) a sound'.closed sound'.unique knows_a inner.0,
-        IsInnerFamily-reference (map_of s) b sound'.closed sound'.unique knows_b inner.1,
-      );
-    }
+    halved_by same sound are (λ is. (
+      IsInnerFamily-reference (map_of s) a is.closed is.unique knows_a inner.0,
+      IsInnerFamily-reference (map_of s) b is.closed is.unique knows_b inner.1,
+    ))
 
 module _ {GoOn : List (List ℕ) → List (List ℕ) → Type 0} {q s : Seated} {a b : ℕ} {halves : Halves}
     (cut : Halved GoOn q s a b halves) where

@@ -147,6 +147,11 @@ one_split known a b halves are = elim are.least [
   | inr second ↦ inr second.splits.some_with
 ]
 
+-- a split has sets with its unit, so not both can lack them
+pub not_both : {G : Type 0} {f1 g1 : List (List ℕ)} → (f1 ≢ []) ⊎ (g1 ≢ []) → f1 ≡ [] → g1 ≡ [] → G
+not_both (inl some) none none' = absurd (some none)
+not_both (inr some) none none' = absurd (some none')
+
 -- ---- the measure of a recursion: how many levels there are from the least of both on
 
 abbrev pub levels_left : (ℕ → ℕ) → ℕ → ℕ → ℕ

@@ -16,6 +16,7 @@ use Rattle.zdd_product.specs.Due.{IsMadeByProduct, IsMadeByUnion, IsMadeWith, wi
 use Rattle.zdd_product.specs.Due.{with_second, with_all}
 use Rattle.zdd_product.specs.Halves.{IsHalved}
 use Rattle.zdd_product.specs.Seats.{KnowsOne}
+use Rattle.zdd_product.proofs.Halving.{not_both}
 
 -- ---- ends
 
@@ -71,12 +72,6 @@ union_of_none f g h none none' is =
 
 module _ (x : ℕ) (f f0 f1 g g0 g1 : List (List ℕ)) (inner : IsInnerFamily f) (inner' : IsInnerFamily g)
     (one : (f1 ≢ []) ⊎ (g1 ≢ [])) where
-  neither : {G : Type 0} → f1 ≡ [] → g1 ≡ [] → G
-  neither none none' = elim one [
-    | inl some ↦ absurd (some none)
-    | inr some ↦ absurd (some none')
-  ]
-
   due_lo : (due : List (List ℕ)) → IsHalved x f f0 f1 → IsHalved x g g0 g1 → IsDueToProduct f0 g0 due
       → IsDueToProduct f g due
   due_lo due (inl splits) (inl splits') d = product_both_lo inner inner' splits splits' d
@@ -84,7 +79,7 @@ module _ (x : ℕ) (f f0 f1 g g0 g1 : List (List ℕ)) (inner : IsInnerFamily f)
       product_first_lo inner inner' splits higher.above (subst (λ q. IsDueToProduct f0 q due) higher.lo_is d)
   due_lo due (inr higher) (inl splits) d =
       product_second_lo inner inner' splits higher.above (subst (λ q. IsDueToProduct q g0 due) higher.lo_is d)
-  due_lo due (inr higher) (inr higher') d = neither higher.hi_is higher'.hi_is
+  due_lo due (inr higher) (inr higher') d = not_both one higher.hi_is higher'.hi_is
 
   due_both : (due : List (List ℕ)) → IsHalved x f f0 f1 → IsHalved x g g0 g1 → IsMadeByProduct f1 g1 due
       → IsDueToProduct f g due

@@ -43,8 +43,7 @@ module _ (due : List (List ℕ) → Type 0) where
         record {
           gained = [];
           missed = on.missed ∙ sym (append-nil before.missed);
-          each =
-              λ word none. Contains-nil word none;
+          each = λ word none. Contains-nil word none;
         };
     fulls = on.fulls ∙ sym (add-zero before.fulls);
   }

@@ -10,6 +10,7 @@ use Rattle.family_operations.proofs.References.{different_families}
 use Rattle.zdd_product.specs.Due.{IsMadeByUnion}
 use Rattle.zdd_product.specs.Halves.{IsHalved}
 use Rattle.zdd_product.specs.Seats.{KnowsOne}
+use Rattle.zdd_product.proofs.Halving.{not_both}
 
 -- ---- ends
 
@@ -50,12 +51,6 @@ union_goes_on known a b closed unique knows_a knows_b some some' differ = record
 -- ---- what is due to the inner unions
 
 module _ (x : ℕ) (f f0 f1 g g0 g1 : List (List ℕ)) (goes : GoesOn f g) (one : (f1 ≢ []) ⊎ (g1 ≢ [])) where
-  neither : {G : Type 0} → f1 ≡ [] → g1 ≡ [] → G
-  neither none none' = elim one [
-    | inl some ↦ absurd (some none)
-    | inr some ↦ absurd (some none')
-  ]
-
   due_lo : (due : List (List ℕ)) → IsHalved x f f0 f1 → IsHalved x g g0 g1 → IsDueToUnion f0 g0 due
       → IsDueToUnion f g due
   due_lo due (inl splits) (inl splits') d = union_both_lo goes splits splits' d
@@ -63,7 +58,7 @@ module _ (x : ℕ) (f f0 f1 g g0 g1 : List (List ℕ)) (goes : GoesOn f g) (one 
       union_first goes splits higher.above (subst (λ q. IsDueToUnion f0 q due) higher.lo_is d)
   due_lo due (inr higher) (inl splits) d =
       union_second goes splits higher.above (subst (λ q. IsDueToUnion q g0 due) higher.lo_is d)
-  due_lo due (inr higher) (inr higher') d = neither higher.hi_is higher'.hi_is
+  due_lo due (inr higher) (inr higher') d = not_both one higher.hi_is higher'.hi_is
 
   due_hi : (due : List (List ℕ)) → IsHalved x f f0 f1 → IsHalved x g g0 g1 → GoesOn f1 g1 → IsDueToUnion f1 g1 due
       → IsDueToUnion f g due

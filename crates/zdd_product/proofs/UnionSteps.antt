@@ -10,21 +10,15 @@ use Rattle.zdd_product.specs.declared.halves.Halves.{Halves}
 use Rattle.zdd_product.specs.Due.{IsMadeByUnion}
 use Rattle.zdd_product.specs.Halves.{AreHalves}
 use Rattle.zdd_product.specs.Seats.{IsBranch, KnowsOne, WentOn, Gave, WasFull}
-use Rattle.zdd_product.proofs.Halved.{Halved, first_cut, second_cut, one_cut, at_his}
+use Rattle.zdd_product.proofs.Halved.{Halved, halved_by, first_cut, second_cut, one_cut, at_his}
 use Rattle.zdd_product.proofs.After.{WentOn-as, WasFull-as, WentOn-next, WasFull-next, known_stays, made_after}
 use Rattle.zdd_product.proofs.UnionParts.{union_goes_on, union_makes_lo, union_makes_hi}
 
 pub union_halved : {q s : Seated} {a b : ℕ} {halves : Halves} → q ≡ s → IsSoundSeat q → AreHalves (map_of s) a b halves
     → Knows (map_of s) a → Knows (map_of s) b → (a ≢ 0) × (b ≢ 0) × (a ≢ b) → Halved GoesOn q s a b halves
 union_halved {s = s} {a = a} {b = b} same sound are knows_a knows_b go_on =
-    let sound' : IsSoundSeat s = subst IsSoundSeat same sound in
-    record {
-      same = same;
-      sound = sound';
-      are = are;
-      go_on =
-          union_goes_on (map_of s) a b sound'.closed sound'.unique knows_a knows_b go_on.0 go_on.1 go_on.2;
-    }
+    halved_by same sound are (λ is. union_goes_on (map_of s) a b is.closed is.unique knows_a knows_b go_on.0 go_on.1
+    go_on.2)
 
 module _ {q s : Seated} {a b : ℕ} {halves : Halves} (cut : Halved GoesOn q s a b halves) where
   abbrev due : List (List ℕ) → Type 0

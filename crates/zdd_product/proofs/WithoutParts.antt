@@ -16,7 +16,7 @@ use Rattle.family_operations.specs.Due.{without_both_rest, without_first_lo, wit
 use Rattle.zdd_product.specs.Due.{IsMadeByWithout}
 use Rattle.zdd_product.specs.Halves.{IsHalved}
 use Rattle.zdd_product.specs.Seats.{KnowsOne}
-use Rattle.zdd_product.proofs.Halving.{Cuts-halved}
+use Rattle.zdd_product.proofs.Halving.{Cuts-halved, not_both}
 
 -- ---- ends
 
@@ -100,12 +100,6 @@ none_left f g w none is = without-one [] g w [] (subst (λ q. IsWithout q g w) n
 
 module _ (x : ℕ) (f f0 f1 g g0 g1 : List (List ℕ)) (inner : IsInnerFamily f) (inner' : IsInnerFamily g)
     (one : (f1 ≢ []) ⊎ (g1 ≢ [])) (hi_family : IsFamily f1) where
-  neither : {G : Type 0} → f1 ≡ [] → g1 ≡ [] → G
-  neither none none' = elim one [
-    | inl some ↦ absurd (some none)
-    | inr some ↦ absurd (some none')
-  ]
-
   due_lo : (due : List (List ℕ)) → IsHalved x f f0 f1 → IsHalved x g g0 g1 → IsDueToWithout f0 g0 due
       → IsDueToWithout f g due
   due_lo due (inl splits) (inl splits') d = without_both_lo inner inner' splits splits' d
@@ -113,7 +107,7 @@ module _ (x : ℕ) (f f0 f1 g g0 g1 : List (List ℕ)) (inner : IsInnerFamily f)
       without_first_lo inner inner' splits higher.above (subst (λ q. IsDueToWithout f0 q due) higher.lo_is d)
   due_lo due (inr higher) (inl splits) d =
       without_second inner inner' splits higher.above (subst (λ q. IsDueToWithout q g0 due) higher.lo_is d)
-  due_lo due (inr higher) (inr higher') d = neither higher.hi_is higher'.hi_is
+  due_lo due (inr higher) (inr higher') d = not_both one higher.hi_is higher'.hi_is
 
   due_hi : (due : List (List ℕ)) → IsHalved x f f0 f1 → IsHalved x g g0 g1 → IsMadeByWithout f1 g1 due
       → IsDueToWithout f g due
