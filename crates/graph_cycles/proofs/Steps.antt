@@ -1,5 +1,5 @@
 -- One step of the walk leaves it sound, with less to do.
-use Rattle.std.proofs.Common.{◌≡◌, ℕ, ◌+◌, ◌-◌, ◌<◌, ◌≤◌, List, length, refl, sym, ap, ◌∙◌, subst, inl, inr, arith}
+use Rattle.std.proofs.Common.{◌≡◌, ◌≢◌, ℕ, ◌+◌, ◌-◌, ◌<◌, ◌≤◌, List, length, refl, sym, ap, ◌∙◌, subst, inl, inr, arith}
 use Rattle.std.specs.Prelude.{slice_index, slice_set}
 use Rattle.std.proofs.lemmas.List.{length_push, get_or-set_same, get_or-set_other}
 use Rattle.std.proofs.lemmas.Bool.{cases_eq}
@@ -33,23 +33,14 @@ open_top graph w t s top = omega (arith, s.sound.path_open (length w.path.items 
 IsOn-top : (path : List ℕ) (t : ℕ) → IsTop path t → IsOn path t
 IsOn-top path t top = (length path - 1, omega (arith, top.0), top.1)
 
-not_new : (stages : List Stage) (x n y : ℕ) → x < length stages → (stage_at (slice_set stages x (Open n)) y ≡ New)
-    → stage_at stages y ≡ New
-not_new stages x n y l is = elim (cases_eq y x) [
+-- a stage other than the one that x was given was there before
+not_given : (stages : List Stage) (x n y : ℕ) (stage : Stage) → Open n ≢ stage → x < length stages
+    → stage_at (slice_set stages x (Open n)) y ≡ stage → stage_at stages y ≡ stage
+not_given stages x n y stage differs l is = elim (cases_eq y x) [
   | inl same ↦
       let at_x : stage_at (slice_set stages x (Open n)) y ≡ Open n =
       ap (stage_at (slice_set stages x (Open n))) same ∙ get_or-set_same stages x (Open n) New l in
-      absurd cc
-  | inr other ↦ sym (get_or-set_other stages x y (Open n) New other) ∙ is
-]
-
-not_closed : (stages : List Stage) (x n y : ℕ) → x < length stages → (stage_at (slice_set stages x (Open n)) y ≡ Closed)
-    → stage_at stages y ≡ Closed
-not_closed stages x n y l is = elim (cases_eq y x) [
-  | inl same ↦
-      let at_x : stage_at (slice_set stages x (Open n)) y ≡ Open n =
-      ap (stage_at (slice_set stages x (Open n))) same ∙ get_or-set_same stages x (Open n) New l in
-      absurd cc
+      absurd (differs (sym at_x ∙ is))
   | inr other ↦ sym (get_or-set_other stages x y (Open n) New other) ∙ is
 ]
 
@@ -76,7 +67,7 @@ Met-Meets graph old new x s in_graph is_new ahead m = record {
         (AreOrdered-same graph old.stages.items new.stages.items old.closed.items stays_closed was_closed s.order);
   };
   is_open = ap (λ ss. stage_at ss x) m.stages ∙ get_or-set_same old.stages.items x (Open n) New x_in;
-  met = λ y is. not_new old.stages.items x n y x_in (subst (λ ss. stage_at ss y ≡ New) m.stages is);
+  met = λ y is. not_given old.stages.items x n y New (λ e. cc) x_in (subst (λ ss. stage_at ss y ≡ New) m.stages is);
   steps =
       let paths : length new.path.items ≡ length old.path.items + 1 = ap length m.path ∙ length_push old.path.items n in
       let works : work_left graph new.explored.items new.stages.items + 2
@@ -93,7 +84,8 @@ Met-Meets graph old new x s in_graph is_new ahead m = record {
     x_in = omega (arith, s.sound.stages_all, in_graph)
 
     was_closed : (y : ℕ) → stage_at new.stages.items y ≡ Closed → stage_at old.stages.items y ≡ Closed
-    was_closed y is = not_closed old.stages.items x n y x_in (subst (λ ss. stage_at ss y ≡ Closed) m.stages is)
+    was_closed y is =
+        not_given old.stages.items x n y Closed (λ e. cc) x_in (subst (λ ss. stage_at ss y ≡ Closed) m.stages is)
 
     stays_closed : (y : ℕ) → stage_at old.stages.items y ≡ Closed → stage_at new.stages.items y ≡ Closed
     stays_closed y is = subst (λ ss. stage_at ss y ≡ Closed) (sym m.stages) (elim (cases_eq y x) [
