@@ -13,7 +13,7 @@ use Rattle.family_memory.specs.Memory.{Held, Has, IsSound, IsNodeOf, Went, Gave,
 use Rattle.family_memory.proofs.After.{Went-then, ended, knows, still, at_start, of_start}
 use Rattle.minimal_operations.proofs.Steps.{above_still, fewer_from, levels_from}
 
-module _ (s0 : Held) (a b : ℕ) (one : Parts) (sound : IsSound s0) (has_a : Has s0 a) (has_b : Has s0 b)
+module _ {s0 : Held} {a : ℕ} (b : ℕ) {one : Parts} (sound : IsSound s0) (has_a : Has s0 a) (has_b : Has s0 b)
     (is : IsNodeOf s0 a one) (below : LiesBelow (family_in s0 a) (family_in s0 b)) where
   hi_has_sets : family_in s0 one.hi ≢ []
   hi_has_sets = family-filled (map_of s0) one.hi sound.closed (knows s0 one.hi sound is.has_hi) is.filled
@@ -30,7 +30,7 @@ module _ (s0 : Held) (a b : ℕ) (one : Parts) (sound : IsSound s0) (has_a : Has
   lo_below =
       below-lo one.level (family_in s0 a) (family_in s0 one.lo) (family_in s0 one.hi) (family_in s0 b) is.cut below
 
-  module _ (s1 : Held) (lo : ℕ) (gave_lo : Gave (IsLeastProduct (family_in s0 one.lo) (family_in s0 b)) s0 s1 lo) where
+  module _ {s1 : Held} {lo : ℕ} (gave_lo : Gave (IsLeastProduct (family_in s0 one.lo) (family_in s0 b)) s0 s1 lo) where
     pub hi_fewer : levels_from s1 one.hi < levels_from s0 a
     hi_fewer =
         fewer_from s0 s1 a one.hi one.level is.level is.unit
@@ -41,7 +41,7 @@ module _ (s0 : Held) (a b : ℕ) (one : Parts) (sound : IsSound s0) (has_a : Has
         of_start s0 s1 sound gave_lo.went LiesBelow one.hi b is.has_hi has_b
         (below-hi one.level (family_in s0 a) (family_in s0 one.lo) (family_in s0 one.hi) (family_in s0 b) is.cut below)
 
-    module _ (s2 : Held) (hi : ℕ) (gave_hi : Gave (IsLeastProduct (family_in s1 one.hi) (family_in s1 b)) s1 s2
+    module _ {s2 : Held} {hi : ℕ} (gave_hi : Gave (IsLeastProduct (family_in s1 one.hi) (family_in s1 b)) s1 s2
         hi) where
       went_parts : Went s0 s2
       went_parts = Went-then s0 s1 s2 gave_lo.went gave_hi.went

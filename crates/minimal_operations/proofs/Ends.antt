@@ -24,10 +24,8 @@ node_lacks held r sound has inner =
     (family_in held (hi_of (map_of held r)))
     (record {
       is = family-node (map_of held) r sound.closed word;
-      lo_above =
-          lo_units (map_of held) (map_of held r) sound.closed node;
-      hi_above =
-          hi_units (map_of held) (map_of held r) sound.closed node;
+      lo_above = lo_units (map_of held) (map_of held r) sound.closed node;
+      hi_above = hi_units (map_of held) (map_of held r) sound.closed node;
     })
     (sound.antichains r has) (hi_filled (map_of held) (map_of held r) sound.closed node)
 

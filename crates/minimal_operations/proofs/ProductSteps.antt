@@ -18,7 +18,7 @@ use Rattle.minimal_operations.proofs.Steps.{above_still, fewer_of_both, fewer_th
 
 -- ---- two nodes of one level
 
-module _ (s0 : Held) (a b : ℕ) (one other : Parts) (sound : IsSound s0) (is : IsNodeOf s0 a one)
+module _ {s0 : Held} {a b : ℕ} {one other : Parts} (sound : IsSound s0) (is : IsNodeOf s0 a one)
     (is' : IsNodeOf s0 b other) (same : level_in (map_of s0) a ≡ level_in (map_of s0) b) where
   one_level : other.level ≡ one.level
   one_level = sym is'.level ∙ sym same ∙ is.level
@@ -40,7 +40,7 @@ module _ (s0 : Held) (a b : ℕ) (one other : Parts) (sound : IsSound s0) (is : 
   pub as_levels : 4096 - one.level ≡ levels_of_both s0 a b
   as_levels = let e = is.level in let f = same in omega arith
 
-  module _ (s1 : Held) (lo : ℕ) (gave_lo : Gave (IsLeastProduct (family_in s0 one.lo) (family_in s0 other.lo)) s0 s1
+  module _ {s1 : Held} {lo : ℕ} (gave_lo : Gave (IsLeastProduct (family_in s0 one.lo) (family_in s0 other.lo)) s0 s1
       lo) where
     pub first_parts : ArePartsAbove s1 one.level one
     first_parts = record {
@@ -60,7 +60,7 @@ module _ (s0 : Held) (a b : ℕ) (one other : Parts) (sound : IsSound s0) (is : 
       hi_above = above_still s0 s1 sound gave_lo.went one.level other.hi is'.has_hi hi_above';
     }
 
-    module _ (s2 : Held) (all : ℕ) (gave_all : Gave
+    module _ {s2 : Held} {all : ℕ} (gave_all : Gave
         (IsLeastSides (family_in s1 one.lo) (family_in s1 one.hi) (family_in s1 other.lo) (family_in s1 other.hi)) s1 s2
         all) where
       pub went_all : Went s0 s2
@@ -104,16 +104,16 @@ module _ (s0 : Held) (a b : ℕ) (one other : Parts) (sound : IsSound s0) (is : 
 
 -- ---- both sides of the sets with the level
 
-module _ (s0 : Held) (x : ℕ) (one other : Parts) (sound : IsSound s0) (are : ArePartsAbove s0 x one)
+module _ {s0 : Held} {x : ℕ} {one other : Parts} (sound : IsSound s0) (are : ArePartsAbove s0 x one)
     (are' : ArePartsAbove s0 x other) where
-  module _ (s1 : Held) (first : ℕ) (gave_first : Gave (IsLeastUnion (family_in s0 one.lo) (family_in s0 one.hi)) s0 s1
+  module _ {s1 : Held} {first : ℕ} (gave_first : Gave (IsLeastUnion (family_in s0 one.lo) (family_in s0 one.hi)) s0 s1
       first) where
     first_above : IsAbove x (family_in s1 first)
     first_above =
         least_union-above x _ _ (family_in s1 first) (above s0 x one.lo sound are.has_lo are.lo_above)
         (above s0 x one.hi sound are.has_hi are.hi_above) gave_first.is
 
-    module _ (s2 : Held) (second : ℕ) (gave_second : Gave (IsLeastUnion (family_in s1 other.lo) (family_in s1 other.hi))
+    module _ {s2 : Held} {second : ℕ} (gave_second : Gave (IsLeastUnion (family_in s1 other.lo) (family_in s1 other.hi))
         s1 s2 second) where
       pub went_second : Went s0 s2
       went_second = Went-then s0 s1 s2 gave_first.went gave_second.went
@@ -158,7 +158,7 @@ module _ (s0 : Held) (x : ℕ) (one other : Parts) (sound : IsSound s0) (are : A
 
 -- ---- a node and a family above its level
 
-module _ (s0 : Held) (a b : ℕ) (one : Parts) (sound : IsSound s0) (has_a : Has s0 a) (has_b : Has s0 b)
+module _ {s0 : Held} {a : ℕ} (b : ℕ) {one : Parts} (sound : IsSound s0) (has_a : Has s0 a) (has_b : Has s0 b)
     (is : IsNodeOf s0 a one) (higher : level_in (map_of s0) a < level_in (map_of s0) b) where
   level_b : one.level < level_in (map_of s0) b
   level_b = subst (λ x. x < level_in (map_of s0) b) is.level higher
@@ -170,14 +170,14 @@ module _ (s0 : Held) (a b : ℕ) (one : Parts) (sound : IsSound s0) (has_a : Has
   higher_lo_fewer =
       fewer_of_both s0 s0 a b one.lo b one.level is.level (let h = level_b in omega arith) is.unit is.lo_above level_b
 
-  module _ (s1 : Held) (lo : ℕ) (gave_lo : Gave (IsLeastProduct (family_in s0 one.lo) (family_in s0 b)) s0 s1 lo) where
+  module _ {s1 : Held} {lo : ℕ} (gave_lo : Gave (IsLeastProduct (family_in s0 one.lo) (family_in s0 b)) s0 s1 lo) where
     pub higher_all_fewer : levels_of_both s1 one.hi b < levels_of_both s0 a b
     higher_all_fewer =
         fewer_of_both s0 s1 a b one.hi b one.level is.level (let h = level_b in omega arith) is.unit
         (above_still s0 s1 sound gave_lo.went one.level one.hi is.has_hi is.hi_above)
         (above_still s0 s1 sound gave_lo.went one.level b has_b level_b)
 
-    module _ (s2 : Held) (all : ℕ) (gave_all : Gave (IsLeastProduct (family_in s1 one.hi) (family_in s1 b)) s1 s2
+    module _ {s2 : Held} {all : ℕ} (gave_all : Gave (IsLeastProduct (family_in s1 one.hi) (family_in s1 b)) s1 s2
         all) where
       pub went_higher : Went s0 s2
       went_higher = Went-then s0 s1 s2 gave_lo.went gave_all.went

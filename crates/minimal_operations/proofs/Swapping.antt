@@ -12,8 +12,7 @@ united_swapped f g before after result m =
     MatchResult-weaker result m (λ r gave. record {
       went = gave.went;
       has = gave.has;
-      is =
-          least_union-swap g f _ gave.is;
+      is = least_union-swap g f _ gave.is;
     }) (λ _ out. out)
 
 pub multiplied_swapped : {E : Type 0} (f g : List (List ℕ)) (before after : Held) (result : Result ℕ E)
@@ -23,6 +22,5 @@ multiplied_swapped f g before after result m =
     MatchResult-weaker result m (λ r gave. record {
       went = gave.went;
       has = gave.has;
-      is =
-          least_product-swap g f _ gave.is;
+      is = least_product-swap g f _ gave.is;
     }) (λ _ out. out)

@@ -15,7 +15,7 @@ use Rattle.minimal_operations.proofs.Steps.{above_still, fewer_of_both, levels_o
 
 -- ---- two nodes of one level
 
-module _ (s0 : Held) (a b : ℕ) (one other : Parts) (sound : IsSound s0) (is : IsNodeOf s0 a one)
+module _ {s0 : Held} {a b : ℕ} {one other : Parts} (sound : IsSound s0) (is : IsNodeOf s0 a one)
     (is' : IsNodeOf s0 b other) (same : level_in (map_of s0) a ≡ level_in (map_of s0) b) where
   one_level : other.level ≡ one.level
   one_level = sym is'.level ∙ sym same ∙ is.level
@@ -37,7 +37,7 @@ module _ (s0 : Held) (a b : ℕ) (one other : Parts) (sound : IsSound s0) (is : 
   pub lo_fewer : levels_of_both s0 one.lo other.lo < levels_of_both s0 a b
   lo_fewer = both_fewer s0 one.lo other.lo is.lo_above lo_above'
 
-  module _ (s1 : Held) (lo : ℕ) (gave_lo : Gave (IsLeastUnion (family_in s0 one.lo) (family_in s0 other.lo)) s0 s1
+  module _ {s1 : Held} {lo : ℕ} (gave_lo : Gave (IsLeastUnion (family_in s0 one.lo) (family_in s0 other.lo)) s0 s1
       lo) where
     pub all_fewer : levels_of_both s1 one.hi other.hi < levels_of_both s0 a b
     all_fewer =
@@ -45,7 +45,7 @@ module _ (s0 : Held) (a b : ℕ) (one other : Parts) (sound : IsSound s0) (is : 
         (above_still s0 s1 sound gave_lo.went one.level one.hi is.has_hi is.hi_above)
         (above_still s0 s1 sound gave_lo.went one.level other.hi is'.has_hi hi_above')
 
-    module _ (s2 : Held) (all : ℕ) (gave_all : Gave (IsLeastUnion (family_in s1 one.hi) (family_in s1 other.hi)) s1 s2
+    module _ {s2 : Held} {all : ℕ} (gave_all : Gave (IsLeastUnion (family_in s1 one.hi) (family_in s1 other.hi)) s1 s2
         all) where
       pub went_all : Went s0 s2
       went_all = Went-then s0 s1 s2 gave_lo.went gave_all.went
@@ -83,7 +83,7 @@ module _ (s0 : Held) (a b : ℕ) (one other : Parts) (sound : IsSound s0) (is : 
 
 -- ---- a node and a family above its level
 
-module _ (s0 : Held) (a b : ℕ) (one : Parts) (sound : IsSound s0) (has_a : Has s0 a) (has_b : Has s0 b)
+module _ {s0 : Held} {a : ℕ} (b : ℕ) {one : Parts} (sound : IsSound s0) (has_a : Has s0 a) (has_b : Has s0 b)
     (is : IsNodeOf s0 a one) (higher : level_in (map_of s0) a < level_in (map_of s0) b) where
   level_b : one.level < level_in (map_of s0) b
   level_b = subst (λ x. x < level_in (map_of s0) b) is.level higher
@@ -95,7 +95,7 @@ module _ (s0 : Held) (a b : ℕ) (one : Parts) (sound : IsSound s0) (has_a : Has
   first_fewer =
       fewer_of_both s0 s0 a b one.lo b one.level is.level (let h = level_b in omega arith) is.unit is.lo_above level_b
 
-  module _ (s1 : Held) (lo : ℕ) (gave_lo : Gave (IsLeastUnion (family_in s0 one.lo) (family_in s0 b)) s0 s1 lo) where
+  module _ {s1 : Held} {lo : ℕ} (gave_lo : Gave (IsLeastUnion (family_in s0 one.lo) (family_in s0 b)) s0 s1 lo) where
     same_b : family_in s1 b ≡ family_in s0 b
     same_b = still s0 s1 sound gave_lo.went b has_b
 

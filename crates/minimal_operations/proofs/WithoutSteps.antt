@@ -12,19 +12,19 @@ use Rattle.minimal_operations.specs.declared.halves.Half.{Half}
 use Rattle.minimal_operations.specs.Halves.{IsHalf}
 use Rattle.minimal_operations.proofs.Steps.{above_still, fewer_from, levels_from}
 
-module _ (s0 : Held) (a b : ℕ) (one : Parts) (other : Half) (sound : IsSound s0) (has_a : Has s0 a)
+module _ {s0 : Held} {a b : ℕ} {one : Parts} {other : Half} (sound : IsSound s0) (has_a : Has s0 a)
     (is : IsNodeOf s0 a one) (half : IsHalf s0 one.level b other) where
   pub lo_fewer : levels_from s0 one.lo < levels_from s0 a
   lo_fewer = fewer_from s0 s0 a one.lo one.level is.level is.unit is.lo_above
 
-  module _ (s1 : Held) (lo : ℕ) (gave_lo : Gave (IsWithout (family_in s0 one.lo) (family_in s0 other.lo)) s0 s1
+  module _ {s1 : Held} {lo : ℕ} (gave_lo : Gave (IsWithout (family_in s0 one.lo) (family_in s0 other.lo)) s0 s1
       lo) where
     pub some_fewer : levels_from s1 one.hi < levels_from s0 a
     some_fewer =
         fewer_from s0 s1 a one.hi one.level is.level is.unit
         (above_still s0 s1 sound gave_lo.went one.level one.hi is.has_hi is.hi_above)
 
-    module _ (s2 : Held) (some : ℕ) (gave_some : Gave (IsWithout (family_in s1 one.hi) (family_in s1 other.hi)) s1 s2
+    module _ {s2 : Held} {some : ℕ} (gave_some : Gave (IsWithout (family_in s1 one.hi) (family_in s1 other.hi)) s1 s2
         some) where
       pub went_some : Went s0 s2
       went_some = Went-then s0 s1 s2 gave_lo.went gave_some.went
@@ -43,7 +43,7 @@ module _ (s0 : Held) (a b : ℕ) (one : Parts) (other : Half) (sound : IsSound s
           (level_above s2 one.level some gave_some.went.sound gave_some.has (let u = is.unit.1 in omega arith)
           some_above)
 
-      module _ (s3 : Held) (hi : ℕ) (gave_hi : Gave (IsWithout (family_in s2 some) (family_in s2 other.lo)) s2 s3
+      module _ {s3 : Held} {hi : ℕ} (gave_hi : Gave (IsWithout (family_in s2 some) (family_in s2 other.lo)) s2 s3
           hi) where
         pub went_hi : Went s0 s3
         went_hi = Went-then s0 s2 s3 went_some gave_hi.went

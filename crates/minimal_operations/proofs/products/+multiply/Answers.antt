@@ -1,4 +1,4 @@
-use Rattle.std.proofs.Common.{ℕ, ◌-◌, ◌<◌, ◌≡◌, List, subst, sym, arith}
+use Rattle.std.proofs.Common.{ℕ, ◌-◌, List, subst, sym, arith}
 use Rattle.std.proofs.lemmas.Result.{err_from_is_err_and}
 use Rattle.minimal_families.specs.Least.{IsLeastProduct}
 use Rattle.family_memory.specs.Memory.{Held, Gave, family_in}
@@ -6,7 +6,6 @@ use Rattle.family_memory.proofs.After.{Gave-there, RanOut-then}
 use Rattle.kept_answers.specs.declared.answers.Operation.TheVariants.{Product}
 use Rattle.minimal_operations.proofs.Ends.{product_ends}
 use Rattle.minimal_operations.proofs.Telling.{told_made}
-use Rattle.minimal_operations.proofs.Steps.{levels_of_both}
 use Rattle.minimal_operations.proofs.Swapping.{multiplied_swapped}
 use Rattle.minimal_operations.proofs.ProductSteps.{lo_fewer, as_levels, first_parts, second_parts, lo_above, all_above}
 use Rattle.minimal_operations.proofs.ProductSteps.{both_multiplied, sides_fewer, sides_multiplied, higher_lo_fewer}
@@ -49,39 +48,30 @@ multiply_levels-returns-then-second-first t c =
 
 pub multiply_both-multiply-requires : goal.multiply_both-multiply-requires
 multiply_both-multiply-requires t c =
-    let fewer : levels_of_both c.args.memory.now c.parts-one.result.lo c.parts-other.result.lo
-    < levels_of_both c.args.memory.now c.args.a c.args.b =
-    lo_fewer c.args.memory.now c.args.a c.args.b c.parts-one.result c.parts-other.result c.is_sound.ensures
-    c.parts-one.ensures c.parts-other.ensures c.requires.level in
+    let fewer = lo_fewer c.is_sound.ensures c.parts-one.ensures c.parts-other.ensures c.requires.level in
     (omega (arith, fewer), (c.parts-one.ensures.has_lo, c.parts-other.ensures.has_lo))
 
 pub multiply_both-multiply_sides-requires : goal.multiply_both-multiply_sides-requires
 multiply_both-multiply_sides-requires t c =
-    let same : 4096 - c.parts-one.result.level ≡ levels_of_both c.args.memory.now c.args.a c.args.b =
-    as_levels c.args.memory.now c.args.a c.args.b c.parts-one.result c.parts-other.result c.is_sound.ensures
-    c.parts-one.ensures c.parts-other.ensures c.requires.level in (
+    let one = c.parts-one.ensures in
+    let other = c.parts-other.ensures in
+    let same = as_levels c.is_sound.ensures one other c.requires.level in (
       omega (arith, same),
       (
-        first_parts c.args.memory.now c.args.a c.args.b c.parts-one.result c.parts-other.result
-            c.is_sound.ensures c.parts-one.ensures c.parts-other.ensures c.requires.level c.multiply.new.memory
-            c.in_ok-lo.lo c.in_ok-lo.ensures,
-        second_parts c.args.memory.now c.args.a c.args.b c.parts-one.result
-            c.parts-other.result c.is_sound.ensures c.parts-one.ensures c.parts-other.ensures c.requires.level
-            c.multiply.new.memory c.in_ok-lo.lo c.in_ok-lo.ensures,
+        first_parts c.is_sound.ensures one other c.requires.level c.in_ok-lo.ensures,
+        second_parts c.is_sound.ensures one other c.requires.level c.in_ok-lo.ensures,
       ),
     )
 
 pub multiply_both-make_rid-requires-clause-lo_above : goal.multiply_both-make_rid-requires-clause-lo_above
 multiply_both-make_rid-requires-clause-lo_above t c =
-    lo_above c.args.memory.now c.args.a c.args.b c.parts-one.result c.parts-other.result c.is_sound.ensures
-    c.parts-one.ensures c.parts-other.ensures c.requires.level c.multiply.new.memory c.in_ok-lo.lo
-    c.in_ok-lo.ensures c.multiply_sides.new.memory c.in_ok-all.all c.in_ok-all.ensures
+    lo_above c.is_sound.ensures c.parts-one.ensures c.parts-other.ensures c.requires.level c.in_ok-lo.ensures
+    c.in_ok-all.ensures
 
 pub multiply_both-make_rid-requires-clause-all_above : goal.multiply_both-make_rid-requires-clause-all_above
 multiply_both-make_rid-requires-clause-all_above t c =
-    all_above c.args.memory.now c.args.a c.args.b c.parts-one.result c.parts-other.result c.is_sound.ensures
-    c.parts-one.ensures c.parts-other.ensures c.requires.level c.multiply.new.memory c.in_ok-lo.lo
-    c.in_ok-lo.ensures c.multiply_sides.new.memory c.in_ok-all.all c.in_ok-all.ensures
+    all_above c.is_sound.ensures c.parts-one.ensures c.parts-other.ensures c.requires.level c.in_ok-lo.ensures
+    c.in_ok-all.ensures
 
 pub multiply_both-returns-in_err-all : goal.multiply_both-returns-in_err-all
 multiply_both-returns-in_err-all t c =
@@ -91,17 +81,13 @@ multiply_both-returns-in_err-all t c =
 
 pub multiply_both-returns : goal.multiply_both-returns
 multiply_both-returns t c =
-    both_multiplied c.args.memory.now c.args.a c.args.b c.parts-one.result c.parts-other.result c.is_sound.ensures
-    c.parts-one.ensures c.parts-other.ensures c.requires.level c.multiply.new.memory c.in_ok-lo.lo
-    c.in_ok-lo.ensures c.multiply_sides.new.memory c.in_ok-all.all c.in_ok-all.ensures c.make_rid.new.memory
-    c.make_rid.result c.make_rid.ensures
+    both_multiplied c.is_sound.ensures c.parts-one.ensures c.parts-other.ensures c.requires.level c.in_ok-lo.ensures
+    c.in_ok-all.ensures c.make_rid.new.memory c.make_rid.result c.make_rid.ensures
 
 pub multiply_sides-multiply-requires : goal.multiply_sides-multiply-requires
 multiply_sides-multiply-requires t c =
-    let fewer : levels_of_both c.unite-2.new.memory c.in_ok-first.first c.in_ok-second.second
-    < 4096 - c.args.one.now.level = sides_fewer c.args.memory.now c.args.one.now.level c.args.one.now
-    c.args.other.now c.is_sound.ensures c.requires.first c.requires.second c.unite.new.memory c.in_ok-first.first
-    c.in_ok-first.ensures c.unite-2.new.memory c.in_ok-second.second c.in_ok-second.ensures in
+    let fewer = sides_fewer c.is_sound.ensures c.requires.first c.requires.second c.in_ok-first.ensures
+    c.in_ok-second.ensures in
     let longer = c.in_ok-second.ensures.went.longer in
     let has = c.in_ok-first.ensures.has in
     (omega (arith, fewer), (omega (arith, longer, has), c.in_ok-second.ensures.has))
@@ -114,25 +100,19 @@ multiply_sides-returns-in_err-second t c =
 
 pub multiply_sides-returns : goal.multiply_sides-returns
 multiply_sides-returns t c =
-    sides_multiplied c.args.memory.now c.args.one.now.level c.args.one.now c.args.other.now c.is_sound.ensures
-    c.requires.first c.requires.second c.unite.new.memory c.in_ok-first.first c.in_ok-first.ensures
-    c.unite-2.new.memory c.in_ok-second.second c.in_ok-second.ensures c.multiply.new.memory c.multiply.result
-    c.multiply.ensures
+    sides_multiplied c.is_sound.ensures c.requires.first c.requires.second c.in_ok-first.ensures c.in_ok-second.ensures
+    c.multiply.new.memory c.multiply.result c.multiply.ensures
 
 pub multiply_above-multiply-requires : goal.multiply_above-multiply-requires
 multiply_above-multiply-requires t c =
-    let fewer : levels_of_both c.args.memory.now c.parts-one.result.lo c.args.b
-    < levels_of_both c.args.memory.now c.args.a c.args.b =
-    higher_lo_fewer c.args.memory.now c.args.a c.args.b c.parts-one.result c.is_sound.ensures c.requires.has_a
-    c.requires.has_b c.parts-one.ensures c.requires.level in
+    let fewer = higher_lo_fewer c.args.b c.is_sound.ensures c.requires.has_a c.requires.has_b c.parts-one.ensures
+    c.requires.level in
     (omega (arith, fewer), (c.parts-one.ensures.has_lo, c.requires.has_b))
 
 pub multiply_above-multiply-requires-2 : goal.multiply_above-multiply-requires-2
 multiply_above-multiply-requires-2 t c =
-    let fewer : levels_of_both c.multiply.new.memory c.parts-one.result.hi c.args.b
-    < levels_of_both c.args.memory.now c.args.a c.args.b =
-    higher_all_fewer c.args.memory.now c.args.a c.args.b c.parts-one.result c.is_sound.ensures c.requires.has_a
-    c.requires.has_b c.parts-one.ensures c.requires.level c.multiply.new.memory c.in_ok-lo.lo c.in_ok-lo.ensures in
+    let fewer = higher_all_fewer c.args.b c.is_sound.ensures c.requires.has_a c.requires.has_b c.parts-one.ensures
+    c.requires.level c.in_ok-lo.ensures in
     let longer = c.in_ok-lo.ensures.went.longer in
     let has = c.parts-one.ensures.has_hi in
     let has' = c.requires.has_b in
@@ -140,21 +120,18 @@ multiply_above-multiply-requires-2 t c =
 
 pub multiply_above-make_rid-requires-clause-lo_above : goal.multiply_above-make_rid-requires-clause-lo_above
 multiply_above-make_rid-requires-clause-lo_above t c =
-    higher_lo_above c.args.memory.now c.args.a c.args.b c.parts-one.result c.is_sound.ensures c.requires.has_a
-    c.requires.has_b c.parts-one.ensures c.requires.level c.multiply.new.memory c.in_ok-lo.lo c.in_ok-lo.ensures
-    c.multiply-2.new.memory c.in_ok-all.all c.in_ok-all.ensures
+    higher_lo_above c.args.b c.is_sound.ensures c.requires.has_a c.requires.has_b c.parts-one.ensures c.requires.level
+    c.in_ok-lo.ensures c.in_ok-all.ensures
 
 pub multiply_above-make_rid-requires-clause-all_above : goal.multiply_above-make_rid-requires-clause-all_above
 multiply_above-make_rid-requires-clause-all_above t c =
-    higher_all_above c.args.memory.now c.args.a c.args.b c.parts-one.result c.is_sound.ensures c.requires.has_a
-    c.requires.has_b c.parts-one.ensures c.requires.level c.multiply.new.memory c.in_ok-lo.lo c.in_ok-lo.ensures
-    c.multiply-2.new.memory c.in_ok-all.all c.in_ok-all.ensures
+    higher_all_above c.args.b c.is_sound.ensures c.requires.has_a c.requires.has_b c.parts-one.ensures c.requires.level
+    c.in_ok-lo.ensures c.in_ok-all.ensures
 
 pub multiply_above-make_rid-requires-clause-same : goal.multiply_above-make_rid-requires-clause-same
 multiply_above-make_rid-requires-clause-same t c =
-    higher_same c.args.memory.now c.args.a c.args.b c.parts-one.result c.is_sound.ensures c.requires.has_a
-    c.requires.has_b c.parts-one.ensures c.requires.level c.multiply.new.memory c.in_ok-lo.lo c.in_ok-lo.ensures
-    c.multiply-2.new.memory c.in_ok-all.all c.in_ok-all.ensures
+    higher_same c.args.b c.is_sound.ensures c.requires.has_a c.requires.has_b c.parts-one.ensures c.requires.level
+    c.in_ok-lo.ensures c.in_ok-all.ensures
 
 pub multiply_above-returns-in_err-all : goal.multiply_above-returns-in_err-all
 multiply_above-returns-in_err-all t c =
@@ -164,7 +141,5 @@ multiply_above-returns-in_err-all t c =
 
 pub multiply_above-returns : goal.multiply_above-returns
 multiply_above-returns t c =
-    higher_multiplied c.args.memory.now c.args.a c.args.b c.parts-one.result c.is_sound.ensures c.requires.has_a
-    c.requires.has_b c.parts-one.ensures c.requires.level c.multiply.new.memory c.in_ok-lo.lo c.in_ok-lo.ensures
-    c.multiply-2.new.memory c.in_ok-all.all c.in_ok-all.ensures c.make_rid.new.memory c.make_rid.result
-    c.make_rid.ensures
+    higher_multiplied c.args.b c.is_sound.ensures c.requires.has_a c.requires.has_b c.parts-one.ensures c.requires.level
+    c.in_ok-lo.ensures c.in_ok-all.ensures c.make_rid.new.memory c.make_rid.result c.make_rid.ensures

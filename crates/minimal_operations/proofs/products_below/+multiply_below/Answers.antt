@@ -1,4 +1,4 @@
-use Rattle.std.proofs.Common.{ℕ, ◌<◌, List, subst, sym, arith}
+use Rattle.std.proofs.Common.{ℕ, List, subst, sym, arith}
 use Rattle.std.proofs.lemmas.Result.{err_from_is_err_and}
 use Rattle.minimal_families.specs.Least.{IsLeastProduct}
 use Rattle.family_memory.specs.Memory.{Held, Gave, family_in}
@@ -6,7 +6,6 @@ use Rattle.family_memory.proofs.After.{Gave-there, RanOut-then}
 use Rattle.kept_answers.specs.declared.answers.Operation.TheVariants.{Product}
 use Rattle.minimal_operations.proofs.Ends.{product_ends}
 use Rattle.minimal_operations.proofs.Telling.{told_made}
-use Rattle.minimal_operations.proofs.Steps.{levels_from}
 use Rattle.minimal_operations.proofs.BelowSteps.{lo_fewer, lo_below, hi_fewer, hi_below, lo_above, hi_above}
 use Rattle.minimal_operations.proofs.BelowSteps.{parts_antichain, parts_multiplied}
 use Rattle.minimal_operations.proofs.products_below.+multiply_below.Goals as goal
@@ -39,63 +38,37 @@ multiply_below-returns t c =
 
 pub multiply_parts-multiply_below-requires : goal.multiply_parts-multiply_below-requires
 multiply_parts-multiply_below-requires t c =
-    let fewer : levels_from c.args.memory.now c.parts-one.result.lo < levels_from c.args.memory.now c.args.a =
-    lo_fewer c.args.memory.now c.args.a c.args.b c.parts-one.result c.is_sound.ensures c.requires.has_a c.requires.has_b
-    c.parts-one.ensures c.requires.below in (
-      omega (arith, fewer),
-      (
-        c.parts-one.ensures.has_lo,
-        (
-          c.requires.has_b,
-          lo_below c.args.memory.now c.args.a c.args.b c.parts-one.result c.is_sound.ensures c.requires.has_a
-              c.requires.has_b
-              c.parts-one.ensures c.requires.below,
-        ),
-      ),
-    )
+    let has_a = c.requires.has_a in
+    let has_b = c.requires.has_b in
+    let fewer = lo_fewer c.args.b c.is_sound.ensures has_a has_b c.parts-one.ensures c.requires.below in
+    let below = lo_below c.args.b c.is_sound.ensures has_a has_b c.parts-one.ensures c.requires.below in
+    (omega (arith, fewer), (c.parts-one.ensures.has_lo, (has_b, below)))
 
 pub multiply_parts-multiply_below-requires-2 : goal.multiply_parts-multiply_below-requires-2
 multiply_parts-multiply_below-requires-2 t c =
-    let fewer : levels_from c.multiply_below.new.memory c.parts-one.result.hi
-    < levels_from c.args.memory.now c.args.a =
-    hi_fewer c.args.memory.now c.args.a c.args.b c.parts-one.result c.is_sound.ensures c.requires.has_a c.requires.has_b
-    c.parts-one.ensures c.requires.below c.multiply_below.new.memory c.in_ok-lo.lo c.in_ok-lo.ensures in
+    let fewer = hi_fewer c.args.b c.is_sound.ensures c.requires.has_a c.requires.has_b c.parts-one.ensures
+    c.requires.below c.in_ok-lo.ensures in
+    let below = hi_below c.args.b c.is_sound.ensures c.requires.has_a c.requires.has_b c.parts-one.ensures
+    c.requires.below c.in_ok-lo.ensures in
     let longer = c.in_ok-lo.ensures.went.longer in
     let has = c.parts-one.ensures.has_hi in
-    let has' = c.requires.has_b in (
-      omega (arith, fewer),
-      (
-        omega (arith, longer, has),
-        (
-          omega (arith, longer, has'),
-          hi_below c.args.memory.now c.args.a c.args.b c.parts-one.result c.is_sound.ensures c.requires.has_a
-              c.requires.has_b
-              c.parts-one.ensures c.requires.below c.multiply_below.new.memory c.in_ok-lo.lo c.in_ok-lo.ensures,
-        ),
-      ),
-    )
+    let has' = c.requires.has_b in
+    (omega (arith, fewer), (omega (arith, longer, has), (omega (arith, longer, has'), below)))
 
 pub multiply_parts-branch_node-requires-clause-lo_above : goal.multiply_parts-branch_node-requires-clause-lo_above
 multiply_parts-branch_node-requires-clause-lo_above t c =
-    lo_above c.args.memory.now c.args.a c.args.b c.parts-one.result c.is_sound.ensures c.requires.has_a c.requires.has_b
-    c.parts-one.ensures c.requires.below c.multiply_below.new.memory c.in_ok-lo.lo c.in_ok-lo.ensures
-    c.multiply_below-2.new.memory
-    c.in_ok-hi.hi c.in_ok-hi.ensures
+    lo_above c.args.b c.is_sound.ensures c.requires.has_a c.requires.has_b c.parts-one.ensures c.requires.below
+    c.in_ok-lo.ensures c.in_ok-hi.ensures
 
 pub multiply_parts-branch_node-requires-clause-hi_above : goal.multiply_parts-branch_node-requires-clause-hi_above
 multiply_parts-branch_node-requires-clause-hi_above t c =
-    hi_above c.args.memory.now c.args.a c.args.b c.parts-one.result c.is_sound.ensures c.requires.has_a c.requires.has_b
-    c.parts-one.ensures c.requires.below c.multiply_below.new.memory c.in_ok-lo.lo c.in_ok-lo.ensures
-    c.multiply_below-2.new.memory
-    c.in_ok-hi.hi c.in_ok-hi.ensures
+    hi_above c.args.b c.is_sound.ensures c.requires.has_a c.requires.has_b c.parts-one.ensures c.requires.below
+    c.in_ok-lo.ensures c.in_ok-hi.ensures
 
 pub multiply_parts-branch_node-requires-clause-antichain : goal.multiply_parts-branch_node-requires-clause-antichain
 multiply_parts-branch_node-requires-clause-antichain t c =
-    parts_antichain c.args.memory.now c.args.a c.args.b c.parts-one.result c.is_sound.ensures c.requires.has_a
-    c.requires.has_b
-    c.parts-one.ensures c.requires.below c.multiply_below.new.memory c.in_ok-lo.lo c.in_ok-lo.ensures
-    c.multiply_below-2.new.memory
-    c.in_ok-hi.hi c.in_ok-hi.ensures
+    parts_antichain c.args.b c.is_sound.ensures c.requires.has_a c.requires.has_b c.parts-one.ensures c.requires.below
+    c.in_ok-lo.ensures c.in_ok-hi.ensures
 
 pub multiply_parts-returns-in_err-hi : goal.multiply_parts-returns-in_err-hi
 multiply_parts-returns-in_err-hi t c =
@@ -105,8 +78,5 @@ multiply_parts-returns-in_err-hi t c =
 
 pub multiply_parts-returns : goal.multiply_parts-returns
 multiply_parts-returns t c =
-    parts_multiplied c.args.memory.now c.args.a c.args.b c.parts-one.result c.is_sound.ensures c.requires.has_a
-    c.requires.has_b
-    c.parts-one.ensures c.requires.below c.multiply_below.new.memory c.in_ok-lo.lo c.in_ok-lo.ensures
-    c.multiply_below-2.new.memory
-    c.in_ok-hi.hi c.in_ok-hi.ensures c.branch_node.new.memory c.branch_node.result c.branch_node.ensures
+    parts_multiplied c.args.b c.is_sound.ensures c.requires.has_a c.requires.has_b c.parts-one.ensures c.requires.below
+    c.in_ok-lo.ensures c.in_ok-hi.ensures c.branch_node.new.memory c.branch_node.result c.branch_node.ensures

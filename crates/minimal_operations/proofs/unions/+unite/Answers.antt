@@ -1,4 +1,4 @@
-use Rattle.std.proofs.Common.{ℕ, ◌<◌, List, subst, sym, arith}
+use Rattle.std.proofs.Common.{ℕ, List, subst, sym, arith}
 use Rattle.std.proofs.lemmas.Result.{err_from_is_err_and}
 use Rattle.minimal_families.specs.Least.{IsLeastUnion}
 use Rattle.family_memory.specs.Memory.{Held, Gave, family_in}
@@ -6,7 +6,6 @@ use Rattle.family_memory.proofs.After.{Gave-there, RanOut-then}
 use Rattle.kept_answers.specs.declared.answers.Operation.TheVariants.{Union}
 use Rattle.minimal_operations.proofs.Ends.{union_ends}
 use Rattle.minimal_operations.proofs.Telling.{told_made}
-use Rattle.minimal_operations.proofs.Steps.{levels_of_both}
 use Rattle.minimal_operations.proofs.Swapping.{united_swapped}
 use Rattle.minimal_operations.proofs.UnionSteps.{lo_fewer, all_fewer, lo_above, all_above, both_united, first_fewer}
 use Rattle.minimal_operations.proofs.UnionSteps.{first_above, first_all_above, first_same, first_united}
@@ -46,18 +45,12 @@ unite_levels-returns-then-second-first t c =
 
 pub unite_both-unite-requires : goal.unite_both-unite-requires
 unite_both-unite-requires t c =
-    let fewer : levels_of_both c.args.memory.now c.parts-one.result.lo c.parts-other.result.lo
-    < levels_of_both c.args.memory.now c.args.a c.args.b =
-    lo_fewer c.args.memory.now c.args.a c.args.b c.parts-one.result c.parts-other.result c.is_sound.ensures
-    c.parts-one.ensures c.parts-other.ensures c.requires.level in
+    let fewer = lo_fewer c.is_sound.ensures c.parts-one.ensures c.parts-other.ensures c.requires.level in
     (omega (arith, fewer), (c.parts-one.ensures.has_lo, c.parts-other.ensures.has_lo))
 
 pub unite_both-unite-requires-2 : goal.unite_both-unite-requires-2
 unite_both-unite-requires-2 t c =
-    let fewer : levels_of_both c.unite.new.memory c.parts-one.result.hi c.parts-other.result.hi
-    < levels_of_both c.args.memory.now c.args.a c.args.b =
-    all_fewer c.args.memory.now c.args.a c.args.b c.parts-one.result c.parts-other.result c.is_sound.ensures
-    c.parts-one.ensures c.parts-other.ensures c.requires.level c.unite.new.memory c.in_ok-lo.lo
+    let fewer = all_fewer c.is_sound.ensures c.parts-one.ensures c.parts-other.ensures c.requires.level
     c.in_ok-lo.ensures in
     let longer = c.in_ok-lo.ensures.went.longer in
     let has = c.parts-one.ensures.has_hi in
@@ -66,15 +59,13 @@ unite_both-unite-requires-2 t c =
 
 pub unite_both-make_rid-requires-clause-lo_above : goal.unite_both-make_rid-requires-clause-lo_above
 unite_both-make_rid-requires-clause-lo_above t c =
-    lo_above c.args.memory.now c.args.a c.args.b c.parts-one.result c.parts-other.result c.is_sound.ensures
-    c.parts-one.ensures c.parts-other.ensures c.requires.level c.unite.new.memory c.in_ok-lo.lo c.in_ok-lo.ensures
-    c.unite-2.new.memory c.in_ok-all.all c.in_ok-all.ensures
+    lo_above c.is_sound.ensures c.parts-one.ensures c.parts-other.ensures c.requires.level c.in_ok-lo.ensures
+    c.in_ok-all.ensures
 
 pub unite_both-make_rid-requires-clause-all_above : goal.unite_both-make_rid-requires-clause-all_above
 unite_both-make_rid-requires-clause-all_above t c =
-    all_above c.args.memory.now c.args.a c.args.b c.parts-one.result c.parts-other.result c.is_sound.ensures
-    c.parts-one.ensures c.parts-other.ensures c.requires.level c.unite.new.memory c.in_ok-lo.lo c.in_ok-lo.ensures
-    c.unite-2.new.memory c.in_ok-all.all c.in_ok-all.ensures
+    all_above c.is_sound.ensures c.parts-one.ensures c.parts-other.ensures c.requires.level c.in_ok-lo.ensures
+    c.in_ok-all.ensures
 
 pub unite_both-returns-in_err-all : goal.unite_both-returns-in_err-all
 unite_both-returns-in_err-all t c =
@@ -84,36 +75,31 @@ unite_both-returns-in_err-all t c =
 
 pub unite_both-returns : goal.unite_both-returns
 unite_both-returns t c =
-    both_united c.args.memory.now c.args.a c.args.b c.parts-one.result c.parts-other.result c.is_sound.ensures
-    c.parts-one.ensures c.parts-other.ensures c.requires.level c.unite.new.memory c.in_ok-lo.lo c.in_ok-lo.ensures
-    c.unite-2.new.memory c.in_ok-all.all c.in_ok-all.ensures c.make_rid.new.memory c.make_rid.result
-    c.make_rid.ensures
+    both_united c.is_sound.ensures c.parts-one.ensures c.parts-other.ensures c.requires.level c.in_ok-lo.ensures
+    c.in_ok-all.ensures c.make_rid.new.memory c.make_rid.result c.make_rid.ensures
 
 pub unite_above-unite-requires : goal.unite_above-unite-requires
 unite_above-unite-requires t c =
-    let fewer : levels_of_both c.args.memory.now c.parts-one.result.lo c.args.b
-    < levels_of_both c.args.memory.now c.args.a c.args.b =
-    first_fewer c.args.memory.now c.args.a c.args.b c.parts-one.result c.is_sound.ensures c.requires.has_a
-    c.requires.has_b c.parts-one.ensures c.requires.level in
+    let fewer = first_fewer c.args.b c.is_sound.ensures c.requires.has_a c.requires.has_b c.parts-one.ensures
+    c.requires.level in
     (omega (arith, fewer), (c.parts-one.ensures.has_lo, c.requires.has_b))
 
 pub unite_above-make_rid-requires-clause-lo_above : goal.unite_above-make_rid-requires-clause-lo_above
 unite_above-make_rid-requires-clause-lo_above t c =
-    first_above c.args.memory.now c.args.a c.args.b c.parts-one.result c.is_sound.ensures c.requires.has_a
-    c.requires.has_b c.parts-one.ensures c.requires.level c.unite.new.memory c.in_ok-lo.lo c.in_ok-lo.ensures
+    first_above c.args.b c.is_sound.ensures c.requires.has_a c.requires.has_b c.parts-one.ensures c.requires.level
+    c.in_ok-lo.ensures
 
 pub unite_above-make_rid-requires-clause-all_above : goal.unite_above-make_rid-requires-clause-all_above
 unite_above-make_rid-requires-clause-all_above t c =
-    first_all_above c.args.memory.now c.args.a c.args.b c.parts-one.result c.is_sound.ensures c.requires.has_a
-    c.requires.has_b c.parts-one.ensures c.requires.level c.unite.new.memory c.in_ok-lo.lo c.in_ok-lo.ensures
+    first_all_above c.args.b c.is_sound.ensures c.requires.has_a c.requires.has_b c.parts-one.ensures c.requires.level
+    c.in_ok-lo.ensures
 
 pub unite_above-make_rid-requires-clause-same : goal.unite_above-make_rid-requires-clause-same
 unite_above-make_rid-requires-clause-same t c =
-    first_same c.args.memory.now c.args.a c.args.b c.parts-one.result c.is_sound.ensures c.requires.has_a
-    c.requires.has_b c.parts-one.ensures c.requires.level c.unite.new.memory c.in_ok-lo.lo c.in_ok-lo.ensures
+    first_same c.args.b c.is_sound.ensures c.requires.has_a c.requires.has_b c.parts-one.ensures c.requires.level
+    c.in_ok-lo.ensures
 
 pub unite_above-returns : goal.unite_above-returns
 unite_above-returns t c =
-    first_united c.args.memory.now c.args.a c.args.b c.parts-one.result c.is_sound.ensures c.requires.has_a
-    c.requires.has_b c.parts-one.ensures c.requires.level c.unite.new.memory c.in_ok-lo.lo c.in_ok-lo.ensures
-    c.make_rid.new.memory c.make_rid.result c.make_rid.ensures
+    first_united c.args.b c.is_sound.ensures c.requires.has_a c.requires.has_b c.parts-one.ensures c.requires.level
+    c.in_ok-lo.ensures c.make_rid.new.memory c.make_rid.result c.make_rid.ensures

@@ -1,4 +1,4 @@
-use Rattle.std.proofs.Common.{ℕ, ◌<◌, List, subst, sym, arith}
+use Rattle.std.proofs.Common.{ℕ, List, subst, sym, arith}
 use Rattle.std.proofs.lemmas.Result.{err_from_is_err_and}
 use Rattle.family_operations.specs.Without.{IsWithout}
 use Rattle.family_memory.specs.Memory.{Held, Gave, family_in}
@@ -6,7 +6,6 @@ use Rattle.family_memory.proofs.After.{Gave-there, RanOut-then, Went-nowhere, en
 use Rattle.kept_answers.specs.declared.answers.Operation.TheVariants.{Without}
 use Rattle.minimal_operations.proofs.Ends.{without_ends}
 use Rattle.minimal_operations.proofs.Telling.{told_made}
-use Rattle.minimal_operations.proofs.Steps.{levels_from}
 use Rattle.minimal_operations.proofs.WithoutSteps.{lo_fewer, some_fewer, went_some, went_hi, hi_fewer, has_lo}
 use Rattle.minimal_operations.proofs.WithoutSteps.{lo_above, hi_above, antichain, left_made}
 use Rattle.minimal_operations.proofs.withouts.+strip.Goals as goal
@@ -65,16 +64,12 @@ strip_nodes-returns t c =
 
 pub strip_halves-strip-requires : goal.strip_halves-strip-requires
 strip_halves-strip-requires t c =
-    let fewer : levels_from c.args.memory.now c.parts-one.result.lo < levels_from c.args.memory.now c.args.a =
-    lo_fewer c.args.memory.now c.args.a c.args.b c.parts-one.result c.half_at-other.result c.is_sound.ensures
-    c.requires.has_a c.parts-one.ensures c.half_at-other.ensures in
+    let fewer = lo_fewer c.is_sound.ensures c.requires.has_a c.parts-one.ensures c.half_at-other.ensures in
     (omega (arith, fewer), (c.parts-one.ensures.has_lo, c.half_at-other.ensures.has_lo))
 
 pub strip_halves-strip-requires-2 : goal.strip_halves-strip-requires-2
 strip_halves-strip-requires-2 t c =
-    let fewer : levels_from c.strip.new.memory c.parts-one.result.hi < levels_from c.args.memory.now c.args.a =
-    some_fewer c.args.memory.now c.args.a c.args.b c.parts-one.result c.half_at-other.result c.is_sound.ensures
-    c.requires.has_a c.parts-one.ensures c.half_at-other.ensures c.strip.new.memory c.in_ok-lo.lo
+    let fewer = some_fewer c.is_sound.ensures c.requires.has_a c.parts-one.ensures c.half_at-other.ensures
     c.in_ok-lo.ensures in
     let longer = c.in_ok-lo.ensures.went.longer in
     let has = c.parts-one.ensures.has_hi in
@@ -83,54 +78,41 @@ strip_halves-strip-requires-2 t c =
 
 pub strip_halves-strip-requires-3 : goal.strip_halves-strip-requires-3
 strip_halves-strip-requires-3 t c =
-    let fewer : levels_from c.strip-2.new.memory c.in_ok-some.some < levels_from c.args.memory.now c.args.a =
-    hi_fewer c.args.memory.now c.args.a c.args.b c.parts-one.result c.half_at-other.result c.is_sound.ensures
-    c.requires.has_a c.parts-one.ensures c.half_at-other.ensures c.strip.new.memory c.in_ok-lo.lo
-    c.in_ok-lo.ensures c.strip-2.new.memory c.in_ok-some.some c.in_ok-some.ensures in
+    let fewer = hi_fewer c.is_sound.ensures c.requires.has_a c.parts-one.ensures c.half_at-other.ensures
+    c.in_ok-lo.ensures c.in_ok-some.ensures in
     let longer =
-    (went_some c.args.memory.now c.args.a c.args.b c.parts-one.result c.half_at-other.result c.is_sound.ensures
-    c.requires.has_a c.parts-one.ensures c.half_at-other.ensures c.strip.new.memory c.in_ok-lo.lo
-    c.in_ok-lo.ensures c.strip-2.new.memory c.in_ok-some.some c.in_ok-some.ensures).longer in
+    (went_some c.is_sound.ensures c.requires.has_a c.parts-one.ensures c.half_at-other.ensures c.in_ok-lo.ensures
+    c.in_ok-some.ensures).longer in
     let has' = c.half_at-other.ensures.has_lo in
     (omega (arith, fewer), (c.in_ok-some.ensures.has, omega (arith, longer, has')))
 
 pub strip_halves-make_or_known-requires-clause-has_known : goal.strip_halves-make_or_known-requires-clause-has_known
 strip_halves-make_or_known-requires-clause-has_known t c =
     let longer =
-    (went_hi c.args.memory.now c.args.a c.args.b c.parts-one.result c.half_at-other.result c.is_sound.ensures
-    c.requires.has_a c.parts-one.ensures c.half_at-other.ensures c.strip.new.memory c.in_ok-lo.lo c.in_ok-lo.ensures
-    c.strip-2.new.memory c.in_ok-some.some c.in_ok-some.ensures c.strip-3.new.memory c.in_ok-hi.hi
-    c.in_ok-hi.ensures).longer in
+    (went_hi c.is_sound.ensures c.requires.has_a c.parts-one.ensures c.half_at-other.ensures c.in_ok-lo.ensures
+    c.in_ok-some.ensures c.in_ok-hi.ensures).longer in
     let has = c.requires.has_a in
     omega (arith, longer, has)
 
 pub strip_halves-make_or_known-requires-clause-has_lo : goal.strip_halves-make_or_known-requires-clause-has_lo
 strip_halves-make_or_known-requires-clause-has_lo t c =
-    has_lo c.args.memory.now c.args.a c.args.b c.parts-one.result c.half_at-other.result c.is_sound.ensures
-    c.requires.has_a c.parts-one.ensures c.half_at-other.ensures c.strip.new.memory c.in_ok-lo.lo c.in_ok-lo.ensures
-    c.strip-2.new.memory c.in_ok-some.some c.in_ok-some.ensures c.strip-3.new.memory c.in_ok-hi.hi
-    c.in_ok-hi.ensures
+    has_lo c.is_sound.ensures c.requires.has_a c.parts-one.ensures c.half_at-other.ensures c.in_ok-lo.ensures
+    c.in_ok-some.ensures c.in_ok-hi.ensures
 
 pub strip_halves-make_or_known-requires-clause-lo_above : goal.strip_halves-make_or_known-requires-clause-lo_above
 strip_halves-make_or_known-requires-clause-lo_above t c =
-    lo_above c.args.memory.now c.args.a c.args.b c.parts-one.result c.half_at-other.result c.is_sound.ensures
-    c.requires.has_a c.parts-one.ensures c.half_at-other.ensures c.strip.new.memory c.in_ok-lo.lo c.in_ok-lo.ensures
-    c.strip-2.new.memory c.in_ok-some.some c.in_ok-some.ensures c.strip-3.new.memory c.in_ok-hi.hi
-    c.in_ok-hi.ensures
+    lo_above c.is_sound.ensures c.requires.has_a c.parts-one.ensures c.half_at-other.ensures c.in_ok-lo.ensures
+    c.in_ok-some.ensures c.in_ok-hi.ensures
 
 pub strip_halves-make_or_known-requires-clause-hi_above : goal.strip_halves-make_or_known-requires-clause-hi_above
 strip_halves-make_or_known-requires-clause-hi_above t c =
-    hi_above c.args.memory.now c.args.a c.args.b c.parts-one.result c.half_at-other.result c.is_sound.ensures
-    c.requires.has_a c.parts-one.ensures c.half_at-other.ensures c.strip.new.memory c.in_ok-lo.lo c.in_ok-lo.ensures
-    c.strip-2.new.memory c.in_ok-some.some c.in_ok-some.ensures c.strip-3.new.memory c.in_ok-hi.hi
-    c.in_ok-hi.ensures
+    hi_above c.is_sound.ensures c.requires.has_a c.parts-one.ensures c.half_at-other.ensures c.in_ok-lo.ensures
+    c.in_ok-some.ensures c.in_ok-hi.ensures
 
 pub strip_halves-make_or_known-requires-clause-antichain : goal.strip_halves-make_or_known-requires-clause-antichain
 strip_halves-make_or_known-requires-clause-antichain t c =
-    antichain c.args.memory.now c.args.a c.args.b c.parts-one.result c.half_at-other.result c.is_sound.ensures
-    c.requires.has_a c.parts-one.ensures c.half_at-other.ensures c.strip.new.memory c.in_ok-lo.lo c.in_ok-lo.ensures
-    c.strip-2.new.memory c.in_ok-some.some c.in_ok-some.ensures c.strip-3.new.memory c.in_ok-hi.hi
-    c.in_ok-hi.ensures
+    antichain c.is_sound.ensures c.requires.has_a c.parts-one.ensures c.half_at-other.ensures c.in_ok-lo.ensures
+    c.in_ok-some.ensures c.in_ok-hi.ensures
 
 pub strip_halves-returns-in_err-some : goal.strip_halves-returns-in_err-some
 strip_halves-returns-in_err-some t c =
@@ -141,14 +123,11 @@ strip_halves-returns-in_err-some t c =
 pub strip_halves-returns-in_err-hi : goal.strip_halves-returns-in_err-hi
 strip_halves-returns-in_err-hi t c =
     let p = err_from_is_err_and c.from_residual-in_err-hi.result c.from_residual-in_err-hi.ensures.1 in
-    rw p.1 (RanOut-then c.args.memory.now c.strip-2.new.memory c.strip-3.new.memory
-    (went_some c.args.memory.now c.args.a c.args.b c.parts-one.result c.half_at-other.result c.is_sound.ensures
-    c.requires.has_a c.parts-one.ensures c.half_at-other.ensures c.strip.new.memory c.in_ok-lo.lo c.in_ok-lo.ensures
-    c.strip-2.new.memory c.in_ok-some.some c.in_ok-some.ensures) c.in_err-hi.ensures)
+    rw p.1 (RanOut-then c.args.memory.now c.strip-2.new.memory c.strip-3.new.memory (went_some c.is_sound.ensures
+    c.requires.has_a c.parts-one.ensures c.half_at-other.ensures c.in_ok-lo.ensures c.in_ok-some.ensures)
+    c.in_err-hi.ensures)
 
 pub strip_halves-returns : goal.strip_halves-returns
 strip_halves-returns t c =
-    left_made c.args.memory.now c.args.a c.args.b c.parts-one.result c.half_at-other.result c.is_sound.ensures
-    c.requires.has_a c.parts-one.ensures c.half_at-other.ensures c.strip.new.memory c.in_ok-lo.lo c.in_ok-lo.ensures
-    c.strip-2.new.memory c.in_ok-some.some c.in_ok-some.ensures c.strip-3.new.memory c.in_ok-hi.hi
-    c.in_ok-hi.ensures c.make_or_known.new.memory c.make_or_known.result c.make_or_known.ensures
+    left_made c.is_sound.ensures c.requires.has_a c.parts-one.ensures c.half_at-other.ensures c.in_ok-lo.ensures
+    c.in_ok-some.ensures c.in_ok-hi.ensures c.make_or_known.new.memory c.make_or_known.result c.make_or_known.ensures
