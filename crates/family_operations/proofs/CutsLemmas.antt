@@ -4,7 +4,7 @@ use Rattle.std.specs.List.{AllByRecursion}
 use Rattle.std.proofs.Common.{refl, sym, subst, inl, inr, arith}
 use Rattle.std.proofs.lemmas.List.Elements.{All-contains, All-from_recursion}
 use Rattle.unit_sets.specs.UnitList.{IsRising}
-use Rattle.unit_sets.proofs.Sorted.{Contains-cons_first, Contains-cons_other}
+use Rattle.unit_sets.proofs.Sorted.{Contains-nil, Contains-cons_first, Contains-cons_other, Contains-cons_cases}
 use Rattle.zdd_families.specs.Family.{IsFamily, IsAbove, IsSetAbove, branch}
 use Rattle.zdd_families.proofs.Members.{HasWith, branch-has_lo, branch-has_hi, branch-cases}
 use Rattle.family_operations.specs.Cuts.{Cuts}
@@ -25,6 +25,14 @@ set_above x f set above h = each-contains (IsSetAbove x) f set above h
 
 pub set_rises : (f : List (List ℕ)) (set : List ℕ) → IsFamily f → Contains f set → IsRising set
 set_rises f set is h = each-contains IsRising f set is.rising h
+
+-- the one set of the family of the empty set alone
+pub only_empty : (set : List ℕ) → Contains ([] ∷ []) set → [] ≡ set
+only_empty set h =
+    elim (Contains-cons_cases [] set [] h) [
+      | inl same ↦ same
+      | inr later ↦ Contains-nil set later
+    ]
 
 -- ---- the sets of a family that is cut
 

@@ -1,13 +1,13 @@
 -- What follows from the definitions of `specs/Product`.
 use Rattle.std.specs.Prelude.{◌≡◌, ◌⊎◌, ℕ, List, [], ◌∷◌, Contains}
 use Rattle.std.proofs.Common.{refl, sym, ◌∙◌, ap, subst, inl, inr}
-use Rattle.unit_sets.proofs.Sorted.{Contains-nil, Contains-cons_first, Contains-cons_cases}
+use Rattle.unit_sets.proofs.Sorted.{Contains-nil, Contains-cons_first}
 use Rattle.zdd_families.specs.Family.{IsFamily, IsAbove, IsSetAbove, branch}
 use Rattle.zdd_families.proofs.FamilyLemmas.{IsFamily-branch, IsFamily-nil, same_family}
 use Rattle.zdd_families.proofs.Members.{HasWith, branch-has_lo, branch-has_hi, branch-cases}
 use Rattle.family_operations.specs.Cuts.{Cuts}
 use Rattle.family_operations.proofs.CutsLemmas.{cut_cases, cut_has_lo, cut_has_hi, set_above, set_rises}
-use Rattle.family_operations.proofs.CutsLemmas.{each-from_contains}
+use Rattle.family_operations.proofs.CutsLemmas.{each-from_contains, only_empty}
 use Rattle.family_operations.specs.Sets.{joined}
 use Rattle.family_operations.proofs.SetsLemmas.{joined-left, joined-right, joined-both, joined-nil, IsSetAbove-joined}
 use Rattle.family_operations.proofs.UnionLemmas.{union-above}
@@ -17,6 +17,12 @@ pub product-one : (f g h h' : List (List ℕ)) → IsProduct f g h → IsProduct
 product-one f g h h' is is' =
     same_family h h' is.is_family is'.is_family
     (λ set. (λ has. (is'.sets set).1 ((is.sets set).0 has), λ has. (is.sets set).1 ((is'.sets set).0 has)))
+
+-- the union of a set of each family is a set of the product
+pub product-has : {f g h : List (List ℕ)} → IsProduct f g h → (a b : List ℕ) → Contains f a → Contains g b
+    → Contains h (joined a b)
+product-has is a b of_f of_g =
+    (is.sets (joined a b)).1 (record { first = a; second = b; of_f = of_f; of_g = of_g; is = refl })
 
 -- ---- ends
 
@@ -36,16 +42,10 @@ product-with_none f =
           (λ has. Contains-nil set has, λ join. Contains-nil join.second join.of_g);
     }
 
-only_one : (set : List ℕ) → Contains ([] ∷ []) set → set ≡ []
-only_one set h =
-    elim (Contains-cons_cases [] set [] h) [
-      | inl same ↦ sym same
-      | inr later ↦ Contains-nil set later
-    ]
-
 from_unit : (g : List (List ℕ)) (set : List ℕ) → IsJoin ([] ∷ []) g set → Contains g set
 from_unit g set join =
-    subst (Contains g) (sym (join.is ∙ ap (λ q. joined q join.second) (only_one join.first join.of_f))) join.of_g
+    subst (Contains g) (sym (join.is ∙ ap (λ q. joined q join.second) (sym (only_empty join.first join.of_f))))
+    join.of_g
 
 pub product-unit : (g : List (List ℕ)) → IsFamily g → IsProduct ([] ∷ []) g g
 product-unit g is = record {
@@ -60,7 +60,7 @@ product-unit g is = record {
 from_with_unit : (f : List (List ℕ)) (set : List ℕ) → IsFamily f → IsJoin f ([] ∷ []) set → Contains f set
 from_with_unit f set is join =
     subst (Contains f)
-    (sym (join.is ∙ ap (λ q. joined join.first q) (only_one join.second join.of_g)
+    (sym (join.is ∙ ap (λ q. joined join.first q) (sym (only_empty join.second join.of_g))
     ∙ joined-nil join.first (set_rises f join.first is join.of_f)))
     join.of_f
 
@@ -168,14 +168,7 @@ module _ (x : ℕ) (f f0 f1 g g0 g1 h0 h1 : List (List ℕ)) (cut : Cuts x f f0 
       (sym (joined-both x a b (set_above x f1 a cut.hi_above of_f) (set_above x g1 b cut'.hi_above of_g)
       (set_rises g1 b hi_family of_g)))
       (some_into (joined a b) ((parts.some_is.sets (joined a b)).1
-      (inl ((parts.both_is.sets (joined a b)).1 (record {
-        first = a;
-        second = b;
-        of_f = of_f;
-        of_g = of_g;
-        is =
-            refl;
-      })))))
+      (inl (product-has parts.both_is a b of_f of_g))))
 
   first_from : (a b : List ℕ) → Contains f1 a → Contains g0 b → Contains (branch x h0 h1) (joined (x ∷ a) b)
   first_from a b of_f of_g =
@@ -183,14 +176,7 @@ module _ (x : ℕ) (f f0 f1 g g0 g1 h0 h1 : List (List ℕ)) (cut : Cuts x f f0 
       (sym (joined-left x a b (set_above x f1 a cut.hi_above of_f) (set_above x g0 b cut'.lo_above of_g)
       (set_rises g0 b lo_family of_g)))
       (some_into (joined a b) ((parts.some_is.sets (joined a b)).1
-      (inr ((parts.first_is.sets (joined a b)).1 (record {
-        first = a;
-        second = b;
-        of_f = of_f;
-        of_g = of_g;
-        is =
-            refl;
-      })))))
+      (inr (product-has parts.first_is a b of_f of_g))))
 
   second_from : (a b : List ℕ) → Contains f0 a → Contains g1 b → Contains (branch x h0 h1) (joined a (x ∷ b))
   second_from a b of_f of_g =
@@ -198,19 +184,11 @@ module _ (x : ℕ) (f f0 f1 g g0 g1 h0 h1 : List (List ℕ)) (cut : Cuts x f f0 
       (sym (joined-right x a b (set_above x f0 a cut.lo_above of_f) (set_above x g1 b cut'.hi_above of_g)
       (set_rises g1 b hi_family of_g)))
       (branch-has_hi x h0 h1 (joined a b) ((parts.all_is.sets (joined a b)).1
-      (inr ((parts.second_is.sets (joined a b)).1 (record {
-        first = a;
-        second = b;
-        of_f = of_f;
-        of_g = of_g;
-        is =
-            refl;
-      })))))
+      (inr (product-has parts.second_is a b of_f of_g))))
 
   none_from : (a b : List ℕ) → Contains f0 a → Contains g0 b → Contains (branch x h0 h1) (joined a b)
   none_from a b of_f of_g =
-      branch-has_lo x h0 h1 (joined a b) ((parts.none_is.sets (joined a b)).1
-      (record { first = a; second = b; of_f = of_f; of_g = of_g; is = refl }))
+      branch-has_lo x h0 h1 (joined a b) (product-has parts.none_is a b of_f of_g)
 
   joins : (a b : List ℕ) → Contains f0 a ⊎ HasWith x f1 a → Contains g0 b ⊎ HasWith x g1 b
       → Contains (branch x h0 h1) (joined a b)

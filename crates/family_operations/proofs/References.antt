@@ -1,5 +1,5 @@
 -- The families of known references, as the operations cut them.
-use Rattle.std.specs.Prelude.{◌≡◌, ◌≢◌, ℕ, ◌≤◌, []}
+use Rattle.std.specs.Prelude.{◌≡◌, ◌≢◌, ℕ, ◌≤◌}
 use Rattle.std.proofs.Common.{sym, ◌∙◌, inl, arith}
 use Rattle.zdd_words.specs.Word.{level_of, lo_of, hi_of}
 use Rattle.zdd_families.specs.Map.{Knows, IsClosed, IsUnique, family}

@@ -3,10 +3,10 @@ use Rattle.std.specs.Prelude.{◌≡◌, ◌⊎◌, ℕ, zero, suc, Bool, true, 
 use Rattle.std.proofs.Common.{refl, sym, ◌∙◌, ap, subst, inl, inr}
 use Rattle.unit_sets.specs.UnitList.{among, IsRising}
 use Rattle.unit_sets.proofs.UnitListLemmas.{same_set}
-use Rattle.unit_sets.proofs.Sorted.{Contains-nil, Contains-cons_first, Contains-cons_cases}
+use Rattle.unit_sets.proofs.Sorted.{Contains-nil, Contains-cons_first}
 use Rattle.zdd_families.specs.Family.{IsFamily}
 use Rattle.zdd_families.proofs.FamilyLemmas.{IsFamily-nil, IsFamily-unit, same_family}
-use Rattle.family_operations.proofs.CutsLemmas.{set_rises}
+use Rattle.family_operations.proofs.CutsLemmas.{set_rises, only_empty}
 use Rattle.family_operations.specs.Sets.{joined}
 use Rattle.family_operations.proofs.SetsLemmas.{among-joined, IsRising-joined, joined-nil}
 use Rattle.family_operations.specs.Union.{IsUnion}
@@ -21,19 +21,12 @@ votes-one count families h h' is is' =
 
 -- ---- before the first family
 
-only_one : (set : List ℕ) → Contains ([] ∷ []) set → [] ≡ set
-only_one set h =
-    elim (Contains-cons_cases [] set [] h) [
-      | inl same ↦ same
-      | inr later ↦ Contains-nil set later
-    ]
-
 pub no_votes : IsVotes 0 [] ([] ∷ [])
 no_votes =
     record {
       is_family = IsFamily-unit;
       sets = λ set.
-          (λ has. sym (only_one set has), λ same. subst (Contains ([] ∷ [])) (sym same) (Contains-cons_first [] []));
+          (λ has. sym (only_empty set has), λ same. subst (Contains ([] ∷ [])) (sym same) (Contains-cons_first [] []));
     }
 
 pub no_more_votes : (count : ℕ) → IsVotes (suc count) [] []

@@ -2,13 +2,14 @@
 use Rattle.std.specs.Prelude.{◌≡◌, ℕ, false, List, [], ◌∷◌, Contains}
 use Rattle.std.proofs.Common.{refl, sym, ◌∙◌, ap, subst, inl, inr}
 use Rattle.std.proofs.lemmas.Bool.{or_parts, or_from, false≢true, true≢false}
-use Rattle.unit_sets.proofs.Sorted.{Contains-nil, Contains-cons_cases}
+use Rattle.unit_sets.proofs.Sorted.{Contains-nil}
 use Rattle.zdd_families.specs.Family.{IsFamily, IsAbove, IsSetAbove, branch}
 use Rattle.zdd_families.proofs.FamilyLemmas.{IsFamily-branch, IsFamily-nil}
 use Rattle.zdd_families.proofs.FamilyLemmas.{IsFamily-unit, same_family}
 use Rattle.zdd_families.proofs.Members.{branch-has_lo, branch-has_hi, branch-cases}
 use Rattle.family_operations.specs.Cuts.{Cuts}
 use Rattle.family_operations.proofs.CutsLemmas.{cut_cases, cut_has_lo, cut_has_hi, set_above, each-from_contains}
+use Rattle.family_operations.proofs.CutsLemmas.{only_empty}
 use Rattle.family_operations.specs.Inclusion.{includes_one}
 use Rattle.family_operations.proofs.InclusionLemmas.{includes_one-above, includes_one-with, test-from_part}
 use Rattle.family_operations.specs.Without.{IsWithout}
@@ -34,20 +35,13 @@ without-unit f = record {
   sets = λ set. (λ has. Contains-nil set has, λ both. absurd (true≢false both.1));
 }
 
-only_one : (set : List ℕ) → Contains ([] ∷ []) set → [] ≡ set
-only_one set h =
-    elim (Contains-cons_cases [] set [] h) [
-      | inl same ↦ same
-      | inr later ↦ Contains-nil set later
-    ]
-
 -- of the empty set alone nothing is left where it is a set of g, and else all
 pub unit-without : (g : List (List ℕ)) → Contains g [] → IsWithout ([] ∷ []) g []
 unit-without g has = record {
   is_family = IsFamily-nil;
   sets = λ set. (
     λ none. Contains-nil set none,
-    λ both. absurd (false≢true (sym both.1 ∙ ap (includes_one g) (sym (only_one set both.0))
+    λ both. absurd (false≢true (sym both.1 ∙ ap (includes_one g) (sym (only_empty set both.0))
         ∙ test-from_part g [] [] has refl)),
   );
 }
@@ -55,7 +49,7 @@ unit-without g has = record {
 pub unit-without_other : (g : List (List ℕ)) → includes_one g [] ≡ false → IsWithout ([] ∷ []) g ([] ∷ [])
 unit-without_other g none = record {
   is_family = IsFamily-unit;
-  sets = λ set. (λ has. (has, ap (includes_one g) (sym (only_one set has)) ∙ none), λ both. both.0);
+  sets = λ set. (λ has. (has, ap (includes_one g) (sym (only_empty set has)) ∙ none), λ both. both.0);
 }
 
 -- ---- steps

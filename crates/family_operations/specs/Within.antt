@@ -1,7 +1,6 @@
 -- How many families have a set within a set of units, which is told as a test of a unit.
 use Rattle.std.specs.Prelude.{ℕ, ◌+◌, Bool, List, [], ◌∷◌}
 use Rattle.std.specs.Prelude.{if◌then◌else◌}
-use Rattle.std.specs.List.{list_any, list_all}
 use Rattle.unit_sets.specs.UnitList.{some_within}
 
 -- how many families of the list have a set within
