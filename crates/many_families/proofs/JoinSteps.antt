@@ -62,37 +62,45 @@ joined_end held (suc zero) same fewer sound has small below =
     absurd (below.lacks (subst (λ f. Contains f []) (sym (family-unit (map_of held))) (Contains-cons_first [] [])))
 joined_end held (suc (suc r)) same fewer sound has small below = absurd (omega arith)
 
-module _ (s0 : Held) (voter same fewer : ℕ) (one : Parts) (sound : IsSound s0) (has_voter : Has s0 voter)
-    (has_same : Has s0 same) (has_fewer : Has s0 fewer) (is : IsNodeOf s0 voter one)
-    (below : IsBelow (family_in s0 voter) (family_in s0 same) (family_in s0 fewer)) where
+-- the voter is a node, which is read, and lies below the votes of the others
+pub record JoinsNode (s0 : Held) (voter same fewer : ℕ) (one : Parts) : Type 0 where
+  pub sound : IsSound s0
+  pub has_voter : Has s0 voter
+  pub has_same : Has s0 same
+  pub has_fewer : Has s0 fewer
+  pub node : IsNodeOf s0 voter one
+  pub below : IsBelow (family_in s0 voter) (family_in s0 same) (family_in s0 fewer)
+
+module _ {s0 : Held} {voter same fewer : ℕ} {one : Parts} (step : JoinsNode s0 voter same fewer one) where
   has_level : HasUnit (family_in s0 voter) one.level
   has_level =
-      cut_unit one.level (family_in s0 voter) (family_in s0 one.lo) (family_in s0 one.hi) is.cut
-      (family-filled (map_of s0) one.hi sound.closed (knows s0 one.hi sound is.has_hi) is.filled)
+      cut_unit one.level (family_in s0 voter) (family_in s0 one.lo) (family_in s0 one.hi) step.node.cut
+      (family-filled (map_of s0) one.hi step.sound.closed (knows s0 one.hi step.sound step.node.has_hi)
+      step.node.filled)
 
   pub lo_fewer : 4096 - level_in (map_of s0) one.lo < 4096 - level_in (map_of s0) voter
-  lo_fewer = let h = is.lo_above in let e = is.level in let u = is.unit.1 in omega (arith, h, e, u)
+  lo_fewer = let h = step.node.lo_above in let e = step.node.level in let u = step.node.unit.1 in omega (arith, h, e, u)
 
   pub lo_is_below : IsBelow (family_in s0 one.lo) (family_in s0 same) (family_in s0 fewer)
   lo_is_below =
       below_lo one.level (family_in s0 voter) (family_in s0 one.lo) (family_in s0 one.hi) (family_in s0 same)
-      (family_in s0 fewer) is.cut below
+      (family_in s0 fewer) step.node.cut step.below
 
-  module _ (s1 : Held) (lo : ℕ) (gave_lo : Gave (IsJoined (family_in s0 one.lo) (family_in s0 same)
+  module _ {s1 : Held} {lo : ℕ} (gave_lo : Gave (IsJoined (family_in s0 one.lo) (family_in s0 same)
       (family_in s0 fewer)) s0 s1 lo) where
     pub has_hi : Has s1 one.hi
-    has_hi = still_has s0 s1 sound gave_lo.went one.hi is.has_hi
+    has_hi = still_has s0 s1 step.sound gave_lo.went one.hi step.node.has_hi
 
     pub still_fewer : Has s1 fewer
-    still_fewer = still_has s0 s1 sound gave_lo.went fewer has_fewer
+    still_fewer = still_has s0 s1 step.sound gave_lo.went fewer step.has_fewer
 
     pub hi_lies_below : LiesBelow (family_in s1 one.hi) (family_in s1 fewer)
     hi_lies_below =
-        of_start s0 s1 sound gave_lo.went LiesBelow one.hi fewer is.has_hi has_fewer
-        (below-hi one.level (family_in s0 voter) (family_in s0 one.lo) (family_in s0 one.hi) (family_in s0 fewer) is.cut
-        below.fewer_above)
+        of_start s0 s1 step.sound gave_lo.went LiesBelow one.hi fewer step.node.has_hi step.has_fewer
+        (below-hi one.level (family_in s0 voter) (family_in s0 one.lo) (family_in s0 one.hi) (family_in s0 fewer)
+        step.node.cut step.below.fewer_above)
 
-    module _ (s2 : Held) (hi : ℕ) (gave_hi : Gave (IsLeastProduct (family_in s1 one.hi) (family_in s1 fewer)) s1 s2
+    module _ {s2 : Held} {hi : ℕ} (gave_hi : Gave (IsLeastProduct (family_in s1 one.hi) (family_in s1 fewer)) s1 s2
         hi) where
       went_parts : Went s0 s2
       went_parts = Went-then s0 s1 s2 gave_lo.went gave_hi.went
@@ -104,28 +112,30 @@ module _ (s0 : Held) (voter same fewer : ℕ) (one : Parts) (sound : IsSound s0)
 
       hi_is : IsLeastProduct (family_in s0 one.hi) (family_in s0 fewer) (family_in s2 hi)
       hi_is =
-          at_start s0 s1 sound gave_lo.went (λ f g. IsLeastProduct f g (family_in s2 hi)) one.hi fewer is.has_hi
-          has_fewer gave_hi.is
+          at_start s0 s1 step.sound gave_lo.went (λ f g. IsLeastProduct f g (family_in s2 hi)) one.hi fewer
+          step.node.has_hi step.has_fewer gave_hi.is
 
       pub lo_above : IsAbove one.level (family_in s2 lo)
       lo_above =
           joined_above one.level (family_in s0 voter) (family_in s0 one.lo) (family_in s0 one.hi) (family_in s0 same)
-          (family_in s0 fewer) is.cut below (family_in s2 lo) (family_in s2 hi) (sound.antichains voter has_voter)
-          (below.same_above one.level has_level) (below.fewer_above one.level has_level) lo_is hi_is
+          (family_in s0 fewer) step.node.cut step.below (family_in s2 lo) (family_in s2 hi)
+          (step.sound.antichains voter step.has_voter) (step.below.same_above one.level has_level)
+          (step.below.fewer_above one.level has_level) lo_is hi_is
 
       pub hi_above : IsAbove one.level (family_in s2 hi)
       hi_above =
           product_above one.level (family_in s0 voter) (family_in s0 one.lo) (family_in s0 one.hi) (family_in s0 same)
-          (family_in s0 fewer) is.cut below (family_in s2 lo) (family_in s2 hi) (sound.antichains voter has_voter)
-          (below.same_above one.level has_level) (below.fewer_above one.level has_level) lo_is hi_is
+          (family_in s0 fewer) step.node.cut step.below (family_in s2 lo) (family_in s2 hi)
+          (step.sound.antichains voter step.has_voter) (step.below.same_above one.level has_level)
+          (step.below.fewer_above one.level has_level) lo_is hi_is
 
       joined : IsJoined (family_in s0 voter) (family_in s0 same) (family_in s0 fewer)
           (branch one.level (family_in s2 lo) (family_in s2 hi))
       joined =
           joined_by_parts one.level (family_in s0 voter) (family_in s0 one.lo) (family_in s0 one.hi)
-          (family_in s0 same) (family_in s0 fewer) is.cut below (family_in s2 lo) (family_in s2 hi)
-          (sound.antichains voter has_voter) (below.same_above one.level has_level)
-          (below.fewer_above one.level has_level) lo_is hi_is
+          (family_in s0 same) (family_in s0 fewer) step.node.cut step.below (family_in s2 lo) (family_in s2 hi)
+          (step.sound.antichains voter step.has_voter) (step.below.same_above one.level has_level)
+          (step.below.fewer_above one.level has_level) lo_is hi_is
 
       pub joined_antichain : IsAntichain (branch one.level (family_in s2 lo) (family_in s2 hi))
       joined_antichain = joined.antichain

@@ -193,8 +193,7 @@ module _ (held : Held) (fs : List (List (List ℕ))) (votes member floor : ℕ) 
   voter_begins = record {
     has = has_voter;
     is = ap (family_in held) voter_is ∙ voted.waiting member (omega arith);
-    units =
-        λ some. (floor, between some, voted.units (let h = (between some).order in omega (arith, h, some)));
+    units = λ some. (floor, between some, voted.units (let h = (between some).order in omega (arith, h, some)));
   }
 
   pub voting_begins : (place : ℕ) → ((at : ℕ) → member ≤ at → votes ≤ at + 1 → place ≤ at)
@@ -221,5 +220,3 @@ member_voted held fs votes member place lower members voter inside is_voter voti
       (let n = voting.count in omega (arith, n, inside))))
       (subst (λ f. AreApartFrom lower (f ∷ drop (member + 1) fs)) is_voter.is (is_voter.units some));
 }
-
--- ---- before the last member, and after the first

@@ -1,4 +1,4 @@
-use Rattle.std.proofs.Common.{◌/◌, ◌++◌, ◌∙◌, arith, drop, length, subst}
+use Rattle.std.proofs.Common.{◌++◌, ◌∙◌, arith, drop, subst}
 use Rattle.std.proofs.lemmas.List.{length-take-le}
 use Rattle.std.proofs.lemmas.Slice.{drop-append-drop}
 use Rattle.minimal_families.specs.Least.{IsLeastOfAll, IsLeastUnion}
