@@ -91,8 +91,7 @@ still_known views seat v w mine keeps slot by =
       seat = by.seat;
       view = by.view;
       at = set_else views seat by.seat w other ∙ by.at;
-      knows =
-          by.knows;
+      knows = by.knows;
     })
 
 -- one view more at the end

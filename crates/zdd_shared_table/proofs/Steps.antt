@@ -171,18 +171,11 @@ allows_load bits slots seat v cs word before slot search s rule homes mine in_ra
     let w = loaded word before slot (get_or s.words slot 0) v in
     let kept : IsStore bits (stepped s slot (get_or s.words slot 0) seat cs w keeps) =
     same_words bits s slot seat v w cs rule mine (keeps_loaded word before slot (get_or s.words slot 0) v)
-    (Fits-loaded bits seat v word before slot search s rule mine) in (
-      w,
-      keeps,
-      tt,
-      kept,
-      (
-        refl,
-        refl,
-        sound_after bits seat (stepped s slot (get_or s.words slot 0) seat cs w keeps) w kept
-            (stands s.views seat v w mine) (sized_loaded bits word before slot (get_or s.words slot 0) v search.sized),
-      ),
-    )
+    (Fits-loaded bits seat v word before slot search s rule mine) in
+    let sound =
+    sound_after bits seat (stepped s slot (get_or s.words slot 0) seat cs w keeps) w kept (stands s.views seat v w mine)
+    (sized_loaded bits word before slot (get_or s.words slot 0) v search.sized) in
+    (w, keeps, tt, kept, (refl, refl, sound))
 
 -- an exchange in a search, of an empty slot for the word
 pub allows_exchange : (bits slots seat : ℕ) (v : View) (cs : List (ℕ × Unit {0})) (word before slot : ℕ)
@@ -193,37 +186,22 @@ allows_exchange bits slots seat v cs word before slot search s rule homes mine i
     let found : ℕ = get_or s.words slot 0 in
     let w = exchanged word before slot found v in
     let kept : IsStore bits (stepped s slot (either (found == 0) word found) seat cs w keeps) =
-    by_exchange found 0 word (λ n. IsStore bits record {
-      words = set s.words slot n;
-      homes = s.homes;
-      views =
-          set s.views seat w;
-    })
-    (λ empty. by_test (λ w. IsStore bits record {
-      words = set s.words slot word;
-      homes = s.homes;
-      views =
-          set s.views seat w;
-    }) found 0 (filled word slot v)
-    (if found == word then learned word slot v else passed_on word before v)
+    by_exchange found 0 word
+    (λ n. IsStore bits record { words = set s.words slot n; homes = s.homes; views = set s.views seat w })
+    (λ empty. by_test
+    (λ w. IsStore bits record { words = set s.words slot word; homes = s.homes; views = set s.views seat w }) found 0
+    (filled word slot v) (if found == word then learned word slot v else passed_on word before v)
     (λ _. store-filled bits seat v word before slot search s rule mine empty)
     (λ full. absurd (full empty)))
     (λ full. same_words bits s slot seat v w cs rule mine (keeps_exchanged word before slot found v)
     (by_test (Fits (λ w. home_of w bits) (2 ^ bits) s.words) found 0 (filled word slot v)
     (if found == word then learned word slot v else passed_on word before v)
     (λ empty. absurd (full empty))
-    (λ _. Fits-met bits seat v word before slot search s rule mine full))) in (
-      w,
-      keeps,
-      tt,
-      kept,
-      (
-        refl,
-        refl,
-        sound_after bits seat (stepped s slot (either (found == 0) word found) seat cs w keeps) w kept
-            (stands s.views seat v w mine) (sized_exchanged bits word before slot found v search.sized),
-      ),
-    )
+    (λ _. Fits-met bits seat v word before slot search s rule mine full))) in
+    let sound =
+    sound_after bits seat (stepped s slot (either (found == 0) word found) seat cs w keeps) w kept
+    (stands s.views seat v w mine) (sized_exchanged bits word before slot found v search.sized) in
+    (w, keeps, tt, kept, (refl, refl, sound))
 
 -- a load that tells what the rule says of the seat
 pub allows_look : (bits slots seat : ℕ) (v : View) (cs : List (ℕ × Unit {0})) (slot : ℕ) → v.size ≡ 2 ^ bits

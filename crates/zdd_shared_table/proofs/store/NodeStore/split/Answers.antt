@@ -26,8 +26,7 @@ split_seat id v share sized some sound =
       holds_none = λ i. [];
       sized = sized;
       shares = some;
-      sound =
-          sound_split v.size v.known v.missed v.fills sound;
+      sound = sound_split v.size v.known v.missed v.fills sound;
     }
 
 new_seat : (c : After-cut) → IsSeat c.cut.result.table_id c.cut.result.me
