@@ -57,15 +57,13 @@ WentAll-learned due before after learned = record {
       record {
         gained = [];
         fills = learned.counts.fills ∙ sym (append-nil before.fills);
-        each =
-            λ r none. Contains-nil r none;
+        each = λ r none. Contains-nil r none;
       };
   missed =
       record {
         gained = [];
         missed = learned.counts.missed ∙ sym (append-nil before.missed);
-        each =
-            λ word none. Contains-nil word none;
+        each = λ word none. Contains-nil word none;
       };
   fulls = learned.counts.fulls ∙ sym (add-zero before.fulls);
 }
@@ -117,10 +115,7 @@ split_went due count before after split =
       store = went.store;
       keeps = went.keeps;
       sound = went.sound;
-      fills =
-          record { gained = went.fills.gained; fills = went.fills.fills; each = went.fills.each };
-      missed =
-          record { gained = went.missed.gained; missed = went.missed.missed; each = went.missed.each };
-      fulls =
-          went.fulls;
+      fills = record { gained = went.fills.gained; fills = went.fills.fills; each = went.fills.each };
+      missed = record { gained = went.missed.gained; missed = went.missed.missed; each = went.missed.each };
+      fulls = went.fulls;
     }

@@ -105,8 +105,7 @@ module _ (store : TableId) (tree : FaultTree) (before after : Worker) (can : Can
         counts = can.counts;
         copies = can.copies;
         rooms = can.rooms;
-        full =
-            can.full;
+        full = can.full;
       })
 
 -- nothing is found that is not taken yet: so all that was found is known

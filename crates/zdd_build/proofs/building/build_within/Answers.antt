@@ -4,7 +4,7 @@ use Rattle.fault_definitions.specs.CutFamily.{IsCutFamily}
 use Rattle.fault_definitions.specs.Tree.{IsNodeOf, is_fdep}
 use Rattle.tree_families.specs.Due.{IsDueToTree}
 use Rattle.zdd_shared_table.specs.Seats.{map_of}
-use Rattle.zdd_product.specs.Seats.{KnowsOne}
+use Rattle.zdd_product.specs.Seats.{KnowsOne, WentAll}
 use Rattle.zdd_product.proofs.Several.{WentAll-nowhere, WentAll-then}
 use Rattle.zdd_build.specs.declared.places.Place.{Place}
 use Rattle.zdd_build.specs.declared.worker.Worker.{Worker}
@@ -15,6 +15,8 @@ use Rattle.zdd_build.proofs.SeatLemmas.{WentAll-learned, one_grown, split_went}
 use Rattle.zdd_build.proofs.TableLemmas.{all_made}
 use Rattle.zdd_build.proofs.TeamLemmas.{whole_slice}
 use Rattle.zdd_build.proofs.building.build_within.Goals as goal
+use Rattle.zdd_build.proofs.building.build_within.Goals.{After-close-2, In_ok-ended}
+use Rattle.zdd_build.proofs.building.build_within.Given as given
 
 pub returns-in_err-places-clause-went : goal.returns-in_err-places-clause-went
 returns-in_err-places-clause-went g c =
@@ -52,8 +54,10 @@ close-requires-2-clause-can g c =
     (sym (whole_slice new old c.open.new.team.len same (let e = c.open.new.team.ok.0 in omega (arith, e))))
     c.make_ranks-ended.ensures.can
 
-pub returns-in_err-ended-clause-went : goal.returns-in_err-ended-clause-went
-returns-in_err-ended-clause-went g c =
+-- the workers were split off, made the ranks, and were taken in again
+went : (g : given.Over) (c : After-close-2 g) → WentAll (IsDueToTree c.args.tree.now) c.args.seat.now
+    c.close-2.new.seat
+went g c =
     let due = IsDueToTree c.args.tree.now in
     WentAll-then due c.args.seat.now c.open.new.seat c.close-2.new.seat
     (split_went due (length c.open.new.team.items) c.args.seat.now c.open.new.seat c.open.ensures.split)
@@ -61,20 +65,32 @@ returns-in_err-ended-clause-went g c =
     (WentAll-learned due c.open.new.seat c.make_ranks-ended.new.seat c.make_ranks-ended.ensures.seat)
     c.close-2.ensures.went)
 
+pub returns-in_err-ended-clause-went : goal.returns-in_err-ended-clause-went
+returns-in_err-ended-clause-went g c =
+    went g (goal.at.returns-in_err-ended-clause-went g c).After-close-2
+
+-- each node that is read has its family at its place
+made : (g : given.Over) (c : In_ok-ended g) (node : ℕ) → IsNodeOf c.args.tree.now node
+    → is_fdep c.args.tree.now node ≡ false → KnowsOne (map_of c.close-2.new.seat)
+    (get_or c.make_ranks-ended.new.table.references.items (node - 1) 0) (IsCutFamily c.args.tree.now node)
+made g c node is_node read =
+    let tree = c.args.tree.now in
+    let table = c.make_ranks-ended.new.table in
+    let known = map_of c.make_ranks-ended.new.seat in
+    let later = c.close-2.ensures.went in
+    let are : ArePlaces tree c.as_slice-3.result.now =
+    subst (ArePlaces tree) (sym c.as_slice-3.ensures.value) c.in_ok-places.ensures in
+    one_grown known (map_of c.close-2.new.seat) c.make_ranks-ended.ensures.seat.sound.closed later.sound.closed
+    later.keeps (IsCutFamily tree node) (get_or table.references.items (node - 1) 0)
+    (all_made known tree are.kept c.as_slice-3.result.now are table.references.items table.made.items
+    c.in_ok-ended.ensures.built c.in_ok-ended.ensures.made node is_node read)
+
 pub returns-clause-top : goal.returns-clause-top
 returns-clause-top g c =
     let tree = c.args.tree.now in
-    let known = map_of c.make_ranks-ended.new.seat in
-    let known' = map_of c.close-2.new.seat in
     let references = c.make_ranks-ended.new.table.references.items in
-    let made = c.make_ranks-ended.new.table.made.items in
-    let places = c.as_slice-3.result.now in
-    let are : ArePlaces tree places = subst (ArePlaces tree) (sym c.as_slice-3.ensures.value) c.in_ok-places.ensures in
     let is_node = subst (λ (n : ℕ). IsNodeOf tree n) c.top.ensures.top c.top.ensures.node in
     let read = subst (λ (n : ℕ). is_fdep tree n ≡ false) c.top.ensures.top c.top.ensures.read in
-    let one =
-    all_made known tree are.kept places are references made c.in_ok-ended.ensures.built c.in_ok-ended.ensures.made
-    tree.top is_node read in
     let place : c.index.result ≡ tree.top - 1 = c.index.ensures ∙ ap (λ n. n - 1) c.top.ensures.top in
     let fits : c.index.result < length references =
     (let l = is_node.0 in let h = is_node.1 in let e = c.in_ok-ended.ensures.built.all_nodes in
@@ -82,33 +98,15 @@ returns-clause-top g c =
     let read_at : c.index-2.result.now ≡ get_or references (tree.top - 1) 0 =
     get_or_read references c.index.result c.index-2.result.now fits c.index-2.ensures 0
     ∙ ap (λ n. get_or references n 0) place in
-    subst (λ (r : ℕ). KnowsOne known' r (IsCutFamily tree tree.top)) (sym read_at)
-    (one_grown known known' c.make_ranks-ended.ensures.seat.sound.closed c.close-2.ensures.went.sound.closed
-    c.close-2.ensures.went.keeps (IsCutFamily tree tree.top) (get_or references (tree.top - 1) 0) one)
+    subst (λ (r : ℕ). KnowsOne (map_of c.close-2.new.seat) r (IsCutFamily tree tree.top)) (sym read_at)
+    (made g (goal.at.returns-clause-top g c).In_ok-ended tree.top is_node read)
 
 pub returns-clause-nodes : goal.returns-clause-nodes
-returns-clause-nodes g c node is_node read =
-    let tree = c.args.tree.now in
-    let known = map_of c.make_ranks-ended.new.seat in
-    let known' = map_of c.close-2.new.seat in
-    let references = c.make_ranks-ended.new.table.references.items in
-    let made = c.make_ranks-ended.new.table.made.items in
-    let places = c.as_slice-3.result.now in
-    let are : ArePlaces tree places = subst (ArePlaces tree) (sym c.as_slice-3.ensures.value) c.in_ok-places.ensures in
-    record {
-      reference = get_or references (node - 1) 0;
-      stands =
-          one_grown known known' c.make_ranks-ended.ensures.seat.sound.closed c.close-2.ensures.went.sound.closed
-          c.close-2.ensures.went.keeps (IsCutFamily tree node) (get_or references (node - 1) 0)
-          (all_made known tree are.kept places are references made c.in_ok-ended.ensures.built
-          c.in_ok-ended.ensures.made node is_node read);
-    }
+returns-clause-nodes g c node is_node read = record {
+  reference = get_or c.make_ranks-ended.new.table.references.items (node - 1) 0;
+  stands = made g (goal.at.returns-clause-nodes g c).In_ok-ended node is_node read;
+}
 
 pub returns-clause-went : goal.returns-clause-went
 returns-clause-went g c =
-    let due = IsDueToTree c.args.tree.now in
-    WentAll-then due c.args.seat.now c.open.new.seat c.close-2.new.seat
-    (split_went due (length c.open.new.team.items) c.args.seat.now c.open.new.seat c.open.ensures.split)
-    (WentAll-then due c.open.new.seat c.make_ranks-ended.new.seat c.close-2.new.seat
-    (WentAll-learned due c.open.new.seat c.make_ranks-ended.new.seat c.make_ranks-ended.ensures.seat)
-    c.close-2.ensures.went)
+    went g (goal.at.returns-clause-went g c).After-close-2

@@ -1,4 +1,4 @@
-use Rattle.std.proofs.Common.{◌∙◌, List, length, subst, sym, ap, arith}
+use Rattle.std.proofs.Common.{◌∙◌, ℕ, List, length, subst, sym, ap, arith}
 use Rattle.std.proofs.lemmas.List.{length_push}
 use Rattle.tree_families.specs.Due.{IsDueToTree}
 use Rattle.zdd_shared_table.specs.Seats.{Seated}
@@ -8,40 +8,47 @@ use Rattle.zdd_build.specs.declared.worker.Worker.{Worker}
 use Rattle.zdd_build.specs.Workers.{CanWork, FindsFull, IsNew}
 use Rattle.zdd_build.proofs.TeamLemmas.{close_full, close_new, close_went, last_is, others_are}
 use Rattle.zdd_build.proofs.teams.+close.Goals as goal
+use Rattle.zdd_build.proofs.teams.+close.Goals.{After-into_seat, After-join}
 
 pub returns-in_default-clause-went : goal.returns-in_default-clause-went
 returns-in_default-clause-went t c =
     WentAll-nowhere (IsDueToTree c.args.tree.now) c.args.seat.now c.is_sound.ensures.sound
 
+-- the last worker of the team
+can : (t : ℕ) (c : After-into_seat t) → CanWork c.args.store.now c.args.tree.now c.in-Some.worker
+can t c =
+    last_is (CanWork c.args.store.now c.args.tree.now) c.args.team.items c.pop.new.self.items c.in-Some.worker
+    c.in-Some.ensures.items c.requires.can
+
+-- the seat has taken in what the last worker had
+joined : (t : ℕ) (c : After-join t) → Joined c.args.seat.now c.into_seat.result c.join.new.seat
+joined t c =
+    let is = c.join.ensures in
+    record {
+      store = is.store;
+      keeps = is.keeps;
+      gains = is.gains;
+      sound = is.sound;
+      fills = is.fills;
+      missed = is.missed;
+      fulls = is.fulls;
+    }
+
 pub join-requires-clause-others : goal.join-requires-clause-others
 join-requires-clause-others t c =
     ap (λ (s : Seated). s.store) c.into_seat.ensures
-    ∙ (last_is (CanWork c.args.store.now c.args.tree.now) c.args.team.items c.pop.new.self.items c.in-Some.worker
-    c.in-Some.ensures.items c.requires.can).own
+    ∙ (can t (goal.at.join-requires-clause-others t c).After-into_seat).own
 
 pub returns-clause-went : goal.returns-clause-went
 returns-clause-went t c =
+    let to = goal.at.returns-clause-went t c in
     let due = IsDueToTree c.args.tree.now in
-    let joined : Joined c.args.seat.now c.into_seat.result c.join.new.seat = record {
-      store = c.join.ensures.store;
-      keeps = c.join.ensures.keeps;
-      gains = c.join.ensures.gains;
-      sound = c.join.ensures.sound;
-      fills = c.join.ensures.fills;
-      missed = c.join.ensures.missed;
-      fulls = c.join.ensures.fulls;
-    } in
-    close_went c.args.seat.now c.into_seat.result c.join.new.seat c.close.new.seat joined due
-    (subst (CountsDue due) (sym c.into_seat.ensures)
-    (last_is (CanWork c.args.store.now c.args.tree.now) c.args.team.items c.pop.new.self.items c.in-Some.worker
-    c.in-Some.ensures.items c.requires.can).counts)
-    c.close.ensures.went
+    close_went c.args.seat.now c.into_seat.result c.join.new.seat c.close.new.seat (joined t to.After-join) due
+    (subst (CountsDue due) (sym c.into_seat.ensures) (can t to.After-into_seat).counts) c.close.ensures.went
 
 pub returns-clause-share : goal.returns-clause-share
 returns-clause-share t c =
-    let two =
-    (last_is (CanWork c.args.store.now c.args.tree.now) c.args.team.items c.pop.new.self.items c.in-Some.worker
-    c.in-Some.ensures.items c.requires.can).share in
+    let two = (can t (goal.at.returns-clause-share t c).After-into_seat).share in
     let same = ap (λ (s : Seated). s.share) c.into_seat.ensures in
     let joined = c.join.ensures.share in
     let rest = c.close.ensures.share in
@@ -50,40 +57,21 @@ returns-clause-share t c =
     omega (arith, two, same, joined, rest, more, whole)
 
 pub returns-clause-full : goal.returns-clause-full
-returns-clause-full t c =
-    let joined : Joined c.args.seat.now c.into_seat.result c.join.new.seat = record {
-      store = c.join.ensures.store;
-      keeps = c.join.ensures.keeps;
-      gains = c.join.ensures.gains;
-      sound = c.join.ensures.sound;
-      fills = c.join.ensures.fills;
-      missed = c.join.ensures.missed;
-      fulls = c.join.ensures.fulls;
-    } in
-    (λ finds.
-    close_full c.args.seat.now c.into_seat.result c.join.new.seat c.close.new.seat joined c.args.store.now
-    c.args.tree.now (IsDueToTree c.args.tree.now) c.pop.new.self.items c.in-Some.worker (sym c.into_seat.ensures)
-    (last_is (CanWork c.args.store.now c.args.tree.now) c.args.team.items c.pop.new.self.items c.in-Some.worker
-    c.in-Some.ensures.items c.requires.can) c.close.ensures.went c.close.ensures.full
-    (subst FindsFull c.in-Some.ensures.items finds))
+returns-clause-full t c finds =
+    let to = goal.at.returns-clause-full t c in
+    close_full c.args.seat.now c.into_seat.result c.join.new.seat c.close.new.seat (joined t to.After-join)
+    c.args.store.now c.args.tree.now (IsDueToTree c.args.tree.now) c.pop.new.self.items c.in-Some.worker
+    (sym c.into_seat.ensures) (can t to.After-into_seat) c.close.ensures.went c.close.ensures.full
+    (subst FindsFull c.in-Some.ensures.items finds)
 
 pub returns-clause-new : goal.returns-clause-new
-returns-clause-new t c =
-    let joined : Joined c.args.seat.now c.into_seat.result c.join.new.seat = record {
-      store = c.join.ensures.store;
-      keeps = c.join.ensures.keeps;
-      gains = c.join.ensures.gains;
-      sound = c.join.ensures.sound;
-      fills = c.join.ensures.fills;
-      missed = c.join.ensures.missed;
-      fulls = c.join.ensures.fulls;
-    } in
-    (λ new.
+returns-clause-new t c new =
     let last : IsNew c.in-Some.worker =
     last_is IsNew c.args.team.items c.pop.new.self.items c.in-Some.worker c.in-Some.ensures.items new in
-    close_new c.args.seat.now c.into_seat.result c.join.new.seat c.close.new.seat joined
+    close_new c.args.seat.now c.into_seat.result c.join.new.seat c.close.new.seat
+    (joined t (goal.at.returns-clause-new t c).After-join)
     (ap (λ (s : Seated). s.fulls) c.into_seat.ensures ∙ last.fulls)
     (ap (λ (s : Seated). s.missed) c.into_seat.ensures ∙ last.missed)
     (ap (λ (s : Seated). s.fills) c.into_seat.ensures ∙ last.fills)
     (c.close.ensures.new (others_are IsNew c.args.team.items c.pop.new.self.items c.in-Some.worker
-    c.in-Some.ensures.items new)))
+    c.in-Some.ensures.items new))
