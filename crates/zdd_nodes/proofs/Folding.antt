@@ -15,8 +15,8 @@ module _ (IsStep DueStep : List (List ℕ) → List (List ℕ) → List (List �
     (due_next : (place : ℕ) (first : List (List ℕ)) (others : List (List (List ℕ))) (made due : List (List ℕ))
     → place < length others → IsAll first (take place others) made → DueStep made (get_or others place []) due
     → DueAll first others due)
-    (start mid after : Seated) (list : List ℕ) (first : List (List ℕ)) (sound : IsSoundSeat start)
-    (knows : All (Knows (map_of start)) list) (place made member : ℕ) (short : place < length list)
+    {start mid : Seated} (list : List ℕ) {first : List (List ℕ)} (sound : IsSoundSeat start)
+    (knows : All (Knows (map_of start)) list) (place : ℕ) {made member : ℕ} (short : place < length list)
     (member_is : member ≡ get_or list place 0)
     (so_far : Gave (IsAll first (take place (families (map_of start) list)))
     (DueAll first (families (map_of start) list)) start mid made) where
@@ -44,9 +44,9 @@ module _ (IsStep DueStep : List (List ℕ) → List (List ℕ) → List (List �
   step_due h due =
       due_next place first all had h within so_far.known.1 (subst (λ (q : List (List ℕ)). DueStep had q h) next_is due)
 
-  pub step_on : (r : ℕ) → Gave (IsStep had next) (DueStep had next) mid after r
+  pub step_on : {after : Seated} (r : ℕ) → Gave (IsStep had next) (DueStep had next) mid after r
       → Gave (IsAll first (take (place + 1) all)) (DueAll first all) start after r
-  step_on r gave = record {
+  step_on {after = after} r gave = record {
     on = WentOn-next (DueAll first all) (DueStep had next) start mid after so_far.on step_due gave.on;
     known = (
       gave.known.0,
@@ -55,5 +55,6 @@ module _ (IsStep DueStep : List (List ℕ) → List (List ℕ) → List (List �
     );
   }
 
-  pub step_full : WasFull (DueStep had next) mid after → WasFull (DueAll first all) start after
-  step_full full = WasFull-next (DueAll first all) (DueStep had next) start mid after so_far.on step_due full
+  pub step_full : {after : Seated} → WasFull (DueStep had next) mid after → WasFull (DueAll first all) start after
+  step_full {after = after} full =
+      WasFull-next (DueAll first all) (DueStep had next) start mid after so_far.on step_due full

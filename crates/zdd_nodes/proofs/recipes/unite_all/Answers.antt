@@ -6,34 +6,28 @@ use Rattle.family_operations.specs.Union.{IsUnion}
 use Rattle.tree_families.specs.Due.{IsDueToUnions}
 use Rattle.tree_families.proofs.DueSteps.{unions-more, due-to_next_union}
 use Rattle.tree_families.specs.Recipe.{IsUnionOfAll}
-use Rattle.zdd_families.specs.Map.{family}
-use Rattle.zdd_shared_table.specs.Seats.{map_of}
 use Rattle.zdd_nodes.proofs.Folding.{step_on, step_full}
 use Rattle.zdd_nodes.proofs.recipes.unite_all.Goals as goal
+use Rattle.zdd_nodes.proofs.recipes.unite_all.Goals.{After-index-others-i}
+
+-- the other that is next
+read : (c : After-index-others-i) → c.index-others-i.result ≡ get_or c.args.others.now c.loop-i.i 0
+read c = get_or_read c.args.others.now c.loop-i.i c.index-others-i.result (omega arith) c.index-others-i.is 0
 
 pub returns-in_err-made : goal.returns-in_err-made
 returns-in_err-made c =
-    let start = c.args.ops.now in
-    let list = c.args.others.now in
-    let first = family (map_of start) c.args.first in
-    let at : c.index-others-i.result ≡ get_or list c.loop-i.i 0 =
-    get_or_read list c.loop-i.i c.index-others-i.result (omega arith) c.index-others-i.is 0 in
+    let at = read (goal.at.returns-in_err-made c).After-index-others-i in
     let p = err_from_is_err_and c.from_residual.result c.from_residual.ensures.1 in
-    rw p.1 (step_full IsUnion IsDueToUnion IsUnionOfAll IsDueToUnions unions-more due-to_next_union start c.loop-i.ops
-    c.union.new.self list first c.is_sound.ensures.sound c.requires.others c.loop-i.i c.loop-i.made
-    c.index-others-i.result (omega arith) at c.loop-i.invariant.so_far c.in_err-made.ensures.full)
+    rw p.1 (step_full IsUnion IsDueToUnion IsUnionOfAll IsDueToUnions unions-more due-to_next_union c.args.others.now
+    c.is_sound.ensures.sound c.requires.others c.loop-i.i (omega arith) at c.loop-i.invariant.so_far
+    c.in_err-made.ensures.full)
 
 pub loop-i-preserved : goal.loop-i-preserved
 loop-i-preserved c =
-    let start = c.args.ops.now in
-    let list = c.args.others.now in
-    let first = family (map_of start) c.args.first in
-    let at : c.index-others-i.result ≡ get_or list c.loop-i.i 0 =
-    get_or_read list c.loop-i.i c.index-others-i.result (omega arith) c.index-others-i.is 0 in
+    let at = read (goal.at.loop-i-preserved c).After-index-others-i in
     record {
       so_far =
-          step_on IsUnion IsDueToUnion IsUnionOfAll IsDueToUnions unions-more due-to_next_union start c.loop-i.ops
-          c.union.new.self list first c.is_sound.ensures.sound c.requires.others c.loop-i.i c.loop-i.made
-          c.index-others-i.result (omega arith) at c.loop-i.invariant.so_far c.in_ok-made.made
-          c.in_ok-made.ensures.gives;
+          step_on IsUnion IsDueToUnion IsUnionOfAll IsDueToUnions unions-more due-to_next_union c.args.others.now
+          c.is_sound.ensures.sound c.requires.others c.loop-i.i (omega arith) at c.loop-i.invariant.so_far
+          c.in_ok-made.made c.in_ok-made.ensures.gives;
     }
