@@ -15,8 +15,7 @@ loop-place-init c =
     subst (IsCountingFor c.args.units c.args.cuts.now 0) (sym zeros)
     (record {
       long = length-replicate (c.args.units + 1) 0;
-      counted =
-          counting-first c.args.cuts.now (c.args.units + 1);
+      counted = counting-first c.args.cuts.now (c.args.units + 1);
     })
 
 pub count_members-requires-clause-rising : goal.count_members-requires-clause-rising

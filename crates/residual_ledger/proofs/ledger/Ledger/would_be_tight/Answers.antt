@@ -7,6 +7,7 @@ use Rattle.residual_ledger.proofs.CutLemmas.{cut_at-is, cut_fits}
 use Rattle.residual_ledger.proofs.LedgerLemmas.{cut_rises}
 use Rattle.residual_ledger.proofs.SearchLemmas.{IsLookedAt, left_is, asked-le, tight-counted, not_tight-counted}
 use Rattle.residual_ledger.proofs.SearchLemmas.{leb-not}
+use Rattle.residual_ledger.proofs.ledger.Ledger.would_be_tight.Goals.{After-index-left}
 use Rattle.residual_ledger.proofs.ledger.Ledger.would_be_tight.Goals as goal
 
 pub count_asked-requires : goal.count_asked-requires
@@ -18,72 +19,46 @@ count_asked-requires c =
     c.members.ensures.value in
     record { few = omega arith }
 
-pub overflow_sub-result : goal.overflow_sub-result
-overflow_sub-result c =
-    let view = c.self.view_is in
+-- the cut set at the place, with its count of units in service
+looked_at : (c : After-index-left) → IsLookedAt c.args.self.now.out c.args.asked.now
+    (cut_at c.args.self.now.cuts c.args.place) c.index-left.result.now
+looked_at c =
     let cuts = c.args.self.now.cuts in
     let out = c.args.self.now.out in
-    let counted : c.self.inside.counts.items ≡ residuals out cuts =
-    c.self.invariant.counted ∙ ap (λ v. residuals v.out v.cuts) view in
-    let ordered : IsOrderedCuts cuts = subst IsOrderedCuts (ap (λ v. v.cuts) view) c.self.invariant.whole.ordered in
-    let look : IsLookedAt out c.args.asked.now (cut_at cuts c.args.place) c.index-left.result.now =
+    let ordered : IsOrderedCuts cuts =
+    subst IsOrderedCuts (ap (λ v. v.cuts) c.self.view_is) c.self.invariant.whole.ordered in
     record {
-      counted = left_is out cuts c.self.inside.counts.items c.args.place c.index-left.result.now counted
-          c.requires.there c.index-left.ensures;
+      counted = left_is out cuts c.self.inside.counts.items c.args.place c.index-left.result.now
+          (c.self.invariant.counted ∙ ap (λ v. residuals v.out v.cuts) c.self.view_is) c.requires.there
+          c.index-left.ensures;
       rising = cut_rises cuts c.args.place ordered c.requires.there;
-      free =
-          c.requires.in_service;
-    } in
-    let same : c.members.result.now ≡ cut_at cuts c.args.place =
-    sym (cut_at-is cuts c.args.place c.members.result.now
+      free = c.requires.in_service;
+    }
+
+count_is : (c : goal.After-count_asked)
+    → c.count_asked.result ≡ length (filter (among c.args.asked.now) (cut_at c.args.self.now.cuts c.args.place))
+count_is c =
+    c.count_asked.ensures ∙ ap (λ xs. length (filter (among c.args.asked.now) xs))
+    (sym (cut_at-is c.args.self.now.cuts c.args.place c.members.result.now
     (subst (λ (list : List (List ℕ)). slice_get list c.args.place ≡ Some c.members.result.now)
-    (ap (λ v. v.cuts) view) c.members.ensures.value)) in
-    let count : c.count_asked.result ≡ length (filter (among c.args.asked.now) (cut_at cuts c.args.place)) =
-    c.count_asked.ensures ∙ ap (λ xs. length (filter (among c.args.asked.now) xs)) same in
-    asked-le out c.args.asked.now (cut_at cuts c.args.place) c.index-left.result.now c.count_asked.result look count
+    (ap (λ v. v.cuts) c.self.view_is) c.members.ensures.value)))
+
+pub overflow_sub-result : goal.overflow_sub-result
+overflow_sub-result c =
+    let at = goal.at.overflow_sub-result c in
+    asked-le c.args.self.now.out c.args.asked.now (cut_at c.args.self.now.cuts c.args.place) c.index-left.result.now
+    c.count_asked.result (looked_at at.After-index-left) (count_is c)
 
 pub returns-then-saturating_sub-asked : goal.returns-then-saturating_sub-asked
 returns-then-saturating_sub-asked c =
-    let view = c.self.view_is in
-    let cuts = c.args.self.now.cuts in
-    let out = c.args.self.now.out in
-    let counted : c.self.inside.counts.items ≡ residuals out cuts =
-    c.self.invariant.counted ∙ ap (λ v. residuals v.out v.cuts) view in
-    let ordered : IsOrderedCuts cuts = subst IsOrderedCuts (ap (λ v. v.cuts) view) c.self.invariant.whole.ordered in
-    let look : IsLookedAt out c.args.asked.now (cut_at cuts c.args.place) c.index-left.result.now =
-    record {
-      counted = left_is out cuts c.self.inside.counts.items c.args.place c.index-left.result.now counted
-          c.requires.there c.index-left.ensures;
-      rising = cut_rises cuts c.args.place ordered c.requires.there;
-      free =
-          c.requires.in_service;
-    } in
-    let same : c.members.result.now ≡ cut_at cuts c.args.place =
-    sym (cut_at-is cuts c.args.place c.members.result.now
-    (subst (λ (list : List (List ℕ)). slice_get list c.args.place ≡ Some c.members.result.now)
-    (ap (λ v. v.cuts) view) c.members.ensures.value)) in
-    let count : c.count_asked.result ≡ length (filter (among c.args.asked.now) (cut_at cuts c.args.place)) =
-    c.count_asked.ensures ∙ ap (λ xs. length (filter (among c.args.asked.now) xs)) same in
-    tight-counted out c.args.asked.now (cut_at cuts c.args.place) c.index-left.result.now c.count_asked.result
-    c.args.most look count
+    let at = goal.at.returns-then-saturating_sub-asked c in
+    tight-counted c.args.self.now.out c.args.asked.now (cut_at c.args.self.now.cuts c.args.place)
+    c.index-left.result.now c.count_asked.result c.args.most (looked_at at.After-index-left) (count_is c)
 
 pub returns-else-saturating_sub-asked : goal.returns-else-saturating_sub-asked
 returns-else-saturating_sub-asked c =
-    let view = c.self.view_is in
-    let cuts = c.args.self.now.cuts in
-    let out = c.args.self.now.out in
-    let counted : c.self.inside.counts.items ≡ residuals out cuts =
-    c.self.invariant.counted ∙ ap (λ v. residuals v.out v.cuts) view in
-    let ordered : IsOrderedCuts cuts = subst IsOrderedCuts (ap (λ v. v.cuts) view) c.self.invariant.whole.ordered in
-    let look : IsLookedAt out c.args.asked.now (cut_at cuts c.args.place) c.index-left.result.now =
-    record {
-      counted = left_is out cuts c.self.inside.counts.items c.args.place c.index-left.result.now counted
-          c.requires.there c.index-left.ensures;
-      rising = cut_rises cuts c.args.place ordered c.requires.there;
-      free =
-          c.requires.in_service;
-    } in
+    let at = goal.at.returns-else-saturating_sub-asked c in
     let much : length c.args.asked.now < c.index-left.result.now - c.args.most = omega arith in
     leb-not c.saturating_sub.result (length c.args.asked.now) (omega arith)
-    ∙ sym (not_tight-counted out c.args.asked.now (cut_at cuts c.args.place) c.index-left.result.now c.args.most look
-    much)
+    ∙ sym (not_tight-counted c.args.self.now.out c.args.asked.now (cut_at c.args.self.now.cuts c.args.place)
+    c.index-left.result.now c.args.most (looked_at at.After-index-left) much)
