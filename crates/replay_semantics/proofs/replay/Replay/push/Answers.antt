@@ -1,92 +1,62 @@
-use Rattle.std.proofs.Common.{◌≡◌, ◌∙◌, ◌+◌, suc, false, ℕ, List, length, eqb, is_some, ap, sym, subst, arith}
+use Rattle.std.proofs.Common.{◌≡◌, ◌<◌, ◌≤◌, ◌∙◌, ◌+◌, suc, false, ℕ, List, length, eqb, is_some, ap, sym, subst, arith}
 use Rattle.unit_sets.specs.UnitList.{among}
 use Rattle.fault_definitions.specs.Step.{Step, step}
 use Rattle.fault_definitions.proofs.StepLaws.{step-reads}
-use Rattle.fault_definitions.specs.Tree.{IsUnitOf}
+use Rattle.fault_definitions.specs.Tree.{IsUnitOf, unit_count}
 use Rattle.replay_semantics.specs.Held.{HoldsReplay}
 use Rattle.replay_semantics.specs.Replayed.{Replayed}
 use Rattle.replay_semantics.specs.Table.{has_step, HoldsSteps}
 use Rattle.replay_semantics.proofs.HeldLemmas.{holds_more, few_units, room_for_unit, holds_now, admitted-all}
+use Rattle.replay_semantics.proofs.replay.Replay.push.Goals.{After-len}
 use Rattle.replay_semantics.proofs.replay.Replay.push.Goals as goal
+
+-- what the replay held before
+held : (c : After-len) → HoldsReplay c.self.inside.tree.now c.self.inside.readers c.self.inside.failures.steps.items
+    c.self.inside.failures.log.items c.self.inside.order.items c.self.inside.starts.items c.self.inside.admitted
+held c = c.self.invariant.0
+
+few : (c : After-len) → length c.self.inside.order.items ≤ unit_count c.self.inside.tree.now
+few c = few_units _ _ _ _ _ _ _ (held c)
+
+is_unit : (c : After-len) → IsUnitOf c.self.inside.tree.now c.args.unit
+is_unit c = subst (λ (v : Replayed). IsUnitOf v.tree c.args.unit) (sym c.self.view_is) c.requires.unit
+
+fresh : (c : After-len) → among c.self.inside.order.items c.args.unit ≡ false
+fresh c = subst (λ (v : Replayed). among v.order c.args.unit ≡ false) (sym c.self.view_is) c.requires.fresh
+
+room : (c : After-len) → length c.self.inside.order.items < unit_count c.self.inside.tree.now
+room c = room_for_unit _ _ _ _ _ _ _ (held c) c.args.unit (is_unit c) (fresh c)
 
 pub overflow_cast-at : goal.overflow_cast-at
 overflow_cast-at c =
-    let held : HoldsReplay c.self.inside.tree.now c.self.inside.readers c.self.inside.failures.steps.items
-    c.self.inside.failures.log.items c.self.inside.order.items c.self.inside.starts.items c.self.inside.admitted =
-    c.self.invariant.0 in
-    let few =
-    few_units c.self.inside.tree.now c.self.inside.readers c.self.inside.failures.steps.items
-    c.self.inside.failures.log.items c.self.inside.order.items c.self.inside.starts.items c.self.inside.admitted
-    held in
-    omega (arith, few, held.kept.few_units)
+    let at = (goal.at.overflow_cast-at c).After-len in omega (arith, few at, (held at).kept.few_units)
 
 pub overflow_add-at : goal.overflow_add-at
 overflow_add-at c =
-    let held : HoldsReplay c.self.inside.tree.now c.self.inside.readers c.self.inside.failures.steps.items
-    c.self.inside.failures.log.items c.self.inside.order.items c.self.inside.starts.items c.self.inside.admitted =
-    c.self.invariant.0 in
-    let few =
-    few_units c.self.inside.tree.now c.self.inside.readers c.self.inside.failures.steps.items
-    c.self.inside.failures.log.items c.self.inside.order.items c.self.inside.starts.items c.self.inside.admitted
-    held in
-    omega (arith, few, held.kept.few_units)
+    let at = (goal.at.overflow_add-at c).After-len in omega (arith, few at, (held at).kept.few_units)
 
 pub admitted_after-self-inside-requires : goal.admitted_after-self-inside-requires
 admitted_after-self-inside-requires c =
-    let held : HoldsReplay c.self.inside.tree.now c.self.inside.readers c.self.inside.failures.steps.items
-    c.self.inside.failures.log.items c.self.inside.order.items c.self.inside.starts.items c.self.inside.admitted =
-    c.self.invariant.0 in
-    let few =
-    few_units c.self.inside.tree.now c.self.inside.readers c.self.inside.failures.steps.items
-    c.self.inside.failures.log.items c.self.inside.order.items c.self.inside.starts.items c.self.inside.admitted
-    held in
-    omega (arith, few, held.kept.few_units)
+    let at = (goal.at.admitted_after-self-inside-requires c).After-len in
+    omega (arith, few at, (held at).kept.few_units)
 
 pub push_reserved-requires : goal.push_reserved-requires
-push_reserved-requires c =
-    let held : HoldsReplay c.self.inside.tree.now c.self.inside.readers c.self.inside.failures.steps.items
-    c.self.inside.failures.log.items c.self.inside.order.items c.self.inside.starts.items c.self.inside.admitted =
-    c.self.invariant.0 in
-    let is_unit : IsUnitOf c.self.inside.tree.now c.args.unit =
-    subst (λ (v : Replayed). IsUnitOf v.tree c.args.unit) (sym c.self.view_is) c.requires.unit in
-    let fresh : among c.self.inside.order.items c.args.unit ≡ false =
-    subst (λ (v : Replayed). among v.order c.args.unit ≡ false) (sym c.self.view_is) c.requires.fresh in
-    let room =
-    room_for_unit c.self.inside.tree.now c.self.inside.readers c.self.inside.failures.steps.items
-    c.self.inside.failures.log.items c.self.inside.order.items c.self.inside.starts.items c.self.inside.admitted
-    held c.args.unit is_unit fresh in
-    omega (arith, room, c.self.invariant.2)
+push_reserved-requires c = omega (arith, room (goal.at.push_reserved-requires c).After-len, c.self.invariant.2)
 
 pub push_reserved-requires-2 : goal.push_reserved-requires-2
 push_reserved-requires-2 c =
-    let held : HoldsReplay c.self.inside.tree.now c.self.inside.readers c.self.inside.failures.steps.items
-    c.self.inside.failures.log.items c.self.inside.order.items c.self.inside.starts.items c.self.inside.admitted =
-    c.self.invariant.0 in
-    let is_unit : IsUnitOf c.self.inside.tree.now c.args.unit =
-    subst (λ (v : Replayed). IsUnitOf v.tree c.args.unit) (sym c.self.view_is) c.requires.unit in
-    let fresh : among c.self.inside.order.items c.args.unit ≡ false =
-    subst (λ (v : Replayed). among v.order c.args.unit ≡ false) (sym c.self.view_is) c.requires.fresh in
-    let room =
-    room_for_unit c.self.inside.tree.now c.self.inside.readers c.self.inside.failures.steps.items
-    c.self.inside.failures.log.items c.self.inside.order.items c.self.inside.starts.items c.self.inside.admitted
-    held c.args.unit is_unit fresh in
-    omega (arith, room, held.starts_all, c.self.invariant.3)
+    let at = (goal.at.push_reserved-requires-2 c).After-len in
+    omega (arith, room at, (held at).starts_all, c.self.invariant.3)
 
 pub invariant_of-self : goal.invariant_of-self
 invariant_of-self c =
+    let at = (goal.at.invariant_of-self c).After-len in
     let tree = c.self.inside.tree.now in
     let steps : List Step = c.self.inside.failures.steps.items in
     let log : List ℕ = c.self.inside.failures.log.items in
     let order : List ℕ = c.self.inside.order.items in
     let starts : List ℕ = c.self.inside.starts.items in
-    let held : HoldsReplay tree c.self.inside.readers steps log order starts c.self.inside.admitted =
-    c.self.invariant.0 in
-    let is_unit : IsUnitOf tree c.args.unit =
-    subst (λ (v : Replayed). IsUnitOf v.tree c.args.unit) (sym c.self.view_is) c.requires.unit in
-    let fresh : among order c.args.unit ≡ false =
-    subst (λ (v : Replayed). among v.order c.args.unit ≡ false) (sym c.self.view_is) c.requires.fresh in
-    let holds : HoldsSteps tree order steps =
-    holds_now tree c.self.inside.readers steps log order starts c.self.inside.admitted held in
+    let holds : HoldsSteps tree order steps = holds_now _ _ _ _ _ _ _ (held at) in
     let last : suc (length order) ≡ c.len.result + 1 = omega arith in
     let start : c.len-start.result ≡ length log = omega arith in
     let units : c.len-2.result ≡ length order = omega arith in (
@@ -97,10 +67,10 @@ invariant_of-self c =
         start,
         units,
       )
-          (holds_more tree c.self.inside.readers steps log order starts c.self.inside.admitted held c.args.unit is_unit
-          fresh c.fail_next-fits.new.failures.steps.items c.fail_next-fits.new.failures.log.items
+          (holds_more tree c.self.inside.readers steps log order starts c.self.inside.admitted (held at) c.args.unit
+          (is_unit at) (fresh at) c.fail_next-fits.new.failures.steps.items c.fail_next-fits.new.failures.log.items
           c.fail_next-fits.result c.fail_next-fits.ensures.kept (c.fail_next-fits.ensures.failed order last holds)
-          (c.fail_next-fits.ensures.fits order last fresh holds)),
+          (c.fail_next-fits.ensures.fits order last (fresh at) holds)),
       omega (arith, c.fail_next-fits.ensures.room, c.self.invariant.1),
       omega (arith, c.push_reserved.ensures.capacity, c.self.invariant.2),
       omega (arith, c.push_reserved-2.ensures.capacity, c.self.invariant.3),
