@@ -1,6 +1,7 @@
 -- The statements of a text have at most one first fault, and none where they stand for a tree.
-use Rattle.std.specs.Prelude.{◌≡◌, ◌<◌, ◌⊎◌, ◌++◌, List, [], ◌∷◌, map, Option, Some, None, slice_get, unwrap_or}
-use Rattle.std.proofs.Common.{sym, ap, subst, ◌∙◌, refl, inl, inr, arith}
+use Rattle.std.specs.Prelude.{◌≡◌, ◌<◌, ◌⊎◌, ◌++◌, ℕ, List, [], ◌∷◌, map, take, drop, Option, Some, None}
+use Rattle.std.specs.Prelude.{slice_get, unwrap_or}
+use Rattle.std.proofs.Common.{suc, sym, ap, subst, ◌∙◌, refl, inl, inr, arith}
 use Rattle.std.proofs.lemmas.Bool.{cases_lt}
 use Rattle.std.proofs.lemmas.List.{length-map}
 use Rattle.std.proofs.lemmas.Option.{slice_get_within}
@@ -10,7 +11,8 @@ use Rattle.galileo_tree.specs.ReadTree.{ReadTree}
 use Rattle.statement_faults.specs.Said.{definitions}
 use Rattle.statement_faults.specs.Classes.{first}
 use Rattle.statement_faults.specs.TreeOf.{FirstOnCycle, HasNoCycle}
-use Rattle.statement_faults.specs.Checked.{IsFaultless, IsFirstFault, NoneOf, places, before_cycles, after_cycles}
+use Rattle.statement_faults.specs.Checked.{FirstOf, IsFaultless, IsFirstFault, NoneOf, places, before_cycles}
+use Rattle.statement_faults.specs.Checked.{after_cycles}
 use Rattle.statement_faults.specs.declared.fault.CheckCode.{CheckCode}
 use Rattle.statement_faults.specs.declared.fault.CheckCode.TheVariants.{NoToplevel, TwoToplevels, DuplicateName}
 use Rattle.statement_faults.specs.declared.fault.CheckCode.TheVariants.{Undefined}
@@ -43,6 +45,13 @@ found_in read (before ∷ earlier) code later place none found =
     ap (λ l. or_later before (first l) (first_in read (earlier ++ code ∷ later))) none.0
     ∙ found_in read earlier code later place none.1 found
 
+-- the class with this number among some classes is the first that occurs
+abbrev found_at : (read : ReadTree) (codes : List CheckCode) (number : ℕ) (code : CheckCode) (place : Place)
+    → FirstOf read (take number codes) code place
+    → first_in read (take number codes ++ code ∷ drop (suc number) codes) ≡ Some (code, place)
+found_at read codes number code place (none, found) =
+    found_in read (take number codes) code (drop (suc number) codes) place none found
+
 -- ---- a first fault by what comes before the cycles, on them and after them
 
 pub record OnCycle (read : ReadTree) (code : CheckCode) (place : Place) : Type 0 where
@@ -60,65 +69,32 @@ Decides read code place =
     (first_in read before_cycles ≡ Some (code, place)) ⊎ (OnCycle read code place ⊎ AfterCycles read code place)
 
 decides : (read : ReadTree) (code : CheckCode) (place : Place) → IsFirstFault read code place → Decides read code place
-decides read NoToplevel place (none, found) =
-    inl (found_in read ([]) NoToplevel (TwoToplevels ∷ DuplicateName ∷ Undefined ∷ Votes ∷ DummyInput ∷ NoInputs
-    ∷ FdepShape ∷ DependentGate ∷ SpareNotBasic ∷ SharedSpare ∷ Replicated ∷ TopIsFdep ∷ []) place none found)
-decides read TwoToplevels place (none, found) =
-    inl (found_in read (NoToplevel ∷ []) TwoToplevels
-    (DuplicateName ∷ Undefined ∷ Votes ∷ DummyInput ∷ NoInputs ∷ FdepShape ∷ DependentGate ∷ SpareNotBasic
-    ∷ SharedSpare ∷ Replicated ∷ TopIsFdep ∷ []) place none found)
-decides read DuplicateName place (none, found) =
-    inl (found_in read (NoToplevel ∷ TwoToplevels ∷ []) DuplicateName
-    (Undefined ∷ Votes ∷ DummyInput ∷ NoInputs ∷ FdepShape ∷ DependentGate ∷ SpareNotBasic ∷ SharedSpare
-    ∷ Replicated ∷ TopIsFdep ∷ []) place none found)
-decides read Undefined place (none, found) =
-    inl (found_in read (NoToplevel ∷ TwoToplevels ∷ DuplicateName ∷ []) Undefined
-    (Votes ∷ DummyInput ∷ NoInputs ∷ FdepShape ∷ DependentGate ∷ SpareNotBasic ∷ SharedSpare ∷ Replicated
-    ∷ TopIsFdep ∷ []) place none found)
-decides read Votes place (none, found) =
-    inl (found_in read (NoToplevel ∷ TwoToplevels ∷ DuplicateName ∷ Undefined ∷ []) Votes
-    (DummyInput ∷ NoInputs ∷ FdepShape ∷ DependentGate ∷ SpareNotBasic ∷ SharedSpare ∷ Replicated ∷ TopIsFdep ∷ [])
-    place none found)
-decides read DummyInput place (none, found) =
-    inl (found_in read (NoToplevel ∷ TwoToplevels ∷ DuplicateName ∷ Undefined ∷ Votes ∷ []) DummyInput
-    (NoInputs ∷ FdepShape ∷ DependentGate ∷ SpareNotBasic ∷ SharedSpare ∷ Replicated ∷ TopIsFdep ∷ []) place none
-    found)
-decides read NoInputs place (none, found) =
-    inl (found_in read (NoToplevel ∷ TwoToplevels ∷ DuplicateName ∷ Undefined ∷ Votes ∷ DummyInput ∷ []) NoInputs
-    (FdepShape ∷ DependentGate ∷ SpareNotBasic ∷ SharedSpare ∷ Replicated ∷ TopIsFdep ∷ []) place none found)
-decides read FdepShape place (none, found) =
-    inl (found_in read (NoToplevel ∷ TwoToplevels ∷ DuplicateName ∷ Undefined ∷ Votes ∷ DummyInput ∷ NoInputs ∷ [])
-    FdepShape (DependentGate ∷ SpareNotBasic ∷ SharedSpare ∷ Replicated ∷ TopIsFdep ∷ []) place none found)
-decides read DependentGate place (none, found) =
-    inl (found_in read (NoToplevel ∷ TwoToplevels ∷ DuplicateName ∷ Undefined ∷ Votes ∷ DummyInput ∷ NoInputs
-    ∷ FdepShape ∷ []) DependentGate (SpareNotBasic ∷ SharedSpare ∷ Replicated ∷ TopIsFdep ∷ []) place none found)
-decides read SpareNotBasic place (none, found) =
-    inl (found_in read (NoToplevel ∷ TwoToplevels ∷ DuplicateName ∷ Undefined ∷ Votes ∷ DummyInput ∷ NoInputs
-    ∷ FdepShape ∷ DependentGate ∷ []) SpareNotBasic (SharedSpare ∷ Replicated ∷ TopIsFdep ∷ []) place none found)
-decides read SharedSpare place (none, found) =
-    inl (found_in read (NoToplevel ∷ TwoToplevels ∷ DuplicateName ∷ Undefined ∷ Votes ∷ DummyInput ∷ NoInputs
-    ∷ FdepShape ∷ DependentGate ∷ SpareNotBasic ∷ []) SharedSpare (Replicated ∷ TopIsFdep ∷ []) place none found)
-decides read Replicated place (none, found) =
-    inl (found_in read (NoToplevel ∷ TwoToplevels ∷ DuplicateName ∷ Undefined ∷ Votes ∷ DummyInput ∷ NoInputs
-    ∷ FdepShape ∷ DependentGate ∷ SpareNotBasic ∷ SharedSpare ∷ []) Replicated (TopIsFdep ∷ []) place none found)
-decides read TopIsFdep place (none, found) =
-    inl (found_in read (NoToplevel ∷ TwoToplevels ∷ DuplicateName ∷ Undefined ∷ Votes ∷ DummyInput ∷ NoInputs
-    ∷ FdepShape ∷ DependentGate ∷ SpareNotBasic ∷ SharedSpare ∷ Replicated ∷ []) TopIsFdep ([]) place none found)
+decides read NoToplevel place fault = inl (found_at read before_cycles 0 NoToplevel place fault)
+decides read TwoToplevels place fault = inl (found_at read before_cycles 1 TwoToplevels place fault)
+decides read DuplicateName place fault = inl (found_at read before_cycles 2 DuplicateName place fault)
+decides read Undefined place fault = inl (found_at read before_cycles 3 Undefined place fault)
+decides read Votes place fault = inl (found_at read before_cycles 4 Votes place fault)
+decides read DummyInput place fault = inl (found_at read before_cycles 5 DummyInput place fault)
+decides read NoInputs place fault = inl (found_at read before_cycles 6 NoInputs place fault)
+decides read FdepShape place fault = inl (found_at read before_cycles 7 FdepShape place fault)
+decides read DependentGate place fault = inl (found_at read before_cycles 8 DependentGate place fault)
+decides read SpareNotBasic place fault = inl (found_at read before_cycles 9 SpareNotBasic place fault)
+decides read SharedSpare place fault = inl (found_at read before_cycles 10 SharedSpare place fault)
+decides read Replicated place fault = inl (found_at read before_cycles 11 Replicated place fault)
+decides read TopIsFdep place fault = inl (found_at read before_cycles 12 TopIsFdep place fault)
 decides read Cycle place (none, on_cycle) =
     inr (inl (record { none_before = none_in read before_cycles none; is = refl; first_cyclic = on_cycle }))
-decides read TooManyUnits place (none, acyclic, here) =
+decides read TooManyUnits place (none, acyclic, fault) =
     inr (inr (record {
       none_before = none_in read before_cycles none;
       acyclic = acyclic;
-      found =
-          found_in read [] TooManyUnits (TooManyGates ∷ []) place here.0 here.1;
+      found = found_at read after_cycles 0 TooManyUnits place fault;
     }))
-decides read TooManyGates place (none, acyclic, here) =
+decides read TooManyGates place (none, acyclic, fault) =
     inr (inr (record {
       none_before = none_in read before_cycles none;
       acyclic = acyclic;
-      found =
-          found_in read (TooManyUnits ∷ []) TooManyGates [] place here.0 here.1;
+      found = found_at read after_cycles 1 TooManyGates place fault;
     }))
 
 -- ---- one first fault

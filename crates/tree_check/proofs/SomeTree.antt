@@ -1,5 +1,5 @@
 -- Statements that keep their form stand for a tree, or one of the classes of faults occurs first.
-use Rattle.std.proofs.Common.{◌≡◌, ℕ, ◌+◌, ◌-◌, ◌<◌, ◌≤◌, ◌⊎◌, Bool, true, false, List, [], ◌∷◌, ◌++◌, map, drop, refl}
+use Rattle.std.proofs.Common.{◌≡◌, ℕ, ◌+◌, ◌<◌, ◌≤◌, ◌⊎◌, Bool, true, false, List, [], ◌∷◌, ◌++◌, map, drop, refl}
 use Rattle.std.proofs.Common.{sym, ap, ◌∙◌, inl, inr, arith}
 use Rattle.std.specs.Prelude.{◌==◌, All, Option, Some, None, filter_map}
 use Rattle.std.specs.List.{cons_option, range_with_len}
@@ -17,16 +17,10 @@ use Rattle.fault_definitions.specs.WellFormed.{IsTree}
 use Rattle.graph_cycles.proofs.Surveys.{survey_exists}
 use Rattle.galileo_tree.specs.ReadTree.{ReadTree, KeepsForm}
 use Rattle.statement_faults.specs.declared.fault.CheckCode.{CheckCode}
-use Rattle.statement_faults.specs.declared.fault.CheckCode.TheVariants.{NoToplevel, TwoToplevels, DuplicateName}
-use Rattle.statement_faults.specs.declared.fault.CheckCode.TheVariants.{Undefined}
-use Rattle.statement_faults.specs.declared.fault.CheckCode.TheVariants.{Votes as WrongVotes, DummyInput, NoInputs}
-use Rattle.statement_faults.specs.declared.fault.CheckCode.TheVariants.{FdepShape}
-use Rattle.statement_faults.specs.declared.fault.CheckCode.TheVariants.{DependentGate, SpareNotBasic, SharedSpare}
-use Rattle.statement_faults.specs.declared.fault.CheckCode.TheVariants.{Replicated}
-use Rattle.statement_faults.specs.declared.fault.CheckCode.TheVariants.{TopIsFdep, Cycle, TooManyUnits, TooManyGates}
+use Rattle.statement_faults.specs.declared.fault.CheckCode.TheVariants.{Cycle}
 use Rattle.statement_faults.specs.declared.numbered.Numbered.{Numbered}
 use Rattle.statement_faults.specs.declared.numbered.NumberedGate.{NumberedGate}
-use Rattle.statement_faults.specs.Checked.{IsFirstFault, NoneOf, Stands, before_cycles, places}
+use Rattle.statement_faults.specs.Checked.{IsFirstFault, NoneOf, Stands, after_cycles, before_cycles, places}
 use Rattle.statement_faults.specs.Classes.{first}
 use Rattle.statement_faults.specs.Marked.{marked_places}
 use Rattle.fault_words.specs.Names.{all_differ}
@@ -36,6 +30,7 @@ use Rattle.statement_faults.specs.TreeOf.{AreRanks, FirstOnCycle, HasNoCycle, in
 use Rattle.statement_faults.specs.Triggers.{HasUnitDependents, IsGraphOf, dependents_by, row_at, written_gate}
 use Rattle.statement_faults.proofs.Differ.{differ-names, differ-repeats}
 use Rattle.tree_check.proofs.Faultless.{IsTree-faultless}
+use Rattle.tree_check.proofs.Refusals.{AreFirst, NoneOf-append}
 use Rattle.statement_faults.proofs.GoodGates.{unit_dependents}
 use Rattle.statement_faults.proofs.StatementNames.{inputs_known}
 use Rattle.statement_faults.proofs.Surveyed.{IsGraph-of, Surveyed, are_ranks, cycle_found, no_cycle}
@@ -118,164 +113,31 @@ HasFault read = (code : CheckCode) × (place : Place) × IsFirstFault read code 
 abbrev HasTree : ReadTree → Type 0
 HasTree read = (tree : FaultTree) × Stands read tree × IsTree tree
 
+-- none of some classes occurs, or the first fault is of the first of them that does
+none_or_fault : (read : ReadTree) (earlier later : List CheckCode) → AreFirst read earlier later → NoneOf read earlier
+    → NoneOf read later ⊎ HasFault read
+none_or_fault read earlier [] are none = inl tt
+none_or_fault read earlier (code ∷ later) are none =
+    elim (some_or_none (places read code)) [
+      | inr (place, is) ↦ inr (code, place, are.0 place (none, is))
+      | inl here ↦
+          let more = NoneOf-append read earlier (code ∷ []) none (here, tt) in
+          elim (none_or_fault read (earlier ++ code ∷ []) later are.1 more) [
+            | inl behind ↦ inl (here, behind)
+            | inr fault ↦ inr fault
+          ]
+    ]
+
+also : {A B : Type 0} → A → B → A × B
+also a b = (a, b)
+
 module _ (read : ReadTree) where
   before : NoneOf read before_cycles ⊎ HasFault read
   before =
-      elim (some_or_none (places read NoToplevel)) [
-        | inr (place, is) ↦ inr (NoToplevel, place, (tt, is))
-        | inl none0 ↦ elim (some_or_none (places read TwoToplevels)) [
-          | inr (place, is) ↦ inr (TwoToplevels, place, ((none0, tt), is))
-          | inl none1 ↦ elim (some_or_none (places read DuplicateName)) [
-            | inr (place, is) ↦ inr (DuplicateName, place, ((none0, (none1, tt)), is))
-            | inl none2 ↦ elim (some_or_none (places read Undefined)) [
-              | inr (place, is) ↦ inr (Undefined, place, ((none0, (none1, (none2, tt))), is))
-              | inl none3 ↦ elim (some_or_none (places read WrongVotes)) [
-                | inr (place, is) ↦ inr (WrongVotes, place, ((none0, (none1, (none2, (none3, tt)))), is))
-                | inl none4 ↦ elim (some_or_none (places read DummyInput)) [
-                  | inr (place, is) ↦ inr (DummyInput, place, ((none0, (none1, (none2, (none3, (none4, tt))))), is))
-                  | inl none5 ↦ elim (some_or_none (places read NoInputs)) [
-                    | inr (place, is) ↦ inr (
-                      NoInputs,
-                      place,
-                      (
-                        (none0, (none1, (none2, (none3, (none4, (none5, tt)))))),
-                        is,
-                      ),
-                    )
-                    | inl none6 ↦ elim (some_or_none (places read FdepShape)) [
-                      | inr (place, is) ↦ inr (
-                        FdepShape,
-                        place,
-                        (
-                          (
-                            none0,
-                            (none1, (none2, (none3, (none4, (none5, (none6, tt)))))),
-                          ),
-                          is,
-                        ),
-                      )
-                      | inl none7 ↦ elim (some_or_none (places read DependentGate)) [
-                        | inr (place, is) ↦ inr (
-                          DependentGate,
-                          place,
-                          ((none0, (none1, (none2, (none3, (none4, (none5, (none6, (none7, tt)))))))), is),
-                        )
-                        | inl none8 ↦ elim (some_or_none (places read SpareNotBasic)) [
-                          | inr (place, is) ↦ inr (
-                            SpareNotBasic,
-                            place,
-                            ((none0, (none1, (none2, (none3, (none4, (none5, (none6, (none7, (none8, tt))))))))), is),
-                          )
-                          | inl none9 ↦ elim (some_or_none (places read SharedSpare)) [
-                            | inr (place, is) ↦ inr (
-                              SharedSpare,
-                              place,
-                              (
-                                (
-                                  none0,
-                                  (
-                                    none1,
-                                    (
-                                      none2,
-                                      (
-                                        none3,
-                                        (
-                                          none4,
-                                          (none5, (none6, (none7, (none8, (none9, tt))))),
-                                        ),
-                                      ),
-                                    ),
-                                  ),
-                                ),
-                                is,
-                              ),
-                            )
-                            | inl none10 ↦ elim (some_or_none (places read Replicated)) [
-                              | inr (place, is) ↦ inr (
-                                Replicated,
-                                place,
-                                (
-                                  (
-                                    none0,
-                                    (
-                                      none1,
-                                      (
-                                        none2,
-                                        (
-                                          none3,
-                                          (
-                                            none4,
-                                            (none5, (none6, (none7, (none8, (none9, (none10, tt)))))),
-                                          ),
-                                        ),
-                                      ),
-                                    ),
-                                  ),
-                                  is,
-                                ),
-                              )
-                              | inl none11 ↦ elim (some_or_none (places read TopIsFdep)) [
-                                | inr (place, is) ↦ inr (
-                                  TopIsFdep,
-                                  place,
-                                  (
-                                    (
-                                      none0,
-                                      (
-                                        none1,
-                                        (
-                                          none2,
-                                          (
-                                            none3,
-                                            (
-                                              none4,
-                                              (none5, (none6, (none7, (none8, (none9, (none10, (none11, tt))))))),
-                                            ),
-                                          ),
-                                        ),
-                                      ),
-                                    ),
-                                    is,
-                                  ),
-                                )
-                                | inl none12 ↦ inl (
-                                  none0,
-                                  (
-                                    none1,
-                                    (
-                                      none2,
-                                      (
-                                        none3,
-                                        (
-                                          none4,
-                                          (
-                                            none5,
-                                            (
-                                              none6,
-                                              (
-                                                none7,
-                                                (none8, (none9, (none10, (none11, (none12, tt))))),
-                                              ),
-                                            ),
-                                          ),
-                                        ),
-                                      ),
-                                    ),
-                                  ),
-                                )
-                              ]
-                            ]
-                          ]
-                        ]
-                      ]
-                    ]
-                  ]
-                ]
-              ]
-            ]
-          ]
-        ]
-      ]
+      none_or_fault read [] before_cycles
+      (also (λ p f. f) (also (λ p f. f) (also (λ p f. f) (also (λ p f. f) (also (λ p f. f) (also (λ p f. f)
+      (also (λ p f. f) (also (λ p f. f) (also (λ p f. f) (also (λ p f. f) (also (λ p f. f) (also (λ p f. f)
+      (also (λ p f. f) tt))))))))))))) tt
 
   -- whether a definition leads to itself
   module _ (none : NoneOf read before_cycles) where
@@ -301,8 +163,7 @@ module _ (read : ReadTree) where
             once = once;
             exact = survey.exact;
             ranked = survey.ranked;
-            ranks_all =
-                survey.all;
+            ranks_all = survey.all;
           },
         )
 
@@ -327,20 +188,13 @@ module _ (read : ReadTree) where
       → (ranks : List ℕ) → AreRanks read.statements ranks
       → HasTree read ⊎ HasFault read
   tree_of_ranks form none acyclic ranks are =
-      elim (some_or_none (places read TooManyUnits)) [
-        | inr (place, is) ↦ inr (TooManyUnits, place, (none, acyclic, (tt, is)))
-        | inl few_units ↦ elim (some_or_none (places read TooManyGates)) [
-          | inr (place, is) ↦ inr (TooManyGates, place, (none, acyclic, ((few_units, tt), is)))
-          | inl few_gates ↦ inl (
-            tree_of read.statements ranks,
-            record {
-              faultless = record { before = none; acyclic = acyclic; after = (few_units, (few_gates, tt)) };
-              is =
-                  refl;
-            },
-            IsTree-faultless read ranks form (once none) none (few_units, (few_gates, tt)) are.all are.ranked,
-          )
-        ]
+      elim (none_or_fault read [] after_cycles (λ p f. (none, acyclic, f), (λ p f. (none, acyclic, f), tt)) tt) [
+        | inr fault ↦ inr fault
+        | inl after ↦ inl (
+          tree_of read.statements ranks,
+          record { faultless = record { before = none; acyclic = acyclic; after = after }; is = refl },
+          IsTree-faultless read ranks form (once none) none after are.all are.ranked,
+        )
       ]
 
 pub tree_or_fault : (read : ReadTree) → All KeepsForm read.statements → HasTree read ⊎ HasFault read
