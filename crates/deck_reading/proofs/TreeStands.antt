@@ -19,7 +19,7 @@ use Rattle.fault_words.specs.Name.{is_bare_name, is_name}
 use Rattle.fault_definitions.proofs.RankLaws.{below_are_nodes, below_ranks, gate_sound, inputs_are_nodes}
 use Rattle.fault_definitions.specs.Tree.{FaultTree, IsNodeOf, attributes_of, gate_count, inputs_of, is_above_units}
 use Rattle.fault_definitions.specs.Tree.{kind_of}
-use Rattle.fault_definitions.specs.Tree.{name_of, node_count, rank_of, unit_count}
+use Rattle.fault_definitions.specs.Tree.{name_of, rank_of, unit_count}
 use Rattle.fault_definitions.specs.Tree as trees
 use Rattle.fault_definitions.specs.Trigger.{below}
 use Rattle.fault_definitions.specs.WellFormed.{IsSoundAttribute, IsSoundKind, IsTree}
@@ -265,52 +265,25 @@ module _ (tree : FaultTree) (kept : IsTree tree) where
   by_units class none = ap (λ n. class n (numbered_gates (ss tree kept))) (units_are tree kept)
       ∙ by_gates (class (unit_count tree)) none
 
+  -- one class more
+  also : {A B : Type 0} → A → B → A × B
+  also a b = (a, b)
+
   before : NoneOf (said_tree (statements_of tree)) before_cycles
-  before = (
-    no_missing,
-    (
-      no_further,
-      (
-        no_repeats,
-        (
-          no_undefined,
-          (
-            by_gates wrong_votes (no_wrong_vote tree kept),
-            (
-              by_units dummies (no_dummies tree kept),
-              (
-                by_units inputless (no_inputless tree kept),
-                (
-                  by_gates short_fdeps (no_short_fdep tree kept),
-                  (
-                    by_units (λ units gates. flat_map (gates_after_first trees.is_fdep_kind units) gates)
-                        (no_dependent_gate tree kept),
-                    (
-                      by_units (λ units gates. flat_map (gates_after_first is_spare_kind units) gates)
-                          (no_spare_gate tree kept),
-                      (
-                        by_gates shared_spares (no_shared tree kept),
-                        (
-                          no_replicated,
-                          (
-                            ap (fdep_tops (unit_total (ss tree kept)) (numbered_gates (ss tree kept)))
-                                (numbered_tops_are tree kept)
-                                ∙ by_units (λ units gates. fdep_tops units gates (node_at tree kept tree.top ∷ []))
-                                (no_fdep_top tree kept),
-                            tt,
-                          ),
-                        ),
-                      ),
-                    ),
-                  ),
-                ),
-              ),
-            ),
-          ),
-        ),
-      ),
-    ),
-  )
+  before =
+      also no_missing (also no_further (also no_repeats (also no_undefined
+      (also (by_gates wrong_votes (no_wrong_vote tree kept))
+      (also (by_units dummies (no_dummies tree kept))
+      (also (by_units inputless (no_inputless tree kept))
+      (also (by_gates short_fdeps (no_short_fdep tree kept))
+      (also (by_units (λ units gates. flat_map (gates_after_first trees.is_fdep_kind units) gates)
+      (no_dependent_gate tree kept))
+      (also (by_units (λ units gates. flat_map (gates_after_first is_spare_kind units) gates) (no_spare_gate tree kept))
+      (also (by_gates shared_spares (no_shared tree kept))
+      (also no_replicated
+      (also (ap (fdep_tops (unit_total (ss tree kept)) (numbered_gates (ss tree kept))) (numbered_tops_are tree kept)
+      ∙ by_units (λ units gates. fdep_tops units gates (node_at tree kept tree.top ∷ [])) (no_fdep_top tree kept))
+      tt))))))))))))
 
   pub stands : Stands (said_tree (statements_of tree)) tree
   stands = record {
