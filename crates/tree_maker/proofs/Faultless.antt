@@ -17,7 +17,7 @@ use Rattle.fault_definitions.specs.Tree.{is_fdep_kind}
 use Rattle.galileo_tree.specs.declared.raw.Placed.{Placed}
 use Rattle.galileo_tree.specs.declared.raw.RawBasic.{RawBasic}
 use Rattle.galileo_tree.specs.declared.raw.Statement.{Statement}
-use Rattle.statement_faults.specs.Checked.{IsFaultless}
+use Rattle.statement_faults.specs.Checked.{IsFaultless, NoneOf, before_cycles}
 use Rattle.statement_faults.specs.Classes.{dependent_gates, dummies, fdep_tops, inputless, is_replicated, repeats}
 use Rattle.statement_faults.specs.Classes.{repeats_after, replicated, shared_spares, short_fdeps, spare_gates}
 use Rattle.statement_faults.specs.Classes.{undefined}
@@ -32,8 +32,9 @@ use Rattle.tree_maker.specs.Names.{gate_name, top_name, trigger_name, unit_name}
 use Rattle.tree_maker.proofs.Acyclic.{none_cyclic}
 use Rattle.tree_maker.proofs.Counted.{has_a, has_b, has_c, has_gate, has_top, has_trigger, no_repeats, number-top, rule}
 use Rattle.tree_maker.proofs.Counted.{tree_names, units_counted}
-use Rattle.tree_maker.proofs.FineGates.{all_fine, deck_gates, kind, no_dependent_gates, no_dummies, no_short_fdeps}
-use Rattle.tree_maker.proofs.FineGates.{no_spare_gates, no_wrong_votes, none_gives, none_inputless, none_passes}
+use Rattle.tree_maker.proofs.FineGates.{IsFine, all_fine, deck_gates, kind, no_dependent_gates, no_dummies}
+use Rattle.tree_maker.proofs.FineGates.{no_short_fdeps, no_spare_gates, no_wrong_votes, none_gives, none_inputless}
+use Rattle.tree_maker.proofs.FineGates.{none_passes}
 use Rattle.tree_maker.proofs.Gates.{Numbered, NumberedGate, fdep_numbered, gates_numbered, group_numbered, put}
 use Rattle.tree_maker.proofs.Ranges.{All-flat_range, All-range}
 use Rattle.tree_maker.proofs.Spares.{no_shared_spares}
@@ -181,51 +182,32 @@ module _ (count fdeps : ℕ) (place : ℕ → ℕ) (some : 1 ≤ count) (few : c
   by_number class none = ap (λ u. class u (numbered_gates text)) count_of_units ∙ ap (class units) gates_by_number
       ∙ none
 
+  -- one class more
+  also : {A B : Type 0} → A → B → A × B
+  also a b = (a, b)
+
+  before : All (IsFine units (kinds gates_here)) gates_here
+      → NoneOf (said_tree (lines count fdeps kind_here)) before_cycles
+  before fine =
+      also refl (also (ap (λ l. map (λ top. top.word) (drop 1 l)) (tops_are count fdeps kind_here))
+      (also none_repeated_here (also none_undefined
+      (also (by_number (λ u gates. wrong_votes gates) (no_wrong_votes units gates_here fine))
+      (also (by_number dummies (no_dummies units gates_here fine))
+      (also (by_number inputless (none_inputless units gates_here fine))
+      (also (by_number (λ u gates. short_fdeps gates) (no_short_fdeps units gates_here fine))
+      (also (by_number dependent_gates (no_dependent_gates units gates_here fine))
+      (also (by_number spare_gates (no_spare_gates units gates_here fine))
+      (also (by_number (λ u gates. shared_spares gates) (no_shared_spares count fdeps place some fits))
+      (also none_replicated
+      (also (by_number (λ u gates. fdep_tops u gates (numbered_tops text))
+      (ap (fdep_tops units gates_here) tops_by_number ∙ no_fdep_on_top))
+      tt))))))))))))
+
   pub faultless : IsFaultless (said_tree (lines count fdeps kind_here))
   faultless =
       let fine = all_fine count fdeps place some fits in
       record {
-        before = (
-          refl,
-          (
-            ap (λ l. map (λ top. top.word) (drop 1 l)) (tops_are count fdeps kind_here),
-            (
-              none_repeated_here,
-              (
-                none_undefined,
-                (
-                  by_number (λ u gates. wrong_votes gates) (no_wrong_votes units gates_here fine),
-                  (
-                    by_number dummies (no_dummies units gates_here fine),
-                    (
-                      by_number inputless (none_inputless units gates_here fine),
-                      (
-                        by_number (λ u gates. short_fdeps gates) (no_short_fdeps units gates_here fine),
-                        (
-                          by_number dependent_gates (no_dependent_gates units gates_here fine),
-                          (
-                            by_number spare_gates (no_spare_gates units gates_here fine),
-                            (
-                              by_number (λ u gates. shared_spares gates) (no_shared_spares count fdeps place some fits),
-                              (
-                                none_replicated,
-                                (
-                                  by_number (λ u gates. fdep_tops u gates (numbered_tops text))
-                                      (ap (fdep_tops units gates_here) tops_by_number ∙ no_fdep_on_top),
-                                  tt,
-                                ),
-                              ),
-                            ),
-                          ),
-                        ),
-                      ),
-                    ),
-                  ),
-                ),
-              ),
-            ),
-          ),
-        );
+        before = before fine;
         acyclic = no_cycle;
         after = (
           ap (map (λ (basic : RawBasic). basic.name.place))

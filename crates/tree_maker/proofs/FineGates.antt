@@ -12,7 +12,6 @@ use Rattle.statement_faults.specs.Classes.{is_short_fdep, reads_nothing, short_f
 use Rattle.statement_faults.specs.Classes.{wrong_votes}
 use Rattle.statement_faults.specs.Numbered.{is_fdep_in, is_spare_kind, kinds}
 use Rattle.fault_definitions.specs.Tree.{is_fdep_kind}
-use Rattle.tree_maker.specs.MadeDeck.{kind_in}
 use Rattle.tree_maker.specs.MadeDeck as made
 use Rattle.tree_maker.proofs.Gates.{Numbered, NumberedGate, fdep_numbered, group_numbered, made_gates, numbered_by, put}
 use Rattle.tree_maker.proofs.Gates.{top_numbered}
@@ -86,62 +85,18 @@ fine_group units all_kinds a b c place low_a low_b low_c =
     let a_low : ltb units a ≡ false = le-ltb units a low_a in
     let b_low : ltb units b ≡ false = le-ltb units b low_b in
     let c_low : ltb units c ≡ false = le-ltb units c low_c in
+    let plain : dummies_in (is_fdep_in units all_kinds) (numbered_by Pand (a ∷ b ∷ c ∷ [])) ≡ [] =
+    rw (a_low, b_low, c_low) refl in
+    let units_alone : gates_after_first is_spare_kind units (numbered_by Csp (a ∷ b ∷ c ∷ [])) ≡ [] =
+    rw (b_low, c_low) refl in
     seven_kinds (λ kind. IsFine units all_kinds (numbered_by kind (a ∷ b ∷ c ∷ [])))
     (record { vote = refl; dummies = refl; reads = rw a_low refl; enough = refl; dependents = refl; spares = refl })
-    (record {
-      vote = refl;
-      dummies = rw (a_low, b_low, c_low) refl;
-      reads = refl;
-      enough = refl;
-      dependents =
-          refl;
-      spares = refl;
-    })
-    (record {
-      vote = refl;
-      dummies = rw (a_low, b_low, c_low) refl;
-      reads = refl;
-      enough = refl;
-      dependents =
-          refl;
-      spares = refl;
-    })
-    (record {
-      vote = refl;
-      dummies = rw (a_low, b_low, c_low) refl;
-      reads = refl;
-      enough = refl;
-      dependents =
-          refl;
-      spares = refl;
-    })
-    (record {
-      vote = refl;
-      dummies = rw (a_low, b_low, c_low) refl;
-      reads = refl;
-      enough = refl;
-      dependents =
-          refl;
-      spares = rw (b_low, c_low) refl;
-    })
-    (record {
-      vote = refl;
-      dummies = rw (a_low, b_low, c_low) refl;
-      reads = refl;
-      enough = refl;
-      dependents =
-          refl;
-      spares = rw (b_low, c_low) refl;
-    })
-    (record {
-      vote = refl;
-      dummies = rw (a_low, b_low, c_low) refl;
-      reads = refl;
-      enough = refl;
-      dependents =
-          refl;
-      spares = rw (b_low, c_low) refl;
-    })
+    (record { vote = refl; dummies = plain; reads = refl; enough = refl; dependents = refl; spares = refl })
+    (record { vote = refl; dummies = plain; reads = refl; enough = refl; dependents = refl; spares = refl })
+    (record { vote = refl; dummies = plain; reads = refl; enough = refl; dependents = refl; spares = refl })
+    (record { vote = refl; dummies = plain; reads = refl; enough = refl; dependents = refl; spares = units_alone })
+    (record { vote = refl; dummies = plain; reads = refl; enough = refl; dependents = refl; spares = units_alone })
+    (record { vote = refl; dummies = plain; reads = refl; enough = refl; dependents = refl; spares = units_alone })
     place
 
 -- a trigger's gate over two units
@@ -155,8 +110,7 @@ fine_fdep units all_kinds trigger unit low_trigger low_unit =
       dummies = rw (trigger_low, unit_low) refl;
       reads = refl;
       enough = refl;
-      dependents =
-          rw unit_low refl;
+      dependents = rw unit_low refl;
       spares = refl;
     }
 
@@ -200,8 +154,7 @@ module _ (count fdeps : ℕ) (place : ℕ → ℕ) (some : 1 ≤ count) (fits : 
     dummies = refl;
     reads = reads_some count some;
     enough = refl;
-    dependents =
-        refl;
+    dependents = refl;
     spares = refl;
   }
 
