@@ -274,8 +274,8 @@ module _ (words : List (List ℕ)) (held left : Option (List ℕ)) (rose : Type 
 
 -- ---- the clauses of a run
 
-module _ {K : Type 0} (words : List (List ℕ)) (held left : Option (List ℕ)) (rose : Type 0)
-    (taken : K → Option (List ℕ)) (faults : K → ℕ) (old new : K) (result : Status)
+module _ {K : Type 0} {words : List (List ℕ)} {held left : Option (List ℕ)} {rose : Type 0}
+    {taken : K → Option (List ℕ)} {faults : K → ℕ} {old new : K} {result : Status}
     (ran : Runs words held left rose taken faults old new result) where
   -- the cause and the text of a status that is written whole
   written : (status : Status) → ¬ (status ≡ WriteFault) → ¬ (status ≡ NoMemory) → result ≡ status

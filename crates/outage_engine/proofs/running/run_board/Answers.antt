@@ -1,6 +1,4 @@
-use Rattle.board_words.specs.Command.{command_of}
 use Rattle.std.proofs.Common.{ap, inl}
-use Rattle.event_counts.specs.Count.{Rose}
 use Rattle.outage_engine.specs.Gives.{own_deck, wants_of}
 use Rattle.outage_engine.specs.Texts.{for_board}
 use Rattle.outage_engine.proofs.Clauses.{answers_deck, answers_length, answers_words, fails_to_read, front_of}
@@ -10,102 +8,46 @@ use Rattle.outage_engine.proofs.SeatLemmas.{finds_full, leaves_diagram}
 use Rattle.outage_engine.proofs.running.run_board.Goals as goal
 
 pub returns-clause-command : goal.returns-clause-command
-returns-clause-command g c =
-    of_command c.args.words.now (g.S.Source.held c.args.source.now) (g.S.Source.held c.serve_and_tell.new.source)
-    (Rose (g.S.Source.faults c.args.source.now) (g.S.Source.faults c.serve_and_tell.new.source))
-    g.K.Sink.taken g.K.Sink.faults c.args.sink.now c.serve_and_tell.new.sink c.serve_and_tell.result
-    c.serve_and_tell.ensures.runs
+returns-clause-command g c = of_command c.serve_and_tell.ensures.runs
 
 pub returns-clause-board : goal.returns-clause-board
-returns-clause-board g c =
-    prints_board c.args.words.now (g.S.Source.held c.args.source.now) (g.S.Source.held c.serve_and_tell.new.source)
-    (Rose (g.S.Source.faults c.args.source.now) (g.S.Source.faults c.serve_and_tell.new.source))
-    g.K.Sink.taken g.K.Sink.faults c.args.sink.now c.serve_and_tell.new.sink c.serve_and_tell.result
-    c.serve_and_tell.ensures.runs
+returns-clause-board g c = prints_board c.serve_and_tell.ensures.runs
 
 pub returns-clause-safe : goal.returns-clause-safe
-returns-clause-safe g c =
-    prints_safely c.args.words.now (g.S.Source.held c.args.source.now) (g.S.Source.held c.serve_and_tell.new.source)
-    (Rose (g.S.Source.faults c.args.source.now) (g.S.Source.faults c.serve_and_tell.new.source))
-    g.K.Sink.taken g.K.Sink.faults c.args.sink.now c.serve_and_tell.new.sink c.serve_and_tell.result
-    c.serve_and_tell.ensures.runs
+returns-clause-safe g c = prints_safely c.serve_and_tell.ensures.runs
 
 pub returns-clause-usage : goal.returns-clause-usage
-returns-clause-usage g c =
-    refuses_words c.args.words.now (g.S.Source.held c.args.source.now) (g.S.Source.held c.serve_and_tell.new.source)
-    (Rose (g.S.Source.faults c.args.source.now) (g.S.Source.faults c.serve_and_tell.new.source))
-    g.K.Sink.taken g.K.Sink.faults c.args.sink.now c.serve_and_tell.new.sink c.serve_and_tell.result
-    c.serve_and_tell.ensures.runs
+returns-clause-usage g c = refuses_words c.serve_and_tell.ensures.runs
 
 pub returns-clause-refused : goal.returns-clause-refused
-returns-clause-refused g c =
-    refuses_deck c.args.words.now (g.S.Source.held c.args.source.now) (g.S.Source.held c.serve_and_tell.new.source)
-    (Rose (g.S.Source.faults c.args.source.now) (g.S.Source.faults c.serve_and_tell.new.source))
-    g.K.Sink.taken g.K.Sink.faults c.args.sink.now c.serve_and_tell.new.sink c.serve_and_tell.result
-    c.serve_and_tell.ensures.runs
+returns-clause-refused g c = refuses_deck c.serve_and_tell.ensures.runs
 
 pub returns-clause-list_limit : goal.returns-clause-list_limit
-returns-clause-list_limit g c =
-    refuses_weight c.args.words.now (g.S.Source.held c.args.source.now) (g.S.Source.held c.serve_and_tell.new.source)
-    (Rose (g.S.Source.faults c.args.source.now) (g.S.Source.faults c.serve_and_tell.new.source))
-    g.K.Sink.taken g.K.Sink.faults c.args.sink.now c.serve_and_tell.new.sink c.serve_and_tell.result
-    c.serve_and_tell.ensures.runs
+returns-clause-list_limit g c = refuses_weight c.serve_and_tell.ensures.runs
 
 pub returns-clause-order_limit : goal.returns-clause-order_limit
-returns-clause-order_limit g c =
-    refuses_orders c.args.words.now (g.S.Source.held c.args.source.now) (g.S.Source.held c.serve_and_tell.new.source)
-    (Rose (g.S.Source.faults c.args.source.now) (g.S.Source.faults c.serve_and_tell.new.source))
-    g.K.Sink.taken g.K.Sink.faults c.args.sink.now c.serve_and_tell.new.sink c.serve_and_tell.result
-    c.serve_and_tell.ensures.runs
+returns-clause-order_limit g c = refuses_orders c.serve_and_tell.ensures.runs
 
 pub returns-clause-too_long : goal.returns-clause-too_long
-returns-clause-too_long g c =
-    refuses_length c.args.words.now (g.S.Source.held c.args.source.now) (g.S.Source.held c.serve_and_tell.new.source)
-    (Rose (g.S.Source.faults c.args.source.now) (g.S.Source.faults c.serve_and_tell.new.source))
-    g.K.Sink.taken g.K.Sink.faults c.args.sink.now c.serve_and_tell.new.sink c.serve_and_tell.result
-    c.serve_and_tell.ensures.runs
+returns-clause-too_long g c = refuses_length c.serve_and_tell.ensures.runs
 
 pub returns-clause-read_fault : goal.returns-clause-read_fault
-returns-clause-read_fault g c =
-    fails_to_read c.args.words.now (g.S.Source.held c.args.source.now) (g.S.Source.held c.serve_and_tell.new.source)
-    (Rose (g.S.Source.faults c.args.source.now) (g.S.Source.faults c.serve_and_tell.new.source))
-    g.K.Sink.taken g.K.Sink.faults c.args.sink.now c.serve_and_tell.new.sink c.serve_and_tell.result
-    c.serve_and_tell.ensures.runs
+returns-clause-read_fault g c = fails_to_read c.serve_and_tell.ensures.runs
 
 pub returns-clause-front : goal.returns-clause-front
-returns-clause-front g c =
-    front_of c.args.words.now (g.S.Source.held c.args.source.now) (g.S.Source.held c.serve_and_tell.new.source)
-    (Rose (g.S.Source.faults c.args.source.now) (g.S.Source.faults c.serve_and_tell.new.source))
-    g.K.Sink.taken g.K.Sink.faults c.args.sink.now c.serve_and_tell.new.sink c.serve_and_tell.result
-    c.serve_and_tell.ensures.runs
+returns-clause-front g c = front_of c.serve_and_tell.ensures.runs
 
 pub returns-clause-no_memory : goal.returns-clause-no_memory
-returns-clause-no_memory g c =
-    unwritten c.args.words.now (g.S.Source.held c.args.source.now) (g.S.Source.held c.serve_and_tell.new.source)
-    (Rose (g.S.Source.faults c.args.source.now) (g.S.Source.faults c.serve_and_tell.new.source))
-    g.K.Sink.taken g.K.Sink.faults c.args.sink.now c.serve_and_tell.new.sink c.serve_and_tell.result
-    c.serve_and_tell.ensures.runs
+returns-clause-no_memory g c = unwritten c.serve_and_tell.ensures.runs
 
 pub returns-clause-due_words : goal.returns-clause-due_words
-returns-clause-due_words g c =
-    answers_words c.args.words.now (g.S.Source.held c.args.source.now) (g.S.Source.held c.serve_and_tell.new.source)
-    (Rose (g.S.Source.faults c.args.source.now) (g.S.Source.faults c.serve_and_tell.new.source))
-    g.K.Sink.taken g.K.Sink.faults c.args.sink.now c.serve_and_tell.new.sink c.serve_and_tell.result
-    c.serve_and_tell.ensures.runs
+returns-clause-due_words g c = answers_words c.serve_and_tell.ensures.runs
 
 pub returns-clause-due_length : goal.returns-clause-due_length
-returns-clause-due_length g c =
-    answers_length c.args.words.now (g.S.Source.held c.args.source.now) (g.S.Source.held c.serve_and_tell.new.source)
-    (Rose (g.S.Source.faults c.args.source.now) (g.S.Source.faults c.serve_and_tell.new.source))
-    g.K.Sink.taken g.K.Sink.faults c.args.sink.now c.serve_and_tell.new.sink c.serve_and_tell.result
-    c.serve_and_tell.ensures.runs
+returns-clause-due_length g c = answers_length c.serve_and_tell.ensures.runs
 
 pub returns-clause-due : goal.returns-clause-due
-returns-clause-due g c =
-    answers_deck c.args.words.now (g.S.Source.held c.args.source.now) (g.S.Source.held c.serve_and_tell.new.source)
-    (Rose (g.S.Source.faults c.args.source.now) (g.S.Source.faults c.serve_and_tell.new.source))
-    g.K.Sink.taken g.K.Sink.faults c.args.sink.now c.serve_and_tell.new.sink c.serve_and_tell.result
-    c.serve_and_tell.ensures.runs
+returns-clause-due g c = answers_deck c.serve_and_tell.ensures.runs
 
 pub returns-clause-unread : goal.returns-clause-unread
 returns-clause-unread g c =
@@ -113,14 +55,8 @@ returns-clause-unread g c =
 
 pub returns-clause-known : goal.returns-clause-known
 returns-clause-known g c =
-    leaves_diagram (own_deck (command_of c.args.words.now))
-    (g.S.Source.held c.args.source.now) (g.S.Source.held c.serve_and_tell.new.source) c.args.seat.now
-    c.serve_and_tell.new.seat
-    c.serve_and_tell.result c.serve_and_tell.ensures.method
+    leaves_diagram _ _ _ c.args.seat.now c.serve_and_tell.new.seat _ c.serve_and_tell.ensures.method
 
 pub returns-clause-full : goal.returns-clause-full
 returns-clause-full g c =
-    finds_full (own_deck (command_of c.args.words.now))
-    (g.S.Source.held c.args.source.now) (g.S.Source.held c.serve_and_tell.new.source) c.args.seat.now
-    c.serve_and_tell.new.seat
-    c.serve_and_tell.result c.serve_and_tell.ensures.method
+    finds_full _ _ _ c.args.seat.now c.serve_and_tell.new.seat _ c.serve_and_tell.ensures.method
