@@ -1,9 +1,13 @@
-//! Families made from words, and read as words.
-ghost use Rattle.std.specs.Prelude.{All, IfOk};
-ghost use Rattle.family_memory.specs.Memory.{Has, Went};
+//! Families made from words, and read as words. What the library wants of its arguments is tested before each call.
+ghost use Rattle.std.specs.Prelude.{◌≡◌, true, All};
+ghost use Rattle.family_memory.specs.Memory.{Has};
 
-use family_memory::{FamilyMemory, Room};
-use minimal_operations::{product, single, union};
+use family_memory::{FamilyMemory, Room, Spent};
+use many_families::{
+    product_by_splitting, product_in_order, product_of_all, union_in_order, union_of_all,
+    votes_of_all,
+};
+use minimal_operations::{product, single, union, without};
 use std::alloc::Global;
 use std::test::Fail;
 use unit_sets::UnitNo;
@@ -15,8 +19,30 @@ pub(crate) const ANSWERS: usize = 65_536;
 /// So few that most answers are lost.
 pub(crate) const FEW_ANSWERS: usize = 16;
 
-pub(crate) fn unit(number: u16) -> Result<UnitNo, Fail> {
-    Ok(UnitNo::new(number).ok_or("no unit")?)
+/// An operation on two families.
+#[derive(Clone, Copy)]
+pub(crate) enum Two {
+    Union,
+    Product,
+    ProductBySplitting,
+    Without,
+}
+
+/// An operation on a list of families.
+#[derive(Clone, Copy)]
+pub(crate) enum Many {
+    Union,
+    UnionInOrder,
+    Product,
+    ProductInOrder,
+    Votes(usize),
+}
+
+/// Why there is no family: no room, or no such reference or unit.
+#[derive(Debug, Clone, Copy, PartialEq)]
+pub(crate) enum End {
+    Spent,
+    Absent,
 }
 
 pub(crate) fn memory_of(alloc: Global, nodes: usize, answers: usize) -> Result<FamilyMemory, Fail> {
@@ -28,96 +54,150 @@ pub(crate) fn memory_of(alloc: Global, nodes: usize, answers: usize) -> Result<F
     Ok(FamilyMemory::new(alloc, room)?)
 }
 
-/// The sets of a family, each with one unit more where it is wanted.
+/// Whether a memory has a reference.
+pub(crate) fn has(memory: &FamilyMemory, r: NodeRef) -> bool
+    ensures { result ≡ true → Has memory.now r }
+{
+    let nodes = memory.count();
+    let number = r.number() as usize;
+    number < 2 || number - 2 < nodes
+}
+
+fn has_all(memory: &FamilyMemory, list: &[NodeRef]) -> bool
+    ensures { result ≡ true → All (Has memory.now) list.now }
+{
+    for r in list {
+        if !has(memory, *r) {
+            return false;
+        }
+    }
+    true
+}
+
+fn ended(made: Result<NodeRef, Spent>) -> Result<NodeRef, End> {
+    match made {
+        Ok(r) => Ok(r),
+        Err(Spent) => Err(End::Spent),
+    }
+}
+
+/// What an operation makes of two families.
+pub(crate) fn both(
+    memory: &mut FamilyMemory,
+    call: Two,
+    a: NodeRef,
+    b: NodeRef,
+) -> Result<NodeRef, End> {
+    if !has(memory, a) || !has(memory, b) {
+        return Err(End::Absent);
+    }
+    let made = match call {
+        Two::Union => union(memory, a, b),
+        Two::Product => product(memory, a, b),
+        Two::ProductBySplitting => product_by_splitting(memory, a, b),
+        Two::Without => without(memory, a, b),
+    };
+    ended(made)
+}
+
+/// What an operation makes of a list of families, with a table as long.
+pub(crate) fn all_of(
+    memory: &mut FamilyMemory,
+    call: Many,
+    list: &[NodeRef],
+    table: &mut [NodeRef],
+) -> Result<NodeRef, End> {
+    if !has_all(memory, list) || table.len() < list.len() {
+        return Err(End::Absent);
+    }
+    let made = match call {
+        Many::Union => union_of_all(memory, list),
+        Many::UnionInOrder => union_in_order(memory, list, table),
+        Many::Product => product_of_all(memory, list),
+        Many::ProductInOrder => product_in_order(memory, list, table),
+        Many::Votes(votes) => votes_of_all(memory, votes, list, table),
+    };
+    ended(made)
+}
+
+/// The family of one set of one unit.
+pub(crate) fn one(memory: &mut FamilyMemory, number: u16) -> Result<NodeRef, End> {
+    match UnitNo::new(number) {
+        Some(unit) => ended(single(memory, unit)),
+        None => Err(End::Absent),
+    }
+}
+
+/// The family of two sets of one unit each.
+pub(crate) fn either(memory: &mut FamilyMemory, first: u16, second: u16) -> Result<NodeRef, End> {
+    let a = one(memory, first)?;
+    let b = one(memory, second)?;
+    both(memory, Two::Union, a, b)
+}
+
+/// The sets of a family, each with one unit more.
 pub(crate) fn with_unit(
     memory: &mut FamilyMemory,
     family: NodeRef,
     number: u16,
-    wanted: bool,
-) -> Result<NodeRef, Fail>
-    requires { Has memory.old family }
-    ensures { IfOk result (λ r. Has memory.new r × Went memory.old memory.new) }
-{
-    memory.is_sound();
-    if !wanted {
-        return Ok(family);
-    }
-    let one = single(memory, unit(number)?)?;
-    Ok(product(memory, one, family)?)
+) -> Result<NodeRef, End> {
+    let a = one(memory, number)?;
+    both(memory, Two::Product, a, family)
 }
 
 // The family of one set.
-fn set_of(memory: &mut FamilyMemory, set: u32) -> Result<NodeRef, Fail>
-    ensures { IfOk result (λ r. Has memory.new r × Went memory.old memory.new) }
-{
-    memory.is_sound();
+fn set_of(memory: &mut FamilyMemory, set: u32) -> Result<NodeRef, End> {
     let mut made = NodeRef::UNIT;
     for number in 1..6u16 {
-        made = with_unit(memory, made, number, set >> (number - 1) & 1 == 1)?;
+        if set >> (number - 1) & 1 == 1 {
+            made = with_unit(memory, made, number)?;
+        }
     }
     Ok(made)
 }
 
-/// A family with the sets of another, where they are wanted.
-pub(crate) fn with_family(
-    memory: &mut FamilyMemory,
-    family: NodeRef,
-    other: NodeRef,
-    wanted: bool,
-) -> Result<NodeRef, Fail>
-    requires first { Has memory.old family }
-    requires second { Has memory.old other }
-    ensures { IfOk result (λ r. Has memory.new r × Went memory.old memory.new) }
-{
-    memory.is_sound();
-    if !wanted {
-        return Ok(family);
-    }
-    Ok(union(memory, other, family)?)
-}
-
 /// The minimal sets of a word.
-pub(crate) fn family_of(memory: &mut FamilyMemory, word: u32) -> Result<NodeRef, Fail>
-    ensures { IfOk result (λ r. Has memory.new r × Went memory.old memory.new) }
-{
-    memory.is_sound();
+pub(crate) fn family_of(memory: &mut FamilyMemory, word: u32) -> Result<NodeRef, End> {
     let mut family = NodeRef::EMPTY;
     for set in 0..32u32 {
-        let one = set_of(memory, set)?;
-        family = with_family(memory, family, one, word >> set & 1 == 1)?;
+        if word >> set & 1 == 1 {
+            let one = set_of(memory, set)?;
+            family = both(memory, Two::Union, one, family)?;
+        }
     }
     Ok(family)
 }
 
-/// The families of five words.
-pub(crate) fn families_of(memory: &mut FamilyMemory, words: &[u32; 5]) -> Result<[NodeRef; 5], Fail>
-    ensures { IfOk result (λ list. All (Has memory.new) list) }
-{
-    memory.is_sound();
-    let [first, second, third, fourth, fifth] = *words;
-    let one = family_of(memory, first)?;
-    let two = family_of(memory, second)?;
-    let three = family_of(memory, third)?;
-    let four = family_of(memory, fourth)?;
-    let five = family_of(memory, fifth)?;
-    Ok([one, two, three, four, five])
+/// Of a family the sets with a unit, without that unit, or the others. No set has a lesser unit.
+pub(crate) fn half(memory: &FamilyMemory, r: NodeRef, number: u16, with: bool) -> NodeRef {
+    if r.number() >= 2 && has(memory, r) {
+        let parts = memory.parts(r);
+        if parts.level.number() == number {
+            return if with { parts.hi } else { parts.lo };
+        }
+    }
+    if with { NodeRef::EMPTY } else { r }
 }
 
-/// The word of a family without units above 5.
-pub(crate) fn word_of(memory: &FamilyMemory, r: NodeRef) -> u32
-    requires { Has memory.now r }
-{
-    if r.number() < 2 {
-        return r.number();
-    }
-    let parts = memory.parts(r);
-    let shift = match parts.level.number() {
+// The word of a family without units below a number and above 5, where each set stands for its units from there on.
+fn word_from(memory: &FamilyMemory, r: NodeRef, number: u16) -> u32 {
+    let shift = match number {
         1 => 1,
         2 => 2,
         3 => 4,
         4 => 8,
         5 => 16,
-        _ => return 0,
+        _ => return if r == NodeRef::UNIT { 1 } else { 0 },
     };
-    word_of(memory, parts.lo) | word_of(memory, parts.hi) << shift
+    if r == NodeRef::EMPTY {
+        return 0;
+    }
+    let without = word_from(memory, half(memory, r, number, false), number + 1);
+    let with = word_from(memory, half(memory, r, number, true), number + 1);
+    without | with << shift
+}
+
+/// The word of a family without units above 5.
+pub(crate) fn word_of(memory: &FamilyMemory, r: NodeRef) -> u32 {
+    word_from(memory, r, 1)
 }

@@ -2,22 +2,16 @@
 #![tactic(auto)]
 
 #[cfg(test)]
-mod apart;
-#[cfg(test)]
 mod chains;
 #[cfg(test)]
 mod deep;
 #[cfg(test)]
-mod empty;
-#[cfg(test)]
 mod families;
 #[cfg(test)]
-mod including;
+mod lists;
 #[cfg(test)]
 mod pairs;
 #[cfg(test)]
 mod plain;
-#[cfg(test)]
-mod random;
 #[cfg(test)]
 mod shared;

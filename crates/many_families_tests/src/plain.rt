@@ -38,3 +38,23 @@ pub(crate) fn least_of(sets: u32) -> u32 {
     }
     least
 }
+
+/// The part of a row at a place.
+pub(crate) fn part(row: &str, place: usize) -> &str {
+    row.split('|').nth(place).unwrap_or("")
+}
+
+/// The word of a text: a digit for each unit of a set, and a point behind it.
+pub(crate) fn word_in(text: &str) -> u32 {
+    let mut word = 0;
+    let mut set = 0;
+    for byte in text.as_bytes() {
+        if *byte == b'.' {
+            word |= 1 << (set & 31);
+            set = 0;
+        } else {
+            set |= 1 << (byte.wrapping_sub(b'1') & 31);
+        }
+    }
+    word
+}

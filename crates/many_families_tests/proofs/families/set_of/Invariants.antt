@@ -1,8 +1,0 @@
-use Rattle.family_memory.specs.Memory.{Has, Went}
-use Rattle.many_families_tests.proofs.families.set_of.Given as goal
-
-abbrev pub invariant-loop-number : goal.invariant-loop-number
-invariant-loop-number l = record {
-  went : Went l.initial.memory l.memory;
-  has : Has l.memory l.made;
-}
