@@ -1,5 +1,6 @@
 -- Sets of one and of two units, and a list of both.
-use Rattle.std.proofs.Common.{◌≡◌, ℕ, List, [], ◌∷◌, refl}
+use Rattle.std.proofs.Common.{◌≡◌, ℕ, ◌<◌, List, [], ◌∷◌, refl, arith}
+use Rattle.std.proofs.lemmas.Bool.Decides.{nat_tests}
 use Rattle.std.specs.List.Sorted.{IsStrictlySortedBy}
 use Rattle.std.specs.Ordering.{nat_cmp}
 use Rattle.std.specs.declared.cmp.Ordering.TheVariants.{Less}
@@ -10,9 +11,12 @@ pub one_rises : (a : ℕ) → IsRising (a ∷ [])
 unfolding IsStrictlySortedBy
 one_rises a = (tt, tt)
 
-pub two_rise : (a b : ℕ) → nat_cmp a b ≡ Less → IsRising (a ∷ b ∷ [])
+less_from_below : (a b : ℕ) → a < b → nat_cmp a b ≡ Less
+less_from_below a b h = grind (arith, nat_tests)
+
+pub two_rise : (a b : ℕ) → a < b → IsRising (a ∷ b ∷ [])
 unfolding IsStrictlySortedBy
-two_rise a b less = ((less, tt), (tt, tt))
+two_rise a b less = ((less_from_below a b less, tt), (tt, tt))
 
 pub first_in_order : (cut : List ℕ) → IsInCutOrder (cut ∷ [])
 unfolding IsStrictlySortedBy

@@ -1,50 +1,60 @@
 //! Units, sets and lists, each once.
+ghost use Rattle.std.specs.Prelude.{◌≡◌, ◌<◌, []};
+
 use flat_rows::Rows;
+use std::alloc::Global;
 use std::cmp::Ordering;
 use std::test::Fail;
-use unit_sets::{CutList, UnitNo, UnitSet, compare_cuts};
+use unit_sets::{CutList, PushEnd, UnitNo, UnitSet, compare_cuts};
+
+fn unit(number: u16) -> Result<UnitNo, Fail> {
+    Ok(UnitNo::new(number).ok_or("no unit")?)
+}
 
 #[test]
 fn only_1_to_4095_are_units(rt: HostRuntime) {
-    for (number, is_unit) in [
-        (0, false),
-        (1, true),
-        (4095, true),
-        (4096, false),
-        (65535, false),
-    ] {
-        assert_eq!(rt; UnitNo::new(number).is_some(), is_unit, "at {number}");
+    for number in [1, 4095] {
+        assert!(rt; UnitNo::new(number).is_some(), "at {number}");
     }
+    for number in [0, 4096, 65535] {
+        assert!(rt; UnitNo::new(number).is_none(), "at {number}");
+    }
+}
+
+// Whether a unit comes into a set once, and goes out of it once. It stays in another, which has all that were in.
+fn comes_and_goes(set: &mut UnitSet, other: &mut UnitSet, unit: UnitNo) -> bool {
+    let comes = set.insert(unit) && !set.insert(unit) && set.contains(unit);
+    let alone = !set.subset(other) && set.count_without(other) == 1;
+    let both = other.insert(unit) && set.subset(other);
+    let goes = set.remove(unit) && !set.remove(unit) && !set.contains(unit);
+    comes && alone && both && goes && set.subset(other)
+}
+
+// How many units of these come and go, and how many are then in the other set alone, and in the first.
+fn counted(alloc: Global, numbers: &[u16]) -> Result<(usize, u32, u32), Fail> {
+    let mut set = UnitSet::new(alloc)?;
+    let mut other = UnitSet::new(alloc)?;
+    let mut count = 0usize;
+    for number in numbers {
+        if !comes_and_goes(&mut set, &mut other, unit(*number)?) {
+            break;
+        }
+        count = count.saturating_add(1);
+    }
+    Ok((count, other.count_without(&set), set.count_without(&other)))
 }
 
 #[test]
 fn a_unit_set_has_what_was_put_in(rt: HostRuntime) -> Result<(), Fail> {
-    let mut set = UnitSet::new(rt.alloc())?;
-    let mut other = UnitSet::new(rt.alloc())?;
-    for number in [1, 63, 64, 65, 4095] {
-        let unit = UnitNo::new(number).ok_or("no unit")?;
-        assert!(rt; set.insert(unit), "{number} was there");
-        assert!(rt; !set.insert(unit), "{number} was not there");
-        assert!(rt; set.contains(unit), "{number} is not there");
-        assert!(rt; !set.subset(&other));
-        assert_eq!(rt; set.count_without(&other), 1);
-        assert!(rt; other.insert(unit));
-        assert!(rt; set.subset(&other));
-        assert!(rt; set.remove(unit), "{number} was not there");
-        assert!(rt; !set.remove(unit), "{number} was there");
-        assert!(rt; !set.contains(unit), "{number} is there");
-        assert!(rt; set.subset(&other));
-    }
-    assert_eq!(rt; other.count_without(&set), 5);
-    assert_eq!(rt; set.count_without(&other), 0);
+    assert_eq!(rt; counted(rt.alloc(), &[1, 63, 64, 65, 4095])?, (5, 5, 0));
     Ok(())
 }
 
 #[test]
 fn cut_sets_go_by_size_and_then_by_units(rt: HostRuntime) -> Result<(), Fail> {
-    let a = UnitNo::new(1).ok_or("no unit")?;
-    let b = UnitNo::new(2).ok_or("no unit")?;
-    let c = UnitNo::new(3).ok_or("no unit")?;
+    let a = unit(1)?;
+    let b = unit(2)?;
+    let c = unit(3)?;
     assert_eq!(rt; compare_cuts(&[c], &[a, b]), Ordering::Less);
     assert_eq!(rt; compare_cuts(&[a, c], &[a, b]), Ordering::Greater);
     assert_eq!(rt; compare_cuts(&[a, c], &[b, c]), Ordering::Less);
@@ -52,34 +62,68 @@ fn cut_sets_go_by_size_and_then_by_units(rt: HostRuntime) -> Result<(), Fail> {
     Ok(())
 }
 
-#[test]
-fn a_cut_list_gives_back_its_sets(rt: HostRuntime) -> Result<(), Fail> {
-    let a = UnitNo::new(1).ok_or("no unit")?;
-    let b = UnitNo::new(2).ok_or("no unit")?;
-    let mut cuts = CutList::new(rt.alloc());
-    assert_eq!(rt; cuts.len(), 0);
-    assert_eq!(rt; cuts.weight(), 0);
+// Pushes the set of one unit, and that of two.
+fn push_two(cuts: &mut CutList, a: UnitNo, b: UnitNo) -> Result<(), PushEnd>
+    requires none { cuts.old ≡ [] }
+    requires rising { a < b }
+{
     cuts.push(&[a])?;
-    cuts.push(&[a, b])?;
-    let copy = cuts.clone()?;
-    assert_eq!(rt; copy.len(), 2);
-    assert_eq!(rt; copy.weight(), 5);
-    assert_eq!(rt; copy.members(0), [a].as_slice());
-    assert_eq!(rt; copy.members(1), [a, b].as_slice());
+    cuts.push(&[a, b])
+}
+
+// Pushes the first set, and appends the second.
+fn append_second(
+    cuts: &mut CutList,
+    pair: &mut Rows<UnitNo>,
+    a: UnitNo,
+    b: UnitNo,
+) -> Result<(), Fail>
+    requires none { cuts.old ≡ [] }
+    requires empty { pair.old ≡ [] }
+    requires rising { a < b }
+{
+    pair.push(&[a, b])?;
+    cuts.push(&[a])?;
+    cuts.append(pair)?;
     Ok(())
 }
 
+// Whether a list has both sets.
+fn has_both(cuts: &CutList, a: UnitNo, b: UnitNo) -> bool {
+    cuts.len() == 2
+        && cuts.weight() == 5
+        && cuts.members(0) == [a].as_slice()
+        && cuts.members(1) == [a, b].as_slice()
+}
+
+// Whether a copy of a list with both sets has both.
+fn pushed(alloc: Global, a: UnitNo, b: UnitNo) -> Result<bool, Fail>
+    requires { a < b }
+{
+    let mut cuts = CutList::new(alloc);
+    let empty = cuts.len() == 0 && cuts.weight() == 0;
+    push_two(&mut cuts, a, b)?;
+    let copy = cuts.clone()?;
+    Ok(empty && has_both(&copy, a, b))
+}
+
+fn appended(alloc: Global, a: UnitNo, b: UnitNo) -> Result<bool, Fail>
+    requires { a < b }
+{
+    let mut cuts = CutList::new(alloc);
+    let mut pair = Rows::new(alloc);
+    append_second(&mut cuts, &mut pair, a, b)?;
+    Ok(has_both(&cuts, a, b))
+}
+
 #[test]
-fn appended_sets_stand_behind_the_others(rt: HostRuntime) -> Result<(), Fail> {
-    let a = UnitNo::new(1).ok_or("no unit")?;
-    let b = UnitNo::new(2).ok_or("no unit")?;
-    let mut pair = Rows::new(rt.alloc());
-    pair.push(&[a, b])?;
-    let mut cuts = CutList::new(rt.alloc());
-    cuts.push(&[a])?;
-    cuts.append(&pair)?;
-    assert_eq!(rt; cuts.weight(), 5);
-    assert_eq!(rt; cuts.members(0), [a].as_slice());
-    assert_eq!(rt; cuts.members(1), [a, b].as_slice());
-    Ok(())
+fn a_cut_list_gives_back_its_sets(rt: HostRuntime) -> Result<(), Fail> {
+    let a = unit(1)?;
+    let b = unit(2)?;
+    if a < b {
+        assert!(rt; pushed(rt.alloc(), a, b)?);
+        assert!(rt; appended(rt.alloc(), a, b)?);
+        return Ok(());
+    }
+    Err("units fall".into())
 }
