@@ -7,6 +7,11 @@ use std::test::Fail;
 use unit_sets::UnitNo;
 use worked_trees::{cuts_of, tree_of};
 
+// The part of a row at a place.
+fn part(row: &str, place: usize) -> &str {
+    row.split('|').nth(place).unwrap_or("")
+}
+
 // A ledger over all units that there can be, with the cut list of a text.
 fn ledger_of(alloc: Global, text: &str) -> Result<Ledger, Fail>
     ensures { IfOk result (λ ledger. ledger.units ≡ 4095) }
@@ -16,33 +21,86 @@ fn ledger_of(alloc: Global, text: &str) -> Result<Ledger, Fail>
     Ok(Ledger::new(alloc, 4095, &cuts)?)
 }
 
-fn take_out(ledger: &mut Ledger, number: u16) -> Result<(), Fail>
+// Takes a unit out, or puts it back where it is out.
+fn turn(ledger: &mut Ledger, unit: UnitNo)
     requires { ledger.old.units ≡ 4095 }
     ensures { ledger.new.units ≡ 4095 }
 {
-    let unit = UnitNo::new(number).ok_or("no unit")?;
     unit.number();
     if ledger.is_out(unit) {
-        return Err("out already".into());
+        ledger.back(unit);
+    } else {
+        ledger.out(unit);
     }
-    ledger.out(unit);
-    Ok(())
 }
 
-fn put_back(ledger: &mut Ledger, number: u16) -> Result<(), Fail>
+// The same for the number of a unit, if there is one.
+fn turn_number(ledger: &mut Ledger, number: &str) -> Result<(), Fail>
     requires { ledger.old.units ≡ 4095 }
     ensures { ledger.new.units ≡ 4095 }
 {
-    let unit = UnitNo::new(number).ok_or("no unit")?;
-    unit.number();
-    if !ledger.is_out(unit) {
-        return Err("not out".into());
+    if !number.is_empty() {
+        let unit = UnitNo::new(number.parse::<u16>()?).ok_or("no unit")?;
+        turn(ledger, unit);
     }
-    ledger.back(unit);
     Ok(())
 }
 
-// The first tight cut set with a unit out too.
+// Numbers, each with a point behind it.
+fn push_numbers(alloc: Global, told: &mut String, numbers: &[u32]) -> Result<(), Fail> {
+    for number in numbers {
+        told.push_str(format!(in alloc; "{number}.")?.as_str())?;
+    }
+    Ok(())
+}
+
+// The counts of all cut sets, the least of each block, and the places of the cut sets that hold a unit.
+fn told(alloc: Global, ledger: &Ledger, number: u16) -> Result<String, Fail>
+    requires { ledger.now.units ≡ 4095 }
+{
+    let unit = UnitNo::new(number).ok_or("no unit")?;
+    unit.number();
+    let mut told = String::new(alloc);
+    push_numbers(alloc, &mut told, ledger.counts())?;
+    told.push(' ')?;
+    push_numbers(alloc, &mut told, ledger.least())?;
+    told.push(' ')?;
+    push_numbers(alloc, &mut told, ledger.holding(unit))?;
+    Ok(told)
+}
+
+// The same of unit 6, after the turns of a row.
+fn told_after(alloc: Global, text: &str, row: &str) -> Result<String, Fail> {
+    let mut ledger = ledger_of(alloc, text)?;
+    turn_number(&mut ledger, part(row, 0))?;
+    turn_number(&mut ledger, part(row, 1))?;
+    turn_number(&mut ledger, part(row, 2))?;
+    told(alloc, &ledger, 6)
+}
+
+const DECK: &str = "toplevel T; T or C D G H I J; G and A B; H and E F; I and F K; J and L M N O; \
+A; B; C; D; E; F; K; L; M; N; O;";
+
+// Which units go out and come back, and what is told then.
+const TURNS: &str = "\
+|||1.1.2.2.2.4. 1. 3.4.
+6|||1.1.2.1.1.4. 1. 3.4.
+6|10||1.1.2.1.1.3. 1. 3.4.
+6|10|6|1.1.2.2.2.3. 1. 3.4.";
+
+#[test]
+fn counts_follow_units_out_and_back(rt: HostRuntime) -> Result<(), Fail> {
+    for row in TURNS.lines() {
+        assert_eq!(rt;
+            told_after(rt.alloc(), DECK, row)?.as_str(),
+            part(row, 3),
+            "{row}"
+        );
+    }
+    Ok(())
+}
+
+// The first tight cut set with a unit out too, where that is in service.
 fn first_tight(ledger: &Ledger, number: u16, most: u32) -> Result<Option<usize>, Fail>
     requires { ledger.now.units ≡ 4095 }
 {
@@ -54,51 +112,43 @@ fn first_tight(ledger: &Ledger, number: u16, most: u32) -> Result<Option<usize>,
     Ok(ledger.first_tight_after(unit, most))
 }
 
-#[test]
-fn counts_follow_units_out_and_back(rt: HostRuntime) -> Result<(), Fail> {
-    let text = "toplevel T; T or C D G H I J; G and A B; H and E F; I and F K; J and L M N O;
-        A; B; C; D; E; F; K; L; M; N; O;";
-    let mut ledger = ledger_of(rt.alloc(), text)?;
-    assert_eq!(rt; ledger.cuts().len(), 6);
-    assert_eq!(rt; ledger.counts(), [1, 1, 2, 2, 2, 4].as_slice());
-    assert_eq!(rt; ledger.least(), [1].as_slice());
-    take_out(&mut ledger, 6)?;
-    assert_eq!(rt; ledger.counts(), [1, 1, 2, 1, 1, 4].as_slice());
-    assert_eq!(rt; ledger.least(), [1].as_slice());
-    take_out(&mut ledger, 10)?;
-    assert_eq!(rt; ledger.counts(), [1, 1, 2, 1, 1, 3].as_slice());
-    assert_eq!(rt; ledger.least(), [1].as_slice());
-    put_back(&mut ledger, 6)?;
-    assert_eq!(rt; ledger.counts(), [1, 1, 2, 2, 2, 3].as_slice());
-    assert_eq!(rt; ledger.least(), [1].as_slice());
-    let spare = UnitNo::new(6).ok_or("no unit")?;
-    spare.number();
-    assert_eq!(rt; ledger.holding(spare), [3, 4].as_slice());
-    Ok(())
+// The first tight cut set with the unit of a row out too, or as it is.
+fn first_tight_in(ledger: &Ledger, row: &str) -> Result<Option<usize>, Fail>
+    requires { ledger.now.units ≡ 4095 }
+{
+    let most = part(row, 2).parse::<u32>()?;
+    if part(row, 1).is_empty() {
+        return Ok(ledger.first_tight_after_all(&[], most));
+    }
+    first_tight(ledger, part(row, 1).parse::<u16>()?, most)
 }
 
-// A set may keep one more than the margin, and a set without the unit may be the first tight one.
+fn first_tight_of(alloc: Global, row: &str) -> Result<Option<usize>, Fail> {
+    let ledger = ledger_of(alloc, part(row, 0))?;
+    first_tight_in(&ledger, row)
+}
+
+// A deck, a unit, how many members may be left, and whether the first cut set is tight then. A set may keep one more
+// than the margin, and a set without the unit may be the first tight one.
+const TIGHT: &str = "\
+toplevel T; T or A G; G and B C; A; B; C; D;|2|1|first
+toplevel T; T or A G; G and B C; A; B; C; D;|4|1|first
+toplevel T; T or A G; G and B C; A; B; C; D;|2|0|none
+toplevel T; T and A B C; A; B; C;|1|2|first
+toplevel T; T and A B C; A; B; C;|1|1|none
+toplevel T; T or A G; G and B C; A; B; C; D;||0|none
+toplevel T; T or A G; G and B C; A; B; C; D;||1|first";
+
 #[test]
 fn the_first_tight_set_is_found(rt: HostRuntime) -> Result<(), Fail> {
-    let single = "toplevel T; T or A G; G and B C; A; B; C; D;";
-    let triple = "toplevel T; T and A B C; A; B; C;";
-    for (text, unit, most, wanted) in [
-        (single, 2, 1, Some(0)),
-        (single, 4, 1, Some(0)),
-        (single, 2, 0, None),
-        (triple, 1, 2, Some(0)),
-        (triple, 1, 1, None),
-    ] {
-        let ledger = ledger_of(rt.alloc(), text)?;
-        assert_eq!(rt;
-            first_tight(&ledger, unit, most)?,
-            wanted,
-            "{text} {unit} {most}"
-        );
+    for row in TIGHT.lines() {
+        let wanted = if part(row, 3) == "first" {
+            Some(0)
+        } else {
+            None
+        };
+        assert_eq!(rt; first_tight_of(rt.alloc(), row)?, wanted, "{row}");
     }
-    let ledger = ledger_of(rt.alloc(), single)?;
-    assert_eq!(rt; ledger.first_tight_after_all(&[], 0), None);
-    assert_eq!(rt; ledger.first_tight_after_all(&[], 1), Some(0));
     Ok(())
 }
 
@@ -172,29 +222,57 @@ fn first_by_hand(ledger: &Ledger, unit: UnitNo, most: u32) -> Option<usize> {
     None
 }
 
+// Whether the first tight cut set with a unit out too is the one that is found by hand.
+fn is_found(ledger: &Ledger, unit: UnitNo) -> bool
+    requires { ledger.now.units ≡ 4095 }
+{
+    unit.number();
+    for most in 0..4u32 {
+        if ledger.is_out(unit)
+            || ledger.first_tight_after(unit, most) != first_by_hand(ledger, unit, most)
+        {
+            return false;
+        }
+    }
+    true
+}
+
+// Turns a unit: whether what the ledger says is what a count anew gives.
+fn step_holds(ledger: &mut Ledger, unit: UnitNo) -> bool
+    requires { ledger.old.units ≡ 4095 }
+    ensures { ledger.new.units ≡ 4095 }
+{
+    let found = ledger.is_out(unit) || is_found(ledger, unit);
+    turn(ledger, unit);
+    found && is_recounted(ledger) && has_least(ledger)
+}
+
+// How many of so many steps hold, up to the first that doesn't.
+fn steps_held(ledger: &mut Ledger, steps: u16) -> Result<u16, Fail>
+    requires { ledger.old.units ≡ 4095 }
+{
+    for step in 0..steps {
+        let number = step.wrapping_mul(37) % 55 + 1;
+        let unit = UnitNo::new(number).ok_or("no unit")?;
+        if !step_holds(ledger, unit) {
+            return Ok(step);
+        }
+    }
+    Ok(steps)
+}
+
+// How many cut sets and blocks a ledger has, and how many of 120 steps hold.
+fn told_steps(alloc: Global) -> Result<String, Fail> {
+    let text = many_sets(alloc)?;
+    let mut ledger = ledger_of(alloc, text.as_str())?;
+    let sets = ledger.cuts().len();
+    let blocks = ledger.least().len();
+    let held = steps_held(&mut ledger, 120)?;
+    Ok(format!(in alloc; "{sets} {blocks} {held}")?)
+}
+
 #[test]
 fn a_made_list_is_recounted(rt: HostRuntime) -> Result<(), Fail> {
-    let text = many_sets(rt.alloc())?;
-    let mut ledger = ledger_of(rt.alloc(), text.as_str())?;
-    assert_eq!(rt; ledger.cuts().len(), 1340);
-    assert_eq!(rt; ledger.least().len(), 6);
-    for step in 0..120u16 {
-        let number = step * 37 % 55 + 1;
-        let unit = UnitNo::new(number).ok_or("no unit")?;
-        if ledger.is_out(unit) {
-            put_back(&mut ledger, number)?;
-        } else {
-            for most in 0..4 {
-                assert_eq!(rt;
-                    first_tight(&ledger, number, most)?,
-                    first_by_hand(&ledger, unit, most),
-                    "at {step} with {most}"
-                );
-            }
-            take_out(&mut ledger, number)?;
-        }
-        assert!(rt; is_recounted(&ledger), "at {step}");
-        assert!(rt; has_least(&ledger), "at {step}");
-    }
+    assert_eq!(rt; told_steps(rt.alloc())?.as_str(), "1340 6 120");
     Ok(())
 }
