@@ -2,4 +2,8 @@
 #![tactic(auto)]
 
 #[cfg(test)]
-mod tests;
+mod cases;
+#[cfg(test)]
+mod families;
+#[cfg(test)]
+mod random;
