@@ -7,6 +7,7 @@ ghost use Rattle.cutset_listing.specs.Listing.{LacksEmptySet};
 ghost use Rattle.cutset_listing_tests.specs.Made.{IsMade, Keeps};
 
 use cutset_listing::{list, node_count};
+use std::alloc::Global;
 use std::test::Fail;
 use unit_sets::{CutList, ListEnd, UnitNo};
 use zdd_shared_table::{NodeStore, StoreSeat, StoreStart};
@@ -122,70 +123,156 @@ fn ways(store: &NodeStore, seat: &mut StoreSeat, count: u16) -> Result<NodeRef, 
     Ok(all)
 }
 
-#[test]
-fn two_of_three_has_three_pairs_and_four_nodes(rt: HostRuntime) -> Result<(), Fail> {
-    let StoreStart { store, mut seat } = NodeStore::new(rt.alloc(), 10)?;
-    let root = two_of_three(&store, &mut seat)?;
-    let cuts = list(rt.alloc(), &store, &mut seat, root)?;
-    assert!(rt; has(&cuts, &[[1, 2, 0], [1, 3, 0], [2, 3, 0]]));
-    assert_eq!(rt; node_count(rt.alloc(), &store, &mut seat, root)?, 4);
-    Ok(())
+// Whether a family is listed as these sets, and has so many nodes.
+fn gives(
+    alloc: Global,
+    store: &NodeStore,
+    seat: &mut StoreSeat,
+    root: NodeRef,
+    sets: &[[u16; 3]],
+    nodes: u64,
+) -> Result<bool, Fail>
+    requires own { seat.old.store ≡ store.now }
+    requires made { IsMade (map_of seat.old) 0 root }
+    requires lacks { LacksEmptySet (family (map_of seat.old) root) }
+    ensures { seat.new ≡ seat.old }
+{
+    let counted = node_count(alloc, store, seat, root)?;
+    let cuts = list(alloc, store, seat, root)?;
+    Ok(has(&cuts, sets) && counted == nodes)
+}
+
+// Each two of the units 1, 2 and 3 are three sets and four nodes. The smaller of two sets comes first.
+fn small_ones(alloc: Global, store: &NodeStore, seat: &mut StoreSeat) -> Result<(bool, bool), Fail>
+    requires { seat.old.store ≡ store.now }
+{
+    let root = two_of_three(store, seat)?;
+    let first = gives(
+        alloc,
+        store,
+        seat,
+        root,
+        &[[1, 2, 0], [1, 3, 0], [2, 3, 0]],
+        4,
+    )?;
+    let root = two_and_one(store, seat)?;
+    let second = gives(alloc, store, seat, root, &[[3, 0, 0], [1, 2, 0]], 3)?;
+    Ok((first, second))
+}
+
+fn small(alloc: Global) -> Result<(bool, bool), Fail> {
+    let StoreStart { store, mut seat } = NodeStore::new(alloc, 10)?;
+    small_ones(alloc, &store, &mut seat)
 }
 
 #[test]
 fn smaller_sets_come_first(rt: HostRuntime) -> Result<(), Fail> {
-    let StoreStart { store, mut seat } = NodeStore::new(rt.alloc(), 10)?;
-    let root = two_and_one(&store, &mut seat)?;
-    let cuts = list(rt.alloc(), &store, &mut seat, root)?;
-    assert!(rt; has(&cuts, &[[3, 0, 0], [1, 2, 0]]));
-    assert_eq!(rt; node_count(rt.alloc(), &store, &mut seat, root)?, 3);
+    assert_eq!(rt; small(rt.alloc())?, (true, true));
     Ok(())
+}
+
+// How many sets the family without sets has, and how many nodes this and the family of the empty set have.
+fn empty_ones(
+    alloc: Global,
+    store: &NodeStore,
+    seat: &mut StoreSeat,
+) -> Result<(usize, u64, u64), Fail>
+    requires { seat.old.store ≡ store.now }
+{
+    let none = node_count(alloc, store, seat, NodeRef::EMPTY)?;
+    let unit = node_count(alloc, store, seat, NodeRef::UNIT)?;
+    let cuts = list(alloc, store, seat, NodeRef::EMPTY)?;
+    Ok((cuts.len(), none, unit))
+}
+
+fn empty(alloc: Global) -> Result<(usize, u64, u64), Fail> {
+    let StoreStart { store, mut seat } = NodeStore::new(alloc, 10)?;
+    empty_ones(alloc, &store, &mut seat)
 }
 
 #[test]
 fn the_family_without_sets_is_the_empty_list(rt: HostRuntime) -> Result<(), Fail> {
-    let StoreStart { store, mut seat } = NodeStore::new(rt.alloc(), 10)?;
-    let cuts = list(rt.alloc(), &store, &mut seat, NodeRef::EMPTY)?;
-    assert_eq!(rt; cuts.len(), 0);
-    assert_eq!(rt;
-        node_count(rt.alloc(), &store, &mut seat, NodeRef::EMPTY)?,
-        0
-    );
-    assert_eq!(rt;
-        node_count(rt.alloc(), &store, &mut seat, NodeRef::UNIT)?,
-        0
-    );
+    assert_eq!(rt; empty(rt.alloc())?, (0, 0, 0));
     Ok(())
+}
+
+// How many of the sets of a list are 1 2, 3 4 and so on, up to the first that isn't.
+fn pairs_in(cuts: &CutList) -> usize {
+    for i in 0..cuts.len() {
+        let members = cuts.members(i);
+        if members.len() != 2
+            || members[0].number() as usize != i.saturating_mul(2).saturating_add(1)
+            || members[1].number() as usize != i.saturating_mul(2).saturating_add(2)
+        {
+            return i;
+        }
+    }
+    cuts.len()
+}
+
+// How many sets there are, how many of them are as they should be, and how many nodes there are.
+fn told_pairs(
+    alloc: Global,
+    store: &NodeStore,
+    seat: &mut StoreSeat,
+) -> Result<(usize, usize, u64), Fail>
+    requires { seat.old.store ≡ store.now }
+{
+    let root = pairs(store, seat, 600)?;
+    let nodes = node_count(alloc, store, seat, root)?;
+    let cuts = list(alloc, store, seat, root)?;
+    Ok((cuts.len(), pairs_in(&cuts), nodes))
+}
+
+fn six_hundred(alloc: Global) -> Result<(usize, usize, u64), Fail> {
+    let StoreStart { store, mut seat } = NodeStore::new(alloc, 11)?;
+    told_pairs(alloc, &store, &mut seat)
 }
 
 #[test]
 fn six_hundred_pairs_have_twelve_hundred_nodes(rt: HostRuntime) -> Result<(), Fail> {
-    let StoreStart { store, mut seat } = NodeStore::new(rt.alloc(), 11)?;
-    let root = pairs(&store, &mut seat, 600)?;
-    let cuts = list(rt.alloc(), &store, &mut seat, root)?;
-    assert_eq!(rt; cuts.len(), 600);
-    for i in 0..cuts.len() {
-        let members = cuts.members(i);
-        assert_eq!(rt; members.len(), 2);
-        assert_eq!(rt; members[0].number() as usize, 2 * i + 1);
-        assert_eq!(rt; members[1].number() as usize, 2 * i + 2);
-    }
-    assert_eq!(rt; node_count(rt.alloc(), &store, &mut seat, root)?, 1200);
+    assert_eq!(rt; six_hundred(rt.alloc())?, (600, 600, 1200));
     Ok(())
+}
+
+// How many sets nineteen ways make, and their weight.
+fn within_limit(
+    alloc: Global,
+    store: &NodeStore,
+    seat: &mut StoreSeat,
+) -> Result<(usize, u64), Fail>
+    requires { seat.old.store ≡ store.now }
+    ensures { seat.new.store ≡ seat.old.store }
+{
+    let root = ways(store, seat, 19)?;
+    let cuts = list(alloc, store, seat, root)?;
+    Ok((cuts.len(), cuts.weight()))
+}
+
+// Whether twenty ways are past the limit, and how many nodes they have.
+fn past_limit(alloc: Global, store: &NodeStore, seat: &mut StoreSeat) -> Result<(bool, u64), Fail>
+    requires { seat.old.store ≡ store.now }
+{
+    let root = ways(store, seat, 20)?;
+    let nodes = node_count(alloc, store, seat, root)?;
+    let is_past = match list(alloc, store, seat, root) {
+        Ok(_) => false,
+        Err(end) => end == ListEnd::ListLimit,
+    };
+    Ok((is_past, nodes))
+}
+
+fn limits(alloc: Global) -> Result<((usize, u64), (bool, u64)), Fail> {
+    let StoreStart { store, mut seat } = NodeStore::new(alloc, 10)?;
+    let within = within_limit(alloc, &store, &mut seat)?;
+    let past = past_limit(alloc, &store, &mut seat)?;
+    Ok((within, past))
 }
 
 #[test]
 fn the_limit_is_met_between_nineteen_and_twenty(rt: HostRuntime) -> Result<(), Fail> {
-    let StoreStart { store, mut seat } = NodeStore::new(rt.alloc(), 10)?;
-    let within = ways(&store, &mut seat, 19)?;
-    let cuts = list(rt.alloc(), &store, &mut seat, within)?;
-    assert_eq!(rt; cuts.len(), 524_288);
-    assert_eq!(rt; cuts.weight(), 10_485_760);
-    let above = ways(&store, &mut seat, 20)?;
-    match list(rt.alloc(), &store, &mut seat, above) {
-        Ok(_) => return Err(Fail::new(format_args!("a list past the limit"))),
-        Err(end) => assert!(rt; end == ListEnd::ListLimit),
-    }
-    assert_eq!(rt; node_count(rt.alloc(), &store, &mut seat, above)?, 40);
+    let (within, past) = limits(rt.alloc())?;
+    assert_eq!(rt; within, (524_288, 10_485_760));
+    assert_eq!(rt; past, (true, 40));
     Ok(())
 }
