@@ -8,7 +8,7 @@ ghost use Rattle.zdd_families.specs.Map.{Grown, IsNode, level_in};
 ghost use Rattle.family_parts.specs.Antichains.{IsAntichain};
 ghost use Rattle.minimal_families.specs.Units.{IsLastUnit};
 ghost use Rattle.family_memory.specs.Answers.{IsTold};
-ghost use Rattle.family_memory.specs.Extents.{IncludesNone, IsExtent};
+ghost use Rattle.family_memory.specs.Extents.{HaveMarks, IncludesNone, IsExtent};
 ghost use Rattle.family_memory.specs.Memory.{Has, IsNodeOf, IsSound, IsUsedUp, family_in, map_of, word_family};
 ghost use Rattle.family_memory.specs.Kept.{IsAdded, refusing};
 ghost use Rattle.family_memory.specs.Rests.{IsRest};
@@ -129,6 +129,14 @@ impl FamilyMemory {
         ensures { IsLastUnit (family_in self.now r) result }
     {
         self.extent(r).last
+    }
+
+    /// The marks of the units of a reference's sets: of each unit the bit whose number is the unit's modulo 64.
+    pub fn marks(&self, r: NodeRef) -> u64
+        requires { Has self.now r }
+        ensures { HaveMarks (family_in self.now r) result }
+    {
+        self.extent(r).units
     }
 
     /// Whether no set of the first family can include one of the second, as the units or the sizes of their sets tell.

@@ -1,7 +1,7 @@
 //! A dynamic fault tree as the Galileo manual writes it, and what it says of sets and orders of failed units.
 //!
-//! It stands on `fault_definitions` for what a tree is and when it fails, on `name_index` for the names, on `unit_sets`
-//! for sets of units, and on `graph_cycles` for ranks and an order from below.
+//! It stands on `fault_definitions` for what a tree is and when it fails, on `fault_words` for the names, on
+//! `unit_sets` for sets of units, and on `graph_cycles` for ranks and an order from below.
 //!
 //! A layer above gets a `Tree` that keeps all rules of a well-formed text, whose readers give exactly its parts, and
 //! the static reading of any node under any set. A contract sees a tree as its parts with the rank of each node, a name

@@ -1,5 +1,5 @@
 //! Lists of families in an order of their units, so that those whose units are near each other meet first.
-ghost use Rattle.std.specs.Prelude.{◌≡◌, ◌≤◌, All, IfErr, IfOk, length};
+ghost use Rattle.std.specs.Prelude.{◌≡◌, ◌<◌, ◌≤◌, All, IfErr, IfOk, length};
 ghost use Rattle.std.specs.List.Sorted.{IsPermutation};
 ghost use Rattle.minimal_families.specs.Least.{IsLeastOfAll, IsLeastProductOfAll};
 ghost use Rattle.family_memory.specs.Memory.{Gave, Has, RanOut};
@@ -17,6 +17,9 @@ const NO_UNIT: u16 = 4_096;
 const UNITS_TOLD: usize = 2;
 
 const UNIT_SHIFT: u32 = 13;
+
+// A longer list is multiplied as it stands, since each family is compared with all that are left.
+const MOST_COMPARED: usize = 64;
 
 // The node of a reference, if it has one.
 fn node_of(memory: &FamilyMemory, r: NodeRef) -> Option<Parts> {
@@ -70,22 +73,61 @@ pub fn union_in_order(
     unite_places(memory, places)
 }
 
-/// The minimal sets of the product, likewise: single units from the last unit on, so that each product is one node
-/// more, and other families as they stand.
-pub fn product_in_order(
-    memory: &mut FamilyMemory,
-    list: &[NodeRef],
-    table: &mut [NodeRef],
-) -> Result<NodeRef, Spent>
-    requires table { length list.now ≤ length table.old }
-    requires has { All (Has memory.old) list.now }
-    ensures gives { IfOk result (Gave (IsLeastProductOfAll (families memory.old list.now)) memory.old memory.new) }
-    ensures spent { IfErr result (λ _. RanOut memory.old memory.new) }
+// How many marks of units two families share, of those that either has, in 4,096ths.
+fn likeness(one: u64, other: u64) -> u64 {
+    let shared = u64::from((one & other).count_ones());
+    let all = u64::from((one | other).count_ones());
+    shared * 4_096 / all.max(1)
+}
+
+// The place, from one on, of the family whose marks are most like these: the first of several.
+fn most_alike(memory: &FamilyMemory, marks: u64, places: &[NodeRef], from: usize) -> usize
+    requires has { All (Has memory.now) places.now }
+    requires within { from < length places.now }
+    ensures { result < length places.now }
+{
+    let mut best = from;
+    let mut most = 0;
+    for place in from..places.len() {
+        let alike = likeness(marks, memory.marks(places[place]));
+        if alike > most {
+            best = place;
+            most = alike;
+        }
+    }
+    best
+}
+
+// Puts the references of a list into places: the first, and then each time the family that is most like those before
+// it. A product of families that share many units has few sets, so what is made on the way stays small.
+fn put_by_likeness(memory: &FamilyMemory, list: &[NodeRef], places: &mut [NodeRef])
+    requires places { length list.now ≡ length places.old }
+    requires has { All (Has memory.now) list.now }
+    ensures { IsPermutation list.now places.new }
+{
+    places.copy_from_slice(list);
+    let mut marks = 0;
+    for at in 0..places.len() {
+        let next = most_alike(memory, marks, places, at);
+        marks |= memory.marks(places[next]);
+        places.swap(at, next);
+    }
+}
+
+// Puts the references of a list into places as they are to be multiplied: single units from the last unit on, so that
+// each product is one node more, and a few other families by the units that they share.
+fn put_for_product(memory: &FamilyMemory, list: &[NodeRef], places: &mut [NodeRef])
+    requires places { length list.now ≡ length places.old }
+    requires has { All (Has memory.now) list.now }
+    ensures { IsPermutation list.now places.new }
 {
     if are_single_units(memory, list) {
-        product_from_the_last(memory, list, table)
+        put_in_order(memory, list, places);
+        places.reverse();
+    } else if list.len() <= MOST_COMPARED {
+        put_by_likeness(memory, list, places);
     } else {
-        product_of_all(memory, list)
+        places.copy_from_slice(list);
     }
 }
 
@@ -101,8 +143,8 @@ fn is_single_unit(memory: &FamilyMemory, r: NodeRef) -> bool {
     }
 }
 
-// The minimal sets of the product; the family with the highest units comes first.
-fn product_from_the_last(
+/// The minimal sets of the product, likewise.
+pub fn product_in_order(
     memory: &mut FamilyMemory,
     list: &[NodeRef],
     table: &mut [NodeRef],
@@ -113,7 +155,6 @@ fn product_from_the_last(
     ensures spent { IfErr result (λ _. RanOut memory.old memory.new) }
 {
     let places = &mut table[..list.len()];
-    put_in_order(memory, list, places);
-    places.reverse();
+    put_for_product(memory, list, places);
     product_of_all(memory, places)
 }
