@@ -2,22 +2,14 @@
 ghost use Rattle.std.specs.Prelude.{◌≡◌, true, All};
 ghost use Rattle.family_memory.specs.Memory.{Has};
 
-use family_memory::{FamilyMemory, Room, Spent};
+use family_memory::{FamilyMemory, Spent};
 use many_families::{
     product_by_splitting, product_in_order, product_of_all, union_in_order, union_of_all,
     votes_of_all,
 };
 use minimal_operations::{product, single, union, without};
-use std::alloc::Global;
-use std::test::Fail;
 use unit_sets::UnitNo;
 use zdd_words::NodeRef;
-
-/// How many answers a worker's memory keeps.
-pub(crate) const ANSWERS: usize = 65_536;
-
-/// So few that most answers are lost.
-pub(crate) const FEW_ANSWERS: usize = 16;
 
 /// An operation on two families.
 #[derive(Clone, Copy)]
@@ -39,19 +31,10 @@ pub(crate) enum Many {
 }
 
 /// Why there is no family: no room, or no such reference or unit.
-#[derive(Debug, Clone, Copy, PartialEq)]
+#[derive(Debug, Clone, Copy)]
 pub(crate) enum End {
     Spent,
     Absent,
-}
-
-pub(crate) fn memory_of(alloc: Global, nodes: usize, answers: usize) -> Result<FamilyMemory, Fail> {
-    let room = Room {
-        nodes: nodes.min(65_536),
-        slots: nodes.min(65_536) * 2,
-        answers,
-    };
-    Ok(FamilyMemory::new(alloc, room)?)
 }
 
 /// Whether a memory has a reference.
@@ -135,22 +118,13 @@ pub(crate) fn either(memory: &mut FamilyMemory, first: u16, second: u16) -> Resu
     both(memory, Two::Union, a, b)
 }
 
-/// The sets of a family, each with one unit more.
-pub(crate) fn with_unit(
-    memory: &mut FamilyMemory,
-    family: NodeRef,
-    number: u16,
-) -> Result<NodeRef, End> {
-    let a = one(memory, number)?;
-    both(memory, Two::Product, a, family)
-}
-
 // The family of one set.
 fn set_of(memory: &mut FamilyMemory, set: u32) -> Result<NodeRef, End> {
     let mut made = NodeRef::UNIT;
     for number in 1..6u16 {
         if set >> (number - 1) & 1 == 1 {
-            made = with_unit(memory, made, number)?;
+            let unit = one(memory, number)?;
+            made = both(memory, Two::Product, unit, made)?;
         }
     }
     Ok(made)
@@ -168,8 +142,8 @@ pub(crate) fn family_of(memory: &mut FamilyMemory, word: u32) -> Result<NodeRef,
     Ok(family)
 }
 
-/// Of a family the sets with a unit, without that unit, or the others. No set has a lesser unit.
-pub(crate) fn half(memory: &FamilyMemory, r: NodeRef, number: u16, with: bool) -> NodeRef {
+// Of a family the sets with a unit, it taken out, or the others. No set has a lesser unit.
+fn half(memory: &FamilyMemory, r: NodeRef, number: u16, with: bool) -> NodeRef {
     if r.number() >= 2 && has(memory, r) {
         let parts = memory.parts(r);
         if parts.level.number() == number {
@@ -179,25 +153,22 @@ pub(crate) fn half(memory: &FamilyMemory, r: NodeRef, number: u16, with: bool) -
     if with { NodeRef::EMPTY } else { r }
 }
 
-// The word of a family without units below a number and above 5, where each set stands for its units from there on.
-fn word_from(memory: &FamilyMemory, r: NodeRef, number: u16) -> u32 {
-    let shift = match number {
-        1 => 1,
-        2 => 2,
-        3 => 4,
-        4 => 8,
-        5 => 16,
-        _ => return if r == NodeRef::UNIT { 1 } else { 0 },
-    };
-    if r == NodeRef::EMPTY {
-        return 0;
+// Whether a family has a set.
+fn contains(memory: &FamilyMemory, r: NodeRef, set: u32) -> bool {
+    let mut left = r;
+    for number in 1..6u16 {
+        left = half(memory, left, number, set >> (number - 1) & 1 == 1);
     }
-    let without = word_from(memory, half(memory, r, number, false), number + 1);
-    let with = word_from(memory, half(memory, r, number, true), number + 1);
-    without | with << shift
+    left == NodeRef::UNIT
 }
 
 /// The word of a family without units above 5.
 pub(crate) fn word_of(memory: &FamilyMemory, r: NodeRef) -> u32 {
-    word_from(memory, r, 1)
+    let mut word = 0;
+    for set in 0..32u32 {
+        if contains(memory, r, set) {
+            word |= 1 << set;
+        }
+    }
+    word
 }

@@ -2,16 +2,12 @@
 #![tactic(auto)]
 
 #[cfg(test)]
-mod chains;
+mod cases;
 #[cfg(test)]
 mod deep;
 #[cfg(test)]
 mod families;
 #[cfg(test)]
-mod lists;
-#[cfg(test)]
-mod pairs;
-#[cfg(test)]
 mod plain;
 #[cfg(test)]
-mod shared;
+mod rounds;

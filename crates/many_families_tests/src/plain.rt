@@ -1,47 +1,60 @@
-//! Families of units 1 to 5 as words: a bit for each set, whose units are those with a bit in its number.
+//! Families of units 1 to 5 as words: a bit for each set, whose units are those with a bit in its number. And the
+//! parts of rows.
+use std::test::Fail;
 
-fn has(word: u32, place: u32) -> bool {
-    word >> (place & 31) & 1 == 1
+// Of some sets those without a unit, each with that unit: the set's number is greater by the unit's bit.
+fn one_unit_more(sets: u32) -> u32 {
+    (sets & 0x5555_5555) << 1
+        | (sets & 0x3333_3333) << 2
+        | (sets & 0x0f0f_0f0f) << 4
+        | (sets & 0x00ff_00ff) << 8
+        | (sets & 0x0000_ffff) << 16
 }
 
-/// The sets of units that include one of the family.
-pub(crate) fn supersets_of(word: u32) -> u32 {
-    let mut all = 0;
-    for set in 0..32u32 {
-        if (0..32u32).any(|part| has(word, part) && part & set == part) {
-            all |= 1 << set;
-        }
+// The sets of units that include one of the family: there are five units that can come to a set.
+fn supersets_of(word: u32) -> u32 {
+    let mut all = word;
+    for _ in 0..5u32 {
+        all |= one_unit_more(all);
     }
     all
 }
 
-/// The sets of units that are in so many of these words.
+/// Of sets of units, with all that include one of them, those from which no one unit can be taken.
+pub(crate) fn least_of(sets: u32) -> u32 {
+    sets & !one_unit_more(sets)
+}
+
+// How many families have a set that this set includes.
+fn votes_for(words: &[u32], set: u32) -> usize {
+    let mut votes = 0usize;
+    for word in words {
+        if supersets_of(*word) >> (set & 31) & 1 == 1 {
+            votes = votes.saturating_add(1);
+        }
+    }
+    votes
+}
+
+/// The sets of units that include one of so many of these families.
 pub(crate) fn in_many(words: &[u32], votes: usize) -> u32 {
     let mut many = 0;
     for set in 0..32u32 {
-        if words.iter().filter(|word| has(**word, set)).count() >= votes {
+        if votes_for(words, set) >= votes {
             many |= 1 << set;
         }
     }
     many
 }
 
-/// Of these sets of units those from which no one unit can be taken.
-pub(crate) fn least_of(sets: u32) -> u32 {
-    let mut least = 0;
-    for set in 0..32u32 {
-        if has(sets, set)
-            && !(0..5u32).any(|unit| has(set, unit) && has(sets, set & !(1 << unit)))
-        {
-            least |= 1 << set;
-        }
-    }
-    least
-}
-
 /// The part of a row at a place.
 pub(crate) fn part(row: &str, place: usize) -> &str {
     row.split('|').nth(place).unwrap_or("")
+}
+
+/// The number of a row at a place.
+pub(crate) fn number(row: &str, place: usize) -> Result<u16, Fail> {
+    Ok(part(row, place).parse::<u16>()?)
 }
 
 /// The word of a text: a digit for each unit of a set, and a point behind it.
