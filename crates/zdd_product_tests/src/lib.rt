@@ -5,4 +5,10 @@
 #[cfg(test)]
 mod answers;
 #[cfg(test)]
-mod tests;
+mod deep;
+#[cfg(test)]
+mod small;
+#[cfg(test)]
+mod stores;
+#[cfg(test)]
+mod texts;

@@ -1,6 +1,6 @@
 use Rattle.zdd_families.specs.Map.{Knows, Grown}
 use Rattle.zdd_shared_table.specs.Seats.{map_of}
-use Rattle.zdd_product_tests.proofs.tests.shared.with_pairs.Given as goal
+use Rattle.zdd_product_tests.proofs.deep.with_pairs.Given as goal
 
 abbrev pub invariant-loop-pair : goal.invariant-loop-pair
 invariant-loop-pair l = record {

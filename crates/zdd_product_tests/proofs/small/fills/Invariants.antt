@@ -1,6 +1,6 @@
 use Rattle.zdd_families.specs.Map.{Knows}
 use Rattle.zdd_shared_table.specs.Seats.{map_of}
-use Rattle.zdd_product_tests.proofs.tests.deep.fills.Given as goal
+use Rattle.zdd_product_tests.proofs.small.fills.Given as goal
 
 abbrev pub invariant-loop-number : goal.invariant-loop-number
 invariant-loop-number l = record {

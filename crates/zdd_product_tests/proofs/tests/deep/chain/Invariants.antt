@@ -1,9 +1,0 @@
-use Rattle.zdd_families.specs.Map.{Knows, Grown}
-use Rattle.zdd_shared_table.specs.Seats.{map_of}
-use Rattle.zdd_product_tests.proofs.tests.deep.chain.Given as goal
-
-abbrev pub invariant-loop-number : goal.invariant-loop-number
-invariant-loop-number l = record {
-  keeps : Grown (map_of l.initial.ops) (map_of l.ops);
-  all : Knows (map_of l.ops) l.all;
-}
