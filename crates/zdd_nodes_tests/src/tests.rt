@@ -1,5 +1,5 @@
 //! Gates and units of small trees, and a full store.
-ghost use Rattle.std.specs.Prelude.{◌≡◌, ◌≤◌, IfOk, IfSome, OnOk};
+ghost use Rattle.std.specs.Prelude.{◌≡◌, IfOk, IfSome, OnOk};
 ghost use Rattle.fault_definitions.specs.CutFamily.{IsCutFamily};
 ghost use Rattle.fault_definitions.specs.Tree.{IsNodeOf, is_fdep};
 ghost use Rattle.zdd_families.specs.Map.{Grown};
@@ -9,7 +9,6 @@ ghost use Rattle.zdd_nodes.specs.Room.{HaveRoomFor};
 
 use fault_model::{GateKind, NodeNo, Tree};
 use std::alloc::Global;
-use std::process::Abort;
 use std::test::Fail;
 use worked_families::{family_of, ops_on};
 use worked_trees::tree_of;
@@ -26,7 +25,7 @@ fn is_fdep(tree: &Tree, node: NodeNo) -> bool
     requires { IsNodeOf tree.now node }
     ensures { result ≡ is_fdep tree.now node }
 {
-    node.number() > tree.units() && tree.kind(node) == GateKind::Fdep
+    node.number() > tree.units() && matches!(tree.kind(node), GateKind::Fdep)
 }
 
 // The cut family of a node, from those of all that it reads, each made again: none, where the store is full or the tree
@@ -66,86 +65,120 @@ fn node_family(
     }
 }
 
-// Whether the cut family of the top event of a text has the sets that are spelled. Equal families have one reference.
-fn top_has(alloc: Global, text: &[u8], wanted: &[u16]) -> Result<bool, Fail> {
-    let tree = tree_of(alloc, text)?;
-    let mut rooms = Rooms::new(alloc, &tree)?;
-    let StoreStart { store, seat } = NodeStore::new(alloc, 10)?;
+// The units of a text, a digit for each, with a 0 for each point.
+fn numbers_of(alloc: Global, text: &[u8]) -> Result<Vec<u16>, Fail> {
+    let mut numbers = Vec::new(alloc);
+    for byte in text {
+        let number = if *byte == b'.' {
+            0
+        } else {
+            byte.wrapping_sub(b'0')
+        };
+        numbers.push(u16::from(number))?;
+    }
+    Ok(numbers)
+}
+
+// Whether the cut family of the top event of a tree has the sets that are spelled, or is there none: the store was
+// full. Equal families have one reference.
+fn told_in(
+    alloc: Global,
+    ops: &mut Ops,
+    tree: &Tree,
+    wanted: &[u16],
+) -> Result<Option<bool>, Fail> {
+    let mut rooms = Rooms::new(alloc, tree)?;
+    let Some(top) = node_family(alloc, ops, tree, &mut rooms, tree.top(), DEPTH)? else {
+        return Ok(None);
+    };
+    Ok(Some(top == family_of(ops, wanted)?))
+}
+
+// The same in a new store of so many bits.
+fn told_with(alloc: Global, bits: u32, tree: &Tree, wanted: &[u16]) -> Result<Option<bool>, Fail> {
+    if bits < 10 || bits > 11 {
+        return Err("no such store".into());
+    }
+    let StoreStart { store, seat } = NodeStore::new(alloc, bits)?;
     let mut ops = ops_on(alloc, &store, seat)?;
-    let Some(top) = node_family(alloc, &mut ops, &tree, &mut rooms, tree.top(), DEPTH)? else {
+    told_in(alloc, &mut ops, tree, wanted)
+}
+
+// The same of the text of a tree and that of the sets.
+fn told(alloc: Global, bits: u32, tree: &[u8], sets: &[u8]) -> Result<Option<bool>, Fail> {
+    let wanted = numbers_of(alloc, sets)?;
+    let tree = tree_of(alloc, tree)?;
+    told_with(alloc, bits, &tree, wanted.as_slice())
+}
+
+// Trees of gates of each kind, an `or` that absorbs a set, an `and` that shares a unit, and units with one trigger and
+// with two. The sets of the top event's cut family have a digit for each unit, which is its place among the units of
+// the tree's text, and a point behind each.
+const TREES: &str = "\
+toplevel T; T 2of3 A B C; A; B; C;|12.13.23.
+toplevel T; T or A G H; G and A B; H and B C; A; B; C;|1.23.
+toplevel T; T and G H D; G or A B; H or A C; A; B; C; D;|14.234.
+toplevel T; T pand B A; A; B;|12.
+toplevel T; T por G B C; G or A D; A; B; C; D;|1.4.
+toplevel T; T seq C G; G or A B; A; B; C;|13.23.
+toplevel T; T csp A B C; A; B; C;|123.
+toplevel T; T wsp A B; A; B;|12.
+toplevel T; T hsp G C; G or A B; A; B; C;|13.23.
+toplevel A; F fdep B A; A; B;|1.2.
+toplevel A; F fdep B A; E fdep G A; G or H D; H and B C; A; B; C; D;|1.2.4.";
+
+// Whether the cut family of a row's tree has its sets.
+fn has_its_sets(alloc: Global, row: &str) -> Result<bool, Fail> {
+    let Some((tree, sets)) = row.split_once('|') else {
         return Ok(false);
     };
-    Ok(top == family_of(&mut ops, wanted)?)
+    let told = told(alloc, 10, tree.as_bytes(), sets.as_bytes())?;
+    Ok(matches!(told, Some(true)))
 }
 
 #[test]
-fn two_of_three_units_fail_a_vote(rt: HostRuntime) -> Result<(), Fail> {
-    let text = b"toplevel T; T 2of3 A B C; A; B; C;";
-    assert!(rt; top_has(rt.alloc(), text, &[1, 2, 0, 1, 3, 0, 2, 3, 0])?);
-    Ok(())
-}
-
-#[test]
-fn an_or_absorbs_supersets(rt: HostRuntime) -> Result<(), Fail> {
-    let text = b"toplevel T; T or A G H; G and A B; H and B C; A; B; C;";
-    assert!(rt; top_has(rt.alloc(), text, &[1, 0, 2, 3, 0])?);
-    Ok(())
-}
-
-#[test]
-fn an_and_shares_a_unit(rt: HostRuntime) -> Result<(), Fail> {
-    let text = b"toplevel T; T and G H D; G or A B; H or A C; A; B; C; D;";
-    assert!(rt; top_has(rt.alloc(), text, &[1, 4, 0, 2, 3, 4, 0])?);
-    Ok(())
-}
-
-#[test]
-fn a_por_is_its_first_input(rt: HostRuntime) -> Result<(), Fail> {
-    let text = b"toplevel T; T por G B C; G or A D; A; B; C; D;";
-    assert!(rt; top_has(rt.alloc(), text, &[1, 0, 4, 0])?);
-    Ok(())
-}
-
-#[test]
-fn a_unit_fails_by_its_triggers(rt: HostRuntime) -> Result<(), Fail> {
-    let one = b"toplevel A; F fdep B A; A; B;";
-    assert!(rt; top_has(rt.alloc(), one, &[1, 0, 2, 0])?);
-    let two = b"toplevel A; F fdep B A; E fdep G A; G or H D; H and B C; A; B; C; D;";
-    assert!(rt; top_has(rt.alloc(), two, &[1, 0, 2, 0, 4, 0])?);
-    Ok(())
-}
-
-// Gates that each unite the last one with one unit more, up to so many units.
-fn chain(alloc: Global, last: u16) -> Result<String, Fail> {
-    let mut text = format!(in alloc; "toplevel G{last}; G1 or u1;")?;
-    for number in 2..last.min(1_000) + 1 {
-        let before = number - 1;
-        let gate = format!(in alloc; " G{number} or G{before} u{number};")?;
-        text.push_str(gate.as_str())?;
+fn nodes_of_each_kind_have_their_cut_families(rt: HostRuntime) -> Result<(), Fail> {
+    for row in TREES.lines() {
+        if !has_its_sets(rt.alloc(), row)? {
+            return Err(row.into());
+        }
     }
-    for number in 1..last.min(1_000) + 1 {
-        let unit = format!(in alloc; " u{number};")?;
-        text.push_str(unit.as_str())?;
+    Ok(())
+}
+
+// A number below 100 by its digits.
+fn digits(number: u8) -> [u8; 2] {
+    [b'0' + number / 10 % 10, b'0' + number % 10]
+}
+
+// A gate that unites the one before with a unit.
+fn push_gate(text: &mut Vec<u8>, before: &[u8], number: &[u8]) -> Result<(), Fail> {
+    text.extend_from_slice(b" G")?;
+    text.extend_from_slice(number)?;
+    text.extend_from_slice(b" or G")?;
+    text.extend_from_slice(before)?;
+    text.extend_from_slice(b" u")?;
+    text.extend_from_slice(number)?;
+    text.extend_from_slice(b"; u")?;
+    text.extend_from_slice(number)?;
+    text.push(b';')?;
+    Ok(())
+}
+
+// Gates that each unite the last one with one unit more, up to sixty units.
+fn chain(alloc: Global) -> Result<Vec<u8>, Fail> {
+    let mut text = Vec::new(alloc);
+    text.extend_from_slice(b"toplevel G60; G01 or u01; u01;")?;
+    for number in 2..61u8 {
+        push_gate(&mut text, &digits(number - 1), &digits(number))?;
     }
     Ok(text)
 }
 
-// Whether such gates fill a store of so many bits.
-fn fills(alloc: Global, text: &[u8], bits: u32) -> Result<bool, Fail>
-    requires from { 10 ≤ bits }
-    requires to { bits ≤ 11 }
-{
-    let tree = tree_of(alloc, text)?;
-    let mut rooms = Rooms::new(alloc, &tree)?;
-    let StoreStart { store, seat } = NodeStore::new(alloc, bits)?;
-    let mut ops = ops_on(alloc, &store, seat)?;
-    Ok(node_family(alloc, &mut ops, &tree, &mut rooms, tree.top(), DEPTH)?.is_none())
-}
-
 #[test]
-fn a_full_store_ends_a_gate(rt: HostRuntime) -> Result<(), Fail> {
-    let text = chain(rt.alloc(), 60)?;
-    assert!(rt; fills(rt.alloc(), text.as_bytes(), 10)?);
-    assert!(rt; !fills(rt.alloc(), text.as_bytes(), 11)?);
+fn a_full_store_ends_a_gate_that_a_larger_one_holds(rt: HostRuntime) -> Result<(), Fail> {
+    let text = chain(rt.alloc())?;
+    assert!(rt; told(rt.alloc(), 10, text.as_slice(), b"")?.is_none());
+    assert!(rt; told(rt.alloc(), 11, text.as_slice(), b"")?.is_some());
     Ok(())
 }
