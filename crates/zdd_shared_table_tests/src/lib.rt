@@ -3,6 +3,10 @@
 #![tactic(auto)]
 
 #[cfg(test)]
-mod tests;
+mod asking;
+#[cfg(test)]
+mod stores;
+#[cfg(test)]
+mod threads;
 #[cfg(test)]
 mod words;

@@ -4,7 +4,7 @@ use Rattle.zdd_families.specs.Family.{IsAbove, branch}
 use Rattle.zdd_families.specs.Map.{KnowsAs, family}
 use Rattle.zdd_families.proofs.MapLemmas.{family-empty, family-unit}
 use Rattle.zdd_shared_table.specs.Seats.{map_of}
-use Rattle.zdd_shared_table_tests.proofs.tests.single.Goals as goal
+use Rattle.zdd_shared_table_tests.proofs.asking.single.Goals as goal
 
 pub node-requires-clause-lo_above : goal.node-requires-clause-lo_above
 node-requires-clause-lo_above c = subst (IsAbove c.args.level) (sym (family-empty (map_of c.args.seat.now))) tt
