@@ -2,8 +2,8 @@
 #![tactic(auto)]
 
 #[cfg(test)]
-mod board_tests;
+mod puts;
+#[cfg(test)]
+mod tables;
 #[cfg(test)]
 mod tests;
-#[cfg(test)]
-mod tree_tests;

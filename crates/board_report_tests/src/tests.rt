@@ -1,278 +1,255 @@
 //! The texts, as a sink in memory takes them.
-ghost use Rattle.std.specs.Prelude.{◌≡◌, ◌≤◌, [], All, IfOk};
-ghost use Rattle.fault_definitions.specs.Tree.{IsUnitOf};
-ghost use Rattle.cut_texts.specs.OrdersOfUnits.{AreOrdersOf};
-ghost use Rattle.cut_texts.specs.UnitTexts.{AreTextsOf};
-
-use board_report::{DeckFault, FaultCode, Notice, UnitTexts, put_cuts, put_fault, put_notice};
-use cut_sequences::{OrderEnd, OrderLists, orders};
-use edge_io::{Buffer, Bytes, CallList, KeptSink, NoMemory, Out, Sink, WriteFault};
-use fault_model::{Place, Tree};
-use galileo_lexer::LexCode;
-use galileo_tree::What;
-use std::alloc::Global;
-use std::process::Abort;
+use crate::tables::check_table;
 use std::test::Fail;
-use std::thread::Threads;
-use tree_check::CheckCode;
-use unit_sets::CutList;
-use worked_trees::{cuts_of, tree_of};
 
-// What is written, and how it ended.
-type Written = (Bytes, Result<(), WriteFault>);
+// Trees, and what is printed of them. An `or` drops the `fdep` among its inputs, and a value with other bytes than a
+// word's stands in quotes.
+const PRINTED: &str = r#"print
+toplevel T; T 2OF3 A "b c" C; C; A lambda = 1e-4; "b c" dorm=0.5 repl=1;
+=> toplevel "T";
+"T" 2of3 "A" "b c" "C";
+"C";
+"A" lambda=1e-4;
+"b c" dorm=0.5 repl=1;
 
-// A sink in memory with so much room.
-fn sink_of(alloc: Global, room: usize) -> Result<KeptSink, NoMemory> {
-    KeptSink::new(alloc, room, CallList::new(alloc, &[])?)
+$ print
+toplevel T; T and G B; G por A B; A; B;
+=> toplevel "T";
+"T" and "G" "B";
+"G" por "A" "B";
+"A";
+"B";
+
+$ print
+toplevel T; T OR F G H I J K; F fdep A B; G pand A B; H seq A B; I csp C D; J wsp E D2; K hsp E2 D3;
+A note="a b"; B x="+1"; C; D; E; D2; E2; D3;
+=> toplevel "T";
+"T" or "G" "H" "I" "J" "K";
+"F" fdep "A" "B";
+"G" pand "A" "B";
+"H" seq "A" "B";
+"I" csp "C" "D";
+"J" wsp "E" "D2";
+"K" hsp "E2" "D3";
+"A" note="a b";
+"B" x=+1;
+"C";
+"D";
+"E";
+"D2";
+"E2";
+"D3";
+
+$ print
+toplevel T; T or A "b c"; A dorm=0.5; "b c";
+=> toplevel "T";
+"T" or "A" "b c";
+"A" dorm=0.5;
+"b c";
+"#;
+
+#[test]
+fn trees_with_each_kind_of_gate_are_printed_up_to_a_fault(rt: HostRuntime) -> Result<(), Fail> {
+    check_table(&rt, rt.alloc(), PRINTED)
 }
 
-// ---- cut sets
+const SOUND: &str = r#"check
+toplevel "+T"; "+T" and A B; A; B;
+=> well formed: 2 units, 1 gates, top "+T"
 
-fn put_listed<K: Sink>(
-    sink: &mut K,
-    buffer: Buffer,
-    tree: &Tree,
-    texts: &UnitTexts,
-    cuts: &CutList,
-    orders: &OrderLists,
-) -> Result<(), WriteFault>
-    requires empty { buffer ≡ [] }
-    requires texts { AreTextsOf tree.now texts.now }
-    requires units { All (All (IsUnitOf tree.now)) cuts.now }
-    requires made { AreOrdersOf tree.now cuts.now orders.now }
-{
-    let mut out = Out::over(sink, buffer);
-    let _ = put_cuts(&mut out, tree, texts, cuts, orders);
-    out.finish()
+$ check
+toplevel "+T"; "+T" and A B; A; B;
+@crews
+crew c
+take A
+return A
+crew d
+margin 1
+=> well formed: 2 units, 1 gates, top "+T"
+crews: 2, requests: 3
+"#;
+
+#[test]
+fn well_formed_decks_are_told(rt: HostRuntime) -> Result<(), Fail> {
+    check_table(&rt, rt.alloc(), SOUND)
 }
 
-fn cuts_written(
-    alloc: Global,
-    tree: &Tree,
-    cuts: &CutList,
-    orders: &OrderLists,
-    room: usize,
-) -> Result<Written, NoMemory>
-    requires units { All (All (IsUnitOf tree.now)) cuts.now }
-    requires made { AreOrdersOf tree.now cuts.now orders.now }
-{
-    let mut sink = sink_of(alloc, room)?;
-    let buffer = Buffer::new(alloc)?;
-    let texts = UnitTexts::new(alloc, tree)?;
-    let end = put_listed(&mut sink, buffer, tree, &texts, cuts, orders);
-    Ok((Bytes::of(alloc, sink.bytes())?, end))
+// Sizes with so many nodes, or by lists.
+const SIZES: &str = "diagram 4
+toplevel T; T 2of3 A B C; A; B; C;
+=> tree: 3 units, 1 gates, top T
+method diagram
+nodes: 4
+cuts: 3
+members: 6
+
+$ diagram
+toplevel T; T or G H; G and A B; H and C D; A; B; C; D;
+=> tree: 4 units, 3 gates, top T
+method lists
+cuts: 2
+members: 4
+";
+
+#[test]
+fn sizes_of_diagrams_are_written(rt: HostRuntime) -> Result<(), Fail> {
+    check_table(&rt, rt.alloc(), SIZES)
 }
 
-// With room for all of a text it is written whole, and with less room a front of it.
-fn check_written(
-    rt: &impl Abort,
-    alloc: Global,
-    tree: &Tree,
-    cuts: &CutList,
-    orders: &OrderLists,
-    text: &[u8],
-) -> Result<(), NoMemory>
-    requires units { All (All (IsUnitOf tree.now)) cuts.now }
-    requires made { AreOrdersOf tree.now cuts.now orders.now }
-{
-    for room in 0..text.len() {
-        let (bytes, end) = cuts_written(alloc, tree, cuts, orders, room)?;
-        assert_eq!(rt; bytes.as_slice(), &text[..room]);
-        assert!(rt; end.is_err());
-    }
-    let (bytes, end) = cuts_written(alloc, tree, cuts, orders, text.len())?;
-    assert_eq!(rt; bytes.as_slice(), text);
-    assert!(rt; end.is_ok());
-    Ok(())
-}
+// Cut sets with the orders of those that have at most so many members. `A` alone would fail before `B`, which the `seq`
+// forbids. The last tree is given no cut sets.
+const CUT_SETS: &str = r#"cuts 2
+toplevel "+T"; "+T" or A G; G and B "b c"; S seq B A; A; B; "b c";
+=> tree: 3 units, 3 gates, top "+T"
+cuts: 2, orders: 2
+cut 1: A
+  (none)
+cut 2: B "b c"
+  B "b c"
+  "b c" B
 
-// The orders of the cut sets of at most `most` members.
-fn orders_of<R: Threads + Sync>(
-    rt: &R,
-    alloc: Global,
-    tree: &Tree,
-    cuts: &CutList,
-    most: u32,
-) -> Result<OrderLists, OrderEnd>
-    requires units { All (All (IsUnitOf tree.now)) cuts.now }
-    requires most { most ≤ 8 }
-    ensures { IfOk result (λ lists. AreOrdersOf tree.now cuts.now lists) }
-{
-    orders(rt, alloc, tree, cuts, most, 4)
-}
+$ cuts 1
+toplevel "+T"; "+T" or A G; G and B "b c"; S seq B A; A; B; "b c";
+=> tree: 3 units, 3 gates, top "+T"
+cuts: 2, orders: 0
+cut 1: A
+  (none)
+cut 2: B "b c"
+  (not listed)
 
-// The tree, the cut sets and their orders are made by one function each, and let go where that returns: each way out
-// of a function on which a tree is let go takes the proof long.
-fn check_cuts<R: Abort + Threads + Sync>(
-    rt: &R,
-    alloc: Global,
-    deck: &[u8],
-    most: u32,
-    text: &[u8],
-) -> Result<(), Fail>
-    requires { most ≤ 8 }
-{
-    let tree = tree_of(alloc, deck)?;
-    check_tree_cuts(rt, alloc, &tree, most, text)
-}
+$ none 6
+toplevel T; T and A; A;
+=> tree: 1 units, 1 gates, top T
+cuts: 0, orders: 0
+"#;
 
-fn check_tree_cuts<R: Abort + Threads + Sync>(
-    rt: &R,
-    alloc: Global,
-    tree: &Tree,
-    most: u32,
-    text: &[u8],
-) -> Result<(), Fail>
-    requires { most ≤ 8 }
-{
-    let cuts = cuts_of(alloc, tree)?;
-    check_orders(rt, alloc, tree, &cuts, most, text)
-}
-
-fn check_orders<R: Abort + Threads + Sync>(
-    rt: &R,
-    alloc: Global,
-    tree: &Tree,
-    cuts: &CutList,
-    most: u32,
-    text: &[u8],
-) -> Result<(), Fail>
-    requires units { All (All (IsUnitOf tree.now)) cuts.now }
-    requires most { most ≤ 8 }
-{
-    let orders = orders_of(rt, alloc, tree, cuts, most)?;
-    check_written(rt, alloc, tree, cuts, &orders, text)?;
-    Ok(())
-}
-
-fn check_no_cuts<R: Abort + Threads + Sync>(
-    rt: &R,
-    alloc: Global,
-    tree: &Tree,
-    text: &[u8],
-) -> Result<(), Fail> {
-    let cuts = CutList::new(alloc);
-    check_orders(rt, alloc, tree, &cuts, 6, text)
-}
-
-// `A` alone would fail before `B`, which the `seq` forbids.
 #[test]
 fn cut_sets_are_written_with_names_and_orders(rt: HostRuntime) -> Result<(), Fail> {
-    let deck = b"toplevel \"+T\"; \"+T\" or A G; G and B \"b c\"; S seq B A; A; B; \"b c\";";
-    check_cuts(
-        &rt,
-        rt.alloc(),
-        deck,
-        2,
-        b"tree: 3 units, 3 gates, top \"+T\"\ncuts: 2, orders: 2\ncut 1: A\n  (none)\n\
-            cut 2: B \"b c\"\n  B \"b c\"\n  \"b c\" B\n",
-    )?;
-    check_cuts(
-        &rt,
-        rt.alloc(),
-        deck,
-        1,
-        b"tree: 3 units, 3 gates, top \"+T\"\ncuts: 2, orders: 0\ncut 1: A\n  (none)\n\
-            cut 2: B \"b c\"\n  (not listed)\n",
-    )
+    check_table(&rt, rt.alloc(), CUT_SETS)
 }
+
+// Boards, once their crews were served in this order, each crew a digit.
+const BOARDS: &str = "board 00110000
+toplevel T; T and A B C; A; B; C;
+@crews
+crew c
+take A
+take A
+return B
+take Z
+return A
+take A
+crew d
+return A
+take A
+=> margin: 0
+log: 8
+1 c take A: granted
+2 c take A: E2 already out with c
+3 d return A: E4 held by c
+4 d take A: E2 already out with c
+5 c return B: E3 not out
+6 c take Z: E1 unknown unit
+7 c return A: granted
+8 c take A: granted
+out: 1
+A c
+left 1: 2 of 3
+
+$ board 000000000000
+toplevel T; T or G H; G and A B; H and C D; A; B; C; D;
+@crews
+crew supervisor
+take A C
+margin 1
+return A
+margin 1
+return C
+margin 1
+take A
+margin 0
+take A B
+take C A
+take B Z
+take B A
+=> margin: 0
+log: 12
+1 supervisor take A C: granted
+2 supervisor margin 1: denied, cut 1
+3 supervisor return A: granted
+4 supervisor margin 1: denied, cut 2
+5 supervisor return C: granted
+6 supervisor margin 1: granted
+7 supervisor take A: denied, cut 1
+8 supervisor margin 0: granted
+9 supervisor take A B: denied, cut 1
+10 supervisor take C A: granted
+11 supervisor take B Z: E1 unknown unit
+12 supervisor take B A: E2 already out with supervisor
+margin now: 0
+out: 2
+A supervisor
+C supervisor
+left 1: 1 of 2
+left 2: 1 of 2
+";
 
 #[test]
-fn a_tree_without_cut_sets_has_two_lines(rt: HostRuntime) -> Result<(), Fail> {
-    let tree = tree_of(rt.alloc(), b"toplevel T; T and A; A;")?;
-    check_no_cuts(
-        &rt,
-        rt.alloc(),
-        &tree,
-        b"tree: 1 units, 1 gates, top T\ncuts: 0, orders: 0\n",
-    )
+fn errors_and_the_margin_of_a_supervisor_are_written(rt: HostRuntime) -> Result<(), Fail> {
+    check_table(&rt, rt.alloc(), BOARDS)
 }
 
-// ---- faults
+const FAULTS: &str = "fault BadByte
+=> refused: L1 bad byte at 16385:7
 
-fn put_one_fault<K: Sink>(sink: &mut K, buffer: Buffer, fault: &DeckFault) -> Result<(), WriteFault>
-    requires { buffer ≡ [] }
-{
-    let mut out = Out::over(sink, buffer);
-    let _ = put_fault(&mut out, fault);
-    out.finish()
-}
+$ fault OpenQuote
+=> refused: L2 open quote at 16385:7
 
-fn fault_written(alloc: Global, fault: &DeckFault) -> Result<Bytes, NoMemory> {
-    let mut sink = sink_of(alloc, 200)?;
-    let buffer = Buffer::new(alloc)?;
-    let _ = put_one_fault(&mut sink, buffer, fault);
-    Bytes::of(alloc, sink.bytes())
-}
+$ fault NameTooLong
+=> refused: L5 name too long at 16385:7
+
+$ fault Semicolon
+=> refused: P1 expected semicolon at 16385:7
+
+$ fault GateOrAttribute
+=> refused: P1 expected gate or attribute at 16385:7
+
+$ fault NoToplevel
+=> refused: C1 no toplevel at 16385:7
+
+$ fault DummyInput
+=> refused: C6 dummy input at 16385:7
+
+$ fault SpareNotBasic
+=> refused: C10 spare not basic at 16385:7
+
+$ fault TooManyGates
+=> refused: C16 too many gates at 16385:7
+";
 
 #[test]
 fn faults_are_written_with_their_places(rt: HostRuntime) -> Result<(), Fail> {
-    for (code, text) in [
-        (FaultCode::Lex(LexCode::BadByte), "L1 bad byte"),
-        (FaultCode::Lex(LexCode::OpenQuote), "L2 open quote"),
-        (FaultCode::Lex(LexCode::NameTooLong), "L5 name too long"),
-        (
-            FaultCode::Expected(What::Semicolon),
-            "P1 expected semicolon",
-        ),
-        (
-            FaultCode::Expected(What::GateOrAttribute),
-            "P1 expected gate or attribute",
-        ),
-        (FaultCode::Check(CheckCode::NoToplevel), "C1 no toplevel"),
-        (FaultCode::Check(CheckCode::DummyInput), "C6 dummy input"),
-        (
-            FaultCode::Check(CheckCode::SpareNotBasic),
-            "C10 spare not basic",
-        ),
-        (
-            FaultCode::Check(CheckCode::TooManyGates),
-            "C16 too many gates",
-        ),
-    ] {
-        let place = Place {
-            line: 16_385,
-            column: 7,
-        };
-        let bytes = fault_written(rt.alloc(), &DeckFault { code, place })?;
-        let wanted = format!(in rt.alloc(); "refused: {text} at 16385:7\n")?;
-        assert_eq!(rt; bytes.as_slice(), wanted.as_bytes(), "{text}");
-    }
-    Ok(())
+    check_table(&rt, rt.alloc(), FAULTS)
 }
 
-// ---- notices
+const NOTICES: &str = "notice Usage
+=> usage: cuts [--most N] [--workers N] | board [--margin N] [--most N] [--workers N] \
+| check | print | diagram [--workers N] | make --number N [--show deck|summary] | help
 
-fn put_one_notice<K: Sink>(sink: &mut K, buffer: Buffer, notice: Notice) -> Result<(), WriteFault>
-    requires { buffer ≡ [] }
-{
-    let mut out = Out::over(sink, buffer);
-    let _ = put_notice(&mut out, notice);
-    out.finish()
-}
+$ notice ReadFault
+=> refused: read fault
 
-fn notice_written(alloc: Global, notice: Notice) -> Result<Bytes, NoMemory> {
-    let mut sink = sink_of(alloc, 200)?;
-    let buffer = Buffer::new(alloc)?;
-    let _ = put_one_notice(&mut sink, buffer, notice);
-    Bytes::of(alloc, sink.bytes())
-}
+$ notice TooLong
+=> refused: input too long
+
+$ notice ListLimit
+=> refused: list limit 16777216
+
+$ notice OrderLimit
+=> refused: order limit 2000000
+";
 
 #[test]
 fn notices_are_written(rt: HostRuntime) -> Result<(), Fail> {
-    for (notice, text) in [
-        (
-            Notice::Usage,
-            "usage: cuts [--most N] [--workers N] | board [--margin N] [--most N] [--workers N] \
-             | check | print | diagram [--workers N] | make --number N [--show deck|summary] | help\n",
-        ),
-        (Notice::ReadFault, "refused: read fault\n"),
-        (Notice::TooLong, "refused: input too long\n"),
-        (Notice::ListLimit, "refused: list limit 16777216\n"),
-        (Notice::OrderLimit, "refused: order limit 2000000\n"),
-    ] {
-        let bytes = notice_written(rt.alloc(), notice)?;
-        assert_eq!(rt; bytes.as_slice(), text.as_bytes(), "{text}");
-    }
-    Ok(())
+    check_table(&rt, rt.alloc(), NOTICES)
 }
