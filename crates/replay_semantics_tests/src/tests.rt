@@ -3,13 +3,11 @@ ghost use Rattle.std.specs.Prelude.{All, IfOk, IfSome};
 ghost use Rattle.fault_definitions.specs.Tree.{IsUnitOf};
 
 use fault_model::{NoMemory, Order, Tree};
-use replay_semantics::Replay;
+use replay_semantics::{Pushed, Replay};
 use std::alloc::Global;
 use std::test::Fail;
 use unit_sets::UnitNo;
 use worked_trees::tree_of;
-
-const TRIGGERED_SPARE: &str = "toplevel T; T csp P S; F fdep X S; P; S; X;";
 
 // The order of some digits, up to the first that is no unit of the tree; `None` where one stands twice.
 fn order_of(alloc: Global, tree: &Tree, digits: &str) -> Result<Option<Order>, NoMemory>
@@ -25,81 +23,78 @@ fn order_of(alloc: Global, tree: &Tree, digits: &str) -> Result<Option<Order>, N
     Order::new(alloc, units.as_slice())
 }
 
-// Whether the order of some digits fails the top event.
-fn fails(alloc: Global, tree: &Tree, digits: &str) -> Result<bool, Fail> {
-    let Some(order) = order_of(alloc, tree, digits)? else {
-        return Err("no order".into());
+// Whether the order of some digits fails the top event, or not, as the mark behind them says.
+fn is_as_marked(alloc: Global, tree: &Tree, marked: &str) -> Result<bool, Fail> {
+    let Some(order) = order_of(alloc, tree, marked)? else {
+        return Err("a unit stands twice".into());
     };
     let mut replay = Replay::new(alloc, tree)?;
-    Ok(replay.fails(&order))
+    let fails = replay.fails(&order);
+    Ok(order.as_slice().len() + 1 == marked.len() && fails == marked.ends_with('+'))
 }
 
-// Those of some orders that fail the top event of a text.
-fn failing(alloc: Global, text: &str, orders: &str) -> Result<String, Fail> {
-    let tree = tree_of(alloc, text.as_bytes())?;
-    let mut told = String::new(alloc);
-    for digits in orders.split(' ') {
-        if fails(alloc, &tree, digits)? {
-            told.push(' ')?;
-            told.push_str(digits)?;
+fn are_as_marked(alloc: Global, tree: &Tree, orders: &str) -> Result<bool, Fail> {
+    for marked in orders.split(' ') {
+        if !is_as_marked(alloc, tree, marked)? {
+            return Ok(false);
         }
     }
-    Ok(told)
+    Ok(true)
 }
 
-// Each row has a text, some orders by the numbers of their units, and those of them that fail its top event.
+// Whether the orders of a row are as marked, over its tree.
+fn is_so(alloc: Global, row: &str) -> Result<bool, Fail> {
+    let (text, orders) = row.split_once('|').ok_or("a row out of form")?;
+    let tree = tree_of(alloc, text.as_bytes())?;
+    are_as_marked(alloc, &tree, orders)
+}
+
+// Trees, and orders by the numbers of their units: those with `+` fail the top event, and those with `-` don't. A mark
+// alone stands for the order of no unit.
+const ORDERS: &str = "\
+toplevel T; T pand A B; F fdep X A B; A; B; X;|3+ 21- 12+ 132+ 231-
+toplevel T; T csp P S; F fdep X S; P; S; X;|12+ 21- 31+ 312+ 132+ 123+ 321- 231-
+toplevel T; T pand A B; S seq B A; A; B;|12- 21- -
+toplevel T; T or G H; G pand A B; H and I C; I pand B A; A; B; C;|213+ 21- 12+ 321+
+toplevel T; T and G B; G por A B; A; B;|12+ 21- 1-
+toplevel T; T pand G A; G 2of3 A B C; A; B; C;|21+ 12- 231+ 213+";
+
 #[test]
 fn orders_over_small_trees(rt: HostRuntime) -> Result<(), Fail> {
-    for (text, orders, wanted) in [
-        (
-            "toplevel T; T pand A B; F fdep X A B; A; B; X;",
-            "3 21 12 132 231",
-            " 3 12 132",
-        ),
-        (
-            TRIGGERED_SPARE,
-            "12 21 31 312 132 123 321 231",
-            " 12 31 312 132 123",
-        ),
-        // A 0 stands for the order of no unit.
-        ("toplevel T; T pand A B; S seq B A; A; B;", "12 21 0", ""),
-        (
-            "toplevel T; T or G H; G pand A B; H and I C; I pand B A; A; B; C;",
-            "213 21 12 321",
-            " 213 12 321",
-        ),
-        ("toplevel T; T and G B; G por A B; A; B;", "12 21 1", " 12"),
-        (
-            "toplevel T; T pand G A; G 2of3 A B C; A; B; C;",
-            "21 12 231 213",
-            " 21 231 213",
-        ),
-    ] {
-        assert_eq!(rt;
-            failing(rt.alloc(), text, orders)?.as_str(),
-            wanted,
-            "{text}"
-        );
+    for row in ORDERS.lines() {
+        assert!(rt; is_so(rt.alloc(), row)?, "{row}");
     }
     Ok(())
+}
+
+// What the trigger makes of an order where it fails first, the primary in its place, and the trigger behind that.
+fn pushed(alloc: Global, tree: &Tree) -> Result<(Pushed, Pushed, Pushed), Fail> {
+    let trigger = UnitNo::new(3).ok_or("no unit")?;
+    let primary = UnitNo::new(1).ok_or("no unit")?;
+    if tree.units() != 3 {
+        return Err("not three units".into());
+    }
+    let mut replay = Replay::new(alloc, tree)?;
+    let after_trigger = replay.push(trigger);
+    replay.pop();
+    let after_primary = replay.push(primary);
+    let after_both = replay.push(trigger);
+    replay.pop();
+    replay.pop();
+    Ok((after_trigger, after_primary, after_both))
+}
+
+fn pushed_over_a_spare(alloc: Global) -> Result<(Pushed, Pushed, Pushed), Fail> {
+    let tree = tree_of(alloc, b"toplevel T; T csp P S; F fdep X S; P; S; X;")?;
+    pushed(alloc, &tree)
 }
 
 // The spare fails by its trigger first, and still can't be chosen to fail before its primary.
 #[test]
 fn the_last_unit_is_taken_back(rt: HostRuntime) -> Result<(), Fail> {
-    let tree = tree_of(rt.alloc(), TRIGGERED_SPARE.as_bytes())?;
-    let mut replay = Replay::new(rt.alloc(), &tree)?;
-    let trigger = UnitNo::new(3).ok_or("no unit")?;
-    let primary = UnitNo::new(1).ok_or("no unit")?;
-    assert_eq!(rt; tree.units(), 3);
-    let after_trigger = replay.push(trigger);
+    let (after_trigger, after_primary, after_both) = pushed_over_a_spare(rt.alloc())?;
     assert!(rt; after_trigger.admissible && !after_trigger.top_failed);
-    replay.pop();
-    let after_primary = replay.push(primary);
     assert!(rt; after_primary.admissible && !after_primary.top_failed);
-    let after_both = replay.push(trigger);
     assert!(rt; after_both.admissible && after_both.top_failed);
-    replay.pop();
-    replay.pop();
     Ok(())
 }
