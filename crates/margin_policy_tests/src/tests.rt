@@ -1,4 +1,6 @@
 //! Requests to small standings, each with the reply that it is to get.
+//!
+//! A unit is a letter, the unit 1 is `a`. A question mark stands for a name that names no unit.
 ghost use Rattle.std.specs.Prelude.{◌≡◌, ◌++◌, ◌∷◌, [], true, IfOk};
 ghost use Rattle.unit_sets.specs.UnitList.{IsRising};
 ghost use Rattle.unit_sets.specs.CutOrder.{IsInCutOrder};
@@ -10,8 +12,46 @@ use std::alloc::Global;
 use std::test::Fail;
 use unit_sets::{CrewNo, CutList, UnitNo, compare_cuts};
 
-fn unit(number: u16) -> Result<UnitNo, Fail> {
-    Ok(UnitNo::new(number).ok_or("no unit")?)
+// The units of the letters in a text.
+fn units_of(alloc: Global, text: &str) -> Result<Vec<UnitNo>, Fail> {
+    let mut units = Vec::new(alloc);
+    for letter in text.as_bytes() {
+        if letter.is_ascii_lowercase() {
+            let number = u16::from(letter.wrapping_sub(b'a')) + 1;
+            units.push(UnitNo::new(number).ok_or("no unit")?)?;
+        }
+    }
+    Ok(units)
+}
+
+// Takes by their letters, and whether there is such a take: of at most 16 units, of each once, and of something at all.
+const TAKES: &str = "\
+abcdefghijklmnopq|none
+abcdefghijklmnop|asked
+bab|none
+gc?|asked
+|none
+?|asked";
+
+// Whether the take of a row is there where the row says so, and asks for its units.
+fn is_asked_so(alloc: Global, row: &str) -> Result<bool, Fail> {
+    let (letters, wanted) = row.split_once('|').ok_or("a row out of form")?;
+    let unknown = letters.contains('?');
+    let units = units_of(alloc, letters)?;
+    Ok(match AskedUnits::new(units.as_slice(), unknown) {
+        Some(asked) => {
+            wanted == "asked" && asked.units() == units.as_slice() && asked.unknown() == unknown
+        }
+        None => wanted == "none",
+    })
+}
+
+#[test]
+fn a_take_asks_for_some_units_each_once(rt: HostRuntime) -> Result<(), Fail> {
+    for row in TAKES.lines() {
+        assert!(rt; is_asked_so(rt.alloc(), row)?, "{row}");
+    }
+    Ok(())
 }
 
 // Whether units stand in rising order.
@@ -34,84 +74,46 @@ fn is_next(cuts: &CutList, set: &[UnitNo]) -> bool
     sets == 0 || compare_cuts(cuts.members(sets - 1), set).is_lt()
 }
 
-// The cut sets of some numbers, each of which is to stand after the one before.
-fn list_of(alloc: Global, sets: &[&[u16]]) -> Result<CutList, Fail> {
+fn push_set(cuts: &mut CutList, set: &[UnitNo]) -> Result<(), Fail> {
+    if set.is_empty() || !rises(set) || !is_next(cuts, set) {
+        return Err("not the next set".into());
+    }
+    cuts.push(set)?;
+    Ok(())
+}
+
+// The cut sets of some words, each of which is to stand after the one before.
+fn list_of(alloc: Global, words: &str) -> Result<CutList, Fail> {
     let mut cuts = CutList::new(alloc);
-    for numbers in sets {
-        let set = units_of(alloc, numbers)?;
-        let set = set.as_slice();
-        if set.is_empty() || !rises(set) || !is_next(&cuts, set) {
-            return Err("not the next set".into());
-        }
-        cuts.push(set)?;
+    for word in words.split(' ') {
+        push_set(&mut cuts, units_of(alloc, word)?.as_slice())?;
     }
     Ok(cuts)
 }
 
-fn units_of(alloc: Global, numbers: &[u16]) -> Result<Vec<UnitNo>, Fail> {
-    let mut units = Vec::new(alloc);
-    for number in numbers {
-        units.push(unit(*number)?)?;
-    }
-    Ok(units)
-}
-
-// A standing over all units that there can be.
-fn standing_of(
-    alloc: Global,
-    sets: &[&[u16]],
-    margin: u32,
-    supervisor: Option<CrewNo>,
-) -> Result<Standing, Fail>
+// A standing over all units that there can be, with the cut sets, the margin and the supervisor of a row.
+fn standing_of(alloc: Global, row: &str) -> Result<Standing, Fail>
     ensures { IfOk result (λ standing. standing.units ≡ 4095) }
 {
+    let (sets, rest) = row.split_once('|').ok_or("no margin")?;
+    let (margin, supervisor) = rest.split_once('|').ok_or("no supervisor")?;
+    let margin = margin.parse::<u32>()?;
     if margin > GREATEST_MARGIN {
         return Err("no margin".into());
     }
+    let supervisor = supervisor.parse::<u32>().ok().map(CrewNo);
     let cuts = list_of(alloc, sets)?;
     cuts.len();
     Ok(Standing::new(alloc, 4095, &cuts, margin, supervisor)?)
 }
 
-// What a crew asks for, by numbers.
-#[derive(Clone, Copy)]
-enum Ask<'a> {
-    Take(&'a [u16]),
-    // With a name besides that names no unit.
-    TakeUnknown(&'a [u16]),
-    Return(u16),
-    ReturnUnknown,
-    Margin(u32),
-}
-
-fn asked_of(alloc: Global, numbers: &[u16], unknown: bool) -> Result<Option<AskedUnits>, Fail> {
-    let units = units_of(alloc, numbers)?;
-    Ok(AskedUnits::new(units.as_slice(), unknown))
-}
-
-fn request_of(alloc: Global, ask: &Ask) -> Result<Request, Fail> {
-    Ok(match ask {
-        Ask::Take(numbers) => Request::Take(asked_of(alloc, numbers, false)?.ok_or("not asked")?),
-        Ask::TakeUnknown(numbers) => Request::Take(asked_of(alloc, numbers, true)?.ok_or(
-            "not asked",
-        )?),
-        Ask::Return(number) => Request::Return(Some(unit(*number)?)),
-        Ask::ReturnUnknown => Request::Return(None),
-        Ask::Margin(number) => Request::Margin(*number),
+// A request by its word, its units, and the text of these or of its margin.
+fn request_of(word: &str, units: &[UnitNo], of: &str) -> Result<Request, Fail> {
+    Ok(match word {
+        "take" => Request::Take(AskedUnits::new(units, of.contains('?')).ok_or("no take")?),
+        "return" => Request::Return(units.first().copied()),
+        _ => Request::Margin(of.parse::<u32>()?),
     })
-}
-
-// The reply to a request, which is then applied.
-fn serve(standing: &mut Standing, crew: u32, request: &Request) -> Result<Reply, Fail>
-    requires { standing.old.units ≡ 4095 }
-    ensures { standing.new.units ≡ 4095 }
-{
-    if !is_in_range(request) {
-        return Err("out of range".into());
-    }
-    let reply = standing.decide(CrewNo(crew), request);
-    standing.apply(CrewNo(crew), request, reply);
-    Ok(reply)
 }
 
 // Whether a request's margin is one that there can be. A unit always is.
@@ -129,152 +131,147 @@ fn is_in_range(request: &Request) -> bool
     }
 }
 
-// A standing after the requests of a table, and the place of the first one that is not replied to as the table says.
-#[derive(Drop)]
-struct EndOfTable {
-    standing: Standing,
-    wrong: Option<usize>,
-}
-
-fn play(alloc: Global, start: Standing, table: &[(u32, Ask, Reply)]) -> Result<EndOfTable, Fail>
-    requires { start.units ≡ 4095 }
+// The reply to a crew's request, which is then applied.
+fn serve(standing: &mut Standing, crew: u32, request: &Request) -> Result<Reply, Fail>
+    requires { standing.old.units ≡ 4095 }
+    ensures { standing.new.units ≡ 4095 }
 {
-    let mut standing = start;
-    for place in 0..table.len() {
-        let (crew, ask, reply) = table[place];
-        let request = request_of(alloc, &ask)?;
-        if serve(&mut standing, crew, &request)? != reply {
-            let wrong = Some(place);
-            return Ok(EndOfTable { standing, wrong });
+    if !is_in_range(request) {
+        return Err("out of range".into());
+    }
+    let reply = standing.decide(CrewNo(crew), request);
+    standing.apply(CrewNo(crew), request, reply);
+    Ok(reply)
+}
+
+// The reply to what a crew asks.
+fn reply_to(alloc: Global, standing: &mut Standing, crew: u32, asked: &str) -> Result<Reply, Fail>
+    requires { standing.old.units ≡ 4095 }
+    ensures { standing.new.units ≡ 4095 }
+{
+    let (word, of) = asked.split_once(' ').ok_or("a request out of form")?;
+    let units = units_of(alloc, of)?;
+    let request = request_of(word, units.as_slice(), of)?;
+    serve(standing, crew, &request)
+}
+
+// The margin, what each cut set has left, and who holds a unit.
+fn told_of_unit(alloc: Global, standing: &Standing, letter: &str) -> Result<String, Fail> {
+    let unit = *units_of(alloc, letter)?.first().ok_or("no unit")?;
+    let margin = standing.margin();
+    let counts = standing.ledger().counts();
+    let holder = standing.holder(unit);
+    Ok(format!(in alloc; "{margin} {counts:?} {holder:?}")?)
+}
+
+// What is told of a unit, or the reply to what a crew asks.
+fn told(alloc: Global, standing: &mut Standing, row: &str) -> Result<String, Fail>
+    requires { standing.old.units ≡ 4095 }
+    ensures { standing.new.units ≡ 4095 }
+{
+    let (first, rest) = row.split_once(' ').ok_or("a row out of form")?;
+    if first == "unit" {
+        return told_of_unit(alloc, standing, rest);
+    }
+    let reply = reply_to(alloc, standing, first.parse::<u32>()?, rest)?;
+    Ok(format!(in alloc; "{reply:?}")?)
+}
+
+// Goes through rows, up to the first after which something else is told.
+fn play_rows(alloc: Global, standing: &mut Standing, rows: &str) -> Result<(), Fail>
+    requires { standing.old.units ≡ 4095 }
+{
+    for row in rows.lines() {
+        let (asked, wanted) = row.split_once('>').ok_or("a row out of form")?;
+        if told(alloc, standing, asked)?.as_str() != wanted {
+            return Err(row.into());
         }
     }
-    Ok(EndOfTable {
-        standing,
-        wrong: None,
-    })
+    Ok(())
 }
 
-#[test]
-fn a_take_asks_for_some_units_each_once(rt: HostRuntime) -> Result<(), Fail> {
-    let many: [u16; 17] = [1, 2, 3, 4, 5, 6, 7, 8, 9, 10, 11, 12, 13, 14, 15, 16, 17];
-    let table: [(&[u16], bool, bool); 6] = [
-        (&many, false, false),
-        (&many[..16], false, true),
-        (&[2, 1, 2], false, false),
-        (&[7, 3], true, true),
-        (&[], false, false),
-        (&[], true, true),
-    ];
-    for (numbers, unknown, asked) in table {
-        let held = asked_of(rt.alloc(), numbers, unknown)?;
-        assert_eq!(rt; held.is_some(), asked, "at {numbers:?}");
-        if let Some(held) = held {
-            let units = units_of(rt.alloc(), numbers)?;
-            assert_eq!(rt; held.units(), units.as_slice());
-            assert_eq!(rt; held.unknown(), unknown);
-        }
+fn play_case(alloc: Global, case: &str) -> Result<(), Fail> {
+    let (first, rows) = case.split_once('\n').ok_or("a case out of form")?;
+    let mut standing = standing_of(alloc, first)?;
+    let end = play_rows(alloc, &mut standing, rows);
+    drop(standing);
+    end
+}
+
+// Plays the cases of a text. The first row of a case has the cut sets of a standing, its margin, and its supervisor, if
+// there is one. Each other row has what a crew asks and its reply, or a unit and what is told of it.
+fn play(alloc: Global, cases: &str) -> Result<(), Fail> {
+    for case in cases.split("\n\n") {
+        play_case(alloc, case)?;
     }
     Ok(())
 }
 
-#[test]
-fn a_take_is_denied_where_a_cut_set_would_fail(rt: HostRuntime) -> Result<(), Fail> {
-    let sets: [&[u16]; 6] = [&[3], &[4], &[1, 2], &[5, 6], &[6, 7], &[8, 9, 10, 11]];
-    let start = standing_of(rt.alloc(), &sets, 0, None)?;
-    let table = [
-        (0, Ask::Take(&[5]), Reply::Granted),
-        (0, Ask::Take(&[6]), Reply::Denied(4)),
-        (0, Ask::Return(5), Reply::Granted),
-        (0, Ask::Take(&[6]), Reply::Granted),
-    ];
-    let end = play(rt.alloc(), start, &table)?;
-    assert_eq!(rt; end.wrong, None);
-    assert_eq!(rt;
-        end.standing.ledger().counts(),
-        [1, 1, 2, 1, 1, 4].as_slice()
-    );
-    assert_eq!(rt; end.standing.holder(unit(6)?), Some(CrewNo(0)));
-    assert_eq!(rt; end.standing.holder(unit(5)?), None);
-    Ok(())
-}
+// Takes after which a cut set would fail, and where that unit has come back. Units of no tight set at a tight opening.
+// A set that keeps one more than the margin, and one that doesn't.
+const TIGHT: &str = "\
+c d ab ef fg hijk|0|
+0 take e>Granted
+0 take f>Denied(4)
+0 return e>Granted
+0 take f>Granted
+unit f>0 [1, 1, 2, 1, 1, 4] Some(CrewNo(0))
+unit e>0 [1, 1, 2, 1, 1, 4] None
+
+a bc|1|
+0 take b>Denied(1)
+0 take d>Denied(1)
+
+abc|2|
+0 take a>Denied(1)
+
+abc|1|
+0 take a>Granted";
 
 #[test]
-fn an_unrelated_unit_is_denied_at_a_tight_opening(rt: HostRuntime) -> Result<(), Fail> {
-    let sets: [&[u16]; 2] = [&[1], &[2, 3]];
-    let start = standing_of(rt.alloc(), &sets, 1, None)?;
-    let table = [
-        (0, Ask::Take(&[2]), Reply::Denied(1)),
-        (0, Ask::Take(&[4]), Reply::Denied(1)),
-    ];
-    let end = play(rt.alloc(), start, &table)?;
-    assert_eq!(rt; end.wrong, None);
-    Ok(())
+fn a_take_is_denied_where_a_cut_set_would_be_tight(rt: HostRuntime) -> Result<(), Fail> {
+    play(rt.alloc(), TIGHT)
 }
 
-#[test]
-fn a_set_keeps_more_than_the_margin(rt: HostRuntime) -> Result<(), Fail> {
-    let sets: [&[u16]; 1] = [&[1, 2, 3]];
-    for (margin, reply) in [(2, Reply::Denied(1)), (1, Reply::Granted)] {
-        let start = standing_of(rt.alloc(), &sets, margin, None)?;
-        let table = [(0, Ask::Take(&[1]), reply)];
-        let end = play(rt.alloc(), start, &table)?;
-        assert_eq!(rt; end.wrong, None, "at {margin}");
-    }
-    Ok(())
-}
+const ERRORS: &str = "\
+abc|0|
+0 take a>Granted
+0 take a>AlreadyOut(CrewNo(0))
+1 return a>HeldBy(CrewNo(0))
+1 take a>AlreadyOut(CrewNo(0))
+0 return b>NotOut
+0 take ?>UnknownUnit
+0 return ?>UnknownUnit
+0 return a>Granted
+0 take a>Granted";
 
 #[test]
 fn errors_have_their_names(rt: HostRuntime) -> Result<(), Fail> {
-    let sets: [&[u16]; 1] = [&[1, 2, 3]];
-    let start = standing_of(rt.alloc(), &sets, 0, None)?;
-    let table = [
-        (0, Ask::Take(&[1]), Reply::Granted),
-        (0, Ask::Take(&[1]), Reply::AlreadyOut(CrewNo(0))),
-        (1, Ask::Return(1), Reply::HeldBy(CrewNo(0))),
-        (1, Ask::Take(&[1]), Reply::AlreadyOut(CrewNo(0))),
-        (0, Ask::Return(2), Reply::NotOut),
-        (0, Ask::TakeUnknown(&[]), Reply::UnknownUnit),
-        (0, Ask::ReturnUnknown, Reply::UnknownUnit),
-        (0, Ask::Return(1), Reply::Granted),
-        (0, Ask::Take(&[1]), Reply::Granted),
-    ];
-    let end = play(rt.alloc(), start, &table)?;
-    assert_eq!(rt; end.wrong, None);
-    Ok(())
+    play(rt.alloc(), ERRORS)
 }
 
-#[test]
-fn only_the_supervisor_changes_the_margin(rt: HostRuntime) -> Result<(), Fail> {
-    let sets: [&[u16]; 2] = [&[1, 2], &[3, 4]];
-    let start = standing_of(rt.alloc(), &sets, 0, Some(CrewNo(0)))?;
-    let table = [
-        (0, Ask::Take(&[1, 3]), Reply::Granted),
-        (0, Ask::Margin(1), Reply::Denied(1)),
-        (0, Ask::Return(1), Reply::Granted),
-        (0, Ask::Margin(1), Reply::Denied(2)),
-        (0, Ask::Return(3), Reply::Granted),
-        (0, Ask::Margin(1), Reply::Granted),
-        (0, Ask::Take(&[1]), Reply::Denied(1)),
-        (0, Ask::Margin(0), Reply::Granted),
-        (0, Ask::Take(&[1, 2]), Reply::Denied(1)),
-        (0, Ask::Take(&[3, 1]), Reply::Granted),
-        (0, Ask::TakeUnknown(&[2]), Reply::UnknownUnit),
-        (0, Ask::Take(&[2, 1]), Reply::AlreadyOut(CrewNo(0))),
-        (1, Ask::Margin(1), Reply::NotSupervisor),
-    ];
-    let end = play(rt.alloc(), start, &table)?;
-    assert_eq!(rt; end.wrong, None);
-    assert_eq!(rt; end.standing.margin(), 0);
-    assert_eq!(rt; end.standing.ledger().counts(), [1, 1].as_slice());
-    Ok(())
-}
+// With a supervisor, and without.
+const MARGINS: &str = "\
+ab cd|0|0
+0 take ac>Granted
+0 margin 1>Denied(1)
+0 return a>Granted
+0 margin 1>Denied(2)
+0 return c>Granted
+0 margin 1>Granted
+0 take a>Denied(1)
+0 margin 0>Granted
+0 take ab>Denied(1)
+0 take ca>Granted
+0 take b?>UnknownUnit
+0 take ba>AlreadyOut(CrewNo(0))
+1 margin 1>NotSupervisor
+unit a>0 [1, 1] Some(CrewNo(0))
+
+ab|0|
+0 margin 1>NotSupervisor";
 
 #[test]
-fn no_crew_changes_the_margin_without_a_supervisor(rt: HostRuntime) -> Result<(), Fail> {
-    let sets: [&[u16]; 1] = [&[1, 2]];
-    let start = standing_of(rt.alloc(), &sets, 0, None)?;
-    let table = [(0, Ask::Margin(1), Reply::NotSupervisor)];
-    let end = play(rt.alloc(), start, &table)?;
-    assert_eq!(rt; end.wrong, None);
-    Ok(())
+fn only_a_supervisor_changes_the_margin(rt: HostRuntime) -> Result<(), Fail> {
+    play(rt.alloc(), MARGINS)
 }
