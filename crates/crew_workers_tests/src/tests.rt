@@ -1,47 +1,18 @@
 //! Crews of a tree of two units, each by a worker of its own.
-ghost use Rattle.std.specs.Prelude.{IfOk};
-ghost use Rattle.outage_board.specs.Passes.{AreOf, HaveAll};
 
 use crew_workers::serve_all;
 use edge_io::{Free, Pace};
 use held_pace::{Meeting, Piece};
 use margin_policy::Reply;
-use outage_board::{Board, BoardStart, BoardState, Entry};
+use outage_board::{BoardState, Entry};
 use std::alloc::Global;
 use std::sync::Wait;
 use std::test::Fail;
 use std::thread::Threads;
 use unit_sets::CrewNo;
-use worked_trees::{cuts_of, dockets_of, tree_of};
+use worked_boards::board_of;
 
-// A board of a tree of two units at the margin 0, with the crews that a text says. What it is made of is let go by
-// calls.
-fn board_of(alloc: Global, crews: &[u8]) -> Result<BoardStart, Fail>
-    ensures own { IfOk result (λ start. AreOf start.board start.passes.passes) }
-    ensures all { IfOk result (λ start. HaveAll start.board.deck start.passes.passes) }
-{
-    let dockets = dockets_of(alloc, crews)?;
-    let tree = match tree_of(alloc, b"toplevel T; T and A B; A; B;") {
-        Ok(tree) => tree,
-        Err(fail) => {
-            drop(dockets);
-            return Err(fail);
-        }
-    };
-    let cuts = match cuts_of(alloc, &tree) {
-        Ok(cuts) => cuts,
-        Err(fail) => {
-            drop(dockets);
-            drop(tree);
-            return Err(fail);
-        }
-    };
-    let start = Board::open(alloc, &tree, &cuts, &dockets, 0);
-    drop(dockets);
-    drop(cuts);
-    drop(tree);
-    Ok(start?)
-}
+const DECK: &[u8] = b"toplevel T; T and A B; A; B;";
 
 // Whether of two takes of the crews 0 and 1 the earlier was granted and the later denied by the cut set 1.
 fn is_granted_first(earlier: &Entry, later: &Entry) -> bool {
@@ -76,7 +47,7 @@ fn served<R: Threads + Wait + Sync, P: Pace>(
     crews: &[u8],
     pace: &P,
 ) -> Result<(usize, u32, bool), Fail> {
-    let start = board_of(alloc, crews)?;
+    let start = board_of(alloc, DECK, crews)?;
     let state = serve_all(rt, start, pace);
     let told = (
         state.history_len(),

@@ -88,8 +88,22 @@ fn definition(alloc: Global, reader: &mut Reader, name: Placed) -> Result<Statem
         return Err(ParseFault::Expected(What::GateOrAttribute, lexeme.place()));
     }
     equals(reader)?;
-    let word = lexeme.name(alloc)?;
-    attributes(alloc, reader, basic_with_room(alloc, name)?, word)
+    values(alloc, reader, name, &lexeme)
+}
+
+// The rest of a basic event behind the `=` of its first attribute's word.
+fn values(
+    alloc: Global,
+    reader: &mut Reader,
+    name: Placed,
+    word: &Lexeme,
+) -> Result<Statement, ParseFault>
+    requires value { is_value word.now ≡ true }
+    requires bare { is_bare_name word.now.text ≡ true }
+    ensures { Reads (AttributeEquals name [] word.now.text) reader.old result reader.new }
+{
+    let first = word.name(alloc)?;
+    attributes(alloc, reader, basic_with_room(alloc, name)?, first)
 }
 
 // A basic event without attributes.
@@ -126,26 +140,38 @@ fn gate(
 {
     let lexeme = reader.want(What::Input)?;
     if lexeme.is_equals() && word.is_bare() {
-        let word = word.name(alloc)?;
-        return attributes(alloc, reader, basic_with_room(alloc, name)?, word);
+        return values(alloc, reader, name, word);
     }
-    let mut gate = RawGate {
+    let gate = RawGate {
         name,
         word: word.place(),
         kind,
         inputs: PlacedList::new(alloc),
     };
-    if lexeme.is_semicolon() {
-        return Ok(Statement::Gate(gate));
-    }
     if !lexeme.is_name() {
-        return Err(ParseFault::Expected(What::Input, lexeme.place()));
+        return inputs(alloc, reader, gate, lexeme);
     }
-    // A text may have hundreds of thousands of gates with one input: what stands behind it says whether it is alone.
+    first_input(alloc, reader, gate, lexeme)
+}
+
+// The rest of a gate that has no input yet behind this one. A text may have hundreds of thousands of gates with one
+// input: what stands behind it says whether it is alone.
+fn first_input<'a>(
+    alloc: Global,
+    reader: &mut Reader<'a>,
+    begun: RawGate,
+    first: Lexeme<'a>,
+) -> Result<Statement, ParseFault>
+    requires short { HasShortNumbers begun.kind }
+    requires none { begun.inputs ≡ [] }
+    requires value { is_value first ≡ true }
+    ensures { Reads (Inputs begun.name begun.word begun.kind (placed first.entry ∷ [])) reader.old result reader.new }
+{
+    let mut gate = begun;
     let next = reader.want(What::Input)?;
     let room = if next.is_semicolon() { 1 } else { USUAL_INPUTS };
     gate.inputs = PlacedList::with_room(alloc, room)?;
-    lexeme.add_to(alloc, &mut gate.inputs)?;
+    first.add_to(alloc, &mut gate.inputs)?;
     inputs(alloc, reader, gate, next)
 }
 

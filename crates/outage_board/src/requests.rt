@@ -71,6 +71,22 @@ fn requests_of(
     Ok(requests)
 }
 
+// What each crew asks, by an index of the tree's units.
+fn requests_by(
+    alloc: Global,
+    tree: &UnitNames<'_>,
+    dockets: &Dockets,
+) -> Result<Vec<Docket>, NoMemory>
+    ensures { IfOk result (λ all. all.items ≡ map (requests_of tree.now) dockets.now) }
+{
+    let mut units = Vec::with_capacity(alloc, AskedUnits::LIMIT)?;
+    let mut all = Vec::with_capacity(alloc, dockets.crews() as usize)?;
+    for crew in 0..dockets.crews() {
+        all.push(requests_of(alloc, tree, dockets, CrewNo(crew), &mut units)?)?;
+    }
+    Ok(all)
+}
+
 /// What each crew asks.
 pub(crate) fn all_requests(
     alloc: Global,
@@ -80,12 +96,7 @@ pub(crate) fn all_requests(
     ensures { IfOk result (λ all. all.items ≡ map (requests_of tree.now) dockets.now) }
 {
     let tree = UnitNames::of(alloc, tree)?;
-    let mut units = Vec::with_capacity(alloc, AskedUnits::LIMIT)?;
-    let mut all = Vec::with_capacity(alloc, dockets.crews() as usize)?;
-    for crew in 0..dockets.crews() {
-        all.push(requests_of(alloc, &tree, dockets, CrewNo(crew), &mut units)?)?;
-    }
-    Ok(all)
+    requests_by(alloc, &tree, dockets)
 }
 
 fn is_supervisor(name: &Name) -> bool

@@ -5,36 +5,11 @@ use outage_board::BoardState;
 use std::alloc::{AllocError, Global};
 use std::test::Fail;
 use unit_sets::CrewNo;
-use worked_trees::{cuts_of, dockets_of, tree_of};
+use worked_boards::state_of;
 
 const THREE: &[u8] = b"toplevel T; T and A B C; A; B; C;";
 
 const PAIRS: &[u8] = b"toplevel T; T or G H; G and A B; H and C D; A; B; C; D;";
-
-// A board at the margin 0. What it is made of is let go by calls: the proof of each way out is short then.
-fn board_of(alloc: Global, deck: &[u8], crews: &[u8]) -> Result<BoardState, Fail> {
-    let dockets = dockets_of(alloc, crews)?;
-    let tree = match tree_of(alloc, deck) {
-        Ok(tree) => tree,
-        Err(fail) => {
-            drop(dockets);
-            return Err(fail);
-        }
-    };
-    let cuts = match cuts_of(alloc, &tree) {
-        Ok(cuts) => cuts,
-        Err(fail) => {
-            drop(dockets);
-            drop(tree);
-            return Err(fail);
-        }
-    };
-    let board = BoardState::open(alloc, &tree, &cuts, &dockets, 0);
-    drop(dockets);
-    drop(cuts);
-    drop(tree);
-    Ok(board?)
-}
 
 // The margin at first, the number of all requests, and how many each crew has left.
 fn tell_opening(alloc: Global, told: &mut String, board: &BoardState) -> Result<(), AllocError> {
@@ -123,7 +98,7 @@ fn tell_day(
     crews: &[u8],
     order: &str,
 ) -> Result<(), Fail> {
-    let mut board = board_of(alloc, deck, crews)?;
+    let mut board = state_of(alloc, deck, crews)?;
     let end = tell_board(alloc, told, &mut board, order);
     drop(board);
     end

@@ -110,6 +110,18 @@ fn repeat(alloc: Global, statements: &[Statement]) -> Result<Option<Place>, Allo
     repeat_in(&mut index, statements)
 }
 
+/// Adds the names of a text, and says whether they all were new.
+fn add_names<'a>(index: &mut NameIndex<'a>, statements: &'a [Statement]) -> Result<bool, AllocError>
+    requires { index.old ≡ [] }
+    ensures fresh { IfOk result (λ fresh. IsTrue fresh → index.new ≡ names statements.now) }
+    ensures differ { IfOk result (λ fresh. fresh ≡ all_differ (names statements.now)) }
+{
+    if !add_basics(index, statements)? {
+        return Ok(false);
+    }
+    add_gates(index, statements)
+}
+
 /// The index of the names, or `None` where some name is defined twice.
 fn index_of<'a>(
     alloc: Global,
@@ -119,13 +131,8 @@ fn index_of<'a>(
     ensures differ { IfOk result (λ found. is_some found ≡ all_differ (names statements.now)) }
 {
     let mut index = NameIndex::with_room(alloc, statements.len())?;
-    if !add_basics(&mut index, statements)? {
-        return Ok(None);
-    }
-    if !add_gates(&mut index, statements)? {
-        return Ok(None);
-    }
-    Ok(Some(index))
+    let are_new = add_names(&mut index, statements)?;
+    Ok(are_new.then_some(index))
 }
 
 /// The index of the names, each of which is defined once.

@@ -1,7 +1,7 @@
 //! Two threads serve a crew each.
-ghost use Rattle.std.specs.Prelude.{◌≡◌, IfOk, IfSome};
+ghost use Rattle.std.specs.Prelude.{◌≡◌, IfSome};
 ghost use Rattle.std.specs.Thread.{IsSync};
-ghost use Rattle.outage_board.specs.Passes.{AreOf, HaveAll};
+ghost use Rattle.outage_board.specs.Passes.{AreOf};
 
 use super::PAIRS;
 use margin_policy::Reply;
@@ -10,35 +10,7 @@ use std::alloc::Global;
 use std::sync::Wait;
 use std::test::Fail;
 use std::thread::{Threads, join};
-use worked_trees::{cuts_of, dockets_of, tree_of};
-
-// A board of two pairs at the margin 0. What it is made of is let go by calls.
-fn shared_pairs(alloc: Global, text: &[u8]) -> Result<BoardStart, Fail>
-    ensures own { IfOk result (λ start. AreOf start.board start.passes.passes) }
-    ensures all { IfOk result (λ start. HaveAll start.board.deck start.passes.passes) }
-{
-    let dockets = dockets_of(alloc, text)?;
-    let tree = match tree_of(alloc, PAIRS) {
-        Ok(tree) => tree,
-        Err(fail) => {
-            drop(dockets);
-            return Err(fail);
-        }
-    };
-    let cuts = match cuts_of(alloc, &tree) {
-        Ok(cuts) => cuts,
-        Err(fail) => {
-            drop(dockets);
-            drop(tree);
-            return Err(fail);
-        }
-    };
-    let start = Board::open(alloc, &tree, &cuts, &dockets, 0);
-    drop(dockets);
-    drop(cuts);
-    drop(tree);
-    Ok(start?)
-}
+use worked_boards::board_of;
 
 // The last pass of a board.
 fn last_pass(board: &Board, passes: &mut Passes) -> Option<CrewPass>
@@ -116,7 +88,7 @@ fn served_at_once<R: Threads + Wait + Sync>(
 
 // The board and its passes are let go by a call.
 fn told<R: Threads + Wait + Sync>(rt: &R, alloc: Global, text: &[u8]) -> Result<Told, Fail> {
-    let BoardStart { board, mut passes } = shared_pairs(alloc, text)?;
+    let BoardStart { board, mut passes } = board_of(alloc, PAIRS, text)?;
     let told = served_at_once(rt, &board, &mut passes);
     drop(passes);
     drop(board);
@@ -136,7 +108,7 @@ fn two_threads_serve_a_crew_each(rt: HostRuntime) -> Result<(), Fail> {
 
 // The crews, the length of the history and the margin of a board that is closed before any crew is served.
 fn closed(alloc: Global, text: &[u8]) -> Result<(u32, usize, u32), Fail> {
-    let BoardStart { board, passes } = shared_pairs(alloc, text)?;
+    let BoardStart { board, passes } = board_of(alloc, PAIRS, text)?;
     let state = board.close(passes);
     let told = (state.crews(), state.history_len(), state.opening_margin());
     drop(state);

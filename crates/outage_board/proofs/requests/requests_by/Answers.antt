@@ -1,14 +1,10 @@
-use Rattle.std.proofs.Common.{[], ap, ◌∙◌, arith}
-use Rattle.crew_script.specs.Dockets.{crew_at}
-use Rattle.fault_definitions.specs.Tree.{FaultTree}
+use Rattle.std.proofs.Common.{[], arith}
 use Rattle.outage_board.specs.Requests.{requests_of}
 use Rattle.outage_board.proofs.TakeLemmas.{map_take_more}
-use Rattle.outage_board.proofs.requests.all_requests.Goals as goal
+use Rattle.outage_board.proofs.requests.requests_by.Goals as goal
 
 pub loop-crew-preserved : goal.loop-crew-preserved
 loop-crew-preserved c =
     map_take_more (requests_of c.args.tree.now) c.args.dockets.now c.loop-crew.crew (record { name = []; docket = [] })
     c.loop-crew.all.items c.push.new.self.items c.in_ok-requests_of.field-0 (omega arith) c.loop-crew.invariant
-    (c.in_ok-requests_of.ensures
-    ∙ ap (λ (tree : FaultTree). requests_of tree (crew_at c.args.dockets.now c.loop-crew.crew)) c.in_ok-tree.ensures)
-    c.in_ok-push.ensures.items
+    c.in_ok-requests_of.ensures c.in_ok-push.ensures.items

@@ -3,7 +3,7 @@ use Rattle.std.proofs.lemmas.Grind.{common_steps}
 use Rattle.statement_faults.specs.Said.{basic_names, gate_names}
 use Rattle.fault_words.specs.Names.{all_differ}
 use Rattle.statement_faults.proofs.Differ.{differ-front_false}
-use Rattle.statement_faults.proofs.naming.index_of.Goals as goal
+use Rattle.statement_faults.proofs.naming.add_names.Goals as goal
 
 pub returns-then-not-branch-clause-differ : goal.returns-then-not-branch-clause-differ
 returns-then-not-branch-clause-differ c =

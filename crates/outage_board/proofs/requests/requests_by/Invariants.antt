@@ -1,6 +1,6 @@
 use Rattle.std.proofs.Common.{◌≡◌, take, map}
 use Rattle.outage_board.specs.Requests.{requests_of}
-use Rattle.outage_board.proofs.requests.all_requests.Given as goal
+use Rattle.outage_board.proofs.requests.requests_by.Given as goal
 
 abbrev pub invariant-loop-crew : goal.invariant-loop-crew
 invariant-loop-crew l = l.all.items ≡ map (requests_of l.tree) (take l.crew l.dockets)
