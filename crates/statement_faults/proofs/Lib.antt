@@ -22,3 +22,8 @@ pub mod Refused
 pub mod Edges
 pub mod SaidLemmas
 pub mod Unmarked
+pub mod LowNumbers
+-- what a text by numbers keeps for the parts of its tree
+pub mod DeckParts
+-- a fault of a class, where the classes before it don't occur, is the first
+pub mod Refusals

@@ -18,3 +18,5 @@ pub mod Numbering
 pub mod Triggers
 pub mod Marked
 pub mod Groups
+-- a text by numbers in which no class of faults occurs
+pub mod Examined

@@ -22,7 +22,7 @@ fn refuse(code: CheckCode, found: Option<Place>) -> Result<(), CheckFault>
 }
 
 /// The classes of the top statements.
-pub fn check_tops(all: &[Statement], end: Place) -> Result<(), CheckFault>
+pub(crate) fn check_tops(all: &[Statement], end: Place) -> Result<(), CheckFault>
     ensures none { OnOk result (NoneIn (top_classes all.now end)) }
     ensures fault { IfErr result (FirstIn (top_classes all.now end)) }
 {
@@ -31,7 +31,7 @@ pub fn check_tops(all: &[Statement], end: Place) -> Result<(), CheckFault>
 }
 
 /// The classes of a gate's kind and inputs.
-pub fn check_kinds(units: usize, all: &[NumberedGate]) -> Result<(), CheckFault>
+pub(crate) fn check_kinds(units: usize, all: &[NumberedGate]) -> Result<(), CheckFault>
     ensures none { OnOk result (NoneIn (kind_classes units all.now)) }
     ensures fault { IfErr result (FirstIn (kind_classes units all.now)) }
 {
@@ -42,7 +42,7 @@ pub fn check_kinds(units: usize, all: &[NumberedGate]) -> Result<(), CheckFault>
 }
 
 /// The classes of what may stand after a gate's first input.
-pub fn check_later_inputs(
+pub(crate) fn check_later_inputs(
     alloc: Global,
     units: usize,
     all: &[NumberedGate],
@@ -59,7 +59,7 @@ pub fn check_later_inputs(
 }
 
 /// The classes of attributes and the top event.
-pub fn check_rest(
+pub(crate) fn check_rest(
     units: usize,
     all: &[NumberedGate],
     tops: &[Numbered],
@@ -73,7 +73,7 @@ pub fn check_rest(
 }
 
 /// The limits on units and gates.
-pub fn check_limits(all: &[NumberedGate], text: &[Statement]) -> Result<(), CheckFault>
+pub(crate) fn check_limits(all: &[NumberedGate], text: &[Statement]) -> Result<(), CheckFault>
     ensures none { OnOk result (NoneIn (limit_classes all.now text.now)) }
     ensures fault { IfErr result (FirstIn (limit_classes all.now text.now)) }
 {

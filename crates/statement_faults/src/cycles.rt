@@ -175,7 +175,7 @@ fn first_marked(index: &NameIndex<'_>, marks: &[bool], statements: &[Statement])
 }
 
 /// The class of definitions that lead to themselves. Where there is none the nodes have ranks.
-pub fn check_cycles(
+pub(crate) fn check_cycles(
     alloc: Global,
     index: &NameIndex<'_>,
     statements: &[Statement],

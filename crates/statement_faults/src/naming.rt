@@ -136,7 +136,10 @@ fn index_of<'a>(
 }
 
 /// The index of the names, each of which is defined once.
-pub fn name_all<'a>(alloc: Global, statements: &'a [Statement]) -> Result<NameIndex<'a>, CheckFault>
+pub(crate) fn name_all<'a>(
+    alloc: Global,
+    statements: &'a [Statement],
+) -> Result<NameIndex<'a>, CheckFault>
     ensures names { IfOk result (λ index. index ≡ names statements.now) }
     ensures once { OnOk result (repeats statements.now ≡ []) }
     ensures differ { OnOk result (all_differ (names statements.now) ≡ true) }

@@ -113,7 +113,7 @@ impl NumberedText {
 }
 
 /// The statements by numbers.
-pub fn number_all(
+pub(crate) fn number_all(
     alloc: Global,
     index: &NameIndex<'_>,
     statements: &[Statement],

@@ -30,7 +30,7 @@ use Rattle.statement_faults.specs.TreeOf.{AreRanks, FirstOnCycle, HasNoCycle, in
 use Rattle.statement_faults.specs.Triggers.{HasUnitDependents, IsGraphOf, dependents_by, row_at, written_gate}
 use Rattle.statement_faults.proofs.Differ.{differ-names, differ-repeats}
 use Rattle.tree_check.proofs.Faultless.{IsTree-faultless}
-use Rattle.tree_check.proofs.Refusals.{AreFirst, NoneOf-append}
+use Rattle.statement_faults.proofs.Refusals.{AreFirst, NoneOf-append}
 use Rattle.statement_faults.proofs.GoodGates.{unit_dependents}
 use Rattle.statement_faults.proofs.StatementNames.{inputs_known}
 use Rattle.statement_faults.proofs.Surveyed.{IsGraph-of, Surveyed, are_ranks, cycle_found, no_cycle}

@@ -1,3 +1,2 @@
 -- how the parts of a tree are taken out of statements
 pub mod Assembling
-pub mod Examined

@@ -1,5 +1,7 @@
 use Rattle.statement_faults.proofs.TriggerRows.{HasTriggers-begun, HasTriggers-next}
 use Rattle.statement_faults.proofs.cycles.trigger_table.Goals as goal
+use Rattle.std.proofs.Common.{arith}
+use Rattle.std.proofs.lemmas.Grind.{common_steps}
 
 pub loop-gate-preserved : goal.loop-gate-preserved
 loop-gate-preserved c =
@@ -9,3 +11,6 @@ loop-gate-preserved c =
 
 pub loop-gate-init : goal.loop-gate-init
 loop-gate-init c = HasTriggers-begun c.args.units c.in_ok-table.table.items c.in_ok-table.ensures
+
+pub returns : goal.returns
+returns c = grind (arith, common_steps)

@@ -1,6 +1,8 @@
 use Rattle.std.proofs.Common.{◌≡◌, ◌++◌, ◌∷◌, []}
 use Rattle.cutset_listing.proofs.Walks.{truncated, refused_so}
 use Rattle.cutset_listing.proofs.walk.Walk.visit.Goals as goal
+use Rattle.std.proofs.Common.{arith}
+use Rattle.std.proofs.lemmas.Grind.{common_steps}
 
 -- the path counts up to the last node
 pub returns-in-Ok-clause-on : goal.returns-in-Ok-clause-on
@@ -16,3 +18,6 @@ returns-in-Err-clause-limit c = λ refused sets on.
     c.in-Some.ensures.items in
     c.in-Err.ensures.limit (refused_so c.in-Err.end _ refused) sets
     (rw c.truncate.ensures.items (truncated _ sets _ c.pop.new.self.items c.in-Some.last _ _ (rw popped at on)))
+
+pub returns-in-None-clause-limit : goal.returns-in-None-clause-limit
+returns-in-None-clause-limit c = grind (arith, common_steps)

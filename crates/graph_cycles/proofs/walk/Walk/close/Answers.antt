@@ -23,3 +23,9 @@ returns c = record {
   ranked = λ cycles. grind (arith, common_steps);
   unranked = λ cycles. grind (arith, common_steps);
 }
+
+pub seal-requires-clause-stages : goal.seal-requires-clause-stages
+seal-requires-clause-stages c = grind (arith, common_steps)
+
+pub seal-requires-clause-marks : goal.seal-requires-clause-marks
+seal-requires-clause-marks c = grind (arith, common_steps)

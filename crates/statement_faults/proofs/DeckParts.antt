@@ -18,7 +18,7 @@ use Rattle.statement_faults.specs.SpareTable.{AreWithin}
 use Rattle.statement_faults.specs.TreeOf.{first_number}
 use Rattle.statement_faults.proofs.NonePass.{none_beyond}
 use Rattle.statement_faults.proofs.GoodGates.{IsAmong}
-use Rattle.tree_check.proofs.LowNumbers.{gates_low}
+use Rattle.statement_faults.proofs.LowNumbers.{gates_low}
 use Rattle.statement_faults.proofs.StatementNames.{tops_known}
 
 module _ (statements : List Statement) (deck : NumberedText) (is : IsDeckOf (names statements) statements deck) where

@@ -65,11 +65,6 @@ pub by_names : (read : ReadTree) (P : List (List ℕ) → List Statement → Typ
 by_names read P index earlier later is same same' h =
     subst (λ t. P (names read.statements) t) same' (subst (λ n. P n later) (is ∙ ap names same) h)
 
--- a text by numbers, each name of which is defined once
-pub record IsRead (read : ReadTree) (deck : NumberedText) : Type 0 where
-  pub text : IsDeckOf (names read.statements) read.statements deck
-  pub none : NoneOf read (take 4 before_cycles)
-
 module _ (read : ReadTree) where
   pub top_refused : (text : List Statement) → text ≡ read.statements → (end : Place) → end ≡ read.end
       → (e : CheckFault) → FirstIn (top_classes text end) e → IsRefusal read e
