@@ -1,8 +1,8 @@
 //! The faults of the statements of a text, class by class.
 //!
 //! It stands on `galileo_tree` for the statements, on `name_index` for their names, on `fault_definitions` for what a
-//! tree keeps, and on `graph_cycles` for cycles. A layer above gets the first fault, or the statements by the numbers of
-//! their names.
+//! tree keeps, and on `graph_cycles` for cycles. A layer above gets the first fault, or the statements by the numbers
+//! of their names.
 #![tactic(auto)]
 
 mod classes;

@@ -7,7 +7,8 @@ use Rattle.statement_faults.specs.Classes.{undefined}
 use Rattle.statement_faults.specs.Found.{IsFoundAs}
 use Rattle.statement_faults.specs.Checked.{NoneOf, before_cycles}
 use Rattle.fault_words.specs.Names.{all_differ}
-use Rattle.statement_faults.proofs.Refusals.{by_names, top_refused, top_done, name_refused, name_done, use_refused, use_done}
+use Rattle.statement_faults.proofs.Refusals.{by_names, top_refused, top_done, name_refused, name_done}
+use Rattle.statement_faults.proofs.Refusals.{use_refused, use_done}
 use Rattle.statement_faults.proofs.examining.examine.Goals.{In_ok-check_tops, In_ok-index}
 use Rattle.statement_faults.proofs.examining.examine.Goals as goal
 

@@ -4,7 +4,8 @@ use Rattle.statement_faults.specs.Groups.{FirstIn, limit_classes}
 use Rattle.statement_faults.specs.TreeOf.{HasNoCycle, HasRanks}
 use Rattle.statement_faults.specs.Checked.{IsRefusal, NoneOf, before_cycles}
 use Rattle.statement_faults.proofs.DeckParts.{deck_within}
-use Rattle.statement_faults.proofs.Refusals.{kind_refused, kind_done, later_refused, later_done, rest_refused, rest_done}
+use Rattle.statement_faults.proofs.Refusals.{kind_refused, kind_done, later_refused, later_done}
+use Rattle.statement_faults.proofs.Refusals.{rest_refused, rest_done}
 use Rattle.statement_faults.proofs.Refusals.{cycle_refused, limit_refused, limit_done}
 use Rattle.statement_faults.proofs.examining.examine_numbered.Goals.{In_ok-check_kinds, In_ok-check_later_inputs}
 use Rattle.statement_faults.proofs.examining.examine_numbered.Goals.{In_ok-check_rest, In_ok-check_cycles}
