@@ -1,12 +1,12 @@
 -- The least count of each block, and a place where it stands.
 use Rattle.std.proofs.Common.{◌≡◌, ◌≢◌, ℕ, suc, ◌+◌, ◌-◌, ◌*◌, ◌/◌, ◌<◌, ◌≤◌, min, true, false, List, []}
-use Rattle.std.proofs.Common.{length, take, set, get_or, All, refl, sym, ◌∙◌, ap, subst, arith, inl, inr}
+use Rattle.std.proofs.Common.{◌∷◌, ◌++◌, length, take, set, get_or, All, refl, sym, ◌∙◌, ap, subst, arith, inl, inr}
 use Rattle.std.proofs.Common.{Bool, ◌==◌, length-set, get_or-set_same, get_or-set_other}
 use Rattle.std.specs.Ordering.{nat_cmp}
 use Rattle.std.specs.declared.cmp.Ordering.TheVariants.{Less}
 use Rattle.std.proofs.lemmas.Bool.{cases_eq, cases_lt, cases_Bool}
 use Rattle.std.proofs.lemmas.Bool.Decides.{nat_tests}
-use Rattle.std.proofs.lemmas.List.{get_or_default}
+use Rattle.std.proofs.lemmas.List.{get_or_append_left, get_or_default, get_or_push, length_push}
 use Rattle.std.proofs.lemmas.Map.Keys.{Less-from_sorted}
 use Rattle.unit_sets.specs.UnitList.{among, IsRising}
 use Rattle.unit_sets.proofs.UnitListLemmas.{Contains-from_among}
@@ -358,6 +358,29 @@ pub record HasFirstLowest (counts least lowest : List ℕ) (block : ℕ) : Type 
   pub long_least : length least ≡ block
   pub long_lowest : length lowest ≡ block
   pub each : (b : ℕ) → b < block → IsLowest counts b (get_or least b 0) (get_or lowest b 0)
+
+pub first_lowest-more : (counts least lowest : List ℕ) (block value place : ℕ) → IsLowest counts block value place
+    → HasFirstLowest counts least lowest block
+    → HasFirstLowest counts (least ++ value ∷ []) (lowest ++ place ∷ []) (block + 1)
+first_lowest-more counts least lowest block value place is was =
+    let P : ℕ → Type 0 =
+    λ b. IsLowest counts b (get_or (least ++ value ∷ []) b 0) (get_or (lowest ++ place ∷ []) b 0) in
+    record {
+      long_least = omega (arith, length_push least value, was.long_least);
+      long_lowest = omega (arith, length_push lowest place, was.long_lowest);
+      each = λ b short. elim (cases_eq b block) [
+        | inl same ↦ subst P (sym same) (rw (
+          get_or_push least value 0 block was.long_least,
+          get_or_push lowest place 0 block was.long_lowest,
+        ) is)
+        | inr apart ↦
+            let shorter : b < block = omega arith in
+            rw (
+              get_or_append_left least (value ∷ []) 0 b (omega (arith, was.long_least)),
+              get_or_append_left lowest (place ∷ []) 0 b (omega (arith, was.long_lowest)),
+            ) (was.each b shorter)
+      ];
+    }
 
 -- ---- a search passes over blocks
 
