@@ -1,6 +1,6 @@
 -- What a sound seat's calls on one node give.
 use Rattle.std.proofs.Common.{◌≡◌, ◌≢◌, ℕ, ◌+◌, ◌<◌, ◌≤◌, List, [], ◌∷◌, ◌++◌, sym, ◌∙◌, ap, subst, arith, Contains}
-use Rattle.std.proofs.Common.{inl, inr}
+use Rattle.std.proofs.Common.{inl, inr, Option, Some, None, Result, Ok, Err, IfSome, IfNone}
 use Rattle.std.proofs.lemmas.List.Elements.{Contains-append_left, Contains-push}
 use Rattle.unit_sets.specs.Unit.{IsUnit}
 use Rattle.zdd_words.specs.Word.{level_of, lo_of, hi_of}
@@ -10,8 +10,10 @@ use Rattle.zdd_families.proofs.MapLemmas.{family-node, lo_known, hi_known}
 use Rattle.zdd_families.proofs.Canonical.{family-grown, level-above, first_unit-family, sets_without-family}
 use Rattle.zdd_families.proofs.Canonical.{sets_with-family, lo_units, hi_units}
 use Rattle.zdd_shared_table.specs.Known.{find}
-use Rattle.zdd_shared_table.specs.Seats.{IsSound, IsSoundView}
+use Rattle.zdd_shared_table.specs.Making.{LearnsWord, CountsRefused, NotesRefused, PassesSlots, FillsAtMostOne}
+use Rattle.zdd_shared_table.specs.Seats.{TableId, Seated, IsSound, IsSoundView, seated}
 use Rattle.zdd_shared_table.specs.Search.{HasEnded}
+use Rattle.zdd_shared_table.specs.Views.{searched_all}
 use Rattle.zdd_shared_table.specs.declared.view.View.{View}
 use Rattle.zdd_shared_table.proofs.Maps.{find-stands}
 
@@ -117,3 +119,52 @@ node_ended word slot level lo hi v w end sound sound' some level_is lo_is hi_is 
     (Contains-push v.known (slot + 2, word))) in
     node_family (find v.known) (find w.known) (slot + 2) word level lo hi sound.closed sound'.closed
     (grown_ended word slot v w end sound') at some level_is lo_is hi_is knows_lo knows_hi
+
+-- what the seat knows and counts after a search that has this answer
+pub record HasSearched {E : Type 0} (slots word : ℕ) (answer : Result ℕ E) (old new : Seated) : Type 0 where
+  pub known : LearnsWord word answer old new
+  pub fulls : CountsRefused answer old new
+  pub missed : NotesRefused word answer old new
+  pub passed : PassesSlots slots word answer new
+  pub fills : FillsAtMostOne answer old new
+  pub share : new.share ≡ old.share
+
+pub searched-found : {E : Type 0} (slots word slot : ℕ) (id id' : TableId) (v w : View) → HasEnded word slot v w
+    → HasSearched {E = E} slots word (Ok (slot + 2)) (seated id v) (seated id' w)
+searched-found slots word slot id id' v w (inl is) = record {
+  known = ap (λ u. u.known) is;
+  fulls = ap (λ u. u.fulls) is;
+  missed = ap (λ u. u.missed) is;
+  passed = tt;
+  fills = inl (ap (λ u. u.fills) is);
+  share = ap (λ u. u.share) is;
+}
+searched-found slots word slot id id' v w (inr is) = record {
+  known = ap (λ u. u.known) is;
+  fulls = ap (λ u. u.fulls) is;
+  missed = ap (λ u. u.missed) is;
+  passed = tt;
+  fills = inr (ap (λ u. u.fills) is);
+  share = ap (λ u. u.share) is;
+}
+
+pub searched-none : {E : Type 0} (slots word : ℕ) (e : E) (id id' : TableId) (v w : View) → v.size ≡ slots
+    → w ≡ searched_all word v → HasSearched {E = E} slots word (Err e) (seated id v) (seated id' w)
+searched-none slots word e id id' v w sized is = record {
+  known = ap (λ u. u.known) is;
+  fulls = ap (λ u. u.fulls) is;
+  missed = ap (λ u. u.missed) is;
+  passed = ap (λ u. u.probe) is ∙ ap (λ n. record { word = word; passed = n }) sized;
+  fills = ap (λ u. u.fills) is;
+  share = ap (λ u. u.share) is;
+}
+
+-- any search leaves the table's size and the share
+pub searched-size : (word size : ℕ) (found : Option ℕ) (v w : View)
+    → IfSome found (λ slot. (slot < size) × HasEnded word slot v w) → IfNone found (w ≡ searched_all word v)
+    → (w.size ≡ v.size) × (w.share ≡ v.share)
+searched-size word size None v w end all = (ap (λ u. u.size) all, ap (λ u. u.share) all)
+searched-size word size (Some slot) v w end all = elim end.1 [
+  | inl is ↦ (ap (λ u. u.size) is, ap (λ u. u.share) is)
+  | inr is ↦ (ap (λ u. u.size) is, ap (λ u. u.share) is)
+]
