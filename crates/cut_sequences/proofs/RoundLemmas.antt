@@ -1,9 +1,11 @@
 -- What the workers have after a round.
 use Rattle.std.proofs.Common.{◌≡◌, ℕ, zero, suc, ◌+◌, ◌-◌, ◌<◌, ◌≤◌, List, [], ◌++◌, length, get_or, take, drop, map}
-use Rattle.std.proofs.Common.{All, None, Result, Ok, Err, ap, sym, subst, Contains, replicate, ◌∙◌, arith, add-one}
+use Rattle.std.proofs.Common.{inl, inr, ◌∷◌, All, None, Result, Ok, Err, ap, sym, subst, Contains, replicate, ◌∙◌, arith, add-one}
 use Rattle.std.specs.Bool.{⊤}
 use Rattle.std.specs.List.{sum_by}
+use Rattle.std.proofs.lemmas.Bool.{cases_eq}
 use Rattle.std.proofs.lemmas.List.{take_all, take_more, drop-drop, length-map, get_or-map}
+use Rattle.std.proofs.lemmas.List.{get_or_append_left, get_or_push, length_push}
 use Rattle.std.proofs.lemmas.List.Elements.{All-from_get_or, All-get_or, All-push, All-contains, All-drop}
 use Rattle.std.proofs.lemmas.List.Sums.{sum_by_more}
 use Rattle.deck_limits.specs.declared.TheConstants.{MOST_WORKERS}
@@ -112,6 +114,18 @@ module _ (lists : Share) (stop : Stop) (works : List Work) (answers : List (Resu
         (went_at worker no_work within).1)
 
 -- ---- the first round and the last
+
+pub one_start_more : (works : List Work) (next : ℕ) → length works ≡ next
+    → ((worker : ℕ) (d : Work) → worker < length works → get_or works worker d ≡ record { share = []; next = worker })
+    → (worker : ℕ) (d : Work) → worker < length (works ++ record { share = []; next = next } ∷ [])
+    → get_or (works ++ record { share = []; next = next } ∷ []) worker d ≡ record { share = []; next = worker }
+one_start_more works next many each worker d within = elim (cases_eq worker next) [
+  | inl same ↦ get_or_push works (record { share = []; next = next }) d worker (many ∙ sym same)
+      ∙ ap (λ n. record { share = []; next = n }) (sym same)
+  | inr apart ↦
+      let below : worker < length works = omega (arith, length_push works (record { share = []; next = next })) in
+      get_or_append_left works _ d worker below ∙ each worker d below
+]
 
 pub all_start : (lists : Share) (works : List Work) → 0 < length works → length works ≤ MOST_WORKERS
     → ((worker : ℕ) (d : Work) → worker < length works → get_or works worker d ≡ record { share = []; next = worker })
