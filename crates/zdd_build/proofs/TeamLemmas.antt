@@ -1,8 +1,9 @@
 -- Workers that join their seat.
-use Rattle.std.proofs.Common.{◌≡◌, ℕ, ◌+◌, ◌<◌, ◌≤◌, true, List, [], ◌∷◌, ◌++◌, All, length, take, drop, refl, ◌∙◌}
+use Rattle.std.proofs.Common.{◌≡◌, ℕ, ◌+◌, ◌-◌, ◌<◌, ◌≤◌, true, List, [], ◌∷◌, ◌++◌, All, length, take, drop, refl, ◌∙◌}
 use Rattle.std.proofs.Common.{ap, subst, arith}
 use Rattle.std.proofs.lemmas.List.{append-nil, drop_all, take_all, get_or_append_left, get_or_push, length_push}
 use Rattle.fault_definitions.specs.Tree.{FaultTree}
+use Rattle.zdd_families.specs.Map.{Grown}
 use Rattle.zdd_shared_table.specs.Seats.{Seated, TableId, map_of}
 use Rattle.zdd_product.specs.Seats.{CountsDue, Joined, WentAll}
 use Rattle.zdd_product.proofs.Several.{WentAll-joined, WentAll-then}
@@ -70,6 +71,32 @@ split_then count a b c first second = record {
     };
   };
   share = let f = first.share in let s = second.share in omega (arith, f, s);
+}
+
+-- workers are split off, and nothing is counted by then or later
+pub split_counts : (count : ℕ) (a b c : Seated) → HasSplit count a b → CountsAsBefore b c → CountsAsBefore a c
+split_counts count a b c split later = record {
+  fulls = later.fulls ∙ split.learned.counts.fulls;
+  missed = later.missed ∙ split.learned.counts.missed;
+  fills = later.fills ∙ split.learned.counts.fills;
+}
+
+-- a share is split off, and joined again with nothing done
+pub split_back : (a b other c : Seated) → b ≡ record a { share = a.share - 2 } → 2 < a.share → other.fulls ≡ 0
+    → other.missed ≡ [] → other.fills ≡ [] → Joined b other c → c.share ≡ b.share + 2 → HasSplit 0 a c
+split_back a b other c is some fulls missed fills joined share = record {
+  learned = record {
+    store = joined.store ∙ ap (λ s. s.store) is;
+    share = refl;
+    keeps = subst (λ (s : Seated). Grown (map_of s) (map_of c)) is joined.keeps;
+    sound = joined.sound;
+    counts = record {
+      fulls = let j = joined.fulls in omega (arith, j, fulls, ap (λ s. s.fulls) is);
+      missed = joined.missed ∙ ap (λ l. b.missed ++ l) missed ∙ append-nil b.missed ∙ ap (λ s. s.missed) is;
+      fills = joined.fills ∙ ap (λ l. b.fills ++ l) fills ∙ append-nil b.fills ∙ ap (λ s. s.fills) is;
+    };
+  };
+  share = omega (arith, share, ap (λ s. s.share) is, some);
 }
 
 -- a slice of all workers, written over

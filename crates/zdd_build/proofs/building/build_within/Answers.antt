@@ -10,10 +10,10 @@ use Rattle.zdd_build.specs.declared.places.Place.{Place}
 use Rattle.zdd_build.specs.declared.worker.Worker.{Worker}
 use Rattle.zdd_build.specs.Building.{AreBuilt}
 use Rattle.zdd_build.specs.Places.{ArePlaces}
-use Rattle.zdd_build.specs.Workers.{CanWork}
+use Rattle.zdd_build.specs.Workers.{CanWork, FindsFull, HasNone}
 use Rattle.zdd_build.proofs.SeatLemmas.{WentAll-learned, one_grown, split_went}
 use Rattle.zdd_build.proofs.TableLemmas.{all_made}
-use Rattle.zdd_build.proofs.TeamLemmas.{whole_slice}
+use Rattle.zdd_build.proofs.TeamLemmas.{split_counts, whole_slice}
 use Rattle.zdd_build.proofs.building.build_within.Goals as goal
 use Rattle.zdd_build.proofs.building.build_within.Goals.{After-close-2, In_ok-ended}
 use Rattle.zdd_build.proofs.building.build_within.Given as given
@@ -110,3 +110,55 @@ returns-clause-nodes g c node is_node read = record {
 pub returns-clause-went : goal.returns-clause-went
 returns-clause-went g c =
     went g (goal.at.returns-clause-went g c).After-close-2
+
+pub returns-in-Err-clause-share : goal.returns-in-Err-clause-share
+returns-in-Err-clause-share g c =
+    let closed = c.close.ensures.share in
+    let split = c.open.ensures.split.share in
+    omega (arith, closed, split)
+
+pub returns-in-Err-clause-no_memory : goal.returns-in-Err-clause-no_memory
+returns-in-Err-clause-no_memory g c is =
+    split_counts (length c.open.new.team.items) c.args.seat.now c.open.new.seat c.close.new.seat c.open.ensures.split
+    (c.close.ensures.new c.open.ensures.new)
+
+-- the workers' shares are all back
+share_back : (g : given.Over) (c : After-close-2 g) → c.close-2.new.seat.share ≡ c.args.seat.now.share
+share_back g c =
+    let new = c.make_ranks-ended.new.team in
+    let old = c.open.new.team.items in
+    let same : length new ≡ length old =
+    c.make_ranks-ended.ensures.size ∙ ap (λ (l : List Worker). length l) c.as_mut_slice.ensures.value in
+    let whole = whole_slice new old c.open.new.team.len same (let e = c.open.new.team.ok.0 in omega (arith, e)) in
+    let closed = c.close-2.ensures.share in
+    let kept = c.make_ranks-ended.ensures.seat.share in
+    let split = c.open.ensures.split.share in
+    omega (arith, closed, kept, split, same, ap (λ (l : List Worker). length l) whole)
+
+pub returns-in_err-ended-clause-share : goal.returns-in_err-ended-clause-share
+returns-in_err-ended-clause-share g c =
+    share_back g (goal.at.returns-in_err-ended-clause-share g c).After-close-2
+
+pub returns-clause-share : goal.returns-clause-share
+returns-clause-share g c =
+    share_back g (goal.at.returns-clause-share g c).After-close-2
+
+pub returns-in_err-ended-clause-full : goal.returns-in_err-ended-clause-full
+returns-in_err-ended-clause-full g c is =
+    let new = c.make_ranks-ended.new.team in
+    let old = c.open.new.team.items in
+    let same : length new ≡ length old =
+    c.make_ranks-ended.ensures.size ∙ ap (λ (l : List Worker). length l) c.as_mut_slice.ensures.value in
+    let whole = whole_slice new old c.open.new.team.len same (let e = c.open.new.team.ok.0 in omega (arith, e)) in
+    let more = c.close-2.ensures.full (subst FindsFull (sym whole) c.in_err-ended.ensures.full) in
+    let kept = c.make_ranks-ended.ensures.seat.counts.fulls in
+    let split = c.open.ensures.split.learned.counts.fulls in
+    omega (arith, more, kept, split)
+
+pub make_ranks-ended-requires-clause-none : goal.make_ranks-ended-requires-clause-none
+make_ranks-ended-requires-clause-none g c κs within =
+    subst (All HasNone) (sym c.as_mut_slice.ensures.value) (λ k d short. (c.open.ensures.new k d short).found)
+
+pub make_ranks-ended-requires-clause-can : goal.make_ranks-ended-requires-clause-can
+make_ranks-ended-requires-clause-can g c κs within =
+    subst (All (CanWork c.args.store.now c.args.tree.now)) (sym c.as_mut_slice.ensures.value) c.open.ensures.can
