@@ -31,6 +31,13 @@ row_more before below i list row old new short is row_is old_is new_is =
     ∙ append_assoc before (map places (take i below)) (places (get_or below i list) ∷ [])
     ∙ ap (λ rows. before ++ rows) (sym (map_more places below i list short))
 
+-- numbers made of those of a list, with one more
+pub map_step : (f : ℕ → ℕ) (xs : List ℕ) (i x y : ℕ) (old new : List ℕ) → i < length xs → x ≡ get_or xs i x → y ≡ f x
+    → old ≡ map f (take i xs) → new ≡ old ++ y ∷ [] → new ≡ map f (take (i + 1) xs)
+map_step f xs i x y old new short is y_is old_is new_is =
+    new_is ∙ ap (λ ys. ys ++ y ∷ []) old_is ∙ ap (λ v. map f (take i xs) ++ v ∷ []) (y_is ∙ ap f is)
+    ∙ sym (map_more f xs i x short)
+
 -- what the places of some nodes have is the place of one of them
 places_has : (nodes : List ℕ) (place : ℕ) → All (λ node. 1 ≤ node) nodes → IsTrue (has (places nodes) place)
     → Contains nodes (suc place)
@@ -160,6 +167,10 @@ module _ (tree : FaultTree) (kept : IsTree tree) (lists : List (List ℕ)) (hold
     ranks_low limit few =
         All-from_get_or (λ rank. rank < limit) ranks 0
         (λ i l. omega (arith, rank_low graph ranks tree_is_graph rank_at i (omega (arith, ranks_all)), graph_all))
+
+    pub order_low : (limit : ℕ) → node_count tree ≤ limit → All (λ place. place < limit) order
+    order_low limit few =
+        All-weaker (λ x. x < length graph) (λ x. x < limit) (λ x l. omega (arith, graph_all)) order sorted.nodes
 
     by_rule : IsRanked (with_ranks tree ranks)
     by_rule zero node = absurd (omega (arith, node.0))

@@ -114,6 +114,25 @@ module _ (parts : TreeParts) (given : List ℕ) (kept : IsTree (ranked parts giv
   pub parts_lists : HoldsLists (ranked parts given) lists
   parts_lists = lists_held (ranked parts given) kept table.lists.items lists has_table.all has_table.triggers joined
 
+  pub inputs_kept : drop (length parts.attributes) lists ≡ parts.inputs
+  inputs_kept =
+      ap (λ l. drop (length parts.attributes) l) joined
+      ∙ ap (λ n. drop n (table.lists.items ++ parts.inputs)) (sym has_table.all)
+      ∙ drop-append_seam table.lists.items parts.inputs
+
+  abbrev with_inputs : List ℕ → List (List ℕ) → FaultTree
+  with_inputs ranks inputs = record {
+    names = parts.names;
+    kinds = parts.kinds;
+    inputs = inputs;
+    attributes = parts.attributes;
+    top = parts.top;
+    ranks = ranks;
+  }
+
+  pub made_is : (ranks : List ℕ) → with_inputs ranks (drop (length parts.attributes) lists) ≡ ranked parts ranks
+  made_is ranks = ap (with_inputs ranks) inputs_kept
+
   module _ (ranks order : List ℕ) (are_ranks : AreRanks (ranked parts given) ranks)
       (from_below : IsFromBelow (ranked parts given) order) where
     pub made_tables : HoldsTables (ranked parts ranks) lists order
@@ -135,11 +154,7 @@ module _ (parts : TreeParts) (given : List ℕ) (kept : IsTree (ranked parts giv
           ranks = ranks;
         }) lists order
     made_holds names same_names =
-        let inputs : drop (length parts.attributes) lists ≡ parts.inputs =
-        ap (λ l. drop (length parts.attributes) l) joined
-        ∙ ap (λ n. drop n (table.lists.items ++ parts.inputs)) (sym has_table.all)
-        ∙ drop-append_seam table.lists.items parts.inputs in
-        rw (same_names, inputs) made_tables
+        rw (same_names, inputs_kept) made_tables
 
 pub table_for : (parts : TreeParts) (given : List ℕ) (units : ℕ) (attributes : List (List Attribute))
     (kinds : List GateKind) (inputs : List (List ℕ)) (table : TriggerTable) → units ≡ length attributes

@@ -1,4 +1,5 @@
-use Rattle.std.proofs.Common.{ap, ◌∙◌}
+use Rattle.std.proofs.Common.{arith, ap, ◌∙◌, ◌++◌, map}
+use Rattle.std.proofs.lemmas.List.{take_all}
 use Rattle.fault_model.specs.Ranking.{places}
 use Rattle.fault_model.proofs.RankingLemmas.{row_more}
 use Rattle.fault_model.proofs.ranking.add_rows.Goals as goal
@@ -9,3 +10,9 @@ loop-list-preserved c =
     c.loop-list.graph c.push.new.self c.loop-list-test.true c.list-item.is
     (c.deref.ensures.value ∙ c.in_ok-set_places.ensures ∙ ap places c.as_slice.ensures.items)
     c.loop-list.invariant c.in_ok-push.ensures.ok
+
+pub returns : goal.returns
+returns c =
+    c.loop-list.invariant
+    ∙ ap (λ lists. c.args.graph.now ++ map places lists)
+    (take_all c.loop-list.list-index c.args.below.now (omega arith))

@@ -1,6 +1,6 @@
 use Rattle.std.proofs.Common.{◌≡◌, ◌≤◌, length, arith}
 use Rattle.fault_definitions.specs.Tree.{node_count}
-use Rattle.fault_model.proofs.RankingLemmas.{are_ranks, from_below, lists_positive, ranks_low, tree_is_graph}
+use Rattle.fault_model.proofs.RankingLemmas.{are_ranks, from_below, lists_positive, order_low, ranks_low, tree_is_graph}
 use Rattle.fault_model.proofs.ranking.Ranking.over.Goals as goal
 
 pub graph_of-requires : goal.graph_of-requires
@@ -17,6 +17,16 @@ ranks_of-requires c =
     let few : node_count c.requires.0 ≤ 2147483648 = omega (arith, c.requires.1.few_units, c.requires.1.few_gates) in
     rw c.deref.ensures.value
     (ranks_low c.requires.0 c.requires.1 c.args.below.now c.requires.2 c.in_ok-graph.graph c.in_ok-graph.ensures
+    c.in_ok-found.found.on_cycle.items c.in_ok-found.found.ranks.items c.in_ok-found.found.order.items whole
+    c.in_ok-found.ensures.exact c.in_ok-found.ensures.ranked c.in_ok-found.ensures.order 2147483648 few)
+
+pub nodes_at-requires : goal.nodes_at-requires
+nodes_at-requires c =
+    let whole : length c.in_ok-found.found.ranks.items ≡ length c.in_ok-graph.graph =
+    omega (arith, c.in_ok-found.ensures.all_ranks) in
+    let few : node_count c.requires.0 ≤ 2147483648 = omega (arith, c.requires.1.few_units, c.requires.1.few_gates) in
+    rw c.deref-2.ensures.value
+    (order_low c.requires.0 c.requires.1 c.args.below.now c.requires.2 c.in_ok-graph.graph c.in_ok-graph.ensures
     c.in_ok-found.found.on_cycle.items c.in_ok-found.found.ranks.items c.in_ok-found.found.order.items whole
     c.in_ok-found.ensures.exact c.in_ok-found.ensures.ranked c.in_ok-found.ensures.order 2147483648 few)
 
