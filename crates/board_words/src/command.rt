@@ -1,5 +1,5 @@
 //! The command that words say.
-ghost use Rattle.std.specs.Prelude.{◌≡◌};
+ghost use Rattle.std.specs.Prelude.{◌≡◌, ◌∷◌};
 ghost use Rattle.board_words.specs.Command.{command_of, cuts_of, board_of, diagram_of, make_of, if_alone};
 ghost use Rattle.board_words.specs.Command.{most_in, workers_in, show_in, show_said};
 
@@ -57,7 +57,13 @@ pub fn read(words: &[Word]) -> Option<Command>
     let [first, options @ ..] = words else {
         return None;
     };
-    let first = first.as_slice();
+    named(first.as_slice(), options)
+}
+
+// The command of this name with these options.
+fn named(first: &[u8], options: &[Word]) -> Option<Command>
+    ensures { result ≡ command_of (first.now ∷ options.now) }
+{
     if first == b"cuts".as_slice() {
         cuts(options)
     } else if first == b"board".as_slice() {
