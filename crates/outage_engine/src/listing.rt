@@ -69,19 +69,19 @@ pub(crate) fn list_tree<R: Threads + Sync>(
     ensures went { WentAll (IsDueToTree tree) seat.old seat.new }
     ensures share { seat.new.share ≡ seat.old.share }
 {
-    let Listed {
-        cuts,
-        orders,
-        texts,
-        root,
-    } = list_cuts(rt, alloc, most, workers, &tree, store, seat)?;
-    Ok(Listing {
-        tree,
-        cuts,
-        orders,
-        texts,
-        root,
-    })
+    match list_cuts(rt, alloc, most, workers, &tree, store, seat) {
+        Ok(listed) => Ok(Listing {
+            tree,
+            cuts: listed.cuts,
+            orders: listed.orders,
+            texts: listed.texts,
+            root: listed.root,
+        }),
+        Err(end) => {
+            drop(tree);
+            Err(end)
+        }
+    }
 }
 
 // What a listing has beside its tree.

@@ -60,8 +60,13 @@ pub(crate) fn size_tree<R: Threads + Sync>(
     ensures went { WentAll (IsDueToTree tree) seat.old seat.new }
     ensures share { seat.new.share ≡ seat.old.share }
 {
-    let CutSizes { cuts, nodes } = find_sizes(rt, alloc, workers, &tree, store, seat)?;
-    Ok(Sizes { tree, cuts, nodes })
+    match find_sizes(rt, alloc, workers, &tree, store, seat) {
+        Ok(CutSizes { cuts, nodes }) => Ok(Sizes { tree, cuts, nodes }),
+        Err(end) => {
+            drop(tree);
+            Err(end)
+        }
+    }
 }
 
 // A cut list, and how many nodes its family has where the diagrams of the tree gave it.
