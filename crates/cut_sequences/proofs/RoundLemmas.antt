@@ -1,6 +1,7 @@
 -- What the workers have after a round.
 use Rattle.std.proofs.Common.{◌≡◌, ℕ, zero, suc, ◌+◌, ◌-◌, ◌<◌, ◌≤◌, List, [], ◌++◌, length, get_or, take, drop, map}
-use Rattle.std.proofs.Common.{inl, inr, ◌∷◌, All, None, Result, Ok, Err, ap, sym, subst, Contains, replicate, ◌∙◌, arith, add-one}
+use Rattle.std.proofs.Common.{inl, inr, ◌∷◌}
+use Rattle.std.proofs.Common.{All, None, Result, Ok, Err, ap, sym, subst, Contains, replicate, ◌∙◌, arith, add-one}
 use Rattle.std.specs.Bool.{⊤}
 use Rattle.std.specs.List.{sum_by}
 use Rattle.std.proofs.lemmas.Bool.{cases_eq}
