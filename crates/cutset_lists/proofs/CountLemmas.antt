@@ -8,7 +8,7 @@ use Rattle.std.proofs.lemmas.List.{take_more, take_all, get_or-set_other, get_or
 use Rattle.std.proofs.lemmas.List.{get_or_default}
 use Rattle.std.proofs.lemmas.List.Elements.{All-nil, All-cons, All-get_or, All-replicate, All-set}
 use Rattle.fault_definitions.specs.Reading.{true_count}
-use Rattle.cutset_lists.specs.Sets.{IsSetOf, AreSetsOf, AddsBoth, AddsSetsOf}
+use Rattle.cutset_lists.specs.Sets.{IsSetOf, AreSetsOf, AddsBoth, AddsSetsOf, IsReducedFrom}
 use Rattle.cutset_lists.specs.Generation.{list_at, HasList, reading_of, Follows, at_least_rule}
 use Rattle.cutset_lists.specs.Counts.{count_at, counts_of_none, IsCounting, CountsMore, CountsList}
 use Rattle.cutset_lists.proofs.GateLemmas.{empty_set_of, has_list, node_read, list_read}
@@ -175,10 +175,12 @@ set_twice (x ∷ xs) zero a b = refl
 set_twice (x ∷ xs) (suc i) a b = ap (λ ys. x ∷ ys) (set_twice xs i a b)
 
 pub CountsMore-from : (list : List (List ℕ)) (old : List (List (List ℕ))) (at : ℕ)
-    (empty read taken below grown : List (List ℕ)) → 1 ≤ at → at < length old → taken ≡ read
-    → read ≡ get_or old at read → below ≡ get_or (set old at empty) (at - 1) below → AddsBoth below list taken grown
-    → AddsSetsOf below list taken grown → CountsMore list at old (set (set old at empty) at grown)
-CountsMore-from list old at empty read taken below grown some short taken_read read_is below_is adds adds_sets =
+    (empty read taken below summed grown : List (List ℕ)) → 1 ≤ at → at < length old → taken ≡ read
+    → read ≡ get_or old at read → below ≡ get_or (set old at empty) (at - 1) below → AddsBoth below list taken summed
+    → AddsSetsOf below list taken summed → IsReducedFrom summed grown
+    → CountsMore list at old (set (set old at empty) at grown)
+CountsMore-from list old at empty read taken below summed grown some short taken_read read_is below_is adds adds_sets
+    less =
     let taken_is : taken ≡ count_at old at = taken_read ∙ read_is ∙ get_or_default old at read [] short in
     let below_at : below ≡ count_at old (at - 1) =
     below_is
@@ -188,15 +190,15 @@ CountsMore-from list old at empty read taken below grown some short taken_read r
       grown = grown;
       is = set_twice old at empty grown;
       reached = λ within.
-          adds.some_within within
+          less.some_within within ∙ adds.some_within within
           ∙ ap (λ s. some_within s within || (some_within below within && some_within list within)) taken_is
           ∙ ap (λ s. some_within (count_at old at) within
           || (some_within s within && some_within list within)) below_at;
       sets = λ passes of each.
-          adds_sets.sets passes
+          less.sets passes (adds_sets.sets passes
           (subst (AreSetsOf passes) (sym below_at) (All-get_or (AreSetsOf passes) old (at - 1) [] (omega arith) each))
           of
-          (subst (AreSetsOf passes) (sym taken_is) (All-get_or (AreSetsOf passes) old at [] short each));
+          (subst (AreSetsOf passes) (sym taken_is) (All-get_or (AreSetsOf passes) old at [] short each)));
     }
 
 pub CountsList-step : (list : List (List ℕ)) (old now new : List (List (List ℕ))) (above at : ℕ) → 1 ≤ at

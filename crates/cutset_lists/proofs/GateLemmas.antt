@@ -71,18 +71,19 @@ module _ (lists : List (List (List ℕ))) (nodes : List ℕ) (i node : ℕ) (sho
         (All-append (IsSetOf passes) sets (list_at lists node) (adds.sets passes each before) (sets_at passes each));
   }
 
-  pub each-more : (sets new list : List (List ℕ)) → list ≡ list_at lists node → WithinBoth sets list new
-      → AreSetsAs sets list new → Follows lists (each_rule (take i nodes)) sets
+  pub each-more : (sets both new list : List (List ℕ)) → list ≡ list_at lists node → WithinBoth sets list both
+      → AreSetsAs sets list both → IsReducedFrom both new → Follows lists (each_rule (take i nodes)) sets
       → Follows lists (each_rule (take (i + 1) nodes)) new
-  each-more sets new list at hits_both as_both follows = record {
+  each-more sets both new list at hits_both as_both less follows = record {
     some_within = λ within.
-        hits_both.some_within within
+        less.some_within within
+        ∙ hits_both.some_within within
         ∙ ap (λ l. some_within sets within && some_within l within) at
         ∙ ap (λ b. b && reading_of lists within node) (follows.some_within within)
         ∙ sym (all-more (reading_of lists within) nodes i node short is);
     sets =
-        λ passes each. as_both.sets passes (follows.sets passes each)
-        (subst (AreSetsOf passes) (sym at) (sets_at passes each));
+        λ passes each. less.sets passes (as_both.sets passes (follows.sets passes each)
+        (subst (AreSetsOf passes) (sym at) (sets_at passes each)));
   }
 
 pub AddsSome-reduced : (lists : List (List (List ℕ))) (nodes : List ℕ) (old sets new : List (List ℕ)) (i : ℕ)
@@ -168,8 +169,9 @@ module _ (lists : List (List (List ℕ))) (nodes : List ℕ) (i node place : ℕ
       AddsSome-more lists nodes i node short (node_read nodes i node short is) has old sets new list
       (list_read lists list node place has place_is read) new_is adds
 
-  pub each-step : (sets new : List (List ℕ)) → WithinBoth sets list new → AreSetsAs sets list new
-      → Follows lists (each_rule (take i nodes)) sets → Follows lists (each_rule (take (i + 1) nodes)) new
-  each-step sets new hits_both as_both follows =
-      each-more lists nodes i node short (node_read nodes i node short is) has sets new list
-      (list_read lists list node place has place_is read) hits_both as_both follows
+  pub each-step : (sets both new : List (List ℕ)) → WithinBoth sets list both → AreSetsAs sets list both
+      → IsReducedFrom both new → Follows lists (each_rule (take i nodes)) sets
+      → Follows lists (each_rule (take (i + 1) nodes)) new
+  each-step sets both new hits_both as_both less follows =
+      each-more lists nodes i node short (node_read nodes i node short is) has sets both new list
+      (list_read lists list node place has place_is read) hits_both as_both less follows

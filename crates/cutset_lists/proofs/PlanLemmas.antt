@@ -1,13 +1,13 @@
 -- Until when lists are needed, and that those that are needed are there.
 use Rattle.std.specs.Prelude.{◌≡◌, ◌⊎◌, ℕ, ◌+◌, ◌-◌, ◌<◌, ◌≤◌, Bool, List, [], length, take, All, Contains}
-use Rattle.std.specs.Prelude.{get_or, replicate}
+use Rattle.std.specs.Prelude.{get_or}
 use Rattle.std.proofs.Common.{refl, sym, ◌∙◌, ap, subst, inl, inr, arith, set}
 use Rattle.std.proofs.lemmas.Bool.{cases_lt, cases_eq}
-use Rattle.std.proofs.lemmas.List.{take_more, take_all, get_or-set_other, get_or-set_same, length-set, length-replicate}
+use Rattle.std.proofs.lemmas.List.{take_more, take_all, get_or-set_other, get_or-set_same, length-set}
 use Rattle.std.proofs.lemmas.List.{get_or_default}
 use Rattle.std.proofs.lemmas.List.Elements.{All-nil, All-get_or, All-more, All-weaker, All-contains}
-use Rattle.std.proofs.lemmas.List.Elements.{All-set, All-replicate, All-take, Contains-push_cases}
-use Rattle.fault_definitions.specs.Tree.{FaultTree, IsNodeOf, node_count}
+use Rattle.std.proofs.lemmas.List.Elements.{All-set, All-take, Contains-push_cases}
+use Rattle.fault_definitions.specs.Tree.{FaultTree, IsNodeOf}
 use Rattle.fault_definitions.specs.Trigger.{below}
 use Rattle.fault_definitions.specs.WellFormed.{IsTree}
 use Rattle.fault_model.specs.TreeTables.{IsFromBelow}
@@ -193,16 +193,6 @@ module _ (tree : FaultTree) (kept : IsTree tree) (order until : List ℕ) (from_
                   | inr same ↦ absurd (other (sym same))
                 ]
           ]
-
-pub IsBuiltTo-none : (tree : FaultTree) (order until : List ℕ) (nodes : ℕ) (lists : List (List (List ℕ)))
-    → lists ≡ replicate nodes [] → nodes ≡ node_count tree → IsBuiltTo tree order until 0 lists
-IsBuiltTo-none tree order until nodes lists none all = record {
-  all = ap length none ∙ length-replicate nodes [] ∙ all;
-  built = λ n here needed within. let low = here.1 in absurd (omega arith);
-  sets =
-      subst (All (AreSetsOf (is_unit_of tree))) (sym none)
-      (All-replicate (AreSetsOf (is_unit_of tree)) nodes [] (All-nil (IsSetOf (is_unit_of tree))));
-}
 
 pub Generates-top : (tree : FaultTree) (order until : List ℕ) (place : ℕ) (lists : List (List (List ℕ)))
     (made : List (List ℕ)) → IsFromBelow tree order → IsPlan tree order until → IsNodeOf tree tree.top

@@ -7,7 +7,7 @@ use Rattle.std.proofs.lemmas.List.{take_more}
 use Rattle.std.proofs.lemmas.List.Folds.{list_any-append}
 use Rattle.std.proofs.lemmas.List.Elements.{All-push, All-get_or, All-nil}
 use Rattle.cutset_lists.specs.Sets.{IsSetOf, AreSetsOf, IsUnion, AddsWithin, AddsSets, AddsBoth, AddsSetsOf}
-use Rattle.cutset_lists.specs.Sets.{WithinBoth, AreSetsAs, IsReducedFrom}
+use Rattle.cutset_lists.specs.Sets.{WithinBoth, AreSetsAs}
 use Rattle.unit_sets.specs.UnitList.{some_within}
 
 pub or-false : (a : Bool) → (a || false) ≡ a
@@ -114,28 +114,6 @@ AreSetsAs-alone left right old new none adds =
       sets = λ passes l r. adds.sets passes l r
           (subst (AreSetsOf passes) (sym none) (All-nil (IsSetOf passes)));
     }
-
-pub AddsBoth-reduced : (left right old summed new : List (List ℕ)) → IsReducedFrom summed new
-    → AddsBoth left right old summed → AddsBoth left right old new
-AddsBoth-reduced left right old summed new less adds =
-    record { some_within = λ within. less.some_within within ∙ adds.some_within within }
-
-pub AddsSetsOf-reduced : (left right old summed new : List (List ℕ)) → IsReducedFrom summed new
-    → AddsSetsOf left right old summed → AddsSetsOf left right old new
-AddsSetsOf-reduced left right old summed new less adds =
-    record { sets = λ passes l r before. less.sets passes (adds.sets passes l r before) }
-
--- ---- no steps
-
-and_false : (a b : Bool) → b ≡ (b || (a && false))
-and_false true true = refl
-and_false true false = refl
-and_false false true = refl
-and_false false false = refl
-
-pub AddsWithin-none : (set : List ℕ) (list old : List (List ℕ)) → AddsWithin set (take 0 list) old old
-AddsWithin-none set list old =
-    record { some_within = λ within. and_false (list_all within set) (some_within old within) }
 
 -- ---- the steps, of values as the code has them
 

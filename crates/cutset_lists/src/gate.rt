@@ -1,7 +1,7 @@
 //! The list of a node, from those of the nodes that it reads.
 ghost use Rattle.std.specs.Prelude.{◌≡◌, ◌∷◌, [], length, take, All, IfOk};
 ghost use Rattle.fault_definitions.specs.Tree.{IsNodeOf, node_count};
-ghost use Rattle.cutset_lists.specs.Sets.{WithinBoth, AreSetsAs, IsReducedFrom};
+ghost use Rattle.cutset_lists.specs.Sets.{IsReducedFrom};
 ghost use Rattle.cutset_lists.specs.Generation.{HasList, AddsSome, Follows, each_rule, gate_rule, IsNodeList};
 
 use crate::minimal::minimal;
@@ -50,20 +50,6 @@ fn some_of<'h>(
     reduced(room, sets, apart)
 }
 
-// The unions of a set of each of two lists. It may be known that they are apart.
-fn both_of<'h>(
-    room: Room<'h>,
-    left: &Sets<'h>,
-    right: &Sets<'h>,
-    known_apart: bool,
-) -> Result<Sets<'h>, NoMemory>
-    ensures within { IfOk result (WithinBoth left.now right.now) }
-    ensures sets { IfOk result (AreSetsAs left.now right.now) }
-{
-    let apart = known_apart || are_two_apart(room.alloc, left, right)?;
-    product(room, left, right, apart)
-}
-
 // The unions of a set of each node's list, one list after another.
 fn each_in_turn<'h>(
     room: Room<'h>,
@@ -73,10 +59,13 @@ fn each_in_turn<'h>(
     requires { All (HasList lists.now) nodes.now }
     ensures { IfOk result (Follows lists.now (each_rule nodes.now)) }
 {
-    let apart = are_apart(room.alloc, lists, nodes)?;
+    let all_apart = are_apart(room.alloc, lists, nodes)?;
     let mut sets = empty_set(room)?;
     for node in nodes {
-        sets = both_of(room, &sets, &lists[node.index()], apart)?;
+        let list = &lists[node.index()];
+        let apart = all_apart || are_two_apart(room.alloc, &sets, list)?;
+        let both = product(room, &sets, list, apart)?;
+        sets = reduced(room, both, apart)?;
     }
     Ok(sets)
 }

@@ -8,7 +8,6 @@ ghost use Rattle.cutset_lists.specs.Sets.{AddsBoth, AddsSetsOf, WithinBoth, AreS
 ghost use Rattle.cutset_lists.specs.Waiting.{AreFilled};
 
 use crate::combine::add_all_unions;
-use crate::gate::reduced;
 use crate::split::{Parts, are_filled, split};
 use crate::{NoMemory, Room, Sets};
 
@@ -60,8 +59,8 @@ pub fn add_split<'h>(
     added
 }
 
-// Adds the product of two lists. Where they are apart no set of one includes one of the other.
-fn add_product<'h>(
+/// Adds the product of two lists. Where they are apart no set of one includes one of the other.
+pub fn add_product<'h>(
     room: Room<'h>,
     sets: &mut Sets<'h>,
     left: &Sets,
@@ -78,23 +77,7 @@ fn add_product<'h>(
     }
 }
 
-/// The sets and the product of two lists, without those that have another within them.
-pub fn with_product<'h>(
-    room: Room<'h>,
-    sets: Sets<'h>,
-    left: &Sets,
-    right: &Sets,
-    apart: bool,
-) -> Result<Sets<'h>, NoMemory>
-    ensures within { IfOk result (AddsBoth left.now right.now sets.entry) }
-    ensures sets { IfOk result (AddsSetsOf left.now right.now sets.entry) }
-{
-    let mut sets = sets;
-    add_product(room, &mut sets, left, right, apart)?;
-    reduced(room, sets, apart)
-}
-
-/// The product of two lists, without the sets that have another within them.
+/// The product of two lists.
 pub fn product<'h>(
     room: Room<'h>,
     left: &Sets,
@@ -104,5 +87,7 @@ pub fn product<'h>(
     ensures within { IfOk result (WithinBoth left.now right.now) }
     ensures sets { IfOk result (AreSetsAs left.now right.now) }
 {
-    with_product(room, room.no_sets(), left, right, apart)
+    let mut sets = room.no_sets();
+    add_product(room, &mut sets, left, right, apart)?;
+    Ok(sets)
 }

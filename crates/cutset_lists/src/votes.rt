@@ -3,10 +3,10 @@ ghost use Rattle.std.specs.Prelude.{◌≡◌, ◌≤◌, ◌<◌, length, All, 
 ghost use Rattle.cutset_lists.specs.Generation.{HasList, Follows, at_least_rule};
 ghost use Rattle.cutset_lists.specs.Counts.{counts_of_none, CountsMore, CountsList};
 
-use crate::gate::empty_set;
+use crate::gate::{empty_set, reduced};
 use crate::order::shortest_first;
 use crate::overlap::are_apart;
-use crate::product::with_product;
+use crate::product::add_product;
 use crate::{NoMemory, Room, Sets};
 use fault_model::NodeNo;
 use std::mem;
@@ -35,8 +35,9 @@ fn count_more<'h>(
     requires within { at < length counts.old.items }
     ensures { OnOk result (CountsMore list.now at counts.old.items counts.new.items) }
 {
-    let sets = mem::replace(&mut counts[at], room.no_sets());
-    counts[at] = with_product(room, sets, &counts[at - 1], list, apart)?;
+    let mut sets = mem::replace(&mut counts[at], room.no_sets());
+    add_product(room, &mut sets, &counts[at - 1], list, apart)?;
+    counts[at] = reduced(room, sets, apart)?;
     Ok(())
 }
 

@@ -1,15 +1,10 @@
-use Rattle.std.proofs.Common.{rules, arith, ap, subst, sym, ◌∙◌, ◌≡◌, ◌+◌, ℕ, List, set, get_or}
+use Rattle.std.proofs.Common.{arith, ap, subst, sym, ◌∙◌, ◌≡◌, ◌+◌, ℕ, List, set, get_or}
 use Rattle.fault_definitions.specs.Tree.{IsNodeOf}
 use Rattle.cutset_lists.specs.Plan.{IsBuiltTo, until_of}
 use Rattle.cutset_lists.proofs.GateLemmas.{node_read, list_read}
-use Rattle.cutset_lists.proofs.PlanLemmas.{IsBuiltTo-none, IsBuiltTo-step, IsBuiltTo-skips, Generates-top, end_read}
+use Rattle.cutset_lists.proofs.PlanLemmas.{IsBuiltTo-step, IsBuiltTo-skips, Generates-top, end_read}
 use Rattle.cutset_lists.proofs.bottom_up.top_list.Goals as goal
 use Rattle.cutset_lists.proofs.bottom_up.top_list.Goals.{then-index-place+in_ok-list, else-index-place}
-
-pub loop-place-init : goal.loop-place-init
-loop-place-init c =
-    IsBuiltTo-none c.args.tree.now c.bottom_up-order.result.now c.in_ok-until.until.items _ c.in_ok-lists.lists.items
-    c.in_ok-lists.ensures (search rules)
 
 pub loop-place-preserved : goal.loop-place-preserved
 loop-place-preserved c =

@@ -1,14 +1,7 @@
-use Rattle.std.proofs.Common.{arith, subst, ◌≡◌, ◌∙◌, ap, ◌∷◌, [], ◌++◌}
-use Rattle.std.proofs.lemmas.List.{take_all}
-use Rattle.cutset_lists.specs.Sets.{IsUnion, AddsWithin}
-use Rattle.cutset_lists.proofs.SetLemmas.{AddsWithin-none, AddsWithin-step, AddsSets-step}
+use Rattle.std.proofs.Common.{arith, ◌≡◌, ◌∙◌, ap, ◌∷◌, [], ◌++◌}
+use Rattle.cutset_lists.specs.Sets.{IsUnion}
+use Rattle.cutset_lists.proofs.SetLemmas.{AddsWithin-step, AddsSets-step}
 use Rattle.cutset_lists.proofs.combine.add_unions.Goals as goal
-
-pub loop-i-init : goal.loop-i-init
-loop-i-init c = record {
-  some_within = AddsWithin-none c.args.set.now c.args.list.now c.args.sets.now;
-  sets = record { sets = λ passes of each before. before };
-}
 
 pub loop-i-preserved : goal.loop-i-preserved
 loop-i-preserved c =
@@ -23,8 +16,3 @@ loop-i-preserved c =
           AddsSets-step c.args.set.now c.row.result.now c.merge.new.union.items c.args.list.now c.args.sets.now
           c.loop-i.sets c.push.new.self c.loop-i.i (omega arith) c.row.ensures new_is is c.loop-i.invariant.sets;
     }
-
-pub returns-clause-within : goal.returns-clause-within
-returns-clause-within c =
-    subst (λ l. AddsWithin c.args.set.now l c.args.sets.now c.loop-i.sets)
-    (take_all c.loop-i.i c.args.list.now (omega arith)) c.loop-i.invariant.some_within

@@ -1,5 +1,4 @@
-use Rattle.std.proofs.Common.{arith, ◌∙◌}
-use Rattle.std.proofs.lemmas.List.{take_all}
+use Rattle.std.proofs.Common.{arith}
 use Rattle.cutset_lists.proofs.CutLemmas.{next_in_order}
 use Rattle.cutset_lists.proofs.cut_list.cut_list.Goals as goal
 
@@ -7,7 +6,3 @@ pub push-requires-clause-after_last : goal.push-requires-clause-after_last
 push-requires-clause-after_last c =
     next_in_order c.args.sets.now c.loop-i.cuts c.loop-i.i c.row.result.now c.requires.ordered (omega arith)
     c.row.ensures c.loop-i.invariant.pushed
-
-pub returns-clause-cuts : goal.returns-clause-cuts
-returns-clause-cuts c =
-    c.loop-i.invariant.pushed ∙ take_all c.loop-i.i c.args.sets.now (omega arith)

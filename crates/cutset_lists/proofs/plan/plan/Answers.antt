@@ -1,5 +1,4 @@
-use Rattle.std.proofs.Common.{arith, subst}
-use Rattle.cutset_lists.specs.Plan.{IsPlanFrom}
+use Rattle.std.proofs.Common.{arith}
 use Rattle.cutset_lists.proofs.GateLemmas.{node_read}
 use Rattle.cutset_lists.proofs.PlanLemmas.{plan_keeps}
 use Rattle.cutset_lists.proofs.plan.plan.Goals as goal
@@ -14,8 +13,3 @@ loop-place-preserved-then-index-place c = record {
       c.loop-place.invariant.plan
       c.below.result.now c.keep_until.new.until.items _ c.below.ensures.below (omega arith) c.keep_until.ensures;
 }
-
-pub returns : goal.returns
-returns c =
-    subst (λ k. IsPlanFrom c.args.tree.now c.args.order.now c.loop-place.until.items k) (omega arith)
-    c.loop-place.invariant.plan
