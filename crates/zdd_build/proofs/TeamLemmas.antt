@@ -82,22 +82,30 @@ split_counts count a b c split later = record {
 }
 
 -- a share is split off, and joined again with nothing done
-pub split_back : (a b other c : Seated) → b ≡ record a { share = a.share - 2 } → 2 < a.share → other.fulls ≡ 0
-    → other.missed ≡ [] → other.fills ≡ [] → Joined b other c → c.share ≡ b.share + 2 → HasSplit 0 a c
-split_back a b other c is some fulls missed fills joined share = record {
-  learned = record {
-    store = joined.store ∙ ap (λ s. s.store) is;
-    share = refl;
-    keeps = subst (λ (s : Seated). Grown (map_of s) (map_of c)) is joined.keeps;
-    sound = joined.sound;
-    counts = record {
-      fulls = let j = joined.fulls in omega (arith, j, fulls, ap (λ s. s.fulls) is);
-      missed = joined.missed ∙ ap (λ l. b.missed ++ l) missed ∙ append-nil b.missed ∙ ap (λ s. s.missed) is;
-      fills = joined.fills ∙ ap (λ l. b.fills ++ l) fills ∙ append-nil b.fills ∙ ap (λ s. s.fills) is;
-    };
-  };
-  share = omega (arith, share, ap (λ s. s.share) is, some);
-}
+pub split_back : (a b part other c : Seated) → b ≡ record a { share = a.share - 2 } → 2 < a.share
+    → (part.fulls ≡ 0) × (part.missed ≡ []) → part.fills ≡ [] → part.share ≡ 2 → other ≡ part → Joined b other c
+    → c.share ≡ b.share + other.share → HasSplit 0 a c
+split_back a b part other c is some fulls fills two same joined share =
+    let none : other.fulls ≡ 0 = ap (λ s. s.fulls) same ∙ fulls.0 in
+    let back : c.share ≡ b.share + 2 = share ∙ ap (λ s. b.share + s.share) same ∙ ap (λ n. b.share + n) two in
+    record {
+      learned = record {
+        store = joined.store ∙ ap (λ s. s.store) is;
+        share = refl;
+        keeps = subst (λ (s : Seated). Grown (map_of s) (map_of c)) is joined.keeps;
+        sound = joined.sound;
+        counts = record {
+          fulls = let j = joined.fulls in omega (arith, j, none, ap (λ s. s.fulls) is);
+          missed =
+              joined.missed ∙ ap (λ l. b.missed ++ l) (ap (λ s. s.missed) same ∙ fulls.1) ∙ append-nil b.missed
+              ∙ ap (λ s. s.missed) is;
+          fills =
+              joined.fills ∙ ap (λ l. b.fills ++ l) (ap (λ s. s.fills) same ∙ fills) ∙ append-nil b.fills
+              ∙ ap (λ s. s.fills) is;
+        };
+      };
+      share = omega (arith, back, ap (λ s. s.share) is, some);
+    }
 
 -- a slice of all workers, written over
 pub whole_slice : (new old : List Worker) (count : ℕ) → length new ≡ length old → count ≡ length old

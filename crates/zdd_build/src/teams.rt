@@ -50,25 +50,35 @@ fn open_one<'s>(
     ensures can { IfOk result (CanWork store.now tree.now) }
     ensures new { IfOk result IsNew }
 {
-    seat.is_sound();
-    let Tools {
-        memory,
-        copies,
-        rooms,
-        found,
-    } = Tools::new(alloc, tree, places, own_nodes)?;
-    match Ops::new(alloc, store, store.split(seat, SHARE)) {
-        Ok(ops) => Ok(Worker {
-            ops,
-            memory,
-            copies,
-            rooms,
-            found,
-            work: 0,
-            full: false,
-        }),
+    let ops = match Ops::new(alloc, store, store.split(seat, SHARE)) {
+        Ok(ops) => ops,
         Err(refused) => {
             let OpsRefused { seat: back, cause } = refused;
+            store.join(seat, back);
+            return Err(cause);
+        }
+    };
+    // The tools come last, so that no failure has to let them go.
+    match Tools::new(alloc, tree, places, own_nodes) {
+        Ok(tools) => {
+            let Tools {
+                memory,
+                copies,
+                rooms,
+                found,
+            } = tools;
+            Ok(Worker {
+                ops,
+                memory,
+                copies,
+                rooms,
+                found,
+                work: 0,
+                full: false,
+            })
+        }
+        Err(cause) => {
+            let back = ops.into_seat();
             store.join(seat, back);
             Err(cause)
         }

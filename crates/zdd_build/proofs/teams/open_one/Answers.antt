@@ -1,15 +1,13 @@
-use Rattle.std.proofs.Common.{◌∙◌, ◌+◌, ap}
+use Rattle.std.proofs.Common.{◌∙◌}
 use Rattle.zdd_build.proofs.TeamLemmas.{split_back}
 use Rattle.zdd_build.proofs.teams.open_one.Goals as goal
 
 pub returns-in-Err-clause-refused : goal.returns-in-Err-clause-refused
 returns-in-Err-clause-refused c =
-    let back = c.in-Err.ensures.seat in
     let split = c.split.ensures in
     let is = c.join.ensures in
-    split_back c.args.seat.now c.split.new.seat c.in-Err.refused.seat c.join.new.seat split.seat c.requires.share
-    (ap (λ s. s.fulls) back ∙ split.fulls.0) (ap (λ s. s.missed) back ∙ split.fulls.1)
-    (ap (λ s. s.fills) back ∙ split.fills)
+    split_back c.args.seat.now c.split.new.seat c.split.result c.in-Err.refused.seat c.join.new.seat split.seat
+    c.requires.share split.fulls split.fills split.share c.in-Err.ensures.seat
     record {
       store = is.store;
       keeps = is.keeps;
@@ -19,4 +17,21 @@ returns-in-Err-clause-refused c =
       missed = is.missed;
       fulls = is.fulls;
     }
-    (is.share ∙ ap (λ n. c.split.new.seat.share + n) (ap (λ s. s.share) back ∙ split.share))
+    is.share
+
+pub returns-in-Err-new-clause-refused : goal.returns-in-Err-new-clause-refused
+returns-in-Err-new-clause-refused c =
+    let split = c.split.ensures in
+    let is = c.join-in-Err-new.ensures in
+    split_back c.args.seat.now c.split.new.seat c.split.result c.into_seat-back.result c.join-in-Err-new.new.seat split.seat
+    c.requires.share split.fulls split.fills split.share (c.into_seat-back.ensures ∙ c.in-Ok.ensures.seat)
+    record {
+      store = is.store;
+      keeps = is.keeps;
+      gains = is.gains;
+      sound = is.sound;
+      fills = is.fills;
+      missed = is.missed;
+      fulls = is.fulls;
+    }
+    is.share

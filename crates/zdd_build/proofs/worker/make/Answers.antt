@@ -1,6 +1,7 @@
 use Rattle.std.proofs.Common.{◌∙◌, true, subst, sym}
 use Rattle.fault_definitions.specs.CutFamily.{IsCutFamily}
 use Rattle.tree_families.specs.Due.{IsDueToTree}
+use Rattle.zdd_families.specs.Map.{Grown}
 use Rattle.zdd_shared_table.specs.Seats.{Seated, map_of}
 use Rattle.zdd_product.specs.Seats.{Gave, WasFull}
 use Rattle.family_copies.specs.Copies.{AreCopies}
@@ -29,3 +30,8 @@ pub shared_family-requires-clause-copies : goal.shared_family-requires-clause-co
 shared_family-requires-clause-copies c =
     subst (λ (s : Seated). AreCopies c.keep_few.new.worker.memory (map_of s) c.keep_few.new.worker.copies)
     (sym c.keep_few.ensures.ops) (c.keep_few.ensures.copies (map_of c.args.worker.now.ops) c.requires.can.copies)
+
+pub returns-in-Err-clause-keeps : goal.returns-in-Err-clause-keeps
+returns-in-Err-clause-keeps c =
+    subst (λ (s : Seated). Grown (map_of s) (map_of c.shared_family.new.worker.ops)) c.keep_few.ensures.ops
+    c.in-Err.ensures.full.went.keeps

@@ -1,6 +1,7 @@
 use Rattle.std.proofs.Common.{ℕ, Ok, Err, ◌∙◌, true, subst, sym}
 use Rattle.fault_definitions.specs.CutFamily.{IsCutFamily}
 use Rattle.tree_families.specs.Due.{IsDueToTree}
+use Rattle.zdd_families.specs.Map.{Grown}
 use Rattle.family_memory.specs.Memory.{family_in}
 use Rattle.zdd_shared_table.specs.Seats.{Seated, map_of}
 use Rattle.zdd_product.specs.Seats.{Gave, WasFull}
@@ -37,3 +38,8 @@ returns-in-Err-clause-can c =
     (c.in-Ok.ensures.ops ∙ c.keep_few.ensures.ops)
     (copied_full tree c.units.ensures.kept node c.requires.node (family_in c.own_or_anew.new.worker.memory c.in-Ok.own)
     c.in-Ok.ensures.family c.own_or_anew.new.worker.ops c.export.new.ops {E = ℕ} (Err 0) c.in-Err.ensures.full))
+
+pub returns-in-Err-clause-keeps : goal.returns-in-Err-clause-keeps
+returns-in-Err-clause-keeps c =
+    subst (λ (s : Seated). Grown (map_of s) (map_of c.export.new.ops)) (c.in-Ok.ensures.ops ∙ c.keep_few.ensures.ops)
+    c.in-Err.ensures.full.went.keeps
