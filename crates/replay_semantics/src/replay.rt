@@ -122,10 +122,11 @@ impl<'t> Replay<'t> {
         let nodes = units + tree.gates() as usize;
         Ok(Replay {
             tree,
-            readers: readers_of(alloc, tree)?,
-            failures: Failures::new(alloc, nodes)?,
             order: Vec::with_capacity(alloc, units)?,
             starts: Vec::with_capacity(alloc, units)?,
+            failures: Failures::new(alloc, nodes)?,
+            // The largest comes last, so that no failure has to let it go.
+            readers: readers_of(alloc, tree)?,
             admitted: 0,
         })
     }
