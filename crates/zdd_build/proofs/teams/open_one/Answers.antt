@@ -23,8 +23,9 @@ pub returns-in-Err-new-clause-refused : goal.returns-in-Err-new-clause-refused
 returns-in-Err-new-clause-refused c =
     let split = c.split.ensures in
     let is = c.join-in-Err-new.ensures in
-    split_back c.args.seat.now c.split.new.seat c.split.result c.into_seat-back.result c.join-in-Err-new.new.seat split.seat
-    c.requires.share split.fulls split.fills split.share (c.into_seat-back.ensures ∙ c.in-Ok.ensures.seat)
+    split_back c.args.seat.now c.split.new.seat c.split.result c.into_seat-back.result c.join-in-Err-new.new.seat
+    split.seat c.requires.share split.fulls split.fills split.share
+    (c.into_seat-back.ensures ∙ c.in-Ok.ensures.seat)
     record {
       store = is.store;
       keeps = is.keeps;

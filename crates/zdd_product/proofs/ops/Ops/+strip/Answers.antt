@@ -1,4 +1,5 @@
-use Rattle.std.proofs.Common.{ℕ, sym, subst, inl, arith}
+use Rattle.std.proofs.Common.{ℕ, ◌≢◌, sym, subst, inl, arith}
+use Rattle.std.proofs.lemmas.Grind.{common_steps}
 use Rattle.std.proofs.lemmas.Result.{err_from_is_err_and}
 use Rattle.family_operations.specs.Without.{IsWithout}
 use Rattle.zdd_families.specs.Map.{family}
@@ -111,3 +112,10 @@ pub strip_halves-strip-requires : goal.strip_halves-strip-requires
 strip_halves-strip-requires t c =
     let next = los_next (halved t (goal.at.strip_halves-strip-requires t c).After-halves) in
     (let less = next.0 in omega (arith, less), next.1)
+
+pub strip-strip_halves-requires : goal.strip-strip_halves-requires
+strip-strip_halves-requires t c =
+    let ends = c.in_default.ensures in
+    let low = ends.0 in
+    let other : c.args.a ≢ 1 = grind (arith, common_steps) in
+    (omega arith, (c.requires.knows_a, (c.requires.knows_b, (omega (arith, low, other), ends.1))))
