@@ -1,4 +1,4 @@
-use Rattle.std.proofs.Common.{ℕ, arith}
+use Rattle.std.proofs.Common.{ℕ, arith, inr, refl}
 use Rattle.std.proofs.lemmas.Result.{err_from_is_err_and}
 use Rattle.family_operations.specs.Product.{IsProduct}
 use Rattle.zdd_families.specs.Map.{family}
@@ -8,7 +8,8 @@ use Rattle.zdd_product.specs.Due.{IsMadeByProduct}
 use Rattle.zdd_product.proofs.Entries.{told_made}
 use Rattle.zdd_product.proofs.After.{Gave-known}
 use Rattle.zdd_product.proofs.ProductParts.{product_ends}
-use Rattle.zdd_product.proofs.Halved.{Halved, AreInner, inner_halved}
+use Rattle.zdd_product.proofs.Halving.{fewer_of_halves}
+use Rattle.zdd_product.proofs.Halved.{Halved, AreInner, inner_halved, los_next}
 use Rattle.zdd_product.proofs.ProductSteps.{KnowsHalves, both_full, first_next, first_full, both_known, some_full}
 use Rattle.zdd_product.proofs.ProductSteps.{second_next, second_full, some_known, product_with, product_lo_full}
 use Rattle.zdd_product.proofs.ProductSteps.{product_with_next, product_hi_full, product_lo_known, product_lo_above}
@@ -44,6 +45,11 @@ halved : (t : ℕ) (c : multiply_halves-After-halves t) → Halved AreInner c.ha
 halved t c =
     inner_halved c.halves.ensures.seat c.halves.ensures.sound c.halves.ensures.halves c.requires.knows_a
     c.requires.knows_b c.requires.inner
+
+pub multiply_halves-multiply-requires : goal.multiply_halves-multiply-requires
+multiply_halves-multiply-requires t c =
+    let next = los_next (halved t (goal.at.multiply_halves-multiply-requires t c).After-halves) in
+    (let less = next.0 in omega (arith, less), next.1)
 
 pub multiply_halves-returns-in_err-lo : goal.multiply_halves-returns-in_err-lo
 multiply_halves-returns-in_err-lo t c =
@@ -87,6 +93,15 @@ multiply_halves-returns t c =
 known : (t : ℕ) (c : multiply_with-After-is_sound t) → KnowsHalves c.args.self.now c.args.first.now c.args.second.now
 known t c =
     record { sound = c.is_sound.ensures.sound; first_known = c.requires.first; second_known = c.requires.second }
+
+pub multiply_with-multiply-requires : goal.multiply_with-multiply-requires
+multiply_with-multiply-requires t c =
+    let known = map_of c.args.self.now in
+    let one = c.requires.first in
+    let other = c.requires.second in
+    let fewer = fewer_of_halves known known c.args.first.now c.args.second.now c.args.first.now.hi
+    c.args.second.now.hi (λ r has. refl) one.0 one.1 other.0 other.1 (inr refl) (inr refl) in
+    (omega (arith, fewer), (one.1, other.1))
 
 pub multiply_with-returns-in_err-both : goal.multiply_with-returns-in_err-both
 multiply_with-returns-in_err-both t c =
@@ -139,3 +154,7 @@ multiply_with-returns t c =
     let at = known t (goal.at.multiply_with-returns t c).After-is_sound in
     product_with at c.in_ok-both.ensures c.in_ok-one.ensures c.in_ok-some.ensures c.in_ok-other.ensures
     c.unite-2.new.self c.unite-2.result c.unite-2.ensures
+
+pub multiply-multiply_halves-requires : goal.multiply-multiply_halves-requires
+multiply-multiply_halves-requires t c =
+    (omega arith, (c.requires.knows_a, (c.requires.knows_b, c.in_default.ensures)))
