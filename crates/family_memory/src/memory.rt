@@ -76,11 +76,11 @@ impl FamilyMemory {
         ensures { IfOk result (λ memory. memory ≡ record { words = 0 ∷ 0 ∷ []; room = room.nodes; refused = 0 }) }
     {
         let mut words = Vec::with_capacity(alloc, room.nodes + 2)?;
-        words.push(0)?;
-        words.push(0)?;
+        words.push_reserved(0);
+        words.push_reserved(0);
         let mut extents = Vec::with_capacity(alloc, room.nodes + 2)?;
-        extents.push(Extent::of_none())?;
-        extents.push(Extent::of_unit())?;
+        extents.push_reserved(Extent::of_none());
+        extents.push_reserved(Extent::of_unit());
         Ok(FamilyMemory {
             words,
             extents,
