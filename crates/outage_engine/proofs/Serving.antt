@@ -15,7 +15,7 @@ use Rattle.outage_engine.specs.declared.deck.CrewPart.TheVariants.{Needed}
 use Rattle.outage_engine.specs.declared.listing.Listing.{Listing}
 use Rattle.outage_engine.specs.declared.opening.Opened.{Opened}
 use Rattle.outage_engine.specs.declared.status.Status.TheVariants as status
-use Rattle.outage_engine.specs.Answers.{IsOfUnits, found_in, listing_text}
+use Rattle.outage_engine.specs.Answers.{IsListingOf, IsOfUnits, found_in, listing_text}
 use Rattle.outage_engine.specs.Deck.{IsWellFormed}
 use Rattle.outage_engine.specs.Finding.{Found}
 use Rattle.outage_engine.specs.Gives as gives
@@ -39,6 +39,15 @@ ready margin listing crews opened units (same, deck, passes) =
       subst (λ (l : Listing). IsDeckOf l.tree opened.start.board.deck)
           (sym same) of_deck,
     )
+
+-- a board that was opened for a tree's listing was opened for the tree
+pub opened_for : (margin most : ℕ) (tree : FaultTree) (listing : Listing) (crews : Option (List Crew)) (opened : Opened)
+    → IsListingOf most tree listing → IsOpenedWith margin listing crews opened
+    → IsOpenedFor margin most tree crews opened
+opened_for margin most tree listing crews opened listed (same, deck, passes) = (
+  subst (IsListingOf most tree) (sym same) listed,
+  deck ∙ ap (λ (l : Listing). board_deck margin (found_in l crews)) (sym same),
+)
 
 -- a board that was opened for a tree and crews was opened for the deck
 pub opened_of_input : (held left : Option (List ℕ)) (margin most : ℕ) (tree : FaultTree) (crews : Option (List Crew))

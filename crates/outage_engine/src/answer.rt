@@ -93,15 +93,28 @@ pub(crate) fn answer_words<R: Threads + Sync, S: Source>(
     numbers_are_within_bounds();
     match read(words) {
         Some(Command::Cuts { most, workers }) => {
-            Ok(Answer::Cuts(list_input(rt, alloc, most, workers, source, store, seat)?))
+            match list_input(rt, alloc, most, workers, source, store, seat) {
+                Ok(listing) => Ok(Answer::Cuts(listing)),
+                Err(end) => Err(end),
+            }
         }
-        Some(Command::Check) => { Ok(Answer::Checked(read_input(alloc, CrewPart::IfAny, source)?)) }
-        Some(Command::Print) => {
-            Ok(Answer::Printed(read_input(alloc, CrewPart::Unread, source)?.tree))
-        }
+        Some(Command::Check) => match read_input(alloc, CrewPart::IfAny, source) {
+            Ok(deck) => Ok(Answer::Checked(deck)),
+            Err(end) => Err(end),
+        },
+        Some(Command::Print) => match read_input(alloc, CrewPart::Unread, source) {
+            Ok(deck) => {
+                drop(deck.crews);
+                Ok(Answer::Printed(deck.tree))
+            }
+            Err(end) => Err(end),
+        },
         Some(Command::Help) => Ok(Answer::Help),
         Some(Command::Diagram { workers }) => {
-            Ok(Answer::Diagram(size_input(rt, alloc, workers, source, store, seat)?))
+            match size_input(rt, alloc, workers, source, store, seat) {
+                Ok(sizes) => Ok(Answer::Diagram(sizes)),
+                Err(end) => Err(end),
+            }
         }
         Some(Command::Board { .. }) => unreachable!(),
         Some(
@@ -115,7 +128,10 @@ pub(crate) fn answer_words<R: Threads + Sync, S: Source>(
                 number,
                 show: Show::Summary,
             },
-        ) => Ok(Answer::Summed(sum_made(rt, alloc, number, store, seat)?)),
+        ) => match sum_made(rt, alloc, number, store, seat) {
+            Ok(summary) => Ok(Answer::Summed(summary)),
+            Err(end) => Err(end),
+        },
         None => Err(RunEnd::Refused(Refusal::Usage)),
     }
 }

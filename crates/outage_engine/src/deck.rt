@@ -86,8 +86,13 @@ fn read_parts(
     ensures end { IfErr result (IsPartsEnd bytes.now (crews_said (crews_behind bytes.now at))) }
 {
     let tree = tree_in(alloc, bytes, size)?;
-    let crews = crews_at(alloc, bytes, at)?;
-    Ok(DeckParts { tree, crews })
+    match crews_at(alloc, bytes, at) {
+        Ok(crews) => Ok(DeckParts { tree, crews }),
+        Err(end) => {
+            drop(tree);
+            Err(end)
+        }
+    }
 }
 
 // The tree that a deck stands for, whose tree part has so many bytes, or why there is none.

@@ -148,14 +148,48 @@ fn list_orders<R: Threads + Sync>(
     ensures root { IfOk result (λ listed. listed.root ≡ found.root) }
 {
     let Found { cuts, root } = found;
-    let texts = UnitTexts::new(alloc, tree)?;
-    match orders(rt, alloc, tree, &cuts, most, workers) {
+    let texts = match UnitTexts::new(alloc, tree) {
+        Ok(texts) => texts,
+        Err(end) => {
+            drop(cuts);
+            return Err(RunEnd::from(end));
+        }
+    };
+    match orders_of(rt, alloc, most, workers, tree, &cuts) {
         Ok(orders) => Ok(Listed {
             cuts,
             orders,
             texts,
             root,
         }),
+        Err(end) => {
+            drop(texts);
+            drop(cuts);
+            Err(end)
+        }
+    }
+}
+
+// The failing orders alone.
+fn orders_of<R: Threads + Sync>(
+    rt: &R,
+    alloc: Global,
+    most: u32,
+    workers: u32,
+    tree: &Tree,
+    cuts: &CutList,
+) -> Result<OrderLists, RunEnd>
+    requires most { most ≤ MOST_ORDERED }
+    requires some { 1 ≤ workers }
+    requires few { workers ≤ MOST_WORKERS }
+    requires all { IsCutList tree.now cuts.now }
+    requires light { weight cuts.now ≤ weight_limit }
+    ensures orders { IfOk result (λ orders. orders ≡ order_lists tree.now cuts.now most) }
+    ensures few { IfOk result (λ orders. order_total orders ≤ order_limit) }
+    ensures limit { IfErr result (IfRefused (IsLimitOf most tree.now)) }
+{
+    match orders(rt, alloc, tree, cuts, most, workers) {
+        Ok(orders) => Ok(orders),
         Err(OrderEnd::OrderLimit) => Err(RunEnd::Refused(Refusal::OrderLimit)),
         Err(OrderEnd::NoMemory) => Err(RunEnd::NoMemory),
     }

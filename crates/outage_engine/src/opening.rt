@@ -97,12 +97,22 @@ fn open_input<R: Threads + Sync, S: Source>(
     ensures share { seat.new.share ≡ seat.old.share }
 {
     let deck = read_input(alloc, CrewPart::Needed, source)?;
-    open_deck(
-        rt, alloc, margin, most, workers, deck.tree, deck.crews, store, seat,
-    )
+    let opened = open_deck(
+        rt,
+        alloc,
+        margin,
+        most,
+        workers,
+        deck.tree,
+        &deck.crews,
+        store,
+        seat,
+    );
+    drop(deck.crews);
+    opened
 }
 
-// The board of a tree and its crews.
+// The board of a tree and its crews. They are only read, so that no way out of here lets them go.
 fn open_deck<R: Threads + Sync>(
     rt: &R,
     alloc: Global,
@@ -110,7 +120,7 @@ fn open_deck<R: Threads + Sync>(
     most: u32,
     workers: u32,
     tree: Tree,
-    crews: Option<Dockets>,
+    crews: &Option<Dockets>,
     store: &NodeStore,
     seat: &mut StoreSeat,
 ) -> Result<Opened, RunEnd>
@@ -118,10 +128,10 @@ fn open_deck<R: Threads + Sync>(
     requires most { most ≤ MOST_ORDERED }
     requires some { 1 ≤ workers }
     requires few { workers ≤ MOST_WORKERS }
-    requires crews { IsSome crews }
+    requires crews { IsSome crews.now }
     requires own { seat.old.store ≡ store.now }
     requires share { TEAM_SHARE ≤ seat.old.share }
-    ensures opened { IfOk result (IsOpenedFor margin most tree crews) }
+    ensures opened { IfOk result (IsOpenedFor margin most tree crews.now) }
     ensures ready { IfOk result IsReady }
     ensures limit { IfErr result (IfRefused (IsLimitOf most tree)) }
     ensures found { IfOk result (λ opened. IsFoundBy seat.old seat.new tree (method_by opened.listing.root)) }
@@ -129,8 +139,10 @@ fn open_deck<R: Threads + Sync>(
     ensures share { seat.new.share ≡ seat.old.share }
 {
     let Some(dockets) = crews else { unreachable!() };
-    let listing = list_tree(rt, alloc, most, workers, tree, store, seat)?;
-    Ok(open_listing(alloc, margin, listing, &dockets)?)
+    match list_tree(rt, alloc, most, workers, tree, store, seat) {
+        Ok(listing) => Ok(open_listing(alloc, margin, listing, dockets)?),
+        Err(end) => Err(end),
+    }
 }
 
 // The board of a cut list and crews.

@@ -68,7 +68,9 @@ pub(crate) fn sum_made<R: Threads + Sync>(
     ensures share { seat.new.share ≡ seat.old.share }
 {
     let deck = read_made(alloc, number)?;
-    sum_deck(rt, alloc, number, deck.tree, deck.crews, store, seat)
+    let summed = sum_deck(rt, alloc, number, deck.tree, &deck.crews, store, seat);
+    drop(deck.crews);
+    summed
 }
 
 // The tree and the crew of the made deck of a number, read as any deck is.
@@ -82,17 +84,18 @@ fn read_made(alloc: Global, number: u32) -> Result<DeckParts, RunEnd>
     Ok(read_deck(alloc, CrewPart::Needed, bytes.as_slice())?)
 }
 
-// What is found in a tree, and what comes of the requests of its one crew.
+// What is found in a tree, and what comes of the requests of its one crew. The crew is only read, so that no way out
+// of here lets it go.
 fn sum_deck<R: Threads + Sync>(
     rt: &R,
     alloc: Global,
     number: u32,
     tree: Tree,
-    crews: Option<Dockets>,
+    crews: &Option<Dockets>,
     store: &NodeStore,
     seat: &mut StoreSeat,
 ) -> Result<Summary, RunEnd>
-    requires crew { crews ≡ Some (made_crew number ∷ []) }
+    requires crew { crews.now ≡ Some (made_crew number ∷ []) }
     requires own { seat.old.store ≡ store.now }
     requires share { TEAM_SHARE ≤ seat.old.share }
     ensures summed { IfOk result (IsSummaryOf number tree (made_crew number ∷ [])) }
@@ -102,8 +105,10 @@ fn sum_deck<R: Threads + Sync>(
     ensures share { seat.new.share ≡ seat.old.share }
 {
     let Some(dockets) = crews else { unreachable!() };
-    let listing = list_tree(rt, alloc, MOST, WORKERS, tree, store, seat)?;
-    Ok(serve_listing(alloc, number, listing, &dockets)?)
+    match list_tree(rt, alloc, MOST, WORKERS, tree, store, seat) {
+        Ok(listing) => Ok(serve_listing(alloc, number, listing, dockets)?),
+        Err(end) => Err(end),
+    }
 }
 
 // A board of a cut list and one crew, on which all its requests were decided.

@@ -10,8 +10,7 @@ returns-in_err-tree-clause-end c =
     rw (p.1, p.2) (tree_end c.args.bytes.now (crews_said (crews_behind c.args.bytes.now c.args.at)) _
     c.in_err-tree.ensures.end)
 
-pub returns-in_err-crews-clause-end : goal.returns-in_err-crews-clause-end
-returns-in_err-crews-clause-end c =
-    let p = err_from_is_err_and c.from_residual-in_err-crews.result c.from_residual-in_err-crews.ensures.1 in
-    rw (p.1, p.2) (crews_end c.args.bytes.now c.in_ok-tree.tree (crews_said (crews_behind c.args.bytes.now c.args.at)) _
-    c.in_ok-tree.ensures.tree c.in_err-crews.ensures.end)
+pub returns-in-Err-clause-end : goal.returns-in-Err-clause-end
+returns-in-Err-clause-end c =
+    crews_end c.args.bytes.now c.in_ok-tree.tree (crews_said (crews_behind c.args.bytes.now c.args.at)) _
+    c.in_ok-tree.ensures.tree c.in-Err.ensures.end

@@ -19,35 +19,35 @@ returns-in_err-deck-clause-refused g c =
 
 pub returns-clause-opened : goal.returns-clause-opened
 returns-clause-opened g c =
-    IfOk-weaker c.open_deck.result _ _
+    IfOk-weaker c.open_deck-opened.result _ _
     (λ opened is.
     opened_of_input (g.S.Source.held c.args.source.now) (g.S.Source.held c.read_input.new.source) c.args.margin
     c.args.most c.in_ok-deck.deck.tree c.in_ok-deck.deck.crews
     opened c.in_ok-deck.ensures.deck is)
-    c.open_deck.ensures.opened
+    c.open_deck-opened.ensures.opened
 
 pub returns-clause-refused : goal.returns-clause-refused
 returns-clause-refused g c =
-    IfErr-weaker c.open_deck.result _ _
+    IfErr-weaker c.open_deck-opened.result _ _
     (λ end limit.
     limit_for (g.S.Source.held c.args.source.now) (g.S.Source.held c.read_input.new.source) c.in_ok-deck.deck.tree
     c.in_ok-deck.deck.crews Needed c.args.most
     (Rose (g.S.Source.faults c.args.source.now) (g.S.Source.faults c.read_input.new.source)) end
     c.in_ok-deck.ensures.deck limit)
-    c.open_deck.ensures.limit
+    c.open_deck-opened.ensures.limit
 
 pub returns-clause-method : goal.returns-clause-method
 returns-clause-method g c =
-    IfOk-weaker c.open_deck.result _ _
+    IfOk-weaker c.open_deck-opened.result _ _
     (λ opened found.
     bears_out None (g.S.Source.held c.args.source.now) (g.S.Source.held c.read_input.new.source) c.args.seat.now
-    c.open_deck.new.seat
+    c.open_deck-opened.new.seat
     Needed c.in_ok-deck.deck.tree c.in_ok-deck.deck.crews c.in_ok-deck.ensures.deck (method_by opened.listing.root)
     found)
-    c.open_deck.ensures.found
+    c.open_deck-opened.ensures.found
 
 pub returns-clause-went : goal.returns-clause-went
 returns-clause-went g c =
     goes_for None (g.S.Source.held c.args.source.now) (g.S.Source.held c.read_input.new.source) c.args.seat.now
-    c.open_deck.new.seat
-    Needed c.in_ok-deck.deck.tree c.in_ok-deck.deck.crews c.in_ok-deck.ensures.deck c.open_deck.ensures.went
+    c.open_deck-opened.new.seat
+    Needed c.in_ok-deck.deck.tree c.in_ok-deck.deck.crews c.in_ok-deck.ensures.deck c.open_deck-opened.ensures.went

@@ -12,34 +12,35 @@ use Rattle.outage_engine.proofs.summary.sum_made.Goals as goal
 
 pub returns-clause-text : goal.returns-clause-text
 returns-clause-text g c =
-    IfOk-weaker c.sum_deck.result _ _
+    IfOk-weaker c.sum_deck-summed.result _ _
     (λ summary of.
     summary_is_text c.args.number c.in_ok-deck.deck.tree (made_crew c.args.number ∷ []) summary of
     (subst (IsWellFormed Needed (made_deck c.args.number) c.in_ok-deck.deck.tree) c.in_ok-deck.ensures.crew
     c.in_ok-deck.ensures.deck))
-    c.sum_deck.ensures.summed
+    c.sum_deck-summed.ensures.summed
 
 pub returns-clause-writable : goal.returns-clause-writable
-returns-clause-writable g c = IfOk-weaker c.sum_deck.result _ _ (λ summary of. of.orders) c.sum_deck.ensures.summed
+returns-clause-writable g c =
+    IfOk-weaker c.sum_deck-summed.result _ _ (λ summary of. of.orders) c.sum_deck-summed.ensures.summed
 
 pub returns-clause-refused : goal.returns-clause-refused
 returns-clause-refused g c =
-    IfErr-weaker c.sum_deck.result _ _
+    IfErr-weaker c.sum_deck-summed.result _ _
     (λ end limit.
     limit_of_deck (made_deck c.args.number) c.in_ok-deck.deck.tree c.in_ok-deck.deck.crews end
     c.in_ok-deck.ensures.deck limit)
-    c.sum_deck.ensures.limit
+    c.sum_deck-summed.ensures.limit
 
 pub returns-clause-method : goal.returns-clause-method
 returns-clause-method g c =
-    IfOk-weaker c.sum_deck.result _ _
+    IfOk-weaker c.sum_deck-summed.result _ _
     (λ summary found.
-    bears_out (Some (made_deck c.args.number)) None None c.args.seat.now c.sum_deck.new.seat
+    bears_out (Some (made_deck c.args.number)) None None c.args.seat.now c.sum_deck-summed.new.seat
     Needed c.in_ok-deck.deck.tree c.in_ok-deck.deck.crews c.in_ok-deck.ensures.deck (method_by summary.listing.root)
     found)
-    c.sum_deck.ensures.found
+    c.sum_deck-summed.ensures.found
 
 pub returns-clause-went : goal.returns-clause-went
 returns-clause-went g c =
-    goes_for (Some (made_deck c.args.number)) None None c.args.seat.now c.sum_deck.new.seat
-    Needed c.in_ok-deck.deck.tree c.in_ok-deck.deck.crews c.in_ok-deck.ensures.deck c.sum_deck.ensures.went
+    goes_for (Some (made_deck c.args.number)) None None c.args.seat.now c.sum_deck-summed.new.seat
+    Needed c.in_ok-deck.deck.tree c.in_ok-deck.deck.crews c.in_ok-deck.ensures.deck c.sum_deck-summed.ensures.went
