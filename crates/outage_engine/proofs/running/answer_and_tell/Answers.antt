@@ -1,5 +1,5 @@
 use Rattle.board_words.specs.Command.{command_of}
-use Rattle.std.proofs.Common.{inr}
+use Rattle.std.proofs.Common.{inl, inr, refl}
 use Rattle.outage_engine.specs.Answers.{refusal_line, refusal_status, status_of, text_of}
 use Rattle.outage_engine.specs.Gives.{own_deck}
 use Rattle.outage_engine.proofs.SeatLemmas.{refusal_bears_out, told_bears_out}
@@ -50,3 +50,21 @@ returns-in-Err-Refused g c =
       went = c.answer_words.ensures.went;
       share = c.answer_words.ensures.share;
     }
+
+pub returns-in-Err-NoMemory : goal.returns-in-Err-NoMemory
+returns-in-Err-NoMemory g c = record {
+  runs = inl (refl, refl);
+  unread = c.answer_words.ensures.unread;
+  method = tt;
+  went = c.answer_words.ensures.went;
+  share = c.answer_words.ensures.share;
+}
+
+pub returns-in_default : goal.returns-in_default
+returns-in_default g c = record {
+  runs = inl (refl, refl);
+  unread = inr refl;
+  method = tt;
+  went = inl refl;
+  share = refl;
+}

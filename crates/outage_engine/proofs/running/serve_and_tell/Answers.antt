@@ -1,7 +1,7 @@
 use Rattle.board_words.specs.Command.{command_of}
 use Rattle.outage_engine.specs.Gives.{own_deck}
 use Rattle.std.specs.Prelude.{◌++◌}
-use Rattle.std.proofs.Common.{inr}
+use Rattle.std.proofs.Common.{inl, inr, refl}
 use Rattle.event_counts.specs.Count.{Rose}
 use Rattle.board_texts.specs.BoardText.{board_text}
 use Rattle.outage_engine.specs.declared.status.Status.TheVariants.{Done}
@@ -59,3 +59,19 @@ returns-in-Err-Refused g c =
       went = c.open_words.ensures.went;
       share = c.open_words.ensures.share;
     }
+
+pub returns-in-Err-NoMemory : goal.returns-in-Err-NoMemory
+returns-in-Err-NoMemory g c = record {
+  runs = inl (refl, refl);
+  method = tt;
+  went = c.open_words.ensures.went;
+  share = c.open_words.ensures.share;
+}
+
+pub returns-in_default : goal.returns-in_default
+returns-in_default g c = record {
+  runs = inl (refl, refl);
+  method = tt;
+  went = inl refl;
+  share = refl;
+}
