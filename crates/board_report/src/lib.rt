@@ -17,7 +17,7 @@ mod summary;
 
 pub use board_texts::put_board;
 pub use check::put_check;
-pub use cut_texts::{UnitTexts, put_cuts, put_diagram};
+pub use cut_texts::{UnitTexts, put_cuts, put_diagram, put_sizes};
 pub use fault::{DeckFault, FaultCode, put_fault};
 pub use notice::{Notice, put_notice};
 pub use print::put_tree;

@@ -1,6 +1,6 @@
 mod Listing
 mod LineLemmas
 mod CountingUp
-mod Members
+pub mod Members
 mod UnitTextsLemmas
 pub mod OrdersOfUnitsLemmas

@@ -14,9 +14,13 @@ abbrev pub member_count : List (List ℕ) → ℕ
 member_count cuts = sum_by (λ cut. length cut) cuts
 
 -- `cuts: C` and `members: M`
-abbrev pub sizes_text : ℕ → ℕ → List ℕ
-sizes_text cuts members = codes "cuts: " ++ (decimal cuts ++ (codes "\nmembers: " ++ (decimal members ++ codes "\n")))
+abbrev pub counts_text : ℕ → ℕ → List ℕ
+counts_text cuts members = codes "cuts: " ++ (decimal cuts ++ (codes "\nmembers: " ++ (decimal members ++ codes "\n")))
 
 -- the whole text: the tree, how its cut sets were found, how many they are, and how many members they have in all
+abbrev pub sizes_text : FaultTree → ℕ → ℕ → Option ℕ → List ℕ
+sizes_text tree cuts members nodes = tree_line tree ++ (method_text nodes ++ counts_text cuts members)
+
+-- the text for these cut sets
 abbrev pub diagram_text : FaultTree → List (List ℕ) → Option ℕ → List ℕ
-diagram_text tree cuts nodes = tree_line tree ++ (method_text nodes ++ sizes_text (length cuts) (member_count cuts))
+diagram_text tree cuts nodes = sizes_text tree (length cuts) (member_count cuts) nodes

@@ -1,7 +1,7 @@
 //! The sizes of cut sets and of their diagram.
 ghost use Rattle.std.specs.Prelude.{◌≡◌, is_err, length, false, Some};
 ghost use Rattle.edge_io.specs.Out.{has_failed, Puts};
-ghost use Rattle.cut_texts.specs.DiagramText.{diagram_text, member_count, method_text, sizes_text};
+ghost use Rattle.cut_texts.specs.DiagramText.{counts_text, diagram_text, member_count, method_text, sizes_text};
 
 use crate::cuts::put_tree_line;
 use edge_io::{Out, Sink, WriteFault};
@@ -21,9 +21,23 @@ pub fn put_diagram<K: Sink>(
     ensures puts { Puts K.taken K.faults out.old out.new (diagram_text tree.now cuts.now nodes) }
     ensures answer { is_err result ≡ has_failed out.new }
 {
+    put_sizes(out, tree, cuts.len() as u64, members_of(cuts), nodes)
+}
+
+/// Puts the text of `diagram` over a tree that has so many cut sets with so many members in all. `nodes` is as above.
+pub fn put_sizes<K: Sink>(
+    out: &mut Out<K>,
+    tree: &Tree,
+    cuts: u64,
+    members: u64,
+    nodes: Option<u64>,
+) -> Result<(), WriteFault>
+    ensures puts { Puts K.taken K.faults out.old out.new (sizes_text tree.now cuts members nodes) }
+    ensures answer { is_err result ≡ has_failed out.new }
+{
     put_tree_line(out, tree)?;
     put_method(out, nodes)?;
-    put_sizes(out, cuts.len(), members_of(cuts))
+    put_counts(out, cuts, members)
 }
 
 fn put_method<K: Sink>(out: &mut Out<K>, nodes: Option<u64>) -> Result<(), WriteFault>
@@ -57,8 +71,8 @@ fn members_of(cuts: &CutList) -> u64
     cuts.weight() - cuts.len() as u64
 }
 
-fn put_sizes<K: Sink>(out: &mut Out<K>, cuts: usize, members: u64) -> Result<(), WriteFault>
-    ensures puts { Puts K.taken K.faults out.old out.new (sizes_text cuts members) }
+fn put_counts<K: Sink>(out: &mut Out<K>, cuts: u64, members: u64) -> Result<(), WriteFault>
+    ensures puts { Puts K.taken K.faults out.old out.new (counts_text cuts members) }
     ensures answer { is_err result ≡ has_failed out.new }
 {
     let mut cut_count = Buffer::new();

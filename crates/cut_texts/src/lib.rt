@@ -13,5 +13,5 @@ mod pieces;
 mod unit_texts;
 
 pub use cuts::{put_count_line, put_cuts, put_titled_line, top_name};
-pub use diagram::put_diagram;
+pub use diagram::{put_diagram, put_sizes};
 pub use unit_texts::UnitTexts;

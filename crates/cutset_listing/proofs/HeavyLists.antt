@@ -5,11 +5,19 @@ use Rattle.std.specs.List.{range_with_len}
 use Rattle.std.proofs.lemmas.Bool.{cases_lt}
 use Rattle.std.proofs.lemmas.List.{get_or_past}
 use Rattle.std.proofs.lemmas.List.FromFn.{get_or-map-range_with_len, length-map-range_with_len}
-use Rattle.unit_sets.specs.CutOrder.{weight, weight_limit}
+use Rattle.unit_sets.specs.CutOrder.{IsInCutOrder, weight, weight_limit}
 use Rattle.zdd_families.specs.Family.{IsFamily}
 use Rattle.cutset_listing.specs.BySize.{at_size, joined, of_size}
-use Rattle.cutset_listing.specs.Listing.{HasHeavyList}
-use Rattle.cutset_listing.proofs.Sizes.{joined-in_order, joined-sets, weight-joined}
+use Rattle.cutset_listing.specs.Listing.{HasHeavyList, HasSetsOf}
+use Rattle.cutset_listing.proofs.Sizes.{joined-in_order, joined-sets, length-joined, weight-joined}
+
+-- a list of exactly the family's sets in the order of cut sets, as many and as heavy as these
+pub record HasList (family : List (List ℕ)) : Type 0 where
+  pub list : List (List ℕ)
+  pub sets : HasSetsOf family list
+  pub ordered : IsInCutOrder list
+  pub as_many : length list ≡ length family
+  pub as_heavy : weight list ≡ weight family
 
 -- the size of the largest set
 abbrev longest : List (List ℕ) → ℕ
@@ -41,10 +49,17 @@ module _ (family : List (List ℕ)) where
         ∙ sym (none_longer size family (omega arith))
   ]
 
-  pub heavy_list : IsFamily family → weight_limit < weight family → HasHeavyList family
-  heavy_list is heavy = record {
+  pub in_a_list : IsFamily family → HasList family
+  in_a_list is = record {
     list = joined sizes;
     sets = joined-sets sizes family each_size;
     ordered = joined-in_order sizes family each_size is;
-    heavy = (let same = weight-joined sizes family each_size in omega (arith, same, heavy));
+    as_many = length-joined sizes family each_size;
+    as_heavy = weight-joined sizes family each_size;
   }
+
+  pub heavy_list : IsFamily family → weight_limit < weight family → HasHeavyList family
+  heavy_list is heavy =
+      let has = in_a_list is in
+      let same = has.as_heavy in
+      record { list = has.list; sets = has.sets; ordered = has.ordered; heavy = omega (arith, same, heavy) }

@@ -1,4 +1,5 @@
 mod Behind
+mod Measuring
 mod Meets
 mod Sizes
 mod Walks

@@ -1,7 +1,7 @@
 -- Lists of the sets of each size, one after the other, are a list in the order of cut sets.
 use Rattle.std.proofs.Common.{◌≡◌, ℕ, zero, suc, ◌+◌, ◌-◌, ◌<◌, ◌≤◌, Bool, true, false, List, [], ◌∷◌, ◌++◌, length}
 use Rattle.std.proofs.Common.{take, drop, refl, sym, ◌∙◌, ap, subst, inl, inr, arith, append_assoc, eq-eqb}
-use Rattle.std.specs.Prelude.{filter, ◌==◌, Contains, nat_le}
+use Rattle.std.specs.Prelude.{filter, ◌==◌, Contains, nat_le, sum_by}
 use Rattle.std.specs.List.{AllByRecursion}
 use Rattle.std.specs.List.Sorted.{IsStrictlySortedBy}
 use Rattle.std.specs.Ordering.{nat_cmp, ordering_then}
@@ -12,6 +12,7 @@ use Rattle.std.proofs.lemmas.Bool.Decides.{nat_tests}
 use Rattle.std.proofs.lemmas.Cmp.{nat_cmp_total, tied_itself}
 use Rattle.std.proofs.lemmas.List.{append-nil}
 use Rattle.std.proofs.lemmas.List.Elements.{Contains-append_cases, Contains-append_left, Contains-append_right}
+use Rattle.std.proofs.lemmas.List.Sums.{sum_by-append, sum_by-cons}
 use Rattle.unit_sets.specs.CutOrder.{cut_cmp, IsInCutOrder, weight}
 use Rattle.unit_sets.specs.UnitList.{IsRising}
 use Rattle.unit_sets.proofs.Sorted.{Contains-cons_first, Contains-cons_other, Contains-cons_cases, Contains-nil}
@@ -19,7 +20,7 @@ use Rattle.zdd_families.specs.Family.{IsFamily, set_cmp}
 use Rattle.zdd_families.proofs.Lists.{each-append, each-weaker, sorted-append, filter-all}
 use Rattle.cutset_listing.specs.BySize.{of_size, at_size, joined}
 use Rattle.cutset_listing.specs.Listing.{HasSetsOf, LacksEmptySet}
-use Rattle.cutset_listing.proofs.Behind.{weight-append, weight-cons}
+use Rattle.cutset_listing.proofs.Behind.{weight-append}
 use Rattle.cutset_listing.proofs.Walks.{each-front}
 
 each-back : {K : Type 0} (P : K → Type 0) (xs ys : List K) → AllByRecursion P (xs ++ ys) → AllByRecursion P ys
@@ -221,58 +222,11 @@ joined-filled lists f splits lacks =
     each-has (λ (set : List ℕ). 0 < length set) (joined lists)
     (λ set has. filled_set f lacks set ((joined-sets lists f splits set).0 has))
 
--- ---- the weight
+-- ---- what the sets come to, by a number for each set
 
 -- the sets of at least so many units
 abbrev from_size : ℕ → List (List ℕ) → List (List ℕ)
 from_size from f = filter (λ set. nat_le from (length set)) f
-
--- what the sets of a size and the longer ones weigh
-weight-from : (from : ℕ) (f : List (List ℕ)) → weight (from_size from f)
-    ≡ weight (of_size from f) + weight (from_size (suc from) f)
-weight-from from [] = refl
-weight-from from (set ∷ f) =
-    let rest = weight-from from f in
-    let e = weight-cons set (from_size from f) in
-    let e' = weight-cons set (of_size from f) in
-    let e'' = weight-cons set (from_size (suc from) f) in
-    elim (cases_lt (length set) from) [
-      | inl short ↦
-          let a : from_size from (set ∷ f) ≡ from_size from f =
-          cond-false (nat_le from (length set)) (set ∷ from_size from f) (from_size from f)
-          (grind (arith, nat_tests, short)) in
-          let b : of_size from (set ∷ f) ≡ of_size from f =
-          cond-false (length set == from) (set ∷ of_size from f) (of_size from f)
-          (ne_eqb (length set) from (λ s. omega (arith, s, short))) in
-          let d : from_size (suc from) (set ∷ f) ≡ from_size (suc from) f =
-          cond-false (nat_le (suc from) (length set)) (set ∷ from_size (suc from) f) (from_size (suc from) f)
-          (grind (arith, nat_tests, short)) in
-          let a' = ap weight a in let b' = ap weight b in let d' = ap weight d in omega (arith, rest, a', b', d')
-      | inr long ↦
-          let a : from_size from (set ∷ f) ≡ set ∷ from_size from f =
-          cond-true (nat_le from (length set)) (set ∷ from_size from f) (from_size from f)
-          (grind (arith, nat_tests, long)) in
-          let a' = ap weight a in
-          elim (cases_eq (length set) from) [
-            | inl same ↦
-                let b : of_size from (set ∷ f) ≡ set ∷ of_size from f =
-                cond-true (length set == from) (set ∷ of_size from f) (of_size from f)
-                (eq-eqb (length set) from same) in
-                let d : from_size (suc from) (set ∷ f) ≡ from_size (suc from) f =
-                cond-false (nat_le (suc from) (length set)) (set ∷ from_size (suc from) f) (from_size (suc from) f)
-                (grind (arith, nat_tests, same)) in
-                let b' = ap weight b in let d' = ap weight d in omega (arith, rest, a', b', d', e, e')
-            | inr other ↦
-                let b : of_size from (set ∷ f) ≡ of_size from f =
-                cond-false (length set == from) (set ∷ of_size from f) (of_size from f)
-                (ne_eqb (length set) from other) in
-                let more : suc from ≤ length set = omega (arith, long, other) in
-                let d : from_size (suc from) (set ∷ f) ≡ set ∷ from_size (suc from) f =
-                cond-true (nat_le (suc from) (length set)) (set ∷ from_size (suc from) f) (from_size (suc from) f)
-                (grind (arith, nat_tests, more)) in
-                let b' = ap weight b in let d' = ap weight d in omega (arith, rest, a', b', d', e, e'')
-          ]
-    ]
 
 -- where no size has a set there is none
 no_sets : (from : ℕ) (f : List (List ℕ)) → ((k : ℕ) → of_size (from + k) f ≡ []) → from_size from f ≡ []
@@ -293,22 +247,94 @@ no_sets from (set ∷ f) none =
           absurd (let e = sym there ∙ none k in absurd cc)
     ]
 
-weight-splits : (from : ℕ) (lists : List (List (List ℕ))) (f : List (List ℕ)) → Splits from lists f
-    → weight (joined lists) ≡ weight (from_size from f)
-weight-splits from [] f splits = ap weight (sym (no_sets from f (λ k. sym (splits k))))
-weight-splits from (list ∷ lists) f splits =
-    let a = weight-append list (joined lists) in
-    let b = ap weight (splits_first from list lists f splits) in
-    let d = weight-splits (suc from) lists f (splits_rest from list lists f splits) in
-    let e = weight-from from f in
-    omega (arith, a, b, d, e)
+module _ (each : List ℕ → ℕ) where
+  abbrev total : List (List ℕ) → ℕ
+  total sets = sum_by each sets
+
+  total-append : (f g : List (List ℕ)) → total (f ++ g) ≡ total f + total g
+  total-append f g = sum_by-append each f g
+
+  total-cons : (set : List ℕ) (f : List (List ℕ)) → total (set ∷ f) ≡ each set + total f
+  total-cons set f = sum_by-cons each set f
+
+  -- what the sets of a size and the longer ones come to
+  total-from : (from : ℕ) (f : List (List ℕ)) → total (from_size from f)
+      ≡ total (of_size from f) + total (from_size (suc from) f)
+  total-from from [] = refl
+  total-from from (set ∷ f) =
+      let rest = total-from from f in
+      let e = total-cons set (from_size from f) in
+      let e' = total-cons set (of_size from f) in
+      let e'' = total-cons set (from_size (suc from) f) in
+      elim (cases_lt (length set) from) [
+        | inl short ↦
+            let a : from_size from (set ∷ f) ≡ from_size from f =
+            cond-false (nat_le from (length set)) (set ∷ from_size from f) (from_size from f)
+            (grind (arith, nat_tests, short)) in
+            let b : of_size from (set ∷ f) ≡ of_size from f =
+            cond-false (length set == from) (set ∷ of_size from f) (of_size from f)
+            (ne_eqb (length set) from (λ s. omega (arith, s, short))) in
+            let d : from_size (suc from) (set ∷ f) ≡ from_size (suc from) f =
+            cond-false (nat_le (suc from) (length set)) (set ∷ from_size (suc from) f) (from_size (suc from) f)
+            (grind (arith, nat_tests, short)) in
+            let a' = ap total a in let b' = ap total b in let d' = ap total d in omega (arith, rest, a', b', d')
+        | inr long ↦
+            let a : from_size from (set ∷ f) ≡ set ∷ from_size from f =
+            cond-true (nat_le from (length set)) (set ∷ from_size from f) (from_size from f)
+            (grind (arith, nat_tests, long)) in
+            let a' = ap total a in
+            elim (cases_eq (length set) from) [
+              | inl same ↦
+                  let b : of_size from (set ∷ f) ≡ set ∷ of_size from f =
+                  cond-true (length set == from) (set ∷ of_size from f) (of_size from f)
+                  (eq-eqb (length set) from same) in
+                  let d : from_size (suc from) (set ∷ f) ≡ from_size (suc from) f =
+                  cond-false (nat_le (suc from) (length set)) (set ∷ from_size (suc from) f) (from_size (suc from) f)
+                  (grind (arith, nat_tests, same)) in
+                  let b' = ap total b in let d' = ap total d in omega (arith, rest, a', b', d', e, e')
+              | inr other ↦
+                  let b : of_size from (set ∷ f) ≡ of_size from f =
+                  cond-false (length set == from) (set ∷ of_size from f) (of_size from f)
+                  (ne_eqb (length set) from other) in
+                  let more : suc from ≤ length set = omega (arith, long, other) in
+                  let d : from_size (suc from) (set ∷ f) ≡ set ∷ from_size (suc from) f =
+                  cond-true (nat_le (suc from) (length set)) (set ∷ from_size (suc from) f) (from_size (suc from) f)
+                  (grind (arith, nat_tests, more)) in
+                  let b' = ap total b in let d' = ap total d in omega (arith, rest, a', b', d', e, e'')
+            ]
+      ]
+
+  total-splits : (from : ℕ) (lists : List (List (List ℕ))) (f : List (List ℕ)) → Splits from lists f
+      → total (joined lists) ≡ total (from_size from f)
+  total-splits from [] f splits = ap total (sym (no_sets from f (λ k. sym (splits k))))
+  total-splits from (list ∷ lists) f splits =
+      let a = total-append list (joined lists) in
+      let b = ap total (splits_first from list lists f splits) in
+      let d = total-splits (suc from) lists f (splits_rest from list lists f splits) in
+      let e = total-from from f in
+      omega (arith, a, b, d, e)
+
+  pub total-joined : (lists : List (List (List ℕ))) (f : List (List ℕ))
+      → ((size : ℕ) → at_size lists size ≡ of_size size f) → sum_by each (joined lists) ≡ sum_by each f
+  total-joined lists f splits =
+      total-splits 0 lists f (λ k. splits k ∙ ap (λ n. of_size n f) (omega arith))
+      ∙ ap total (filter-all (λ (set : List ℕ). nat_le 0 (length set)) f
+      (each-has (λ (set : List ℕ). nat_le 0 (length set) ≡ true) f (λ set has. grind (arith, nat_tests))))
 
 pub weight-joined : (lists : List (List (List ℕ))) (f : List (List ℕ))
     → ((size : ℕ) → at_size lists size ≡ of_size size f) → weight (joined lists) ≡ weight f
-weight-joined lists f splits =
-    weight-splits 0 lists f (λ k. splits k ∙ ap (λ n. of_size n f) (omega arith))
-    ∙ ap weight (filter-all (λ (set : List ℕ). nat_le 0 (length set)) f
-    (each-has (λ (set : List ℕ). nat_le 0 (length set) ≡ true) f (λ set has. grind (arith, nat_tests))))
+weight-joined lists f splits = total-joined (λ set. 1 + length set) lists f splits
+
+-- a list has as many elements as ones
+length-ones : (f : List (List ℕ)) → length f ≡ sum_by (λ (set : List ℕ). 1) f
+length-ones [] = refl
+length-ones (set ∷ f) =
+    let rest = length-ones f in let e = sum_by-cons (λ (s : List ℕ). 1) set f in omega (arith, rest, e)
+
+pub length-joined : (lists : List (List (List ℕ))) (f : List (List ℕ))
+    → ((size : ℕ) → at_size lists size ≡ of_size size f) → length (joined lists) ≡ length f
+length-joined lists f splits =
+    length-ones (joined lists) ∙ total-joined (λ set. 1) lists f splits ∙ sym (length-ones f)
 
 -- ---- lists put one after the other
 

@@ -2,3 +2,4 @@ pub mod Listing
 pub mod BySize
 pub mod Visits
 pub mod Nodes
+pub mod FamilySizes

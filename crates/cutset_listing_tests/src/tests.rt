@@ -1,4 +1,4 @@
-//! Lists of the sets of some diagrams.
+//! Lists and sizes of the sets of some diagrams.
 ghost use Rattle.std.specs.Prelude.{◌≡◌, ◌≢◌, ◌+◌, ◌*◌, ◌<◌, ◌≤◌, ℕ, IfOk, OnOk};
 ghost use Rattle.unit_sets.specs.Unit.{IsUnit};
 ghost use Rattle.zdd_families.specs.Map.{family};
@@ -6,7 +6,7 @@ ghost use Rattle.zdd_shared_table.specs.Seats.{map_of};
 ghost use Rattle.cutset_listing.specs.Listing.{LacksEmptySet};
 ghost use Rattle.cutset_listing_tests.specs.Made.{IsMade, Keeps};
 
-use cutset_listing::{list, node_count};
+use cutset_listing::{list, node_count, size};
 use std::alloc::Global;
 use std::test::Fail;
 use unit_sets::{CutList, ListEnd, UnitNo};
@@ -123,7 +123,7 @@ fn ways(store: &NodeStore, seat: &mut StoreSeat, count: u16) -> Result<NodeRef, 
     Ok(all)
 }
 
-// Whether a family is listed as these sets, and has so many nodes.
+// Whether a family is listed as these sets, is as large as their list, and has so many nodes.
 fn gives(
     alloc: Global,
     store: &NodeStore,
@@ -138,8 +138,10 @@ fn gives(
     ensures { seat.new ≡ seat.old }
 {
     let counted = node_count(alloc, store, seat, root)?;
+    let of = size(alloc, store, seat, root)?;
     let cuts = list(alloc, store, seat, root)?;
-    Ok(has(&cuts, sets) && counted == nodes)
+    let is_so_large = of.sets == sets.len() as u64 && of.weight == cuts.weight();
+    Ok(has(&cuts, sets) && is_so_large && counted == nodes)
 }
 
 // Each two of the units 1, 2 and 3 are three sets and four nodes. The smaller of two sets comes first.
@@ -171,28 +173,31 @@ fn smaller_sets_come_first(rt: HostRuntime) -> Result<(), Fail> {
     Ok(())
 }
 
-// How many sets the family without sets has, and how many nodes this and the family of the empty set have.
+// How many sets the family without sets has and what they weigh, what that of the empty set weighs, and how many nodes
+// each has.
 fn empty_ones(
     alloc: Global,
     store: &NodeStore,
     seat: &mut StoreSeat,
-) -> Result<(usize, u64, u64), Fail>
+) -> Result<(usize, u64, u64, u64, u64), Fail>
     requires { seat.old.store ≡ store.now }
 {
     let none = node_count(alloc, store, seat, NodeRef::EMPTY)?;
     let unit = node_count(alloc, store, seat, NodeRef::UNIT)?;
+    let no_sets = size(alloc, store, seat, NodeRef::EMPTY)?;
+    let one_set = size(alloc, store, seat, NodeRef::UNIT)?;
     let cuts = list(alloc, store, seat, NodeRef::EMPTY)?;
-    Ok((cuts.len(), none, unit))
+    Ok((cuts.len(), no_sets.weight, one_set.weight, none, unit))
 }
 
-fn empty(alloc: Global) -> Result<(usize, u64, u64), Fail> {
+fn empty(alloc: Global) -> Result<(usize, u64, u64, u64, u64), Fail> {
     let StoreStart { store, mut seat } = NodeStore::new(alloc, 10)?;
     empty_ones(alloc, &store, &mut seat)
 }
 
 #[test]
 fn the_family_without_sets_is_the_empty_list(rt: HostRuntime) -> Result<(), Fail> {
-    assert_eq!(rt; empty(rt.alloc())?, (0, 0, 0));
+    assert_eq!(rt; empty(rt.alloc())?, (0, 0, 1, 0, 0));
     Ok(())
 }
 
@@ -235,34 +240,57 @@ fn six_hundred_pairs_have_twelve_hundred_nodes(rt: HostRuntime) -> Result<(), Fa
     Ok(())
 }
 
-// How many sets nineteen ways make, and their weight.
+// How many sets nineteen ways make, and their weight, by their list and by their nodes.
 fn within_limit(
     alloc: Global,
     store: &NodeStore,
     seat: &mut StoreSeat,
-) -> Result<(usize, u64), Fail>
+) -> Result<(usize, u64, u64, u64), Fail>
     requires { seat.old.store ≡ store.now }
     ensures { seat.new.store ≡ seat.old.store }
 {
     let root = ways(store, seat, 19)?;
+    let of = size(alloc, store, seat, root)?;
     let cuts = list(alloc, store, seat, root)?;
-    Ok((cuts.len(), cuts.weight()))
+    Ok((cuts.len(), cuts.weight(), of.sets, of.weight))
 }
 
-// Whether twenty ways are past the limit, and how many nodes they have.
-fn past_limit(alloc: Global, store: &NodeStore, seat: &mut StoreSeat) -> Result<(bool, u64), Fail>
+// Whether the sets of a family are past the limit.
+fn is_past(
+    alloc: Global,
+    store: &NodeStore,
+    seat: &mut StoreSeat,
+    root: NodeRef,
+) -> Result<bool, Fail>
+    requires own { seat.old.store ≡ store.now }
+    requires made { IsMade (map_of seat.old) 0 root }
+    ensures { seat.new ≡ seat.old }
+{
+    Ok(match size(alloc, store, seat, root) {
+        Ok(_) => false,
+        Err(end) => end == ListEnd::ListLimit,
+    })
+}
+
+// Whether twenty ways are past the limit, by their list and by their nodes, and how many nodes they have.
+fn past_limit(
+    alloc: Global,
+    store: &NodeStore,
+    seat: &mut StoreSeat,
+) -> Result<(bool, bool, u64), Fail>
     requires { seat.old.store ≡ store.now }
 {
     let root = ways(store, seat, 20)?;
     let nodes = node_count(alloc, store, seat, root)?;
-    let is_past = match list(alloc, store, seat, root) {
+    let by_nodes = is_past(alloc, store, seat, root)?;
+    let by_list = match list(alloc, store, seat, root) {
         Ok(_) => false,
         Err(end) => end == ListEnd::ListLimit,
     };
-    Ok((is_past, nodes))
+    Ok((by_list, by_nodes, nodes))
 }
 
-fn limits(alloc: Global) -> Result<((usize, u64), (bool, u64)), Fail> {
+fn limits(alloc: Global) -> Result<((usize, u64, u64, u64), (bool, bool, u64)), Fail> {
     let StoreStart { store, mut seat } = NodeStore::new(alloc, 10)?;
     let within = within_limit(alloc, &store, &mut seat)?;
     let past = past_limit(alloc, &store, &mut seat)?;
@@ -272,7 +300,32 @@ fn limits(alloc: Global) -> Result<((usize, u64), (bool, u64)), Fail> {
 #[test]
 fn the_limit_is_met_between_nineteen_and_twenty(rt: HostRuntime) -> Result<(), Fail> {
     let (within, past) = limits(rt.alloc())?;
-    assert_eq!(rt; within, (524_288, 10_485_760));
-    assert_eq!(rt; past, (true, 40));
+    assert_eq!(rt; within, (524_288, 10_485_760, 524_288, 10_485_760));
+    assert_eq!(rt; past, (true, true, 40));
+    Ok(())
+}
+
+// What 2,047 pairs are in sets and in weight, and whether as many ways are past the limit: 4,094 levels each.
+fn deep_ones(
+    alloc: Global,
+    store: &NodeStore,
+    seat: &mut StoreSeat,
+) -> Result<(u64, u64, bool), Fail>
+    requires { seat.old.store ≡ store.now }
+{
+    let root = pairs(store, seat, 2_047)?;
+    let of = size(alloc, store, seat, root)?;
+    let root = ways(store, seat, 2_047)?;
+    Ok((of.sets, of.weight, is_past(alloc, store, seat, root)?))
+}
+
+fn deep(alloc: Global) -> Result<(u64, u64, bool), Fail> {
+    let StoreStart { store, mut seat } = NodeStore::new(alloc, 14)?;
+    deep_ones(alloc, &store, &mut seat)
+}
+
+#[test]
+fn diagrams_of_all_levels_are_measured(rt: HostRuntime) -> Result<(), Fail> {
+    assert_eq!(rt; deep(rt.alloc())?, (2_047, 6_141, true));
     Ok(())
 }

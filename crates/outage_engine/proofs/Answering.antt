@@ -13,7 +13,7 @@ use Rattle.edge_io.specs.declared.reading.TheConstants.{INPUT_LIMIT}
 use Rattle.board_words.specs.Command.{command_of}
 use Rattle.board_report.specs.CheckText.{check_text}
 use Rattle.cut_texts.specs.CutsText.{cuts_text, listed_with}
-use Rattle.cut_texts.specs.DiagramText.{diagram_text}
+use Rattle.cut_texts.specs.DiagramText.{sizes_text}
 use Rattle.board_report.specs.PrintText.{print_text}
 use Rattle.outage_engine.specs.declared.deck.CrewPart.{CrewPart}
 use Rattle.outage_engine.specs.declared.deck.CrewPart.TheVariants.{Unread, IfAny}
@@ -129,15 +129,20 @@ module _ (bytes : List ℕ) (tree : FaultTree) (crews : Option (List Crew))
       (Ready (with_cuts cuts)) (le-ltb weight_limit (weight cuts) light)))
 
   sizes_said : (sizes : Sizes) → AreSizesOf tree sizes
-      → IsDiagramText (method_by sizes.nodes) bytes (diagram_text sizes.tree sizes.cuts sizes.nodes)
-  sizes_said sizes are = record {
-    found = with_cuts sizes.cuts;
-    finds = finds_cuts sizes.cuts are.all are.light;
-    nodes = sizes.nodes;
-    of_method = refl;
-    counted = are.nodes;
-    is = ap (λ t. diagram_text t sizes.cuts sizes.nodes) are.of_tree;
-  }
+      → IsDiagramText (method_by sizes.nodes) bytes (sizes_text sizes.tree sizes.cuts sizes.members sizes.nodes)
+  sizes_said sizes are =
+      let has = are.counts in
+      record {
+        found = with_cuts has.list;
+        finds = finds_cuts has.list has.all has.light;
+        nodes = sizes.nodes;
+        of_method = refl;
+        counted = are.nodes;
+        is =
+            ap (λ t. sizes_text t sizes.cuts sizes.members sizes.nodes) are.of_tree
+            ∙ ap (λ n. sizes_text tree n sizes.members sizes.nodes) has.counted
+            ∙ ap (λ n. sizes_text tree (length has.list) n sizes.nodes) has.summed;
+      }
 
 -- ---- a fact of the bytes that were read is one of the input
 
@@ -173,10 +178,11 @@ module _ (held left : Option (List ℕ)) (tree : FaultTree) (crews : Option (Lis
   pub diagram_of_input : (sizes : Sizes) → OfInput held left (λ bytes. IsWellFormed Unread bytes tree crews)
       → AreSizesOf tree sizes
       → OfInput held left (λ bytes. IsDiagramText (method_by sizes.nodes) bytes
-      (diagram_text sizes.tree sizes.cuts sizes.nodes))
+      (sizes_text sizes.tree sizes.cuts sizes.members sizes.nodes))
   diagram_of_input sizes read are =
       of_input held left (λ bytes. IsWellFormed Unread bytes tree crews)
-      (λ bytes. IsDiagramText (method_by sizes.nodes) bytes (diagram_text sizes.tree sizes.cuts sizes.nodes))
+      (λ bytes. IsDiagramText (method_by sizes.nodes) bytes
+      (sizes_text sizes.tree sizes.cuts sizes.members sizes.nodes))
       (λ bytes deck. sizes_said bytes tree crews deck sizes are) read
 
   pub check_of_input : OfInput held left (λ bytes. IsWellFormed IfAny bytes tree crews)

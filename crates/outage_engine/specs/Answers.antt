@@ -1,6 +1,8 @@
 -- An answer before it is written, or why there is none, and what it has to do with the deck.
-use Rattle.std.specs.Prelude.{◌≡◌, ◌⊎◌, ℕ, ◌<◌, ◌≤◌, List, All, Option, Result, Err}
+use Rattle.std.specs.Prelude.{◌≡◌, ◌⊎◌, ℕ, ◌<◌, ◌≤◌, List, All, Option, Result, Err, length}
 use Rattle.unit_sets.specs.CutOrder.{weight, weight_limit}
+use Rattle.unit_sets.specs.declared.refusal.ListEnd.{ListEnd}
+use Rattle.unit_sets.specs.declared.refusal.ListEnd.TheVariants as list
 use Rattle.fault_definitions.specs.Tree.{FaultTree, IsUnitOf}
 use Rattle.fault_definitions.specs.Cut.{IsCutList}
 use Rattle.fault_words.specs.declared.place.Place.{Place}
@@ -18,7 +20,7 @@ use Rattle.statement_faults.specs.Checked.{IsFirstFault}
 use Rattle.statement_faults.specs.declared.fault.CheckCode.{CheckCode}
 use Rattle.board_report.specs.CheckText.{check_text}
 use Rattle.cut_texts.specs.CutsText.{cuts_text, listed_with}
-use Rattle.cut_texts.specs.DiagramText.{diagram_text}
+use Rattle.cut_texts.specs.DiagramText.{member_count, sizes_text}
 use Rattle.cut_texts.specs.OrdersOfUnits.{AreOrdersOf}
 use Rattle.board_report.specs.PrintText.{print_text}
 use Rattle.cut_texts.specs.UnitTexts.{AreTextsOf}
@@ -91,7 +93,7 @@ summed_text summary = summary_text summary.number summary.listing.tree summary.l
 -- what is written for an answer: the text of its command, or the refusal's line
 abbrev pub text_of : Answer → List ℕ
 text_of (Cuts listing) = listing_text listing
-text_of (Diagram sizes) = diagram_text sizes.tree sizes.cuts sizes.nodes
+text_of (Diagram sizes) = sizes_text sizes.tree sizes.cuts sizes.members sizes.nodes
 text_of (Checked deck) = check_text deck.tree deck.crews
 text_of (Printed tree) = print_text tree
 text_of (Made deck) = deck
@@ -172,17 +174,29 @@ IsLimitOf most tree OrderLimit =
     × (order_limit < order_total (order_lists tree cuts most))
 IsLimitOf most tree _ = ⊥
 
--- the cut list of a tree within its limit, and the number of nodes of its family, where that is known
+-- a tree has so many cut sets, with so many members in all, and their list is within its limit
+pub record AreCountsOf (tree : FaultTree) (cuts members : ℕ) : Type 0 where
+  pub list : List (List ℕ)
+  pub all : IsCutList tree list
+  pub light : weight list ≤ weight_limit
+  pub counted : cuts ≡ length list
+  pub summed : members ≡ member_count list
+
+-- how large the cut list of a tree is, and the number of nodes of its family, where that is known
 pub record AreSizesOf (tree : FaultTree) (sizes : Sizes) : Type 0 where
   pub of_tree : sizes.tree ≡ tree
-  pub all : IsCutList tree sizes.cuts
-  pub light : weight sizes.cuts ≤ weight_limit
+  pub counts : AreCountsOf tree sizes.cuts sizes.members
   pub nodes : AreNodesOf tree sizes.nodes
 
 -- the limit of weight is passed
 abbrev pub IsWeightLimitOf : FaultTree → Refusal → Type 0
 IsWeightLimitOf tree ListLimit = HasHeavyCutList tree
 IsWeightLimitOf tree _ = ⊥
+
+-- how a run ends whose cut list is not to be had
+abbrev pub end_without : ListEnd → RunEnd
+end_without list.ListLimit = run.Refused ListLimit
+end_without list.NoMemory = run.NoMemory
 
 -- what was found, as the deck's tree, cut list and crews
 abbrev pub found_in : Listing → Option (List Crew) → Found

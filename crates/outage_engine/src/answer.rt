@@ -9,7 +9,7 @@ ghost use Rattle.outage_engine.specs.Runs.{IsNoBoard};
 ghost use Rattle.outage_engine.specs.Store.{method_by};
 ghost use Rattle.outage_engine.specs.StoreAfter.{BearsOut, GoesFor, GoesForDeck};
 ghost use Rattle.outage_engine.specs.Texts.{IsCutsText, IsDiagramText, for_cuts, for_diagram};
-ghost use Rattle.cut_texts.specs.DiagramText.{diagram_text};
+ghost use Rattle.cut_texts.specs.DiagramText.{sizes_text};
 ghost use Rattle.outage_engine.specs.declared.status.Status.TheVariants.{Done};
 
 use crate::deck::{CrewPart, DeckParts};
@@ -179,7 +179,8 @@ fn size_input<R: Threads + Sync, S: Source>(
     requires own { seat.old.store ≡ store.now }
     requires share { TEAM_SHARE ≤ seat.old.share }
     ensures text { IfOk result (λ sizes. OfInput (S.held source.old) (S.held source.new)
-        (λ bytes. IsDiagramText (method_by sizes.nodes) bytes (diagram_text sizes.tree sizes.cuts sizes.nodes))) }
+        (λ bytes. IsDiagramText (method_by sizes.nodes) bytes
+        (sizes_text sizes.tree sizes.cuts sizes.members sizes.nodes))) }
     ensures refused { IfErr result (IfRefused (IsRefusalFor for_diagram (S.held source.old) (S.held source.new)
         (Rose (S.faults source.old) (S.faults source.new)))) }
     ensures method { IfOk result (λ sizes. BearsOut None (S.held source.old) (S.held source.new) seat.old seat.new

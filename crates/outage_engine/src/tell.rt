@@ -15,8 +15,7 @@ use crate::listing::Listing;
 use crate::refusal::Refusal;
 use crate::summary::Summary;
 use board_report::{
-    Notice, put_board, put_check, put_cuts, put_diagram, put_fault, put_notice, put_summary,
-    put_tree,
+    Notice, put_board, put_check, put_cuts, put_fault, put_notice, put_sizes, put_summary, put_tree,
 };
 use edge_io::{Buffer, Out, Sink, WriteFault};
 use outage_board::BoardState;
@@ -53,7 +52,9 @@ fn put_answer<K: Sink>(out: &mut Out<K>, answer: &Answer) -> Result<(), WriteFau
 {
     match answer {
         Answer::Cuts(listing) => put_listing(out, listing),
-        Answer::Diagram(sizes) => put_diagram(out, &sizes.tree, &sizes.cuts, sizes.nodes),
+        Answer::Diagram(sizes) => {
+            put_sizes(out, &sizes.tree, sizes.cuts, sizes.members, sizes.nodes)
+        }
         Answer::Checked(deck) => put_deck(out, deck),
         Answer::Printed(tree) => put_tree(out, tree),
         Answer::Made(deck) => out.put(deck.as_slice()),

@@ -1,0 +1,151 @@
+-- The size of a branch, and the sizes that are found on the way to it.
+use Rattle.std.proofs.Common.{◌≡◌, ◌≢◌, ℕ, ◌+◌, ◌*◌, ◌<◌, ◌≤◌, List, [], ◌∷◌, ◌++◌, length, refl, sym, ◌∙◌}
+use Rattle.std.proofs.Common.{ap, subst}
+use Rattle.std.proofs.Common.{inl, inr, arith, length-append}
+use Rattle.std.specs.Prelude.{nat_eq, Some, IfSome, Result, Ok, Err, IfOk, OnOk}
+use Rattle.std.proofs.lemmas.Bool.{cases_Bool, cond-true, cond-false, eqb-true}
+use Rattle.unit_sets.specs.CutOrder.{weight, weight_limit}
+use Rattle.unit_sets.specs.declared.refusal.ListEnd.{ListEnd}
+use Rattle.zdd_families.specs.Family.{branch, each_with}
+use Rattle.zdd_families.specs.Map.{family}
+use Rattle.zdd_families.proofs.MapLemmas.{family-empty, family-unit}
+use Rattle.cutset_listing.specs.FamilySizes.{AreSizes, IsSizeOf, size_at, with_size}
+use Rattle.cutset_listing.specs.declared.measure.FamilySize.{FamilySize}
+use Rattle.cutset_listing.proofs.Behind.{parts_weigh_less, weight-append, weight-cons}
+
+-- ---- how many sets a branch has, and what they weigh
+
+length-each_with : (x : ℕ) (f : List (List ℕ)) → length (each_with x f) ≡ length f
+length-each_with x [] = refl
+length-each_with x (set ∷ f) = let rest = length-each_with x f in omega (arith, rest)
+
+weight-each_with : (x : ℕ) (f : List (List ℕ)) → weight (each_with x f) ≡ weight f + length f
+weight-each_with x [] = refl
+weight-each_with x (set ∷ f) =
+    let rest = weight-each_with x f in
+    let e = weight-cons set f in
+    let e' = weight-cons (x ∷ set) (each_with x f) in
+    omega (arith, rest, e, e')
+
+pub length-branch : (x : ℕ) (lo hi : List (List ℕ)) → length (branch x lo hi) ≡ length lo + length hi
+length-branch x [] hi = let e = length-each_with x hi in omega (arith, e)
+length-branch x ([] ∷ others) hi =
+    let e = length-append (each_with x hi) others in let e' = length-each_with x hi in omega (arith, e, e')
+length-branch x ((unit ∷ set) ∷ others) hi =
+    let e = length-append (each_with x hi) ((unit ∷ set) ∷ others) in
+    let e' = length-each_with x hi in
+    omega (arith, e, e')
+
+pub weight-branch : (x : ℕ) (lo hi : List (List ℕ)) → weight (branch x lo hi) ≡ weight lo + (weight hi + length hi)
+weight-branch x [] hi = let e = weight-each_with x hi in omega (arith, e)
+weight-branch x ([] ∷ others) hi =
+    let a = weight-cons [] (each_with x hi ++ others) in
+    let b = weight-append (each_with x hi) others in
+    let d = weight-each_with x hi in
+    let e = weight-cons [] others in
+    omega (arith, a, b, d, e)
+weight-branch x ((unit ∷ set) ∷ others) hi =
+    let b = weight-append (each_with x hi) ((unit ∷ set) ∷ others) in
+    let d = weight-each_with x hi in
+    omega (arith, b, d)
+
+-- each set weighs one at least
+pub light_count : (f : List (List ℕ)) → length f ≤ weight f
+light_count [] = omega arith
+light_count (set ∷ f) = let rest = light_count f in let e = weight-cons set f in omega (arith, rest, e)
+
+-- ---- the sizes that were found
+
+pub none_found : (known : ℕ → ℕ) → AreSizes known []
+none_found known r = tt
+
+pub one_more_found : (known : ℕ → ℕ) (old new : List (ℕ × FamilySize)) (r : ℕ) (size : FamilySize)
+    → AreSizes known old → IsSizeOf (family known r) size → ((q : ℕ) → size_at new q ≡ with_size r size old q)
+    → AreSizes known new
+one_more_found known old new r size are is put q =
+    subst (λ s. IfSome s (IsSizeOf (family known q))) (sym (put q)) (elim (cases_Bool (nat_eq r q)) [
+      | inl same ↦ subst (λ s. IfSome s (IsSizeOf (family known q)))
+          (sym (cond-true (nat_eq r q) (Some size) (size_at old q) same))
+          (subst (λ n. IsSizeOf (family known n) size) (eqb-true r q same) is)
+      | inr other ↦ subst (λ s. IfSome s (IsSizeOf (family known q)))
+          (sym (cond-false (nat_eq r q) (Some size) (size_at old q) other)) (are q)
+    ])
+
+-- ---- a node and its parts
+
+pub empty_size : (known : ℕ → ℕ) (r : ℕ) → r ≡ 0 → IsSizeOf (family known r) (record { sets = 0; weight = 0 })
+empty_size known r is =
+    subst (λ f. IsSizeOf f (record { sets = 0; weight = 0 })) (sym (ap (family known) is ∙ family-empty known))
+    (record { count = refl; weighs = refl; light = omega arith })
+
+pub unit_size : (known : ℕ → ℕ) (r : ℕ) → r ≡ 1 → IsSizeOf (family known r) (record { sets = 1; weight = 1 })
+unit_size known r is =
+    subst (λ f. IsSizeOf f (record { sets = 1; weight = 1 })) (sym (ap (family known) is ∙ family-unit known))
+    (record { count = refl; weighs = refl; light = omega arith })
+
+-- the family of a reference is the branch of those of two others, of which the second has sets
+pub record HasParts (known : ℕ → ℕ) (r x lo hi : ℕ) : Type 0 where
+  pub branch : family known r ≡ branch x (family known lo) (family known hi)
+  pub filled : family known hi ≢ []
+
+module _ (known : ℕ → ℕ) (r x lo hi : ℕ) (parts : HasParts known r x lo hi) where
+  weight_of_parts : weight (family known r) ≡ weight (family known lo) + (weight (family known hi)
+      + length (family known hi))
+  weight_of_parts = ap weight parts.branch ∙ weight-branch x (family known lo) (family known hi)
+
+  both_less : weight (family known lo) + weight (family known hi) < weight (family known r)
+  both_less =
+      let e = ap weight parts.branch in
+      let less = parts_weigh_less x (family known lo) (family known hi) parts.filled in
+      omega (arith, e, less)
+
+  pub lo_less : 2 * weight (family known lo) + 1 < 2 * weight (family known r)
+  lo_less = let less = both_less in omega (arith, less)
+
+  pub hi_less : 2 * weight (family known hi) + 1 < 2 * weight (family known r)
+  hi_less = let less = both_less in omega (arith, less)
+
+  pub lo_heavy : weight_limit < weight (family known lo) → weight_limit < weight (family known r)
+  lo_heavy heavy = let less = both_less in omega (arith, less, heavy)
+
+  pub hi_heavy : weight_limit < weight (family known hi) → weight_limit < weight (family known r)
+  hi_heavy heavy = let less = both_less in omega (arith, less, heavy)
+
+  module _ (of_lo of_hi : FamilySize) (lo_is : IsSizeOf (family known lo) of_lo)
+      (hi_is : IsSizeOf (family known hi) of_hi) where
+    pub few_sets : (of_lo.sets ≤ of_lo.weight) × (of_hi.sets ≤ of_hi.weight)
+    few_sets =
+        let a = light_count (family known lo) in
+        let b = light_count (family known hi) in
+        let c = lo_is.count in let d = lo_is.weighs in let e = hi_is.count in let f = hi_is.weighs in
+        (omega (arith, a, c, d), omega (arith, b, e, f))
+
+    weighs_so : weight (family known r) ≡ of_lo.weight + (of_hi.weight + of_hi.sets)
+    weighs_so =
+        let a = weight_of_parts in
+        let b = lo_is.weighs in let c = hi_is.weighs in let d = hi_is.count in
+        omega (arith, a, b, c, d)
+
+    pub both_heavy : weight_limit < of_lo.weight + (of_hi.weight + of_hi.sets)
+        → weight_limit < weight (family known r)
+    both_heavy heavy = let a = weighs_so in omega (arith, a, heavy)
+
+    pub size_of_parts : (size : FamilySize) → size.sets ≡ of_lo.sets + of_hi.sets
+        → size.weight ≡ of_lo.weight + (of_hi.weight + of_hi.sets)
+        → of_lo.weight + (of_hi.weight + of_hi.sets) ≤ weight_limit → IsSizeOf (family known r) size
+    size_of_parts size sets weighs light =
+        let a = ap length parts.branch ∙ length-branch x (family known lo) (family known hi) in
+        let b = lo_is.count in let c = hi_is.count in let d = weighs_so in
+        record {
+          count = omega (arith, sets, a, b, c);
+          weighs = omega (arith, weighs, d);
+          light = omega (arith, light, d);
+        }
+
+    pub sized_of_parts : (result : Result FamilySize ListEnd)
+        → IfOk result (λ size. size.sets ≡ of_lo.sets + of_hi.sets)
+        → IfOk result (λ size. size.weight ≡ of_lo.weight + (of_hi.weight + of_hi.sets))
+        → OnOk result (of_lo.weight + (of_hi.weight + of_hi.sets) ≤ weight_limit)
+        → IfOk result (IsSizeOf (family known r))
+    sized_of_parts (Ok size) sets weighs light = size_of_parts size sets weighs light
+    sized_of_parts (Err end) sets weighs light = tt
