@@ -6,7 +6,8 @@ use std::sync::Wait;
 use std::test::Fail;
 use std::thread::Threads;
 
-const SYSTEM: &[u8] = br#"toplevel "SYSTEM";
+// A real system and a crew of its own.
+pub(super) const SYSTEM: &[u8] = br#"toplevel "SYSTEM";
 "SYSTEM" or "CPU" "MOTOR" "PUMPS";
 "CPU" wsp "P" "B";
 "DEP" fdep "TRIGGER" "P" "B";   // both processors need the bus

@@ -1,5 +1,6 @@
 //! Whole runs of `cuts`, `check` and `print`, from words and bytes to bytes, and runs of words that are no command.
-use super::runs::{ONCE, SOUND, Trial, answer, check_table, check_told};
+use super::board_tests::SYSTEM;
+use super::runs::{ONCE, SOUND, Trial, answer, check_run, check_table, check_told};
 use std::alloc::Global;
 use std::process::Abort;
 use std::sync::Wait;
@@ -209,33 +210,8 @@ fn prints_the_failing_orders(rt: HostRuntime) -> Result<(), Fail> {
     check_table(&rt, rt.alloc(), ONCE, 12, ORDERS)
 }
 
-// A real system, with and without its orders, by any number of workers.
-const SYSTEM: &str = r#"
-$ cuts --workers 16 --most 0
-toplevel "SYSTEM";
-"SYSTEM" or "CPU" "MOTOR" "PUMPS";
-"CPU" wsp "P" "B";
-"DEP" fdep "TRIGGER" "P" "B";   // both processors need the bus
-"TRIGGER" or "CS" "SS";
-"MOTOR" or "SWITCH" "MOTORS";
-"SWITCH" pand "MS" "MA";
-"MOTORS" csp "MA" "MB";
-"PUMPS" and "PUMP1" "PUMP2";
-"PUMP1" csp "PA" "PSA";
-"PUMP2" csp "PB" "PSB";
-"P" lambda=0.0005 dorm=0;
-"B" lambda=0.0005 dorm=0.5;
-"CS" lambda=0.0002 dorm=0;
-"SS" lambda=0.0002 dorm=0;
-"MS" lambda=0.00001 dorm=0;
-"MA" lambda=0.001 dorm=0;
-"MB" lambda=0.001 dorm=0;
-"PA" lambda=0.001 dorm=0;
-"PSA" lambda=0.001 dorm=0;
-"PB" lambda=0.001 dorm=0;
-"PSB" lambda=0.001 dorm=0;
-
-=> 0 done by diagram
+// A real system, without its orders and with them, by any number of workers.
+const UNLISTED: &str = "0 done by diagram
 tree: 11 units, 10 gates, top SYSTEM
 cuts: 6, orders: 0
 cut 1: CS
@@ -250,32 +226,9 @@ cut 5: MA MB
   (not listed)
 cut 6: PA PSA PB PSB
   (not listed)
+";
 
-$ cuts --workers 1 | cuts --workers 2 | cuts --workers 16 | cuts --most 4
-toplevel "SYSTEM";
-"SYSTEM" or "CPU" "MOTOR" "PUMPS";
-"CPU" wsp "P" "B";
-"DEP" fdep "TRIGGER" "P" "B";   // both processors need the bus
-"TRIGGER" or "CS" "SS";
-"MOTOR" or "SWITCH" "MOTORS";
-"SWITCH" pand "MS" "MA";
-"MOTORS" csp "MA" "MB";
-"PUMPS" and "PUMP1" "PUMP2";
-"PUMP1" csp "PA" "PSA";
-"PUMP2" csp "PB" "PSB";
-"P" lambda=0.0005 dorm=0;
-"B" lambda=0.0005 dorm=0.5;
-"CS" lambda=0.0002 dorm=0;
-"SS" lambda=0.0002 dorm=0;
-"MS" lambda=0.00001 dorm=0;
-"MA" lambda=0.001 dorm=0;
-"MB" lambda=0.001 dorm=0;
-"PA" lambda=0.001 dorm=0;
-"PSA" lambda=0.001 dorm=0;
-"PB" lambda=0.001 dorm=0;
-"PSB" lambda=0.001 dorm=0;
-
-=> 0 done by diagram
+const LISTED: &str = "0 done by diagram
 tree: 11 units, 10 gates, top SYSTEM
 cuts: 6, orders: 12
 cut 1: CS
@@ -296,11 +249,21 @@ cut 6: PA PSA PB PSB
   PB PA PSA PSB
   PB PA PSB PSA
   PB PSB PA PSA
-"#;
+";
 
 #[test]
 fn any_number_of_workers_prints_the_same_of_a_real_system(rt: HostRuntime) -> Result<(), Fail> {
-    check_table(&rt, rt.alloc(), ONCE, 2, SYSTEM)
+    check_run(
+        &rt,
+        rt.alloc(),
+        "cuts --workers 16 --most 0",
+        SYSTEM,
+        UNLISTED,
+    )?;
+    check_run(&rt, rt.alloc(), "cuts --workers 1", SYSTEM, LISTED)?;
+    check_run(&rt, rt.alloc(), "cuts --workers 2", SYSTEM, LISTED)?;
+    check_run(&rt, rt.alloc(), "cuts --workers 16", SYSTEM, LISTED)?;
+    check_run(&rt, rt.alloc(), "cuts --most 4", SYSTEM, LISTED)
 }
 
 const FAULTS: &str = r#"
