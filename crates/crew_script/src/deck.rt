@@ -10,14 +10,14 @@ use deck_limits::MOST_BYTES;
 pub const LONGEST_DECK: usize = MOST_BYTES;
 
 /// Where the crew part of a deck begins: the place of its first byte, and the number of its first line.
-#[derive(Clone, Copy, Debug, PartialEq, Eq)]
+#[derive(Clone, Copy)]
 pub struct CrewsAt {
     pub start: usize,
     pub line: u32,
 }
 
 /// The parts of a deck: how many bytes the tree part has, and where the crew part begins, if the deck has one.
-#[derive(Clone, Copy, PartialEq, Eq)]
+#[derive(Clone, Copy)]
 pub struct Split {
     pub tree: usize,
     pub crews: Option<CrewsAt>,

@@ -20,7 +20,7 @@ pub enum CrewCode {
 }
 
 /// Why a crew part was refused.
-#[derive(Clone, Copy, Debug, PartialEq, Eq)]
+#[derive(Clone, Copy)]
 pub enum CrewFault {
     /// The fault of the first line that has one, and that line's first column.
     Fault(CrewCode, Place),

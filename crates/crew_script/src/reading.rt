@@ -1,5 +1,8 @@
 //! The crews of the lines that are read.
-ghost use Rattle.std.specs.Prelude.{◌≡◌, [], ◌∷◌, ◌++◌, None, IfOk};
+ghost use Rattle.std.specs.Prelude.{◌≡◌, [], ◌∷◌, ◌++◌, None, IfOk, IsTrue, OnOk, if◌then◌else◌};
+ghost use Rattle.std.specs.List.{list_any};
+ghost use Rattle.fault_words.specs.Name.{is_name};
+ghost use Rattle.fault_words.specs.Names.{same_name};
 ghost use Rattle.crew_script.specs.Reading.{joined};
 ghost use Rattle.crew_script.specs.Dockets.{HasMargin, IsDockets};
 ghost use Rattle.crew_script.specs.Lines.{SaysMargin};
@@ -108,19 +111,22 @@ impl Reading {
             last,
             total,
         } = self;
-        let mut names = names;
-        names.insert(Name::of(alloc, name.as_slice())?)?;
         let closed = all_crews(closed, last)?;
-        let crew = Crew {
-            name,
-            docket: GrowingList::new(alloc),
-        };
-        Ok(Reading {
-            names,
-            closed,
-            last: Some(crew),
-            total,
-        })
+        match with_name(alloc, names, name.as_slice()) {
+            Ok(names) => Ok(Reading {
+                names,
+                closed,
+                last: Some(Crew {
+                    name,
+                    docket: GrowingList::new(alloc),
+                }),
+                total,
+            }),
+            Err(end) => {
+                drop(closed);
+                Err(end)
+            }
+        }
     }
 
     fn with_request(self, ask: Ask) -> Result<Reading, AllocError>
@@ -135,12 +141,19 @@ impl Reading {
             total,
         } = self;
         match last {
-            Some(crew) => Ok(Reading {
-                names,
-                closed,
-                last: Some(asked(crew, ask)?),
-                total: total + 1,
-            }),
+            Some(crew) => match asked(crew, ask) {
+                Ok(crew) => Ok(Reading {
+                    names,
+                    closed,
+                    last: Some(crew),
+                    total: total + 1,
+                }),
+                Err(end) => {
+                    drop(names);
+                    drop(closed);
+                    Err(end)
+                }
+            },
             None => unreachable!(),
         }
     }
@@ -151,13 +164,43 @@ impl Reading {
         ensures kept { IfOk result IsDockets }
     {
         let Reading {
+            names,
             closed,
             last,
             total,
-            ..
         } = self;
+        drop(names);
         Ok(Dockets::of(all_crews(closed, last)?, total))
     }
+}
+
+// The names with one more. The index has a copy of it.
+fn with_name(
+    alloc: Global,
+    names: IndexSet<Name>,
+    name: &[u8],
+) -> Result<IndexSet<Name>, AllocError>
+    requires form { IsTrue (is_name name.now) }
+    ensures { IfOk result (λ more. more.keys ≡ if list_any (same_name name.now) names.keys
+        then names.keys else names.keys ++ name.now ∷ []) }
+{
+    let mut more = names;
+    match add_name(alloc, &mut more, name) {
+        Ok(()) => Ok(more),
+        Err(end) => {
+            drop(more);
+            Err(end)
+        }
+    }
+}
+
+fn add_name(alloc: Global, names: &mut IndexSet<Name>, name: &[u8]) -> Result<(), AllocError>
+    requires form { IsTrue (is_name name.now) }
+    ensures { OnOk result (names.new.keys ≡ if list_any (same_name name.now) names.old.keys
+        then names.old.keys else names.old.keys ++ name.now ∷ []) }
+{
+    names.insert(Name::of(alloc, name)?)?;
+    Ok(())
 }
 
 // The crews, of which the last stands apart.

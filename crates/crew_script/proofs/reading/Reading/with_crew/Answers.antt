@@ -11,11 +11,10 @@ invariant_of-result c =
     let crews = c.in_ok-closed.closed in
     let joined = c.in_ok-closed.ensures in
     let none : crew_fault crews c.args.name ≡ None = grind (arith, joined, c.self.view_is, c.requires.faultless) in
-    let key = c.in_ok-of.ensures ∙ c.as_slice.ensures.bytes in
-    let made = reading_crew crews c.self.inside.names.keys c.insert.new.self.keys c.args.name c.self.inside.total
+    let made = reading_crew crews c.self.inside.names.keys c.in-Ok.names.keys c.args.name c.self.inside.total
     c.as_slice.ensures.form (c.self.invariant.named ∙ ap names_of (sym joined))
     (c.self.invariant.counted ∙ ap request_count (sym joined))
     (subst IsDockets (sym joined) c.self.invariant.kept) none
-    (c.in_ok-insert.ensures.keys ∙ key_added c.self.inside.names.keys c.in_ok-of.field-0 c.args.name key) in
-    subst (λ d. IsReading c.insert.new.self.keys crews (Some (record { name = c.args.name; docket = d }))
+    (c.in-Ok.ensures ∙ key_added c.self.inside.names.keys c.as_slice.result.now c.args.name c.as_slice.ensures.bytes) in
+    subst (λ d. IsReading c.in-Ok.names.keys crews (Some (record { name = c.args.name; docket = d }))
     c.self.inside.total) (sym c.new.ensures) made

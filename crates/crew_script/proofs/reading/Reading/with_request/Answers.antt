@@ -15,10 +15,10 @@ invariant_of-result c =
     subst (λ l. IsReading keys closed l total) c.in-Some.is c.self.invariant in
     let none : request_fault (closed ++ crew ∷ []) ≡ None =
     grind (arith, c.self.view_is, c.in-Some.is, c.requires.faultless) in
-    subst (λ more. IsReading keys closed (Some more) (total + 1)) (sym c.in_ok-asked-in-Some.ensures)
+    subst (λ more. IsReading keys closed (Some more) (total + 1)) (sym c.in-Ok.ensures)
     (reading_request keys closed crew total c.args.ask old none c.requires.margin)
 
-pub returns : goal.returns
-returns c =
+pub returns-in-Ok : goal.returns-in-Ok
+returns-in-Ok c =
     let last = ask_last c.self.inside.closed c.in-Some.crew c.args.ask in
-    grind (arith, last, c.self.view_is, c.in-Some.is, c.in_ok-asked-in-Some.ensures)
+    grind (arith, last, c.self.view_is, c.in-Some.is, c.in-Ok.ensures)
