@@ -65,13 +65,26 @@ impl Board {
     {
         let state = BoardState::open(alloc, tree, cuts, dockets, margin)?;
         let crews = state.crews();
-        let passes = Vec::with_capacity(alloc, crews as usize)?;
-        let (table, place) = laid(alloc, state)?;
-        let passes = dealt(&table.shared, place, crews, passes);
-        Ok(BoardStart {
-            board: Board { table },
-            passes: Passes::of(passes, crews as usize),
-        })
+        let passes = match Vec::with_capacity(alloc, crews as usize) {
+            Ok(passes) => passes,
+            Err(end) => {
+                drop(state);
+                return Err(end);
+            }
+        };
+        match laid(alloc, state) {
+            Ok((table, place)) => {
+                let passes = dealt(&table.shared, place, crews, passes);
+                Ok(BoardStart {
+                    board: Board { table },
+                    passes: Passes::of(passes, crews as usize),
+                })
+            }
+            Err(end) => {
+                drop(passes);
+                Err(end)
+            }
+        }
     }
 
     /// Waits for the turn, serves the next request of the pass's crew, and gives the turn back. None exactly where as

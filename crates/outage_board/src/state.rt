@@ -77,22 +77,28 @@ impl BoardState {
           history = [];
         }) }
     {
-        let kept = dockets.copied(alloc)?;
-        let requests = all_requests(alloc, tree, dockets)?;
         let places = vec![in alloc; 0; dockets.crews() as usize]?;
         let history = Vec::with_capacity(alloc, dockets.total() as usize)?;
-        // The largest part comes last, so that it is let go on no way out.
+        let requests = all_requests(alloc, tree, dockets)?;
         let supervisor = supervisor_of(dockets);
-        let standing = Standing::new(alloc, tree.units(), cuts, margin, supervisor)?;
-        Ok(BoardState {
-            dockets: kept,
-            opening_margin: margin,
-            requests,
-            places,
-            standing,
-            history,
-            inside: PhantomData,
-        })
+        // The largest parts come last, so that they are let go on few ways out.
+        let kept = dockets.copied(alloc)?;
+        match Standing::new(alloc, tree.units(), cuts, margin, supervisor) {
+            Ok(standing) => Ok(BoardState {
+                dockets: kept,
+                opening_margin: margin,
+                requests,
+                places,
+                standing,
+                history,
+                inside: PhantomData,
+            }),
+            Err(end) => {
+                drop(kept);
+                drop(requests);
+                Err(end)
+            }
+        }
     }
 
     // The entry of a crew's next request.

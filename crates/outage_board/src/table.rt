@@ -27,7 +27,13 @@ pub(crate) fn laid(alloc: Global, state: BoardState) -> Result<(BoardTable, Plac
     ensures place { IfOk result (λ made. made.1.me ≡ (first_view made.0.shared.key.value, [])) }
 {
     let opened = Snapshot::of(&state);
-    let mut slots = Vec::with_capacity(alloc, 1)?;
+    let mut slots = match Vec::with_capacity(alloc, 1) {
+        Ok(slots) => slots,
+        Err(end) => {
+            drop(state);
+            return Err(end);
+        }
+    };
     slots.push_reserved(state);
     match Table::new(alloc, &[FREE], slots, &opened) {
         Ok(made) => Ok(made),

@@ -11,6 +11,6 @@ new-requires c =
     let about = c.of-opened.result in
     let state = c.args.state in
     let items =
-    c.push_reserved.ensures.items ∙ ap (λ (l : List BoardView). l ++ state ∷ []) c.in_ok-slots.ensures.items in
+    c.push_reserved.ensures.items ∙ ap (λ (l : List BoardView). l ++ state ∷ []) c.in-Ok.ensures.items in
     subst (λ (l : List BoardView). KeepsTurns about (opening (0 ∷ []) l (first_view about.value))) (sym items)
     (opens_table about state c.of-opened.ensures c.requires.empty)

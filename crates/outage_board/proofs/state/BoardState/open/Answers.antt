@@ -12,5 +12,5 @@ invariant_of-result c =
     opens c.args.tree.now c.args.cuts.now crews c.args.margin _ c.crews.ensures.kept
     (let cap = c.in_ok-history.ensures.capacity in omega arith)
     _ _ _ _ c.units.result c.supervisor_of-supervisor.result c.in_ok-kept.kept c.in_ok-kept.ensures
-    c.units.ensures.count c.supervisor_of-supervisor.ensures c.in_ok-standing.ensures
+    c.units.ensures.count c.supervisor_of-supervisor.ensures c.in-Ok.ensures
     c.in_ok-requests.ensures c.in_ok-history.ensures.items (next ∙ ap (λ n. replicate n 0) many)
