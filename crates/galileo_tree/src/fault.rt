@@ -27,7 +27,7 @@ pub enum What {
 }
 
 /// Why a text was not read.
-#[derive(Clone, Copy, Debug, PartialEq, Eq)]
+#[derive(Clone, Copy)]
 pub enum ParseFault {
     /// A token that cannot be formed.
     Lex(LexFault),

@@ -3,12 +3,13 @@ ghost use Rattle.std.specs.Prelude.{◌≡◌, ◌≤◌, ℕ, List, [], ◌∷�
 ghost use Rattle.fault_words.specs.Name.{is_bare_name};
 ghost use Rattle.galileo_tree.specs.declared.raw.Placed.{Placed};
 ghost use Rattle.galileo_tree.specs.declared.raw.RawAttribute.{RawAttribute};
+ghost use Rattle.galileo_tree.specs.declared.raw.Statement.TheVariants.{Gate as GateRead, Basic as BasicRead};
 ghost use Rattle.galileo_tree.specs.declared.fault.ParseFault.TheVariants.{NoMemory};
 ghost use Rattle.galileo_tree.specs.ReadTree.{HasShortNumbers, HasBareWord};
 ghost use Rattle.galileo_tree.specs.Lexeme.{is_value, placed};
 ghost use Rattle.galileo_tree.specs.Parsed.{Outside, TopWord, Defined, GateWord, Inputs, AttributeWord};
-ghost use Rattle.galileo_tree.specs.Parsed.{AttributeEquals, parsed_text};
-ghost use Rattle.galileo_tree.specs.Reads.{Reads, Steps, Values, NextWord, FailsAs, before};
+ghost use Rattle.galileo_tree.specs.Parsed.{AttributeEquals, parsed_text, parsed_from};
+ghost use Rattle.galileo_tree.specs.Reads.{Reads, Steps, Values, NextWord, FailsAs, Closes, before};
 
 use crate::fault::{ParseFault, What};
 use crate::lexeme::Lexeme;
@@ -65,11 +66,11 @@ fn top(alloc: Global, reader: &mut Reader, word: Place) -> Result<Statement, Par
     if !lexeme.is_name() {
         return Err(ParseFault::Expected(What::Name, lexeme.place()));
     }
-    let name = lexeme.placed(alloc)?;
     let close = reader.want(What::Semicolon)?;
     if !close.is_semicolon() {
         return Err(ParseFault::Expected(What::Semicolon, close.place()));
     }
+    let name = lexeme.placed(alloc)?;
     Ok(Statement::Top(RawTop { word, name }))
 }
 
@@ -168,11 +169,35 @@ fn first_input<'a>(
     ensures { Reads (Inputs begun.name begun.word begun.kind (placed first.entry ∷ [])) reader.old result reader.new }
 {
     let mut gate = begun;
+    match add_first_input(alloc, reader, &mut gate, first) {
+        Ok(()) => Ok(Statement::Gate(gate)),
+        Err(fault) => {
+            drop(gate);
+            Err(fault)
+        }
+    }
+}
+
+// The same, of a gate that is lent.
+fn add_first_input<'a>(
+    alloc: Global,
+    reader: &mut Reader<'a>,
+    gate: &mut RawGate,
+    first: Lexeme<'a>,
+) -> Result<(), ParseFault>
+    requires short { HasShortNumbers gate.old.kind }
+    requires none { gate.old.inputs ≡ [] }
+    requires value { is_value first ≡ true }
+    ensures read { OnOk result (Closes (Inputs gate.old.name gate.old.word gate.old.kind (placed first.entry ∷ []))
+        reader.old (GateRead gate.new) reader.new) }
+    ensures fault { IfErr result (λ fault. FailsAs fault
+        (parsed_from (Inputs gate.old.name gate.old.word gate.old.kind (placed first.entry ∷ [])) reader.old)) }
+{
     let next = reader.want(What::Input)?;
     let room = if next.is_semicolon() { 1 } else { USUAL_INPUTS };
     gate.inputs = PlacedList::with_room(alloc, room)?;
     first.add_to(alloc, &mut gate.inputs)?;
-    inputs(alloc, reader, gate, next)
+    add_inputs(alloc, reader, gate, next)
 }
 
 // The rest of a gate behind its inputs so far, from this lexeme on.
@@ -187,6 +212,28 @@ fn inputs<'a>(
         reader.new }
 {
     let mut gate = begun;
+    match add_inputs(alloc, reader, &mut gate, first) {
+        Ok(()) => Ok(Statement::Gate(gate)),
+        Err(fault) => {
+            drop(gate);
+            Err(fault)
+        }
+    }
+}
+
+// The same, of a gate that is lent.
+fn add_inputs<'a>(
+    alloc: Global,
+    reader: &mut Reader<'a>,
+    gate: &mut RawGate,
+    first: Lexeme<'a>,
+) -> Result<(), ParseFault>
+    requires { HasShortNumbers gate.old.kind }
+    ensures read { OnOk result (Closes (Inputs gate.old.name gate.old.word gate.old.kind gate.old.inputs)
+        (before first.entry reader.old) (GateRead gate.new) reader.new) }
+    ensures fault { IfErr result (λ fault. FailsAs fault (parsed_from (Inputs gate.old.name gate.old.word
+        gate.old.kind gate.old.inputs) (before first.entry reader.old))) }
+{
     let mut lexeme = first;
     while !lexeme.is_semicolon() {
         if !lexeme.is_name() {
@@ -195,7 +242,7 @@ fn inputs<'a>(
         lexeme.add_to(alloc, &mut gate.inputs)?;
         lexeme = reader.want(What::Input)?;
     }
-    Ok(Statement::Gate(gate))
+    Ok(())
 }
 
 // The rest of a basic event behind the `=` of this attribute word.
@@ -210,13 +257,36 @@ fn attributes(
     ensures { Reads (AttributeEquals begun.name begun.attributes first) reader.old result reader.new }
 {
     let mut basic = begun;
+    match add_attributes(alloc, reader, &mut basic, first) {
+        Ok(()) => Ok(Statement::Basic(basic)),
+        Err(fault) => {
+            drop(basic);
+            Err(fault)
+        }
+    }
+}
+
+// The same, of a basic event that is lent.
+fn add_attributes(
+    alloc: Global,
+    reader: &mut Reader,
+    basic: &mut RawBasic,
+    first: Name,
+) -> Result<(), ParseFault>
+    requires bare { is_bare_name first ≡ true }
+    requires form { All HasBareWord basic.old.attributes }
+    ensures read { OnOk result (Closes (AttributeEquals basic.old.name basic.old.attributes first) reader.old
+        (BasicRead basic.new) reader.new) }
+    ensures fault { IfErr result (λ fault. FailsAs fault
+        (parsed_from (AttributeEquals basic.old.name basic.old.attributes first) reader.old)) }
+{
     let mut word = first;
     loop {
         let read = attribute(alloc, reader, word)?;
         basic.attributes.push(read)?;
         word = match next_word(alloc, reader)? {
             Some(next) => next,
-            None => return Ok(Statement::Basic(basic)),
+            None => return Ok(()),
         };
     }
 }
