@@ -27,7 +27,7 @@ pub enum What {
 }
 
 /// Why a text was not read.
-#[derive(Clone, Copy)]
+#[derive(Clone, Copy, Debug)]
 pub enum ParseFault {
     /// A token that cannot be formed.
     Lex(LexFault),
