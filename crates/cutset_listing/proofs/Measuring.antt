@@ -84,11 +84,11 @@ unit_size known r is =
     (record { count = refl; weighs = refl; light = omega arith })
 
 -- the family of a reference is the branch of those of two others, of which the second has sets
-pub record HasParts (known : ℕ → ℕ) (r x lo hi : ℕ) : Type 0 where
+pub record IsParted (known : ℕ → ℕ) (r x lo hi : ℕ) : Type 0 where
   pub branch : family known r ≡ branch x (family known lo) (family known hi)
   pub filled : family known hi ≢ []
 
-module _ (known : ℕ → ℕ) (r x lo hi : ℕ) (parts : HasParts known r x lo hi) where
+module _ (known : ℕ → ℕ) (r x lo hi : ℕ) (parts : IsParted known r x lo hi) where
   weight_of_parts : weight (family known r) ≡ weight (family known lo) + (weight (family known hi)
       + length (family known hi))
   weight_of_parts = ap weight parts.branch ∙ weight-branch x (family known lo) (family known hi)

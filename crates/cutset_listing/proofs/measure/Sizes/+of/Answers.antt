@@ -6,7 +6,7 @@ use Rattle.unit_sets.specs.declared.refusal.ListEnd.{ListEnd}
 use Rattle.zdd_families.specs.Map.{family}
 use Rattle.zdd_families.proofs.Canonical.{family-filled}
 use Rattle.zdd_shared_table.specs.Seats.{map_of}
-use Rattle.cutset_listing.proofs.Measuring.{HasParts, both_heavy, empty_size, few_sets, hi_heavy, hi_less}
+use Rattle.cutset_listing.proofs.Measuring.{IsParted, both_heavy, empty_size, few_sets, hi_heavy, hi_less}
 use Rattle.cutset_listing.proofs.Measuring.{lo_less, sized_of_parts, unit_size}
 use Rattle.cutset_listing.proofs.measure.Sizes.+of.Goals.{of_parts-After-parts-parts}
 use Rattle.cutset_listing.proofs.measure.Sizes.+of.Goals as goal
@@ -22,7 +22,7 @@ same_end : {A B : Type 0} (end why : ListEnd) → IsErrOf {T = A} (Err end) why 
 same_end end why is = cc
 
 -- the node was parted
-parted : (t : ℕ) (c : of_parts-After-parts-parts t) → HasParts (map_of c.args.seat.now) c.args.r
+parted : (t : ℕ) (c : of_parts-After-parts-parts t) → IsParted (map_of c.args.seat.now) c.args.r
     c.parts-parts.result.level c.parts-parts.result.lo c.parts-parts.result.hi
 parted t c =
     let seat = c.parts-parts.ensures.seat in
