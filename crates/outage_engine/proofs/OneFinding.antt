@@ -9,8 +9,8 @@ use Rattle.galileo_tree.specs.declared.fault.ParseFault.TheVariants.{Lex, Expect
 use Rattle.galileo_tree.specs.Parsed.{parsed_text}
 use Rattle.galileo_tree.specs.ReadTree.{ReadTree}
 use Rattle.statement_faults.specs.Checked.{Stands}
-use Rattle.tree_check.proofs.OneTree.{same_tree}
-use Rattle.tree_check.proofs.OneFault.{no_fault, same_fault}
+use Rattle.statement_faults.proofs.OneTree.{same_tree}
+use Rattle.statement_faults.proofs.OneFault.{no_fault, same_fault}
 use Rattle.statement_faults.specs.declared.fault.CheckCode.{CheckCode}
 use Rattle.crew_script.specs.declared.dockets.Crew.{Crew}
 use Rattle.crew_script.specs.declared.fault.CrewCode.{CrewCode}

@@ -17,7 +17,7 @@ use crew_script::laws::crews_or_first_fault;
 use deck_reading::laws::deck_parts_are_read_by_relations;
 use fault_model::laws::each_tree_has_one_cut_list;
 use galileo_tree::parses_its_text;
-use tree_check::some_tree_or_some_fault;
+use statement_faults::some_tree_or_some_fault;
 use tree_maker::laws::made_decks_are_well_made;
 
 /// A deck has exactly one finding for what a command wants of it: its first fault, a limit that is passed, or its tree,

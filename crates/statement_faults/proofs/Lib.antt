@@ -27,3 +27,9 @@ pub mod LowNumbers
 pub mod DeckParts
 -- a fault of a class, where the classes before it don't occur, is the first
 pub mod Refusals
+pub mod Faultless
+-- statements stand for a tree, or one class occurs first
+pub mod SomeTree
+pub mod OneFault
+-- there is one tree at most, and one first fault
+pub mod OneTree

@@ -7,11 +7,6 @@
 
 mod assembly;
 mod checking;
-mod laws;
 
 pub use checking::check;
-pub use laws::{
-    some_tree_or_some_fault, statements_have_one_first_fault, statements_have_one_tree,
-    tree_or_fault,
-};
 pub use statement_faults::{CheckCode, CheckFault};

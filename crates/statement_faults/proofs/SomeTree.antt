@@ -29,7 +29,7 @@ use Rattle.statement_faults.specs.Said.{definitions, names}
 use Rattle.statement_faults.specs.TreeOf.{AreRanks, FirstOnCycle, HasNoCycle, input_lists, numbers, tree_of}
 use Rattle.statement_faults.specs.Triggers.{HasUnitDependents, IsGraphOf, dependents_by, row_at, written_gate}
 use Rattle.statement_faults.proofs.Differ.{differ-names, differ-repeats}
-use Rattle.tree_check.proofs.Faultless.{IsTree-faultless}
+use Rattle.statement_faults.proofs.Faultless.{IsTree-faultless}
 use Rattle.statement_faults.proofs.Refusals.{AreFirst, NoneOf-append}
 use Rattle.statement_faults.proofs.GoodGates.{unit_dependents}
 use Rattle.statement_faults.proofs.StatementNames.{inputs_known}
