@@ -15,6 +15,7 @@ use Rattle.fault_definitions.specs.Reading.{reads, gate_reads}
 use Rattle.fault_definitions.proofs.ReadingLaws.{reads-node}
 use Rattle.fault_definitions.specs.Tree.{FaultTree, IsNodeOf, inputs_of, is_above_units, is_fdep, is_fdep_kind, kind_of}
 use Rattle.fault_definitions.specs.Tree.{unit_count}
+use Rattle.fault_definitions.specs.Trigger.{below}
 use Rattle.fault_definitions.specs.WellFormed.{IsTree}
 use Rattle.family_operations.specs.Minimal.{IsMinimal}
 use Rattle.family_parts.specs.Antichains.{IsAntichain}
@@ -22,6 +23,8 @@ use Rattle.family_parts.proofs.MinimalParts.{HasLeast, minimal-exists}
 use Rattle.family_memory.specs.Memory.{Gave, Held, Has, RanOut, Went, IsSound, family_in}
 use Rattle.family_memory.proofs.After.{still, still_has}
 use Rattle.many_families.specs.Lists.{families}
+use Rattle.zdd_nodes.specs.Room.{HaveRoomFor}
+use Rattle.zdd_nodes.specs.declared.rooms.Rooms.{Rooms}
 use Rattle.tree_families.proofs.CutFamilies.{cut_family-minimal, cut_family-one}
 use Rattle.tree_families.proofs.FailingSets.{IsFamilyFor-cut_family}
 use Rattle.tree_families.specs.Generation.{IsFamilyFor}
@@ -71,7 +74,7 @@ module _ (tree : FaultTree) (kept : IsTree tree) (node : ℕ) (is_node : IsNodeO
 -- ---- what was read of the nodes that a node reads
 
 module _ (held : Held) (tree : FaultTree) where
-  pub read_has : (nodes references : List ℕ) → length references ≡ length nodes
+  read_has : (nodes references : List ℕ) → length references ≡ length nodes
       → AreRead held tree nodes references (length nodes) → All (Has held) references
   read_has nodes references same read k d within =
       subst (Has held) (default k within) (read k (omega (arith, same, within))).0
@@ -79,7 +82,7 @@ module _ (held : Held) (tree : FaultTree) where
       default : (k : ℕ) → k < length references → get_or references k 0 ≡ get_or references k d
       default k within = get_or_default references k 0 d within
 
-  pub read_stand : (nodes references : List ℕ) → length references ≡ length nodes
+  read_stand : (nodes references : List ℕ) → length references ≡ length nodes
       → AreRead held tree nodes references (length nodes) → StandFor (IsCutFamily tree) nodes (families held references)
   read_stand [] [] same read = tt
   read_stand [] (r ∷ references) same read = absurd (omega (arith, same))
@@ -106,18 +109,38 @@ went_of Is before after (Ok r) gave out = gave.went
 went_of Is before after (Err e) gave out = out.went
 
 -- what is read, in a list's front
-pub read_front : (held : Held) (tree : FaultTree) (nodes references : List ℕ) (count : ℕ) → count ≤ length references
+read_front : (held : Held) (tree : FaultTree) (nodes references : List ℕ) (count : ℕ) → count ≤ length references
     → AreRead held tree nodes references count → AreRead held tree nodes (take count references) count
 read_front held tree nodes references count fits read k within =
     subst (λ (r : ℕ). Has held r × IsCutFamily tree (get_or nodes k 0) (family_in held r))
     (sym (get_or-take count references k 0 within)) (read k within)
 
 -- so many of a list's first members, where it has as many
-pub front_length : (count : ℕ) (list : List ℕ) → count ≤ length list → length (take count list) ≡ count
+front_length : (count : ℕ) (list : List ℕ) → count ≤ length list → length (take count list) ≡ count
 front_length zero list fits = refl
 front_length (suc count) [] fits = absurd (omega (arith, fits))
 front_length (suc count) (x ∷ list) fits =
     let rest = front_length count list (omega (arith, fits)) in omega (arith, rest)
+
+-- all is read, and stands in the front of the list of the worker's rooms
+module _ (held : Held) (tree : FaultTree) (node : ℕ) (rooms : Rooms) (is_node : IsNodeOf tree node)
+    (fits : HaveRoomFor tree rooms) (count : ℕ) (done : length (below tree node) ≤ count)
+    (read : AreRead held tree (below tree node) rooms.list.items count) where
+  front : AreRead held tree (below tree node) (take (length (below tree node)) rooms.list.items)
+      (length (below tree node))
+  front =
+      read_front held tree (below tree node) rooms.list.items (length (below tree node)) (fits.list node is_node)
+      (λ k below. read k (omega (arith, below, done)))
+
+  as_long : length (take (length (below tree node)) rooms.list.items) ≡ length (below tree node)
+  as_long = front_length (length (below tree node)) rooms.list.items (fits.list node is_node)
+
+  pub all_has : All (Has held) (take (length (below tree node)) rooms.list.items)
+  all_has = read_has held tree (below tree node) (take (length (below tree node)) rooms.list.items) as_long front
+
+  pub all_stand : StandFor (IsCutFamily tree) (below tree node)
+      (families held (take (length (below tree node)) rooms.list.items))
+  all_stand = read_stand held tree (below tree node) (take (length (below tree node)) rooms.list.items) as_long front
 
 -- one more is read
 pub read_more : (before after : Held) (tree : FaultTree) → IsSound before → Went before after

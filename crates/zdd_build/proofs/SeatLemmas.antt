@@ -1,25 +1,24 @@
 -- Seats that learn, and what a worker is after its seat has learned.
-use Rattle.std.proofs.Common.{ℕ, ◌≤◌, List, [], refl, sym, ◌∙◌, subst}
+use Rattle.std.proofs.Common.{ℕ, ◌≤◌, List, [], All, refl, sym, ◌∙◌, subst}
 use Rattle.std.proofs.Common.{add-zero}
 use Rattle.std.proofs.lemmas.List.{append-nil}
 use Rattle.std.proofs.lemmas.List.Elements.{All-weaker}
 use Rattle.unit_sets.proofs.Sorted.{Contains-nil}
 use Rattle.fault_definitions.specs.CutFamily.{IsCutFamily}
-use Rattle.fault_definitions.specs.Tree.{FaultTree}
 use Rattle.tree_families.specs.Due.{IsDueToTree}
 use Rattle.zdd_families.specs.Map.{Grown, IsClosed}
 use Rattle.zdd_families.proofs.MapLemmas.{Knows-grown}
 use Rattle.zdd_families.proofs.Canonical.{family-grown}
-use Rattle.zdd_shared_table.specs.Seats.{Seated, IsSoundSeat, TableId, map_of}
+use Rattle.zdd_shared_table.specs.Seats.{Seated, IsSoundSeat, map_of}
 use Rattle.zdd_product.specs.Seats.{KnowsOne, WentAll}
 use Rattle.zdd_product.proofs.Several.{CountsDue-went}
 use Rattle.zdd_product.proofs.After.{grown_then}
 use Rattle.family_copies.proofs.CopiesLemmas.{copies-grown}
-use Rattle.zdd_build.specs.declared.places.Place.{Place}
+use Rattle.zdd_build.specs.declared.task.Task.{Task}
 use Rattle.zdd_build.specs.declared.worker.Finding.{Finding}
 use Rattle.zdd_build.specs.declared.worker.Worker.{Worker}
 use Rattle.zdd_build.specs.Places.{node_at}
-use Rattle.zdd_build.specs.Workers.{AreFound, CanWork, CountsAsBefore, HasSplit, IsFound, Learned}
+use Rattle.zdd_build.specs.Workers.{CanPart, CanWork, CountsAsBefore, HasSplit, IsFound, Learned}
 
 pub counts_then : (a b c : Seated) → CountsAsBefore a b → CountsAsBefore b c → CountsAsBefore a c
 counts_then a b c first second = record {
@@ -77,30 +76,41 @@ one_grown known known' closed closed' grown is r one = (
 )
 
 -- a worker whose seat has learned
-pub can_learned : (store : TableId) (tree : FaultTree) (worker : Worker) (after : Seated) → CanWork store tree worker
-    → Learned worker.ops after → CanWork store tree (record worker { ops = after })
-can_learned store tree worker after can learned = record {
+pub can_learned : (task : Task) (worker : Worker) (after : Seated) → CanWork task worker → Learned worker.ops after
+    → CanWork task (record worker { ops = after })
+can_learned task worker after can learned = record {
   own = learned.store ∙ can.own;
   share = learned.share ∙ can.share;
   counts =
-      CountsDue-went (IsDueToTree tree) worker.ops after can.counts
-      (WentAll-learned (IsDueToTree tree) worker.ops after learned);
-  copies =
-      copies-grown worker.memory (map_of worker.ops) (map_of after) can.counts.sound.closed learned.sound.closed
-      learned.keeps worker.copies can.copies;
-  rooms = can.rooms;
+      CountsDue-went (IsDueToTree task.tree.now) worker.ops after can.counts
+      (WentAll-learned (IsDueToTree task.tree.now) worker.ops after learned);
+  equipped =
+      record {
+        copies =
+            copies-grown worker.memory (map_of worker.ops) (map_of after) can.counts.sound.closed
+            learned.sound.closed learned.keeps worker.copies can.equipped.copies;
+        rooms = can.equipped.rooms;
+      };
   full = λ is. subst (λ n. 1 ≤ n) (sym learned.counts.fulls) (can.full is);
+}
+
+-- a seat that can part its share and has learned still can
+pub part_learned : (task : Task) (before after : Seated) → CanPart task before → Learned before after
+    → CanPart task after
+part_learned task before after part learned = record {
+  own = learned.store ∙ part.own;
+  share = subst (λ n. 2 ≤ n) (sym learned.share) part.share;
+  sound = learned.sound;
 }
 
 -- what was found stays so
 pub found_grown : (known known' : ℕ → ℕ) → IsClosed known → IsClosed known' → Grown known known'
-    → (tree : FaultTree) (places : List Place) (findings : List Finding) → AreFound known tree places findings
-    → AreFound known' tree places findings
-found_grown known known' closed closed' grown tree places findings found =
-    All-weaker (IsFound known tree places) (IsFound known' tree places)
+    → (task : Task) (findings : List Finding) → All (IsFound known task) findings → All (IsFound known' task) findings
+found_grown known known' closed closed' grown task findings found =
+    All-weaker (IsFound known task) (IsFound known' task)
     (λ finding is. (
       is.0,
-      one_grown known known' closed closed' grown (IsCutFamily tree (node_at places finding.place))
+      one_grown known known' closed closed' grown (IsCutFamily task.tree.now (node_at task.places.now finding.place))
           finding.family is.1,
     ))
     findings found

@@ -1,5 +1,5 @@
 -- What is made of a tree, node after node.
-use Rattle.std.proofs.Common.{◌≡◌, ℕ, ◌+◌, ◌-◌, ◌<◌, ◌≤◌, Bool, true, false, List, [], ◌∷◌, length, set}
+use Rattle.std.proofs.Common.{◌≡◌, ℕ, ◌+◌, ◌-◌, ◌<◌, ◌≤◌, Bool, true, false, List, [], ◌∷◌, All, length, set}
 use Rattle.std.proofs.Common.{get_or, sym, ◌∙◌, ap, subst, inl, inr, arith}
 use Rattle.std.proofs.Common.{length-set, get_or-set_same, get_or-set_other, ◌++◌, replicate, if◌then◌else◌}
 use Rattle.std.proofs.lemmas.Bool.{cases_Bool, cases_eq, cases_lt}
@@ -15,11 +15,13 @@ use Rattle.zdd_families.proofs.MapLemmas.{family-empty}
 use Rattle.zdd_product.specs.Seats.{KnowsOne}
 use Rattle.zdd_nodes.specs.Reading.{KnowsBelow, reference_of}
 use Rattle.zdd_build.specs.declared.places.Place.{Place}
-use Rattle.zdd_build.specs.Building.{AreBuilt, AreMadeTo, CanMake, HasFamily, HasRoomFor, KeepsMade}
-use Rattle.zdd_build.specs.Building.{is_made}
-use Rattle.zdd_build.specs.Places.{ArePlaces, IsPlace, IsRunTo, node_at, place_at}
+use Rattle.zdd_build.specs.declared.table.Table.{Table}
+use Rattle.zdd_build.specs.declared.task.Run.{Run}
+use Rattle.zdd_build.specs.declared.task.Task.{Task}
 use Rattle.zdd_build.specs.declared.worker.Finding.{Finding}
-use Rattle.zdd_build.specs.Workers.{AreFound, IsFound}
+use Rattle.zdd_build.specs.Building.{AreBuilt, AreMadeTo, CanMake, HasFamily, HasRoomFor, IsBuiltTo, is_made}
+use Rattle.zdd_build.specs.Places.{ArePlaces, IsPlace, IsRun, IsRunTo, IsTask, node_at, place_at}
+use Rattle.zdd_build.specs.Workers.{IsFound}
 use Rattle.zdd_build.proofs.OwnLemmas.{fdep_family}
 use Rattle.zdd_build.proofs.SeatLemmas.{one_grown}
 
@@ -163,41 +165,103 @@ made_next made place made_to is k below =
       | inr late ↦ subst (λ (q : ℕ). is_made made q ≡ true) (let e : place ≡ k = omega (arith, late, below) in e) is
     ]
 
+-- ---- a table whose first places are made
+
+module _ (known known' : ℕ → ℕ) (closed : IsClosed known) (closed' : IsClosed known') (grown : Grown known known')
+  where
+    pub built_on : (task : Task) (table : Table) (to : ℕ) → IsBuiltTo known task table to → IsBuiltTo known' task table to
+    built_on task table to is = record {
+      built =
+          built_grown known known' closed closed' grown task.tree.now task.places.now table.references.items
+          table.made.items is.built;
+      made = is.made;
+    }
+
+    -- whatever a run reads stays known
+    pub can_make_on : (run : Run) (references : List ℕ) → CanMake known run references → CanMake known' run references
+    can_make_on run references can = record {
+      is_run = can.is_run;
+      reads = λ k low high. let is = can.reads k low high in record {
+        is_node = is.is_node;
+        read = is.read;
+        all = is.all;
+        below =
+            below_grown known known' closed closed' grown run.task.tree.now references (node_at run.task.places.now k)
+            is.below;
+      };
+    }
+
 -- what is made to a place is made to each before it
-pub made_less : (made : List Bool) (from to : ℕ) → from ≤ to → AreMadeTo made to → AreMadeTo made from
-made_less made from to low made_to k below = made_to k (omega (arith, low, below))
+pub built_less : (known : ℕ → ℕ) (task : Task) (table : Table) (from to : ℕ) → from ≤ to → IsBuiltTo known task table to
+    → IsBuiltTo known task table from
+built_less known task table from to low is = record {
+  built = is.built;
+  made = λ k below. is.made k (omega (arith, low, below));
+}
 
--- ---- the nodes of a run can be made
+-- the next place is made, too
+pub built_next : (known : ℕ → ℕ) (task : Task) (table : Table) (place : ℕ) → IsBuiltTo known task table place
+    → is_made table.made.items place ≡ true → IsBuiltTo known task table (place + 1)
+built_next known task table place is marked = record {
+  built = is.built;
+  made = made_next table.made.items place is.made marked;
+}
 
-pub can_make_grown : (known known' : ℕ → ℕ) → IsClosed known → IsClosed known' → Grown known known'
-    → (tree : FaultTree) (places : List Place) (references : List ℕ) (from to : ℕ)
-    → CanMake known tree places references from to → CanMake known' tree places references from to
-can_make_grown known known' closed closed' grown tree places references from to can = (
-  can.0,
-  λ k low high. below_grown known known' closed closed' grown tree references (node_at places k)
-      (can.1 k low high),
-)
+-- the table has room for all places of its task
+pub table_room : (known : ℕ → ℕ) (task : Task) → IsTask task → (table : Table) (to : ℕ) → IsBuiltTo known task table to
+    → HasRoomFor task.places.now table.references.items table.made.items
+table_room known task are table to is =
+    room_for known task.tree.now are.kept task.places.now are table.references.items table.made.items is.built
 
-pub can_make : (known : ℕ → ℕ) (tree : FaultTree) (places : List Place) → ArePlaces tree places
-    → (references : List ℕ) (made : List Bool) → AreBuilt known tree places references made
-    → (from to : ℕ) → to ≤ length places → IsRunTo places from to → AreMadeTo made from
-    → CanMake known tree places references from to
-can_make known tree places are references made built from to within run made_to = (
-  let e = built.all_nodes in omega (arith, e),
-  λ k low high. below_made known tree are.kept places are references made built from to k within run made_to low
-      high,
-)
+-- one node more is made
+module _ (known : ℕ → ℕ) (task : Task) (are : IsTask task) (before after : Table) (place family to : ℕ)
+    (is : IsBuiltTo known task before to) (within : place < length task.places.now)
+    (one : KnowsOne known family (IsCutFamily task.tree.now (node_at task.places.now place)))
+    (references : after.references.items ≡ set before.references.items (node_at task.places.now place - 1) family)
+    (made : after.made.items ≡ set before.made.items place true) where
+  fits : place < length before.made.items
+  fits = let e = is.built.all_places in omega (arith, e, within)
 
--- one node more is made, where the map has grown meanwhile
-pub one_more_built : (known known' : ℕ → ℕ) → IsClosed known → IsClosed known' → Grown known known'
-    → (tree : FaultTree) (places : List Place) → ArePlaces tree places → (references : List ℕ) (made : List Bool)
-    → AreBuilt known tree places references made
-    → (place : ℕ) → place < length places → (family : ℕ)
-    → KnowsOne known' family (IsCutFamily tree (node_at places place))
-    → AreBuilt known' tree places (set references (node_at places place - 1) family) (set made place true)
-one_more_built known known' closed closed' grown tree places are references made built place within family one =
-    built_put known' tree are.kept places are references made
-    (built_grown known known' closed closed' grown tree places references made built) place within family one
+  pub put_built : IsBuiltTo known task after to
+  put_built = record {
+    built =
+        subst (λ (m : List Bool). AreBuilt known task.tree.now task.places.now after.references.items m) (sym made)
+        (subst (λ (r : List ℕ). AreBuilt known task.tree.now task.places.now r (set before.made.items place true))
+        (sym references)
+        (built_put known task.tree.now are.kept task.places.now are before.references.items before.made.items is.built
+        place within family one));
+    made =
+        λ k below. subst (λ (m : List Bool). is_made m k ≡ true) (sym made)
+        (keeps_put before.made.items place fits k (is.made k below));
+  }
+
+  pub put_made : is_made after.made.items place ≡ true
+  put_made =
+      subst (λ (m : List Bool). is_made m place ≡ true) (sym made)
+      (get_or-set_same before.made.items place true false fits)
+
+-- where all places before a run are made, whatever it reads is known
+pub can_make : (known : ℕ → ℕ) (run : Run) → IsRun run → (table : Table) → IsBuiltTo known run.task table run.from
+    → CanMake known run table.references.items
+can_make known run is table to = record {
+  is_run = is;
+  reads =
+      λ k low high.
+      let tree = run.task.tree.now in
+      let places = run.task.places.now in
+      let all = is.within in
+      let place : IsPlace tree (place_at places k) =
+      place_is known tree is.task.kept places is.task table.references.items table.made.items to.built k
+      (omega (arith, all, high)) in
+      record {
+        is_node = place.is_node;
+        read = place.read;
+        all = let e = to.built.all_nodes in omega (arith, e);
+        below =
+            below_made known tree is.task.kept places is.task table.references.items table.made.items to.built run.from
+            run.to k is.within is.rank to.made low high;
+      };
+}
 
 -- nothing is made yet
 pub built_none : (known : ℕ → ℕ) (tree : FaultTree) → IsTree tree → (places : List Place)
@@ -222,22 +286,9 @@ built_none known tree kept places = record {
 
 -- ---- what was found
 
-pub found_pushed : (known : ℕ → ℕ) (tree : FaultTree) (places : List Place) (before after : List Finding)
-    (finding : Finding) (pushed : Bool) → AreFound known tree places before → IsFound known tree places finding
-    → after ≡ (if pushed then before ++ finding ∷ [] else before) → AreFound known tree places after
-found_pushed known tree places before after finding true found is e =
-    subst (AreFound known tree places) (sym e) (All-push (IsFound known tree places) before finding found is)
-found_pushed known tree places before after finding false found is e = subst (AreFound known tree places) (sym e) found
-
--- marks that are kept, one after another
-pub keeps_then : (a b c : List Bool) → KeepsMade a b → KeepsMade b c → KeepsMade a c
-keeps_then a b c first second k is = second k (first k is)
-
--- the lists keep their lengths
-pub room_put : (places : List Place) (references : List ℕ) (made : List Bool) (n family place : ℕ)
-    → HasRoomFor places references made → HasRoomFor places (set references n family) (set made place true)
-room_put places references made n family place room = record {
-  all_places = let e = length-set made place true in let h = room.all_places in omega (arith, e, h);
-  low = room.low;
-  high = λ k within. let e = length-set references n family in let h = room.high k within in omega (arith, e, h);
-}
+pub found_pushed : (known : ℕ → ℕ) (task : Task) (before after : List Finding) (finding : Finding) (pushed : Bool)
+    → All (IsFound known task) before → IsFound known task finding
+    → after ≡ (if pushed then before ++ finding ∷ [] else before) → All (IsFound known task) after
+found_pushed known task before after finding true found is e =
+    subst (All (IsFound known task)) (sym e) (All-push (IsFound known task) before finding found is)
+found_pushed known task before after finding false found is e = subst (All (IsFound known task)) (sym e) found

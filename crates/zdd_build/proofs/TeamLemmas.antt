@@ -2,11 +2,11 @@
 use Rattle.std.proofs.Common.{◌≡◌, ℕ, ◌+◌, ◌-◌, ◌<◌, ◌≤◌, true, List, [], ◌∷◌, ◌++◌, All, length, take, drop, refl, ◌∙◌}
 use Rattle.std.proofs.Common.{ap, subst, arith}
 use Rattle.std.proofs.lemmas.List.{append-nil, drop_all, take_all, get_or_append_left, get_or_push, length_push}
-use Rattle.fault_definitions.specs.Tree.{FaultTree}
 use Rattle.zdd_families.specs.Map.{Grown}
-use Rattle.zdd_shared_table.specs.Seats.{Seated, TableId, map_of}
+use Rattle.zdd_shared_table.specs.Seats.{Seated, map_of}
 use Rattle.zdd_product.specs.Seats.{CountsDue, Joined, WentAll}
 use Rattle.zdd_product.proofs.Several.{WentAll-joined, WentAll-then}
+use Rattle.zdd_build.specs.declared.task.Task.{Task}
 use Rattle.zdd_build.specs.declared.worker.Worker.{Worker}
 use Rattle.zdd_product.proofs.After.{grown_then}
 use Rattle.zdd_build.specs.Workers.{CanWork, CountsAsBefore, FindsFull, HasSplit}
@@ -34,10 +34,10 @@ module _ (before other mid after : Seated) (joined : Joined before other mid) wh
   }
 
   -- the first worker that found the store full has counted it
-  pub close_full : (store : TableId) (tree : FaultTree) (due : List (List ℕ) → Type 0) (rest : List Worker)
-      (worker : Worker) → worker.ops ≡ other → CanWork store tree worker → WentAll due mid after
+  pub close_full : (task : Task) (due : List (List ℕ) → Type 0) (rest : List Worker)
+      (worker : Worker) → worker.ops ≡ other → CanWork task worker → WentAll due mid after
       → (FindsFull rest → mid.fulls < after.fulls) → FindsFull (rest ++ worker ∷ []) → before.fulls < after.fulls
-  close_full store tree due rest worker same can later first finds =
+  close_full task due rest worker same can later first finds =
       first_or_last rest worker finds
       (λ f. let more = first f in let j = joined.fulls in omega (arith, more, j))
       (λ full. let one : 1 ≤ other.fulls = subst (λ (s : Seated). 1 ≤ s.fulls) same (can.full full) in

@@ -1,55 +1,108 @@
 -- A worker after it has made a node, and lists of workers.
-use Rattle.std.proofs.Common.{◌≡◌, ℕ, ◌+◌, ◌<◌, ◌≤◌, true, List, [], ◌∷◌, length, set, get_or, sym, ◌∙◌}
-use Rattle.std.proofs.Common.{subst, inl, inr, arith}
+use Rattle.std.proofs.Common.{◌≡◌, ℕ, ◌+◌, ◌<◌, ◌≤◌, true, List, [], ◌∷◌, All, length, set, get_or, refl, sym, ◌∙◌}
+use Rattle.std.proofs.Common.{Vec, Global, ap, subst, inl, inr, arith, length-set}
 use Rattle.std.proofs.Common.{get_or-set_same, get_or-set_other, Result, Ok, Err, IfOk, IfErr}
 use Rattle.std.proofs.lemmas.Bool.{cases_eq}
-use Rattle.std.proofs.lemmas.List.Elements.{All-nil}
-use Rattle.fault_definitions.specs.Tree.{FaultTree}
-use Rattle.tree_families.specs.Due.{IsDueToTree}
-use Rattle.zdd_shared_table.specs.Seats.{Seated, TableId, map_of}
-use Rattle.zdd_product.specs.Seats.{Gave, WasFull}
-use Rattle.zdd_product.proofs.Several.{CountsDue-went, WentAll-full, WentAll-on}
-use Rattle.zdd_nodes.specs.Room.{HaveRoomFor}
-use Rattle.family_copies.specs.Copies.{AreCopies}
+use Rattle.std.proofs.lemmas.List.Elements.{All-nil, All-set}
 use Rattle.fault_definitions.specs.CutFamily.{IsCutFamily}
-use Rattle.fault_definitions.specs.Tree.{IsNodeOf}
+use Rattle.fault_definitions.specs.Tree.{FaultTree, IsNodeOf}
 use Rattle.fault_definitions.specs.WellFormed.{IsTree}
 use Rattle.family_operations.specs.Nodes.{IsReached}
 use Rattle.tree_families.proofs.TreeParts.{cut_family-parts}
-use Rattle.zdd_product.proofs.After.{WasFull-as, WentOn-as}
+use Rattle.tree_families.specs.Due.{IsDueToTree}
+use Rattle.zdd_families.specs.Map.{Grown}
+use Rattle.zdd_shared_table.specs.Seats.{Seated, map_of}
+use Rattle.zdd_product.specs.Seats.{CountsDue, Gave, WasFull}
+use Rattle.zdd_product.proofs.After.{grown_then, WasFull-as, WentOn-as}
+use Rattle.zdd_product.proofs.Several.{CountsDue-went, WentAll-full, WentAll-on}
+use Rattle.zdd_build.specs.declared.task.Run.{Run}
+use Rattle.zdd_build.specs.declared.task.Task.{Task}
+use Rattle.zdd_build.specs.declared.worker.Finding.{Finding}
 use Rattle.zdd_build.specs.declared.worker.Worker.{Worker}
-use Rattle.zdd_build.specs.declared.places.Place.{Place}
-use Rattle.zdd_build.specs.Workers.{AreFound, CanWork, FindsFull, HasNone, IsAtWork, IsFound, Learned}
-use Rattle.zdd_build.proofs.SeatLemmas.{can_learned}
+use Rattle.zdd_build.specs.Workers.{CanWork, FindsFull, GoesOn, HasLed, IsAtRun, IsAtWork, IsEquipped, IsFound, IsReady}
+use Rattle.zdd_build.specs.Workers.{IsTeam, KeepsSeat, Learned}
+use Rattle.zdd_build.proofs.SeatLemmas.{Learned-then, found_grown, part_learned}
+use Rattle.zdd_build.proofs.TableLemmas.{can_make_on}
 
-module _ (store : TableId) (tree : FaultTree) (before after : Worker) (can : CanWork store tree before)
-    (copies : AreCopies after.memory (map_of after.ops) after.copies) (rooms : HaveRoomFor tree after.rooms) where
-  -- it made a node
-  pub can_gave : (is : List (List ℕ) → Type 0) (r : ℕ) → Gave is (IsDueToTree tree) before.ops after.ops r
-      → after.full ≡ before.full → CanWork store tree after
-  can_gave is r gave same = record {
-    own = gave.on.went.store ∙ can.own;
-    share = gave.on.went.share ∙ can.share;
-    counts =
-        CountsDue-went (IsDueToTree tree) before.ops after.ops can.counts
-        (WentAll-on (IsDueToTree tree) before.ops after.ops gave.on);
-    copies = copies;
-    rooms = rooms;
-    full = λ full. subst (λ n. 1 ≤ n) (sym gave.on.fulls) (can.full (sym same ∙ full));
+-- ---- only the memory has changed
+
+pub keeps_then : (a b c : Worker) → KeepsSeat a b → KeepsSeat b c → KeepsSeat a c
+keeps_then a b c first second = record {
+  ops = second.ops ∙ first.ops;
+  found = second.found ∙ first.found;
+  full = second.full ∙ first.full;
+}
+
+-- ---- a worker goes on
+
+module _ (task : Task) (before mid after : Worker) (can : CanWork task before) (kept : KeepsSeat before mid)
+    (equipped : IsEquipped task.tree.now after) (found : after.found ≡ mid.found) where
+  -- its memory alone has changed
+  pub on_kept : after.ops ≡ mid.ops → after.full ≡ mid.full → GoesOn task before after
+  on_kept ops full = record {
+    keeps = subst (λ (s : Seated). Grown (map_of before.ops) (map_of s)) (sym (ops ∙ kept.ops)) (λ r has. refl);
+    can =
+        record {
+          own = ap (λ (s : Seated). s.store) (ops ∙ kept.ops) ∙ can.own;
+          share = ap (λ (s : Seated). s.share) (ops ∙ kept.ops) ∙ can.share;
+          counts = subst (CountsDue (IsDueToTree task.tree.now)) (sym (ops ∙ kept.ops)) can.counts;
+          equipped = equipped;
+          full =
+              λ is. subst (λ (s : Seated). 1 ≤ s.fulls) (sym (ops ∙ kept.ops))
+              (can.full (sym (full ∙ kept.full) ∙ is));
+        };
+    found = found ∙ kept.found;
   }
+
+  -- it made a node
+  pub on_gave : (is : List (List ℕ) → Type 0) (r : ℕ) → Gave is (IsDueToTree task.tree.now) mid.ops after.ops r
+      → after.full ≡ mid.full → GoesOn task before after
+  on_gave is r later full =
+      let gave = subst (λ (s : Seated). Gave is (IsDueToTree task.tree.now) s after.ops r) kept.ops later in
+      record {
+        keeps = gave.on.went.keeps;
+        can =
+            record {
+              own = gave.on.went.store ∙ can.own;
+              share = gave.on.went.share ∙ can.share;
+              counts =
+                  CountsDue-went (IsDueToTree task.tree.now) before.ops after.ops can.counts
+                  (WentAll-on (IsDueToTree task.tree.now) before.ops after.ops gave.on);
+              equipped = equipped;
+              full = λ is. subst (λ n. 1 ≤ n) (sym gave.on.fulls) (can.full (sym (full ∙ kept.full) ∙ is));
+            };
+        found = found ∙ kept.found;
+      }
 
   -- it found the store full
-  pub can_full : WasFull (IsDueToTree tree) before.ops after.ops → CanWork store tree after
-  can_full full = record {
-    own = full.went.store ∙ can.own;
-    share = full.went.share ∙ can.share;
-    counts =
-        CountsDue-went (IsDueToTree tree) before.ops after.ops can.counts
-        (WentAll-full (IsDueToTree tree) before.ops after.ops full);
-    copies = copies;
-    rooms = rooms;
-    full = λ _. let e = full.fulls in omega (arith, e);
-  }
+  pub on_full : WasFull (IsDueToTree task.tree.now) mid.ops after.ops → GoesOn task before after
+  on_full later =
+      let full = subst (λ (s : Seated). WasFull (IsDueToTree task.tree.now) s after.ops) kept.ops later in
+      record {
+        keeps = full.went.keeps;
+        can =
+            record {
+              own = full.went.store ∙ can.own;
+              share = full.went.share ∙ can.share;
+              counts =
+                  CountsDue-went (IsDueToTree task.tree.now) before.ops after.ops can.counts
+                  (WentAll-full (IsDueToTree task.tree.now) before.ops after.ops full);
+              equipped = equipped;
+              full = λ _. let e = full.fulls in omega (arith, e);
+            };
+        found = found ∙ kept.found;
+      }
+
+pub goes_on_then : (task : Task) (a b c : Worker) → GoesOn task a b → GoesOn task b c → GoesOn task a c
+goes_on_then task a b c first second = record {
+  keeps = grown_then (map_of a.ops) (map_of b.ops) (map_of c.ops) first.keeps second.keeps;
+  can = second.can;
+  found = second.found ∙ first.found;
+}
+
+-- nothing is done
+pub goes_on_same : (task : Task) (worker : Worker) → CanWork task worker → GoesOn task worker worker
+goes_on_same task worker can = record { keeps = λ r has. refl; can = can; found = refl }
 
 -- ---- workers up to a place, and from one on
 
@@ -90,36 +143,41 @@ module _ (tree : FaultTree) (kept : IsTree tree) (node : ℕ) (is_node : IsNodeO
   copied_full (Ok r) full = tt
   copied_full (Err e) full = WasFull-as (IsReached family) (IsDueToTree tree) to_tree before after full
 
--- ---- a worker that met the seat, and one whose findings were taken
-
-module _ (store : TableId) (tree : FaultTree) (before after : Worker) (can : CanWork store tree before) where
-  pub can_met : Learned before.ops after.ops → after ≡ record before { ops = after.ops } → CanWork store tree after
-  can_met learned rest = subst (CanWork store tree) (sym rest) (can_learned store tree before after.ops can learned)
-
-  pub can_taken : after ≡ record before { found = after.found } → CanWork store tree after
-  can_taken rest =
-      subst (CanWork store tree) (sym rest)
-      (record {
-        own = can.own;
-        share = can.share;
-        counts = can.counts;
-        copies = can.copies;
-        rooms = can.rooms;
-        full = can.full;
-      })
+-- ---- what was found, and is taken
 
 -- nothing is found that is not taken yet: so all that was found is known
-pub none_found : (store : TableId) (tree : FaultTree) (places : List Place) (worker : Worker)
-    → CanWork store tree worker → HasNone worker → IsAtWork store tree places worker
-none_found store tree places worker can none = record {
-  can = can;
+pub ready_at_work : (task : Task) (worker : Worker) → IsReady task worker → IsAtWork task worker
+ready_at_work task worker ready = record {
+  can = ready.can;
   found =
-      subst (AreFound (map_of worker.ops) tree places) (sym none) (All-nil (IsFound (map_of worker.ops) tree places));
+      subst (All (IsFound (map_of worker.ops) task)) (sym ready.none) (All-nil (IsFound (map_of worker.ops) task));
 }
 
-pub can_own : (store : TableId) (tree : FaultTree) (worker : Worker) → CanWork store tree worker
-    → CanWork worker.ops.store tree worker
-can_own store tree worker can = subst (λ (s : TableId). CanWork s tree worker) (sym can.own) can
+-- a worker that goes on has found what it had
+pub at_work_on : (task : Task) (before after : Worker) → IsAtWork task before → GoesOn task before after
+    → IsAtWork task after
+at_work_on task before after at_work on = record {
+  can = on.can;
+  found =
+      subst (λ (v : Vec Finding Global). All (IsFound (map_of after.ops) task) v.items) (sym on.found)
+      (found_grown (map_of before.ops) (map_of after.ops) at_work.can.counts.sound.closed on.can.counts.sound.closed
+      on.keeps task before.found.items at_work.found);
+}
+
+-- so it is at the run at which it was
+pub at_run_on : (run : Run) (references : List ℕ) (before after : Worker) → IsAtRun run references before
+    → GoesOn run.task before after → IsAtRun run references after
+at_run_on run references before after is on = record {
+  at_work = at_work_on run.task before after is.at_work on;
+  can_make =
+      can_make_on (map_of before.ops) (map_of after.ops) is.at_work.can.counts.sound.closed on.can.counts.sound.closed
+      on.keeps run references is.can_make;
+}
+
+-- a worker that is ready and goes on is ready
+pub ready_on : (task : Task) (before after : Worker) → IsReady task before → GoesOn task before after
+    → IsReady task after
+ready_on task before after ready on = record { can = on.can; none = ap (λ v. v.items) on.found ∙ ready.none }
 
 -- the first of some workers found the store full
 pub finds_first : (workers : List Worker) (worker : Worker) → 1 ≤ length workers → worker.full ≡ true
@@ -127,6 +185,25 @@ pub finds_first : (workers : List Worker) (worker : Worker) → 1 ≤ length wor
 finds_first [] worker some full = absurd (omega (arith, some))
 finds_first (first ∷ others) worker some full = full
 
-pub at_own : (store : TableId) (tree : FaultTree) (places : List Place) (worker : Worker)
-    → IsAtWork store tree places worker → IsAtWork worker.ops.store tree places worker
-at_own store tree places worker at_work = record { can = can_own store tree worker at_work.can; found = at_work.found }
+-- a worker of the team has gone on, and the seat has learned
+pub team_set : (task : Task) (seat : Seated) (workers : List Worker) (seat' : Seated) (i : ℕ) (worker : Worker)
+    → IsTeam task seat workers → Learned seat seat' → IsReady task worker
+    → HasLed task seat workers seat' (set workers i worker)
+team_set task seat workers seat' i worker team learned ready = record {
+  learned = learned;
+  size = length-set workers i worker;
+  team =
+      record {
+        can_part = part_learned task seat seat' team.can_part learned;
+        some = let e = length-set workers i worker in let s = team.some in omega (arith, e, s);
+        ready = All-set (IsReady task) workers i worker ready team.ready;
+      };
+}
+
+pub led_then : (task : Task) (a : Seated) (x : List Worker) (b : Seated) (y : List Worker) (c : Seated)
+    (z : List Worker) → HasLed task a x b y → HasLed task b y c z → HasLed task a x c z
+led_then task a x b y c z first second = record {
+  learned = Learned-then a b c first.learned second.learned;
+  size = second.size ∙ first.size;
+  team = second.team;
+}

@@ -1,11 +1,14 @@
 -- What is known while the nodes of a tree are made.
-use Rattle.std.specs.Prelude.{◌≡◌, ℕ, ◌<◌, ◌≤◌, Bool, true, false, List, length, slice_index_or}
+use Rattle.std.specs.Prelude.{◌≡◌, ℕ, ◌<◌, ◌≤◌, Bool, true, false, List, length, Option, None, slice_index_or}
 use Rattle.fault_definitions.specs.CutFamily.{IsCutFamily}
 use Rattle.fault_definitions.specs.Tree.{FaultTree, IsNodeOf, is_fdep, node_count}
 use Rattle.zdd_product.specs.Seats.{KnowsOne}
 use Rattle.zdd_nodes.specs.Reading.{reference_of, KnowsBelow}
 use Rattle.zdd_build.specs.declared.places.Place.{Place}
-use Rattle.zdd_build.specs.Places.{node_at}
+use Rattle.zdd_build.specs.declared.table.Table.{Table}
+use Rattle.zdd_build.specs.declared.task.Run.{Run}
+use Rattle.zdd_build.specs.declared.task.Task.{Task}
+use Rattle.zdd_build.specs.Places.{IsRun, node_at}
 
 -- the map knows some reference as such a family
 pub record KnowsSome (known : ℕ → ℕ) (is : List (List ℕ) → Type 0) : Type 0 where
@@ -37,18 +40,32 @@ pub record AreBuilt (known : ℕ → ℕ) (tree : FaultTree) (places : List Plac
 abbrev pub AreMadeTo : List Bool → ℕ → Type 0
 AreMadeTo made to = (k : ℕ) → k < to → is_made made k ≡ true
 
--- what was made stays so
-abbrev pub KeepsMade : List Bool → List Bool → Type 0
-KeepsMade before after = (k : ℕ) → is_made before k ≡ true → is_made after k ≡ true
-
--- what each node at the places from one to another reads is known
-abbrev pub CanMake : (ℕ → ℕ) → FaultTree → List Place → List ℕ → ℕ → ℕ → Type 0
-CanMake known tree places references from to =
-    (node_count tree ≤ length references) × ((k : ℕ) → from ≤ k → k < to
-    → KnowsBelow known tree references (node_at places k))
-
 -- the lists have an item for the node at each place, and for the place
 pub record HasRoomFor (places : List Place) (references : List ℕ) (made : List Bool) : Type 0 where
   pub all_places : length places ≤ length made
   pub low : (k : ℕ) → k < length places → 1 ≤ node_at places k
   pub high : (k : ℕ) → k < length places → node_at places k ≤ length references
+
+-- all nodes below a place are made, and whatever is made is known
+pub record IsBuiltTo (known : ℕ → ℕ) (task : Task) (table : Table) (to : ℕ) : Type 0 where
+  pub built : AreBuilt known task.tree.now task.places.now table.references.items table.made.items
+  pub made : AreMadeTo table.made.items to
+
+-- a node that has a family, and whatever it reads is known by the references of a list
+pub record CanRead (known : ℕ → ℕ) (tree : FaultTree) (references : List ℕ) (node : ℕ) : Type 0 where
+  pub is_node : IsNodeOf tree node
+  pub read : is_fdep tree node ≡ false
+  pub all : node_count tree ≤ length references
+  pub below : KnowsBelow known tree references node
+
+-- whatever the nodes of a run read is known
+pub record CanMake (known : ℕ → ℕ) (run : Run) (references : List ℕ) : Type 0 where
+  pub is_run : IsRun run
+  pub reads : (k : ℕ) → run.from ≤ k → k < run.to
+      → CanRead known run.task.tree.now references (node_at run.task.places.now k)
+
+-- a worker stops at a place of the run, or where it ends; without a limit it stops there alone
+pub record IsStop (run : Run) (limit : Option ℕ) (place : ℕ) : Type 0 where
+  pub low : run.from ≤ place
+  pub high : place ≤ run.to
+  pub all : limit ≡ None → place ≡ run.to

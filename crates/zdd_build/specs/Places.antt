@@ -1,9 +1,11 @@
 -- The order in which the nodes of a tree are made.
-use Rattle.std.specs.Prelude.{◌≡◌, ℕ, ◌+◌, ◌<◌, ◌≤◌, false, List, All, Contains, slice_index_or}
+use Rattle.std.specs.Prelude.{◌≡◌, ℕ, ◌+◌, ◌<◌, ◌≤◌, false, List, All, Contains, length, slice_index_or}
 use Rattle.std.specs.List.Sorted.{IsNonDecreasingBy}
 use Rattle.fault_definitions.specs.Tree.{FaultTree, IsNodeOf, is_fdep, node_count, rank_of}
 use Rattle.fault_definitions.specs.WellFormed.{IsTree}
 use Rattle.zdd_build.specs.declared.places.Place.{Place}
+use Rattle.zdd_build.specs.declared.task.Task.{Task}
+use Rattle.zdd_build.specs.declared.task.Run.{Run}
 
 -- the node at a place, where places count from 0
 abbrev pub place_at : List Place → ℕ → Place
@@ -38,3 +40,14 @@ pub record ArePlaces (tree : FaultTree) (places : List Place) : Type 0 where
 -- the nodes at the places from one to another have one rank
 abbrev pub IsRunTo : List Place → ℕ → ℕ → Type 0
 IsRunTo places from to = (k : ℕ) → from ≤ k → k < to → (place_at places k).rank ≡ (place_at places from).rank
+
+-- the places of a task are those of its tree
+abbrev pub IsTask : Task → Type 0
+IsTask task = ArePlaces task.tree.now task.places.now
+
+-- a run has places of its task, all of one rank
+pub record IsRun (run : Run) : Type 0 where
+  pub task : IsTask run.task
+  pub some : run.from < run.to
+  pub within : run.to ≤ length run.task.places.now
+  pub rank : IsRunTo run.task.places.now run.from run.to

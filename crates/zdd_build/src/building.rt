@@ -1,15 +1,17 @@
 //! The cut families of all nodes of a tree, from the lowest rank to the highest.
-ghost use Rattle.std.specs.Prelude.{◌≡◌, ◌≤◌, ◌<◌, IfOk, IsErrOf, OnOk, false};
+ghost use Rattle.std.specs.Prelude.{◌≡◌, ◌+◌, ◌*◌, ◌≤◌, ◌<◌, ℕ, IfOk, IsErrOf, OnOk, false, length};
 ghost use Rattle.fault_definitions.specs.CutFamily.{IsCutFamily};
 ghost use Rattle.tree_families.specs.Due.{IsDueToTree};
 ghost use Rattle.zdd_shared_table.specs.Seats.{map_of};
 ghost use Rattle.zdd_product.specs.Seats.{KnowsOne, WentAll};
-ghost use Rattle.zdd_build.specs.Building.{KnowsCutFamilies};
+ghost use Rattle.zdd_build.specs.Building.{IsBuiltTo, KnowsCutFamilies};
+ghost use Rattle.zdd_build.specs.Places.{IsTask};
 ghost use Rattle.zdd_build.specs.Workers.{CountsAsBefore};
 
 use crate::places::{places_by_rank, widest_rank};
 use crate::ranks::make_ranks;
 use crate::table::Table;
+use crate::task::{Size, Task};
 use crate::teams::{close, open};
 use crate::worker::OWN_NODES;
 use deck_limits::MOST_WORKERS;
@@ -107,33 +109,50 @@ pub fn build_within<R: Threads + Sync, P: Pace>(
 {
     seat.is_sound();
     let places = places_by_rank(alloc, tree)?;
-    let mut table = Table::new(alloc, tree, places.as_slice())?;
-    let count = (workers as usize).min(widest_rank(places.as_slice()).max(1));
-    let mut team = Vec::with_capacity(alloc, count)?;
-    if let Err(cause) = open(
-        alloc,
-        tree,
-        places.len(),
-        own_nodes,
+    let task = Task {
         store,
-        seat,
-        count,
-        &mut team,
-    ) {
-        close(store, tree, seat, team);
+        tree,
+        places: places.as_slice(),
+    };
+    let mut table = Table::new(alloc, task)?;
+    let size = Size {
+        workers: (workers as usize).min(widest_rank(task.places).max(1)),
+        own_nodes,
+    };
+    build_by_team(rt, alloc, task, seat, &mut table, size, pace)?;
+    Ok(table.references[tree.top().index()])
+}
+
+// Makes all nodes by a team that is split off the seat, and joins it again.
+fn build_by_team<R: Threads + Sync, P: Pace>(
+    rt: &R,
+    alloc: Global,
+    task: Task,
+    seat: &mut StoreSeat,
+    table: &mut Table,
+    size: Size,
+    pace: &P,
+) -> Result<(), BuildEnd>
+    requires task { IsTask task }
+    requires own { seat.old.store ≡ task.store.now }
+    requires some { 1 ≤ size.workers }
+    requires share { 2 * size.workers + 2 ≤ seat.old.share }
+    requires room { size.own_nodes ≤ 262144 }
+    requires built { (known : ℕ → ℕ) → IsBuiltTo known task table.old 0 }
+    ensures built { OnOk result (IsBuiltTo (map_of seat.new) task.entry table.new (length task.entry.places.now)) }
+    ensures went { WentAll (IsDueToTree task.entry.tree.now) seat.old seat.new }
+    ensures share { seat.new.share ≡ seat.old.share }
+    ensures full { IsErrOf result BuildEnd.Full → seat.old.fulls < seat.new.fulls }
+    ensures no_memory { IsErrOf result BuildEnd.NoMemory → CountsAsBefore seat.old seat.new }
+{
+    seat.is_sound();
+    let mut team = Vec::with_capacity(alloc, size.workers)?;
+    if let Err(cause) = open(alloc, task, seat, size, &mut team) {
+        close(task, seat, team);
         return Err(BuildEnd::from(cause));
     }
-    let ended = make_ranks(
-        rt,
-        store,
-        seat,
-        team.as_mut_slice(),
-        tree,
-        places.as_slice(),
-        &mut table,
-        pace,
-    );
-    close(store, tree, seat, team);
+    let ended = make_ranks(rt, task, seat, team.as_mut_slice(), table, pace);
+    close(task, seat, team);
     ended?;
-    Ok(table.references[tree.top().index()])
+    Ok(())
 }

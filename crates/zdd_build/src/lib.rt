@@ -16,6 +16,7 @@ mod places;
 mod ranks;
 mod rounds;
 mod table;
+mod task;
 mod teams;
 mod worker;
 

@@ -1,10 +1,11 @@
 //! What is made of a tree: a reference for each node, and which places are made.
-ghost use Rattle.std.specs.Prelude.{◌≡◌, ◌-◌, ◌≤◌, ◌<◌, true, ℕ, IfOk, length, set};
-ghost use Rattle.zdd_build.specs.Building.{AreBuilt};
+ghost use Rattle.std.specs.Prelude.{◌≡◌, ◌-◌, ◌<◌, true, ℕ, IfOk, length, set};
+ghost use Rattle.zdd_build.specs.Building.{HasRoomFor, IsBuiltTo};
 ghost use Rattle.zdd_build.specs.Places.{node_at};
 
 use crate::places::Place;
-use fault_model::{NoMemory, Tree};
+use crate::task::Task;
+use fault_model::NoMemory;
 use std::alloc::Global;
 use zdd_words::NodeRef;
 
@@ -17,23 +18,20 @@ pub(crate) struct Table {
 
 impl Table {
     /// Nothing is made yet. An `fdep` has the empty family.
-    pub fn new(alloc: Global, tree: &Tree, places: &[Place]) -> Result<Table, NoMemory>
-        ensures { (known : ℕ → ℕ) → IfOk result (λ table.
-            AreBuilt known tree.now places.now table.references.items table.made.items) }
+    pub fn new(alloc: Global, task: Task) -> Result<Table, NoMemory>
+        ensures { (known : ℕ → ℕ) → IfOk result (λ table. IsBuiltTo known task.entry table 0) }
     {
-        let nodes = (tree.units() + tree.gates()) as usize;
+        let nodes = (task.tree.units() + task.tree.gates()) as usize;
         Ok(Table {
             references: vec![in alloc; NodeRef::EMPTY; nodes]?,
-            made: vec![in alloc; false; places.len()]?,
+            made: vec![in alloc; false; task.places.len()]?,
         })
     }
 
     /// Takes the reference that was found for the node at a place.
     pub fn put(&mut self, places: &[Place], place: usize, family: NodeRef)
         requires place { place < length places.now }
-        requires places { length places.now ≤ length self.old.made.items }
-        requires low { 1 ≤ node_at places.now place }
-        requires high { node_at places.now place ≤ length self.old.references.items }
+        requires room { HasRoomFor places.now self.old.references.items self.old.made.items }
         ensures references { self.new.references.items
             ≡ set self.old.references.items (node_at places.now place - 1) family }
         ensures made { self.new.made.items ≡ set self.old.made.items place true }

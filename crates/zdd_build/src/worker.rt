@@ -1,18 +1,17 @@
 //! One worker: its seat with the operations of the store, a memory of its own, and what it has found.
-ghost use Rattle.std.specs.Prelude.{◌≡◌, ◌≤◌, ℕ, false, true, [], length, vec_capacity, IfErr, IfOk, IfSome};
+ghost use Rattle.std.specs.Prelude.{◌≡◌, ◌≤◌, true, [], length, vec_capacity, IfErr, IfOk, IfSome};
 ghost use Rattle.fault_definitions.specs.CutFamily.{IsCutFamily};
-ghost use Rattle.fault_definitions.specs.Tree.{IsNodeOf, is_fdep, node_count};
+ghost use Rattle.fault_definitions.specs.Tree.{FaultTree};
 ghost use Rattle.tree_families.specs.Due.{IsDueToTree};
-ghost use Rattle.zdd_families.specs.Map.{Grown};
 ghost use Rattle.zdd_shared_table.specs.Seats.{map_of};
 ghost use Rattle.zdd_product.specs.Seats.{Gave, KnowsOne, WasFull};
-ghost use Rattle.zdd_nodes.specs.Reading.{KnowsBelow};
 ghost use Rattle.zdd_nodes.specs.Room.{HaveRoomFor};
 ghost use Rattle.family_memory.specs.Memory.{Has, family_in};
-ghost use Rattle.family_copies.specs.Copies.{AreCopies};
-ghost use Rattle.zdd_build.specs.Workers.{CanWork};
+ghost use Rattle.zdd_build.specs.Building.{CanRead};
+ghost use Rattle.zdd_build.specs.Workers.{CanWork, GoesOn, IsEquipped, KeepsSeat};
 
 use crate::own::own_family;
+use crate::task::Task;
 use family_copies::{Copies, export};
 use family_memory::{FamilyMemory, Room, Spent};
 use fault_model::{NoMemory, NodeNo, Tree};
@@ -61,18 +60,13 @@ pub(crate) struct Tools {
 
 impl Tools {
     /// Tools for a tree that has so many places, with all memory that they ever take.
-    pub fn new(
-        alloc: Global,
-        tree: &Tree,
-        places: usize,
-        own_nodes: usize,
-    ) -> Result<Tools, NoMemory>
+    pub fn new(alloc: Global, task: Task, own_nodes: usize) -> Result<Tools, NoMemory>
         requires { own_nodes ≤ 262144 }
         ensures nodes { IfOk result (λ tools. tools.memory.room ≡ own_nodes) }
-        ensures places { IfOk result (λ tools. places ≤ vec_capacity tools.found) }
+        ensures places { IfOk result (λ tools. length task.entry.places.now ≤ vec_capacity tools.found) }
         ensures copies { IfOk result (λ tools. tools.copies ≡ []) }
         ensures found { IfOk result (λ tools. tools.found.items ≡ []) }
-        ensures rooms { IfOk result (λ tools. HaveRoomFor tree.now tools.rooms) }
+        ensures rooms { IfOk result (λ tools. HaveRoomFor task.entry.tree.now tools.rooms) }
     {
         let room = Room {
             nodes: own_nodes,
@@ -80,8 +74,8 @@ impl Tools {
             answers: OWN_ANSWERS.min(own_nodes),
         };
         Ok(Tools {
-            found: Vec::with_capacity(alloc, places)?,
-            rooms: Rooms::new(alloc, tree)?,
+            found: Vec::with_capacity(alloc, task.places.len())?,
+            rooms: Rooms::new(alloc, task.tree)?,
             copies: Copies::new(alloc, own_nodes)?,
             // The largest comes last, so that no failure has to let it go.
             memory: FamilyMemory::new(alloc, room)?,
@@ -92,10 +86,8 @@ impl Tools {
 // Forgets what the memory holds, with the notes of it.
 fn forget(worker: &mut Worker)
     ensures copies { worker.new.copies ≡ [] }
-    ensures ops { worker.new.ops ≡ worker.old.ops }
-    ensures rooms { worker.new.rooms ≡ worker.old.rooms }
-    ensures found { worker.new.found ≡ worker.old.found }
-    ensures full { worker.new.full ≡ worker.old.full }
+    ensures equipped { (tree : FaultTree) → IsEquipped tree worker.old → IsEquipped tree worker.new }
+    ensures keeps { KeepsSeat worker.old worker.new }
 {
     worker.memory.clear();
     worker.copies.forget();
@@ -103,12 +95,8 @@ fn forget(worker: &mut Worker)
 
 // Forgets what the memory holds where that is much.
 fn keep_few(worker: &mut Worker)
-    ensures copies { (known : ℕ → ℕ) → AreCopies worker.old.memory known worker.old.copies
-        → AreCopies worker.new.memory known worker.new.copies }
-    ensures ops { worker.new.ops ≡ worker.old.ops }
-    ensures rooms { worker.new.rooms ≡ worker.old.rooms }
-    ensures found { worker.new.found ≡ worker.old.found }
-    ensures full { worker.new.full ≡ worker.old.full }
+    ensures equipped { (tree : FaultTree) → IsEquipped tree worker.old → IsEquipped tree worker.new }
+    ensures keeps { KeepsSeat worker.old worker.new }
 {
     if worker.memory.count() > KEPT_NODES {
         forget(worker);
@@ -122,18 +110,12 @@ fn own_or_anew(
     node: NodeNo,
     references: &[NodeRef],
 ) -> Result<NodeRef, Spent>
-    requires node { IsNodeOf tree.now node }
-    requires all { node_count tree.now ≤ length references.now }
-    requires below { KnowsBelow (map_of worker.old.ops) tree.now references.now node }
-    requires copies { AreCopies worker.old.memory (map_of worker.old.ops) worker.old.copies }
-    requires rooms { HaveRoomFor tree.now worker.old.rooms }
+    requires reads { CanRead (map_of worker.old.ops) tree.now references.now node }
+    requires equipped { IsEquipped tree.now worker.old }
     ensures has { IfOk result (λ own. Has worker.new.memory own) }
     ensures family { IfOk result (λ own. IsCutFamily tree.now node (family_in worker.new.memory own)) }
-    ensures copies { AreCopies worker.new.memory (map_of worker.new.ops) worker.new.copies }
-    ensures ops { worker.new.ops ≡ worker.old.ops }
-    ensures rooms { HaveRoomFor tree.now worker.new.rooms }
-    ensures found { worker.new.found ≡ worker.old.found }
-    ensures full { worker.new.full ≡ worker.old.full }
+    ensures equipped { IsEquipped tree.now worker.new }
+    ensures keeps { KeepsSeat worker.old worker.new }
 {
     if let Ok(own) = own_family(worker, tree, node, references) {
         return Ok(own);
@@ -150,17 +132,12 @@ fn shared_family(
     node: NodeNo,
     references: &[NodeRef],
 ) -> Result<NodeRef, Full>
-    requires node { IsNodeOf tree.now node }
-    requires read { is_fdep tree.now node ≡ false }
-    requires all { node_count tree.now ≤ length references.now }
-    requires below { KnowsBelow (map_of worker.old.ops) tree.now references.now node }
-    requires copies { AreCopies worker.old.memory (map_of worker.old.ops) worker.old.copies }
-    requires rooms { HaveRoomFor tree.now worker.old.rooms }
+    requires reads { CanRead (map_of worker.old.ops) tree.now references.now node }
+    requires equipped { IsEquipped tree.now worker.old }
     ensures gives { IfOk result (Gave (IsCutFamily tree.now node) (IsDueToTree tree.now) worker.old.ops
         worker.new.ops) }
     ensures full { IfErr result (λ _. WasFull (IsDueToTree tree.now) worker.old.ops worker.new.ops) }
-    ensures copies { AreCopies worker.new.memory (map_of worker.new.ops) worker.new.copies }
-    ensures rooms { HaveRoomFor tree.now worker.new.rooms }
+    ensures equipped { IsEquipped tree.now worker.new }
     ensures found { worker.new.found ≡ worker.old.found }
     ensures same { worker.new.full ≡ worker.old.full }
 {
@@ -178,24 +155,19 @@ fn shared_family(
 /// Makes the cut family of a node. Where the store was found full the worker knows that.
 pub(crate) fn make(
     worker: &mut Worker,
-    tree: &Tree,
+    task: Task,
     node: NodeNo,
     references: &[NodeRef],
 ) -> Result<NodeRef, Full>
-    requires node { IsNodeOf tree.now node }
-    requires read { is_fdep tree.now node ≡ false }
-    requires all { node_count tree.now ≤ length references.now }
-    requires below { KnowsBelow (map_of worker.old.ops) tree.now references.now node }
-    requires can { CanWork worker.old.ops.store tree.now worker.old }
-    ensures gives { IfOk result (λ r. KnowsOne (map_of worker.new.ops) r (IsCutFamily tree.now node)) }
+    requires reads { CanRead (map_of worker.old.ops) task.tree.now references.now node }
+    requires can { CanWork task worker.old }
+    ensures gives { IfOk result (λ r. KnowsOne (map_of worker.new.ops) r (IsCutFamily task.entry.tree.now node)) }
     ensures full { IfErr result (λ _. worker.new.full ≡ true) }
-    ensures keeps { Grown (map_of worker.old.ops) (map_of worker.new.ops) }
-    ensures can { CanWork worker.old.ops.store tree.now worker.new }
-    ensures found { worker.new.found ≡ worker.old.found }
+    ensures goes_on { GoesOn task.entry worker.old worker.new }
 {
     keep_few(worker);
     let before = worker.memory.count();
-    let family = match shared_family(worker, tree, node, references) {
+    let family = match shared_family(worker, task.tree, node, references) {
         Ok(family) => family,
         Err(full) => {
             worker.full = true;
@@ -211,23 +183,19 @@ pub(crate) fn make(
 /// left to the first worker, which makes it by the recipe over the store.
 pub(crate) fn make_own(
     worker: &mut Worker,
-    tree: &Tree,
+    task: Task,
     node: NodeNo,
     references: &[NodeRef],
 ) -> Option<NodeRef>
-    requires node { IsNodeOf tree.now node }
-    requires all { node_count tree.now ≤ length references.now }
-    requires below { KnowsBelow (map_of worker.old.ops) tree.now references.now node }
-    requires can { CanWork worker.old.ops.store tree.now worker.old }
-    ensures gives { IfSome result (λ r. KnowsOne (map_of worker.new.ops) r (IsCutFamily tree.now node)) }
-    ensures keeps { Grown (map_of worker.old.ops) (map_of worker.new.ops) }
-    ensures can { CanWork worker.old.ops.store tree.now worker.new }
-    ensures found { worker.new.found ≡ worker.old.found }
+    requires reads { CanRead (map_of worker.old.ops) task.tree.now references.now node }
+    requires can { CanWork task worker.old }
+    ensures gives { IfSome result (λ r. KnowsOne (map_of worker.new.ops) r (IsCutFamily task.entry.tree.now node)) }
+    ensures goes_on { GoesOn task.entry worker.old worker.new }
 {
     // Tells the proof what a tree keeps.
-    tree.units();
+    task.tree.units();
     keep_few(worker);
-    let Ok(own) = own_or_anew(worker, tree, node, references) else {
+    let Ok(own) = own_or_anew(worker, task.tree, node, references) else {
         return None;
     };
     match export(&worker.memory, &mut worker.copies, &mut worker.ops, own) {

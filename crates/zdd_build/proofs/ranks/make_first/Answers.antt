@@ -1,75 +1,67 @@
-use Rattle.std.proofs.Common.{◌∙◌, get_or, subst, ap, arith}
+use Rattle.std.proofs.Common.{get_or, arith}
 use Rattle.std.proofs.lemmas.Result.{err_from_is_err_and}
-use Rattle.std.proofs.lemmas.List.Elements.{All-set}
-use Rattle.zdd_shared_table.specs.Seats.{TableId, map_of}
+use Rattle.zdd_shared_table.specs.Seats.{map_of}
+use Rattle.zdd_product.proofs.After.{grown_then}
 use Rattle.zdd_build.specs.declared.worker.Worker.{Worker}
-use Rattle.zdd_build.specs.Workers.{CanWork, HasNone}
-use Rattle.zdd_build.proofs.SeatLemmas.{Learned-then}
-use Rattle.zdd_build.proofs.TableLemmas.{built_grown}
-use Rattle.zdd_build.proofs.WorkerLemmas.{can_met, can_own, finds_first}
+use Rattle.zdd_build.specs.Workers.{IsReady}
+use Rattle.zdd_build.proofs.SeatLemmas.{Learned-then, part_learned}
+use Rattle.zdd_build.proofs.TableLemmas.{built_on}
+use Rattle.zdd_build.proofs.WorkerLemmas.{finds_first, goes_on_then, ready_on, team_set}
 use Rattle.zdd_build.proofs.ranks.make_first.Goals as goal
+use Rattle.zdd_build.proofs.ranks.make_first.Goals.{After-index-team-0, After-make_rest}
+use Rattle.zdd_build.proofs.ranks.make_first.Given as given
 
-pub make_rest-requires-clause-can : goal.make_rest-requires-clause-can
-make_rest-requires-clause-can g c κs within =
-    let store = c.args.store.now in
-    let tree = c.args.tree.now in
-    let old : Worker = get_or c.args.team.now 0 c.index-team-0.result in
-    can_own store tree c.meet.new.worker
-    (can_met store tree old c.meet.new.worker (c.requires.can 0 c.index-team-0.result
-    (let some = c.requires.some in omega (arith, some))) c.meet.ensures.ops c.meet.ensures.rest)
+-- the first worker of the team
+ready : (g : given.Over) (c : After-index-team-0 g)
+    → IsReady c.args.run.task (get_or c.args.team.now 0 c.index-team-0.result)
+ready g c = c.requires.team.ready 0 c.index-team-0.result (let some = c.requires.team.some in omega (arith, some))
+
+-- it has met the seat, and made what it could
+made : (g : given.Over) (c : After-make_rest g)
+    → IsReady c.args.run.task (get_or c.args.team.now 0 c.index-team-0.result)
+    → IsReady c.args.run.task c.make_rest.new.worker
+made g c first_ready =
+    let first : Worker = get_or c.args.team.now 0 c.index-team-0.result in
+    ready_on c.args.run.task first c.make_rest.new.worker first_ready
+    (goes_on_then c.args.run.task first c.meet.new.worker c.make_rest.new.worker c.meet.ensures.goes_on
+    c.make_rest.ensures.goes_on)
+
+pub meet-requires-clause-worker : goal.meet-requires-clause-worker
+meet-requires-clause-worker g c = (ready g (goal.at.meet-requires-clause-worker g c).After-index-team-0).can
 
 pub make_rest-requires-clause-built : goal.make_rest-requires-clause-built
 make_rest-requires-clause-built g c κs within =
-    built_grown (map_of c.args.seat.now) (map_of c.meet.new.worker.ops) c.is_sound.ensures.sound.closed
-    c.meet.ensures.ops.sound.closed c.meet.ensures.learns c.args.tree.now c.args.places.now
-    c.args.table.now.references.items c.args.table.now.made.items c.requires.built
+    built_on (map_of c.args.seat.now) (map_of c.meet.new.worker.ops) c.requires.team.can_part.sound.closed
+    c.meet.ensures.goes_on.can.counts.sound.closed c.meet.ensures.learns c.args.run.task c.args.table.now
+    c.args.run.from c.requires.built
 
-pub returns-in_err-place-clause-can : goal.returns-in_err-place-clause-can
-returns-in_err-place-clause-can g c =
-    All-set (CanWork c.args.store.now c.args.tree.now) c.args.team.now 0 c.make_rest.new.worker
-    (subst (λ (s : TableId). CanWork s c.args.tree.now c.make_rest.new.worker)
-    (c.meet.ensures.ops.store ∙ (c.requires.can 0 c.index-team-0.result
-    (let some = c.requires.some in omega (arith, some))).own) c.make_rest.ensures.can)
-    c.requires.can
-
-pub returns-in_err-place-clause-none : goal.returns-in_err-place-clause-none
-returns-in_err-place-clause-none g c =
-    All-set HasNone c.args.team.now 0 c.make_rest.new.worker
-    (ap (λ v. v.items) c.make_rest.ensures.found ∙ ap (λ (w : Worker). w.found.items) c.meet.ensures.rest
-    ∙ c.requires.none 0 c.index-team-0.result (let some = c.requires.some in omega (arith, some)))
-    c.requires.none
+pub returns-in_err-place-clause-led : goal.returns-in_err-place-clause-led
+returns-in_err-place-clause-led g c =
+    let to = goal.at.returns-in_err-place-clause-led g c in
+    team_set c.args.run.task c.args.seat.now c.args.team.now c.meet.new.seat 0 c.make_rest.new.worker c.requires.team
+    c.meet.ensures.learned (made g to.After-make_rest (ready g to.After-index-team-0))
 
 pub returns-in_err-place-clause-full : goal.returns-in_err-place-clause-full
 returns-in_err-place-clause-full g c =
     let p = err_from_is_err_and c.from_residual.result c.from_residual.ensures.1 in
-    rw p.1 (finds_first c.args.team.now c.make_rest.new.worker c.requires.some c.in_err-place.ensures.full)
+    rw p.1 (finds_first c.args.team.now c.make_rest.new.worker c.requires.team.some c.in_err-place.ensures.full)
 
-pub returns-clause-seat : goal.returns-clause-seat
-returns-clause-seat g c =
-    Learned-then c.args.seat.now c.meet.new.seat c.meet-2.new.seat c.meet.ensures.seat c.meet-2.ensures.seat
+pub meet-requires-2-clause-seat : goal.meet-requires-2-clause-seat
+meet-requires-2-clause-seat g c =
+    part_learned c.args.run.task c.args.seat.now c.meet.new.seat c.requires.team.can_part c.meet.ensures.learned
 
-pub returns-clause-can : goal.returns-clause-can
-returns-clause-can g c =
-    let made : CanWork c.args.store.now c.args.tree.now c.make_rest.new.worker =
-    subst (λ (s : TableId). CanWork s c.args.tree.now c.make_rest.new.worker)
-    (c.meet.ensures.ops.store ∙ (c.requires.can 0 c.index-team-0.result
-    (let some = c.requires.some in omega (arith, some))).own) c.make_rest.ensures.can in
-    All-set (CanWork c.args.store.now c.args.tree.now) c.args.team.now 0 c.meet-2.new.worker
-    (can_met c.args.store.now c.args.tree.now c.make_rest.new.worker c.meet-2.new.worker made c.meet-2.ensures.ops
-    c.meet-2.ensures.rest)
-    c.requires.can
-
-pub returns-clause-none : goal.returns-clause-none
-returns-clause-none g c =
-    All-set HasNone c.args.team.now 0 c.meet-2.new.worker
-    (ap (λ (w : Worker). w.found.items) c.meet-2.ensures.rest ∙ ap (λ v. v.items) c.make_rest.ensures.found
-    ∙ ap (λ (w : Worker). w.found.items) c.meet.ensures.rest
-    ∙ c.requires.none 0 c.index-team-0.result (let some = c.requires.some in omega (arith, some)))
-    c.requires.none
+pub returns-clause-led : goal.returns-clause-led
+returns-clause-led g c =
+    let to = goal.at.returns-clause-led g c in
+    team_set c.args.run.task c.args.seat.now c.args.team.now c.meet-2.new.seat 0 c.meet-2.new.worker c.requires.team
+    (Learned-then c.args.seat.now c.meet.new.seat c.meet-2.new.seat c.meet.ensures.learned c.meet-2.ensures.learned)
+    (ready_on c.args.run.task c.make_rest.new.worker c.meet-2.new.worker
+    (made g to.After-make_rest (ready g to.After-index-team-0)) c.meet-2.ensures.goes_on)
 
 pub returns-clause-built : goal.returns-clause-built
 returns-clause-built g c =
-    built_grown (map_of c.make_rest.new.worker.ops) (map_of c.meet-2.new.seat)
-    c.make_rest.ensures.can.counts.sound.closed c.meet-2.ensures.seat.sound.closed c.meet-2.ensures.tells
-    c.args.tree.now c.args.places.now c.make_rest.new.table.references.items c.make_rest.new.table.made.items
-    c.make_rest.ensures.built
+    built_on (map_of c.make_rest.new.worker.ops) (map_of c.meet-2.new.seat)
+    c.make_rest.ensures.goes_on.can.counts.sound.closed c.meet-2.ensures.learned.sound.closed
+    (grown_then (map_of c.make_rest.new.worker.ops) (map_of c.meet-2.new.worker.ops) (map_of c.meet-2.new.seat)
+    c.meet-2.ensures.goes_on.keeps c.meet-2.ensures.tells) c.args.run.task
+    c.make_rest.new.table c.in_ok-place.place c.in_ok-place.ensures.built

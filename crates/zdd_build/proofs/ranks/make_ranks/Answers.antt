@@ -1,21 +1,30 @@
-use Rattle.std.proofs.Common.{◌∙◌}
-use Rattle.zdd_build.proofs.SeatLemmas.{Learned-then}
+use Rattle.std.proofs.Common.{refl, arith}
+use Rattle.zdd_build.proofs.SeatLemmas.{Learned-nothing}
+use Rattle.zdd_build.proofs.WorkerLemmas.{led_then}
 use Rattle.zdd_build.proofs.ranks.make_ranks.Goals as goal
+
+pub loop-from-init : goal.loop-from-init
+loop-from-init g c = record {
+  within = omega arith;
+  led =
+      record {
+        learned = Learned-nothing c.args.seat.now c.requires.team.can_part.sound;
+        size = refl;
+        team = c.requires.team;
+      };
+  built = c.requires.built;
+}
 
 pub loop-from-preserved : goal.loop-from-preserved
 loop-from-preserved g c = record {
   within = c.end_of_rank-to.ensures.within;
-  seat =
-      Learned-then c.args.seat.now c.loop-from.seat c.make_rank.new.seat c.loop-from.invariant.seat
-      c.make_rank.ensures.seat;
-  size = c.make_rank.ensures.size ∙ c.loop-from.invariant.size;
-  can = c.make_rank.ensures.can;
-  none = c.make_rank.ensures.none;
-  made = c.in_ok-make_rank.ensures.made;
+  led =
+      led_then c.args.task c.args.seat.now c.args.team.now c.loop-from.seat c.loop-from.team c.make_rank.new.seat
+      c.make_rank.new.team c.loop-from.invariant.led c.make_rank.ensures.led;
   built = c.in_ok-make_rank.ensures.built;
 }
 
-pub returns-in_err-make_rank-clause-seat : goal.returns-in_err-make_rank-clause-seat
-returns-in_err-make_rank-clause-seat g c =
-    Learned-then c.args.seat.now c.loop-from.seat c.make_rank.new.seat c.loop-from.invariant.seat
-    c.make_rank.ensures.seat
+pub returns-in_err-make_rank-clause-led : goal.returns-in_err-make_rank-clause-led
+returns-in_err-make_rank-clause-led g c =
+    led_then c.args.task c.args.seat.now c.args.team.now c.loop-from.seat c.loop-from.team c.make_rank.new.seat
+    c.make_rank.new.team c.loop-from.invariant.led c.make_rank.ensures.led

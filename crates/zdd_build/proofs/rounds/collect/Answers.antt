@@ -1,92 +1,81 @@
-use Rattle.std.proofs.Common.{refl, ◌∙◌, ◌<◌, All, get_or, length, length-set, subst, sym, arith}
-use Rattle.std.proofs.lemmas.List.Elements.{All-set, All-weaker}
-use Rattle.zdd_shared_table.specs.Seats.{map_of}
-use Rattle.zdd_build.specs.declared.worker.Finding.{Finding}
-use Rattle.zdd_build.specs.declared.worker.Worker.{Worker}
-use Rattle.zdd_build.specs.Workers.{AreFound, CanWork, HasNone, IsAtWork, IsFound}
-use Rattle.zdd_build.proofs.SeatLemmas.{Learned-nothing, Learned-then, found_grown}
-use Rattle.zdd_build.proofs.TableLemmas.{built_grown, keeps_then, room_for}
-use Rattle.zdd_build.proofs.WorkerLemmas.{above_set, below_set, can_met, can_taken}
+use Rattle.std.proofs.Common.{refl, ◌∙◌, ◌<◌, get_or, length, length-set, subst, arith}
+use Rattle.zdd_shared_table.specs.Seats.{Seated, map_of}
+use Rattle.zdd_build.specs.Building.{IsBuiltTo}
+use Rattle.zdd_build.specs.Workers.{IsAtWork, IsReady}
+use Rattle.zdd_build.proofs.SeatLemmas.{Learned-nothing, Learned-then, part_learned}
+use Rattle.zdd_build.proofs.TableLemmas.{built_on}
+use Rattle.zdd_build.proofs.WorkerLemmas.{above_set, at_work_on, below_set}
 use Rattle.zdd_build.proofs.rounds.collect.Goals as goal
-
-pub loop-i-preserved : goal.loop-i-preserved
-loop-i-preserved c =
-    let store = c.args.store.now in
-    let tree = c.args.tree.now in
-    let places = c.args.places.now in
-    let inv = c.loop-i.invariant in
-    let team = c.loop-i.team in
-    let i = c.loop-i.i in
-    let old : Worker = get_or team i c.index-team-i.result in
-    let met = c.meet.new.worker in
-    let taken = c.take_found.new.worker in
-    let inside : i < length team = (let t = c.loop-i-test.true in let e = inv.size in omega (arith, t, e)) in
-    let at_work : IsAtWork store tree places old = inv.left i c.index-team-i.result (omega arith) inside in
-    let can : CanWork store tree taken =
-    can_taken store tree met taken (can_met store tree old met at_work.can c.meet.ensures.ops c.meet.ensures.rest)
-    c.take_found.ensures.rest in
-    let found : AreFound (map_of c.meet.new.seat) tree places met.found.items =
-    subst (λ (w : Worker). AreFound (map_of c.meet.new.seat) tree places w.found.items) (sym c.meet.ensures.rest)
-    (found_grown (map_of old.ops) (map_of c.meet.new.seat) at_work.can.counts.sound.closed
-    c.meet.ensures.seat.sound.closed c.meet.ensures.tells tree places old.found.items at_work.found) in
-    record {
-      seat = Learned-then c.args.seat.now c.loop-i.seat c.meet.new.seat inv.seat c.meet.ensures.seat;
-      size = length-set team i taken ∙ inv.size;
-      can = All-set (CanWork store tree) team i taken can inv.can;
-      done = below_set HasNone team i taken inside inv.done c.take_found.ensures.none;
-      left =
-          λ k d high within. above_set (IsAtWork store tree places) team i taken inv.left k d high
-          (let e = length-set team i taken in omega (arith, e, within));
-      built =
-          c.take_found.ensures.built (map_of c.meet.new.seat) tree c.requires.places found
-          (built_grown (map_of c.loop-i.seat) (map_of c.meet.new.seat) inv.seat.sound.closed
-          c.meet.ensures.seat.sound.closed c.meet.ensures.seat.keeps tree places c.loop-i.table.references.items
-          c.loop-i.table.made.items inv.built);
-      keeps =
-          keeps_then c.args.table.now.made.items c.loop-i.table.made.items c.take_found.new.table.made.items inv.keeps
-          c.take_found.ensures.keeps;
-    }
+use Rattle.zdd_build.proofs.rounds.collect.Goals.{After-index-team-i}
 
 pub loop-i-init : goal.loop-i-init
 loop-i-init c = record {
-  seat = Learned-nothing c.args.seat.now c.is_sound.ensures.sound;
+  learned = Learned-nothing c.args.seat.now c.requires.seat.sound;
   size = refl;
-  can =
-      All-weaker (IsAtWork c.args.store.now c.args.tree.now c.args.places.now)
-      (CanWork c.args.store.now c.args.tree.now) (λ worker is. is.can) c.args.team.now c.requires.at_work;
-  done = λ k d below. absurd (omega (arith, below));
+  ready = λ k d below. absurd (omega (arith, below));
   left = λ k d high within. c.requires.at_work k d within;
   built = c.requires.built;
-  keeps = λ k is. is;
 }
 
-pub meet-requires-clause-theirs : goal.meet-requires-clause-theirs
-meet-requires-clause-theirs c =
-    let inside : c.loop-i.i < length c.loop-i.team =
-    (let t = c.loop-i-test.true in let e = c.loop-i.invariant.size in omega (arith, t, e)) in
-    (c.loop-i.invariant.can c.loop-i.i c.index-team-i.result inside).own
+-- the next worker
+at_work : (c : After-index-team-i) → IsAtWork c.args.run.task (get_or c.loop-i.team c.loop-i.i c.index-team-i.result)
+at_work c =
+    c.loop-i.invariant.left c.loop-i.i c.index-team-i.result (omega arith)
+    (let t = c.loop-i-test.true in let e = c.loop-i.invariant.size in omega (arith, t, e))
 
-pub meet-requires-clause-shares : goal.meet-requires-clause-shares
-meet-requires-clause-shares c =
-    let inside : c.loop-i.i < length c.loop-i.team =
-    (let t = c.loop-i-test.true in let e = c.loop-i.invariant.size in omega (arith, t, e)) in
-    let two = (c.loop-i.invariant.can c.loop-i.i c.index-team-i.result inside).share in
-    omega (arith, two)
+pub meet-requires-clause-seat : goal.meet-requires-clause-seat
+meet-requires-clause-seat c =
+    part_learned c.args.run.task c.args.seat.now c.loop-i.seat c.requires.seat c.loop-i.invariant.learned
 
-pub take_found-requires-clause-within : goal.take_found-requires-clause-within
-take_found-requires-clause-within c =
-    let inside : c.loop-i.i < length c.loop-i.team =
-    (let t = c.loop-i-test.true in let e = c.loop-i.invariant.size in omega (arith, t, e)) in
-    let old : Worker = get_or c.loop-i.team c.loop-i.i c.index-team-i.result in
-    let at_work : IsAtWork c.args.store.now c.args.tree.now c.args.places.now old =
-    c.loop-i.invariant.left c.loop-i.i c.index-team-i.result (omega arith) inside in
-    subst (λ (w : Worker). All (λ (finding : Finding). finding.place < length c.args.places.now) w.found.items)
-    (sym c.meet.ensures.rest)
-    (All-weaker (IsFound (map_of old.ops) c.args.tree.now c.args.places.now)
-    (λ (finding : Finding). finding.place < length c.args.places.now) (λ finding is. is.0) old.found.items
-    at_work.found)
+pub meet-requires-clause-worker : goal.meet-requires-clause-worker
+meet-requires-clause-worker c = (at_work (goal.at.meet-requires-clause-worker c).After-index-team-i).can
 
-pub take_found-requires-clause-sizes : goal.take_found-requires-clause-sizes
-take_found-requires-clause-sizes c =
-    room_for (map_of c.loop-i.seat) c.args.tree.now c.requires.places.kept c.args.places.now c.requires.places
-    c.loop-i.table.references.items c.loop-i.table.made.items c.loop-i.invariant.built
+pub take_found-requires-clause-at_work : goal.take_found-requires-clause-at_work
+take_found-requires-clause-at_work c =
+    at_work_on c.args.run.task (get_or c.loop-i.team c.loop-i.i c.index-team-i.result) c.meet.new.worker
+    (at_work (goal.at.take_found-requires-clause-at_work c).After-index-team-i) c.meet.ensures.goes_on
+
+pub take_found-requires-clause-built : goal.take_found-requires-clause-built
+take_found-requires-clause-built c =
+    built_on (map_of c.loop-i.seat) (map_of c.meet.new.worker.ops) c.loop-i.invariant.learned.sound.closed
+    c.meet.ensures.goes_on.can.counts.sound.closed c.meet.ensures.learns c.args.run.task c.loop-i.table
+    c.args.run.from c.loop-i.invariant.built
+
+pub loop-i-preserved : goal.loop-i-preserved
+loop-i-preserved c =
+    let inv = c.loop-i.invariant in
+    let team = c.loop-i.team in
+    let i = c.loop-i.i in
+    let met = c.meet.new.worker in
+    let taken = c.take_found.new.worker in
+    let inside : i < length team = (let t = c.loop-i-test.true in let e = inv.size in omega (arith, t, e)) in
+    record {
+      learned = Learned-then c.args.seat.now c.loop-i.seat c.meet.new.seat inv.learned c.meet.ensures.learned;
+      size = length-set team i taken ∙ inv.size;
+      ready = below_set (IsReady c.args.run.task) team i taken inside inv.ready c.take_found.ensures.ready;
+      left =
+          λ k d high within. above_set (IsAtWork c.args.run.task) team i taken inv.left k d high
+          (let e = length-set team i taken in omega (arith, e, within));
+      built =
+          built_on (map_of met.ops) (map_of c.meet.new.seat) c.meet.ensures.goes_on.can.counts.sound.closed
+          c.meet.ensures.learned.sound.closed c.meet.ensures.tells c.args.run.task c.take_found.new.table
+          c.args.run.from
+          (subst (λ (s : Seated). IsBuiltTo (map_of s) c.args.run.task c.take_found.new.table c.args.run.from)
+          c.take_found.ensures.ops c.take_found.ensures.built);
+    }
+
+pub returns-clause-led : goal.returns-clause-led
+returns-clause-led c =
+    let inv = c.loop-i.invariant in
+    record {
+      learned = inv.learned;
+      size = inv.size;
+      team =
+          record {
+            can_part = part_learned c.args.run.task c.args.seat.now c.loop-i.seat c.requires.seat inv.learned;
+            some = let s = c.requires.some in let e = inv.size in omega (arith, s, e);
+            ready =
+                λ k d within. inv.ready k d
+                (let t = c.loop-i-test.false in let e = inv.size in omega (arith, t, e, within));
+          };
+    }

@@ -1,40 +1,34 @@
-use Rattle.std.proofs.Common.{◌<◌, ◌-◌, refl, ℕ, Bool, true, List, set, length, subst, sym, arith}
+use Rattle.std.proofs.Common.{refl, subst, sym, arith}
+use Rattle.zdd_shared_table.specs.Seats.{map_of}
 use Rattle.zdd_build.specs.declared.worker.Finding.{Finding}
-use Rattle.zdd_build.specs.Building.{AreBuilt, HasRoomFor, KeepsMade}
-use Rattle.zdd_build.specs.Places.{node_at}
 use Rattle.zdd_build.specs.Workers.{IsFound}
-use Rattle.zdd_build.proofs.TableLemmas.{built_put, keeps_put, keeps_then, room_put}
+use Rattle.zdd_build.proofs.TableLemmas.{put_built, table_room}
 use Rattle.zdd_build.proofs.rounds.take_found.Goals as goal
+use Rattle.zdd_build.proofs.rounds.take_found.Goals.{After-index}
+
+-- what was found there
+found : (c : After-index) → IsFound (map_of c.args.worker.now.ops) c.args.run.task c.index.result.now
+found c =
+    subst (IsFound (map_of c.args.worker.now.ops) c.args.run.task) (sym c.index.ensures)
+    (c.requires.at_work.found c.loop-i.i c.index.result.now
+    (let t = c.loop-i-test.true in let e = c.len-i-end.ensures in omega (arith, t, e)))
+
+pub put-requires-clause-place : goal.put-requires-clause-place
+put-requires-clause-place c = (found (goal.at.put-requires-clause-place c).After-index).0
+
+pub put-requires-clause-room : goal.put-requires-clause-room
+put-requires-clause-room c =
+    table_room (map_of c.args.worker.now.ops) c.args.run.task c.requires.run.task c.loop-i.table c.args.run.from
+    c.loop-i.invariant.built
 
 pub loop-i-preserved : goal.loop-i-preserved
 loop-i-preserved c =
-    let places = c.args.places.now in
-    let inv = c.loop-i.invariant in
-    let i = c.loop-i.i in
-    let all = c.args.worker.now.found.items in
     let finding : Finding = c.index.result.now in
-    let references = c.loop-i.table.references.items in
-    let made = c.loop-i.table.made.items in
-    let new_references = c.put.new.self.references.items in
-    let new_made = c.put.new.self.made.items in
-    let inside : i < length all = (let t = c.loop-i-test.true in let e = c.len-i-end.ensures in omega (arith, t, e)) in
-    let within : finding.place < length places =
-    subst (λ (f : Finding). f.place < length places) (sym c.index.ensures) (c.requires.within i finding inside) in
-    let marked : finding.place < length made = (let s = inv.sizes.all_places in omega (arith, s, within)) in
+    let is = found (goal.at.loop-i-preserved c).After-index in
     record {
-      sizes =
-          subst (λ (m : List Bool). HasRoomFor places new_references m) (sym c.put.ensures.made)
-          (subst (λ (r : List ℕ). HasRoomFor places r (set made finding.place true)) (sym c.put.ensures.references)
-          (room_put places references made (node_at places finding.place - 1) finding.family finding.place inv.sizes));
-      built = λ known tree are found before.
-          subst (λ (m : List Bool). AreBuilt known tree places new_references m) (sym c.put.ensures.made)
-          (subst (λ (r : List ℕ). AreBuilt known tree places r (set made finding.place true))
-          (sym c.put.ensures.references)
-          (built_put known tree are.kept places are references made (inv.built known tree are found before)
-          finding.place within finding.family
-          (subst (IsFound known tree places) (sym c.index.ensures) (found i finding inside)).1));
-      keeps =
-          keeps_then c.args.table.now.made.items made new_made inv.keeps
-          (subst (KeepsMade made) (sym c.put.ensures.made) (keeps_put made finding.place marked));
+      built =
+          put_built (map_of c.args.worker.now.ops) c.args.run.task c.requires.run.task c.loop-i.table c.put.new.self
+          finding.place finding.family c.args.run.from c.loop-i.invariant.built is.0 is.1 c.put.ensures.references
+          c.put.ensures.made;
       worker = refl;
     }

@@ -5,20 +5,20 @@ use Rattle.zdd_shared_table.specs.Seats.{Seated}
 use Rattle.zdd_product.specs.Seats.{CountsDue, Joined}
 use Rattle.zdd_product.proofs.Several.{WentAll-nowhere}
 use Rattle.zdd_build.specs.declared.worker.Worker.{Worker}
-use Rattle.zdd_build.specs.Workers.{CanWork, FindsFull, IsNew}
+use Rattle.zdd_build.specs.Workers.{CanWork, FindsFull, IsNew, IsReady}
 use Rattle.zdd_build.proofs.TeamLemmas.{close_full, close_new, close_went, last_is, others_are}
 use Rattle.zdd_build.proofs.teams.+close.Goals as goal
 use Rattle.zdd_build.proofs.teams.+close.Goals.{After-into_seat, After-join}
 
 pub returns-in_default-clause-went : goal.returns-in_default-clause-went
 returns-in_default-clause-went t c =
-    WentAll-nowhere (IsDueToTree c.args.tree.now) c.args.seat.now c.is_sound.ensures.sound
+    WentAll-nowhere (IsDueToTree c.args.task.tree.now) c.args.seat.now c.is_sound.ensures.sound
 
 -- the last worker of the team
-can : (t : ℕ) (c : After-into_seat t) → CanWork c.args.store.now c.args.tree.now c.in-Some.worker
+can : (t : ℕ) (c : After-into_seat t) → CanWork c.args.task c.in-Some.worker
 can t c =
-    last_is (CanWork c.args.store.now c.args.tree.now) c.args.team.items c.pop.new.self.items c.in-Some.worker
-    c.in-Some.ensures.items c.requires.can
+    (last_is (IsReady c.args.task) c.args.team.items c.pop.new.self.items c.in-Some.worker c.in-Some.ensures.items
+    c.requires.ready).can
 
 -- the seat has taken in what the last worker had
 joined : (t : ℕ) (c : After-join t) → Joined c.args.seat.now c.into_seat.result c.join.new.seat
@@ -42,7 +42,7 @@ join-requires-clause-others t c =
 pub returns-clause-went : goal.returns-clause-went
 returns-clause-went t c =
     let to = goal.at.returns-clause-went t c in
-    let due = IsDueToTree c.args.tree.now in
+    let due = IsDueToTree c.args.task.tree.now in
     close_went c.args.seat.now c.into_seat.result c.join.new.seat c.close.new.seat (joined t to.After-join) due
     (subst (CountsDue due) (sym c.into_seat.ensures) (can t to.After-into_seat).counts) c.close.ensures.went
 
@@ -60,7 +60,7 @@ pub returns-clause-full : goal.returns-clause-full
 returns-clause-full t c finds =
     let to = goal.at.returns-clause-full t c in
     close_full c.args.seat.now c.into_seat.result c.join.new.seat c.close.new.seat (joined t to.After-join)
-    c.args.store.now c.args.tree.now (IsDueToTree c.args.tree.now) c.pop.new.self.items c.in-Some.worker
+    c.args.task (IsDueToTree c.args.task.tree.now) c.pop.new.self.items c.in-Some.worker
     (sym c.into_seat.ensures) (can t to.After-into_seat) c.close.ensures.went c.close.ensures.full
     (subst FindsFull c.in-Some.ensures.items finds)
 

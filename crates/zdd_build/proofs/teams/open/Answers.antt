@@ -2,7 +2,7 @@ use Rattle.std.proofs.Common.{◌∙◌, ◌+◌, List, length, All, subst, sym,
 use Rattle.std.proofs.lemmas.List.{length_push}
 use Rattle.std.proofs.lemmas.List.Elements.{All-push}
 use Rattle.zdd_build.specs.declared.worker.Worker.{Worker}
-use Rattle.zdd_build.specs.Workers.{CanWork, IsNew}
+use Rattle.zdd_build.specs.Workers.{IsNew, IsReady}
 use Rattle.zdd_build.proofs.TeamLemmas.{split_then}
 use Rattle.zdd_build.proofs.teams.open.Goals as goal
 
@@ -18,10 +18,10 @@ loop-number-preserved c =
       split =
           split_then c.loop-number._number c.args.seat.now c.loop-number.seat c.open_one.new.seat inv.split
           c.in_ok-worker.ensures.split;
-      can =
-          subst (All (CanWork c.args.store.now c.args.tree.now)) (sym pushed)
-          (All-push (CanWork c.args.store.now c.args.tree.now) c.loop-number.team.items c.in_ok-worker.worker inv.can
-          c.in_ok-worker.ensures.can);
+      ready =
+          subst (All (IsReady c.args.task)) (sym pushed)
+          (All-push (IsReady c.args.task) c.loop-number.team.items c.in_ok-worker.worker inv.ready
+          c.in_ok-worker.ensures.ready);
       new =
           subst (All IsNew) (sym pushed) (All-push IsNew c.loop-number.team.items c.in_ok-worker.worker inv.new
           c.in_ok-worker.ensures.new);

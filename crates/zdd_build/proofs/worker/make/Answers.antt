@@ -1,37 +1,32 @@
-use Rattle.std.proofs.Common.{◌∙◌, true, subst, sym}
+use Rattle.std.proofs.Common.{true, subst, sym}
 use Rattle.fault_definitions.specs.CutFamily.{IsCutFamily}
-use Rattle.tree_families.specs.Due.{IsDueToTree}
-use Rattle.zdd_families.specs.Map.{Grown}
 use Rattle.zdd_shared_table.specs.Seats.{Seated, map_of}
-use Rattle.zdd_product.specs.Seats.{Gave, WasFull}
-use Rattle.family_copies.specs.Copies.{AreCopies}
-use Rattle.zdd_build.proofs.WorkerLemmas.{can_full, can_gave}
+use Rattle.zdd_build.specs.Building.{CanRead}
+use Rattle.zdd_build.proofs.WorkerLemmas.{on_full, on_gave}
 use Rattle.zdd_build.proofs.worker.make.Goals as goal
 
-pub returns-in-Err-clause-can : goal.returns-in-Err-clause-can
-returns-in-Err-clause-can c =
-    can_full c.args.worker.now.ops.store c.args.tree.now c.args.worker.now
-    (record c.shared_family.new.worker { full = true }) c.requires.can c.shared_family.ensures.copies
-    c.shared_family.ensures.rooms
-    (subst (λ (s : Seated). WasFull (IsDueToTree c.args.tree.now) s c.shared_family.new.worker.ops)
-    c.keep_few.ensures.ops c.in-Err.ensures.full)
+pub shared_family-requires-clause-reads : goal.shared_family-requires-clause-reads
+shared_family-requires-clause-reads c =
+    subst (λ (s : Seated). CanRead (map_of s) c.args.task.tree.now c.args.references.now c.args.node)
+    (sym c.keep_few.ensures.keeps.ops) c.requires.reads
 
-pub returns-clause-can : goal.returns-clause-can
-returns-clause-can c =
-    can_gave c.args.worker.now.ops.store c.args.tree.now c.args.worker.now
+pub shared_family-requires-clause-equipped : goal.shared_family-requires-clause-equipped
+shared_family-requires-clause-equipped c = c.keep_few.ensures.equipped c.args.task.tree.now c.requires.can.equipped
+
+pub returns-in-Err-clause-goes_on : goal.returns-in-Err-clause-goes_on
+returns-in-Err-clause-goes_on c =
+    on_full c.args.task c.args.worker.now c.keep_few.new.worker (record c.shared_family.new.worker { full = true })
+    c.requires.can c.keep_few.ensures.keeps (record {
+      copies = c.shared_family.ensures.equipped.copies;
+      rooms = c.shared_family.ensures.equipped.rooms;
+    }) c.shared_family.ensures.found c.in-Err.ensures.full
+
+pub returns-clause-goes_on : goal.returns-clause-goes_on
+returns-clause-goes_on c =
+    on_gave c.args.task c.args.worker.now c.keep_few.new.worker
     (record c.shared_family.new.worker { work = c.saturating_add-worker.result }) c.requires.can
-    c.shared_family.ensures.copies c.shared_family.ensures.rooms
-    (IsCutFamily c.args.tree.now c.args.node) c.in-Ok.family
-    (subst (λ (s : Seated). Gave (IsCutFamily c.args.tree.now c.args.node) (IsDueToTree c.args.tree.now) s
-    c.shared_family.new.worker.ops c.in-Ok.family) c.keep_few.ensures.ops c.in-Ok.ensures.gives)
-    (c.shared_family.ensures.same ∙ c.keep_few.ensures.full)
-
-pub shared_family-requires-clause-copies : goal.shared_family-requires-clause-copies
-shared_family-requires-clause-copies c =
-    subst (λ (s : Seated). AreCopies c.keep_few.new.worker.memory (map_of s) c.keep_few.new.worker.copies)
-    (sym c.keep_few.ensures.ops) (c.keep_few.ensures.copies (map_of c.args.worker.now.ops) c.requires.can.copies)
-
-pub returns-in-Err-clause-keeps : goal.returns-in-Err-clause-keeps
-returns-in-Err-clause-keeps c =
-    subst (λ (s : Seated). Grown (map_of s) (map_of c.shared_family.new.worker.ops)) c.keep_few.ensures.ops
-    c.in-Err.ensures.full.went.keeps
+    c.keep_few.ensures.keeps (record {
+      copies = c.shared_family.ensures.equipped.copies;
+      rooms = c.shared_family.ensures.equipped.rooms;
+    }) c.shared_family.ensures.found (IsCutFamily c.args.task.tree.now c.args.node) c.in-Ok.family
+    c.in-Ok.ensures.gives c.shared_family.ensures.same

@@ -12,8 +12,9 @@ returns-in-Ok-clause-gives c =
     let tree = c.args.tree.now in
     let node = c.args.node in
     subst (λ (s : Seated). IfOk c.export.result (Gave (IsCutFamily tree node) (IsDueToTree tree) s c.export.new.ops))
-    c.in-Ok.ensures.ops
-    (copied_gives tree c.units.ensures.kept node c.requires.node (family_in c.own_or_anew.new.worker.memory c.in-Ok.own)
+    c.own_or_anew.ensures.keeps.ops
+    (copied_gives tree c.units.ensures.kept node c.requires.reads.is_node
+    (family_in c.own_or_anew.new.worker.memory c.in-Ok.own)
     c.in-Ok.ensures.family c.own_or_anew.new.worker.ops c.export.new.ops c.export.result c.export.ensures.gives)
 
 pub returns-in-Ok-clause-full : goal.returns-in-Ok-clause-full
@@ -21,6 +22,7 @@ returns-in-Ok-clause-full c =
     let tree = c.args.tree.now in
     let node = c.args.node in
     subst (λ (s : Seated). IfErr c.export.result (λ _. WasFull (IsDueToTree tree) s c.export.new.ops))
-    c.in-Ok.ensures.ops
-    (copied_full tree c.units.ensures.kept node c.requires.node (family_in c.own_or_anew.new.worker.memory c.in-Ok.own)
+    c.own_or_anew.ensures.keeps.ops
+    (copied_full tree c.units.ensures.kept node c.requires.reads.is_node
+    (family_in c.own_or_anew.new.worker.memory c.in-Ok.own)
     c.in-Ok.ensures.family c.own_or_anew.new.worker.ops c.export.new.ops c.export.result c.export.ensures.full)
