@@ -1,6 +1,6 @@
 -- What is made of a tree, node after node.
-use Rattle.std.proofs.Common.{◌≡◌, ℕ, ◌+◌, ◌-◌, ◌<◌, ◌≤◌, Bool, true, false, List, [], ◌∷◌, All, length, set}
-use Rattle.std.proofs.Common.{get_or, sym, ◌∙◌, ap, subst, inl, inr, arith}
+use Rattle.std.proofs.Common.{◌≡◌, ◌≢◌, ℕ, ◌+◌, ◌-◌, ◌<◌, ◌≤◌, Bool, true, false, List, [], ◌∷◌, All, length, set}
+use Rattle.std.proofs.Common.{Contains, get_or, sym, ◌∙◌, ap, subst, inl, inr, arith}
 use Rattle.std.proofs.Common.{length-set, get_or-set_same, get_or-set_other, ◌++◌, replicate, if◌then◌else◌}
 use Rattle.std.proofs.lemmas.Bool.{cases_Bool, cases_eq, cases_lt}
 use Rattle.std.proofs.lemmas.List.{get_or_default, get_or-replicate, length-replicate}
@@ -19,8 +19,8 @@ use Rattle.zdd_build.specs.declared.table.Table.{Table}
 use Rattle.zdd_build.specs.declared.task.Run.{Run}
 use Rattle.zdd_build.specs.declared.task.Task.{Task}
 use Rattle.zdd_build.specs.declared.worker.Finding.{Finding}
-use Rattle.zdd_build.specs.Building.{AreBuilt, AreMadeTo, CanMake, HasFamily, HasRoomFor, IsBuiltTo, is_made}
-use Rattle.zdd_build.specs.Places.{ArePlaces, IsPlace, IsRun, IsRunTo, IsTask, node_at, place_at}
+use Rattle.zdd_build.specs.Building.{CanMake, HasFamily, HasRoomFor, IsBuiltTo, is_made}
+use Rattle.zdd_build.specs.Places.{IsPlace, IsRun, IsRunTo, IsTask, node_at, place_at}
 use Rattle.zdd_build.specs.Workers.{IsFound}
 use Rattle.zdd_build.proofs.OwnLemmas.{fdep_family}
 use Rattle.zdd_build.proofs.SeatLemmas.{one_grown}
@@ -28,152 +28,27 @@ use Rattle.zdd_build.proofs.SeatLemmas.{one_grown}
 -- ---- where the map grows
 
 module _ (known known' : ℕ → ℕ) (closed : IsClosed known) (closed' : IsClosed known') (grown : Grown known known')
-    (tree : FaultTree) where
-  family_grown : (references : List ℕ) (node : ℕ) → HasFamily known tree references node
-      → HasFamily known' tree references node
-  family_grown references node has =
-      one_grown known known' closed closed' grown (IsCutFamily tree node) (reference_of references node) has
-
-  pub built_grown : (places : List Place) (references : List ℕ) (made : List Bool)
-      → AreBuilt known tree places references made → AreBuilt known' tree places references made
-  built_grown places references made built = record {
-    all_nodes = built.all_nodes;
-    all_places = built.all_places;
-    each = λ k within is. family_grown references (node_at places k) (built.each k within is);
-    fdeps = λ node is_node is. family_grown references node (built.fdeps node is_node is);
-  }
-
-  pub below_grown : (references : List ℕ) (node : ℕ) → KnowsBelow known tree references node
-      → KnowsBelow known' tree references node
-  below_grown references node knows k d within =
-      family_grown references (get_or (below tree node) k d) (knows k d within)
-
--- ---- what a node reads is made where all nodes of lower ranks are
-
-module _ (known : ℕ → ℕ) (tree : FaultTree) (kept : IsTree tree) (places : List Place) (are : ArePlaces tree places)
-    (references : List ℕ) (made : List Bool) (built : AreBuilt known tree places references made) where
-  place_is : (k : ℕ) → k < length places → IsPlace tree (place_at places k)
-  place_is k within = are.has.sound k (record { rank = 0; node = 0 }) within
-
-  -- the node at a place below is of lower rank
-  is_before : (from : ℕ) → from < length places → AreMadeTo made from → (node : ℕ) → IsNodeOf tree node
-      → is_fdep tree node ≡ false → rank_of tree node < (place_at places from).rank
-      → HasFamily known tree references node
-  is_before from within made_to node is_node read lower =
-      let at = are.has.all node is_node.0 (let u = is_node.1 in omega (arith, u)) read in
-      let same : place_at places at.0 ≡ record { rank = rank_of tree node; node = node } =
-      get_or_default places at.0 (record { rank = 0; node = 0 }) (record { rank = rank_of tree node; node = node }) at.1
-      ∙ at.2 in
-      elim (cases_lt at.0 from) [
-        | inl early ↦ subst (HasFamily known tree references) (ap (λ (p : Place). p.node) same)
-            (built.each at.0 at.1 (made_to at.0 early))
-        | inr late ↦ absurd (let up = are.sorted from at.0 (record { rank = 0; node = 0 }) late at.1 in
-            let e = ap (λ (p : Place). p.rank) same in omega (arith, up, e, lower))
-      ]
-
-  pub below_made : (from to k : ℕ) → to ≤ length places → IsRunTo places from to → AreMadeTo made from → from ≤ k
-      → k < to → KnowsBelow known tree references (node_at places k)
-  below_made from to k within run made_to low high i d inside =
-      let place : IsPlace tree (place_at places k) = place_is k (omega arith) in
-      let node : ℕ = get_or (below tree (node_at places k)) i d in
-      let is_node : IsNodeOf tree node = below_are_nodes tree kept (node_at places k) i d inside in
-      let lower : rank_of tree node < rank_of tree (node_at places k) =
-      below_ranks tree kept (node_at places k) place.is_node i d inside in
-      elim (cases_Bool (is_fdep tree node)) [
-        | inl fdep ↦ built.fdeps node is_node fdep
-        | inr read ↦ is_before from (omega arith) made_to node is_node read
-            (let e = place.rank in let s = run k low high in omega (arith, e, s, lower))
-      ]
-
-  -- where all places are made, each node that is no `fdep` is
-  pub all_made : AreMadeTo made (length places) → (node : ℕ) → IsNodeOf tree node → is_fdep tree node ≡ false
-      → HasFamily known tree references node
-  all_made made_to node is_node read =
-      let at = are.has.all node is_node.0 (let u = is_node.1 in omega (arith, u)) read in
-      let same : place_at places at.0 ≡ record { rank = rank_of tree node; node = node } =
-      get_or_default places at.0 (record { rank = 0; node = 0 }) (record { rank = rank_of tree node; node = node }) at.1
-      ∙ at.2 in
-      subst (HasFamily known tree references) (ap (λ (p : Place). p.node) same)
-      (built.each at.0 at.1 (made_to at.0 at.1))
-
-  pub room_for : HasRoomFor places references made
-  room_for = record {
-    all_places = let e = built.all_places in omega (arith, e);
-    low = λ k within. (place_is k within).is_node.0;
-    high = λ k within. let h = (place_is k within).is_node.1 in let e = built.all_nodes in omega (arith, h, e);
-  }
-
-  -- ---- one node more is made
-
-  module _ (place : ℕ) (within : place < length places) (family : ℕ)
-      (one : KnowsOne known family (IsCutFamily tree (node_at places place))) where
-    at_node : HasFamily known tree (set references (node_at places place - 1) family) (node_at places place)
-    at_node =
-        let fits : node_at places place - 1 < length references =
-        let h = (place_is place within).is_node in let l = h.0 in let u = h.1 in let e = built.all_nodes in
-        omega (arith, l, u, e) in
-        subst (λ (r : ℕ). KnowsOne known r (IsCutFamily tree (node_at places place)))
-        (sym (get_or-set_same references (node_at places place - 1) family 0 fits)) one
-
-    other : (node : ℕ) → 1 ≤ node → HasFamily known tree references node
-        → HasFamily known tree (set references (node_at places place - 1) family) node
-    other node some has =
-        elim (cases_eq node (node_at places place)) [
-          | inl same ↦ subst (HasFamily known tree (set references (node_at places place - 1) family)) (sym same)
-              at_node
-          | inr differs ↦
-              subst (λ (r : ℕ). KnowsOne known r (IsCutFamily tree node))
-              (sym (get_or-set_other references (node_at places place - 1) (node - 1) family 0
-              (λ same. differs (let l = (place_is place within).is_node.0 in omega (arith, same, some, l))))) has
-        ]
-
-    marked : (k : ℕ) → k < length places → is_made (set made place true) k ≡ true
-        → HasFamily known tree (set references (node_at places place - 1) family) (node_at places k)
-    marked k inside is =
-        elim (cases_eq k place) [
-          | inl same ↦ subst (λ (q : ℕ). HasFamily known tree (set references (node_at places place - 1) family)
-              (node_at places q)) (sym same) at_node
-          | inr differs ↦ other (node_at places k) (place_is k inside).is_node.0
-              (built.each k inside (sym (get_or-set_other made place k true false differs) ∙ is))
-        ]
-
-    pub built_put : AreBuilt known tree places (set references (node_at places place - 1) family) (set made place true)
-    built_put = record {
-      all_nodes = length-set references (node_at places place - 1) family ∙ built.all_nodes;
-      all_places = length-set made place true ∙ built.all_places;
-      each = marked;
-      fdeps = λ node is_node is. other node is_node.0 (built.fdeps node is_node is);
-    }
-
--- ---- marks
-
--- a mark that is set stays
-pub keeps_put : (made : List Bool) (place : ℕ) → place < length made → (k : ℕ) → is_made made k ≡ true
-    → is_made (set made place true) k ≡ true
-keeps_put made place within k is =
-    elim (cases_eq k place) [
-      | inl same ↦ subst (λ (q : ℕ). is_made (set made place true) q ≡ true) (sym same)
-          (get_or-set_same made place true false within)
-      | inr differs ↦ get_or-set_other made place k true false differs ∙ is
-    ]
-
-pub made_next : (made : List Bool) (place : ℕ) → AreMadeTo made place → is_made made place ≡ true
-    → AreMadeTo made (place + 1)
-made_next made place made_to is k below =
-    elim (cases_lt k place) [
-      | inl early ↦ made_to k early
-      | inr late ↦ subst (λ (q : ℕ). is_made made q ≡ true) (let e : place ≡ k = omega (arith, late, below) in e) is
-    ]
-
--- ---- a table whose first places are made
-
-module _ (known known' : ℕ → ℕ) (closed : IsClosed known) (closed' : IsClosed known') (grown : Grown known known')
   where
-    pub built_on : (task : Task) (table : Table) (to : ℕ) → IsBuiltTo known task table to → IsBuiltTo known' task table to
+    family_grown : (tree : FaultTree) (references : List ℕ) (node : ℕ) → HasFamily known tree references node
+        → HasFamily known' tree references node
+    family_grown tree references node has =
+        one_grown known known' closed closed' grown (IsCutFamily tree node) (reference_of references node) has
+
+    -- what is built stays known
+    pub built_on : (task : Task) (table : Table) (to : ℕ) → IsBuiltTo known task table to
+        → IsBuiltTo known' task table to
     built_on task table to is = record {
       built =
-          built_grown known known' closed closed' grown task.tree.now task.places.now table.references.items
-          table.made.items is.built;
+          record {
+            all_nodes = is.built.all_nodes;
+            all_places = is.built.all_places;
+            each =
+                λ k within made. family_grown task.tree.now table.references.items (node_at task.places.now k)
+                (is.built.each k within made);
+            fdeps =
+                λ node is_node fdep. family_grown task.tree.now table.references.items node
+                (is.built.fdeps node is_node fdep);
+          };
       made = is.made;
     }
 
@@ -186,10 +61,89 @@ module _ (known known' : ℕ → ℕ) (closed : IsClosed known) (closed' : IsClo
         read = is.read;
         all = is.all;
         below =
-            below_grown known known' closed closed' grown run.task.tree.now references (node_at run.task.places.now k)
-            is.below;
+            λ i d inside. family_grown run.task.tree.now references
+            (get_or (below run.task.tree.now (node_at run.task.places.now k)) i d) (is.below i d inside);
       };
     }
+
+-- ---- what a node reads is made where all nodes of lower ranks are
+
+module _ (known : ℕ → ℕ) (task : Task) (are : IsTask task) (table : Table) (to : ℕ)
+    (is : IsBuiltTo known task table to) where
+  place_is : (k : ℕ) → k < length task.places.now → IsPlace task.tree.now (place_at task.places.now k)
+  place_is k within = are.has.sound k (record { rank = 0; node = 0 }) within
+
+  same : (node : ℕ) (at : Contains task.places.now (record { rank = rank_of task.tree.now node; node = node }))
+      → place_at task.places.now at.0 ≡ record { rank = rank_of task.tree.now node; node = node }
+  same node at =
+      get_or_default task.places.now at.0 (record { rank = 0; node = 0 })
+      (record { rank = rank_of task.tree.now node; node = node }) at.1 ∙ at.2
+
+  -- where the place of a node is made its family is known
+  at_place : (node : ℕ) (at : Contains task.places.now (record { rank = rank_of task.tree.now node; node = node }))
+      → at.0 < to → HasFamily known task.tree.now table.references.items node
+  at_place node at early =
+      subst (HasFamily known task.tree.now table.references.items) (ap (λ (p : Place). p.node) (same node at))
+      (is.built.each at.0 at.1 (is.made at.0 early))
+
+  -- a node of lower rank than the next place stands before it
+  is_before : to < length task.places.now → (node : ℕ) → IsNodeOf task.tree.now node
+      → is_fdep task.tree.now node ≡ false → rank_of task.tree.now node < (place_at task.places.now to).rank
+      → HasFamily known task.tree.now table.references.items node
+  is_before within node is_node read lower =
+      let at = are.has.all node is_node.0 (let u = is_node.1 in omega (arith, u)) read in
+      elim (cases_lt at.0 to) [
+        | inl early ↦ at_place node at early
+        | inr late ↦ absurd (let up = are.sorted to at.0 (record { rank = 0; node = 0 }) late at.1 in
+            let e = ap (λ (p : Place). p.rank) (same node at) in omega (arith, up, e, lower))
+      ]
+
+  below_made : (end k : ℕ) → end ≤ length task.places.now → IsRunTo task.places.now to end → to ≤ k → k < end
+      → KnowsBelow known task.tree.now table.references.items (node_at task.places.now k)
+  below_made end k within run low high i d inside =
+      let tree = task.tree.now in
+      let over : ℕ = node_at task.places.now k in
+      let place : IsPlace tree (place_at task.places.now k) = place_is k (omega (arith, within, high)) in
+      let node : ℕ = get_or (below tree over) i d in
+      let is_node : IsNodeOf tree node = below_are_nodes tree are.kept over i d inside in
+      let lower : rank_of tree node < rank_of tree over = below_ranks tree are.kept over place.is_node i d inside in
+      elim (cases_Bool (is_fdep tree node)) [
+        | inl fdep ↦ is.built.fdeps node is_node fdep
+        | inr read ↦ is_before (omega (arith, within, low, high)) node is_node read
+            (let e = place.rank in let s = run k low high in omega (arith, e, s, lower))
+      ]
+
+  -- where all places are made, each node that is no `fdep` is known
+  pub all_made : to ≡ length task.places.now → (node : ℕ) → IsNodeOf task.tree.now node
+      → is_fdep task.tree.now node ≡ false → HasFamily known task.tree.now table.references.items node
+  all_made all node is_node read =
+      let at = are.has.all node is_node.0 (let u = is_node.1 in omega (arith, u)) read in
+      at_place node at (let w = at.1 in omega (arith, w, all))
+
+  pub table_room : HasRoomFor task.places.now table
+  table_room = record {
+    all_places = let e = is.built.all_places in omega (arith, e);
+    low = λ k within. (place_is k within).is_node.0;
+    high =
+        λ k within. let h = (place_is k within).is_node.1 in let e = is.built.all_nodes in omega (arith, h, e);
+  }
+
+-- where all places before a run are made, whatever it reads is known
+pub can_make : (known : ℕ → ℕ) (run : Run) → IsRun run → (table : Table) → IsBuiltTo known run.task table run.from
+    → CanMake known run table.references.items
+can_make known run is table to = record {
+  is_run = is;
+  reads = λ k low high.
+      let all = is.within in
+      let place : IsPlace run.task.tree.now (place_at run.task.places.now k) =
+      place_is known run.task is.task table run.from to k (omega (arith, all, high)) in
+      record {
+        is_node = place.is_node;
+        read = place.read;
+        all = let e = to.built.all_nodes in omega (arith, e);
+        below = below_made known run.task is.task table run.from to run.to k is.within is.rank low high;
+      };
+}
 
 -- what is made to a place is made to each before it
 pub built_less : (known : ℕ → ℕ) (task : Task) (table : Table) (from to : ℕ) → from ≤ to → IsBuiltTo known task table to
@@ -204,84 +158,106 @@ pub built_next : (known : ℕ → ℕ) (task : Task) (table : Table) (place : �
     → is_made table.made.items place ≡ true → IsBuiltTo known task table (place + 1)
 built_next known task table place is marked = record {
   built = is.built;
-  made = made_next table.made.items place is.made marked;
+  made = λ k below. elim (cases_lt k place) [
+    | inl early ↦ is.made k early
+    | inr late ↦ subst (λ (q : ℕ). is_made table.made.items q ≡ true)
+        (let e : place ≡ k = omega (arith, late, below) in e) marked
+  ];
 }
 
--- the table has room for all places of its task
-pub table_room : (known : ℕ → ℕ) (task : Task) → IsTask task → (table : Table) (to : ℕ) → IsBuiltTo known task table to
-    → HasRoomFor task.places.now table.references.items table.made.items
-table_room known task are table to is =
-    room_for known task.tree.now are.kept task.places.now are table.references.items table.made.items is.built
+-- ---- one node more is made
 
--- one node more is made
 module _ (known : ℕ → ℕ) (task : Task) (are : IsTask task) (before after : Table) (place family to : ℕ)
     (is : IsBuiltTo known task before to) (within : place < length task.places.now)
     (one : KnowsOne known family (IsCutFamily task.tree.now (node_at task.places.now place)))
     (references : after.references.items ≡ set before.references.items (node_at task.places.now place - 1) family)
     (made : after.made.items ≡ set before.made.items place true) where
-  fits : place < length before.made.items
-  fits = let e = is.built.all_places in omega (arith, e, within)
+  abbrev here : ℕ
+  here = node_at task.places.now place
+
+  low : 1 ≤ here
+  low = (place_is known task are before to is place within).is_node.0
+
+  at_node : HasFamily known task.tree.now after.references.items here
+  at_node =
+      let fits : here - 1 < length before.references.items =
+      let u = (place_is known task are before to is place within).is_node.1 in let e = is.built.all_nodes in
+      omega (arith, low, u, e) in
+      subst (λ (r : ℕ). KnowsOne known r (IsCutFamily task.tree.now here))
+      (sym (ap (λ l. get_or l (here - 1) 0) references
+      ∙ get_or-set_same before.references.items (here - 1) family 0 fits)) one
+
+  other : (node : ℕ) → 1 ≤ node → HasFamily known task.tree.now before.references.items node
+      → HasFamily known task.tree.now after.references.items node
+  other node some has =
+      elim (cases_eq node here) [
+        | inl same ↦ subst (HasFamily known task.tree.now after.references.items) (sym same) at_node
+        | inr differs ↦ subst (λ (r : ℕ). KnowsOne known r (IsCutFamily task.tree.now node))
+            (sym (ap (λ l. get_or l (node - 1) 0) references
+            ∙ get_or-set_other before.references.items (here - 1) (node - 1) family 0
+            (λ same. differs (omega (arith, same, some, low))))) has
+      ]
+
+  pub put_made : is_made after.made.items place ≡ true
+  put_made =
+      ap (λ m. is_made m place) made
+      ∙ get_or-set_same before.made.items place true false (let e = is.built.all_places in omega (arith, e, within))
+
+  kept : (k : ℕ) → k ≢ place → is_made after.made.items k ≡ is_made before.made.items k
+  kept k differs =
+      ap (λ m. is_made m k) made ∙ get_or-set_other before.made.items place k true false differs
 
   pub put_built : IsBuiltTo known task after to
   put_built = record {
     built =
-        subst (λ (m : List Bool). AreBuilt known task.tree.now task.places.now after.references.items m) (sym made)
-        (subst (λ (r : List ℕ). AreBuilt known task.tree.now task.places.now r (set before.made.items place true))
-        (sym references)
-        (built_put known task.tree.now are.kept task.places.now are before.references.items before.made.items is.built
-        place within family one));
-    made =
-        λ k below. subst (λ (m : List Bool). is_made m k ≡ true) (sym made)
-        (keeps_put before.made.items place fits k (is.made k below));
+        record {
+          all_nodes =
+              ap (λ (l : List ℕ). length l) references ∙ length-set before.references.items (here - 1) family
+              ∙ is.built.all_nodes;
+          all_places =
+              ap (λ (l : List Bool). length l) made ∙ length-set before.made.items place true ∙ is.built.all_places;
+          each = λ k inside marked. elim (cases_eq k place) [
+            | inl same ↦ subst (λ (q : ℕ). HasFamily known task.tree.now after.references.items
+                (node_at task.places.now q)) (sym same) at_node
+            | inr differs ↦ other (node_at task.places.now k)
+                (place_is known task are before to is k inside).is_node.0
+                (is.built.each k inside (sym (kept k differs) ∙ marked))
+          ];
+          fdeps = λ node is_node fdep. other node is_node.0 (is.built.fdeps node is_node fdep);
+        };
+    made = λ k below. elim (cases_eq k place) [
+      | inl same ↦ subst (λ (q : ℕ). is_made after.made.items q ≡ true) (sym same) put_made
+      | inr differs ↦ kept k differs ∙ is.made k below
+    ];
   }
 
-  pub put_made : is_made after.made.items place ≡ true
-  put_made =
-      subst (λ (m : List Bool). is_made m place ≡ true) (sym made)
-      (get_or-set_same before.made.items place true false fits)
-
--- where all places before a run are made, whatever it reads is known
-pub can_make : (known : ℕ → ℕ) (run : Run) → IsRun run → (table : Table) → IsBuiltTo known run.task table run.from
-    → CanMake known run table.references.items
-can_make known run is table to = record {
-  is_run = is;
-  reads =
-      λ k low high.
-      let tree = run.task.tree.now in
-      let places = run.task.places.now in
-      let all = is.within in
-      let place : IsPlace tree (place_at places k) =
-      place_is known tree is.task.kept places is.task table.references.items table.made.items to.built k
-      (omega (arith, all, high)) in
-      record {
-        is_node = place.is_node;
-        read = place.read;
-        all = let e = to.built.all_nodes in omega (arith, e);
-        below =
-            below_made known tree is.task.kept places is.task table.references.items table.made.items to.built run.from
-            run.to k is.within is.rank to.made low high;
-      };
-}
-
 -- nothing is made yet
-pub built_none : (known : ℕ → ℕ) (tree : FaultTree) → IsTree tree → (places : List Place)
-    → AreBuilt known tree places (replicate (node_count tree) 0) (replicate (length places) false)
-built_none known tree kept places = record {
-  all_nodes = length-replicate (node_count tree) 0;
-  all_places = length-replicate (length places) false;
-  each =
-      λ k within is. absurd (let e : false ≡ true = sym (get_or-replicate (length places) k false false within) ∙ is in
-      cc);
-  fdeps = λ node is_node fdep.
-      let low = is_node.0 in
-      let high = is_node.1 in
-      let none : get_or (replicate (node_count tree) 0) (node - 1) 0 ≡ 0 =
-      get_or-replicate (node_count tree) (node - 1) 0 0 (omega (arith, low, high)) in
-      subst (λ (r : ℕ). KnowsOne known r (IsCutFamily tree node)) (sym none) (
-        inl (omega arith),
-        subst (IsCutFamily tree node) (sym (family-empty known))
-            (fdep_family tree kept node is_node fdep),
-      );
+pub built_none : (known : ℕ → ℕ) (task : Task) → IsTree task.tree.now → (table : Table)
+    → table.references.items ≡ replicate (node_count task.tree.now) 0
+    → table.made.items ≡ replicate (length task.places.now) false → IsBuiltTo known task table 0
+built_none known task kept table references made = record {
+  built =
+      record {
+        all_nodes =
+            ap (λ (l : List ℕ). length l) references ∙ length-replicate (node_count task.tree.now) 0;
+        all_places = ap (λ (l : List Bool). length l) made ∙ length-replicate (length task.places.now) false;
+        each =
+            λ k within is. absurd (let e : false ≡ true =
+            sym (get_or-replicate (length task.places.now) k false false within) ∙ sym (ap (λ m. is_made m k) made)
+            ∙ is in cc);
+        fdeps = λ node is_node fdep.
+            let low = is_node.0 in
+            let high = is_node.1 in
+            let none : get_or table.references.items (node - 1) 0 ≡ 0 =
+            ap (λ l. get_or l (node - 1) 0) references
+            ∙ get_or-replicate (node_count task.tree.now) (node - 1) 0 0 (omega (arith, low, high)) in
+            subst (λ (r : ℕ). KnowsOne known r (IsCutFamily task.tree.now node)) (sym none) (
+              inl (omega arith),
+              subst (IsCutFamily task.tree.now node) (sym (family-empty known))
+                  (fdep_family task.tree.now kept node is_node fdep),
+            );
+      };
+  made = λ k below. absurd (omega (arith, below));
 }
 
 -- ---- what was found

@@ -1,6 +1,6 @@
 -- Workers that join their seat.
-use Rattle.std.proofs.Common.{◌≡◌, ℕ, ◌+◌, ◌-◌, ◌<◌, ◌≤◌, true, List, [], ◌∷◌, ◌++◌, All, length, take, drop, refl, ◌∙◌}
-use Rattle.std.proofs.Common.{ap, subst, arith}
+use Rattle.std.proofs.Common.{◌≡◌, ℕ, ◌+◌, ◌-◌, ◌<◌, ◌≤◌, true, List, [], ◌∷◌, ◌++◌, All, length, take, drop}
+use Rattle.std.proofs.Common.{refl, sym, ◌∙◌, ap, subst, arith}
 use Rattle.std.proofs.lemmas.List.{append-nil, drop_all, take_all, get_or_append_left, get_or_push, length_push}
 use Rattle.zdd_families.specs.Map.{Grown}
 use Rattle.zdd_shared_table.specs.Seats.{Seated, map_of}
@@ -9,7 +9,7 @@ use Rattle.zdd_product.proofs.Several.{WentAll-joined, WentAll-then}
 use Rattle.zdd_build.specs.declared.task.Task.{Task}
 use Rattle.zdd_build.specs.declared.worker.Worker.{Worker}
 use Rattle.zdd_product.proofs.After.{grown_then}
-use Rattle.zdd_build.specs.Workers.{CanWork, CountsAsBefore, FindsFull, HasSplit}
+use Rattle.zdd_build.specs.Workers.{CanWork, CountsAsBefore, FindsFull, HasLed, HasSplit}
 
 -- the first of a list is the first of what stands before its last, or is the last
 pub first_or_last : (workers : List Worker) (last : Worker) {G : Type 0} → FindsFull (workers ++ last ∷ [])
@@ -107,9 +107,18 @@ split_back a b part other c is some fulls fills two same joined share =
       share = omega (arith, back, ap (λ s. s.share) is, some);
     }
 
--- a slice of all workers, written over
-pub whole_slice : (new old : List Worker) (count : ℕ) → length new ≡ length old → count ≡ length old
-    → take count (new ++ drop (length new) old) ≡ new
-whole_slice new old count same all =
+-- ---- a slice of all workers, written over
+
+abbrev pub written : List Worker → List Worker → ℕ → List Worker
+written new old count = take count (new ++ drop (length new) old)
+
+pub written_is : (new old : List Worker) (count : ℕ) → length new ≡ length old → count ≡ length old
+    → written new old count ≡ new
+written_is new old count same all =
     ap (λ (rest : List Worker). take count (new ++ rest)) (drop_all (length new) old (omega (arith, same)))
     ∙ ap (take count) (append-nil new) ∙ take_all count new (omega (arith, same, all))
+
+pub led_back : (task : Task) (seat : Seated) (old : List Worker) (count : ℕ) (seat' : Seated) (new : List Worker)
+    → count ≡ length old → HasLed task seat old seat' new → HasLed task seat old seat' (written new old count)
+led_back task seat old count seat' new all led =
+    subst (HasLed task seat old seat') (sym (written_is new old count led.size all)) led

@@ -10,9 +10,8 @@ use Rattle.fault_definitions.specs.WellFormed.{IsTree}
 use Rattle.family_operations.specs.Nodes.{IsReached}
 use Rattle.tree_families.proofs.TreeParts.{cut_family-parts}
 use Rattle.tree_families.specs.Due.{IsDueToTree}
-use Rattle.zdd_families.specs.Map.{Grown}
 use Rattle.zdd_shared_table.specs.Seats.{Seated, map_of}
-use Rattle.zdd_product.specs.Seats.{CountsDue, Gave, WasFull}
+use Rattle.zdd_product.specs.Seats.{Gave, WasFull, Went, WentAll}
 use Rattle.zdd_product.proofs.After.{grown_then, WasFull-as, WentOn-as}
 use Rattle.zdd_product.proofs.Several.{CountsDue-went, WentAll-full, WentAll-on}
 use Rattle.zdd_build.specs.declared.task.Run.{Run}
@@ -37,19 +36,18 @@ keeps_then a b c first second = record {
 
 module _ (task : Task) (before mid after : Worker) (can : CanWork task before) (kept : KeepsSeat before mid)
     (equipped : IsEquipped task.tree.now after) (found : after.found ≡ mid.found) where
-  -- its memory alone has changed
-  pub on_kept : after.ops ≡ mid.ops → after.full ≡ mid.full → GoesOn task before after
-  on_kept ops full = record {
-    keeps = subst (λ (s : Seated). Grown (map_of before.ops) (map_of s)) (sym (ops ∙ kept.ops)) (λ r has. refl);
+  went_on : Went (IsDueToTree task.tree.now) before.ops after.ops
+      → WentAll (IsDueToTree task.tree.now) before.ops after.ops → (after.full ≡ true → 1 ≤ after.ops.fulls)
+      → GoesOn task before after
+  went_on went all full = record {
+    keeps = went.keeps;
     can =
         record {
-          own = ap (λ (s : Seated). s.store) (ops ∙ kept.ops) ∙ can.own;
-          share = ap (λ (s : Seated). s.share) (ops ∙ kept.ops) ∙ can.share;
-          counts = subst (CountsDue (IsDueToTree task.tree.now)) (sym (ops ∙ kept.ops)) can.counts;
+          own = went.store ∙ can.own;
+          share = went.share ∙ can.share;
+          counts = CountsDue-went (IsDueToTree task.tree.now) before.ops after.ops can.counts all;
           equipped = equipped;
-          full =
-              λ is. subst (λ (s : Seated). 1 ≤ s.fulls) (sym (ops ∙ kept.ops))
-              (can.full (sym (full ∙ kept.full) ∙ is));
+          full = full;
         };
     found = found ∙ kept.found;
   }
@@ -57,41 +55,17 @@ module _ (task : Task) (before mid after : Worker) (can : CanWork task before) (
   -- it made a node
   pub on_gave : (is : List (List ℕ) → Type 0) (r : ℕ) → Gave is (IsDueToTree task.tree.now) mid.ops after.ops r
       → after.full ≡ mid.full → GoesOn task before after
-  on_gave is r later full =
-      let gave = subst (λ (s : Seated). Gave is (IsDueToTree task.tree.now) s after.ops r) kept.ops later in
-      record {
-        keeps = gave.on.went.keeps;
-        can =
-            record {
-              own = gave.on.went.store ∙ can.own;
-              share = gave.on.went.share ∙ can.share;
-              counts =
-                  CountsDue-went (IsDueToTree task.tree.now) before.ops after.ops can.counts
-                  (WentAll-on (IsDueToTree task.tree.now) before.ops after.ops gave.on);
-              equipped = equipped;
-              full = λ is. subst (λ n. 1 ≤ n) (sym gave.on.fulls) (can.full (sym (full ∙ kept.full) ∙ is));
-            };
-        found = found ∙ kept.found;
-      }
+  on_gave is r later same =
+      let on = (subst (λ (s : Seated). Gave is (IsDueToTree task.tree.now) s after.ops r) kept.ops later).on in
+      went_on on.went (WentAll-on (IsDueToTree task.tree.now) before.ops after.ops on)
+      (λ full. subst (λ n. 1 ≤ n) (sym on.fulls) (can.full (sym (same ∙ kept.full) ∙ full)))
 
   -- it found the store full
   pub on_full : WasFull (IsDueToTree task.tree.now) mid.ops after.ops → GoesOn task before after
   on_full later =
       let full = subst (λ (s : Seated). WasFull (IsDueToTree task.tree.now) s after.ops) kept.ops later in
-      record {
-        keeps = full.went.keeps;
-        can =
-            record {
-              own = full.went.store ∙ can.own;
-              share = full.went.share ∙ can.share;
-              counts =
-                  CountsDue-went (IsDueToTree task.tree.now) before.ops after.ops can.counts
-                  (WentAll-full (IsDueToTree task.tree.now) before.ops after.ops full);
-              equipped = equipped;
-              full = λ _. let e = full.fulls in omega (arith, e);
-            };
-        found = found ∙ kept.found;
-      }
+      went_on full.went (WentAll-full (IsDueToTree task.tree.now) before.ops after.ops full)
+      (λ _. let e = full.fulls in omega (arith, e))
 
 pub goes_on_then : (task : Task) (a b c : Worker) → GoesOn task a b → GoesOn task b c → GoesOn task a c
 goes_on_then task a b c first second = record {

@@ -29,26 +29,27 @@ abbrev pub is_made : List Bool → ℕ → Bool
 is_made made k = slice_index_or made k false
 
 -- the references of all nodes that are made, and of each `fdep`, are known as their cut families
-pub record AreBuilt (known : ℕ → ℕ) (tree : FaultTree) (places : List Place) (references : List ℕ)
-    (made : List Bool) : Type 0 where
-  pub all_nodes : length references ≡ node_count tree
-  pub all_places : length made ≡ length places
-  pub each : (k : ℕ) → k < length places → is_made made k ≡ true → HasFamily known tree references (node_at places k)
-  pub fdeps : (node : ℕ) → IsNodeOf tree node → is_fdep tree node ≡ true → HasFamily known tree references node
+pub record AreBuilt (known : ℕ → ℕ) (task : Task) (table : Table) : Type 0 where
+  pub all_nodes : length table.references.items ≡ node_count task.tree.now
+  pub all_places : length table.made.items ≡ length task.places.now
+  pub each : (k : ℕ) → k < length task.places.now → is_made table.made.items k ≡ true
+      → HasFamily known task.tree.now table.references.items (node_at task.places.now k)
+  pub fdeps : (node : ℕ) → IsNodeOf task.tree.now node → is_fdep task.tree.now node ≡ true
+      → HasFamily known task.tree.now table.references.items node
 
 -- all nodes below a place are made
 abbrev pub AreMadeTo : List Bool → ℕ → Type 0
 AreMadeTo made to = (k : ℕ) → k < to → is_made made k ≡ true
 
--- the lists have an item for the node at each place, and for the place
-pub record HasRoomFor (places : List Place) (references : List ℕ) (made : List Bool) : Type 0 where
-  pub all_places : length places ≤ length made
+-- a table has room for each place, and for the node there
+pub record HasRoomFor (places : List Place) (table : Table) : Type 0 where
+  pub all_places : length places ≤ length table.made.items
   pub low : (k : ℕ) → k < length places → 1 ≤ node_at places k
-  pub high : (k : ℕ) → k < length places → node_at places k ≤ length references
+  pub high : (k : ℕ) → k < length places → node_at places k ≤ length table.references.items
 
 -- all nodes below a place are made, and whatever is made is known
 pub record IsBuiltTo (known : ℕ → ℕ) (task : Task) (table : Table) (to : ℕ) : Type 0 where
-  pub built : AreBuilt known task.tree.now task.places.now table.references.items table.made.items
+  pub built : AreBuilt known task table
   pub made : AreMadeTo table.made.items to
 
 -- a node that has a family, and whatever it reads is known by the references of a list

@@ -31,7 +31,7 @@ impl Table {
     /// Takes the reference that was found for the node at a place.
     pub fn put(&mut self, places: &[Place], place: usize, family: NodeRef)
         requires place { place < length places.now }
-        requires room { HasRoomFor places.now self.old.references.items self.old.made.items }
+        requires room { HasRoomFor places.now self.old }
         ensures references { self.new.references.items
             ≡ set self.old.references.items (node_at places.now place - 1) family }
         ensures made { self.new.made.items ≡ set self.old.made.items place true }

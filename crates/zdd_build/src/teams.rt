@@ -2,7 +2,8 @@
 ghost use Rattle.std.specs.Prelude.{◌≡◌, ◌+◌, ◌*◌, ◌<◌, ◌≤◌, [], length, All, IfErr, IfOk, vec_capacity};
 ghost use Rattle.tree_families.specs.Due.{IsDueToTree};
 ghost use Rattle.zdd_product.specs.Seats.{WentAll};
-ghost use Rattle.zdd_build.specs.Workers.{CanPart, CanWork, CountsAsBefore, FindsFull, HasSplit, HaveMet, IsNew, IsReady};
+ghost use Rattle.zdd_build.specs.Workers.{CanPart, CanWork, CountsAsBefore, FindsFull, HasSplit, HaveMet, IsNew};
+ghost use Rattle.zdd_build.specs.Workers.{IsReady};
 
 use crate::task::{Size, Task};
 use crate::worker::{Tools, Worker};

@@ -1,13 +1,13 @@
-use Rattle.std.proofs.Common.{◌≡◌, ◌∙◌, ◌++◌, List, All, length, take, drop, subst, sym, ap, arith}
+use Rattle.std.proofs.Common.{◌≡◌, ◌∙◌, List, length, subst, sym, ap, arith}
 use Rattle.tree_families.specs.Due.{IsDueToTree}
 use Rattle.zdd_shared_table.specs.Seats.{map_of}
 use Rattle.zdd_product.specs.Seats.{WentAll}
 use Rattle.zdd_product.proofs.Several.{WentAll-nowhere, WentAll-then}
 use Rattle.zdd_build.specs.declared.worker.Worker.{Worker}
-use Rattle.zdd_build.specs.Workers.{FindsFull, IsReady, IsTeam}
+use Rattle.zdd_build.specs.Workers.{FindsFull, HasLed, IsTeam}
 use Rattle.zdd_build.proofs.SeatLemmas.{WentAll-learned, split_went}
 use Rattle.zdd_build.proofs.TableLemmas.{built_on}
-use Rattle.zdd_build.proofs.TeamLemmas.{split_counts, whole_slice}
+use Rattle.zdd_build.proofs.TeamLemmas.{led_back, split_counts, written, written_is}
 use Rattle.zdd_build.proofs.building.build_by_team.Goals as goal
 use Rattle.zdd_build.proofs.building.build_by_team.Goals.{After-close-2, After-make_ranks-ended}
 use Rattle.zdd_build.proofs.building.build_by_team.Given as given
@@ -53,22 +53,19 @@ make_ranks-ended-requires-clause-team g c κs within =
 pub make_ranks-ended-requires-clause-built : goal.make_ranks-ended-requires-clause-built
 make_ranks-ended-requires-clause-built g c κs within = c.requires.built (map_of c.open.new.seat)
 
--- the team is as large as it was, and is written back as a whole
-size : (g : given.Over) (c : After-make_ranks-ended g)
-    → length c.make_ranks-ended.new.team ≡ length c.open.new.team.items
-size g c = c.make_ranks-ended.ensures.led.size ∙ ap (λ (l : List Worker). length l) c.as_mut_slice.ensures.value
-
-whole : (g : given.Over) (c : After-make_ranks-ended g)
-    → take c.open.new.team.len (c.make_ranks-ended.new.team
-    ++ drop (length c.make_ranks-ended.new.team) c.open.new.team.items) ≡ c.make_ranks-ended.new.team
-whole g c =
-    whole_slice c.make_ranks-ended.new.team c.open.new.team.items c.open.new.team.len (size g c)
-    (let e = c.open.new.team.ok.0 in omega (arith, e))
+-- the team has made the ranks, and is written back as a whole
+led : (g : given.Over) (c : After-make_ranks-ended g)
+    → HasLed c.args.task c.open.new.seat c.open.new.team.items c.make_ranks-ended.new.seat
+    (written c.make_ranks-ended.new.team c.open.new.team.items c.open.new.team.len)
+led g c =
+    led_back c.args.task c.open.new.seat c.open.new.team.items c.open.new.team.len c.make_ranks-ended.new.seat
+    c.make_ranks-ended.new.team (let e = c.open.new.team.ok.0 in omega (arith, e))
+    (subst (λ (l : List Worker). HasLed c.args.task c.open.new.seat l c.make_ranks-ended.new.seat
+    c.make_ranks-ended.new.team) c.as_mut_slice.ensures.value c.make_ranks-ended.ensures.led)
 
 pub close-requires-2-clause-ready : goal.close-requires-2-clause-ready
 close-requires-2-clause-ready g c =
-    subst (All (IsReady c.args.task)) (sym (whole g (goal.at.close-requires-2-clause-ready g c).After-make_ranks-ended))
-    c.make_ranks-ended.ensures.led.team.ready
+    (led g (goal.at.close-requires-2-clause-ready g c).After-make_ranks-ended).team.ready
 
 -- the workers were split off, made the ranks, and were taken in again
 went : (g : given.Over) (c : After-close-2 g) → WentAll (IsDueToTree c.args.task.tree.now) c.args.seat.now
@@ -83,15 +80,13 @@ went g c =
 
 -- the workers' shares are all back
 share_back : (g : given.Over) (c : After-close-2 g)
-    → take c.open.new.team.len (c.make_ranks-ended.new.team
-    ++ drop (length c.make_ranks-ended.new.team) c.open.new.team.items) ≡ c.make_ranks-ended.new.team
-    → length c.make_ranks-ended.new.team ≡ length c.open.new.team.items
-    → c.close-2.new.seat.share ≡ c.args.seat.now.share
-share_back g c all same =
+    → length (written c.make_ranks-ended.new.team c.open.new.team.items c.open.new.team.len)
+    ≡ length c.open.new.team.items → c.close-2.new.seat.share ≡ c.args.seat.now.share
+share_back g c same =
     let closed = c.close-2.ensures.share in
     let kept = c.make_ranks-ended.ensures.led.learned.share in
     let split = c.open.ensures.split.share in
-    omega (arith, closed, kept, split, same, ap (λ (l : List Worker). length l) all)
+    omega (arith, closed, kept, split, same)
 
 pub returns-in_err-ended-clause-went : goal.returns-in_err-ended-clause-went
 returns-in_err-ended-clause-went g c = went g (goal.at.returns-in_err-ended-clause-went g c).After-close-2
@@ -102,17 +97,19 @@ returns-clause-went g c = went g (goal.at.returns-clause-went g c).After-close-2
 pub returns-in_err-ended-clause-share : goal.returns-in_err-ended-clause-share
 returns-in_err-ended-clause-share g c =
     let to = goal.at.returns-in_err-ended-clause-share g c in
-    share_back g to.After-close-2 (whole g to.After-make_ranks-ended) (size g to.After-make_ranks-ended)
+    share_back g to.After-close-2 (led g to.After-make_ranks-ended).size
 
 pub returns-clause-share : goal.returns-clause-share
 returns-clause-share g c =
     let to = goal.at.returns-clause-share g c in
-    share_back g to.After-close-2 (whole g to.After-make_ranks-ended) (size g to.After-make_ranks-ended)
+    share_back g to.After-close-2 (led g to.After-make_ranks-ended).size
 
 pub returns-in_err-ended-clause-full : goal.returns-in_err-ended-clause-full
 returns-in_err-ended-clause-full g c is =
-    let all = whole g (goal.at.returns-in_err-ended-clause-full g c).After-make_ranks-ended in
-    let more = c.close-2.ensures.full (subst FindsFull (sym all) c.in_err-ended.ensures.full) in
+    let whole = written_is c.make_ranks-ended.new.team c.open.new.team.items c.open.new.team.len
+    (c.make_ranks-ended.ensures.led.size ∙ ap (λ (l : List Worker). length l) c.as_mut_slice.ensures.value)
+    (let e = c.open.new.team.ok.0 in omega (arith, e)) in
+    let more = c.close-2.ensures.full (subst FindsFull (sym whole) c.in_err-ended.ensures.full) in
     let kept = c.make_ranks-ended.ensures.led.learned.counts.fulls in
     let split = c.open.ensures.split.learned.counts.fulls in
     omega (arith, more, kept, split)

@@ -1,4 +1,4 @@
-use Rattle.std.proofs.Common.{◌≡◌, ◌∙◌, ◌-◌, ◌<◌, false, ℕ, get_or, length, subst, sym, ap, arith}
+use Rattle.std.proofs.Common.{◌≡◌, ◌∙◌, ◌-◌, ◌<◌, false, ℕ, get_or, length, refl, subst, sym, ap, arith}
 use Rattle.std.proofs.lemmas.List.{get_or_read}
 use Rattle.fault_definitions.specs.CutFamily.{IsCutFamily}
 use Rattle.fault_definitions.specs.Tree.{IsNodeOf, is_fdep}
@@ -30,8 +30,9 @@ made g c node is_node read =
     let are : ArePlaces tree c.as_slice.result.now =
     subst (ArePlaces tree) (sym c.as_slice.ensures.value) c.in_ok-places.ensures in
     let is = c.in_ok-build_by_team.ensures.built in
-    all_made (map_of c.build_by_team.new.seat) tree are.kept c.as_slice.result.now are table.references.items
-    table.made.items is.built is.made node is_node read
+    all_made (map_of c.build_by_team.new.seat)
+    (record { store = c.args.store; tree = c.args.tree; places = c.as_slice.result }) are table
+    (length c.as_slice.result.now) is refl node is_node read
 
 pub returns-clause-top : goal.returns-clause-top
 returns-clause-top g c =

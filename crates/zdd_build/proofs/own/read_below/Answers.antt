@@ -27,7 +27,8 @@ loop-i-preserved c =
     let all = ap (λ (l : List ℕ). length l) c.below-nodes.ensures.below in
     let room : HaveRoomFor tree rooms = subst (HaveRoomFor tree) (sym c.read_one.ensures.rooms) inv.equipped.rooms in
     let within : i < length list =
-    (let h = room.list c.args.node c.requires.reads.is_node in let t = c.loop-i-test.true in omega (arith, h, t, all)) in
+    (let h = room.list c.args.node c.requires.reads.is_node in let t = c.loop-i-test.true in
+    omega (arith, h, t, all)) in
     let same : c.index-nodes-i.result ≡ get_or nodes i 0 =
     get_or_read c.below-nodes.result.now i c.index-nodes-i.result c.loop-i-test.true c.index-nodes-i.is 0
     ∙ ap (λ (l : List ℕ). get_or l i 0) c.below-nodes.ensures.below in
