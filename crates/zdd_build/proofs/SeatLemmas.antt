@@ -1,5 +1,5 @@
 -- Seats that learn, and what a worker is after its seat has learned.
-use Rattle.std.proofs.Common.{ℕ, ◌≤◌, List, [], All, refl, sym, ◌∙◌, subst}
+use Rattle.std.proofs.Common.{◌≡◌, ℕ, ◌≤◌, List, [], All, refl, sym, ◌∙◌, subst}
 use Rattle.std.proofs.Common.{add-zero}
 use Rattle.std.proofs.lemmas.List.{append-nil}
 use Rattle.std.proofs.lemmas.List.Elements.{All-weaker}
@@ -46,26 +46,37 @@ Learned-then a b c first second = record {
 }
 
 -- nothing was filled and no search was refused
-pub WentAll-learned : (due : List (List ℕ) → Type 0) (before after : Seated) → Learned before after
-    → WentAll due before after
-WentAll-learned due before after learned = record {
-  store = learned.store;
-  keeps = learned.keeps;
-  sound = learned.sound;
+WentAll-counted : (due : List (List ℕ) → Type 0) (before after : Seated) → after.store ≡ before.store
+    → Grown (map_of before) (map_of after) → IsSoundSeat after → CountsAsBefore before after → WentAll due before after
+WentAll-counted due before after store keeps sound counts = record {
+  store = store;
+  keeps = keeps;
+  sound = sound;
   fills =
       record {
         gained = [];
-        fills = learned.counts.fills ∙ sym (append-nil before.fills);
+        fills = counts.fills ∙ sym (append-nil before.fills);
         each = λ r none. Contains-nil r none;
       };
   missed =
       record {
         gained = [];
-        missed = learned.counts.missed ∙ sym (append-nil before.missed);
+        missed = counts.missed ∙ sym (append-nil before.missed);
         each = λ word none. Contains-nil word none;
       };
-  fulls = learned.counts.fulls ∙ sym (add-zero before.fulls);
+  fulls = counts.fulls ∙ sym (add-zero before.fulls);
 }
+
+pub WentAll-learned : (due : List (List ℕ) → Type 0) (before after : Seated) → Learned before after
+    → WentAll due before after
+WentAll-learned due before after learned =
+    WentAll-counted due before after learned.store learned.keeps learned.sound learned.counts
+
+-- workers that were split off have counted nothing with the seat
+pub split_went : (due : List (List ℕ) → Type 0) (count : ℕ) (before after : Seated) → HasSplit count before after
+    → WentAll due before after
+split_went due count before after split =
+    WentAll-counted due before after split.store split.keeps split.sound split.counts
 
 -- a known reference stays so
 pub one_grown : (known known' : ℕ → ℕ) → IsClosed known → IsClosed known' → Grown known known'
@@ -114,18 +125,3 @@ found_grown known known' closed closed' grown task findings found =
           finding.family is.1,
     ))
     findings found
-
--- workers that were split off have counted nothing with the seat
-pub split_went : (due : List (List ℕ) → Type 0) (count : ℕ) (before after : Seated) → HasSplit count before after
-    → WentAll due before after
-split_went due count before after split =
-    let went : WentAll due (record before { share = after.share }) after =
-    WentAll-learned due (record before { share = after.share }) after split.learned in
-    record {
-      store = went.store;
-      keeps = went.keeps;
-      sound = went.sound;
-      fills = record { gained = went.fills.gained; fills = went.fills.fills; each = went.fills.each };
-      missed = record { gained = went.missed.gained; missed = went.missed.missed; each = went.missed.each };
-      fulls = went.fulls;
-    }

@@ -3,13 +3,14 @@ use Rattle.std.proofs.Common.{◌≡◌, ℕ, ◌+◌, ◌-◌, ◌<◌, ◌≤�
 use Rattle.std.proofs.Common.{refl, sym, ◌∙◌, ap, subst, arith}
 use Rattle.std.proofs.lemmas.List.{append-nil, drop_all, take_all, get_or_append_left, get_or_push, length_push}
 use Rattle.zdd_families.specs.Map.{Grown}
-use Rattle.zdd_shared_table.specs.Seats.{Seated, map_of}
+use Rattle.zdd_shared_table.specs.Seats.{IsSoundSeat, Seated, map_of}
 use Rattle.zdd_product.specs.Seats.{CountsDue, Joined, WentAll}
 use Rattle.zdd_product.proofs.Several.{WentAll-joined, WentAll-then}
 use Rattle.zdd_build.specs.declared.task.Task.{Task}
 use Rattle.zdd_build.specs.declared.worker.Worker.{Worker}
 use Rattle.zdd_product.proofs.After.{grown_then}
-use Rattle.zdd_build.specs.Workers.{CanWork, CountsAsBefore, FindsFull, HasLed, HasSplit}
+use Rattle.zdd_build.proofs.SeatLemmas.{counts_then}
+use Rattle.zdd_build.specs.Workers.{CanWork, CountsAsBefore, FindsFull, HasLed, HasSplit, Learned}
 
 -- the first of a list is the first of what stands before its last, or is the last
 pub first_or_last : (workers : List Worker) (last : Worker) {G : Type 0} → FindsFull (workers ++ last ∷ [])
@@ -59,53 +60,77 @@ others_are P workers rest last e all k d within =
 -- one worker more is split off
 pub split_then : (count : ℕ) (a b c : Seated) → HasSplit count a b → HasSplit 1 b c → HasSplit (count + 1) a c
 split_then count a b c first second = record {
-  learned = record {
-    store = second.learned.store ∙ first.learned.store;
-    share = refl;
-    keeps = grown_then (map_of a) (map_of b) (map_of c) first.learned.keeps second.learned.keeps;
-    sound = second.learned.sound;
-    counts = record {
-      fulls = second.learned.counts.fulls ∙ first.learned.counts.fulls;
-      missed = second.learned.counts.missed ∙ first.learned.counts.missed;
-      fills = second.learned.counts.fills ∙ first.learned.counts.fills;
-    };
-  };
+  store = second.store ∙ first.store;
+  keeps = grown_then (map_of a) (map_of b) (map_of c) first.keeps second.keeps;
+  sound = second.sound;
+  counts = counts_then a b c first.counts second.counts;
   share = let f = first.share in let s = second.share in omega (arith, f, s);
 }
 
--- workers are split off, and nothing is counted by then or later
-pub split_counts : (count : ℕ) (a b c : Seated) → HasSplit count a b → CountsAsBefore b c → CountsAsBefore a c
-split_counts count a b c split later = record {
-  fulls = later.fulls ∙ split.learned.counts.fulls;
-  missed = later.missed ∙ split.learned.counts.missed;
-  fills = later.fills ∙ split.learned.counts.fills;
+pub joined_is : {b other c : Seated} → c.store ≡ b.store → Grown (map_of b) (map_of c)
+    → Grown (map_of other) (map_of c) → IsSoundSeat c → c.fills ≡ b.fills ++ other.fills
+    → c.missed ≡ b.missed ++ other.missed → c.fulls ≡ b.fulls + other.fulls → Joined b other c
+joined_is store keeps gains sound fills missed fulls = record {
+  store = store;
+  keeps = keeps;
+  gains = gains;
+  sound = sound;
+  fills = fills;
+  missed = missed;
+  fulls = fulls;
 }
 
--- a share is split off, and joined again with nothing done
-pub split_back : (a b part other c : Seated) → b ≡ record a { share = a.share - 2 } → 2 < a.share
-    → (part.fulls ≡ 0) × (part.missed ≡ []) → part.fills ≡ [] → part.share ≡ 2 → other ≡ part → Joined b other c
-    → c.share ≡ b.share + other.share → HasSplit 0 a c
-split_back a b part other c is some fulls fills two same joined share =
-    let none : other.fulls ≡ 0 = ap (λ s. s.fulls) same ∙ fulls.0 in
-    let back : c.share ≡ b.share + 2 = share ∙ ap (λ s. b.share + s.share) same ∙ ap (λ n. b.share + n) two in
-    record {
-      learned = record {
-        store = joined.store ∙ ap (λ s. s.store) is;
-        share = refl;
-        keeps = subst (λ (s : Seated). Grown (map_of s) (map_of c)) is joined.keeps;
-        sound = joined.sound;
-        counts = record {
-          fulls = let j = joined.fulls in omega (arith, j, none, ap (λ s. s.fulls) is);
-          missed =
-              joined.missed ∙ ap (λ l. b.missed ++ l) (ap (λ s. s.missed) same ∙ fulls.1) ∙ append-nil b.missed
-              ∙ ap (λ s. s.missed) is;
-          fills =
-              joined.fills ∙ ap (λ l. b.fills ++ l) (ap (λ s. s.fills) same ∙ fills) ∙ append-nil b.fills
-              ∙ ap (λ s. s.fills) is;
+-- a seat takes in another that has counted nothing, and is left with the share of a third seat
+module _ (a b part c d : Seated) (count : ℕ) (fulls : (part.fulls ≡ 0) × (part.missed ≡ [])) (fills : part.fills ≡ [])
+    (joined : Joined b part c) where
+  nothing_counted : CountsAsBefore b c
+  nothing_counted = record {
+    fulls = let j = joined.fulls in let none = fulls.0 in omega (arith, j, none);
+    missed = joined.missed ∙ ap (λ l. b.missed ++ l) fulls.1 ∙ append-nil b.missed;
+    fills = joined.fills ∙ ap (λ l. b.fills ++ l) fills ∙ append-nil b.fills;
+  }
+
+  -- it was split off before
+  pub split_join : b ≡ record a { share = a.share - count } → count ≤ a.share → c.share ≡ b.share + part.share
+      → part.share ≡ count → Learned a c
+  split_join is fits share same = record {
+    store = joined.store ∙ ap (λ s. s.store) is;
+    share = omega (arith, share, same, fits, ap (λ s. s.share) is);
+    keeps = subst (λ (s : Seated). Grown (map_of s) (map_of c)) is joined.keeps;
+    sound = joined.sound;
+    counts =
+        record {
+          fulls = nothing_counted.fulls ∙ ap (λ s. s.fulls) is;
+          missed = nothing_counted.missed ∙ ap (λ s. s.missed) is;
+          fills = nothing_counted.fills ∙ ap (λ s. s.fills) is;
         };
-      };
-      share = omega (arith, back, ap (λ s. s.share) is, some);
-    }
+  }
+
+  -- as large a share is split off afterwards
+  pub join_split : d ≡ record c { share = c.share - count } → IsSoundSeat d → c.share ≡ b.share + part.share
+      → part.share ≡ count → Learned b d
+  join_split is sound share same = record {
+    store = ap (λ s. s.store) is ∙ joined.store;
+    share = omega (arith, share, same, ap (λ s. s.share) is);
+    keeps = subst (λ (s : Seated). Grown (map_of b) (map_of s)) (sym is) joined.keeps;
+    sound = sound;
+    counts =
+        record {
+          fulls = ap (λ s. s.fulls) is ∙ nothing_counted.fulls;
+          missed = ap (λ s. s.missed) is ∙ nothing_counted.missed;
+          fills = ap (λ s. s.fills) is ∙ nothing_counted.fills;
+        };
+  }
+
+-- a share is back, with nothing done
+pub split_none : (before after : Seated) → Learned before after → HasSplit 0 before after
+split_none before after learned = record {
+  store = learned.store;
+  keeps = learned.keeps;
+  sound = learned.sound;
+  counts = learned.counts;
+  share = let s = learned.share in omega (arith, s);
+}
 
 -- ---- a slice of all workers, written over
 

@@ -31,7 +31,10 @@ pub record Learned (before after : Seated) : Type 0 where
 
 -- so many workers were split off the seat, with a share of two each
 pub record HasSplit (count : ℕ) (before after : Seated) : Type 0 where
-  pub learned : Learned (record before { share = after.share }) after
+  pub store : after.store ≡ before.store
+  pub keeps : Grown (map_of before) (map_of after)
+  pub sound : IsSoundSeat after
+  pub counts : CountsAsBefore before after
   pub share : after.share + 2 * count ≡ before.share
 
 -- nothing was counted by the worker yet

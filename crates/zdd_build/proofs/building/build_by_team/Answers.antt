@@ -5,9 +5,9 @@ use Rattle.zdd_product.specs.Seats.{WentAll}
 use Rattle.zdd_product.proofs.Several.{WentAll-nowhere, WentAll-then}
 use Rattle.zdd_build.specs.declared.worker.Worker.{Worker}
 use Rattle.zdd_build.specs.Workers.{FindsFull, HasLed, IsTeam}
-use Rattle.zdd_build.proofs.SeatLemmas.{WentAll-learned, split_went}
+use Rattle.zdd_build.proofs.SeatLemmas.{WentAll-learned, counts_then, split_went}
 use Rattle.zdd_build.proofs.TableLemmas.{built_on}
-use Rattle.zdd_build.proofs.TeamLemmas.{led_back, split_counts, written, written_is}
+use Rattle.zdd_build.proofs.TeamLemmas.{led_back, written, written_is}
 use Rattle.zdd_build.proofs.building.build_by_team.Goals as goal
 use Rattle.zdd_build.proofs.building.build_by_team.Goals.{After-close-2, After-make_ranks-ended}
 use Rattle.zdd_build.proofs.building.build_by_team.Given as given
@@ -31,7 +31,7 @@ returns-in-Err-clause-share g c =
 
 pub returns-in-Err-clause-no_memory : goal.returns-in-Err-clause-no_memory
 returns-in-Err-clause-no_memory g c is =
-    split_counts (length c.open.new.team.items) c.args.seat.now c.open.new.seat c.close.new.seat c.open.ensures.split
+    counts_then c.args.seat.now c.open.new.seat c.close.new.seat c.open.ensures.split.counts
     (c.close.ensures.new c.open.ensures.new)
 
 pub make_ranks-ended-requires-clause-team : goal.make_ranks-ended-requires-clause-team
@@ -40,11 +40,11 @@ make_ranks-ended-requires-clause-team g c κs within =
     (record {
       can_part =
           record {
-            own = c.open.ensures.split.learned.store ∙ c.requires.own;
+            own = c.open.ensures.split.store ∙ c.requires.own;
             share =
                 let all = c.in_default.ensures.all in let e = c.open.ensures.split.share in let s = c.requires.share in
                 omega (arith, all, e, s);
-            sound = c.open.ensures.split.learned.sound;
+            sound = c.open.ensures.split.sound;
           };
       some = let all = c.in_default.ensures.all in let s = c.requires.some in omega (arith, all, s);
       ready = c.open.ensures.ready;
@@ -111,7 +111,7 @@ returns-in_err-ended-clause-full g c is =
     (let e = c.open.new.team.ok.0 in omega (arith, e)) in
     let more = c.close-2.ensures.full (subst FindsFull (sym whole) c.in_err-ended.ensures.full) in
     let kept = c.make_ranks-ended.ensures.led.learned.counts.fulls in
-    let split = c.open.ensures.split.learned.counts.fulls in
+    let split = c.open.ensures.split.counts.fulls in
     omega (arith, more, kept, split)
 
 pub returns-clause-built : goal.returns-clause-built

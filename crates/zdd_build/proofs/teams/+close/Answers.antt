@@ -6,7 +6,7 @@ use Rattle.zdd_product.specs.Seats.{CountsDue, Joined}
 use Rattle.zdd_product.proofs.Several.{WentAll-nowhere}
 use Rattle.zdd_build.specs.declared.worker.Worker.{Worker}
 use Rattle.zdd_build.specs.Workers.{CanWork, FindsFull, IsNew, IsReady}
-use Rattle.zdd_build.proofs.TeamLemmas.{close_full, close_new, close_went, last_is, others_are}
+use Rattle.zdd_build.proofs.TeamLemmas.{close_full, close_new, close_went, joined_is, last_is, others_are}
 use Rattle.zdd_build.proofs.teams.+close.Goals as goal
 use Rattle.zdd_build.proofs.teams.+close.Goals.{After-into_seat, After-join}
 
@@ -24,15 +24,7 @@ can t c =
 joined : (t : ℕ) (c : After-join t) → Joined c.args.seat.now c.into_seat.result c.join.new.seat
 joined t c =
     let is = c.join.ensures in
-    record {
-      store = is.store;
-      keeps = is.keeps;
-      gains = is.gains;
-      sound = is.sound;
-      fills = is.fills;
-      missed = is.missed;
-      fulls = is.fulls;
-    }
+    joined_is is.store is.keeps is.gains is.sound is.fills is.missed is.fulls
 
 pub join-requires-clause-others : goal.join-requires-clause-others
 join-requires-clause-others t c =
