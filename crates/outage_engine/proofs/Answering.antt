@@ -10,7 +10,6 @@ use Rattle.cutset_lists.specs.Generation.{HasHeavyCutList}
 use Rattle.cut_sequences.specs.Orders.{order_limit, order_lists, order_total}
 use Rattle.crew_script.specs.declared.dockets.Crew.{Crew}
 use Rattle.edge_io.specs.declared.reading.TheConstants.{INPUT_LIMIT}
-use Rattle.board_words.specs.Command.{command_of}
 use Rattle.board_report.specs.CheckText.{check_text}
 use Rattle.cut_texts.specs.CutsText.{cuts_text, listed_with}
 use Rattle.cut_texts.specs.DiagramText.{sizes_text}
@@ -18,21 +17,20 @@ use Rattle.board_report.specs.PrintText.{print_text}
 use Rattle.outage_engine.specs.declared.deck.CrewPart.{CrewPart}
 use Rattle.outage_engine.specs.declared.deck.CrewPart.TheVariants.{Unread, IfAny}
 use Rattle.outage_engine.specs.declared.listing.Listing.{Listing}
-use Rattle.outage_engine.specs.declared.sizes.Sizes.{Sizes}
+use Rattle.outage_engine.specs.declared.sizes.Counts.{Counts}
 use Rattle.outage_engine.specs.declared.refusal.Refusal.TheVariants.{Usage, ReadFault, TooLong, Fault, ListLimit}
 use Rattle.outage_engine.specs.declared.refusal.Refusal.TheVariants.{OrderLimit}
 use Rattle.outage_engine.specs.declared.refusal.RunEnd.{RunEnd}
 use Rattle.outage_engine.specs.declared.refusal.RunEnd.TheVariants.{Refused, NoMemory}
-use Rattle.outage_engine.specs.Answers.{AreSizesOf, IfRefused, IsLimitOf, IsListingOf, IsReadRefusal, IsRefusalBy}
-use Rattle.outage_engine.specs.Answers.{IsDeckRefusal, IsRefusalFor, IsWeightLimitOf, found_in, listing_text}
+use Rattle.outage_engine.specs.Answers.{AreCountsOf, IfRefused, IsFaultOfDeck, IsLimitOf, IsListingOf, IsReadRefusal}
+use Rattle.outage_engine.specs.Answers.{IsRefusalFor, IsWeightLimitOf, found_in, listing_text}
 use Rattle.outage_engine.specs.Deck.{IsDeckFault, IsWellFormed}
 use Rattle.outage_engine.specs.Finding.{Finds, Found, Faulty, Ready, TooHeavy, TooManyOrders, Wants, WithOrders}
 use Rattle.outage_engine.specs.Finding.{bad_deck, judged, well_formed}
-use Rattle.outage_engine.specs.Gives as gives
-use Rattle.outage_engine.specs.Gives.{OfDeckOr, OfInput, own_deck, wanted}
+use Rattle.outage_engine.specs.Gives.{OfDeckOr, OfInput}
 use Rattle.outage_engine.specs.Store.{method_by}
 use Rattle.outage_engine.specs.Texts.{IsCheckText, IsCutsText, IsDiagramText, IsPrintText, cuts_said, for_diagram}
-use Rattle.outage_engine.proofs.Clauses.{of_input}
+use Rattle.outage_engine.proofs.Clauses.{of_deck, of_input}
 
 -- ---- what is judged of a tree with its cut list
 
@@ -84,9 +82,9 @@ module _ (part : CrewPart) (most : ℕ) (bytes : List ℕ) (tree : FaultTree) (c
       let few : order_total (order_lists tree listing.cuts most) ≤ order_limit =
       subst (λ orders. order_total orders ≤ order_limit) is.orders is.few in
       well_formed found (subst (λ t. IsWellFormed part bytes t crews) (sym is.of_tree) deck)
-      (subst (λ t. IsCutList t listing.cuts) (sym is.of_tree) is.all)
-      (sym (judged-ready most found is.light (subst (λ t. order_total (order_lists t listing.cuts most) ≤ order_limit)
-      (sym is.of_tree) few)))
+      (subst (λ t. IsCutList t listing.cuts) (sym is.of_tree) is.list.all)
+      (sym (judged-ready most found is.list.light
+      (subst (λ t. order_total (order_lists t listing.cuts most) ≤ order_limit) (sym is.of_tree) few)))
 
 pub orders_of_listing : (most : ℕ) (tree : FaultTree) (listing : Listing) → IsListingOf most tree listing
     → listing.orders ≡ order_lists listing.tree listing.cuts most
@@ -128,25 +126,22 @@ module _ (bytes : List ℕ) (tree : FaultTree) (crews : Option (List Crew))
       well_formed (with_cuts cuts) deck list (sym (cond-false (nat_lt weight_limit (weight cuts)) TooHeavy
       (Ready (with_cuts cuts)) (le-ltb weight_limit (weight cuts) light)))
 
-  sizes_said : (sizes : Sizes) → AreSizesOf tree sizes
-      → IsDiagramText (method_by sizes.nodes) bytes (sizes_text sizes.tree sizes.cuts sizes.members sizes.nodes)
-  sizes_said sizes are =
-      let has = are.counts in
-      record {
-        found = with_cuts has.list;
-        finds = finds_cuts has.list has.all has.light;
-        nodes = sizes.nodes;
-        of_method = refl;
-        counted = are.nodes;
-        is =
-            ap (λ t. sizes_text t sizes.cuts sizes.members sizes.nodes) are.of_tree
-            ∙ ap (λ n. sizes_text tree n sizes.members sizes.nodes) has.counted
-            ∙ ap (λ n. sizes_text tree (length has.list) n sizes.nodes) has.summed;
-      }
+  sizes_said : (counts : Counts) → AreCountsOf tree counts
+      → IsDiagramText (method_by counts.nodes) bytes (sizes_text tree counts.cuts counts.members counts.nodes)
+  sizes_said counts are = record {
+    found = with_cuts are.list;
+    finds = finds_cuts are.list are.within.all are.within.light;
+    nodes = counts.nodes;
+    of_method = refl;
+    counted = are.nodes;
+    is =
+        ap (λ n. sizes_text tree n counts.members counts.nodes) are.counted
+        ∙ ap (λ n. sizes_text tree (length are.list) n counts.nodes) are.summed;
+  }
 
 -- ---- a fact of the bytes that were read is one of the input
 
-of_whole : (held left : Option (List ℕ)) (bytes : List ℕ) (P : List ℕ → Type 0) → Consumes held left bytes
+pub of_whole : (held left : Option (List ℕ)) (bytes : List ℕ) (P : List ℕ → Type 0) → Consumes held left bytes
     → IsAtEnd left → length bytes ≤ INPUT_LIMIT → P bytes → OfInput held left P
 of_whole None left bytes P consumes at_end within holds = tt
 of_whole (Some all) None bytes P consumes at_end within holds = absurd consumes
@@ -154,127 +149,108 @@ of_whole (Some all) (Some rest) bytes P consumes at_end within holds =
     let same : all ≡ bytes = consumes ∙ ap (λ l. bytes ++ l) at_end ∙ append-nil bytes in
     (at_end, subst (λ l. length l ≤ INPUT_LIMIT) (sym same) within, subst P (sym same) holds)
 
-pub whole : (held left : Option (List ℕ)) (bytes given : List ℕ) (P : List ℕ → Type 0) → given ≡ bytes
-    → Consumes held left bytes → IsAtEnd left → length bytes ≤ INPUT_LIMIT
-    → P given → OfInput held left P
-whole held left bytes given P is consumes at_end within holds =
-    of_whole held left bytes P consumes at_end within (subst P is holds)
+-- ---- texts, for an input
 
--- ---- texts and refusals, for an input
+module _ (held left : Option (List ℕ)) (tree : FaultTree) where
+  module _ (crews : Option (List Crew)) (read : OfInput held left (λ bytes. IsWellFormed Unread bytes tree crews)) where
+    pub cuts_of_input : (most : ℕ) (listing : Listing) → IsListingOf most tree listing
+        → OfInput held left (λ bytes. IsCutsText most bytes (listing_text listing))
+    cuts_of_input most listing is =
+        of_input held left (λ bytes. IsWellFormed Unread bytes tree crews)
+        (λ bytes. IsCutsText most bytes (listing_text listing))
+        (λ bytes deck. record {
+          found = found_in listing crews;
+          finds = finds_ready Unread most bytes tree crews deck listing is;
+          is = said_of most listing crews (orders_of_listing most tree listing is);
+        }) read
 
-module _ (held left : Option (List ℕ)) (tree : FaultTree) (crews : Option (List Crew)) where
-  pub cuts_of_input : (most : ℕ) (listing : Listing) → OfInput held left (λ bytes. IsWellFormed Unread bytes tree crews)
-      → IsListingOf most tree listing
-      → OfInput held left (λ bytes. IsCutsText most bytes (listing_text listing))
-  cuts_of_input most listing read is =
-      of_input held left (λ bytes. IsWellFormed Unread bytes tree crews)
-      (λ bytes. IsCutsText most bytes (listing_text listing))
-      (λ bytes deck. record {
-        found = found_in listing crews;
-        finds = finds_ready Unread most bytes tree crews deck listing is;
-        is = said_of most listing crews (orders_of_listing most tree listing is);
-      }) read
+    pub diagram_of_input : (counts : Counts) → AreCountsOf tree counts
+        → OfInput held left (λ bytes. IsDiagramText (method_by counts.nodes) bytes
+        (sizes_text tree counts.cuts counts.members counts.nodes))
+    diagram_of_input counts are =
+        of_input held left (λ bytes. IsWellFormed Unread bytes tree crews)
+        (λ bytes. IsDiagramText (method_by counts.nodes) bytes
+        (sizes_text tree counts.cuts counts.members counts.nodes))
+        (λ bytes deck. sizes_said bytes tree crews deck counts are) read
 
-  pub diagram_of_input : (sizes : Sizes) → OfInput held left (λ bytes. IsWellFormed Unread bytes tree crews)
-      → AreSizesOf tree sizes
-      → OfInput held left (λ bytes. IsDiagramText (method_by sizes.nodes) bytes
-      (sizes_text sizes.tree sizes.cuts sizes.members sizes.nodes))
-  diagram_of_input sizes read are =
-      of_input held left (λ bytes. IsWellFormed Unread bytes tree crews)
-      (λ bytes. IsDiagramText (method_by sizes.nodes) bytes
-      (sizes_text sizes.tree sizes.cuts sizes.members sizes.nodes))
-      (λ bytes deck. sizes_said bytes tree crews deck sizes are) read
+    pub print_of_input : OfInput held left (λ bytes. IsPrintText bytes (print_text tree))
+    print_of_input =
+        of_input held left (λ bytes. IsWellFormed Unread bytes tree crews)
+        (λ bytes. IsPrintText bytes (print_text tree)) (λ bytes deck. print_said bytes tree crews deck) read
 
-  pub check_of_input : OfInput held left (λ bytes. IsWellFormed IfAny bytes tree crews)
+  pub check_of_input : (crews : Option (List Crew)) → OfInput held left (λ bytes. IsWellFormed IfAny bytes tree crews)
       → OfInput held left (λ bytes. IsCheckText bytes (check_text tree crews))
-  check_of_input read =
+  check_of_input crews read =
       of_input held left (λ bytes. IsWellFormed IfAny bytes tree crews)
       (λ bytes. IsCheckText bytes (check_text tree crews)) (λ bytes deck. check_said bytes tree crews deck) read
 
-  pub print_of_input : OfInput held left (λ bytes. IsWellFormed Unread bytes tree crews)
-      → OfInput held left (λ bytes. IsPrintText bytes (print_text tree))
-  print_of_input read =
-      of_input held left (λ bytes. IsWellFormed Unread bytes tree crews) (λ bytes. IsPrintText bytes (print_text tree))
-      (λ bytes deck. print_said bytes tree crews deck) read
+-- ---- refusals
 
+module _ (own held left : Option (List ℕ)) (rose : Type 0) where
   -- a limit of the tree is one of the command
-  pub limit_for : (part : CrewPart) (most : ℕ) (rose : Type 0) (end : RunEnd)
-      → OfInput held left (λ bytes. IsWellFormed part bytes tree crews) → IfRefused (IsLimitOf most tree) end
-      → IfRefused (IsRefusalFor (record { crews = part; cuts = WithOrders most }) held left rose) end
-  limit_for part most rose (Refused ListLimit) read heavy =
-      of_input held left (λ bytes. IsWellFormed part bytes tree crews)
-      (λ bytes. Finds (record { crews = part; cuts = WithOrders most }) bytes TooHeavy)
-      (λ bytes deck. finds_heavy part most bytes tree crews deck heavy) read
-  limit_for part most rose (Refused OrderLimit) read many =
-      of_input held left (λ bytes. IsWellFormed part bytes tree crews)
-      (λ bytes. Finds (record { crews = part; cuts = WithOrders most }) bytes TooManyOrders)
-      (λ bytes deck. finds_many part most bytes tree crews deck many) read
-  limit_for part most rose (Refused (Fault fault)) read never = absurd never
-  limit_for part most rose (Refused ReadFault) read never = absurd never
-  limit_for part most rose (Refused TooLong) read never = absurd never
-  limit_for part most rose (Refused Usage) read never = absurd never
-  limit_for part most rose NoMemory read free = tt
+  module _ (tree : FaultTree) (crews : Option (List Crew)) where
+    pub limit_for : (part : CrewPart) (most : ℕ) (end : RunEnd)
+        → OfDeckOr own held left (λ bytes. IsWellFormed part bytes tree crews) → IfRefused (IsLimitOf most tree) end
+        → IfRefused (IsRefusalFor own (record { crews = part; cuts = WithOrders most }) held left rose) end
+    limit_for part most (Refused ListLimit) read heavy =
+        of_deck own held left (λ bytes. IsWellFormed part bytes tree crews)
+        (λ bytes. Finds (record { crews = part; cuts = WithOrders most }) bytes TooHeavy)
+        (λ bytes deck. finds_heavy part most bytes tree crews deck heavy) read
+    limit_for part most (Refused OrderLimit) read many =
+        of_deck own held left (λ bytes. IsWellFormed part bytes tree crews)
+        (λ bytes. Finds (record { crews = part; cuts = WithOrders most }) bytes TooManyOrders)
+        (λ bytes deck. finds_many part most bytes tree crews deck many) read
+    limit_for part most (Refused (Fault fault)) read never = absurd never
+    limit_for part most (Refused ReadFault) read never = absurd never
+    limit_for part most (Refused TooLong) read never = absurd never
+    limit_for part most (Refused Usage) read never = absurd never
+    limit_for part most NoMemory read free = tt
 
-  -- so is the limit of weight one of `diagram`
-  pub weight_limit_for : (rose : Type 0) (end : RunEnd)
-      → OfInput held left (λ bytes. IsWellFormed Unread bytes tree crews) → IfRefused (IsWeightLimitOf tree) end
-      → IfRefused (IsRefusalFor for_diagram held left rose) end
-  weight_limit_for rose (Refused ListLimit) read heavy =
-      of_input held left (λ bytes. IsWellFormed Unread bytes tree crews) (λ bytes. Finds for_diagram bytes TooHeavy)
-      (λ bytes deck. finds_heavy_cuts bytes tree crews deck heavy) read
-  weight_limit_for rose (Refused OrderLimit) read never = absurd never
-  weight_limit_for rose (Refused (Fault fault)) read never = absurd never
-  weight_limit_for rose (Refused ReadFault) read never = absurd never
-  weight_limit_for rose (Refused TooLong) read never = absurd never
-  weight_limit_for rose (Refused Usage) read never = absurd never
-  weight_limit_for rose NoMemory read free = tt
+    -- so is the limit of weight one of `diagram`
+    pub weight_limit_for : (end : RunEnd) → OfDeckOr own held left (λ bytes. IsWellFormed Unread bytes tree crews)
+        → IfRefused (IsWeightLimitOf tree) end → IfRefused (IsRefusalFor own for_diagram held left rose) end
+    weight_limit_for (Refused ListLimit) read heavy =
+        of_deck own held left (λ bytes. IsWellFormed Unread bytes tree crews)
+        (λ bytes. Finds for_diagram bytes TooHeavy) (λ bytes deck. finds_heavy_cuts bytes tree crews deck heavy) read
+    weight_limit_for (Refused OrderLimit) read never = absurd never
+    weight_limit_for (Refused (Fault fault)) read never = absurd never
+    weight_limit_for (Refused ReadFault) read never = absurd never
+    weight_limit_for (Refused TooLong) read never = absurd never
+    weight_limit_for (Refused Usage) read never = absurd never
+    weight_limit_for NoMemory read free = tt
 
-module _ (held left : Option (List ℕ)) (rose : Type 0) where
-  -- why no deck is read is why the command is refused
-  pub refused_for : (wants : Wants) (end : RunEnd) → IfRefused (IsReadRefusal wants.crews held left rose) end
-      → IfRefused (IsRefusalFor wants held left rose) end
-  refused_for wants (Refused (Fault fault)) holds =
-      of_input held left (λ bytes. IsDeckFault wants.crews bytes fault) (λ bytes. Finds wants bytes (Faulty fault))
-      (λ bytes refused. bad_deck fault refused refl) holds
-  refused_for wants (Refused ReadFault) rises = rises
-  refused_for wants (Refused TooLong) beyond = beyond
-  refused_for wants (Refused ListLimit) never = absurd never
-  refused_for wants (Refused OrderLimit) never = absurd never
-  refused_for wants (Refused Usage) never = absurd never
-  refused_for wants NoMemory free = tt
+-- why no deck is read is why the command is refused
+pub refused_for : (held left : Option (List ℕ)) (rose : Type 0) (wants : Wants) (end : RunEnd)
+    → IfRefused (IsReadRefusal wants.crews held left rose) end → IfRefused (IsRefusalFor None wants held left rose) end
+refused_for held left rose wants (Refused (Fault fault)) holds =
+    of_input held left (λ bytes. IsDeckFault wants.crews bytes fault) (λ bytes. Finds wants bytes (Faulty fault))
+    (λ bytes refused. bad_deck fault refused refl) holds
+refused_for held left rose wants (Refused ReadFault) rises = (refl, rises)
+refused_for held left rose wants (Refused TooLong) beyond = (refl, beyond)
+refused_for held left rose wants (Refused ListLimit) never = absurd never
+refused_for held left rose wants (Refused OrderLimit) never = absurd never
+refused_for held left rose wants (Refused Usage) never = absurd never
+refused_for held left rose wants NoMemory free = tt
 
-  -- of words whose run is about the input
-  pub refused_by : (words : List (List ℕ)) (wants : Wants) (end : RunEnd) → wanted words ≡ Some wants
-      → own_deck (command_of words) ≡ None → IfRefused (IsRefusalFor wants held left rose) end
-      → IfRefused (IsRefusalBy words held left rose) end
-  refused_by words wants (Refused (Fault fault)) at none holds =
-      gives.refused wants fault at (subst (λ own. OfDeckOr own held left (λ bytes. Finds wants bytes (Faulty fault)))
-      (sym none) holds) refl refl
-  refused_by words wants (Refused ReadFault) at none rises = gives.read_fault (wants, at, none) rises refl refl
-  refused_by words wants (Refused TooLong) at none beyond = gives.too_long (wants, at, none) beyond refl refl
-  refused_by words wants (Refused ListLimit) at none holds =
-      gives.list_limit wants at
-      (subst (λ own. OfDeckOr own held left (λ bytes. Finds wants bytes TooHeavy)) (sym none) holds) refl refl
-  refused_by words wants (Refused OrderLimit) at none holds =
-      gives.order_limit wants at
-      (subst (λ own. OfDeckOr own held left (λ bytes. Finds wants bytes TooManyOrders)) (sym none) holds) refl refl
-  refused_by words wants (Refused Usage) at none never = absurd never
-  refused_by words wants NoMemory at none free = tt
+-- the same of a deck that the command makes itself
+pub fault_for : (deck : List ℕ) (wants : Wants) (end : RunEnd) → IfRefused (IsFaultOfDeck wants.crews deck) end
+    → IfRefused (IsRefusalFor (Some deck) wants None None ⊥) end
+fault_for deck wants (Refused (Fault fault)) refused = bad_deck fault refused refl
+fault_for deck wants (Refused ReadFault) never = absurd never
+fault_for deck wants (Refused TooLong) never = absurd never
+fault_for deck wants (Refused ListLimit) never = absurd never
+fault_for deck wants (Refused OrderLimit) never = absurd never
+fault_for deck wants (Refused Usage) never = absurd never
+fault_for deck wants NoMemory free = tt
 
-  -- of words whose run is about a deck that it makes
-  pub refused_by_own : (words : List (List ℕ)) (wants : Wants) (own : List ℕ) (end : RunEnd)
-      → wanted words ≡ Some wants → own_deck (command_of words) ≡ Some own
-      → IfRefused (IsDeckRefusal wants own) end → IfRefused (IsRefusalBy words held left rose) end
-  refused_by_own words wants own (Refused (Fault fault)) at makes holds =
-      gives.refused wants fault at (subst (λ o. OfDeckOr o held left (λ bytes. Finds wants bytes (Faulty fault)))
-      (sym makes) holds) refl refl
-  refused_by_own words wants own (Refused ListLimit) at makes holds =
-      gives.list_limit wants at
-      (subst (λ o. OfDeckOr o held left (λ bytes. Finds wants bytes TooHeavy)) (sym makes) holds) refl refl
-  refused_by_own words wants own (Refused OrderLimit) at makes holds =
-      gives.order_limit wants at
-      (subst (λ o. OfDeckOr o held left (λ bytes. Finds wants bytes TooManyOrders)) (sym makes) holds) refl refl
-  refused_by_own words wants own (Refused ReadFault) at makes never = absurd never
-  refused_by_own words wants own (Refused TooLong) at makes never = absurd never
-  refused_by_own words wants own (Refused Usage) at makes never = absurd never
-  refused_by_own words wants own NoMemory at makes free = tt
+-- and no input bears on it
+pub made_for : (held left : Option (List ℕ)) (rose : Type 0) (deck : List ℕ) (wants : Wants) (end : RunEnd)
+    → IfRefused (IsRefusalFor (Some deck) wants None None ⊥) end
+    → IfRefused (IsRefusalFor (Some deck) wants held left rose) end
+made_for held left rose deck wants (Refused (Fault fault)) holds = holds
+made_for held left rose deck wants (Refused ReadFault) never = absurd never.1
+made_for held left rose deck wants (Refused TooLong) never = let clash = never.0 in absurd cc
+made_for held left rose deck wants (Refused ListLimit) holds = holds
+made_for held left rose deck wants (Refused OrderLimit) holds = holds
+made_for held left rose deck wants (Refused Usage) never = absurd never
+made_for held left rose deck wants NoMemory free = tt

@@ -17,7 +17,10 @@ use Rattle.zdd_shared_table.specs.Seats.{Seated, map_of}
 use Rattle.cutset_listing.specs.Listing.{HasHeavyList, HasSetsOf, LacksEmptySet}
 use Rattle.cutset_listing.proofs.HeavyLists.{in_a_list, heavy_list as heavy_list_of}
 use Rattle.cut_texts.proofs.Members.{weight_parts}
-use Rattle.outage_engine.specs.Answers.{AreCountsOf, IfRefused, IsWeightLimitOf, end_without}
+use Rattle.family_operations.specs.Nodes.{IsNodeCount}
+use Rattle.outage_engine.specs.declared.refusal.Refusal.{Refusal}
+use Rattle.outage_engine.specs.declared.refusal.Refusal.TheVariants as refusal
+use Rattle.outage_engine.specs.Answers.{AreCountsOf, IfRefused, end_without}
 use Rattle.outage_engine.specs.Store.{IsDiagramOf, IsFoundBy, IsRootOf, method_by}
 
 module _ (tree : FaultTree) (seat : Seated) (root : ℕ) (is : IsRootOf seat tree root) where
@@ -40,20 +43,21 @@ module _ (tree : FaultTree) (seat : Seated) (root : ℕ) (is : IsRootOf seat tre
   }
 
   -- the sets of the family are as many as those of the cut list, and weigh as much
-  pub counts_of_root : (sets weighs : ℕ) → sets ≡ length (family (map_of seat) root)
+  pub counts_of_root : (sets weighs nodes : ℕ) → sets ≡ length (family (map_of seat) root)
       → weighs ≡ weight (family (map_of seat) root) → weight (family (map_of seat) root) ≤ weight_limit
-      → AreCountsOf tree sets (weighs - sets)
-  counts_of_root sets weighs count total light =
+      → IsNodeCount (family (map_of seat) root) nodes
+      → AreCountsOf tree (record { cuts = sets; members = weighs - sets; nodes = Some nodes })
+  counts_of_root sets weighs nodes count total light counted =
       let has = in_a_list (family (map_of seat) root) is_family in
       let many = has.as_many in
       let heavy = has.as_heavy in
       let parts = weight_parts has.list in
       record {
         list = has.list;
-        all = list_of_root has.list has.sets has.ordered;
-        light = omega (arith, heavy, light);
+        within = record { all = list_of_root has.list has.sets has.ordered; light = omega (arith, heavy, light) };
         counted = omega (arith, many, count);
         summed = omega (arith, many, heavy, parts, count, total);
+        nodes = (family (map_of seat) root, is.1, counted);
       }
 
   pub few_counted : (sets weighs : ℕ) → sets ≡ length (family (map_of seat) root)
@@ -69,18 +73,13 @@ module _ (tree : FaultTree) (seat : Seated) (root : ℕ) (is : IsRootOf seat tre
   too_heavy heavy = heavy_list (heavy_list_of (family (map_of seat) root) is_family heavy)
 
 -- a run that ends for want of a cut list, ends by the limit only where the list is too heavy
-pub limit_without : {A : Type 0} (tree : FaultTree) (end : ListEnd)
-    → (IsErrOf {T = A} (Err end) ListLimit → HasHeavyCutList tree) → IfRefused (IsWeightLimitOf tree) (end_without end)
-limit_without tree ListLimit heavy = heavy refl
-limit_without tree NoMemory heavy = tt
+pub limit_without : {A : Type 0} (P : Refusal → Type 0) (end : ListEnd)
+    → (IsErrOf {T = A} (Err end) ListLimit → P refusal.ListLimit) → IfRefused P (end_without end)
+limit_without P ListLimit heavy = heavy refl
+limit_without P NoMemory heavy = tt
 
 pub found_by : (before after : Seated) (tree : FaultTree) (root : Option ℕ) → IfSome root (IsDiagramOf after tree)
     → (root ≡ None → before.fulls < after.fulls)
     → IsFoundBy before after tree (method_by root)
 found_by before after tree (Some root) diagram full = (root, diagram)
 found_by before after tree None diagram full = full refl
-
-pub has_root : (before after : Seated) (tree : FaultTree) (root : Option ℕ) → IfSome root (IsDiagramOf after tree)
-    → IfSome root (IsRootOf after tree)
-has_root before after tree (Some root) diagram = diagram.top
-has_root before after tree None diagram = diagram

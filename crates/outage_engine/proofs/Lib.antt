@@ -9,6 +9,7 @@ mod ByDiagram
 mod SeatLemmas
 mod Reading
 mod Serving
+mod Coming
 mod SomeFinding
 mod Printed
 mod Summing

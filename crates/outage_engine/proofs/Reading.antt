@@ -12,28 +12,32 @@ use Rattle.outage_engine.specs.declared.deck.CrewPart.{CrewPart}
 use Rattle.outage_engine.specs.declared.deck.CrewPart.TheVariants.{Unread, IfAny, Needed}
 use Rattle.outage_engine.specs.declared.deck.DeckEnd.{DeckEnd}
 use Rattle.outage_engine.specs.declared.deck.DeckParts.{DeckParts}
-use Rattle.outage_engine.specs.declared.deck.DeckEnd.TheVariants.{Fault, NoMemory}
-use Rattle.outage_engine.specs.Answers.{IfRefused, IsCrewEnd, IsDeckEnd, IsPartsEnd, IsReadRefusal, IsTreeEnd, run_end}
+use Rattle.outage_engine.specs.declared.deck.DeckEnd.TheVariants as end
+use Rattle.outage_engine.specs.declared.refusal.Refusal.TheVariants as refusal
+use Rattle.outage_engine.specs.declared.refusal.RunEnd.{RunEnd}
+use Rattle.outage_engine.specs.declared.refusal.RunEnd.TheVariants.{Refused, NoMemory}
+use Rattle.outage_engine.specs.Answers.{IfRefused, IsCrewEnd, IsDeckEnd, IsFaultOfDeck, IsPartsEnd, IsReadRefusal}
+use Rattle.outage_engine.specs.Answers.{IsTreeEnd}
 use Rattle.deck_reading.specs.Deck.{StandsFor, crew_part, crews_behind}
 use Rattle.outage_engine.specs.Deck.{IsDeckFault, IsWellFormed, LacksCrews, bad_crews, bad_tree, crews_read, crews_said}
-use Rattle.outage_engine.proofs.Answering.{whole}
+use Rattle.outage_engine.proofs.Answering.{of_whole}
 
 -- ---- the ends of the parts
 
 pub crew_end : (said : Result (List Crew) CrewFault) (end : DeckEnd) → IsCrewEnd said end
     → IsCrewEnd (crews_said (Some said)) end
-crew_end said (Fault fault) (code, place, is, same) = (code, place, ap (λ s. crews_said (Some s)) is, same)
-crew_end said NoMemory free = tt
+crew_end said (end.Fault fault) (code, place, is, same) = (code, place, ap (λ s. crews_said (Some s)) is, same)
+crew_end said end.NoMemory free = tt
 
 pub tree_end : {A : Type 0} (bytes : List ℕ) (said : Result A CrewFault) (end : DeckEnd) → IsTreeEnd bytes end
     → IsPartsEnd bytes said end
-tree_end bytes said (Fault fault) refused = inl refused
-tree_end bytes said NoMemory free = tt
+tree_end bytes said (end.Fault fault) refused = inl refused
+tree_end bytes said end.NoMemory free = tt
 
 pub crews_end : {A : Type 0} (bytes : List ℕ) (tree : FaultTree) (said : Result A CrewFault) (end : DeckEnd)
     → StandsFor bytes tree → IsCrewEnd said end → IsPartsEnd bytes said end
-crews_end bytes tree said (Fault fault) stands refused = inr (tree, stands, refused)
-crews_end bytes tree said NoMemory stands free = tt
+crews_end bytes tree said (end.Fault fault) stands refused = inr (tree, stands, refused)
+crews_end bytes tree said end.NoMemory stands free = tt
 
 -- ---- the deck
 
@@ -70,11 +74,11 @@ module _ (part : CrewPart) (bytes : List ℕ) where
     deck_of_parts (Err end) stands said = tt
 
     end_is : (end : DeckEnd) → IsPartsEnd bytes (crews_said (crews_behind bytes at)) end → IsDeckEnd part bytes end
-    end_is (Fault fault) holds = elim holds [
+    end_is (end.Fault fault) holds = elim holds [
       | inl refused ↦ bad_tree read.0 refused
       | inr (tree, stands, refused) ↦ bad_crews tree refused.0 refused.1 stands (read.1 ∙ refused.2) refused.3
     ]
-    end_is NoMemory free = tt
+    end_is end.NoMemory free = tt
 
     pub end_of_parts : (result : Result DeckParts DeckEnd)
         → IfErr result (IsPartsEnd bytes (crews_said (crews_behind bytes at))) → IfErr result (IsDeckEnd part bytes)
@@ -93,11 +97,20 @@ crews_are_there bytes tree crews deck =
     said_some (Some (Err fault)) crews some is = absurd cc
     said_some (Some (Ok read)) crews some is = let same : Some read ≡ crews = cc in subst IsSome same refl
 
--- the end of a deck that the source held, as that of a run
-pub refused_reading : (part : CrewPart) (held left : Option (List ℕ)) (rose : Type 0) (bytes given : List ℕ)
-    (end : DeckEnd) → given ≡ bytes → Consumes held left bytes → IsAtEnd left
-    → length bytes ≤ INPUT_LIMIT → IsDeckEnd part given end
-    → IfRefused (IsReadRefusal part held left rose) (run_end end)
-refused_reading part held left rose bytes given (Fault fault) is consumes at_end within holds =
-    whole held left bytes given (λ b. IsDeckFault part b fault) is consumes at_end within holds
-refused_reading part held left rose bytes given NoMemory is consumes at_end within free = tt
+-- a deck whose crew part was passed over has no crews
+pub without_crews : (bytes : List ℕ) (tree : FaultTree) (crews : Option (List Crew))
+    → IsWellFormed Unread bytes tree crews → IsWellFormed Unread bytes tree None
+without_crews bytes tree crews deck = record { has_crews = deck.has_crews; stands = deck.stands; said = refl }
+
+-- why a deck that the source held is refused, as a run is
+pub refused_reading : (part : CrewPart) (held left : Option (List ℕ)) (rose : Type 0) (bytes : List ℕ) (end : RunEnd)
+    → Consumes held left bytes → IsAtEnd left → length bytes ≤ INPUT_LIMIT → IfRefused (IsFaultOfDeck part bytes) end
+    → IfRefused (IsReadRefusal part held left rose) end
+refused_reading part held left rose bytes (Refused (refusal.Fault fault)) consumes at_end within holds =
+    of_whole held left bytes (λ b. IsDeckFault part b fault) consumes at_end within holds
+refused_reading part held left rose bytes (Refused refusal.ReadFault) consumes at_end within never = absurd never
+refused_reading part held left rose bytes (Refused refusal.TooLong) consumes at_end within never = absurd never
+refused_reading part held left rose bytes (Refused refusal.ListLimit) consumes at_end within never = absurd never
+refused_reading part held left rose bytes (Refused refusal.OrderLimit) consumes at_end within never = absurd never
+refused_reading part held left rose bytes (Refused refusal.Usage) consumes at_end within never = absurd never
+refused_reading part held left rose bytes NoMemory consumes at_end within free = tt

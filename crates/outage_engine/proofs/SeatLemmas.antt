@@ -1,11 +1,8 @@
 -- What a run does to its seat, from what finding the cut sets of the deck's tree did.
-use Rattle.std.specs.Prelude.{◌≡◌, ℕ, List, Option}
+use Rattle.std.specs.Prelude.{◌≡◌, ℕ, List, Option, Some, None}
 use Rattle.std.proofs.Common.{sym, subst, inl, inr}
 use Rattle.fault_definitions.specs.Tree.{FaultTree}
-use Rattle.tree_families.specs.Due.{IsDueToTree}
 use Rattle.zdd_shared_table.specs.Seats.{Seated}
-use Rattle.zdd_product.specs.Seats.{WentAll}
-use Rattle.board_words.specs.Command.{command_of}
 use Rattle.crew_script.specs.declared.dockets.Crew.{Crew}
 use Rattle.outage_engine.specs.declared.deck.CrewPart.{CrewPart}
 use Rattle.outage_engine.specs.declared.refusal.Refusal.{Refusal}
@@ -17,10 +14,10 @@ use Rattle.outage_engine.specs.declared.status.Status.TheVariants.{Done}
 use Rattle.outage_engine.specs.Answers.{refusal_status}
 use Rattle.deck_reading.specs.Deck.{StandsFor}
 use Rattle.outage_engine.specs.Deck.{IsWellFormed}
-use Rattle.outage_engine.specs.Gives.{OfDeckOr, own_deck}
+use Rattle.outage_engine.specs.Gives.{OfDeckOr}
 use Rattle.outage_engine.specs.Runs.{Tells}
-use Rattle.outage_engine.specs.Store.{IsFoundBy, KnowsDiagram}
-use Rattle.outage_engine.specs.StoreAfter.{BearsOut, FindsFull, GoesFor, GoesForDeck, OfTreeOr}
+use Rattle.outage_engine.specs.Store.{IsFoundBy, IsLeftFor, KnowsDiagram}
+use Rattle.outage_engine.specs.StoreAfter.{BearsOut, FindsFull, IsLeftBy, OfTreeOr}
 use Rattle.outage_engine.proofs.Clauses.{of_deck}
 
 module _ (own held left : Option (List ℕ)) (before after : Seated) where
@@ -33,8 +30,8 @@ module _ (own held left : Option (List ℕ)) (before after : Seated) where
         of_deck own held left (λ bytes. IsWellFormed part bytes tree crews) (λ bytes. StandsFor bytes tree)
         (λ bytes deck. deck.stands) read
 
-    pub goes_for : WentAll (IsDueToTree tree) before after → GoesFor own held left before after
-    goes_for went = inr (tree, tree_of_deck, went)
+    pub left_by : IsLeftFor tree before after → IsLeftBy own held left before after
+    left_by left_for = (inr (tree, tree_of_deck, left_for.went), left_for.share)
 
     pub bears_out : (method : Method) → IsFoundBy before after tree method
         → BearsOut own held left before after (Done method)
@@ -70,12 +67,10 @@ module _ (own held left : Option (List ℕ)) (before after : Seated) where
   pub finds_full : (result : Status) → BearsOut own held left before after result → FindsFull before after result
   finds_full result bears is = subst (BearsOut own held left before after) is bears
 
--- of words whose run is about such a deck
-module _ (held left : Option (List ℕ)) (before after : Seated) (words : List (List ℕ)) (own : Option (List ℕ))
-    (is : own_deck (command_of words) ≡ own) where
-  pub goes_by_words : GoesFor own held left before after → GoesForDeck words held left before after
-  goes_by_words went = subst (λ o. GoesFor o held left before after) (sym is) went
-
-  pub bears_by_words : (status : Status) → BearsOut own held left before after status
-      → BearsOut (own_deck (command_of words)) held left before after status
-  bears_by_words status bears = subst (λ o. BearsOut o held left before after status) (sym is) bears
+-- of a deck that is made no input bears on the method
+pub bears_made : (deck : List ℕ) (held left : Option (List ℕ)) (before after : Seated) (method : Method)
+    → BearsOut (Some deck) None None before after (Done method)
+    → BearsOut (Some deck) held left before after (Done method)
+bears_made deck held left before after Diagram known = known
+bears_made deck held left before after Lists full = full
+bears_made deck held left before after Plain none = none

@@ -61,7 +61,7 @@ opened_of_input held left margin most tree crews opened read (is, deck) =
       finds = finds_ready Needed most bytes tree crews well opened.listing is;
       orders = orders_of_listing most tree opened.listing is;
       deck = deck;
-      list = subst (λ t. IsCutList t opened.listing.cuts) (sym is.of_tree) is.all;
+      list = subst (λ t. IsCutList t opened.listing.cuts) (sym is.of_tree) is.list.all;
       kept = subst IsTree (sym is.of_tree) well.stands.kept;
     }) read
 

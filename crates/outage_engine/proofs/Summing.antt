@@ -23,21 +23,15 @@ use Rattle.deck_reading.specs.Deck.{crew_part}
 use Rattle.tree_maker.specs.MadeDeck.{made_deck}
 use Rattle.tree_maker.specs.WellMade.{IsWellMade, made_crew}
 use Rattle.outage_engine.specs.declared.deck.CrewPart.TheVariants.{Needed}
-use Rattle.outage_engine.specs.declared.deck.DeckEnd.{DeckEnd}
-use Rattle.outage_engine.specs.declared.deck.DeckEnd.TheVariants as end
 use Rattle.outage_engine.specs.declared.listing.Listing.{Listing}
-use Rattle.outage_engine.specs.declared.refusal.RunEnd.{RunEnd}
-use Rattle.outage_engine.specs.declared.refusal.RunEnd.TheVariants.{Refused, NoMemory}
-use Rattle.outage_engine.specs.declared.refusal.Refusal.TheVariants as why
 use Rattle.outage_engine.specs.declared.summary.Summary.{Summary}
-use Rattle.outage_engine.specs.Answers.{IfRefused, IsDeckEnd, IsDeckRefusal, IsLimitOf, IsListingOf, IsOfUnits}
-use Rattle.outage_engine.specs.Answers.{found_in, run_end, summed_text}
-use Rattle.outage_engine.specs.Deck.{IsDeckFault, IsWellFormed, crews_read, crews_said}
+use Rattle.outage_engine.specs.Answers.{IsListingOf, found_in, summed_text}
+use Rattle.outage_engine.specs.Deck.{IsWellFormed, crews_read, crews_said}
 use Rattle.outage_engine.specs.Finding.{Faulty, Finds, Found, Ready, TooHeavy, TooManyOrders, bad_deck, well_formed}
 use Rattle.outage_engine.specs.Summaries.{IsServedFor, IsSummaryOf}
 use Rattle.outage_engine.specs.Texts.{IsSummaryText, board_deck, for_summary, summary_said, summed_margin, summed_most}
 use Rattle.outage_engine.proofs.OneFinding.{no_deck_and_fault}
-use Rattle.outage_engine.proofs.Answering.{finds_heavy, finds_many, finds_ready, orders_of_listing}
+use Rattle.outage_engine.proofs.Answering.{finds_ready, orders_of_listing}
 
 -- ---- the deck
 
@@ -50,27 +44,6 @@ pub crews_are : (bytes : List ℕ) (tree : FaultTree) (crews : Option (List Crew
     → crew_part bytes ≡ Some (Ok said) → IsWellFormed Needed bytes tree crews → crews ≡ Some said
 crews_are bytes tree crews said part deck =
     same_ok (crews_read Needed bytes) crews (Some said) deck.said (ap crews_said part)
-
--- why a deck is not read is why its summary is refused
-pub refused_deck : (bytes given : List ℕ) (end : DeckEnd) → given ≡ bytes → IsDeckEnd Needed given end
-    → IfRefused (IsDeckRefusal for_summary bytes) (run_end end)
-refused_deck bytes given (end.Fault fault) same is = bad_deck fault (subst (λ b. IsDeckFault Needed b fault) same is)
-    refl
-refused_deck bytes given end.NoMemory same free = tt
-
--- a limit of its tree is one of its summary
-pub limit_of_deck : (bytes : List ℕ) (tree : FaultTree) (crews : Option (List Crew)) (end : RunEnd)
-    → IsWellFormed Needed bytes tree crews → IfRefused (IsLimitOf summed_most tree) end
-    → IfRefused (IsDeckRefusal for_summary bytes) end
-limit_of_deck bytes tree crews (Refused why.ListLimit) deck heavy =
-    finds_heavy Needed summed_most bytes tree crews deck heavy
-limit_of_deck bytes tree crews (Refused why.OrderLimit) deck many =
-    finds_many Needed summed_most bytes tree crews deck many
-limit_of_deck bytes tree crews (Refused (why.Fault fault)) deck never = absurd never
-limit_of_deck bytes tree crews (Refused why.ReadFault) deck never = absurd never
-limit_of_deck bytes tree crews (Refused why.TooLong) deck never = absurd never
-limit_of_deck bytes tree crews (Refused why.Usage) deck never = absurd never
-limit_of_deck bytes tree crews NoMemory deck free = tt
 
 -- a judgement is no fault
 not_faulty : (heavy many : Bool) (found : Found) (fault : DeckFault)
@@ -147,16 +120,16 @@ same_deck board (Some entry) after same = ap (λ (b : BoardView). b.deck) same
 -- ---- the summary
 
 module _ (number : ℕ) (tree : FaultTree) (crews : List Crew) (summary : Summary) where
-  pub summary_of : (listing : Listing) → IsListingOf summed_most tree listing → IsOfUnits listing
+  pub summary_of : (listing : Listing) → IsListingOf summed_most tree listing
       → IsServedFor number listing crews summary → IsSummaryOf number tree crews summary
-  summary_of listing listed units served =
+  summary_of listing listed served =
       let same = served.of_listing in
       let cuts : summary.board.deck.opening.cuts ≡ listing.cuts =
       ap (λ (d : Deck). d.opening.cuts) served.deck in
       record {
         listed = subst (IsListingOf summed_most tree) (sym same) listed;
         orders = subst (λ (l : Listing). AreOrdersOf l.tree summary.board.deck.opening.cuts l.orders) (sym same)
-            (subst (λ c. AreOrdersOf listing.tree c listing.orders) (sym cuts) units.1);
+            (subst (λ c. AreOrdersOf listing.tree c listing.orders) (sym cuts) listed.units.1);
         served = record {
           of_number = served.of_number;
           of_listing = refl;

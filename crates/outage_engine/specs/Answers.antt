@@ -1,5 +1,5 @@
 -- An answer before it is written, or why there is none, and what it has to do with the deck.
-use Rattle.std.specs.Prelude.{◌≡◌, ◌⊎◌, ℕ, ◌<◌, ◌≤◌, List, All, Option, Result, Err, length}
+use Rattle.std.specs.Prelude.{◌≡◌, ◌⊎◌, ℕ, ◌<◌, ◌≤◌, List, All, Option, Some, None, Result, Err, IfOk, IfErr, length}
 use Rattle.unit_sets.specs.CutOrder.{weight, weight_limit}
 use Rattle.unit_sets.specs.declared.refusal.ListEnd.{ListEnd}
 use Rattle.unit_sets.specs.declared.refusal.ListEnd.TheVariants as list
@@ -18,6 +18,8 @@ use Rattle.galileo_tree.specs.Lexeme.{place_at}
 use Rattle.galileo_tree.specs.ReadTree.{ReadTree}
 use Rattle.statement_faults.specs.Checked.{IsFirstFault}
 use Rattle.statement_faults.specs.declared.fault.CheckCode.{CheckCode}
+use Rattle.board_words.specs.Command.{command_of}
+use Rattle.board_words.specs.declared.command.Command.{Command}
 use Rattle.board_report.specs.CheckText.{check_text}
 use Rattle.cut_texts.specs.CutsText.{cuts_text, listed_with}
 use Rattle.cut_texts.specs.DiagramText.{member_count, sizes_text}
@@ -30,9 +32,10 @@ use Rattle.board_report.specs.declared.fault.FaultCode.TheVariants as report
 use Rattle.board_report.specs.declared.notice.Notice.TheVariants as notice
 use Rattle.outage_engine.specs.declared.status.Status.{Status}
 use Rattle.outage_engine.specs.declared.status.Status.TheVariants as status
+use Rattle.outage_engine.specs.declared.status.Method.{Method}
 use Rattle.outage_engine.specs.declared.status.Method.TheVariants.{Plain}
 use Rattle.outage_engine.specs.declared.listing.Listing.{Listing}
-use Rattle.outage_engine.specs.declared.sizes.Sizes.{Sizes}
+use Rattle.outage_engine.specs.declared.sizes.Counts.{Counts}
 use Rattle.outage_engine.specs.declared.summary.Summary.{Summary}
 use Rattle.outage_engine.specs.declared.answer.Answer.{Answer}
 use Rattle.outage_engine.specs.declared.answer.Answer.TheVariants.{Cuts, Diagram, Checked, Printed, Made, Summed}
@@ -48,8 +51,10 @@ use Rattle.outage_engine.specs.declared.deck.DeckEnd.TheVariants as end
 use Rattle.deck_reading.specs.Deck.{StandsFor}
 use Rattle.outage_engine.specs.Deck.{IsDeckFault, IsTreeFault}
 use Rattle.outage_engine.specs.Finding.{Finds, Found, Faulty, TooHeavy, TooManyOrders, Wants}
-use Rattle.outage_engine.specs.Gives.{Gives, IsBeyond, OfInput}
+use Rattle.outage_engine.specs.Gives.{Gives, IsBeyond, IsMethodOf, IsTextOf, OfDeckOr, OfInput, own_deck, wants_of}
 use Rattle.outage_engine.specs.Store.{AreNodesOf, method_by}
+use Rattle.outage_engine.specs.StoreAfter.{BearsOut, IsLeftBy}
+use Rattle.zdd_shared_table.specs.Seats.{Seated}
 
 -- ---- an answer and its text
 
@@ -74,7 +79,7 @@ refusal_line OrderLimit = notice_line notice.OrderLimit
 -- the status of an answer once it is written: a refusal's own, else done, with how cut sets were found, if they were
 abbrev pub status_of : Answer → Status
 status_of (Cuts listing) = status.Done (method_by listing.root)
-status_of (Diagram sizes) = status.Done (method_by sizes.nodes)
+status_of (Diagram sizes) = status.Done (method_by sizes.counts.nodes)
 status_of (Checked deck) = status.Done Plain
 status_of (Printed tree) = status.Done Plain
 status_of (Made deck) = status.Done Plain
@@ -93,7 +98,7 @@ summed_text summary = summary_text summary.number summary.listing.tree summary.l
 -- what is written for an answer: the text of its command, or the refusal's line
 abbrev pub text_of : Answer → List ℕ
 text_of (Cuts listing) = listing_text listing
-text_of (Diagram sizes) = sizes_text sizes.tree sizes.cuts sizes.members sizes.nodes
+text_of (Diagram sizes) = sizes_text sizes.tree sizes.counts.cuts sizes.counts.members sizes.counts.nodes
 text_of (Checked deck) = check_text deck.tree deck.crews
 text_of (Printed tree) = print_text tree
 text_of (Made deck) = deck
@@ -124,24 +129,20 @@ abbrev pub IfRefused : (Refusal → Type 0) → RunEnd → Type 0
 IfRefused P (run.Refused refusal) = P refusal
 IfRefused P run.NoMemory = Unit {0}
 
--- why a command that wants this is refused, for the input that the source held, of which it held a rest afterwards;
--- its faults rose in this sense
-abbrev pub IsRefusalFor : Wants → Option (List ℕ) → Option (List ℕ) → Type 0 → Refusal → Type 0
-IsRefusalFor wants held left rose ReadFault = rose
-IsRefusalFor wants held left rose TooLong = IsBeyond held left
-IsRefusalFor wants held left rose (Fault fault) = OfInput held left (λ bytes. Finds wants bytes (Faulty fault))
-IsRefusalFor wants held left rose ListLimit = OfInput held left (λ bytes. Finds wants bytes TooHeavy)
-IsRefusalFor wants held left rose OrderLimit = OfInput held left (λ bytes. Finds wants bytes TooManyOrders)
-IsRefusalFor wants held left rose Usage = ⊥
+-- Why a command that wants this is refused, for its own deck where it makes one, and else for the input that the source
+-- held, of which it held a rest afterwards. The source's faults rose in this sense.
+abbrev pub IsRefusalFor : Option (List ℕ) → Wants → Option (List ℕ) → Option (List ℕ) → Type 0 → Refusal → Type 0
+IsRefusalFor own wants held left rose ReadFault = (own ≡ None) × rose
+IsRefusalFor own wants held left rose TooLong = (own ≡ None) × IsBeyond held left
+IsRefusalFor own wants held left rose (Fault fault) = OfDeckOr own held left (λ bytes. Finds wants bytes (Faulty fault))
+IsRefusalFor own wants held left rose ListLimit = OfDeckOr own held left (λ bytes. Finds wants bytes TooHeavy)
+IsRefusalFor own wants held left rose OrderLimit = OfDeckOr own held left (λ bytes. Finds wants bytes TooManyOrders)
+IsRefusalFor own wants held left rose Usage = ⊥
 
--- why a command that wants this of a deck of these bytes is refused
-abbrev pub IsDeckRefusal : Wants → List ℕ → Refusal → Type 0
-IsDeckRefusal wants bytes (Fault fault) = Finds wants bytes (Faulty fault)
-IsDeckRefusal wants bytes ListLimit = Finds wants bytes TooHeavy
-IsDeckRefusal wants bytes OrderLimit = Finds wants bytes TooManyOrders
-IsDeckRefusal wants bytes ReadFault = ⊥
-IsDeckRefusal wants bytes TooLong = ⊥
-IsDeckRefusal wants bytes Usage = ⊥
+-- the deck has this fault, as the crew part is taken
+abbrev pub IsFaultOfDeck : CrewPart → List ℕ → Refusal → Type 0
+IsFaultOfDeck part bytes (Fault fault) = IsDeckFault part bytes fault
+IsFaultOfDeck part bytes _ = ⊥
 
 -- why no deck is read
 abbrev pub IsReadRefusal : CrewPart → Option (List ℕ) → Option (List ℕ) → Type 0 → Refusal → Type 0
@@ -156,15 +157,64 @@ IsReadRefusal part held left rose Usage = ⊥
 abbrev pub IsRefusalBy : List (List ℕ) → Option (List ℕ) → Option (List ℕ) → Type 0 → Refusal → Type 0
 IsRefusalBy words held left rose refusal = Gives words held left rose (refusal_status refusal) (refusal_line refusal)
 
+-- ---- what came of a command
+
+-- the answer to a command, by one of its methods, which the seat bears out
+pub record IsAnswerTo (command : Command) (held left : Option (List ℕ)) (before after : Seated)
+    (answer : Answer) : Type 0 where
+  pub method : Method
+  pub is_done : status_of answer ≡ status.Done method
+  pub of_command : IsMethodOf command method
+  pub text : IsTextOf command method held left (text_of answer)
+  pub writable : IsWritable answer
+  pub bears : BearsOut (own_deck (Some command)) held left before after (status.Done method)
+
+-- why a command is refused
+abbrev pub IsRefusalOf : Command → Option (List ℕ) → Option (List ℕ) → Type 0 → Refusal → Type 0
+IsRefusalOf command held left rose refusal =
+    (wants : Wants) × (wants_of (Some command) ≡ Some wants)
+    × IsRefusalFor (own_deck (Some command)) wants held left rose refusal
+
+-- what came of a command: its answer, or why it is refused, and the seat as it is left
+pub record HasCome (command : Command) (held left : Option (List ℕ)) (rose : Type 0) (before after : Seated)
+    (result : Result Answer RunEnd) : Type 0 where
+  pub answer : IfOk result (IsAnswerTo command held left before after)
+  pub refusal : IfErr result (IfRefused (IsRefusalOf command held left rose))
+  pub seat : IsLeftBy (own_deck (Some command)) held left before after
+
+-- the command reads its input: it wants a deck, and makes none itself
+abbrev pub IsReading : Command → Type 0
+IsReading command = (wants : Wants) × (wants_of (Some command) ≡ Some wants) × (own_deck (Some command) ≡ None)
+
+-- the answer to words, with a text that they give and a status that the seat bears out
+pub record IsAnswerBy (words : List (List ℕ)) (held left : Option (List ℕ)) (rose : Type 0) (before after : Seated)
+    (answer : Answer) : Type 0 where
+  pub gives : Gives words held left rose (status_of answer) (text_of answer)
+  pub writable : IsWritable answer
+  pub bears : BearsOut (own_deck (command_of words)) held left before after (status_of answer)
+
+-- what came of words: their answer, or why they are refused, and the seat as it is left
+pub record HasComeOf (words : List (List ℕ)) (held left : Option (List ℕ)) (rose : Type 0) (before after : Seated)
+    (result : Result Answer RunEnd) : Type 0 where
+  pub answer : IfOk result (IsAnswerBy words held left rose before after)
+  pub refusal : IfErr result (IfRefused (IsRefusalBy words held left rose))
+  pub seat : IsLeftBy (own_deck (command_of words)) held left before after
+
 -- ---- what the cut sets of a tree give
 
--- the cut list of a tree and the failing orders of the sets of at most so many members, both within their limits
+-- the cut list of a tree, within the limit of its weight
+pub record IsListWithin (tree : FaultTree) (cuts : List (List ℕ)) : Type 0 where
+  pub all : IsCutList tree cuts
+  pub light : weight cuts ≤ weight_limit
+
+-- the cut list of a tree and the failing orders of the sets of at most so many members, both within their limits, and
+-- the texts of its units
 pub record IsListingOf (most : ℕ) (tree : FaultTree) (listing : Listing) : Type 0 where
   pub of_tree : listing.tree ≡ tree
-  pub all : IsCutList tree listing.cuts
-  pub light : weight listing.cuts ≤ weight_limit
+  pub list : IsListWithin tree listing.cuts
   pub orders : listing.orders ≡ order_lists tree listing.cuts most
   pub few : order_total listing.orders ≤ order_limit
+  pub units : IsOfUnits listing
 
 -- a limit is passed
 abbrev pub IsLimitOf : ℕ → FaultTree → Refusal → Type 0
@@ -174,19 +224,14 @@ IsLimitOf most tree OrderLimit =
     × (order_limit < order_total (order_lists tree cuts most))
 IsLimitOf most tree _ = ⊥
 
--- a tree has so many cut sets, with so many members in all, and their list is within its limit
-pub record AreCountsOf (tree : FaultTree) (cuts members : ℕ) : Type 0 where
+-- so many cut sets has a tree, with so many members in all, and their list is within its limit; so many nodes has their
+-- family, where that is known
+pub record AreCountsOf (tree : FaultTree) (counts : Counts) : Type 0 where
   pub list : List (List ℕ)
-  pub all : IsCutList tree list
-  pub light : weight list ≤ weight_limit
-  pub counted : cuts ≡ length list
-  pub summed : members ≡ member_count list
-
--- how large the cut list of a tree is, and the number of nodes of its family, where that is known
-pub record AreSizesOf (tree : FaultTree) (sizes : Sizes) : Type 0 where
-  pub of_tree : sizes.tree ≡ tree
-  pub counts : AreCountsOf tree sizes.cuts sizes.members
-  pub nodes : AreNodesOf tree sizes.nodes
+  pub within : IsListWithin tree list
+  pub counted : counts.cuts ≡ length list
+  pub summed : counts.members ≡ member_count list
+  pub nodes : AreNodesOf tree counts.nodes
 
 -- the limit of weight is passed
 abbrev pub IsWeightLimitOf : FaultTree → Refusal → Type 0
@@ -238,8 +283,3 @@ IsPartsEnd bytes said end.NoMemory = Unit {0}
 abbrev pub IsDeckEnd : CrewPart → List ℕ → DeckEnd → Type 0
 IsDeckEnd part bytes (end.Fault fault) = IsDeckFault part bytes fault
 IsDeckEnd part bytes end.NoMemory = Unit {0}
-
--- how a run ends whose deck is not read
-abbrev pub run_end : DeckEnd → RunEnd
-run_end (end.Fault fault) = run.Refused (Fault fault)
-run_end end.NoMemory = run.NoMemory

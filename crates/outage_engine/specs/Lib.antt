@@ -6,6 +6,8 @@ pub mod Deck
 pub mod Relations
 -- how the cut sets of a tree were found, and what a seat knows then
 pub mod Store
+-- what may be asked of a run, and the seat that it needs
+pub mod Means
 -- what is found in a deck for a command
 pub mod Finding
 -- the texts of commands

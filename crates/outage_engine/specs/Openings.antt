@@ -1,16 +1,16 @@
 -- A board that is opened for a deck, and what came of it.
-use Rattle.std.specs.Prelude.{◌≡◌, ℕ, List, ◌++◌, Option, Some}
+use Rattle.std.specs.Prelude.{◌≡◌, ℕ, List, ◌++◌, Option}
 use Rattle.fault_definitions.specs.Tree.{FaultTree}
 use Rattle.fault_definitions.specs.Cut.{IsCutList}
 use Rattle.fault_definitions.specs.WellFormed.{IsTree}
 use Rattle.cut_sequences.specs.Orders.{order_lists}
 use Rattle.crew_script.specs.declared.dockets.Crew.{Crew}
 use Rattle.board_words.specs.Command.{command_of}
-use Rattle.board_words.specs.declared.command.Command.TheVariants.{Board}
 use Rattle.outage_board.specs.Boards.{BoardView, IsBoard}
 use Rattle.outage_board.specs.Histories.{IsWhole}
 use Rattle.outage_board.specs.Passes.{AreOf, HaveAll}
 use Rattle.outage_board.specs.declared.board.BoardStart.{BoardStart}
+use Rattle.zdd_shared_table.specs.Seats.{Seated}
 use Rattle.board_texts.specs.BoardText.{IsDeckOf, board_text}
 use Rattle.outage_engine.specs.declared.status.Status.{Status}
 use Rattle.outage_engine.specs.declared.status.Status.TheVariants as status
@@ -18,9 +18,10 @@ use Rattle.outage_engine.specs.declared.listing.Listing.{Listing}
 use Rattle.outage_engine.specs.declared.opening.Opened.{Opened}
 use Rattle.outage_engine.specs.Answers.{IsListingOf, IsOfUnits, found_in, listing_text}
 use Rattle.outage_engine.specs.Finding.{Finds, Ready}
-use Rattle.outage_engine.specs.Gives.{OfInput}
-use Rattle.outage_engine.specs.Runs.{Tells}
+use Rattle.outage_engine.specs.Gives.{own_deck}
+use Rattle.outage_engine.specs.Runs.{Runs, Tells}
 use Rattle.outage_engine.specs.Store.{method_by}
+use Rattle.outage_engine.specs.StoreAfter.{BearsOut, IsLeftBy}
 use Rattle.outage_engine.specs.Texts.{board_deck, for_board}
 
 -- ---- an open board
@@ -54,12 +55,6 @@ abbrev pub IsOpenedFor : ℕ → ℕ → FaultTree → Option (List Crew) → Op
 IsOpenedFor margin most tree crews opened =
     IsListingOf most tree opened.listing × (opened.start.board.deck ≡ board_deck margin (found_in opened.listing crews))
 
--- of words that are a command `board`
-abbrev pub IsOpenedBy : List (List ℕ) → Option (List ℕ) → Option (List ℕ) → Opened → Type 0
-IsOpenedBy words held left opened =
-    (margin : ℕ) × (most : ℕ) × (workers : ℕ) × (command_of words ≡ Some (Board margin most workers))
-    × OfInput held left (λ bytes. IsOpened margin most bytes opened)
-
 -- ---- what came of a board
 
 -- all crews were served: the deck is the one that was opened, the history is whole, and the board keeps what every
@@ -74,3 +69,14 @@ abbrev pub TellsBoard : {K : Type 0} → Listing → BoardStart → (K → Optio
 TellsBoard listing start taken faults old new result =
     (state : BoardView) × IsServed start state × Tells taken faults old new (status.Done (method_by listing.root))
     (listing_text listing ++ board_text listing.tree state) result
+
+-- ---- what came of a run
+
+-- what a run did: what it told for its words and its input, with a status that the seat bears out, and how it left the
+-- seat
+pub record HasRun {K : Type 0} (words : List (List ℕ)) (held left : Option (List ℕ)) (rose : Type 0)
+    (taken : K → Option (List ℕ)) (faults : K → ℕ) (old new : K) (before after : Seated)
+    (result : Status) : Type 0 where
+  pub runs : Runs words held left rose taken faults old new result
+  pub bears : BearsOut (own_deck (command_of words)) held left before after result
+  pub seat : IsLeftBy (own_deck (command_of words)) held left before after

@@ -60,6 +60,10 @@ IsBoard words = (margin : ℕ) × (most : ℕ) × (workers : ℕ) × (command_of
 abbrev pub IsNoBoard : List (List ℕ) → Type 0
 IsNoBoard words = (margin most workers : ℕ) → ¬ (command_of words ≡ Some (Board margin most workers))
 
+-- a command other than `board`
+abbrev pub IsOther : Command → Type 0
+IsOther command = (margin most workers : ℕ) → ¬ (command ≡ Board margin most workers)
+
 -- ---- the clauses: what was written where the run ends well
 
 -- a text of which this holds was added to what the sink took

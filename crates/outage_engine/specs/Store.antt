@@ -1,10 +1,11 @@
 -- What finding the cut sets of a tree does to the seat of a store.
-use Rattle.std.specs.Prelude.{ℕ, ◌<◌, List, Option, Some, None}
+use Rattle.std.specs.Prelude.{◌≡◌, ℕ, ◌<◌, List, Option, Some, None}
 use Rattle.fault_definitions.specs.CutFamily.{IsCutFamily}
 use Rattle.fault_definitions.specs.Tree.{FaultTree}
 use Rattle.family_operations.specs.Nodes.{IsNodeCount}
 use Rattle.zdd_shared_table.specs.Seats.{Seated, map_of}
-use Rattle.zdd_product.specs.Seats.{KnowsOne}
+use Rattle.tree_families.specs.Due.{IsDueToTree}
+use Rattle.zdd_product.specs.Seats.{KnowsOne, WentAll}
 use Rattle.zdd_build.specs.Building.{KnowsCutFamilies}
 use Rattle.outage_engine.specs.declared.status.Method.{Method}
 use Rattle.outage_engine.specs.declared.status.Method.TheVariants.{Plain, Lists, Diagram}
@@ -38,3 +39,9 @@ IsFoundBy before after tree Plain = Unit {0}
 abbrev pub AreNodesOf : FaultTree → Option ℕ → Type 0
 AreNodesOf tree (Some nodes) = (family : List (List ℕ)) × IsCutFamily tree tree.top family × IsNodeCount family nodes
 AreNodesOf tree None = Unit {0}
+
+-- what the search for the cut sets of a tree leaves of a seat: it keeps what it knew and its share, and all that it has
+-- filled and missed is due to the tree
+pub record IsLeftFor (tree : FaultTree) (before after : Seated) : Type 0 where
+  pub went : WentAll (IsDueToTree tree) before after
+  pub share : after.share ≡ before.share

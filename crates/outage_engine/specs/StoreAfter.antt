@@ -26,6 +26,10 @@ GoesFor own held left before after =
 abbrev pub GoesForDeck : List (List ℕ) → Option (List ℕ) → Option (List ℕ) → Seated → Seated → Type 0
 GoesForDeck words held left before after = GoesFor (own_deck (command_of words)) held left before after
 
+-- what a run that is about such a deck leaves of a seat, which keeps its share
+abbrev pub IsLeftBy : Option (List ℕ) → Option (List ℕ) → Option (List ℕ) → Seated → Seated → Type 0
+IsLeftBy own held left before after = GoesFor own held left before after × (after.share ≡ before.share)
+
 -- a run that ends by the diagram leaves a seat that knows the diagram of the tree of the deck that it is about
 abbrev pub LeavesDiagram : List (List ℕ) → Option (List ℕ) → Option (List ℕ) → Seated → Status → Type 0
 LeavesDiagram words held left after result =

@@ -11,6 +11,7 @@ mod found;
 mod input;
 pub mod laws;
 mod listing;
+mod means;
 mod opening;
 mod refusal;
 mod running;

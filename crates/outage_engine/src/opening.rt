@@ -1,32 +1,30 @@
 //! A board for the deck that the source holds, before anything is written and any crew is served.
 ghost use Rattle.std.specs.Prelude.{◌≡◌, ◌≤◌, IsSome, Some, None, IfOk, IfErr};
 ghost use Rattle.event_counts.specs.Count.{Rose};
-ghost use Rattle.board_words.specs.Command.{command_of};
-ghost use Rattle.outage_engine.specs.Answers.{IfRefused, IsLimitOf, IsOfUnits, IsRefusalBy, IsRefusalFor};
-ghost use Rattle.outage_engine.specs.Gives.{OfInput, own_deck};
-ghost use Rattle.outage_engine.specs.Openings.{IsOpened, IsOpenedBy, IsOpenedFor, IsOpenedWith, IsReady};
+ghost use Rattle.outage_engine.specs.Answers.{IfRefused, IsLimitOf, IsOfUnits, IsRefusalFor};
+ghost use Rattle.outage_engine.specs.Gives.{OfInput};
+ghost use Rattle.outage_engine.specs.Means.{IsBoardAskable, IsSeatFor, SaysBoard};
+ghost use Rattle.outage_engine.specs.Openings.{IsOpened, IsOpenedFor, IsOpenedWith, IsReady};
 ghost use Rattle.outage_engine.specs.Runs.{IsBoard};
-ghost use Rattle.outage_engine.specs.Store.{IsFoundBy, method_by};
-ghost use Rattle.outage_engine.specs.StoreAfter.{BearsOut, GoesFor, GoesForDeck};
+ghost use Rattle.outage_engine.specs.Store.{IsFoundBy, IsLeftFor, method_by};
+ghost use Rattle.outage_engine.specs.StoreAfter.{BearsOut, IsLeftBy};
 ghost use Rattle.outage_engine.specs.Texts.{for_board};
 ghost use Rattle.outage_engine.specs.declared.status.Status.TheVariants.{Done};
-ghost use Rattle.tree_families.specs.Due.{IsDueToTree};
-ghost use Rattle.zdd_product.specs.Seats.{WentAll};
 
 use crate::deck::CrewPart;
 use crate::input::read_input;
 use crate::listing::{Listing, list_tree};
+use crate::means::{Asked, BoardAsked, Means};
 use crate::refusal::RunEnd;
 use board_words::{Command, Word, numbers_are_within_bounds, read};
 use crew_script::Dockets;
-use deck_limits::{GREATEST_MARGIN, MOST_ORDERED, MOST_WORKERS};
+use deck_limits::GREATEST_MARGIN;
 use edge_io::{NoMemory, Source};
 use fault_model::Tree;
 use outage_board::{Board, BoardStart};
 use std::alloc::Global;
 use std::thread::Threads;
-use zdd_build::TEAM_SHARE;
-use zdd_shared_table::{NodeStore, StoreSeat};
+use zdd_shared_table::StoreSeat;
 
 /// A board that is open, with what is printed before its log.
 #[derive(Drop)]
@@ -35,26 +33,11 @@ pub(crate) struct Opened {
     pub start: BoardStart,
 }
 
-/// The board that the words ask for, of the deck that the source holds.
-pub(crate) fn open_words<R: Threads + Sync, S: Source>(
-    rt: &R,
-    alloc: Global,
-    words: &[Word],
-    source: &mut S,
-    store: &NodeStore,
-    seat: &mut StoreSeat,
-) -> Result<Opened, RunEnd>
+/// The command `board` that the words say.
+pub(crate) fn asked_by(words: &[Word]) -> BoardAsked
     requires command { IsBoard words.now }
-    requires own { seat.old.store ≡ store.now }
-    requires share { TEAM_SHARE ≤ seat.old.share }
-    ensures opened { IfOk result (IsOpenedBy words.now (S.held source.old) (S.held source.new)) }
-    ensures ready { IfOk result IsReady }
-    ensures refused { IfErr result (IfRefused (IsRefusalBy words.now (S.held source.old) (S.held source.new)
-        (Rose (S.faults source.old) (S.faults source.new)))) }
-    ensures method { IfOk result (λ opened. BearsOut (own_deck (command_of words.now)) (S.held source.old)
-        (S.held source.new) seat.old seat.new (Done (method_by opened.listing.root))) }
-    ensures went { GoesForDeck words.now (S.held source.old) (S.held source.new) seat.old seat.new }
-    ensures share { seat.new.share ≡ seat.old.share }
+    ensures said { SaysBoard words.now result }
+    ensures asked { IsBoardAskable result }
 {
     numbers_are_within_bounds();
     match read(words) {
@@ -64,83 +47,62 @@ pub(crate) fn open_words<R: Threads + Sync, S: Source>(
                 most,
                 workers,
             },
-        ) => open_input(rt, alloc, margin, most, workers, source, store, seat),
+        ) => BoardAsked {
+            margin,
+            asked: Asked { most, workers },
+        },
         _ => unreachable!(),
     }
 }
 
-// The board of the deck that the source holds, at this margin.
-fn open_input<R: Threads + Sync, S: Source>(
-    rt: &R,
-    alloc: Global,
-    margin: u32,
-    most: u32,
-    workers: u32,
+/// The board of the deck that the source holds, as it is asked for.
+pub(crate) fn open_input<R: Threads + Sync, S: Source>(
+    means: &Means<R>,
+    board: BoardAsked,
     source: &mut S,
-    store: &NodeStore,
     seat: &mut StoreSeat,
 ) -> Result<Opened, RunEnd>
-    requires margin { margin ≤ GREATEST_MARGIN }
-    requires most { most ≤ MOST_ORDERED }
-    requires some { 1 ≤ workers }
-    requires few { workers ≤ MOST_WORKERS }
-    requires own { seat.old.store ≡ store.now }
-    requires share { TEAM_SHARE ≤ seat.old.share }
+    requires asked { IsBoardAskable board }
+    requires seat { IsSeatFor means.now.store.now seat.old }
     ensures opened { IfOk result (λ opened. OfInput (S.held source.old) (S.held source.new)
-        (λ bytes. IsOpened margin most bytes opened)) }
+        (λ bytes. IsOpened board.margin board.asked.most bytes opened)) }
     ensures ready { IfOk result IsReady }
-    ensures refused { IfErr result (IfRefused (IsRefusalFor (for_board most) (S.held source.old) (S.held source.new)
-        (Rose (S.faults source.old) (S.faults source.new)))) }
-    ensures method { IfOk result (λ opened. BearsOut None (S.held source.old) (S.held source.new) seat.old seat.new
+    ensures bears { IfOk result (λ opened. BearsOut None (S.held source.old) (S.held source.new) seat.old seat.new
         (Done (method_by opened.listing.root))) }
-    ensures went { GoesFor None (S.held source.old) (S.held source.new) seat.old seat.new }
-    ensures share { seat.new.share ≡ seat.old.share }
+    ensures refused { IfErr result (IfRefused (IsRefusalFor None (for_board board.asked.most) (S.held source.old)
+        (S.held source.new) (Rose (S.faults source.old) (S.faults source.new)))) }
+    ensures left { IsLeftBy None (S.held source.old) (S.held source.new) seat.old seat.new }
 {
-    let deck = read_input(alloc, CrewPart::Needed, source)?;
-    let opened = open_deck(
-        rt,
-        alloc,
-        margin,
-        most,
-        workers,
-        deck.tree,
-        &deck.crews,
-        store,
-        seat,
-    );
-    drop(deck.crews);
-    opened
+    match read_input(means.alloc, CrewPart::Needed, source) {
+        Ok(deck) => {
+            let opened = open_deck(means, board, deck.tree, &deck.crews, seat);
+            drop(deck.crews);
+            opened
+        }
+        Err(end) => Err(end),
+    }
 }
 
 // The board of a tree and its crews. They are only read, so that no way out of here lets them go.
 fn open_deck<R: Threads + Sync>(
-    rt: &R,
-    alloc: Global,
-    margin: u32,
-    most: u32,
-    workers: u32,
+    means: &Means<R>,
+    board: BoardAsked,
     tree: Tree,
     crews: &Option<Dockets>,
-    store: &NodeStore,
     seat: &mut StoreSeat,
 ) -> Result<Opened, RunEnd>
-    requires margin { margin ≤ GREATEST_MARGIN }
-    requires most { most ≤ MOST_ORDERED }
-    requires some { 1 ≤ workers }
-    requires few { workers ≤ MOST_WORKERS }
+    requires asked { IsBoardAskable board }
     requires crews { IsSome crews.now }
-    requires own { seat.old.store ≡ store.now }
-    requires share { TEAM_SHARE ≤ seat.old.share }
-    ensures opened { IfOk result (IsOpenedFor margin most tree crews.now) }
+    requires seat { IsSeatFor means.now.store.now seat.old }
+    ensures opened { IfOk result (IsOpenedFor board.margin board.asked.most tree crews.now) }
     ensures ready { IfOk result IsReady }
-    ensures limit { IfErr result (IfRefused (IsLimitOf most tree)) }
     ensures found { IfOk result (λ opened. IsFoundBy seat.old seat.new tree (method_by opened.listing.root)) }
-    ensures went { WentAll (IsDueToTree tree) seat.old seat.new }
-    ensures share { seat.new.share ≡ seat.old.share }
+    ensures limit { IfErr result (IfRefused (IsLimitOf board.asked.most tree)) }
+    ensures left { IsLeftFor tree seat.old seat.new }
 {
     let Some(dockets) = crews else { unreachable!() };
-    match list_tree(rt, alloc, most, workers, tree, store, seat) {
-        Ok(listing) => Ok(open_listing(alloc, margin, listing, dockets)?),
+    match list_tree(means, board.asked, tree, seat) {
+        Ok(listing) => Ok(open_listing(means.alloc, board.margin, listing, dockets)?),
         Err(end) => Err(end),
     }
 }

@@ -3,7 +3,6 @@ ghost use Rattle.std.specs.Prelude.{◌≡◌};
 ghost use Rattle.outage_engine.specs.Answers.{refusal_status};
 
 use crate::Status;
-use crate::deck::DeckEnd;
 use board_report::DeckFault;
 use std::alloc::AllocError;
 
@@ -55,19 +54,5 @@ impl From<AllocError> for RunEnd {
 
     fn from(_e: AllocError) -> RunEnd {
         RunEnd::NoMemory
-    }
-}
-
-impl From<DeckEnd> for RunEnd {
-    ghost use Rattle.std.specs.Prelude.{◌≡◌};
-    ghost use Rattle.outage_engine.specs.Answers.{run_end};
-
-    ghost from_gives = { λ deck end. end ≡ run_end deck };
-
-    fn from(end: DeckEnd) -> RunEnd {
-        match end {
-            DeckEnd::Fault(fault) => RunEnd::Refused(Refusal::Fault(fault)),
-            DeckEnd::NoMemory => RunEnd::NoMemory,
-        }
     }
 }

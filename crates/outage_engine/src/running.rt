@@ -1,12 +1,12 @@
 //! The run of the program.
 ghost use Rattle.std.specs.Prelude.{◌≡◌, ◌⊎◌, ◌≤◌, true, false, []};
 ghost use Rattle.event_counts.specs.Count.{Rose};
-ghost use Rattle.board_words.specs.Command.{command_of};
 ghost use Rattle.board_texts.specs.BoardText.{IsDeckOf};
 ghost use Rattle.outage_engine.specs.Answers.{IsOfUnits};
-ghost use Rattle.outage_engine.specs.Openings.{HasPasses, TellsBoard};
-ghost use Rattle.outage_engine.specs.Gives.{AreReading, own_deck};
-ghost use Rattle.outage_engine.specs.Runs.{IsBoard, IsNoBoard, Runs};
+ghost use Rattle.outage_engine.specs.Openings.{HasPasses, HasRun, TellsBoard};
+ghost use Rattle.outage_engine.specs.Gives.{AreReading};
+ghost use Rattle.outage_engine.specs.Means.{IsSeatFor};
+ghost use Rattle.outage_engine.specs.Runs.{IsBoard, IsNoBoard};
 ghost use Rattle.outage_engine.specs.Runs.{IsOfCommand, PrintsBoard, PrintsCheck, PrintsCuts, PrintsDiagram};
 ghost use Rattle.outage_engine.specs.Runs.{PrintsHelp, PrintsMade, PrintsSummary};
 ghost use Rattle.outage_engine.specs.Runs.{PrintsSafely, PrintsTree};
@@ -14,12 +14,13 @@ ghost use Rattle.outage_engine.specs.Runs.{FailsToRead, RefusesDeck, RefusesLeng
 ghost use Rattle.outage_engine.specs.Runs.{RefusesWords};
 ghost use Rattle.outage_engine.specs.Runs.{AnswersDeck, AnswersLength, AnswersWords, WritesFrontOfText};
 ghost use Rattle.outage_engine.specs.Store.{method_by};
-ghost use Rattle.outage_engine.specs.StoreAfter.{BearsOut, FindsFull, GoesForDeck, LeavesDiagram};
+ghost use Rattle.outage_engine.specs.StoreAfter.{FindsFull, GoesForDeck, LeavesDiagram};
 ghost use Rattle.outage_engine.specs.declared.status.Status.TheVariants.{Done};
 
 use crate::answer::answer_words;
 use crate::listing::Listing;
-use crate::opening::open_words;
+use crate::means::Means;
+use crate::opening::{asked_by, open_input};
 use crate::refusal::RunEnd;
 use crate::tell::{tell, tell_board, tell_refusal};
 use crate::{Status, Word};
@@ -172,35 +173,27 @@ pub fn run_cuts<R: Threads + Sync, S: Source, K: Sink>(
     ensures went { GoesForDeck words.now (S.held source.old) (S.held source.new) seat.old seat.new }
     ensures share { seat.new.share ≡ seat.old.share }
 {
-    answer_and_tell(rt, alloc, words, source, sink, store, seat)
+    answer_and_tell(&Means { rt, alloc, store }, words, source, sink, seat)
 }
 
 // Finds the answer, and then writes it.
 fn answer_and_tell<R: Threads + Sync, S: Source, K: Sink>(
-    rt: &R,
-    alloc: Global,
+    means: &Means<R>,
     words: &[Word],
     source: &mut S,
     sink: &mut K,
-    store: &NodeStore,
     seat: &mut StoreSeat,
 ) -> Status
     requires command { IsNoBoard words.now }
-    requires own { seat.old.store ≡ store.now }
-    requires share { TEAM_SHARE ≤ seat.old.share }
-    ensures runs { Runs words.now (S.held source.old) (S.held source.new)
-        (Rose (S.faults source.old) (S.faults source.new))
-        K.taken K.faults sink.old sink.new result }
+    requires seat { IsSeatFor means.now.store.now seat.old }
+    ensures run { HasRun words.now (S.held source.old) (S.held source.new)
+        (Rose (S.faults source.old) (S.faults source.new)) K.taken K.faults sink.old sink.new seat.old seat.new result }
     ensures unread { AreReading words.now ⊎ (source.new ≡ source.old) }
-    ensures method { BearsOut (own_deck (command_of words.now)) (S.held source.old) (S.held source.new) seat.old
-        seat.new result }
-    ensures went { GoesForDeck words.now (S.held source.old) (S.held source.new) seat.old seat.new }
-    ensures share { seat.new.share ≡ seat.old.share }
 {
-    let Ok(buffer) = Buffer::new(alloc) else {
+    let Ok(buffer) = Buffer::new(means.alloc) else {
         return Status::NoMemory;
     };
-    match answer_words(rt, alloc, words, source, store, seat) {
+    match answer_words(means, words, source, seat) {
         Ok(answer) => tell(sink, buffer, answer),
         Err(RunEnd::Refused(refusal)) => tell_refusal(sink, buffer, refusal),
         Err(RunEnd::NoMemory) => Status::NoMemory,
@@ -261,35 +254,27 @@ pub fn run_board<R: Threads + Wait + Sync, S: Source, K: Sink>(
     ensures went { GoesForDeck words.now (S.held source.old) (S.held source.new) seat.old seat.new }
     ensures share { seat.new.share ≡ seat.old.share }
 {
-    serve_and_tell(rt, alloc, words, source, sink, store, seat)
+    serve_and_tell(&Means { rt, alloc, store }, words, source, sink, seat)
 }
 
 // Opens the board, serves the crews, and then writes what came of it.
 fn serve_and_tell<R: Threads + Wait + Sync, S: Source, K: Sink>(
-    rt: &R,
-    alloc: Global,
+    means: &Means<R>,
     words: &[Word],
     source: &mut S,
     sink: &mut K,
-    store: &NodeStore,
     seat: &mut StoreSeat,
 ) -> Status
     requires command { IsBoard words.now }
-    requires own { seat.old.store ≡ store.now }
-    requires share { TEAM_SHARE ≤ seat.old.share }
-    ensures runs { Runs words.now (S.held source.old) (S.held source.new)
-        (Rose (S.faults source.old) (S.faults source.new))
-        K.taken K.faults sink.old sink.new result }
-    ensures method { BearsOut (own_deck (command_of words.now)) (S.held source.old) (S.held source.new) seat.old
-        seat.new result }
-    ensures went { GoesForDeck words.now (S.held source.old) (S.held source.new) seat.old seat.new }
-    ensures share { seat.new.share ≡ seat.old.share }
+    requires seat { IsSeatFor means.now.store.now seat.old }
+    ensures run { HasRun words.now (S.held source.old) (S.held source.new)
+        (Rose (S.faults source.old) (S.faults source.new)) K.taken K.faults sink.old sink.new seat.old seat.new result }
 {
-    let Ok(buffer) = Buffer::new(alloc) else {
+    let Ok(buffer) = Buffer::new(means.alloc) else {
         return Status::NoMemory;
     };
-    match open_words(rt, alloc, words, source, store, seat) {
-        Ok(opened) => serve(rt, opened.listing, opened.start, buffer, sink),
+    match open_input(means, asked_by(words), source, seat) {
+        Ok(opened) => serve(means.rt, opened.listing, opened.start, buffer, sink),
         Err(RunEnd::Refused(refusal)) => tell_refusal(sink, buffer, refusal),
         Err(RunEnd::NoMemory) => Status::NoMemory,
     }

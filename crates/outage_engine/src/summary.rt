@@ -4,19 +4,21 @@ ghost use Rattle.outage_board.specs.Boards.{IsUsedUp};
 ghost use Rattle.outage_board.specs.Histories.{IsLegal, IsWhole};
 ghost use Rattle.tree_maker.specs.MadeDeck.{made_deck};
 ghost use Rattle.tree_maker.specs.WellMade.{made_crew};
-ghost use Rattle.tree_families.specs.Due.{IsDueToTree};
-ghost use Rattle.zdd_product.specs.Seats.{WentAll};
-ghost use Rattle.outage_engine.specs.Answers.{HasOrders, IfRefused, IsDeckRefusal, IsLimitOf, IsOfUnits, summed_text};
+ghost use Rattle.outage_engine.specs.Answers.{HasOrders, IfRefused, IsFaultOfDeck, IsLimitOf, IsOfUnits, IsRefusalFor};
+ghost use Rattle.outage_engine.specs.Answers.{summed_text};
 ghost use Rattle.outage_engine.specs.Deck.{IsWellFormed};
-ghost use Rattle.outage_engine.specs.Store.{IsFoundBy, method_by};
-ghost use Rattle.outage_engine.specs.StoreAfter.{BearsOut, GoesFor};
+ghost use Rattle.outage_engine.specs.Means.{IsSeatFor};
+ghost use Rattle.outage_engine.specs.Store.{IsFoundBy, IsLeftFor, method_by};
+ghost use Rattle.outage_engine.specs.StoreAfter.{BearsOut, IsLeftBy};
 ghost use Rattle.outage_engine.specs.Summaries.{IsServedFor, IsSummaryOf, left_of_first};
 ghost use Rattle.outage_engine.specs.Texts.{IsSummaryText, for_summary, summed_margin, summed_most};
 ghost use Rattle.outage_engine.specs.declared.deck.CrewPart.TheVariants.{Needed};
 ghost use Rattle.outage_engine.specs.declared.status.Status.TheVariants.{Done};
 
-use crate::deck::{CrewPart, DeckParts, read_deck};
+use crate::deck::{CrewPart, DeckParts};
+use crate::input::deck_of;
 use crate::listing::{Listing, list_tree};
+use crate::means::{Asked, Means};
 use crate::refusal::RunEnd;
 use crew_script::Dockets;
 use deck_limits::HIGHEST_MADE;
@@ -27,14 +29,13 @@ use std::alloc::Global;
 use std::thread::Threads;
 use tree_maker::made;
 use unit_sets::CrewNo;
-use zdd_build::TEAM_SHARE;
-use zdd_shared_table::{NodeStore, StoreSeat};
+use zdd_shared_table::StoreSeat;
 
-/// Orders are listed for sets of at most so many members.
-const MOST: u32 = 6;
-
-/// So many threads search for cut sets and orders.
-const WORKERS: u32 = 4;
+/// Orders are listed for sets of at most six members, and four threads search for cut sets and orders.
+const ASKED: Asked = Asked {
+    most: 6,
+    workers: 4,
+};
 
 /// The opening margin of the board.
 const MARGIN: u32 = 1;
@@ -50,27 +51,27 @@ pub(crate) struct Summary {
 
 /// The made deck of a number in sum. No input is read.
 pub(crate) fn sum_made<R: Threads + Sync>(
-    rt: &R,
-    alloc: Global,
+    means: &Means<R>,
     number: u32,
-    store: &NodeStore,
     seat: &mut StoreSeat,
 ) -> Result<Summary, RunEnd>
     requires number { number ≤ HIGHEST_MADE }
-    requires own { seat.old.store ≡ store.now }
-    requires share { TEAM_SHARE ≤ seat.old.share }
+    requires seat { IsSeatFor means.now.store.now seat.old }
     ensures text { IfOk result (λ summary. IsSummaryText number (summed_text summary)) }
     ensures writable { IfOk result HasOrders }
-    ensures refused { IfErr result (IfRefused (IsDeckRefusal for_summary (made_deck number))) }
-    ensures method { IfOk result (λ summary. BearsOut (Some (made_deck number)) None None seat.old seat.new
+    ensures bears { IfOk result (λ summary. BearsOut (Some (made_deck number)) None None seat.old seat.new
         (Done (method_by summary.listing.root))) }
-    ensures went { GoesFor (Some (made_deck number)) None None seat.old seat.new }
-    ensures share { seat.new.share ≡ seat.old.share }
+    ensures refused { IfErr result (IfRefused (IsRefusalFor (Some (made_deck number)) for_summary None None ⊥)) }
+    ensures left { IsLeftBy (Some (made_deck number)) None None seat.old seat.new }
 {
-    let deck = read_made(alloc, number)?;
-    let summed = sum_deck(rt, alloc, number, deck.tree, &deck.crews, store, seat);
-    drop(deck.crews);
-    summed
+    match read_made(means.alloc, number) {
+        Ok(deck) => {
+            let summed = sum_deck(means, number, deck.tree, &deck.crews, seat);
+            drop(deck.crews);
+            summed
+        }
+        Err(end) => Err(end),
+    }
 }
 
 // The tree and the crew of the made deck of a number, read as any deck is.
@@ -78,35 +79,31 @@ fn read_made(alloc: Global, number: u32) -> Result<DeckParts, RunEnd>
     requires { number ≤ HIGHEST_MADE }
     ensures deck { IfOk result (λ deck. IsWellFormed Needed (made_deck number) deck.tree deck.crews) }
     ensures crew { IfOk result (λ deck. deck.crews ≡ Some (made_crew number ∷ [])) }
-    ensures refused { IfErr result (IfRefused (IsDeckRefusal for_summary (made_deck number))) }
+    ensures refused { IfErr result (IfRefused (IsFaultOfDeck Needed (made_deck number))) }
 {
     let bytes = made(alloc, number)?;
-    Ok(read_deck(alloc, CrewPart::Needed, bytes.as_slice())?)
+    deck_of(alloc, CrewPart::Needed, bytes)
 }
 
 // What is found in a tree, and what comes of the requests of its one crew. The crew is only read, so that no way out
 // of here lets it go.
 fn sum_deck<R: Threads + Sync>(
-    rt: &R,
-    alloc: Global,
+    means: &Means<R>,
     number: u32,
     tree: Tree,
     crews: &Option<Dockets>,
-    store: &NodeStore,
     seat: &mut StoreSeat,
 ) -> Result<Summary, RunEnd>
     requires crew { crews.now ≡ Some (made_crew number ∷ []) }
-    requires own { seat.old.store ≡ store.now }
-    requires share { TEAM_SHARE ≤ seat.old.share }
+    requires seat { IsSeatFor means.now.store.now seat.old }
     ensures summed { IfOk result (IsSummaryOf number tree (made_crew number ∷ [])) }
-    ensures limit { IfErr result (IfRefused (IsLimitOf summed_most tree)) }
     ensures found { IfOk result (λ summary. IsFoundBy seat.old seat.new tree (method_by summary.listing.root)) }
-    ensures went { WentAll (IsDueToTree tree) seat.old seat.new }
-    ensures share { seat.new.share ≡ seat.old.share }
+    ensures limit { IfErr result (IfRefused (IsLimitOf summed_most tree)) }
+    ensures left { IsLeftFor tree seat.old seat.new }
 {
     let Some(dockets) = crews else { unreachable!() };
-    match list_tree(rt, alloc, MOST, WORKERS, tree, store, seat) {
-        Ok(listing) => Ok(serve_listing(alloc, number, listing, dockets)?),
+    match list_tree(means, ASKED, tree, seat) {
+        Ok(listing) => Ok(serve_listing(means.alloc, number, listing, dockets)?),
         Err(end) => Err(end),
     }
 }

@@ -53,7 +53,8 @@ fn put_answer<K: Sink>(out: &mut Out<K>, answer: &Answer) -> Result<(), WriteFau
     match answer {
         Answer::Cuts(listing) => put_listing(out, listing),
         Answer::Diagram(sizes) => {
-            put_sizes(out, &sizes.tree, sizes.cuts, sizes.members, sizes.nodes)
+            let counts = &sizes.counts;
+            put_sizes(out, &sizes.tree, counts.cuts, counts.members, counts.nodes)
         }
         Answer::Checked(deck) => put_deck(out, deck),
         Answer::Printed(tree) => put_tree(out, tree),

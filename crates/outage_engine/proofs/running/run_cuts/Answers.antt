@@ -8,31 +8,31 @@ use Rattle.outage_engine.proofs.running.run_cuts.Goals as goal
 
 pub returns : goal.returns
 returns g c = record {
-  command = of_command c.answer_and_tell.ensures.runs;
-  cuts = prints_cuts c.answer_and_tell.ensures.runs;
-  check = prints_check c.answer_and_tell.ensures.runs;
-  print = prints_tree c.answer_and_tell.ensures.runs;
-  diagram = prints_diagram c.answer_and_tell.ensures.runs;
-  make = prints_made c.answer_and_tell.ensures.runs;
-  summary = prints_summary c.answer_and_tell.ensures.runs;
-  help = prints_help c.answer_and_tell.ensures.runs;
-  usage = refuses_words c.answer_and_tell.ensures.runs;
-  refused = refuses_deck c.answer_and_tell.ensures.runs;
-  list_limit = refuses_weight c.answer_and_tell.ensures.runs;
-  order_limit = refuses_orders c.answer_and_tell.ensures.runs;
-  too_long = refuses_length c.answer_and_tell.ensures.runs;
-  read_fault = fails_to_read c.answer_and_tell.ensures.runs;
+  command = of_command c.answer_and_tell.ensures.run.runs;
+  cuts = prints_cuts c.answer_and_tell.ensures.run.runs;
+  check = prints_check c.answer_and_tell.ensures.run.runs;
+  print = prints_tree c.answer_and_tell.ensures.run.runs;
+  diagram = prints_diagram c.answer_and_tell.ensures.run.runs;
+  make = prints_made c.answer_and_tell.ensures.run.runs;
+  summary = prints_summary c.answer_and_tell.ensures.run.runs;
+  help = prints_help c.answer_and_tell.ensures.run.runs;
+  usage = refuses_words c.answer_and_tell.ensures.run.runs;
+  refused = refuses_deck c.answer_and_tell.ensures.run.runs;
+  list_limit = refuses_weight c.answer_and_tell.ensures.run.runs;
+  order_limit = refuses_orders c.answer_and_tell.ensures.run.runs;
+  too_long = refuses_length c.answer_and_tell.ensures.run.runs;
+  read_fault = fails_to_read c.answer_and_tell.ensures.run.runs;
   unread = c.answer_and_tell.ensures.unread;
-  write_fault = λ is. (front_of c.answer_and_tell.ensures.runs is).3.rose;
-  front = front_of c.answer_and_tell.ensures.runs;
-  no_memory = unwritten c.answer_and_tell.ensures.runs;
-  due_words = answers_words c.answer_and_tell.ensures.runs;
-  due_length = answers_length c.answer_and_tell.ensures.runs;
-  due = answers_deck c.answer_and_tell.ensures.runs;
+  write_fault = λ is. (front_of c.answer_and_tell.ensures.run.runs is).3.rose;
+  front = front_of c.answer_and_tell.ensures.run.runs;
+  no_memory = unwritten c.answer_and_tell.ensures.run.runs;
+  due_words = answers_words c.answer_and_tell.ensures.run.runs;
+  due_length = answers_length c.answer_and_tell.ensures.run.runs;
+  due = answers_deck c.answer_and_tell.ensures.run.runs;
   known =
-      leaves_diagram _ _ _ c.args.seat.now c.answer_and_tell.new.seat _ c.answer_and_tell.ensures.method;
+      leaves_diagram _ _ _ c.args.seat.now c.answer_and_tell.new.seat _ c.answer_and_tell.ensures.run.bears;
   full =
-      finds_full _ _ _ c.args.seat.now c.answer_and_tell.new.seat _ c.answer_and_tell.ensures.method;
-  went = c.answer_and_tell.ensures.went;
-  share = c.answer_and_tell.ensures.share;
+      finds_full _ _ _ c.args.seat.now c.answer_and_tell.new.seat _ c.answer_and_tell.ensures.run.bears;
+  went = c.answer_and_tell.ensures.run.seat.0;
+  share = c.answer_and_tell.ensures.run.seat.1;
 }

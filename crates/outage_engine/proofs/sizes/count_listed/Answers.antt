@@ -8,8 +8,8 @@ overflow_sub-result c = omega (arith, c.weight.ensures.value, c.len-sets.ensures
 pub returns-in-Ok-clause-counts : goal.returns-in-Ok-clause-counts
 returns-in-Ok-clause-counts c = record {
   list = c.in-Ok.cuts;
-  all = c.in-Ok.ensures.cut_list;
-  light = c.in-Ok.ensures.within;
+  within = record { all = c.in-Ok.ensures.cut_list; light = c.in-Ok.ensures.within };
   counted = c.len-sets.ensures.value;
   summed = omega (arith, c.weight.ensures.value, c.len-sets.ensures.value, weight_parts c.in-Ok.cuts);
+  nodes = tt;
 }

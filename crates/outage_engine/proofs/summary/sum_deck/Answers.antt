@@ -21,7 +21,7 @@ returns-in_ok-serve_listing-in-Ok g c =
     record {
       summed =
           summary_of c.args.number c.args.tree (made_crew c.args.number ∷ []) c.in_ok-serve_listing-in-Ok.field-0
-          c.in-Ok.listing c.in-Ok.ensures.listed c.in-Ok.ensures.writable
+          c.in-Ok.listing c.in-Ok.ensures.listed
           (subst (λ crews. IsServedFor c.args.number c.in-Ok.listing crews c.in_ok-serve_listing-in-Ok.field-0)
           (some_is c.in-Some.dockets (made_crew c.args.number ∷ []) (sym c.in-Some.is ∙ c.requires.crew)) served);
       limit = tt;
@@ -29,6 +29,5 @@ returns-in_ok-serve_listing-in-Ok g c =
           subst (λ (listing : Listing). IsFoundBy c.args.seat.now c.list_tree.new.seat c.args.tree
           (method_by listing.root))
           (sym served.of_listing) c.in-Ok.ensures.found;
-      went = c.list_tree.ensures.went;
-      share = c.list_tree.ensures.share;
+      left = c.list_tree.ensures.left;
     }
