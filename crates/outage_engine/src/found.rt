@@ -57,17 +57,17 @@ pub fn find_cuts<R: Threads + Sync, P: Pace>(
     ensures share { seat.new.share ≡ seat.old.share }
 {
     match build(rt, alloc, tree, store, seat, workers, pace) {
-        Ok(root) => {
-            let cuts = list_root(alloc, tree, store, seat, root)?;
-            Ok(Found {
+        Ok(root) => match list_root(alloc, tree, store, seat, root) {
+            Ok(cuts) => Ok(Found {
                 cuts,
                 root: Some(root),
-            })
-        }
-        Err(BuildEnd::Full) => {
-            let cuts = mcs_by_lists(alloc, tree)?;
-            Ok(Found { cuts, root: None })
-        }
+            }),
+            Err(end) => Err(end),
+        },
+        Err(BuildEnd::Full) => match mcs_by_lists(alloc, tree) {
+            Ok(cuts) => Ok(Found { cuts, root: None }),
+            Err(end) => Err(end),
+        },
         Err(BuildEnd::NoMemory) => Err(ListEnd::NoMemory),
     }
 }

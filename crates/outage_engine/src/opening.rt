@@ -19,7 +19,7 @@ use crate::refusal::RunEnd;
 use board_words::{Command, Word, numbers_are_within_bounds, read};
 use crew_script::Dockets;
 use deck_limits::GREATEST_MARGIN;
-use edge_io::{NoMemory, Source};
+use edge_io::Source;
 use fault_model::Tree;
 use outage_board::{Board, BoardStart};
 use std::alloc::Global;
@@ -102,7 +102,7 @@ fn open_deck<R: Threads + Sync>(
 {
     let Some(dockets) = crews else { unreachable!() };
     match list_tree(means, board.asked, tree, seat) {
-        Ok(listing) => Ok(open_listing(means.alloc, board.margin, listing, dockets)?),
+        Ok(listing) => open_listing(means.alloc, board.margin, listing, dockets),
         Err(end) => Err(end),
     }
 }
@@ -113,16 +113,17 @@ fn open_listing(
     margin: u32,
     listing: Listing,
     dockets: &Dockets,
-) -> Result<Opened, NoMemory>
+) -> Result<Opened, RunEnd>
     requires margin { margin ≤ GREATEST_MARGIN }
     requires units { IsOfUnits listing }
     ensures opened { IfOk result (IsOpenedWith margin listing (Some dockets.now)) }
+    ensures free { IfErr result (λ end. end ≡ RunEnd.NoMemory) }
 {
     match Board::open(alloc, &listing.tree, &listing.cuts, dockets, margin) {
         Ok(start) => Ok(Opened { listing, start }),
         Err(end) => {
             drop(listing);
-            Err(end)
+            Err(RunEnd::from(end))
         }
     }
 }

@@ -22,7 +22,6 @@ use crate::means::{Asked, Means};
 use crate::refusal::RunEnd;
 use crew_script::Dockets;
 use deck_limits::HIGHEST_MADE;
-use edge_io::NoMemory;
 use fault_model::Tree;
 use outage_board::BoardState;
 use std::alloc::Global;
@@ -103,7 +102,7 @@ fn sum_deck<R: Threads + Sync>(
 {
     let Some(dockets) = crews else { unreachable!() };
     match list_tree(means, ASKED, tree, seat) {
-        Ok(listing) => Ok(serve_listing(means.alloc, number, listing, dockets)?),
+        Ok(listing) => serve_listing(means.alloc, number, listing, dockets),
         Err(end) => Err(end),
     }
 }
@@ -114,10 +113,11 @@ fn serve_listing(
     number: u32,
     listing: Listing,
     dockets: &Dockets,
-) -> Result<Summary, NoMemory>
+) -> Result<Summary, RunEnd>
     requires units { IsOfUnits listing }
     requires one { length dockets.now ≡ 1 }
     ensures summed { IfOk result (λ summary. IsServedFor number listing dockets.now summary) }
+    ensures free { IfErr result (λ end. end ≡ RunEnd.NoMemory) }
 {
     match BoardState::open(alloc, &listing.tree, &listing.cuts, dockets, MARGIN) {
         Ok(mut board) => {
@@ -130,7 +130,7 @@ fn serve_listing(
         }
         Err(end) => {
             drop(listing);
-            Err(end)
+            Err(RunEnd::from(end))
         }
     }
 }

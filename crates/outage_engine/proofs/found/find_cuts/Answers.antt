@@ -1,5 +1,5 @@
 use Rattle.std.specs.Prelude.{Err, IsErrOf}
-use Rattle.std.proofs.lemmas.Result.{err_from_is_err_and}
+use Rattle.std.proofs.Common.{refl}
 use Rattle.unit_sets.specs.declared.refusal.ListEnd.{ListEnd}
 use Rattle.outage_engine.proofs.found.find_cuts.Goals as goal
 
@@ -7,18 +7,46 @@ use Rattle.outage_engine.proofs.found.find_cuts.Goals as goal
 same_end : {A B : Type 0} (end why : ListEnd) → IsErrOf {T = A} (Err end) why → IsErrOf {T = B} (Err end) why
 same_end end why is = cc
 
-pub returns-in_ok-cuts-in-Ok-clause-root : goal.returns-in_ok-cuts-in-Ok-clause-root
-returns-in_ok-cuts-in-Ok-clause-root g c =
-    rw c.list_root.ensures.seat record { top = c.in-Ok.ensures.top; nodes = c.in-Ok.ensures.nodes }
+pub returns-in-Ok-list_root : goal.returns-in-Ok-list_root
+returns-in-Ok-list_root g c = rw c.list_root.ensures.seat record {
+  cuts = c.in-Ok-list_root.ensures.cuts;
+  within = c.in-Ok-list_root.ensures.within;
+  root = record { top = c.in-Ok.ensures.top; nodes = c.in-Ok.ensures.nodes };
+  full = λ none. absurd cc;
+  limit = λ is. absurd cc;
+  went = c.build.ensures.went;
+  share = c.build.ensures.share;
+}
 
-pub returns-in_err-cuts-in-Ok-clause-limit : goal.returns-in_err-cuts-in-Ok-clause-limit
-returns-in_err-cuts-in-Ok-clause-limit g c =
-    let p = err_from_is_err_and c.from_residual.result c.from_residual.ensures.1 in
-    rw (p.1, p.2) (λ is. c.in_err-cuts-in-Ok.ensures.limit (same_end _ _ is))
+pub returns-in-Err : goal.returns-in-Err
+returns-in-Err g c = rw c.list_root.ensures.seat record {
+  cuts = tt;
+  within = tt;
+  root = tt;
+  full = tt;
+  limit = λ is. c.in-Err.ensures.limit (same_end _ _ is);
+  went = c.build.ensures.went;
+  share = c.build.ensures.share;
+}
 
-pub returns-in_err-cuts-in-Err-Full-clause-limit : goal.returns-in_err-cuts-in-Err-Full-clause-limit
-returns-in_err-cuts-in-Err-Full-clause-limit g c =
-    let p =
-    err_from_is_err_and c.from_residual-in_err-cuts-in-Err-Full.result
-    c.from_residual-in_err-cuts-in-Err-Full.ensures.1 in
-    rw (p.1, p.2) (λ is. c.in_err-cuts-in-Err-Full.ensures.limit (same_end _ _ is))
+pub returns-in-Ok-mcs_by_lists : goal.returns-in-Ok-mcs_by_lists
+returns-in-Ok-mcs_by_lists g c = record {
+  cuts = c.in-Ok-mcs_by_lists.ensures.cut_list;
+  within = c.in-Ok-mcs_by_lists.ensures.within;
+  root = tt;
+  full = λ none. (rw c.in-Err-Full.field-0-is at c.in-Err-Full.ensures.full) refl;
+  limit = λ is. absurd cc;
+  went = c.build.ensures.went;
+  share = c.build.ensures.share;
+}
+
+pub returns-in-Err-mcs_by_lists : goal.returns-in-Err-mcs_by_lists
+returns-in-Err-mcs_by_lists g c = record {
+  cuts = tt;
+  within = tt;
+  root = tt;
+  full = tt;
+  limit = λ is. c.in-Err-mcs_by_lists.ensures.limit (same_end _ _ is);
+  went = c.build.ensures.went;
+  share = c.build.ensures.share;
+}

@@ -1,27 +1,38 @@
 use Rattle.std.specs.Prelude.{Some}
 use Rattle.std.proofs.Common.{sym, subst}
+use Rattle.std.proofs.lemmas.Result.{IfErr-weaker, IfOk-weaker}
 use Rattle.outage_engine.specs.declared.listing.Listing.{Listing}
+use Rattle.outage_engine.specs.Answers.{IfRefused, IsLimitOf}
 use Rattle.outage_engine.specs.Openings.{IsOpenedFor}
 use Rattle.outage_engine.specs.Store.{IsFoundBy, method_by}
 use Rattle.outage_engine.proofs.Serving.{opened_for, ready}
 use Rattle.outage_engine.proofs.opening.open_deck.Goals as goal
 
-pub returns-in_ok-open_listing-in-Ok : goal.returns-in_ok-open_listing-in-Ok
-returns-in_ok-open_listing-in-Ok g c =
-    let opened = c.in_ok-open_listing-in-Ok.field-0 in
+pub returns-in-Ok : goal.returns-in-Ok
+returns-in-Ok g c =
     let board = c.args.board in
+    let listing = c.in-Ok.listing in
+    let crews = Some c.in-Some.dockets in
     record {
       opened =
+          IfOk-weaker c.open_listing.result _ _
+          (λ opened with.
           subst (λ crews. IsOpenedFor board.margin board.asked.most c.args.tree crews opened) (sym c.in-Some.is)
-          (opened_for board.margin board.asked.most c.args.tree c.in-Ok.listing (Some c.in-Some.dockets) opened
-          c.in-Ok.ensures.listed c.in_ok-open_listing-in-Ok.ensures.opened);
+          (opened_for board.margin board.asked.most c.args.tree listing crews opened c.in-Ok.ensures.listed with))
+          c.open_listing.ensures.opened;
       ready =
-          ready board.margin c.in-Ok.listing (Some c.in-Some.dockets) opened
-          c.in-Ok.ensures.listed.units c.in_ok-open_listing-in-Ok.ensures.opened;
-      limit = tt;
+          IfOk-weaker c.open_listing.result _ _
+          (λ opened with. ready board.margin listing crews opened c.in-Ok.ensures.listed.units with)
+          c.open_listing.ensures.opened;
       found =
-          subst (λ (listing : Listing). IsFoundBy c.args.seat.now c.list_tree.new.seat c.args.tree
-          (method_by listing.root))
-          (sym c.in_ok-open_listing-in-Ok.ensures.opened.0) c.in-Ok.ensures.found;
+          IfOk-weaker c.open_listing.result _ _
+          (λ opened with.
+          subst (λ (l : Listing). IsFoundBy c.args.seat.now c.list_tree.new.seat c.args.tree (method_by l.root))
+          (sym with.0) c.in-Ok.ensures.found)
+          c.open_listing.ensures.opened;
+      limit =
+          IfErr-weaker c.open_listing.result _ _
+          (λ end is. subst (IfRefused (IsLimitOf board.asked.most c.args.tree)) (sym is) tt)
+          c.open_listing.ensures.free;
       left = c.list_tree.ensures.left;
     }

@@ -11,4 +11,5 @@ returns-in-Ok c = record {
     legal = c.serve_crew.ensures.legal;
     whole = c.serve_crew.ensures.whole;
   };
+  free = tt;
 }

@@ -1,10 +1,13 @@
 use Rattle.std.specs.Prelude.{◌≡◌, List, ◌∷◌, [], length, Some}
 use Rattle.std.proofs.Common.{sym, ap, subst, ◌∙◌}
+use Rattle.std.proofs.lemmas.Result.{IfErr-weaker, IfOk-weaker}
 use Rattle.crew_script.specs.declared.dockets.Crew.{Crew}
 use Rattle.tree_maker.specs.WellMade.{made_crew}
 use Rattle.outage_engine.specs.declared.listing.Listing.{Listing}
+use Rattle.outage_engine.specs.Answers.{IfRefused, IsLimitOf}
 use Rattle.outage_engine.specs.Store.{IsFoundBy, method_by}
 use Rattle.outage_engine.specs.Summaries.{IsServedFor}
+use Rattle.outage_engine.specs.Texts.{summed_most}
 use Rattle.outage_engine.proofs.Summing.{summary_of}
 use Rattle.outage_engine.proofs.summary.sum_deck.Goals as goal
 
@@ -15,19 +18,27 @@ pub serve_listing-requires-clause-one : goal.serve_listing-requires-clause-one
 serve_listing-requires-clause-one g c =
     ap length (some_is c.in-Some.dockets (made_crew c.args.number ∷ []) (sym c.in-Some.is ∙ c.requires.crew))
 
-pub returns-in_ok-serve_listing-in-Ok : goal.returns-in_ok-serve_listing-in-Ok
-returns-in_ok-serve_listing-in-Ok g c =
-    let served = c.in_ok-serve_listing-in-Ok.ensures.summed in
+pub returns-in-Ok : goal.returns-in-Ok
+returns-in-Ok g c =
+    let listing = c.in-Ok.listing in
+    let crews = made_crew c.args.number ∷ [] in
     record {
       summed =
-          summary_of c.args.number c.args.tree (made_crew c.args.number ∷ []) c.in_ok-serve_listing-in-Ok.field-0
-          c.in-Ok.listing c.in-Ok.ensures.listed
-          (subst (λ crews. IsServedFor c.args.number c.in-Ok.listing crews c.in_ok-serve_listing-in-Ok.field-0)
-          (some_is c.in-Some.dockets (made_crew c.args.number ∷ []) (sym c.in-Some.is ∙ c.requires.crew)) served);
-      limit = tt;
+          IfOk-weaker c.serve_listing.result _ _
+          (λ summary served.
+          summary_of c.args.number c.args.tree crews summary listing c.in-Ok.ensures.listed
+          (subst (λ crews. IsServedFor c.args.number listing crews summary)
+          (some_is c.in-Some.dockets crews (sym c.in-Some.is ∙ c.requires.crew)) served))
+          c.serve_listing.ensures.summed;
       found =
-          subst (λ (listing : Listing). IsFoundBy c.args.seat.now c.list_tree.new.seat c.args.tree
-          (method_by listing.root))
-          (sym served.of_listing) c.in-Ok.ensures.found;
+          IfOk-weaker c.serve_listing.result _ _
+          (λ summary served.
+          subst (λ (l : Listing). IsFoundBy c.args.seat.now c.list_tree.new.seat c.args.tree (method_by l.root))
+          (sym served.of_listing) c.in-Ok.ensures.found)
+          c.serve_listing.ensures.summed;
+      limit =
+          IfErr-weaker c.serve_listing.result _ _
+          (λ end is. subst (IfRefused (IsLimitOf summed_most c.args.tree)) (sym is) tt)
+          c.serve_listing.ensures.free;
       left = c.list_tree.ensures.left;
     }
