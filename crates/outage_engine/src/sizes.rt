@@ -17,7 +17,7 @@ use std::alloc::Global;
 use std::thread::Threads;
 use unit_sets::ListEnd;
 use zdd_build::{BuildEnd, build};
-use zdd_shared_table::StoreSeat;
+use zdd_shared_table::{NodeStore, StoreSeat};
 use zdd_words::NodeRef;
 
 /// How many cut sets a tree has and how many members they have in all, and how many nodes their family has where the
@@ -71,29 +71,30 @@ pub(crate) fn count_cuts<R: Threads + Sync>(
         workers,
         &Free,
     ) {
-        Ok(root) => count_family(means, tree, seat, root),
+        Ok(root) => count_family(means.alloc, tree, means.store, seat, root),
         Err(BuildEnd::Full) => count_listed(means.alloc, tree),
         Err(BuildEnd::NoMemory) => Err(RunEnd::NoMemory),
     }
 }
 
 // The counts of a tree from the family of its minimal cuts.
-fn count_family<R>(
-    means: &Means<R>,
+fn count_family(
+    alloc: Global,
     tree: &Tree,
+    store: &NodeStore,
     seat: &mut StoreSeat,
     root: NodeRef,
 ) -> Result<Counts, RunEnd>
-    requires own { seat.old.store ≡ means.now.store.now }
+    requires own { seat.old.store ≡ store.now }
     requires root { IsRootOf seat.old tree.now root }
     ensures counts { IfOk result (AreCountsOf tree.now) }
     ensures method { IfOk result (λ counts. method_by counts.nodes ≡ Diagram) }
     ensures limit { IfErr result (IfRefused (IsWeightLimitOf tree.now)) }
     ensures seat { seat.new ≡ seat.old }
 {
-    match size(means.alloc, means.store, seat, root) {
+    match size(alloc, store, seat, root) {
         Ok(FamilySize { sets, weight }) => {
-            let nodes = node_count(means.alloc, means.store, seat, root)?;
+            let nodes = node_count(alloc, store, seat, root)?;
             Ok(Counts {
                 cuts: sets,
                 members: weight - sets,

@@ -1,16 +1,26 @@
-use Rattle.std.proofs.Common.{inl, refl}
+use Rattle.std.proofs.Common.{inl, inr, refl}
 use Rattle.board_words.specs.declared.command.Command.TheVariants.{Check, Print}
 use Rattle.outage_engine.specs.Texts.{for_check, for_cuts, for_diagram, for_print}
-use Rattle.outage_engine.proofs.Coming.{checked_came, made_came, printed_came, sum_refused, summed_came, unread_came}
+use Rattle.outage_engine.proofs.Coming.{checked_came, helped_came, made_came, printed_came, sum_refused, summed_came}
+use Rattle.outage_engine.proofs.Coming.{unread_came}
 use Rattle.outage_engine.proofs.answer.answer_command.Goals as goal
 
--- ---- cuts, diagram
+-- ---- cuts, diagram, help
 
-pub returns-in-Cuts-clause-unread : goal.returns-in-Cuts-clause-unread
-returns-in-Cuts-clause-unread g c = rw c.in-Cuts.is (inl (for_cuts c.in-Cuts.most, refl, refl))
+pub returns-in-Cuts : goal.returns-in-Cuts
+returns-in-Cuts g c = rw c.in-Cuts.is record {
+  came = c.answer_cuts.ensures.came;
+  unread = inl (for_cuts c.in-Cuts.most, refl, refl);
+}
 
-pub returns-in-Diagram-clause-unread : goal.returns-in-Diagram-clause-unread
-returns-in-Diagram-clause-unread g c = rw c.in-Diagram.is (inl (for_diagram, refl, refl))
+pub returns-in-Diagram : goal.returns-in-Diagram
+returns-in-Diagram g c = rw c.in-Diagram.is record {
+  came = c.answer_sizes.ensures.came;
+  unread = inl (for_diagram, refl, refl);
+}
+
+pub returns-in-Help : goal.returns-in-Help
+returns-in-Help g c = rw c.in-Help.is record { came = helped_came; unread = inr refl }
 
 -- ---- check
 
