@@ -59,7 +59,7 @@ pub(crate) struct Tools {
 }
 
 impl Tools {
-    /// Tools for a tree that has so many places, with all memory that they ever take.
+    /// Tools for the places of a task, with all memory that they ever take.
     pub fn new(alloc: Global, task: Task, own_nodes: usize) -> Result<Tools, NoMemory>
         requires { own_nodes ≤ 262144 }
         ensures nodes { IfOk result (λ tools. tools.memory.room ≡ own_nodes) }
