@@ -1,5 +1,5 @@
 -- What came of a command, of words and of a run.
-use Rattle.std.specs.Prelude.{◌≡◌, ℕ, List, Option, Some, None, Result, Ok, Err}
+use Rattle.std.specs.Prelude.{◌≡◌, ℕ, List, Option, Some, None, Ok, Err}
 use Rattle.std.proofs.Common.{sym, ap, subst, ◌∙◌, refl, inl, inr}
 use Rattle.fault_definitions.specs.Tree.{FaultTree}
 use Rattle.board_words.specs.Command.{command_of}
@@ -23,9 +23,9 @@ use Rattle.outage_engine.specs.declared.status.Status.{Status}
 use Rattle.outage_engine.specs.declared.status.Status.TheVariants as status
 use Rattle.outage_engine.specs.declared.status.Status.TheVariants.{Done}
 use Rattle.outage_engine.specs.declared.summary.Summary.{Summary}
-use Rattle.outage_engine.specs.Answers.{AreCountsOf, HasCome, HasComeOf, HasOrders, IfRefused}
-use Rattle.outage_engine.specs.Answers.{IsLimitOf, IsListingOf, IsReadRefusal, IsRefusalBy, IsRefusalFor, IsRefusalOf}
-use Rattle.outage_engine.specs.Answers.{IsWeightLimitOf, refusal_line, refusal_status, status_of, summed_text}
+use Rattle.outage_engine.specs.Answers.{AreCountsOf, HasCome, HasOrders, IfRefused, IsLimitOf, IsListingOf}
+use Rattle.outage_engine.specs.Answers.{IsReadRefusal, IsRefusalBy, IsRefusalFor, IsRefusalOf, IsWeightLimitOf}
+use Rattle.outage_engine.specs.Answers.{refusal_line, refusal_status, status_of, summed_text, text_of}
 use Rattle.outage_engine.specs.Deck.{IsWellFormed}
 use Rattle.outage_engine.specs.Finding.{Faulty, Finding, Finds, TooHeavy, TooManyOrders, Wants}
 use Rattle.outage_engine.specs.Gives as gives
@@ -224,26 +224,6 @@ module _ (words : List (List ℕ)) (held left : Option (List ℕ)) (command : Co
         gives.order_limit wants (ap wants_of says ∙ at) (finds_by_words wants TooManyOrders holds) refl refl
     refused_by refusal.Usage (wants, at, never) = absurd never
 
-    module _ {before after : Seated} where
-      pub words_came : (result : Result Answer RunEnd) → HasCome command held left rose before after result
-          → HasComeOf words held left rose before after result
-      words_came (Ok answer) came =
-          let is = came.answer in
-          record {
-            answer = record {
-              gives = gives.done command is.method says is.of_command is.text is.is_done;
-              writable = is.writable;
-              bears = bears_by_words before after (status_of answer)
-                  (subst (BearsOut (own_deck (Some command)) held left before after) (sym is.is_done) is.bears);
-            };
-            refusal = tt;
-            seat = left_by_words before after came.seat;
-          }
-      words_came (Err (Refused why)) came =
-          record { answer = tt; refusal = refused_by why came.refusal; seat = left_by_words before after came.seat }
-      words_came (Err NoMemory) came =
-          record { answer = tt; refusal = tt; seat = left_by_words before after came.seat }
-
 -- ---- of a run
 
 module _ {K : Type 0} {words : List (List ℕ)} {held left : Option (List ℕ)} {rose : Type 0}
@@ -269,3 +249,26 @@ module _ {K : Type 0} {words : List (List ℕ)} {held left : Option (List ℕ)} 
 
   pub idle_run : new ≡ old → HasRun words held left rose taken faults old new before after status.NoMemory
   idle_run same = record { runs = inl (refl, same); bears = tt; seat = is_left }
+
+-- of a run whose words are a command
+module _ {K : Type 0} {held left : Option (List ℕ)} {rose : Type 0} {taken : K → Option (List ℕ)} {faults : K → ℕ}
+    {old new : K} {before after : Seated} (words : List (List ℕ)) (command : Command)
+    (says : command_of words ≡ Some command) where
+  pub answered_run : {result : Status} (answer : Answer) → HasCome command held left rose before after (Ok answer)
+      → Tells taken faults old new (status_of answer) (text_of answer) result
+      → HasRun words held left rose taken faults old new before after result
+  answered_run answer came told =
+      let is = came.answer in
+      told_run (left_by_words words held left command says before after came.seat) (status_of answer) (text_of answer)
+      (gives.done command is.method says is.of_command is.text is.is_done)
+      (bears_by_words words held left command says before after (status_of answer)
+      (subst (BearsOut (own_deck (Some command)) held left before after) (sym is.is_done) is.bears))
+      told
+
+  pub declined_run : {result : Status} (why : Refusal)
+      → HasCome command held left rose before after (Err (Refused why))
+      → Tells taken faults old new (refusal_status why) (refusal_line why) result
+      → HasRun words held left rose taken faults old new before after result
+  declined_run why came told =
+      refused_run (left_by_words words held left command says before after came.seat) why
+      (refused_by words held left command says rose why came.refusal) told

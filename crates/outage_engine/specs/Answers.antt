@@ -18,7 +18,6 @@ use Rattle.galileo_tree.specs.Lexeme.{place_at}
 use Rattle.galileo_tree.specs.ReadTree.{ReadTree}
 use Rattle.statement_faults.specs.Checked.{IsFirstFault}
 use Rattle.statement_faults.specs.declared.fault.CheckCode.{CheckCode}
-use Rattle.board_words.specs.Command.{command_of}
 use Rattle.board_words.specs.declared.command.Command.{Command}
 use Rattle.board_report.specs.CheckText.{check_text}
 use Rattle.cut_texts.specs.CutsText.{cuts_text, listed_with}
@@ -185,20 +184,6 @@ pub record HasCome (command : Command) (held left : Option (List ℕ)) (rose : T
 -- the command reads its input: it wants a deck, and makes none itself
 abbrev pub IsReading : Command → Type 0
 IsReading command = (wants : Wants) × (wants_of (Some command) ≡ Some wants) × (own_deck (Some command) ≡ None)
-
--- the answer to words, with a text that they give and a status that the seat bears out
-pub record IsAnswerBy (words : List (List ℕ)) (held left : Option (List ℕ)) (rose : Type 0) (before after : Seated)
-    (answer : Answer) : Type 0 where
-  pub gives : Gives words held left rose (status_of answer) (text_of answer)
-  pub writable : IsWritable answer
-  pub bears : BearsOut (own_deck (command_of words)) held left before after (status_of answer)
-
--- what came of words: their answer, or why they are refused, and the seat as it is left
-pub record HasComeOf (words : List (List ℕ)) (held left : Option (List ℕ)) (rose : Type 0) (before after : Seated)
-    (result : Result Answer RunEnd) : Type 0 where
-  pub answer : IfOk result (IsAnswerBy words held left rose before after)
-  pub refusal : IfErr result (IfRefused (IsRefusalBy words held left rose))
-  pub seat : IsLeftBy (own_deck (command_of words)) held left before after
 
 -- ---- what the cut sets of a tree give
 

@@ -1,12 +1,11 @@
-//! The answer to words that ask for no board, before anything is written.
+//! The answer to a command that asks for no board, before anything is written.
 ghost use Rattle.std.specs.Prelude.{◌≡◌, ◌⊎◌};
 ghost use Rattle.event_counts.specs.Count.{Rose};
 ghost use Rattle.board_words.specs.Spellings.{IsWithinBounds};
 ghost use Rattle.board_words.specs.declared.command.Command.TheVariants.{Cuts, Diagram};
-ghost use Rattle.outage_engine.specs.Answers.{HasCome, HasComeOf, IsReading, status_of};
-ghost use Rattle.outage_engine.specs.Gives.{AreReading};
+ghost use Rattle.outage_engine.specs.Answers.{HasCome, IsReading, status_of};
 ghost use Rattle.outage_engine.specs.Means.{AreWorkers, IsAskable, IsSeatFor};
-ghost use Rattle.outage_engine.specs.Runs.{IsNoBoard, IsOther};
+ghost use Rattle.outage_engine.specs.Runs.{IsOther};
 
 use crate::deck::{CrewPart, DeckParts};
 use crate::input::{read_input, read_tree};
@@ -16,7 +15,7 @@ use crate::refusal::{Refusal, RunEnd};
 use crate::sizes::{Sizes, count_cuts};
 use crate::summary::{Summary, sum_made};
 use crate::{Method, Status};
-use board_words::{Command, Show, Word, numbers_are_within_bounds, read};
+use board_words::{Command, Show};
 use edge_io::{Bytes, Source};
 use fault_model::Tree;
 use std::thread::Threads;
@@ -61,28 +60,8 @@ impl Answer {
     }
 }
 
-/// The answer to words that are no command `board`. The input is read only where the command does.
-pub(crate) fn answer_words<R: Threads + Sync, S: Source>(
-    means: &Means<R>,
-    words: &[Word],
-    source: &mut S,
-    seat: &mut StoreSeat,
-) -> Result<Answer, RunEnd>
-    requires command { IsNoBoard words.now }
-    requires seat { IsSeatFor means.now.store.now seat.old }
-    ensures came { HasComeOf words.now (S.held source.old) (S.held source.new)
-        (Rose (S.faults source.old) (S.faults source.new)) seat.old seat.new result }
-    ensures unread { AreReading words.now ⊎ (source.new ≡ source.old) }
-{
-    numbers_are_within_bounds();
-    match read(words) {
-        Some(command) => answer_command(means, command, source, seat),
-        None => Err(RunEnd::Refused(Refusal::Usage)),
-    }
-}
-
-// The answer to a command other than `board`.
-fn answer_command<R: Threads + Sync, S: Source>(
+/// The answer to a command other than `board`. The input is read only where the command does.
+pub(crate) fn answer_command<R: Threads + Sync, S: Source>(
     means: &Means<R>,
     command: Command,
     source: &mut S,

@@ -17,14 +17,14 @@ ghost use Rattle.outage_engine.specs.Store.{method_by};
 ghost use Rattle.outage_engine.specs.StoreAfter.{FindsFull, GoesForDeck, LeavesDiagram};
 ghost use Rattle.outage_engine.specs.declared.status.Status.TheVariants.{Done};
 
-use crate::answer::answer_words;
+use crate::answer::answer_command;
 use crate::listing::Listing;
 use crate::means::Means;
 use crate::opening::{asked_by, open_input};
-use crate::refusal::RunEnd;
+use crate::refusal::{Refusal, RunEnd};
 use crate::tell::{tell, tell_board, tell_refusal};
 use crate::{Status, Word};
-use board_words::{Command, read};
+use board_words::{Command, numbers_are_within_bounds, read};
 use crew_workers::serve_all;
 use edge_io::{Buffer, Free, Sink, Source};
 use outage_board::BoardStart;
@@ -193,7 +193,11 @@ fn answer_and_tell<R: Threads + Sync, S: Source, K: Sink>(
     let Ok(buffer) = Buffer::new(means.alloc) else {
         return Status::NoMemory;
     };
-    match answer_words(means, words, source, seat) {
+    numbers_are_within_bounds();
+    let Some(command) = read(words) else {
+        return tell_refusal(sink, buffer, Refusal::Usage);
+    };
+    match answer_command(means, command, source, seat) {
         Ok(answer) => tell(sink, buffer, answer),
         Err(RunEnd::Refused(refusal)) => tell_refusal(sink, buffer, refusal),
         Err(RunEnd::NoMemory) => Status::NoMemory,

@@ -1,30 +1,21 @@
-use Rattle.std.proofs.Common.{inl, inr, refl}
-use Rattle.outage_engine.specs.Answers.{status_of, text_of}
-use Rattle.outage_engine.proofs.Coming.{idle_run, refused_run, told_run}
+use Rattle.std.proofs.Common.{refl, sym}
+use Rattle.outage_engine.proofs.Coming.{answered_run, declined_run, idle_run, left_by_words}
 use Rattle.outage_engine.proofs.running.answer_and_tell.Goals as goal
 
-pub returns-in-Ok-answer_words : goal.returns-in-Ok-answer_words
-returns-in-Ok-answer_words g c =
-    let answer = c.in-Ok-answer_words.answer in
-    let came = c.in-Ok-answer_words.ensures.came in
-    record {
-      run = told_run came.seat (status_of answer) (text_of answer) came.answer.gives came.answer.bears
-          c.tell.ensures.told;
-      unread = c.answer_words.ensures.unread;
-    }
+pub returns-in-Ok-answer_command-clause-run : goal.returns-in-Ok-answer_command-clause-run
+returns-in-Ok-answer_command-clause-run g c =
+    answered_run c.args.words.now c.in-Some.command (sym c.in-Some.ensures) c.in-Ok-answer_command.answer
+    c.in-Ok-answer_command.ensures.came c.tell.ensures.told
 
-pub returns-in-Err-Refused : goal.returns-in-Err-Refused
-returns-in-Err-Refused g c =
-    let came = c.answer_words.ensures.came in
-    record {
-      run = refused_run came.seat c.in-Err-Refused.refusal
-          (rw c.in-Err-Refused.field-0-is at c.in-Err-Refused.ensures.came.refusal) c.tell_refusal.ensures.told;
-      unread = c.answer_words.ensures.unread;
-    }
+pub returns-in-Err-Refused-clause-run : goal.returns-in-Err-Refused-clause-run
+returns-in-Err-Refused-clause-run g c =
+    declined_run c.args.words.now c.in-Some.command (sym c.in-Some.ensures) c.in-Err-Refused.refusal
+    (rw c.in-Err-Refused.field-0-is at c.in-Err-Refused.ensures.came) c.tell_refusal-in-Err-Refused.ensures.told
 
-pub returns-in-Err-NoMemory : goal.returns-in-Err-NoMemory
-returns-in-Err-NoMemory g c =
-    record { run = idle_run c.answer_words.ensures.came.seat refl; unread = c.answer_words.ensures.unread }
-
-pub returns-in_default : goal.returns-in_default
-returns-in_default g c = record { run = idle_run (inl refl, refl) refl; unread = inr refl }
+pub returns-in-Err-NoMemory-clause-run : goal.returns-in-Err-NoMemory-clause-run
+returns-in-Err-NoMemory-clause-run g c =
+    idle_run
+    (left_by_words c.args.words.now (g.S.Source.held c.args.source.now) (g.S.Source.held c.answer_command.new.source)
+    c.in-Some.command (sym c.in-Some.ensures) c.args.seat.now c.answer_command.new.seat
+    c.answer_command.ensures.came.seat)
+    refl
