@@ -24,7 +24,7 @@ use Rattle.outage_engine.specs.declared.status.Status.TheVariants as status
 use Rattle.outage_engine.specs.declared.status.Status.TheVariants.{Done}
 use Rattle.outage_engine.specs.declared.summary.Summary.{Summary}
 use Rattle.outage_engine.specs.Answers.{AreCountsOf, HasCome, HasOrders, IfRefused, IsLimitOf, IsListingOf}
-use Rattle.outage_engine.specs.Answers.{IsReadRefusal, IsRefusalBy, IsRefusalFor, IsRefusalOf, IsWeightLimitOf}
+use Rattle.outage_engine.specs.Answers.{IsReadRefusal, IsRefusalFor, IsRefusalOf, IsWeightLimitOf}
 use Rattle.outage_engine.specs.Answers.{refusal_line, refusal_status, status_of, summed_text, text_of}
 use Rattle.outage_engine.specs.Deck.{IsWellFormed}
 use Rattle.outage_engine.specs.Finding.{Faulty, Finding, Finds, TooHeavy, TooManyOrders, Wants}
@@ -191,6 +191,10 @@ module _ {held left : Option (List ℕ)} {rose : Type 0} {seat : Seated} where
   }
 
 -- ---- of words
+
+-- why words are refused
+abbrev pub IsRefusalBy : List (List ℕ) → Option (List ℕ) → Option (List ℕ) → Type 0 → Refusal → Type 0
+IsRefusalBy words held left rose refusal = Gives words held left rose (refusal_status refusal) (refusal_line refusal)
 
 module _ (words : List (List ℕ)) (held left : Option (List ℕ)) (command : Command)
     (says : command_of words ≡ Some command) where

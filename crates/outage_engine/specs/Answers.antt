@@ -50,7 +50,7 @@ use Rattle.outage_engine.specs.declared.deck.DeckEnd.TheVariants as end
 use Rattle.deck_reading.specs.Deck.{StandsFor}
 use Rattle.outage_engine.specs.Deck.{IsDeckFault, IsTreeFault}
 use Rattle.outage_engine.specs.Finding.{Finds, Found, Faulty, TooHeavy, TooManyOrders, Wants}
-use Rattle.outage_engine.specs.Gives.{Gives, IsBeyond, IsMethodOf, IsTextOf, OfDeckOr, OfInput, own_deck, wants_of}
+use Rattle.outage_engine.specs.Gives.{IsBeyond, IsMethodOf, IsTextOf, OfDeckOr, OfInput, own_deck, wants_of}
 use Rattle.outage_engine.specs.Store.{AreNodesOf, method_by}
 use Rattle.outage_engine.specs.StoreAfter.{BearsOut, IsLeftBy}
 use Rattle.zdd_shared_table.specs.Seats.{Seated}
@@ -151,10 +151,6 @@ IsReadRefusal part held left rose (Fault fault) = OfInput held left (λ bytes. I
 IsReadRefusal part held left rose ListLimit = ⊥
 IsReadRefusal part held left rose OrderLimit = ⊥
 IsReadRefusal part held left rose Usage = ⊥
-
--- why words are refused
-abbrev pub IsRefusalBy : List (List ℕ) → Option (List ℕ) → Option (List ℕ) → Type 0 → Refusal → Type 0
-IsRefusalBy words held left rose refusal = Gives words held left rose (refusal_status refusal) (refusal_line refusal)
 
 -- ---- what came of a command
 
