@@ -1,35 +1,21 @@
 -- The parts that are read of a deck are those that its first dividing line makes.
-use Rattle.std.specs.Prelude.{◌≡◌, ◌↔◌, ◌⊎◌, ℕ, suc, ◌+◌, min, nat_eq, true, false, ◌||◌, if◌then◌else◌, List, []}
+use Rattle.std.specs.Prelude.{◌≡◌, ◌↔◌, ◌⊎◌, ℕ, suc, ◌+◌, min, nat_eq, Bool, true, false, ◌||◌, if◌then◌else◌, List, []}
 use Rattle.std.specs.Prelude.{◌∷◌, ◌++◌, length, take, get_or, codes, Option, Some, None}
-use Rattle.std.specs.List.{All, list_any, slice_split, position_or_len, before_first, after_first, count_by}
+use Rattle.std.specs.List.{All, list_any, position_or_len, before_first, after_first, count_by}
 use Rattle.std.specs.Cmp.Lexicographic.{pointwise, same_text}
 use Rattle.std.proofs.Common.{refl, sym, ap, ◌∙◌, subst, inl, inr, arith}
-use Rattle.std.proofs.lemmas.Bool.{cases_Bool, cases_lt, cases_eq, or_parts, or_cases, eq-eqb, ne_eqb}
+use Rattle.std.proofs.lemmas.Bool.{cases_lt, cases_eq, or_parts, or_cases, eq-eqb, ne_eqb}
 use Rattle.std.proofs.lemmas.List.{length-append}
 use Rattle.std.proofs.lemmas.List.Splits.{slice_split_at, slice_split_first, slice_split_none, length-slice_split}
 use Rattle.std.proofs.lemmas.List.Sums.{fails_before_first, passes_at_first, split_at_first}
 use Rattle.std.proofs.lemmas.Grind.{common_steps}
-use Rattle.std.proofs.lemmas.List.Folds.{list_any-append}
+use Rattle.std.proofs.lemmas.List.Folds.{list_any-append, list_any_none}
 use Rattle.crew_script.specs.declared.deck.CrewsAt.{CrewsAt}
 use Rattle.crew_script.specs.declared.deck.Split.{Split}
 use Rattle.crew_script.specs.Deck.{is_feed, is_crews, lines_of, divided, split_by, split_of}
 use Rattle.crew_script.specs.Divides.{without_return, size_of, IsDividedAt, CrewsBegin, Divides}
 
--- ---- the first line that divides
-
-record Found (size place number : ℕ) (lines : List (List ℕ)) : Type 0 where
-  before : List (List ℕ)
-  line : List ℕ
-  behind : List (List ℕ)
-  are : lines ≡ before ++ line ∷ behind
-  first : list_any is_crews before ≡ false
-  divides : is_crews line ≡ true
-  split : split_by size place number lines ≡ divided size (place + size_of before) (length line)
-      (number + length before)
-
-record NotFound (size place number : ℕ) (lines : List (List ℕ)) : Type 0 where
-  none : list_any is_crews lines ≡ false
-  split : split_by size place number lines ≡ record { tree = size; crews = None }
+-- ---- a deck is divided in one way
 
 goes_on : (size place number : ℕ) (line : List ℕ) (lines : List (List ℕ)) → is_crews line ≡ false
     → split_by size place number (line ∷ lines) ≡ split_by size (place + length line + 1) (number + 1) lines
@@ -42,76 +28,6 @@ divides_at : (size place number : ℕ) (line : List ℕ) (lines : List (List ℕ
 divides_at size place number line lines hit =
     ap (λ b. if b then divided size place (length line) number
     else split_by size (place + length line + 1) (number + 1) lines) hit
-
-find : (size place number : ℕ) (lines : List (List ℕ))
-    → NotFound size place number lines ⊎ Found size place number lines
-find size place number [] = inl (record { none = refl; split = refl })
-find size place number (line ∷ lines) = elim (cases_Bool (is_crews line)) [
-  | inl hit ↦ inr (record {
-    before = [];
-    line = line;
-    behind = lines;
-    are = refl;
-    first = refl;
-    divides = hit;
-    split =
-        divides_at size place number line lines hit ∙ ap (λ (p : ℕ × ℕ). divided size p.0 (length line) p.1)
-        (λ i. (
-          (let e : place ≡ place + 0 = omega arith in e) i,
-          (let e : number ≡ number + 0 = omega arith in e) i,
-        ));
-  })
-  | inr miss ↦ elim (find size (place + length line + 1) (number + 1) lines) [
-    | inl none ↦ inl (record {
-      none = ap (λ b. b || list_any is_crews lines) miss ∙ none.none;
-      split =
-          goes_on size place number line lines miss ∙ none.split;
-    })
-    | inr found ↦
-        let at : place + length line + 1 + size_of found.before ≡ place + (length line + 1 + size_of found.before) =
-        omega arith in
-        let under : number + 1 + length found.before ≡ number + length (line ∷ found.before) = omega arith in
-        inr (record {
-          before = line ∷ found.before;
-          line = found.line;
-          behind = found.behind;
-          are = ap (λ l. line ∷ l) found.are;
-          first = ap (λ b. b || list_any is_crews found.before) miss ∙ found.first;
-          divides = found.divides;
-          split =
-              goes_on size place number line lines miss ∙ found.split
-              ∙ ap (λ (p : ℕ × ℕ). divided size p.0 (length found.line) p.1) (λ i. (at i, under i));
-        })
-  ]
-]
-
--- what is read of a deck is how it is divided
-pub divided_so : (bytes : List ℕ) → Divides bytes (split_of bytes)
-divided_so bytes = elim (find (length bytes) 0 1 (lines_of bytes)) [
-  | inl none ↦ subst (Divides bytes) (sym none.split) (refl, none.none)
-  | inr found ↦
-      let at : 0 + size_of found.before ≡ size_of found.before = omega arith in
-      let under : 1 + length found.before + 1 ≡ length found.before + 2 = omega arith in
-      let is : IsDividedAt bytes (0 + size_of found.before)
-      (record {
-        start = min (0 + size_of found.before + length found.line + 1) (length bytes);
-        line =
-            1 + length found.before + 1;
-      }) = record {
-        before = found.before;
-        line = found.line;
-        behind = found.behind;
-        lines = found.are;
-        first = found.first;
-        divides = found.divides;
-        place = at;
-        start = refl;
-        number = under;
-      } in
-      subst (Divides bytes) (sym found.split) is
-]
-
--- ---- a deck is divided in one way
 
 divided_later : (size place number : ℕ) (before : List (List ℕ)) (line : List ℕ) (behind : List (List ℕ))
     → list_any is_crews before ≡ false → is_crews line ≡ true
@@ -152,6 +68,45 @@ divided_once bytes split is = by_crews split.crews is
         ∙ ap (λ (p : ℕ × ℕ × ℕ). record { tree = p.0; crews = Some (record { start = p.1; line = p.2 }) })
         (λ i. (tree i, start i, number i))
 
+-- ---- the first line that divides
+
+-- none of those before the first that passes a test passes it
+none_before : {X : Type 0} (test : X → Bool) (all : List X) → All (λ x. test x ≡ false) (before_first test all)
+none_before test all =
+    λ k d short. let p = fails_before_first test all k d (grind (arith, common_steps)) in grind (arith, common_steps)
+
+-- what is read of a deck is how it is divided
+pub divided_so : (bytes : List ℕ) → Divides bytes (split_of bytes)
+divided_so bytes =
+    let lines = lines_of bytes in
+    let before = before_first is_crews lines in
+    let line = get_or lines (position_or_len is_crews lines) [] in
+    elim (cases_lt (position_or_len is_crews lines) (length lines)) [
+      | inl some ↦ so (record {
+        tree = size_of before;
+        crews =
+            Some (record {
+              start = min (size_of before + length line + 1) (length bytes);
+              line = length before + 2;
+            });
+      }) (record {
+        before = before;
+        line = line;
+        behind = after_first is_crews lines;
+        lines = split_at_first is_crews lines [] some;
+        first = list_any_none is_crews before (none_before is_crews lines);
+        divides = passes_at_first is_crews lines [] some;
+        place = refl;
+        start = refl;
+        number = refl;
+      })
+      | inr none ↦ so (record { tree = length bytes; crews = None })
+          (refl, list_any_none is_crews lines (λ k d short. fails_before_first is_crews lines k d (omega arith)))
+    ]
+  where
+    so : (split : Split) → Divides bytes split → Divides bytes (split_of bytes)
+    so split divides = subst (Divides bytes) (sym (divided_once bytes split divides)) divides
+
 -- ---- what stands before the line
 
 take_behind : (line : List ℕ) (byte count : ℕ) (rest : List ℕ)
@@ -179,7 +134,7 @@ lines_before (first ∷ before) line behind bytes are =
           let text : bytes ≡ first ++ feed ∷ after_first is_feed bytes =
           split_at_first is_feed bytes 0 feeds ∙ ap (λ l. l ++ feed ∷ after_first is_feed bytes) same in
           let front : All (λ x. is_feed x ≡ false) first =
-          subst (All (λ x. is_feed x ≡ false)) same (front_no_feed bytes) in
+          subst (All (λ x. is_feed x ≡ false)) same (none_before is_feed bytes) in
           ap (λ l. lines_of (take (length first + 1 + size_of before) l)) text
           ∙ ap lines_of (take_behind first feed (size_of before) (after_first is_feed bytes))
           ∙ slice_split_at is_feed first feed (take (size_of before) (after_first is_feed bytes)) front
@@ -191,11 +146,6 @@ lines_before (first ∷ before) line behind bytes are =
           absurd (none_left before line behind (parts_are bytes first [] (before ++ line ∷ behind) (sym one ∙ are)).1)
     ]
   where
-    front_no_feed : (text : List ℕ) → All (λ x. is_feed x ≡ false) (before_first is_feed text)
-    front_no_feed text =
-        λ k d short. let p = fails_before_first is_feed text k d (grind (arith, common_steps)) in
-        grind (arith, common_steps)
-
     none_left : (before : List (List ℕ)) (line : List ℕ) (behind : List (List ℕ)) → [] ≡ before ++ line ∷ behind → ⊥
     none_left [] line behind e = absurd cc
     none_left (first ∷ before) line behind e = absurd cc

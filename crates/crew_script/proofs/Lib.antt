@@ -3,7 +3,6 @@ mod DocketLemmas
 mod LineLemmas
 mod NameLemmas
 mod OneWay
-mod ReadingLemmas
 mod Saying
 mod Spelled
 mod Standing

@@ -1,7 +1,7 @@
 -- What lines stand for, or their first fault, is what is read of them.
 use Rattle.std.proofs.Common.{◌≡◌, ℕ, ◌+◌, ◌<◌, ◌≤◌, true, false, List, [], ◌∷◌, ◌++◌, map, length, sym, refl, ap}
 use Rattle.std.proofs.Common.{subst, ◌∙◌, arith, append_assoc, append-nil, length-append, inl, inr, le-leb}
-use Rattle.std.specs.Prelude.{◌⊎◌, Result, Ok, Err, Option, Some, None, if◌then◌else◌}
+use Rattle.std.specs.Prelude.{Result, Ok, Err, Some, None, if◌then◌else◌}
 use Rattle.std.specs.List.{flat_map}
 use Rattle.std.proofs.lemmas.Bool.{lt-leb}
 use Rattle.fault_words.specs.declared.place.Place.{Place}
@@ -23,8 +23,9 @@ use Rattle.crew_script.specs.declared.fault.CrewCode.TheVariants.{TooManyRequest
 use Rattle.crew_script.specs.declared.fault.CrewFault.{CrewFault}
 use Rattle.crew_script.specs.declared.fault.CrewFault.TheVariants.{Fault, NoMemory}
 use Rattle.crew_script.proofs.NameLemmas.{differ_at}
-use Rattle.crew_script.proofs.ReadingLemmas.{ask_last, count_push}
+use Rattle.crew_script.proofs.DocketLemmas.{ask_last, names_more, count_more}
 use Rattle.crew_script.proofs.Saying.{says_one, says_read}
+use Rattle.crew_script.proofs.Standing.{fault_cases}
 
 -- the crews behind what is said, where no line has a fault
 abbrev after_all : List Crew → List Line → List Crew
@@ -55,15 +56,6 @@ run number crews _ _ (say_next bytes other lines more says some rest) clean =
 
 -- ---- what is said for crews has no fault
 
-names_split : (crews : List Crew) (crew : Crew) (more : List Crew)
-    → names_of (crews ++ crew ∷ more) ≡ names_of crews ++ crew.name ∷ names_of more
-names_split [] crew more = refl
-names_split (first ∷ crews) crew more = ap (λ l. first.name ∷ l) (names_split crews crew more)
-
-count_split : (crews more : List Crew) → request_count (crews ++ more) ≡ request_count crews + request_count more
-count_split [] more = omega arith
-count_split (first ∷ crews) more = omega (arith, count_split crews more)
-
 crew_open : (crews : List Crew) (name : List ℕ) → has_name (names_of crews) name ≡ false → length crews < MOST_CREWS
     → crew_fault crews name ≡ None
 crew_open crews name new few = rw (new, lt-leb MOST_CREWS (length crews) few) refl
@@ -92,7 +84,7 @@ docket_ran crews name front [] rest end few ran =
 docket_ran crews name front (ask ∷ back) rest end few ran =
     let now = crews ++ crew_with name front ∷ [] in
     let next = crews ++ crew_with name (front ++ ask ∷ []) ∷ [] in
-    let count = count_push crews (crew_with name front) in
+    let count = count_more crews (crew_with name front ∷ []) in
     let last : with_ask ask now ≡ next = ask_last crews (crew_with name front) ask in
     let more : Ran next (map line.Request back ++ rest) end =
     docket_ran crews name (front ++ ask ∷ []) back rest end
@@ -114,9 +106,9 @@ crews_ran crews (crew ∷ more) differ few_crews few_requests =
     let whole : (crews ++ crew ∷ []) ++ more ≡ crews ++ crew ∷ more = append_assoc crews (crew ∷ []) more in
     let new =
     differ_at (names_of crews) crew.name (names_of more)
-    (subst (λ l. all_differ l ≡ true) (names_split crews crew more) differ) in
+    (subst (λ l. all_differ l ≡ true) (names_more crews (crew ∷ more)) differ) in
     let long = length-append crews (crew ∷ more) in
-    let count = count_split crews (crew ∷ more) in
+    let count = count_more crews (crew ∷ more) in
     let rest : Ran (crews ++ crew ∷ []) (flat_map lines_for more) (crews ++ crew ∷ more) =
     subst (Ran (crews ++ crew ∷ []) (flat_map lines_for more)) whole
     (crews_ran (crews ++ crew ∷ []) more (subst (λ l. all_differ (names_of l) ≡ true) (sym whole) differ)
@@ -155,10 +147,6 @@ fault_is _ _ _ (too_many_requests [] bytes ask says some many) = absurd (some re
 fault_is _ _ _ (too_many_requests (first ∷ crews) bytes ask says some many) =
     ap (fault_behind (first ∷ crews)) (says_one bytes (line.Request ask) says)
     ∙ rw (le-leb MOST_REQUESTS (request_count (first ∷ crews)) many) refl
-
-fault_cases : (found : Option CrewCode) → (found ≡ None) ⊎ ((code : CrewCode) × (found ≡ Some code))
-fault_cases None = inl refl
-fault_cases (Some code) = inr (code, refl)
 
 -- lines behind others that have no fault
 read_on : (number : ℕ) (crews : List Crew) (lines more : List (List ℕ)) (end : List Crew)

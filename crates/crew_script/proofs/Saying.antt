@@ -2,7 +2,7 @@
 use Rattle.std.proofs.Common.{◌≡◌, ℕ, ◌+◌, ◌<◌, ◌≤◌, Bool, true, false, List, [], ◌∷◌, ◌++◌, length, cond, not, sym}
 use Rattle.std.proofs.Common.{refl, ap, subst, ◌∙◌, arith, append_assoc, append-nil, inl, inr, eqb-true, take, lt-ltb}
 use Rattle.std.proofs.Common.{le-leb, length-append}
-use Rattle.std.specs.Prelude.{◌⊎◌, ◌||◌, ◌&&◌, codes, Option, Some, None, nat_le, nat_lt}
+use Rattle.std.specs.Prelude.{◌⊎◌, ◌||◌, ◌&&◌, codes, Option, Some, None, unwrap_or, nat_le, nat_lt}
 use Rattle.std.specs.List.{list_all, position_or_len}
 use Rattle.std.specs.Str.{str_eq_ignore_ascii_case, str_to_ascii_lowercase, bytes_eq}
 use Rattle.std.proofs.lemmas.Bool.{cases_Bool, and_parts, not-true, leb-true, ltb-true}
@@ -15,7 +15,9 @@ use Rattle.fault_words.specs.Names.{all_differ, has_name}
 use Rattle.crew_script.specs.Names.{are_taken}
 use Rattle.crew_script.specs.Lines.{is_bare_kind, is_quoted_kind, is_name_word, says, is_comment, begins_comment}
 use Rattle.crew_script.specs.Lines.{only_name, only_margin, margin_of, crew_line, return_line, margin_line, take_line}
-use Rattle.crew_script.specs.Lines.{is_taken_too, request_line, line_of}
+use Rattle.crew_script.specs.Lines.{is_taken_too, request_line, line_of, SaysMargin}
+use Rattle.decimal_numerals.specs.Numeral.{is_numeral, number_from}
+use Rattle.deck_limits.specs.declared.TheConstants.{GREATEST_MARGIN}
 use Rattle.crew_script.specs.Says.{Says, says_blank, says_comment, says_crew, says_take, says_return, says_margin}
 use Rattle.crew_script.specs.Says.{texts}
 use Rattle.crew_script.specs.Crews.{said}
@@ -310,28 +312,19 @@ margin_read (word ∷ next ∷ rest) = inl refl
 abbrev Reads : List ℕ → Line → Type 0
 Reads line other = (other ≡ Bad) ⊎ Says line other
 
-read_crew : (line : List ℕ) (first : Word) (rest : List Word) → words_of line ≡ first ∷ rest
-    → says first (codes "crew") ≡ true → Reads line (crew_line (only_name rest))
-read_crew line first rest same form = elim (name_read rest) [
-  | inl none ↦ inl (ap crew_line none)
+-- a line of a form whose rest is one name
+read_name : (line : List ℕ) (first : Word) (rest : List Word) (form : List ℕ) (saying : Option (List ℕ) → Line)
+    → words_of line ≡ first ∷ rest → says first form ≡ true → saying None ≡ Bad
+    → ((name : Word) → Spells (first ∷ name ∷ []) line → is_name_word name ≡ true → Says line (saying (Some name.text)))
+    → Reads line (saying (only_name rest))
+read_name line first rest form saying same here bad says_so = elim (name_read rest) [
+  | inl none ↦ inl (ap saying none ∙ bad)
   | inr found ↦
       let spells =
       spells_all line (first ∷ found.word ∷ []) (same ∙ ap (λ l. first ∷ l) found.alone)
-      (rw (form_whole first (codes "crew") form, name_whole found.word found.is) refl) in
+      (rw (form_whole first form here, name_whole found.word found.is) refl) in
       let one : only_name rest ≡ Some found.word.text = ap only_name found.alone ∙ rw found.is refl in
-      inr (subst (λ o. Says line (crew_line o)) (sym one) (says_crew line first found.word spells form found.is))
-]
-
-read_return : (line : List ℕ) (first : Word) (rest : List Word) → words_of line ≡ first ∷ rest
-    → says first (codes "return") ≡ true → Reads line (return_line (only_name rest))
-read_return line first rest same form = elim (name_read rest) [
-  | inl none ↦ inl (ap return_line none)
-  | inr found ↦
-      let spells =
-      spells_all line (first ∷ found.word ∷ []) (same ∙ ap (λ l. first ∷ l) found.alone)
-      (rw (form_whole first (codes "return") form, name_whole found.word found.is) refl) in
-      let one : only_name rest ≡ Some found.word.text = ap only_name found.alone ∙ rw found.is refl in
-      inr (subst (λ o. Says line (return_line o)) (sym one) (says_return line first found.word spells form found.is))
+      inr (subst (λ o. Says line (saying o)) (sym one) (says_so found.word spells found.is))
 ]
 
 read_margin : (line : List ℕ) (first : Word) (rest : List Word) → words_of line ≡ first ∷ rest
@@ -373,7 +366,8 @@ read_request line first rest same = elim (cases_Bool (says first (codes "take"))
       (read_take line first rest same take)
   | inr no_take ↦ elim (cases_Bool (says first (codes "return"))) [
     | inl back ↦ subst (Reads line) (sym (let e : request_line first rest ≡ return_line (only_name rest) =
-        rw (no_take, back) refl in e)) (read_return line first rest same back)
+        rw (no_take, back) refl in e)) (read_name line first rest (codes "return") return_line same back refl
+        (λ name spells is. says_return line first name spells back is))
     | inr no_back ↦ elim (cases_Bool (says first (codes "margin"))) [
       | inl margin ↦ subst (Reads line) (sym (let e : request_line first rest ≡ margin_line (only_margin rest) =
           rw (no_take, no_back, margin) refl in e)) (read_margin line first rest same margin)
@@ -389,7 +383,8 @@ by_words line (first ∷ rest) same = elim (cases_Bool (is_comment first)) [
       (inr (comment_says line (comment_found line first rest same hit)))
   | inr miss ↦ elim (cases_Bool (says first (codes "crew"))) [
     | inl crew ↦ subst (Reads line) (sym (let e : line_of (first ∷ rest) ≡ crew_line (only_name rest) =
-        rw (miss, crew) refl in e)) (read_crew line first rest same crew)
+        rw (miss, crew) refl in e)) (read_name line first rest (codes "crew") crew_line same crew refl
+        (λ name spells is. says_crew line first name spells crew is))
     | inr other ↦ subst (Reads line) (sym (let e : line_of (first ∷ rest) ≡ request_line first rest =
         rw (miss, other) refl in e)) (read_request line first rest same)
   ]
@@ -397,3 +392,31 @@ by_words line (first ∷ rest) same = elim (cases_Bool (is_comment first)) [
 
 pub says_read : (line : List ℕ) → (said line ≡ Bad) ⊎ Says line (said line)
 says_read line = by_words line (words_of line) refl
+
+-- ---- margins
+
+small_margin : (text : List ℕ) (number : ℕ) → margin_of text ≡ Some number → number ≤ GREATEST_MARGIN
+small_margin text number is =
+    elim (cases_Bool (is_numeral 4 text && nat_le (number_from 0 text) GREATEST_MARGIN)) [
+      | inl hit ↦
+          let (form, small) = and_parts (is_numeral 4 text) (nat_le (number_from 0 text) GREATEST_MARGIN) hit in
+          let found : Some (number_from 0 text) ≡ Some number = sym (rw hit refl) ∙ is in
+          let same : number_from 0 text ≡ number = ap (λ o. unwrap_or o 0) found in
+          subst (λ n. n ≤ GREATEST_MARGIN) same (leb-true (number_from 0 text) GREATEST_MARGIN small)
+      | inr miss ↦ let none : None ≡ Some number = sym (rw miss refl) ∙ is in absurd cc
+    ]
+
+says_small : (line : List ℕ) (other : Line) → Says line other → SaysMargin other
+says_small _ _ (says_blank _ blank) = tt
+says_small _ _ (says_comment gap rest blank) = tt
+says_small _ _ (says_crew _ first name spells form is) = tt
+says_small _ _ (says_take _ first names spells form are taken) = tt
+says_small _ _ (says_return _ first name spells form is) = tt
+says_small _ _ (says_margin _ first word number spells form kind is) = small_margin word.text number is
+
+-- a line says no margin above the greatest
+pub said_small : (line : List ℕ) → SaysMargin (said line)
+said_small line = elim (says_read line) [
+  | inl bad ↦ subst SaysMargin (sym bad) tt
+  | inr says ↦ says_small line (said line) says
+]

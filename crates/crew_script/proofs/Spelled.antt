@@ -3,27 +3,19 @@ use Rattle.std.proofs.Common.{◌≡◌, ℕ, Bool, true, false, List, [], ◌�
 use Rattle.std.proofs.Common.{append-nil, inl, inr, eqb-true}
 use Rattle.std.specs.Prelude.{◌||◌}
 use Rattle.std.specs.List.{list_any, list_all}
-use Rattle.std.proofs.lemmas.Bool.{cases_Bool, and_parts, not-true}
+use Rattle.std.proofs.lemmas.Bool.{cases_Bool, and_parts, not-true, or_from, or_parts}
+use Rattle.std.proofs.lemmas.List.Folds.{list_any-append}
 use Rattle.crew_script.specs.Words.{Word, Mode, Between, InBare, InQuotes, Closed, words, words_of, is_blank, is_quote}
 use Rattle.crew_script.specs.Words.{bare, quoted, broken, parts, begins_bare, are_blank, Writes, bare_word, quoted_word}
 use Rattle.crew_script.specs.Words.{Spells, no_word, word_on}
 use Rattle.crew_script.specs.Lines.{is_bare_kind, is_quoted_kind}
 use Rattle.crew_script.proofs.WordLemmas.{blank_skipped, closed_parts}
 
-or_left : (a b : Bool) → (a || b) ≡ false → a ≡ false
-or_left true b e = e
-or_left false b e = refl
-
-or_right : (a b : Bool) → (a || b) ≡ false → b ≡ false
-or_right true b e = absurd cc
-or_right false b e = e
-
 any_push : (test : ℕ → Bool) (bytes : List ℕ) (byte : ℕ) → list_any test bytes ≡ false → test byte ≡ false
     → list_any test (bytes ++ byte ∷ []) ≡ false
-any_push test [] byte none last = rw last refl
-any_push test (b ∷ bytes) byte none last =
-    let here = or_left (test b) (list_any test bytes) none in
-    rw here (any_push test bytes byte (or_right (test b) (list_any test bytes) none) last)
+any_push test bytes byte none last =
+    list_any-append test bytes (byte ∷ [])
+    ∙ or_from (list_any test bytes) (test byte || false) none (or_from (test byte) false last refl)
 
 -- ---- what is spelled is read
 
@@ -49,22 +41,22 @@ bare_run : (text more rest : List ℕ) → list_any is_blank more ≡ false → 
     → words (InBare text) (more ++ rest) ≡ bare (text ++ more) ∷ words_of rest
 bare_run text [] rest none ends = bare_ends text rest ends ∙ ap (λ t. bare t ∷ words_of rest) (sym (append-nil text))
 bare_run text (byte ∷ more) rest none ends =
-    let miss = or_left (is_blank byte) (list_any is_blank more) none in
+    let miss = (or_parts (is_blank byte) (list_any is_blank more) none).0 in
     let goes : words (InBare text) (byte ∷ (more ++ rest)) ≡ words (InBare (text ++ byte ∷ [])) (more ++ rest) =
     rw miss refl in
     goes
-    ∙ bare_run (text ++ byte ∷ []) more rest (or_right (is_blank byte) (list_any is_blank more) none) ends
+    ∙ bare_run (text ++ byte ∷ []) more rest (or_parts (is_blank byte) (list_any is_blank more) none).1 ends
     ∙ ap (λ t. bare t ∷ words_of rest) (append_assoc text (byte ∷ []) more)
 
 quote_run : (text more rest : List ℕ) → list_any is_quote more ≡ false
     → words (InQuotes text) (more ++ 34 ∷ rest) ≡ words (Closed (text ++ more)) rest
 quote_run text [] rest none = ap (λ t. words (Closed t) rest) (sym (append-nil text))
 quote_run text (byte ∷ more) rest none =
-    let miss = or_left (is_quote byte) (list_any is_quote more) none in
+    let miss = (or_parts (is_quote byte) (list_any is_quote more) none).0 in
     let goes : words (InQuotes text) (byte ∷ (more ++ 34 ∷ rest))
     ≡ words (InQuotes (text ++ byte ∷ [])) (more ++ 34 ∷ rest) = rw miss refl in
     goes
-    ∙ quote_run (text ++ byte ∷ []) more rest (or_right (is_quote byte) (list_any is_quote more) none)
+    ∙ quote_run (text ++ byte ∷ []) more rest (or_parts (is_quote byte) (list_any is_quote more) none).1
     ∙ ap (λ t. words (Closed t) rest) (append_assoc text (byte ∷ []) more)
 
 quote_no_blank : is_blank 34 ≡ false
@@ -82,9 +74,9 @@ word_run : (word : Word) (written rest : List ℕ) → Writes word written → p
     → words_of (written ++ rest) ≡ word ∷ words_of rest
 word_run _ _ rest (bare_word [] begins none) ends = absurd cc
 word_run _ _ rest (bare_word (byte ∷ text) begins none) ends =
-    bare_begins byte (text ++ rest) (or_left (is_blank byte) (list_any is_blank text) none)
+    bare_begins byte (text ++ rest) (or_parts (is_blank byte) (list_any is_blank text) none).0
     (not-true (is_quote byte) begins)
-    ∙ bare_run (byte ∷ []) text rest (or_right (is_blank byte) (list_any is_blank text) none) ends
+    ∙ bare_run (byte ∷ []) text rest (or_parts (is_blank byte) (list_any is_blank text) none).1 ends
 word_run _ _ rest (quoted_word text none) ends =
     quote_begins ((text ++ 34 ∷ []) ++ rest)
     ∙ ap (words (InQuotes [])) (append_assoc text (34 ∷ []) rest)

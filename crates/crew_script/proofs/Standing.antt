@@ -1,9 +1,10 @@
 -- What is read of lines is what they stand for, or their first fault.
-use Rattle.std.proofs.Common.{◌≡◌, ◌≢◌, ℕ, ◌+◌, ◌≤◌, true, List, [], ◌∷◌, ◌++◌, map, length, sym, refl, ap, subst, ◌∙◌}
+use Rattle.std.proofs.Common.{◌≡◌, ◌≢◌, ℕ, ◌+◌, true, List, [], ◌∷◌, ◌++◌, length, sym, refl, ap, subst, ◌∙◌}
 use Rattle.std.proofs.Common.{arith, append_assoc, append-nil, length-append, inl, inr}
 use Rattle.std.specs.Prelude.{◌⊎◌, Err, Option, Some, None, nat_le}
 use Rattle.std.specs.List.{flat_map}
 use Rattle.std.proofs.lemmas.Bool.{cases_Bool, leb-true}
+use Rattle.std.proofs.lemmas.List.{map-append}
 use Rattle.std.proofs.lemmas.List.Concat.{flat_map-append}
 use Rattle.fault_words.specs.Names.{all_differ, has_name}
 use Rattle.crew_script.specs.declared.dockets.TheConstants.{MOST_CREWS, MOST_REQUESTS}
@@ -21,8 +22,8 @@ use Rattle.crew_script.specs.declared.fault.CrewCode.{CrewCode}
 use Rattle.crew_script.specs.declared.fault.CrewCode.TheVariants.{BadLine, DuplicateCrew, RequestBeforeCrew}
 use Rattle.crew_script.specs.declared.fault.CrewCode.TheVariants.{TooManyCrews, TooManyRequests}
 use Rattle.crew_script.proofs.NameLemmas.{differ_push}
-use Rattle.crew_script.proofs.ReadingLemmas.{named, more_asked, names_push, count_push, crew_new, crew_room}
-use Rattle.crew_script.proofs.ReadingLemmas.{request_room}
+use Rattle.crew_script.proofs.DocketLemmas.{named, more_asked, names_more, count_more, crew_new, crew_room}
+use Rattle.crew_script.proofs.DocketLemmas.{request_room, ask_names, ask_length, ask_count}
 use Rattle.crew_script.proofs.Saying.{says_one, says_read}
 
 say_append : (lines more : List (List ℕ)) (a b : List Line) → Say lines a → Say more b → Say (lines ++ more) (a ++ b)
@@ -34,35 +35,15 @@ say_append _ more _ b (say_next bytes other lines a says some rest) second =
 
 -- ---- one more request
 
-map_push : (docket : List Ask) (ask : Ask) → map line.Request (docket ++ ask ∷ [])
-    ≡ map line.Request docket ++ line.Request ask ∷ []
-map_push [] ask = refl
-map_push (first ∷ docket) ask = ap (λ l. line.Request first ∷ l) (map_push docket ask)
-
 ask_lines : (first : Crew) (crews : List Crew) (ask : Ask)
     → flat_map lines_for (with_ask ask (first ∷ crews)) ≡ flat_map lines_for (first ∷ crews) ++ line.Request ask ∷ []
 ask_lines first [] ask =
     append-nil (lines_for (more_asked ask first))
-    ∙ ap (λ l. line.Crew first.name ∷ l) (map_push first.docket ask)
+    ∙ ap (λ l. line.Crew first.name ∷ l) (map-append line.Request first.docket (ask ∷ []))
     ∙ ap (λ l. l ++ line.Request ask ∷ []) (sym (append-nil (lines_for first)))
 ask_lines first (next ∷ crews) ask =
     ap (λ l. lines_for first ++ l) (ask_lines next crews ask)
     ∙ sym (append_assoc (lines_for first) (flat_map lines_for (next ∷ crews)) (line.Request ask ∷ []))
-
-ask_names : (crews : List Crew) (ask : Ask) → names_of (with_ask ask crews) ≡ names_of crews
-ask_names [] ask = refl
-ask_names (crew ∷ []) ask = refl
-ask_names (crew ∷ next ∷ crews) ask = ap (λ l. crew.name ∷ l) (ask_names (next ∷ crews) ask)
-
-ask_length : (crews : List Crew) (ask : Ask) → length (with_ask ask crews) ≡ length crews
-ask_length [] ask = refl
-ask_length (crew ∷ []) ask = refl
-ask_length (crew ∷ next ∷ crews) ask = omega (arith, ask_length (next ∷ crews) ask)
-
-ask_count : (crews : List Crew) (ask : Ask) → request_count (with_ask ask crews) ≤ request_count crews + 1
-ask_count [] ask = omega arith
-ask_count (crew ∷ []) ask = omega (arith, length-append crew.docket (ask ∷ []))
-ask_count (crew ∷ next ∷ crews) ask = let more = ask_count (next ∷ crews) ask in omega (arith, more)
 
 -- ---- one more line
 
@@ -92,10 +73,10 @@ stands_on before crews bytes (line.Crew name) stand same none = record {
   say = subst (Say (before ++ bytes ∷ [])) (sym (flat_map-append lines_for crews (named name ∷ [])))
       (say_append before (bytes ∷ []) (flat_map lines_for crews) (line.Crew name ∷ []) stand.say
       (say_one bytes (line.Crew name) (says_it bytes (line.Crew name) same (λ e. absurd cc)) (λ e. absurd cc)));
-  differ = subst (λ l. all_differ l ≡ true) (sym (names_push crews (named name)))
+  differ = subst (λ l. all_differ l ≡ true) (sym (names_more crews (named name ∷ [])))
       (differ_push (names_of crews) name stand.differ (crew_new crews name none));
   few_crews = omega (arith, crew_room crews name none, length-append crews (named name ∷ []));
-  few_requests = omega (arith, stand.few_requests, count_push crews (named name));
+  few_requests = omega (arith, stand.few_requests, count_more crews (named name ∷ []));
 }
 stands_on before [] bytes (line.Request ask) stand same none = absurd cc
 stands_on before (first ∷ crews) bytes (line.Request ask) stand same none = record {
@@ -107,7 +88,7 @@ stands_on before (first ∷ crews) bytes (line.Request ask) stand same none = re
       let same_length = ask_length (first ∷ crews) ask in let few = stand.few_crews in omega (arith, same_length, few);
   few_requests =
       let room = request_room (first ∷ crews) none in
-      let more = ask_count (first ∷ crews) ask in
+      let more = ask_count first crews ask in
       omega (arith, room, more);
 }
 
@@ -169,7 +150,7 @@ has_fault (first ∷ crews) bytes (line.Request ask) code same some =
 
 -- ---- all lines
 
-fault_cases : (found : Option CrewCode) → (found ≡ None) ⊎ ((code : CrewCode) × (found ≡ Some code))
+pub fault_cases : (found : Option CrewCode) → (found ≡ None) ⊎ ((code : CrewCode) × (found ≡ Some code))
 fault_cases None = inl refl
 fault_cases (Some code) = inr (code, refl)
 

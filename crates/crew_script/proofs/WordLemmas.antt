@@ -1,11 +1,8 @@
 -- What the words of a line are, run by run.
-use Rattle.std.proofs.Common.{◌≡◌, ℕ, ◌+◌, ◌<◌, Bool, true, false, List, [], ◌∷◌, ◌++◌, length, take, drop, cond, not}
-use Rattle.std.proofs.Common.{sym, refl, ap, ◌∙◌, arith, append_assoc, append-nil, inl, inr, lt-ltb, subst, ◌≤◌, suc}
-use Rattle.std.specs.Prelude.{position, Some, None}
+use Rattle.std.proofs.Common.{◌≡◌, ℕ, ◌+◌, ◌<◌, true, false, List, [], ◌∷◌, ◌++◌, length, take, drop, cond, not}
+use Rattle.std.proofs.Common.{sym, refl, ap, ◌∙◌, arith, append_assoc, append-nil, inl, inr, subst, ◌≤◌, suc}
 use Rattle.std.specs.List.{prefix_len, position_or_len}
-use Rattle.std.proofs.lemmas.Bool.{cases_lt, cases_Bool, not-true}
-use Rattle.std.proofs.lemmas.List.Quantifiers.{position-Some}
-use Rattle.std.proofs.lemmas.List.Sums.{position_or_len_is, prefix_len-le-length}
+use Rattle.std.proofs.lemmas.Bool.{cases_Bool, not-true}
 use Rattle.crew_script.specs.Words.{InBare, InQuotes, Closed, words, words_of, is_blank, is_quote, bare, quoted, broken}
 use Rattle.crew_script.specs.Words.{parts, begins_bare, begins_blank}
 
@@ -105,34 +102,3 @@ quoted_open text (byte ∷ bytes) none = elim (cases_Bool (is_quote byte)) [
 pub closed_parts : (text bytes : List ℕ) → parts bytes ≡ true → words (Closed text) bytes ≡ quoted text ∷ words_of bytes
 closed_parts text [] here = refl
 closed_parts text (byte ∷ bytes) here = rw here refl
-
--- ---- where the first blank or quotation mark stands
-
-pub first_place : (test : ℕ → Bool) (bytes : List ℕ) (end : ℕ) → position test bytes ≡ Some end
-    → end ≡ position_or_len test bytes
-first_place test bytes end at =
-    let (within, hit, before) = position-Some test bytes end 0 at in
-    sym (position_or_len_is test bytes end 0 (omega arith) before (λ _. hit))
-
-pub no_place : (test : ℕ → Bool) (bytes : List ℕ) → position test bytes ≡ None
-    → length bytes ≡ position_or_len test bytes
-no_place test bytes none =
-    elim (cases_lt (position_or_len test bytes) (length bytes)) [
-      | inl found ↦
-          let clash =
-          sym none ∙ ap (λ b. cond b (Some (position_or_len test bytes)) None)
-          (lt-ltb (position_or_len test bytes) (length bytes) found) in
-          absurd cc
-      | inr past ↦ omega (arith, prefix_len-le-length (λ byte. not (test byte)) bytes)
-    ]
-
--- a quoted word by the place of the next quotation mark
-pub quoted_to : (bytes : List ℕ) (end : ℕ) → position is_quote bytes ≡ Some end
-    → words (InQuotes []) bytes ≡ words (Closed (take end bytes)) (drop (end + 1) bytes)
-quoted_to bytes end at =
-    let (within, hit, before) = position-Some is_quote bytes end 0 at in
-    let is : position_or_len is_quote bytes ≡ end = sym (first_place is_quote bytes end at) in
-    quoted_on [] bytes (omega (arith, is, within)) ∙ ap (λ n. words (Closed (take n bytes)) (drop (n + 1) bytes)) is
-
-pub never_closed : (bytes : List ℕ) → position is_quote bytes ≡ None → words (InQuotes []) bytes ≡ broken ∷ []
-never_closed bytes none = quoted_open [] bytes (let e = no_place is_quote bytes none in omega (arith, e))

@@ -10,8 +10,6 @@ pub mod Dockets
 pub mod Lines
 -- the crews and their requests, or the first fault
 pub mod Crews
--- the crews so far
-pub mod Reading
 -- the first word of a line
 pub mod Taking
 -- the lines of a text

@@ -56,14 +56,10 @@ fn copy_of_crew(alloc: Global, crew: &Crew) -> Result<Crew, NoMemory>
 }
 
 /// A copy of crews.
-pub(crate) fn copy_of_crews(
-    alloc: Global,
-    crews: &GrowingList<Crew>,
-) -> Result<GrowingList<Crew>, NoMemory>
-    ensures { IfOk result (λ copy. copy ≡ crews.now) }
+pub(crate) fn copy_of_crews(alloc: Global, crews: &[Crew]) -> Result<Vec<Crew>, NoMemory>
+    ensures { IfOk result (λ copy. copy.items ≡ crews.now) }
 {
-    let crews = crews.as_slice();
-    let mut copies = GrowingList::with_room(alloc, crews.len())?;
+    let mut copies = Vec::with_capacity(alloc, crews.len())?;
     for crew in crews {
         copies.push(copy_of_crew(alloc, crew)?)?;
     }

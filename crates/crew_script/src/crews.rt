@@ -1,14 +1,13 @@
 //! The crews that a crew part says.
-ghost use Rattle.std.specs.Prelude.{◌≡◌, ℕ, ◌+◌, ◌≤◌, List, ◌∷◌, length, None, Ok, IfOk, IfErr, OnOk};
-ghost use Rattle.crew_script.specs.Crews.{crews_of, crews_from, said, fault_behind, FailsAs};
+ghost use Rattle.std.specs.Prelude.{◌≡◌, ℕ, ◌+◌, ◌≤◌, List, ◌∷◌, length, Ok, IfOk, IfErr, OnOk};
+ghost use Rattle.crew_script.specs.Crews.{crews_of, crews_from, FailsAs};
+ghost use Rattle.crew_script.specs.Deck.{lines_of};
 ghost use Rattle.crew_script.specs.Dockets.{IsDockets};
-ghost use Rattle.crew_script.specs.Lines.{SaysMargin};
 
 use crate::deck::LONGEST_DECK;
 use crate::dockets::Dockets;
 use crate::fault::CrewFault;
-use crate::line::{Line, read_line};
-use crate::reading::Reading;
+use crate::line::read_line;
 use crate::text_lines::TextLines;
 use fault_words::Place;
 use std::alloc::Global;
@@ -22,43 +21,39 @@ pub fn read_crews(alloc: Global, bytes: &[u8], line: u32) -> Result<Dockets, Cre
     ensures kept { IfOk result IsDockets }
     ensures fault { IfErr result (λ fault. FailsAs fault (crews_of line bytes.now)) }
 {
-    let mut reading = Reading::new(alloc);
+    let mut dockets = Dockets::new(alloc);
+    add_lines(&mut dockets, alloc, bytes, line)?;
+    // Crews are kept as the clause says.
+    dockets.crews();
+    Ok(dockets)
+}
+
+// Adds what the lines of a text say.
+fn add_lines(crews: &mut Dockets, alloc: Global, bytes: &[u8], line: u32) -> Result<(), CrewFault>
+    requires short { length bytes.now ≤ LONGEST_DECK }
+    requires numbers { line ≤ LONGEST_DECK + 1 }
+    ensures crews { OnOk result (crews_from line crews.old (lines_of bytes.now) ≡ Ok crews.new) }
+    ensures fault { IfErr result (λ fault. FailsAs fault (crews_from line crews.old (lines_of bytes.now))) }
+{
     let mut number = line;
     let mut lines = TextLines::new(bytes);
     while let Some(row) = lines.next() {
-        reading = with_row(reading, alloc, row, number)?;
+        add_line(crews, alloc, row, number)?;
         number += 1;
     }
-    Ok(reading.finish()?)
+    Ok(())
 }
 
-// The crews with what one more line says, or its fault.
-fn with_row(reading: Reading, alloc: Global, row: &[u8], line: u32) -> Result<Reading, CrewFault>
-    ensures crews { IfOk result (λ more. (rows : List (List ℕ)) → crews_from line reading (row.now ∷ rows)
-        ≡ crews_from (line + 1) more rows) }
+// Adds what one more line says.
+fn add_line(crews: &mut Dockets, alloc: Global, row: &[u8], line: u32) -> Result<(), CrewFault>
+    ensures crews { OnOk result ((rows : List (List ℕ)) → crews_from line crews.old (row.now ∷ rows)
+        ≡ crews_from (line + 1) crews.new rows) }
     ensures fault { IfErr result (λ fault. (rows : List (List ℕ))
-        → FailsAs fault (crews_from line reading (row.now ∷ rows))) }
-{
-    match faultless(&reading, alloc, row, line) {
-        Ok(said) => Ok(reading.with(alloc, said)?),
-        Err(fault) => {
-            drop(reading);
-            Err(fault)
-        }
-    }
-}
-
-// What a line says that has no fault behind these crews, else its fault.
-fn faultless(reading: &Reading, alloc: Global, row: &[u8], line: u32) -> Result<Line, CrewFault>
-    ensures line { IfOk result (λ line. line ≡ said row.now) }
-    ensures margin { IfOk result SaysMargin }
-    ensures none { OnOk result (fault_behind reading.now (said row.now) ≡ None) }
-    ensures fault { IfErr result (λ fault. (rows : List (List ℕ))
-        → FailsAs fault (crews_from line reading.now (row.now ∷ rows))) }
+        → FailsAs fault (crews_from line crews.old (row.now ∷ rows))) }
 {
     let said = read_line(alloc, row)?;
-    match reading.fault_of(&said) {
-        None => Ok(said),
+    match crews.fault_of(&said) {
+        None => Ok(crews.add(alloc, said)?),
         Some(code) => {
             drop(said);
             let column = 1;

@@ -1,12 +1,18 @@
 //! The crews of a deck and what they ask.
-ghost use Rattle.std.specs.Prelude.{◌≡◌, ◌<◌, ◌≤◌, length, IfOk};
-ghost use Rattle.crew_script.specs.Dockets.{HasMargin, crew_at, ask_at, request_count, IsDockets};
+ghost use Rattle.std.specs.Prelude.{◌≡◌, ◌<◌, ◌≤◌, [], None, length, IfOk, OnOk};
+ghost use Rattle.fault_words.specs.Names.{has_name};
+ghost use Rattle.crew_script.specs.Dockets.{HasMargin, crew_at, ask_at, names_of, request_count, IsDockets};
+ghost use Rattle.crew_script.specs.Lines.{SaysMargin};
+ghost use Rattle.crew_script.specs.Crews.{fault_behind, crew_fault, request_fault, after, with_ask};
+ghost use Rattle.crew_script.specs.declared.line.Line.TheVariants.{Crew as CrewLine};
 
 use crate::copies::copy_of_crews;
+use crate::fault::CrewCode;
+use crate::line::Line;
 use crate::names::NameList;
 use fault_words::Name;
 use flat_rows::GrowingList;
-use std::alloc::Global;
+use std::alloc::{AllocError, Global};
 use std::marker::Model;
 use unit_sets::{CrewNo, NoMemory};
 
@@ -40,7 +46,7 @@ pub struct Crew {
 /// The crews of a deck with their requests. A contract sees the list of crews, in the order of their numbers from 0.
 #[derive(Drop)]
 pub struct Dockets {
-    crews: GrowingList<Crew>,
+    crews: Vec<Crew>,
     total: u32,
 }
 
@@ -51,18 +57,19 @@ impl Model for Dockets {
 
     ghost Value = { List Kept };
 
-    ghost view = { λ dockets. dockets.crews };
+    ghost view = { λ dockets. dockets.crews.items };
 
-    ghost invariant = { λ dockets. IsDockets dockets.crews × (dockets.total ≡ request_count dockets.crews) };
+    ghost invariant = { λ dockets. IsDockets dockets.crews.items
+        × (dockets.total ≡ request_count dockets.crews.items) };
 }
 
 impl Dockets {
-    pub(crate) fn of(crews: GrowingList<Crew>, total: u32) -> Dockets
-        requires kept { IsDockets crews }
-        requires count { total ≡ request_count crews }
-        ensures { result ≡ crews }
+    /// No crews.
+    pub(crate) fn new(alloc: Global) -> Dockets
+        ensures { result ≡ [] }
     {
-        Dockets { crews, total }
+        let crews = Vec::new(alloc);
+        Dockets { crews, total: 0 }
     }
 
     /// How many crews there are.
@@ -70,7 +77,7 @@ impl Dockets {
         ensures count { result ≡ length self.now }
         ensures kept { IsDockets self.now }
     {
-        self.crews.as_slice().len() as u32
+        self.crews.len() as u32
     }
 
     fn crew(&self, crew: CrewNo) -> &Crew
@@ -79,7 +86,7 @@ impl Dockets {
         ensures few { length result.now.docket ≤ MOST_REQUESTS }
         ensures kept { IsDockets self.now }
     {
-        &self.crews.as_slice()[crew.0 as usize]
+        &self.crews[crew.0 as usize]
     }
 
     /// The name of a crew.
@@ -125,4 +132,88 @@ impl Dockets {
             total: self.total,
         })
     }
+
+    /// The fault that a line has behind these crews, if it has one.
+    pub(crate) fn fault_of(&self, line: &Line) -> Option<CrewCode>
+        ensures { result ≡ fault_behind self.now line.now }
+    {
+        match line {
+            Line::Nothing => None,
+            Line::Bad => Some(CrewCode::BadLine),
+            Line::Crew(name) => self.crew_fault(name),
+            Line::Request(_) => self.request_fault(),
+        }
+    }
+
+    fn crew_fault(&self, name: &Name) -> Option<CrewCode>
+        ensures { result ≡ crew_fault self.now name.now }
+    {
+        if has_crew(&self.crews, name) {
+            Some(CrewCode::DuplicateCrew)
+        } else if self.crews.len() >= MOST_CREWS {
+            Some(CrewCode::TooManyCrews)
+        } else {
+            None
+        }
+    }
+
+    fn request_fault(&self) -> Option<CrewCode>
+        ensures { result ≡ request_fault self.now }
+    {
+        if self.crews.is_empty() {
+            Some(CrewCode::RequestBeforeCrew)
+        } else if self.total >= MOST_REQUESTS {
+            Some(CrewCode::TooManyRequests)
+        } else {
+            None
+        }
+    }
+
+    /// Adds what a line says that has no fault.
+    pub(crate) fn add(&mut self, alloc: Global, line: Line) -> Result<(), AllocError>
+        requires faultless { fault_behind self.old line ≡ None }
+        requires margin { SaysMargin line }
+        ensures { OnOk result (self.new ≡ after self.old line) }
+    {
+        match line {
+            Line::Crew(name) => self.add_crew(alloc, name),
+            Line::Request(ask) => self.add_request(ask),
+            Line::Nothing | Line::Bad => Ok(()),
+        }
+    }
+
+    fn add_crew(&mut self, alloc: Global, name: Name) -> Result<(), AllocError>
+        requires faultless { crew_fault self.old name ≡ None }
+        ensures { OnOk result (self.new ≡ after self.old (CrewLine name)) }
+    {
+        // A name has the form of one.
+        name.as_slice();
+        let docket = GrowingList::new(alloc);
+        self.crews.push(Crew { name, docket })?;
+        Ok(())
+    }
+
+    // The last crew asks this too.
+    fn add_request(&mut self, ask: Ask) -> Result<(), AllocError>
+        requires faultless { request_fault self.old ≡ None }
+        requires margin { HasMargin ask }
+        ensures { OnOk result (self.new ≡ with_ask ask self.old) }
+    {
+        let last = self.crews.len() - 1;
+        self.crews[last].docket.push(ask)?;
+        self.total += 1;
+        Ok(())
+    }
+}
+
+// Whether a crew has this name. The crews are few, so no index finds it sooner.
+fn has_crew(crews: &[Crew], name: &Name) -> bool
+    ensures { result ≡ has_name (names_of crews.now) name.now }
+{
+    for crew in crews {
+        if *name == crew.name {
+            return true;
+        }
+    }
+    false
 }

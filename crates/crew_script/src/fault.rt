@@ -3,7 +3,7 @@ use fault_words::Place;
 use std::alloc::AllocError;
 
 /// The faults of a crew part. The first is that of a deck without one.
-#[derive(Clone, Copy, Debug, PartialEq, Eq)]
+#[derive(Clone, Copy, PartialEq, Eq)]
 pub enum CrewCode {
     /// No line is `@crews`.
     NoCrewPart,

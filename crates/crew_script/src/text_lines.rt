@@ -1,6 +1,7 @@
 //! The lines of a text.
-ghost use Rattle.std.specs.Prelude.{◌≡◌, ◌<◌, IfSome, length, position};
-ghost use Rattle.crew_script.specs.Deck.{is_feed, lines_of};
+ghost use Rattle.std.specs.Prelude.{◌≡◌, ◌≤◌, ◌==◌, length};
+ghost use Rattle.std.specs.List.{position_or_len};
+ghost use Rattle.crew_script.specs.Deck.{lines_of};
 ghost use Rattle.crew_script.specs.TextLines.{TakesLine};
 
 use std::marker::Model;
@@ -32,23 +33,25 @@ impl<'a> TextLines<'a> {
         ensures { TakesLine self.old result self.new }
     {
         let rest = self.rest?;
-        match feed_at(rest) {
-            Some(end) => {
-                self.rest = Some(&rest[end + 1..]);
-                Some(&rest[..end])
-            }
-            None => {
-                self.rest = None;
-                Some(rest)
-            }
+        let end = place_of(b'\n', rest);
+        if end < rest.len() {
+            self.rest = Some(&rest[end + 1..]);
+            Some(&rest[..end])
+        } else {
+            self.rest = None;
+            Some(rest)
         }
     }
 }
 
-// Where the first line feed stands.
-fn feed_at(bytes: &[u8]) -> Option<usize>
-    ensures place { result ≡ position is_feed bytes.now }
-    ensures within { IfSome result (λ end. end < length bytes.now) }
+/// Where a byte stands first, or how many bytes there are where it stands nowhere.
+pub(crate) fn place_of(mark: u8, bytes: &[u8]) -> usize
+    ensures place { result ≡ position_or_len (λ byte. byte == mark) bytes.now }
+    ensures within { result ≤ length bytes.now }
 {
-    bytes.iter().position(|byte| *byte == b'\n')
+    let mut place = 0;
+    while place < bytes.len() && bytes[place] != mark {
+        place += 1;
+    }
+    place
 }

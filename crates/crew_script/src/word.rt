@@ -1,13 +1,13 @@
 //! The words of a line.
-ghost use Rattle.std.specs.Prelude.{◌≡◌, ◌<◌, ◌≤◌, ◌&&◌, ◌||◌, [], ◌∷◌, IfOk, IfSome, false, true, drop, length};
-ghost use Rattle.std.specs.Prelude.{position};
+ghost use Rattle.std.specs.Prelude.{◌≡◌, ◌≤◌, ◌&&◌, ◌||◌, [], ◌∷◌, IfOk, false, true, drop, length};
 ghost use Rattle.std.specs.List.{position_or_len, prefix_len};
 ghost use Rattle.fault_words.specs.Name.{is_bare_name};
-ghost use Rattle.crew_script.specs.Words.{is_blank, is_quote, words_of, words, first_of, InQuotes, Closed, parts};
+ghost use Rattle.crew_script.specs.Words.{is_blank, words_of, words, first_of, InQuotes, Closed, parts};
 ghost use Rattle.crew_script.specs.Words.{begins_bare, begins_blank, broken};
 ghost use Rattle.crew_script.specs.Lines.{says, is_comment, is_bare_kind, is_quoted_kind, begins_comment, name_in};
 ghost use Rattle.crew_script.specs.Taking.{TakesWord};
 
+use crate::text_lines::place_of;
 use fault_words::{Name, is_bare_name};
 use std::alloc::{AllocError, Global};
 use std::marker::Model;
@@ -16,7 +16,7 @@ const QUOTE: u8 = b'"';
 
 // How a word is written. A broken one is none: its quotation mark has no other, or a byte that is no blank right
 // behind that.
-#[derive(Clone, Copy, PartialEq, Eq)]
+#[derive(Clone, Copy)]
 pub(crate) enum WordKind {
     Bare,
     Quoted,
@@ -51,12 +51,6 @@ impl<'a> Word<'a> {
         matches!(self.kind, WordKind::Bare)
     }
 
-    fn is_quoted(&self) -> bool
-        ensures { result ≡ is_quoted_kind self.now.kind }
-    {
-        matches!(self.kind, WordKind::Quoted)
-    }
-
     /// The word of a form, in any case.
     pub(crate) fn says(&self, form: &[u8]) -> bool
         ensures { result ≡ says self.now form.now }
@@ -76,7 +70,11 @@ impl<'a> Word<'a> {
         ensures { result ≡ (is_quoted_kind self.now.kind
             || (is_bare_kind self.now.kind && is_bare_name self.now.text)) }
     {
-        self.is_quoted() || (self.is_bare() && is_bare_name(self.text))
+        match self.kind {
+            WordKind::Bare => is_bare_name(self.text),
+            WordKind::Quoted => true,
+            WordKind::Broken => false,
+        }
     }
 
     /// The name that the word is, or None where it is none.
@@ -180,18 +178,12 @@ fn bare(bytes: &[u8]) -> TakenWord<'_>
 fn quoted(bytes: &[u8]) -> TakenWord<'_>
     ensures { words (InQuotes []) bytes.now ≡ result.word ∷ words_of result.behind.now }
 {
-    match quote_at(bytes) {
-        Some(end) => closed(&bytes[..end], &bytes[end + 1..]),
-        None => broken(bytes),
+    let end = place_of(QUOTE, bytes);
+    if end < bytes.len() {
+        closed(&bytes[..end], &bytes[end + 1..])
+    } else {
+        broken(bytes)
     }
-}
-
-// Where the first quotation mark stands.
-fn quote_at(bytes: &[u8]) -> Option<usize>
-    ensures place { result ≡ position is_quote bytes.now }
-    ensures within { IfSome result (λ end. end < length bytes.now) }
-{
-    bytes.iter().position(|byte| *byte == QUOTE)
 }
 
 // The quoted word with this text in front of these bytes.
@@ -240,16 +232,11 @@ fn blank_at(bytes: &[u8]) -> usize
     ensures place { result ≡ position_or_len is_blank bytes.now }
     ensures within { result ≤ length bytes.now }
 {
-    match first_blank(bytes) {
-        Some(end) => end,
-        None => bytes.len(),
+    let mut place = 0;
+    while place < bytes.len() && !is_blank(bytes[place]) {
+        place += 1;
     }
-}
-
-fn first_blank(bytes: &[u8]) -> Option<usize>
-    ensures { result ≡ position is_blank bytes.now }
-{
-    bytes.iter().position(|byte| is_blank(*byte))
+    place
 }
 
 // What is left behind the blanks at the front.

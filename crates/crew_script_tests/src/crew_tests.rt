@@ -1,5 +1,5 @@
 //! What crew parts say, and their first faults.
-use crew_script::{Ask, CrewFault, Dockets, LONGEST_DECK, read_crews};
+use crew_script::{Ask, CrewCode, CrewFault, Dockets, LONGEST_DECK, read_crews};
 use fault_words::{Name, Place};
 use std::alloc::Global;
 use std::process::Abort;
@@ -79,11 +79,23 @@ fn told_counts(alloc: Global, dockets: &Dockets) -> Result<String, Fail> {
     Ok(format!(in alloc; "{crews} crews, {total} requests")?)
 }
 
+fn code_name(code: CrewCode) -> &'static str {
+    match code {
+        CrewCode::NoCrewPart => "NoCrewPart",
+        CrewCode::BadLine => "BadLine",
+        CrewCode::DuplicateCrew => "DuplicateCrew",
+        CrewCode::RequestBeforeCrew => "RequestBeforeCrew",
+        CrewCode::TooManyCrews => "TooManyCrews",
+        CrewCode::TooManyRequests => "TooManyRequests",
+    }
+}
+
 // The fault with its line and column.
 fn told_fault(alloc: Global, fault: CrewFault) -> Result<String, Fail> {
     match fault {
         CrewFault::Fault(code, Place { line, column }) => {
-            Ok(format!(in alloc; "{code:?} at {line}:{column}")?)
+            let code = code_name(code);
+            Ok(format!(in alloc; "{code} at {line}:{column}")?)
         }
         CrewFault::NoMemory => Err("no memory".into()),
     }
