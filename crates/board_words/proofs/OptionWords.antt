@@ -1,12 +1,12 @@
 -- Options as words, and as options with their values.
-use Rattle.std.specs.Prelude.{◌≡◌, ◌≢◌, ℕ, ◌<◌, Bool, true, false, not, if◌then◌else◌, List, [], ◌∷◌, decimal, Option}
-use Rattle.std.specs.Prelude.{Some, None, unwrap_or}
+use Rattle.std.specs.Prelude.{◌≡◌, ◌≢◌, ℕ, ◌<◌, Bool, true, false, if◌then◌else◌, List, [], ◌∷◌, decimal, Option}
+use Rattle.std.specs.Prelude.{Some, None, unwrap_or, is_none}
 use Rattle.std.specs.List.{Any}
 use Rattle.std.proofs.Common.{refl, sym, ap, ◌∙◌, subst, inl, inr, true≢false}
-use Rattle.std.proofs.lemmas.Bool.{and_parts, and_from, or_parts, or_from, not-true}
+use Rattle.std.proofs.lemmas.Bool.{and_parts, and_from}
 use Rattle.std.proofs.lemmas.List.Folds.{Any-from_list_any, list_any-from_Any}
 use lib.Pointwise.{bytes_decides}
-use Rattle.board_words.specs.Options.{is_same, is_known, is_option, is_said_once, are_options, value_of, number_said}
+use Rattle.board_words.specs.Options.{is_same, is_known, is_said_once, are_options, value_of, number_said}
 use Rattle.board_words.specs.Spellings.{Said, words_of, Has, Lacks, AreSaid, SaysNumber, written, unsaid}
 use Rattle.board_words.proofs.Numerals.{says, said_within}
 
@@ -27,12 +27,6 @@ word_other word other apart = by_test (is_same word other) refl
     by_test false e = e
 
 -- ---- one option
-
-lacked : (options : List Said) (option : List ℕ) → Lacks options option → is_option option (words_of options) ≡ false
-lacked [] option lacks = refl
-lacked (said ∷ more) option lacks =
-    or_from (is_same said.option option) (is_option option (words_of more)) (word_other said.option option lacks.0)
-    (lacked more option lacks.1)
 
 pub lacks_value : (options : List Said) (option : List ℕ) → Lacks options option
     → value_of option (words_of options) ≡ None
@@ -88,13 +82,6 @@ value_lacks [] option e = tt
 value_lacks (said ∷ more) option e =
     not_first more said option (is_same said.option option) refl (value_lacks more option) e
 
-option_lacks : (options : List Said) (option : List ℕ) → is_option option (words_of options) ≡ false
-    → Lacks options option
-option_lacks [] option e = tt
-option_lacks (said ∷ more) option e =
-    let parts = or_parts (is_same said.option option) (is_option option (words_of more)) e in
-    (other_word said.option option parts.0, option_lacks more option parts.1)
-
 -- ---- all options
 
 any_weaker : (P Q : List ℕ → Type 0) → ((x : List ℕ) → P x → Q x) → (xs : List (List ℕ)) → Any P xs → Any Q xs
@@ -116,9 +103,13 @@ pub are_said : (known : List (List ℕ)) (options : List Said) → AreSaid known
 are_said known [] all = refl
 are_said known (said ∷ more) all =
     and_from (is_said_once known said.option (words_of more)) (are_options known (words_of more))
-    (and_from (is_known known said.option) (not (is_option said.option (words_of more)))
-    (known_is known said.option all.0) (ap not (lacked more said.option all.1)))
+    (and_from (is_known known said.option) (is_none (value_of said.option (words_of more)))
+    (known_is known said.option all.0) (ap is_none (lacks_value more said.option all.1)))
     (are_said known more all.2)
+
+no_value : (value : Option (List ℕ)) → is_none value ≡ true → value ≡ None
+no_value None e = refl
+no_value (Some value) e = absurd cc
 
 -- words as options with their values
 pub record AsSaid (known words : List (List ℕ)) : Type 0 where
@@ -131,14 +122,14 @@ as_said known [] e = record { options = []; are = refl; all = tt }
 as_said known (option ∷ []) e = absurd cc
 as_said known (option ∷ value ∷ rest) e =
     let parts = and_parts (is_said_once known option rest) (are_options known rest) e in
-    let once = and_parts (is_known known option) (not (is_option option rest)) parts.0 in
+    let once = and_parts (is_known known option) (is_none (value_of option rest)) parts.0 in
     let more = as_said known rest parts.1 in
-    let alone : is_option option (words_of more.options) ≡ false =
-    subst (λ w. is_option option w ≡ false) more.are (not-true (is_option option rest) once.1) in
+    let alone : value_of option (words_of more.options) ≡ None =
+    subst (λ w. value_of option w ≡ None) more.are (no_value (value_of option rest) once.1) in
     record {
       options = record { option = option; value = value } ∷ more.options;
       are = ap (λ w. option ∷ value ∷ w) more.are;
-      all = (is_known_one known option once.0, option_lacks more.options option alone, more.all);
+      all = (is_known_one known option once.0, value_lacks more.options option alone, more.all);
     }
 
 -- ---- numbers

@@ -8,7 +8,7 @@ use crate::options::{are_options, number_said, value_of};
 use deck_limits::{GREATEST_MARGIN, HIGHEST_MADE, MOST_ORDERED, MOST_WORKERS};
 
 /// What of a made deck is printed.
-#[derive(Clone, Copy, Debug, PartialEq, Eq)]
+#[derive(Clone, Copy, PartialEq, Eq)]
 pub enum Show {
     /// The deck itself.
     Deck,
@@ -17,7 +17,7 @@ pub enum Show {
 }
 
 /// What the program is asked to do.
-#[derive(Clone, Copy, Debug, PartialEq, Eq)]
+#[derive(Clone, Copy)]
 pub enum Command {
     /// Print the cut sets, each with its failing orders where it has at most `most` members.
     Cuts {

@@ -1,7 +1,7 @@
 //! Options with their values.
 ghost use Rattle.std.specs.Prelude.{◌≡◌, map, None, Some, MatchOption};
 ghost use Rattle.std.specs.List.{list_any};
-ghost use Rattle.board_words.specs.Options.{are_options, is_known, is_option, is_said_once, is_same, number_said};
+ghost use Rattle.board_words.specs.Options.{are_options, is_known, is_said_once, number_said};
 ghost use Rattle.board_words.specs.Options.{value_of};
 
 use crate::Word;
@@ -25,7 +25,7 @@ pub fn are_options(known: &[&[u8]], words: &[Word]) -> bool
 fn is_said_once(known: &[&[u8]], word: &[u8], rest: &[Word]) -> bool
     ensures { result ≡ is_said_once (map (λ word. word.now) known.now) word.now rest.now }
 {
-    is_known(known, word) && !is_option(word, rest)
+    is_known(known, word) && value_of(word, rest).is_none()
 }
 
 fn is_known(known: &[&[u8]], word: &[u8]) -> bool
@@ -37,35 +37,19 @@ fn is_known(known: &[&[u8]], word: &[u8]) -> bool
     }
 }
 
-// Whether an option is among options with their values.
-fn is_option(option: &[u8], words: &[Word]) -> bool
-    ensures { result ≡ is_option option.now words.now }
-{
-    let mut rest = words;
-    while let [word, _, behind @ ..] = rest {
-        if word.as_slice() == option {
-            return true;
-        }
-        rest = behind;
-    }
-    false
-}
-
 /// The value behind an option, where the option is said.
 pub fn value_of<'a>(option: &[u8], words: &'a [Word]) -> Option<&'a Word>
     ensures { MatchOption result (value_of option.now words.now ≡ None)
         (λ value. value_of option.now words.now ≡ Some value.now) }
 {
-    match words {
-        [word, value, rest @ ..] => {
-            if word.as_slice() == option {
-                Some(value)
-            } else {
-                value_of(option, rest)
-            }
+    let mut left = words;
+    while let [word, value, more @ ..] = left {
+        if word.as_slice() == option {
+            return Some(value);
         }
-        _ => None,
+        left = more;
     }
+    None
 }
 
 // The number behind an option, which has to be within these bounds, and the default where the option isn't said.

@@ -4,139 +4,114 @@ use std::alloc::{AllocError, Global};
 use std::process::Abort;
 use std::test::Fail;
 
+// The word of a command, and its numbers.
+fn told(alloc: Global, command: Option<Command>) -> Result<String, AllocError> {
+    match command {
+        None => format!(in alloc; "none"),
+        Some(Command::Cuts { most, workers }) => format!(in alloc; "cuts {most} {workers}"),
+        Some(
+            Command::Board {
+                margin,
+                most,
+                workers,
+            },
+        ) => format!(in alloc; "board {margin} {most} {workers}"),
+        Some(Command::Check) => format!(in alloc; "check"),
+        Some(Command::Print) => format!(in alloc; "print"),
+        Some(Command::Diagram { workers }) => format!(in alloc; "diagram {workers}"),
+        Some(Command::Make { number, show }) => told_make(alloc, number, show),
+        Some(Command::Help) => format!(in alloc; "help"),
+    }
+}
+
+fn told_make(alloc: Global, number: u32, show: Show) -> Result<String, AllocError> {
+    match show {
+        Show::Deck => format!(in alloc; "make {number} deck"),
+        Show::Summary => format!(in alloc; "make {number} summary"),
+    }
+}
+
 // What words say that are parted by blanks.
-fn said(alloc: Global, text: &str) -> Result<Option<Command>, AllocError> {
+fn said(alloc: Global, text: &str) -> Result<String, AllocError> {
     let mut words = Vec::new(alloc);
     for word in text.split_whitespace() {
         words.push(Word::of(alloc, word.as_bytes())?)?;
     }
-    Ok(read(words.as_slice()))
+    told(alloc, read(words.as_slice()))
 }
 
-fn check_read(rt: &impl Abort, alloc: Global, table: &[(&str, Command)]) -> Result<(), AllocError> {
-    for (text, command) in table {
-        assert_eq!(rt; said(alloc, text)?, Some(*command), "{text}");
+// Each row has words and what is told of them.
+fn check_rows(rt: &impl Abort, alloc: Global, rows: &str) -> Result<(), Fail> {
+    for row in rows.split('|') {
+        let (text, wanted) = row.split_once('>').ok_or("a row out of form")?;
+        assert_eq!(rt; said(alloc, text)?.as_str(), wanted, "{text}");
     }
     Ok(())
 }
 
-fn check_none(rt: &impl Abort, alloc: Global, texts: &[&str]) -> Result<(), AllocError> {
-    for text in texts {
-        assert_eq!(rt; said(alloc, text)?, None, "{text}");
-    }
-    Ok(())
-}
-
-fn cuts(most: u32, workers: u32) -> Command {
-    Command::Cuts { most, workers }
-}
-
-fn board(margin: u32, most: u32, workers: u32) -> Command {
-    Command::Board {
-        margin,
-        most,
-        workers,
-    }
-}
-
-fn make(number: u32, show: Show) -> Command {
-    Command::Make { number, show }
-}
+// Options in any order, and commands without options.
+const COMMANDS: &str = "\
+cuts>cuts 6 4|\
+cuts --most 0>cuts 0 4|\
+cuts --workers 1 --most 8>cuts 8 1|\
+cuts --most 0 --workers 16>cuts 0 16|\
+board>board 0 6 4|\
+board --margin 4095>board 4095 6 4|\
+board --workers 2 --margin 1 --most 0>board 1 0 2|\
+diagram>diagram 4|\
+diagram --workers 16>diagram 16|\
+make --number 0>make 0 summary|\
+make --show deck --number 999999>make 999999 deck|\
+make --number 7 --show summary>make 7 summary|\
+check>check|\
+print>print|\
+help>help";
 
 #[test]
 fn options_are_read_in_any_order(rt: HostRuntime) -> Result<(), Fail> {
-    check_read(
-        &rt,
-        rt.alloc(),
-        &[
-            ("cuts", cuts(6, 4)),
-            ("cuts --most 0", cuts(0, 4)),
-            ("cuts --workers 1 --most 8", cuts(8, 1)),
-            ("cuts --most 0 --workers 16", cuts(0, 16)),
-            ("board", board(0, 6, 4)),
-            ("board --margin 4095", board(4095, 6, 4)),
-            ("board --workers 2 --margin 1 --most 0", board(1, 0, 2)),
-            ("diagram", Command::Diagram { workers: 4 }),
-            ("diagram --workers 16", Command::Diagram { workers: 16 }),
-            ("make --number 0", make(0, Show::Summary)),
-            (
-                "make --show deck --number 999999",
-                make(999_999, Show::Deck),
-            ),
-            ("make --number 7 --show summary", make(7, Show::Summary)),
-        ],
-    )?;
-    Ok(())
+    check_rows(&rt, rt.alloc(), COMMANDS)
 }
 
-#[test]
-fn commands_without_options_are_read(rt: HostRuntime) -> Result<(), Fail> {
-    check_read(
-        &rt,
-        rt.alloc(),
-        &[
-            ("check", Command::Check),
-            ("print", Command::Print),
-            ("help", Command::Help),
-        ],
-    )?;
-    Ok(())
-}
+// Words that are no command, and numbers out of form or bounds.
+const NO_COMMANDS: &str = "\
+>none|\
+Cuts>none|\
+cut --most 0>none|\
+help x>none|\
+check --most 0>none|\
+print x>none|\
+--help>none|\
+cuts --most>none|\
+cuts --most=6>none|\
+cuts --most 6 --most 6>none|\
+cuts --margin 0>none|\
+cuts 0 --most>none|\
+board --margin>none|\
+board --margin 1 --most 0 --margin 1>none|\
+board --number 1>none|\
+diagram --most 0>none|\
+make>none|\
+make --show deck>none|\
+make --number 1 --show both>none|\
+make --number 1 --show>none|\
+cuts --most 9>none|\
+cuts --most 08>none|\
+cuts --most 00>none|\
+cuts --most +0>none|\
+cuts --most 0000000>none|\
+cuts --workers 0>none|\
+cuts --workers 17>none|\
+cuts --workers 4x>none|\
+board --margin 4096>none|\
+board --margin 07>none|\
+diagram --workers 17>none|\
+make --number 1000000>none|\
+make --number 00>none|\
+make --number -1>none";
 
 #[test]
 fn other_words_are_no_command(rt: HostRuntime) -> Result<(), Fail> {
-    check_none(
-        &rt,
-        rt.alloc(),
-        &[
-            "",
-            "Cuts",
-            "cut --most 0",
-            "help x",
-            "check --most 0",
-            "print x",
-            "--help",
-            "cuts --most",
-            "cuts --most=6",
-            "cuts --most 6 --most 6",
-            "cuts --margin 0",
-            "cuts 0 --most",
-            "board --margin",
-            "board --margin 1 --most 0 --margin 1",
-            "board --number 1",
-            "diagram --most 0",
-            "make",
-            "make --show deck",
-            "make --number 1 --show both",
-            "make --number 1 --show",
-        ],
-    )?;
-    Ok(())
-}
-
-#[test]
-fn numbers_out_of_form_or_bounds_are_refused(rt: HostRuntime) -> Result<(), Fail> {
-    check_none(
-        &rt,
-        rt.alloc(),
-        &[
-            "cuts --most 9",
-            "cuts --most 08",
-            "cuts --most 00",
-            "cuts --most +0",
-            "cuts --most 0000000",
-            "cuts --workers 0",
-            "cuts --workers 17",
-            "cuts --workers 4x",
-            "board --margin 4096",
-            "board --margin 07",
-            "diagram --workers 17",
-            "make --number 1000000",
-            "make --number 00",
-            "make --number -1",
-        ],
-    )?;
-    Ok(())
+    check_rows(&rt, rt.alloc(), NO_COMMANDS)
 }
 
 #[test]
@@ -148,7 +123,7 @@ fn words_are_made_byte_by_byte(rt: HostRuntime) -> Result<(), Fail> {
     assert_eq!(rt; help.as_slice(), b"help".as_slice());
     let mut words = Vec::new(rt.alloc());
     words.push(help).map_err(AllocError::from)?;
-    assert_eq!(rt; read(words.as_slice()), Some(Command::Help));
+    assert_eq!(rt; told(rt.alloc(), read(words.as_slice()))?.as_str(), "help");
     Ok(())
 }
 
@@ -159,7 +134,7 @@ fn an_empty_word_and_one_that_is_no_text_say_nothing(rt: HostRuntime) -> Result<
         words
             .push(Word::of(rt.alloc(), bytes)?)
             .map_err(AllocError::from)?;
-        assert_eq!(rt; read(words.as_slice()), None);
+        assert_eq!(rt; read(words.as_slice()).is_none(), true);
     }
     Ok(())
 }
