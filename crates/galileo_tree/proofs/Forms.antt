@@ -1,6 +1,6 @@
 -- Statements that are spelled keep the form of their spelling.
 use Rattle.std.proofs.Common.{◌≡◌, ℕ, suc, ◌+◌, ◌*◌, ◌-◌, ◌^◌, ◌<◌, ◌≤◌, Bool, true, ◌&&◌, List, [], ◌∷◌, length, map}
-use Rattle.std.proofs.Common.{take, drop, Option, Some, None, sym, subst, arith}
+use Rattle.std.proofs.Common.{take, drop, Option, Some, None, Ok, sym, ap, ◌∙◌, ◌++◌, append-nil, subst, arith}
 use Rattle.std.specs.Prelude.{All, IfSome, nat_le, nat_lt, codes, if◌then◌else◌}
 use Rattle.std.specs.List.{list_all, prefix_len}
 use Rattle.std.specs.Char.{is_ascii_digit}
@@ -17,6 +17,14 @@ use Rattle.galileo_tree.specs.Lexeme.{Lexeme, is_bare, is_word_kind}
 use Rattle.decimal_numerals.specs.Numeral.{number_from, are_digits}
 use Rattle.galileo_tree.specs.GateWord.{votes_if, votes_of, gate_word, kind_said}
 use Rattle.galileo_tree.specs.Grammar.{AreAttributes, Spells, SpellsAll, Written, attribute_in}
+use Rattle.galileo_lexer.specs.declared.token.LexPlace.{LexPlace}
+use Rattle.galileo_tree.specs.ReadTree.{ReadTree}
+use Rattle.galileo_tree.specs.Lexeme.{Stream, place_at}
+use Rattle.galileo_tree.specs.Parsed.{Outside, lexemes_of, parsed, parsed_from, parsed_text}
+use Rattle.galileo_tree.specs.Grammar.{IsReading}
+use Rattle.galileo_tree.specs.Reads.{EndsIn}
+use Rattle.galileo_tree.proofs.Parses.{with_front}
+use Rattle.galileo_tree.proofs.Sound.{sound}
 use Rattle.decimal_numerals.proofs.Digits.{digit_at, milliard, small_more}
 
 -- ---- gate words
@@ -113,3 +121,20 @@ pub kept_forms : (statements : List Statement) (lexemes : List Lexeme) → Spell
 kept_forms [] lexemes spells = All-nil KeepsForm
 kept_forms (statement ∷ more) lexemes (front, back, is, first, rest) =
     All-cons KeepsForm statement more (kept_form statement front first) (kept_forms more back rest)
+
+-- what a text gives
+pub read_form : (text : List ℕ) (read : ReadTree) → parsed_text text ≡ Ok read → All KeepsForm read.statements
+read_form text read parsed =
+    kept_forms read.statements (lexemes_of text).lexemes
+    (subst (IsReading (lexemes_of text)) parsed (sound (lexemes_of text))).0
+
+-- the statements before the end of a text
+pub whole_form : (text : List ℕ) (statements : List Statement) (stream : Stream) (place : LexPlace)
+    → parsed_text text ≡ with_front statements (parsed_from Outside stream) → EndsIn stream (Ok place)
+    → All KeepsForm statements
+whole_form text statements stream place same ends =
+    subst (All KeepsForm) (append-nil statements)
+    (read_form text (record { statements = statements ++ []; end = place_at place })
+    (same
+    ∙ ap (λ l. with_front statements (parsed Outside l stream.ending)) ends.none_left
+    ∙ ap (λ e. with_front statements (parsed Outside [] e)) ends.ending))

@@ -4,15 +4,20 @@ use Rattle.std.proofs.Common.{append_assoc}
 use Rattle.galileo_tree.specs.declared.raw.Statement.{Statement}
 use Rattle.galileo_tree.specs.declared.fault.ParseFault.{ParseFault}
 use Rattle.galileo_tree.specs.declared.fault.ParseFault.TheVariants.{Expected}
-use Rattle.galileo_tree.specs.ReadTree.{ReadTree, HasBareWord}
-use Rattle.std.specs.Prelude.{All}
-use Rattle.std.proofs.Common.{None}
+use Rattle.std.specs.Prelude.{None, ◌&&◌, if◌then◌else◌, Bool, true, false}
+use Rattle.fault_words.specs.declared.kind.GateKind.{GateKind}
+use Rattle.galileo_tree.specs.declared.fault.What.TheVariants as what
+use Rattle.galileo_tree.specs.declared.raw.Placed.{Placed}
+use Rattle.galileo_tree.specs.declared.raw.RawGate.{RawGate}
+use Rattle.galileo_tree.specs.ReadTree.{ReadTree}
 use Rattle.galileo_tree.specs.declared.raw.RawBasic.{RawBasic}
 use Rattle.galileo_tree.specs.declared.raw.Statement.TheVariants.{Basic}
-use Rattle.galileo_tree.specs.Lexeme.{Lexeme, Stream}
-use Rattle.galileo_tree.specs.Parsed.{State, Outside, Attributes, On, step, expected, proceed, parsed, parsed_from}
-use Rattle.galileo_tree.specs.Parsed.{with_statement}
-use Rattle.galileo_tree.specs.Reads.{TakesFirst, GoesOn, Reads, Closes, FailsAs, NextWord, before}
+use Rattle.galileo_tree.specs.Lexeme.{Lexeme, Stream, is_equals, is_semicolon, is_bare, is_name, placed}
+use Rattle.galileo_tree.specs.Parsed.{State, Outside, GateWord, Inputs, AttributeEquals, Attributes, On, Whole, Stop}
+use Rattle.galileo_tree.specs.Parsed.{step, expected, proceed, parsed, parsed_from, with_statement, gate_of}
+use Rattle.galileo_tree.specs.Reads.{TakesFirst, GoesOn, Reads, Closes, FailsAs, NextWord, ReadsInputs, with_input}
+use Rattle.galileo_tree.specs.Reads.{before}
+use Rattle.galileo_tree.proofs.LexemeKinds.{name_alone}
 
 -- a lexeme that was taken does its step
 pub taken : (state : State) (old new : Stream) (lexeme : Lexeme) → TakesFirst old lexeme new →
@@ -59,7 +64,7 @@ put_back state old new lexeme takes =
     ∙ ap (λ ending. parsed state (lexeme ∷ new.lexemes) ending) (sym takes.same_ending)
 
 -- what is read behind a step is what is read from the step on
-fails_after : (read then_read : Result ReadTree ParseFault) → read ≡ then_read → (fault : ParseFault)
+pub fails_after : (read then_read : Result ReadTree ParseFault) → read ≡ then_read → (fault : ParseFault)
     → FailsAs fault then_read → FailsAs fault read
 fails_after read then_read same fault fails = subst (FailsAs fault) (sym same) fails
 
@@ -67,17 +72,51 @@ pub reads_after : (first second : State) (old middle new : Stream) → GoesOn fi
     → (result : Result Statement ParseFault) →
     Reads second middle result new → Reads first old result new
 reads_after first second old middle new goes (Ok statement) reads =
-    record { same = goes.same ∙ reads.same; fewer = omega arith; form = reads.form }
+    record { same = goes.same ∙ reads.same; fewer = omega arith }
 reads_after first second old middle new goes (Err fault) reads =
     fails_after (parsed_from first old) (parsed_from second middle) goes.same fault reads
 
 -- the last value of a basic event's attributes, and then the end
 pub closes_basic : (first : State) (old middle new : Stream) (basic : RawBasic)
     → GoesOn first old (Attributes basic.name basic.attributes) middle →
-    NextWord basic.name basic.attributes middle (Ok None) new → All HasBareWord basic.attributes
-    → Closes first old (Basic basic) new
-closes_basic first old middle new basic goes next form =
-    record { same = goes.same ∙ next.0; fewer = omega (arith, goes.fewer, next.1); form = form }
+    NextWord basic.name basic.attributes middle (Ok None) new → Closes first old (Basic basic) new
+closes_basic first old middle new basic goes next =
+    record { same = goes.same ∙ next.0; fewer = omega (arith, goes.fewer, next.1) }
+
+-- a gate word, and behind it no `=` of an attribute: its inputs begin
+no_attribute : (equals bare : Bool) (later : State) → (equals && bare) ≡ false
+    → (if equals then (if bare then On later else Stop) else Stop) ≡ Stop
+no_attribute true true later none = absurd cc
+no_attribute true false later none = refl
+no_attribute false bare later none = refl
+
+pub inputs_begin : (name : Placed) (word : Lexeme) (kind : GateKind) (old new : Stream) (lexeme : Lexeme)
+    → TakesFirst old lexeme new → (is_equals lexeme && is_bare word) ≡ false
+    → parsed_from (GateWord name word kind) old ≡ parsed_from (Inputs name word.place kind []) (before lexeme new)
+inputs_begin name word kind old new lexeme takes none =
+    taken (GateWord name word kind) old new lexeme takes
+    ∙ ap (λ s. proceed (if is_semicolon lexeme then Whole (gate_of name word.place kind [])
+    else (if is_name lexeme then On (Inputs name word.place kind (placed lexeme ∷ [])) else s))
+    (Expected what.Input lexeme.place) (λ later. parsed_from later new))
+    (no_attribute (is_equals lexeme) (is_bare word) (AttributeEquals name [] word.text) none)
+
+-- the first input of a gate, and then the others
+input_goes : (gate : RawGate) (stream : Stream) (lexeme : Lexeme) → is_name lexeme ≡ true
+    → GoesOn (Inputs gate.name gate.word gate.kind gate.inputs) (before lexeme stream)
+    (Inputs gate.name gate.word gate.kind (gate.inputs ++ placed lexeme ∷ [])) stream
+input_goes gate stream lexeme named =
+    goes_by (Inputs gate.name gate.word gate.kind gate.inputs) _ (before lexeme stream) stream lexeme
+    (record { first = refl; same_ending = refl }) (rw (name_alone lexeme named, named) refl)
+
+pub inputs_after : {A : Type 0} (gate whole : RawGate) (stream new : Stream) (lexeme : Lexeme)
+    (result : Result A ParseFault) → is_name lexeme ≡ true
+    → ReadsInputs (with_input lexeme gate) stream result whole new
+    → ReadsInputs gate (before lexeme stream) result whole new
+inputs_after gate whole stream new lexeme (Ok x) named reads =
+    let goes = input_goes gate stream lexeme named in
+    record { same = goes.same ∙ reads.same; fewer = omega (arith, goes.fewer, reads.fewer) }
+inputs_after gate whole stream new lexeme (Err fault) named reads =
+    fails_after _ _ (input_goes gate stream lexeme named).same fault reads
 
 -- a statement that was read stands behind those before it
 pub front_grows : (all : Result ReadTree ParseFault) (front : List Statement) (old middle new : Stream)

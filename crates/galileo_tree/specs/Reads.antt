@@ -5,14 +5,16 @@ use Rattle.galileo_lexer.specs.declared.token.LexFault.{LexFault}
 use Rattle.galileo_tree.specs.declared.raw.Statement.{Statement}
 use Rattle.galileo_tree.specs.declared.raw.Placed.{Placed}
 use Rattle.galileo_tree.specs.declared.raw.RawAttribute.{RawAttribute}
+use Rattle.galileo_tree.specs.declared.raw.RawGate.{RawGate}
+use Rattle.galileo_tree.specs.declared.raw.Statement.TheVariants.{Gate}
 use Rattle.galileo_tree.specs.declared.fault.What.{What}
 use Rattle.galileo_tree.specs.declared.fault.ParseFault.{ParseFault}
 use Rattle.galileo_tree.specs.declared.fault.ParseFault.TheVariants.{Lex, Expected, NoMemory}
-use Rattle.galileo_tree.specs.ReadTree.{ReadTree, KeepsForm}
-use Rattle.galileo_tree.specs.Lexeme.{Lexeme, Stream, place_at}
+use Rattle.galileo_tree.specs.ReadTree.{ReadTree}
+use Rattle.galileo_tree.specs.Lexeme.{Lexeme, Stream, place_at, placed}
 use Rattle.fault_words.specs.declared.place.Place.{Place}
-use Rattle.galileo_tree.specs.Parsed.{State, Outside, AttributeEquals, Attributes, basic_of, missing, with_statement}
-use Rattle.galileo_tree.specs.Parsed.{parsed_from}
+use Rattle.galileo_tree.specs.Parsed.{State, Outside, Inputs, AttributeEquals, Attributes, basic_of, missing}
+use Rattle.galileo_tree.specs.Parsed.{with_statement, parsed_from}
 
 -- a lexeme was taken from the front
 pub record TakesFirst (old : Stream) (lexeme : Lexeme) (new : Stream) : Type 0 where
@@ -50,12 +52,21 @@ pub record GoesOn (state : State) (old : Stream) (later : State) (new : Stream) 
 pub record Closes (state : State) (old : Stream) (statement : Statement) (new : Stream) : Type 0 where
   pub same : parsed_from state old ≡ with_statement statement (parsed_from Outside new)
   pub fewer : length new.lexemes < length old.lexemes
-  pub form : KeepsForm statement
 
 -- the open statement is read to its end, or the fault is found
 abbrev pub Reads : State → Stream → Result Statement ParseFault → Stream → Type 0
 Reads state old (Ok statement) new = Closes state old statement new
 Reads state old (Err fault) new = FailsAs fault (parsed_from state old)
+
+-- a gate with one more input
+abbrev pub with_input : Lexeme → RawGate → RawGate
+with_input lexeme gate = record gate { inputs = gate.inputs ++ placed lexeme ∷ [] }
+
+-- the inputs of a gate, behind those that it has, are read to its end, or the fault is found
+abbrev pub ReadsInputs : {A : Type 0} → RawGate → Stream → Result A ParseFault → RawGate → Stream → Type 0
+ReadsInputs gate old (Ok x) whole new = Closes (Inputs gate.name gate.word gate.kind gate.inputs) old (Gate whole) new
+ReadsInputs gate old (Err fault) whole new =
+    FailsAs fault (parsed_from (Inputs gate.name gate.word gate.kind gate.inputs) old)
 
 -- the statement goes on in a state that does not depend on a value
 abbrev pub Steps : {A : Type 0} → State → Stream → State → Result A ParseFault → Stream → Type 0

@@ -1,9 +1,8 @@
 //! Tests of the bytes of a word.
-ghost use Rattle.std.specs.Prelude.{◌≡◌, ◌≤◌, IfSome, length};
+ghost use Rattle.std.specs.Prelude.{◌≡◌, ◌≤◌, length};
 ghost use Rattle.std.specs.List.{prefix_len};
 ghost use Rattle.std.specs.Char.{is_ascii_digit};
 ghost use Rattle.std.specs.Str.{str_eq_ignore_ascii_case};
-ghost use Rattle.galileo_tree.specs.ReadTree.{HasShortNumbers};
 ghost use Rattle.galileo_tree.specs.GateWord.{votes_if, votes_of, gate_word};
 
 use decimal_numerals::{are_digits, number};
@@ -15,8 +14,7 @@ const MOST_DIGITS: usize = 9;
 // The kind of a gate that a word says.
 #[tactic(auto, unfolding(crate::specs::GateWord::gate_word))]
 pub(crate) fn gate_word(word: &[u8]) -> Option<GateKind>
-    ensures kind { result ≡ gate_word word.now }
-    ensures short { IfSome result HasShortNumbers }
+    ensures { result ≡ gate_word word.now }
 {
     if word.eq_ignore_ascii_case(b"and") {
         Some(GateKind::And)
@@ -43,8 +41,7 @@ pub(crate) fn gate_word(word: &[u8]) -> Option<GateKind>
 
 // K, `of` and N.
 fn votes(word: &[u8]) -> Option<GateKind>
-    ensures kind { result ≡ votes_of word.now }
-    ensures short { IfSome result HasShortNumbers }
+    ensures { result ≡ votes_of word.now }
 {
     let (front, behind) = word.split_at(digit_count(word));
     if behind.len() < 2 {
@@ -67,8 +64,7 @@ fn digit_count(word: &[u8]) -> usize
 }
 
 fn votes_if(front: &[u8], of: &[u8], back: &[u8]) -> Option<GateKind>
-    ensures kind { result ≡ votes_if front.now of.now back.now }
-    ensures short { IfSome result HasShortNumbers }
+    ensures { result ≡ votes_if front.now of.now back.now }
 {
     if are_digits(MOST_DIGITS, front)
         && of.eq_ignore_ascii_case(b"of")

@@ -1,15 +1,14 @@
 //! Statements from lexemes. Each function reads a part of a statement, from what the lexeme before has begun.
-ghost use Rattle.std.specs.Prelude.{◌≡◌, ◌≤◌, ℕ, List, [], ◌∷◌, ◌++◌, length, true, Ok, IfOk, IfErr, IfSome, OnOk, All};
-ghost use Rattle.fault_words.specs.Name.{is_bare_name};
+ghost use Rattle.std.specs.Prelude.{◌≡◌, ◌≤◌, ℕ, List, [], ◌∷◌, ◌++◌, length, true, Ok, IfOk, IfErr, OnOk};
 ghost use Rattle.galileo_tree.specs.declared.raw.Placed.{Placed};
 ghost use Rattle.galileo_tree.specs.declared.raw.RawAttribute.{RawAttribute};
-ghost use Rattle.galileo_tree.specs.declared.raw.Statement.TheVariants.{Gate as GateRead, Basic as BasicRead};
+ghost use Rattle.galileo_tree.specs.declared.raw.Statement.TheVariants.{Basic as BasicRead};
 ghost use Rattle.galileo_tree.specs.declared.fault.ParseFault.TheVariants.{NoMemory};
-ghost use Rattle.galileo_tree.specs.ReadTree.{HasShortNumbers, HasBareWord};
-ghost use Rattle.galileo_tree.specs.Lexeme.{is_value, placed};
-ghost use Rattle.galileo_tree.specs.Parsed.{Outside, TopWord, Defined, GateWord, Inputs, AttributeWord};
+ghost use Rattle.galileo_tree.specs.Lexeme.{is_value};
+ghost use Rattle.galileo_tree.specs.Parsed.{Outside, TopWord, Defined, GateWord, AttributeWord};
 ghost use Rattle.galileo_tree.specs.Parsed.{AttributeEquals, parsed_text, parsed_from};
-ghost use Rattle.galileo_tree.specs.Reads.{Reads, Steps, Values, NextWord, FailsAs, Closes, before};
+ghost use Rattle.galileo_tree.specs.Reads.{Reads, ReadsInputs, with_input, Steps, Values, NextWord, FailsAs, Closes};
+ghost use Rattle.galileo_tree.specs.Reads.{before};
 
 use crate::fault::{ParseFault, What};
 use crate::lexeme::Lexeme;
@@ -80,7 +79,8 @@ fn definition(alloc: Global, reader: &mut Reader, name: Placed) -> Result<Statem
 {
     let lexeme = reader.want(What::GateOrAttribute)?;
     if lexeme.is_semicolon() {
-        return Ok(Statement::Basic(basic(alloc, name)));
+        let attributes = RawAttributes::new(alloc);
+        return Ok(Statement::Basic(RawBasic { name, attributes }));
     }
     if let Some(kind) = lexeme.kind_said() {
         return gate(alloc, reader, name, &lexeme, kind);
@@ -99,21 +99,17 @@ fn values(
     name: Placed,
     word: &Lexeme,
 ) -> Result<Statement, ParseFault>
-    requires value { is_value word.now ≡ true }
-    requires bare { is_bare_name word.now.text ≡ true }
+    requires { is_value word.now ≡ true }
     ensures { Reads (AttributeEquals name [] word.now.text) reader.old result reader.new }
 {
     let first = word.name(alloc)?;
-    attributes(alloc, reader, basic_with_room(alloc, name)?, first)
-}
-
-// A basic event without attributes.
-fn basic(alloc: Global, name: Placed) -> RawBasic
-    ensures { result ≡ record { name = name; attributes = [] } }
-{
-    RawBasic {
-        name,
-        attributes: RawAttributes::new(alloc),
+    let mut basic = basic_with_room(alloc, name)?;
+    match add_attributes(alloc, reader, &mut basic, first) {
+        Ok(()) => Ok(Statement::Basic(basic)),
+        Err(fault) => {
+            drop(basic);
+            Err(fault)
+        }
     }
 }
 
@@ -136,40 +132,19 @@ fn gate(
     word: &Lexeme,
     kind: GateKind,
 ) -> Result<Statement, ParseFault>
-    requires { HasShortNumbers kind }
     ensures { Reads (GateWord name word.now kind) reader.old result reader.new }
 {
     let lexeme = reader.want(What::Input)?;
     if lexeme.is_equals() && word.is_bare() {
         return values(alloc, reader, name, word);
     }
-    let gate = RawGate {
+    let mut gate = RawGate {
         name,
         word: word.place(),
         kind,
         inputs: PlacedList::new(alloc),
     };
-    if !lexeme.is_name() {
-        return inputs(alloc, reader, gate, lexeme);
-    }
-    first_input(alloc, reader, gate, lexeme)
-}
-
-// The rest of a gate that has no input yet behind this one. A text may have hundreds of thousands of gates with one
-// input: what stands behind it says whether it is alone.
-fn first_input<'a>(
-    alloc: Global,
-    reader: &mut Reader<'a>,
-    begun: RawGate,
-    first: Lexeme<'a>,
-) -> Result<Statement, ParseFault>
-    requires short { HasShortNumbers begun.kind }
-    requires none { begun.inputs ≡ [] }
-    requires value { is_value first ≡ true }
-    ensures { Reads (Inputs begun.name begun.word begun.kind (placed first.entry ∷ [])) reader.old result reader.new }
-{
-    let mut gate = begun;
-    match add_first_input(alloc, reader, &mut gate, first) {
+    match all_inputs(alloc, reader, &mut gate, lexeme) {
         Ok(()) => Ok(Statement::Gate(gate)),
         Err(fault) => {
             drop(gate);
@@ -178,20 +153,34 @@ fn first_input<'a>(
     }
 }
 
-// The same, of a gate that is lent.
+// The rest of a gate that has no input yet, from this lexeme on.
+fn all_inputs<'a>(
+    alloc: Global,
+    reader: &mut Reader<'a>,
+    gate: &mut RawGate,
+    first: Lexeme<'a>,
+) -> Result<(), ParseFault>
+    requires { gate.old.inputs ≡ [] }
+    ensures { ReadsInputs gate.old (before first.entry reader.old) result gate.new reader.new }
+{
+    if first.is_name() {
+        add_first_input(alloc, reader, gate, first)
+    } else {
+        add_inputs(alloc, reader, gate, first)
+    }
+}
+
+// The rest of a gate behind its first input. A text may have hundreds of thousands of gates with one input: what stands
+// behind it says whether it is alone.
 fn add_first_input<'a>(
     alloc: Global,
     reader: &mut Reader<'a>,
     gate: &mut RawGate,
     first: Lexeme<'a>,
 ) -> Result<(), ParseFault>
-    requires short { HasShortNumbers gate.old.kind }
     requires none { gate.old.inputs ≡ [] }
     requires value { is_value first ≡ true }
-    ensures read { OnOk result (Closes (Inputs gate.old.name gate.old.word gate.old.kind (placed first.entry ∷ []))
-        reader.old (GateRead gate.new) reader.new) }
-    ensures fault { IfErr result (λ fault. FailsAs fault
-        (parsed_from (Inputs gate.old.name gate.old.word gate.old.kind (placed first.entry ∷ [])) reader.old)) }
+    ensures { ReadsInputs (with_input first.entry gate.old) reader.old result gate.new reader.new }
 {
     let next = reader.want(What::Input)?;
     let room = if next.is_semicolon() { 1 } else { USUAL_INPUTS };
@@ -201,38 +190,13 @@ fn add_first_input<'a>(
 }
 
 // The rest of a gate behind its inputs so far, from this lexeme on.
-fn inputs<'a>(
-    alloc: Global,
-    reader: &mut Reader<'a>,
-    begun: RawGate,
-    first: Lexeme<'a>,
-) -> Result<Statement, ParseFault>
-    requires { HasShortNumbers begun.kind }
-    ensures { Reads (Inputs begun.name begun.word begun.kind begun.inputs) (before first.entry reader.old) result
-        reader.new }
-{
-    let mut gate = begun;
-    match add_inputs(alloc, reader, &mut gate, first) {
-        Ok(()) => Ok(Statement::Gate(gate)),
-        Err(fault) => {
-            drop(gate);
-            Err(fault)
-        }
-    }
-}
-
-// The same, of a gate that is lent.
 fn add_inputs<'a>(
     alloc: Global,
     reader: &mut Reader<'a>,
     gate: &mut RawGate,
     first: Lexeme<'a>,
 ) -> Result<(), ParseFault>
-    requires { HasShortNumbers gate.old.kind }
-    ensures read { OnOk result (Closes (Inputs gate.old.name gate.old.word gate.old.kind gate.old.inputs)
-        (before first.entry reader.old) (GateRead gate.new) reader.new) }
-    ensures fault { IfErr result (λ fault. FailsAs fault (parsed_from (Inputs gate.old.name gate.old.word
-        gate.old.kind gate.old.inputs) (before first.entry reader.old))) }
+    ensures { ReadsInputs gate.old (before first.entry reader.old) result gate.new reader.new }
 {
     let mut lexeme = first;
     while !lexeme.is_semicolon() {
@@ -246,35 +210,12 @@ fn add_inputs<'a>(
 }
 
 // The rest of a basic event behind the `=` of this attribute word.
-fn attributes(
-    alloc: Global,
-    reader: &mut Reader,
-    begun: RawBasic,
-    first: Name,
-) -> Result<Statement, ParseFault>
-    requires bare { is_bare_name first ≡ true }
-    requires form { All HasBareWord begun.attributes }
-    ensures { Reads (AttributeEquals begun.name begun.attributes first) reader.old result reader.new }
-{
-    let mut basic = begun;
-    match add_attributes(alloc, reader, &mut basic, first) {
-        Ok(()) => Ok(Statement::Basic(basic)),
-        Err(fault) => {
-            drop(basic);
-            Err(fault)
-        }
-    }
-}
-
-// The same, of a basic event that is lent.
 fn add_attributes(
     alloc: Global,
     reader: &mut Reader,
     basic: &mut RawBasic,
     first: Name,
 ) -> Result<(), ParseFault>
-    requires bare { is_bare_name first ≡ true }
-    requires form { All HasBareWord basic.old.attributes }
     ensures read { OnOk result (Closes (AttributeEquals basic.old.name basic.old.attributes first) reader.old
         (BasicRead basic.new) reader.new) }
     ensures fault { IfErr result (λ fault. FailsAs fault
@@ -293,10 +234,8 @@ fn add_attributes(
 
 // The attribute of this word, whose value is read.
 fn attribute(alloc: Global, reader: &mut Reader, word: Name) -> Result<RawAttribute, ParseFault>
-    requires { is_bare_name word ≡ true }
-    ensures value { (name : Placed) (attributes : List RawAttribute)
+    ensures { (name : Placed) (attributes : List RawAttribute)
         → Values name attributes word reader.old result reader.new }
-    ensures form { IfOk result HasBareWord }
 {
     let lexeme = reader.want(What::Value)?;
     if !lexeme.is_value() {
@@ -311,9 +250,8 @@ fn attribute(alloc: Global, reader: &mut Reader, word: Name) -> Result<RawAttrib
 
 // Behind a value: the word of the next attribute, with its `=` read, or None behind the `;`.
 fn next_word(alloc: Global, reader: &mut Reader) -> Result<Option<Name>, ParseFault>
-    ensures next { (name : Placed) (attributes : List RawAttribute)
+    ensures { (name : Placed) (attributes : List RawAttribute)
         → NextWord name attributes reader.old result reader.new }
-    ensures bare { IfOk result (λ found. IfSome found (λ word. is_bare_name word ≡ true)) }
 {
     let lexeme = reader.want(What::Attribute)?;
     if lexeme.is_semicolon() {

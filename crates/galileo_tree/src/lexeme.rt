@@ -1,9 +1,7 @@
 //! A token with its text.
-ghost use Rattle.std.specs.Prelude.{◌≡◌, ◌≤◌, [], ◌∷◌, ◌++◌, length, take, true, IfOk, IfErr, IfSome, OnOk};
-ghost use Rattle.fault_words.specs.Name.{is_bare_name};
+ghost use Rattle.std.specs.Prelude.{◌≡◌, ◌≤◌, [], ◌∷◌, ◌++◌, length, take, true, IfOk, IfErr, OnOk};
 ghost use Rattle.galileo_tree.specs.Lexeme.{is_equals, is_semicolon, is_bare, is_name, is_value, is_top_word};
 ghost use Rattle.galileo_tree.specs.Lexeme.{is_word_kind, is_quoted_kind};
-ghost use Rattle.galileo_tree.specs.ReadTree.{HasShortNumbers};
 ghost use Rattle.galileo_tree.specs.GateWord.{kind_said};
 ghost use Rattle.galileo_tree.specs.declared.fault.ParseFault.TheVariants.{NoMemory};
 
@@ -103,7 +101,6 @@ impl<'a> Lexeme<'a> {
     #[tactic(auto, unfolding(crate::specs::Lexeme::is_bare, crate::specs::Lexeme::is_value))]
     pub(crate) fn is_bare(&self) -> bool
         ensures bare { result ≡ is_bare self.now }
-        ensures form { result ≡ true → is_bare_name self.now.text ≡ true }
         ensures value { result ≡ true → is_value self.now ≡ true }
     {
         self.is_word() && is_bare_name(self.text())
@@ -135,8 +132,7 @@ impl<'a> Lexeme<'a> {
     /// The kind of a gate that the lexeme says.
     #[tactic(auto, unfolding(crate::specs::GateWord::kind_said))]
     pub(crate) fn kind_said(&self) -> Option<GateKind>
-        ensures kind { result ≡ kind_said self.now }
-        ensures short { IfSome result HasShortNumbers }
+        ensures { result ≡ kind_said self.now }
     {
         if self.is_word() {
             gate_word(self.text())

@@ -1,7 +1,4 @@
-use Rattle.std.proofs.Common.{◌≡◌, ◌≤◌, length, true}
-use Rattle.std.specs.Prelude.{All}
-use Rattle.fault_words.specs.Name.{is_bare_name}
-use Rattle.galileo_tree.specs.ReadTree.{HasBareWord}
+use Rattle.std.proofs.Common.{◌≡◌, ◌≤◌, length}
 use Rattle.galileo_tree.specs.Parsed.{AttributeEquals, parsed_from}
 use Rattle.galileo_tree.proofs.grammar.add_attributes.Given as goal
 
@@ -9,8 +6,6 @@ abbrev pub invariant-loop-read : goal.invariant-loop-read
 invariant-loop-read l = record {
   same : parsed_from (AttributeEquals l.fn.basic.name l.fn.basic.attributes l.fn.first) l.fn.reader
       ≡ parsed_from (AttributeEquals l.basic.name l.basic.attributes l.word) l.reader;
-  bare : is_bare_name l.word ≡ true;
-  form : All HasBareWord l.basic.attributes;
   fewer : length l.reader.lexemes ≤ length l.fn.reader.lexemes;
 }
 

@@ -1,5 +1,4 @@
 use Rattle.std.proofs.Common.{◌≡◌, ◌≤◌, length}
-use Rattle.galileo_tree.specs.ReadTree.{HasShortNumbers}
 use Rattle.galileo_tree.specs.Parsed.{Inputs, parsed_from}
 use Rattle.galileo_tree.specs.Reads.{before}
 use Rattle.galileo_tree.proofs.grammar.add_inputs.Given as goal
@@ -9,7 +8,6 @@ invariant-loop-lexeme l = record {
   same : parsed_from (Inputs l.fn.gate.name l.fn.gate.word l.fn.gate.kind l.fn.gate.inputs)
       (before l.fn.first l.fn.reader)
       ≡ parsed_from (Inputs l.gate.name l.gate.word l.gate.kind l.gate.inputs) (before l.lexeme l.reader);
-  short : HasShortNumbers l.gate.kind;
   fewer : length l.reader.lexemes ≤ length l.fn.reader.lexemes;
 }
 

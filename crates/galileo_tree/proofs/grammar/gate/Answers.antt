@@ -1,9 +1,13 @@
-use Rattle.std.proofs.Common.{[], ◌∷◌, refl, sym}
-use Rattle.galileo_tree.specs.Lexeme.{placed}
-use Rattle.galileo_tree.specs.Parsed.{GateWord, Inputs, AttributeEquals}
-use Rattle.galileo_tree.proofs.LexemeKinds.{equals_alone, name_alone}
-use Rattle.galileo_tree.proofs.Parses.{goes_by, reads_after}
+use Rattle.std.proofs.Common.{◌≡◌, false, [], length, refl, sym, ap, ◌∙◌, arith}
+use Rattle.std.specs.Prelude.{◌&&◌}
+use Rattle.galileo_tree.specs.Lexeme.{is_equals, is_bare}
+use Rattle.galileo_tree.specs.Parsed.{GateWord, Inputs, AttributeEquals, parsed_from}
+use Rattle.galileo_tree.specs.Reads.{before}
+use Rattle.galileo_tree.proofs.LexemeKinds.{equals_alone}
+use Rattle.galileo_tree.proofs.Parses.{fails_after, goes_by, inputs_begin, reads_after}
 use Rattle.galileo_tree.proofs.grammar.gate.Goals as goal
+use Rattle.galileo_tree.proofs.grammar.gate.Goals.{After-new, else-is_equals-via-else-is_equals}
+use Rattle.galileo_tree.proofs.grammar.gate.Goals.{else-is_equals-via-then-is_equals+else-is_bare}
 
 -- the gate word was the word of an attribute
 pub returns-then-is_bare : goal.returns-then-is_bare
@@ -15,13 +19,29 @@ returns-then-is_bare c =
     (rw (alone.0, alone.1, sym c.if-is_equals.ensures, sym c.if-is_bare.ensures.bare) refl) in
     reads_after first (AttributeEquals c.args.name [] word.text) _ _ _ goes _ c.values.ensures
 
--- the first input was read
-pub returns : goal.returns
-returns c =
+-- it was the word of a gate, whose inputs begin
+begins : (c : After-new) → parsed_from (GateWord c.args.name c.args.word.now c.args.kind) c.args.reader.now
+    ≡ parsed_from (Inputs c.args.name c.place.result c.args.kind c.new.result)
+    (before c.in_ok-lexeme.lexeme c.want.new.self)
+begins c =
     let word = c.args.word.now in
     let lexeme = c.in_ok-lexeme.lexeme in
-    let first = GateWord c.args.name word c.args.kind in
-    let second = Inputs c.args.name word.place c.args.kind (placed lexeme ∷ []) in
-    let named = sym c.if-not-is_name.ensures.named in
-    let goes = goes_by first second _ _ lexeme c.in_ok-lexeme.ensures (rw (name_alone lexeme named, named) refl) in
-    reads_after first second _ _ _ goes _ (rw (c.place.ensures) at c.first_input.ensures)
+    let none : (is_equals lexeme && is_bare word) ≡ false =
+    elim c.else-is_equals.branch [
+      | else-is_equals-via-then-is_equals+else-is_bare w ↦
+          rw (sym w.if-is_equals.ensures, sym w.if-is_bare.ensures.bare) refl
+      | else-is_equals-via-else-is_equals w ↦ rw (sym w.if-is_equals.ensures) refl
+    ] in
+    rw (c.place.ensures, c.new.ensures)
+    (inputs_begin c.args.name word c.args.kind c.args.reader.now c.want.new.self lexeme c.in_ok-lexeme.ensures none)
+
+pub returns-in-Ok : goal.returns-in-Ok
+returns-in-Ok c =
+    let read = c.in-Ok.ensures in
+    record {
+      same = begins (goal.at.returns-in-Ok c).After-new ∙ read.same;
+      fewer = omega (arith, read.fewer, ap length c.in_ok-lexeme.ensures.first);
+    }
+
+pub returns-in-Err : goal.returns-in-Err
+returns-in-Err c = fails_after _ _ (begins (goal.at.returns-in-Err c).After-new) c.in-Err.fault c.in-Err.ensures

@@ -4,8 +4,8 @@ use Rattle.galileo_tree.proofs.Parses.{goes_by, goes_then}
 use Rattle.galileo_tree.proofs.grammar.next_word.Goals as goal
 
 -- the word, and then its `=`
-pub returns-clause-next : goal.returns-clause-next
-returns-clause-next c = λ name attributes.
+pub returns : goal.returns
+returns c = λ name attributes.
     let word = c.in_ok-lexeme.lexeme.text in
     rw c.in_ok-word.ensures.name
     (goes_then _ (AttributeWord name attributes word) _ _ _ _

@@ -1,19 +1,19 @@
 use Rattle.galileo_tree.specs.Parsed.{parsed_text}
-use Rattle.galileo_tree.specs.ReadTree.{KeepsForm}
-use Rattle.std.proofs.lemmas.List.Elements.{All-push}
+use Rattle.galileo_tree.proofs.Forms.{whole_form}
 use Rattle.galileo_tree.proofs.Parses.{front_grows}
 use Rattle.galileo_tree.proofs.grammar.parse.Goals as goal
 
 -- the statement that was read stands behind those before it
 pub loop-statements-preserved : goal.loop-statements-preserved
 loop-statements-preserved c =
-    let before = c.loop-statements.statements in
-    let read = c.in_ok-read.read in
     let takes = rw c.in-Some.is at c.in_ok-first.ensures in
     rw c.in_ok-push.ensures.added
-    (record {
-      same =
-          front_grows (parsed_text c.args.text.now) before _ _ _ c.in-Some.first read c.loop-statements.invariant.same
-          takes c.in_ok-read.ensures;
-      form = All-push KeepsForm before read c.loop-statements.invariant.form c.in_ok-read.ensures.form;
-    })
+    (front_grows (parsed_text c.args.text.now) c.loop-statements.statements _ _ _ c.in-Some.first c.in_ok-read.read
+    c.loop-statements.invariant takes c.in_ok-read.ensures)
+
+-- the text has ended
+pub new-requires : goal.new-requires
+new-requires c =
+    let ends = rw c.in_default.is at c.in_ok-first.ensures in
+    whole_form c.args.text.now c.loop-statements.statements c.loop-statements.reader ends.0 c.loop-statements.invariant
+    ends.1

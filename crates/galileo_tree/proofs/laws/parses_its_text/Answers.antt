@@ -1,7 +1,5 @@
-use Rattle.std.proofs.Common.{subst}
-use Rattle.galileo_tree.specs.Grammar.{IsReading}
 use Rattle.galileo_tree.specs.Parsed.{lexemes_of}
-use Rattle.galileo_tree.proofs.Forms.{kept_forms}
+use Rattle.galileo_tree.proofs.Forms.{read_form}
 use Rattle.galileo_tree.proofs.Sound.{sound}
 use Rattle.galileo_tree.proofs.laws.parses_its_text.Goals as goal
 
@@ -9,6 +7,4 @@ pub returns-clause-reading : goal.returns-clause-reading
 returns-clause-reading c = λ text. sound (lexemes_of text)
 
 pub returns-clause-form : goal.returns-clause-form
-returns-clause-form c = λ text read parsed.
-    kept_forms read.statements (lexemes_of text).lexemes
-    (subst (IsReading (lexemes_of text)) parsed (sound (lexemes_of text))).0
+returns-clause-form c = read_form
