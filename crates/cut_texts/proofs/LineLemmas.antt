@@ -1,17 +1,21 @@
 -- Lines that are kept, and what changes them.
-use Rattle.std.specs.Prelude.{if◌then◌else◌}
+use Rattle.std.specs.Prelude.{if◌then◌else◌, All, Option, Result, Ok, Err, OnOk, is_err, slice_index_or}
 use Rattle.std.proofs.Common.{Bool, true, false, ◌≡◌, ℕ, ◌+◌, ◌-◌, ◌<◌, ◌≤◌, List, [], ◌∷◌, ◌++◌, length, take, drop}
-use Rattle.std.proofs.Common.{get_or, sym, ap, subst}
+use Rattle.std.proofs.Common.{get_or, sym, ap, subst, true≢false}
 use Rattle.std.proofs.Common.{◌∙◌, refl, arith, append_assoc, append-nil, length-append, take-append-drop, below_more}
 use Rattle.std.proofs.lemmas.List.{drop-take, drop_all, drop-append-le, get_or-take, get_or_append_left, get_or_push}
 use Rattle.std.proofs.lemmas.List.{length-drop, length-take-le, length_push, take-append-le, take-take, take_all}
-use Rattle.std.proofs.lemmas.List.{take_at}
+use Rattle.std.proofs.lemmas.List.{take_at, take_more}
 use Rattle.std.proofs.lemmas.List.Concat.{flat_map-append}
-use Rattle.std.proofs.lemmas.List.Elements.{All-nil, All-push, All-take}
+use Rattle.std.proofs.lemmas.List.Elements.{All-drop, All-nil, All-push, All-take}
+use Rattle.edge_io.specs.Out.{Output, Puts}
+use Rattle.edge_io.proofs.OutLemmas.{Puts-trans}
 use Rattle.fault_definitions.specs.Tree.{FaultTree, IsUnitOf}
 use Rattle.cut_texts.specs.UnitTexts.{spaced, unit_text}
 use Rattle.cut_texts.specs.declared.line.Line.{Line}
-use Rattle.cut_texts.specs.Lines.{SameHead, Spells, StartsWith}
+use Rattle.cut_texts.specs.Lines.{SameHead, Spells}
+use Rattle.cut_texts.specs.Spelling.{CanSpell}
+use Rattle.cut_texts.specs.declared.spelled.Spelled.{Spelled}
 
 module _ (tree : FaultTree) where
   spaced_split : (units : List ℕ) (count : ℕ)
@@ -177,11 +181,56 @@ SameHead-trans old mid new first second = record {
   start = subst (λ n. take n new.text.items ≡ take n mid.text.items) first.head second.start ∙ first.start;
 }
 
-pub StartsWith-same : (start : List ℕ) (old new : Line) → SameHead old new → StartsWith start old → StartsWith start new
-StartsWith-same start old new same starts some =
-    ap (λ n. take n new.text.items) same.head ∙ same.start ∙ starts (subst (λ n. 0 < n) same.head some)
-
 -- the start of a line that has a head
 pub start_is : (start : List ℕ) (old new : Line) → SameHead old new → take old.head old.text.items ≡ start
     → take new.head new.text.items ≡ start
 start_is start old new same is = ap (λ n. take n new.text.items) same.head ∙ same.start ∙ is
+
+-- ---- what can be spelled
+
+-- all units behind the first of some
+pub behind_first : (units : List ℕ) (count : ℕ) → take (length units - count) (drop count units) ≡ drop count units
+behind_first units count =
+    take_all (length units - count) (drop count units) (omega (arith, length-drop count units))
+
+-- they can be spelled where all can
+pub spelled_behind : (names : Spelled) (units : List ℕ) (count : ℕ) → CanSpell names units
+    → CanSpell names (take (length units - count) (drop count units))
+spelled_behind names units count can = record {
+  texts = can.texts;
+  units = subst (All (IsUnitOf names.tree.now)) (sym (behind_first units count))
+      (All-drop (IsUnitOf names.tree.now) count units can.units);
+}
+
+-- a line that begins as some units do, and is given the others, has all
+pub all_there : {T E : Type 0} (answer : Result T E) (units now begun old : List ℕ) (count : ℕ)
+    → is_err answer ≡ false → OnOk answer (now ≡ begun ++ take (length units - count) (drop count units))
+    → begun ≡ take count old → take count old ≡ take count units → now ≡ units
+all_there (Ok value) units now begun old count fine grown first same =
+    grown ∙ ap (λ l. l ++ take (length units - count) (drop count units)) (first ∙ same)
+    ∙ ap (λ l. take count units ++ l) (behind_first units count) ∙ take-append-drop count units
+all_there (Err error) units now begun old count fine grown first same = absurd (true≢false fine)
+
+-- one of them has a text
+pub has_text : (names : Spelled) (units : List ℕ) (place unit : ℕ) → CanSpell names units → place < length units
+    → unit ≡ get_or units place unit → unit ≤ length names.texts.now
+has_text names units place unit can short at =
+    let known : IsUnitOf names.tree.now unit = subst (IsUnitOf names.tree.now) (sym at) (can.units place unit short) in
+    omega (arith, known.1, can.texts.count)
+
+-- the name of one more unit is put
+pub one_more_put : {K : Type 0} (taken : K → Option (List ℕ)) (faults : K → ℕ) (old mid new : Output K)
+    (names : Spelled) (units : List ℕ) (place unit : ℕ) (piece : List ℕ) → CanSpell names units → place < length units
+    → unit ≡ get_or units place unit → piece ≡ slice_index_or names.texts.now (unit - 1) []
+    → Puts taken faults old mid (spaced names.tree.now (take place units)) → Puts taken faults mid new piece
+    → Puts taken faults old new (spaced names.tree.now (take (place + 1) units))
+one_more_put taken faults old mid new names units place unit piece can short at is before put =
+    let tree = names.tree.now in
+    let known : IsUnitOf tree unit = subst (IsUnitOf tree) (sym at) (can.units place unit short) in
+    let grown : spaced tree (take place units) ++ piece ≡ spaced tree (take (place + 1) units) =
+    ap (λ l. spaced tree (take place units) ++ l) (is ∙ can.texts.each unit known)
+    ∙ sym (spaced_push tree (take place units) unit)
+    ∙ ap (λ u. spaced tree (take place units ++ u ∷ [])) at
+    ∙ ap (spaced tree) (sym (take_more units place unit short)) in
+    subst (Puts taken faults old new) grown
+    (Puts-trans taken faults old mid new (spaced tree (take place units)) piece before put)

@@ -1,24 +1,25 @@
 //! The text of cut sets.
-ghost use Rattle.std.specs.Prelude.{◌≡◌, ◌<◌, ◌+◌, ◌++◌, is_err, length, false, All, None, codes, slice_index_or};
-ghost use Rattle.cut_sequences.specs.Orders.{orders_at};
+ghost use Rattle.std.specs.Prelude.{◌≡◌, ◌<◌, ◌+◌, ◌++◌, [], is_err, length, false, All, None, codes};
+ghost use Rattle.std.specs.Prelude.{decimal, slice_index_or};
 ghost use Rattle.edge_io.specs.Out.{has_failed, Puts};
 ghost use Rattle.fault_definitions.specs.Tree.{IsUnitOf, name_of};
 ghost use Rattle.cut_texts.specs.CutsText.{count_line, cut_block, cut_blocks, cut_number, cuts_text};
-ghost use Rattle.cut_texts.specs.CutsText.{listed_with, titled_line, tree_counts, tree_line};
+ghost use Rattle.cut_texts.specs.CutsText.{listed_with, titled_line};
 ghost use Rattle.cut_texts.specs.OrdersOfUnits.{AreOrdersOf};
 ghost use Rattle.cut_texts.specs.Lines.{IsLine};
-ghost use Rattle.cut_texts.specs.UnitTexts.{AreTextsOf, spaced};
+ghost use Rattle.cut_texts.specs.Spelling.{CanList};
+ghost use Rattle.cut_texts.specs.UnitTexts.{AreTextsOf};
 
 use crate::line::Line;
-use crate::orders::put_order_lines;
-use crate::pieces::{Spelled, put_each};
+use crate::lines::{put_cut_line, put_orders};
+use crate::spelled::{Listing, Spelled};
 use crate::unit_texts::UnitTexts;
 use cut_sequences::OrderLists;
 use edge_io::{Out, Sink, WriteFault};
 use fault_model::{Name, Tree};
 use itoa::Buffer;
 use text_pieces::{put_all, put_shown};
-use unit_sets::{CutList, UnitNo};
+use unit_sets::CutList;
 
 /// Puts the text of `cuts` over cut sets of units of the tree and the orders that are listed for them. `texts` are
 /// those of the tree's units.
@@ -35,17 +36,18 @@ pub fn put_cuts<K: Sink>(
     ensures puts { Puts K.taken K.faults out.old out.new (cuts_text tree.now (listed_with cuts.now orders.now)) }
     ensures answer { is_err result ≡ has_failed out.new }
 {
-    put_tree_line(out, tree)?;
+    // A write that failed fails again at the next.
+    let _ = put_titled_line(out, b"tree: ", tree);
     put_count_line(out, cuts.len(), orders.total())?;
-    put_blocks(out, &Spelled { tree, texts }, cuts, orders)
-}
-
-// The line of a tree.
-pub(crate) fn put_tree_line<K: Sink>(out: &mut Out<K>, tree: &Tree) -> Result<(), WriteFault>
-    ensures puts { Puts K.taken K.faults out.old out.new (tree_line tree.now) }
-    ensures answer { is_err result ≡ has_failed out.new }
-{
-    put_titled_line(out, b"tree: ", tree)
+    let names = Spelled { tree, texts };
+    put_blocks(
+        out,
+        &Listing {
+            names,
+            cuts,
+            orders,
+        },
+    )
 }
 
 /// Puts the size of a tree and its top event behind a title.
@@ -57,32 +59,17 @@ pub fn put_titled_line<K: Sink>(
     ensures puts { Puts K.taken K.faults out.old out.new (titled_line title.now tree.now) }
     ensures answer { is_err result ≡ has_failed out.new }
 {
-    put_tree_counts(out, title, tree.units(), tree.gates())?;
-    put_shown(out, top_name(tree))?;
-    out.put(b"\n")
-}
-
-fn put_tree_counts<K: Sink>(
-    out: &mut Out<K>,
-    title: &[u8],
-    units: u32,
-    gates: u32,
-) -> Result<(), WriteFault>
-    ensures puts { Puts K.taken K.faults out.old out.new (tree_counts title.now units gates) }
-    ensures answer { is_err result ≡ has_failed out.new }
-{
-    let mut unit_digits = Buffer::new();
-    let mut gate_digits = Buffer::new();
-    put_all(
+    // A write that failed fails again at the end of the line.
+    let _ = put_two(
         out,
-        &[
-            title,
-            unit_digits.format(units).as_bytes(),
-            b" units, ",
-            gate_digits.format(gates).as_bytes(),
-            b" gates, top ",
-        ],
-    )
+        title,
+        tree.units() as u64,
+        b" units, ",
+        tree.gates() as u64,
+        b" gates, top ",
+    );
+    let _ = put_shown(out, top_name(tree));
+    out.put(b"\n")
 }
 
 /// The name of the top event.
@@ -97,39 +84,47 @@ pub fn put_count_line<K: Sink>(out: &mut Out<K>, cuts: usize, orders: u64) -> Re
     ensures puts { Puts K.taken K.faults out.old out.new (count_line cuts orders) }
     ensures answer { is_err result ≡ has_failed out.new }
 {
-    let mut cut_count = Buffer::new();
-    let mut order_count = Buffer::new();
+    put_two(out, b"cuts: ", cuts as u64, b", orders: ", orders, b"\n")
+}
+
+// Puts two numbers, with texts before, between and behind them.
+pub(crate) fn put_two<'a, K: Sink>(
+    out: &mut Out<K>,
+    front: &'a [u8],
+    one: u64,
+    middle: &'a [u8],
+    two: u64,
+    back: &'a [u8],
+) -> Result<(), WriteFault>
+    ensures puts { Puts K.taken K.faults out.old out.new
+        (front.now ++ decimal one ++ middle.now ++ decimal two ++ back.now) }
+    ensures answer { is_err result ≡ has_failed out.new }
+{
+    let mut first = Buffer::new();
+    let mut second = Buffer::new();
     put_all(
         out,
         &[
-            b"cuts: ",
-            cut_count.format(cuts).as_bytes(),
-            b", orders: ",
-            order_count.format(orders).as_bytes(),
-            b"\n",
+            front,
+            first.format(one).as_bytes(),
+            middle,
+            second.format(two).as_bytes(),
+            back,
         ],
     )
 }
 
-fn put_blocks<K: Sink>(
-    out: &mut Out<K>,
-    names: &Spelled,
-    cuts: &CutList,
-    orders: &OrderLists,
-) -> Result<(), WriteFault>
-    requires units { All (All (IsUnitOf names.now.tree.now)) cuts.now }
-    requires texts { AreTextsOf names.now.tree.now names.now.texts.now }
-    requires made { AreOrdersOf names.now.tree.now cuts.now orders.now }
+fn put_blocks<K: Sink>(out: &mut Out<K>, listing: &Listing) -> Result<(), WriteFault>
+    requires listing { CanList listing.now }
     requires fine { has_failed out.old ≡ false }
     ensures puts { Puts K.taken K.faults out.old out.new
-        (cut_blocks names.now.tree.now 1 (listed_with cuts.now orders.now)) }
+        (cut_blocks listing.now.names.tree.now 1 (listed_with listing.now.cuts.now listing.now.orders.now)) }
     ensures answer { is_err result ≡ has_failed out.new }
 {
-    let mut line = names.texts.line();
-    let mut order_line = names.texts.line();
-    for i in 0..cuts.len() {
-        let set = cuts.members(i);
-        put_block(out, &mut line, &mut order_line, names, set, orders, i)?;
+    let mut line = listing.names.texts.line();
+    let mut order_line = listing.names.texts.line();
+    for i in 0..listing.cuts.len() {
+        put_block(out, &mut line, &mut order_line, listing, i)?;
     }
     Ok(())
 }
@@ -139,82 +134,28 @@ fn put_block<K: Sink>(
     out: &mut Out<K>,
     line: &mut Line,
     order_line: &mut Line,
-    names: &Spelled,
-    set: &[UnitNo],
-    orders: &OrderLists,
+    listing: &Listing,
     i: usize,
 ) -> Result<(), WriteFault>
-    requires within { i < length orders.now }
+    requires within { i < length listing.now.cuts.now }
     requires countable { i < usize.MAX }
-    requires texts { AreTextsOf names.now.tree.now names.now.texts.now }
-    requires line { IsLine names.now.tree.now (cut_number i) line.old }
-    requires order_line { IsLine names.now.tree.now (codes " ") order_line.old }
-    requires set_units { All (IsUnitOf names.now.tree.now) set.now }
-    requires units { All (All (IsUnitOf names.now.tree.now)) (orders_at orders.now i) }
-    ensures line { IsLine names.now.tree.now (cut_number (i + 1)) line.new }
-    ensures order_line { IsLine names.now.tree.now (codes " ") order_line.new }
+    requires listing { CanList listing.now }
+    requires line { IsLine listing.now.names.tree.now (cut_number i) line.old }
+    requires order_line { IsLine listing.now.names.tree.now (codes " ") order_line.old }
+    ensures line { IsLine listing.now.names.tree.now (cut_number (i + 1)) line.new }
+    ensures order_line { IsLine listing.now.names.tree.now (codes " ") order_line.new }
     ensures puts { Puts K.taken K.faults out.old out.new
-        (cut_block names.now.tree.now (i + 1) set.now (slice_index_or orders.now i None)) }
+        (cut_block listing.now.names.tree.now (i + 1) (slice_index_or listing.now.cuts.now i [])
+        (slice_index_or listing.now.orders.now i None)) }
     ensures answer { is_err result ≡ has_failed out.new }
 {
-    if !orders.listed(i) {
-        return put_cut_line(out, line, names, i, set, b"\n  (not listed)\n");
+    let set = listing.cuts.members(i);
+    if !listing.orders.listed(i) {
+        return put_cut_line(out, line, &listing.names, i, set, b"\n  (not listed)\n");
     }
-    put_cut_line(out, line, names, i, set, b"\n")?;
-    put_order_lines(out, order_line, names, orders, i)
-}
-
-// The line of a cut set, with what stands behind its names.
-#[inline(always)]
-fn put_cut_line<K: Sink>(
-    out: &mut Out<K>,
-    line: &mut Line,
-    names: &Spelled,
-    i: usize,
-    set: &[UnitNo],
-    tail: &[u8],
-) -> Result<(), WriteFault>
-    requires countable { i < usize.MAX }
-    requires texts { AreTextsOf names.now.tree.now names.now.texts.now }
-    requires line { IsLine names.now.tree.now (cut_number i) line.old }
-    requires units { All (IsUnitOf names.now.tree.now) set.now }
-    ensures line { IsLine names.now.tree.now (cut_number (i + 1)) line.new }
-    ensures puts { Puts K.taken K.faults out.old out.new
-        (cut_number (i + 1) ++ (spaced names.now.tree.now set.now ++ tail.now)) }
-    ensures answer { is_err result ≡ has_failed out.new }
-{
-    if line.turn_to_cut(names, i, set, tail) {
-        return out.put(line.as_bytes());
+    if listing.orders.count(i) == 0 {
+        return put_cut_line(out, line, &listing.names, i, set, b"\n  (none)\n");
     }
-    put_cut_pieces(out, names, i, set, tail)
-}
-
-// The same without a line.
-fn put_cut_pieces<K: Sink>(
-    out: &mut Out<K>,
-    names: &Spelled,
-    i: usize,
-    set: &[UnitNo],
-    tail: &[u8],
-) -> Result<(), WriteFault>
-    requires countable { i < usize.MAX }
-    requires texts { AreTextsOf names.now.tree.now names.now.texts.now }
-    requires units { All (IsUnitOf names.now.tree.now) set.now }
-    ensures puts { Puts K.taken K.faults out.old out.new
-        (cut_number (i + 1) ++ (spaced names.now.tree.now set.now ++ tail.now)) }
-    ensures answer { is_err result ≡ has_failed out.new }
-{
-    put_cut_number(out, i + 1)?;
-    put_each(out, names, set)?;
-    out.put(tail)
-}
-
-fn put_cut_number<K: Sink>(out: &mut Out<K>, number: usize) -> Result<(), WriteFault>
-    ensures puts { Puts K.taken K.faults out.old out.new (cut_number number) }
-    ensures answer { is_err result ≡ has_failed out.new }
-{
-    put_all(
-        out,
-        &[b"cut ", Buffer::new().format(number).as_bytes(), b":"],
-    )
+    put_cut_line(out, line, &listing.names, i, set, b"\n")?;
+    put_orders(out, order_line, listing, i)
 }

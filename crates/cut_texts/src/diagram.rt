@@ -1,9 +1,9 @@
 //! The sizes of cut sets and of their diagram.
-ghost use Rattle.std.specs.Prelude.{◌≡◌, is_err, length, false, Some};
+ghost use Rattle.std.specs.Prelude.{◌≡◌, is_err};
 ghost use Rattle.edge_io.specs.Out.{has_failed, Puts};
-ghost use Rattle.cut_texts.specs.DiagramText.{counts_text, diagram_text, member_count, method_text, sizes_text};
+ghost use Rattle.cut_texts.specs.DiagramText.{diagram_text, member_count, method_text, sizes_text};
 
-use crate::cuts::put_tree_line;
+use crate::cuts::{put_titled_line, put_two};
 use edge_io::{Out, Sink, WriteFault};
 use fault_model::Tree;
 use itoa::Buffer;
@@ -35,9 +35,10 @@ pub fn put_sizes<K: Sink>(
     ensures puts { Puts K.taken K.faults out.old out.new (sizes_text tree.now cuts members nodes) }
     ensures answer { is_err result ≡ has_failed out.new }
 {
-    put_tree_line(out, tree)?;
-    put_method(out, nodes)?;
-    put_counts(out, cuts, members)
+    // A write that failed fails again at the counts.
+    let _ = put_titled_line(out, b"tree: ", tree);
+    let _ = put_method(out, nodes);
+    put_two(out, b"cuts: ", cuts, b"\nmembers: ", members, b"\n")
 }
 
 fn put_method<K: Sink>(out: &mut Out<K>, nodes: Option<u64>) -> Result<(), WriteFault>
@@ -46,22 +47,15 @@ fn put_method<K: Sink>(out: &mut Out<K>, nodes: Option<u64>) -> Result<(), Write
 {
     match nodes {
         None => out.put(b"method lists\n"),
-        Some(nodes) => put_nodes(out, nodes),
+        Some(count) => put_all(
+            out,
+            &[
+                b"method diagram\nnodes: ",
+                Buffer::new().format(count).as_bytes(),
+                b"\n",
+            ],
+        ),
     }
-}
-
-fn put_nodes<K: Sink>(out: &mut Out<K>, nodes: u64) -> Result<(), WriteFault>
-    ensures puts { Puts K.taken K.faults out.old out.new (method_text (Some nodes)) }
-    ensures answer { is_err result ≡ has_failed out.new }
-{
-    put_all(
-        out,
-        &[
-            b"method diagram\nnodes: ",
-            Buffer::new().format(nodes).as_bytes(),
-            b"\n",
-        ],
-    )
 }
 
 // The sum of the sizes of the sets.
@@ -69,22 +63,4 @@ fn members_of(cuts: &CutList) -> u64
     ensures { result ≡ member_count cuts.now }
 {
     cuts.weight() - cuts.len() as u64
-}
-
-fn put_counts<K: Sink>(out: &mut Out<K>, cuts: u64, members: u64) -> Result<(), WriteFault>
-    ensures puts { Puts K.taken K.faults out.old out.new (counts_text cuts members) }
-    ensures answer { is_err result ≡ has_failed out.new }
-{
-    let mut cut_count = Buffer::new();
-    let mut member_count = Buffer::new();
-    put_all(
-        out,
-        &[
-            b"cuts: ",
-            cut_count.format(cuts).as_bytes(),
-            b"\nmembers: ",
-            member_count.format(members).as_bytes(),
-            b"\n",
-        ],
-    )
 }

@@ -8,8 +8,8 @@
 mod cuts;
 mod diagram;
 mod line;
-mod orders;
-mod pieces;
+mod lines;
+mod spelled;
 mod unit_texts;
 
 pub use cuts::{put_count_line, put_cuts, put_titled_line, top_name};

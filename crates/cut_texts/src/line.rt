@@ -1,18 +1,18 @@
 //! A line of names, kept from one to the next.
-ghost use Rattle.std.specs.Prelude.{◌≡◌, ◌+◌, ◌^◌, ◌<◌, ◌≤◌, ℕ, List, [], ◌++◌, ◌∷◌, All, OnOk, true, false, length};
+ghost use Rattle.std.specs.Prelude.{◌≡◌, ◌+◌, ◌^◌, ◌<◌, ◌≤◌, ℕ, List, [], ◌++◌, ◌∷◌, OnOk, true, false, length};
 ghost use Rattle.std.specs.Prelude.{codes, decimal, take};
 ghost use Rattle.std.specs.List.{flat_map};
 ghost use Rattle.fault_definitions.specs.Tree.{FaultTree, IsUnitOf};
 ghost use Rattle.cut_texts.specs.CutsText.{cut_number};
 ghost use Rattle.cut_texts.specs.UnitTexts.{AreTextsOf, spaced};
 
-use crate::pieces::Spelled;
+use crate::spelled::Spelled;
 use itoa::Buffer;
 use std::alloc::{AllocError, Global};
 use unit_sets::UnitNo;
 
 // What stands before the number of a cut set.
-const CUT: &[u8] = b"cut ";
+pub(crate) const CUT: &[u8] = b"cut ";
 
 /// A head, the names of some units, each behind a blank, and a tail: all that is put of a cut set or an order at once.
 ///
@@ -25,11 +25,12 @@ pub(crate) struct Line {
     units: Vec<UnitNo>,
     // Where the name of each unit ends in the text.
     ends: Vec<usize>,
-    text: Vec<u8>,
+    pub text: Vec<u8>,
 }
 
 impl Line {
     ghost use Rattle.cut_texts.specs.Lines.{IsLine, LineSpells, SameHead, SpellsSome, StartsWith};
+    ghost use Rattle.cut_texts.specs.Spelling.{CanSpell};
 
     /// A line without a head and units, which takes no memory.
     pub(crate) fn new(alloc: Global) -> Line
@@ -43,60 +44,9 @@ impl Line {
         }
     }
 
-    /// The text.
-    pub(crate) fn as_bytes(&self) -> &[u8]
-        ensures { result.now ≡ self.now.text.items }
-    {
-        self.text.as_slice()
-    }
-
-    /// Turns from a cut set to the next, and says whether it did: it may want memory.
+    /// Turns the head from the number of a cut set to the next number, and says whether it did: it may want memory.
     #[inline(always)]
-    pub(crate) fn turn_to_cut(
-        &mut self,
-        names: &Spelled,
-        before: usize,
-        set: &[UnitNo],
-        tail: &[u8],
-    ) -> bool
-        requires countable { before < usize.MAX }
-        requires units { All (IsUnitOf names.now.tree.now) set.now }
-        requires texts { AreTextsOf names.now.tree.now names.now.texts.now }
-        requires line { IsLine names.now.tree.now (cut_number before) self.old }
-        ensures line { IsLine names.now.tree.now (cut_number (before + 1)) self.new }
-        ensures text { result ≡ true
-            → self.new.text.items ≡ cut_number (before + 1) ++ (spaced names.now.tree.now set.now ++ tail.now) }
-    {
-        if !self.count_to(before) {
-            return false;
-        }
-        if !self.turn_to(names, set) {
-            return false;
-        }
-        self.end_with(tail)
-    }
-
-    /// Turns from an order to the next, and says whether it did: it may want memory.
-    pub(crate) fn turn_to_order(&mut self, names: &Spelled, order: &[UnitNo]) -> bool
-        requires units { All (IsUnitOf names.now.tree.now) order.now }
-        requires texts { AreTextsOf names.now.tree.now names.now.texts.now }
-        requires line { IsLine names.now.tree.now (codes " ") self.old }
-        ensures line { IsLine names.now.tree.now (codes " ") self.new }
-        ensures text { result ≡ true
-            → self.new.text.items ≡ codes " " ++ (spaced names.now.tree.now order.now ++ codes "\n") }
-    {
-        if !self.begin_once() {
-            return false;
-        }
-        if !self.turn_to(names, order) {
-            return false;
-        }
-        self.end_with(b"\n")
-    }
-
-    // Turns the head from the number of a cut set to the next number.
-    #[inline(always)]
-    fn count_to(&mut self, before: usize) -> bool
+    pub(crate) fn count_to(&mut self, before: usize) -> bool
         requires countable { before < usize.MAX }
         requires within { self.old.head ≤ length self.old.text.items }
         requires start { StartsWith (cut_number before) self.old }
@@ -128,8 +78,8 @@ impl Line {
         count_up(&mut self.text[CUT.len()..end])
     }
 
-    // Makes sure that the line has the head of an order.
-    fn begin_once(&mut self) -> bool
+    /// Makes sure that the line has the head of an order, and says whether it does: it may want memory.
+    pub(crate) fn begin_once(&mut self) -> bool
         requires start { StartsWith (codes " ") self.old }
         ensures start { StartsWith (codes " ") self.new }
         ensures head { result ≡ true → take self.new.head self.new.text.items ≡ codes " " }
@@ -160,27 +110,20 @@ impl Line {
         true
     }
 
-    // Turns to the names of these units, with nothing behind them. For want of memory it turns to some units.
-    fn turn_to(&mut self, names: &Spelled, units: &[UnitNo]) -> bool
-        requires units { All (IsUnitOf names.now.tree.now) units.now }
-        requires texts { AreTextsOf names.now.tree.now names.now.texts.now }
+    /// Turns to the names of these units and a tail, and says whether it did. For want of memory it turns to others.
+    pub(crate) fn turn_to(&mut self, names: &Spelled, units: &[UnitNo], tail: &[u8]) -> bool
+        requires spelled { CanSpell names.now units.now }
         requires line { SpellsSome names.now.tree.now self.old }
-        ensures line { LineSpells names.now.tree.now self.new [] }
-        ensures units { result ≡ true → self.new.units.items ≡ units.now }
+        ensures line { SpellsSome names.now.tree.now self.new }
         ensures head { SameHead self.old self.new }
+        ensures text { result ≡ true → self.new.text.items
+            ≡ take self.old.head self.old.text.items ++ (spaced names.now.tree.now units.now ++ tail.now) }
     {
         let common = self.common(units);
         self.keep(common);
-        self.add_all(names, &units[common..]).is_ok()
-    }
-
-    // Adds a tail. For want of memory the line stays.
-    #[inline(always)]
-    fn end_with(&mut self, tail: &[u8]) -> bool
-        ensures line { (tree : FaultTree) → LineSpells tree self.old [] → SpellsSome tree self.new }
-        ensures head { self.old.head ≤ length self.old.text.items → SameHead self.old self.new }
-        ensures text { result ≡ true → self.new.text.items ≡ self.old.text.items ++ tail.now }
-    {
+        if self.add_all(names, &units[common..]).is_err() {
+            return false;
+        }
         self.text.extend_from_slice(tail).is_ok()
     }
 
@@ -219,8 +162,7 @@ impl Line {
 
     // Adds units.
     fn add_all(&mut self, names: &Spelled, units: &[UnitNo]) -> Result<(), AllocError>
-        requires units { All (IsUnitOf names.now.tree.now) units.now }
-        requires texts { AreTextsOf names.now.tree.now names.now.texts.now }
+        requires spelled { CanSpell names.now units.now }
         requires line { LineSpells names.now.tree.now self.old [] }
         ensures line { LineSpells names.now.tree.now self.new [] }
         ensures units { OnOk result (self.new.units.items ≡ self.old.units.items ++ units.now) }

@@ -4,13 +4,14 @@ use Rattle.std.proofs.lemmas.List.{drop_all}
 use Rattle.cut_sequences.specs.Orders.{orders_at}
 use Rattle.cut_texts.specs.CutsText.{order_line}
 use Rattle.text_pieces.proofs.Putting.{begun, whole_put, one_more, cut_short, piece_named, PutsFront}
-use Rattle.cut_texts.proofs.orders.put_orders.Goals as goal
+use Rattle.cut_texts.proofs.Listing.{order_spelled}
+use Rattle.cut_texts.proofs.lines.put_orders.Goals as goal
 
 pub loop-j-init : goal.loop-j-init
 loop-j-init g c = record {
   so =
       begun g.K.Sink.taken g.K.Sink.faults c.args.out.now
-      (flat_map (order_line c.args.names.now.tree.now) (orders_at c.args.orders.now c.args.i));
+      (flat_map (order_line c.args.listing.now.names.tree.now) (orders_at c.args.listing.now.orders.now c.args.i));
   going = c.requires.fine;
   line = c.requires.line;
 }
@@ -19,7 +20,8 @@ pub returns-in_err-put_order-clause-puts : goal.returns-in_err-put_order-clause-
 returns-in_err-put_order-clause-puts g c =
     cut_short g.K.Sink.taken g.K.Sink.faults c.args.out.now c.loop-j.out c.put_order.new.out _ _ _ _
     c.loop-j.invariant.so c.put_order.ensures.puts
-    (piece_named (order_line c.args.names.now.tree.now) (orders_at c.args.orders.now c.args.i) c.loop-j.j []
+    (piece_named (order_line c.args.listing.now.names.tree.now) (orders_at c.args.listing.now.orders.now c.args.i)
+    c.loop-j.j []
     c.order.result.now
     (subst (λ n. c.loop-j.j < n) c.count-j-end.ensures c.loop-j-test.true) c.order.ensures)
     (sym c.put_order.ensures.answer ∙ ap is_err c.in_err-put_order.was)
@@ -28,7 +30,8 @@ pub loop-j-preserved : goal.loop-j-preserved
 loop-j-preserved g c = record {
   so = one_more g.K.Sink.taken g.K.Sink.faults c.args.out.now c.loop-j.out c.put_order.new.out _ _ _ _
       c.loop-j.invariant.so c.put_order.ensures.puts
-      (piece_named (order_line c.args.names.now.tree.now) (orders_at c.args.orders.now c.args.i) c.loop-j.j []
+      (piece_named (order_line c.args.listing.now.names.tree.now) (orders_at c.args.listing.now.orders.now c.args.i)
+      c.loop-j.j []
       c.order.result.now
       (subst (λ n. c.loop-j.j < n) c.count-j-end.ensures c.loop-j-test.true) c.order.ensures);
   going = sym c.put_order.ensures.answer ∙ ap is_err c.in_ok-put_order.was;
@@ -38,10 +41,15 @@ loop-j-preserved g c = record {
 pub returns-clause-puts : goal.returns-clause-puts
 returns-clause-puts g c =
     whole_put g.K.Sink.taken g.K.Sink.faults c.args.out.now c.loop-j.out
-    (flat_map (order_line c.args.names.now.tree.now) (orders_at c.args.orders.now c.args.i))
+    (flat_map (order_line c.args.listing.now.names.tree.now) (orders_at c.args.listing.now.orders.now c.args.i))
     (subst (λ l. PutsFront g.K.Sink.taken g.K.Sink.faults c.args.out.now c.loop-j.out
-    (flat_map (order_line c.args.names.now.tree.now) l) (flat_map (order_line c.args.names.now.tree.now)
-    (orders_at c.args.orders.now c.args.i)))
-    (drop_all c.loop-j.j (orders_at c.args.orders.now c.args.i)
+    (flat_map (order_line c.args.listing.now.names.tree.now) l) (flat_map (order_line c.args.listing.now.names.tree.now)
+    (orders_at c.args.listing.now.orders.now c.args.i)))
+    (drop_all c.loop-j.j (orders_at c.args.listing.now.orders.now c.args.i)
     (subst (λ n. n ≤ c.loop-j.j) c.count-j-end.ensures c.loop-j-test.false))
     c.loop-j.invariant.so)
+
+pub put_order-requires-clause-spelled : goal.put_order-requires-clause-spelled
+put_order-requires-clause-spelled g c =
+    order_spelled c.args.listing.now c.args.i c.loop-j.j c.order.result.now c.requires.listing c.requires.within
+    (subst (λ n. c.loop-j.j < n) c.count-j-end.ensures c.loop-j-test.true) c.order.ensures
