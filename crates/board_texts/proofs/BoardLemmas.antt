@@ -1,6 +1,6 @@
 -- What the board at the end of a history has, and what a log can show of it.
 use Rattle.std.specs.Prelude.{◌≡◌, ℕ, zero, suc, ◌+◌, ◌<◌, ◌≤◌, Bool, true, false, if◌then◌else◌, List, [], ◌∷◌, ◌++◌}
-use Rattle.std.specs.Prelude.{length, drop, get_or, All, Option, Some, None, is_some, cond}
+use Rattle.std.specs.Prelude.{length, drop, get_or, All, Option, Some, None, is_some, codes, cond}
 use Rattle.std.specs.List.{flat_map}
 use Rattle.std.proofs.Common.{refl, sym, ap, ◌∙◌, subst, arith, inl, inr, append-nil, append_assoc, add-one}
 use Rattle.std.proofs.lemmas.Bool.{cases_lt}
@@ -14,7 +14,7 @@ use Rattle.unit_sets.specs.Words.{passing_below}
 use Rattle.unit_sets.specs.declared.request.CrewNo.{CrewNo}
 use Rattle.residual_ledger.proofs.Passing.{passing-more, passing-none, length-passing-more}
 use Rattle.residual_ledger.specs.Residual.{residual, cut_at}
-use Rattle.fault_definitions.specs.Tree.{FaultTree, unit_count}
+use Rattle.fault_definitions.specs.Tree.{FaultTree, name_of, unit_count}
 use Rattle.crew_script.specs.declared.dockets.Crew.{Crew}
 use Rattle.margin_policy.specs.Held.{Held, holder_of, units_out}
 use Rattle.margin_policy.proofs.HeldLaws.{is_held, among-units_out}
@@ -22,7 +22,8 @@ use Rattle.margin_policy.specs.Standing.{StandingView}
 use Rattle.outage_board.specs.declared.entry.Entry.{Entry}
 use Rattle.outage_board.specs.Histories.{standing_after, after_entry}
 use Rattle.outage_board.specs.Boards.{BoardView, standing_of}
-use Rattle.board_texts.specs.BoardText.{IsDeckOf, left_line, left_lines}
+use Rattle.text_pieces.specs.Shown.{show}
+use Rattle.board_texts.specs.BoardText.{IsDeckOf, holder_text, left_line, left_lines, out_line}
 use Rattle.board_texts.specs.LogText.{entry_line, entry_lines}
 use Rattle.text_pieces.proofs.Putting.{first_short}
 
@@ -84,6 +85,16 @@ behind test number (suc end) within = elim (cases_lt number (suc end)) [
         ∙ ap (passing_below test) (omega (arith, within, all));
   }
 ]
+
+-- the line of a unit that is out
+pub out_line_is : (tree : FaultTree) (crews : List Crew) (held : Held) (number : ℕ) (holder : CrewNo)
+    → holder_of held number ≡ Some holder
+    → flat_map (out_line tree crews held) (if is_some (holder_of held number) then number ∷ [] else [])
+    ≡ show (name_of tree number) ++ (holder_text crews (Some holder) ++ codes "\n")
+out_line_is tree crews held number holder is =
+    ap (λ o. flat_map (out_line tree crews held) (if is_some o then number ∷ [] else [])) is
+    ∙ append-nil (out_line tree crews held number)
+    ∙ ap (λ o. show (name_of tree number) ++ (holder_text crews o ++ codes "\n")) is
 
 -- ---- what is left of cut sets
 

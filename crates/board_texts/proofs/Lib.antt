@@ -3,3 +3,4 @@ mod CrewNames
 mod LogLemmas
 mod BoardLemmas
 mod UnitsOut
+pub mod Pieces

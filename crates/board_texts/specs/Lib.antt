@@ -4,3 +4,5 @@ pub mod LogText
 pub mod Logged
 -- the text of a board
 pub mod BoardText
+-- what a board shows at its end
+pub mod Ends

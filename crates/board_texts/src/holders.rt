@@ -1,38 +1,34 @@
 //! The units that are out, with their holders.
-ghost use Rattle.std.specs.Prelude.{◌≡◌, ◌<◌, ◌+◌, ◌≤◌, ◌++◌, [], ◌∷◌, codes, is_err, length, false, Some, None};
+ghost use Rattle.std.specs.Prelude.{◌≡◌, ◌<◌, ◌+◌, ◌≤◌, [], ◌∷◌, is_err, length, false, None};
 ghost use Rattle.std.specs.Prelude.{is_some, if◌then◌else◌};
 ghost use Rattle.std.specs.List.{flat_map};
 ghost use Rattle.unit_sets.specs.Unit.{most_units};
 ghost use Rattle.edge_io.specs.Out.{has_failed, Puts};
-ghost use Rattle.fault_definitions.specs.Tree.{IsNodeOf, name_of, unit_count};
+ghost use Rattle.fault_definitions.specs.Tree.{unit_count};
 ghost use Rattle.margin_policy.specs.Held.{holder_of, units_out};
 ghost use Rattle.margin_policy.specs.Holders.{HoldersBelow};
-ghost use Rattle.text_pieces.specs.Shown.{show};
-ghost use Rattle.board_texts.specs.BoardText.{holder_text, out_head, out_line, out_text};
+ghost use Rattle.board_texts.specs.BoardText.{out_head, out_line, out_text};
+ghost use Rattle.board_texts.specs.Ends.{IsEnd};
 
+use crate::at_end::AtEnd;
+use crate::counted::put_counted;
 use crate::log::put_with_crew;
-use crew_script::Dockets;
 use edge_io::{Out, Sink, WriteFault};
 use fault_model::{NodeNo, Tree};
-use itoa::Buffer;
 use margin_policy::Standing;
-use text_pieces::{put_all, put_shown};
+use text_pieces::put_shown;
 use unit_sets::{CrewNo, UnitNo};
 
 // Puts how many units are out, and then each with its holder.
-pub(crate) fn put_out<K: Sink>(
-    out: &mut Out<K>,
-    tree: &Tree,
-    dockets: &Dockets,
-    standing: &Standing,
-) -> Result<(), WriteFault>
-    requires holders { HoldersBelow (length dockets.now) standing.now.held }
-    requires units { standing.now.units ≡ unit_count tree.now }
-    ensures puts { Puts K.taken K.faults out.old out.new (out_text tree.now dockets.now standing.now.held) }
+pub(crate) fn put_out<K: Sink>(out: &mut Out<K>, end: &AtEnd) -> Result<(), WriteFault>
+    requires holders { HoldersBelow (length end.now.dockets.now) end.now.standing.now.held }
+    requires units { end.now.standing.now.units ≡ unit_count end.now.tree.now }
+    ensures puts { Puts K.taken K.faults out.old out.new
+        (out_text end.now.tree.now end.now.dockets.now end.now.standing.now.held) }
     ensures answer { is_err result ≡ has_failed out.new }
 {
-    put_out_head(out, count_out(standing, last_unit(tree)))?;
-    put_out_lines(out, tree, dockets, standing)
+    put_out_head(out, count_out(end.standing, last_unit(end.tree)))?;
+    put_out_lines(out, end)
 }
 
 // The greatest number of a unit.
@@ -96,71 +92,44 @@ pub fn put_out_head<K: Sink>(out: &mut Out<K>, count: u32) -> Result<(), WriteFa
     ensures puts { Puts K.taken K.faults out.old out.new (out_head count) }
     ensures answer { is_err result ≡ has_failed out.new }
 {
-    put_all(
-        out,
-        &[b"out: ", Buffer::new().format(count).as_bytes(), b"\n"],
-    )
+    put_counted(out, b"out: ", count as u64, b"\n")
 }
 
-fn put_out_lines<K: Sink>(
-    out: &mut Out<K>,
-    tree: &Tree,
-    dockets: &Dockets,
-    standing: &Standing,
-) -> Result<(), WriteFault>
-    requires holders { HoldersBelow (length dockets.now) standing.now.held }
-    requires units { standing.now.units ≡ unit_count tree.now }
+fn put_out_lines<K: Sink>(out: &mut Out<K>, end: &AtEnd) -> Result<(), WriteFault>
+    requires end { IsEnd end.now }
     requires fine { has_failed out.old ≡ false }
     ensures puts { Puts K.taken K.faults out.old out.new
-        (flat_map (out_line tree.now dockets.now standing.now.held) (units_out standing.now.held)) }
+        (flat_map (out_line end.now.tree.now end.now.dockets.now end.now.standing.now.held)
+        (units_out end.now.standing.now.held)) }
     ensures answer { is_err result ≡ has_failed out.new }
 {
-    holds_units_alone(standing);
-    for number in 1..last_unit(tree) + 1 {
-        put_if_out(out, tree, dockets, standing, number)?;
+    holds_units_alone(end.standing);
+    for number in 1..last_unit(end.tree) + 1 {
+        put_if_out(out, end, number)?;
     }
     Ok(())
 }
 
 // Puts the line of the unit of a number, if it is out.
-fn put_if_out<K: Sink>(
-    out: &mut Out<K>,
-    tree: &Tree,
-    dockets: &Dockets,
-    standing: &Standing,
-    number: u16,
-) -> Result<(), WriteFault>
+fn put_if_out<K: Sink>(out: &mut Out<K>, end: &AtEnd, number: u16) -> Result<(), WriteFault>
     requires some { 1 ≤ number }
-    requires unit { number ≤ unit_count tree.now }
-    requires holders { HoldersBelow (length dockets.now) standing.now.held }
+    requires unit { number ≤ unit_count end.now.tree.now }
+    requires end { IsEnd end.now }
     requires fine { has_failed out.old ≡ false }
     ensures puts { Puts K.taken K.faults out.old out.new
-        (flat_map (out_line tree.now dockets.now standing.now.held) (if is_some (holder_of standing.now.held number)
-        then number ∷ [] else [])) }
+        (flat_map (out_line end.now.tree.now end.now.dockets.now end.now.standing.now.held)
+        (if is_some (holder_of end.now.standing.now.held number) then number ∷ [] else [])) }
     ensures answer { is_err result ≡ has_failed out.new }
 {
     // The number of units tells the proof that each can be a `UnitNo`.
-    tree.units();
-    match holder_at(standing, number) {
-        Some(holder) => put_out_line(out, tree, dockets, u32::from(number), holder),
+    end.tree.units();
+    match holder_at(end.standing, number) {
+        Some(holder) => {
+            // A write that failed fails again at the end of the line.
+            let _ = put_shown(out, end.tree.name(NodeNo(number as u32)));
+            let _ = put_with_crew(out, b" ", end.dockets, holder);
+            out.put(b"\n")
+        }
         None => Ok(()),
     }
-}
-
-fn put_out_line<K: Sink>(
-    out: &mut Out<K>,
-    tree: &Tree,
-    dockets: &Dockets,
-    unit: u32,
-    holder: CrewNo,
-) -> Result<(), WriteFault>
-    requires node { IsNodeOf tree.now unit }
-    requires holder { holder.0 < length dockets.now }
-    ensures puts { Puts K.taken K.faults out.old out.new (show (name_of tree.now unit)
-        ++ (holder_text dockets.now (Some holder) ++ codes "\n")) }
-    ensures answer { is_err result ≡ has_failed out.new }
-{
-    put_shown(out, tree.name(NodeNo(unit)))?;
-    put_with_crew(out, b" ", dockets, holder)?;
-    out.put(b"\n")
 }

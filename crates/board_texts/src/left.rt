@@ -28,11 +28,22 @@ fn put_left_of<K: Sink>(out: &mut Out<K>, ledger: &Ledger, i: usize) -> Result<(
         (left_line (i + 1) (residual ledger.now.out (cut_at ledger.now.cuts i)) (length (cut_at ledger.now.cuts i))) }
     ensures answer { is_err result ≡ has_failed out.new }
 {
-    put_left_line(
+    let left = ledger.residual(i);
+    let size = size_of_cut(ledger, i);
+    let mut number_digits = Buffer::new();
+    let mut left_digits = Buffer::new();
+    let mut size_digits = Buffer::new();
+    put_all(
         out,
-        i as u64 + 1,
-        ledger.residual(i),
-        size_of_cut(ledger, i),
+        &[
+            b"left ",
+            number_digits.format(i as u64 + 1).as_bytes(),
+            b": ",
+            left_digits.format(left).as_bytes(),
+            b" of ",
+            size_digits.format(size).as_bytes(),
+            b"\n",
+        ],
     )
 }
 
@@ -41,30 +52,4 @@ fn size_of_cut(ledger: &Ledger, i: usize) -> usize
     ensures { result ≡ length (cut_at ledger.now.cuts i) }
 {
     ledger.cuts().members(i).len()
-}
-
-fn put_left_line<K: Sink>(
-    out: &mut Out<K>,
-    number: u64,
-    left: u32,
-    size: usize,
-) -> Result<(), WriteFault>
-    ensures puts { Puts K.taken K.faults out.old out.new (left_line number left size) }
-    ensures answer { is_err result ≡ has_failed out.new }
-{
-    let mut number_digits = Buffer::new();
-    let mut left_digits = Buffer::new();
-    let mut size_digits = Buffer::new();
-    put_all(
-        out,
-        &[
-            b"left ",
-            number_digits.format(number).as_bytes(),
-            b": ",
-            left_digits.format(left).as_bytes(),
-            b" of ",
-            size_digits.format(size).as_bytes(),
-            b"\n",
-        ],
-    )
 }

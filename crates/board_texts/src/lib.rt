@@ -6,7 +6,9 @@
 //! the text that its clause names, or a front of it where the sink fails.
 #![tactic(auto)]
 
+mod at_end;
 mod board;
+mod counted;
 mod holders;
 pub mod laws;
 mod left;

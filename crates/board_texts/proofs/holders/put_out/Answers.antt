@@ -10,18 +10,18 @@ use Rattle.board_texts.proofs.holders.put_out.Goals as goal
 pub returns-in_err-put_out_head-clause-puts : goal.returns-in_err-put_out_head-clause-puts
 returns-in_err-put_out_head-clause-puts g c =
     first_short g.K.Sink.taken g.K.Sink.faults c.args.out.now c.put_out_head.new.out
-    (out_head (length (units_out c.args.standing.now.held)))
-    (flat_map (out_line c.args.tree.now c.args.dockets.now c.args.standing.now.held)
-    (units_out c.args.standing.now.held)) (subst (λ n.
+    (out_head (length (units_out c.args.end.now.standing.now.held)))
+    (flat_map (out_line c.args.end.now.tree.now c.args.end.now.dockets.now c.args.end.now.standing.now.held)
+    (units_out c.args.end.now.standing.now.held)) (subst (λ n.
     Puts g.K.Sink.taken g.K.Sink.faults c.args.out.now c.put_out_head.new.out (out_head n)) c.count_out.ensures
     c.put_out_head.ensures.puts) (sym c.put_out_head.ensures.answer ∙ ap is_err c.in_err-put_out_head.was)
 
 pub returns-clause-puts : goal.returns-clause-puts
 returns-clause-puts g c =
     Puts-trans g.K.Sink.taken g.K.Sink.faults c.args.out.now c.put_out_head.new.out c.put_out_lines.new.out
-    (out_head (length (units_out c.args.standing.now.held)))
-    (flat_map (out_line c.args.tree.now c.args.dockets.now c.args.standing.now.held)
-    (units_out c.args.standing.now.held))
+    (out_head (length (units_out c.args.end.now.standing.now.held)))
+    (flat_map (out_line c.args.end.now.tree.now c.args.end.now.dockets.now c.args.end.now.standing.now.held)
+    (units_out c.args.end.now.standing.now.held))
     (subst (λ n. Puts g.K.Sink.taken g.K.Sink.faults c.args.out.now c.put_out_head.new.out (out_head n))
     c.count_out.ensures c.put_out_head.ensures.puts)
     c.put_out_lines.ensures.puts

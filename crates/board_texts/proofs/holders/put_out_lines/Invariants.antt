@@ -8,7 +8,8 @@ use Rattle.board_texts.proofs.holders.put_out_lines.Given as goal
 abbrev pub invariant-loop-number : goal.invariant-loop-number
 invariant-loop-number g l = record {
   so : Puts g.K.Sink.taken g.K.Sink.faults l.initial.out l.out
-      (lines_below g.K.Sink.taken g.K.Sink.faults (out_line l.tree l.dockets l.standing.held) (is_held l.standing.held)
+      (lines_below g.K.Sink.taken g.K.Sink.faults (out_line l.end.tree.now l.end.dockets.now
+      l.end.standing.now.held) (is_held l.end.standing.now.held)
       l.number);
   going : has_failed l.out ≡ false;
 }
