@@ -34,7 +34,8 @@ fn put_tree_and_crews<K: Sink>(
     ensures puts { Puts K.taken K.faults out.old out.new (check_text tree.now (Some dockets.now)) }
     ensures answer { is_err result ≡ has_failed out.new }
 {
-    put_titled_line(out, b"well formed: ", tree)?;
+    // A write that failed fails again at the next.
+    let _ = put_titled_line(out, b"well formed: ", tree);
     put_crews_line(out, dockets)
 }
 

@@ -11,7 +11,7 @@ ghost use Rattle.galileo_lexer.specs.Bytes.{is_word_byte};
 ghost use Rattle.fault_words.specs.declared.kind.GateKind.TheVariants.{Votes};
 ghost use Rattle.deck_reading.specs.Deck.{StandsFor};
 ghost use Rattle.deck_reading.specs.TreeStatements.{HasNames};
-ghost use Rattle.deck_reading.specs.Written.{attribute_text, attribute_word, quoted, value_text};
+ghost use Rattle.deck_reading.specs.Written.{attribute_text, quoted, value_text};
 ghost use Rattle.text_pieces.specs.GateWords.{gate_word};
 ghost use Rattle.board_report.specs.PrintText.{IsNamedUnit, gate_line, input_text, print_text, top_line, unit_line};
 
@@ -80,24 +80,22 @@ fn put_gate_line<K: Sink>(out: &mut Out<K>, tree: &Tree, gate: NodeNo) -> Result
     ensures answer { is_err result ≡ has_failed out.new }
     ensures named { is_name (name_of tree.now gate) ≡ true }
 {
-    put_quoted(out, node_name(tree, gate))?;
-    out.put(b" ")?;
-    put_gate_word(out, tree.kind(gate))?;
-    put_inputs(out, tree, tree.inputs(gate))?;
+    // A write that failed fails again at the end of the line.
+    let _ = put_quoted(out, node_name(tree, gate));
+    let _ = out.put(b" ");
+    let _ = put_gate_word(out, tree.kind(gate));
+    put_inputs(out, tree, tree.inputs(gate));
     out.put(b";\n")
 }
 
-// Puts the names of inputs, each behind a blank.
-fn put_inputs<K: Sink>(out: &mut Out<K>, tree: &Tree, inputs: &[NodeNo]) -> Result<(), WriteFault>
-    requires nodes { All (IsNodeOf tree.now) inputs.now }
-    requires fine { has_failed out.old ≡ false }
-    ensures puts { Puts K.taken K.faults out.old out.new (flat_map (input_text tree.now) inputs.now) }
-    ensures answer { is_err result ≡ has_failed out.new }
+// Puts the names of inputs, each behind a blank. Whether a write failed is told at the end of the line.
+fn put_inputs<K: Sink>(out: &mut Out<K>, tree: &Tree, inputs: &[NodeNo])
+    requires { All (IsNodeOf tree.now) inputs.now }
+    ensures { Puts K.taken K.faults out.old out.new (flat_map (input_text tree.now) inputs.now) }
 {
     for input in inputs {
-        put_input(out, tree, *input)?;
+        let _ = put_input(out, tree, *input);
     }
-    Ok(())
 }
 
 fn put_input<K: Sink>(out: &mut Out<K>, tree: &Tree, input: NodeNo) -> Result<(), WriteFault>
@@ -127,10 +125,11 @@ fn put_unit_line<K: Sink>(out: &mut Out<K>, tree: &Tree, unit: u32) -> Result<()
     requires { IsUnitOf tree.now unit }
     ensures puts { Puts K.taken K.faults out.old out.new (unit_line tree.now unit) }
     ensures answer { is_err result ≡ has_failed out.new }
-    ensures named { OnOk result (IsNamedUnit tree.now unit) }
+    ensures named { IsNamedUnit tree.now unit }
 {
-    put_quoted(out, node_name(tree, NodeNo(unit)))?;
-    put_attributes(out, attributes_at(tree, unit))?;
+    // A write that failed fails again at the end of the line.
+    let _ = put_quoted(out, node_name(tree, NodeNo(unit)));
+    put_attributes(out, attributes_at(tree, unit));
     out.put(b";\n")
 }
 
@@ -143,39 +142,27 @@ fn attributes_at(tree: &Tree, unit: u32) -> &[Attribute]
     tree.attributes(NodeNo(unit).unit())
 }
 
-fn put_attributes<K: Sink>(out: &mut Out<K>, attributes: &[Attribute]) -> Result<(), WriteFault>
-    requires fine { has_failed out.old ≡ false }
+// Puts attributes. Whether a write failed is told at the end of the line.
+fn put_attributes<K: Sink>(out: &mut Out<K>, attributes: &[Attribute])
     ensures puts { Puts K.taken K.faults out.old out.new (flat_map attribute_text attributes.now) }
-    ensures answer { is_err result ≡ has_failed out.new }
-    ensures named { OnOk result (All HasNames attributes.now) }
+    ensures named { All HasNames attributes.now }
 {
     for attribute in attributes {
-        put_attribute(out, attribute)?;
+        put_attribute(out, attribute);
     }
-    Ok(())
 }
 
-fn put_attribute<K: Sink>(out: &mut Out<K>, attribute: &Attribute) -> Result<(), WriteFault>
+fn put_attribute<K: Sink>(out: &mut Out<K>, attribute: &Attribute)
     ensures puts { Puts K.taken K.faults out.old out.new (attribute_text attribute.now) }
-    ensures answer { is_err result ≡ has_failed out.new }
-    ensures named { OnOk result (HasNames attribute.now) }
+    ensures named { HasNames attribute.now }
 {
-    put_attribute_word(out, &attribute.word)?;
-    put_value(out, &attribute.value)
-}
-
-fn put_attribute_word<K: Sink>(out: &mut Out<K>, word: &Name) -> Result<(), WriteFault>
-    ensures puts { Puts K.taken K.faults out.old out.new (attribute_word word.now) }
-    ensures answer { is_err result ≡ has_failed out.new }
-    ensures form { is_name word.now ≡ true }
-{
-    put_all(out, &[b" ", word.as_slice(), b"="])
+    let _ = put_all(out, &[b" ", attribute.word.as_slice(), b"="]);
+    let _ = put_value(out, &attribute.value);
 }
 
 // Puts a value: in quotes where it has bytes that no word has.
 fn put_value<K: Sink>(out: &mut Out<K>, value: &Name) -> Result<(), WriteFault>
     ensures puts { Puts K.taken K.faults out.old out.new (value_text value.now) }
-    ensures answer { is_err result ≡ has_failed out.new }
     ensures form { is_name value.now ≡ true }
 {
     if has_word_bytes(value.as_slice()) {

@@ -5,7 +5,7 @@ ghost use Rattle.margin_policy.specs.Decide.{is_granted};
 ghost use Rattle.margin_policy.specs.Held.{units_out};
 ghost use Rattle.outage_board.specs.Boards.{standing_of};
 ghost use Rattle.cut_texts.specs.OrdersOfUnits.{AreOrdersOf};
-ghost use Rattle.board_report.specs.SummaryText.{decided_line, is_denied, is_error, made_line, replies_line};
+ghost use Rattle.board_report.specs.SummaryText.{decided_line, is_denied, is_error, made_line};
 ghost use Rattle.board_report.specs.SummaryText.{reply_count, summary_text};
 
 use board_texts::{count_out, put_out_head};
@@ -32,9 +32,10 @@ pub fn put_summary<K: Sink>(
     ensures puts { Puts K.taken K.faults out.old out.new (summary_text number tree.now orders.now state.now) }
     ensures answer { is_err result ≡ has_failed out.new }
 {
-    put_made_line(out, number, tree.units(), tree.gates())?;
-    put_count_line(out, orders.sets(), orders.total())?;
-    put_decided(out, state.entries())?;
+    // A write that failed fails again at the next.
+    let _ = put_made_line(out, number, tree.units(), tree.gates());
+    let _ = put_count_line(out, orders.sets(), orders.total());
+    let _ = put_decided(out, state.entries());
     put_out_head(out, units_out(state))
 }
 
@@ -124,18 +125,7 @@ fn put_decided<K: Sink>(out: &mut Out<K>, history: &[Entry]) -> Result<(), Write
     ensures puts { Puts K.taken K.faults out.old out.new (decided_line history.now) }
     ensures answer { is_err result ≡ has_failed out.new }
 {
-    put_replies(out, history.len(), count_replies(history))
-}
-
-fn put_replies<K: Sink>(
-    out: &mut Out<K>,
-    requests: usize,
-    replies: Replies,
-) -> Result<(), WriteFault>
-    ensures puts { Puts K.taken K.faults out.old out.new
-        (replies_line requests replies.granted replies.denied replies.errors) }
-    ensures answer { is_err result ≡ has_failed out.new }
-{
+    let replies = count_replies(history);
     let mut request_count = Buffer::new();
     let mut granted_count = Buffer::new();
     let mut denied_count = Buffer::new();
@@ -144,7 +134,7 @@ fn put_replies<K: Sink>(
         out,
         &[
             b"requests: ",
-            request_count.format(requests).as_bytes(),
+            request_count.format(history.len()).as_bytes(),
             b", granted: ",
             granted_count.format(replies.granted).as_bytes(),
             b", denied: ",

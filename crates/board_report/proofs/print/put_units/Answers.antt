@@ -35,7 +35,7 @@ loop-i-preserved g c = record {
       (subst (λ n. c.loop-i.i < n) c.units-i-end.ensures.count c.loop-i-test.true) (omega arith));
   going = sym c.put_unit_line.ensures.answer ∙ ap is_err c.in_ok-put_unit_line.was;
   named = one_more_named (IsNamedUnit c.args.tree.now) 0 c.loop-i.i (c.loop-i.i + 1)
-      (omega arith) c.loop-i.invariant.named c.in_ok-put_unit_line.ensures.named;
+      (omega arith) c.loop-i.invariant.named c.put_unit_line.ensures.named;
 }
 
 pub returns-clause-puts : goal.returns-clause-puts
