@@ -1,6 +1,5 @@
 -- The answers that are known at once are right.
-use Rattle.std.proofs.Common.{◌≡◌, ◌≢◌, ℕ, ◌<◌, ◌≤◌, List, [], ◌∷◌, Contains, refl, sym, ◌∙◌, ap, subst, inl, inr}
-use Rattle.std.proofs.Common.{arith}
+use Rattle.std.proofs.Common.{◌≡◌, ◌≢◌, ℕ, ◌<◌, ◌≤◌, List, [], ◌∷◌, Contains, refl, sym, ◌∙◌, ap, subst, arith}
 use Rattle.zdd_words.specs.Word.{level_of, lo_of, hi_of}
 use Rattle.zdd_families.specs.Map.{IsNode}
 use Rattle.zdd_families.proofs.MapLemmas.{family-empty, family-unit, family-node}
@@ -12,8 +11,9 @@ use Rattle.minimal_families.proofs.Ends.{least_union-swap, least_product-swap, l
 use Rattle.minimal_families.proofs.Ends.{least_union-unit, least_product-none, least_product-itself, least_product-unit}
 use Rattle.minimal_families.proofs.Ends.{without-itself, unit-left, no_empty_set}
 use Rattle.family_memory.specs.Memory.{Held, Has, IsSound, family_in, map_of}
-use Rattle.family_memory.proofs.After.{is_family}
-use Rattle.minimal_operations.specs.Ends.{IsWithoutEnd, IsUnionEnd, IsProductEnd}
+use Rattle.family_memory.proofs.After.{is_family, Gave-there}
+use Rattle.minimal_operations.specs.Operands.{EndsIn, HasBoth}
+use Rattle.minimal_operations.proofs.Swapping.{end_swapped}
 
 -- a node's family lacks the empty set
 pub node_lacks : (held : Held) (r : ℕ) → IsSound held → Has held r → 2 ≤ r → Contains (family_in held r) [] → ⊥
@@ -29,109 +29,101 @@ node_lacks held r sound has inner =
     })
     (sound.antichains r has) (hi_filled (map_of held) (map_of held r) sound.closed node)
 
-module _ (held : Held) (a b r : ℕ) (sound : IsSound held) (has_a : Has held a) (has_b : Has held b) where
-  none : (q : ℕ) → q ≡ 0 → family_in held q ≡ []
-  none q e = ap (family_in held) e ∙ family-empty (map_of held)
+pub none : (held : Held) (r : ℕ) → r ≡ 0 → family_in held r ≡ []
+none held r e = ap (family_in held) e ∙ family-empty (map_of held)
 
-  one : (q : ℕ) → q ≡ 1 → family_in held q ≡ [] ∷ []
-  one q e = ap (family_in held) e ∙ family-unit (map_of held)
+pub unit : (held : Held) (r : ℕ) → r ≡ 1 → family_in held r ≡ [] ∷ []
+unit held r e = ap (family_in held) e ∙ family-unit (map_of held)
 
-  small : (q n : ℕ) → q ≡ n → n < 2 → Has held q
-  small q n e h = let few = sound.terminals in omega arith
+module _ {held : Held} {a b : ℕ} (has : HasBoth held a b) where
+  abbrev f : List (List ℕ)
+  f = family_in held a
 
-  -- a fact of three families, by what they are
-  at : (R : List (List ℕ) → List (List ℕ) → List (List ℕ) → Type 0) (f' g' h' : List (List ℕ)) → family_in held a ≡ f'
-      → family_in held b ≡ g' → family_in held r ≡ h' → R f' g' h'
-      → R (family_in held a) (family_in held b) (family_in held r)
-  at R f' g' h' e e' e'' fact =
-      subst (λ q. R q (family_in held b) (family_in held r)) (sym e)
-      (subst (λ q. R f' q (family_in held r)) (sym e')
-      (subst (λ q. R f' g' q) (sym e'') fact))
+  abbrev g : List (List ℕ)
+  g = family_in held b
 
-  same : (q p : ℕ) → q ≡ p → family_in held q ≡ family_in held p
-  same q p e = ap (family_in held) e
+  pub swap : HasBoth held b a
+  swap = record { sound = has.sound; first = has.second; second = has.first }
 
-  pub union_ends : IsUnionEnd a b r → Has held r × IsLeastUnion (family_in held a) (family_in held b) (family_in held r)
-  union_ends (inl (e, e')) = (
-    subst (Has held) (sym e') has_b,
-    at IsLeastUnion [] (family_in held b) (family_in held b) (none a e) refl
-        (same r b e') (least_union-none (family_in held b) (sound.antichains b has_b)),
-  )
-  union_ends (inr (inl (e, e'))) = (
-    subst (Has held) (sym e') has_a,
-    at IsLeastUnion (family_in held a) [] (family_in held a) refl (none b e) (same r a e')
-        (least_union-swap [] (family_in held a) (family_in held a)
-        (least_union-none (family_in held a) (sound.antichains a has_a))),
-  )
-  union_ends (inr (inr (inl (e, e')))) = (
-    subst (Has held) (sym e') has_a,
-    at IsLeastUnion (family_in held a) (family_in held a) (family_in held a) refl (sym (same a b e)) (same r a e')
-        (least_union-itself (family_in held a) (sound.antichains a has_a)),
-  )
-  union_ends (inr (inr (inr (inl (e, e'))))) = (
-    small r 1 e' (omega arith),
-    at IsLeastUnion ([] ∷ []) (family_in held b) ([] ∷ []) (one a e) refl (one r e')
-        (least_union-unit (family_in held b)),
-  )
-  union_ends (inr (inr (inr (inr (e, e'))))) = (
-    small r 1 e' (omega arith),
-    at IsLeastUnion (family_in held a) ([] ∷ []) ([] ∷ []) refl (one b e) (one r e')
-        (least_union-swap ([] ∷ []) (family_in held a) ([] ∷ []) (least_union-unit (family_in held a))),
-  )
+  -- the answer is the second operand, the first, no sets or the empty set alone
+  is_second : (Is : List (List ℕ) → List (List ℕ) → List (List ℕ) → Type 0) → Is f g g → EndsIn Is held a b b
+  is_second Is fact = Gave-there (Is f g) held b has.sound has.second fact
 
-  pub product_ends : IsProductEnd a b r → Has held r
-      × IsLeastProduct (family_in held a) (family_in held b) (family_in held r)
-  product_ends (inl (e, e')) = (
-    small r 0 e' (omega arith),
-    at IsLeastProduct [] (family_in held b) [] (none a e) refl (none r e')
-        (least_product-none (family_in held b)),
-  )
-  product_ends (inr (inl (e, e'))) = (
-    small r 0 e' (omega arith),
-    at IsLeastProduct (family_in held a) [] [] refl (none b e) (none r e')
-        (least_product-swap [] (family_in held a) [] (least_product-none (family_in held a))),
-  )
-  product_ends (inr (inr (inl (e, e')))) = (
-    subst (Has held) (sym e') has_a,
-    at IsLeastProduct (family_in held a) (family_in held a) (family_in held a) refl (sym (same a b e)) (same r a e')
-        (least_product-itself (family_in held a) (sound.antichains a has_a)),
-  )
-  product_ends (inr (inr (inr (inl (e, e'))))) = (
-    subst (Has held) (sym e') has_b,
-    at IsLeastProduct ([] ∷ []) (family_in held b) (family_in held b) (one a e) refl (same r b e')
-        (least_product-unit (family_in held b) (sound.antichains b has_b)),
-  )
-  product_ends (inr (inr (inr (inr (e, e'))))) = (
-    subst (Has held) (sym e') has_a,
-    at IsLeastProduct (family_in held a) ([] ∷ []) (family_in held a) refl (one b e) (same r a e')
-        (least_product-swap ([] ∷ []) (family_in held a) (family_in held a)
-        (least_product-unit (family_in held a) (sound.antichains a has_a))),
-  )
+  is_first : (Is : List (List ℕ) → List (List ℕ) → List (List ℕ) → Type 0) → Is f g f → EndsIn Is held a b a
+  is_first Is fact = Gave-there (Is f g) held a has.sound has.first fact
 
-  pub without_ends : IsWithoutEnd a b r → Has held r
-      × IsWithout (family_in held a) (family_in held b) (family_in held r)
-  without_ends (inl (e, e')) = (
-    small r 0 e' (omega arith),
-    at IsWithout [] (family_in held b) [] (none a e) refl (none r e')
-        (without-none (family_in held b)),
-  )
-  without_ends (inr (inl (e, e'))) = (
-    small r 0 e' (omega arith),
-    at IsWithout (family_in held a) ([] ∷ []) [] refl (one b e) (none r e')
-        (without-unit (family_in held a)),
-  )
-  without_ends (inr (inr (inl (e, e')))) = (
-    small r 0 e' (omega arith),
-    at IsWithout (family_in held a) (family_in held a) [] refl (sym (same a b e))
-        (none r e') (without-itself (family_in held a)),
-  )
-  without_ends (inr (inr (inr (inl (e, e'))))) = (
-    subst (Has held) (sym e') has_a,
-    at IsWithout (family_in held a) [] (family_in held a) refl (none b e) (same r a e')
-        (without-nothing (family_in held a) (is_family held a sound has_a)),
-  )
-  without_ends (inr (inr (inr (inr (e, inner, e'))))) = (
-    subst (Has held) (sym e') has_a,
-    at IsWithout ([] ∷ []) (family_in held b) ([] ∷ []) (one a e) refl (one r (e' ∙ e))
-        (unit-left (family_in held b) (node_lacks held b sound has_b inner)),
-  )
+  small : (Is : List (List ℕ) → List (List ℕ) → List (List ℕ) → Type 0) (r : ℕ) → r < 2 → Is f g (family_in held r)
+      → EndsIn Is held a b r
+  small Is r h fact = Gave-there (Is f g) held r has.sound (let few = has.sound.terminals in omega arith) fact
+
+  pub union_none : a ≡ 0 → EndsIn IsLeastUnion held a b b
+  union_none e =
+      is_second IsLeastUnion
+      (subst (λ x. IsLeastUnion x g g) (sym (none held a e)) (least_union-none g (has.sound.antichains b has.second)))
+
+  pub union_itself : a ≡ b → EndsIn IsLeastUnion held a b a
+  union_itself e =
+      is_first IsLeastUnion
+      (subst (λ x. IsLeastUnion f x f) (ap (family_in held) e)
+      (least_union-itself f (has.sound.antichains a has.first)))
+
+  pub union_unit : a ≡ 1 → EndsIn IsLeastUnion held a b 1
+  union_unit e =
+      small IsLeastUnion 1 (omega arith)
+      (subst (λ x. IsLeastUnion x g (family_in held 1)) (sym (unit held a e))
+      (subst (λ x. IsLeastUnion ([] ∷ []) g x) (sym (unit held 1 refl)) (least_union-unit g)))
+
+  pub product_none : a ≡ 0 → EndsIn IsLeastProduct held a b 0
+  product_none e =
+      small IsLeastProduct 0 (omega arith)
+      (subst (λ x. IsLeastProduct x g (family_in held 0)) (sym (none held a e))
+      (subst (λ x. IsLeastProduct [] g x) (sym (none held 0 refl)) (least_product-none g)))
+
+  pub product_itself : a ≡ b → EndsIn IsLeastProduct held a b a
+  product_itself e =
+      is_first IsLeastProduct
+      (subst (λ x. IsLeastProduct f x f) (ap (family_in held) e)
+      (least_product-itself f (has.sound.antichains a has.first)))
+
+  pub product_unit : a ≡ 1 → EndsIn IsLeastProduct held a b b
+  product_unit e =
+      is_second IsLeastProduct
+      (subst (λ x. IsLeastProduct x g g) (sym (unit held a e))
+      (least_product-unit g (has.sound.antichains b has.second)))
+
+  pub nothing_left : IsWithout f g [] → EndsIn IsWithout held a b 0
+  nothing_left fact = small IsWithout 0 (omega arith) (subst (IsWithout f g) (sym (none held 0 refl)) fact)
+
+  pub without_none : a ≡ 0 → EndsIn IsWithout held a b 0
+  without_none e = nothing_left (subst (λ x. IsWithout x g []) (sym (none held a e)) (without-none g))
+
+  pub without_unit : b ≡ 1 → EndsIn IsWithout held a b 0
+  without_unit e = nothing_left (subst (λ x. IsWithout f x []) (sym (unit held b e)) (without-unit f))
+
+  pub without_itself : a ≡ b → EndsIn IsWithout held a b 0
+  without_itself e = nothing_left (subst (λ x. IsWithout f x []) (ap (family_in held) e) (without-itself f))
+
+  pub without_nothing : b ≡ 0 → EndsIn IsWithout held a b a
+  without_nothing e =
+      is_first IsWithout
+      (subst (λ x. IsWithout f x f) (sym (none held b e)) (without-nothing f (is_family held a has.sound has.first)))
+
+  pub unit_stays : a ≡ 1 → 2 ≤ b → EndsIn IsWithout held a b a
+  unit_stays e inner =
+      is_first IsWithout
+      (subst (λ x. IsWithout x g x) (sym (unit held a e)) (unit-left g (node_lacks held b has.sound has.second inner)))
+
+-- ---- with the operands in the other order
+
+module _ {held : Held} {a b : ℕ} (has : HasBoth held a b) where
+  pub none_united : b ≡ 0 → EndsIn IsLeastUnion held a b a
+  none_united e = end_swapped IsLeastUnion held a b a least_union-swap (union_none (swap has) e)
+
+  pub unit_united : b ≡ 1 → EndsIn IsLeastUnion held a b 1
+  unit_united e = end_swapped IsLeastUnion held a b 1 least_union-swap (union_unit (swap has) e)
+
+  pub none_multiplied : b ≡ 0 → EndsIn IsLeastProduct held a b 0
+  none_multiplied e = end_swapped IsLeastProduct held a b 0 least_product-swap (product_none (swap has) e)
+
+  pub unit_multiplied : b ≡ 1 → EndsIn IsLeastProduct held a b a
+  unit_multiplied e = end_swapped IsLeastProduct held a b a least_product-swap (product_unit (swap has) e)

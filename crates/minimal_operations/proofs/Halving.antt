@@ -1,5 +1,5 @@
 -- A reference at a unit below all its units, and nodes without sets that have their level.
-use Rattle.std.proofs.Common.{◌≡◌, ◌≢◌, ℕ, ◌<◌, ◌≤◌, List, sym, ◌∙◌, ap, subst, arith}
+use Rattle.std.proofs.Common.{◌≡◌, ◌≢◌, ℕ, ◌<◌, ◌≤◌, sym, ◌∙◌, ap, subst, arith}
 use Rattle.unit_sets.specs.Unit.{IsUnit}
 use Rattle.zdd_words.specs.declared.word.Parts.{Parts}
 use Rattle.zdd_families.specs.Family.{branch}
@@ -7,11 +7,12 @@ use Rattle.zdd_families.specs.Map.{level_in}
 use Rattle.zdd_families.proofs.MapLemmas.{level_in-terminal, family-empty}
 use Rattle.family_operations.specs.Cuts.{Cuts}
 use Rattle.family_operations.proofs.CutsLemmas.{cut_above, branch-none}
-use Rattle.family_operations.specs.Without.{IsWithout}
 use Rattle.family_operations.proofs.WithoutLemmas.{without-lower}
 use Rattle.family_memory.specs.Memory.{Held, Has, IsSound, IsNodeOf, Gave, family_in, map_of}
 use Rattle.family_memory.proofs.After.{above, Gave-there}
 use Rattle.minimal_operations.specs.Halves.{IsHalf}
+use Rattle.minimal_operations.specs.Operands.{HasBoth}
+use Rattle.minimal_operations.specs.Rests.{Serves}
 
 pub half_whole : (held : Held) (x r : ℕ) → IsSound held → IsUnit x → Has held r → x ≤ level_in (map_of held) r
     → level_in (map_of held) r ≢ x → IsHalf held x r (record { lo = r; hi = 0 })
@@ -37,11 +38,12 @@ node_without held x lo hi sound has none =
     ∙ branch-none x (family_in held lo)))
 
 -- the part without its level serves in place of a node of a lower level
-pub part_serves : (held : Held) (a r : ℕ) (parts : Parts) → IsSound held → Has held a → IsNodeOf held r parts
-    → level_in (map_of held) r < level_in (map_of held) a
-    → (left : List (List ℕ)) → IsWithout (family_in held a) (family_in held parts.lo) left
-    → IsWithout (family_in held a) (family_in held r) left
-part_serves held a r parts sound has is lower left without =
-    without-lower parts.level (family_in held a) (family_in held r) (family_in held parts.lo) (family_in held parts.hi)
-    left is.cut
-    (above held parts.level a sound has (let e = is.level in omega arith)) without
+pub part_serves : {held : Held} {a r : ℕ} {parts : Parts} → HasBoth held a r → IsNodeOf held r parts
+    → level_in (map_of held) r < level_in (map_of held) a → Serves held a r parts.lo
+part_serves {held = held} {a = a} {r = r} {parts = parts} has is lower = record {
+  has = is.has_lo;
+  same = λ left without.
+      without-lower parts.level (family_in held a) (family_in held r) (family_in held parts.lo)
+      (family_in held parts.hi) left is.cut
+      (above held parts.level a has.sound has.first (let e = is.level in omega arith)) without;
+}

@@ -1,26 +1,23 @@
 -- What an operation gives of operands in the other order.
-use Rattle.std.proofs.Common.{Result, MatchResult, ℕ, List}
+use Rattle.std.proofs.Common.{Result, ℕ, List}
 use Rattle.std.proofs.lemmas.Result.{MatchResult-weaker}
-use Rattle.minimal_families.specs.Least.{IsLeastUnion, IsLeastProduct}
-use Rattle.minimal_families.proofs.Ends.{least_union-swap, least_product-swap}
-use Rattle.family_memory.specs.Memory.{Held, Gave, RanOut}
+use Rattle.family_memory.specs.Memory.{Held, family_in}
+use Rattle.family_memory.proofs.After.{Gave-there}
+use Rattle.minimal_operations.specs.Operands.{AnswersOf, EndsIn}
 
-pub united_swapped : {E : Type 0} (f g : List (List ℕ)) (before after : Held) (result : Result ℕ E)
-    → MatchResult result (Gave (IsLeastUnion g f) before after) (λ _. RanOut before after)
-    → MatchResult result (Gave (IsLeastUnion f g) before after) (λ _. RanOut before after)
-united_swapped f g before after result m =
-    MatchResult-weaker result m (λ r gave. record {
-      went = gave.went;
-      has = gave.has;
-      is = least_union-swap g f _ gave.is;
-    }) (λ _ out. out)
+module _ (Is : List (List ℕ) → List (List ℕ) → List (List ℕ) → Type 0) where
+  pub end_swapped : (held : Held) (a b r : ℕ) → ((f g h : List (List ℕ)) → Is f g h → Is g f h) → EndsIn Is held b a r
+      → EndsIn Is held a b r
+  end_swapped held a b r to gave =
+      Gave-there (Is (family_in held a) (family_in held b)) held r gave.went.sound gave.has
+      (to (family_in held b) (family_in held a) (family_in held r) gave.is)
 
-pub multiplied_swapped : {E : Type 0} (f g : List (List ℕ)) (before after : Held) (result : Result ℕ E)
-    → MatchResult result (Gave (IsLeastProduct g f) before after) (λ _. RanOut before after)
-    → MatchResult result (Gave (IsLeastProduct f g) before after) (λ _. RanOut before after)
-multiplied_swapped f g before after result m =
-    MatchResult-weaker result m (λ r gave. record {
-      went = gave.went;
-      has = gave.has;
-      is = least_product-swap g f _ gave.is;
-    }) (λ _ out. out)
+  pub swapped : {E : Type 0} (before after : Held) (a b : ℕ) (result : Result ℕ E)
+      → ((f g h : List (List ℕ)) → Is f g h → Is g f h) → AnswersOf Is before after b a result
+      → AnswersOf Is before after a b result
+  swapped before after a b result to m =
+      MatchResult-weaker result m (λ r gave. record {
+        went = gave.went;
+        has = gave.has;
+        is = to (family_in before b) (family_in before a) (family_in after r) gave.is;
+      }) (λ _ out. out)

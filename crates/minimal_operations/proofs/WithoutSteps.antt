@@ -1,19 +1,23 @@
 -- What is left of a node without a family, by its parts: three inner rests, and a node of two of them.
-use Rattle.std.proofs.Common.{Result, MatchResult, ◌≡◌, ℕ, ◌<◌, sym, subst, arith}
+use Rattle.std.proofs.Common.{Result, ◌≡◌, ℕ, ◌<◌, sym, subst, arith}
 use Rattle.zdd_families.specs.Family.{IsAbove, branch}
 use Rattle.zdd_words.specs.declared.word.Parts.{Parts}
 use Rattle.family_operations.specs.Without.{IsWithout}
 use Rattle.family_operations.proofs.WithoutLemmas.{without-above, without-step}
-use Rattle.family_parts.specs.Antichains.{IsAntichain}
 use Rattle.minimal_families.proofs.NodesLemmas.{antichain-without}
-use Rattle.family_memory.specs.Memory.{Held, Has, IsSound, IsNodeOf, Went, Gave, RanOut, family_in}
-use Rattle.family_memory.proofs.After.{Went-then, ended, level_above, still, still_has, at_start}
+use Rattle.family_memory.specs.Memory.{Held, IsSound, IsNodeOf, Went, Gave, family_in}
+use Rattle.family_memory.proofs.After.{Went-then, ended, level_above, still, at_start}
 use Rattle.minimal_operations.specs.declared.halves.Half.{Half}
 use Rattle.minimal_operations.specs.Halves.{IsHalf}
-use Rattle.minimal_operations.proofs.Steps.{above_still, fewer_from, levels_from}
+use Rattle.minimal_operations.specs.Operands.{Answers, AnswersOf, NoneLower}
+use Rattle.minimal_operations.specs.Rests.{CanBranch}
+use Rattle.minimal_operations.proofs.Steps.{above_still, fewer_from, levels_from, then_has, then_is, then_went}
 
-module _ {s0 : Held} {a b : ℕ} {one : Parts} {other : Half} (sound : IsSound s0) (has_a : Has s0 a)
-    (is : IsNodeOf s0 a one) (half : IsHalf s0 one.level b other) where
+module _ {s0 : Held} {a b : ℕ} {one : Parts} {other : Half} (nodes : NoneLower s0 a b) (is : IsNodeOf s0 a one)
+    (half : IsHalf s0 one.level b other) where
+  sound : IsSound s0
+  sound = nodes.nodes.has.sound
+
   pub lo_fewer : levels_from s0 one.lo < levels_from s0 a
   lo_fewer = fewer_from s0 s0 a one.lo one.level is.level is.unit is.lo_above
 
@@ -27,7 +31,7 @@ module _ {s0 : Held} {a b : ℕ} {one : Parts} {other : Half} (sound : IsSound s
     module _ {s2 : Held} {some : ℕ} (gave_some : Gave (IsWithout (family_in s1 one.hi) (family_in s1 other.hi)) s1 s2
         some) where
       pub went_some : Went s0 s2
-      went_some = Went-then s0 s1 s2 gave_lo.went gave_some.went
+      went_some = then_went gave_lo gave_some.went
 
       some_is : IsWithout (family_in s0 one.hi) (family_in s0 other.hi) (family_in s2 some)
       some_is =
@@ -49,15 +53,10 @@ module _ {s0 : Held} {a b : ℕ} {one : Parts} {other : Half} (sound : IsSound s
         went_hi = Went-then s0 s2 s3 went_some gave_hi.went
 
         went_on : Went s1 s3
-        went_on = Went-then s1 s2 s3 gave_some.went gave_hi.went
-
-        pub has_lo : Has s3 lo
-        has_lo = still_has s1 s3 gave_lo.went.sound went_on lo gave_lo.has
+        went_on = then_went gave_some gave_hi.went
 
         lo_is : IsWithout (family_in s0 one.lo) (family_in s0 other.lo) (family_in s3 lo)
-        lo_is =
-            subst (IsWithout (family_in s0 one.lo) (family_in s0 other.lo))
-            (sym (still s1 s3 gave_lo.went.sound went_on lo gave_lo.has)) gave_lo.is
+        lo_is = then_is gave_lo went_on
 
         hi_is : IsWithout (family_in s2 some) (family_in s0 other.lo) (family_in s3 hi)
         hi_is =
@@ -69,19 +68,19 @@ module _ {s0 : Held} {a b : ℕ} {one : Parts} {other : Half} (sound : IsSound s
             without-step one.level _ _ _ _ _ _ (family_in s3 lo) (family_in s2 some) (family_in s3 hi) is.cut half.cut
             lo_is some_is hi_is
 
-        pub lo_above : IsAbove one.level (family_in s3 lo)
-        lo_above = without-above one.level _ _ (family_in s3 lo) lo_is is.cut.lo_above
-
-        pub hi_above : IsAbove one.level (family_in s3 hi)
-        hi_above = without-above one.level _ _ (family_in s3 hi) hi_is some_above
-
-        pub antichain : IsAntichain (branch one.level (family_in s3 lo) (family_in s3 hi))
-        antichain = antichain-without _ _ _ (sound.antichains a has_a) step
+        pub halves_can : CanBranch s3 one.level lo hi
+        halves_can = record {
+          sound = gave_hi.went.sound;
+          has_lo = then_has gave_lo went_on;
+          has_hi = gave_hi.has;
+          lo_above = without-above one.level _ _ (family_in s3 lo) lo_is is.cut.lo_above;
+          hi_above = without-above one.level _ _ (family_in s3 hi) hi_is some_above;
+          antichain = antichain-without _ _ _ (sound.antichains a nodes.nodes.has.first) step;
+        }
 
         pub left_made : {E : Type 0} (s4 : Held) (result : Result ℕ E)
-            → MatchResult result (Gave (λ f. f ≡ branch one.level (family_in s3 lo) (family_in s3 hi)) s3 s4)
-            (λ _. RanOut s3 s4)
-            → MatchResult result (Gave (IsWithout (family_in s0 a) (family_in s0 b)) s0 s4) (λ _. RanOut s0 s4)
+            → Answers (λ f. f ≡ branch one.level (family_in s3 lo) (family_in s3 hi)) s3 s4 result
+            → AnswersOf IsWithout s0 s4 a b result
         left_made s4 result m =
             ended s0 s3 s4 went_hi (λ f. f ≡ branch one.level (family_in s3 lo) (family_in s3 hi))
             (IsWithout (family_in s0 a) (family_in s0 b)) result

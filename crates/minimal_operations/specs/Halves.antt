@@ -4,7 +4,7 @@ use Rattle.unit_sets.specs.Unit.{IsUnit}
 use Rattle.zdd_words.specs.declared.word.Parts.{Parts}
 use Rattle.zdd_families.specs.Map.{level_in}
 use Rattle.family_operations.specs.Cuts.{Cuts}
-use Rattle.family_memory.specs.Memory.{Held, Has, family_in, map_of}
+use Rattle.family_memory.specs.Memory.{Held, Has, IsSound, family_in, map_of}
 use Rattle.minimal_operations.specs.declared.halves.Half.{Half}
 
 -- the sets without the unit, and those with it, it taken out
@@ -17,6 +17,7 @@ pub record IsHalf (held : Held) (x r : ℕ) (half : Half) : Type 0 where
 
 -- both parts are of the memory, and all their units are above x
 pub record ArePartsAbove (held : Held) (x : ℕ) (parts : Parts) : Type 0 where
+  pub sound : IsSound held
   pub unit : IsUnit x
   pub has_lo : Has held parts.lo
   pub has_hi : Has held parts.hi

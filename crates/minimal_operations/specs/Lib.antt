@@ -1,3 +1,3 @@
-pub mod Ends
+pub mod Operands
 pub mod Halves
 pub mod Rests

@@ -1,12 +1,12 @@
 //! Nodes of which a part may be empty, or has sets to be taken out.
-ghost use Rattle.std.specs.Prelude.{◌≡◌, ◌≤◌, ℕ, List, [], ◌∷◌, IfErr, IfOk, MatchResult};
+ghost use Rattle.std.specs.Prelude.{◌≡◌, ◌≤◌, [], ◌∷◌, IfErr, IfOk, MatchResult};
 ghost use Rattle.zdd_families.specs.Family.{IsAbove, branch};
-ghost use Rattle.family_operations.specs.Without.{IsWithout};
 ghost use Rattle.family_parts.specs.Antichains.{IsAntichain};
 ghost use Rattle.family_memory.specs.Memory.{Gave, Has, RanOut, family_in};
-ghost use Rattle.minimal_operations.specs.Rests.{IsRidBranch};
+ghost use Rattle.minimal_operations.specs.Operands.{Answers};
+ghost use Rattle.minimal_operations.specs.Rests.{CanBranch, CanRid, IsRidBranch};
 
-use crate::withouts::strip;
+use crate::withouts::without;
 use family_memory::{FamilyMemory, Spent};
 use unit_sets::UnitNo;
 use zdd_words::NodeRef;
@@ -26,7 +26,7 @@ pub(crate) fn is_single(memory: &FamilyMemory, r: NodeRef) -> bool
     requires inner { 2 ≤ r }
 {
     let parts = memory.parts(r);
-    parts.lo == NodeRef::EMPTY && parts.hi == NodeRef::UNIT
+    parts.lo.number() == 0 && parts.hi.number() == 1
 }
 
 /// The node of a level below all units of two families: the sets of the one, and with the level those of the other that
@@ -45,6 +45,7 @@ pub fn rid_node(
         memory.old memory.new) }
     ensures spent { IfErr result (λ _. RanOut memory.old memory.new) }
 {
+    memory.is_sound();
     make_rid(memory, level, lo, all, lo)
 }
 
@@ -64,7 +65,7 @@ pub fn branch_node(
         memory.old memory.new) (λ _. RanOut memory.old memory.new) }
 {
     memory.is_sound();
-    if hi == NodeRef::EMPTY {
+    if hi.number() == 0 {
         return Ok(lo);
     }
     memory.node(level, lo, hi)
@@ -80,15 +81,10 @@ pub(crate) fn make_or_known(
 ) -> Result<NodeRef, Spent>
     requires has_known { Has memory.old known }
     requires inner { 2 ≤ known }
-    requires has_lo { Has memory.old lo }
-    requires has_hi { Has memory.old hi }
-    requires lo_above { IsAbove level (family_in memory.old lo) }
-    requires hi_above { IsAbove level (family_in memory.old hi) }
-    requires antichain { IsAntichain (branch level (family_in memory.old lo) (family_in memory.old hi)) }
-    ensures { MatchResult result (Gave (λ f. f ≡ branch level (family_in memory.old lo) (family_in memory.old hi))
-        memory.old memory.new) (λ _. RanOut memory.old memory.new) }
+    requires node { CanBranch memory.old level lo hi }
+    ensures { Answers (λ f. f ≡ branch level (family_in memory.old lo) (family_in memory.old hi)) memory.old memory.new
+        result }
 {
-    memory.is_sound();
     let parts = memory.parts(known);
     if parts.level == level && parts.lo == lo && parts.hi == hi {
         return Ok(known);
@@ -105,17 +101,10 @@ pub(crate) fn make_rid(
     all: NodeRef,
     other: NodeRef,
 ) -> Result<NodeRef, Spent>
-    requires has_lo { Has memory.old lo }
-    requires has_all { Has memory.old all }
-    requires has_other { Has memory.old other }
-    requires lo_above { IsAbove level (family_in memory.old lo) }
-    requires all_above { IsAbove level (family_in memory.old all) }
-    requires same { (left : List (List ℕ)) → IsWithout (family_in memory.old all) (family_in memory.old other) left
-        → IsWithout (family_in memory.old all) (family_in memory.old lo) left }
-    ensures { MatchResult result (Gave (IsRidBranch level (family_in memory.old lo) (family_in memory.old all))
-        memory.old memory.new) (λ _. RanOut memory.old memory.new) }
+    requires { CanRid memory.old level lo all other }
+    ensures { Answers (IsRidBranch level (family_in memory.old lo) (family_in memory.old all)) memory.old memory.new
+        result }
 {
-    memory.is_sound();
-    let hi = strip(memory, all, other)?;
+    let hi = without(memory, all, other)?;
     branch_node(memory, level, lo, hi)
 }

@@ -1,8 +1,9 @@
 //! The product of a family and one above all its units, from which nothing need be taken out.
-ghost use Rattle.std.specs.Prelude.{◌≤◌, IfErr, IfOk, MatchResult};
+ghost use Rattle.std.specs.Prelude.{◌≤◌, IfErr, IfOk};
 ghost use Rattle.minimal_families.specs.Least.{IsLeastProduct};
 ghost use Rattle.minimal_families.specs.Units.{LiesBelow};
 ghost use Rattle.family_memory.specs.Memory.{Gave, Has, RanOut, family_in};
+ghost use Rattle.minimal_operations.specs.Operands.{AnswersOf, HasNodes};
 
 use crate::nodes::{branch_node, is_single};
 use crate::products::product_end;
@@ -11,7 +12,8 @@ use kept_answers::{Entry, Operation, Question};
 use zdd_words::NodeRef;
 
 /// The minimal sets of the product, where the first family lies below the second. In time it is linear in the first
-/// family's diagram, whose end the second takes.
+/// family's diagram, whose end the second takes. An end makes nothing.
+#[cycle(product_below)]
 pub fn product_below(memory: &mut FamilyMemory, a: NodeRef, b: NodeRef) -> Result<NodeRef, Spent>
     requires has_a { Has memory.old a }
     requires has_b { Has memory.old b }
@@ -19,18 +21,6 @@ pub fn product_below(memory: &mut FamilyMemory, a: NodeRef, b: NodeRef) -> Resul
     ensures gives { IfOk result (Gave (IsLeastProduct (family_in memory.old a) (family_in memory.old b)) memory.old
         memory.new) }
     ensures spent { IfErr result (λ _. RanOut memory.old memory.new) }
-{
-    multiply_below(memory, a, b)
-}
-
-// The same, of which an end makes nothing.
-#[cycle(multiply_below)]
-fn multiply_below(memory: &mut FamilyMemory, a: NodeRef, b: NodeRef) -> Result<NodeRef, Spent>
-    requires has_a { Has memory.old a }
-    requires has_b { Has memory.old b }
-    requires below { LiesBelow (family_in memory.old a) (family_in memory.old b) }
-    ensures { MatchResult result (Gave (IsLeastProduct (family_in memory.old a) (family_in memory.old b)) memory.old
-        memory.new) (λ _. RanOut memory.old memory.new) }
 {
     memory.is_sound();
     if let Some(end) = product_end(a, b) {
@@ -56,19 +46,15 @@ fn multiply_below(memory: &mut FamilyMemory, a: NodeRef, b: NodeRef) -> Result<N
     Ok(made)
 }
 
-// The same of a node: no set with its level includes one without it, since none of the first family does.
-#[cycle(multiply_below)]
+// The same of nodes: no set with the first's level includes one without it, since none of the first family does.
+#[cycle(product_below)]
 fn multiply_parts(memory: &mut FamilyMemory, a: NodeRef, b: NodeRef) -> Result<NodeRef, Spent>
-    requires has_a { Has memory.old a }
-    requires has_b { Has memory.old b }
-    requires inner { 2 ≤ a }
+    requires nodes { HasNodes memory.old a b }
     requires below { LiesBelow (family_in memory.old a) (family_in memory.old b) }
-    ensures { MatchResult result (Gave (IsLeastProduct (family_in memory.old a) (family_in memory.old b)) memory.old
-        memory.new) (λ _. RanOut memory.old memory.new) }
+    ensures { AnswersOf IsLeastProduct memory.old memory.new a b result }
 {
-    memory.is_sound();
     let one = memory.parts(a);
-    let lo = multiply_below(memory, one.lo, b)?;
-    let hi = multiply_below(memory, one.hi, b)?;
+    let lo = product_below(memory, one.lo, b)?;
+    let hi = product_below(memory, one.hi, b)?;
     branch_node(memory, one.level, lo, hi)
 }

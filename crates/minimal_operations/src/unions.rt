@@ -1,50 +1,41 @@
 //! The minimal sets of a union.
-ghost use Rattle.std.specs.Prelude.{◌≡◌, ◌⊎◌, ◌<◌, ◌≤◌, IfErr, IfOk, MatchOption, MatchResult};
-ghost use Rattle.zdd_families.specs.Map.{level_in};
+ghost use Rattle.std.specs.Prelude.{◌≤◌, IfErr, IfOk, MatchOption};
 ghost use Rattle.minimal_families.specs.Least.{IsLeastUnion};
-ghost use Rattle.family_memory.specs.Memory.{Gave, Has, RanOut, family_in, map_of};
-ghost use Rattle.minimal_operations.specs.Ends.{GoesOn, IsUnionEnd};
+ghost use Rattle.family_memory.specs.Memory.{Gave, Has, RanOut, family_in};
+ghost use Rattle.minimal_operations.specs.Operands.{AnswersOf, EndsAs, HasNodes, IsHigher, OfOneLevel};
 
 use crate::nodes::{is_single, make_rid};
 use family_memory::{FamilyMemory, Spent};
 use kept_answers::{Entry, Operation, Question};
 use zdd_words::NodeRef;
 
-/// The minimal sets of the union.
+// The union where it is known at once: 0 is the number of no sets, and 1 that of the empty set alone.
+fn union_end(a: NodeRef, b: NodeRef) -> Option<NodeRef>
+    ensures { MatchOption result ((2 ≤ a) × (2 ≤ b)) (EndsAs IsLeastUnion a b) }
+{
+    let first = a.number();
+    let second = b.number();
+    if first == 0 {
+        return Some(b);
+    }
+    if second == 0 || first == second {
+        return Some(a);
+    }
+    if first == 1 || second == 1 {
+        return Some(NodeRef::UNIT);
+    }
+    None
+}
+
+/// The minimal sets of the union. An end makes nothing, and calls that end here are inlined.
+#[inline(always)]
+#[cycle(union)]
 pub fn union(memory: &mut FamilyMemory, a: NodeRef, b: NodeRef) -> Result<NodeRef, Spent>
     requires has_a { Has memory.old a }
     requires has_b { Has memory.old b }
     ensures gives { IfOk result (Gave (IsLeastUnion (family_in memory.old a) (family_in memory.old b)) memory.old
         memory.new) }
     ensures spent { IfErr result (λ _. RanOut memory.old memory.new) }
-{
-    unite(memory, a, b)
-}
-
-// The union where it is known at once.
-fn union_end(a: NodeRef, b: NodeRef) -> Option<NodeRef>
-    ensures { MatchOption result (GoesOn a b) (λ r. IsUnionEnd a b r) }
-{
-    if a == NodeRef::EMPTY {
-        return Some(b);
-    }
-    if b == NodeRef::EMPTY || a == b {
-        return Some(a);
-    }
-    if a == NodeRef::UNIT || b == NodeRef::UNIT {
-        return Some(NodeRef::UNIT);
-    }
-    None
-}
-
-/// The same, of which an end makes nothing. Calls that end here are inlined.
-#[inline(always)]
-#[cycle(unite)]
-pub(crate) fn unite(memory: &mut FamilyMemory, a: NodeRef, b: NodeRef) -> Result<NodeRef, Spent>
-    requires has_a { Has memory.old a }
-    requires has_b { Has memory.old b }
-    ensures { MatchResult result (Gave (IsLeastUnion (family_in memory.old a) (family_in memory.old b)) memory.old
-        memory.new) (λ _. RanOut memory.old memory.new) }
 {
     memory.is_sound();
     if let Some(end) = union_end(a, b) {
@@ -71,15 +62,11 @@ pub(crate) fn unite(memory: &mut FamilyMemory, a: NodeRef, b: NodeRef) -> Result
 }
 
 // The same of two nodes, by the order of their levels.
-#[cycle(unite)]
+#[cycle(union)]
 fn unite_levels(memory: &mut FamilyMemory, a: NodeRef, b: NodeRef) -> Result<NodeRef, Spent>
-    requires has_a { Has memory.old a }
-    requires has_b { Has memory.old b }
-    requires nodes { (2 ≤ a) × (2 ≤ b) }
-    ensures { MatchResult result (Gave (IsLeastUnion (family_in memory.old a) (family_in memory.old b)) memory.old
-        memory.new) (λ _. RanOut memory.old memory.new) }
+    requires { HasNodes memory.old a b }
+    ensures { AnswersOf IsLeastUnion memory.old memory.new a b result }
 {
-    memory.is_sound();
     let first = memory.level(a);
     let second = memory.level(b);
     if first < second {
@@ -92,36 +79,26 @@ fn unite_levels(memory: &mut FamilyMemory, a: NodeRef, b: NodeRef) -> Result<Nod
 }
 
 // The same of two nodes of one level.
-#[cycle(unite)]
+#[cycle(union)]
 fn unite_both(memory: &mut FamilyMemory, a: NodeRef, b: NodeRef) -> Result<NodeRef, Spent>
-    requires has_a { Has memory.old a }
-    requires has_b { Has memory.old b }
-    requires nodes { (2 ≤ a) × (2 ≤ b) }
-    requires level { level_in (map_of memory.old) a ≡ level_in (map_of memory.old) b }
-    ensures { MatchResult result (Gave (IsLeastUnion (family_in memory.old a) (family_in memory.old b)) memory.old
-        memory.new) (λ _. RanOut memory.old memory.new) }
+    requires { OfOneLevel memory.old a b }
+    ensures { AnswersOf IsLeastUnion memory.old memory.new a b result }
 {
-    memory.is_sound();
     let one = memory.parts(a);
     let other = memory.parts(b);
-    let lo = unite(memory, one.lo, other.lo)?;
-    let all = unite(memory, one.hi, other.hi)?;
+    let lo = union(memory, one.lo, other.lo)?;
+    let all = union(memory, one.hi, other.hi)?;
     make_rid(memory, one.level, lo, all, lo)
 }
 
 // The same of a node and a family above its level: the sets with the level need be rid of those that include one
 // of the other family alone.
-#[cycle(unite)]
+#[cycle(union)]
 fn unite_above(memory: &mut FamilyMemory, a: NodeRef, b: NodeRef) -> Result<NodeRef, Spent>
-    requires has_a { Has memory.old a }
-    requires has_b { Has memory.old b }
-    requires inner { 2 ≤ a }
-    requires level { level_in (map_of memory.old) a < level_in (map_of memory.old) b }
-    ensures { MatchResult result (Gave (IsLeastUnion (family_in memory.old a) (family_in memory.old b)) memory.old
-        memory.new) (λ _. RanOut memory.old memory.new) }
+    requires { IsHigher memory.old a b }
+    ensures { AnswersOf IsLeastUnion memory.old memory.new a b result }
 {
-    memory.is_sound();
     let one = memory.parts(a);
-    let lo = unite(memory, one.lo, b)?;
+    let lo = union(memory, one.lo, b)?;
     make_rid(memory, one.level, lo, one.hi, b)
 }

@@ -1,14 +1,13 @@
 use Rattle.std.proofs.Common.{sym, ◌∙◌}
-use Rattle.std.proofs.lemmas.Bool.{eqb-true}
 use Rattle.zdd_words.specs.Word.{packed}
 use Rattle.family_memory.proofs.After.{answers_of_node}
 use Rattle.minimal_operations.proofs.Halving.{node_without}
 use Rattle.minimal_operations.proofs.nodes.branch_node.Goals as goal
 
-pub returns-then-eq : goal.returns-then-eq
-returns-then-eq c =
+pub returns-then-number-eq0 : goal.returns-then-number-eq0
+returns-then-number-eq0 c =
     node_without c.args.memory.now c.args.level c.args.lo c.args.hi c.is_sound.ensures c.requires.has_lo
-    (eqb-true c.args.hi 0 (sym c.eq.ensures ∙ c.if-eq.true))
+    (sym c.number.ensures.value ∙ c.if-number-eq0.true)
 
 pub returns : goal.returns
 returns c =

@@ -15,7 +15,7 @@ returns-then-eq-3 c =
     let lo : one.lo ≡ c.args.lo = eqb-true one.lo c.args.lo (sym c.eq-then-eq.ensures ∙ c.if-eq-2.true) in
     let hi : one.hi ≡ c.args.hi = eqb-true one.hi c.args.hi (sym c.eq-then-eq-2.ensures ∙ c.if-eq-3.true) in
     Gave-there (λ f. f ≡ branch c.args.level (family_in held c.args.lo) (family_in held c.args.hi)) held c.args.known
-    c.is_sound.ensures c.requires.has_known
+    c.requires.node.sound c.requires.has_known
     (is ∙ ap (λ n. branch n (family_in held one.lo) (family_in held one.hi)) level
     ∙ ap (λ r. branch c.args.level (family_in held r) (family_in held one.hi)) lo
     ∙ ap (λ r. branch c.args.level (family_in held c.args.lo) (family_in held r)) hi)

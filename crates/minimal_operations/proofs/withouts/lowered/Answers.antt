@@ -2,6 +2,6 @@ use Rattle.minimal_operations.proofs.withouts.lowered.Goals as goal
 
 pub loop-a-preserved : goal.loop-a-preserved
 loop-a-preserved c = record {
-  has = c.nearer-part.ensures.has;
-  same = λ left without. c.loop-a.invariant.same left (c.nearer-part.ensures.same left without);
+  has = c.nearer-part.ensures.serves.has;
+  same = λ left without. c.loop-a.invariant.same left (c.nearer-part.ensures.serves.same left without);
 }

@@ -1,20 +1,17 @@
 use Rattle.std.proofs.Common.{sym, ◌∙◌}
-use Rattle.std.proofs.lemmas.Bool.{eqb-true, eqb-false}
 use Rattle.minimal_operations.proofs.SingleRests.{single_gone, single_stays}
 use Rattle.minimal_operations.proofs.withouts.single_end.Goals as goal
 
-pub returns-then-eq-3-clause-left : goal.returns-then-eq-3-clause-left
-returns-then-eq-3-clause-left c =
-    single_gone c.args.memory.now c.args.a c.args.b c.parts-one.result c.half_at-other.result c.is_sound.ensures
-    c.requires.has_b c.requires.nodes.1 c.parts-one.ensures c.half_at-other.ensures
-    (eqb-true c.parts-one.result.lo 0 (sym c.eq.ensures ∙ c.if-eq.true))
-    (eqb-true c.parts-one.result.hi 1 (sym c.eq-then-eq.ensures ∙ c.if-eq-2.true))
-    (eqb-true c.half_at-other.result.hi 1 (sym c.eq-then-eq-2.ensures ∙ c.if-eq-3.true))
+pub returns-then-number-eq1-2 : goal.returns-then-number-eq1-2
+returns-then-number-eq1-2 c =
+    single_gone c.requires c.parts-one.ensures c.half_at-other.ensures
+    (sym c.number.ensures.value ∙ c.if-number-eq0.true)
+    (sym c.number-then-number-eq0.ensures.value ∙ c.if-number-eq1.true)
+    (sym c.number-then-number-eq1.ensures.value ∙ c.if-number-eq1-2.true)
 
-pub returns-then-eq-2-clause-left : goal.returns-then-eq-2-clause-left
-returns-then-eq-2-clause-left c =
-    single_stays c.args.memory.now c.args.a c.args.b c.parts-one.result c.half_at-other.result c.is_sound.ensures
-    c.requires.has_b c.requires.nodes.1 c.parts-one.ensures c.half_at-other.ensures
-    (eqb-true c.parts-one.result.lo 0 (sym c.eq.ensures ∙ c.if-eq.true))
-    (eqb-true c.parts-one.result.hi 1 (sym c.eq-then-eq.ensures ∙ c.if-eq-2.true))
-    (eqb-false c.half_at-other.result.hi 1 (sym c.eq-then-eq-2.ensures ∙ c.if-eq-3.false))
+pub returns-then-number-eq1 : goal.returns-then-number-eq1
+returns-then-number-eq1 c =
+    single_stays c.requires c.parts-one.ensures c.half_at-other.ensures
+    (sym c.number.ensures.value ∙ c.if-number-eq0.true)
+    (sym c.number-then-number-eq0.ensures.value ∙ c.if-number-eq1.true)
+    (λ is. c.if-number-eq1-2.false (c.number-then-number-eq1.ensures.value ∙ is))

@@ -1,9 +1,9 @@
 use Rattle.std.proofs.Common.{◌+◌, ◌*◌}
 use Rattle.minimal_operations.proofs.Steps.{levels_of_both}
-use Rattle.minimal_operations.proofs.unions.+unite.Given as goal
+use Rattle.minimal_operations.proofs.unions.+union.Given as goal
 
-abbrev pub decreases-unite : goal.decreases-unite
-decreases-unite l = 3 * levels_of_both l.memory.now l.a l.b + 2
+abbrev pub decreases-union : goal.decreases-union
+decreases-union l = 3 * levels_of_both l.memory.now l.a l.b + 2
 
 abbrev pub decreases-unite_levels : goal.decreases-unite_levels
 decreases-unite_levels l = 3 * levels_of_both l.memory.now l.a l.b + 1

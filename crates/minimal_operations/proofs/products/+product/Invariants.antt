@@ -1,9 +1,9 @@
 use Rattle.std.proofs.Common.{◌+◌, ◌*◌, ◌-◌}
 use Rattle.minimal_operations.proofs.Steps.{levels_of_both}
-use Rattle.minimal_operations.proofs.products.+multiply.Given as goal
+use Rattle.minimal_operations.proofs.products.+product.Given as goal
 
-abbrev pub decreases-multiply : goal.decreases-multiply
-decreases-multiply l = 4 * levels_of_both l.memory.now l.a l.b + 3
+abbrev pub decreases-product : goal.decreases-product
+decreases-product l = 4 * levels_of_both l.memory.now l.a l.b + 3
 
 abbrev pub decreases-multiply_levels : goal.decreases-multiply_levels
 decreases-multiply_levels l = 4 * levels_of_both l.memory.now l.a l.b + 2

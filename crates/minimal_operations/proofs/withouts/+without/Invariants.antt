@@ -1,9 +1,9 @@
 use Rattle.std.proofs.Common.{◌+◌, ◌*◌}
 use Rattle.minimal_operations.proofs.Steps.{levels_from}
-use Rattle.minimal_operations.proofs.withouts.+strip.Given as goal
+use Rattle.minimal_operations.proofs.withouts.+without.Given as goal
 
-abbrev pub decreases-strip : goal.decreases-strip
-decreases-strip l = 4 * levels_from l.memory.now l.a + 3
+abbrev pub decreases-without : goal.decreases-without
+decreases-without l = 4 * levels_from l.memory.now l.a + 3
 
 abbrev pub decreases-strip_lowered : goal.decreases-strip_lowered
 decreases-strip_lowered l = 4 * levels_from l.memory.now l.a + 2
