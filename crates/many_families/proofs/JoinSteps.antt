@@ -1,10 +1,10 @@
 -- One family more in votes, call by call.
-use Rattle.std.proofs.Common.{Result, MatchResult, IfOk, IfErr, ◌≡◌, ℕ, zero, suc, ◌-◌, ◌<◌, Bool, true, false, ◌&&◌}
+use Rattle.std.proofs.Common.{Result, IfOk, IfErr, ◌≡◌, ℕ, zero, suc, ◌-◌, ◌<◌, Bool, true, false, ◌&&◌}
 use Rattle.std.proofs.Common.{◌||◌, List, [], Contains, refl, sym, ap, subst, arith}
 use Rattle.unit_sets.proofs.Sorted.{Contains-cons_first}
 use Rattle.unit_sets.specs.UnitList.{some_within}
 use Rattle.zdd_words.specs.declared.word.Parts.{Parts}
-use Rattle.zdd_families.specs.Family.{IsAbove, branch}
+use Rattle.zdd_families.specs.Family.{branch}
 use Rattle.zdd_families.specs.Map.{level_in}
 use Rattle.zdd_families.proofs.Canonical.{family-filled}
 use Rattle.zdd_families.proofs.MapLemmas.{family-empty, family-unit}
@@ -14,10 +14,12 @@ use Rattle.minimal_families.proofs.LeastLemmas.{IsLeastFor-same}
 use Rattle.minimal_families.proofs.StepsLemmas.{or_of}
 use Rattle.minimal_families.specs.Units.{HasUnit, LiesBelow}
 use Rattle.minimal_families.proofs.UnitsLemmas.{below-hi, cut_unit}
-use Rattle.family_memory.specs.Memory.{Held, Has, IsSound, IsNodeOf, Went, Gave, RanOut, family_in, map_of}
-use Rattle.family_memory.proofs.After.{Gave-there, Went-then, answers_of, at_start, ended, knows, of_start, still}
-use Rattle.family_memory.proofs.After.{still_has}
-use Rattle.many_families.specs.Joins.{IsJoined, IsBelow}
+use Rattle.family_memory.specs.Memory.{Held, Has, IsSound, IsNodeOf, Gave, RanOut, family_in, map_of}
+use Rattle.family_memory.proofs.After.{Gave-there, answers_of, at_start, ended, knows, of_start, still}
+use Rattle.minimal_operations.specs.Operands.{Answers}
+use Rattle.minimal_operations.specs.Rests.{CanBranch}
+use Rattle.minimal_operations.proofs.Steps.{then_has, then_is, then_went}
+use Rattle.many_families.specs.Joins.{CanJoin, IsJoined, IsBelow}
 use Rattle.many_families.proofs.JoinedBelow.{below_lo, joined_above, joined_by_parts, product_above}
 
 -- ---- any member
@@ -26,8 +28,7 @@ pub joined_any : {E : Type 0} (s0 s1 s2 : Held) (voter same fewer more : ℕ) �
     → Gave (IsLeastProduct (family_in s0 fewer) (family_in s0 voter)) s0 s1 more
     → (result : Result ℕ E) → IfOk result (Gave (IsLeastUnion (family_in s1 same) (family_in s1 more)) s1 s2)
     → IfErr result (λ _. RanOut s1 s2)
-    → MatchResult result (Gave (IsJoined (family_in s0 voter) (family_in s0 same) (family_in s0 fewer)) s0 s2)
-    (λ _. RanOut s0 s2)
+    → Answers (IsJoined (family_in s0 voter) (family_in s0 same) (family_in s0 fewer)) s0 s2 result
 joined_any s0 s1 s2 voter same fewer more sound has gave result gives spent =
     ended s0 s1 s2 gave.went (IsLeastUnion (family_in s1 same) (family_in s1 more))
     (IsJoined (family_in s0 voter) (family_in s0 same) (family_in s0 fewer)) result
@@ -36,8 +37,6 @@ joined_any s0 s1 s2 voter same fewer more sound has gave result gives spent =
     (λ within. or_of _ _ _ _ (ap (λ f. some_within f within) (still s0 s1 sound gave.went same has))
     (gave.is.some_within within)))
     (answers_of (IsLeastUnion (family_in s1 same) (family_in s1 more)) s1 s2 result gives spent)
-
--- ---- a node of which a part may be empty
 
 -- ---- a member below all others
 
@@ -63,90 +62,72 @@ joined_end held (suc zero) same fewer sound has small below =
 joined_end held (suc (suc r)) same fewer sound has small below = absurd (omega arith)
 
 -- the voter is a node, which is read, and lies below the votes of the others
-pub record JoinsNode (s0 : Held) (voter same fewer : ℕ) (one : Parts) : Type 0 where
-  pub sound : IsSound s0
-  pub has_voter : Has s0 voter
-  pub has_same : Has s0 same
-  pub has_fewer : Has s0 fewer
-  pub node : IsNodeOf s0 voter one
-  pub below : IsBelow (family_in s0 voter) (family_in s0 same) (family_in s0 fewer)
-
-module _ {s0 : Held} {voter same fewer : ℕ} {one : Parts} (step : JoinsNode s0 voter same fewer one) where
+module _ {s0 : Held} {voter same fewer : ℕ} {one : Parts} (has : CanJoin s0 voter same fewer)
+    (node : IsNodeOf s0 voter one)
+    (below : IsBelow (family_in s0 voter) (family_in s0 same) (family_in s0 fewer)) where
   has_level : HasUnit (family_in s0 voter) one.level
   has_level =
-      cut_unit one.level (family_in s0 voter) (family_in s0 one.lo) (family_in s0 one.hi) step.node.cut
-      (family-filled (map_of s0) one.hi step.sound.closed (knows s0 one.hi step.sound step.node.has_hi)
-      step.node.filled)
+      cut_unit one.level (family_in s0 voter) (family_in s0 one.lo) (family_in s0 one.hi) node.cut
+      (family-filled (map_of s0) one.hi has.sound.closed (knows s0 one.hi has.sound node.has_hi) node.filled)
 
   pub lo_fewer : 4096 - level_in (map_of s0) one.lo < 4096 - level_in (map_of s0) voter
-  lo_fewer = let h = step.node.lo_above in let e = step.node.level in let u = step.node.unit.1 in omega (arith, h, e, u)
+  lo_fewer = let h = node.lo_above in let e = node.level in let u = node.unit.1 in omega (arith, h, e, u)
 
   pub lo_is_below : IsBelow (family_in s0 one.lo) (family_in s0 same) (family_in s0 fewer)
   lo_is_below =
       below_lo one.level (family_in s0 voter) (family_in s0 one.lo) (family_in s0 one.hi) (family_in s0 same)
-      (family_in s0 fewer) step.node.cut step.below
+      (family_in s0 fewer) node.cut below
 
   module _ {s1 : Held} {lo : ℕ} (gave_lo : Gave (IsJoined (family_in s0 one.lo) (family_in s0 same)
       (family_in s0 fewer)) s0 s1 lo) where
-    pub has_hi : Has s1 one.hi
-    has_hi = still_has s0 s1 step.sound gave_lo.went one.hi step.node.has_hi
-
-    pub still_fewer : Has s1 fewer
-    still_fewer = still_has s0 s1 step.sound gave_lo.went fewer step.has_fewer
-
     pub hi_lies_below : LiesBelow (family_in s1 one.hi) (family_in s1 fewer)
     hi_lies_below =
-        of_start s0 s1 step.sound gave_lo.went LiesBelow one.hi fewer step.node.has_hi step.has_fewer
+        of_start s0 s1 has.sound gave_lo.went LiesBelow one.hi fewer node.has_hi has.has_fewer
         (below-hi one.level (family_in s0 voter) (family_in s0 one.lo) (family_in s0 one.hi) (family_in s0 fewer)
-        step.node.cut step.below.fewer_above)
+        node.cut below.fewer_above)
 
     module _ {s2 : Held} {hi : ℕ} (gave_hi : Gave (IsLeastProduct (family_in s1 one.hi) (family_in s1 fewer)) s1 s2
         hi) where
-      went_parts : Went s0 s2
-      went_parts = Went-then s0 s1 s2 gave_lo.went gave_hi.went
-
       lo_is : IsJoined (family_in s0 one.lo) (family_in s0 same) (family_in s0 fewer) (family_in s2 lo)
-      lo_is =
-          subst (IsJoined (family_in s0 one.lo) (family_in s0 same) (family_in s0 fewer))
-          (sym (still s1 s2 gave_lo.went.sound gave_hi.went lo gave_lo.has)) gave_lo.is
+      lo_is = then_is gave_lo gave_hi.went
 
       hi_is : IsLeastProduct (family_in s0 one.hi) (family_in s0 fewer) (family_in s2 hi)
       hi_is =
-          at_start s0 s1 step.sound gave_lo.went (λ f g. IsLeastProduct f g (family_in s2 hi)) one.hi fewer
-          step.node.has_hi step.has_fewer gave_hi.is
-
-      pub lo_above : IsAbove one.level (family_in s2 lo)
-      lo_above =
-          joined_above one.level (family_in s0 voter) (family_in s0 one.lo) (family_in s0 one.hi) (family_in s0 same)
-          (family_in s0 fewer) step.node.cut step.below (family_in s2 lo) (family_in s2 hi)
-          (step.sound.antichains voter step.has_voter) (step.below.same_above one.level has_level)
-          (step.below.fewer_above one.level has_level) lo_is hi_is
-
-      pub hi_above : IsAbove one.level (family_in s2 hi)
-      hi_above =
-          product_above one.level (family_in s0 voter) (family_in s0 one.lo) (family_in s0 one.hi) (family_in s0 same)
-          (family_in s0 fewer) step.node.cut step.below (family_in s2 lo) (family_in s2 hi)
-          (step.sound.antichains voter step.has_voter) (step.below.same_above one.level has_level)
-          (step.below.fewer_above one.level has_level) lo_is hi_is
+          at_start s0 s1 has.sound gave_lo.went (λ f g. IsLeastProduct f g (family_in s2 hi)) one.hi fewer
+          node.has_hi has.has_fewer gave_hi.is
 
       joined : IsJoined (family_in s0 voter) (family_in s0 same) (family_in s0 fewer)
           (branch one.level (family_in s2 lo) (family_in s2 hi))
       joined =
           joined_by_parts one.level (family_in s0 voter) (family_in s0 one.lo) (family_in s0 one.hi)
-          (family_in s0 same) (family_in s0 fewer) step.node.cut step.below (family_in s2 lo) (family_in s2 hi)
-          (step.sound.antichains voter step.has_voter) (step.below.same_above one.level has_level)
-          (step.below.fewer_above one.level has_level) lo_is hi_is
+          (family_in s0 same) (family_in s0 fewer) node.cut below (family_in s2 lo) (family_in s2 hi)
+          (has.sound.antichains voter has.has_voter) (below.same_above one.level has_level)
+          (below.fewer_above one.level has_level) lo_is hi_is
 
-      pub joined_antichain : IsAntichain (branch one.level (family_in s2 lo) (family_in s2 hi))
-      joined_antichain = joined.antichain
+      pub joined_can : CanBranch s2 one.level lo hi
+      joined_can = record {
+        sound = gave_hi.went.sound;
+        has_lo = then_has gave_lo gave_hi.went;
+        has_hi = gave_hi.has;
+        lo_above =
+            joined_above one.level (family_in s0 voter) (family_in s0 one.lo) (family_in s0 one.hi) (family_in s0 same)
+            (family_in s0 fewer) node.cut below (family_in s2 lo) (family_in s2 hi)
+            (has.sound.antichains voter has.has_voter) (below.same_above one.level has_level)
+            (below.fewer_above one.level has_level) lo_is hi_is;
+        hi_above =
+            product_above one.level (family_in s0 voter) (family_in s0 one.lo) (family_in s0 one.hi) (family_in s0 same)
+            (family_in s0 fewer) node.cut below (family_in s2 lo) (family_in s2 hi)
+            (has.sound.antichains voter has.has_voter) (below.same_above one.level has_level)
+            (below.fewer_above one.level has_level) lo_is hi_is;
+        antichain = joined.antichain;
+      }
 
       pub joined_below : {E : Type 0} (s3 : Held) (result : Result ℕ E)
-          → MatchResult result (Gave (λ f. f ≡ branch one.level (family_in s2 lo) (family_in s2 hi)) s2 s3)
-          (λ _. RanOut s2 s3)
-          → MatchResult result (Gave (IsJoined (family_in s0 voter) (family_in s0 same) (family_in s0 fewer)) s0 s3)
-          (λ _. RanOut s0 s3)
+          → Answers (λ f. f ≡ branch one.level (family_in s2 lo) (family_in s2 hi)) s2 s3 result
+          → Answers (IsJoined (family_in s0 voter) (family_in s0 same) (family_in s0 fewer)) s0 s3 result
       joined_below s3 result m =
-          ended s0 s2 s3 went_parts (λ f. f ≡ branch one.level (family_in s2 lo) (family_in s2 hi))
+          ended s0 s2 s3 (then_went gave_lo gave_hi.went)
+          (λ f. f ≡ branch one.level (family_in s2 lo) (family_in s2 hi))
           (IsJoined (family_in s0 voter) (family_in s0 same) (family_in s0 fewer)) result
           (λ f same_family. subst (IsJoined (family_in s0 voter) (family_in s0 same) (family_in s0 fewer))
           (sym same_family) joined) m

@@ -13,6 +13,7 @@ use Rattle.minimal_families.proofs.Many.{no_votes}
 use Rattle.family_memory.specs.Memory.{Held, Has, IsSound, Went, Gave, family_in, map_of}
 use Rattle.family_memory.proofs.After.{Gave-there, still, still_has}
 use Rattle.many_families.specs.Lists.{families, AreApartFrom, IsBetween, IsVote, IsVoter, IsVoting, HaveVoted}
+use Rattle.many_families.specs.Lists.{VotesAt, VotesNext}
 use Rattle.many_families.specs.Joins.{IsJoined, IsBelow}
 use Rattle.many_families.proofs.Lists.{many_families, still_all}
 use Rattle.many_families.proofs.ApartVotes.{is_below, votes_joined}
@@ -72,11 +73,9 @@ module _ (before after : Held) (fs : List (List (List ℕ))) (sound : IsSound be
 
 -- ---- one member more at one place
 
-module _ (s0 : Held) (fs : List (List (List ℕ))) (votes member place : ℕ) (members : List ℕ) (floor voter : ℕ)
-    (sound : IsSound s0) (first : (member ≤ place) × (votes ≤ place + 1))
-    (end : (place < member + votes) × (place < length members))
-    (is_voter : IsVoter s0 fs member floor voter) (voting : IsVoting s0 fs votes member place members)
-    (fewer : ℕ) (fewer_is : fewer ≡ (if place == member then 1 else get_or members place 0)) (same : ℕ)
+module _ {s0 : Held} {fs : List (List (List ℕ))} {votes member place floor voter : ℕ} {members : List ℕ}
+    (turn : VotesAt s0 fs votes member place floor voter members) (fewer : ℕ)
+    (fewer_is : fewer ≡ (if place == member then 1 else get_or members place 0)) (same : ℕ)
     (same_is : same ≡ get_or members (place + 1) 0) where
   pub fewer_vote : IsVote s0 fs (member + 1) (place - member) fewer
   fewer_vote =
@@ -89,7 +88,7 @@ module _ (s0 : Held) (fs : List (List (List ℕ))) (votes member place : ℕ) (m
             subst (λ n. IsVote s0 fs (member + 1) n fewer) (sym none)
             (subst (IsVote s0 fs (member + 1) 0) (sym unit)
             record {
-              has = let few = sound.terminals in omega arith;
+              has = let few = turn.sound.terminals in omega arith;
               is =
                   subst (IsLeastVotes 0 (drop (member + 1) fs)) (sym (family-unit (map_of s0)))
                   (no_votes (drop (member + 1) fs));
@@ -97,11 +96,11 @@ module _ (s0 : Held) (fs : List (List (List ℕ))) (votes member place : ℕ) (m
         | inr past ↦
             let at : fewer ≡ get_or members place 0 =
             fewer_is ∙ cond-false (place == member) 1 (get_or members place 0) (ne_eqb place member past) in
-            let one : suc (place - (member + 1)) ≡ place - member = let h = first.0 in omega (arith, h, past) in
+            let one : suc (place - (member + 1)) ≡ place - member = let h = turn.from in omega (arith, h, past) in
             subst (IsVote s0 fs (member + 1) (place - member)) (sym at)
             (subst (λ n. IsVote s0 fs (member + 1) n (get_or members place 0)) one
-            (voting.before place (omega arith) (let h = first.0 in omega (arith, h, past)) first.1
-            (let h = end.0 in omega (arith, h)) end.1))
+            (turn.voting.before place (omega arith) (let h = turn.from in omega (arith, h, past)) turn.enough
+            (let h = turn.most in omega (arith, h)) turn.inside))
       ]
 
   pub same_vote : IsVote s0 fs (member + 1) (suc (place - member)) same
@@ -111,33 +110,34 @@ module _ (s0 : Held) (fs : List (List (List ℕ))) (votes member place : ℕ) (m
             let one : suc (place + 1 - (member + 1)) ≡ suc (place - member) = omega arith in
             subst (IsVote s0 fs (member + 1) (suc (place - member))) (sym same_is)
             (subst (λ n. IsVote s0 fs (member + 1) n (get_or members (place + 1) 0)) one
-            (voting.before (place + 1) (omega arith) (let h = first.0 in omega (arith, h))
-            (let h = first.1 in omega (arith, h)) (let h = end.0 in omega (arith, h)) inside))
+            (turn.voting.before (place + 1) (omega arith) (let h = turn.from in omega (arith, h))
+            (let h = turn.enough in omega (arith, h)) (let h = turn.most in omega (arith, h)) inside))
         | inr past ↦
             subst (IsVote s0 fs (member + 1) (suc (place - member)))
             (sym (same_is ∙ get_or_past members (place + 1) 0 past))
             record {
-              has = let few = sound.terminals in omega arith;
+              has = let few = turn.sound.terminals in omega arith;
               is = too_many s0 (drop (member + 1) fs) (suc (place - member))
-                  (let e = length-drop (member + 1) fs in let n = voting.count in let h = first.0 in let k = end.1 in
-                  omega (arith, e, n, h, k, past));
+                  (let e = length-drop (member + 1) fs in let n = turn.voting.count in let h = turn.from in
+                  let k = turn.inside in omega (arith, e, n, h, k, past));
             }
       ]
 
   pub voter_below : 1 ≤ floor → IsBelow (family_in s0 voter) (family_in s0 same) (family_in s0 fewer)
-  voter_below some = before_others (is_voter.units some) where
+  voter_below some = before_others (turn.is_voter.units some) where
     before_others : AreApartFrom floor (family_in s0 voter ∷ drop (member + 1) fs)
         → IsBelow (family_in s0 voter) (family_in s0 same) (family_in s0 fewer)
     before_others (next, between, others) =
         is_below next (place - member) (drop (member + 1) fs) others (family_in s0 fewer) fewer_vote.is floor
         (family_in s0 voter) (family_in s0 same) between same_vote.is
 
-  module _ (s1 : Held) (made : ℕ) (gave : Gave (IsJoined (family_in s0 voter) (family_in s0 same) (family_in s0 fewer))
+  module _ {s1 : Held} {made : ℕ} (gave : Gave (IsJoined (family_in s0 voter) (family_in s0 same) (family_in s0 fewer))
       s0 s1 made) where
     next : drop member fs ≡ family_in s0 voter ∷ drop (member + 1) fs
     next =
-        drop_more fs member [] (let n = voting.count in let h = first.0 in let k = end.1 in omega (arith, n, h, k))
-        ∙ ap (λ f. f ∷ drop (member + 1) fs) (sym is_voter.is)
+        drop_more fs member []
+        (let n = turn.voting.count in let h = turn.from in let k = turn.inside in omega (arith, n, h, k))
+        ∙ ap (λ f. f ∷ drop (member + 1) fs) (sym turn.is_voter.is)
 
     made_vote : IsVote s1 fs member (suc (place - member)) made
     made_vote = record {
@@ -153,56 +153,56 @@ module _ (s0 : Held) (fs : List (List (List ℕ))) (votes member place : ℕ) (m
 
     pub voted_at : IsVoting s1 fs votes member (place + 1) (set members place made)
     voted_at = record {
-      count = length-set members place made ∙ voting.count;
-      has = All-set (Has s1) members place made gave.has (still_all s0 s1 members sound gave.went voting.has);
+      count = length-set members place made ∙ turn.voting.count;
+      has = All-set (Has s1) members place made gave.has (still_all s0 s1 members turn.sound gave.went turn.voting.has);
       waiting = λ at low.
-          ap (family_in s1) (other_place at (λ e. let h = first.0 in omega (arith, h, e, low)))
-          ∙ still s0 s1 sound gave.went (get_or members at 0)
-          (voting.has at 0 (let h = first.0 in let k = end.1 in omega (arith, h, k, low)))
-          ∙ voting.waiting at low;
+          ap (family_in s1) (other_place at (λ e. let h = turn.from in omega (arith, h, e, low)))
+          ∙ still s0 s1 turn.sound gave.went (get_or members at 0)
+          (turn.voting.has at 0 (let h = turn.from in let k = turn.inside in omega (arith, h, k, low)))
+          ∙ turn.voting.waiting at low;
       before = λ at from low enough most inside.
           subst (IsVote s1 fs (member + 1) (suc (at - (member + 1))))
           (sym (other_place at (λ e. omega (arith, e, from))))
-          (vote_stays s0 s1 fs sound gave.went (member + 1) (suc (at - (member + 1))) (get_or members at 0)
-          (voting.before at (omega (arith, from)) low enough most
+          (vote_stays s0 s1 fs turn.sound gave.went (member + 1) (suc (at - (member + 1))) (get_or members at 0)
+          (turn.voting.before at (omega (arith, from)) low enough most
           (let e = length-set members place made in omega (arith, e, inside))));
       after = λ at until low enough most inside.
           elim (cases_eq at place) [
             | inl here ↦
                 subst (λ q. IsVote s1 fs member (suc (q - member)) (get_or (set members place made) q 0)) (sym here)
-                (subst (IsVote s1 fs member (suc (place - member))) (sym (get_or-set_same members place made 0 end.1))
-                made_vote)
+                (subst (IsVote s1 fs member (suc (place - member)))
+                (sym (get_or-set_same members place made 0 turn.inside)) made_vote)
             | inr other ↦
                 subst (IsVote s1 fs member (suc (at - member))) (sym (other_place at other))
-                (vote_stays s0 s1 fs sound gave.went member (suc (at - member)) (get_or members at 0)
-                (voting.after at (omega (arith, until, other)) low enough most
+                (vote_stays s0 s1 fs turn.sound gave.went member (suc (at - member)) (get_or members at 0)
+                (turn.voting.after at (omega (arith, until, other)) low enough most
                 (let e = length-set members place made in omega (arith, e, inside))))
           ];
     }
 
 -- ---- a member begins, and has voted
 
-module _ (held : Held) (fs : List (List (List ℕ))) (votes member floor : ℕ) (members : List ℕ)
-    (inside : member < length members) (voted : HaveVoted held fs votes (member + 1) floor members)
-    (voter : ℕ) (voter_is : voter ≡ get_or members member 0) (lower : ℕ)
+module _ {held : Held} {fs : List (List (List ℕ))} {votes member floor : ℕ} {members : List ℕ}
+    (waits : VotesNext held fs votes member floor members) (voter : ℕ) (voter_is : voter ≡ get_or members member 0)
+    (lower : ℕ)
     (between : 1 ≤ lower → IsBetween lower floor (family_in held voter)) where
   pub has_voter : Has held voter
-  has_voter = subst (Has held) (sym voter_is) (voted.has member 0 inside)
+  has_voter = subst (Has held) (sym voter_is) (waits.voted.has member 0 waits.inside)
 
   pub voter_begins : IsVoter held fs member lower voter
   voter_begins = record {
     has = has_voter;
-    is = ap (family_in held) voter_is ∙ voted.waiting member (omega arith);
-    units = λ some. (floor, between some, voted.units (let h = (between some).order in omega (arith, h, some)));
+    is = ap (family_in held) voter_is ∙ waits.voted.waiting member (omega arith);
+    units = λ some. (floor, between some, waits.voted.units (let h = (between some).order in omega (arith, h, some)));
   }
 
   pub voting_begins : (place : ℕ) → ((at : ℕ) → member ≤ at → votes ≤ at + 1 → place ≤ at)
       → IsVoting held fs votes member place members
   voting_begins place lowest = record {
-    count = voted.count;
-    has = voted.has;
-    waiting = λ at low. voted.waiting at (omega arith);
-    before = λ at from low enough most within. voted.voted at low enough most within;
+    count = waits.voted.count;
+    has = waits.voted.has;
+    waiting = λ at low. waits.voted.waiting at (omega arith);
+    before = λ at from low enough most within. waits.voted.voted at low enough most within;
     after = λ at until low enough most within. absurd (let h = lowest at low enough in omega (arith, h, until));
   }
 

@@ -1,5 +1,5 @@
 -- Families that are cut at their least unit, to be united from there on.
-use Rattle.std.specs.Prelude.{ℕ, ◌<◌, ◌≤◌, List, All, Contains, map}
+use Rattle.std.specs.Prelude.{◌≡◌, ℕ, ◌<◌, ◌≤◌, List, All, Contains, length, map, slice_index}
 use Rattle.zdd_families.specs.Family.{sets_with}
 use Rattle.zdd_families.specs.Map.{level_in}
 use Rattle.family_operations.specs.Cuts.{Cuts}
@@ -20,6 +20,12 @@ pub record IsLowered (held : Held) (x r lower : ℕ) : Type 0 where
   pub has : Has held lower
   pub above : x < level_in (map_of held) lower
   pub cut : Cuts x (family_in held r) (family_in held lower) (sets_with x (family_in held r))
+
+-- the references are lowered place by place
+pub record AreAllLowered (held : Held) (x : ℕ) (list lower : List ℕ) : Type 0 where
+  pub size : length lower ≡ length list
+  pub lowered : (place : ℕ) → place < length list
+      → IsLowered held x (slice_index list place) (slice_index lower place)
 
 -- of each family the sets with x, it taken out
 abbrev pub uppers : ℕ → List (List (List ℕ)) → List (List (List ℕ))

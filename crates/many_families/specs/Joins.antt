@@ -4,6 +4,7 @@ use Rattle.unit_sets.specs.UnitList.{some_within}
 use Rattle.minimal_families.specs.Least.{IsLeastFor}
 use Rattle.minimal_families.specs.Nodes.{IncludesNoneOf}
 use Rattle.minimal_families.specs.Units.{LiesBelow}
+use Rattle.family_memory.specs.Memory.{Held, Has, IsSound}
 
 -- the minimal sets of one family, and of the unions of sets of two others
 abbrev pub IsJoined : List (List ℕ) → List (List ℕ) → List (List ℕ) → List (List ℕ) → Type 0
@@ -16,3 +17,10 @@ pub record IsBelow (voter same fewer : List (List ℕ)) : Type 0 where
   pub fewer_above : LiesBelow voter fewer
   pub includes_none : IncludesNoneOf same fewer
   pub lacks : Contains voter [] → ⊥
+
+-- a sound memory has the voter, and the votes of the others
+pub record CanJoin (held : Held) (voter same fewer : ℕ) : Type 0 where
+  pub sound : IsSound held
+  pub has_voter : Has held voter
+  pub has_same : Has held same
+  pub has_fewer : Has held fewer

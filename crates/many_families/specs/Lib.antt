@@ -1,3 +1,4 @@
 pub mod Lists
 pub mod Joins
 pub mod Chains
+pub mod Rests

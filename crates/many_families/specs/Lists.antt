@@ -3,7 +3,7 @@ use Rattle.std.specs.Prelude.{◌≡◌, ℕ, suc, ◌+◌, ◌-◌, ◌<◌, �
 use Rattle.std.specs.Prelude.{map, slice_index}
 use Rattle.minimal_families.specs.Least.{IsLeastVotes}
 use Rattle.minimal_families.specs.Units.{HasUnit}
-use Rattle.family_memory.specs.Memory.{Held, Has, family_in}
+use Rattle.family_memory.specs.Memory.{Held, Has, IsSound, family_in}
 
 -- the families of a list of references
 abbrev pub families : Held → List ℕ → List (List (List ℕ))
@@ -54,3 +54,30 @@ pub record IsVoting (held : Held) (fs : List (List (List ℕ))) (votes member pl
       → IsVote held fs (member + 1) (suc (at - (member + 1))) (slice_index members at)
   pub after : (at : ℕ) → at < place → member ≤ at → votes ≤ at + 1 → at < member + votes → at < length members
       → IsVote held fs member (suc (at - member)) (slice_index members at)
+
+-- members are to vote, none of which has yet, for at least one vote and no more than there are members
+pub record AreVoters (held : Held) (fs : List (List (List ℕ))) (votes : ℕ) (members : List ℕ) : Type 0 where
+  pub sound : IsSound held
+  pub some : 1 ≤ votes
+  pub enough : votes ≤ length members
+  pub has : All (Has held) members
+  pub of : fs ≡ families held members
+
+-- the members behind one have voted, which votes next
+pub record VotesNext (held : Held) (fs : List (List (List ℕ))) (votes member floor : ℕ) (members : List ℕ)
+    : Type 0 where
+  pub sound : IsSound held
+  pub some : 1 ≤ votes
+  pub inside : member < length members
+  pub voted : HaveVoted held fs votes (member + 1) floor members
+
+-- the same while it votes: it does so next at a place whose votes matter
+pub record VotesAt (held : Held) (fs : List (List (List ℕ))) (votes member place floor voter : ℕ) (members : List ℕ)
+    : Type 0 where
+  pub sound : IsSound held
+  pub from : member ≤ place
+  pub enough : votes ≤ place + 1
+  pub most : place < member + votes
+  pub inside : place < length members
+  pub is_voter : IsVoter held fs member floor voter
+  pub voting : IsVoting held fs votes member place members

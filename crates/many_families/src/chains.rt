@@ -1,12 +1,13 @@
 //! The union of many families in an order of their units, and of a few at once, unit by unit: each level takes one
 //! node, whatever the number of families.
-ghost use Rattle.std.specs.Prelude.{◌≡◌, ◌<◌, ◌≤◌, ℕ, All, MatchResult, length, slice_index};
+ghost use Rattle.std.specs.Prelude.{◌<◌, ◌≤◌, All, length};
 ghost use Rattle.minimal_families.specs.Least.{IsLeastOfAll};
-ghost use Rattle.family_memory.specs.Memory.{Gave, Has, RanOut};
-ghost use Rattle.many_families.specs.Chains.{AreFrom, IsLowered, IsLowest, uppers};
+ghost use Rattle.family_memory.specs.Memory.{Has};
+ghost use Rattle.minimal_operations.specs.Operands.{Answers};
+ghost use Rattle.many_families.specs.Chains.{AreFrom, AreAllLowered, IsLowest, uppers};
 ghost use Rattle.many_families.specs.Lists.{families};
 
-use crate::many::unite_all;
+use crate::many::union_of_all;
 use family_memory::{FamilyMemory, Spent};
 use minimal_operations::{half_at, rid_node, union};
 use unit_sets::UnitNo;
@@ -22,8 +23,7 @@ pub(crate) fn unite_places(
     places: &mut [NodeRef],
 ) -> Result<NodeRef, Spent>
     requires { All (Has memory.old) places.old }
-    ensures { MatchResult result (Gave (IsLeastOfAll (families memory.old places.old)) memory.old memory.new)
-        (λ _. RanOut memory.old memory.new) }
+    ensures { Answers (IsLeastOfAll (families memory.old places.old)) memory.old memory.new result }
 {
     memory.is_sound();
     if places.len() <= AT_ONCE {
@@ -60,12 +60,22 @@ fn end_of_first(memory: &FamilyMemory, list: &[NodeRef]) -> usize
 fn begins_alike(memory: &FamilyMemory, r: NodeRef) -> bool
     requires { Has memory.now r }
 {
-    r.number() >= 2 && memory.parts(r).lo == NodeRef::EMPTY
+    r.number() >= 2 && memory.parts(r).lo.number() == 0
 }
 
 // Whether two at most are to be united, or one of them has the empty set, which all others include.
 fn are_few(list: &[NodeRef]) -> bool {
-    list.iter().filter(|r| **r != NodeRef::EMPTY).count() < 3 || list.contains(&NodeRef::UNIT)
+    let mut some: usize = 0;
+    for place in 0..list.len() {
+        let number = list[place].number();
+        if number == 1 {
+            return true;
+        }
+        if number > 0 {
+            some = some.saturating_add(1);
+        }
+    }
+    some < 3
 }
 
 // A reference with the least level.
@@ -86,13 +96,12 @@ fn lowest(memory: &FamilyMemory, list: &[NodeRef]) -> NodeRef
 // The union of a few families from their least unit on: of their sets that lack it, and of those that have it.
 fn unite_levels(memory: &mut FamilyMemory, list: &mut [NodeRef]) -> Result<NodeRef, Spent>
     requires { All (Has memory.old) list.old }
-    ensures { MatchResult result (Gave (IsLeastOfAll (families memory.old list.old)) memory.old memory.new)
-        (λ _. RanOut memory.old memory.new) }
+    ensures { Answers (IsLeastOfAll (families memory.old list.old)) memory.old memory.new result }
 {
     memory.is_sound();
     let first = lowest(memory, list);
     if first.number() < 2 || are_few(list) {
-        return unite_all(memory, list);
+        return union_of_all(memory, list);
     }
     let level = memory.parts(first).level;
     let all = unite_uppers(memory, level, list)?;
@@ -109,8 +118,7 @@ fn unite_uppers(
 ) -> Result<NodeRef, Spent>
     requires has { All (Has memory.old) list.now }
     requires from { AreFrom memory.old level list.now }
-    ensures { MatchResult result (Gave (IsLeastOfAll (uppers level (families memory.old list.now))) memory.old
-        memory.new) (λ _. RanOut memory.old memory.new) }
+    ensures { Answers (IsLeastOfAll (uppers level (families memory.old list.now))) memory.old memory.new result }
 {
     memory.is_sound();
     if list.is_empty() {
@@ -129,9 +137,7 @@ fn unite_uppers(
 fn lower_all(memory: &FamilyMemory, level: UnitNo, list: &mut [NodeRef])
     requires has { All (Has memory.now) list.old }
     requires from { AreFrom memory.now level list.old }
-    ensures size { length list.new ≡ length list.old }
-    ensures lowered { (place : ℕ) → place < length list.old
-        → IsLowered memory.now level (slice_index list.old place) (slice_index list.new place) }
+    ensures { AreAllLowered memory.now level list.old list.new }
 {
     memory.is_sound();
     for place in 0..list.len() {

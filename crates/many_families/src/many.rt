@@ -1,10 +1,10 @@
 //! Unions and products of many families.
-ghost use Rattle.std.specs.Prelude.{◌≡◌, All, IfErr, IfOk, MatchResult, length, nat_lt, slice_index, if◌then◌else◌};
+ghost use Rattle.std.specs.Prelude.{◌≡◌, All, IfErr, IfOk, length, nat_lt, slice_index, if◌then◌else◌};
 ghost use Rattle.minimal_families.specs.Least.{IsLeastOfAll, IsLeastProductOfAll};
 ghost use Rattle.family_memory.specs.Memory.{Gave, Has, RanOut};
 ghost use Rattle.many_families.specs.Lists.{families};
 
-use crate::splitting::multiply_split;
+use crate::splitting::product_by_splitting;
 use family_memory::{FamilyMemory, Spent};
 use minimal_operations::union;
 use zdd_words::NodeRef;
@@ -20,50 +20,33 @@ pub fn first_of(list: &[NodeRef]) -> NodeRef
     }
 }
 
-/// The minimal sets of the union of all families of the list: of none there are no sets.
+/// The minimal sets of the union of all families of the list: of none there are no sets. It goes by the halves of the
+/// list, so that about equal numbers of families are united.
 pub fn union_of_all(memory: &mut FamilyMemory, list: &[NodeRef]) -> Result<NodeRef, Spent>
     requires { All (Has memory.old) list.now }
     ensures gives { IfOk result (Gave (IsLeastOfAll (families memory.old list.now)) memory.old memory.new) }
     ensures spent { IfErr result (λ _. RanOut memory.old memory.new) }
-{
-    unite_all(memory, list)
-}
-
-/// The same, by the halves of the list: unions of about equal numbers of families.
-pub(crate) fn unite_all(memory: &mut FamilyMemory, list: &[NodeRef]) -> Result<NodeRef, Spent>
-    requires { All (Has memory.old) list.now }
-    ensures { MatchResult result (Gave (IsLeastOfAll (families memory.old list.now)) memory.old memory.new)
-        (λ _. RanOut memory.old memory.new) }
 {
     memory.is_sound();
     if list.len() < 2 {
         return Ok(first_of(list));
     }
     let middle = list.len() / 2;
-    let first = unite_all(memory, &list[..middle])?;
-    let second = unite_all(memory, &list[middle..])?;
+    let first = union_of_all(memory, &list[..middle])?;
+    let second = union_of_all(memory, &list[middle..])?;
     union(memory, first, second)
 }
 
-/// The minimal sets of the product of all families of the list, in its order: of none there is the empty set.
+/// The minimal sets of the product of all families of the list, one after another: of none there is the empty set.
 pub fn product_of_all(memory: &mut FamilyMemory, list: &[NodeRef]) -> Result<NodeRef, Spent>
     requires { All (Has memory.old) list.now }
     ensures gives { IfOk result (Gave (IsLeastProductOfAll (families memory.old list.now)) memory.old memory.new) }
     ensures spent { IfErr result (λ _. RanOut memory.old memory.new) }
 {
-    multiply_all(memory, list)
-}
-
-// The same, one family after another.
-fn multiply_all(memory: &mut FamilyMemory, list: &[NodeRef]) -> Result<NodeRef, Spent>
-    requires { All (Has memory.old) list.now }
-    ensures { MatchResult result (Gave (IsLeastProductOfAll (families memory.old list.now)) memory.old memory.new)
-        (λ _. RanOut memory.old memory.new) }
-{
     memory.is_sound();
     let mut made = NodeRef::UNIT;
     for place in 0..list.len() {
-        made = multiply_split(memory, made, list[place])?;
+        made = product_by_splitting(memory, made, list[place])?;
     }
     Ok(made)
 }

@@ -133,12 +133,17 @@ fn put_for_product(memory: &FamilyMemory, list: &[NodeRef], places: &mut [NodeRe
 
 // Whether each family of the list is one set with one unit.
 fn are_single_units(memory: &FamilyMemory, list: &[NodeRef]) -> bool {
-    list.iter().all(|r| is_single_unit(memory, *r))
+    for place in 0..list.len() {
+        if !is_single_unit(memory, list[place]) {
+            return false;
+        }
+    }
+    true
 }
 
 fn is_single_unit(memory: &FamilyMemory, r: NodeRef) -> bool {
     match node_of(memory, r) {
-        Some(parts) => parts.lo == NodeRef::EMPTY && parts.hi == NodeRef::UNIT,
+        Some(parts) => parts.lo.number() == 0 && parts.hi.number() == 1,
         None => false,
     }
 }

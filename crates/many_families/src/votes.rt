@@ -3,11 +3,12 @@ ghost use Rattle.std.specs.Prelude.{◌≡◌, ◌+◌, ◌<◌, ◌≤◌, ℕ,
 ghost use Rattle.std.specs.Prelude.{MatchResult, length, slice_index};
 ghost use Rattle.minimal_families.specs.Least.{IsLeastVotes};
 ghost use Rattle.family_memory.specs.Memory.{Gave, Has, RanOut, Went, family_in};
-ghost use Rattle.many_families.specs.Lists.{IsBetween, IsVoter, IsVoting, HaveVoted, families};
-ghost use Rattle.many_families.specs.Joins.{IsBelow, IsJoined};
+ghost use Rattle.minimal_operations.specs.Operands.{Answers};
+ghost use Rattle.many_families.specs.Lists.{AreVoters, IsBetween, IsVoting, HaveVoted, VotesAt, VotesNext, families};
+ghost use Rattle.many_families.specs.Joins.{CanJoin, IsBelow, IsJoined};
 
 use crate::order::put_in_order;
-use crate::splitting::multiply_split;
+use crate::splitting::product_by_splitting;
 use family_memory::{FamilyMemory, Spent};
 use minimal_operations::{branch_node, product_below, union};
 use zdd_words::NodeRef;
@@ -47,14 +48,9 @@ fn vote_in_order(
     members: &mut [NodeRef],
 ) -> Result<NodeRef, Spent>
     ghost fs: { List (List (List ℕ)) }
-    requires some { 1 ≤ votes }
-    requires enough { votes ≤ length members.old }
-    requires has { All (Has memory.old) members.old }
-    requires of { fs ≡ families memory.old members.old }
-    ensures { MatchResult result (Gave (IsLeastVotes votes fs) memory.old memory.new)
-        (λ _. RanOut memory.old memory.new) }
+    requires { AreVoters memory.old fs votes members.old }
+    ensures { Answers (IsLeastVotes votes fs) memory.old memory.new result }
 {
-    memory.is_sound();
     let mut floor = NO_UNIT;
     let mut member = members.len();
     while member > 0 {
@@ -73,13 +69,10 @@ fn vote(
     members: &mut [NodeRef],
 ) -> Result<u16, Spent>
     ghost fs: { List (List (List ℕ)) }
-    requires some { 1 ≤ votes }
-    requires member { member < length members.old }
-    requires voted { HaveVoted memory.old fs votes (member + 1) floor members.old }
+    requires { VotesNext memory.old fs votes member floor members.old }
     ensures { MatchResult result (λ lower. Went memory.old memory.new
         × HaveVoted memory.new fs votes member lower members.new) (λ _. RanOut memory.old memory.new) }
 {
-    memory.is_sound();
     let voter = members[member];
     let lower = floor_with(memory, voter, floor);
     // Fewer votes than the members before this one can make up for are not needed, nor are more than are asked for.
@@ -115,14 +108,10 @@ fn vote_at(
     members: &mut [NodeRef],
 ) -> Result<(), Spent>
     ghost fs: { List (List (List ℕ)) }
-    requires first { (member ≤ place) × (votes ≤ place + 1) }
-    requires end { (place < member + votes) × (place < length members.old) }
-    requires voter { IsVoter memory.old fs member lower voter }
-    requires voting { IsVoting memory.old fs votes member place members.old }
+    requires { VotesAt memory.old fs votes member place lower voter members.old }
     ensures { MatchResult result (λ _. Went memory.old memory.new
         × IsVoting memory.new fs votes member (place + 1) members.new) (λ _. RanOut memory.old memory.new) }
 {
-    memory.is_sound();
     let fewer = fewer_votes(members, member, place);
     let same = same_votes(members, place);
     let made = join(memory, lower > 0, voter, same, fewer)?;
@@ -162,13 +151,11 @@ fn join(
     same: NodeRef,
     fewer: NodeRef,
 ) -> Result<NodeRef, Spent>
-    requires voter { Has memory.old voter }
-    requires same { Has memory.old same }
-    requires fewer { Has memory.old fewer }
+    requires has { CanJoin memory.old voter same fewer }
     requires below { below ≡ true → IsBelow (family_in memory.old voter) (family_in memory.old same)
         (family_in memory.old fewer) }
-    ensures { MatchResult result (Gave (IsJoined (family_in memory.old voter) (family_in memory.old same)
-        (family_in memory.old fewer)) memory.old memory.new) (λ _. RanOut memory.old memory.new) }
+    ensures { Answers (IsJoined (family_in memory.old voter) (family_in memory.old same)
+        (family_in memory.old fewer)) memory.old memory.new result }
 {
     if below {
         join_below(memory, voter, same, fewer)
@@ -185,14 +172,11 @@ fn join_below(
     same: NodeRef,
     fewer: NodeRef,
 ) -> Result<NodeRef, Spent>
-    requires voter { Has memory.old voter }
-    requires same { Has memory.old same }
-    requires fewer { Has memory.old fewer }
+    requires has { CanJoin memory.old voter same fewer }
     requires below { IsBelow (family_in memory.old voter) (family_in memory.old same) (family_in memory.old fewer) }
-    ensures { MatchResult result (Gave (IsJoined (family_in memory.old voter) (family_in memory.old same)
-        (family_in memory.old fewer)) memory.old memory.new) (λ _. RanOut memory.old memory.new) }
+    ensures { Answers (IsJoined (family_in memory.old voter) (family_in memory.old same)
+        (family_in memory.old fewer)) memory.old memory.new result }
 {
-    memory.is_sound();
     if voter.number() < 2 {
         return Ok(same);
     }
@@ -209,13 +193,10 @@ fn join_any(
     same: NodeRef,
     fewer: NodeRef,
 ) -> Result<NodeRef, Spent>
-    requires voter { Has memory.old voter }
-    requires same { Has memory.old same }
-    requires fewer { Has memory.old fewer }
-    ensures { MatchResult result (Gave (IsJoined (family_in memory.old voter) (family_in memory.old same)
-        (family_in memory.old fewer)) memory.old memory.new) (λ _. RanOut memory.old memory.new) }
+    requires { CanJoin memory.old voter same fewer }
+    ensures { Answers (IsJoined (family_in memory.old voter) (family_in memory.old same)
+        (family_in memory.old fewer)) memory.old memory.new result }
 {
-    memory.is_sound();
-    let more = multiply_split(memory, fewer, voter)?;
+    let more = product_by_splitting(memory, fewer, voter)?;
     union(memory, same, more)
 }

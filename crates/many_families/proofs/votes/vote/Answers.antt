@@ -9,20 +9,15 @@ loop-place-init g c =
     let held = c.args.memory.now in
     let members = c.args.members.now in
     let voter = c.index-members-member.result in
-    let inside = c.requires.1.0 in
-    let voted = c.requires.1.1 in
     let voter_is : voter ≡ get_or members c.args.member 0 =
-    get_or_read members c.args.member voter inside c.index-members-member.is 0 in
+    get_or_read members c.args.member voter c.requires.inside c.index-members-member.is 0 in
     record {
-      went = Went-nowhere held c.is_sound.ensures;
-      inside = inside;
-      voter =
-          voter_begins held g.fs c.args.votes c.args.member c.args.floor members inside voted voter voter_is
-          c.floor_with-lower.result c.floor_with-lower.ensures;
+      went = Went-nowhere held c.requires.sound;
+      inside = c.requires.inside;
+      voter = voter_begins c.requires voter voter_is c.floor_with-lower.result c.floor_with-lower.ensures;
       voting =
-          voting_begins held g.fs c.args.votes c.args.member c.args.floor members inside voted voter voter_is
-          c.floor_with-lower.result c.floor_with-lower.ensures c.max-first.result
-          (λ at low enough. let e = c.max-first.ensures in omega (arith, e, low, enough));
+          voting_begins c.requires voter voter_is c.floor_with-lower.result c.floor_with-lower.ensures
+          c.max-first.result (λ at low enough. let e = c.max-first.ensures in omega (arith, e, low, enough));
     }
 
 pub loop-place-preserved : goal.loop-place-preserved
@@ -48,6 +43,6 @@ returns g c =
           c.loop-place.members c.index-members-member.result inv.inside inv.voter inv.voting
           (λ at most within.
           let end = c.min-end.ensures in let sum = c.saturating_add.ensures in let past = c.loop-place-test.false in
-          let count = inv.voting.count in let before = c.requires.1.1.count in
+          let count = inv.voting.count in let before = c.requires.voted.count in
           omega (arith, end, sum, past, count, before, most, within)),
     )

@@ -17,18 +17,14 @@ pub vote_in_order-requires : goal.vote_in_order-requires
 vote_in_order-requires c =
     let list = c.args.list.now in
     let members = c.put_in_order.new.places in
-    let same : length members ≡ length list = length_permutation list members c.put_in_order.ensures in (
-      omega arith,
-      (
-        let h = c.if-list-votes.false in
-            omega (arith, same, h),
-        (
-          All-permutation (Has c.args.memory.now) list members c.put_in_order.ensures
-              c.requires.has,
-          refl,
-        ),
-      ),
-    )
+    let same : length members ≡ length list = length_permutation list members c.put_in_order.ensures in
+    record {
+      sound = c.is_sound.ensures;
+      some = omega arith;
+      enough = let h = c.if-list-votes.false in omega (arith, same, h);
+      has = All-permutation (Has c.args.memory.now) list members c.put_in_order.ensures c.requires.has;
+      of = refl;
+    }
 
 pub returns-clause-gives : goal.returns-clause-gives
 returns-clause-gives c =

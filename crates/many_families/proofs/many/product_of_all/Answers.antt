@@ -1,10 +1,13 @@
 use Rattle.std.proofs.Common.{◌≡◌, get_or, arith}
 use Rattle.std.proofs.lemmas.List.{get_or_read}
-use Rattle.std.proofs.lemmas.Result.{err_from_is_err_and}
-use Rattle.family_memory.proofs.After.{RanOut-then, Went-nowhere}
+use Rattle.minimal_families.specs.Least.{IsLeastProductOfAll}
+use Rattle.family_memory.proofs.After.{Went-nowhere}
+use Rattle.minimal_operations.proofs.Answering.{spent_of}
+use Rattle.minimal_operations.proofs.Steps.{failed}
+use Rattle.many_families.specs.Lists.{families}
 use Rattle.many_families.proofs.Lists.{product_begun}
 use Rattle.many_families.proofs.ManySteps.{multiplied_more, still_member}
-use Rattle.many_families.proofs.many.multiply_all.Goals as goal
+use Rattle.many_families.proofs.many.product_of_all.Goals as goal
 
 pub loop-place-init : goal.loop-place-init
 loop-place-init c = record {
@@ -13,8 +16,8 @@ loop-place-init c = record {
   made = product_begun c.args.memory.now c.args.list.now c.is_sound.ensures;
 }
 
-pub multiply_split-requires-clause-has_b : goal.multiply_split-requires-clause-has_b
-multiply_split-requires-clause-has_b c =
+pub product_by_splitting-requires-clause-has_b : goal.product_by_splitting-requires-clause-has_b
+product_by_splitting-requires-clause-has_b c =
     let inv = c.loop-place.invariant in
     let list = c.args.list.now in
     let at : c.index-list-place.result ≡ get_or list c.loop-place.place 0 =
@@ -28,16 +31,16 @@ loop-place-preserved c =
     let list = c.args.list.now in
     let at : c.index-list-place.result ≡ get_or list c.loop-place.place 0 =
     get_or_read list c.loop-place.place c.index-list-place.result (omega arith) c.index-list-place.is 0 in
-    let gave = c.in_ok-made.ensures in
+    let gave = c.in_ok-made.ensures.gives in
     let more =
     multiplied_more c.args.memory.now c.loop-place.memory list c.loop-place.place c.loop-place.made
     c.index-list-place.result c.is_sound.ensures inv.went c.requires inv.has (omega arith) at inv.made
-    c.multiply_split.new.memory c.in_ok-made.made gave in
+    c.product_by_splitting.new.memory c.in_ok-made.made gave in
     record { went = more.0; has = gave.has; made = more.1 }
 
-pub returns-in_err-made : goal.returns-in_err-made
-returns-in_err-made c =
-    let inv = c.loop-place.invariant in
-    let p = err_from_is_err_and c.from_residual.result c.from_residual.ensures.1 in
-    rw p.1 (RanOut-then c.args.memory.now c.loop-place.memory c.multiply_split.new.memory inv.went
-    c.in_err-made.ensures)
+pub returns-in_err-made-clause-spent : goal.returns-in_err-made-clause-spent
+returns-in_err-made-clause-spent c =
+    spent_of (IsLeastProductOfAll (families c.args.memory.now c.args.list.now)) c.args.memory.now
+    c.product_by_splitting.new.memory c.from_residual.result
+    (failed _ _ c.from_residual.result c.from_residual.ensures.1 c.loop-place.invariant.went
+    c.in_err-made.ensures.spent)

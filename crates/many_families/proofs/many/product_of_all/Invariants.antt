@@ -2,7 +2,7 @@ use Rattle.std.proofs.Common.{take}
 use Rattle.minimal_families.specs.Least.{IsLeastProductOfAll}
 use Rattle.family_memory.specs.Memory.{Has, Went, family_in}
 use Rattle.many_families.specs.Lists.{families}
-use Rattle.many_families.proofs.many.multiply_all.Given as goal
+use Rattle.many_families.proofs.many.product_of_all.Given as goal
 
 abbrev pub invariant-loop-place : goal.invariant-loop-place
 invariant-loop-place l = record {
