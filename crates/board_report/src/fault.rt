@@ -4,33 +4,13 @@ ghost use Rattle.edge_io.specs.Out.{has_failed, Puts};
 ghost use Rattle.board_report.specs.Refusals.{check_text, code_text, crew_text, fault_line, lex_text, what_text};
 
 use crew_script::CrewCode;
+use deck_reading::{DeckFault, FaultCode};
 use edge_io::{Out, Sink, WriteFault};
-use fault_model::Place;
 use galileo_lexer::LexCode;
 use galileo_tree::What;
 use itoa::Buffer;
 use statement_faults::CheckCode;
 use text_pieces::put_all;
-
-/// What a fault of a deck is.
-#[derive(Clone, Copy, PartialEq, Eq)]
-pub enum FaultCode {
-    /// A token that can't be formed.
-    Lex(LexCode),
-    /// Something else stands where this is expected.
-    Expected(What),
-    /// Statements that stand for no tree.
-    Check(CheckCode),
-    /// Lines that stand for no crews, or no crew part at all.
-    Crew(CrewCode),
-}
-
-/// A fault of a deck, and its place.
-#[derive(Clone, Copy, PartialEq, Eq)]
-pub struct DeckFault {
-    pub code: FaultCode,
-    pub place: Place,
-}
 
 /// Puts the line of a fault.
 pub fn put_fault<K: Sink>(out: &mut Out<K>, fault: &DeckFault) -> Result<(), WriteFault>

@@ -18,3 +18,9 @@ mod TreeClasses
 mod TreeStands
 -- the names of a tree that a deck stands for
 mod DeckNames
+-- the reading of a deck
+mod Ends
+mod Parts
+-- a deck has a tree and crews, or one first fault
+pub mod OneDeck
+mod SomeDeck

@@ -17,7 +17,9 @@ use Rattle.crew_script.specs.declared.deck.Split.{Split}
 use Rattle.crew_script.specs.declared.dockets.Crew.{Crew}
 use Rattle.crew_script.specs.declared.fault.CrewFault.{CrewFault}
 use Rattle.deck_reading.specs.Deck.{StandsFor, crew_part, crews_behind, tree_part}
-use Rattle.deck_reading.specs.Relations.{AreCrewsOf, IsReadAs, IsTreeOf, stream_of}
+use Rattle.deck_reading.specs.declared.fault.DeckFault.{DeckFault}
+use Rattle.deck_reading.specs.Faults.{IsFaultOf, IsTreeFault}
+use Rattle.deck_reading.specs.Relations.{AreCrewsOf, IsFaultIn, IsReadAs, IsTreeOf, stream_of}
 
 module _ (divides : (bytes : List ℕ) → Divides bytes (split_of bytes))
     (once : (bytes : List ℕ) (split : Split) → Divides bytes split → split_of bytes ≡ split) where
@@ -51,6 +53,12 @@ module _ (divides : (bytes : List ℕ) → Divides bytes (split_of bytes))
     tree_by_relations bytes tree = (
       λ stands. (stands.read, subst (IsReadAs bytes) stands.parsed (read_as bytes), stands.stands, stands.kept),
       λ is. record { read = is.0; parsed = is_read bytes (Ok is.0) is.1; stands = is.2; kept = is.3 },
+    )
+
+    pub fault_by_relations : (bytes : List ℕ) (fault : DeckFault) → IsTreeFault bytes fault ↔ IsFaultIn bytes fault
+    fault_by_relations bytes fault = (
+      λ refused. (parsed_text (tree_part bytes), read_as bytes, refused),
+      λ is. subst (λ r. IsFaultOf r fault) (sym (is_read bytes is.0 is.1)) is.2,
     )
 
     pub read_by_relations : (bytes : List ℕ) (read : Result ReadTree ParseFault)

@@ -17,6 +17,8 @@ use Rattle.crew_script.specs.declared.deck.CrewsAt.{CrewsAt}
 use Rattle.crew_script.specs.declared.deck.Split.{Split}
 use Rattle.crew_script.specs.declared.dockets.Crew.{Crew}
 use Rattle.crew_script.specs.declared.fault.CrewFault.{CrewFault}
+use Rattle.deck_reading.specs.declared.fault.DeckFault.{DeckFault}
+use Rattle.deck_reading.specs.Faults.{IsFaultOf}
 
 -- the lexemes of the tokens of a text
 abbrev pub stream_of : List ℕ → Lexed → Stream
@@ -34,6 +36,10 @@ pub record IsReadAs (bytes : List ℕ) (read : Result ReadTree ParseFault) : Typ
 -- the statements stand for the tree, and no class of faults occurs in them
 abbrev pub IsTreeOf : List ℕ → FaultTree → Type 0
 IsTreeOf bytes tree = (read : ReadTree) × IsReadAs bytes (Ok read) × Stands read tree × IsTree tree
+
+-- the first fault of the tree part
+abbrev pub IsFaultIn : List ℕ → DeckFault → Type 0
+IsFaultIn bytes fault = (read : Result ReadTree ParseFault) × IsReadAs bytes read × IsFaultOf read fault
 
 -- the deck is divided where the crew part begins, whose lines say these crews with their requests, or have this fault
 -- first

@@ -1,5 +1,5 @@
 //! Laws of decks. The functions do nothing but call the laws that they stand on.
-ghost use Rattle.std.specs.Prelude.{◌≡◌, ◌↔◌, ℕ, ◌+◌, List, ◌++◌, Result, Ok, Some, codes, length};
+ghost use Rattle.std.specs.Prelude.{◌≡◌, ◌↔◌, ◌⊎◌, ℕ, ◌+◌, List, ◌++◌, Option, Result, Ok, Some, codes, length};
 ghost use Rattle.fault_definitions.specs.Tree.{FaultTree};
 ghost use Rattle.fault_definitions.specs.WellFormed.{IsTree};
 ghost use Rattle.galileo_tree.specs.declared.fault.ParseFault.{ParseFault};
@@ -9,8 +9,11 @@ ghost use Rattle.statement_faults.specs.Checked.{Stands};
 ghost use Rattle.crew_script.specs.Crews.{crews_of};
 ghost use Rattle.crew_script.specs.declared.dockets.Crew.{Crew};
 ghost use Rattle.crew_script.specs.declared.fault.CrewFault.{CrewFault};
+ghost use Rattle.deck_reading.specs.declared.deck.CrewPart.{CrewPart};
+ghost use Rattle.deck_reading.specs.declared.fault.DeckFault.{DeckFault};
 ghost use Rattle.deck_reading.specs.Deck.{StandsFor, crew_part, tree_part};
-ghost use Rattle.deck_reading.specs.Relations.{AreCrewsOf, IsReadAs, IsTreeOf};
+ghost use Rattle.deck_reading.specs.Faults.{HasDeck, HasDeckFault, IsDeckFault, IsTreeFault, IsWellFormed};
+ghost use Rattle.deck_reading.specs.Relations.{AreCrewsOf, IsFaultIn, IsReadAs, IsTreeOf};
 ghost use Rattle.deck_reading.specs.TreeStatements.{IsNamed, statements_of};
 ghost use Rattle.deck_reading.specs.Unplaced.{SaysAll, said_tree};
 ghost use Rattle.deck_reading.specs.Written.{AreGood, WrittenStatement, written};
@@ -18,14 +21,30 @@ ghost use Rattle.deck_reading.specs.Written.{AreGood, WrittenStatement, written}
 use crew_script::laws::{crew_part_has_one_answer, crews_or_first_fault, decks_are_divided_once};
 use galileo_lexer::{reads_its_text, reads_one_way, tokens_are_spelled};
 use galileo_tree::{parses_its_text, parses_one_way};
+use statement_faults::some_tree_or_some_fault;
 
-/// What the tree part of a deck is read as, and the tree that a deck stands for, are what the relations between whole
-/// lists say: of the line that divides it, of tokens, of statements, and of the tree of statements. And so are the
-/// crews of its crew part, or the first line's fault.
-pub fn deck_parts_are_read_by_relations()
+/// A deck has a tree and crews, its crew part taken so, or a first fault: one of the two, and one alone.
+pub fn a_deck_is_read_one_way()
+    ensures some { (part : CrewPart) (bytes : List ℕ) → HasDeck part bytes ⊎ HasDeckFault part bytes }
+    ensures one_deck { (part : CrewPart) (bytes : List ℕ) (one two : FaultTree) (crews others : Option (List Crew))
+        → IsWellFormed part bytes one crews → IsWellFormed part bytes two others → (one ≡ two) × (crews ≡ others) }
+    ensures one_fault { (part : CrewPart) (bytes : List ℕ) (one two : DeckFault) → IsDeckFault part bytes one
+        → IsDeckFault part bytes two → one ≡ two }
+    ensures not_both { (part : CrewPart) (bytes : List ℕ) → HasDeck part bytes → ¬ HasDeckFault part bytes }
+{
+    parses_its_text();
+    some_tree_or_some_fault();
+    crews_or_first_fault();
+}
+
+/// What the tree part of a deck is read as, the tree that a deck stands for, and the first fault of its tree part are
+/// what the relations between whole lists say: of the line that divides it, of tokens, of statements, and of the tree of
+/// statements. And so are the crews of its crew part, or the first line's fault.
+pub fn decks_are_read_by_relations()
     ensures read { (bytes : List ℕ) (read : Result ReadTree ParseFault)
         → (parsed_text (tree_part bytes) ≡ read) ↔ IsReadAs bytes read }
     ensures tree { (bytes : List ℕ) (tree : FaultTree) → StandsFor bytes tree ↔ IsTreeOf bytes tree }
+    ensures fault { (bytes : List ℕ) (fault : DeckFault) → IsTreeFault bytes fault ↔ IsFaultIn bytes fault }
     ensures crews { (bytes : List ℕ) (said : Result (List Crew) CrewFault)
         → (crew_part bytes ≡ Some said) ↔ AreCrewsOf bytes said }
 {

@@ -14,8 +14,8 @@ use Rattle.board_report.specs.CheckText.{check_text}
 use Rattle.cut_texts.specs.CutsText.{cuts_text, listed_with}
 use Rattle.cut_texts.specs.DiagramText.{sizes_text}
 use Rattle.board_report.specs.PrintText.{print_text}
-use Rattle.outage_engine.specs.declared.deck.CrewPart.{CrewPart}
-use Rattle.outage_engine.specs.declared.deck.CrewPart.TheVariants.{Unread, IfAny}
+use Rattle.deck_reading.specs.declared.deck.CrewPart.{CrewPart}
+use Rattle.deck_reading.specs.declared.deck.CrewPart.TheVariants.{Unread, IfAny}
 use Rattle.outage_engine.specs.declared.listing.Listing.{Listing}
 use Rattle.outage_engine.specs.declared.sizes.Counts.{Counts}
 use Rattle.outage_engine.specs.declared.refusal.Refusal.TheVariants.{Usage, ReadFault, TooLong, Fault, ListLimit}
@@ -24,7 +24,7 @@ use Rattle.outage_engine.specs.declared.refusal.RunEnd.{RunEnd}
 use Rattle.outage_engine.specs.declared.refusal.RunEnd.TheVariants.{Refused, NoMemory}
 use Rattle.outage_engine.specs.Answers.{AreCountsOf, IfRefused, IsFaultOfDeck, IsLimitOf, IsListingOf, IsReadRefusal}
 use Rattle.outage_engine.specs.Answers.{IsRefusalFor, IsWeightLimitOf, found_in, listing_text}
-use Rattle.outage_engine.specs.Deck.{IsDeckFault, IsWellFormed}
+use Rattle.deck_reading.specs.Faults.{IsDeckFault, IsWellFormed}
 use Rattle.outage_engine.specs.Finding.{Finds, Found, Faulty, Ready, TooHeavy, TooManyOrders, Wants, WithOrders}
 use Rattle.outage_engine.specs.Finding.{bad_deck, judged, well_formed}
 use Rattle.outage_engine.specs.Gives.{OfDeckOr, OfInput}

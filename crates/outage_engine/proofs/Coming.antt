@@ -10,8 +10,8 @@ use Rattle.tree_maker.specs.MadeDeck.{made_deck}
 use Rattle.zdd_shared_table.specs.Seats.{Seated}
 use Rattle.outage_engine.specs.declared.answer.Answer.{Answer}
 use Rattle.outage_engine.specs.declared.answer.Answer.TheVariants as answer
-use Rattle.outage_engine.specs.declared.deck.CrewPart.TheVariants.{IfAny, Unread}
-use Rattle.outage_engine.specs.declared.deck.DeckParts.{DeckParts}
+use Rattle.deck_reading.specs.declared.deck.CrewPart.TheVariants.{IfAny, Unread}
+use Rattle.deck_reading.specs.declared.deck.DeckParts.{DeckParts}
 use Rattle.outage_engine.specs.declared.listing.Listing.{Listing}
 use Rattle.outage_engine.specs.declared.refusal.Refusal.{Refusal}
 use Rattle.outage_engine.specs.declared.refusal.Refusal.TheVariants as refusal
@@ -26,7 +26,7 @@ use Rattle.outage_engine.specs.declared.summary.Summary.{Summary}
 use Rattle.outage_engine.specs.Answers.{AreCountsOf, HasCome, HasOrders, IfRefused, IsLimitOf, IsListingOf}
 use Rattle.outage_engine.specs.Answers.{IsReadRefusal, IsRefusalFor, IsRefusalOf, IsWeightLimitOf}
 use Rattle.outage_engine.specs.Answers.{refusal_line, refusal_status, status_of, summed_text, text_of}
-use Rattle.outage_engine.specs.Deck.{IsWellFormed}
+use Rattle.deck_reading.specs.Faults.{IsWellFormed}
 use Rattle.outage_engine.specs.Finding.{Faulty, Finding, Finds, TooHeavy, TooManyOrders, Wants}
 use Rattle.outage_engine.specs.Gives as gives
 use Rattle.outage_engine.specs.Gives.{Gives, OfDeck, OfDeckOr, OfInput, own_deck, wants_of}

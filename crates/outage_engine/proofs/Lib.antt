@@ -1,4 +1,3 @@
-mod Ends
 mod Telling
 mod OneFinding
 mod Bearing

@@ -4,7 +4,7 @@ use Rattle.std.proofs.Common.{sym, subst, inl, inr}
 use Rattle.fault_definitions.specs.Tree.{FaultTree}
 use Rattle.zdd_shared_table.specs.Seats.{Seated}
 use Rattle.crew_script.specs.declared.dockets.Crew.{Crew}
-use Rattle.outage_engine.specs.declared.deck.CrewPart.{CrewPart}
+use Rattle.deck_reading.specs.declared.deck.CrewPart.{CrewPart}
 use Rattle.outage_engine.specs.declared.refusal.Refusal.{Refusal}
 use Rattle.outage_engine.specs.declared.refusal.Refusal.TheVariants as refusal
 use Rattle.outage_engine.specs.declared.status.Method.{Method}
@@ -13,7 +13,7 @@ use Rattle.outage_engine.specs.declared.status.Status.{Status}
 use Rattle.outage_engine.specs.declared.status.Status.TheVariants.{Done}
 use Rattle.outage_engine.specs.Answers.{refusal_status}
 use Rattle.deck_reading.specs.Deck.{StandsFor}
-use Rattle.outage_engine.specs.Deck.{IsWellFormed}
+use Rattle.deck_reading.specs.Faults.{IsWellFormed}
 use Rattle.outage_engine.specs.Gives.{OfDeckOr}
 use Rattle.outage_engine.specs.Runs.{Tells}
 use Rattle.outage_engine.specs.Store.{IsFoundBy, IsLeftFor, KnowsDiagram}

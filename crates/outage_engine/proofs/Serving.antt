@@ -11,12 +11,12 @@ use Rattle.board_texts.specs.BoardText.{IsDeckOf, board_text}
 use Rattle.outage_board.specs.Boards.{BoardView, Deck}
 use Rattle.outage_board.specs.Histories.{IsLegal, IsWhole}
 use Rattle.outage_board.proofs.SafetyLemmas.{board_is_safe}
-use Rattle.outage_engine.specs.declared.deck.CrewPart.TheVariants.{Needed}
+use Rattle.deck_reading.specs.declared.deck.CrewPart.TheVariants.{Needed}
 use Rattle.outage_engine.specs.declared.listing.Listing.{Listing}
 use Rattle.outage_engine.specs.declared.opening.Opened.{Opened}
 use Rattle.outage_engine.specs.declared.status.Status.TheVariants as status
 use Rattle.outage_engine.specs.Answers.{IsListingOf, IsOfUnits, found_in, listing_text}
-use Rattle.outage_engine.specs.Deck.{IsWellFormed}
+use Rattle.deck_reading.specs.Faults.{IsWellFormed}
 use Rattle.outage_engine.specs.Finding.{Found}
 use Rattle.outage_engine.specs.Gives as gives
 use Rattle.outage_engine.specs.Gives.{FindsSets, Gives, OfInput}

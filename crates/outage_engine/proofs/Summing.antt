@@ -16,21 +16,21 @@ use Rattle.outage_board.specs.declared.entry.Entry.{Entry}
 use Rattle.outage_board.proofs.BoardLemmas.{entry_for-is}
 use Rattle.outage_board.proofs.HistoryLemmas.{served-own}
 use Rattle.cut_sequences.specs.Orders.{order_limit, order_lists, order_total}
-use Rattle.board_report.specs.declared.fault.DeckFault.{DeckFault}
+use Rattle.deck_reading.specs.declared.fault.DeckFault.{DeckFault}
 use Rattle.cut_texts.specs.OrdersOfUnits.{AreOrdersOf}
 use Rattle.board_report.specs.SummaryText.{summary_text}
 use Rattle.deck_reading.specs.Deck.{crew_part}
 use Rattle.tree_maker.specs.MadeDeck.{made_deck}
 use Rattle.tree_maker.specs.WellMade.{IsWellMade, made_crew}
-use Rattle.outage_engine.specs.declared.deck.CrewPart.TheVariants.{Needed}
+use Rattle.deck_reading.specs.declared.deck.CrewPart.TheVariants.{Needed}
 use Rattle.outage_engine.specs.declared.listing.Listing.{Listing}
 use Rattle.outage_engine.specs.declared.summary.Summary.{Summary}
 use Rattle.outage_engine.specs.Answers.{IsListingOf, found_in, summed_text}
-use Rattle.outage_engine.specs.Deck.{IsWellFormed, crews_read, crews_said}
+use Rattle.deck_reading.specs.Faults.{IsWellFormed, crews_read, crews_said}
 use Rattle.outage_engine.specs.Finding.{Faulty, Finds, Found, Ready, TooHeavy, TooManyOrders, bad_deck, well_formed}
 use Rattle.outage_engine.specs.Summaries.{IsServedFor, IsSummaryOf}
 use Rattle.outage_engine.specs.Texts.{IsSummaryText, board_deck, for_summary, summary_said, summed_margin, summed_most}
-use Rattle.outage_engine.proofs.OneFinding.{no_deck_and_fault}
+use Rattle.deck_reading.proofs.OneDeck.{no_deck_and_fault}
 use Rattle.outage_engine.proofs.Answering.{finds_ready, orders_of_listing}
 
 -- ---- the deck

@@ -27,7 +27,7 @@ use Rattle.board_report.specs.PrintText.{print_text}
 use Rattle.cut_texts.specs.UnitTexts.{AreTextsOf}
 use Rattle.board_report.specs.Refusals.{fault_line, notice_line}
 use Rattle.board_report.specs.SummaryText.{summary_text}
-use Rattle.board_report.specs.declared.fault.FaultCode.TheVariants as report
+use Rattle.deck_reading.specs.declared.fault.FaultCode.TheVariants as report
 use Rattle.board_report.specs.declared.notice.Notice.TheVariants as notice
 use Rattle.outage_engine.specs.declared.status.Status.{Status}
 use Rattle.outage_engine.specs.declared.status.Status.TheVariants as status
@@ -44,11 +44,11 @@ use Rattle.outage_engine.specs.declared.refusal.Refusal.TheVariants.{Usage, Read
 use Rattle.outage_engine.specs.declared.refusal.Refusal.TheVariants.{OrderLimit}
 use Rattle.outage_engine.specs.declared.refusal.RunEnd.{RunEnd}
 use Rattle.outage_engine.specs.declared.refusal.RunEnd.TheVariants as run
-use Rattle.outage_engine.specs.declared.deck.CrewPart.{CrewPart}
-use Rattle.outage_engine.specs.declared.deck.DeckEnd.{DeckEnd}
-use Rattle.outage_engine.specs.declared.deck.DeckEnd.TheVariants as end
+use Rattle.deck_reading.specs.declared.deck.CrewPart.{CrewPart}
+use Rattle.deck_reading.specs.declared.deck.DeckEnd.{DeckEnd}
+use Rattle.deck_reading.specs.declared.deck.DeckEnd.TheVariants as end
 use Rattle.deck_reading.specs.Deck.{StandsFor}
-use Rattle.outage_engine.specs.Deck.{IsDeckFault, IsTreeFault}
+use Rattle.deck_reading.specs.Faults.{IsDeckFault, IsTreeFault}
 use Rattle.outage_engine.specs.Finding.{Finds, Found, Faulty, TooHeavy, TooManyOrders, Wants}
 use Rattle.outage_engine.specs.Gives.{IsBeyond, IsMethodOf, IsTextOf, OfDeckOr, OfInput, own_deck, wants_of}
 use Rattle.outage_engine.specs.Store.{AreNodesOf, method_by}
@@ -227,40 +227,3 @@ end_without list.NoMemory = run.NoMemory
 -- what was found, as the deck's tree, cut list and crews
 abbrev pub found_in : Listing → Option (List Crew) → Found
 found_in listing crews = record { tree = listing.tree; cuts = listing.cuts; crews = crews }
-
--- ---- why there is no tree or there are no crews
-
--- why a text gives no tree: it has this fault, or memory was refused, for which no cause is owed
-abbrev pub IsTreeEnd : List ℕ → DeckEnd → Type 0
-IsTreeEnd bytes (end.Fault fault) = IsTreeFault bytes fault
-IsTreeEnd bytes end.NoMemory = Unit {0}
-
--- why statements that were read give no tree: this is their first fault, or memory was refused
-abbrev pub IsCheckEnd : ReadTree → DeckEnd → Type 0
-IsCheckEnd read (end.Fault fault) =
-    (code : CheckCode) × (fault.code ≡ report.Check code) × IsFirstFault read code fault.place
-IsCheckEnd read end.NoMemory = Unit {0}
-
--- how the reading of a deck ends by a fault of tokens or of the grammar, or by want of memory
-abbrev pub end_of : ParseFault → DeckEnd
-end_of (parse.Lex fault) = end.Fault (record { code = report.Lex fault.code; place = place_at fault.place })
-end_of (parse.Expected wanted place) = end.Fault (record { code = report.Expected wanted; place = place })
-end_of parse.NoMemory = end.NoMemory
-
--- why a crew part gives no crews: this is its first fault, or memory was refused
-abbrev pub IsCrewEnd : {A : Type 0} → Result A CrewFault → DeckEnd → Type 0
-IsCrewEnd said (end.Fault fault) =
-    (code : CrewCode) × (place : Place) × (said ≡ Err (crew.Fault code place))
-    × (fault ≡ record { code = report.Crew code; place = place })
-IsCrewEnd said end.NoMemory = Unit {0}
-
--- why a tree part and a crew part give no deck: a fault of the tree part, else one of the crew part, or no memory
-abbrev pub IsPartsEnd : {A : Type 0} → List ℕ → Result A CrewFault → DeckEnd → Type 0
-IsPartsEnd bytes said (end.Fault fault) =
-    IsTreeFault bytes fault ⊎ ((tree : FaultTree) × StandsFor bytes tree × IsCrewEnd said (end.Fault fault))
-IsPartsEnd bytes said end.NoMemory = Unit {0}
-
--- why a deck is not read: it has this fault, or memory was refused
-abbrev pub IsDeckEnd : CrewPart → List ℕ → DeckEnd → Type 0
-IsDeckEnd part bytes (end.Fault fault) = IsDeckFault part bytes fault
-IsDeckEnd part bytes end.NoMemory = Unit {0}

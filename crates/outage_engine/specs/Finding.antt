@@ -6,9 +6,9 @@ use Rattle.fault_definitions.specs.Tree.{FaultTree}
 use Rattle.fault_definitions.specs.Cut.{IsCutList}
 use Rattle.cut_sequences.specs.Orders.{order_limit, order_lists, order_total}
 use Rattle.crew_script.specs.declared.dockets.Crew.{Crew}
-use Rattle.board_report.specs.declared.fault.DeckFault.{DeckFault}
-use Rattle.outage_engine.specs.declared.deck.CrewPart.{CrewPart}
-use Rattle.outage_engine.specs.Deck.{IsDeckFault, IsWellFormed}
+use Rattle.deck_reading.specs.declared.fault.DeckFault.{DeckFault}
+use Rattle.deck_reading.specs.declared.deck.CrewPart.{CrewPart}
+use Rattle.deck_reading.specs.Faults.{IsDeckFault, IsWellFormed}
 
 -- what a command wants of the cut sets: nothing, the cut list, or the cut list and the failing orders of its sets of at
 -- most so many members

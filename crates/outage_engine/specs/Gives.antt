@@ -8,7 +8,7 @@ use Rattle.board_words.specs.declared.command.Command.TheVariants.{Cuts, Board, 
 use Rattle.board_words.specs.declared.command.Show.TheVariants as shown
 use Rattle.tree_maker.specs.MadeDeck.{made_deck}
 use Rattle.board_report.specs.Refusals.{fault_line, notice_line}
-use Rattle.board_report.specs.declared.fault.DeckFault.{DeckFault}
+use Rattle.deck_reading.specs.declared.fault.DeckFault.{DeckFault}
 use Rattle.board_report.specs.declared.notice.Notice.TheVariants as notice
 use Rattle.outage_engine.specs.declared.status.Method.{Method}
 use Rattle.outage_engine.specs.declared.status.Status.{Status}

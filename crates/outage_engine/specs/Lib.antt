@@ -1,9 +1,5 @@
 -- exit statuses
 pub mod Codes
--- what the bytes of a deck stand for
-pub mod Deck
--- the same by relations between whole lists
-pub mod Relations
 -- how the cut sets of a tree were found, and what a seat knows then
 pub mod Store
 -- what may be asked of a run, and the seat that it needs

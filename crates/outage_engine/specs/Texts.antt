@@ -13,7 +13,7 @@ use Rattle.board_report.specs.PrintText.{print_text}
 use Rattle.board_report.specs.SummaryText.{summary_text}
 use Rattle.tree_maker.specs.MadeDeck.{made_deck}
 use Rattle.outage_engine.specs.declared.status.Method.{Method}
-use Rattle.outage_engine.specs.declared.deck.CrewPart.TheVariants.{Unread, IfAny, Needed}
+use Rattle.deck_reading.specs.declared.deck.CrewPart.TheVariants.{Unread, IfAny, Needed}
 use Rattle.outage_engine.specs.Finding.{Finds, Found, Ready, Wants, NoCuts, CutsAlone, WithOrders}
 use Rattle.outage_engine.specs.Store.{AreNodesOf, method_by}
 

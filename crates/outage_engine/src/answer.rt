@@ -7,7 +7,6 @@ ghost use Rattle.outage_engine.specs.Answers.{HasCome, IsReading, status_of};
 ghost use Rattle.outage_engine.specs.Means.{AreWorkers, IsAskable, IsSeatFor};
 ghost use Rattle.outage_engine.specs.Runs.{IsOther};
 
-use crate::deck::{CrewPart, DeckParts};
 use crate::input::{read_input, read_tree};
 use crate::listing::{Listing, list_tree};
 use crate::means::{Asked, Means};
@@ -16,6 +15,7 @@ use crate::sizes::{Sizes, count_cuts};
 use crate::summary::{Summary, sum_made};
 use crate::{Method, Status};
 use board_words::{Command, Show};
+use deck_reading::{CrewPart, DeckParts};
 use edge_io::{Bytes, Source};
 use fault_model::Tree;
 use std::thread::Threads;

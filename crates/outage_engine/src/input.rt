@@ -2,12 +2,12 @@
 ghost use Rattle.std.specs.Prelude.{◌≡◌, ◌≤◌, length, IsSome, None, IfOk, IfErr};
 ghost use Rattle.event_counts.specs.Count.{Rose};
 ghost use Rattle.outage_engine.specs.Answers.{IfRefused, IsFaultOfDeck, IsReadRefusal};
-ghost use Rattle.outage_engine.specs.Deck.{IsWellFormed};
+ghost use Rattle.deck_reading.specs.Faults.{IsWellFormed};
 ghost use Rattle.outage_engine.specs.Gives.{OfInput};
-ghost use Rattle.outage_engine.specs.declared.deck.CrewPart.TheVariants.{Needed, Unread};
+ghost use Rattle.deck_reading.specs.declared.deck.CrewPart.TheVariants.{Needed, Unread};
 
-use crate::deck::{CrewPart, DeckEnd, DeckParts, read_deck};
 use crate::refusal::{Refusal, RunEnd};
+use deck_reading::{CrewPart, DeckEnd, DeckParts, read_deck};
 use edge_io::{Bytes, INPUT_LIMIT, ReadEnd, Source, read_all};
 use fault_model::Tree;
 use std::alloc::Global;

@@ -6,7 +6,6 @@
 #![tactic(auto)]
 
 mod answer;
-pub mod deck;
 mod found;
 mod input;
 pub mod laws;

@@ -11,7 +11,6 @@ ghost use Rattle.outage_engine.specs.StoreAfter.{BearsOut, IsLeftBy};
 ghost use Rattle.outage_engine.specs.Texts.{for_board};
 ghost use Rattle.outage_engine.specs.declared.status.Status.TheVariants.{Done};
 
-use crate::deck::CrewPart;
 use crate::input::read_input;
 use crate::listing::{Listing, list_tree};
 use crate::means::{Asked, BoardAsked, Means};
@@ -19,6 +18,7 @@ use crate::refusal::RunEnd;
 use board_words::{Command, Word, numbers_are_within_bounds, read};
 use crew_script::Dockets;
 use deck_limits::GREATEST_MARGIN;
+use deck_reading::CrewPart;
 use edge_io::Source;
 use fault_model::Tree;
 use outage_board::{Board, BoardStart};

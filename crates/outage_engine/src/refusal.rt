@@ -3,7 +3,7 @@ ghost use Rattle.std.specs.Prelude.{◌≡◌};
 ghost use Rattle.outage_engine.specs.Answers.{refusal_status};
 
 use crate::Status;
-use board_report::DeckFault;
+use deck_reading::DeckFault;
 use std::alloc::AllocError;
 
 /// A refusal, whose line is written.

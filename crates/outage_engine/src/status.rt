@@ -2,7 +2,7 @@
 ghost use Rattle.std.specs.Prelude.{◌≡◌};
 ghost use Rattle.outage_engine.specs.Codes.{code_of};
 
-use board_report::DeckFault;
+use deck_reading::DeckFault;
 
 /// How the cut sets were found, if they were asked for.
 #[derive(Clone, Copy, PartialEq, Eq)]

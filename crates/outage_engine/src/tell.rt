@@ -10,13 +10,13 @@ ghost use Rattle.outage_engine.specs.Store.{method_by};
 
 use crate::Status;
 use crate::answer::Answer;
-use crate::deck::DeckParts;
 use crate::listing::Listing;
 use crate::refusal::Refusal;
 use crate::summary::Summary;
 use board_report::{
     Notice, put_board, put_check, put_cuts, put_fault, put_notice, put_sizes, put_summary, put_tree,
 };
+use deck_reading::DeckParts;
 use edge_io::{Buffer, Out, Sink, WriteFault};
 use outage_board::BoardState;
 

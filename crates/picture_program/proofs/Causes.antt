@@ -6,11 +6,11 @@ use Rattle.std.proofs.Common.{refl, sym, ap, ◌∙◌, subst, append-nil}
 use Rattle.edge_io.specs.declared.reading.TheConstants.{INPUT_LIMIT}
 use Rattle.fault_definitions.specs.Tree.{FaultTree}
 use Rattle.deck_reading.specs.Deck.{StandsFor}
-use Rattle.outage_engine.specs.Answers.{IsDeckEnd}
-use Rattle.outage_engine.specs.Deck.{IsDeckFault}
-use Rattle.outage_engine.specs.declared.deck.CrewPart.TheVariants.{IfAny}
-use Rattle.outage_engine.specs.declared.deck.DeckEnd.{DeckEnd}
-use Rattle.outage_engine.specs.declared.deck.DeckEnd.TheVariants as end
+use Rattle.deck_reading.specs.Ends.{IsDeckEnd}
+use Rattle.deck_reading.specs.Faults.{IsDeckFault}
+use Rattle.deck_reading.specs.declared.deck.CrewPart.TheVariants.{IfAny}
+use Rattle.deck_reading.specs.declared.deck.DeckEnd.{DeckEnd}
+use Rattle.deck_reading.specs.declared.deck.DeckEnd.TheVariants as end
 use Rattle.outage_engine.specs.Gives.{OfInput}
 use Rattle.tree_picture.specs.PictureText.{picture_text}
 use Rattle.picture_program.specs.Finding.{IfRefused, IsCutRefusal, IsMarkRefusal, IsMarkedTree}

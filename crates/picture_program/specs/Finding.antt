@@ -4,10 +4,10 @@ use Rattle.fault_definitions.specs.Tree.{FaultTree}
 use Rattle.fault_definitions.specs.Cut.{IsCutList}
 use Rattle.cutset_lists.specs.Generation.{HasHeavyCutList}
 use Rattle.deck_reading.specs.Deck.{StandsFor}
-use Rattle.outage_engine.specs.Deck.{IsDeckFault}
-use Rattle.outage_engine.specs.declared.deck.CrewPart.TheVariants.{IfAny}
-use Rattle.outage_engine.specs.declared.deck.DeckEnd.{DeckEnd}
-use Rattle.outage_engine.specs.declared.deck.DeckEnd.TheVariants as end
+use Rattle.deck_reading.specs.Faults.{IsDeckFault}
+use Rattle.deck_reading.specs.declared.deck.CrewPart.TheVariants.{IfAny}
+use Rattle.deck_reading.specs.declared.deck.DeckEnd.{DeckEnd}
+use Rattle.deck_reading.specs.declared.deck.DeckEnd.TheVariants as end
 use Rattle.outage_engine.specs.Gives.{IsBeyond, OfInput}
 use Rattle.tree_picture.specs.PictureText.{picture_text}
 use Rattle.picture_program.specs.Pictures.{AreMarked}

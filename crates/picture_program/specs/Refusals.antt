@@ -6,8 +6,8 @@ use Rattle.cutset_lists.specs.Generation.{HasHeavyCutList}
 use Rattle.deck_reading.specs.Deck.{StandsFor}
 use Rattle.board_report.specs.Refusals.{fault_line, notice_line}
 use Rattle.board_report.specs.declared.notice.Notice.TheVariants as notice
-use Rattle.outage_engine.specs.Deck.{IsDeckFault}
-use Rattle.outage_engine.specs.declared.deck.CrewPart.TheVariants.{IfAny}
+use Rattle.deck_reading.specs.Faults.{IsDeckFault}
+use Rattle.deck_reading.specs.declared.deck.CrewPart.TheVariants.{IfAny}
 use Rattle.outage_engine.specs.Gives.{IsBeyond, OfInput}
 use Rattle.picture_program.specs.Words.{asked}
 use Rattle.picture_program.specs.declared.refusal.Refusal.{Refusal}

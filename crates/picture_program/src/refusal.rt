@@ -5,9 +5,9 @@ ghost use Rattle.picture_program.specs.Ends.{refusal_code};
 ghost use Rattle.picture_program.specs.Refusals.{no_cut_line, refusal_line};
 
 use board_report::{DeckFault, Notice, put_fault, put_notice};
+use deck_reading::DeckEnd;
 use edge_io::{Out, Sink, WriteFault};
 use itoa::Buffer;
-use outage_engine::deck::DeckEnd;
 use std::alloc::AllocError;
 use text_pieces::put_all;
 

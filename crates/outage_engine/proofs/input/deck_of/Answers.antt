@@ -1,5 +1,5 @@
 use Rattle.std.proofs.Common.{subst}
-use Rattle.outage_engine.specs.Deck.{IsDeckFault}
+use Rattle.deck_reading.specs.Faults.{IsDeckFault}
 use Rattle.outage_engine.proofs.input.deck_of.Goals as goal
 
 pub returns-in-Err-Fault-clause-refused : goal.returns-in-Err-Fault-clause-refused

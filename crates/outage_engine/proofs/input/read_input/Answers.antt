@@ -1,7 +1,7 @@
 use Rattle.std.proofs.Common.{subst}
 use Rattle.std.proofs.lemmas.Result.{IfErr-weaker, IfOk-weaker}
 use Rattle.event_counts.specs.Count.{Rose}
-use Rattle.outage_engine.specs.Deck.{IsWellFormed}
+use Rattle.deck_reading.specs.Faults.{IsWellFormed}
 use Rattle.outage_engine.proofs.Answering.{of_whole}
 use Rattle.outage_engine.proofs.Reading.{crews_are_there, refused_reading}
 use Rattle.outage_engine.proofs.input.read_input.Goals as goal

@@ -1,6 +1,6 @@
 use Rattle.std.specs.Prelude.{None}
-use Rattle.outage_engine.specs.declared.deck.CrewPart.TheVariants.{Unread}
-use Rattle.outage_engine.specs.Deck.{IsWellFormed}
+use Rattle.deck_reading.specs.declared.deck.CrewPart.TheVariants.{Unread}
+use Rattle.deck_reading.specs.Faults.{IsWellFormed}
 use Rattle.outage_engine.proofs.Clauses.{of_input}
 use Rattle.outage_engine.proofs.Reading.{without_crews}
 use Rattle.outage_engine.proofs.input.read_tree.Goals as goal

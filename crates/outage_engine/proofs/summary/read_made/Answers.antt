@@ -2,9 +2,9 @@ use Rattle.std.specs.Prelude.{IfErr, IfOk, [], ◌∷◌}
 use Rattle.std.proofs.Common.{subst}
 use Rattle.std.proofs.lemmas.Result.{IfOk-weaker}
 use Rattle.tree_maker.specs.WellMade.{made_crew}
-use Rattle.outage_engine.specs.declared.deck.CrewPart.TheVariants.{Needed}
+use Rattle.deck_reading.specs.declared.deck.CrewPart.TheVariants.{Needed}
 use Rattle.outage_engine.specs.Answers.{IfRefused, IsFaultOfDeck}
-use Rattle.outage_engine.specs.Deck.{IsWellFormed}
+use Rattle.deck_reading.specs.Faults.{IsWellFormed}
 use Rattle.outage_engine.proofs.Summing.{crews_are}
 use Rattle.outage_engine.proofs.summary.read_made.Goals as goal
 

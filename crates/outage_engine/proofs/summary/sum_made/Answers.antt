@@ -3,8 +3,8 @@ use Rattle.std.proofs.Common.{subst, inl, refl}
 use Rattle.std.proofs.lemmas.Result.{IfErr-weaker, IfOk-weaker}
 use Rattle.tree_maker.specs.MadeDeck.{made_deck}
 use Rattle.tree_maker.specs.WellMade.{made_crew}
-use Rattle.outage_engine.specs.declared.deck.CrewPart.TheVariants.{Needed}
-use Rattle.outage_engine.specs.Deck.{IsWellFormed}
+use Rattle.deck_reading.specs.declared.deck.CrewPart.TheVariants.{Needed}
+use Rattle.deck_reading.specs.Faults.{IsWellFormed}
 use Rattle.outage_engine.specs.Store.{method_by}
 use Rattle.outage_engine.specs.Texts.{for_summary, summed_most}
 use Rattle.outage_engine.proofs.Answering.{fault_for, limit_for}

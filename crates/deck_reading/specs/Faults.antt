@@ -17,10 +17,10 @@ use Rattle.crew_script.specs.declared.fault.CrewCode.TheVariants.{NoCrewPart}
 use Rattle.crew_script.specs.declared.fault.CrewFault.{CrewFault}
 use Rattle.crew_script.specs.declared.fault.CrewFault.TheVariants.{Fault}
 use Rattle.deck_reading.specs.Deck.{StandsFor, crew_part, tree_part}
-use Rattle.board_report.specs.declared.fault.DeckFault.{DeckFault}
-use Rattle.board_report.specs.declared.fault.FaultCode.TheVariants as report
-use Rattle.outage_engine.specs.declared.deck.CrewPart.{CrewPart}
-use Rattle.outage_engine.specs.declared.deck.CrewPart.TheVariants.{Unread, IfAny, Needed}
+use Rattle.deck_reading.specs.declared.fault.DeckFault.{DeckFault}
+use Rattle.deck_reading.specs.declared.fault.FaultCode.TheVariants as report
+use Rattle.deck_reading.specs.declared.deck.CrewPart.{CrewPart}
+use Rattle.deck_reading.specs.declared.deck.CrewPart.TheVariants.{Unread, IfAny, Needed}
 
 -- ---- the tree part
 
@@ -78,3 +78,11 @@ pub record IsWellFormed (part : CrewPart) (bytes : List ℕ) (tree : FaultTree)
   pub has_crews : ¬ LacksCrews part bytes
   pub stands : StandsFor bytes tree
   pub said : crews_read part bytes ≡ Ok crews
+
+-- a deck without a fault
+abbrev pub HasDeck : CrewPart → List ℕ → Type 0
+HasDeck part bytes = (tree : FaultTree) × (crews : Option (List Crew)) × IsWellFormed part bytes tree crews
+
+-- a deck with a first fault
+abbrev pub HasDeckFault : CrewPart → List ℕ → Type 0
+HasDeckFault part bytes = (fault : DeckFault) × IsDeckFault part bytes fault

@@ -1,8 +1,8 @@
 use Rattle.std.specs.Prelude.{Some, None}
 use Rattle.std.proofs.Common.{sym, ap, ◌∙◌}
 use Rattle.crew_script.specs.declared.deck.Split.{Split}
-use Rattle.outage_engine.proofs.Reading.{at_any, at_needed, at_unread, deck_of_parts, end_of_parts}
-use Rattle.outage_engine.proofs.deck.read_deck.Goals as goal
+use Rattle.deck_reading.proofs.Parts.{at_any, at_needed, at_unread, deck_of_parts, end_of_parts}
+use Rattle.deck_reading.proofs.deck.read_deck.Goals as goal
 
 pub returns-in-Unread-clause-deck : goal.returns-in-Unread-clause-deck
 returns-in-Unread-clause-deck c =

@@ -8,11 +8,11 @@ ghost use Rattle.galileo_tree.specs.Reads.{FailsAs};
 ghost use Rattle.statement_faults.specs.Checked.{Stands};
 ghost use Rattle.crew_script.specs.Crews.{crews_of};
 ghost use Rattle.crew_script.specs.Deck.{split_of};
-ghost use Rattle.outage_engine.specs.Answers.{IsCheckEnd, IsCrewEnd, IsDeckEnd, IsPartsEnd, IsTreeEnd, end_of};
-ghost use Rattle.deck_reading.specs.Deck.{StandsFor, crews_behind, tree_part};
-ghost use Rattle.outage_engine.specs.Deck.{IsWellFormed, crews_said, no_crew_part};
+ghost use Rattle.deck_reading.specs.Deck.{StandsFor, crews_behind};
+ghost use Rattle.deck_reading.specs.Ends.{IsCheckEnd, IsCrewEnd, IsDeckEnd, IsPartsEnd, IsTreeEnd, end_of};
+ghost use Rattle.deck_reading.specs.Faults.{IsWellFormed, crews_said, no_crew_part};
 
-use board_report::{DeckFault, FaultCode};
+use crate::fault::{DeckFault, FaultCode};
 use crew_script::{CrewCode, CrewFault, CrewsAt, Dockets, read_crews, split_deck};
 use edge_io::INPUT_LIMIT;
 use fault_model::{Place, Tree};

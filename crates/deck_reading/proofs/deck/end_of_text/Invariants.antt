@@ -1,7 +1,7 @@
 use Rattle.std.proofs.Common.{◌≡◌, ◌≤◌, ◌+◌, drop}
 use Rattle.galileo_lexer.specs.Spot.{origin, walk}
-use Rattle.outage_engine.proofs.Ends.{spot_at}
-use Rattle.outage_engine.proofs.deck.end_of_text.Given as goal
+use Rattle.deck_reading.proofs.Ends.{spot_at}
+use Rattle.deck_reading.proofs.deck.end_of_text.Given as goal
 
 abbrev pub invariant-loop-i : goal.invariant-loop-i
 invariant-loop-i l = record {

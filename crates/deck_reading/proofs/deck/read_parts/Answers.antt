@@ -1,8 +1,8 @@
 use Rattle.std.proofs.lemmas.Result.{err_from_is_err_and}
 use Rattle.deck_reading.specs.Deck.{crews_behind}
-use Rattle.outage_engine.specs.Deck.{crews_said}
-use Rattle.outage_engine.proofs.Reading.{crews_end, tree_end}
-use Rattle.outage_engine.proofs.deck.read_parts.Goals as goal
+use Rattle.deck_reading.specs.Faults.{crews_said}
+use Rattle.deck_reading.proofs.Parts.{crews_end, tree_end}
+use Rattle.deck_reading.proofs.deck.read_parts.Goals as goal
 
 pub returns-in_err-tree-clause-end : goal.returns-in_err-tree-clause-end
 returns-in_err-tree-clause-end c =

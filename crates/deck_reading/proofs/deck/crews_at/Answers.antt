@@ -2,11 +2,11 @@ use Rattle.std.specs.Prelude.{Some, drop}
 use Rattle.std.proofs.Common.{sym, ap, ◌∙◌, subst}
 use Rattle.std.proofs.lemmas.Result.{err_from_is_err_and}
 use Rattle.crew_script.specs.Crews.{crews_of}
-use Rattle.outage_engine.specs.Answers.{IsCrewEnd}
+use Rattle.deck_reading.specs.Ends.{IsCrewEnd}
 use Rattle.deck_reading.specs.Deck.{crews_behind}
-use Rattle.outage_engine.specs.Deck.{crews_said}
-use Rattle.outage_engine.proofs.Reading.{crew_end}
-use Rattle.outage_engine.proofs.deck.crews_at.Goals as goal
+use Rattle.deck_reading.specs.Faults.{crews_said}
+use Rattle.deck_reading.proofs.Parts.{crew_end}
+use Rattle.deck_reading.proofs.deck.crews_at.Goals as goal
 
 pub returns-in_err-crews_in-in-Some-clause-end : goal.returns-in_err-crews_in-in-Some-clause-end
 returns-in_err-crews_in-in-Some-clause-end c =
