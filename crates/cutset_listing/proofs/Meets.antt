@@ -14,10 +14,10 @@ use Rattle.zdd_words.specs.Word.{packed, lo_of, hi_of}
 use Rattle.zdd_words.proofs.WordLemmas.{lo_of-packed, hi_of-packed}
 use Rattle.zdd_families.specs.Map.{Knows, IsClosed}
 use Rattle.zdd_families.proofs.MapLemmas.{lo_known, hi_known}
-use Rattle.family_operations.specs.Counting.{EachOnce}
-use Rattle.family_operations.proofs.CountingLemmas.{each_once-length}
-use Rattle.family_operations.proofs.CutsLemmas.{each-contains, each-from_contains}
-use Rattle.family_operations.specs.Nodes.{Reaches, reaches_itself, reaches_lo, reaches_hi}
+use Rattle.zdd_families.specs.Counting.{EachOnce}
+use Rattle.zdd_families.proofs.CountingLemmas.{each_once-length}
+use Rattle.zdd_families.proofs.CutsLemmas.{each-contains, each-from_contains}
+use Rattle.zdd_families.specs.Nodes.{Reaches, reaches_itself, reaches_lo, reaches_hi}
 use Rattle.cutset_listing.specs.Nodes.{with_node}
 use Rattle.cutset_listing.proofs.NodesLemmas.{IsMet, HasParts, HasMet}
 

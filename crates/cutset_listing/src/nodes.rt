@@ -1,6 +1,6 @@
 //! The number of nodes of a diagram.
 ghost use Rattle.std.specs.Prelude.{◌≡◌, ◌<◌, [], length, IfOk, OnOk, slice_index_or};
-ghost use Rattle.family_operations.specs.Nodes.{IsNodeCount};
+ghost use Rattle.zdd_families.specs.Nodes.{IsNodeCount};
 ghost use Rattle.zdd_families.specs.Map.{Knows, family};
 ghost use Rattle.zdd_shared_table.specs.Seats.{map_of};
 ghost use Rattle.cutset_listing.specs.Nodes.{with_node};

@@ -6,8 +6,8 @@ use Rattle.zdd_families.specs.Family.{IsAbove, branch}
 use Rattle.zdd_families.specs.Map.{IsClosed, Knows, family}
 use Rattle.zdd_families.proofs.MapLemmas.{family-empty}
 use Rattle.zdd_families.proofs.Canonical.{IsFamily-family, family-filled}
-use Rattle.family_parts.specs.Antichains.{IsAntichain}
-use Rattle.minimal_families.proofs.NodesLemmas.{antichain-lo, antichain-hi}
+use Rattle.zdd_families.specs.Antichains.{IsAntichain}
+use Rattle.zdd_families.proofs.LeastNodesLemmas.{antichain-lo, antichain-hi}
 use Rattle.family_memory.specs.Memory.{Held, Has, IsSound, Went, Gave, RanOut, family_in, map_of as own_map}
 use Rattle.family_memory.proofs.After.{Gave-there, Went-then, ended, still, still_has}
 use Rattle.zdd_shared_table.specs.Seats.{Seated, map_of}

@@ -6,8 +6,8 @@ use Rattle.zdd_families.specs.Family.{IsAbove, branch}
 use Rattle.zdd_families.specs.Map.{Knows, KnowsAs, family}
 use Rattle.zdd_families.proofs.MapLemmas.{family-empty}
 use Rattle.zdd_families.proofs.Canonical.{family-filled}
-use Rattle.family_operations.specs.Due.{Splits}
-use Rattle.family_operations.specs.Nodes.{IsReached, reached_itself, reached_lo, reached_hi}
+use Rattle.zdd_families.specs.Due.{Splits}
+use Rattle.zdd_families.specs.Nodes.{IsReached, reached_itself, reached_lo, reached_hi}
 use Rattle.family_memory.specs.Memory.{Held, Has, IsSound, IsNodeOf, family_in, map_of as own_map}
 use Rattle.family_memory.proofs.After.{knows as own_known}
 use Rattle.zdd_shared_table.specs.Seats.{Seated, IsSoundSeat, map_of}

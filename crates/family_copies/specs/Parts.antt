@@ -4,7 +4,7 @@ use Rattle.unit_sets.specs.Unit.{IsUnit}
 use Rattle.zdd_words.specs.declared.word.Parts.{Parts}
 use Rattle.zdd_families.specs.Family.{IsAbove}
 use Rattle.zdd_families.specs.Map.{Knows, family, level_in}
-use Rattle.family_operations.specs.Cuts.{Cuts}
+use Rattle.zdd_families.specs.Cuts.{Cuts}
 
 -- its level and both parts, whose units lie above the level
 pub record ArePartsOf (known : ℕ → ℕ) (r : ℕ) (parts : Parts) : Type 0 where

@@ -1,7 +1,7 @@
 //! Families of a memory, copied into the store.
 ghost use Rattle.std.specs.Prelude.{◌≡◌, ◌≤◌, IfErr, IfOk, MatchResult};
 ghost use Rattle.zdd_families.specs.Map.{Knows, family};
-ghost use Rattle.family_operations.specs.Nodes.{IsReached};
+ghost use Rattle.zdd_families.specs.Nodes.{IsReached};
 ghost use Rattle.family_memory.specs.Memory.{Has, family_in};
 ghost use Rattle.zdd_shared_table.specs.Seats.{map_of};
 ghost use Rattle.zdd_product.specs.Seats.{Gave, IsBranch, WasFull};

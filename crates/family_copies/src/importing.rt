@@ -2,7 +2,7 @@
 ghost use Rattle.std.specs.Prelude.{◌≡◌, ◌≤◌, IfErr, IfOk, MatchResult};
 ghost use Rattle.zdd_families.specs.Family.{branch};
 ghost use Rattle.zdd_families.specs.Map.{Knows, family};
-ghost use Rattle.family_parts.specs.Antichains.{IsAntichain};
+ghost use Rattle.zdd_families.specs.Antichains.{IsAntichain};
 ghost use Rattle.family_memory.specs.Memory.{Gave, Has, RanOut, family_in};
 ghost use Rattle.zdd_shared_table.specs.Seats.{map_of};
 ghost use Rattle.family_copies.specs.Copies.{AreCopies};

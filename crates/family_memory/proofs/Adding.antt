@@ -11,7 +11,7 @@ use Rattle.zdd_families.specs.Family.{IsAbove, branch}
 use Rattle.zdd_families.specs.Map.{IsNode, IsClosed, Grown, level_in}
 use Rattle.zdd_families.proofs.MapLemmas.{IsNode-grown, family-node, lo_known, hi_known}
 use Rattle.zdd_families.proofs.Canonical.{family-grown}
-use Rattle.family_parts.specs.Antichains.{IsAntichain}
+use Rattle.zdd_families.specs.Antichains.{IsAntichain}
 use Rattle.family_memory.specs.Memory.{Held, Has, IsSound, IsUsedUp, Went, family_in, map_of, word_family}
 use Rattle.kept_answers.specs.declared.answers.Entry.{Entry}
 use Rattle.family_memory.specs.declared.extents.Extent.{Extent}

@@ -4,8 +4,8 @@ use Rattle.std.proofs.Common.{◌∙◌, ap, subst, inl, inr, arith}
 use Rattle.std.proofs.lemmas.Bool.{cases_eq}
 use Rattle.event_counts.specs.Count.{last_count}
 use Rattle.zdd_families.proofs.MapLemmas.{family-empty, family-unit}
-use Rattle.family_operations.proofs.MinimalLemmas.{minimal-none, minimal-unit}
-use Rattle.family_parts.specs.Antichains.{IsAntichain}
+use Rattle.zdd_families.proofs.MinimalLemmas.{minimal-none, minimal-unit}
+use Rattle.zdd_families.specs.Antichains.{IsAntichain}
 use Rattle.kept_answers.specs.declared.answers.Entry.{Entry}
 use Rattle.family_memory.specs.declared.extents.Extent.{Extent}
 use Rattle.kept_answers.specs.Kept.{AreKept}

@@ -2,8 +2,8 @@
 use Rattle.std.proofs.Common.{ℕ, ◌≡◌, ◌≤◌, List, [], ◌∷◌, length, sym, subst, All, arith}
 use Rattle.std.proofs.lemmas.List.Elements.{All-cons, All-weaker}
 use Rattle.zdd_families.proofs.MapLemmas.{family-empty}
-use Rattle.family_operations.specs.Without.{IsWithout}
-use Rattle.family_operations.proofs.WithoutLemmas.{without-none}
+use Rattle.zdd_families.specs.Without.{IsWithout}
+use Rattle.zdd_families.proofs.WithoutLemmas.{without-none}
 use Rattle.kept_answers.specs.Kept.{AreKept, first_entry}
 use Rattle.kept_answers.specs.declared.answers.Entry.{Entry}
 use Rattle.kept_answers.proofs.Keeping.{all_kept}

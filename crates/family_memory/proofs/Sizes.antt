@@ -10,10 +10,10 @@ use Rattle.unit_sets.proofs.Sorted.{Contains-nil, Contains-cons_cases}
 use Rattle.unit_sets.proofs.UnitListLemmas.{among-from_is_within}
 use Rattle.zdd_families.specs.Family.{IsFamily, branch}
 use Rattle.zdd_families.proofs.Members.{HasWith, branch-cases}
-use Rattle.family_operations.proofs.CutsLemmas.{set_rises}
-use Rattle.family_operations.proofs.InclusionLemmas.{within-length}
-use Rattle.minimal_families.specs.Units.{IsLastUnit}
-use Rattle.minimal_families.proofs.UnitsLemmas.{last-none, last-unit, last-branch}
+use Rattle.zdd_families.proofs.CutsLemmas.{set_rises}
+use Rattle.zdd_families.proofs.InclusionLemmas.{within-length}
+use Rattle.zdd_families.specs.Units.{IsLastUnit}
+use Rattle.zdd_families.proofs.UnitsLemmas.{last-none, last-unit, last-branch}
 use Rattle.family_memory.specs.declared.extents.Extent.{Extent}
 use Rattle.family_memory.specs.Extents.{HaveAtLeast, HaveAtMost, HaveMarks, IncludesNone, IsExtent, Reach, ShareMarks}
 

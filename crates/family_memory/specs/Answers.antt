@@ -1,8 +1,8 @@
 -- What the kept entries say, over what a memory holds.
 use Rattle.std.specs.Prelude.{ℕ, List}
-use Rattle.family_operations.specs.Minimal.{IsMinimal}
-use Rattle.family_operations.specs.Without.{IsWithout}
-use Rattle.minimal_families.specs.Least.{IsLeastUnion, IsLeastProduct}
+use Rattle.zdd_families.specs.Minimal.{IsMinimal}
+use Rattle.zdd_families.specs.Without.{IsWithout}
+use Rattle.zdd_families.specs.Least.{IsLeastUnion, IsLeastProduct}
 use Rattle.family_memory.specs.Memory.{Held, Has, family_in}
 use Rattle.kept_answers.specs.declared.answers.Operation.{Operation}
 use Rattle.kept_answers.specs.declared.answers.Operation.TheVariants.{Without, Union, Product, Minimal}

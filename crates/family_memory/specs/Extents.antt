@@ -2,7 +2,7 @@
 use Rattle.std.specs.Prelude.{◌≡◌, ℕ, ◌≤◌, ◌<◌, ◌%◌, true, List, Contains, length}
 use Rattle.std.specs.Int.{bit_at}
 use Rattle.unit_sets.specs.UnitList.{among, is_within}
-use Rattle.minimal_families.specs.Units.{IsLastUnit}
+use Rattle.zdd_families.specs.Units.{IsLastUnit}
 use Rattle.family_memory.specs.declared.extents.Extent.{Extent}
 
 -- each set has this unit or a greater one, where it is a unit

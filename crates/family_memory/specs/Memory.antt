@@ -6,8 +6,8 @@ use Rattle.zdd_words.specs.Word.{level_of, lo_of, hi_of}
 use Rattle.zdd_families.specs.Family.{branch}
 use Rattle.zdd_families.specs.Map.{IsClosed, Grown, family, level_in}
 use Rattle.zdd_words.specs.declared.word.Parts.{Parts}
-use Rattle.family_operations.specs.Cuts.{Cuts}
-use Rattle.family_parts.specs.Antichains.{IsAntichain}
+use Rattle.zdd_families.specs.Cuts.{Cuts}
+use Rattle.zdd_families.specs.Antichains.{IsAntichain}
 
 -- what a memory holds: the word of each reference, where the terminals have none, how many nodes it takes at most, and
 -- how often it had no room for a node

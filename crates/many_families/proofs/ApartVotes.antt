@@ -9,16 +9,16 @@ use Rattle.std.proofs.lemmas.Bool.{lt-ltb, ne_eqb, or_left, or_right, or_cases}
 use Rattle.unit_sets.specs.UnitList.{among, is_within, some_within}
 use Rattle.unit_sets.proofs.UnitListLemmas.{is_within-from_among}
 use Rattle.zdd_families.specs.Family.{IsAbove}
-use Rattle.family_operations.specs.Within.{count_within}
-use Rattle.family_operations.proofs.WithinLemmas.{HasWithin, HasWithin-from_test, passes_at, passes_from}
-use Rattle.family_operations.proofs.WithinLemmas.{some_within-from_set}
-use Rattle.family_operations.specs.Inclusion.{includes_one}
-use Rattle.family_operations.proofs.InclusionLemmas.{same_Bool}
-use Rattle.minimal_families.proofs.CutAtUnit.{above_only}
-use Rattle.minimal_families.specs.Least.{IsLeastVotes}
-use Rattle.minimal_families.proofs.LeastLemmas.{IsLeastFor-same, least-above}
-use Rattle.minimal_families.specs.Nodes.{IncludesNoneOf}
-use Rattle.minimal_families.specs.Units.{HasUnit}
+use Rattle.zdd_families.specs.Within.{count_within}
+use Rattle.zdd_families.proofs.WithinLemmas.{HasWithin, HasWithin-from_test, passes_at, passes_from}
+use Rattle.zdd_families.proofs.WithinLemmas.{some_within-from_set}
+use Rattle.zdd_families.specs.Inclusion.{includes_one}
+use Rattle.zdd_families.proofs.InclusionLemmas.{same_Bool}
+use Rattle.zdd_families.proofs.CutAtUnit.{above_only}
+use Rattle.zdd_families.specs.Least.{IsLeastVotes}
+use Rattle.zdd_families.proofs.LeastLemmas.{IsLeastFor-same, least-above}
+use Rattle.zdd_families.specs.LeastNodes.{IncludesNoneOf}
+use Rattle.zdd_families.specs.Units.{HasUnit}
 use Rattle.many_families.specs.Lists.{AreApartFrom, IsBetween}
 use Rattle.many_families.specs.Joins.{IsJoined, IsBelow}
 

@@ -8,9 +8,9 @@ use Rattle.std.proofs.lemmas.List.Elements.{All-contains, All-drop, All-from_get
 use Rattle.zdd_families.specs.Family.{IsAbove, sets_with, sets_without}
 use Rattle.zdd_families.specs.Map.{level_in}
 use Rattle.zdd_families.proofs.MapLemmas.{family-empty}
-use Rattle.family_operations.specs.Cuts.{Cuts}
-use Rattle.minimal_families.specs.Least.{IsLeastOfAll, IsLeastUnion}
-use Rattle.minimal_families.proofs.Many.{least_of_none, least_of_one}
+use Rattle.zdd_families.specs.Cuts.{Cuts}
+use Rattle.zdd_families.specs.Least.{IsLeastOfAll, IsLeastUnion}
+use Rattle.zdd_families.proofs.Many.{least_of_none, least_of_one}
 use Rattle.family_memory.specs.Memory.{Held, Has, IsSound, Went, Gave, RanOut, family_in, map_of}
 use Rattle.family_memory.proofs.After.{Gave-there, Went-then, ended, still, still_has}
 use Rattle.minimal_operations.specs.Halves.{IsHalf}

@@ -3,9 +3,9 @@ use Rattle.std.proofs.Common.{◌≡◌, ◌≢◌, ℕ, zero, suc, ◌-◌, ◌
 use Rattle.unit_sets.proofs.Sorted.{Contains-nil}
 use Rattle.zdd_families.specs.Map.{level_in}
 use Rattle.zdd_families.proofs.MapLemmas.{family-empty}
-use Rattle.family_operations.proofs.CutsLemmas.{set_above}
-use Rattle.family_operations.proofs.SetsLemmas.{unit_above}
-use Rattle.minimal_families.specs.Units.{HasUnit, IsLastUnit, LiesBelow}
+use Rattle.zdd_families.proofs.CutsLemmas.{set_above}
+use Rattle.zdd_families.proofs.SetsLemmas.{unit_above}
+use Rattle.zdd_families.specs.Units.{HasUnit, IsLastUnit, LiesBelow}
 use Rattle.family_memory.specs.Memory.{Held, Has, IsSound, family_in, map_of}
 use Rattle.family_memory.proofs.After.{above}
 use Rattle.minimal_operations.proofs.Ends.{node_lacks}

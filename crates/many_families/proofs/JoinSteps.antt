@@ -8,12 +8,12 @@ use Rattle.zdd_families.specs.Family.{branch}
 use Rattle.zdd_families.specs.Map.{level_in}
 use Rattle.zdd_families.proofs.Canonical.{family-filled}
 use Rattle.zdd_families.proofs.MapLemmas.{family-empty, family-unit}
-use Rattle.family_parts.specs.Antichains.{IsAntichain}
-use Rattle.minimal_families.specs.Least.{IsLeastUnion, IsLeastProduct}
-use Rattle.minimal_families.proofs.LeastLemmas.{IsLeastFor-same}
-use Rattle.minimal_families.proofs.StepsLemmas.{or_of}
-use Rattle.minimal_families.specs.Units.{HasUnit, LiesBelow}
-use Rattle.minimal_families.proofs.UnitsLemmas.{below-hi, cut_unit}
+use Rattle.zdd_families.specs.Antichains.{IsAntichain}
+use Rattle.zdd_families.specs.Least.{IsLeastUnion, IsLeastProduct}
+use Rattle.zdd_families.proofs.LeastLemmas.{IsLeastFor-same}
+use Rattle.zdd_families.proofs.StepsLemmas.{or_of}
+use Rattle.zdd_families.specs.Units.{HasUnit, LiesBelow}
+use Rattle.zdd_families.proofs.UnitsLemmas.{below-hi, cut_unit}
 use Rattle.family_memory.specs.Memory.{Held, Has, IsSound, IsNodeOf, Gave, RanOut, family_in, map_of}
 use Rattle.family_memory.proofs.After.{Gave-there, answers_of, at_start, ended, knows, of_start, still}
 use Rattle.minimal_operations.specs.Operands.{Answers}

@@ -3,20 +3,20 @@ use Rattle.std.proofs.Common.{◌≡◌, ℕ, Bool, true, false, ◌&&◌, ◌||
 use Rattle.std.proofs.lemmas.Bool.{and_parts, false_from_ne_true, false≢true, or_cases}
 use Rattle.unit_sets.specs.UnitList.{among, is_within, some_within}
 use Rattle.zdd_families.specs.Family.{IsAbove, branch}
-use Rattle.family_operations.specs.Cuts.{Cuts}
-use Rattle.family_operations.proofs.CutsLemmas.{cut_has_lo}
-use Rattle.family_operations.specs.Inclusion.{includes_one}
-use Rattle.family_operations.proofs.InclusionLemmas.{test-from_part}
-use Rattle.family_operations.proofs.WithinLemmas.{HasWithin, HasWithin-from_test}
-use Rattle.family_parts.specs.Antichains.{IsAntichain}
-use Rattle.minimal_families.proofs.Apart.{IsCovered, covered, within_first, within_second}
-use Rattle.minimal_families.proofs.CutAtUnit.{some_within-above, some_within-cut}
-use Rattle.minimal_families.specs.Least.{IsLeastProduct}
-use Rattle.minimal_families.proofs.LeastLemmas.{IsLeastFor-same, least-above}
-use Rattle.minimal_families.specs.Nodes.{IncludesNoneOf}
-use Rattle.minimal_families.proofs.NodesLemmas.{hi_includes_none, least-node, without-all}
-use Rattle.minimal_families.proofs.StepsLemmas.{and_of, least_product-above, or_of}
-use Rattle.minimal_families.proofs.UnitsLemmas.{below-apart, below-lo, hi_unit, lo_unit}
+use Rattle.zdd_families.specs.Cuts.{Cuts}
+use Rattle.zdd_families.proofs.CutsLemmas.{cut_has_lo}
+use Rattle.zdd_families.specs.Inclusion.{includes_one}
+use Rattle.zdd_families.proofs.InclusionLemmas.{test-from_part}
+use Rattle.zdd_families.proofs.WithinLemmas.{HasWithin, HasWithin-from_test}
+use Rattle.zdd_families.specs.Antichains.{IsAntichain}
+use Rattle.zdd_families.proofs.Apart.{IsCovered, covered, within_first, within_second}
+use Rattle.zdd_families.proofs.CutAtUnit.{some_within-above, some_within-cut}
+use Rattle.zdd_families.specs.Least.{IsLeastProduct}
+use Rattle.zdd_families.proofs.LeastLemmas.{IsLeastFor-same, least-above}
+use Rattle.zdd_families.specs.LeastNodes.{IncludesNoneOf}
+use Rattle.zdd_families.proofs.LeastNodesLemmas.{hi_includes_none, least-node, without-all}
+use Rattle.zdd_families.proofs.StepsLemmas.{and_of, least_product-above, or_of}
+use Rattle.zdd_families.proofs.UnitsLemmas.{below-apart, below-lo, hi_unit, lo_unit}
 use Rattle.many_families.specs.Joins.{IsJoined, IsBelow}
 
 join_parts : (s f a b w : Bool) → ((s || (f && a)) || (w && (b && f))) ≡ (s || (f && (a || (w && b))))

@@ -5,13 +5,13 @@ use Rattle.std.proofs.Common.{refl, sym, ◌∙◌, ap}
 use Rattle.unit_sets.specs.UnitList.{some_within}
 use Rattle.zdd_families.specs.Family.{IsAbove, branch, sets_with, sets_without}
 use Rattle.zdd_families.proofs.FamilyLemmas.{sets_with-branch, sets_without-branch}
-use Rattle.family_operations.specs.Cuts.{Cuts}
-use Rattle.family_operations.specs.Without.{IsWithout}
-use Rattle.minimal_families.specs.Least.{IsLeastOfAll}
-use Rattle.minimal_families.proofs.CutAtUnit.{above_only, some_within-above, some_within-cut}
-use Rattle.minimal_families.proofs.LeastLemmas.{IsLeastFor-same, least-above}
-use Rattle.minimal_families.proofs.NodesLemmas.{least-node}
-use Rattle.minimal_families.proofs.StepsLemmas.{or_of}
+use Rattle.zdd_families.specs.Cuts.{Cuts}
+use Rattle.zdd_families.specs.Without.{IsWithout}
+use Rattle.zdd_families.specs.Least.{IsLeastOfAll}
+use Rattle.zdd_families.proofs.CutAtUnit.{above_only, some_within-above, some_within-cut}
+use Rattle.zdd_families.proofs.LeastLemmas.{IsLeastFor-same, least-above}
+use Rattle.zdd_families.proofs.LeastNodesLemmas.{least-node}
+use Rattle.zdd_families.proofs.StepsLemmas.{or_of}
 use Rattle.many_families.specs.Chains.{uppers}
 
 -- the parts of a family that is cut are its sets without the unit and with it

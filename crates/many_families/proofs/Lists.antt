@@ -4,8 +4,8 @@ use Rattle.std.proofs.Common.{if◌then◌else◌, refl, sym, ◌∙◌, ap, sub
 use Rattle.std.proofs.lemmas.Bool.{cond-true, lt-ltb}
 use Rattle.std.proofs.lemmas.List.{take_more, take-append-drop, get_or-map, length-map}
 use Rattle.std.proofs.lemmas.List.Elements.{All-head, All-tail}
-use Rattle.minimal_families.specs.Least.{IsLeastOfAll, IsLeastProductOfAll, IsLeastProduct}
-use Rattle.minimal_families.proofs.Many.{least_of_none, least_of_one, product_of_none, product_of_more}
+use Rattle.zdd_families.specs.Least.{IsLeastOfAll, IsLeastProductOfAll, IsLeastProduct}
+use Rattle.zdd_families.proofs.Many.{least_of_none, least_of_one, product_of_none, product_of_more}
 use Rattle.zdd_families.proofs.MapLemmas.{family-empty, family-unit}
 use Rattle.family_memory.specs.Memory.{Held, Has, IsSound, Went, Gave, family_in, map_of}
 use Rattle.family_memory.proofs.After.{Gave-there, still, still_has}

@@ -3,8 +3,8 @@ use Rattle.std.proofs.Common.{Result, MatchResult, ◌≡◌, ℕ, ◌+◌, ◌-
 use Rattle.std.proofs.Common.{sym, ◌∙◌, ap, subst, arith, length-drop}
 use Rattle.std.proofs.Math.Seq.{take-length}
 use Rattle.std.proofs.lemmas.List.Elements.{All-drop}
-use Rattle.minimal_families.specs.Least.{IsLeastOfAll, IsLeastProductOfAll, IsLeastUnion, IsLeastProduct}
-use Rattle.minimal_families.proofs.Many.{least_of_both}
+use Rattle.zdd_families.specs.Least.{IsLeastOfAll, IsLeastProductOfAll, IsLeastUnion, IsLeastProduct}
+use Rattle.zdd_families.proofs.Many.{least_of_both}
 use Rattle.family_memory.specs.Memory.{Held, Has, IsSound, Went, Gave, RanOut, family_in}
 use Rattle.family_memory.proofs.After.{Went-then, ended, still, still_has}
 use Rattle.many_families.specs.Lists.{families}

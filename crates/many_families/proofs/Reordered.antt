@@ -6,10 +6,10 @@ use Rattle.std.specs.List.Sorted.{IsPermutation}
 use Rattle.std.proofs.lemmas.List.Sums.{AllPass-from_list_all, list_all-from_AllPass, sum_by-cons}
 use Rattle.std.proofs.lemmas.List.Sorted.{All-permutation, IsPermutation-map, IsPermutation-sym, list_any-IsPermutation}
 use Rattle.std.proofs.lemmas.List.Sorted.{sum_by-IsPermutation}
-use Rattle.family_operations.specs.Within.{count_within}
-use Rattle.family_operations.proofs.InclusionLemmas.{same_Bool}
-use Rattle.minimal_families.specs.Least.{IsLeastOfAll, IsLeastProductOfAll, IsLeastVotes}
-use Rattle.minimal_families.proofs.LeastLemmas.{IsLeastFor-same}
+use Rattle.zdd_families.specs.Within.{count_within}
+use Rattle.zdd_families.proofs.InclusionLemmas.{same_Bool}
+use Rattle.zdd_families.specs.Least.{IsLeastOfAll, IsLeastProductOfAll, IsLeastVotes}
+use Rattle.zdd_families.proofs.LeastLemmas.{IsLeastFor-same}
 use Rattle.family_memory.specs.Memory.{Held, Gave, RanOut, family_in}
 use Rattle.many_families.specs.Lists.{families}
 use Rattle.unit_sets.specs.UnitList.{some_within}

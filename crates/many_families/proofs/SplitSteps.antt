@@ -1,8 +1,8 @@
 -- A product by splitting, call by call.
 use Rattle.std.proofs.Common.{Result, ℕ}
-use Rattle.family_operations.specs.Without.{IsWithout}
-use Rattle.minimal_families.specs.Least.{IsLeastUnion, IsLeastProduct}
-use Rattle.minimal_families.proofs.Splitting.{least_product-split}
+use Rattle.zdd_families.specs.Without.{IsWithout}
+use Rattle.zdd_families.specs.Least.{IsLeastUnion, IsLeastProduct}
+use Rattle.zdd_families.proofs.Splitting.{least_product-split}
 use Rattle.family_memory.specs.Memory.{Held, Went, Gave, family_in}
 use Rattle.family_memory.proofs.After.{Went-then, ended, still_has, at_start, of_start}
 use Rattle.minimal_operations.specs.Operands.{AnswersOf, HasBoth}

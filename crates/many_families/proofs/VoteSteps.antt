@@ -5,11 +5,11 @@ use Rattle.std.proofs.Common.{subst, inl, inr, arith, length-drop, eq-eqb, refl}
 use Rattle.std.proofs.lemmas.Bool.{cases_eq, cases_lt, cond-true, cond-false, lt-leb, ne_eqb}
 use Rattle.std.proofs.lemmas.List.{drop_more, get_or-set_same, get_or-set_other, get_or_past, length-set}
 use Rattle.std.proofs.lemmas.List.Elements.{All-set}
-use Rattle.family_operations.specs.Within.{count_within}
-use Rattle.family_operations.proofs.MinimalLemmas.{minimal-none}
+use Rattle.zdd_families.specs.Within.{count_within}
+use Rattle.zdd_families.proofs.MinimalLemmas.{minimal-none}
 use Rattle.zdd_families.proofs.MapLemmas.{family-empty, family-unit}
-use Rattle.minimal_families.specs.Least.{IsLeastVotes}
-use Rattle.minimal_families.proofs.Many.{no_votes}
+use Rattle.zdd_families.specs.Least.{IsLeastVotes}
+use Rattle.zdd_families.proofs.Many.{no_votes}
 use Rattle.family_memory.specs.Memory.{Held, Has, IsSound, Went, Gave, family_in, map_of}
 use Rattle.family_memory.proofs.After.{Gave-there, still, still_has}
 use Rattle.many_families.specs.Lists.{families, AreApartFrom, IsBetween, IsVote, IsVoter, IsVoting, HaveVoted}

@@ -2,7 +2,7 @@
 use Rattle.std.specs.Prelude.{◌≡◌, ℕ, ◌<◌, ◌≤◌, List, All, Contains, length, map, slice_index}
 use Rattle.zdd_families.specs.Family.{sets_with}
 use Rattle.zdd_families.specs.Map.{level_in}
-use Rattle.family_operations.specs.Cuts.{Cuts}
+use Rattle.zdd_families.specs.Cuts.{Cuts}
 use Rattle.family_memory.specs.Memory.{Held, Has, family_in, map_of}
 
 -- no reference of the list has a level below the floor

@@ -1,6 +1,6 @@
 -- What is left of two families without each other.
 use Rattle.std.specs.Prelude.{ℕ}
-use Rattle.family_operations.specs.Without.{IsWithout}
+use Rattle.zdd_families.specs.Without.{IsWithout}
 use Rattle.family_memory.specs.Memory.{Held, Has, family_in}
 use Rattle.minimal_operations.specs.Operands.{HasBoth}
 

@@ -1,7 +1,7 @@
 //! The union of many families in an order of their units, and of a few at once, unit by unit: each level takes one
 //! node, whatever the number of families.
 ghost use Rattle.std.specs.Prelude.{◌<◌, ◌≤◌, All, length};
-ghost use Rattle.minimal_families.specs.Least.{IsLeastOfAll};
+ghost use Rattle.zdd_families.specs.Least.{IsLeastOfAll};
 ghost use Rattle.family_memory.specs.Memory.{Has};
 ghost use Rattle.minimal_operations.specs.Operands.{Answers};
 ghost use Rattle.many_families.specs.Chains.{AreFrom, AreAllLowered, IsLowest, uppers};

@@ -1,6 +1,6 @@
 //! Unions and products of many families.
 ghost use Rattle.std.specs.Prelude.{◌≡◌, All, IfErr, IfOk, length, nat_lt, slice_index, if◌then◌else◌};
-ghost use Rattle.minimal_families.specs.Least.{IsLeastOfAll, IsLeastProductOfAll};
+ghost use Rattle.zdd_families.specs.Least.{IsLeastOfAll, IsLeastProductOfAll};
 ghost use Rattle.family_memory.specs.Memory.{Gave, Has, RanOut};
 ghost use Rattle.many_families.specs.Lists.{families};
 

@@ -1,7 +1,7 @@
 //! Lists of families in an order of their units, so that those whose units are near each other meet first.
 ghost use Rattle.std.specs.Prelude.{◌≡◌, ◌<◌, ◌≤◌, All, IfErr, IfOk, length};
 ghost use Rattle.std.specs.List.Sorted.{IsPermutation};
-ghost use Rattle.minimal_families.specs.Least.{IsLeastOfAll, IsLeastProductOfAll};
+ghost use Rattle.zdd_families.specs.Least.{IsLeastOfAll, IsLeastProductOfAll};
 ghost use Rattle.family_memory.specs.Memory.{Gave, Has, RanOut};
 ghost use Rattle.many_families.specs.Lists.{families};
 

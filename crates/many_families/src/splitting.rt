@@ -1,7 +1,7 @@
 //! A product by splitting, for families that share units.
 ghost use Rattle.std.specs.Prelude.{◌≡◌, true, IfErr, IfOk};
-ghost use Rattle.minimal_families.specs.Least.{IsLeastProduct};
-ghost use Rattle.minimal_families.specs.Units.{LiesBelow};
+ghost use Rattle.zdd_families.specs.Least.{IsLeastProduct};
+ghost use Rattle.zdd_families.specs.Units.{LiesBelow};
 ghost use Rattle.family_memory.specs.Memory.{Gave, Has, RanOut, family_in};
 ghost use Rattle.minimal_operations.specs.Operands.{AnswersOf, HasBoth};
 ghost use Rattle.many_families.specs.Rests.{AreRests};

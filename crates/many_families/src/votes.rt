@@ -1,7 +1,7 @@
 //! Votes over a list of families.
 ghost use Rattle.std.specs.Prelude.{◌≡◌, ◌+◌, ◌<◌, ◌≤◌, ℕ, true, ◌==◌, List, if◌then◌else◌, All, IfErr, IfOk};
 ghost use Rattle.std.specs.Prelude.{MatchResult, length, slice_index};
-ghost use Rattle.minimal_families.specs.Least.{IsLeastVotes};
+ghost use Rattle.zdd_families.specs.Least.{IsLeastVotes};
 ghost use Rattle.family_memory.specs.Memory.{Gave, Has, RanOut, Went, family_in};
 ghost use Rattle.minimal_operations.specs.Operands.{Answers};
 ghost use Rattle.many_families.specs.Lists.{AreVoters, IsBetween, IsVoting, HaveVoted, VotesAt, VotesNext, families};

@@ -7,11 +7,11 @@ use Rattle.fault_words.specs.declared.kind.GateKind.{GateKind}
 use Rattle.fault_words.specs.declared.kind.GateKind.TheVariants.{And, Pand, Por, Seq, Fdep, Csp, Wsp, Hsp}
 use Rattle.zdd_families.proofs.MapLemmas.{family-empty}
 use Rattle.unit_sets.specs.UnitList.{some_within}
-use Rattle.family_operations.proofs.MinimalLemmas.{minimal-none}
-use Rattle.minimal_families.specs.Least.{IsLeastFor, IsLeastOfAll}
-use Rattle.minimal_families.proofs.LeastLemmas.{IsLeastFor-same, IsLeastFor-itself}
-use Rattle.minimal_families.specs.Least.{IsLeastProductOfAll, IsLeastUnion}
-use Rattle.minimal_families.proofs.StepsLemmas.{or_of}
+use Rattle.zdd_families.proofs.MinimalLemmas.{minimal-none}
+use Rattle.zdd_families.specs.Least.{IsLeastFor, IsLeastOfAll}
+use Rattle.zdd_families.proofs.LeastLemmas.{IsLeastFor-same, IsLeastFor-itself}
+use Rattle.zdd_families.specs.Least.{IsLeastProductOfAll, IsLeastUnion}
+use Rattle.zdd_families.proofs.StepsLemmas.{or_of}
 use Rattle.family_memory.specs.Memory.{Held, Has, IsSound, Went, Gave, RanOut, family_in, map_of}
 use Rattle.family_memory.proofs.After.{Gave-there, RanOut-then, Went-then, still}
 use Rattle.many_families.specs.Lists.{families}

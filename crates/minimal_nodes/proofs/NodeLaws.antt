@@ -13,9 +13,9 @@ use Rattle.fault_definitions.specs.Tree.{FaultTree, IsGateOf, IsNodeOf, IsUnitOf
 use Rattle.fault_definitions.specs.Tree.{unit_count}
 use Rattle.fault_definitions.specs.Trigger.{below, triggers_of}
 use Rattle.fault_definitions.specs.WellFormed.{IsTree}
-use Rattle.family_operations.specs.Within.{count_within}
-use Rattle.minimal_families.specs.Least.{IsLeastFor}
-use Rattle.minimal_families.proofs.LeastLemmas.{IsLeastFor-same, minimal-from_within}
+use Rattle.zdd_families.specs.Within.{count_within}
+use Rattle.zdd_families.specs.Least.{IsLeastFor}
+use Rattle.zdd_families.proofs.LeastLemmas.{IsLeastFor-same, minimal-from_within}
 use Rattle.minimal_nodes.specs.Gates.{first_within, gate_within, IsLeastOfGate}
 use Rattle.fault_definitions.proofs.RankLaws.{below_are_nodes}
 use Rattle.tree_families.proofs.Building.{all_generate, gate_below, unit_below}

@@ -4,7 +4,7 @@ ghost use Rattle.std.specs.List.{list_any};
 ghost use Rattle.family_memory.specs.Memory.{Gave, Has, RanOut};
 ghost use Rattle.unit_sets.specs.UnitList.{some_within};
 ghost use Rattle.many_families.specs.Lists.{families};
-ghost use Rattle.minimal_families.specs.Least.{IsLeastFor};
+ghost use Rattle.zdd_families.specs.Least.{IsLeastFor};
 ghost use Rattle.minimal_nodes.specs.Gates.{IsLeastOfGate};
 ghost use Rattle.tree_families.specs.Recipe.{alone};
 

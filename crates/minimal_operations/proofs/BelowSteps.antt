@@ -3,11 +3,11 @@ use Rattle.std.proofs.Common.{Result, ◌≡◌, ◌≢◌, ℕ, ◌<◌, [], sy
 use Rattle.zdd_families.specs.Family.{IsAbove, branch}
 use Rattle.zdd_families.proofs.Canonical.{family-filled}
 use Rattle.zdd_words.specs.declared.word.Parts.{Parts}
-use Rattle.minimal_families.specs.Least.{IsLeastProduct}
-use Rattle.minimal_families.specs.Units.{LiesBelow}
-use Rattle.minimal_families.proofs.Apart.{least_product-below}
-use Rattle.minimal_families.proofs.StepsLemmas.{least_product-above}
-use Rattle.minimal_families.proofs.UnitsLemmas.{below-lo, below-hi, cut_unit}
+use Rattle.zdd_families.specs.Least.{IsLeastProduct}
+use Rattle.zdd_families.specs.Units.{LiesBelow}
+use Rattle.zdd_families.proofs.Apart.{least_product-below}
+use Rattle.zdd_families.proofs.StepsLemmas.{least_product-above}
+use Rattle.zdd_families.proofs.UnitsLemmas.{below-lo, below-hi, cut_unit}
 use Rattle.family_memory.specs.Memory.{Held, IsSound, IsNodeOf, Gave, family_in, map_of}
 use Rattle.family_memory.proofs.After.{ended, knows, at_start, of_start}
 use Rattle.minimal_operations.specs.Operands.{Answers, AnswersOf, HasNodes}

@@ -4,12 +4,12 @@ use Rattle.zdd_words.specs.Word.{level_of, lo_of, hi_of}
 use Rattle.zdd_families.specs.Map.{IsNode}
 use Rattle.zdd_families.proofs.MapLemmas.{family-empty, family-unit, family-node}
 use Rattle.zdd_families.proofs.Canonical.{lo_units, hi_units, hi_filled}
-use Rattle.family_operations.specs.Without.{IsWithout}
-use Rattle.family_operations.proofs.WithoutLemmas.{without-none, without-nothing, without-unit}
-use Rattle.minimal_families.specs.Least.{IsLeastUnion, IsLeastProduct}
-use Rattle.minimal_families.proofs.Ends.{least_union-swap, least_product-swap, least_union-none, least_union-itself}
-use Rattle.minimal_families.proofs.Ends.{least_union-unit, least_product-none, least_product-itself, least_product-unit}
-use Rattle.minimal_families.proofs.Ends.{without-itself, unit-left, no_empty_set}
+use Rattle.zdd_families.specs.Without.{IsWithout}
+use Rattle.zdd_families.proofs.WithoutLemmas.{without-none, without-nothing, without-unit}
+use Rattle.zdd_families.specs.Least.{IsLeastUnion, IsLeastProduct}
+use Rattle.zdd_families.proofs.Ends.{least_union-swap, least_product-swap, least_union-none, least_union-itself}
+use Rattle.zdd_families.proofs.Ends.{least_union-unit, least_product-none, least_product-itself, least_product-unit}
+use Rattle.zdd_families.proofs.Ends.{without-itself, unit-left, no_empty_set}
 use Rattle.family_memory.specs.Memory.{Held, Has, IsSound, family_in, map_of}
 use Rattle.family_memory.proofs.After.{is_family, Gave-there}
 use Rattle.minimal_operations.specs.Operands.{EndsIn, HasBoth}

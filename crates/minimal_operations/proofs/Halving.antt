@@ -5,9 +5,9 @@ use Rattle.zdd_words.specs.declared.word.Parts.{Parts}
 use Rattle.zdd_families.specs.Family.{branch}
 use Rattle.zdd_families.specs.Map.{level_in}
 use Rattle.zdd_families.proofs.MapLemmas.{level_in-terminal, family-empty}
-use Rattle.family_operations.specs.Cuts.{Cuts}
-use Rattle.family_operations.proofs.CutsLemmas.{cut_above, branch-none}
-use Rattle.family_operations.proofs.WithoutLemmas.{without-lower}
+use Rattle.zdd_families.specs.Cuts.{Cuts}
+use Rattle.zdd_families.proofs.CutsLemmas.{cut_above, branch-none}
+use Rattle.zdd_families.proofs.WithoutLemmas.{without-lower}
 use Rattle.family_memory.specs.Memory.{Held, Has, IsSound, IsNodeOf, Gave, family_in, map_of}
 use Rattle.family_memory.proofs.After.{above, Gave-there}
 use Rattle.minimal_operations.specs.Halves.{IsHalf}

@@ -3,10 +3,10 @@ use Rattle.std.proofs.Common.{◌≡◌, ℕ, ◌<◌, ◌≤◌, true, List, Co
 use Rattle.unit_sets.specs.UnitList.{is_within}
 use Rattle.unit_sets.proofs.UnitListLemmas.{among-from_is_within}
 use Rattle.zdd_families.specs.Map.{level_in}
-use Rattle.family_operations.specs.Inclusion.{includes_one}
-use Rattle.family_operations.proofs.CutsLemmas.{set_above}
-use Rattle.family_operations.proofs.InclusionLemmas.{Includes-from_test, same_Bool, test-from_part}
-use Rattle.family_operations.proofs.SetsLemmas.{unit_above}
+use Rattle.zdd_families.specs.Inclusion.{includes_one}
+use Rattle.zdd_families.proofs.CutsLemmas.{set_above}
+use Rattle.zdd_families.proofs.InclusionLemmas.{Includes-from_test, same_Bool, test-from_part}
+use Rattle.zdd_families.proofs.SetsLemmas.{unit_above}
 use Rattle.family_memory.specs.Memory.{Held, family_in, map_of}
 use Rattle.family_memory.specs.Rests.{HasUnitBelow, IsRest}
 use Rattle.family_memory.proofs.After.{above}

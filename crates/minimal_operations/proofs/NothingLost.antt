@@ -1,9 +1,9 @@
 -- Families of which the one includes none of the other: nothing is taken out.
 use Rattle.std.proofs.Common.{ℕ}
 use Rattle.std.proofs.lemmas.Bool.{false_from_ne_true}
-use Rattle.family_operations.specs.Inclusion.{Includes, includes_one}
-use Rattle.family_operations.proofs.InclusionLemmas.{Includes-from_test}
-use Rattle.family_operations.specs.Without.{IsWithout}
+use Rattle.zdd_families.specs.Inclusion.{Includes, includes_one}
+use Rattle.zdd_families.proofs.InclusionLemmas.{Includes-from_test}
+use Rattle.zdd_families.specs.Without.{IsWithout}
 use Rattle.family_memory.specs.Extents.{IncludesNone}
 use Rattle.family_memory.specs.Memory.{Held, family_in}
 use Rattle.family_memory.proofs.After.{Gave-there, is_family}

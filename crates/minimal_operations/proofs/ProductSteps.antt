@@ -2,12 +2,12 @@
 use Rattle.std.proofs.Common.{Result, ℕ, ◌-◌, ◌≡◌, ◌<◌, sym, subst, arith}
 use Rattle.zdd_families.specs.Map.{level_in}
 use Rattle.zdd_words.specs.declared.word.Parts.{Parts}
-use Rattle.family_operations.specs.Without.{IsWithout}
-use Rattle.minimal_families.specs.Least.{IsLeastUnion, IsLeastProduct}
-use Rattle.minimal_families.specs.Steps.{IsLeastSides}
-use Rattle.minimal_families.proofs.StepsLemmas.{least_sides, least_sides-above, least_union-above}
-use Rattle.minimal_families.proofs.StepsLemmas.{least_product-above, least_product-both, least_product-first}
-use Rattle.minimal_families.proofs.StepsLemmas.{least_product-rest}
+use Rattle.zdd_families.specs.Without.{IsWithout}
+use Rattle.zdd_families.specs.Least.{IsLeastUnion, IsLeastProduct}
+use Rattle.zdd_families.specs.Steps.{IsLeastSides}
+use Rattle.zdd_families.proofs.StepsLemmas.{least_sides, least_sides-above, least_union-above}
+use Rattle.zdd_families.proofs.StepsLemmas.{least_product-above, least_product-both, least_product-first}
+use Rattle.zdd_families.proofs.StepsLemmas.{least_product-rest}
 use Rattle.family_memory.specs.Memory.{Held, Has, IsSound, IsNodeOf, Went, Gave, family_in, map_of}
 use Rattle.family_memory.proofs.After.{above, ended, level_above, still, still_has, at_start}
 use Rattle.minimal_operations.specs.Halves.{ArePartsAbove}

@@ -1,10 +1,10 @@
 -- A node whose sets with the level are rid of those that include one without it.
 use Rattle.std.proofs.Common.{Result, ◌≡◌, ℕ, sym, ◌∙◌, ap, subst}
 use Rattle.zdd_families.specs.Family.{IsAbove, branch}
-use Rattle.family_operations.specs.Without.{IsWithout}
-use Rattle.family_operations.proofs.WithoutLemmas.{without-above}
-use Rattle.family_parts.specs.Antichains.{IsAntichain}
-use Rattle.minimal_families.proofs.NodesLemmas.{antichain-branch, antichain-without, none_left}
+use Rattle.zdd_families.specs.Without.{IsWithout}
+use Rattle.zdd_families.proofs.WithoutLemmas.{without-above}
+use Rattle.zdd_families.specs.Antichains.{IsAntichain}
+use Rattle.zdd_families.proofs.LeastNodesLemmas.{antichain-branch, antichain-without, none_left}
 use Rattle.family_memory.specs.Memory.{Held, Has, Gave, family_in}
 use Rattle.family_memory.proofs.After.{ended, still, still_has}
 use Rattle.minimal_operations.specs.Operands.{Answers}

@@ -4,10 +4,10 @@ use Rattle.std.proofs.lemmas.Bool.{cases_lt}
 use Rattle.unit_sets.proofs.Sorted.{Contains-nil}
 use Rattle.zdd_words.specs.declared.word.Parts.{Parts}
 use Rattle.zdd_families.specs.Family.{branch}
-use Rattle.family_operations.specs.Without.{IsWithout}
-use Rattle.family_operations.proofs.CutsLemmas.{cut_has_lo}
-use Rattle.family_operations.proofs.WithoutLemmas.{without-none, without-step, without-unit}
-use Rattle.minimal_families.proofs.Ends.{unit-left}
+use Rattle.zdd_families.specs.Without.{IsWithout}
+use Rattle.zdd_families.proofs.CutsLemmas.{cut_has_lo}
+use Rattle.zdd_families.proofs.WithoutLemmas.{without-none, without-step, without-unit}
+use Rattle.zdd_families.proofs.Ends.{unit-left}
 use Rattle.family_memory.specs.Memory.{Held, IsNodeOf, family_in}
 use Rattle.family_memory.proofs.After.{Gave-there}
 use Rattle.minimal_operations.specs.declared.halves.Half.{Half}

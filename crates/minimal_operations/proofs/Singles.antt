@@ -1,9 +1,9 @@
 -- The family of one set with one unit.
 use Rattle.std.proofs.Common.{Result, ◌≡◌, ℕ, [], ◌∷◌, refl, sym, ◌∙◌, ap, subst, arith}
 use Rattle.zdd_families.specs.Family.{IsAbove, branch}
-use Rattle.family_operations.proofs.MinimalLemmas.{minimal-none, minimal-unit}
-use Rattle.family_parts.specs.Antichains.{IsAntichain}
-use Rattle.minimal_families.proofs.NodesLemmas.{antichain-branch}
+use Rattle.zdd_families.proofs.MinimalLemmas.{minimal-none, minimal-unit}
+use Rattle.zdd_families.specs.Antichains.{IsAntichain}
+use Rattle.zdd_families.proofs.LeastNodesLemmas.{antichain-branch}
 use Rattle.family_memory.specs.Memory.{Held, IsSound, family_in}
 use Rattle.family_memory.proofs.After.{Went-nowhere, ended}
 use Rattle.minimal_operations.specs.Operands.{Answers}

@@ -2,10 +2,10 @@
 use Rattle.std.proofs.Common.{Result, ◌≡◌, ℕ, ◌<◌, List, sym, subst}
 use Rattle.zdd_families.specs.Family.{IsAbove}
 use Rattle.zdd_words.specs.declared.word.Parts.{Parts}
-use Rattle.family_operations.specs.Without.{IsWithout}
-use Rattle.minimal_families.specs.Least.{IsLeastUnion}
-use Rattle.minimal_families.proofs.StepsLemmas.{least_union-above, least_union-both, least_union-first}
-use Rattle.minimal_families.proofs.StepsLemmas.{least_union-rest}
+use Rattle.zdd_families.specs.Without.{IsWithout}
+use Rattle.zdd_families.specs.Least.{IsLeastUnion}
+use Rattle.zdd_families.proofs.StepsLemmas.{least_union-above, least_union-both, least_union-first}
+use Rattle.zdd_families.proofs.StepsLemmas.{least_union-rest}
 use Rattle.family_memory.specs.Memory.{Held, IsSound, IsNodeOf, Gave, family_in}
 use Rattle.family_memory.proofs.After.{ended, is_family, still, still_has, at_both, at_start}
 use Rattle.minimal_operations.specs.Operands.{Answers, AnswersOf, IsHigher, OfOneLevel}

@@ -2,9 +2,9 @@
 use Rattle.std.proofs.Common.{Result, ◌≡◌, ℕ, ◌<◌, sym, subst, arith}
 use Rattle.zdd_families.specs.Family.{IsAbove, branch}
 use Rattle.zdd_words.specs.declared.word.Parts.{Parts}
-use Rattle.family_operations.specs.Without.{IsWithout}
-use Rattle.family_operations.proofs.WithoutLemmas.{without-above, without-step}
-use Rattle.minimal_families.proofs.NodesLemmas.{antichain-without}
+use Rattle.zdd_families.specs.Without.{IsWithout}
+use Rattle.zdd_families.proofs.WithoutLemmas.{without-above, without-step}
+use Rattle.zdd_families.proofs.LeastNodesLemmas.{antichain-without}
 use Rattle.family_memory.specs.Memory.{Held, IsSound, IsNodeOf, Went, Gave, family_in}
 use Rattle.family_memory.proofs.After.{Went-then, ended, level_above, still, at_start}
 use Rattle.minimal_operations.specs.declared.halves.Half.{Half}

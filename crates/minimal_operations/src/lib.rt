@@ -1,6 +1,6 @@
 //! Operations on minimal families in a worker's own memory, each of which gives a minimal family.
 //!
-//! This crate stands on `family_memory` for the nodes and on `minimal_families` for the laws by which the
+//! This crate stands on `family_memory` for the nodes and on `zdd_families` for the laws by which the
 //! operations are computed from parts. What an operation gives is exactly what is left of a family, or the
 //! minimal sets of a union or a product; where the room for nodes is used up it gives `Spent`, and what the
 //! memory had it still has. No call takes memory.

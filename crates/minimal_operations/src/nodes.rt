@@ -1,7 +1,7 @@
 //! Nodes of which a part may be empty, or has sets to be taken out.
 ghost use Rattle.std.specs.Prelude.{◌≡◌, ◌≤◌, [], ◌∷◌, IfErr, IfOk, MatchResult};
 ghost use Rattle.zdd_families.specs.Family.{IsAbove, branch};
-ghost use Rattle.family_parts.specs.Antichains.{IsAntichain};
+ghost use Rattle.zdd_families.specs.Antichains.{IsAntichain};
 ghost use Rattle.family_memory.specs.Memory.{Gave, Has, RanOut, family_in};
 ghost use Rattle.minimal_operations.specs.Operands.{Answers};
 ghost use Rattle.minimal_operations.specs.Rests.{CanBranch, CanRid, IsRidBranch};

@@ -1,8 +1,8 @@
 //! The minimal sets of a product.
 ghost use Rattle.std.specs.Prelude.{◌≤◌, IfErr, IfOk, MatchOption};
 ghost use Rattle.zdd_words.specs.declared.word.Parts.{Parts};
-ghost use Rattle.minimal_families.specs.Least.{IsLeastProduct};
-ghost use Rattle.minimal_families.specs.Steps.{IsLeastSides};
+ghost use Rattle.zdd_families.specs.Least.{IsLeastProduct};
+ghost use Rattle.zdd_families.specs.Steps.{IsLeastSides};
 ghost use Rattle.family_memory.specs.Memory.{Gave, Has, RanOut, family_in};
 ghost use Rattle.minimal_operations.specs.Operands.{Answers, AnswersOf, EndsAs, HasNodes, IsHigher, OfOneLevel};
 ghost use Rattle.minimal_operations.specs.Halves.{ArePartsAbove};

@@ -1,7 +1,7 @@
 //! The product of a family and one above all its units, from which nothing need be taken out.
 ghost use Rattle.std.specs.Prelude.{◌≤◌, IfErr, IfOk};
-ghost use Rattle.minimal_families.specs.Least.{IsLeastProduct};
-ghost use Rattle.minimal_families.specs.Units.{LiesBelow};
+ghost use Rattle.zdd_families.specs.Least.{IsLeastProduct};
+ghost use Rattle.zdd_families.specs.Units.{LiesBelow};
 ghost use Rattle.family_memory.specs.Memory.{Gave, Has, RanOut, family_in};
 ghost use Rattle.minimal_operations.specs.Operands.{AnswersOf, HasNodes};
 

@@ -1,6 +1,6 @@
 //! The minimal sets of a union.
 ghost use Rattle.std.specs.Prelude.{◌≤◌, IfErr, IfOk, MatchOption};
-ghost use Rattle.minimal_families.specs.Least.{IsLeastUnion};
+ghost use Rattle.zdd_families.specs.Least.{IsLeastUnion};
 ghost use Rattle.family_memory.specs.Memory.{Gave, Has, RanOut, family_in};
 ghost use Rattle.minimal_operations.specs.Operands.{AnswersOf, EndsAs, HasNodes, IsHigher, OfOneLevel};
 

@@ -1,7 +1,7 @@
 //! What is left of a family without the sets that include one of another.
 ghost use Rattle.std.specs.Prelude.{◌<◌, ◌≤◌, IfErr, IfOk, IfSome, MatchOption};
 ghost use Rattle.zdd_families.specs.Map.{level_in};
-ghost use Rattle.family_operations.specs.Without.{IsWithout};
+ghost use Rattle.zdd_families.specs.Without.{IsWithout};
 ghost use Rattle.family_memory.specs.Memory.{Gave, Has, RanOut, family_in, map_of};
 ghost use Rattle.minimal_operations.specs.Operands.{AnswersOf, EndsAs, EndsIn, HasBoth, HasNodes, NoneLower};
 ghost use Rattle.minimal_operations.specs.Rests.{Serves};

@@ -17,7 +17,7 @@ use Rattle.zdd_shared_table.specs.Seats.{Seated, map_of}
 use Rattle.cutset_listing.specs.Listing.{HasHeavyList, HasSetsOf, LacksEmptySet}
 use Rattle.cutset_listing.proofs.HeavyLists.{in_a_list, heavy_list as heavy_list_of}
 use Rattle.cut_texts.proofs.Members.{weight_parts}
-use Rattle.family_operations.specs.Nodes.{IsNodeCount}
+use Rattle.zdd_families.specs.Nodes.{IsNodeCount}
 use Rattle.outage_engine.specs.declared.refusal.Refusal.{Refusal}
 use Rattle.outage_engine.specs.declared.refusal.Refusal.TheVariants as refusal
 use Rattle.outage_engine.specs.Answers.{AreCountsOf, IfRefused, end_without}

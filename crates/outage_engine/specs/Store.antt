@@ -2,7 +2,7 @@
 use Rattle.std.specs.Prelude.{◌≡◌, ℕ, ◌<◌, List, Option, Some, None}
 use Rattle.fault_definitions.specs.CutFamily.{IsCutFamily}
 use Rattle.fault_definitions.specs.Tree.{FaultTree}
-use Rattle.family_operations.specs.Nodes.{IsNodeCount}
+use Rattle.zdd_families.specs.Nodes.{IsNodeCount}
 use Rattle.zdd_shared_table.specs.Seats.{Seated, map_of}
 use Rattle.tree_families.specs.Due.{IsDueToTree}
 use Rattle.zdd_product.specs.Seats.{KnowsOne, WentAll}

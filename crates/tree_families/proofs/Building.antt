@@ -10,7 +10,7 @@ use Rattle.fault_definitions.specs.Tree.{FaultTree, IsGateOf, IsNodeOf, IsUnitOf
 use Rattle.fault_definitions.specs.Tree.{is_fdep_kind, kind_of, unit_count}
 use Rattle.fault_definitions.specs.Trigger.{below, triggers_of}
 use Rattle.fault_definitions.specs.WellFormed.{IsTree}
-use Rattle.family_operations.specs.Minimal.{IsMinimal}
+use Rattle.zdd_families.specs.Minimal.{IsMinimal}
 use Rattle.tree_families.specs.Generation.{IsFamilyFor}
 use Rattle.tree_families.specs.Due.{IsDueToRecipe, IsDueToTree, one_node}
 use Rattle.tree_families.specs.Recipe.{Recipe, unions, IsMadeBy, IsUnionOfAll, alone, gate_recipe, node_recipe}

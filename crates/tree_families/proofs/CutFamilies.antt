@@ -19,13 +19,13 @@ use Rattle.fault_definitions.proofs.ReadingLaws.{reads-empty}
 use Rattle.fault_definitions.specs.Tree.{FaultTree}
 use Rattle.fault_definitions.specs.WellFormed.{IsTree}
 use Rattle.zdd_families.specs.Family.{IsFamily}
-use Rattle.family_operations.proofs.CutsLemmas.{set_rises}
-use Rattle.family_operations.proofs.WithinLemmas.{HasWithin, HasWithin-from_test, some_within-from_set}
-use Rattle.family_operations.proofs.WithinLemmas.{some_within-minimal}
-use Rattle.family_operations.specs.Inclusion.{Includes}
-use Rattle.family_operations.proofs.InclusionLemmas.{within_itself, within_trans, same_within}
-use Rattle.family_operations.specs.Minimal.{IsMinimal}
-use Rattle.family_operations.proofs.MinimalLemmas.{minimal-covers}
+use Rattle.zdd_families.proofs.CutsLemmas.{set_rises}
+use Rattle.zdd_families.proofs.WithinLemmas.{HasWithin, HasWithin-from_test, some_within-from_set}
+use Rattle.zdd_families.proofs.WithinLemmas.{some_within-minimal}
+use Rattle.zdd_families.specs.Inclusion.{Includes}
+use Rattle.zdd_families.proofs.InclusionLemmas.{within_itself, within_trans, same_within}
+use Rattle.zdd_families.specs.Minimal.{IsMinimal}
+use Rattle.zdd_families.proofs.MinimalLemmas.{minimal-covers}
 use Rattle.tree_families.specs.Generation.{IsFamilyFor}
 
 -- a node has one cut family

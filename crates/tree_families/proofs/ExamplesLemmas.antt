@@ -12,10 +12,10 @@ use Rattle.fault_definitions.specs.Rank.{by_rank}
 use Rattle.fault_definitions.specs.Reading.{reads}
 use Rattle.fault_definitions.specs.Tree.{FaultTree, unit_count}
 use Rattle.zdd_families.specs.Family.{IsFamily}
-use Rattle.family_operations.proofs.CutsLemmas.{set_rises}
-use Rattle.family_operations.proofs.WithinLemmas.{passes_at}
-use Rattle.family_operations.proofs.InclusionLemmas.{same_within}
-use Rattle.family_operations.specs.Minimal.{IsMinimal}
+use Rattle.zdd_families.proofs.CutsLemmas.{set_rises}
+use Rattle.zdd_families.proofs.WithinLemmas.{passes_at}
+use Rattle.zdd_families.proofs.InclusionLemmas.{same_within}
+use Rattle.zdd_families.specs.Minimal.{IsMinimal}
 use Rattle.tree_families.specs.Generation.{IsFamilyOf}
 use Rattle.tree_families.proofs.CutFamilies.{cut_family-minimal}
 use Rattle.tree_families.specs.Examples.{superset_absorbed, two_of_three}

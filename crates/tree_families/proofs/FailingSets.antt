@@ -10,10 +10,10 @@ use Rattle.fault_definitions.specs.Reading.{reads}
 use Rattle.fault_definitions.proofs.ReadingLaws.{reads-rises}
 use Rattle.fault_definitions.specs.Tree.{FaultTree, IsNodeOf, IsUnitOf}
 use Rattle.fault_definitions.specs.WellFormed.{IsTree}
-use Rattle.family_operations.proofs.CutsLemmas.{each-from_contains}
-use Rattle.family_operations.proofs.WithinLemmas.{HasWithin, HasWithin-from_test, some_within-from_set, passes_at}
-use Rattle.family_operations.proofs.WithinLemmas.{passes_from}
-use Rattle.family_operations.proofs.InclusionLemmas.{same_Bool}
+use Rattle.zdd_families.proofs.CutsLemmas.{each-from_contains}
+use Rattle.zdd_families.proofs.WithinLemmas.{HasWithin, HasWithin-from_test, some_within-from_set, passes_at}
+use Rattle.zdd_families.proofs.WithinLemmas.{passes_from}
+use Rattle.zdd_families.proofs.InclusionLemmas.{same_Bool}
 use Rattle.tree_families.specs.Generation.{IsFamilyFor}
 
 module _ (tree : FaultTree) (kept : IsTree tree) (node : ℕ) (is_node : IsNodeOf tree node) (family : List (List ℕ))

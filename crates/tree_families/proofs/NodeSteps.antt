@@ -6,8 +6,8 @@ use Rattle.fault_words.specs.declared.kind.GateKind.TheVariants.{And, Or, Votes,
 use Rattle.fault_definitions.specs.CutFamily.{IsCutFamily}
 use Rattle.fault_definitions.specs.Tree.{FaultTree, IsGateOf, IsUnitOf, inputs_of, is_fdep_kind, kind_of}
 use Rattle.fault_definitions.specs.Trigger.{triggers_of}
-use Rattle.family_operations.specs.Due.{IsDueToUnion, IsDueToProduct, IsDueToMinimal, IsDueToVotes}
-use Rattle.family_operations.specs.Product.{IsProduct}
+use Rattle.zdd_families.specs.Due.{IsDueToUnion, IsDueToProduct, IsDueToMinimal, IsDueToVotes}
+use Rattle.zdd_families.specs.Product.{IsProduct}
 use Rattle.tree_families.proofs.Building.{gate-due, unit-due}
 use Rattle.tree_families.specs.Due.{IsDueToRecipe, due_to_unions, due_to_products, due_to_votes, due_to_end}
 use Rattle.tree_families.specs.Due.{IsDueToTree}

@@ -3,20 +3,20 @@
 use Rattle.std.specs.Prelude.{◌⊎◌, ℕ, List, [], ◌∷◌}
 use Rattle.std.proofs.Common.{refl, subst, inl, inr}
 use Rattle.unit_sets.proofs.Sorted.{Contains-cons_first, Contains-cons_other}
-use Rattle.family_operations.specs.Due.{IsDueToUnion, IsDueToProduct}
-use Rattle.family_operations.specs.Minimal.{IsMinimal}
-use Rattle.family_operations.specs.Nodes.{IsReached}
+use Rattle.zdd_families.specs.Due.{IsDueToUnion, IsDueToProduct}
+use Rattle.zdd_families.specs.Minimal.{IsMinimal}
+use Rattle.zdd_families.specs.Nodes.{IsReached}
 use Rattle.tree_families.specs.Recipe.{Recipe, unions, products, votes, IsUnionOfAll, IsProductOfAll, IsMadeBy}
 use Rattle.tree_families.specs.Due.{IsDueToUnions, next_union, later_union, IsDueToProducts, next_product, next_minimal}
 use Rattle.tree_families.specs.Due.{later_product, IsDueToRecipe, due_to_unions, due_to_products, due_to_votes}
 use Rattle.tree_families.specs.Due.{due_to_end}
-use Rattle.family_parts.proofs.Parts.{Origin, is_due, of_first, of_second}
-use Rattle.family_parts.specs.Spans.{Spans}
-use Rattle.family_parts.proofs.UnionParts.{HasUnion, Spans-union, union-exists, union-parts}
-use Rattle.family_parts.proofs.ProductParts.{HasProduct, Spans-product, product-exists, product-parts}
-use Rattle.family_parts.proofs.MinimalParts.{HasLeast, Spans-minimal, minimal-exists, minimal-parts}
-use Rattle.family_parts.specs.VotesParts.{SpanEach, PartOfOne}
-use Rattle.family_parts.proofs.VotesPartsLemmas.{HasVotes, votes-exist, votes-parts}
+use Rattle.zdd_families.proofs.Parts.{Origin, is_due, of_first, of_second}
+use Rattle.zdd_families.specs.Spans.{Spans}
+use Rattle.zdd_families.proofs.UnionParts.{HasUnion, Spans-union, union-exists, union-parts}
+use Rattle.zdd_families.proofs.ProductParts.{HasProduct, Spans-product, product-exists, product-parts}
+use Rattle.zdd_families.proofs.MinimalParts.{HasLeast, Spans-minimal, minimal-exists, minimal-parts}
+use Rattle.zdd_families.specs.VotesParts.{SpanEach, PartOfOne}
+use Rattle.zdd_families.proofs.VotesPartsLemmas.{HasVotes, votes-exist, votes-parts}
 
 -- the families that the recipe is given
 abbrev pub given : Recipe → List (List (List ℕ))

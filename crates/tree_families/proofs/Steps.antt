@@ -15,17 +15,17 @@ use Rattle.fault_definitions.specs.Trigger.{below, triggers_of}
 use Rattle.fault_definitions.specs.WellFormed.{IsTree}
 use Rattle.zdd_families.specs.Family.{IsFamily}
 use Rattle.zdd_families.proofs.FamilyLemmas.{IsFamily-nil, IsFamily-unit}
-use Rattle.family_operations.specs.Within.{count_within}
-use Rattle.family_operations.proofs.WithinLemmas.{some_within-union, some_within-product, some_within-minimal}
-use Rattle.family_operations.proofs.WithinLemmas.{some_within-votes}
-use Rattle.family_operations.specs.Minimal.{IsMinimal}
-use Rattle.family_operations.specs.Product.{IsProduct, IsJoin}
-use Rattle.family_operations.specs.Sets.{joined}
-use Rattle.family_operations.proofs.SetsLemmas.{among-joined}
-use Rattle.family_operations.specs.Union.{IsUnion}
-use Rattle.family_operations.specs.Votes.{IsVotes, IsChoice}
+use Rattle.zdd_families.specs.Within.{count_within}
+use Rattle.zdd_families.proofs.WithinLemmas.{some_within-union, some_within-product, some_within-minimal}
+use Rattle.zdd_families.proofs.WithinLemmas.{some_within-votes}
+use Rattle.zdd_families.specs.Minimal.{IsMinimal}
+use Rattle.zdd_families.specs.Product.{IsProduct, IsJoin}
+use Rattle.zdd_families.specs.Sets.{joined}
+use Rattle.zdd_families.proofs.SetsLemmas.{among-joined}
+use Rattle.zdd_families.specs.Union.{IsUnion}
+use Rattle.zdd_families.specs.Votes.{IsVotes, IsChoice}
 use Rattle.tree_families.specs.Generation.{IsFamilyOf, AreFamiliesOf, IsFamilyFor}
-use Rattle.family_parts.proofs.Parts.{empty_unit}
+use Rattle.zdd_families.proofs.Parts.{empty_unit}
 use Rattle.tree_families.specs.Recipe.{Recipe, unions, IsUnionOfAll, IsProductOfAll, IsMadeBy, all_united}
 use Rattle.tree_families.specs.Recipe.{all_multiplied, first_alone, gate_recipe, alone, node_recipe, StandFor}
 

@@ -13,11 +13,11 @@ use Rattle.fault_definitions.specs.Tree.{unit_count}
 use Rattle.fault_definitions.specs.Trigger.{below}
 use Rattle.fault_definitions.specs.WellFormed.{IsTree}
 use Rattle.zdd_families.specs.Family.{IsSetAbove}
-use Rattle.family_operations.specs.Cuts.{Cuts}
-use Rattle.family_operations.proofs.CutsLemmas.{each-from_contains}
-use Rattle.family_operations.specs.Minimal.{IsMinimal}
-use Rattle.family_operations.specs.Nodes.{IsReached}
-use Rattle.family_operations.proofs.SetsLemmas.{above_from_among}
+use Rattle.zdd_families.specs.Cuts.{Cuts}
+use Rattle.zdd_families.proofs.CutsLemmas.{each-from_contains}
+use Rattle.zdd_families.specs.Minimal.{IsMinimal}
+use Rattle.zdd_families.specs.Nodes.{IsReached}
+use Rattle.zdd_families.proofs.SetsLemmas.{above_from_among}
 use Rattle.tree_families.specs.Recipe.{Recipe, unions, IsMadeBy, all_united, all_multiplied, first_alone, gate_recipe}
 use Rattle.tree_families.specs.Recipe.{alone, node_recipe, StandFor}
 use Rattle.tree_families.specs.Due.{IsDueToTree, one_unit, one_node}
@@ -26,11 +26,11 @@ use Rattle.tree_families.proofs.CutFamilies.{cut_family-one}
 use Rattle.tree_families.proofs.FailingSets.{IsFamilyFor-cut_family}
 use Rattle.tree_families.proofs.Steps.{of_alone}
 use Rattle.tree_families.proofs.Building.{recipe-cut_family}
-use Rattle.family_parts.specs.Spans.{Spans}
-use Rattle.family_parts.proofs.Parts.{reached-none, reached-unit, PartAt, itself, of_lo, of_hi, part_at}
-use Rattle.family_parts.proofs.MinimalParts.{HasLeast, minimal-exists}
-use Rattle.family_parts.specs.VotesParts.{SpanEach, PartOfOne}
-use Rattle.family_parts.proofs.VotesPartsLemmas.{Spans-none, Spans-unit}
+use Rattle.zdd_families.specs.Spans.{Spans}
+use Rattle.zdd_families.proofs.Parts.{reached-none, reached-unit, PartAt, itself, of_lo, of_hi, part_at}
+use Rattle.zdd_families.proofs.MinimalParts.{HasLeast, minimal-exists}
+use Rattle.zdd_families.specs.VotesParts.{SpanEach, PartOfOne}
+use Rattle.zdd_families.proofs.VotesPartsLemmas.{Spans-none, Spans-unit}
 use Rattle.tree_families.proofs.RecipeParts.{given, HasMade, recipe-makes, recipe-parts, made_parts}
 
 -- ---- the families of a tree span its units

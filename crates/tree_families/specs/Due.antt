@@ -4,10 +4,10 @@ use Rattle.std.specs.Prelude.{◌≡◌, ℕ, false, List, ◌∷◌}
 use Rattle.fault_definitions.specs.CutFamily.{IsCutFamily}
 use Rattle.fault_definitions.specs.Tree.{FaultTree, IsNodeOf, IsUnitOf, is_fdep}
 use Rattle.fault_definitions.specs.Trigger.{below}
-use Rattle.family_operations.specs.Union.{IsUnion}
-use Rattle.family_operations.specs.Product.{IsProduct}
-use Rattle.family_operations.specs.Minimal.{IsMinimal}
-use Rattle.family_operations.specs.Due.{IsDueToUnion, IsDueToProduct, IsDueToMinimal, IsDueToVotes}
+use Rattle.zdd_families.specs.Union.{IsUnion}
+use Rattle.zdd_families.specs.Product.{IsProduct}
+use Rattle.zdd_families.specs.Minimal.{IsMinimal}
+use Rattle.zdd_families.specs.Due.{IsDueToUnion, IsDueToProduct, IsDueToMinimal, IsDueToVotes}
 use Rattle.tree_families.specs.Recipe.{Recipe, unions, products, votes, IsMadeBy, alone, node_recipe, StandFor}
 
 -- the next union is the cause, or one after it

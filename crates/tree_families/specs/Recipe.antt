@@ -3,10 +3,10 @@ use Rattle.std.specs.Prelude.{◌≡◌, ℕ, Bool, true, false, List, [], ◌�
 use Rattle.fault_words.specs.declared.kind.GateKind.{GateKind}
 use Rattle.fault_words.specs.declared.kind.GateKind.TheVariants.{And, Or, Votes, Pand, Por, Seq, Fdep, Csp, Wsp, Hsp}
 use Rattle.fault_definitions.specs.Tree.{FaultTree, kind_of, is_above_units}
-use Rattle.family_operations.specs.Union.{IsUnion}
-use Rattle.family_operations.specs.Product.{IsProduct}
-use Rattle.family_operations.specs.Minimal.{IsMinimal}
-use Rattle.family_operations.specs.Votes.{IsVotes}
+use Rattle.zdd_families.specs.Union.{IsUnion}
+use Rattle.zdd_families.specs.Product.{IsProduct}
+use Rattle.zdd_families.specs.Minimal.{IsMinimal}
+use Rattle.zdd_families.specs.Votes.{IsVotes}
 
 -- what is done with given families
 pub data Recipe : Type 0 where

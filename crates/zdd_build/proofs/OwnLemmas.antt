@@ -17,9 +17,9 @@ use Rattle.fault_definitions.specs.Tree.{FaultTree, IsNodeOf, inputs_of, is_abov
 use Rattle.fault_definitions.specs.Tree.{unit_count}
 use Rattle.fault_definitions.specs.Trigger.{below}
 use Rattle.fault_definitions.specs.WellFormed.{IsTree}
-use Rattle.family_operations.specs.Minimal.{IsMinimal}
-use Rattle.family_parts.specs.Antichains.{IsAntichain}
-use Rattle.family_parts.proofs.MinimalParts.{HasLeast, minimal-exists}
+use Rattle.zdd_families.specs.Minimal.{IsMinimal}
+use Rattle.zdd_families.specs.Antichains.{IsAntichain}
+use Rattle.zdd_families.proofs.MinimalParts.{HasLeast, minimal-exists}
 use Rattle.family_memory.specs.Memory.{Gave, Held, Has, RanOut, Went, IsSound, family_in}
 use Rattle.family_memory.proofs.After.{still, still_has}
 use Rattle.many_families.specs.Lists.{families}

@@ -7,7 +7,7 @@ use Rattle.std.proofs.lemmas.List.Elements.{All-nil, All-set}
 use Rattle.fault_definitions.specs.CutFamily.{IsCutFamily}
 use Rattle.fault_definitions.specs.Tree.{FaultTree, IsNodeOf}
 use Rattle.fault_definitions.specs.WellFormed.{IsTree}
-use Rattle.family_operations.specs.Nodes.{IsReached}
+use Rattle.zdd_families.specs.Nodes.{IsReached}
 use Rattle.tree_families.proofs.TreeParts.{cut_family-parts}
 use Rattle.tree_families.specs.Due.{IsDueToTree}
 use Rattle.zdd_shared_table.specs.Seats.{Seated, map_of}

@@ -4,8 +4,8 @@ use Rattle.fault_definitions.specs.CutFamily.{IsCutFamily}
 use Rattle.fault_definitions.specs.Tree.{FaultTree, IsNodeOf, IsUnitOf, is_fdep}
 use Rattle.fault_definitions.specs.Trigger.{below}
 use Rattle.fault_definitions.specs.WellFormed.{IsTree}
-use Rattle.family_operations.specs.Due.{IsDueToMinimal}
-use Rattle.family_operations.specs.Minimal.{IsMinimal}
+use Rattle.zdd_families.specs.Due.{IsDueToMinimal}
+use Rattle.zdd_families.specs.Minimal.{IsMinimal}
 use Rattle.tree_families.proofs.Building.{recipe-cut_family, unit_recipe_is}
 use Rattle.tree_families.specs.Due.{IsDueToRecipe, IsDueToTree, IsDueToUnions, due_to_unions, due_to_end, one_unit}
 use Rattle.tree_families.specs.Recipe.{IsMadeBy, IsUnionOfAll, Recipe, StandFor, alone, node_recipe}

@@ -1,8 +1,8 @@
 -- Steps of a node's recipe that are more than one operation.
 use Rattle.std.specs.Prelude.{◌≡◌, ◌⊎◌, ℕ, List}
-use Rattle.family_operations.specs.Product.{IsProduct}
-use Rattle.family_operations.specs.Minimal.{IsMinimal}
-use Rattle.family_operations.specs.Due.{IsDueToProduct, IsDueToMinimal}
+use Rattle.zdd_families.specs.Product.{IsProduct}
+use Rattle.zdd_families.specs.Minimal.{IsMinimal}
+use Rattle.zdd_families.specs.Due.{IsDueToProduct, IsDueToMinimal}
 use Rattle.tree_families.specs.Due.{IsDueToUnions}
 use Rattle.tree_families.specs.Recipe.{alone}
 

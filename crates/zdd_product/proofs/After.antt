@@ -12,7 +12,7 @@ use Rattle.zdd_families.specs.Family.{branch}
 use Rattle.zdd_families.specs.Map.{Knows, KnowsAs, Grown, family}
 use Rattle.zdd_families.proofs.MapLemmas.{family-empty, Knows-grown}
 use Rattle.zdd_families.proofs.Canonical.{family-grown}
-use Rattle.family_operations.proofs.CutsLemmas.{branch-none}
+use Rattle.zdd_families.proofs.CutsLemmas.{branch-none}
 use Rattle.zdd_shared_table.specs.Seats.{Seated, IsSoundSeat, map_of}
 use Rattle.zdd_product.specs.Seats.{word_family, KnowsOne, FillsDue, MissesDue, Went, WentOn, Gave, WasFull}
 

@@ -4,8 +4,8 @@ use Rattle.std.proofs.lemmas.List.Elements.{All-cons, All-weaker}
 use Rattle.zdd_families.specs.Map.{Knows, IsClosed, Grown, family}
 use Rattle.zdd_families.proofs.MapLemmas.{family-empty, Knows-grown}
 use Rattle.zdd_families.proofs.Canonical.{family-grown}
-use Rattle.family_operations.specs.Without.{IsWithout}
-use Rattle.family_operations.proofs.WithoutLemmas.{without-none}
+use Rattle.zdd_families.specs.Without.{IsWithout}
+use Rattle.zdd_families.proofs.WithoutLemmas.{without-none}
 use Rattle.kept_answers.specs.Kept.{AreKept, first_entry}
 use Rattle.kept_answers.proofs.Keeping.{all_kept}
 use Rattle.zdd_product.specs.Told.{IsTold, IsResult}

@@ -2,9 +2,9 @@
 use Rattle.std.proofs.Common.{◌≡◌, ◌≢◌, ◌⊎◌, ℕ, ◌<◌, ◌≤◌, List, [], sym, ap, subst}
 use Rattle.zdd_families.specs.Map.{Knows, KnowsAs, family, level_in}
 use Rattle.zdd_families.proofs.MapLemmas.{level_in-grown}
-use Rattle.family_operations.specs.Cuts.{Cuts}
-use Rattle.family_operations.specs.Due.{IsInnerFamily}
-use Rattle.family_operations.proofs.References.{IsInnerFamily-reference}
+use Rattle.zdd_families.specs.Cuts.{Cuts}
+use Rattle.zdd_families.specs.Due.{IsInnerFamily}
+use Rattle.zdd_families.proofs.References.{IsInnerFamily-reference}
 use Rattle.zdd_shared_table.specs.Seats.{Seated, IsSoundSeat, map_of}
 use Rattle.zdd_product.specs.declared.halves.Halves.{Halves}
 use Rattle.zdd_product.specs.Halves.{AreHalves}

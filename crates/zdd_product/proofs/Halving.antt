@@ -7,9 +7,9 @@ use Rattle.zdd_families.specs.Map.{Knows, IsClosed, Grown, family, level_in}
 use Rattle.zdd_families.proofs.MapLemmas.{family-empty, level_in-terminal}
 use Rattle.zdd_families.proofs.MapLemmas.{level_in-inner, level_in-grown}
 use Rattle.zdd_families.proofs.Canonical.{family-above, family-filled, level-above, first_unit-family}
-use Rattle.family_operations.specs.Cuts.{Cuts}
-use Rattle.family_operations.proofs.CutsLemmas.{cut_above}
-use Rattle.family_operations.specs.Due.{Splits}
+use Rattle.zdd_families.specs.Cuts.{Cuts}
+use Rattle.zdd_families.proofs.CutsLemmas.{cut_above}
+use Rattle.zdd_families.specs.Due.{Splits}
 use Rattle.zdd_product.specs.declared.halves.Half.{Half}
 use Rattle.zdd_product.specs.declared.halves.Halves.{Halves}
 use Rattle.zdd_product.specs.declared.halves.Split.{Split}

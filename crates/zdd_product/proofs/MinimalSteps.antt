@@ -10,13 +10,13 @@ use Rattle.zdd_families.specs.Map.{Knows, KnowsAs, IsClosed, IsUnique, family, l
 use Rattle.zdd_families.proofs.MapLemmas.{family-empty, family-unit}
 use Rattle.zdd_families.proofs.MapLemmas.{level_in-grown}
 use Rattle.zdd_families.proofs.Canonical.{IsFamily-family, family-same}
-use Rattle.family_operations.specs.Inclusion.{includes_one}
-use Rattle.family_operations.specs.Without.{IsWithout}
-use Rattle.family_operations.proofs.WithoutLemmas.{without-above}
-use Rattle.family_operations.specs.Minimal.{IsMinimal}
-use Rattle.family_operations.proofs.MinimalLemmas.{minimal-none, minimal-unit, minimal-above, minimal-step}
-use Rattle.family_operations.specs.Due.{IsInnerFamily, minimal_itself, minimal_lo, minimal_hi, minimal_rest}
-use Rattle.family_operations.proofs.References.{IsInnerFamily-reference}
+use Rattle.zdd_families.specs.Inclusion.{includes_one}
+use Rattle.zdd_families.specs.Without.{IsWithout}
+use Rattle.zdd_families.proofs.WithoutLemmas.{without-above}
+use Rattle.zdd_families.specs.Minimal.{IsMinimal}
+use Rattle.zdd_families.proofs.MinimalLemmas.{minimal-none, minimal-unit, minimal-above, minimal-step}
+use Rattle.zdd_families.specs.Due.{IsInnerFamily, minimal_itself, minimal_lo, minimal_hi, minimal_rest}
+use Rattle.zdd_families.proofs.References.{IsInnerFamily-reference}
 use Rattle.zdd_shared_table.specs.Seats.{Seated, IsSoundSeat, map_of}
 use Rattle.zdd_product.specs.declared.halves.Half.{Half}
 use Rattle.zdd_product.specs.Due.{IsMadeByMinimal, IsMadeByWithout}

@@ -4,14 +4,14 @@ use Rattle.zdd_families.proofs.FamilyLemmas.{IsFamily-nil}
 use Rattle.zdd_families.specs.Map.{Knows, IsClosed, family}
 use Rattle.zdd_families.proofs.MapLemmas.{family-empty, family-unit}
 use Rattle.zdd_families.proofs.Canonical.{IsFamily-family}
-use Rattle.family_operations.specs.Union.{IsUnion}
-use Rattle.family_operations.proofs.UnionLemmas.{union-none, union-one}
-use Rattle.family_operations.specs.Product.{IsProduct}
-use Rattle.family_operations.proofs.ProductLemmas.{product-none, product-with_none, product-unit, product-with_unit}
-use Rattle.family_operations.proofs.ProductLemmas.{product-one}
-use Rattle.family_operations.specs.Due.{IsInnerFamily, IsDueToProduct, product_both_lo, product_both_hi, product_hi_lo}
-use Rattle.family_operations.specs.Due.{product_lo_hi, product_two, product_three, product_first_lo, product_first_hi}
-use Rattle.family_operations.specs.Due.{product_second_lo, product_second_hi}
+use Rattle.zdd_families.specs.Union.{IsUnion}
+use Rattle.zdd_families.proofs.UnionLemmas.{union-none, union-one}
+use Rattle.zdd_families.specs.Product.{IsProduct}
+use Rattle.zdd_families.proofs.ProductLemmas.{product-none, product-with_none, product-unit, product-with_unit}
+use Rattle.zdd_families.proofs.ProductLemmas.{product-one}
+use Rattle.zdd_families.specs.Due.{IsInnerFamily, IsDueToProduct, product_both_lo, product_both_hi, product_hi_lo}
+use Rattle.zdd_families.specs.Due.{product_lo_hi, product_two, product_three, product_first_lo, product_first_hi}
+use Rattle.zdd_families.specs.Due.{product_second_lo, product_second_hi}
 use Rattle.zdd_product.specs.Due.{IsMadeByProduct, IsMadeByUnion, IsMadeWith, with_both, with_first, with_some}
 use Rattle.zdd_product.specs.Due.{with_second, with_all}
 use Rattle.zdd_product.specs.Halves.{IsHalved}

@@ -4,11 +4,11 @@ use Rattle.std.proofs.lemmas.Result.{MatchResult-weaker}
 use Rattle.zdd_families.specs.Family.{IsAbove}
 use Rattle.zdd_families.specs.Map.{Knows, KnowsAs, family}
 use Rattle.zdd_families.proofs.Canonical.{IsFamily-family}
-use Rattle.family_operations.specs.Union.{IsUnion}
-use Rattle.family_operations.proofs.UnionLemmas.{union-above}
-use Rattle.family_operations.specs.Product.{IsProduct, IsProductOfParts}
-use Rattle.family_operations.proofs.ProductLemmas.{product-above, product-step}
-use Rattle.family_operations.specs.Due.{product_itself}
+use Rattle.zdd_families.specs.Union.{IsUnion}
+use Rattle.zdd_families.proofs.UnionLemmas.{union-above}
+use Rattle.zdd_families.specs.Product.{IsProduct, IsProductOfParts}
+use Rattle.zdd_families.proofs.ProductLemmas.{product-above, product-step}
+use Rattle.zdd_families.specs.Due.{product_itself}
 use Rattle.zdd_shared_table.specs.Seats.{Seated, IsSoundSeat, map_of}
 use Rattle.zdd_product.specs.declared.halves.Half.{Half}
 use Rattle.zdd_product.specs.declared.halves.Halves.{Halves}

@@ -3,10 +3,10 @@ use Rattle.std.proofs.Common.{◌≡◌, ◌≢◌, ◌⊎◌, ℕ, List, [], sy
 use Rattle.zdd_families.specs.Map.{Knows, IsClosed, IsUnique, family}
 use Rattle.zdd_families.proofs.MapLemmas.{family-empty}
 use Rattle.zdd_families.proofs.Canonical.{family-filled, IsFamily-family}
-use Rattle.family_operations.specs.Union.{IsUnion}
-use Rattle.family_operations.proofs.UnionLemmas.{union-none, union-with_none, union-itself}
-use Rattle.family_operations.specs.Due.{GoesOn, IsDueToUnion, union_both_lo, union_both_hi, union_first, union_second}
-use Rattle.family_operations.proofs.References.{different_families}
+use Rattle.zdd_families.specs.Union.{IsUnion}
+use Rattle.zdd_families.proofs.UnionLemmas.{union-none, union-with_none, union-itself}
+use Rattle.zdd_families.specs.Due.{GoesOn, IsDueToUnion, union_both_lo, union_both_hi, union_first, union_second}
+use Rattle.zdd_families.proofs.References.{different_families}
 use Rattle.zdd_product.specs.Due.{IsMadeByUnion}
 use Rattle.zdd_product.specs.Halves.{IsHalved}
 use Rattle.zdd_product.specs.Seats.{KnowsOne}

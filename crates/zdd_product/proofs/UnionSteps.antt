@@ -2,9 +2,9 @@
 use Rattle.std.proofs.Common.{Result, MatchResult, ◌≡◌, ◌≢◌, ℕ, List, sym, subst}
 use Rattle.zdd_families.specs.Family.{IsAbove}
 use Rattle.zdd_families.specs.Map.{Knows, family}
-use Rattle.family_operations.specs.Union.{IsUnion}
-use Rattle.family_operations.proofs.UnionLemmas.{union-above, union-step}
-use Rattle.family_operations.specs.Due.{GoesOn, union_itself}
+use Rattle.zdd_families.specs.Union.{IsUnion}
+use Rattle.zdd_families.proofs.UnionLemmas.{union-above, union-step}
+use Rattle.zdd_families.specs.Due.{GoesOn, union_itself}
 use Rattle.zdd_shared_table.specs.Seats.{Seated, IsSoundSeat, map_of}
 use Rattle.zdd_product.specs.declared.halves.Halves.{Halves}
 use Rattle.zdd_product.specs.Due.{IsMadeByUnion}

@@ -9,11 +9,11 @@ use Rattle.std.proofs.lemmas.List.Elements.{All-head, All-tail}
 use Rattle.zdd_families.specs.Map.{Knows, KnowsAs, Grown, family}
 use Rattle.zdd_families.proofs.MapLemmas.{family-unit}
 use Rattle.zdd_families.proofs.Canonical.{IsFamily-family}
-use Rattle.family_operations.specs.Union.{IsUnion}
-use Rattle.family_operations.specs.Product.{IsProduct}
-use Rattle.family_operations.specs.Votes.{IsVotes}
-use Rattle.family_operations.proofs.VotesLemmas.{no_votes, votes-step}
-use Rattle.family_operations.specs.Due.{IsDueToVotes, votes_product, votes_union}
+use Rattle.zdd_families.specs.Union.{IsUnion}
+use Rattle.zdd_families.specs.Product.{IsProduct}
+use Rattle.zdd_families.specs.Votes.{IsVotes}
+use Rattle.zdd_families.proofs.VotesLemmas.{no_votes, votes-step}
+use Rattle.zdd_families.specs.Due.{IsDueToVotes, votes_product, votes_union}
 use Rattle.zdd_shared_table.specs.Seats.{Seated, IsSoundSeat, map_of}
 use Rattle.zdd_product.specs.Due.{IsMadeByUnion, IsMadeByProduct}
 use Rattle.zdd_product.specs.Seats.{KnowsOne, WentOn, Gave, WasFull}

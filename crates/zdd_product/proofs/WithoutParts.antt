@@ -6,13 +6,13 @@ use Rattle.zdd_families.specs.Map.{Knows, IsClosed, family}
 use Rattle.zdd_families.proofs.MapLemmas.{family-empty, family-unit}
 use Rattle.zdd_families.proofs.Canonical.{IsFamily-family}
 use Rattle.unit_sets.specs.UnitList.{is_within}
-use Rattle.family_operations.specs.Inclusion.{includes_one, Includes}
-use Rattle.family_operations.proofs.InclusionLemmas.{includes_one-above, Includes-from_test}
-use Rattle.family_operations.specs.Without.{IsWithout}
-use Rattle.family_operations.proofs.WithoutLemmas.{without-none, without-nothing, without-unit, without-one}
-use Rattle.family_operations.proofs.WithoutLemmas.{unit-without, unit-without_other}
-use Rattle.family_operations.specs.Due.{IsInnerFamily, IsDueToWithout, without_both_lo, without_both_hi}
-use Rattle.family_operations.specs.Due.{without_both_rest, without_first_lo, without_first_hi, without_second}
+use Rattle.zdd_families.specs.Inclusion.{includes_one, Includes}
+use Rattle.zdd_families.proofs.InclusionLemmas.{includes_one-above, Includes-from_test}
+use Rattle.zdd_families.specs.Without.{IsWithout}
+use Rattle.zdd_families.proofs.WithoutLemmas.{without-none, without-nothing, without-unit, without-one}
+use Rattle.zdd_families.proofs.WithoutLemmas.{unit-without, unit-without_other}
+use Rattle.zdd_families.specs.Due.{IsInnerFamily, IsDueToWithout, without_both_lo, without_both_hi}
+use Rattle.zdd_families.specs.Due.{without_both_rest, without_first_lo, without_first_hi, without_second}
 use Rattle.zdd_product.specs.Due.{IsMadeByWithout}
 use Rattle.zdd_product.specs.Halves.{IsHalved}
 use Rattle.zdd_product.specs.Seats.{KnowsOne}

@@ -4,9 +4,9 @@ use Rattle.std.proofs.Common.{Result, MatchResult, ℕ, ◌<◌, List, sym, subs
 use Rattle.zdd_families.specs.Family.{IsAbove}
 use Rattle.zdd_families.specs.Map.{Knows, family}
 use Rattle.zdd_families.proofs.Canonical.{IsFamily-family, level-above}
-use Rattle.family_operations.specs.Without.{IsWithout}
-use Rattle.family_operations.proofs.WithoutLemmas.{without-above, without-step}
-use Rattle.family_operations.specs.Due.{without_itself}
+use Rattle.zdd_families.specs.Without.{IsWithout}
+use Rattle.zdd_families.proofs.WithoutLemmas.{without-above, without-step}
+use Rattle.zdd_families.specs.Due.{without_itself}
 use Rattle.zdd_shared_table.specs.Seats.{Seated, map_of}
 use Rattle.zdd_product.specs.declared.halves.Halves.{Halves}
 use Rattle.zdd_product.specs.Due.{IsMadeByWithout}

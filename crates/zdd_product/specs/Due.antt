@@ -1,9 +1,9 @@
 -- What an operation makes that is no end of its recursion. An end makes nothing, since its result was given.
 use Rattle.std.specs.Prelude.{ℕ, List}
-use Rattle.family_operations.specs.Union.{IsUnion}
-use Rattle.family_operations.specs.Product.{IsProduct}
-use Rattle.family_operations.specs.Due.{GoesOn, IsInnerFamily, IsDueToUnion, IsDueToProduct, IsDueToWithout}
-use Rattle.family_operations.specs.Due.{IsDueToMinimal}
+use Rattle.zdd_families.specs.Union.{IsUnion}
+use Rattle.zdd_families.specs.Product.{IsProduct}
+use Rattle.zdd_families.specs.Due.{GoesOn, IsInnerFamily, IsDueToUnion, IsDueToProduct, IsDueToWithout}
+use Rattle.zdd_families.specs.Due.{IsDueToMinimal}
 
 -- a family that the union of f and g makes on its way, where it is no end
 abbrev pub IsMadeByUnion : List (List ℕ) → List (List ℕ) → List (List ℕ) → Type 0

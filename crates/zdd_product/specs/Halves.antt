@@ -3,7 +3,7 @@ use Rattle.std.specs.Prelude.{◌≡◌, ◌⊎◌, ℕ, ◌<◌, List, []}
 use Rattle.unit_sets.specs.Unit.{IsUnit}
 use Rattle.zdd_families.specs.Family.{IsAbove}
 use Rattle.zdd_families.specs.Map.{Knows, family, level_in}
-use Rattle.family_operations.specs.Due.{Splits}
+use Rattle.zdd_families.specs.Due.{Splits}
 use Rattle.zdd_product.specs.declared.halves.Half.{Half}
 use Rattle.zdd_product.specs.declared.halves.Halves.{Halves}
 

@@ -1,10 +1,10 @@
 -- What the kept entries say, over a map of references.
 use Rattle.std.specs.Prelude.{ℕ, List}
 use Rattle.zdd_families.specs.Map.{Knows, family}
-use Rattle.family_operations.specs.Union.{IsUnion}
-use Rattle.family_operations.specs.Product.{IsProduct}
-use Rattle.family_operations.specs.Without.{IsWithout}
-use Rattle.family_operations.specs.Minimal.{IsMinimal}
+use Rattle.zdd_families.specs.Union.{IsUnion}
+use Rattle.zdd_families.specs.Product.{IsProduct}
+use Rattle.zdd_families.specs.Without.{IsWithout}
+use Rattle.zdd_families.specs.Minimal.{IsMinimal}
 use Rattle.kept_answers.specs.declared.answers.Operation.{Operation}
 use Rattle.kept_answers.specs.declared.answers.Operation.TheVariants.{Union, Product, Without, Minimal}
 use Rattle.kept_answers.specs.declared.answers.Entry.{Entry}

@@ -1,7 +1,7 @@
 -- Votes over a list of references, member by member.
 use Rattle.std.specs.Prelude.{ℕ, suc, ◌+◌, ◌<◌, ◌≤◌, List, map, take, slice_index}
 use Rattle.zdd_families.specs.Map.{family}
-use Rattle.family_operations.specs.Votes.{IsVotes}
+use Rattle.zdd_families.specs.Votes.{IsVotes}
 use Rattle.zdd_product.specs.Seats.{KnowsOne}
 
 -- the families of a list of references

@@ -1,8 +1,8 @@
 //! The minimal sets of a family.
 ghost use Rattle.std.specs.Prelude.{◌≡◌, ◌≤◌, List, ℕ, IfErr, IfOk, MatchResult};
-ghost use Rattle.family_operations.specs.Due.{IsDueToMinimal};
-ghost use Rattle.family_operations.specs.Minimal.{IsMinimal};
-ghost use Rattle.family_operations.specs.Without.{IsWithout};
+ghost use Rattle.zdd_families.specs.Due.{IsDueToMinimal};
+ghost use Rattle.zdd_families.specs.Minimal.{IsMinimal};
+ghost use Rattle.zdd_families.specs.Without.{IsWithout};
 ghost use Rattle.zdd_families.specs.Map.{Knows, family};
 ghost use Rattle.zdd_shared_table.specs.Seats.{map_of};
 ghost use Rattle.zdd_product.specs.Due.{IsMadeByMinimal, IsMadeByWithout};

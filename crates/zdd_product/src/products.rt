@@ -1,7 +1,7 @@
 //! The product of two families.
 ghost use Rattle.std.specs.Prelude.{◌≡◌, ◌≤◌, ◌⊎◌, IfErr, IfOk, MatchOption, MatchResult};
-ghost use Rattle.family_operations.specs.Due.{IsDueToProduct};
-ghost use Rattle.family_operations.specs.Product.{IsProduct};
+ghost use Rattle.zdd_families.specs.Due.{IsDueToProduct};
+ghost use Rattle.zdd_families.specs.Product.{IsProduct};
 ghost use Rattle.zdd_families.specs.Map.{Knows, family};
 ghost use Rattle.zdd_shared_table.specs.Seats.{map_of};
 ghost use Rattle.zdd_product.specs.Due.{IsMadeByProduct, IsMadeWith, IsProductWith};

@@ -1,7 +1,7 @@
 //! The union of two families.
 ghost use Rattle.std.specs.Prelude.{◌≡◌, ◌≢◌, ◌⊎◌, IfErr, IfOk, MatchOption, MatchResult};
-ghost use Rattle.family_operations.specs.Due.{IsDueToUnion};
-ghost use Rattle.family_operations.specs.Union.{IsUnion};
+ghost use Rattle.zdd_families.specs.Due.{IsDueToUnion};
+ghost use Rattle.zdd_families.specs.Union.{IsUnion};
 ghost use Rattle.zdd_families.specs.Map.{Knows, family};
 ghost use Rattle.zdd_shared_table.specs.Seats.{map_of};
 ghost use Rattle.zdd_product.specs.Due.{IsMadeByUnion};

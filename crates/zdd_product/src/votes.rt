@@ -1,8 +1,8 @@
 //! Votes over a list of families.
 ghost use Rattle.std.specs.Prelude.{◌≡◌, ◌+◌, ◌-◌, ◌<◌, ◌≤◌, ℕ, ◌==◌, if◌then◌else◌, All, IfErr, IfOk, MatchResult};
 ghost use Rattle.std.specs.Prelude.{length, slice_index};
-ghost use Rattle.family_operations.specs.Due.{IsDueToVotes};
-ghost use Rattle.family_operations.specs.Votes.{IsVotes};
+ghost use Rattle.zdd_families.specs.Due.{IsDueToVotes};
+ghost use Rattle.zdd_families.specs.Votes.{IsVotes};
 ghost use Rattle.zdd_families.specs.Map.{Knows, family};
 ghost use Rattle.zdd_shared_table.specs.Seats.{map_of};
 ghost use Rattle.zdd_product.specs.Seats.{Gave, WasFull, WentOn};

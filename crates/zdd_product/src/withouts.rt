@@ -1,8 +1,8 @@
 //! What is left of a family without the sets that include a set of another.
 ghost use Rattle.std.specs.Prelude.{◌≡◌, ◌≤◌, ◌⊎◌, [], ◌∷◌, IfErr, IfOk, MatchOption, MatchResult};
-ghost use Rattle.family_operations.specs.Due.{IsDueToWithout};
-ghost use Rattle.family_operations.specs.Inclusion.{includes_one};
-ghost use Rattle.family_operations.specs.Without.{IsWithout};
+ghost use Rattle.zdd_families.specs.Due.{IsDueToWithout};
+ghost use Rattle.zdd_families.specs.Inclusion.{includes_one};
+ghost use Rattle.zdd_families.specs.Without.{IsWithout};
 ghost use Rattle.zdd_families.specs.Map.{Knows, family};
 ghost use Rattle.zdd_shared_table.specs.Seats.{map_of};
 ghost use Rattle.zdd_product.specs.Due.{IsMadeByWithout};

@@ -1,6 +1,6 @@
 use Rattle.std.proofs.Common.{◌+◌, ◌≤◌, ◌∙◌, refl, sym, ap, subst, inr, arith, length}
-use Rattle.family_operations.specs.Nodes.{IsNodeCount}
-use Rattle.family_operations.proofs.NodesLemmas.{node_count-references}
+use Rattle.zdd_families.specs.Nodes.{IsNodeCount}
+use Rattle.zdd_families.proofs.NodesLemmas.{node_count-references}
 use Rattle.zdd_families.specs.Map.{family}
 use Rattle.zdd_shared_table.specs.Seats.{map_of}
 use Rattle.cutset_listing.specs.Nodes.{with_node}

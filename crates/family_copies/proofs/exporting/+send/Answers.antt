@@ -1,6 +1,6 @@
 use Rattle.std.proofs.Common.{◌<◌, arith}
 use Rattle.std.proofs.lemmas.Result.{err_from_is_err_and}
-use Rattle.family_operations.specs.Nodes.{IsReached}
+use Rattle.zdd_families.specs.Nodes.{IsReached}
 use Rattle.family_memory.specs.Memory.{family_in, map_of as own_map}
 use Rattle.zdd_shared_table.specs.Seats.{map_of}
 use Rattle.family_copies.proofs.Parting.{levels_above}

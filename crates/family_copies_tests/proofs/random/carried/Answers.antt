@@ -1,5 +1,5 @@
 use Rattle.std.proofs.Common.{rules, sym, subst}
-use Rattle.family_parts.specs.Antichains.{IsAntichain}
+use Rattle.zdd_families.specs.Antichains.{IsAntichain}
 use Rattle.family_memory.specs.Memory.{Has}
 use Rattle.family_copies_tests.proofs.random.carried.Goals as goal
 

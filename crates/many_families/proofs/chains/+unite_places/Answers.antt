@@ -1,7 +1,7 @@
 use Rattle.std.proofs.Common.{◌++◌, ◌∙◌, arith, drop, subst}
 use Rattle.std.proofs.lemmas.List.{length-take-le}
 use Rattle.std.proofs.lemmas.Slice.{drop-append-drop}
-use Rattle.minimal_families.specs.Least.{IsLeastOfAll, IsLeastUnion}
+use Rattle.zdd_families.specs.Least.{IsLeastOfAll, IsLeastUnion}
 use Rattle.family_memory.specs.Memory.{Gave, family_in}
 use Rattle.family_memory.proofs.After.{answers_of}
 use Rattle.many_families.specs.Lists.{families}

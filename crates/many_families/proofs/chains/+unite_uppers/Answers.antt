@@ -1,7 +1,7 @@
 use Rattle.std.proofs.Common.{◌≡◌, ◌∙◌, ◌/◌, get_or, length, arith, subst, sym}
 use Rattle.std.proofs.lemmas.Bool.{eqb-true}
 use Rattle.std.proofs.lemmas.List.{get_or_read}
-use Rattle.minimal_families.specs.Least.{IsLeastOfAll, IsLeastUnion}
+use Rattle.zdd_families.specs.Least.{IsLeastOfAll, IsLeastUnion}
 use Rattle.family_memory.specs.Memory.{Gave, family_in}
 use Rattle.family_memory.proofs.After.{answers_of}
 use Rattle.minimal_operations.specs.Halves.{IsHalf}

@@ -1,6 +1,6 @@
 use Rattle.std.proofs.Common.{◌/◌, length, subst}
 use Rattle.std.proofs.lemmas.Result.{MatchResult-from_both}
-use Rattle.minimal_families.specs.Least.{IsLeastOfAll}
+use Rattle.zdd_families.specs.Least.{IsLeastOfAll}
 use Rattle.family_memory.specs.Memory.{Gave}
 use Rattle.minimal_operations.proofs.Answering.{gives_of, spent_of}
 use Rattle.minimal_operations.proofs.Steps.{failed}

@@ -1,6 +1,6 @@
 use Rattle.std.proofs.Common.{◌≡◌, get_or, arith}
 use Rattle.std.proofs.lemmas.List.{get_or_read}
-use Rattle.minimal_families.specs.Least.{IsLeastProductOfAll}
+use Rattle.zdd_families.specs.Least.{IsLeastProductOfAll}
 use Rattle.family_memory.proofs.After.{Went-nowhere}
 use Rattle.minimal_operations.proofs.Answering.{spent_of}
 use Rattle.minimal_operations.proofs.Steps.{failed}

@@ -1,5 +1,5 @@
 use Rattle.std.proofs.Common.{take}
-use Rattle.minimal_families.specs.Least.{IsLeastProductOfAll}
+use Rattle.zdd_families.specs.Least.{IsLeastProductOfAll}
 use Rattle.family_memory.specs.Memory.{Has, Went, family_in}
 use Rattle.many_families.specs.Lists.{families}
 use Rattle.many_families.proofs.many.product_of_all.Given as goal

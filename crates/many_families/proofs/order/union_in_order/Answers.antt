@@ -1,5 +1,5 @@
 use Rattle.std.proofs.lemmas.List.Sorted.{All-permutation}
-use Rattle.minimal_families.specs.Least.{IsLeastOfAll}
+use Rattle.zdd_families.specs.Least.{IsLeastOfAll}
 use Rattle.family_memory.specs.Memory.{Has}
 use Rattle.many_families.specs.Lists.{families}
 use Rattle.minimal_operations.proofs.Answering.{gives_of, spent_of}

@@ -1,6 +1,6 @@
 use Rattle.std.proofs.lemmas.Result.{IfOk-weaker}
-use Rattle.minimal_families.specs.Least.{IsLeastProduct}
-use Rattle.minimal_families.proofs.Ends.{least_product-swap}
+use Rattle.zdd_families.specs.Least.{IsLeastProduct}
+use Rattle.zdd_families.proofs.Ends.{least_product-swap}
 use Rattle.family_memory.specs.Memory.{Gave, family_in}
 use Rattle.many_families.proofs.splitting.product_by_splitting.Goals as goal
 

@@ -1,7 +1,7 @@
 use Rattle.std.proofs.Common.{arith}
 use Rattle.std.proofs.lemmas.Result.{MatchResult-from_both}
-use Rattle.minimal_families.specs.Least.{IsLeastProduct}
-use Rattle.minimal_families.proofs.Ends.{least_product-swap}
+use Rattle.zdd_families.specs.Least.{IsLeastProduct}
+use Rattle.zdd_families.proofs.Ends.{least_product-swap}
 use Rattle.kept_answers.specs.declared.answers.Operation.TheVariants.{Product}
 use Rattle.minimal_operations.proofs.Telling.{kept, recalled, told_made}
 use Rattle.minimal_operations.proofs.Steps.{failed, higher_lo_fewer, los_fewer}

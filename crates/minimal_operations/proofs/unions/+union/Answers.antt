@@ -1,6 +1,6 @@
 use Rattle.std.proofs.Common.{arith}
-use Rattle.minimal_families.specs.Least.{IsLeastUnion}
-use Rattle.minimal_families.proofs.Ends.{least_union-swap}
+use Rattle.zdd_families.specs.Least.{IsLeastUnion}
+use Rattle.zdd_families.proofs.Ends.{least_union-swap}
 use Rattle.kept_answers.specs.declared.answers.Operation.TheVariants.{Union}
 use Rattle.minimal_operations.proofs.Telling.{kept, recalled, told_made}
 use Rattle.minimal_operations.proofs.Steps.{failed, higher_lo_fewer, los_fewer}

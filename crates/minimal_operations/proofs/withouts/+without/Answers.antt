@@ -1,5 +1,5 @@
 use Rattle.std.proofs.Common.{ℕ, List, subst, arith}
-use Rattle.family_operations.specs.Without.{IsWithout}
+use Rattle.zdd_families.specs.Without.{IsWithout}
 use Rattle.family_memory.specs.Memory.{family_in}
 use Rattle.family_memory.proofs.After.{Gave-there, Went-nowhere, ended}
 use Rattle.kept_answers.specs.declared.answers.Operation.TheVariants.{Without}

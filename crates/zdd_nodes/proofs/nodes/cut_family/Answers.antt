@@ -1,6 +1,6 @@
 use Rattle.std.proofs.lemmas.Result.{MatchResult-from_both}
-use Rattle.family_operations.specs.Due.{IsDueToMinimal}
-use Rattle.family_operations.specs.Minimal.{IsMinimal}
+use Rattle.zdd_families.specs.Due.{IsDueToMinimal}
+use Rattle.zdd_families.specs.Minimal.{IsMinimal}
 use Rattle.fault_definitions.specs.CutFamily.{IsCutFamily}
 use Rattle.fault_definitions.specs.Trigger.{below}
 use Rattle.tree_families.specs.Due.{IsDueToTree}

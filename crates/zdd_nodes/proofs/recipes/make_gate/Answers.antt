@@ -1,8 +1,8 @@
 use Rattle.std.proofs.Common.{◌≡◌, ◌-◌, true, [], ◌∷◌, get_or, drop, take, length, sym, ◌∙◌, ap, subst, inl, arith}
 use Rattle.std.proofs.lemmas.List.{get_or_read}
 use Rattle.std.proofs.lemmas.Result.{MatchResult-from_both}
-use Rattle.family_operations.specs.Due.{IsDueToVotes}
-use Rattle.family_operations.specs.Votes.{IsVotes}
+use Rattle.zdd_families.specs.Due.{IsDueToVotes}
+use Rattle.zdd_families.specs.Votes.{IsVotes}
 use Rattle.tree_families.specs.Due.{IsDueToProducts, IsDueToRecipe, IsDueToUnions, due_to_products, due_to_unions}
 use Rattle.tree_families.specs.Due.{due_to_votes}
 use Rattle.tree_families.proofs.NodeSteps.{needs_all_recipe}

@@ -1,8 +1,8 @@
 use Rattle.std.proofs.Common.{◌≡◌, get_or, arith}
 use Rattle.std.proofs.lemmas.List.{get_or_read}
 use Rattle.std.proofs.lemmas.Result.{err_from_is_err_and}
-use Rattle.family_operations.specs.Due.{IsDueToUnion}
-use Rattle.family_operations.specs.Union.{IsUnion}
+use Rattle.zdd_families.specs.Due.{IsDueToUnion}
+use Rattle.zdd_families.specs.Union.{IsUnion}
 use Rattle.tree_families.specs.Due.{IsDueToUnions}
 use Rattle.tree_families.proofs.DueSteps.{unions-more, due-to_next_union}
 use Rattle.tree_families.specs.Recipe.{IsUnionOfAll}

@@ -1,6 +1,6 @@
 use Rattle.std.proofs.lemmas.Result.{MatchResult-from_both, err_from_is_err_and}
-use Rattle.family_operations.specs.Due.{IsDueToMinimal, IsDueToProduct}
-use Rattle.family_operations.specs.Minimal.{IsMinimal}
+use Rattle.zdd_families.specs.Due.{IsDueToMinimal, IsDueToProduct}
+use Rattle.zdd_families.specs.Minimal.{IsMinimal}
 use Rattle.zdd_families.specs.Map.{family}
 use Rattle.zdd_shared_table.specs.Seats.{map_of}
 use Rattle.zdd_product.specs.Seats.{Gave, WasFull}

@@ -1,6 +1,6 @@
 use Rattle.std.proofs.Common.{ℕ, ◌<◌, inl, arith}
 use Rattle.std.proofs.lemmas.Result.{err_from_is_err_and}
-use Rattle.family_operations.specs.Minimal.{IsMinimal}
+use Rattle.zdd_families.specs.Minimal.{IsMinimal}
 use Rattle.zdd_families.specs.Map.{family}
 use Rattle.zdd_shared_table.specs.Seats.{map_of}
 use Rattle.kept_answers.specs.declared.answers.Operation.TheVariants.{Minimal}

@@ -1,7 +1,7 @@
 use Rattle.std.proofs.Common.{ℕ, ◌≢◌, sym, subst, inl, arith}
 use Rattle.std.proofs.lemmas.Grind.{common_steps}
 use Rattle.std.proofs.lemmas.Result.{err_from_is_err_and}
-use Rattle.family_operations.specs.Without.{IsWithout}
+use Rattle.zdd_families.specs.Without.{IsWithout}
 use Rattle.zdd_families.specs.Map.{family}
 use Rattle.zdd_shared_table.specs.Seats.{Seated, map_of}
 use Rattle.kept_answers.specs.declared.answers.Operation.TheVariants.{Without}

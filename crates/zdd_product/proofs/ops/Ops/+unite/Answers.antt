@@ -1,7 +1,7 @@
 use Rattle.std.proofs.Common.{ℕ, ◌≢◌, ◌⊎◌, ◌≤◌, arith}
 use Rattle.std.proofs.lemmas.Result.{err_from_is_err_and}
-use Rattle.family_operations.specs.Due.{GoesOn}
-use Rattle.family_operations.specs.Union.{IsUnion}
+use Rattle.zdd_families.specs.Due.{GoesOn}
+use Rattle.zdd_families.specs.Union.{IsUnion}
 use Rattle.zdd_families.specs.Map.{family}
 use Rattle.zdd_shared_table.specs.Seats.{map_of}
 use Rattle.kept_answers.specs.declared.answers.Operation.TheVariants.{Union}

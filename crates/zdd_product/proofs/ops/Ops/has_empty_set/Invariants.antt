@@ -1,5 +1,5 @@
 use Rattle.std.proofs.Common.{◌≡◌, ◌-◌, []}
-use Rattle.family_operations.specs.Inclusion.{includes_one}
+use Rattle.zdd_families.specs.Inclusion.{includes_one}
 use Rattle.zdd_families.specs.Map.{Knows, family, level_in}
 use Rattle.zdd_shared_table.specs.Seats.{map_of}
 use Rattle.zdd_product.proofs.ops.Ops.has_empty_set.Given as goal

@@ -1,5 +1,5 @@
-use Rattle.family_operations.specs.Due.{IsDueToMinimal}
-use Rattle.family_operations.specs.Minimal.{IsMinimal}
+use Rattle.zdd_families.specs.Due.{IsDueToMinimal}
+use Rattle.zdd_families.specs.Minimal.{IsMinimal}
 use Rattle.zdd_families.specs.Map.{family}
 use Rattle.zdd_shared_table.specs.Seats.{map_of}
 use Rattle.zdd_product.specs.Due.{IsMadeByMinimal}

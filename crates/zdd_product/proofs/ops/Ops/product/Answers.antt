@@ -1,5 +1,5 @@
-use Rattle.family_operations.specs.Due.{IsDueToProduct}
-use Rattle.family_operations.specs.Product.{IsProduct}
+use Rattle.zdd_families.specs.Due.{IsDueToProduct}
+use Rattle.zdd_families.specs.Product.{IsProduct}
 use Rattle.zdd_families.specs.Map.{family}
 use Rattle.zdd_shared_table.specs.Seats.{map_of}
 use Rattle.zdd_product.specs.Due.{IsMadeByProduct}

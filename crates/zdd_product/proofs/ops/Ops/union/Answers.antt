@@ -1,5 +1,5 @@
-use Rattle.family_operations.specs.Due.{IsDueToUnion}
-use Rattle.family_operations.specs.Union.{IsUnion}
+use Rattle.zdd_families.specs.Due.{IsDueToUnion}
+use Rattle.zdd_families.specs.Union.{IsUnion}
 use Rattle.zdd_families.specs.Map.{family}
 use Rattle.zdd_shared_table.specs.Seats.{map_of}
 use Rattle.zdd_product.specs.Due.{IsMadeByUnion}

@@ -1,5 +1,5 @@
 use Rattle.std.proofs.Common.{All, ◌≤◌, length}
-use Rattle.family_operations.specs.Due.{IsDueToVotes}
+use Rattle.zdd_families.specs.Due.{IsDueToVotes}
 use Rattle.zdd_families.specs.Map.{Knows}
 use Rattle.zdd_shared_table.specs.Seats.{map_of}
 use Rattle.zdd_product.specs.Seats.{WentOn}

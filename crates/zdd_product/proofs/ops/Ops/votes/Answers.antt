@@ -3,8 +3,8 @@ use Rattle.std.proofs.Math.Seq.{take-length}
 use Rattle.std.proofs.lemmas.List.{get_or_read, length-map}
 use Rattle.zdd_families.specs.Map.{Knows, family}
 use Rattle.zdd_families.proofs.MapLemmas.{family-empty}
-use Rattle.family_operations.specs.Votes.{IsVotes}
-use Rattle.family_operations.proofs.VotesLemmas.{no_more_votes}
+use Rattle.zdd_families.specs.Votes.{IsVotes}
+use Rattle.zdd_families.proofs.VotesLemmas.{no_more_votes}
 use Rattle.zdd_shared_table.specs.Seats.{map_of}
 use Rattle.zdd_product.specs.Seats.{KnowsOne}
 use Rattle.zdd_product.specs.Voting.{families}

@@ -1,5 +1,5 @@
-use Rattle.family_operations.specs.Due.{IsDueToWithout}
-use Rattle.family_operations.specs.Without.{IsWithout}
+use Rattle.zdd_families.specs.Due.{IsDueToWithout}
+use Rattle.zdd_families.specs.Without.{IsWithout}
 use Rattle.zdd_families.specs.Map.{family}
 use Rattle.zdd_shared_table.specs.Seats.{map_of}
 use Rattle.zdd_product.specs.Due.{IsMadeByWithout}

@@ -1,7 +1,0 @@
--- Families in which no set includes another.
-use Rattle.std.specs.Prelude.{ℕ, List}
-use Rattle.family_operations.specs.Minimal.{IsMinimal}
-
--- its minimal sets are all of its sets
-abbrev pub IsAntichain : List (List ℕ) → Type 0
-IsAntichain f = IsMinimal f f

@@ -1,5 +1,0 @@
-use Rattle.minimal_families.proofs.LeastLemmas.{minimal-from_within, IsLeastFor-minimal}
-use Rattle.minimal_families.proofs.laws.minimal_sets_by_sets_within.Goals as goal
-
-pub returns : goal.returns
-returns c = λ f least is_family. (minimal-from_within f least is_family, IsLeastFor-minimal f least is_family)

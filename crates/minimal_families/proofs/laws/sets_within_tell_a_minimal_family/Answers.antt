@@ -1,7 +1,0 @@
-use Rattle.unit_sets.specs.UnitList.{some_within}
-use Rattle.minimal_families.proofs.LeastLemmas.{least-one, IsLeastFor-itself}
-use Rattle.minimal_families.proofs.laws.sets_within_tell_a_minimal_family.Goals as goal
-
-pub returns : goal.returns
-returns c = λ f g is is' same. least-one (some_within g) f g (record { antichain = is; some_within = same })
-    (IsLeastFor-itself g is')

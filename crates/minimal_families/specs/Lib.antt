@@ -1,4 +1,0 @@
-pub mod Least
-pub mod Nodes
-pub mod Steps
-pub mod Units
