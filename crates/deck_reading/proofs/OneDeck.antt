@@ -20,8 +20,8 @@ use Rattle.deck_reading.specs.declared.fault.FaultCode.{FaultCode}
 use Rattle.deck_reading.specs.declared.fault.FaultCode.TheVariants.{Check, Crew as of_crews}
 use Rattle.deck_reading.specs.declared.deck.CrewPart.{CrewPart}
 use Rattle.deck_reading.specs.Deck.{StandsFor, crew_part, tree_part}
-use Rattle.deck_reading.specs.Faults.{IsDeckFault, IsFaultOf, IsTreeFault, IsWellFormed, LacksCrews, bad_crews, bad_tree}
-use Rattle.deck_reading.specs.Faults.{crews_read, crews_said, no_crews}
+use Rattle.deck_reading.specs.Faults.{IsDeckFault, IsFaultOf, IsTreeFault, IsWellFormed, LacksCrews, bad_crews}
+use Rattle.deck_reading.specs.Faults.{bad_tree, crews_read, crews_said, no_crews}
 
 -- ---- the tree part
 

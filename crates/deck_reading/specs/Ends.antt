@@ -1,5 +1,5 @@
--- Why the reading of a deck, or of a part of it, ends without one: by a fault, or for want of memory, for which no cause
--- is owed.
+-- Why the reading of a deck, or of a part of it, ends without one: by a fault, or for want of memory, for which no
+-- cause is owed.
 use Rattle.std.specs.Prelude.{◌≡◌, ◌⊎◌, ℕ, List, Result, Err}
 use Rattle.fault_definitions.specs.Tree.{FaultTree}
 use Rattle.fault_words.specs.declared.place.Place.{Place}

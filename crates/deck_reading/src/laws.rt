@@ -38,8 +38,8 @@ pub fn a_deck_is_read_one_way()
 }
 
 /// What the tree part of a deck is read as, the tree that a deck stands for, and the first fault of its tree part are
-/// what the relations between whole lists say: of the line that divides it, of tokens, of statements, and of the tree of
-/// statements. And so are the crews of its crew part, or the first line's fault.
+/// what the relations between whole lists say: of the line that divides it, of tokens, of statements, and of the tree
+/// of statements. And so are the crews of its crew part, or the first line's fault.
 pub fn decks_are_read_by_relations()
     ensures read { (bytes : List ℕ) (read : Result ReadTree ParseFault)
         → (parsed_text (tree_part bytes) ≡ read) ↔ IsReadAs bytes read }
