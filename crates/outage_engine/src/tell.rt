@@ -1,6 +1,6 @@
 //! Writing an answer.
-ghost use Rattle.std.specs.Prelude.{◌≡◌, ◌++◌, [], is_err};
-ghost use Rattle.edge_io.specs.Out.{has_failed, Puts};
+ghost use Rattle.std.specs.Prelude.{◌≡◌, ℕ, List, ◌++◌, [], false, is_err};
+ghost use Rattle.edge_io.specs.Out.{has_failed, sink_of, waiting, Output, Puts};
 ghost use Rattle.board_texts.specs.BoardText.{IsDeckOf, board_text};
 ghost use Rattle.board_report.specs.CheckText.{check_text};
 ghost use Rattle.outage_engine.specs.Answers.{HasOrders, IsOfUnits, IsWritable, listing_text, refusal_line};
@@ -31,6 +31,15 @@ pub(crate) fn tell<K: Sink>(sink: &mut K, buffer: Buffer, answer: Answer) -> Sta
     // A failed output fails again where it is finished.
     let _ = put_answer(&mut out, &answer);
     drop(answer);
+    finish(out, status)
+}
+
+// Finishes an output that was new before a text was put, and tells how the run ends: so, unless the sink failed.
+fn finish<K: Sink>(out: Out<K>, status: Status) -> Status
+    ensures told { (new : Output K) (text : List ℕ) → waiting new ≡ [] → has_failed new ≡ false
+        → Puts K.taken K.faults new out.entry text
+        → Tells K.taken K.faults (sink_of new) out.exit.0.now status text result }
+{
     match out.finish() {
         Ok(()) => status,
         Err(_) => Status::WriteFault,
@@ -131,10 +140,7 @@ pub(crate) fn tell_board<K: Sink>(
     let mut out = Out::over(sink, buffer);
     // A failed output fails again where it is finished.
     let _ = put_listing_and_board(&mut out, listing, state);
-    match out.finish() {
-        Ok(()) => Status::Done(listing.method()),
-        Err(_) => Status::WriteFault,
-    }
+    finish(out, Status::Done(listing.method()))
 }
 
 fn put_listing_and_board<K: Sink>(
