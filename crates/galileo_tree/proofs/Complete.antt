@@ -1,8 +1,9 @@
 -- The spelling of statements is read as these statements, and each row of what may stand next is reached.
-use Rattle.std.proofs.Common.{◌≡◌, ℕ, Bool, true, false, List, [], ◌∷◌, ◌++◌, Result, Ok, Err, Option, Some, None, refl}
+use Rattle.std.proofs.Common.{◌≡◌, ℕ, true, false, List, [], ◌∷◌, ◌++◌, Result, Ok, Err, Option, Some, None, refl}
 use Rattle.std.proofs.Common.{sym, ap, ◌∙◌, append_assoc}
-use Rattle.std.specs.Prelude.{map, ◌&&◌}
+use Rattle.std.specs.Prelude.{map}
 use Rattle.std.specs.List.{list_all, flat_map}
+use Rattle.std.proofs.lemmas.Bool.{and_parts}
 use Rattle.std.proofs.lemmas.List.{append-nil}
 use Rattle.fault_words.specs.declared.kind.GateKind.{GateKind}
 use Rattle.fault_words.specs.declared.place.Place.{Place}
@@ -49,14 +50,6 @@ pub stop_run : (state : State) (lexeme : Lexeme) (rest : List Lexeme) (ending : 
 stop_run state lexeme rest ending does =
     ap (λ s. proceed s (Expected (expected state) lexeme.place) (λ next. parsed next rest ending)) does
 
-and_left : (a b : Bool) → (a && b) ≡ true → a ≡ true
-and_left true b both = refl
-and_left false b both = both
-
-and_right : (a b : Bool) → (a && b) ≡ true → b ≡ true
-and_right true b both = both
-and_right false b both = absurd (cc)
-
 -- the first lexemes of each statement
 pub top_word_run : (word : Lexeme) (rest : List Lexeme) (ending : Ending) → is_top_word word ≡ true →
     parsed Outside (word ∷ rest) ending ≡ parsed (TopWord word.place) rest ending
@@ -87,11 +80,11 @@ inputs_more : (name : Placed) (word : Place) (kind : GateKind) (before : List Pl
 inputs_more name word kind before [] rest ending each =
     ap (λ all. parsed (Inputs name word kind all) rest ending) (sym (append-nil before))
 inputs_more name word kind before (input ∷ inputs) rest ending each =
-    let named = and_left (is_name input) _ each in
+    let named = (and_parts (is_name input) _ each).0 in
     on_run (Inputs name word kind before) (Inputs name word kind (before ++ placed input ∷ [])) input (inputs ++ rest)
     ending
     (rw (name_alone input named, named) refl)
-    ∙ inputs_more name word kind (before ++ placed input ∷ []) inputs rest ending (and_right (is_name input) _ each)
+    ∙ inputs_more name word kind (before ++ placed input ∷ []) inputs rest ending (and_parts (is_name input) _ each).1
     ∙ ap (λ all. parsed (Inputs name word kind all) rest ending)
     (append_assoc before (placed input ∷ []) (map placed inputs))
 
@@ -105,10 +98,10 @@ pub inputs_run : (name : Placed) (word : Lexeme) (kind : GateKind) (inputs rest 
     parsed (GateWord name word kind) (inputs ++ rest) ending ≡ parsed (inputs_state name word kind inputs) rest ending
 inputs_run name word kind [] rest ending each = refl
 inputs_run name word kind (input ∷ inputs) rest ending each =
-    let named = and_left (is_name input) _ each in
+    let named = (and_parts (is_name input) _ each).0 in
     on_run (GateWord name word kind) (Inputs name word.place kind (placed input ∷ [])) input (inputs ++ rest) ending
     (rw (name_alone input named, named) refl)
-    ∙ inputs_more name word.place kind (placed input ∷ []) inputs rest ending (and_right (is_name input) _ each)
+    ∙ inputs_more name word.place kind (placed input ∷ []) inputs rest ending (and_parts (is_name input) _ each).1
 
 inputs_close : (name : Placed) (word : Lexeme) (kind : GateKind) (inputs : List Lexeme) (close : Lexeme)
     → is_semicolon close ≡ true →

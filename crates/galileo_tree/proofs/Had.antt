@@ -1,9 +1,12 @@
 -- What the open statement has had in each state, and what a further lexeme makes of it.
-use Rattle.std.proofs.Common.{◌≡◌, ℕ, Bool, true, false, List, [], ◌∷◌, ◌++◌, Option, Some, None, refl, sym, ap, ◌∙◌}
+use Rattle.std.proofs.Common.{◌≡◌, ℕ, true, List, [], ◌∷◌, ◌++◌, Option, Some, None, refl, sym, ap, ◌∙◌}
 use Rattle.std.proofs.Common.{subst, append_assoc}
 use Rattle.std.specs.Prelude.{map, ◌&&◌}
 use Rattle.std.specs.List.{list_all, flat_map}
-use Rattle.std.proofs.lemmas.List.{append-nil}
+use Rattle.std.proofs.lemmas.Bool.{and_from}
+use Rattle.std.proofs.lemmas.List.{append-nil, map-append}
+use Rattle.std.proofs.lemmas.List.Folds.{list_all-append}
+use Rattle.std.proofs.lemmas.List.Concat.{flat_map-append}
 use Rattle.fault_words.specs.declared.kind.GateKind.{GateKind}
 use Rattle.fault_words.specs.declared.place.Place.{Place}
 use Rattle.galileo_tree.specs.declared.raw.Placed.{Placed}
@@ -108,38 +111,16 @@ Makes had (On later) = Had later had
 Makes had (Whole statement) = Spells statement had
 Makes had Stop = Unit {0}
 
-both : (a b : Bool) → a ≡ true → b ≡ true → (a && b) ≡ true
-both true b on then_on = then_on
-both false b on then_on = on
-
-left : (a b : Bool) → (a && b) ≡ true → a ≡ true
-left true b on = refl
-left false b on = on
-
-right : (a b : Bool) → (a && b) ≡ true → b ≡ true
-right true b on = on
-right false b on = absurd (cc)
-
 list_all-push : (lexemes : List Lexeme) (lexeme : Lexeme) → list_all is_name lexemes ≡ true → is_name lexeme ≡ true →
     list_all is_name (lexemes ++ lexeme ∷ []) ≡ true
-list_all-push [] lexeme each last = rw last refl
-list_all-push (first ∷ lexemes) lexeme each last =
-    both (is_name first) _ (left (is_name first) _ each)
-    (list_all-push lexemes lexeme (right (is_name first) _ each) last)
-
-map-push : {A B : Type 0} (f : A → B) (xs : List A) (x : A) → map f (xs ++ x ∷ []) ≡ map f xs ++ f x ∷ []
-map-push f [] x = refl
-map-push f (y ∷ xs) x = ap (λ l. f y ∷ l) (map-push f xs x)
+list_all-push lexemes lexeme each last =
+    list_all-append is_name lexemes (lexeme ∷ [])
+    ∙ and_from (list_all is_name lexemes) (is_name lexeme && true) each (and_from (is_name lexeme) true last refl)
 
 attributes-push : (whole : List Written) (last : Written) → AreAttributes whole → IsAttribute last
     → AreAttributes (whole ++ last ∷ [])
 attributes-push [] last each is = (is, tt)
 attributes-push (first ∷ whole) last each is = (each.0, attributes-push whole last each.1 is)
-
-flat_map-push : (whole : List Written) (last : Written)
-    → flat_map lexemes_in (whole ++ last ∷ []) ≡ flat_map lexemes_in whole ++ lexemes_in last
-flat_map-push [] last = append-nil (lexemes_in last)
-flat_map-push (first ∷ whole) last = ap (λ l. lexemes_in first ++ l) (flat_map-push whole last)
 
 some_pushed : (whole : List Written) (last : Written) → IsSome (whole ++ last ∷ [])
 some_pushed [] last = tt
@@ -304,7 +285,7 @@ inputs_make name place kind inputs had lexeme gate =
       named = list_all-push gate.rest lexeme gate.named named;
       name_is = gate.name_is;
       place_is = gate.place_is;
-      inputs_are = ap (λ l. l ++ placed lexeme ∷ []) gate.inputs_are ∙ sym (map-push placed gate.rest lexeme);
+      inputs_are = ap (λ l. l ++ placed lexeme ∷ []) gate.inputs_are ∙ sym (map-append placed gate.rest (lexeme ∷ []));
     }))
     (λ other. rw other tt)))
 
@@ -357,14 +338,14 @@ equals_makes name attributes word had whole begun equals lexeme basic bare word_
       record {
         first = basic.first;
         is =
-            longer.is ∙ ap (λ l. basic.first ∷ l) (sym (flat_map-push whole last)
+            longer.is ∙ ap (λ l. basic.first ∷ l) (sym (flat_map-append lexemes_in whole (last ∷ []))
             ∙ sym (append-nil (flat_map lexemes_in (whole ++ last ∷ []))));
         defined = basic.defined;
         each = attributes-push whole last basic.each (record { bare = bare; equals = equals_is; value = valued });
         name_is = basic.name_is;
         attributes_are = ap (λ l. l ++ attribute_of word lexeme ∷ []) basic.attributes_are
             ∙ ap (λ w. map attribute_in whole ++ attribute_of w lexeme ∷ []) word_is
-            ∙ sym (map-push attribute_in whole last);
+            ∙ sym (map-append attribute_in whole (last ∷ []));
       },
       some_pushed whole last,
     ))
