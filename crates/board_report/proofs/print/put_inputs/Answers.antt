@@ -14,7 +14,7 @@ pub loop-input-preserved : goal.loop-input-preserved
 loop-input-preserved g c =
     one_more_put g.K.Sink.taken g.K.Sink.faults c.args.out.now c.loop-input.out c.put_input.new.out
     (input_text c.args.tree.now) c.args.inputs.now c.loop-input.input-index c.input-item.result c.loop-input-test.true
-    c.input-item.is c.loop-input.invariant c.put_input.ensures.puts
+    c.input-item.is c.loop-input.invariant c.put_input.ensures
 
 pub returns : goal.returns
 returns g c =

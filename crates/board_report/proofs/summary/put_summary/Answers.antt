@@ -22,12 +22,12 @@ returns-clause-puts g c =
     (subst (λ u. Puts g.K.Sink.taken g.K.Sink.faults c.args.out.now c.put_made_line.new.out (made_line c.args.number
     u (gate_count tree))) c.units.ensures.count
     (subst (λ n. Puts g.K.Sink.taken g.K.Sink.faults c.args.out.now c.put_made_line.new.out (made_line c.args.number
-    c.units.result n)) c.gates.ensures.count c.put_made_line.ensures.puts))
+    c.units.result n)) c.gates.ensures.count c.put_made_line.ensures))
     (subst (λ s. Puts g.K.Sink.taken g.K.Sink.faults c.put_made_line.new.out c.put_count_line.new.out (count_line s
     (order_total c.args.orders.now))) (c.sets.ensures ∙ c.requires.made.each)
     (subst (λ t. Puts g.K.Sink.taken g.K.Sink.faults c.put_made_line.new.out c.put_count_line.new.out (count_line
     c.sets.result t)) c.total.ensures c.put_count_line.ensures.puts))
     (subst (λ h. Puts g.K.Sink.taken g.K.Sink.faults c.put_count_line.new.out c.put_decided.new.out (decided_line h))
-    c.entries.ensures.entries c.put_decided.ensures.puts)
+    c.entries.ensures.entries c.put_decided.ensures)
     (subst (λ n. Puts g.K.Sink.taken g.K.Sink.faults c.put_decided.new.out c.put_out_head.new.out (out_head n))
     c.units_out.ensures c.put_out_head.ensures.puts)
