@@ -8,7 +8,7 @@ use Rattle.zdd_families.proofs.References.{IsInnerFamily-reference}
 use Rattle.zdd_shared_table.specs.Seats.{Seated, IsSoundSeat, map_of}
 use Rattle.zdd_product.specs.declared.halves.Halves.{Halves}
 use Rattle.zdd_product.specs.Halves.{AreHalves}
-use Rattle.zdd_product.specs.Seats.{WentOn}
+use Rattle.zdd_product.specs.Seats.{KnowsBoth, WentOn}
 use Rattle.zdd_product.proofs.Halving.{Cuts-halved, one_split, levels_left, fewer_left, lo_fewer}
 use Rattle.zdd_product.proofs.After.{stays, at_both}
 
@@ -53,8 +53,10 @@ module _ {GoOn : List (List ℕ) → List (List ℕ) → Type 0} {q s : Seated} 
   one_cut = one_split (map_of s) a b halves cut.are
 
   pub los_next : (levels_left (map_of q) halves.first.lo halves.second.lo < levels_left (map_of s) a b)
-      × (Knows (map_of q) halves.first.lo × Knows (map_of q) halves.second.lo)
-  los_next = lo_fewer (map_of s) (map_of q) a b halves (ap map_of cut.same) cut.are
+      × KnowsBoth q halves.first.lo halves.second.lo
+  los_next =
+      let next = lo_fewer (map_of s) (map_of q) a b halves (ap map_of cut.same) cut.are in
+      (next.0, record { sound = subst IsSoundSeat (sym cut.same) cut.sound; first = next.1.0; second = next.1.1 })
 
   -- ---- after what was done since
 
@@ -68,15 +70,16 @@ module _ {GoOn : List (List ℕ) → List (List ℕ) → Type 0} {q s : Seated} 
         subst (λ n. halves.level < n) (sym (level_in-grown (map_of s) (map_of s1) r on.went.keeps knows)) above
 
     pub his_next : (levels_left (map_of s1) halves.first.hi halves.second.hi < levels_left (map_of s) a b)
-        × (Knows (map_of s1) halves.first.hi × Knows (map_of s1) halves.second.hi)
+        × KnowsBoth s1 halves.first.hi halves.second.hi
     his_next = (
       fewer_left (map_of s) (map_of s1) a b halves.first.hi halves.second.hi halves cut.are
           (still_above halves.first.hi cut.are.first.knows_hi cut.are.first.hi_above)
           (still_above halves.second.hi cut.are.second.knows_hi cut.are.second.hi_above),
-      (
-        (still halves.first.hi cut.are.first.knows_hi).0,
-        (still halves.second.hi cut.are.second.knows_hi).0,
-      ),
+      record {
+        sound = on.went.sound;
+        first = (still halves.first.hi cut.are.first.knows_hi).0;
+        second = (still halves.second.hi cut.are.second.knows_hi).0;
+      },
     )
 
     -- facts of both hi stay facts of what they stood for

@@ -9,12 +9,13 @@ use Rattle.zdd_families.proofs.UnionLemmas.{union-above}
 use Rattle.zdd_families.specs.Product.{IsProduct, IsProductOfParts}
 use Rattle.zdd_families.proofs.ProductLemmas.{product-above, product-step}
 use Rattle.zdd_families.specs.Due.{product_itself}
-use Rattle.zdd_shared_table.specs.Seats.{Seated, IsSoundSeat, map_of}
+use Rattle.zdd_shared_table.specs.Seats.{Seated, map_of}
 use Rattle.zdd_product.specs.declared.halves.Half.{Half}
 use Rattle.zdd_product.specs.declared.halves.Halves.{Halves}
 use Rattle.zdd_product.specs.Due.{IsMadeByUnion, IsMadeByProduct, IsProductWith, IsMadeWith, with_both, with_first}
 use Rattle.zdd_product.specs.Due.{with_some, with_second, with_all}
-use Rattle.zdd_product.specs.Seats.{IsBranch, KnowsOne, WentOn, Gave, WasFull}
+use Rattle.zdd_product.specs.Halves.{KnowsHalves}
+use Rattle.zdd_product.specs.Seats.{IsBranch, KnowsBoth, KnowsOne, WentOn, Gave, WasFull}
 use Rattle.zdd_product.proofs.Halving.{levels_left, levels_with, fewer_with, fewer_of_halves}
 use Rattle.zdd_product.proofs.Halved.{Halved, AreInner, first_cut, second_cut, one_cut, still, at_his}
 use Rattle.zdd_product.proofs.After.{stays, at_both, known_stays, WentOn-as, WasFull-as, WentOn-next, WasFull-next}
@@ -22,12 +23,6 @@ use Rattle.zdd_product.proofs.After.{made_after}
 use Rattle.zdd_product.proofs.ProductParts.{product_makes_lo, product_makes_with}
 
 -- ---- the sets with the unit
-
--- the seat knows both references of both halves
-pub record KnowsHalves (s : Seated) (first second : Half) : Type 0 where
-  pub sound : IsSoundSeat s
-  pub first_known : Knows (map_of s) first.lo × Knows (map_of s) first.hi
-  pub second_known : Knows (map_of s) second.lo × Knows (map_of s) second.hi
 
 module _ {s0 : Seated} {first second : Half} (at : KnowsHalves s0 first second) where
   abbrev due : List (List ℕ) → Type 0
@@ -51,11 +46,11 @@ module _ {s0 : Seated} {first second : Half} (at : KnowsHalves s0 first second) 
   -- one reference of each half is next
   next : {s : Seated} → WentOn due s0 s → (r q : ℕ) → (r ≡ first.lo) ⊎ (r ≡ first.hi)
       → (q ≡ second.lo) ⊎ (q ≡ second.hi) → Knows (map_of s0) r → Knows (map_of s0) q
-      → (levels_left (map_of s) r q ≤ levels_with (map_of s0) first second) × (Knows (map_of s) r × Knows (map_of s) q)
+      → (levels_left (map_of s) r q ≤ levels_with (map_of s0) first second) × KnowsBoth s r q
   next {s = s} on r q of_first of_second knows_r knows_q = (
     fewer_of_halves (map_of s0) (map_of s) first second r q on.went.keeps at.first_known.0 at.first_known.1
         at.second_known.0 at.second_known.1 of_first of_second,
-    ((later on r knows_r).0, (later on q knows_q).0),
+    record { sound = on.went.sound; first = (later on r knows_r).0; second = (later on q knows_q).0 },
   )
 
   module _ {s1 : Seated} {p : ℕ} (gave : Gave both both_due s0 s1 p) where
@@ -63,7 +58,7 @@ module _ {s0 : Seated} {first second : Half} (at : KnowsHalves s0 first second) 
     on1 = WentOn-as both_due due (λ h made. with_both made) s0 s1 gave.on
 
     pub first_next : (levels_left (map_of s1) first.hi second.lo ≤ levels_with (map_of s0) first second)
-        × (Knows (map_of s1) first.hi × Knows (map_of s1) second.lo)
+        × KnowsBoth s1 first.hi second.lo
     first_next = next on1 first.hi second.lo (inr refl) (inl refl) at.first_known.1 at.second_known.0
 
     abbrev first_due : List (List ℕ) → Type 0
@@ -109,7 +104,7 @@ module _ {s0 : Seated} {first second : Half} (at : KnowsHalves s0 first second) 
         on3 = WentOn-next due some_due s0 s2 s3 on2 to_some gave3.on
 
         pub second_next : (levels_left (map_of s3) first.lo second.hi ≤ levels_with (map_of s0) first second)
-            × (Knows (map_of s3) first.lo × Knows (map_of s3) second.hi)
+            × KnowsBoth s3 first.lo second.hi
         second_next = next on3 first.lo second.hi (inl refl) (inr refl) at.first_known.0 at.second_known.1
 
         abbrev second_due : List (List ℕ) → Type 0
@@ -201,20 +196,20 @@ module _ {q s : Seated} {a b : ℕ} {halves : Halves} (cut : Halved AreInner q s
     on = WentOn-as (lo_due s) all to_lo s s1 gave.on
 
     pub product_with_next : (levels_with (map_of s1) halves.first halves.second < levels_left (map_of s) a b)
-        × ((Knows (map_of s1) halves.first.lo × Knows (map_of s1) halves.first.hi)
-        × (Knows (map_of s1) halves.second.lo × Knows (map_of s1) halves.second.hi))
+        × KnowsHalves s1 halves.first halves.second
     product_with_next = (
       fewer_with (map_of s) (map_of s1) a b halves cut.are on.went.keeps,
-      (
-        (
+      record {
+        sound = on.went.sound;
+        first_known = (
           (still cut on halves.first.lo cut.are.first.knows_lo).0,
           (still cut on halves.first.hi cut.are.first.knows_hi).0,
-        ),
-        (
+        );
+        second_known = (
           (still cut on halves.second.lo cut.are.second.knows_lo).0,
           (still cut on halves.second.hi cut.are.second.knows_hi).0,
-        ),
-      ),
+        );
+      },
     )
 
     abbrev with_is : List (List ℕ) → Type 0

@@ -10,7 +10,7 @@ use Rattle.zdd_families.specs.Due.{without_itself}
 use Rattle.zdd_shared_table.specs.Seats.{Seated, map_of}
 use Rattle.zdd_product.specs.declared.halves.Halves.{Halves}
 use Rattle.zdd_product.specs.Due.{IsMadeByWithout}
-use Rattle.zdd_product.specs.Seats.{IsBranch, KnowsOne, WentOn, Gave, WasFull}
+use Rattle.zdd_product.specs.Seats.{IsBranch, KnowsBoth, KnowsOne, WentOn, Gave, WasFull}
 use Rattle.zdd_product.proofs.Halving.{levels_left, fewer_left}
 use Rattle.zdd_product.proofs.Halved.{Halved, AreInner, first_cut, second_cut, one_cut, still, still_above, at_his}
 use Rattle.zdd_product.proofs.After.{WentOn-as, WasFull-as, WentOn-next, WasFull-next, known_stays, made_after}
@@ -67,13 +67,17 @@ module _ {q s : Seated} {a b : ℕ} {halves : Halves} (cut : Halved AreInner q s
       w_above = without-above halves.level _ _ (family (map_of s2) w) w_is (first_cut cut).hi_above
 
       pub without_rest_next : (levels_left (map_of s2) w halves.second.lo < levels_left (map_of s) a b)
-          × (Knows (map_of s2) w × Knows (map_of s2) halves.second.lo)
+          × KnowsBoth s2 w halves.second.lo
       without_rest_next = (
         fewer_left (map_of s) (map_of s2) a b w halves.second.lo halves cut.are
             (level-above (map_of s2) halves.level w on2.went.sound.closed gave2.known.0
             (let u = cut.are.unit.1 in omega arith) w_above)
             (still_above cut on2 halves.second.lo cut.are.second.knows_lo cut.are.second.lo_above),
-        (gave2.known.0, (still cut on2 halves.second.lo cut.are.second.knows_lo).0),
+        record {
+          sound = on2.went.sound;
+          first = gave2.known.0;
+          second = (still cut on2 halves.second.lo cut.are.second.knows_lo).0;
+        },
       )
 
       abbrev rest_due : List (List ℕ) → Type 0

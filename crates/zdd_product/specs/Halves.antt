@@ -6,6 +6,8 @@ use Rattle.zdd_families.specs.Map.{Knows, family, level_in}
 use Rattle.zdd_families.specs.Due.{Splits}
 use Rattle.zdd_product.specs.declared.halves.Half.{Half}
 use Rattle.zdd_product.specs.declared.halves.Halves.{Halves}
+use Rattle.zdd_product.specs.declared.halves.Split.{Split}
+use Rattle.zdd_shared_table.specs.Seats.{Seated, IsSoundSeat, map_of}
 
 -- a family of units above x is its own lo, and its hi has no sets
 pub record IsHigher (x : ℕ) (f lo hi : List (List ℕ)) : Type 0 where
@@ -36,3 +38,23 @@ pub record AreHalves (known : ℕ → ℕ) (a b : ℕ) (halves : Halves) : Type 
   pub first : IsHalf known halves.level a halves.first
   pub second : IsHalf known halves.level b halves.second
   pub least : IsSplit known halves.level a halves.first ⊎ IsSplit known halves.level b halves.second
+
+-- the seat is as before, and the reference is split at its least unit
+pub record HasSplit (before after : Seated) (r : ℕ) (node : Split) : Type 0 where
+  pub unit : IsUnit node.level
+  pub half : IsHalf (map_of before) node.level r node.half
+  pub split : IsSplit (map_of before) node.level r node.half
+  pub seat : after ≡ before
+  pub sound : IsSoundSeat after
+
+-- the same of two references at the least unit of both
+pub record HasHalves (before after : Seated) (a b : ℕ) (both : Halves) : Type 0 where
+  pub halves : AreHalves (map_of before) a b both
+  pub seat : after ≡ before
+  pub sound : IsSoundSeat after
+
+-- a sound seat knows both references of two halves
+pub record KnowsHalves (seat : Seated) (first second : Half) : Type 0 where
+  pub sound : IsSoundSeat seat
+  pub first_known : Knows (map_of seat) first.lo × Knows (map_of seat) first.hi
+  pub second_known : Knows (map_of seat) second.lo × Knows (map_of seat) second.hi

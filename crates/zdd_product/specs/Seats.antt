@@ -1,7 +1,7 @@
 -- What an operation does to a seat: what it knew stays, and what it fills and asks a full store for is due.
 use Rattle.std.specs.Prelude.{◌≡◌, ℕ, ◌+◌, List, [], ◌∷◌, ◌++◌, Contains, length}
 use Rattle.zdd_words.specs.Word.{level_of, lo_of, hi_of}
-use Rattle.zdd_families.specs.Family.{branch}
+use Rattle.zdd_families.specs.Family.{IsAbove, branch}
 use Rattle.zdd_families.specs.Map.{Knows, Grown, family}
 use Rattle.zdd_shared_table.specs.Seats.{Seated, IsSoundSeat, map_of}
 
@@ -16,6 +16,20 @@ IsBranch x lo hi family = family ≡ branch x lo hi
 -- the map knows the reference as such a family
 abbrev pub KnowsOne : (ℕ → ℕ) → ℕ → (List (List ℕ) → Type 0) → Type 0
 KnowsOne known r is = Knows known r × is (family known r)
+
+-- a sound seat knows both references
+pub record KnowsBoth (seat : Seated) (a b : ℕ) : Type 0 where
+  pub sound : IsSoundSeat seat
+  pub first : Knows (map_of seat) a
+  pub second : Knows (map_of seat) b
+
+-- a sound seat knows the parts of a node, whose units are above x
+pub record CanMake (seat : Seated) (x lo hi : ℕ) : Type 0 where
+  pub sound : IsSoundSeat seat
+  pub knows_lo : Knows (map_of seat) lo
+  pub knows_hi : Knows (map_of seat) hi
+  pub lo_above : IsAbove x (family (map_of seat) lo)
+  pub hi_above : IsAbove x (family (map_of seat) hi)
 
 -- each reference that the seat has filled in between has a family that is due
 pub record FillsDue (due : List (List ℕ) → Type 0) (before after : Seated) : Type 0 where

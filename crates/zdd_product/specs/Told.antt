@@ -23,3 +23,8 @@ pub record IsTold (known : ℕ → ℕ) (entry : Entry) : Type 0 where
   pub answer : Knows known entry.answer
   pub is : IsResult entry.question.operation (family known entry.question.first) (family known entry.question.second)
       (family known entry.answer)
+
+-- the map knows the reference as what the operation gives of two others
+abbrev pub Tells : (ℕ → ℕ) → Operation → ℕ → ℕ → ℕ → Type 0
+Tells known operation a b r =
+    IsTold known (record { question = record { operation = operation; first = a; second = b }; answer = r })

@@ -1,7 +1,8 @@
 -- Votes over a list of references, member by member.
-use Rattle.std.specs.Prelude.{ℕ, suc, ◌+◌, ◌<◌, ◌≤◌, List, map, take, slice_index}
-use Rattle.zdd_families.specs.Map.{family}
+use Rattle.std.specs.Prelude.{ℕ, suc, ◌+◌, ◌<◌, ◌≤◌, List, All, length, map, take, slice_index}
+use Rattle.zdd_families.specs.Map.{Knows, family}
 use Rattle.zdd_families.specs.Votes.{IsVotes}
+use Rattle.zdd_shared_table.specs.Seats.{Seated, IsSoundSeat, map_of}
 use Rattle.zdd_product.specs.Seats.{KnowsOne}
 
 -- the families of a list of references
@@ -19,3 +20,9 @@ HoldsVotes known list members from to room =
 pub record IsVoting (known : ℕ → ℕ) (list : List ℕ) (k members place : ℕ) (room : List ℕ) : Type 0 where
   pub before : HoldsVotes known list members 0 place room
   pub after : HoldsVotes known list (members + 1) place k room
+
+-- a sound seat knows the members of a list, and there is room for k numbers of votes
+pub record CanVote (seat : Seated) (list : List ℕ) (k : ℕ) (room : List ℕ) : Type 0 where
+  pub sound : IsSoundSeat seat
+  pub knows : All (Knows (map_of seat)) list
+  pub space : k ≤ length room

@@ -1,9 +1,9 @@
 //! Two references cut at the least unit of both.
 ghost use Rattle.std.specs.Prelude.{◌≡◌, ◌≤◌, ◌⊎◌};
-ghost use Rattle.unit_sets.specs.Unit.{IsUnit};
 ghost use Rattle.zdd_families.specs.Map.{Knows};
-ghost use Rattle.zdd_shared_table.specs.Seats.{IsSoundSeat, map_of};
-ghost use Rattle.zdd_product.specs.Halves.{AreHalves, IsHalf, IsSplit};
+ghost use Rattle.zdd_shared_table.specs.Seats.{map_of};
+ghost use Rattle.zdd_product.specs.Halves.{HasHalves, HasSplit};
+ghost use Rattle.zdd_product.specs.Seats.{KnowsBoth};
 
 use crate::ops::Ops;
 use unit_sets::UnitNo;
@@ -46,11 +46,7 @@ impl<'s> Ops<'s> {
     pub(crate) fn split_node(&mut self, r: NodeRef) -> Split
         requires knows { Knows (map_of self.old) r }
         requires inner { 2 ≤ r }
-        ensures unit { IsUnit result.level }
-        ensures half { IsHalf (map_of self.old) result.level r result.half }
-        ensures split { IsSplit (map_of self.old) result.level r result.half }
-        ensures seat { self.new ≡ self.old }
-        ensures sound { IsSoundSeat self.new }
+        ensures { HasSplit self.old self.new r result }
     {
         let parts = self.parts(r);
         // Tells the proof that the level is a unit's number.
@@ -66,12 +62,9 @@ impl<'s> Ops<'s> {
 
     /// Two references at the least unit of both.
     pub(crate) fn halves(&mut self, a: NodeRef, b: NodeRef) -> Halves
-        requires knows_a { Knows (map_of self.old) a }
-        requires knows_b { Knows (map_of self.old) b }
+        requires both { KnowsBoth self.old a b }
         requires some { (2 ≤ a) ⊎ (2 ≤ b) }
-        ensures halves { AreHalves (map_of self.old) a b result }
-        ensures seat { self.new ≡ self.old }
-        ensures sound { IsSoundSeat self.new }
+        ensures { HasHalves self.old self.new a b result }
     {
         if a.number() < 2 {
             let other = self.split_node(b);

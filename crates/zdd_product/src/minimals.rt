@@ -6,11 +6,11 @@ ghost use Rattle.zdd_families.specs.Without.{IsWithout};
 ghost use Rattle.zdd_families.specs.Map.{Knows, family};
 ghost use Rattle.zdd_shared_table.specs.Seats.{map_of};
 ghost use Rattle.zdd_product.specs.Due.{IsMadeByMinimal, IsMadeByWithout};
-ghost use Rattle.zdd_product.specs.Seats.{Gave, WasFull};
+ghost use Rattle.zdd_product.specs.Seats.{Gave, KnowsBoth, WasFull};
 
 use crate::halves::Split;
 use crate::ops::Ops;
-use kept_answers::{Entry, Operation, Question};
+use kept_answers::Operation;
 use zdd_shared_table::Full;
 use zdd_words::NodeRef;
 
@@ -40,19 +40,11 @@ impl<'s> Ops<'s> {
         if a.number() < 2 {
             return Ok(a);
         }
-        let question = Question {
-            operation: Operation::Minimal,
-            first: a,
-            second: NodeRef::EMPTY,
-        };
-        if let Some(answer) = self.recall(&question) {
+        if let Some(answer) = self.recall(Operation::Minimal, a, NodeRef::EMPTY) {
             return Ok(answer);
         }
         let made = self.least_halves(a)?;
-        self.remember(Entry {
-            question,
-            answer: made,
-        });
+        self.remember(Operation::Minimal, a, NodeRef::EMPTY, made);
         Ok(made)
     }
 
@@ -74,14 +66,12 @@ impl<'s> Ops<'s> {
 
     // What is left of some sets without those that include one of the minimal sets of a family.
     fn strip_least(&mut self, high: NodeRef, low: NodeRef) -> Result<NodeRef, Full>
-        requires knows_high { Knows (map_of self.old) high }
-        requires knows_low { Knows (map_of self.old) low }
+        requires both { KnowsBoth self.old high low }
         requires least { (f : List (List ℕ)) × IsMinimal f (family (map_of self.old) low) }
         ensures { let f = family (map_of self.old) high in let g = family (map_of self.old) low in
             MatchResult result (Gave (IsWithout f g) (IsMadeByWithout f g) self.old self.new)
             (λ _. WasFull (IsMadeByWithout f g) self.old self.new) }
     {
-        self.is_sound();
         // Minimal sets with the empty set are the empty set alone, so there is no need to look for it in a long chain.
         if high == NodeRef::UNIT && low != NodeRef::UNIT {
             return Ok(high);

@@ -7,10 +7,10 @@ ghost use Rattle.zdd_shared_table.specs.Making.{KnowsBranch, LearnsWord, CountsR
 ghost use Rattle.zdd_shared_table.specs.Making.{FillsAtMostOne};
 ghost use Rattle.zdd_shared_table.specs.Seats.{IsSoundSeat, map_of};
 ghost use Rattle.zdd_shared_table.specs.Views.{no_probe};
-ghost use Rattle.zdd_product.specs.Seats.{Gave, IsBranch, WasFull};
-ghost use Rattle.zdd_product.specs.Told.{IsTold};
+ghost use Rattle.zdd_product.specs.Seats.{CanMake, Gave, IsBranch, WasFull};
+ghost use Rattle.zdd_product.specs.Told.{Tells};
 
-use kept_answers::{Answers, Entry, Question};
+use kept_answers::{Answers, Entry, Operation, Question};
 use std::alloc::Global;
 use std::marker::Model;
 use unit_sets::{NoMemory, UnitNo};
@@ -162,39 +162,41 @@ impl<'s> Ops<'s> {
         self.store.join(&mut self.seat, other)
     }
 
-    // The answer to a question, if it is kept.
-    pub(crate) fn recall(&self, question: &Question) -> Option<NodeRef>
-        ensures answer { IfSome result (λ answer. IsTold (map_of self.now)
-            (record { question = question.now; answer = answer })) }
-        ensures sound { IsSoundSeat self.now }
+    // What an operation gives of two references, if it is kept.
+    pub(crate) fn recall(&self, operation: Operation, a: NodeRef, b: NodeRef) -> Option<NodeRef>
+        ensures { IfSome result (Tells (map_of self.now) operation a b) }
     {
-        self.answers.answer(question)
+        self.answers.answer(&Question {
+            operation,
+            first: a,
+            second: b,
+        })
     }
 
-    // Keeps the answer to a question.
-    pub(crate) fn remember(&mut self, entry: Entry)
-        requires { IsTold (map_of self.old) entry }
+    // Keeps what an operation gives of two references.
+    pub(crate) fn remember(&mut self, operation: Operation, a: NodeRef, b: NodeRef, answer: NodeRef)
+        requires { Tells (map_of self.old) operation a b answer }
         ensures { self.new ≡ self.old }
     {
-        self.answers.keep(entry);
+        let question = Question {
+            operation,
+            first: a,
+            second: b,
+        };
+        self.answers.keep(Entry { question, answer });
     }
 
     // The node of a level above which all units of lo and hi are, or lo where hi has no sets.
     pub(crate) fn make(&mut self, level: UnitNo, lo: NodeRef, hi: NodeRef) -> Result<NodeRef, Full>
-        requires knows_lo { Knows (map_of self.old) lo }
-        requires knows_hi { Knows (map_of self.old) hi }
-        requires lo_above { IsAbove level (family (map_of self.old) lo) }
-        requires hi_above { IsAbove level (family (map_of self.old) hi) }
+        requires { CanMake self.old level lo hi }
         ensures { let made = IsBranch level (family (map_of self.old) lo) (family (map_of self.old) hi) in
             MatchResult result (Gave made made self.old self.new) (λ _. WasFull made self.old self.new) }
     {
-        self.is_sound();
-        if hi == NodeRef::EMPTY {
+        // Tells the proof that the reference fits into a word, as the next call does of the other.
+        lo.number();
+        if hi.number() == 0 {
             return Ok(lo);
         }
-        // Tells the proof that the references fit into a word.
-        lo.number();
-        hi.number();
         self.node(level, lo, hi)
     }
 }

@@ -5,23 +5,25 @@ ghost use Rattle.zdd_families.specs.Union.{IsUnion};
 ghost use Rattle.zdd_families.specs.Map.{Knows, family};
 ghost use Rattle.zdd_shared_table.specs.Seats.{map_of};
 ghost use Rattle.zdd_product.specs.Due.{IsMadeByUnion};
-ghost use Rattle.zdd_product.specs.Seats.{Gave, WasFull};
+ghost use Rattle.zdd_product.specs.Seats.{Gave, KnowsBoth, WasFull};
 
 use crate::halves::Halves;
 use crate::ops::Ops;
-use kept_answers::{Entry, Operation, Question};
+use kept_answers::Operation;
 use zdd_shared_table::Full;
 use zdd_words::NodeRef;
 
-// The union, where one of both families has no sets or both are one.
+// The union, where one of both families has no sets, of which 0 is the number, or both are one.
 fn union_end(a: NodeRef, b: NodeRef) -> Option<NodeRef>
     ensures { MatchOption result ((a ≢ 0) × (b ≢ 0) × (a ≢ b))
         (λ r. ((a ≡ 0) × (r ≡ b)) ⊎ ((b ≡ 0) × (r ≡ a)) ⊎ ((a ≡ b) × (r ≡ a))) }
 {
-    if a == NodeRef::EMPTY {
+    let first = a.number();
+    let second = b.number();
+    if first == 0 {
         return Some(b);
     }
-    if b == NodeRef::EMPTY || a == b {
+    if second == 0 || first == second {
         return Some(a);
     }
     None
@@ -39,43 +41,33 @@ impl<'s> Ops<'s> {
         ensures full { let f = family (map_of self.old) a in let g = family (map_of self.old) b in
             IfErr result (λ _. WasFull (IsDueToUnion f g) self.old self.new) }
     {
+        self.is_sound();
         self.unite(a, b)
     }
 
     // The union, of which an end makes nothing.
     #[cycle(unite)]
     pub(crate) fn unite(&mut self, a: NodeRef, b: NodeRef) -> Result<NodeRef, Full>
-        requires knows_a { Knows (map_of self.old) a }
-        requires knows_b { Knows (map_of self.old) b }
+        requires { KnowsBoth self.old a b }
         ensures { let f = family (map_of self.old) a in let g = family (map_of self.old) b in
             MatchResult result (Gave (IsUnion f g) (IsMadeByUnion f g) self.old self.new)
             (λ _. WasFull (IsMadeByUnion f g) self.old self.new) }
     {
-        self.is_sound();
         if let Some(end) = union_end(a, b) {
             return Ok(end);
         }
-        let question = Question {
-            operation: Operation::Union,
-            first: a,
-            second: b,
-        };
-        if let Some(answer) = self.recall(&question) {
+        if let Some(answer) = self.recall(Operation::Union, a, b) {
             return Ok(answer);
         }
         let made = self.unite_halves(a, b)?;
-        self.remember(Entry {
-            question,
-            answer: made,
-        });
+        self.remember(Operation::Union, a, b, made);
         Ok(made)
     }
 
     // The union of two families that is no end, by their halves.
     #[cycle(unite)]
     fn unite_halves(&mut self, a: NodeRef, b: NodeRef) -> Result<NodeRef, Full>
-        requires knows_a { Knows (map_of self.old) a }
-        requires knows_b { Knows (map_of self.old) b }
+        requires both { KnowsBoth self.old a b }
         requires goes_on { (a ≢ 0) × (b ≢ 0) × (a ≢ b) }
         ensures { let f = family (map_of self.old) a in let g = family (map_of self.old) b in
             MatchResult result (Gave (IsUnion f g) (IsMadeByUnion f g) self.old self.new)

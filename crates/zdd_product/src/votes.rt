@@ -6,7 +6,7 @@ ghost use Rattle.zdd_families.specs.Votes.{IsVotes};
 ghost use Rattle.zdd_families.specs.Map.{Knows, family};
 ghost use Rattle.zdd_shared_table.specs.Seats.{map_of};
 ghost use Rattle.zdd_product.specs.Seats.{Gave, WasFull, WentOn};
-ghost use Rattle.zdd_product.specs.Voting.{HoldsVotes, IsVoting, families};
+ghost use Rattle.zdd_product.specs.Voting.{CanVote, HoldsVotes, IsVoting, families};
 
 use crate::ops::Ops;
 use zdd_shared_table::Full;
@@ -57,14 +57,12 @@ impl<'s> Ops<'s> {
 
     // Each member of the list votes.
     fn vote_all(&mut self, k: usize, list: &[NodeRef], room: &mut [NodeRef]) -> Result<(), Full>
-        requires room { k ≤ length room.old }
-        requires knows { All (Knows (map_of self.old)) list.now }
+        requires can { CanVote self.old list.now k room.old }
         requires held { HoldsVotes (map_of self.old) list.now 0 0 k room.old }
         ensures { MatchResult result (λ _. WentOn (IsDueToVotes k (families (map_of self.old) list.now)) self.old
             self.new × HoldsVotes (map_of self.new) list.now (length list.now) 0 k room.new)
             (λ _. WasFull (IsDueToVotes k (families (map_of self.old) list.now)) self.old self.new) }
     {
-        self.is_sound();
         for i in 0..list.len() {
             self.vote(k, list, i, room)?;
         }
@@ -80,14 +78,12 @@ impl<'s> Ops<'s> {
         room: &mut [NodeRef],
     ) -> Result<(), Full>
         requires within { i < length list.now }
-        requires room { k ≤ length room.old }
-        requires knows { All (Knows (map_of self.old)) list.now }
+        requires can { CanVote self.old list.now k room.old }
         requires held { HoldsVotes (map_of self.old) list.now i 0 k room.old }
         ensures { MatchResult result (λ _. WentOn (IsDueToVotes k (families (map_of self.old) list.now)) self.old
             self.new × HoldsVotes (map_of self.new) list.now (i + 1) 0 k room.new)
             (λ _. WasFull (IsDueToVotes k (families (map_of self.old) list.now)) self.old self.new) }
     {
-        self.is_sound();
         // From the most votes down, since each number of votes is made from those one fewer before this member.
         let mut place = k;
         while place > 0 {
@@ -108,14 +104,12 @@ impl<'s> Ops<'s> {
     ) -> Result<(), Full>
         requires within { i < length list.now }
         requires place { place < k }
-        requires room { k ≤ length room.old }
-        requires knows { All (Knows (map_of self.old)) list.now }
+        requires can { CanVote self.old list.now k room.old }
         requires held { IsVoting (map_of self.old) list.now k i (place + 1) room.old }
         ensures { MatchResult result (λ _. WentOn (IsDueToVotes k (families (map_of self.old) list.now)) self.old
             self.new × IsVoting (map_of self.new) list.now k i place room.new)
             (λ _. WasFull (IsDueToVotes k (families (map_of self.old) list.now)) self.old self.new) }
     {
-        self.is_sound();
         let fewer = fewer_votes(room, place);
         let member = list[i];
         let more = self.multiply(fewer, member)?;

@@ -6,11 +6,11 @@ ghost use Rattle.zdd_families.specs.Without.{IsWithout};
 ghost use Rattle.zdd_families.specs.Map.{Knows, family};
 ghost use Rattle.zdd_shared_table.specs.Seats.{map_of};
 ghost use Rattle.zdd_product.specs.Due.{IsMadeByWithout};
-ghost use Rattle.zdd_product.specs.Seats.{Gave, KnowsOne, WasFull};
+ghost use Rattle.zdd_product.specs.Seats.{Gave, KnowsBoth, KnowsOne, WasFull};
 
 use crate::halves::Halves;
 use crate::ops::Ops;
-use kept_answers::{Entry, Operation, Question};
+use kept_answers::Operation;
 use zdd_shared_table::Full;
 use zdd_words::NodeRef;
 
@@ -19,10 +19,11 @@ fn without_end(a: NodeRef, b: NodeRef) -> Option<NodeRef>
     ensures { MatchOption result ((1 ≤ a) × (2 ≤ b))
         (λ r. ((a ≡ 0) × (r ≡ a)) ⊎ ((b ≡ 0) × (r ≡ a)) ⊎ ((b ≡ 1) × (r ≡ 0))) }
 {
-    if a == NodeRef::EMPTY || b == NodeRef::EMPTY {
+    let second = b.number();
+    if a.number() == 0 || second == 0 {
         return Some(a);
     }
-    if b == NodeRef::UNIT {
+    if second == 1 {
         return Some(NodeRef::EMPTY);
     }
     None
@@ -40,46 +41,36 @@ impl<'s> Ops<'s> {
         ensures full { let f = family (map_of self.old) a in let g = family (map_of self.old) b in
             IfErr result (λ _. WasFull (IsDueToWithout f g) self.old self.new) }
     {
+        self.is_sound();
         self.strip(a, b)
     }
 
     // What is left, of which an end makes nothing.
     #[cycle(strip)]
     pub(crate) fn strip(&mut self, a: NodeRef, b: NodeRef) -> Result<NodeRef, Full>
-        requires knows_a { Knows (map_of self.old) a }
-        requires knows_b { Knows (map_of self.old) b }
+        requires { KnowsBoth self.old a b }
         ensures { let f = family (map_of self.old) a in let g = family (map_of self.old) b in
             MatchResult result (Gave (IsWithout f g) (IsMadeByWithout f g) self.old self.new)
             (λ _. WasFull (IsMadeByWithout f g) self.old self.new) }
     {
-        self.is_sound();
         if let Some(end) = without_end(a, b) {
             return Ok(end);
         }
-        if a == NodeRef::UNIT {
+        if a.number() == 1 {
             return Ok(self.strip_unit(a, b));
         }
-        let question = Question {
-            operation: Operation::Without,
-            first: a,
-            second: b,
-        };
-        if let Some(answer) = self.recall(&question) {
+        if let Some(answer) = self.recall(Operation::Without, a, b) {
             return Ok(answer);
         }
         let made = self.strip_halves(a, b)?;
-        self.remember(Entry {
-            question,
-            answer: made,
-        });
+        self.remember(Operation::Without, a, b, made);
         Ok(made)
     }
 
     // What is left of two families that is no end, by their halves.
     #[cycle(strip)]
     fn strip_halves(&mut self, a: NodeRef, b: NodeRef) -> Result<NodeRef, Full>
-        requires knows_a { Knows (map_of self.old) a }
-        requires knows_b { Knows (map_of self.old) b }
+        requires both { KnowsBoth self.old a b }
         requires inner { (2 ≤ a) × (2 ≤ b) }
         ensures { let f = family (map_of self.old) a in let g = family (map_of self.old) b in
             MatchResult result (Gave (IsWithout f g) (IsMadeByWithout f g) self.old self.new)

@@ -26,7 +26,7 @@ least-returns-in-Some t c =
     let known = map_of c.args.self.now in
     Gave-known (IsMadeByMinimal (family known c.args.a)) c.args.self.now c.is_sound.ensures.sound
     (IsMinimal (family known c.args.a)) c.in-Some.answer
-    (c.in-Some.ensures.answer.answer, c.in-Some.ensures.answer.is)
+    (c.in-Some.ensures.answer, c.in-Some.ensures.is)
 
 pub least-remember-requires : goal.least-remember-requires
 least-remember-requires t c =
@@ -60,15 +60,18 @@ least_halves-returns-in_err-high t c =
     let p = err_from_is_err_and c.from_residual-in_err-high.result c.from_residual-in_err-high.ensures.1 in
     rw p.1 (minimal_hi_full cut c.in_ok-lo.ensures c.in_err-high.ensures)
 
-pub least_halves-strip_least-requires-clause-knows_low : goal.least_halves-strip_least-requires-clause-knows_low
-least_halves-strip_least-requires-clause-knows_low t c =
-    let cut = split t (goal.at.least_halves-strip_least-requires-clause-knows_low t c).After-split_node-level in
-    (minimal_lo_known cut c.in_ok-lo.ensures c.in_ok-high.ensures).0
-
-pub least_halves-strip_least-requires-clause-least : goal.least_halves-strip_least-requires-clause-least
-least_halves-strip_least-requires-clause-least t c =
-    let cut = split t (goal.at.least_halves-strip_least-requires-clause-least t c).After-split_node-level in
-    (minimal_lo_known cut c.in_ok-lo.ensures c.in_ok-high.ensures).1
+pub least_halves-strip_least-requires : goal.least_halves-strip_least-requires
+least_halves-strip_least-requires t c =
+    let cut = split t (goal.at.least_halves-strip_least-requires t c).After-split_node-level in
+    let low = minimal_lo_known cut c.in_ok-lo.ensures c.in_ok-high.ensures in
+    record {
+      both = record {
+        sound = c.in_ok-high.ensures.on.went.sound;
+        first = c.in_ok-high.ensures.known.0;
+        second = low.0;
+      };
+      least = low.1;
+    }
 
 pub least_halves-returns-in_err-hi : goal.least_halves-returns-in_err-hi
 least_halves-returns-in_err-hi t c =
@@ -76,20 +79,16 @@ least_halves-returns-in_err-hi t c =
     let p = err_from_is_err_and c.from_residual-in_err-hi.result c.from_residual-in_err-hi.ensures.1 in
     rw p.1 (minimal_rest_full cut c.in_ok-lo.ensures c.in_ok-high.ensures c.in_err-hi.ensures)
 
-pub least_halves-make-requires-clause-knows_lo : goal.least_halves-make-requires-clause-knows_lo
-least_halves-make-requires-clause-knows_lo t c =
-    let cut = split t (goal.at.least_halves-make-requires-clause-knows_lo t c).After-split_node-level in
-    minimal_lo_knows cut c.in_ok-lo.ensures c.in_ok-high.ensures c.in_ok-hi.ensures
-
-pub least_halves-make-requires-clause-lo_above : goal.least_halves-make-requires-clause-lo_above
-least_halves-make-requires-clause-lo_above t c =
-    let cut = split t (goal.at.least_halves-make-requires-clause-lo_above t c).After-split_node-level in
-    minimal_lo_above cut c.in_ok-lo.ensures c.in_ok-high.ensures c.in_ok-hi.ensures
-
-pub least_halves-make-requires-clause-hi_above : goal.least_halves-make-requires-clause-hi_above
-least_halves-make-requires-clause-hi_above t c =
-    let cut = split t (goal.at.least_halves-make-requires-clause-hi_above t c).After-split_node-level in
-    minimal_hi_above cut c.in_ok-lo.ensures c.in_ok-high.ensures c.in_ok-hi.ensures
+pub least_halves-make-requires : goal.least_halves-make-requires
+least_halves-make-requires t c =
+    let cut = split t (goal.at.least_halves-make-requires t c).After-split_node-level in
+    record {
+      sound = c.in_ok-hi.ensures.on.went.sound;
+      knows_lo = minimal_lo_knows cut c.in_ok-lo.ensures c.in_ok-high.ensures c.in_ok-hi.ensures;
+      knows_hi = c.in_ok-hi.ensures.known.0;
+      lo_above = minimal_lo_above cut c.in_ok-lo.ensures c.in_ok-high.ensures c.in_ok-hi.ensures;
+      hi_above = minimal_hi_above cut c.in_ok-lo.ensures c.in_ok-high.ensures c.in_ok-hi.ensures;
+    }
 
 pub least_halves-returns : goal.least_halves-returns
 least_halves-returns t c =

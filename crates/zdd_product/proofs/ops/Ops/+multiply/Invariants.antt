@@ -10,4 +10,4 @@ abbrev pub decreases-multiply_halves : goal.decreases-multiply_halves
 decreases-multiply_halves l = 3 * levels_left (map_of l.self.now) l.a l.b + 1
 
 abbrev pub decreases-multiply_with : goal.decreases-multiply_with
-decreases-multiply_with l = 3 * levels_with (map_of l.self.now) l.first.now l.second.now + 3
+decreases-multiply_with l = 3 * levels_with (map_of l.self.now) l.first l.second + 3

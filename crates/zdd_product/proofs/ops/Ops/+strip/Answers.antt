@@ -1,5 +1,4 @@
-use Rattle.std.proofs.Common.{ℕ, ◌≢◌, sym, subst, inl, arith}
-use Rattle.std.proofs.lemmas.Grind.{common_steps}
+use Rattle.std.proofs.Common.{ℕ, ◌≢◌, sym, ◌∙◌, subst, inl, arith}
 use Rattle.std.proofs.lemmas.Result.{err_from_is_err_and}
 use Rattle.zdd_families.specs.Without.{IsWithout}
 use Rattle.zdd_families.specs.Map.{family}
@@ -21,30 +20,30 @@ pub strip-returns-in-Some : goal.strip-returns-in-Some
 strip-returns-in-Some t c =
     let known = map_of c.args.self.now in
     Gave-known (IsMadeByWithout (family known c.args.a) (family known c.args.b)) c.args.self.now
-    c.is_sound.ensures.sound (IsWithout (family known c.args.a) (family known c.args.b)) c.in-Some.end
-    (without_ends known c.args.a c.args.b c.in-Some.end c.is_sound.ensures.sound.closed c.requires.knows_a
+    c.requires.sound (IsWithout (family known c.args.a) (family known c.args.b)) c.in-Some.end
+    (without_ends known c.args.a c.args.b c.in-Some.end c.requires.sound.closed c.requires.first
     c.in-Some.ensures)
 
 pub strip-returns-in-Some-recall : goal.strip-returns-in-Some-recall
 strip-returns-in-Some-recall t c =
     let known = map_of c.args.self.now in
     Gave-known (IsMadeByWithout (family known c.args.a) (family known c.args.b)) c.args.self.now
-    c.is_sound.ensures.sound (IsWithout (family known c.args.a) (family known c.args.b)) c.in-Some-recall.answer
-    (c.in-Some-recall.ensures.answer.answer, c.in-Some-recall.ensures.answer.is)
+    c.requires.sound (IsWithout (family known c.args.a) (family known c.args.b)) c.in-Some-recall.answer
+    (c.in-Some-recall.ensures.answer, c.in-Some-recall.ensures.is)
 
 pub strip-remember-requires : goal.strip-remember-requires
 strip-remember-requires t c =
     let known = map_of c.args.self.now in
     told_made Without (IsMadeByWithout (family known c.args.a) (family known c.args.b)) c.args.self.now
     c.strip_halves.new.self c.args.a c.args.b c.in_ok-made.made
-    c.is_sound.ensures.sound c.requires.knows_a c.requires.knows_b c.in_ok-made.ensures
+    c.requires.sound c.requires.first c.requires.second c.in_ok-made.ensures
 
 -- both references were cut
 halved : (t : ℕ) (c : strip_halves-After-halves t) → Halved AreInner c.halves.new.self c.args.self.now c.args.a
     c.args.b c.halves.result
 halved t c =
-    inner_halved c.halves.ensures.seat c.halves.ensures.sound c.halves.ensures.halves c.requires.knows_a
-    c.requires.knows_b c.requires.inner
+    inner_halved c.halves.ensures.seat c.halves.ensures.sound c.halves.ensures.halves c.requires.both.first
+    c.requires.both.second c.requires.inner
 
 pub strip_halves-returns-in_err-lo : goal.strip_halves-returns-in_err-lo
 strip_halves-returns-in_err-lo t c =
@@ -76,20 +75,16 @@ strip_halves-returns-in_err-hi t c =
     let p = err_from_is_err_and c.from_residual-in_err-hi.result c.from_residual-in_err-hi.ensures.1 in
     rw p.1 (without_rest_full cut c.in_ok-lo.ensures c.in_ok-some.ensures c.in_err-hi.ensures)
 
-pub strip_halves-make-requires-clause-knows_lo : goal.strip_halves-make-requires-clause-knows_lo
-strip_halves-make-requires-clause-knows_lo t c =
-    let cut = halved t (goal.at.strip_halves-make-requires-clause-knows_lo t c).After-halves in
-    without_lo_knows cut c.in_ok-lo.ensures c.in_ok-some.ensures c.in_ok-hi.ensures
-
-pub strip_halves-make-requires-clause-lo_above : goal.strip_halves-make-requires-clause-lo_above
-strip_halves-make-requires-clause-lo_above t c =
-    let cut = halved t (goal.at.strip_halves-make-requires-clause-lo_above t c).After-halves in
-    without_lo_above cut c.in_ok-lo.ensures c.in_ok-some.ensures c.in_ok-hi.ensures
-
-pub strip_halves-make-requires-clause-hi_above : goal.strip_halves-make-requires-clause-hi_above
-strip_halves-make-requires-clause-hi_above t c =
-    let cut = halved t (goal.at.strip_halves-make-requires-clause-hi_above t c).After-halves in
-    without_hi_above cut c.in_ok-lo.ensures c.in_ok-some.ensures c.in_ok-hi.ensures
+pub strip_halves-make-requires : goal.strip_halves-make-requires
+strip_halves-make-requires t c =
+    let cut = halved t (goal.at.strip_halves-make-requires t c).After-halves in
+    record {
+      sound = c.in_ok-hi.ensures.on.went.sound;
+      knows_lo = without_lo_knows cut c.in_ok-lo.ensures c.in_ok-some.ensures c.in_ok-hi.ensures;
+      knows_hi = c.in_ok-hi.ensures.known.0;
+      lo_above = without_lo_above cut c.in_ok-lo.ensures c.in_ok-some.ensures c.in_ok-hi.ensures;
+      hi_above = without_hi_above cut c.in_ok-lo.ensures c.in_ok-some.ensures c.in_ok-hi.ensures;
+    }
 
 pub strip_halves-returns : goal.strip_halves-returns
 strip_halves-returns t c =
@@ -97,13 +92,13 @@ strip_halves-returns t c =
     without_made cut c.in_ok-lo.ensures c.in_ok-some.ensures c.in_ok-hi.ensures c.make.new.self c.make.result
     c.make.ensures
 
-pub strip-returns-then-eq : goal.strip-returns-then-eq
-strip-returns-then-eq t c =
+pub strip-returns-then-number-eq1 : goal.strip-returns-then-number-eq1
+strip-returns-then-number-eq1 t c =
     let known = map_of c.args.self.now in
     let is = IsWithout (family known c.args.a) (family known c.args.b) in
     let due = IsMadeByWithout (family known c.args.a) (family known c.args.b) in
     subst (λ (q : Seated). Gave is due c.args.self.now q c.strip_unit.result) (sym c.strip_unit.ensures.seat)
-    (Gave-known due c.args.self.now c.is_sound.ensures.sound is c.strip_unit.result c.strip_unit.ensures.known)
+    (Gave-known due c.args.self.now c.requires.sound is c.strip_unit.result c.strip_unit.ensures.known)
 
 pub strip_halves-halves-requires-clause-some : goal.strip_halves-halves-requires-clause-some
 strip_halves-halves-requires-clause-some t c = inl c.requires.inner.0
@@ -117,5 +112,5 @@ pub strip-strip_halves-requires : goal.strip-strip_halves-requires
 strip-strip_halves-requires t c =
     let ends = c.in_default.ensures in
     let low = ends.0 in
-    let other : c.args.a ≢ 1 = grind (arith, common_steps) in
-    (omega arith, (c.requires.knows_a, (c.requires.knows_b, (omega (arith, low, other), ends.1))))
+    let other : c.args.a ≢ 1 = λ is. c.if-number-eq1.false (c.number.ensures.value ∙ is) in
+    (omega arith, (c.requires, (omega (arith, low, other), ends.1)))

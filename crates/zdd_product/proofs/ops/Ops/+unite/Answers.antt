@@ -21,31 +21,31 @@ inner_one a b some some' differ = grind arith
 pub unite-returns-in-Some : goal.unite-returns-in-Some
 unite-returns-in-Some t c =
     let known = map_of c.args.self.now in
-    Gave-known (IsMadeByUnion (family known c.args.a) (family known c.args.b)) c.args.self.now c.is_sound.ensures.sound
+    Gave-known (IsMadeByUnion (family known c.args.a) (family known c.args.b)) c.args.self.now c.requires.sound
     (IsUnion (family known c.args.a) (family known c.args.b)) c.in-Some.end
-    (union_ends known c.args.a c.args.b c.in-Some.end c.is_sound.ensures.sound.closed c.requires.knows_a
-    c.requires.knows_b c.in-Some.ensures)
+    (union_ends known c.args.a c.args.b c.in-Some.end c.requires.sound.closed c.requires.first
+    c.requires.second c.in-Some.ensures)
 
 pub unite-returns-in-Some-recall : goal.unite-returns-in-Some-recall
 unite-returns-in-Some-recall t c =
     let known = map_of c.args.self.now in
-    Gave-known (IsMadeByUnion (family known c.args.a) (family known c.args.b)) c.args.self.now c.is_sound.ensures.sound
+    Gave-known (IsMadeByUnion (family known c.args.a) (family known c.args.b)) c.args.self.now c.requires.sound
     (IsUnion (family known c.args.a) (family known c.args.b)) c.in-Some-recall.answer
-    (c.in-Some-recall.ensures.answer.answer, c.in-Some-recall.ensures.answer.is)
+    (c.in-Some-recall.ensures.answer, c.in-Some-recall.ensures.is)
 
 pub unite-remember-requires : goal.unite-remember-requires
 unite-remember-requires t c =
     let known = map_of c.args.self.now in
     told_made Union (IsMadeByUnion (family known c.args.a) (family known c.args.b)) c.args.self.now
     c.unite_halves.new.self c.args.a c.args.b c.in_ok-made.made
-    c.is_sound.ensures.sound c.requires.knows_a c.requires.knows_b c.in_ok-made.ensures
+    c.requires.sound c.requires.first c.requires.second c.in_ok-made.ensures
 
 -- both references were cut
 halved : (t : ℕ) (c : unite_halves-After-halves-level t) → Halved GoesOn c.halves-level.new.self c.args.self.now
     c.args.a c.args.b c.halves-level.result
 halved t c =
     union_halved c.halves-level.ensures.seat c.halves-level.ensures.sound c.halves-level.ensures.halves
-    c.requires.knows_a c.requires.knows_b c.requires.goes_on
+    c.requires.both.first c.requires.both.second c.requires.goes_on
 
 pub unite_halves-returns-in_err-lo : goal.unite_halves-returns-in_err-lo
 unite_halves-returns-in_err-lo t c =
@@ -65,20 +65,16 @@ unite_halves-returns-in_err-hi t c =
     let p = err_from_is_err_and c.from_residual-in_err-hi.result c.from_residual-in_err-hi.ensures.1 in
     rw p.1 (union_hi_full cut c.in_ok-lo.ensures c.in_err-hi.ensures)
 
-pub unite_halves-make-requires-clause-knows_lo : goal.unite_halves-make-requires-clause-knows_lo
-unite_halves-make-requires-clause-knows_lo t c =
-    let cut = halved t (goal.at.unite_halves-make-requires-clause-knows_lo t c).After-halves-level in
-    (union_lo_known cut c.in_ok-lo.ensures c.in_ok-hi.ensures).0
-
-pub unite_halves-make-requires-clause-lo_above : goal.unite_halves-make-requires-clause-lo_above
-unite_halves-make-requires-clause-lo_above t c =
-    let cut = halved t (goal.at.unite_halves-make-requires-clause-lo_above t c).After-halves-level in
-    union_lo_above cut c.in_ok-lo.ensures c.in_ok-hi.ensures
-
-pub unite_halves-make-requires-clause-hi_above : goal.unite_halves-make-requires-clause-hi_above
-unite_halves-make-requires-clause-hi_above t c =
-    let cut = halved t (goal.at.unite_halves-make-requires-clause-hi_above t c).After-halves-level in
-    union_hi_above cut c.in_ok-lo.ensures c.in_ok-hi.ensures
+pub unite_halves-make-requires : goal.unite_halves-make-requires
+unite_halves-make-requires t c =
+    let cut = halved t (goal.at.unite_halves-make-requires t c).After-halves-level in
+    record {
+      sound = c.in_ok-hi.ensures.on.went.sound;
+      knows_lo = (union_lo_known cut c.in_ok-lo.ensures c.in_ok-hi.ensures).0;
+      knows_hi = c.in_ok-hi.ensures.known.0;
+      lo_above = union_lo_above cut c.in_ok-lo.ensures c.in_ok-hi.ensures;
+      hi_above = union_hi_above cut c.in_ok-lo.ensures c.in_ok-hi.ensures;
+    }
 
 pub unite_halves-returns : goal.unite_halves-returns
 unite_halves-returns t c =

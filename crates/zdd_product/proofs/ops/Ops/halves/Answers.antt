@@ -1,4 +1,4 @@
-use Rattle.std.proofs.Common.{◌≡◌, ◌<◌, subst, inl, inr, arith}
+use Rattle.std.proofs.Common.{◌≡◌, ◌<◌, ◌∙◌, subst, inl, inr, arith}
 use Rattle.zdd_families.specs.Map.{IsClosed}
 use Rattle.zdd_shared_table.specs.Seats.{Seated, IsSoundSeat, map_of}
 use Rattle.zdd_product.specs.Halves.{IsHalf, IsSplit}
@@ -18,8 +18,8 @@ split c =
     let second = c.split_node-other-2.result in
     record {
       closed = closed_before c.args.self.now c.split_node-one.new.self one.seat one.sound;
-      knows_a = c.requires.knows_a;
-      knows_b = c.requires.knows_b;
+      knows_a = c.requires.both.first;
+      knows_b = c.requires.both.second;
       one_unit = one.unit;
       other_unit = other.unit;
       one_half = one.half;
@@ -28,49 +28,78 @@ split c =
       other_split = subst (λ (s : Seated). IsSplit (map_of s) second.level c.args.b second.half) one.seat other.split;
     }
 
-pub returns-then-number-lt2-clause-halves : goal.returns-then-number-lt2-clause-halves
-returns-then-number-lt2-clause-halves c =
+pub returns-then-number-lt2 : goal.returns-then-number-lt2
+returns-then-number-lt2 c =
     let other = c.split_node-other.ensures in
     let small : c.args.a < 2 = let e = c.number.ensures.value in let h = c.if-number-lt2.true in omega (arith, e, h) in
     let closed : IsClosed (map_of c.args.self.now) =
     closed_before c.args.self.now c.split_node-other.new.self other.seat other.sound in
     record {
-      unit = other.unit;
-      first =
-          IsHalf-whole (map_of c.args.self.now) c.split_node-other.result.level c.args.a c.whole.result closed
-          other.unit c.requires.knows_a (terminal_above (map_of c.args.self.now) c.split_node-other.result.level
-          c.args.a other.unit small) c.whole.ensures;
-      second = other.half;
-      least = inr other.split;
+      halves = record {
+        unit = other.unit;
+        first =
+            IsHalf-whole (map_of c.args.self.now) c.split_node-other.result.level c.args.a c.whole.result closed
+            other.unit c.requires.both.first
+            (terminal_above (map_of c.args.self.now) c.split_node-other.result.level c.args.a other.unit small)
+            c.whole.ensures;
+        second = other.half;
+        least = inr other.split;
+      };
+      seat = other.seat;
+      sound = other.sound;
     }
 
-pub returns-then-number-lt2-2-clause-halves : goal.returns-then-number-lt2-2-clause-halves
-returns-then-number-lt2-2-clause-halves c =
+pub returns-then-number-lt2-2 : goal.returns-then-number-lt2-2
+returns-then-number-lt2-2 c =
     let one = c.split_node-one.ensures in
     let small : c.args.b < 2 =
     let e = c.number-2.ensures.value in let h = c.if-number-lt2-2.true in omega (arith, e, h) in
     let closed : IsClosed (map_of c.args.self.now) =
     closed_before c.args.self.now c.split_node-one.new.self one.seat one.sound in
     record {
-      unit = one.unit;
-      first = one.half;
-      second =
-          IsHalf-whole (map_of c.args.self.now) c.split_node-one.result.level c.args.b c.whole-then-number-lt2-2.result
-          closed one.unit c.requires.knows_b (terminal_above (map_of c.args.self.now) c.split_node-one.result.level
-          c.args.b one.unit small) c.whole-then-number-lt2-2.ensures;
-      least = inl one.split;
+      halves = record {
+        unit = one.unit;
+        first = one.half;
+        second =
+            IsHalf-whole (map_of c.args.self.now) c.split_node-one.result.level c.args.b
+            c.whole-then-number-lt2-2.result closed one.unit c.requires.both.second
+            (terminal_above (map_of c.args.self.now) c.split_node-one.result.level c.args.b one.unit small)
+            c.whole-then-number-lt2-2.ensures;
+        least = inl one.split;
+      };
+      seat = one.seat;
+      sound = one.sound;
     }
 
-pub returns-then-first-second-clause-halves : goal.returns-then-first-second-clause-halves
-returns-then-first-second-clause-halves c =
-    first_lower (split (goal.at.returns-then-first-second-clause-halves c).After-split_node-other-2)
-    c.whole-then-first-second.result c.whole-then-first-second.ensures (omega arith)
+-- the seat after both
+after : (c : After-split_node-other-2) → c.split_node-other-2.new.self ≡ c.args.self.now
+after c = c.split_node-other-2.ensures.seat ∙ c.split_node-one.ensures.seat
 
-pub returns-then-second-first-clause-halves : goal.returns-then-second-first-clause-halves
-returns-then-second-first-clause-halves c =
-    second_lower (split (goal.at.returns-then-second-first-clause-halves c).After-split_node-other-2)
-    c.whole-then-second-first.result c.whole-then-second-first.ensures (omega arith)
+pub returns-then-first-second : goal.returns-then-first-second
+returns-then-first-second c =
+    let both = (goal.at.returns-then-first-second c).After-split_node-other-2 in
+    record {
+      halves =
+          first_lower (split both) c.whole-then-first-second.result c.whole-then-first-second.ensures (omega arith);
+      seat = after both;
+      sound = c.split_node-other-2.ensures.sound;
+    }
 
-pub returns-clause-halves : goal.returns-clause-halves
-returns-clause-halves c =
-    same_level (split (goal.at.returns-clause-halves c).After-split_node-other-2) (omega arith)
+pub returns-then-second-first : goal.returns-then-second-first
+returns-then-second-first c =
+    let both = (goal.at.returns-then-second-first c).After-split_node-other-2 in
+    record {
+      halves =
+          second_lower (split both) c.whole-then-second-first.result c.whole-then-second-first.ensures (omega arith);
+      seat = after both;
+      sound = c.split_node-other-2.ensures.sound;
+    }
+
+pub returns : goal.returns
+returns c =
+    let both = (goal.at.returns c).After-split_node-other-2 in
+    record {
+      halves = same_level (split both) (omega arith);
+      seat = after both;
+      sound = c.split_node-other-2.ensures.sound;
+    }

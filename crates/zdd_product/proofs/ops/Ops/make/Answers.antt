@@ -1,4 +1,4 @@
-use Rattle.std.proofs.Common.{ℕ, ◌≡◌, ◌∙◌, arith}
+use Rattle.std.proofs.Common.{ℕ, ◌≡◌, sym, ◌∙◌}
 use Rattle.zdd_words.specs.Word.{packed}
 use Rattle.zdd_families.specs.Family.{branch}
 use Rattle.zdd_families.specs.Map.{Knows, family}
@@ -7,12 +7,12 @@ use Rattle.zdd_product.specs.Seats.{IsBranch, word_family}
 use Rattle.zdd_product.proofs.After.{Gave-known, lo_alone, stays, node_made, word_family-packed}
 use Rattle.zdd_product.proofs.ops.Ops.make.Goals as goal
 
-pub returns-then-eq : goal.returns-then-eq
-returns-then-eq c =
+pub returns-then-number-eq0 : goal.returns-then-number-eq0
+returns-then-number-eq0 c =
     let known = map_of c.args.self.now in
     let made = IsBranch c.args.level (family known c.args.lo) (family known c.args.hi) in
-    let none : c.args.hi ≡ 0 = grind arith in
-    Gave-known made c.args.self.now c.is_sound.ensures.sound made c.args.lo
+    let none : c.args.hi ≡ 0 = sym c.number-2.ensures.value ∙ c.if-number-eq0.true in
+    Gave-known made c.args.self.now c.requires.sound made c.args.lo
     (c.requires.knows_lo, lo_alone known c.args.level c.args.lo c.args.hi none)
 
 pub returns : goal.returns
@@ -20,7 +20,7 @@ returns c =
     let old = map_of c.args.self.now in
     let new = map_of c.node.new.self in
     let at : (r : ℕ) → Knows old r → family new r ≡ family old r =
-    λ r knows. (stays c.args.self.now c.node.new.self r c.is_sound.ensures.sound c.node.ensures.sound
+    λ r knows. (stays c.args.self.now c.node.new.self r c.requires.sound c.node.ensures.sound
     c.node.ensures.keeps knows).1 in
     let packed_is : word_family new (packed c.args.level c.args.lo c.args.hi)
     ≡ branch c.args.level (family old c.args.lo) (family old c.args.hi) =

@@ -12,8 +12,8 @@ returns-then-ne c =
     let known = map_of c.args.self.now in
     let unit : c.args.high ≡ 1 = grind arith in
     let other : c.args.low ≢ 1 = grind arith in
-    let sound = c.is_sound.ensures.sound in
+    let sound = c.requires.both.sound in
     Gave-known (IsMadeByWithout (family known c.args.high) (family known c.args.low)) c.args.self.now sound
     (IsWithout (family known c.args.high) (family known c.args.low)) c.args.high
-    (unit_of_least known c.args.high c.args.low c.requires.least.0 sound.closed sound.unique c.requires.knows_low
+    (unit_of_least known c.args.high c.args.low c.requires.least.0 sound.closed sound.unique c.requires.both.second
     c.requires.least.1 unit other)

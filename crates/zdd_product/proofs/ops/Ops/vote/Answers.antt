@@ -11,7 +11,7 @@ loop-place-preserved c =
     let done = c.in_ok-vote_at.ensures in
     record {
       on =
-          votes_on start c.loop-place.self c.vote_at.new.self list c.args.k c.is_sound.ensures.sound c.requires.knows
+          votes_on start c.loop-place.self c.vote_at.new.self list c.args.k c.requires.can.sound c.requires.can.knows
           inv.on done.0;
       knows =
           known_stay c.loop-place.self c.vote_at.new.self list inv.on.went.sound done.0.went.sound done.0.went.keeps
@@ -27,5 +27,5 @@ returns-in_err-vote_at c =
     let list = c.args.list.now in
     let inv = c.loop-place.invariant in
     let p = err_from_is_err_and c.from_residual.result c.from_residual.ensures.1 in
-    rw p.1 (votes_full start c.loop-place.self c.vote_at.new.self list c.args.k c.is_sound.ensures.sound
-    c.requires.knows inv.on c.in_err-vote_at.ensures)
+    rw p.1 (votes_full start c.loop-place.self c.vote_at.new.self list c.args.k c.requires.can.sound
+    c.requires.can.knows inv.on c.in_err-vote_at.ensures)

@@ -11,11 +11,11 @@ turn : (c : After-multiply) (same : ℕ) → same ≡ get_or c.args.room.now c.a
     → IsVotingAt c.args.self.now c.args.list.now c.args.room.now c.args.k c.args.i c.args.place
     c.fewer_votes-fewer.result c.index-list-i.result same
 turn c same same_is = record {
-  sound = c.is_sound.ensures.sound;
-  knows = c.requires.knows;
+  sound = c.requires.can.sound;
+  knows = c.requires.can.knows;
   within = c.requires.within;
   here = c.requires.place;
-  space = c.requires.room;
+  space = c.requires.can.space;
   held = c.requires.held;
   fewer_is = c.fewer_votes-fewer.ensures;
   member_is = get_or_read c.args.list.now c.args.i c.index-list-i.result c.requires.within c.index-list-i.is 0;
@@ -26,7 +26,7 @@ turn c same same_is = record {
 same_read : (c : After-index-room-place) → c.index-room-place.result ≡ get_or c.args.room.now c.args.place 0
 same_read c =
     let here = c.requires.place in
-    let space = c.requires.room in
+    let space = c.requires.can.space in
     get_or_read c.args.room.now c.args.place c.index-room-place.result (omega arith) c.index-room-place.is 0
 
 pub returns-in_err-more : goal.returns-in_err-more
@@ -35,10 +35,15 @@ returns-in_err-more c =
     let p = err_from_is_err_and c.from_residual.result c.from_residual.ensures.1 in
     rw p.1 (vote_product_full at c.in_err-more.ensures)
 
-pub unite-requires-clause-knows_a : goal.unite-requires-clause-knows_a
-unite-requires-clause-knows_a c =
-    let to = goal.at.unite-requires-clause-knows_a c in
-    vote_same_known (turn to.After-multiply _ (same_read to.After-index-room-place)) c.in_ok-more.ensures
+pub unite-requires : goal.unite-requires
+unite-requires c =
+    let to = goal.at.unite-requires c in
+    let at = turn to.After-multiply _ (same_read to.After-index-room-place) in
+    record {
+      sound = c.in_ok-more.ensures.on.went.sound;
+      first = vote_same_known at c.in_ok-more.ensures;
+      second = c.in_ok-more.ensures.known.0;
+    }
 
 pub returns-in_err-made : goal.returns-in_err-made
 returns-in_err-made c =
