@@ -110,7 +110,9 @@ impl Line {
         true
     }
 
-    /// Turns to the names of these units and a tail, and says whether it did. For want of memory it turns to others.
+    /// Turns to the names of these units and a tail, and says whether it did. For want of memory it turns to others. It
+    /// is inlined, so that the length of the tail is known where it is added.
+    #[inline(always)]
     pub(crate) fn turn_to(&mut self, names: &Spelled, units: &[UnitNo], tail: &[u8]) -> bool
         requires spelled { CanSpell names.now units.now }
         requires line { SpellsSome names.now.tree.now self.old }
