@@ -163,6 +163,7 @@ impl Line {
     }
 
     // Adds units.
+    #[inline(always)]
     fn add_all(&mut self, names: &Spelled, units: &[UnitNo]) -> Result<(), AllocError>
         requires spelled { CanSpell names.now units.now }
         requires line { LineSpells names.now.tree.now self.old [] }
@@ -177,6 +178,7 @@ impl Line {
     }
 
     // Adds a unit. For want of memory the line stays.
+    #[inline(always)]
     fn add(&mut self, names: &Spelled, unit: UnitNo) -> Result<(), AllocError>
         requires unit { IsUnitOf names.now.tree.now unit }
         requires texts { AreTextsOf names.now.tree.now names.now.texts.now }
