@@ -8,7 +8,9 @@ use Rattle.galileo_tree.specs.declared.raw.RawTop.{RawTop}
 use Rattle.galileo_tree.specs.declared.raw.RawGate.{RawGate}
 use Rattle.galileo_tree.specs.declared.raw.RawBasic.{RawBasic}
 use Rattle.galileo_tree.specs.declared.raw.Statement.{Statement}
+use Rattle.statement_faults.specs.Examined.{AreParts}
 use Rattle.statement_faults.specs.declared.numbered.NumberedText.{NumberedText}
+use Rattle.statement_faults.specs.declared.numbered.Parts.{Parts}
 use Rattle.statement_faults.specs.declared.numbered.NumberedGate.{NumberedGate}
 use Rattle.statement_faults.specs.Said.{basics, gates, tops, names, uses, basic_names, gate_names}
 use Rattle.statement_faults.specs.Numbered.{numbered, numbered_gate, numbered_gates}
@@ -68,3 +70,22 @@ module _ (statements : List Statement) (deck : NumberedText) (is : IsDeckOf (nam
         none_beyond (λ (gate : NumberedGate). gate.name) MOST_GATES
             (numbered_gates statements) none,
       )
+
+-- the same of the parts of a text
+pub parts_within : (parts : Parts) → AreParts parts → AreWithin (parts.units + length parts.gates.now) parts.gates.now
+parts_within parts are =
+    subst (λ nodes. AreWithin nodes parts.gates.now) total
+    (subst (λ gs. AreWithin (length (names parts.statements.now)) gs) (sym are.gates)
+    (gates_low (names parts.statements.now) (gates parts.statements.now)))
+  where
+    total : length (names parts.statements.now) ≡ parts.units + length parts.gates.now
+    total =
+        omega (
+          arith,
+          are.units,
+          ap length are.gates,
+          length-map (gates parts.statements.now) (numbered_gate (names parts.statements.now)),
+          length-append (basic_names parts.statements.now) (gate_names parts.statements.now),
+          length-map (basics parts.statements.now) (λ (basic : RawBasic). basic.name.name),
+          length-map (gates parts.statements.now) (λ (gate : RawGate). gate.name.name),
+        )

@@ -17,7 +17,9 @@ use Rattle.statement_faults.proofs.SaidLemmas.{names_in}
 use Rattle.statement_faults.specs.Classes.{repeats, repeats_after, first}
 use Rattle.fault_words.specs.declared.place.Place.{Place}
 use Rattle.galileo_tree.specs.declared.raw.Placed.{Placed}
-use Rattle.statement_faults.specs.Naming.{name_list, Adds}
+use Rattle.statement_faults.specs.Naming.{name_list, names_of, Adds}
+use Rattle.statement_faults.specs.declared.naming.Named.{Named}
+use Rattle.statement_faults.specs.declared.naming.Named.TheVariants.{BasicEvents, Gates}
 
 pub same_is : (a b : List ℕ) → same_name a b ≡ true → a ≡ b
 same_is a b same = (bytes_decides a b).0 same
@@ -86,59 +88,49 @@ pub next : {X : Type 0} {Y : Type 0} (F : List X → Y) (xs : List X) (i : ℕ) 
 next F xs i x l is = at_drop_more F xs i x l ∙ ap (λ y. F (y ∷ drop (i + 1) xs)) (sym is)
 
 -- one more statement, by the name that it adds
-pub Comes-adds : (start whole so_far to_come : List (List ℕ)) (name : Option (Bor (List ℕ))) (rest new : List (List ℕ))
-    (fresh : Bool)
+pub Comes-adds : {start whole so_far to_come : List (List ℕ)} (name : Option (Bor (List ℕ)))
+    (rest new : List (List ℕ)) (fresh : Bool)
     → to_come ≡ name_list name ++ rest → Adds name fresh so_far new → fresh ≡ true → Comes start whole so_far to_come
     → Comes start whole new rest
-Comes-adds start whole so_far to_come None rest new fresh is adds yes' c =
+Comes-adds {so_far = so_far} None rest new fresh is adds yes' c =
     record {
       all = ap (λ n. n ++ rest) adds.1 ∙ (ap (λ t. so_far ++ t) (sym is) ∙ c.all);
-      fresh =
-          ap all_differ adds.1 ∙ c.fresh;
+      fresh = ap all_differ adds.1 ∙ c.fresh;
     }
-Comes-adds start whole so_far to_come (Some name) rest new fresh is adds yes' c =
+Comes-adds {start = start} {whole = whole} {so_far = so_far} {to_come = to_come} (Some name) rest new fresh is adds
+    yes' c =
     let unknown : has_name so_far name.now ≡ false =
     elim (cases_Bool (has_name so_far name.now)) [ inl there ↦ absurd cc | inr none ↦ none ] in
     let pushed : new ≡ so_far ++ name.now ∷ [] = adds.1 ∙ cond-true fresh (so_far ++ name.now ∷ []) so_far yes' in
     subst (λ n. Comes start whole n rest) (sym pushed)
     (Comes-more start whole so_far to_come name.now rest is unknown c)
 
-pub Comes-refused : (start whole so_far to_come : List (List ℕ)) (name : Option (Bor (List ℕ)))
+pub Comes-refused : {start whole so_far to_come : List (List ℕ)} (name : Option (Bor (List ℕ)))
     (rest new : List (List ℕ)) (fresh : Bool)
     → to_come ≡ name_list name ++ rest → Adds name fresh so_far new → fresh ≡ false → Comes start whole so_far to_come
     → all_differ (start ++ whole) ≡ false
-Comes-refused start whole so_far to_come None rest new fresh is adds none c =
-    absurd (let never : true ≡ false = sym adds.0 ∙ none in cc)
-Comes-refused start whole so_far to_come (Some name) rest new fresh is adds none c =
+Comes-refused None rest new fresh is adds none c = absurd (let never : true ≡ false = sym adds.0 ∙ none in cc)
+Comes-refused {start = start} {whole = whole} {so_far = so_far} {to_come = to_come} (Some name) rest new fresh is adds
+    none c =
     let found : has_name so_far name.now ≡ true =
     elim (cases_Bool (has_name so_far name.now)) [ inl there ↦ there | inr unknown ↦ absurd cc ] in
     Comes-found start whole so_far to_come name.now rest is found c
 
-pub basic_names-cons : (statement : Statement) (rest : List Statement)
-    → basic_names (statement ∷ rest) ≡ basic_names (statement ∷ []) ++ basic_names rest
-basic_names-cons (Top top) rest = refl
-basic_names-cons (Gate gate) rest = refl
-basic_names-cons (Basic basic) rest = refl
+names_of-cons : (named : Named) (statement : Statement) (rest : List Statement)
+    → names_of named (statement ∷ rest) ≡ names_of named (statement ∷ []) ++ names_of named rest
+names_of-cons BasicEvents (Top top) rest = refl
+names_of-cons BasicEvents (Gate gate) rest = refl
+names_of-cons BasicEvents (Basic basic) rest = refl
+names_of-cons Gates (Top top) rest = refl
+names_of-cons Gates (Gate gate) rest = refl
+names_of-cons Gates (Basic basic) rest = refl
 
-pub gate_names-cons : (statement : Statement) (rest : List Statement)
-    → gate_names (statement ∷ rest) ≡ gate_names (statement ∷ []) ++ gate_names rest
-gate_names-cons (Top top) rest = refl
-gate_names-cons (Gate gate) rest = refl
-gate_names-cons (Basic basic) rest = refl
-
-pub next_basic : (xs : List Statement) (i : ℕ) (x : Statement) (name : Option (Bor (List ℕ))) → i < length xs
-    → x ≡ get_or xs i x → basic_names (x ∷ []) ≡ name_list name
-    → basic_names (drop i xs) ≡ name_list name ++ basic_names (drop (i + 1) xs)
-next_basic xs i x name l is named =
-    next basic_names xs i x l is ∙ (basic_names-cons x (drop (i + 1) xs)
-    ∙ ap (λ n. n ++ basic_names (drop (i + 1) xs)) named)
-
-pub next_gate : (xs : List Statement) (i : ℕ) (x : Statement) (name : Option (Bor (List ℕ))) → i < length xs
-    → x ≡ get_or xs i x → gate_names (x ∷ []) ≡ name_list name
-    → gate_names (drop i xs) ≡ name_list name ++ gate_names (drop (i + 1) xs)
-next_gate xs i x name l is named =
-    next gate_names xs i x l is ∙ (gate_names-cons x (drop (i + 1) xs)
-    ∙ ap (λ n. n ++ gate_names (drop (i + 1) xs)) named)
+pub next_name : (named : Named) (xs : List Statement) (i : ℕ) (x : Statement) (name : Option (Bor (List ℕ)))
+    → i < length xs → x ≡ get_or xs i x → names_of named (x ∷ []) ≡ name_list name
+    → names_of named (drop i xs) ≡ name_list name ++ names_of named (drop (i + 1) xs)
+next_name named xs i x name l is defines =
+    next (names_of named) xs i x l is ∙ (names_of-cons named x (drop (i + 1) xs)
+    ∙ ap (λ n. n ++ names_of named (drop (i + 1) xs)) defines)
 
 -- names that differ still do so without those at the end
 pub differ-front : (xs ys : List (List ℕ)) → all_differ (xs ++ ys) ≡ true → all_differ xs ≡ true

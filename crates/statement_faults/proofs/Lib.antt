@@ -18,13 +18,14 @@ pub mod TriggerRows
 pub mod Members
 pub mod Cyclic
 pub mod Surveyed
-pub mod Refused
 pub mod Edges
 pub mod SaidLemmas
 pub mod Unmarked
 pub mod LowNumbers
 -- what a text by numbers keeps for the parts of its tree
 pub mod DeckParts
+-- classes that are tried one after another
+pub mod Trying
 -- a fault of a class, where the classes before it don't occur, is the first
 pub mod Refusals
 pub mod Faultless

@@ -26,14 +26,14 @@ use Rattle.statement_faults.specs.Marked.{marked_places}
 use Rattle.fault_words.specs.Names.{all_differ}
 use Rattle.statement_faults.specs.Numbered.{numbered_gates, unit_total}
 use Rattle.statement_faults.specs.Said.{definitions, names}
-use Rattle.statement_faults.specs.TreeOf.{AreRanks, FirstOnCycle, HasNoCycle, input_lists, numbers, tree_of}
+use Rattle.statement_faults.specs.TreeOf.{AreRanks, FirstOnCycle, HasNoCycle, IsSurveyed, input_lists, numbers, tree_of}
 use Rattle.statement_faults.specs.Triggers.{HasUnitDependents, IsGraphOf, dependents_by, row_at, written_gate}
 use Rattle.statement_faults.proofs.Differ.{differ-names, differ-repeats}
 use Rattle.statement_faults.proofs.Faultless.{IsTree-faultless}
 use Rattle.statement_faults.proofs.Refusals.{AreFirst, NoneOf-append}
 use Rattle.statement_faults.proofs.GoodGates.{unit_dependents}
 use Rattle.statement_faults.proofs.StatementNames.{inputs_known}
-use Rattle.statement_faults.proofs.Surveyed.{IsGraph-of, Surveyed, are_ranks, cycle_found, no_cycle}
+use Rattle.statement_faults.proofs.Surveyed.{IsGraph-of, is_surveyed, are_ranks, cycle_found, no_cycle}
 
 -- ---- the graph of what each node reads
 
@@ -150,21 +150,20 @@ module _ (read : ReadTree) where
     abbrev read_graph : List (List ℕ)
     read_graph = graph (unit_total read.statements) (numbered_gates read.statements) low
 
-    surveyed : (marks : List Bool) × (ranks : List ℕ) × Surveyed read.statements read_graph marks ranks
+    surveyed : (marks : List Bool) × (ranks : List ℕ) × IsSurveyed read.statements marks ranks
     surveyed =
         let is = is_graph_of (unit_total read.statements) (numbered_gates read.statements) low in
         let known = inputs_known read.statements none.1.1.1.0 in
         let (marks, ranks, survey) = survey_exists read_graph (IsGraph-of read.statements read_graph is known) in (
           marks,
           ranks,
-          record {
+          is_surveyed read.statements read_graph marks ranks (record {
             graph_is = is;
             each = known;
-            once = once;
             exact = survey.exact;
             ranked = survey.ranked;
             ranks_all = survey.all;
-          },
+          }),
         )
 
     some_place : (found : Option Place) → (found ≡ None) ⊎ ((place : Place) × (found ≡ Some place))
@@ -177,11 +176,11 @@ module _ (read : ReadTree) where
         let (marks, ranks, survey) = surveyed in
         elim (some_place (first (marked_places marks (names read.statements) (definitions read.statements)))) [
           | inl unmarked ↦ inl (
-            no_cycle read.statements read_graph marks ranks survey unmarked,
+            no_cycle read.statements marks ranks survey unmarked,
             drop 1 ranks,
-            are_ranks read.statements read_graph marks ranks survey unmarked,
+            are_ranks read.statements marks ranks survey unmarked once,
           )
-          | inr (place, found) ↦ inr (place, cycle_found read.statements read_graph marks ranks survey place found)
+          | inr (place, found) ↦ inr (place, cycle_found read.statements marks ranks survey place found)
         ]
 
   tree_of_ranks : All KeepsForm read.statements → (none : NoneOf read before_cycles) → HasNoCycle read.statements

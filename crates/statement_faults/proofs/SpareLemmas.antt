@@ -1,12 +1,11 @@
 -- That a table by number tells the same clashes as the list of earlier uses.
 use Rattle.std.proofs.Common.{◌≡◌, ℕ, suc, ◌+◌, ◌<◌, ◌≤◌, Bool, true, false, List, [], ◌∷◌, ◌++◌, length, drop, get_or}
 use Rattle.std.proofs.Common.{replicate, refl, sym, ◌∙◌, ap, subst, ◌⊎◌, inl, inr, arith, length-set, get_or-set_same}
-use Rattle.std.proofs.Common.{get_or-set_other, append_assoc, take, ◌-◌}
+use Rattle.std.proofs.Common.{get_or-set_other, append_assoc}
 use Rattle.std.specs.Prelude.{if◌then◌else◌, ◌==◌, ◌&&◌, ◌||◌, not, All, Some, None}
 use Rattle.std.specs.List.{list_any}
 use Rattle.std.proofs.lemmas.Bool.{cases_eq, eq-eqb, ne_eqb}
-use Rattle.std.proofs.lemmas.List.{length-replicate, get_or-replicate, take_all}
-use Rattle.std.proofs.lemmas.List.Elements.{All-tail}
+use Rattle.std.proofs.lemmas.List.{length-replicate, get_or-replicate}
 use Rattle.fault_words.specs.declared.place.Place.{Place}
 use Rattle.statement_faults.proofs.FirstPlaces.{first_of_more, first_of_some, drop_at}
 use Rattle.statement_faults.specs.declared.numbered.Numbered.{Numbered}
@@ -166,11 +165,7 @@ module _ (gates : List NumberedGate) (i : ℕ) (gate : NumberedGate) (short : i 
       ap first parts ∙ first_of_some (clashes_by table (spare_uses_in gate))
       (clashes_by (table_after table (spare_uses_in gate)) (spare_uses (drop (i + 1) gates))) place some
 
--- the inputs after the first have their places in a table that is as long
-pub later_low : (low more : ℕ) (inputs : List Numbered) → more ≡ low → 1 ≤ length inputs
-    → All (λ input. input.number < low) inputs
-    → All (λ input. input.number < more) (take (length inputs - 1) (drop 1 inputs))
-later_low low more [] same one within = absurd (omega arith)
-later_low low more (input ∷ inputs) same one within =
-    rw (same, take_all (length (input ∷ inputs) - 1) inputs (omega arith))
-    (All-tail (λ (i : Numbered). i.number < low) input inputs within)
+-- the inputs of a spare gate that are left, as uses, by whether the first of them is the gate's first
+abbrev pub uses_from : Bool → List Numbered → List SpareUse
+uses_from is_first [] = []
+uses_from is_first (input ∷ inputs) = record { input = input; is_first = is_first } ∷ later_uses inputs

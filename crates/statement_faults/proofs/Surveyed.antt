@@ -1,26 +1,28 @@
 -- What the marks and ranks of the graph say of the statements.
 use Rattle.std.proofs.Common.{◌≡◌, ℕ, zero, suc, ◌+◌, ◌-◌, ◌<◌, ◌≤◌, ◌↔◌, Bool, true, false, not, List, [], ◌∷◌, length}
 use Rattle.std.proofs.Common.{map, drop, get_or, refl, sym, ap, ◌∙◌, subst, inl, inr, arith, length-append}
-use Rattle.std.specs.Prelude.{IsTrue, Some, None, slice_index, slice_index_or}
+use Rattle.std.specs.Prelude.{IfOk, IsTrue, Result, Ok, Err, Some, None, slice_index, slice_index_or}
 use Rattle.std.specs.List.{position_or_len}
+use Rattle.std.specs.Vec.{vec_len}
 use Rattle.std.proofs.lemmas.List.{length-map, get_or-drop, length-drop}
 use Rattle.std.proofs.lemmas.List.Sums.{position_or_len_is}
 use Rattle.std.proofs.lemmas.Bool.{cases_Bool, or_left, or_right, or_parts, and_parts}
 use Rattle.fault_words.specs.declared.place.Place.{Place}
 use Rattle.fault_definitions.specs.Trigger.{below}
 use Rattle.graph_cycles.specs.Graph.{successors, Leads, IsGraph, rank_over}
+use Rattle.graph_cycles.specs.declared.Survey.{Survey}
 use Rattle.galileo_tree.specs.declared.raw.Placed.{Placed}
 use Rattle.galileo_tree.specs.declared.raw.Statement.{Statement}
 use Rattle.statement_faults.specs.declared.numbered.NumberedGate.{NumberedGate}
 use Rattle.fault_words.specs.Names.{has_name, same_name, all_differ, number_in}
 use Rattle.statement_faults.specs.Said.{basics, gates, names, basic_names, gate_names, definitions}
 use Rattle.statement_faults.proofs.SaidLemmas.{names_in}
-use Rattle.statement_faults.specs.Said.{uses}
 use Rattle.statement_faults.specs.Numbered.{numbered_gates, numbered_gate, unit_total, kinds, kept_inputs}
-use Rattle.statement_faults.specs.TreeOf.{tree_of, numbers, input_lists, IsCyclic, FirstOnCycle, HasNoCycle, AreRanks}
-use Rattle.statement_faults.specs.Classes.{first, undefined, dependent_gates}
-use Rattle.statement_faults.specs.Numbering.{IsDeckOf}
-use Rattle.statement_faults.specs.declared.numbered.NumberedText.{NumberedText}
+use Rattle.statement_faults.specs.TreeOf.{tree_of, input_lists, numbers, IsCyclic, FirstOnCycle, HasNoCycle, AreRanks}
+use Rattle.statement_faults.specs.TreeOf.{IsSurveyed}
+use Rattle.statement_faults.specs.Classes.{first, dependent_gates}
+use Rattle.statement_faults.specs.Examined.{AreParts}
+use Rattle.statement_faults.specs.declared.numbered.Parts.{Parts}
 use Rattle.statement_faults.proofs.StatementNames.{inputs_known}
 use Rattle.statement_faults.proofs.GoodGates.{unit_dependents}
 use Rattle.statement_faults.specs.Marked.{marked_places}
@@ -120,7 +122,6 @@ pub record Surveyed (statements : List Statement) (graph : List (List ℕ)) (mar
     (ranks : List ℕ) : Type 0 where
   pub graph_is : IsGraphOf (unit_total statements) (numbered_gates statements) graph
   pub each : Each (IsNumber (length (names statements))) (numbered_gates statements)
-  pub once : all_differ (names statements) ≡ true
   pub exact : (x : ℕ) → x < length graph → IsTrue (slice_index_or marks x false) ↔ Leads graph x x
   pub ranked : (x : ℕ) → x < length graph → slice_index_or marks x false ≡ false
       → slice_index ranks x ≡ rank_over ranks (successors graph x)
@@ -151,52 +152,14 @@ module _ (statements : List Statement) (graph : List (List ℕ)) (marks : List B
             s.graph_is,
       )
 
-  unmarked_acyclic : (i : ℕ) → slice_index_or marks
-      (slice_index (numbers_of (names statements) (definitions statements)) i) false ≡ false → ¬ IsCyclic statements i
-  unmarked_acyclic i unmarked cyclic =
-      let within : slice_index (numbers_of (names statements) (definitions statements)) i < length graph =
-      omega (arith, total, low_number (names statements) (definitions statements) i) in
-      let marked : slice_index_or marks (slice_index (numbers_of (names statements) (definitions statements)) i) false
-      ≡ true =
-      (s.exact (slice_index (numbers_of (names statements) (definitions statements)) i) within).1
-      (to_graph statements [] graph s.graph_is cyclic) in
-      cc
-
-  pub cycle_found : (place : Place) → first (marked_places marks (names statements) (definitions statements))
-      ≡ Some place → FirstOnCycle statements place
-  cycle_found place found =
-      let f : FirstMarked marks (names statements) (definitions statements) place =
-      first_marked marks (names statements) (definitions statements) place found in
-      let within : slice_index (numbers_of (names statements) (definitions statements)) f.index < length graph =
-      omega (arith, total, low_number (names statements) (definitions statements) f.index) in
-      record {
-        index = f.index;
-        at = f.at;
-        cyclic =
-            from_graph statements [] graph s.graph_is ((s.exact
-            (slice_index (numbers_of (names statements) (definitions statements)) f.index) within).0 f.marked);
-        no_earlier = λ i less. unmarked_acyclic i (f.no_earlier i less);
-      }
-
-  pub no_cycle : first (marked_places marks (names statements) (definitions statements)) ≡ None → HasNoCycle statements
-  no_cycle none i l = unmarked_acyclic i (none_marked marks (names statements) (definitions statements) none i l)
-
-  -- no node is marked
-  all_unmarked : first (marked_places marks (names statements) (definitions statements)) ≡ None → (x : ℕ) → 1 ≤ x
-      → x ≤ length (names statements) → slice_index_or marks x false ≡ false
-  all_unmarked none x some within =
-      let found = number_defined statements x s.once some within in
-      subst (λ n. slice_index_or marks n false ≡ false) found.2
-      (none_marked marks (names statements) (definitions statements) none found.0 found.1)
-
   shifted : (x : ℕ) → 1 ≤ x → slice_index ranks x ≡ slice_index (0 ∷ drop 1 ranks) x
   shifted zero some = absurd (omega arith)
   shifted (suc x) some =
       sym (get_or-drop 1 ranks x 0 ∙ ap (slice_index ranks) (let e : 1 + x ≡ suc x = omega arith in e))
 
-  pub are_ranks : first (marked_places marks (names statements) (definitions statements)) ≡ None
+  ranks_are : ((x : ℕ) → 1 ≤ x → x ≤ length (names statements) → slice_index_or marks x false ≡ false)
       → AreRanks statements (drop 1 ranks)
-  are_ranks none = record {
+  ranks_are unmarked = record {
     all = omega (arith, length-drop 1 ranks, s.ranks_all, total);
     ranked = λ node is_node.
         let nodes : node ≤ length (names statements) =
@@ -207,9 +170,8 @@ module _ (statements : List Statement) (graph : List (List ℕ)) (marks : List B
           length-map (basics statements) (λ basic. map (λ raw. raw.attribute) basic.attributes),
           length-map (numbered_gates statements) (λ gate. gate.kind),
         ) in
-        let unmarked : slice_index_or marks node false ≡ false = all_unmarked none node is_node.0 nodes in
         sym (shifted node is_node.0)
-        ∙ (s.ranked node (omega (arith, total)) unmarked
+        ∙ (s.ranked node (omega (arith, total)) (unmarked node is_node.0 nodes)
         ∙ same_rank_over (tree_of statements (drop 1 ranks)) ranks (successors graph node)
         (below (tree_of statements (drop 1 ranks)) node)
         (same_edges statements (drop 1 ranks) graph s.graph_is node)
@@ -217,44 +179,89 @@ module _ (statements : List Statement) (graph : List (List ℕ)) (marks : List B
         (numbered_gates statements) graph s.graph_is s.each node y found).0));
   }
 
--- ---- from the deck
+  pub is_surveyed : IsSurveyed statements marks ranks
+  is_surveyed = record {
+    cyclic = λ x within.
+        let exact = s.exact x (omega (arith, total)) in (
+          λ marked. from_graph statements [] graph s.graph_is (exact.0 marked),
+          λ leads. exact.1 (to_graph statements [] graph s.graph_is leads),
+        );
+    ranked = ranks_are;
+  }
 
-pub graph_here : (statements : List Statement) (deck : NumberedText) (all : List NumberedGate) (graph : List (List ℕ))
-    → IsDeckOf (names statements) statements deck
-    → all ≡ deck.gates.items → IsGraphOf deck.units all graph
-    → IsGraphOf (unit_total statements) (numbered_gates statements) graph
-graph_here statements deck all graph d same g =
-    subst (λ u. IsGraphOf u (numbered_gates statements) graph) d.units
-    (subst (λ gs. IsGraphOf deck.units gs graph) (same ∙ d.gates_all) g)
+-- ---- by the first marked definition
 
-pub survey_of : (statements : List Statement) (deck : NumberedText) (all : List NumberedGate) (graph : List (List ℕ))
-    (marks : List Bool) (ranks : List ℕ)
-    → IsDeckOf (names statements) statements deck → all ≡ deck.gates.items → IsGraphOf deck.units all graph
-    → undefined (names statements) (uses statements) ≡ [] → all_differ (names statements) ≡ true
-    → ((x : ℕ) → x < length graph → IsTrue (slice_index_or marks x false) ↔ Leads graph x x)
-    → ((x : ℕ) → x < length graph → slice_index_or marks x false ≡ false
-    → slice_index ranks x ≡ rank_over ranks (successors graph x))
-    → length ranks ≡ length graph
-    → Surveyed statements graph marks ranks
-survey_of statements deck all graph marks ranks d same g known once exact ranked whole = record {
-  graph_is = graph_here statements deck all graph d same g;
-  each = inputs_known statements known;
-  once = once;
-  exact = exact;
-  ranked = ranked;
-  ranks_all = whole;
-}
+module _ (statements : List Statement) (marks : List Bool) (ranks : List ℕ) (s : IsSurveyed statements marks ranks)
+  where
+    unmarked_acyclic : (i : ℕ) → slice_index_or marks
+        (slice_index (numbers_of (names statements) (definitions statements)) i) false ≡ false → ¬ IsCyclic statements i
+    unmarked_acyclic i unmarked cyclic =
+        let marked : slice_index_or marks (slice_index (numbers_of (names statements) (definitions statements)) i) false
+        ≡ true =
+        (s.cyclic (slice_index (numbers_of (names statements) (definitions statements)) i)
+        (low_number (names statements) (definitions statements) i)).1 cyclic in
+        cc
 
-pub graph_whole : (statements : List Statement) (deck : NumberedText) (all : List NumberedGate) (graph : List (List ℕ))
-    → IsDeckOf (names statements) statements deck → all ≡ deck.gates.items → IsGraphOf deck.units all graph
-    → undefined (names statements) (uses statements) ≡ [] → IsGraph graph
-graph_whole statements deck all graph d same g known =
-    IsGraph-of statements graph (graph_here statements deck all graph d same g) (inputs_known statements known)
+    pub cycle_found : (place : Place) → first (marked_places marks (names statements) (definitions statements))
+        ≡ Some place → FirstOnCycle statements place
+    cycle_found place found =
+        let f : FirstMarked marks (names statements) (definitions statements) place =
+        first_marked marks (names statements) (definitions statements) place found in
+        record {
+          index = f.index;
+          at = f.at;
+          cyclic =
+              (s.cyclic (slice_index (numbers_of (names statements) (definitions statements)) f.index)
+              (low_number (names statements) (definitions statements) f.index)).0 f.marked;
+          no_earlier = λ i less. unmarked_acyclic i (f.no_earlier i less);
+        }
 
-pub units_after : (statements : List Statement) (deck : NumberedText) (all : List NumberedGate)
-    → IsDeckOf (names statements) statements deck → all ≡ deck.gates.items
-    → dependent_gates (unit_total statements) (numbered_gates statements) ≡ [] → HasUnitDependents deck.units all
-units_after statements deck all d same none =
-    subst (λ u. HasUnitDependents u all) (sym d.units)
-    (subst (λ gs. HasUnitDependents (unit_total statements) gs) (sym (same ∙ d.gates_all))
-    (unit_dependents (unit_total statements) (numbered_gates statements) none))
+    module _ (none : first (marked_places marks (names statements) (definitions statements)) ≡ None) where
+      pub no_cycle : HasNoCycle statements
+      no_cycle i l = unmarked_acyclic i (none_marked marks (names statements) (definitions statements) none i l)
+
+      pub are_ranks : all_differ (names statements) ≡ true → AreRanks statements (drop 1 ranks)
+      are_ranks once =
+          s.ranked (λ x some within.
+          let found = number_defined statements x once some within in
+          subst (λ n. slice_index_or marks n false ≡ false) found.2
+          (none_marked marks (names statements) (definitions statements) none found.0 found.1))
+
+-- ---- from the parts of a text
+
+module _ (parts : Parts) (are : AreParts parts) where
+  pub graph_here : (graph : List (List ℕ)) → IsGraphOf parts.units parts.gates.now graph
+      → IsGraphOf (unit_total parts.statements.now) (numbered_gates parts.statements.now) graph
+  graph_here graph g =
+      subst (λ u. IsGraphOf u (numbered_gates parts.statements.now) graph) are.units
+      (subst (λ gs. IsGraphOf parts.units gs graph) are.gates g)
+
+  known : Each (IsNumber (length (names parts.statements.now))) (numbered_gates parts.statements.now)
+  known = inputs_known parts.statements.now are.none.1.1.1.0
+
+  pub graph_whole : (graph : List (List ℕ)) → IsGraphOf parts.units parts.gates.now graph → IsGraph graph
+  graph_whole graph g = IsGraph-of parts.statements.now graph (graph_here graph g) known
+
+  pub units_low : dependent_gates (unit_total parts.statements.now) (numbered_gates parts.statements.now) ≡ []
+      → HasUnitDependents parts.units parts.gates.now
+  units_low none =
+      subst (λ u. HasUnitDependents u parts.gates.now) (sym are.units)
+      (subst (λ gs. HasUnitDependents (unit_total parts.statements.now) gs) (sym are.gates)
+      (unit_dependents (unit_total parts.statements.now) (numbered_gates parts.statements.now) none))
+
+  pub surveyed : {E : Type 0} (graph : List (List ℕ)) → IsGraphOf parts.units parts.gates.now graph
+      → (found : Result Survey E) → IfOk found (λ s. vec_len s.ranks ≡ length graph)
+      → IfOk found (λ s. (x : ℕ) → x < length graph
+      → IsTrue (slice_index_or s.on_cycle.items x false) ↔ Leads graph x x)
+      → IfOk found (λ s. (x : ℕ) → x < length graph → slice_index_or s.on_cycle.items x false ≡ false
+      → slice_index s.ranks.items x ≡ rank_over s.ranks.items (successors graph x))
+      → IfOk found (λ s. IsSurveyed parts.statements.now s.on_cycle.items s.ranks.items)
+  surveyed graph g (Ok s) whole exact ranked =
+      is_surveyed parts.statements.now graph s.on_cycle.items s.ranks.items (record {
+        graph_is = graph_here graph g;
+        each = known;
+        exact = exact;
+        ranked = ranked;
+        ranks_all = omega (arith, whole);
+      })
+  surveyed graph g (Err e) whole exact ranked = tt

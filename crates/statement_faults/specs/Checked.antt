@@ -6,7 +6,9 @@ use Rattle.fault_words.specs.declared.place.Place.{Place}
 use Rattle.galileo_tree.specs.ReadTree.{ReadTree}
 use Rattle.statement_faults.specs.Said.{basics, names, uses}
 use Rattle.statement_faults.specs.Numbered.{numbered_gates, numbered_tops, unit_total}
-use Rattle.statement_faults.specs.Classes as classes
+use Rattle.statement_faults.specs.Classes.{first, missing_tops, further_tops, repeats, undefined, wrong_votes, dummies}
+use Rattle.statement_faults.specs.Classes.{inputless, short_fdeps, dependent_gates, spare_gates, shared_spares}
+use Rattle.statement_faults.specs.Classes.{replicated, fdep_tops, units_beyond, gates_beyond}
 use Rattle.statement_faults.specs.TreeOf.{FirstOnCycle, HasNoCycle, tree_of}
 use Rattle.statement_faults.specs.declared.fault.CheckCode.{CheckCode}
 use Rattle.statement_faults.specs.declared.fault.CheckCode.TheVariants.{NoToplevel, TwoToplevels, DuplicateName}
@@ -21,23 +23,23 @@ use Rattle.statement_faults.specs.declared.fault.CheckFault.TheVariants.{Fault, 
 
 -- the places of each class but the cycles, in the order of the text
 abbrev pub places : ReadTree → CheckCode → List Place
-places read NoToplevel = classes.missing_tops read.statements read.end
-places read TwoToplevels = classes.further_tops read.statements
-places read DuplicateName = classes.repeats read.statements
-places read Undefined = classes.undefined (names read.statements) (uses read.statements)
-places read Votes = classes.wrong_votes (numbered_gates read.statements)
-places read DummyInput = classes.dummies (unit_total read.statements) (numbered_gates read.statements)
-places read NoInputs = classes.inputless (unit_total read.statements) (numbered_gates read.statements)
-places read FdepShape = classes.short_fdeps (numbered_gates read.statements)
-places read DependentGate = classes.dependent_gates (unit_total read.statements) (numbered_gates read.statements)
-places read SpareNotBasic = classes.spare_gates (unit_total read.statements) (numbered_gates read.statements)
-places read SharedSpare = classes.shared_spares (numbered_gates read.statements)
-places read Replicated = classes.replicated (basics read.statements)
+places read NoToplevel = missing_tops read.statements read.end
+places read TwoToplevels = further_tops read.statements
+places read DuplicateName = repeats read.statements
+places read Undefined = undefined (names read.statements) (uses read.statements)
+places read Votes = wrong_votes (numbered_gates read.statements)
+places read DummyInput = dummies (unit_total read.statements) (numbered_gates read.statements)
+places read NoInputs = inputless (unit_total read.statements) (numbered_gates read.statements)
+places read FdepShape = short_fdeps (numbered_gates read.statements)
+places read DependentGate = dependent_gates (unit_total read.statements) (numbered_gates read.statements)
+places read SpareNotBasic = spare_gates (unit_total read.statements) (numbered_gates read.statements)
+places read SharedSpare = shared_spares (numbered_gates read.statements)
+places read Replicated = replicated (basics read.statements)
 places read TopIsFdep =
-    classes.fdep_tops (unit_total read.statements) (numbered_gates read.statements) (numbered_tops read.statements)
+    fdep_tops (unit_total read.statements) (numbered_gates read.statements) (numbered_tops read.statements)
 places read Cycle = []
-places read TooManyUnits = classes.units_beyond (basics read.statements)
-places read TooManyGates = classes.gates_beyond (numbered_gates read.statements)
+places read TooManyUnits = units_beyond (basics read.statements)
+places read TooManyGates = gates_beyond (numbered_gates read.statements)
 
 -- none of some classes occurs
 abbrev pub NoneOf : ReadTree → List CheckCode → Type 0
@@ -62,7 +64,7 @@ pub record IsFaultless (read : ReadTree) : Type 0 where
 
 -- this class occurs at this place first, and none of the classes before it
 abbrev pub FirstOf : ReadTree → List CheckCode → CheckCode → Place → Type 0
-FirstOf read earlier code place = NoneOf read earlier × (classes.first (places read code) ≡ Some place)
+FirstOf read earlier code place = NoneOf read earlier × (first (places read code) ≡ Some place)
 
 -- this class after the cycles occurs first: none of those before it does, and no definition leads to itself
 abbrev pub FirstAfter : ReadTree → List CheckCode → CheckCode → Place → Type 0

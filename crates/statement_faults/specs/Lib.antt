@@ -17,6 +17,7 @@ pub mod Naming
 pub mod Numbering
 pub mod Triggers
 pub mod Marked
-pub mod Groups
+-- classes one after another
+pub mod Tried
 -- a text by numbers in which no class of faults occurs
 pub mod Examined

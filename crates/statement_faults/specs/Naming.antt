@@ -2,6 +2,15 @@
 use Rattle.std.specs.Prelude.{◌≡◌, ℕ, Bool, true, not, List, [], ◌∷◌, ◌++◌, Option, Some, None, if◌then◌else◌}
 use Rattle.std.specs.Borrow.{Bor}
 use Rattle.fault_words.specs.Names.{has_name}
+use Rattle.galileo_tree.specs.declared.raw.Statement.{Statement}
+use Rattle.statement_faults.specs.Said.{basic_names, gate_names}
+use Rattle.statement_faults.specs.declared.naming.Named.{Named}
+use Rattle.statement_faults.specs.declared.naming.Named.TheVariants.{BasicEvents, Gates}
+
+-- the names of the basic events or of the gates
+abbrev pub names_of : Named → List Statement → List (List ℕ)
+names_of BasicEvents statements = basic_names statements
+names_of Gates statements = gate_names statements
 
 -- the name that a reference leads to, if there is one
 abbrev pub name_list : Option (Bor (List ℕ)) → List (List ℕ)

@@ -1,5 +1,6 @@
 -- The tree that statements stand for, once no fault is found, and what leads to what in it.
-use Rattle.std.specs.Prelude.{◌≡◌, ℕ, ◌<◌, IsTrue, List, [], ◌∷◌, length, map, slice_index, slice_get, Some}
+use Rattle.std.specs.Prelude.{◌≡◌, ◌↔◌, ℕ, ◌<◌, ◌≤◌, Bool, false, IsTrue, List, [], ◌∷◌, length, drop, map, slice_index}
+use Rattle.std.specs.Prelude.{slice_index_or, slice_get, Some}
 use Rattle.unit_sets.specs.UnitList.{among}
 use Rattle.fault_words.specs.declared.place.Place.{Place}
 use Rattle.fault_definitions.specs.Tree.{FaultTree}
@@ -68,6 +69,13 @@ HasNoCycle statements = (i : ℕ) → i < length (definitions statements) → ¬
 pub record AreRanks (statements : List Statement) (ranks : List ℕ) : Type 0 where
   pub all : length ranks ≡ length (names statements)
   pub ranked : IsRanked (tree_of statements ranks)
+
+-- the marks tell which nodes lead to themselves; where none does, the ranks behind the first are those of the nodes
+pub record IsSurveyed (statements : List Statement) (marks : List Bool) (ranks : List ℕ) : Type 0 where
+  pub cyclic : (x : ℕ) → x ≤ length (names statements)
+      → IsTrue (slice_index_or marks x false) ↔ LeadsTo (tree_of statements []) x x
+  pub ranked : ((x : ℕ) → 1 ≤ x → x ≤ length (names statements) → slice_index_or marks x false ≡ false)
+      → AreRanks statements (drop 1 ranks)
 
 -- the nodes of the statements' tree have ranks
 pub record HasRanks (statements : List Statement) : Type 0 where

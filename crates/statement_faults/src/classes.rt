@@ -1,82 +1,67 @@
-//! The classes of faults in their order, once the text is read by numbers.
-ghost use Rattle.std.specs.Prelude.{◌≡◌, ◌+◌, ◌<◌, None, length, IfErr, OnOk};
-ghost use Rattle.statement_faults.specs.Groups.{top_classes, kind_classes, later_classes, rest_classes, limit_classes};
-ghost use Rattle.statement_faults.specs.SpareTable.{AreWithin};
-ghost use Rattle.statement_faults.specs.Groups.{NoneIn, FirstIn, IsRefusedBy};
+//! The classes of faults that a look at each statement or gate tells.
+ghost use Rattle.std.specs.Prelude.{◌≡◌, take, IfErr, OnOk};
+ghost use Rattle.statement_faults.specs.Checked.{before_cycles, IsRefusal, NoneOf};
+ghost use Rattle.statement_faults.specs.Classes.{first};
+ghost use Rattle.statement_faults.specs.Examined.{AreParts, read_of};
+ghost use Rattle.statement_faults.specs.Tried.{told, NoneTold, FirstTold};
 
-use crate::numbered::{Numbered, NumberedGate};
-use crate::{CheckCode, CheckFault, gates, spares, statements};
+use crate::gates::{fdep_among, first_at_gates, name_after};
+use crate::numbered::Parts;
+use crate::statements::{replication, top_after, unit_after};
+use crate::{CheckCode, CheckFault};
+use fault_definitions::MOST_GATES;
 use fault_words::Place;
-use galileo_tree::Statement;
-use std::alloc::Global;
+use galileo_tree::RawTree;
+use unit_sets::UnitNo;
 
-/// The fault of a class, where a place of it is found.
-fn refuse(code: CheckCode, found: Option<Place>) -> Result<(), CheckFault>
-    ensures none { OnOk result (found ≡ None) }
-    ensures fault { IfErr result (IsRefusedBy code found) }
+/// The most basic events of a tree.
+const MOST_UNITS: usize = UnitNo::MAX as usize;
+
+/// The classes of the top statements.
+pub(crate) fn check_tops(raw: &RawTree) -> Result<(), CheckFault>
+    ensures none { OnOk result (NoneOf raw.now (take 2 before_cycles)) }
+    ensures fault { IfErr result (IsRefusal raw.now) }
 {
-    match found {
-        Some(place) => Err(CheckFault::Fault(code, place)),
+    let statements = raw.statements();
+    if top_after(statements, 0).is_none() {
+        return Err(CheckFault::Fault(CheckCode::NoToplevel, raw.end()));
+    }
+    match top_after(statements, 1) {
+        Some(word) => Err(CheckFault::Fault(CheckCode::TwoToplevels, word)),
         None => Ok(()),
     }
 }
 
-/// The classes of the top statements.
-pub(crate) fn check_tops(all: &[Statement], end: Place) -> Result<(), CheckFault>
-    ensures none { OnOk result (NoneIn (top_classes all.now end)) }
-    ensures fault { IfErr result (FirstIn (top_classes all.now end)) }
+/// The first place of a class.
+fn first_place(code: CheckCode, parts: Parts<'_>) -> Option<Place>
+    requires { AreParts parts }
+    ensures { result ≡ first (told (read_of parts.entry) code) }
 {
-    refuse(CheckCode::NoToplevel, statements::missing_top(all, end))?;
-    refuse(CheckCode::TwoToplevels, statements::further_top(all))
+    match code {
+        CheckCode::Votes
+        | CheckCode::DummyInput
+        | CheckCode::NoInputs
+        | CheckCode::FdepShape
+        | CheckCode::DependentGate
+        | CheckCode::SpareNotBasic => first_at_gates(code, parts.units, parts.gates),
+        CheckCode::Replicated => replication(parts.statements),
+        CheckCode::TopIsFdep => fdep_among(parts.units, parts.gates, parts.tops),
+        CheckCode::TooManyUnits => unit_after(parts.statements, MOST_UNITS),
+        CheckCode::TooManyGates => name_after(parts.gates, MOST_GATES),
+        _ => None,
+    }
 }
 
-/// The classes of a gate's kind and inputs.
-pub(crate) fn check_kinds(units: usize, all: &[NumberedGate]) -> Result<(), CheckFault>
-    ensures none { OnOk result (NoneIn (kind_classes units all.now)) }
-    ensures fault { IfErr result (FirstIn (kind_classes units all.now)) }
+/// Tries some classes in their order.
+pub(crate) fn try_classes(codes: &[CheckCode], parts: Parts<'_>) -> Result<(), CheckFault>
+    requires { AreParts parts }
+    ensures none { OnOk result (NoneTold (read_of parts.entry) codes.now) }
+    ensures fault { IfErr result (FirstTold (read_of parts.entry) codes.now) }
 {
-    refuse(CheckCode::Votes, gates::wrong_vote(all))?;
-    refuse(CheckCode::DummyInput, gates::dummy(units, all))?;
-    refuse(CheckCode::NoInputs, gates::inputless(units, all))?;
-    refuse(CheckCode::FdepShape, gates::short_fdep(all))
-}
-
-/// The classes of what may stand after a gate's first input.
-pub(crate) fn check_later_inputs(
-    alloc: Global,
-    units: usize,
-    all: &[NumberedGate],
-) -> Result<(), CheckFault>
-    requires numbers { AreWithin (units + length all.now) all.now }
-    requires few { units + length all.now < usize.MAX }
-    ensures none { OnOk result (NoneIn (later_classes units all.now)) }
-    ensures fault { IfErr result (FirstIn (later_classes units all.now)) }
-{
-    refuse(CheckCode::DependentGate, gates::dependent_gate(units, all))?;
-    refuse(CheckCode::SpareNotBasic, gates::spare_gate(units, all))?;
-    let shared = spares::shared_spare(alloc, units + all.len(), all)?;
-    refuse(CheckCode::SharedSpare, shared)
-}
-
-/// The classes of attributes and the top event.
-pub(crate) fn check_rest(
-    units: usize,
-    all: &[NumberedGate],
-    tops: &[Numbered],
-    text: &[Statement],
-) -> Result<(), CheckFault>
-    ensures none { OnOk result (NoneIn (rest_classes units all.now tops.now text.now)) }
-    ensures fault { IfErr result (FirstIn (rest_classes units all.now tops.now text.now)) }
-{
-    refuse(CheckCode::Replicated, statements::replication(text))?;
-    refuse(CheckCode::TopIsFdep, gates::fdep_top(units, all, tops))
-}
-
-/// The limits on units and gates.
-pub(crate) fn check_limits(all: &[NumberedGate], text: &[Statement]) -> Result<(), CheckFault>
-    ensures none { OnOk result (NoneIn (limit_classes all.now text.now)) }
-    ensures fault { IfErr result (FirstIn (limit_classes all.now text.now)) }
-{
-    refuse(CheckCode::TooManyUnits, statements::unit_beyond(text))?;
-    refuse(CheckCode::TooManyGates, gates::gate_beyond(all))
+    for code in codes {
+        if let Some(place) = first_place(*code, parts) {
+            return Err(CheckFault::Fault(*code, place));
+        }
+    }
+    Ok(())
 }

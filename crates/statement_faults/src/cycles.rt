@@ -1,26 +1,25 @@
 //! Definitions that lead to themselves.
-ghost use Rattle.std.specs.Prelude.{◌≡◌, ◌+◌, ◌<◌, ◌≤◌, ◌||◌, ◌&&◌, ◌==◌, ◌∷◌, ◌++◌, ℕ, [], length, map, All, IfOk};
-ghost use Rattle.std.specs.Prelude.{IfErr, OnOk, slice_index_or, filter_map, true, false};
-ghost use Rattle.statement_faults.specs.Said.{definitions, names, uses};
-ghost use Rattle.fault_words.specs.Names.{all_differ};
-ghost use Rattle.statement_faults.specs.Numbering.{IsDeckOf};
+ghost use Rattle.std.specs.Prelude.{◌≡◌, ◌+◌, ◌<◌, ◌++◌, [], length, map, false, All, IfOk, IfErr, OnOk};
+ghost use Rattle.std.specs.Prelude.{slice_index_or};
+ghost use Rattle.statement_faults.specs.Said.{definitions, names};
 ghost use Rattle.statement_faults.specs.Found.{IsCycleFault};
-ghost use Rattle.statement_faults.specs.Classes.{first, undefined, dependent_gates};
+ghost use Rattle.statement_faults.specs.Checked.{places};
+ghost use Rattle.statement_faults.specs.Classes.{first};
+ghost use Rattle.statement_faults.specs.Examined.{AreParts, read_of};
 ghost use Rattle.statement_faults.specs.Marked.{marked_places};
-ghost use Rattle.unit_sets.specs.UnitList.{among};
-ghost use Rattle.statement_faults.specs.TreeOf.{numbers, input_lists, HasNoCycle, HasRanks};
-ghost use Rattle.statement_faults.specs.Numbered.{kinds, kept_inputs, kept_by, is_fdep_in, unit_total, numbered_gates};
+ghost use Rattle.statement_faults.specs.TreeOf.{numbers, input_lists, HasNoCycle, HasRanks, IsSurveyed};
+ghost use Rattle.statement_faults.specs.Numbered.{kinds, kept_inputs};
 ghost use Rattle.statement_faults.specs.Triggers.{Notes, AddsTriggers, HasTriggers, HasUnitDependents, IsGraphOf};
 ghost use Rattle.statement_faults.specs.Triggers.{dependents_of, written_gate};
 
 use crate::gates::{drops_fdeps, is_fdep};
 use crate::naming::definition;
-use crate::numbered::{Numbered, NumberedGate, NumberedText};
+use crate::numbered::{Numbered, NumberedGate, Parts};
 use crate::{CheckCode, CheckFault};
 use fault_words::{GateKind, Place};
 use flat_rows::{GrowingList, Rows, empty_lists};
-use galileo_tree::{Placed, Statement};
-use graph_cycles::find_cycles;
+use galileo_tree::Statement;
+use graph_cycles::{Survey, find_cycles};
 use name_index::NameIndex;
 use std::alloc::{AllocError, Global};
 
@@ -80,33 +79,9 @@ fn keep_inputs(
     ensures { OnOk result (row.new.items ≡ numbers (kept_inputs units (kinds gates.now) gate.now)) }
 {
     row.clear();
-    if drops_fdeps(gate.kind) {
-        keep_read(row, units, gates, gate.inputs.as_slice())
-    } else {
-        keep_all(row, gate.inputs.as_slice())
-    }
-}
-
-fn keep_all(row: &mut Vec<usize>, inputs: &[Numbered]) -> Result<(), AllocError>
-    ensures { OnOk result (row.new.items ≡ row.old.items ++ numbers inputs.now) }
-{
-    for input in inputs {
-        row.push(input.number)?;
-    }
-    Ok(())
-}
-
-fn keep_read(
-    row: &mut Vec<usize>,
-    units: usize,
-    gates: &[NumberedGate],
-    inputs: &[Numbered],
-) -> Result<(), AllocError>
-    ensures { OnOk result (row.new.items ≡ row.old.items
-        ++ numbers (kept_by true (is_fdep_in units (kinds gates.now)) inputs.now)) }
-{
-    for input in inputs {
-        if !is_fdep(units, gates, input.number) {
+    let drops = drops_fdeps(gate.kind);
+    for input in gate.inputs.as_slice() {
+        if !(drops && is_fdep(units, gates, input.number)) {
             row.push(input.number)?;
         }
     }
@@ -151,12 +126,6 @@ fn graph_of(alloc: Global, units: usize, gates: &[NumberedGate]) -> Result<Rows<
     Ok(graph)
 }
 
-fn is_marked(marks: &[bool], number: usize) -> bool
-    ensures { result ≡ slice_index_or marks.now number false }
-{
-    marks.get(number).copied().unwrap_or(false)
-}
-
 /// The first definition of the text whose number is marked. Mostly none is, and then no name is looked up.
 fn first_marked(index: &NameIndex<'_>, marks: &[bool], statements: &[Statement]) -> Option<Place>
     ensures { result ≡ first (marked_places marks.now index.now (definitions statements.now)) }
@@ -174,26 +143,41 @@ fn first_marked(index: &NameIndex<'_>, marks: &[bool], statements: &[Statement])
     None
 }
 
+fn is_marked(marks: &[bool], number: usize) -> bool
+    ensures { result ≡ slice_index_or marks.now number false }
+{
+    marks.get(number).copied().unwrap_or(false)
+}
+
+/// Which nodes lead to themselves, and the ranks of the nodes where none does.
+fn survey(alloc: Global, parts: Parts<'_>) -> Result<Survey, AllocError>
+    requires parts { AreParts parts }
+    requires dependents { places (read_of parts) CheckCode.DependentGate ≡ [] }
+    ensures { IfOk result (λ s. IsSurveyed parts.entry.statements.now s.on_cycle.items s.ranks.items) }
+{
+    let graph = graph_of(alloc, parts.units, parts.gates)?;
+    let survey = find_cycles(alloc, &graph);
+    drop(graph);
+    survey
+}
+
 /// The class of definitions that lead to themselves. Where there is none the nodes have ranks.
 pub(crate) fn check_cycles(
     alloc: Global,
     index: &NameIndex<'_>,
-    statements: &[Statement],
-    deck: &NumberedText,
+    parts: Parts<'_>,
 ) -> Result<(), CheckFault>
-    requires names { index.now ≡ names statements.now }
-    requires deck { IsDeckOf (names statements.now) statements.now deck.now }
-    requires once { all_differ (names statements.now) ≡ true }
-    requires known { undefined (names statements.now) (uses statements.now) ≡ [] }
-    requires dependents { dependent_gates (unit_total statements.now) (numbered_gates statements.now) ≡ [] }
-    requires small { deck.now.units + 1 < 18446744073709551616 }
-    ensures acyclic { OnOk result (HasNoCycle statements.now) }
-    ensures ranks { OnOk result (HasRanks statements.now) }
-    ensures fault { IfErr result (IsCycleFault statements.now) }
+    requires names { index.now ≡ names parts.statements.now }
+    requires parts { AreParts parts }
+    requires dependents { places (read_of parts) CheckCode.DependentGate ≡ [] }
+    ensures acyclic { OnOk result (HasNoCycle parts.entry.statements.now) }
+    ensures ranks { OnOk result (HasRanks parts.entry.statements.now) }
+    ensures fault { IfErr result (IsCycleFault parts.entry.statements.now) }
 {
-    let graph = graph_of(alloc, deck.units, &deck.gates)?;
-    let found = find_cycles(alloc, &graph)?;
-    match first_marked(index, &found.on_cycle, statements) {
+    let survey = survey(alloc, parts)?;
+    let marked = first_marked(index, &survey.on_cycle, parts.statements);
+    drop(survey);
+    match marked {
         Some(place) => Err(CheckFault::Fault(CheckCode::Cycle, place)),
         None => Ok(()),
     }

@@ -1,14 +1,17 @@
 //! The classes of faults, one after another.
-ghost use Rattle.std.specs.Prelude.{◌≡◌, ◌≤◌, length, IfOk, IfErr, OnOk};
-ghost use Rattle.statement_faults.specs.Checked.{IsRefusal};
-ghost use Rattle.statement_faults.specs.Examined.{IsExamined, IsNumbered};
+ghost use Rattle.std.specs.Prelude.{◌≡◌, true, take, IfOk, IfErr, OnOk};
+ghost use Rattle.fault_words.specs.Names.{all_differ};
+ghost use Rattle.statement_faults.specs.Checked.{before_cycles, IsRefusal, NoneOf};
+ghost use Rattle.statement_faults.specs.Examined.{AreParts, HasPassed, IsExamined, read_of};
 ghost use Rattle.statement_faults.specs.Said.{names};
 
-use crate::classes::{check_kinds, check_later_inputs, check_limits, check_rest, check_tops};
+use crate::classes::{check_tops, try_classes};
 use crate::cycles::check_cycles;
 use crate::naming::name_all;
+use crate::numbered::Parts;
 use crate::numbering::number_all;
-use crate::{CheckFault, NumberedText};
+use crate::spares::check_spares;
+use crate::{CheckCode, CheckFault, NumberedText};
 use galileo_tree::RawTree;
 use name_index::NameIndex;
 use std::alloc::Global;
@@ -19,30 +22,61 @@ pub fn examine(alloc: Global, raw: &RawTree) -> Result<NumberedText, CheckFault>
     ensures examined { IfOk result (IsExamined raw.now) }
     ensures fault { IfErr result (IsRefusal raw.now) }
 {
-    check_tops(raw.statements(), raw.end())?;
+    check_tops(raw)?;
     let index = name_all(alloc, raw.statements())?;
-    let deck = number_all(alloc, &index, raw.statements())?;
-    examine_numbered(alloc, raw, &index, &deck)?;
-    Ok(deck)
+    let examined = examine_named(alloc, &index, raw);
+    drop(index);
+    examined
 }
 
-/// The classes that are told by numbers. Index and numbers are lent, so that no way out of here lets them go.
-fn examine_numbered(
+/// The same, once the names are in an index.
+fn examine_named(
     alloc: Global,
-    raw: &RawTree,
     index: &NameIndex<'_>,
-    deck: &NumberedText,
-) -> Result<(), CheckFault>
+    raw: &RawTree,
+) -> Result<NumberedText, CheckFault>
     requires names { index.now ≡ names raw.now.statements }
-    requires numbered { IsNumbered raw.now deck.now }
-    requires few { deck.now.units ≤ length raw.now.statements }
-    ensures examined { OnOk result (IsExamined raw.now deck.now) }
+    requires once { all_differ (names raw.now.statements) ≡ true }
+    requires none { NoneOf raw.now (take 2 before_cycles) }
+    ensures examined { IfOk result (IsExamined raw.now) }
     ensures fault { IfErr result (IsRefusal raw.now) }
 {
     let statements = raw.statements();
-    check_kinds(deck.units, &deck.gates)?;
-    check_later_inputs(alloc, deck.units, &deck.gates)?;
-    check_rest(deck.units, &deck.gates, &deck.tops, statements)?;
-    check_cycles(alloc, index, statements, deck)?;
-    check_limits(&deck.gates, statements)
+    let deck = number_all(alloc, index, statements)?;
+    let parts = Parts {
+        statements,
+        end: raw.end(),
+        units: deck.units,
+        gates: &deck.gates,
+        tops: &deck.tops,
+    };
+    match examine_parts(alloc, index, parts) {
+        Ok(()) => Ok(deck),
+        Err(fault) => {
+            drop(deck);
+            Err(fault)
+        }
+    }
+}
+
+/// The classes that are told by numbers.
+fn examine_parts(alloc: Global, index: &NameIndex<'_>, parts: Parts<'_>) -> Result<(), CheckFault>
+    requires names { index.now ≡ names parts.statements.now }
+    requires parts { AreParts parts }
+    ensures passed { OnOk result (HasPassed (read_of parts.entry)) }
+    ensures fault { IfErr result (IsRefusal (read_of parts.entry)) }
+{
+    let of_gates = [
+        CheckCode::Votes,
+        CheckCode::DummyInput,
+        CheckCode::NoInputs,
+        CheckCode::FdepShape,
+        CheckCode::DependentGate,
+        CheckCode::SpareNotBasic,
+    ];
+    try_classes(&of_gates, parts)?;
+    check_spares(alloc, parts)?;
+    try_classes(&[CheckCode::Replicated, CheckCode::TopIsFdep], parts)?;
+    check_cycles(alloc, index, parts)?;
+    try_classes(&[CheckCode::TooManyUnits, CheckCode::TooManyGates], parts)
 }

@@ -40,7 +40,7 @@ pub enum CheckCode {
 }
 
 /// Why a text was refused.
-#[derive(Clone, Copy, Debug, PartialEq, Eq)]
+#[derive(Clone, Copy)]
 pub enum CheckFault {
     /// The first class that occurs, and its first place.
     Fault(CheckCode, Place),

@@ -1,28 +1,51 @@
 //! Faults that show at one gate after another.
-ghost use Rattle.std.specs.Prelude.{◌≡◌, true, drop, map};
+ghost use Rattle.std.specs.Prelude.{◌≡◌, [], true, drop, map, if◌then◌else◌};
+ghost use Rattle.std.specs.List.{flat_map};
 ghost use Rattle.fault_definitions.specs.Tree.{is_fdep_kind};
 ghost use Rattle.statement_faults.specs.Numbered.{is_fdep_in, is_gate, is_spare_kind, drops_fdeps, kept_by, kinds};
-ghost use Rattle.statement_faults.specs.Classes.{first, is_empty, is_short_fdep, wrong_vote, wrong_votes, short_fdeps};
-ghost use Rattle.statement_faults.specs.Classes.{gates_beyond, places_where, dummies, dummies_in, reads_nothing};
-ghost use Rattle.statement_faults.specs.Classes.{inputless};
-ghost use Rattle.statement_faults.specs.Classes.{gates_after_first, dependent_gates, spare_gates, fdep_tops};
+ghost use Rattle.statement_faults.specs.Classes.{first, is_empty, wrong_vote, places_where, dummies_in, reads_nothing};
+ghost use Rattle.statement_faults.specs.Tried.{places_at};
 
+use crate::CheckCode;
 use crate::numbered::{Numbered, NumberedGate};
-use fault_definitions::MOST_GATES;
 use fault_words::{GateKind, Place};
 
-/// The first gate K of N of which K is 0 or above N, or that has not N inputs.
-pub(crate) fn wrong_vote(gates: &[NumberedGate]) -> Option<Place>
-    ensures { result ≡ first (wrong_votes gates.now) }
+/// The first place of a class that shows at one gate after another.
+pub(crate) fn first_at_gates(code: CheckCode, units: usize, gates: &[NumberedGate]) -> Option<Place>
+    ensures { result ≡ first (flat_map (places_at code units (kinds gates.now)) gates.now) }
 {
     for gate in gates {
-        if is_wrong_vote(gate.kind, gate.inputs.as_slice().len()) {
-            return Some(gate.word);
+        if let Some(place) = place_at(code, units, gates, gate) {
+            return Some(place);
         }
     }
     None
 }
 
+/// The first place of such a class at one gate.
+fn place_at(
+    code: CheckCode,
+    units: usize,
+    gates: &[NumberedGate],
+    gate: &NumberedGate,
+) -> Option<Place>
+    ensures { result ≡ first (places_at code units (kinds gates.now) gate.now) }
+{
+    let inputs = gate.inputs.as_slice();
+    match code {
+        CheckCode::Votes => is_wrong_vote(gate.kind, inputs.len()).then_some(gate.word),
+        CheckCode::DummyInput => fdep_read(units, gates, gate),
+        CheckCode::NoInputs => reads_nothing(units, gates, gate).then_some(gate.word),
+        CheckCode::FdepShape => {
+            (is_fdep_kind(gate.kind) && inputs.len() < 2).then_some(gate.word)
+        }
+        CheckCode::DependentGate => gate_after_first(is_fdep_kind(gate.kind), units, inputs),
+        CheckCode::SpareNotBasic => gate_after_first(is_spare_kind(gate.kind), units, inputs),
+        _ => None,
+    }
+}
+
+/// Whether a gate is one K of N of which K is 0 or above N, or that has not N inputs.
 fn is_wrong_vote(kind: GateKind, inputs: usize) -> bool
     ensures { result ≡ wrong_vote kind inputs }
 {
@@ -32,26 +55,8 @@ fn is_wrong_vote(kind: GateKind, inputs: usize) -> bool
     }
 }
 
-/// The first `fdep` with fewer than two inputs.
-pub(crate) fn short_fdep(gates: &[NumberedGate]) -> Option<Place>
-    ensures { result ≡ first (short_fdeps gates.now) }
-{
-    for gate in gates {
-        if is_fdep_kind(gate.kind) && gate.inputs.as_slice().len() < 2 {
-            return Some(gate.word);
-        }
-    }
-    None
-}
-
-/// The name of the first gate beyond the most.
-pub(crate) fn gate_beyond(gates: &[NumberedGate]) -> Option<Place>
-    ensures { result ≡ first (gates_beyond gates.now) }
-{
-    name_at(gates, MOST_GATES)
-}
-
-fn name_at(gates: &[NumberedGate], number: usize) -> Option<Place>
+/// The name of the gate after so many.
+pub(crate) fn name_after(gates: &[NumberedGate], number: usize) -> Option<Place>
     ensures { result ≡ first (map (λ gate. gate.name) (drop number gates.now)) }
 {
     if gates.len() > number {
@@ -62,18 +67,7 @@ fn name_at(gates: &[NumberedGate], number: usize) -> Option<Place>
 }
 
 /// The first input of a gate other than `and` or `or` that is an `fdep`.
-pub(crate) fn dummy(units: usize, gates: &[NumberedGate]) -> Option<Place>
-    ensures { result ≡ first (dummies units gates.now) }
-{
-    for gate in gates {
-        if let Some(place) = dummy_in(units, gates, gate) {
-            return Some(place);
-        }
-    }
-    None
-}
-
-fn dummy_in(units: usize, gates: &[NumberedGate], gate: &NumberedGate) -> Option<Place>
+fn fdep_read(units: usize, gates: &[NumberedGate], gate: &NumberedGate) -> Option<Place>
     ensures { result ≡ first (dummies_in (is_fdep_in units (kinds gates.now)) gate.now) }
 {
     if drops_fdeps(gate.kind) {
@@ -83,18 +77,7 @@ fn dummy_in(units: usize, gates: &[NumberedGate], gate: &NumberedGate) -> Option
     }
 }
 
-/// The first gate other than `fdep` that reads nothing, once an `and` and an `or` have passed over each `fdep`.
-pub(crate) fn inputless(units: usize, gates: &[NumberedGate]) -> Option<Place>
-    ensures { result ≡ first (inputless units gates.now) }
-{
-    for gate in gates {
-        if reads_nothing(units, gates, gate) {
-            return Some(gate.word);
-        }
-    }
-    None
-}
-
+/// Whether a gate other than `fdep` reads nothing, once an `and` and an `or` have passed over each `fdep`.
 fn reads_nothing(units: usize, gates: &[NumberedGate], gate: &NumberedGate) -> bool
     ensures { result ≡ reads_nothing units (kinds gates.now) gate.now }
 {
@@ -120,56 +103,13 @@ fn are_fdeps(units: usize, gates: &[NumberedGate], inputs: &[Numbered]) -> bool
     true
 }
 
-/// The first dependent of an `fdep` that is a gate.
-pub(crate) fn dependent_gate(units: usize, gates: &[NumberedGate]) -> Option<Place>
-    ensures { result ≡ first (dependent_gates units gates.now) }
-{
-    for gate in gates {
-        if let Some(place) = dependent_in(units, gate) {
-            return Some(place);
-        }
-    }
-    None
-}
-
-fn dependent_in(units: usize, gate: &NumberedGate) -> Option<Place>
-    ensures { result ≡ first (gates_after_first is_fdep_kind units gate.now) }
-{
-    if is_fdep_kind(gate.kind) {
-        gate_after_first(units, gate.inputs.as_slice())
-    } else {
-        None
-    }
-}
-
-/// The first spare that is a gate.
-pub(crate) fn spare_gate(units: usize, gates: &[NumberedGate]) -> Option<Place>
-    ensures { result ≡ first (spare_gates units gates.now) }
-{
-    for gate in gates {
-        if let Some(place) = spare_in(units, gate) {
-            return Some(place);
-        }
-    }
-    None
-}
-
-fn spare_in(units: usize, gate: &NumberedGate) -> Option<Place>
-    ensures { result ≡ first (gates_after_first is_spare_kind units gate.now) }
-{
-    if is_spare_kind(gate.kind) {
-        gate_after_first(units, gate.inputs.as_slice())
-    } else {
-        None
-    }
-}
-
-fn gate_after_first(units: usize, inputs: &[Numbered]) -> Option<Place>
-    ensures { result ≡ first (places_where (is_gate units) (drop 1 inputs.now)) }
+/// The first input after the first that is a gate, at a gate whose kind has to do with it.
+fn gate_after_first(applies: bool, units: usize, inputs: &[Numbered]) -> Option<Place>
+    ensures { result ≡ first (if applies then places_where (is_gate units) (drop 1 inputs.now) else []) }
 {
     match inputs {
-        [_first, rest @ ..] => gate_among(units, rest),
-        [] => None,
+        [_first, rest @ ..] if applies => gate_among(units, rest),
+        _ => None,
     }
 }
 
@@ -184,14 +124,8 @@ fn gate_among(units: usize, inputs: &[Numbered]) -> Option<Place>
     None
 }
 
-/// The first top event that is an `fdep`.
-pub(crate) fn fdep_top(units: usize, gates: &[NumberedGate], tops: &[Numbered]) -> Option<Place>
-    ensures { result ≡ first (fdep_tops units gates.now tops.now) }
-{
-    fdep_among(units, gates, tops)
-}
-
-fn fdep_among(units: usize, gates: &[NumberedGate], inputs: &[Numbered]) -> Option<Place>
+/// The first of some names that is that of an `fdep`.
+pub(crate) fn fdep_among(units: usize, gates: &[NumberedGate], inputs: &[Numbered]) -> Option<Place>
     ensures { result ≡ first (places_where (is_fdep_in units (kinds gates.now)) inputs.now) }
 {
     for input in inputs {

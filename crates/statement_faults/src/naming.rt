@@ -1,11 +1,10 @@
 //! Names into numbers: each name is defined once, and each name that is used is defined.
-ghost use Rattle.std.specs.Prelude.{◌≡◌, ◌++◌, ◌∷◌, ℕ, [], true, false, length, map, IfOk, IfErr, IfSome, IfNone};
-ghost use Rattle.std.specs.Prelude.{is_some, OnOk, IsTrue};
-ghost use Rattle.statement_faults.specs.Said.{names, definition_in, definitions, uses, basic_names, gate_names};
+ghost use Rattle.std.specs.Prelude.{◌≡◌, ◌++◌, ◌∷◌, [], true, false, IfOk, IfErr, OnOk, IsTrue};
+ghost use Rattle.statement_faults.specs.Said.{names, definition_in};
 ghost use Rattle.statement_faults.specs.Marked.{placed_list};
-ghost use Rattle.statement_faults.specs.Classes.{first, repeats, undefined};
+ghost use Rattle.statement_faults.specs.Classes.{first, repeats};
 ghost use Rattle.fault_words.specs.Names.{all_differ};
-ghost use Rattle.statement_faults.specs.Naming.{Adds, name_list};
+ghost use Rattle.statement_faults.specs.Naming.{Adds, name_list, names_of};
 ghost use Rattle.statement_faults.specs.Found.{IsFoundAs};
 
 use crate::{CheckCode, CheckFault};
@@ -14,20 +13,20 @@ use galileo_tree::{Placed, Statement};
 use name_index::NameIndex;
 use std::alloc::{AllocError, Global};
 
-fn basic_name(statement: &Statement) -> Option<&Name>
-    ensures { basic_names (statement.now ∷ []) ≡ name_list result }
-{
-    match statement {
-        Statement::Basic(basic) => Some(&basic.name.name),
-        _ => None,
-    }
+/// What names stand for.
+#[derive(Clone, Copy)]
+pub(crate) enum Named {
+    BasicEvents,
+    Gates,
 }
 
-fn gate_name(statement: &Statement) -> Option<&Name>
-    ensures { gate_names (statement.now ∷ []) ≡ name_list result }
+/// The name that a statement defines, where it stands for such.
+fn name_of(statement: &Statement, named: Named) -> Option<&Name>
+    ensures { names_of named (statement.now ∷ []) ≡ name_list result }
 {
-    match statement {
-        Statement::Gate(gate) => Some(&gate.name.name),
+    match (named, statement) {
+        (Named::BasicEvents, Statement::Basic(basic)) => Some(&basic.name.name),
+        (Named::Gates, Statement::Gate(gate)) => Some(&gate.name.name),
         _ => None,
     }
 }
@@ -42,35 +41,34 @@ fn add<'a>(index: &mut NameIndex<'a>, name: Option<&'a Name>) -> Result<bool, Al
     }
 }
 
-/// Adds the names of the basic events, and says whether they all were new.
-fn add_basics<'a>(
+/// Adds the names that stand for such, and says whether they all were new.
+fn add_all<'a>(
     index: &mut NameIndex<'a>,
     statements: &'a [Statement],
+    named: Named,
 ) -> Result<bool, AllocError>
     requires { all_differ index.old ≡ true }
-    ensures fresh { IfOk result (λ fresh. IsTrue fresh → index.new ≡ index.old ++ basic_names statements.now) }
-    ensures differ { IfOk result (λ fresh. fresh ≡ all_differ (index.old ++ basic_names statements.now)) }
+    ensures fresh { IfOk result (λ fresh. IsTrue fresh → index.new ≡ index.old ++ names_of named statements.now) }
+    ensures differ { IfOk result (λ fresh. fresh ≡ all_differ (index.old ++ names_of named statements.now)) }
 {
     for statement in statements {
-        if !add(index, basic_name(statement))? {
+        if !add(index, name_of(statement, named))? {
             return Ok(false);
         }
     }
     Ok(true)
 }
 
-/// Adds the names of the gates, and says whether they all were new.
-fn add_gates<'a>(index: &mut NameIndex<'a>, statements: &'a [Statement]) -> Result<bool, AllocError>
-    requires { all_differ index.old ≡ true }
-    ensures fresh { IfOk result (λ fresh. IsTrue fresh → index.new ≡ index.old ++ gate_names statements.now) }
-    ensures differ { IfOk result (λ fresh. fresh ≡ all_differ (index.old ++ gate_names statements.now)) }
+/// Adds the names of a text, and says whether they all were new.
+fn add_names<'a>(index: &mut NameIndex<'a>, statements: &'a [Statement]) -> Result<bool, AllocError>
+    requires { index.old ≡ [] }
+    ensures fresh { IfOk result (λ fresh. IsTrue fresh → index.new ≡ names statements.now) }
+    ensures differ { IfOk result (λ fresh. fresh ≡ all_differ (names statements.now)) }
 {
-    for statement in statements {
-        if !add(index, gate_name(statement))? {
-            return Ok(false);
-        }
+    if !add_all(index, statements, Named::BasicEvents)? {
+        return Ok(false);
     }
-    Ok(true)
+    add_all(index, statements, Named::Gates)
 }
 
 /// The name that a statement defines.
@@ -107,48 +105,9 @@ fn repeat(alloc: Global, statements: &[Statement]) -> Result<Option<Place>, Allo
     ensures { IfOk result (λ found. found ≡ first (repeats statements.now)) }
 {
     let mut index = NameIndex::with_room(alloc, statements.len())?;
-    repeat_in(&mut index, statements)
-}
-
-/// Adds the names of a text, and says whether they all were new.
-fn add_names<'a>(index: &mut NameIndex<'a>, statements: &'a [Statement]) -> Result<bool, AllocError>
-    requires { index.old ≡ [] }
-    ensures fresh { IfOk result (λ fresh. IsTrue fresh → index.new ≡ names statements.now) }
-    ensures differ { IfOk result (λ fresh. fresh ≡ all_differ (names statements.now)) }
-{
-    if !add_basics(index, statements)? {
-        return Ok(false);
-    }
-    add_gates(index, statements)
-}
-
-/// The index of the names, or `None` where some name is defined twice.
-fn index_of<'a>(
-    alloc: Global,
-    statements: &'a [Statement],
-) -> Result<Option<NameIndex<'a>>, AllocError>
-    ensures some { IfOk result (λ found. IfSome found (λ index. index ≡ names statements.now)) }
-    ensures differ { IfOk result (λ found. is_some found ≡ all_differ (names statements.now)) }
-{
-    let mut index = NameIndex::with_room(alloc, statements.len())?;
-    let are_new = add_names(&mut index, statements)?;
-    Ok(are_new.then_some(index))
-}
-
-/// The index of the names, each of which is defined once.
-pub(crate) fn name_all<'a>(
-    alloc: Global,
-    statements: &'a [Statement],
-) -> Result<NameIndex<'a>, CheckFault>
-    ensures names { IfOk result (λ index. index ≡ names statements.now) }
-    ensures once { OnOk result (repeats statements.now ≡ []) }
-    ensures differ { OnOk result (all_differ (names statements.now) ≡ true) }
-    ensures fault { IfErr result (IsFoundAs CheckCode.DuplicateName (repeats statements.now)) }
-{
-    match index_of(alloc, statements)? {
-        Some(index) => Ok(index),
-        None => Err(repetition(alloc, statements)?),
-    }
+    let found = repeat_in(&mut index, statements);
+    drop(index);
+    found
 }
 
 /// The fault of a text in which some name is defined twice.
@@ -160,4 +119,23 @@ fn repetition(alloc: Global, statements: &[Statement]) -> Result<CheckFault, All
         Some(place) => Ok(CheckFault::Fault(CheckCode::DuplicateName, place)),
         None => unreachable!(),
     }
+}
+
+/// The index of the names, each of which is defined once.
+pub(crate) fn name_all<'a>(
+    alloc: Global,
+    statements: &'a [Statement],
+) -> Result<NameIndex<'a>, CheckFault>
+    ensures names { IfOk result (λ index. index ≡ names statements.now) }
+    ensures differ { OnOk result (all_differ (names statements.now) ≡ true) }
+    ensures fault { IfErr result (IsFoundAs CheckCode.DuplicateName (repeats statements.now)) }
+{
+    let mut index = NameIndex::with_room(alloc, statements.len())?;
+    let added = add_names(&mut index, statements);
+    if let Ok(true) = added {
+        return Ok(index);
+    }
+    drop(index);
+    added?;
+    Err(repetition(alloc, statements)?)
 }

@@ -1,5 +1,6 @@
 //! A text by the numbers of its tree.
 use fault_words::{GateKind, Place};
+use galileo_tree::Statement;
 
 /// A name that stands in the text: its number in the tree, and its place.
 #[derive(Clone, Copy)]
@@ -30,4 +31,15 @@ pub struct NumberedText {
     pub gates: Vec<NumberedGate>,
     /// The names of the top statements.
     pub tops: Vec<Numbered>,
+}
+
+/// A text in parts: its statements, and what they say by numbers.
+#[derive(Clone, Copy)]
+pub(crate) struct Parts<'t> {
+    pub statements: &'t [Statement],
+    /// The end of the text.
+    pub end: Place,
+    pub units: usize,
+    pub gates: &'t [NumberedGate],
+    pub tops: &'t [Numbered],
 }

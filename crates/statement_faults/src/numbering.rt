@@ -29,23 +29,22 @@ fn number(index: &NameIndex<'_>, used: &Placed, last: &mut usize) -> Result<Numb
     })
 }
 
-/// The numbers of the inputs of a gate.
+/// Adds the numbers of the inputs of a gate.
 fn number_inputs(
-    alloc: Global,
+    row: &mut InputRow,
     index: &NameIndex<'_>,
     inputs: &[Placed],
     last: &mut usize,
-) -> Result<InputRow, CheckFault>
-    ensures row { IfOk result (λ row. row ≡ map (numbered index.now) inputs.now) }
+) -> Result<(), CheckFault>
+    ensures row { OnOk result (row.new ≡ row.old ++ map (numbered index.now) inputs.now) }
     ensures known { OnOk result (undefined index.now inputs.now ≡ []) }
     ensures fault { IfErr result (IsFoundAs CheckCode.Undefined (undefined index.now inputs.now)) }
 {
-    let mut row = InputRow::with_room(alloc, inputs.len())?;
     for input in inputs {
         let next = number(index, input, last)?;
         row.push(next)?;
     }
-    Ok(row)
+    Ok(())
 }
 
 fn number_gate(
@@ -58,13 +57,20 @@ fn number_gate(
     ensures known { OnOk result (undefined index.now gate.now.inputs ≡ []) }
     ensures fault { IfErr result (IsFoundAs CheckCode.Undefined (undefined index.now gate.now.inputs)) }
 {
-    let inputs = number_inputs(alloc, index, gate.inputs.as_slice(), last)?;
-    Ok(NumberedGate {
-        kind: gate.kind,
-        word: gate.word,
-        name: gate.name.place,
-        inputs,
-    })
+    let inputs = gate.inputs.as_slice();
+    let mut row = InputRow::with_room(alloc, inputs.len())?;
+    match number_inputs(&mut row, index, inputs, last) {
+        Ok(()) => Ok(NumberedGate {
+            kind: gate.kind,
+            word: gate.word,
+            name: gate.name.place,
+            inputs: row,
+        }),
+        Err(fault) => {
+            drop(row);
+            Err(fault)
+        }
+    }
 }
 
 impl NumberedText {

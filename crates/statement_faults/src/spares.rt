@@ -1,12 +1,15 @@
 //! Spares that serve two gates, or one gate twice.
-ghost use Rattle.std.specs.Prelude.{◌≡◌, ◌+◌, ◌<◌, length, replicate, All, IfOk};
-ghost use Rattle.statement_faults.specs.Classes.{first, later_uses, uses_of, spare_uses_in, shared_spares};
-ghost use Rattle.statement_faults.specs.SpareTable.{AreWithin, noted, clashes_with, earlier_uses, table_with};
-ghost use Rattle.statement_faults.specs.SpareTable.{table_after};
-ghost use Rattle.statement_faults.specs.SpareTable.{clashes_by};
+ghost use Rattle.std.specs.Prelude.{◌≡◌, ◌+◌, ◌<◌, [], length, replicate, All, IfOk, IfErr, OnOk};
+ghost use Rattle.statement_faults.specs.Classes.{first, uses_of, spare_uses_in, shared_spares};
+ghost use Rattle.statement_faults.specs.Examined.{AreParts};
+ghost use Rattle.statement_faults.specs.Numbered.{numbered_gates};
+ghost use Rattle.statement_faults.specs.Found.{IsFoundAs};
+ghost use Rattle.statement_faults.specs.SpareTable.{AreWithin, noted, clashes_with, clashes_by, earlier_uses};
+ghost use Rattle.statement_faults.specs.SpareTable.{table_with, table_after};
 
 use crate::gates::is_spare_kind;
-use crate::numbered::{Numbered, NumberedGate};
+use crate::numbered::{Numbered, NumberedGate, Parts};
+use crate::{CheckCode, CheckFault};
 use fault_words::Place;
 use std::alloc::{AllocError, Global};
 
@@ -71,37 +74,21 @@ impl SpareTable {
         earlier.clashes_with(is_first)
     }
 
-    // The first clash of inputs that are not first ones, which are noted up to there.
-    fn later_clash(&mut self, inputs: &[Numbered]) -> Option<Place>
-        requires { All (λ input. input.number < length self.old.uses.items) inputs.now }
-        ensures clash { result ≡ first (clashes_by self.old.uses.items (later_uses inputs.now)) }
-        ensures table { result ≡ None → self.new.uses.items ≡ table_after self.old.uses.items (later_uses inputs.now) }
-        ensures room { length self.new.uses.items ≡ length self.old.uses.items }
-    {
-        for input in inputs {
-            if self.note(*input, false) {
-                return Some(input.place);
-            }
-        }
-        None
-    }
-
+    // The first clash of the inputs of a spare gate, which are noted up to there.
     fn clash_among(&mut self, inputs: &[Numbered]) -> Option<Place>
         requires { All (λ input. input.number < length self.old.uses.items) inputs.now }
         ensures clash { result ≡ first (clashes_by self.old.uses.items (uses_of inputs.now)) }
         ensures table { result ≡ None → self.new.uses.items ≡ table_after self.old.uses.items (uses_of inputs.now) }
         ensures room { length self.new.uses.items ≡ length self.old.uses.items }
     {
-        match inputs {
-            [first, later @ ..] => {
-                if self.note(*first, true) {
-                    Some(first.place)
-                } else {
-                    self.later_clash(later)
-                }
+        let mut is_first = true;
+        for input in inputs {
+            if self.note(*input, is_first) {
+                return Some(input.place);
             }
-            [] => None,
+            is_first = false;
         }
+        None
     }
 
     // The first clash at a gate, whose uses are noted up to there.
@@ -133,17 +120,17 @@ impl SpareTable {
     }
 }
 
-/// The first input of a spare gate that another spare gate has too, or the same gate earlier, unless each of the
-/// two is a first input. No number is above `nodes`.
-pub(crate) fn shared_spare(
-    alloc: Global,
-    nodes: usize,
-    gates: &[NumberedGate],
-) -> Result<Option<Place>, AllocError>
-    requires few { nodes < usize.MAX }
-    requires numbers { AreWithin nodes gates.now }
-    ensures { IfOk result (λ found. found ≡ first (shared_spares gates.now)) }
+/// The class of spares that serve two gates, or one gate twice.
+pub(crate) fn check_spares(alloc: Global, parts: Parts<'_>) -> Result<(), CheckFault>
+    requires { AreParts parts }
+    ensures none { OnOk result (shared_spares (numbered_gates parts.entry.statements.now) ≡ []) }
+    ensures fault { IfErr result (IsFoundAs CheckCode.SharedSpare
+        (shared_spares (numbered_gates parts.entry.statements.now))) }
 {
+    let nodes = parts.units + parts.gates.len();
     let mut table = SpareTable::new(alloc, nodes)?;
-    Ok(table.shared(nodes, gates))
+    match table.shared(nodes, parts.gates) {
+        Some(place) => Err(CheckFault::Fault(CheckCode::SharedSpare, place)),
+        None => Ok(()),
+    }
 }

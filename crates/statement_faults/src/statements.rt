@@ -1,43 +1,16 @@
 //! Faults that show at the statements, before names have numbers.
-ghost use Rattle.std.specs.Prelude.{◌≡◌, drop, filter, map, not};
-ghost use Rattle.statement_faults.specs.Said.{basic_in, basics, top_in, tops};
-ghost use Rattle.statement_faults.specs.Classes.{first, is_empty, is_replicated, missing_tops, further_tops};
-ghost use Rattle.statement_faults.specs.Classes.{replicated};
-ghost use Rattle.statement_faults.specs.Classes.{units_beyond};
+ghost use Rattle.std.specs.Prelude.{◌≡◌, drop, filter, map};
+ghost use Rattle.statement_faults.specs.Said.{basics, tops};
+ghost use Rattle.statement_faults.specs.Classes.{first, is_replicated, replicated};
 
 use fault_words::Place;
 use galileo_tree::{RawAttribute, Statement};
-use unit_sets::UnitNo;
 
-/// The most basic events of a tree.
-const MOST_UNITS: usize = UnitNo::MAX as usize;
-
-/// The end of the text, where there is no top statement.
-pub(crate) fn missing_top(statements: &[Statement], end: Place) -> Option<Place>
-    ensures { result ≡ first (missing_tops statements.now end) }
+/// The word of the top statement after so many.
+pub(crate) fn top_after(statements: &[Statement], count: usize) -> Option<Place>
+    ensures { result ≡ first (map (λ top. top.word) (drop count (tops statements.now))) }
 {
-    for statement in statements {
-        if is_top(statement) {
-            return None;
-        }
-    }
-    Some(end)
-}
-
-fn is_top(statement: &Statement) -> bool
-    ensures { result ≡ not (is_empty (top_in statement.now)) }
-{
-    match statement {
-        Statement::Top(_top) => true,
-        _ => false,
-    }
-}
-
-/// The word of the second top statement.
-pub(crate) fn further_top(statements: &[Statement]) -> Option<Place>
-    ensures { result ≡ first (further_tops statements.now) }
-{
-    let mut to_pass: usize = 1;
+    let mut to_pass = count;
     for statement in statements {
         if let Statement::Top(top) = statement {
             if to_pass == 0 {
@@ -82,18 +55,11 @@ fn is_replicated(raw: &RawAttribute) -> bool
     word.eq_ignore_ascii_case(b"repl") && value != b"1".as_slice()
 }
 
-/// The name of the first basic event beyond the most.
-pub(crate) fn unit_beyond(statements: &[Statement]) -> Option<Place>
-    ensures { result ≡ first (units_beyond (basics statements.now)) }
+/// The name of the basic event after so many.
+pub(crate) fn unit_after(statements: &[Statement], count: usize) -> Option<Place>
+    ensures { result ≡ first (map (λ basic. basic.name.place) (drop count (basics statements.now))) }
 {
-    unit_after(statements, MOST_UNITS)
-}
-
-// The name of the basic event after so many.
-fn unit_after(statements: &[Statement], units: usize) -> Option<Place>
-    ensures { result ≡ first (map (λ basic. basic.name.place) (drop units (basics statements.now))) }
-{
-    let mut to_pass = units;
+    let mut to_pass = count;
     for statement in statements {
         if let Statement::Basic(basic) = statement {
             if to_pass == 0 {

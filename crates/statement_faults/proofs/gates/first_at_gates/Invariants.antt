@@ -1,0 +1,11 @@
+use Rattle.std.proofs.Common.{◌≡◌, drop}
+use Rattle.std.specs.List.{flat_map}
+use Rattle.statement_faults.specs.Numbered.{kinds}
+use Rattle.statement_faults.specs.Classes.{first}
+use Rattle.statement_faults.specs.Tried.{places_at}
+use Rattle.statement_faults.proofs.gates.first_at_gates.Given as goal
+
+abbrev pub invariant-loop-gate : goal.invariant-loop-gate
+invariant-loop-gate l =
+    first (flat_map (places_at l.code l.units (kinds l.gates)) (drop l.gate-index l.gates))
+    ≡ first (flat_map (places_at l.code l.units (kinds l.gates)) l.gates)
