@@ -1,19 +1,17 @@
 -- What a text by numbers keeps, for the parts of its tree, once the classes of faults are tried.
-use Rattle.std.proofs.Common.{◌≡◌, ◌+◌, ◌≤◌, List, [], ◌∷◌, length, map, sym, ap, subst, arith, length-append}
+use Rattle.std.proofs.Common.{◌≡◌, ℕ, ◌+◌, ◌≤◌, List, [], ◌∷◌, length, map, sym, ap, subst, arith}
 use Rattle.std.specs.Prelude.{All}
-use Rattle.std.proofs.lemmas.List.{length-map}
 use Rattle.unit_sets.specs.Unit.{most_units}
 use Rattle.fault_definitions.specs.declared.parts.TheConstants.{MOST_GATES}
 use Rattle.galileo_tree.specs.declared.raw.RawTop.{RawTop}
-use Rattle.galileo_tree.specs.declared.raw.RawGate.{RawGate}
 use Rattle.galileo_tree.specs.declared.raw.RawBasic.{RawBasic}
 use Rattle.galileo_tree.specs.declared.raw.Statement.{Statement}
 use Rattle.statement_faults.specs.Examined.{AreParts}
 use Rattle.statement_faults.specs.declared.numbered.NumberedText.{NumberedText}
 use Rattle.statement_faults.specs.declared.numbered.Parts.{Parts}
 use Rattle.statement_faults.specs.declared.numbered.NumberedGate.{NumberedGate}
-use Rattle.statement_faults.specs.Said.{basics, gates, tops, names, uses, basic_names, gate_names}
-use Rattle.statement_faults.specs.Numbered.{numbered, numbered_gate, numbered_gates}
+use Rattle.statement_faults.specs.Said.{basics, gates, tops, names, uses}
+use Rattle.statement_faults.specs.Numbered.{numbered, numbered_gates, unit_total}
 use Rattle.statement_faults.specs.Numbering.{IsDeckOf}
 use Rattle.statement_faults.specs.Classes.{undefined, units_beyond, gates_beyond}
 use Rattle.statement_faults.specs.SpareTable.{AreWithin}
@@ -21,34 +19,32 @@ use Rattle.statement_faults.specs.TreeOf.{first_number}
 use Rattle.statement_faults.proofs.NonePass.{none_beyond}
 use Rattle.statement_faults.proofs.GoodGates.{IsAmong}
 use Rattle.statement_faults.proofs.LowNumbers.{gates_low}
-use Rattle.statement_faults.proofs.StatementNames.{tops_known}
+use Rattle.statement_faults.proofs.StatementNames.{names_total, tops_known}
+
+-- the inputs have numbers of nodes
+within : (statements : List Statement) (units : ℕ) (all : List NumberedGate) → units ≡ unit_total statements
+    → all ≡ numbered_gates statements → AreWithin (units + length all) all
+within statements units all units_are gates_are =
+    subst (λ nodes. AreWithin nodes all)
+    (let total : length (names statements) ≡ units + length all =
+    omega (arith, units_are, ap length gates_are, names_total statements) in total)
+    (subst (λ gs. AreWithin (length (names statements)) gs) (sym gates_are)
+    (gates_low (names statements) (gates statements)))
+
+pub parts_within : (parts : Parts) → AreParts parts → AreWithin (parts.units + length parts.gates.now) parts.gates.now
+parts_within parts are = within parts.statements.now parts.units parts.gates.now are.units are.gates
 
 module _ (statements : List Statement) (deck : NumberedText) (is : IsDeckOf (names statements) statements deck) where
-  -- there is a name for each unit and each gate
-  pub names_total : length (names statements) ≡ deck.units + length deck.gates.items
-  names_total =
-      omega (
-        arith,
-        is.units,
-        ap length is.gates_all,
-        length-map (gates statements) (numbered_gate (names statements)),
-        length-append (basic_names statements) (gate_names statements),
-        length-map (basics statements) (λ (basic : RawBasic). basic.name.name),
-        length-map (gates statements) (λ (gate : RawGate). gate.name.name),
-      )
-
-  -- the inputs have numbers of nodes
   pub deck_within : AreWithin (deck.units + length deck.gates.items) deck.gates.items
-  deck_within =
-      subst (λ nodes. AreWithin nodes deck.gates.items) names_total
-      (subst (λ gs. AreWithin (length (names statements)) gs) (sym is.gates_all)
-      (gates_low (names statements) (gates statements)))
+  deck_within = within statements deck.units deck.gates.items is.units is.gates_all
 
   -- and so does the top event, where each name that is used is defined
   pub deck_top : undefined (names statements) (uses statements) ≡ []
       → first_number deck.tops.items ≤ deck.units + length deck.gates.items
   deck_top none =
-      subst (λ nodes. first_number deck.tops.items ≤ nodes) names_total
+      subst (λ nodes. first_number deck.tops.items ≤ nodes)
+      (let total : length (names statements) ≡ deck.units + length deck.gates.items =
+      omega (arith, is.units, ap length is.gates_all, names_total statements) in total)
       (subst (λ ts. first_number ts ≤ length (names statements)) (sym is.tops_all)
       (low (tops statements) (tops_known statements none)))
     where
@@ -70,22 +66,3 @@ module _ (statements : List Statement) (deck : NumberedText) (is : IsDeckOf (nam
         none_beyond (λ (gate : NumberedGate). gate.name) MOST_GATES
             (numbered_gates statements) none,
       )
-
--- the same of the parts of a text
-pub parts_within : (parts : Parts) → AreParts parts → AreWithin (parts.units + length parts.gates.now) parts.gates.now
-parts_within parts are =
-    subst (λ nodes. AreWithin nodes parts.gates.now) total
-    (subst (λ gs. AreWithin (length (names parts.statements.now)) gs) (sym are.gates)
-    (gates_low (names parts.statements.now) (gates parts.statements.now)))
-  where
-    total : length (names parts.statements.now) ≡ parts.units + length parts.gates.now
-    total =
-        omega (
-          arith,
-          are.units,
-          ap length are.gates,
-          length-map (gates parts.statements.now) (numbered_gate (names parts.statements.now)),
-          length-append (basic_names parts.statements.now) (gate_names parts.statements.now),
-          length-map (basics parts.statements.now) (λ (basic : RawBasic). basic.name.name),
-          length-map (gates parts.statements.now) (λ (gate : RawGate). gate.name.name),
-        )

@@ -1,6 +1,6 @@
 -- That statements without a fault stand for a tree.
 use Rattle.std.proofs.Common.{◌≡◌, ◌≢◌, ℕ, ◌≤◌, true, false, List, [], ◌∷◌, length, get_or, map, refl, sym, ◌∙◌, ap}
-use Rattle.std.proofs.Common.{subst, inl, inr, arith, length-append}
+use Rattle.std.proofs.Common.{subst, inl, inr, arith}
 use Rattle.std.specs.Prelude.{if◌then◌else◌, not, ◌&&◌, All, AllPairs, Contains, zip, codes, filter}
 use Rattle.std.specs.List.{flat_map}
 use Rattle.std.specs.Str.{str_eq_ignore_ascii_case, str_to_ascii_lowercase}
@@ -16,7 +16,6 @@ use Rattle.fault_definitions.specs.Tree as trees
 use Rattle.fault_definitions.specs.Rank.{IsRanked}
 use Rattle.fault_definitions.specs.WellFormed.{IsTree, IsSoundGate, IsSoundAttribute, primary_in, spares_in}
 use Rattle.galileo_tree.specs.declared.raw.RawTop.{RawTop}
-use Rattle.galileo_tree.specs.declared.raw.RawGate.{RawGate}
 use Rattle.galileo_tree.specs.declared.raw.RawBasic.{RawBasic}
 use Rattle.galileo_tree.specs.declared.raw.RawAttribute.{RawAttribute}
 use Rattle.galileo_tree.specs.declared.raw.Statement.{Statement}
@@ -24,7 +23,7 @@ use Rattle.galileo_tree.specs.ReadTree.{ReadTree, KeepsForm, HasBareWord, HasSho
 use Rattle.statement_faults.specs.declared.numbered.Numbered.{Numbered}
 use Rattle.statement_faults.specs.declared.numbered.NumberedGate.{NumberedGate}
 use Rattle.fault_words.specs.Names.{same_name, all_differ}
-use Rattle.statement_faults.specs.Said.{basics, gates, tops, names, basic_names, gate_names}
+use Rattle.statement_faults.specs.Said.{basics, gates, tops, names}
 use Rattle.statement_faults.specs.Numbered.{kinds, kept_inputs, numbered, numbered_gate, numbered_gates, numbered_tops}
 use Rattle.statement_faults.specs.Numbered.{unit_total, is_fdep_in}
 use Rattle.statement_faults.specs.Classes.{is_replicated, is_empty, missing_tops, replicated, wrong_vote, dummies_in}
@@ -38,7 +37,8 @@ use Rattle.statement_faults.proofs.Differ.{same_is}
 use Rattle.statement_faults.proofs.NonePass.{none_pass, none_each, none_beyond}
 use Rattle.statement_faults.proofs.SpareParts.{differing_spares, no_primary}
 use Rattle.statement_faults.proofs.GoodGates.{IsGood, fdep_same, sound_gates}
-use Rattle.statement_faults.proofs.StatementNames.{inputs_known, tops_known, gates_short, basics_bare, pairs_differ}
+use Rattle.statement_faults.proofs.StatementNames.{names_total, inputs_known, tops_known, gates_short}
+use Rattle.statement_faults.proofs.StatementNames.{basics_bare, pairs_differ}
 
 zip-maps : {X A B : Type 0} (f : X → A) (g : X → B) (xs : List X) → zip (map f xs) (map g xs) ≡ map (λ x. (f x, g x)) xs
 zip-maps f g [] = refl
@@ -103,20 +103,13 @@ module _ (read : ReadTree) (ranks : List ℕ) where
       (λ (gate : NumberedGate). numbers (kept_inputs (unit_total read.statements)
       (kinds (numbered_gates read.statements)) gate)) (numbered_gates read.statements)
 
-  gate_total : gate_count (tree_of read.statements ranks) ≡ length (gates read.statements)
-  gate_total =
-      length-map (numbered_gates read.statements) (λ (gate : NumberedGate). gate.kind)
-      ∙ length-map (gates read.statements) (numbered_gate (names read.statements))
-
   names_are : length (names read.statements) ≡ node_count (tree_of read.statements ranks)
   names_are =
       omega (
         arith,
         units_are,
-        gate_total,
-        length-append (basic_names read.statements) (gate_names read.statements),
-        length-map (basics read.statements) (λ (basic : RawBasic). basic.name.name),
-        length-map (gates read.statements) (λ (gate : RawGate). gate.name.name),
+        length-map (numbered_gates read.statements) (λ (gate : NumberedGate). gate.kind),
+        names_total read.statements,
       )
 
   module _ (form : All KeepsForm read.statements) (before : NoneOf read before_cycles) where

@@ -1,5 +1,6 @@
 -- What holds of all names that a text uses, and of what its statements keep, as to its gates and basic events.
-use Rattle.std.proofs.Common.{◌≡◌, ◌≢◌, ℕ, true, false, List, [], ◌∷◌, ◌++◌, length, map, arith}
+use Rattle.std.proofs.Common.{◌≡◌, ◌≢◌, ℕ, true, false, List, [], ◌∷◌, ◌++◌, length, map, arith, ◌+◌, length-append}
+use Rattle.std.proofs.lemmas.List.{length-map}
 use Rattle.std.specs.Prelude.{not, All, AllPairs}
 use Rattle.std.proofs.lemmas.Bool.{not-true, not-false, and_parts, or_parts}
 use Rattle.std.proofs.lemmas.List.Elements.{All-nil, All-cons, All-head, All-tail, All-map, All-weaker}
@@ -12,8 +13,8 @@ use Rattle.galileo_tree.specs.declared.raw.Statement.TheVariants.{Top, Gate, Bas
 use Rattle.galileo_tree.specs.ReadTree.{KeepsForm, HasShortNumbers, HasBareWord}
 use Rattle.statement_faults.specs.declared.numbered.NumberedGate.{NumberedGate}
 use Rattle.fault_words.specs.Names.{has_name, same_name, all_differ}
-use Rattle.statement_faults.specs.Said.{tops, gates, basics, uses, names}
-use Rattle.statement_faults.specs.Numbered.{numbered, numbered_gate, numbered_gates, numbered_tops}
+use Rattle.statement_faults.specs.Said.{tops, gates, basics, uses, names, basic_names, gate_names}
+use Rattle.statement_faults.specs.Numbered.{numbered, numbered_gate, numbered_gates, numbered_tops, unit_total}
 use Rattle.statement_faults.specs.Classes.{undefined}
 use Rattle.statement_faults.proofs.Differ.{same_itself}
 use Rattle.statement_faults.proofs.NonePass.{none_pass}
@@ -78,6 +79,20 @@ module _ (statements : List Statement) (none : undefined (names statements) (use
       All-map (IsAmong (length (names statements))) (λ (top : RawTop). numbered (names statements) top.name)
       (tops statements)
       (tops_all (HasNumber (names statements)) statements (all_known (names statements) (uses statements) none))
+
+-- ---- how many there are
+
+-- there is a name for each unit and each gate
+pub names_total : (statements : List Statement) → length (names statements)
+    ≡ unit_total statements + length (numbered_gates statements)
+names_total statements =
+    omega (
+      arith,
+      length-append (basic_names statements) (gate_names statements),
+      length-map (basics statements) (λ (basic : RawBasic). basic.name.name),
+      length-map (gates statements) (λ (gate : RawGate). gate.name.name),
+      length-map (gates statements) (numbered_gate (names statements)),
+    )
 
 -- ---- the form
 

@@ -15,15 +15,15 @@ use Rattle.galileo_tree.specs.declared.raw.Placed.{Placed}
 use Rattle.galileo_tree.specs.declared.raw.Statement.{Statement}
 use Rattle.statement_faults.specs.declared.numbered.NumberedGate.{NumberedGate}
 use Rattle.fault_words.specs.Names.{has_name, same_name, all_differ, number_in}
-use Rattle.statement_faults.specs.Said.{basics, gates, names, basic_names, gate_names, definitions}
+use Rattle.statement_faults.specs.Said.{basics, gates, names, definitions}
 use Rattle.statement_faults.proofs.SaidLemmas.{names_in}
-use Rattle.statement_faults.specs.Numbered.{numbered_gates, numbered_gate, unit_total, kinds, kept_inputs}
+use Rattle.statement_faults.specs.Numbered.{numbered_gates, unit_total, kinds, kept_inputs}
 use Rattle.statement_faults.specs.TreeOf.{tree_of, input_lists, numbers, IsCyclic, FirstOnCycle, HasNoCycle, AreRanks}
 use Rattle.statement_faults.specs.TreeOf.{IsSurveyed}
 use Rattle.statement_faults.specs.Classes.{first, dependent_gates}
 use Rattle.statement_faults.specs.Examined.{AreParts}
 use Rattle.statement_faults.specs.declared.numbered.Parts.{Parts}
-use Rattle.statement_faults.proofs.StatementNames.{inputs_known}
+use Rattle.statement_faults.proofs.StatementNames.{inputs_known, names_total}
 use Rattle.statement_faults.proofs.GoodGates.{unit_dependents}
 use Rattle.statement_faults.specs.Marked.{marked_places}
 use Rattle.statement_faults.specs.Triggers.{IsGraphOf, HasUnitDependents}
@@ -47,17 +47,6 @@ graph_total units gates graph g =
       length-append g.rows (input_lists units gates),
       g.triggers.all,
       length-map gates (λ gate. numbers (kept_inputs units (kinds gates) gate)),
-    )
-
-names_total : (statements : List Statement) → length (names statements)
-    ≡ unit_total statements + length (numbered_gates statements)
-names_total statements =
-    omega (
-      arith,
-      length-append (basic_names statements) (gate_names statements),
-      length-map (basics statements) (λ basic. basic.name.name),
-      length-map (gates statements) (λ gate. gate.name.name),
-      length-map (gates statements) (numbered_gate (names statements)),
     )
 
 pub low_number : (all : List (List ℕ)) (definitions : List Placed) (i : ℕ)
