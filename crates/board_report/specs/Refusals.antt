@@ -4,8 +4,8 @@ use Rattle.galileo_lexer.specs.declared.token.LexCode.{LexCode}
 use Rattle.galileo_lexer.specs.declared.token.LexCode.TheVariants as lex
 use Rattle.galileo_tree.specs.declared.fault.What.{What}
 use Rattle.galileo_tree.specs.declared.fault.What.TheVariants as what
-use Rattle.statement_faults.specs.declared.fault.CheckCode.{CheckCode}
-use Rattle.statement_faults.specs.declared.fault.CheckCode.TheVariants as check
+use Rattle.tree_check.specs.declared.fault.CheckCode.{CheckCode}
+use Rattle.tree_check.specs.declared.fault.CheckCode.TheVariants as check
 use Rattle.crew_script.specs.declared.fault.CrewCode.{CrewCode}
 use Rattle.crew_script.specs.declared.fault.CrewCode.TheVariants as crew
 use Rattle.deck_reading.specs.declared.fault.FaultCode.{FaultCode}

@@ -9,8 +9,8 @@ use edge_io::{Out, Sink, WriteFault};
 use galileo_lexer::LexCode;
 use galileo_tree::What;
 use itoa::Buffer;
-use statement_faults::CheckCode;
 use text_pieces::put_all;
+use tree_check::CheckCode;
 
 /// Puts the line of a fault.
 pub fn put_fault<K: Sink>(out: &mut Out<K>, fault: &DeckFault) -> Result<(), WriteFault>

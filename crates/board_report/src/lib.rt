@@ -3,7 +3,7 @@
 //! It hands on the texts of cut sets, of `cut_texts`, and of a board, of `board_texts`, and has those that speak of a
 //! deck: a tree in its own grammar, that a deck is well formed, the summary of a made deck, and the lines of refusals.
 //! For these it stands on `edge_io` and `text_pieces` for the output and on `itoa` for numbers, on `galileo_lexer`,
-//! `galileo_tree` and `statement_faults` for the faults of a tree and on `crew_script` for those of a crew part, on
+//! `galileo_tree` and `tree_check` for the faults of a tree and on `crew_script` for those of a crew part, on
 //! `deck_reading` for what a printed tree is read as, and on `outage_board` for the history that is summed up. Each
 //! call puts exactly the text that its clause names, or a front of it where the sink fails.
 #![tactic(auto)]

@@ -7,12 +7,12 @@ use Rattle.galileo_tree.specs.declared.raw.RawGate.{RawGate}
 use Rattle.galileo_tree.specs.declared.raw.RawBasic.{RawBasic}
 use Rattle.galileo_tree.specs.declared.raw.Statement.{Statement}
 use Rattle.galileo_tree.specs.declared.raw.Statement.TheVariants as raw
-use Rattle.statement_faults.specs.Said.{basic_in, basics, definition_in, definitions, gate_in, gates, names, top_in}
-use Rattle.statement_faults.specs.Said.{tops}
-use Rattle.statement_faults.specs.Said.{uses, uses_in}
-use Rattle.statement_faults.specs.Numbered.{numbered, numbered_definitions, numbered_gate, numbered_gates}
-use Rattle.statement_faults.specs.Numbered.{numbered_tops}
-use Rattle.statement_faults.specs.Numbered.{unit_total}
+use Rattle.tree_check.specs.Said.{basic_in, basics, definition_in, definitions, gate_in, gates, names, top_in}
+use Rattle.tree_check.specs.Said.{tops}
+use Rattle.tree_check.specs.Said.{uses, uses_in}
+use Rattle.tree_check.specs.Numbered.{numbered, numbered_definitions, numbered_gate, numbered_gates}
+use Rattle.tree_check.specs.Numbered.{numbered_tops}
+use Rattle.tree_check.specs.Numbered.{unit_total}
 use Rattle.deck_reading.specs.Unplaced.{nowhere, unplaced, unplaced_attribute, unplaced_name}
 use Rattle.deck_reading.proofs.Passing.{flat_map_through, map_through}
 

@@ -20,8 +20,8 @@ use Rattle.galileo_tree.specs.Lexeme.{HasNameText, Lexeme, is_bare, is_name, is_
 use Rattle.galileo_tree.specs.Lexeme.{lexeme_of}
 use Rattle.galileo_tree.specs.Parsed.{lexemes_of, parsed_text}
 use Rattle.galileo_tree.proofs.NameTexts.{spelled_name}
-use Rattle.statement_faults.specs.Said.{basic_names, basics, gate_names}
-use Rattle.statement_faults.specs.TreeOf.{tree_of}
+use Rattle.tree_check.specs.Said.{basic_names, basics, gate_names}
+use Rattle.tree_check.specs.TreeOf.{tree_of}
 use Rattle.deck_reading.specs.Deck.{StandsFor, tree_part}
 use Rattle.deck_reading.specs.TreeStatements.{HasNames, IsNamed}
 

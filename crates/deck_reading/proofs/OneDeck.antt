@@ -7,10 +7,10 @@ use Rattle.galileo_tree.specs.declared.fault.ParseFault.{ParseFault}
 use Rattle.galileo_tree.specs.declared.fault.ParseFault.TheVariants.{Lex, Expected, NoMemory}
 use Rattle.galileo_tree.specs.Parsed.{parsed_text}
 use Rattle.galileo_tree.specs.ReadTree.{ReadTree}
-use Rattle.statement_faults.specs.Checked.{Stands}
-use Rattle.statement_faults.proofs.OneTree.{same_tree}
-use Rattle.statement_faults.proofs.OneFault.{no_fault, same_fault}
-use Rattle.statement_faults.specs.declared.fault.CheckCode.{CheckCode}
+use Rattle.tree_check.specs.Checked.{Stands}
+use Rattle.tree_check.proofs.OneTree.{same_tree}
+use Rattle.tree_check.proofs.OneFault.{no_fault, same_fault}
+use Rattle.tree_check.specs.declared.fault.CheckCode.{CheckCode}
 use Rattle.crew_script.specs.declared.dockets.Crew.{Crew}
 use Rattle.crew_script.specs.declared.fault.CrewCode.{CrewCode}
 use Rattle.crew_script.specs.declared.fault.CrewFault.{CrewFault}

@@ -16,27 +16,27 @@ use Rattle.galileo_tree.specs.declared.raw.RawBasic.{RawBasic}
 use Rattle.galileo_tree.specs.declared.raw.RawTop.{RawTop}
 use Rattle.galileo_tree.specs.declared.raw.Statement.{Statement}
 use Rattle.galileo_tree.specs.ReadTree.{ReadTree}
-use Rattle.statement_faults.specs.declared.fault.CheckCode.{CheckCode}
-use Rattle.statement_faults.specs.declared.fault.CheckCode.TheVariants.{NoToplevel, TwoToplevels, DuplicateName}
-use Rattle.statement_faults.specs.declared.fault.CheckCode.TheVariants.{Undefined}
-use Rattle.statement_faults.specs.declared.fault.CheckCode.TheVariants.{Votes, DummyInput, NoInputs, FdepShape}
-use Rattle.statement_faults.specs.declared.fault.CheckCode.TheVariants.{DependentGate}
-use Rattle.statement_faults.specs.declared.fault.CheckCode.TheVariants.{SpareNotBasic, SharedSpare, Replicated}
-use Rattle.statement_faults.specs.declared.fault.CheckCode.TheVariants.{TopIsFdep}
-use Rattle.statement_faults.specs.declared.fault.CheckCode.TheVariants.{Cycle, TooManyUnits, TooManyGates}
-use Rattle.statement_faults.specs.Checked.{places}
-use Rattle.statement_faults.specs.Classes.{SpareUse, clash, dummies, dummies_in, fdep_tops, gates_after_first}
-use Rattle.statement_faults.specs.Classes.{gates_beyond}
-use Rattle.statement_faults.specs.Classes.{inputless, is_empty, is_replicated, is_short_fdep, places_where}
-use Rattle.statement_faults.specs.Classes.{reads_nothing}
-use Rattle.statement_faults.specs.Classes.{repeats_after, replicated, shared_after, short_fdeps, spare_uses}
-use Rattle.statement_faults.specs.Classes.{spare_uses_in}
-use Rattle.statement_faults.specs.Classes.{undefined, units_beyond, uses_of, wrong_vote, wrong_votes}
+use Rattle.tree_check.specs.declared.fault.CheckCode.{CheckCode}
+use Rattle.tree_check.specs.declared.fault.CheckCode.TheVariants.{NoToplevel, TwoToplevels, DuplicateName}
+use Rattle.tree_check.specs.declared.fault.CheckCode.TheVariants.{Undefined}
+use Rattle.tree_check.specs.declared.fault.CheckCode.TheVariants.{Votes, DummyInput, NoInputs, FdepShape}
+use Rattle.tree_check.specs.declared.fault.CheckCode.TheVariants.{DependentGate}
+use Rattle.tree_check.specs.declared.fault.CheckCode.TheVariants.{SpareNotBasic, SharedSpare, Replicated}
+use Rattle.tree_check.specs.declared.fault.CheckCode.TheVariants.{TopIsFdep}
+use Rattle.tree_check.specs.declared.fault.CheckCode.TheVariants.{Cycle, TooManyUnits, TooManyGates}
+use Rattle.tree_check.specs.Checked.{places}
+use Rattle.tree_check.specs.Classes.{SpareUse, clash, dummies, dummies_in, fdep_tops, gates_after_first}
+use Rattle.tree_check.specs.Classes.{gates_beyond}
+use Rattle.tree_check.specs.Classes.{inputless, is_empty, is_replicated, is_short_fdep, places_where}
+use Rattle.tree_check.specs.Classes.{reads_nothing}
+use Rattle.tree_check.specs.Classes.{repeats_after, replicated, shared_after, short_fdeps, spare_uses}
+use Rattle.tree_check.specs.Classes.{spare_uses_in}
+use Rattle.tree_check.specs.Classes.{undefined, units_beyond, uses_of, wrong_vote, wrong_votes}
 use Rattle.fault_words.specs.Names.{has_name}
-use Rattle.statement_faults.specs.Said.{basics, definitions, names, tops, uses}
-use Rattle.statement_faults.specs.Numbered.{drops_fdeps, is_fdep_in, is_gate, is_spare_kind, kept_by, kept_inputs}
-use Rattle.statement_faults.specs.Numbered.{kinds}
-use Rattle.statement_faults.specs.Numbered.{numbered_gates, numbered_tops, unit_total}
+use Rattle.tree_check.specs.Said.{basics, definitions, names, tops, uses}
+use Rattle.tree_check.specs.Numbered.{drops_fdeps, is_fdep_in, is_gate, is_spare_kind, kept_by, kept_inputs}
+use Rattle.tree_check.specs.Numbered.{kinds}
+use Rattle.tree_check.specs.Numbered.{numbered_gates, numbered_tops, unit_total}
 use Rattle.deck_reading.specs.Unplaced.{nowhere, unplaced, unplaced_attribute, unplaced_name}
 use Rattle.deck_reading.proofs.Anywhere.{Numbered, NumberedGate, all_basics, all_definitions, all_names}
 use Rattle.deck_reading.proofs.Anywhere.{all_numbered_gates, all_numbered_tops, all_tops, all_units, all_uses}

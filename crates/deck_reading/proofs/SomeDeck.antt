@@ -10,8 +10,8 @@ use Rattle.galileo_tree.specs.Parsed.{lexemes_of, parsed_text}
 use Rattle.galileo_tree.specs.ReadTree.{KeepsForm, ReadTree}
 use Rattle.galileo_tree.specs.declared.fault.ParseFault.{ParseFault}
 use Rattle.galileo_tree.specs.declared.fault.ParseFault.TheVariants.{Lex, Expected, NoMemory}
-use Rattle.statement_faults.specs.Checked.{IsFirstFault, Stands}
-use Rattle.statement_faults.specs.declared.fault.CheckCode.{CheckCode}
+use Rattle.tree_check.specs.Checked.{IsFirstFault, Stands}
+use Rattle.tree_check.specs.declared.fault.CheckCode.{CheckCode}
 use Rattle.crew_script.specs.Crews.{crews_of}
 use Rattle.crew_script.specs.CrewsOf.{Answers}
 use Rattle.crew_script.specs.Deck.{lines_of, split_of}

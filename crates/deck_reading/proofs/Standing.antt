@@ -9,13 +9,13 @@ use Rattle.galileo_tree.specs.declared.raw.RawAttribute.{RawAttribute}
 use Rattle.galileo_tree.specs.declared.raw.RawBasic.{RawBasic}
 use Rattle.galileo_tree.specs.declared.raw.Statement.{Statement}
 use Rattle.galileo_tree.specs.ReadTree.{ReadTree}
-use Rattle.statement_faults.specs.declared.fault.CheckCode.{CheckCode}
-use Rattle.statement_faults.specs.Checked.{NoneOf, Stands, after_cycles, before_cycles, places}
-use Rattle.statement_faults.specs.Said.{basics, definitions}
-use Rattle.statement_faults.specs.Numbered.{drops_fdeps, is_fdep_in, kept_inputs, kinds, numbered_definitions}
-use Rattle.statement_faults.specs.Numbered.{numbered_gates}
-use Rattle.statement_faults.specs.Numbered.{numbered_tops, unit_total}
-use Rattle.statement_faults.specs.TreeOf.{HasNoCycle, LeadsTo, first_number, input_lists, numbers, tree_of}
+use Rattle.tree_check.specs.declared.fault.CheckCode.{CheckCode}
+use Rattle.tree_check.specs.Checked.{NoneOf, Stands, after_cycles, before_cycles, places}
+use Rattle.tree_check.specs.Said.{basics, definitions}
+use Rattle.tree_check.specs.Numbered.{drops_fdeps, is_fdep_in, kept_inputs, kinds, numbered_definitions}
+use Rattle.tree_check.specs.Numbered.{numbered_gates}
+use Rattle.tree_check.specs.Numbered.{numbered_tops, unit_total}
+use Rattle.tree_check.specs.TreeOf.{HasNoCycle, LeadsTo, first_number, input_lists, numbers, tree_of}
 use Rattle.deck_reading.specs.Unplaced.{SaysAll, nowhere, said_tree, unplaced, unplaced_attribute, unplaced_name}
 use Rattle.deck_reading.specs.Written.{WrittenStatement}
 use Rattle.deck_reading.proofs.Anywhere.{Numbered, NumberedGate, all_basics, all_definitions, all_names}

@@ -13,13 +13,13 @@ use Rattle.fault_words.specs.declared.kind.GateKind.TheVariants.{And, Or, Votes,
 use Rattle.fault_definitions.specs.Tree.{FaultTree, IsUnitOf, is_fdep, is_fdep_kind, gate_count, unit_count}
 use Rattle.fault_definitions.specs.Tree as trees
 use Rattle.fault_definitions.specs.WellFormed.{IsSoundGate, IsSoundKind, IsTree}
-use Rattle.statement_faults.specs.Classes.{dummies, dummies_in, fdep_tops, gates_after_first, gates_beyond, inputless}
-use Rattle.statement_faults.specs.Classes.{is_empty, is_short_fdep, places_where, reads_nothing, short_fdeps}
-use Rattle.statement_faults.specs.Classes.{wrong_vote}
-use Rattle.statement_faults.specs.Classes.{wrong_votes}
-use Rattle.statement_faults.specs.Numbered.{drops_fdeps, is_fdep_in, is_gate, is_spare_kind, kept_by, kept_inputs}
-use Rattle.statement_faults.specs.Numbered.{kinds}
-use Rattle.statement_faults.specs.TreeOf.{input_lists, numbers}
+use Rattle.tree_check.specs.Classes.{dummies, dummies_in, fdep_tops, gates_after_first, gates_beyond, inputless}
+use Rattle.tree_check.specs.Classes.{is_empty, is_short_fdep, places_where, reads_nothing, short_fdeps}
+use Rattle.tree_check.specs.Classes.{wrong_vote}
+use Rattle.tree_check.specs.Classes.{wrong_votes}
+use Rattle.tree_check.specs.Numbered.{drops_fdeps, is_fdep_in, is_gate, is_spare_kind, kept_by, kept_inputs}
+use Rattle.tree_check.specs.Numbered.{kinds}
+use Rattle.tree_check.specs.TreeOf.{input_lists, numbers}
 use Rattle.deck_reading.proofs.Anywhere.{Numbered, NumberedGate}
 use Rattle.deck_reading.proofs.Passing.{map_through}
 use Rattle.deck_reading.proofs.TreeLists.{map_same, node_at, numbered_at}

@@ -24,15 +24,15 @@ use Rattle.galileo_tree.specs.declared.raw.RawBasic.{RawBasic}
 use Rattle.galileo_tree.specs.declared.raw.RawGate.{RawGate}
 use Rattle.galileo_tree.specs.declared.raw.RawTop.{RawTop}
 use Rattle.galileo_tree.specs.declared.raw.Statement.{Statement}
-use Rattle.statement_faults.specs.Said.{basic_in, basics, definition_in, definitions, gate_in, gates}
+use Rattle.tree_check.specs.Said.{basic_in, basics, definition_in, definitions, gate_in, gates}
 use Rattle.fault_words.specs.Names.{has_name, same_name, number_in}
-use Rattle.statement_faults.specs.Said.{names, top_in, tops, uses, uses_in}
-use Rattle.statement_faults.specs.Numbered.{numbered, numbered_definitions, numbered_gate, numbered_gates}
-use Rattle.statement_faults.specs.Numbered.{numbered_tops}
-use Rattle.statement_faults.specs.Numbered.{unit_total}
-use Rattle.statement_faults.specs.TreeOf.{numbers}
-use Rattle.statement_faults.proofs.Differ.{same_is, same_itself}
-use Rattle.statement_faults.proofs.Numbers.{number_some}
+use Rattle.tree_check.specs.Said.{names, top_in, tops, uses, uses_in}
+use Rattle.tree_check.specs.Numbered.{numbered, numbered_definitions, numbered_gate, numbered_gates}
+use Rattle.tree_check.specs.Numbered.{numbered_tops}
+use Rattle.tree_check.specs.Numbered.{unit_total}
+use Rattle.tree_check.specs.TreeOf.{numbers}
+use Rattle.tree_check.proofs.Differ.{same_is, same_itself}
+use Rattle.tree_check.proofs.Numbers.{number_some}
 use Rattle.deck_reading.specs.TreeStatements.{gate_numbers, gate_statement, node_name, statements_of, top_statement}
 use Rattle.deck_reading.specs.TreeStatements.{unit_numbers, unit_statement}
 use Rattle.deck_reading.specs.Unplaced.{attributed, named, nowhere, said}

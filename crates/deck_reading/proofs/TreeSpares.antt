@@ -11,8 +11,8 @@ use Rattle.fault_words.specs.declared.kind.GateKind.TheVariants.{And, Or, Votes,
 use Rattle.fault_definitions.specs.Tree.{FaultTree}
 use Rattle.fault_definitions.specs.Tree as trees
 use Rattle.fault_definitions.specs.WellFormed.{IsTree, primaries, primary_in, spares, spares_in}
-use Rattle.statement_faults.specs.Classes.{SpareUse, clash, later_uses, shared_after, shared_spares, spare_uses}
-use Rattle.statement_faults.specs.Classes.{spare_uses_in, uses_of}
+use Rattle.tree_check.specs.Classes.{SpareUse, clash, later_uses, shared_after, shared_spares, spare_uses}
+use Rattle.tree_check.specs.Classes.{spare_uses_in, uses_of}
 use Rattle.deck_reading.proofs.Anywhere.{Numbered}
 use Rattle.deck_reading.proofs.TreeLists.{node_at, numbered_at}
 

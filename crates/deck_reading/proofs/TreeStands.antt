@@ -28,16 +28,16 @@ use Rattle.galileo_tree.specs.declared.raw.RawAttribute.{RawAttribute}
 use Rattle.galileo_tree.specs.declared.raw.RawBasic.{RawBasic}
 use Rattle.galileo_tree.specs.declared.raw.RawTop.{RawTop}
 use Rattle.galileo_tree.specs.ReadTree.{HasShortNumbers}
-use Rattle.statement_faults.specs.Checked.{NoneOf, Stands, before_cycles}
-use Rattle.statement_faults.specs.Classes.{dummies, fdep_tops, gates_after_first, gates_beyond, inputless, is_empty}
-use Rattle.statement_faults.specs.Classes.{is_replicated, repeats, replicated, shared_spares, short_fdeps, undefined}
-use Rattle.statement_faults.specs.Classes.{units_beyond, wrong_votes}
+use Rattle.tree_check.specs.Checked.{NoneOf, Stands, before_cycles}
+use Rattle.tree_check.specs.Classes.{dummies, fdep_tops, gates_after_first, gates_beyond, inputless, is_empty}
+use Rattle.tree_check.specs.Classes.{is_replicated, repeats, replicated, shared_spares, short_fdeps, undefined}
+use Rattle.tree_check.specs.Classes.{units_beyond, wrong_votes}
 use Rattle.fault_words.specs.Names.{all_differ, has_name, same_name}
-use Rattle.statement_faults.specs.Numbered.{is_spare_kind, kinds, numbered, numbered_definitions, numbered_gates}
-use Rattle.statement_faults.specs.Numbered.{unit_total}
-use Rattle.statement_faults.specs.Said.{basics, definitions, names, tops, uses}
-use Rattle.statement_faults.specs.TreeOf.{HasNoCycle, LeadsTo, edge, first_number, input_lists, numbers, tree_of, way}
-use Rattle.statement_faults.proofs.Differ.{no_repeat, same_is, same_itself}
+use Rattle.tree_check.specs.Numbered.{is_spare_kind, kinds, numbered, numbered_definitions, numbered_gates}
+use Rattle.tree_check.specs.Numbered.{unit_total}
+use Rattle.tree_check.specs.Said.{basics, definitions, names, tops, uses}
+use Rattle.tree_check.specs.TreeOf.{HasNoCycle, LeadsTo, edge, first_number, input_lists, numbers, tree_of, way}
+use Rattle.tree_check.proofs.Differ.{no_repeat, same_is, same_itself}
 use Rattle.deck_reading.specs.TreeStatements.{HasNames, IsNamed, gate_numbers, gate_statement, node_name, statements_of}
 use Rattle.deck_reading.specs.TreeStatements.{top_statement, unit_numbers, unit_statement}
 use Rattle.deck_reading.specs.Unplaced.{attributed, named, nowhere, said_tree}

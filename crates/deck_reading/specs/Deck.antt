@@ -4,7 +4,7 @@ use Rattle.fault_definitions.specs.Tree.{FaultTree}
 use Rattle.fault_definitions.specs.WellFormed.{IsTree}
 use Rattle.galileo_tree.specs.Parsed.{parsed_text}
 use Rattle.galileo_tree.specs.ReadTree.{ReadTree}
-use Rattle.statement_faults.specs.Checked.{Stands}
+use Rattle.tree_check.specs.Checked.{Stands}
 use Rattle.crew_script.specs.Crews.{crews_of}
 use Rattle.crew_script.specs.Deck.{split_of}
 use Rattle.crew_script.specs.declared.deck.CrewsAt.{CrewsAt}

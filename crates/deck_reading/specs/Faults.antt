@@ -9,8 +9,8 @@ use Rattle.galileo_tree.specs.declared.fault.ParseFault.TheVariants as parse
 use Rattle.galileo_tree.specs.Lexeme.{place_at}
 use Rattle.galileo_tree.specs.Parsed.{parsed_text}
 use Rattle.galileo_tree.specs.ReadTree.{ReadTree}
-use Rattle.statement_faults.specs.Checked.{IsFirstFault}
-use Rattle.statement_faults.specs.declared.fault.CheckCode.{CheckCode}
+use Rattle.tree_check.specs.Checked.{IsFirstFault}
+use Rattle.tree_check.specs.declared.fault.CheckCode.{CheckCode}
 use Rattle.crew_script.specs.declared.dockets.Crew.{Crew}
 use Rattle.crew_script.specs.declared.fault.CrewCode.{CrewCode}
 use Rattle.crew_script.specs.declared.fault.CrewCode.TheVariants.{NoCrewPart}

@@ -9,7 +9,7 @@ use Rattle.galileo_tree.specs.declared.fault.ParseFault.{ParseFault}
 use Rattle.galileo_tree.specs.Grammar.{IsReading}
 use Rattle.galileo_tree.specs.Lexeme.{Stream, lexeme_of}
 use Rattle.galileo_tree.specs.ReadTree.{ReadTree}
-use Rattle.statement_faults.specs.Checked.{Stands}
+use Rattle.tree_check.specs.Checked.{Stands}
 use Rattle.crew_script.specs.CrewsOf.{Answers}
 use Rattle.crew_script.specs.Deck.{lines_of}
 use Rattle.crew_script.specs.Divides.{Divides}

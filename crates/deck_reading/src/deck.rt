@@ -5,7 +5,7 @@ ghost use Rattle.galileo_lexer.specs.Spot.{place_behind};
 ghost use Rattle.galileo_tree.specs.Lexeme.{place_at};
 ghost use Rattle.galileo_tree.specs.Parsed.{parsed_text};
 ghost use Rattle.galileo_tree.specs.Reads.{FailsAs};
-ghost use Rattle.statement_faults.specs.Checked.{Stands};
+ghost use Rattle.tree_check.specs.Checked.{Stands};
 ghost use Rattle.crew_script.specs.Crews.{crews_of};
 ghost use Rattle.crew_script.specs.Deck.{split_of};
 ghost use Rattle.deck_reading.specs.Deck.{StandsFor, crews_behind};

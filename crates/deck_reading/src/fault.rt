@@ -3,7 +3,7 @@ use crew_script::CrewCode;
 use fault_model::Place;
 use galileo_lexer::LexCode;
 use galileo_tree::What;
-use statement_faults::CheckCode;
+use tree_check::CheckCode;
 
 /// What a fault of a deck is.
 #[derive(Clone, Copy, PartialEq, Eq)]

@@ -5,7 +5,7 @@ ghost use Rattle.fault_definitions.specs.WellFormed.{IsTree};
 ghost use Rattle.galileo_tree.specs.declared.fault.ParseFault.{ParseFault};
 ghost use Rattle.galileo_tree.specs.Parsed.{parsed_text};
 ghost use Rattle.galileo_tree.specs.ReadTree.{ReadTree};
-ghost use Rattle.statement_faults.specs.Checked.{Stands};
+ghost use Rattle.tree_check.specs.Checked.{Stands};
 ghost use Rattle.crew_script.specs.Crews.{crews_of};
 ghost use Rattle.crew_script.specs.declared.dockets.Crew.{Crew};
 ghost use Rattle.crew_script.specs.declared.fault.CrewFault.{CrewFault};
@@ -21,7 +21,7 @@ ghost use Rattle.deck_reading.specs.Written.{AreGood, WrittenStatement, written}
 use crew_script::laws::{crew_part_has_one_answer, crews_or_first_fault, decks_are_divided_once};
 use galileo_lexer::{reads_its_text, reads_one_way, tokens_are_spelled};
 use galileo_tree::{parses_its_text, parses_one_way};
-use statement_faults::some_tree_or_some_fault;
+use tree_check::some_tree_or_some_fault;
 
 /// A deck has a tree and crews, its crew part taken so, or a first fault: one of the two, and one alone.
 pub fn a_deck_is_read_one_way()

@@ -2,7 +2,7 @@
 //! is read of statements that are written one a line.
 //!
 //! It stands on `crew_script` for the parts of a deck and its crews, on `galileo_lexer` and `galileo_tree` for the
-//! tokens and the statements of a text, and on `tree_check`, `statement_faults` and `fault_model` for the tree that
+//! tokens and the statements of a text, and on `tree_check` and `fault_model` for the tree that
 //! they stand for. The layers that write a deck get from its laws what is read of one.
 #![tactic(auto)]
 

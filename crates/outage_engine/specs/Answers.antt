@@ -16,8 +16,8 @@ use Rattle.galileo_tree.specs.declared.fault.ParseFault.{ParseFault}
 use Rattle.galileo_tree.specs.declared.fault.ParseFault.TheVariants as parse
 use Rattle.galileo_tree.specs.Lexeme.{place_at}
 use Rattle.galileo_tree.specs.ReadTree.{ReadTree}
-use Rattle.statement_faults.specs.Checked.{IsFirstFault}
-use Rattle.statement_faults.specs.declared.fault.CheckCode.{CheckCode}
+use Rattle.tree_check.specs.Checked.{IsFirstFault}
+use Rattle.tree_check.specs.declared.fault.CheckCode.{CheckCode}
 use Rattle.board_words.specs.declared.command.Command.{Command}
 use Rattle.board_report.specs.CheckText.{check_text}
 use Rattle.cut_texts.specs.CutsText.{cuts_text, listed_with}

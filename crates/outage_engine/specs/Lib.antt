@@ -22,3 +22,5 @@ pub mod Answers
 pub mod Openings
 -- a made deck in sum
 pub mod Summaries
+-- how large a store a command gets
+pub mod StoreSize

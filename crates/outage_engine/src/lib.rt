@@ -16,6 +16,7 @@ mod refusal;
 mod running;
 mod sizes;
 mod status;
+mod store_size;
 mod summary;
 mod tell;
 
@@ -23,3 +24,4 @@ pub use board_words::Word;
 pub use found::{Found, find_cuts};
 pub use running::{run, run_board, run_cuts};
 pub use status::{Method, Status};
+pub use store_size::{LEAST_BITS, STORE_BITS, store_bits};

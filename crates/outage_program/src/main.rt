@@ -1,25 +1,17 @@
 //! The program: the words after its name, its standard input and output, and its exit status.
 //!
 //! It stands on `outage_engine` for all that it does, on `zdd_shared_table` for the store of the diagrams, on
-//! `board_words` for the words and how large that store is, and on `edge_io` for the edge over the standard streams.
+//! `board_words` for the words, and on `edge_io` for the edge over the standard streams.
 #![tactic(auto)]
 
-ghost use Rattle.std.specs.Prelude.{◌≤◌};
-
-use board_words::{Command, Show, read, spoken_words};
+use board_words::spoken_words;
 use edge_io::{Sink, Source, StdSink, StdSource};
-use outage_engine::{Status, Word, run};
+use outage_engine::{STORE_BITS, Status, Word, run, store_bits};
 use std::alloc::Global;
 use std::process::ExitCode;
 use std::sync::Wait;
 use std::thread::Threads;
 use zdd_shared_table::{NodeStore, StoreStart};
-
-// Where diagrams are made, the store has two to the power of this slots.
-const STORE_BITS: u32 = 20;
-
-// A command that makes none gets the least store, since each slot is filled with a zero at the start.
-const LEAST_BITS: u32 = 10;
 
 // With the 24 bytes by which the C library marks an array, a large page.
 const LARGE_PAGE: usize = 2_097_128;
@@ -70,16 +62,4 @@ fn room_above(alloc: Global, bits: u32) -> Option<Vec<u8>> {
         return None;
     }
     Vec::with_capacity(alloc, LARGE_PAGE).ok()
-}
-
-// How large a store the command of these words needs.
-fn store_bits(words: &[Word]) -> u32
-    ensures few { 10 ≤ result }
-    ensures many { result ≤ 25 }
-{
-    match read(words) {
-        None | Some(Command::Help | Command::Check | Command::Print) => LEAST_BITS,
-        Some(Command::Make { show, .. }) if show == Show::Deck => LEAST_BITS,
-        Some(_) => STORE_BITS,
-    }
 }

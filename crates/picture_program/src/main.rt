@@ -22,14 +22,9 @@ use crate::run::run;
 use crate::words::{Mark, read_words};
 use board_words::{Word, spoken_words};
 use edge_io::{StdSink, StdSource};
+use outage_engine::{LEAST_BITS, STORE_BITS};
 use std::process::ExitCode;
 use zdd_shared_table::{NodeStore, StoreStart};
-
-// Where diagrams are made, the store has two to the power of this slots.
-const STORE_BITS: u32 = 20;
-
-// A picture without a cut set needs none and gets the least store, since each slot is filled with a zero at the start.
-const LEAST_BITS: u32 = 10;
 
 fn main(rt: HostRuntime) -> ExitCode {
     let Ok(words) = spoken_words(&rt) else {
@@ -51,7 +46,7 @@ fn main(rt: HostRuntime) -> ExitCode {
     ExitCode::from(end.code())
 }
 
-// How large a store the picture of these words needs.
+// How large a store the picture of these words needs: one without a cut set makes no diagrams.
 fn store_bits(words: &[Word]) -> u32
     ensures few { 10 ≤ result }
     ensures many { result ≤ 25 }

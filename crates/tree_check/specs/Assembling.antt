@@ -3,7 +3,7 @@ use Rattle.std.specs.Prelude.{◌≡◌, List, [], ◌∷◌, ◌++◌, map}
 use Rattle.fault_words.specs.declared.attribute.Attribute.{Attribute}
 use Rattle.galileo_tree.specs.declared.raw.RawAttribute.{RawAttribute}
 use Rattle.galileo_tree.specs.declared.raw.Statement.{Statement}
-use Rattle.statement_faults.specs.Said.{basics, basic_names, gate_names}
+use Rattle.tree_check.specs.Said.{basics, basic_names, gate_names}
 use Rattle.tree_check.specs.declared.assembly.Taken.{Taken}
 
 -- the attributes of one basic event

@@ -2,19 +2,20 @@
 ghost use Rattle.std.specs.Prelude.{◌≡◌, ◌+◌, ◌≤◌, ◌++◌, ℕ, List, length, All, IfOk, OnOk};
 ghost use Rattle.unit_sets.specs.Unit.{most_units};
 ghost use Rattle.fault_definitions.specs.Tree.{ranked};
-ghost use Rattle.statement_faults.specs.Said.{names};
-ghost use Rattle.statement_faults.specs.Numbered.{kinds, kept_inputs};
-ghost use Rattle.statement_faults.specs.Numbering.{IsDeckOf};
-ghost use Rattle.statement_faults.specs.SpareTable.{AreWithin};
-ghost use Rattle.statement_faults.specs.TreeOf.{tree_of, numbers, input_lists, first_number};
+ghost use Rattle.tree_check.specs.Said.{names};
+ghost use Rattle.tree_check.specs.Numbered.{kinds, kept_inputs};
+ghost use Rattle.tree_check.specs.Numbering.{IsDeckOf};
+ghost use Rattle.tree_check.specs.SpareTable.{AreWithin};
+ghost use Rattle.tree_check.specs.TreeOf.{tree_of, numbers, input_lists, first_number};
 ghost use Rattle.tree_check.specs.Assembling.{attributes_in, Takes, IsTakenOf};
 
+use crate::gates::{drops_fdeps, is_fdep};
+use crate::numbered::{Numbered, NumberedGate, NumberedText};
 use fault_model::{
     AttributeList, AttributeLists, InputLists, KindList, MOST_GATES, Name, NameTable, NoMemory,
     NodeList, NodeNo, TreeParts,
 };
 use galileo_tree::{RawAttributes, RawBasic, RawGate, Statement};
-use statement_faults::{Numbered, NumberedGate, NumberedText, drops_fdeps, is_fdep};
 use std::alloc::Global;
 
 /// What is moved out of statements: the names of the basic events and of the gates, and the attributes.

@@ -1,11 +1,12 @@
 //! The check of a text whose statements are read.
 ghost use Rattle.std.specs.Prelude.{IfOk, IfErr};
-ghost use Rattle.statement_faults.specs.Checked.{IsRefusal, Stands};
+ghost use Rattle.tree_check.specs.Checked.{IsRefusal, Stands};
 
 use crate::assembly::assemble;
+use crate::examining::examine;
+use crate::fault::CheckFault;
 use fault_model::Tree;
 use galileo_tree::RawTree;
-use statement_faults::{CheckFault, examine};
 use std::alloc::Global;
 
 /// The tree that the statements of a text stand for, or the first fault.

@@ -13,9 +13,9 @@ use Rattle.fault_words.specs.declared.kind.GateKind.{GateKind}
 use Rattle.fault_words.specs.declared.kind.GateKind.TheVariants.{And}
 use Rattle.fault_definitions.specs.Tree.{FaultTree, unit_count}
 use Rattle.fault_definitions.specs.Trigger.{below, trigger_by}
-use Rattle.statement_faults.specs.Numbered.{drops_fdeps, is_fdep_in, kept_by, kept_inputs, kinds}
-use Rattle.statement_faults.specs.TreeOf.{LeadsTo, input_lists, numbers}
-use Rattle.statement_faults.specs.TreeOf.LeadsTo.{edge, way}
+use Rattle.tree_check.specs.Numbered.{drops_fdeps, is_fdep_in, kept_by, kept_inputs, kinds}
+use Rattle.tree_check.specs.TreeOf.{LeadsTo, input_lists, numbers}
+use Rattle.tree_check.specs.TreeOf.LeadsTo.{edge, way}
 use Rattle.tree_maker.specs.MadeDeck as made
 use Rattle.tree_maker.proofs.FineGates.{deck_gates, kind, seven_kinds}
 use Rattle.tree_maker.proofs.Gates.{Numbered, NumberedGate, fdep_numbered, group_numbered, put, top_numbered}

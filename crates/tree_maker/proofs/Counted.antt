@@ -10,7 +10,7 @@ use Rattle.std.proofs.lemmas.List.Folds.{list_any-append}
 use lib.Pointwise.{bytes_decides}
 use Rattle.fault_words.specs.declared.kind.GateKind.{GateKind}
 use Rattle.fault_words.specs.Names.{has_name, same_name, number_in}
-use Rattle.statement_faults.specs.Classes.{repeats_after}
+use Rattle.tree_check.specs.Classes.{repeats_after}
 use Rattle.tree_maker.specs.Names.{top_name, gate_name, fdep_name, trigger_name, unit_name, units_in}
 use Rattle.tree_maker.proofs.Ranges.{any-flat_range, any-range, range-append}
 use Rattle.tree_maker.proofs.Decoding.{decoded, decoded-a, decoded-b, decoded-c, decoded-gate, decoded-trigger}

@@ -17,16 +17,16 @@ use Rattle.fault_definitions.specs.Tree.{is_fdep_kind}
 use Rattle.galileo_tree.specs.declared.raw.Placed.{Placed}
 use Rattle.galileo_tree.specs.declared.raw.RawBasic.{RawBasic}
 use Rattle.galileo_tree.specs.declared.raw.Statement.{Statement}
-use Rattle.statement_faults.specs.Checked.{IsFaultless, NoneOf, before_cycles}
-use Rattle.statement_faults.specs.Classes.{dependent_gates, dummies, fdep_tops, inputless, is_replicated, repeats}
-use Rattle.statement_faults.specs.Classes.{repeats_after, replicated, shared_spares, short_fdeps, spare_gates}
-use Rattle.statement_faults.specs.Classes.{undefined}
-use Rattle.statement_faults.specs.Classes.{wrong_votes}
-use Rattle.statement_faults.specs.Numbered.{is_fdep_in, kinds, numbered, numbered_gate, numbered_gates, numbered_tops}
-use Rattle.statement_faults.specs.Numbered.{unit_total}
+use Rattle.tree_check.specs.Checked.{IsFaultless, NoneOf, before_cycles}
+use Rattle.tree_check.specs.Classes.{dependent_gates, dummies, fdep_tops, inputless, is_replicated, repeats}
+use Rattle.tree_check.specs.Classes.{repeats_after, replicated, shared_spares, short_fdeps, spare_gates}
+use Rattle.tree_check.specs.Classes.{undefined}
+use Rattle.tree_check.specs.Classes.{wrong_votes}
+use Rattle.tree_check.specs.Numbered.{is_fdep_in, kinds, numbered, numbered_gate, numbered_gates, numbered_tops}
+use Rattle.tree_check.specs.Numbered.{unit_total}
 use Rattle.fault_words.specs.Names.{has_name}
-use Rattle.statement_faults.specs.Said.{basics, gates, names, tops, uses}
-use Rattle.statement_faults.specs.TreeOf.{HasNoCycle, input_lists, tree_of}
+use Rattle.tree_check.specs.Said.{basics, gates, names, tops, uses}
+use Rattle.tree_check.specs.TreeOf.{HasNoCycle, input_lists, tree_of}
 use Rattle.deck_reading.specs.Unplaced.{said_tree}
 use Rattle.tree_maker.specs.Names.{gate_name, top_name, trigger_name, unit_name}
 use Rattle.tree_maker.proofs.Acyclic.{none_cyclic}

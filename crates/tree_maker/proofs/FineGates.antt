@@ -7,10 +7,10 @@ use Rattle.std.proofs.lemmas.Bool.{and_right, le-ltb}
 use Rattle.std.proofs.lemmas.List.Elements.{All-append, All-cons, All-head, All-tail}
 use Rattle.fault_words.specs.declared.kind.GateKind.{GateKind}
 use Rattle.fault_words.specs.declared.kind.GateKind.TheVariants.{And, Votes, Pand, Seq, Fdep, Csp, Wsp, Hsp}
-use Rattle.statement_faults.specs.Classes.{is_empty, dependent_gates, dummies, dummies_in, gates_after_first, inputless}
-use Rattle.statement_faults.specs.Classes.{is_short_fdep, reads_nothing, short_fdeps, spare_gates, wrong_vote}
-use Rattle.statement_faults.specs.Classes.{wrong_votes}
-use Rattle.statement_faults.specs.Numbered.{is_fdep_in, is_spare_kind, kinds}
+use Rattle.tree_check.specs.Classes.{is_empty, dependent_gates, dummies, dummies_in, gates_after_first, inputless}
+use Rattle.tree_check.specs.Classes.{is_short_fdep, reads_nothing, short_fdeps, spare_gates, wrong_vote}
+use Rattle.tree_check.specs.Classes.{wrong_votes}
+use Rattle.tree_check.specs.Numbered.{is_fdep_in, is_spare_kind, kinds}
 use Rattle.fault_definitions.specs.Tree.{is_fdep_kind}
 use Rattle.tree_maker.specs.MadeDeck as made
 use Rattle.tree_maker.proofs.Gates.{Numbered, NumberedGate, fdep_numbered, group_numbered, made_gates, numbered_by, put}

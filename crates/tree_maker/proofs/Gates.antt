@@ -6,7 +6,7 @@ use Rattle.std.proofs.lemmas.List.{map-append}
 use Rattle.std.proofs.lemmas.Simd.{map-map}
 use Rattle.fault_words.specs.declared.kind.GateKind.{GateKind}
 use Rattle.fault_words.specs.declared.kind.GateKind.TheVariants.{Or, Fdep}
-use Rattle.statement_faults.specs.Numbered.{numbered, numbered_gate, numbered_gates, numbered_tops}
+use Rattle.tree_check.specs.Numbered.{numbered, numbered_gate, numbered_gates, numbered_tops}
 use Rattle.fault_words.specs.Names.{number_in}
 use Rattle.deck_reading.specs.Unplaced.{nowhere}
 use Rattle.tree_maker.specs.Names.{gate_name, trigger_name, unit_name}

@@ -13,11 +13,11 @@ use Rattle.fault_definitions.specs.WellFormed.{IsTree}
 use Rattle.fault_words.specs.declared.attribute.Attribute.{Attribute}
 use Rattle.fault_words.specs.declared.place.Place.{Place}
 use Rattle.galileo_tree.specs.ReadTree.{HasBareWord, KeepsForm, ReadTree}
-use Rattle.statement_faults.specs.Checked.{IsFaultless, IsFirstFault, Stands}
-use Rattle.statement_faults.specs.Numbered.{numbered_gates}
-use Rattle.statement_faults.proofs.OneFault.{no_fault}
-use Rattle.statement_faults.specs.Said.{basics}
-use Rattle.statement_faults.specs.declared.fault.CheckCode.{CheckCode}
+use Rattle.tree_check.specs.Checked.{IsFaultless, IsFirstFault, Stands}
+use Rattle.tree_check.specs.Numbered.{numbered_gates}
+use Rattle.tree_check.proofs.OneFault.{no_fault}
+use Rattle.tree_check.specs.Said.{basics}
+use Rattle.tree_check.specs.declared.fault.CheckCode.{CheckCode}
 use Rattle.crew_script.specs.Crews.{crews_of}
 use Rattle.crew_script.specs.CrewsOf.{Answers, AreCrews, Say, lines_for}
 use Rattle.crew_script.specs.Deck.{lines_of}

@@ -7,7 +7,7 @@ use Rattle.std.proofs.lemmas.Bool.{cases_Bool, cond-true, lt-ltb}
 use Rattle.std.proofs.lemmas.List.Elements.{All-append, All-cons, All-nil, All-head, All-tail, All-weaker}
 use lib.Pointwise.{bytes_decides}
 use Rattle.fault_words.specs.Names.{has_name, same_name, number_at, number_in}
-use Rattle.statement_faults.specs.Classes.{repeats_after}
+use Rattle.tree_check.specs.Classes.{repeats_after}
 use Rattle.std.specs.Prelude.{length, Some, None}
 use Rattle.tree_maker.proofs.Statements.{placed}
 

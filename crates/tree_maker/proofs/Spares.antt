@@ -9,7 +9,7 @@ use Rattle.std.proofs.lemmas.List.Concat.{flat_map-append}
 use Rattle.std.proofs.lemmas.List.Elements.{All-cons, All-head, All-nil, All-tail, All-weaker}
 use Rattle.std.proofs.lemmas.List.Folds.{flat_map-map}
 use Rattle.fault_words.specs.declared.kind.GateKind.TheVariants.{And}
-use Rattle.statement_faults.specs.Classes.{SpareUse, clash, shared_after, shared_spares, spare_uses, spare_uses_in}
+use Rattle.tree_check.specs.Classes.{SpareUse, clash, shared_after, shared_spares, spare_uses, spare_uses_in}
 use Rattle.tree_maker.specs.MadeDeck as made
 use Rattle.tree_maker.proofs.FineGates.{deck_gates, kind, seven_kinds}
 use Rattle.tree_maker.proofs.Gates.{fdep_numbered, group_numbered, numbered_by}

@@ -12,9 +12,9 @@ use Rattle.galileo_tree.specs.declared.raw.Placed.{Placed}
 use Rattle.galileo_tree.specs.declared.raw.RawBasic.{RawBasic}
 use Rattle.galileo_tree.specs.declared.raw.RawGate.{RawGate}
 use Rattle.galileo_tree.specs.declared.raw.Statement.{Statement}
-use Rattle.statement_faults.specs.Said.{basics, basic_in, definition_in, definitions, gate_in, gates, names, top_in}
-use Rattle.statement_faults.specs.Said.{tops}
-use Rattle.statement_faults.specs.Said.{uses, uses_in}
+use Rattle.tree_check.specs.Said.{basics, basic_in, definition_in, definitions, gate_in, gates, names, top_in}
+use Rattle.tree_check.specs.Said.{tops}
+use Rattle.tree_check.specs.Said.{uses, uses_in}
 use Rattle.deck_reading.specs.Written.{WrittenStatement, Bare, Top, Gate}
 use Rattle.deck_reading.specs.Unplaced.{nowhere, said}
 use Rattle.tree_maker.specs.Names.{top_name, gate_name, fdep_name, trigger_name, unit_name, units_in}

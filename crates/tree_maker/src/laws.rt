@@ -8,7 +8,7 @@ use crew_script::laws::crew_part_has_one_answer;
 use deck_reading::laws::{
     written_statements_are_the_tree_part, written_statements_stand_for_their_tree,
 };
-use statement_faults::some_tree_or_some_fault;
+use tree_check::some_tree_or_some_fault;
 
 /// The made deck of each number is a deck without a fault: it stands for a tree of so many units and gates, and for one
 /// crew with its requests.

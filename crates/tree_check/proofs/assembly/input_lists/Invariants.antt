@@ -1,6 +1,6 @@
 use Rattle.std.proofs.Common.{◌≡◌, take, map}
-use Rattle.statement_faults.specs.Numbered.{kinds, kept_inputs}
-use Rattle.statement_faults.specs.TreeOf.{numbers}
+use Rattle.tree_check.specs.Numbered.{kinds, kept_inputs}
+use Rattle.tree_check.specs.TreeOf.{numbers}
 use Rattle.tree_check.proofs.assembly.input_lists.Given as goal
 
 abbrev pub invariant-loop-gate : goal.invariant-loop-gate

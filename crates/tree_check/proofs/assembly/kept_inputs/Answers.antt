@@ -1,7 +1,7 @@
 use Rattle.std.proofs.Common.{arith}
 use Rattle.std.proofs.lemmas.Grind.{common_steps}
-use Rattle.statement_faults.specs.Numbered.{is_fdep_in, kinds}
-use Rattle.tree_check.proofs.Taking.{kept_as}
+use Rattle.tree_check.specs.Numbered.{is_fdep_in, kinds}
+use Rattle.tree_check.proofs.Edges.{kept_as}
 use Rattle.tree_check.proofs.assembly.kept_inputs.Goals as goal
 
 pub returns : goal.returns

@@ -1,5 +1,5 @@
 use Rattle.std.proofs.Common.{◌≡◌, take}
-use Rattle.statement_faults.specs.Numbered.{kinds}
+use Rattle.tree_check.specs.Numbered.{kinds}
 use Rattle.tree_check.proofs.assembly.kinds_of.Given as goal
 
 abbrev pub invariant-loop-gate : goal.invariant-loop-gate

@@ -2,9 +2,9 @@ use Rattle.std.proofs.Common.{sym, subst, ap, ◌∙◌}
 use Rattle.std.specs.Prelude.{All}
 use Rattle.fault_definitions.specs.WellFormed.{IsTree}
 use Rattle.galileo_tree.specs.ReadTree.{KeepsForm}
-use Rattle.statement_faults.specs.TreeOf.{tree_of}
-use Rattle.statement_faults.proofs.DeckParts.{deck_within, deck_top, deck_few_units, deck_few_gates}
-use Rattle.statement_faults.proofs.Faultless.{IsTree-faultless}
+use Rattle.tree_check.specs.TreeOf.{tree_of}
+use Rattle.tree_check.proofs.DeckParts.{deck_within, deck_top, deck_few_units, deck_few_gates}
+use Rattle.tree_check.proofs.Faultless.{IsTree-faultless}
 use Rattle.tree_check.proofs.checking.check.Goals as goal
 
 pub assemble-requires-clause-deck : goal.assemble-requires-clause-deck

@@ -1,8 +1,0 @@
-use Rattle.std.proofs.Common.{ap, ◌∙◌}
-use Rattle.statement_faults.specs.Classes.{first}
-use Rattle.statement_faults.proofs.Trying.{told_at_gates}
-use Rattle.statement_faults.proofs.classes.first_place.Goals as goal
-
-pub returns-in-Votes : goal.returns-in-Votes
-returns-in-Votes c =
-    c.first_at_gates.ensures ∙ ap first (told_at_gates c.args.parts c.requires c.args.code c.in-Votes.is)

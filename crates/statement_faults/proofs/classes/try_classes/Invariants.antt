@@ -1,7 +1,0 @@
-use Rattle.std.proofs.Common.{drop}
-use Rattle.statement_faults.specs.Examined.{read_of}
-use Rattle.statement_faults.proofs.Trying.{Comes}
-use Rattle.statement_faults.proofs.classes.try_classes.Given as goal
-
-abbrev pub invariant-loop-code : goal.invariant-loop-code
-invariant-loop-code l = Comes (read_of l.parts) l.codes (drop l.code-index l.codes)

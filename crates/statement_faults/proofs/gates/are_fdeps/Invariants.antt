@@ -1,9 +1,0 @@
-use Rattle.std.proofs.Common.{◌≡◌, drop, true}
-use Rattle.statement_faults.specs.Numbered.{is_fdep_in, kept_by, kinds}
-use Rattle.statement_faults.specs.Classes.{is_empty}
-use Rattle.statement_faults.proofs.gates.are_fdeps.Given as goal
-
-abbrev pub invariant-loop-input : goal.invariant-loop-input
-invariant-loop-input l =
-    is_empty (kept_by true (is_fdep_in l.units (kinds l.gates)) (drop l.input-index l.inputs))
-    ≡ is_empty (kept_by true (is_fdep_in l.units (kinds l.gates)) l.inputs)

@@ -1,9 +1,0 @@
-use Rattle.std.proofs.Common.{◌≡◌, drop}
-use Rattle.statement_faults.specs.Numbered.{is_fdep_in, kinds}
-use Rattle.statement_faults.specs.Classes.{first, places_where}
-use Rattle.statement_faults.proofs.gates.fdep_among.Given as goal
-
-abbrev pub invariant-loop-input : goal.invariant-loop-input
-invariant-loop-input l =
-    first (places_where (is_fdep_in l.units (kinds l.gates)) (drop l.input-index l.inputs))
-    ≡ first (places_where (is_fdep_in l.units (kinds l.gates)) l.inputs)

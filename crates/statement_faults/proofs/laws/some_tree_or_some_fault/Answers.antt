@@ -1,5 +1,0 @@
-use Rattle.statement_faults.proofs.SomeTree.{tree_or_fault}
-use Rattle.statement_faults.proofs.laws.some_tree_or_some_fault.Goals as goal
-
-pub returns : goal.returns
-returns c = tree_or_fault

@@ -1,6 +1,0 @@
-use Rattle.std.proofs.Common.{sym, ◌∙◌}
-use Rattle.statement_faults.proofs.Differ.{some_repeat}
-use Rattle.statement_faults.proofs.naming.repetition.Goals as goal
-
-pub unreachable-requires : goal.unreachable-requires
-unreachable-requires c = some_repeat c.args.statements.now c.requires (sym c.in_ok-place.ensures ∙ c.in-None.is)

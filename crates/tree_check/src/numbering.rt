@@ -1,0 +1,144 @@
+//! A text by numbers, where every name that it uses is defined.
+ghost use Rattle.std.specs.Prelude.{◌≡◌, ◌+◌, ◌++◌, ◌∷◌, ◌<◌, ◌≤◌, ℕ, [], length, map, IfOk, IfErr, OnOk};
+ghost use Rattle.tree_check.specs.Said.{names, uses, uses_in, basics, gates, top_in, gate_in, basic_in};
+ghost use Rattle.tree_check.specs.Numbered.{numbered, numbered_gate};
+ghost use Rattle.tree_check.specs.Classes.{undefined};
+ghost use Rattle.tree_check.specs.Found.{IsFoundAs};
+ghost use Rattle.tree_check.specs.Numbering.{IsDeckOf, AddsStatement};
+
+use crate::numbered::{InputRow, Numbered, NumberedGate, NumberedText};
+use crate::{CheckCode, CheckFault};
+use galileo_tree::{Placed, RawGate, Statement};
+use name_index::NameIndex;
+use std::alloc::Global;
+
+/// The number of a name that is used. `last` is that of the name used before it, behind which it may well stand.
+fn number(index: &NameIndex<'_>, used: &Placed, last: &mut usize) -> Result<Numbered, CheckFault>
+    ensures number { IfOk result (λ n. n ≡ numbered index.now used.now) }
+    ensures known { OnOk result (undefined index.now (used.now ∷ []) ≡ []) }
+    ensures fault { IfErr result (IsFoundAs CheckCode.Undefined (undefined index.now (used.now ∷ []))) }
+{
+    let number = index.number_near(&used.name, *last);
+    if number == 0 {
+        return Err(CheckFault::Fault(CheckCode::Undefined, used.place));
+    }
+    *last = number;
+    Ok(Numbered {
+        number,
+        place: used.place,
+    })
+}
+
+/// Adds the numbers of the inputs of a gate.
+fn number_inputs(
+    row: &mut InputRow,
+    index: &NameIndex<'_>,
+    inputs: &[Placed],
+    last: &mut usize,
+) -> Result<(), CheckFault>
+    ensures row { OnOk result (row.new ≡ row.old ++ map (numbered index.now) inputs.now) }
+    ensures known { OnOk result (undefined index.now inputs.now ≡ []) }
+    ensures fault { IfErr result (IsFoundAs CheckCode.Undefined (undefined index.now inputs.now)) }
+{
+    for input in inputs {
+        let next = number(index, input, last)?;
+        row.push(next)?;
+    }
+    Ok(())
+}
+
+fn number_gate(
+    alloc: Global,
+    index: &NameIndex<'_>,
+    gate: &RawGate,
+    last: &mut usize,
+) -> Result<NumberedGate, CheckFault>
+    ensures gate { IfOk result (λ g. g ≡ numbered_gate index.now gate.now) }
+    ensures known { OnOk result (undefined index.now gate.now.inputs ≡ []) }
+    ensures fault { IfErr result (IsFoundAs CheckCode.Undefined (undefined index.now gate.now.inputs)) }
+{
+    let inputs = gate.inputs.as_slice();
+    let mut row = InputRow::with_room(alloc, inputs.len())?;
+    match number_inputs(&mut row, index, inputs, last) {
+        Ok(()) => Ok(NumberedGate {
+            kind: gate.kind,
+            word: gate.word,
+            name: gate.name.place,
+            inputs: row,
+        }),
+        Err(fault) => {
+            drop(row);
+            Err(fault)
+        }
+    }
+}
+
+impl NumberedText {
+    /// Adds what one statement says.
+    fn add(
+        &mut self,
+        alloc: Global,
+        index: &NameIndex<'_>,
+        statement: &Statement,
+        last: &mut usize,
+    ) -> Result<(), CheckFault>
+        requires { self.old.units + 1 < 18446744073709551616 }
+        ensures adds { OnOk result (AddsStatement index.now statement.now self.old self.new) }
+        ensures known { OnOk result (undefined index.now (uses_in statement.now) ≡ []) }
+        ensures fault { IfErr result (IsFoundAs CheckCode.Undefined (undefined index.now (uses_in statement.now))) }
+    {
+        match statement {
+            Statement::Top(top) => self.tops.push(number(index, &top.name, last)?)?,
+            Statement::Gate(gate) => self.gates.push(number_gate(alloc, index, gate, last)?)?,
+            Statement::Basic(_) => self.units += 1,
+        }
+        Ok(())
+    }
+
+    /// Adds what each statement says, to a text that says nothing yet.
+    fn add_all(
+        &mut self,
+        alloc: Global,
+        index: &NameIndex<'_>,
+        statements: &[Statement],
+    ) -> Result<(), CheckFault>
+        requires units { self.old.units ≡ 0 }
+        requires gates { self.old.gates.items ≡ [] }
+        requires tops { self.old.tops.items ≡ [] }
+        ensures deck { OnOk result (IsDeckOf index.now statements.now self.new) }
+        ensures few { OnOk result (self.new.units ≤ length statements.now) }
+        ensures known { OnOk result (undefined index.now (uses statements.now) ≡ []) }
+        ensures fault { IfErr result (IsFoundAs CheckCode.Undefined (undefined index.now (uses statements.now))) }
+    {
+        let mut last = 0;
+        for statement in statements {
+            self.add(alloc, index, statement, &mut last)?;
+        }
+        Ok(())
+    }
+}
+
+/// The statements by numbers.
+pub(crate) fn number_all(
+    alloc: Global,
+    index: &NameIndex<'_>,
+    statements: &[Statement],
+) -> Result<NumberedText, CheckFault>
+    ensures deck { IfOk result (IsDeckOf index.now statements.now) }
+    ensures few { IfOk result (λ deck. deck.units ≤ length statements.now) }
+    ensures known { OnOk result (undefined index.now (uses statements.now) ≡ []) }
+    ensures fault { IfErr result (IsFoundAs CheckCode.Undefined (undefined index.now (uses statements.now))) }
+{
+    let mut deck = NumberedText {
+        units: 0,
+        gates: Vec::new(alloc),
+        tops: Vec::new(alloc),
+    };
+    match deck.add_all(alloc, index, statements) {
+        Ok(()) => Ok(deck),
+        Err(fault) => {
+            drop(deck);
+            Err(fault)
+        }
+    }
+}
