@@ -1,16 +1,17 @@
 -- How counts grow, one node's list after another.
 use Rattle.std.specs.Prelude.{◌≡◌, ◌≢◌, ℕ, zero, suc, ◌+◌, ◌-◌, ◌<◌, ◌≤◌, Bool, true, false, ◌&&◌, ◌||◌, nat_le}
 use Rattle.std.specs.Prelude.{if◌then◌else◌, List, [], ◌∷◌, ◌++◌, length, take, All, max, replicate, get_or, ◌⊎◌}
-use Rattle.std.proofs.Common.{refl, sym, ◌∙◌, ap, subst, inl, inr, arith, set}
+use Rattle.std.proofs.Common.{refl, sym, ◌∙◌, ap, subst, inl, inr, arith, set, add-one}
 use Rattle.std.proofs.lemmas.Bool.{cases_lt, cases_eq, lt-leb, le-leb}
 use Rattle.std.proofs.lemmas.Bool.Decides.{nat_tests}
 use Rattle.std.proofs.lemmas.List.{take_more, take_all, get_or-set_other, get_or-set_same, length-replicate, length-set}
+use Rattle.std.proofs.lemmas.List.{set-set}
 use Rattle.std.proofs.lemmas.List.{get_or_default}
 use Rattle.std.proofs.lemmas.List.Elements.{All-nil, All-cons, All-get_or, All-replicate, All-set}
 use Rattle.fault_definitions.specs.Reading.{true_count}
-use Rattle.cutset_lists.specs.Sets.{IsSetOf, AreSetsOf, AddsBoth, AddsSetsOf, IsReducedFrom}
+use Rattle.cutset_lists.specs.Sets.{IsSetOf, AreSetsOf, AddsProduct}
 use Rattle.cutset_lists.specs.Generation.{list_at, HasList, reading_of, Follows, at_least_rule}
-use Rattle.cutset_lists.specs.Counts.{count_at, counts_of_none, IsCounting, CountsMore, CountsList}
+use Rattle.cutset_lists.specs.Counts.{count_at, IsCounting, CountsMore, CountsList}
 use Rattle.cutset_lists.proofs.GateLemmas.{empty_set_of, has_list, node_read, list_read}
 use Rattle.unit_sets.specs.UnitList.{some_within}
 
@@ -21,16 +22,25 @@ none_at zero i = refl
 none_at (suc n) zero = refl
 none_at (suc n) (suc i) = none_at n i
 
-none_reached : (most at : ℕ) (within : ℕ → Bool) → some_within (count_at (counts_of_none most) at) within ≡ nat_le at 0
+none_reached : (most at : ℕ) (within : ℕ → Bool)
+    → some_within (count_at (([] ∷ []) ∷ replicate most []) at) within ≡ nat_le at 0
 none_reached most zero within = refl
 none_reached most (suc at) within = ap (λ s. some_within s within) (none_at most at)
     ∙ sym (lt-leb (suc at) 0 (omega arith))
 
-pub IsCounting-none : (lists : List (List (List ℕ))) (nodes : List ℕ) (most lowest : ℕ) (counts : List (List (List ℕ)))
-    → counts ≡ counts_of_none most → IsCounting lists (take 0 nodes) most lowest counts
-IsCounting-none lists nodes most lowest counts is =
-    subst (IsCounting lists (take 0 nodes) most lowest) (sym is) (record {
-      all = let e = length-replicate most (let none : List (List ℕ) = [] in none) in omega arith;
+-- none is always reached, and no more
+pub IsCounting-none : (lists : List (List (List ℕ))) (nodes : List ℕ) (most lowest : ℕ)
+    (none counts : List (List (List ℕ))) (first pushed : List (List ℕ)) → none ≡ replicate (most + 1) []
+    → first ≡ get_or none 0 first → pushed ≡ first ++ [] ∷ [] → counts ≡ set none 0 pushed
+    → IsCounting lists (take 0 nodes) most lowest counts
+IsCounting-none lists nodes most lowest none counts first pushed none_is first_is pushed_is counts_are =
+    let all : none ≡ [] ∷ replicate most [] = none_is ∙ ap (λ n. replicate n []) (add-one most) in
+    let empty : first ≡ [] = first_is ∙ ap (λ (l : List (List (List ℕ))). get_or l 0 first) all in
+    subst (IsCounting lists (take 0 nodes) most lowest)
+    (sym (counts_are ∙ ap (λ (l : List (List (List ℕ))). set l 0 pushed) all
+    ∙ ap (λ (l : List (List ℕ)). l ∷ replicate most []) (pushed_is ∙ ap (λ (l : List (List ℕ)). l ++ [] ∷ []) empty)))
+    (record {
+      all = let e = length-replicate most (let no_set : List (List ℕ) = [] in no_set) in omega arith;
       reached = λ at _ _ within. none_reached most at within;
       sets =
           λ passes _. All-cons (AreSetsOf passes) ([] ∷ []) (replicate most []) (empty_set_of passes)
@@ -169,18 +179,13 @@ IsCounting-end lists nodes most i floor counts made long low made_is counting = 
 
 -- ---- values as the code has them
 
-set_twice : {X : Type 0} (xs : List X) (i : ℕ) (a b : X) → set (set xs i a) i b ≡ set xs i b
-set_twice [] i a b = refl
-set_twice (x ∷ xs) zero a b = refl
-set_twice (x ∷ xs) (suc i) a b = ap (λ ys. x ∷ ys) (set_twice xs i a b)
-
+-- a list is taken out, grows, and is put back
 pub CountsMore-from : (list : List (List ℕ)) (old : List (List (List ℕ))) (at : ℕ)
-    (empty read taken below summed grown : List (List ℕ)) → 1 ≤ at → at < length old → taken ≡ read
-    → read ≡ get_or old at read → below ≡ get_or (set old at empty) (at - 1) below → AddsBoth below list taken summed
-    → AddsSetsOf below list taken summed → IsReducedFrom summed grown
+    (empty read taken below grown : List (List ℕ)) → 1 ≤ at → at < length old → taken ≡ read
+    → read ≡ get_or old at read
+    → below ≡ get_or (set old at empty) (at - 1) below → AddsProduct below list taken grown
     → CountsMore list at old (set (set old at empty) at grown)
-CountsMore-from list old at empty read taken below summed grown some short taken_read read_is below_is adds adds_sets
-    less =
+CountsMore-from list old at empty read taken below grown some short taken_read read_is below_is adds =
     let taken_is : taken ≡ count_at old at = taken_read ∙ read_is ∙ get_or_default old at read [] short in
     let below_at : below ≡ count_at old (at - 1) =
     below_is
@@ -188,17 +193,17 @@ CountsMore-from list old at empty read taken below summed grown some short taken
     ∙ get_or-set_other old at (at - 1) empty [] (λ same. omega arith) in
     record {
       grown = grown;
-      is = set_twice old at empty grown;
+      is = set-set old at empty grown;
       reached = λ within.
-          less.some_within within ∙ adds.some_within within
+          adds.some_within within
           ∙ ap (λ s. some_within s within || (some_within below within && some_within list within)) taken_is
           ∙ ap (λ s. some_within (count_at old at) within
           || (some_within s within && some_within list within)) below_at;
       sets = λ passes of each.
-          less.sets passes (adds_sets.sets passes
+          adds.sets passes
           (subst (AreSetsOf passes) (sym below_at) (All-get_or (AreSetsOf passes) old (at - 1) [] (omega arith) each))
           of
-          (subst (AreSetsOf passes) (sym taken_is) (All-get_or (AreSetsOf passes) old at [] short each)));
+          (subst (AreSetsOf passes) (sym taken_is) (All-get_or (AreSetsOf passes) old at [] short each));
     }
 
 pub CountsList-step : (list : List (List ℕ)) (old now new : List (List (List ℕ))) (above at : ℕ) → 1 ≤ at

@@ -27,19 +27,13 @@ use Rattle.fault_definitions.proofs.ReadingLaws.{reads-empty}
 use Rattle.fault_definitions.specs.Cut.{IsMinimalCut, IsCutList}
 use Rattle.cutset_lists.specs.Sets.{IsSetOf, AreSetsOf, is_smaller_within, IsSharp, IsMinimalFrom}
 use Rattle.cutset_lists.specs.Generation.{is_unit_of, Generates}
+use Rattle.cutset_lists.proofs.SetLemmas.{same_bool}
+use Rattle.cutset_lists.proofs.MinimalLemmas.{same_by_test}
 
 -- ---- sizes of rising sets
 
 less_from : (a b : ℕ) → nat_cmp a b ≡ Less → a < b
 less_from a b h = grind (arith, nat_tests)
-
-same_by_test : (a b : ℕ) → (a == b) ≡ true → a ≡ b
-same_by_test a b h = grind (arith, nat_tests)
-
-same_bool : (a b : Bool) → (a ≡ true → b ≡ true) → (b ≡ true → a ≡ true) → a ≡ b
-same_bool true b to from = sym (to refl)
-same_bool false true to from = from refl
-same_bool false false to from = refl
 
 -- the first of a rising set is below the others
 below_first : (first unit : ℕ) (others : List ℕ) → IsRising (first ∷ others) → among others unit ≡ true → first < unit

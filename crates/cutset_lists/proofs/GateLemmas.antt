@@ -1,18 +1,19 @@
 -- The lists of gates and units, one node after another.
-use Rattle.std.specs.Prelude.{◌≡◌, ℕ, ◌+◌, ◌-◌, ◌<◌, ◌≤◌, Bool, true, false, ◌&&◌, ◌||◌, List, [], ◌∷◌, ◌++◌, length}
+use Rattle.std.specs.Prelude.{◌≡◌, ℕ, ◌+◌, ◌-◌, ◌<◌, ◌≤◌, Bool, ◌&&◌, ◌||◌, List, [], ◌∷◌, ◌++◌, length}
 use Rattle.std.specs.Prelude.{take, All, Contains, get_or}
 use Rattle.std.specs.List.{list_any, list_all}
 use Rattle.std.specs.List.Sorted.{IsStrictlySortedBy}
 use Rattle.std.proofs.Common.{refl, sym, ◌∙◌, ap, subst, arith}
-use Rattle.std.proofs.lemmas.List.{take_more, take_all, get_or_default}
-use Rattle.std.proofs.lemmas.List.Folds.{list_any-append, list_all-append}
+use Rattle.std.proofs.Math.Bool.{or-false, or_assoc}
+use Rattle.std.proofs.lemmas.List.{take_all, get_or_default}
+use Rattle.std.proofs.lemmas.List.Folds.{list_any_more, list_all_more}
 use Rattle.std.proofs.lemmas.List.Elements.{All-append, All-nil, All-cons, All-get_or, All-weaker, All-contains}
 use Rattle.unit_sets.specs.UnitList.{IsRising, some_within}
 use Rattle.fault_words.specs.declared.kind.GateKind.TheVariants.{Or, Por}
 use Rattle.fault_definitions.specs.Reading.{first_reads}
-use Rattle.cutset_lists.specs.Sets.{IsSetOf, AreSetsOf, WithinBoth, AreSetsAs, IsMinimalFrom, IsReducedFrom}
+use Rattle.cutset_lists.specs.Sets.{IsSetOf, AreSetsOf, AddsProduct, IsMinimalFrom, IsReducedFrom}
 use Rattle.cutset_lists.specs.Generation.{list_at, HasList, reading_of, Follows, AddsSome, each_rule, gate_rule}
-use Rattle.cutset_lists.proofs.SetLemmas.{or-false, some_within-append}
+use Rattle.cutset_lists.proofs.SetLemmas.{some_within-append}
 
 -- ---- fewer sets
 
@@ -26,29 +27,15 @@ IsReducedFrom-minimal sets minimal is = record {
 
 -- ---- some of the nodes
 
-and-true : (a : Bool) → (a && true) ≡ a
-and-true true = refl
-and-true false = refl
-
-or_of_three : (a b c : Bool) → ((a || b) || c) ≡ (a || (b || c))
-or_of_three true b c = refl
-or_of_three false b c = refl
-
 any-more : (reading : ℕ → Bool) (nodes : List ℕ) (i node : ℕ) → i < length nodes → node ≡ get_or nodes i 0
     → list_any reading (take (i + 1) nodes) ≡ (list_any reading (take i nodes) || reading node)
 any-more reading nodes i node short is =
-    ap (list_any reading) (take_more nodes i 0 short)
-    ∙ list_any-append reading (take i nodes) (get_or nodes i 0 ∷ [])
-    ∙ ap (λ b. list_any reading (take i nodes) || b) (or-false (reading (get_or nodes i 0)))
-    ∙ ap (λ n. list_any reading (take i nodes) || reading n) (sym is)
+    list_any_more reading nodes i 0 short ∙ ap (λ n. list_any reading (take i nodes) || reading n) (sym is)
 
 all-more : (reading : ℕ → Bool) (nodes : List ℕ) (i node : ℕ) → i < length nodes → node ≡ get_or nodes i 0
     → list_all reading (take (i + 1) nodes) ≡ (list_all reading (take i nodes) && reading node)
 all-more reading nodes i node short is =
-    ap (list_all reading) (take_more nodes i 0 short)
-    ∙ list_all-append reading (take i nodes) (get_or nodes i 0 ∷ [])
-    ∙ ap (λ b. list_all reading (take i nodes) && b) (and-true (reading (get_or nodes i 0)))
-    ∙ ap (λ n. list_all reading (take i nodes) && reading n) (sym is)
+    list_all_more reading nodes i 0 short ∙ ap (λ n. list_all reading (take i nodes) && reading n) (sym is)
 
 module _ (lists : List (List (List ℕ))) (nodes : List ℕ) (i node : ℕ) (short : i < length nodes)
     (is : node ≡ get_or nodes i 0) (has : HasList lists node) where
@@ -63,7 +50,7 @@ module _ (lists : List (List (List ℕ))) (nodes : List ℕ) (i node : ℕ) (sho
         ap (λ s. some_within s within) (new_is ∙ ap (λ l. sets ++ l) at)
         ∙ some_within-append sets (list_at lists node) within
         ∙ ap (λ b. b || reading_of lists within node) (adds.some_within within)
-        ∙ or_of_three (some_within old within) (list_any (reading_of lists within) (take i nodes))
+        ∙ or_assoc (some_within old within) (list_any (reading_of lists within) (take i nodes))
         (reading_of lists within node)
         ∙ ap (λ b. some_within old within || b) (sym (any-more (reading_of lists within) nodes i node short is));
     sets = λ passes each before.
@@ -71,19 +58,17 @@ module _ (lists : List (List (List ℕ))) (nodes : List ℕ) (i node : ℕ) (sho
         (All-append (IsSetOf passes) sets (list_at lists node) (adds.sets passes each before) (sets_at passes each));
   }
 
-  pub each-more : (sets both new list : List (List ℕ)) → list ≡ list_at lists node → WithinBoth sets list both
-      → AreSetsAs sets list both → IsReducedFrom both new → Follows lists (each_rule (take i nodes)) sets
-      → Follows lists (each_rule (take (i + 1) nodes)) new
-  each-more sets both new list at hits_both as_both less follows = record {
+  pub each-more : (sets new list : List (List ℕ)) → list ≡ list_at lists node → AddsProduct sets list [] new
+      → Follows lists (each_rule (take i nodes)) sets → Follows lists (each_rule (take (i + 1) nodes)) new
+  each-more sets new list at both follows = record {
     some_within = λ within.
-        less.some_within within
-        ∙ hits_both.some_within within
+        both.some_within within
         ∙ ap (λ l. some_within sets within && some_within l within) at
         ∙ ap (λ b. b && reading_of lists within node) (follows.some_within within)
         ∙ sym (all-more (reading_of lists within) nodes i node short is);
     sets =
-        λ passes each. less.sets passes (as_both.sets passes (follows.sets passes each)
-        (subst (AreSetsOf passes) (sym at) (sets_at passes each)));
+        λ passes each. both.sets passes (follows.sets passes each)
+        (subst (AreSetsOf passes) (sym at) (sets_at passes each)) (All-nil (IsSetOf passes));
   }
 
 pub AddsSome-reduced : (lists : List (List (List ℕ))) (nodes : List ℕ) (old sets new : List (List ℕ)) (i : ℕ)
@@ -106,12 +91,13 @@ pub empty_set_of : (passes : ℕ → Bool) → AreSetsOf passes ([] ∷ [])
 empty_set_of passes =
     All-cons (IsSetOf passes) [] [] (record { rising = none_rising; pass = refl }) (All-nil (IsSetOf passes))
 
-pub each-none : (lists : List (List (List ℕ))) (nodes : List ℕ) (sets : List (List ℕ)) → sets ≡ [] ∷ []
-    → Follows lists (each_rule (take 0 nodes)) sets
-each-none lists nodes sets is = record {
-  some_within = λ within. ap (λ s. some_within s within) is;
-  sets = λ passes _. subst (AreSetsOf passes) (sym is) (empty_set_of passes);
-}
+pub each-none : (lists : List (List (List ℕ))) (nodes : List ℕ) (none sets : List (List ℕ)) → none ≡ []
+    → sets ≡ none ++ [] ∷ [] → Follows lists (each_rule (take 0 nodes)) sets
+each-none lists nodes none sets empty pushed =
+    let is : sets ≡ [] ∷ [] = pushed ∙ ap (λ n. n ++ [] ∷ []) empty in record {
+      some_within = λ within. ap (λ s. some_within s within) is;
+      sets = λ passes _. subst (AreSetsOf passes) (sym is) (empty_set_of passes);
+    }
 
 -- ---- gates
 
@@ -169,9 +155,8 @@ module _ (lists : List (List (List ℕ))) (nodes : List ℕ) (i node place : ℕ
       AddsSome-more lists nodes i node short (node_read nodes i node short is) has old sets new list
       (list_read lists list node place has place_is read) new_is adds
 
-  pub each-step : (sets both new : List (List ℕ)) → WithinBoth sets list both → AreSetsAs sets list both
-      → IsReducedFrom both new → Follows lists (each_rule (take i nodes)) sets
-      → Follows lists (each_rule (take (i + 1) nodes)) new
-  each-step sets both new hits_both as_both less follows =
-      each-more lists nodes i node short (node_read nodes i node short is) has sets both new list
-      (list_read lists list node place has place_is read) hits_both as_both less follows
+  pub each-step : (sets new : List (List ℕ)) → AddsProduct sets list [] new
+      → Follows lists (each_rule (take i nodes)) sets → Follows lists (each_rule (take (i + 1) nodes)) new
+  each-step sets new both follows =
+      each-more lists nodes i node short (node_read nodes i node short is) has sets new list
+      (list_read lists list node place has place_is read) both follows

@@ -8,6 +8,7 @@ pub mod NodeLemmas
 pub mod PlanLemmas
 pub mod CutLemmas
 pub mod WaitingLemmas
+pub mod MarkLemmas
 pub mod OverlapLemmas
 pub mod SplitLemmas
 pub mod OrderLemmas

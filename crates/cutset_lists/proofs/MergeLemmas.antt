@@ -156,9 +156,3 @@ module _ (left right : List ℕ) (i j : ℕ) (out new : List ℕ) (x y : ℕ) (a
       subst (IsMerging left right i (j + 1)) (sym is)
       (subst (λ (v : ℕ). IsMerging left right i (j + 1) (out ++ v ∷ [])) (sym Y)
       (takes_right left right i j out at_left at_right before (let p = X in let q = Y in omega arith)))
-
--- ---- the end
-
-and_all : (o a b : Bool) → ((o && a) && b) ≡ (o && (a && b))
-and_all true a b = refl
-and_all false a b = refl

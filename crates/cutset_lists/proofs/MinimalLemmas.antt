@@ -1,6 +1,6 @@
 -- How the minimal sets of a sorted list are kept, one after another.
 use Rattle.std.specs.Prelude.{◌≡◌, ℕ, zero, suc, ◌+◌, ◌<◌, ◌≤◌, Bool, true, false, ◌||◌, nat_lt, ◌==◌, map, List, []}
-use Rattle.std.specs.Prelude.{◌∷◌, ◌++◌, length, take, All, Contains, get_or, Result, Ok, Err, IfOk}
+use Rattle.std.specs.Prelude.{◌∷◌, ◌++◌, length, take, All, Contains, get_or}
 use Rattle.std.specs.List.{list_any, list_all}
 use Rattle.std.specs.List.Sorted.{IsStrictlySortedBy}
 use Rattle.std.specs.Cmp.Lexicographic.{slice_cmp}
@@ -11,20 +11,20 @@ use Rattle.std.proofs.Common.{refl, sym, ◌∙◌, ap, subst, inl, inr, arith}
 use Rattle.std.proofs.lemmas.Bool.{or_cases, or_left, or_right, or_from, or_parts, and_parts, and_from, and_left}
 use Rattle.std.proofs.lemmas.Bool.{le-ltb, cases_lt}
 use Rattle.std.proofs.lemmas.Bool.Decides.{nat_tests}
-use Rattle.std.proofs.lemmas.List.{take_more, get_or_default, get_or-take, length-take, length-map, get_or-map}
+use Rattle.std.proofs.lemmas.List.{get_or_default, get_or-take, length-take, length-map, get_or-map}
 use Rattle.std.proofs.lemmas.List.Folds.{list_any-append}
-use Rattle.std.proofs.lemmas.List.Elements.{All-push, All-nil, All-weaker, All-contains, recursion_from_All}
+use Rattle.std.proofs.lemmas.List.Elements.{All-push, All-nil, All-cons, All-weaker, All-contains, recursion_from_All}
 use Rattle.std.proofs.lemmas.List.Elements.{Contains-append_left, Contains-push}
 use Rattle.std.proofs.lemmas.Map.Keys.{Less-from_sorted}
 use Rattle.unit_sets.specs.CutOrder.{cut_cmp, IsInCutOrder}
 use Rattle.unit_sets.proofs.Sorted.{sorted-push}
 use Rattle.unit_sets.specs.UnitList.{among, is_within, some_within}
 use Rattle.cutset_lists.specs.Sets.{is_smaller_within, IsSortedFrom, IsMinimalFrom}
-use Rattle.cutset_lists.proofs.SetLemmas.{some_within-push, some_within-more}
+use Rattle.cutset_lists.proofs.SetLemmas.{some_within-push, some_within-more, next_row}
 
 -- ---- sets within others
 
-same_by_test : (a b : ℕ) → (a == b) ≡ true → a ≡ b
+pub same_by_test : (a b : ℕ) → (a == b) ≡ true → a ≡ b
 same_by_test a b h = grind (arith, nat_tests)
 
 -- what holds of each unit of a set holds of one
@@ -140,12 +140,11 @@ module _ (sorted kept : List (List ℕ)) (set : List ℕ) (i : ℕ) (short : i <
   hits_more : (within : ℕ → Bool) → some_within (take (i + 1) sorted) within
       ≡ (some_within kept within || list_all within set)
   hits_more within =
-      some_within-more sorted i within short
-      ∙ ap (λ b. b || list_all within (get_or sorted i [])) (sym (before.some_within within))
-      ∙ ap (λ s. some_within kept within || list_all within s) (sym set_is)
+      some_within-more sorted i set short set_is within
+      ∙ ap (λ b. b || list_all within set) (sym (before.some_within within))
 
   taken : take (i + 1) sorted ≡ take i sorted ++ set ∷ []
-  taken = take_more sorted i [] short ∙ ap (λ s. take i sorted ++ s ∷ []) (sym set_is)
+  taken = next_row sorted i set short set_is
 
   members_more : All (Contains (take (i + 1) sorted)) kept
   members_more =
@@ -209,6 +208,39 @@ IsMinimalFrom-none sorted = record {
   sharp = All-nil _;
 }
 
+one_ordered : IsInCutOrder ([] ∷ [])
+unfolding IsStrictlySortedBy
+one_ordered = (tt, tt)
+
+-- an empty set that comes first stands for all
+pub IsMinimalFrom-empty : (sorted kept : List (List ℕ)) → 0 < length sorted → get_or sorted 0 [] ≡ []
+    → kept ≡ [] ∷ [] → IsMinimalFrom sorted kept
+IsMinimalFrom-empty sorted kept some first is = subst (IsMinimalFrom sorted) (sym is) (record {
+  some_within = λ within. sym (go within sorted some first);
+  members = All-cons (Contains sorted) [] [] (0, some, first) (All-nil _);
+  ordered = one_ordered;
+  sharp = All-cons (λ set. list_any (is_smaller_within set) ([] ∷ []) ≡ false) [] [] refl (All-nil _);
+})
+  where
+    go : (within : ℕ → Bool) (l : List (List ℕ)) → 0 < length l → get_or l 0 [] ≡ [] → some_within l within ≡ true
+    go within [] none is = absurd (omega arith)
+    go within (set ∷ sets) short is =
+        ap (λ (s : List ℕ). list_all within s || some_within sets within) is
+
+-- the same, of values as the code has them
+pub IsMinimalFrom-emptied : {X : Type 0} (units : X → List ℕ) (cuts : List X) (old new : List (List ℕ)) (first : X)
+    (empty : Bool) → 0 < length cuts → empty ≡ (length (units (get_or cuts 0 first)) == 0) → empty ≡ true → old ≡ []
+    → new ≡ old ++ [] ∷ [] → IsMinimalFrom (map units cuts) new
+IsMinimalFrom-emptied units cuts old new first empty some empty_is is_empty none pushed =
+    IsMinimalFrom-empty (map units cuts) new (omega (arith, length-map cuts units))
+    (get_or-map units cuts 0 first [] some ∙ no_units (units (get_or cuts 0 first)) (sym empty_is ∙ is_empty))
+    (pushed ∙ ap (λ (o : List (List ℕ)). o ++ [] ∷ []) none)
+  where
+    no_units : (set : List ℕ) → (length set == 0) ≡ true → set ≡ []
+    no_units [] is = refl
+    no_units (unit ∷ units) is =
+        let none : length (unit ∷ units) ≡ 0 = same_by_test (length (unit ∷ units)) 0 is in absurd (omega arith)
+
 -- the minimal sets of a sorted list are those of what was sorted
 pub IsMinimalFrom-sorted : (sets sorted minimal : List (List ℕ)) → IsSortedFrom sets sorted
     → IsMinimalFrom sorted minimal → IsMinimalFrom sets minimal
@@ -243,9 +275,3 @@ module _ {X : Type 0} (units : X → List ℕ) (cuts : List X) (kept new : List 
   keeps-step none same =
       subst (IsMinimalFrom (take (i + 1) (map units cuts))) (sym same)
       (keeps (map units cuts) kept (units cut) i within_map at_map ordered before none)
-
--- of a list in order, where there is one
-pub IsMinimalFrom-kept : {E : Type 0} (sets sorted : List (List ℕ)) (made : Result (List (List ℕ)) E)
-    → IsSortedFrom sets sorted → IfOk made (IsMinimalFrom sorted) → IfOk made (IsMinimalFrom sets)
-IsMinimalFrom-kept sets sorted (Ok kept) from is = IsMinimalFrom-sorted sets sorted kept from is
-IsMinimalFrom-kept sets sorted (Err e) from is = tt

@@ -1,12 +1,12 @@
 -- What a gate reads does not depend on the order of its inputs.
-use Rattle.std.specs.Prelude.{◌≡◌, ℕ, Bool, true, false, not, ◌&&◌, ◌||◌, nat_le, if◌then◌else◌, List, [], ◌∷◌, All}
+use Rattle.std.specs.Prelude.{◌≡◌, ℕ, Bool, true, false, not, ◌&&◌, ◌||◌, nat_le, if◌then◌else◌, List, [], ◌∷◌}
 use Rattle.std.specs.List.{list_any, list_all, sum_by}
 use Rattle.std.specs.List.Sorted.{IsPermutation}
 use Rattle.std.proofs.Common.{refl, sym, ◌∙◌, ap, subst}
 use Rattle.std.proofs.lemmas.List.Sorted.{All-permutation, list_any-IsPermutation, sum_by-IsPermutation}
 use Rattle.std.proofs.lemmas.List.Recursion.{is_sum_by}
 use Rattle.fault_definitions.specs.Reading.{true_count}
-use Rattle.cutset_lists.specs.Generation.{HasList, reading_of, Follows, each_rule, at_least_rule}
+use Rattle.cutset_lists.specs.Generation.{HasList, StartsFrom, reading_of, Follows, each_rule, at_least_rule}
 
 not_any : (b : Bool) (c : Bool) → (b && not c) ≡ not (not b || c)
 not_any true c = refl
@@ -45,8 +45,11 @@ module _ (lists : List (List (List ℕ))) (nodes order items : List ℕ) (moved 
   moved_order : IsPermutation nodes order
   moved_order = subst (IsPermutation nodes) (sym items_are) moved
 
-  pub HasList-order : All (HasList lists) nodes → All (HasList lists) order
-  HasList-order all = All-permutation (HasList lists) nodes order moved_order all
+  pub StartsFrom-order : (made : List (List ℕ)) → StartsFrom lists nodes made → StartsFrom lists order made
+  StartsFrom-order made starts = record {
+    have = All-permutation (HasList lists) nodes order moved_order starts.have;
+    none = starts.none;
+  }
 
   pub each-order : (made : List (List ℕ)) → Follows lists (each_rule order) made → Follows lists (each_rule nodes) made
   each-order made follows = record {

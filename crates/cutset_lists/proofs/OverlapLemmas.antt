@@ -1,17 +1,17 @@
 -- The units of lists one after another, and whether two of the lists have one in common.
 use Rattle.std.specs.Prelude.{◌≡◌, ℕ, ◌+◌, ◌-◌, ◌<◌, ◌≤◌, Bool, true, false, ◌||◌, ◌==◌, List, [], ◌∷◌, ◌++◌, length}
-use Rattle.std.specs.Prelude.{take, get_or, All, IsTrue}
+use Rattle.std.specs.Prelude.{take, get_or, flat_map, All, IsTrue}
 use Rattle.std.specs.List.{list_any}
 use Rattle.std.proofs.Common.{refl, sym, ◌∙◌, ap, subst, arith}
 use Rattle.std.proofs.lemmas.List.{get_or_default, take_more, take_all, get_or-take, length-take}
-use Rattle.std.proofs.lemmas.List.Folds.{list_any_more, list_any_at, Any-from_list_any}
+use Rattle.std.proofs.lemmas.List.Folds.{list_any-append, list_any_more, list_any_at, Any-from_list_any}
 use Rattle.std.proofs.lemmas.List.Quantifiers.{all_pairs_push}
-use Rattle.unit_sets.specs.UnitList.{among, with_unit}
-use Rattle.unit_sets.proofs.UnitListLemmas.{among-from_Contains, among-with_unit, Contains-from_among}
+use Rattle.unit_sets.specs.UnitList.{among}
+use Rattle.unit_sets.proofs.UnitListLemmas.{among-from_Contains, Contains-from_among}
 use Rattle.cutset_lists.specs.Generation.{HasList, list_at}
 use Rattle.cutset_lists.specs.Overlap.{AreAllApart, AreApart, has_unit}
 use Rattle.cutset_lists.proofs.GateLemmas.{has_list, list_read}
-use Rattle.cutset_lists.proofs.WaitingLemmas.{among_next, some_holds}
+use Rattle.cutset_lists.proofs.WaitingLemmas.{some_holds}
 
 -- ---- what is seen
 
@@ -21,54 +21,30 @@ pub record HasSeen (lists : List (List (List ℕ))) (nodes : List ℕ) (count : 
       → among seen unit ≡ list_any (λ node. has_unit (list_at lists node) unit) (take count nodes)
   pub apart : AreAllApart lists (take count nodes)
 
-turned : (old front met unit : Bool) → met ≡ (old || front) → (unit || met) ≡ (old || (front || unit))
-turned true front met true e = refl
-turned true true met false e = e
-turned true false met false e = e
-turned false true met true e = refl
-turned false false met true e = refl
-turned false true met false e = e
-turned false false met false e = e
-
-pub set_more : (old set seen new : List ℕ) (unit i d : ℕ) → i < length set → unit ≡ get_or set i d
-    → ((other : ℕ) → among seen other ≡ (among old other || among (take i set) other))
-    → new ≡ with_unit unit seen → (other : ℕ) → among new other ≡ (among old other || among (take (i + 1) set) other)
-set_more old set seen new unit i d short is before with_it other =
-    ap (λ (l : List ℕ). among l other) with_it
-    ∙ among-with_unit unit seen other
-    ∙ turned (among old other) (among (take i set) other) (among seen other) (unit == other) (before other)
-    ∙ ap (λ b. among old other || b) (sym (among_next set unit i d other short is))
-
-joined : (old front row met seen : Bool) → seen ≡ (met || row) → met ≡ (old || front) → seen ≡ (old || (front || row))
-joined true front row met seen a b = a ∙ ap (λ m. m || row) b
-joined false front row met seen a b = a ∙ ap (λ m. m || row) b
-
 -- ---- units in common
 
--- a set with a unit that was seen has one of those seen
-meets_at : (seen set : List ℕ) (unit : ℕ) → among set unit ≡ true → among seen unit ≡ true
-    → list_any (among seen) set ≡ true
-meets_at seen set unit there met = some_holds (among seen) set unit (Contains-from_among set unit there) met
+-- the units of a list, one set's after another's
+any_flat : (p : ℕ → Bool) (list : List (List ℕ))
+    → list_any p (flat_map (λ set. set) list) ≡ list_any (list_any p) list
+any_flat p [] = refl
+any_flat p (set ∷ list) =
+    list_any-append p set (flat_map (λ s. s) list) ∙ ap (λ b. list_any p set || b) (any_flat p list)
 
--- so does a list
-pub some_meets_at : (seen : List ℕ) (list : List (List ℕ)) (unit : ℕ) → has_unit list unit ≡ true
-    → among seen unit ≡ true → list_any (list_any (among seen)) list ≡ true
-some_meets_at seen list unit there met =
-    let some = Any-from_list_any (λ set. among set unit) list there in
-    list_any_at (list_any (among seen)) list some.0 some.1 some.2
-    (ap (list_any (among seen)) some.3 ∙ meets_at seen some.1 unit some.4 met)
+module _ (seen units : List ℕ) (list : List (List ℕ)) (units_are : units ≡ flat_map (λ set. set) list) where
+  pub are_units : (unit : ℕ) → among units unit ≡ has_unit list unit
+  are_units unit = ap (λ (l : List ℕ). among l unit) units_are ∙ any_flat (λ member. member == unit) list
 
--- a unit of the list that was seen
-pub unit_met : (seen : List ℕ) (list : List (List ℕ)) → list_any (list_any (among seen)) list ≡ true
-    → (unit : ℕ) × (has_unit list unit ≡ true) × (among seen unit ≡ true)
-unit_met seen list meets =
-    let some = Any-from_list_any (list_any (among seen)) list meets in
-    let one = Any-from_list_any (among seen) some.1 some.4 in (
-      one.1,
-      list_any_at (λ set. among set one.1) list some.0 some.1 some.2
-          (ap (λ set. among set one.1) some.3 ∙ among-from_Contains some.1 one.1 (one.0, one.2, one.3)),
-      one.4,
-    )
+  pub some_meets_at : (unit : ℕ) → has_unit list unit ≡ true → among seen unit ≡ true
+      → list_any (among seen) units ≡ true
+  some_meets_at unit there met =
+      some_holds (among seen) units unit (Contains-from_among units unit (are_units unit ∙ there)) met
+
+  -- a unit of the list that was seen
+  pub unit_met : list_any (among seen) units ≡ true
+      → (unit : ℕ) × (has_unit list unit ≡ true) × (among seen unit ≡ true)
+  unit_met meets =
+      let (k, unit, short, same, met) = Any-from_list_any (among seen) units meets in
+      (unit, sym (are_units unit) ∙ among-from_Contains units unit (k, short, same), met)
 
 unless : (b : Bool) → (b ≡ true → false ≡ true) → b ≡ false
 unless true h = sym (h refl)
@@ -78,23 +54,24 @@ unless false h = refl
 
 module _ (lists : List (List (List ℕ))) (nodes : List ℕ) (k node place : ℕ) (list : List (List ℕ))
     (short : k < length nodes) (is : node ≡ get_or nodes k node) (all : All (HasList lists) nodes)
-    (place_is : place ≡ node - 1) (read : list ≡ get_or lists place list) (seen : List ℕ)
-    (before : HasSeen lists nodes k seen) where
+    (place_is : place ≡ node - 1) (read : list ≡ get_or lists place list) (seen units : List ℕ)
+    (units_are : units ≡ flat_map (λ set. set) list) (before : HasSeen lists nodes k seen) where
   list_is : list ≡ list_at lists node
   list_is = list_read lists list node place (has_list lists nodes k node short is all) place_is read
 
   abbrev has : ℕ → ℕ → Bool
   has unit n = has_unit (list_at lists n) unit
 
-  pub met_more : (new : List ℕ) → ((unit : ℕ) → among new unit ≡ (among seen unit || has_unit list unit))
+  pub met_more : (new : List ℕ) → ((unit : ℕ) → among new unit ≡ (among seen unit || among units unit))
       → (unit : ℕ) → among new unit ≡ list_any (has unit) (take (k + 1) nodes)
   met_more new more unit =
       more unit
+      ∙ ap (λ b. among seen unit || b) (are_units seen units list units_are unit)
       ∙ ap (λ b. b || has_unit list unit) (before.met unit)
       ∙ ap (λ l. list_any (has unit) (take k nodes) || has_unit l unit) (list_is ∙ ap (list_at lists) is)
       ∙ sym (list_any_more (has unit) nodes k node short)
 
-  pub apart_more : list_any (list_any (among seen)) list ≡ false → AreAllApart lists (take (k + 1) nodes)
+  pub apart_more : list_any (among seen) units ≡ false → AreAllApart lists (take (k + 1) nodes)
   apart_more none =
       subst (AreAllApart lists) (sym (take_more nodes k node short ∙ ap (λ n. take k nodes ++ n ∷ []) (sym is)))
       (all_pairs_push (λ earlier later. AreApart (list_at lists earlier) (list_at lists later)) (take k nodes) node
@@ -102,11 +79,11 @@ module _ (lists : List (List (List ℕ))) (nodes : List ℕ) (k node place : ℕ
       (λ j e within unit there. unless (has unit node) (λ here.
       let met : among seen unit ≡ true =
       before.met unit ∙ list_any_at (has unit) (take k nodes) j e within there in
-      sym none ∙ some_meets_at seen list unit (ap (λ l. has_unit l unit) list_is ∙ here) met)))
+      sym none ∙ some_meets_at seen units list units_are unit (ap (λ l. has_unit l unit) list_is ∙ here) met)))
 
-  pub unit_twice : list_any (list_any (among seen)) list ≡ true → AreAllApart lists nodes → IsTrue false
+  pub unit_twice : list_any (among seen) units ≡ true → AreAllApart lists nodes → IsTrue false
   unit_twice meets apart =
-      let met = unit_met seen list meets in
+      let met = unit_met seen units list units_are meets in
       let first = Any-from_list_any (has met.0) (take k nodes) (sym (before.met met.0) ∙ met.2) in
       let earlier : first.0 < k = (let within = first.2 in let size = length-take k nodes in omega arith) in
       let at : get_or nodes first.0 first.1 ≡ first.1 =
@@ -123,16 +100,18 @@ all_apart lists nodes k seen past held = subst (AreAllApart lists) (take_all k n
 
 -- ---- two lists
 
-module _ (left right : List (List ℕ)) (none seen : List ℕ) (empty : none ≡ [])
-    (more : (unit : ℕ) → among seen unit ≡ (among none unit || has_unit left unit)) where
+module _ (left right : List (List ℕ)) (none seen units others : List ℕ) (empty : none ≡ [])
+    (units_are : units ≡ flat_map (λ set. set) left) (others_are : others ≡ flat_map (λ set. set) right)
+    (more : (unit : ℕ) → among seen unit ≡ (among none unit || among units unit)) where
   met : (unit : ℕ) → among seen unit ≡ has_unit left unit
-  met unit = more unit ∙ ap (λ (s : List ℕ). among s unit || has_unit left unit) empty
+  met unit =
+      more unit ∙ ap (λ (s : List ℕ). among s unit || among units unit) empty ∙ are_units none units left units_are unit
 
-  pub two_apart : list_any (list_any (among seen)) right ≡ false → AreApart left right
+  pub two_apart : list_any (among seen) others ≡ false → AreApart left right
   two_apart apart unit there = unless (has_unit right unit) (λ here.
-      sym apart ∙ some_meets_at seen right unit here (met unit ∙ there))
+      sym apart ∙ some_meets_at seen others right others_are unit here (met unit ∙ there))
 
-  pub none_meets : AreApart left right → list_any (list_any (among seen)) right ≡ false
-  none_meets apart = unless (list_any (list_any (among seen)) right) (λ meets.
-      let unit = unit_met seen right meets in
+  pub none_meets : AreApart left right → list_any (among seen) others ≡ false
+  none_meets apart = unless (list_any (among seen) others) (λ meets.
+      let unit = unit_met seen others right others_are meets in
       sym (apart unit.0 (sym (met unit.0) ∙ unit.2)) ∙ unit.1)

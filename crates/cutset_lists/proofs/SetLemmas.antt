@@ -1,22 +1,19 @@
 -- Laws of lists of sets and of sets, over plain lists.
 use Rattle.std.specs.Prelude.{◌≡◌, ℕ, ◌+◌, ◌<◌, Bool, true, false, ◌&&◌, ◌||◌, List, [], ◌∷◌, ◌++◌, length, take}
-use Rattle.std.specs.Prelude.{get_or}
+use Rattle.std.specs.Prelude.{get_or, Some}
 use Rattle.std.specs.List.{list_all}
 use Rattle.std.proofs.Common.{refl, sym, ◌∙◌, ap, subst}
+use Rattle.std.proofs.Math.Bool.{or-false}
 use Rattle.std.proofs.lemmas.List.{take_more}
 use Rattle.std.proofs.lemmas.List.Folds.{list_any-append}
-use Rattle.std.proofs.lemmas.List.Elements.{All-push, All-get_or, All-nil}
-use Rattle.cutset_lists.specs.Sets.{IsSetOf, AreSetsOf, IsUnion, AddsWithin, AddsSets, AddsBoth, AddsSetsOf}
-use Rattle.cutset_lists.specs.Sets.{WithinBoth, AreSetsAs}
+use Rattle.std.proofs.lemmas.List.Elements.{All-push, All-pop}
+use Rattle.cutset_lists.specs.Sets.{IsSetOf, AreSetsOf, IsUnion, AddsUnions, AddsProduct, IsReducedFrom}
 use Rattle.unit_sets.specs.UnitList.{some_within}
 
-pub or-false : (a : Bool) → (a || false) ≡ a
-or-false true = refl
-or-false false = refl
-
-pub and-false : (a : Bool) → (a && false) ≡ false
-and-false true = refl
-and-false false = refl
+pub same_bool : (a b : Bool) → (a ≡ true → b ≡ true) → (b ≡ true → a ≡ true) → a ≡ b
+same_bool true b to from = sym (to refl)
+same_bool false true to from = from refl
+same_bool false false to from = refl
 
 pub some_within-append : (sets more : List (List ℕ)) (within : ℕ → Bool)
     → some_within (sets ++ more) within ≡ (some_within sets within || some_within more within)
@@ -27,11 +24,20 @@ pub some_within-push : (sets : List (List ℕ)) (set : List ℕ) (within : ℕ �
 some_within-push sets set within =
     some_within-append sets (set ∷ []) within ∙ ap (λ b. some_within sets within || b) (or-false (list_all within set))
 
-pub some_within-more : (sets : List (List ℕ)) (i : ℕ) (within : ℕ → Bool) → i < length sets
-    → some_within (take (i + 1) sets) within ≡ (some_within (take i sets) within || list_all within (get_or sets i []))
-some_within-more sets i within short =
-    ap (λ s. some_within s within) (take_more sets i [] short)
-    ∙ some_within-push (take i sets) (get_or sets i []) within
+-- with one row more
+module _ (sets : List (List ℕ)) (i : ℕ) (row : List ℕ) (short : i < length sets) (is : row ≡ get_or sets i []) where
+  pub next_row : take (i + 1) sets ≡ take i sets ++ row ∷ []
+  next_row = take_more sets i [] short ∙ ap (λ r. take i sets ++ r ∷ []) (sym is)
+
+  pub some_within-more : (within : ℕ → Bool)
+      → some_within (take (i + 1) sets) within ≡ (some_within (take i sets) within || list_all within row)
+  some_within-more within =
+      ap (λ s. some_within s within) next_row ∙ some_within-push (take i sets) row within
+
+  -- the rows before, and the row
+  pub sets_before : (passes : ℕ → Bool) → AreSetsOf passes (take (i + 1) sets)
+      → AreSetsOf passes (take i sets) × IsSetOf passes row
+  sets_before passes all = All-pop (IsSetOf passes) (take (i + 1) sets) (take i sets) (Some row) next_row all
 
 -- ---- unions
 
@@ -48,25 +54,23 @@ adds_step false true t h n m u e f g = cc
 adds_step false false t h n m u e f g = cc
 
 -- the union with one set more
-pub AddsWithin-more : (set : List ℕ) (list old new : List (List ℕ)) (union : List ℕ) (i : ℕ) → i < length list
-    → AddsWithin set (take i list) old new → IsUnion set (get_or list i []) union
-    → AddsWithin set (take (i + 1) list) old (new ++ union ∷ [])
-AddsWithin-more set list old new union i short adds is = record {
-  some_within = λ within.
-      adds_step (some_within old within) (list_all within set) (some_within (take i list) within)
-      (list_all within (get_or list i []))
-      (some_within new within) (some_within (new ++ union ∷ []) within) (list_all within union)
-      (adds.some_within within) (some_within-push new union within) (is.within within)
-      ∙ ap (λ b. some_within old within || (list_all within set && b)) (sym (some_within-more list i within short));
-}
-
-pub AddsSets-more : (set : List ℕ) (list old new : List (List ℕ)) (union : List ℕ) (i : ℕ) → i < length list
-    → AddsSets set list old new → IsUnion set (get_or list i []) union → AddsSets set list old (new ++ union ∷ [])
-AddsSets-more set list old new union i short adds is = record {
-  sets = λ passes one each before.
-      All-push (IsSetOf passes) new union (adds.sets passes one each before)
-      (IsUnion-set passes set (get_or list i []) union is one (All-get_or (IsSetOf passes) list i [] short each));
-}
+module _ (set row union : List ℕ) (list old sets new : List (List ℕ)) (i : ℕ) (short : i < length list)
+    (row_is : row ≡ get_or list i []) (new_is : new ≡ sets ++ union ∷ []) (is : IsUnion set row union) where
+  pub AddsUnions-step : AddsUnions set (take i list) old sets → AddsUnions set (take (i + 1) list) old new
+  AddsUnions-step adds = record {
+    some_within = λ within.
+        adds_step (some_within old within) (list_all within set) (some_within (take i list) within)
+        (list_all within row) (some_within sets within) (some_within new within) (list_all within union)
+        (adds.some_within within) (ap (λ s. some_within s within) new_is ∙ some_within-push sets union within)
+        (is.within within)
+        ∙ ap (λ b. some_within old within || (list_all within set && b))
+        (sym (some_within-more list i row short row_is within));
+    sets = λ passes one each before.
+        let parts = sets_before list i row short row_is passes each in
+        subst (AreSetsOf passes) (sym new_is)
+        (All-push (IsSetOf passes) sets union (adds.sets passes one parts.0 before)
+        (IsUnion-set passes set row union is one parts.1));
+  }
 
 -- ---- products
 
@@ -77,67 +81,26 @@ product_step false true false true n m e f = cc
 product_step false true false false n m e f = cc
 product_step false false r s n m e f = cc
 
-AddsBoth-more : (left right old sets new : List (List ℕ)) (i : ℕ) → i < length left
-    → AddsBoth (take i left) right old sets → AddsWithin (get_or left i []) right sets new
-    → AddsBoth (take (i + 1) left) right old new
-AddsBoth-more left right old sets new i short both adds = record {
-  some_within = λ within.
-      product_step (some_within old within) (some_within (take i left) within) (some_within right within)
-      (list_all within (get_or left i [])) (some_within sets within) (some_within new within)
-      (both.some_within within) (adds.some_within within)
-      ∙ ap (λ b. some_within old within || (b && some_within right within))
-      (sym (some_within-more left i within short));
-}
-
-AddsSetsOf-more : (left right old sets new : List (List ℕ)) (i : ℕ) → i < length left → AddsSetsOf left right old sets
-    → AddsSets (get_or left i []) right sets new → AddsSetsOf left right old new
-AddsSetsOf-more left right old sets new i short both adds = record {
-  sets =
-      λ passes l r before. adds.sets passes (All-get_or (IsSetOf passes) left i [] short l) r
-      (both.sets passes l r before);
-}
-
--- a product of its own
-pub WithinBoth-alone : (left right old new : List (List ℕ)) → old ≡ [] → AddsBoth left right old new
-    → WithinBoth left right new
-WithinBoth-alone left right old new none adds =
-    record {
-      some_within = λ within. adds.some_within within
-          ∙ ap (λ s. some_within s within || (some_within left within && some_within right within))
-          none;
-    }
-
-pub AreSetsAs-alone : (left right old new : List (List ℕ)) → old ≡ [] → AddsSetsOf left right old new
-    → AreSetsAs left right new
-AreSetsAs-alone left right old new none adds =
-    record {
-      sets = λ passes l r. adds.sets passes l r
-          (subst (AreSetsOf passes) (sym none) (All-nil (IsSetOf passes)));
-    }
-
--- ---- the steps, of values as the code has them
-
-module _ (set row union : List ℕ) (list old sets new : List (List ℕ)) (i : ℕ) (short : i < length list)
-    (row_is : row ≡ get_or list i []) (new_is : new ≡ sets ++ union ∷ []) (is : IsUnion set row union) where
-  is_at : IsUnion set (get_or list i []) union
-  is_at = subst (λ r. IsUnion set r union) row_is is
-
-  pub AddsWithin-step : AddsWithin set (take i list) old sets → AddsWithin set (take (i + 1) list) old new
-  AddsWithin-step adds =
-      subst (λ n. AddsWithin set (take (i + 1) list) old n) (sym new_is)
-      (AddsWithin-more set list old sets union i short adds is_at)
-
-  pub AddsSets-step : AddsSets set list old sets → AddsSets set list old new
-  AddsSets-step adds =
-      subst (λ n. AddsSets set list old n) (sym new_is) (AddsSets-more set list old sets union i short adds is_at)
-
 module _ (row : List ℕ) (left right old sets new : List (List ℕ)) (i : ℕ) (short : i < length left)
     (row_is : row ≡ get_or left i []) where
-  pub AddsBoth-step : AddsBoth (take i left) right old sets → AddsWithin row right sets new
-      → AddsBoth (take (i + 1) left) right old new
-  AddsBoth-step both adds =
-      AddsBoth-more left right old sets new i short both (subst (λ r. AddsWithin r right sets new) row_is adds)
+  pub AddsProduct-step : AddsProduct (take i left) right old sets → AddsUnions row right sets new
+      → AddsProduct (take (i + 1) left) right old new
+  AddsProduct-step both adds = record {
+    some_within = λ within.
+        product_step (some_within old within) (some_within (take i left) within) (some_within right within)
+        (list_all within row) (some_within sets within) (some_within new within)
+        (both.some_within within) (adds.some_within within)
+        ∙ ap (λ b. some_within old within || (b && some_within right within))
+        (sym (some_within-more left i row short row_is within));
+    sets = λ passes l r before.
+        let parts = sets_before left i row short row_is passes l in
+        adds.sets passes parts.1 r (both.sets passes parts.0 r before);
+  }
 
-  pub AddsSetsOf-step : AddsSetsOf left right old sets → AddsSets row right sets new → AddsSetsOf left right old new
-  AddsSetsOf-step both adds =
-      AddsSetsOf-more left right old sets new i short both (subst (λ r. AddsSets r right sets new) row_is adds)
+-- a product with fewer sets
+pub AddsProduct-reduced : (left right old sets new : List (List ℕ)) → AddsProduct left right old sets
+    → IsReducedFrom sets new → AddsProduct left right old new
+AddsProduct-reduced left right old sets new adds less = record {
+  some_within = λ within. less.some_within within ∙ adds.some_within within;
+  sets = λ passes l r before. less.sets passes (adds.sets passes l r before);
+}

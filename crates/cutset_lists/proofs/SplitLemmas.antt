@@ -1,17 +1,18 @@
 -- A list in two parts, of which the first stands for itself in a product.
-use Rattle.std.specs.Prelude.{◌≡◌, ℕ, ◌+◌, ◌<◌, ◌≤◌, Bool, true, false, ◌&&◌, ◌||◌, not, nat_lt, if◌then◌else◌}
-use Rattle.std.specs.Prelude.{List, [], ◌∷◌, ◌++◌, length, take, All, Some, get_or}
+use Rattle.std.specs.Prelude.{◌≡◌, ℕ, ◌+◌, ◌<◌, ◌≤◌, Bool, true, false, ◌&&◌, ◌||◌, nat_lt}
+use Rattle.std.specs.Prelude.{List, [], ◌∷◌, ◌++◌, length, take, All, get_or}
 use Rattle.std.specs.List.{list_any, list_all}
-use Rattle.std.proofs.Common.{refl, sym, ◌∙◌, ap, subst, arith}
+use Rattle.std.proofs.Common.{refl, sym, ◌∙◌, ap, subst, arith, append_assoc}
 use Rattle.std.proofs.lemmas.Bool.{and_parts}
-use Rattle.std.proofs.lemmas.List.{take_more, get_or-take, length-take}
+use Rattle.std.proofs.lemmas.List.{append-nil, get_or-take, length-take}
 use Rattle.std.proofs.lemmas.List.Folds.{Any-from_list_any, list_any-from_Any}
-use Rattle.std.proofs.lemmas.List.Elements.{All-push, All-pop, All-append, All-contains}
+use Rattle.std.proofs.lemmas.List.Elements.{All-push, All-nil, All-append, All-contains}
 use Rattle.unit_sets.specs.UnitList.{is_within, some_within}
-use Rattle.cutset_lists.specs.Sets.{IsSetOf, AreSetsOf, AddsBoth, AddsSetsOf, is_short_within, Includes}
-use Rattle.cutset_lists.specs.Sets.{IsSplit}
+use Rattle.cutset_lists.specs.Sets.{IsSetOf, AreSetsOf, AddsProduct, is_short_within, Includes}
+use Rattle.cutset_lists.specs.Sets.{IsSplit, Splits}
 use Rattle.cutset_lists.specs.Waiting.{set_at}
 use Rattle.cutset_lists.proofs.SetLemmas.{some_within-append, some_within-push, some_within-more}
+use Rattle.cutset_lists.proofs.SetLemmas.{sets_before}
 use Rattle.cutset_lists.proofs.MinimalLemmas.{all_within}
 use Rattle.cutset_lists.proofs.WaitingLemmas.{some_holds}
 
@@ -57,58 +58,67 @@ to_second l true r s n m e f g = cc
 to_second l false true s n m e f g = cc
 to_second l false false s n m e f g = cc
 
-module _ (list other including rest new new' : List (List ℕ)) (set : List ℕ) (i : ℕ) (short : i < length list)
+module _ (list other including rest : List (List ℕ)) (set : List ℕ) (i : ℕ) (short : i < length list)
     (set_is : set ≡ get_or list i []) (before : IsSplit (take i list) other including rest) where
-  hits_next : (within : ℕ → Bool) → some_within (take (i + 1) list) within
-      ≡ (some_within (take i list) within || list_all within set)
-  hits_next within =
-      some_within-more list i within short
-      ∙ ap (λ s. some_within (take i list) within || list_all within s) (sym set_is)
-
-  sets_before : (passes : ℕ → Bool) → AreSetsOf passes (take (i + 1) list) → AreSetsOf passes (take i list)
-  sets_before passes all =
-      (All-pop (IsSetOf passes) (take (i + 1) list) (take i list) (Some (get_or list i [])) (take_more list i [] short)
-      all).0
-
-  set_of : (passes : ℕ → Bool) → AreSetsOf passes (take (i + 1) list) → IsSetOf passes set
-  set_of passes all =
-      subst (IsSetOf passes) (sym set_is) ((All-pop (IsSetOf passes) (take (i + 1) list) (take i list)
-      (Some (get_or list i [])) (take_more list i [] short) all).1)
-
-  pub IsSplit-more : (found : Bool) → (found ≡ true → Includes other set)
-      → new ≡ (if not found then including else including ++ set ∷ [])
-      → new' ≡ (if found then rest else rest ++ set ∷ []) → IsSplit (take (i + 1) list) other new new'
-  IsSplit-more true includes is is' = record {
+  pub to_including : Includes other set → IsSplit (take (i + 1) list) other (including ++ set ∷ []) rest
+  to_including includes = record {
     some_within = λ within.
         to_first (some_within (take i list) within) (some_within including within) (some_within rest within)
-        (list_all within set)
-        (some_within (take (i + 1) list) within) (some_within new within)
-        (before.some_within within) (hits_next within)
-        (ap (λ s. some_within s within) is ∙ some_within-push including set within)
-        ∙ ap (λ s. some_within new within || some_within s within) (sym is');
-    included =
-        subst (All (Includes other)) (sym is) (All-push (Includes other) including set before.included (includes refl));
+        (list_all within set) (some_within (take (i + 1) list) within)
+        (some_within (including ++ set ∷ []) within) (before.some_within within)
+        (some_within-more list i set short set_is within) (some_within-push including set within);
+    included = All-push (Includes other) including set before.included includes;
     sets = λ passes all.
-        let parts = before.sets passes (sets_before passes all) in (
-          subst (AreSetsOf passes) (sym is) (All-push (IsSetOf passes) including set parts.0 (set_of passes all)),
-          subst (AreSetsOf passes) (sym is') parts.1,
-        );
+        let now = sets_before list i set short set_is passes all in
+        let parts = before.sets passes now.0 in (All-push (IsSetOf passes) including set parts.0 now.1, parts.1);
   }
-  IsSplit-more false includes is is' = record {
+
+  pub to_rest : IsSplit (take (i + 1) list) other including (rest ++ set ∷ [])
+  to_rest = record {
     some_within = λ within.
         to_second (some_within (take i list) within) (some_within including within) (some_within rest within)
-        (list_all within set)
-        (some_within (take (i + 1) list) within) (some_within new' within)
-        (before.some_within within) (hits_next within)
-        (ap (λ s. some_within s within) is' ∙ some_within-push rest set within)
-        ∙ ap (λ s. some_within s within || some_within new' within) (sym is);
-    included = subst (All (Includes other)) (sym is) before.included;
+        (list_all within set) (some_within (take (i + 1) list) within) (some_within (rest ++ set ∷ []) within)
+        (before.some_within within) (some_within-more list i set short set_is within)
+        (some_within-push rest set within);
+    included = before.included;
     sets = λ passes all.
-        let parts = before.sets passes (sets_before passes all) in (
-          subst (AreSetsOf passes) (sym is) parts.0,
-          subst (AreSetsOf passes) (sym is')
-              (All-push (IsSetOf passes) rest set parts.1 (set_of passes all)),
-        );
+        let now = sets_before list i set short set_is passes all in
+        let parts = before.sets passes now.0 in (parts.0, All-push (IsSetOf passes) rest set parts.1 now.1);
+  }
+
+-- before the first set
+pub Splits-none : (list other old rest : List (List ℕ)) → rest ≡ [] → Splits (take 0 list) other old old rest
+Splits-none list other old rest none = record {
+  including = [];
+  is = sym (append-nil old);
+  split = subst (IsSplit [] other []) (sym none) (record {
+    some_within = λ _. refl;
+    included = All-nil (Includes other);
+    sets = λ passes all. (all, all);
+  });
+}
+
+-- with the next set, as the code has it
+module _ (list other old added rest : List (List ℕ)) (set : List ℕ) (i : ℕ) (short : i < length list)
+    (set_is : set ≡ get_or list i []) (before : Splits (take i list) other old added rest) where
+  pub Splits-including : (new still : List (List ℕ)) → new ≡ added ++ set ∷ [] → still ≡ rest → Includes other set
+      → Splits (take (i + 1) list) other old new still
+  Splits-including new still is same includes = record {
+    including = before.including ++ set ∷ [];
+    is =
+        is ∙ ap (λ l. l ++ set ∷ []) before.is
+        ∙ append_assoc old before.including (set ∷ []);
+    split = subst (IsSplit (take (i + 1) list) other (before.including ++ set ∷ [])) (sym same)
+        (to_including list other before.including rest set i short set_is before.split includes);
+  }
+
+  pub Splits-rest : (still new : List (List ℕ)) → still ≡ added → new ≡ rest ++ set ∷ []
+      → Splits (take (i + 1) list) other old still new
+  Splits-rest still new same is = record {
+    including = before.including;
+    is = same ∙ before.is;
+    split = subst (IsSplit (take (i + 1) list) other before.including) (sym is)
+        (to_rest list other before.including rest set i short set_is before.split);
   }
 
 -- ---- the product
@@ -122,34 +132,35 @@ split_product false false true true r' m n h k e f = cc
 split_product false false false true r' m n h k e f = let g = k refl in absurd cc
 split_product false false r false r' m n h k e f = cc
 
-module _ (left right old sets more new including rest including' rest' : List (List ℕ))
-    (one : IsSplit left right including rest) (other : IsSplit right left including' rest')
-    (sets_are : sets ≡ old ++ including) (more_are : more ≡ sets ++ including') where
-  pub AddsBoth-split : AddsBoth rest rest' more new → AddsBoth left right old new
-  AddsBoth-split adds = record {
-    some_within = λ within.
-        let before : some_within more within
-        ≡ ((some_within old within || some_within including within) || some_within including' within) =
-        ap (λ s. some_within s within) more_are ∙ some_within-append sets including' within
-        ∙ ap (λ b. b || some_within including' within) (ap (λ s. some_within s within) sets_are
-        ∙ some_within-append old including within) in
-        split_product (some_within old within) (some_within including within) (some_within rest within)
-        (some_within including' within)
-        (some_within rest' within) (some_within more within) (some_within new within)
-        (λ hit. sym (other.some_within within) ∙ hit_if_included within right including one.included hit)
-        (λ hit. sym (one.some_within within) ∙ hit_if_included within left including' other.included hit)
-        before (adds.some_within within)
-        ∙ ap (λ b. some_within old within || (b && (some_within including' within || some_within rest' within)))
-        (sym (one.some_within within))
-        ∙ ap (λ b. some_within old within || (some_within left within && b)) (sym (other.some_within within));
-  }
-
-  pub AddsSetsOf-split : AddsSetsOf rest rest' more new → AddsSetsOf left right old new
-  AddsSetsOf-split adds = record {
-    sets = λ passes l r before.
-        let mine = one.sets passes l in
-        let others = other.sets passes r in
-        adds.sets passes mine.1 others.1
-        (subst (AreSetsOf passes) (sym more_are) (All-append (IsSetOf passes) sets including'
-        (subst (AreSetsOf passes) (sym sets_are) (All-append (IsSetOf passes) old including before mine.0)) others.0));
-  }
+module _ (left right old sets more new rest rest' : List (List ℕ))
+    (one : Splits left right old sets rest) (other : Splits right left sets more rest') where
+  pub AddsProduct-split : AddsProduct rest rest' more new → AddsProduct left right old new
+  AddsProduct-split adds =
+      let including : List (List ℕ) = one.including in
+      let including' : List (List ℕ) = other.including in record {
+        some_within = λ within.
+            let before : some_within more within
+            ≡ ((some_within old within || some_within including within) || some_within including' within) =
+            ap (λ s. some_within s within) other.is ∙ some_within-append sets including' within
+            ∙ ap (λ b. b || some_within including' within) (ap (λ s. some_within s within) one.is
+            ∙ some_within-append old including within) in
+            split_product (some_within old within) (some_within including within) (some_within rest within)
+            (some_within including' within)
+            (some_within rest' within) (some_within more within) (some_within new within)
+            (λ hit. sym (other.split.some_within within)
+            ∙ hit_if_included within right including one.split.included hit)
+            (λ hit. sym (one.split.some_within within)
+            ∙ hit_if_included within left including' other.split.included hit)
+            before (adds.some_within within)
+            ∙ ap (λ b. some_within old within || (b && (some_within including' within || some_within rest' within)))
+            (sym (one.split.some_within within))
+            ∙ ap (λ b. some_within old within || (some_within left within && b))
+            (sym (other.split.some_within within));
+        sets = λ passes l r before.
+            let mine = one.split.sets passes l in
+            let others = other.split.sets passes r in
+            adds.sets passes mine.1 others.1
+            (subst (AreSetsOf passes) (sym other.is) (All-append (IsSetOf passes) sets including'
+            (subst (AreSetsOf passes) (sym one.is) (All-append (IsSetOf passes) old including before mine.0))
+            others.0));
+      }

@@ -1,31 +1,29 @@
 -- How sets wait at their units, and how those within another are found.
-use Rattle.std.specs.Prelude.{◌≡◌, ◌≢◌, ℕ, zero, suc, ◌+◌, ◌<◌, ◌≤◌, Bool, true, false, ◌&&◌, ◌||◌, not, ◌==◌, nat_lt}
+use Rattle.std.specs.Prelude.{◌≡◌, ◌≢◌, ℕ, zero, suc, ◌+◌, ◌<◌, ◌≤◌, Bool, true, false, ◌&&◌, ◌==◌, nat_lt}
 use Rattle.std.specs.Prelude.{List, [], ◌∷◌, ◌++◌, length, take, replicate, All, Contains, get_or, slice_set, map}
-use Rattle.std.specs.Prelude.{if◌then◌else◌}
 use Rattle.std.specs.List.{list_any}
 use Rattle.std.proofs.Common.{refl, sym, ◌∙◌, ap, subst, inl, inr, arith, length-append}
-use Rattle.std.proofs.lemmas.Bool.{or_from, and_parts, and_from, and_left, and_right, le-ltb, cases_lt, cases_eq}
-use Rattle.std.proofs.lemmas.Bool.{lt-ltb}
+use Rattle.std.proofs.lemmas.Bool.{or_from, and_parts, and_right, cases_lt, cases_eq}
 use Rattle.std.proofs.lemmas.List.{get_or_default, take_more, take_all, get_or-take, length-take, get_or_append_left}
+use Rattle.std.proofs.lemmas.List.{get_or-map}
 use Rattle.std.proofs.lemmas.List.{get_or-set_same, get_or-set_other}
 use Rattle.std.proofs.lemmas.List.Folds.{list_any-append, Any-from_list_any, list_any-from_Any}
 use Rattle.std.proofs.lemmas.List.Elements.{All-push, All-nil, All-weaker, All-contains, Contains-get_or}
 use Rattle.std.proofs.lemmas.List.Elements.{Contains-append_left, Contains-push}
-use Rattle.unit_sets.specs.UnitList.{among, is_within, with_unit, without_unit}
-use Rattle.unit_sets.proofs.UnitListLemmas.{among-with_unit, among-without_unit}
-use Rattle.unit_sets.proofs.UnitListLemmas.{among-from_Contains, Contains-from_among}
+use Rattle.unit_sets.specs.UnitList.{among, is_within}
+use Rattle.unit_sets.proofs.UnitListLemmas.{Contains-from_among}
 use Rattle.unit_sets.specs.CutOrder.{cut_cmp, IsInCutOrder}
 use Rattle.std.specs.Cmp.Lexicographic.{slice_cmp}
 use Rattle.std.specs.Ordering.{nat_cmp}
 use Rattle.std.specs.declared.cmp.Ordering.TheVariants.{Less}
 use Rattle.std.proofs.lemmas.Map.Keys.{Less-from_sorted}
 use Rattle.cutset_lists.specs.declared.waiting.Waiter.{Waiter}
-use Rattle.cutset_lists.specs.Sets.{is_short_within, is_smaller_within, IsMinimalFrom}
-use Rattle.cutset_lists.specs.Waiting.{AreWaiting, AreAlike, AreFilled, HasEmptyFirst, IsWaiter, Waits, set_at}
-use Rattle.cutset_lists.specs.Waiting.{waiters_at}
-use Rattle.cutset_lists.proofs.SetLemmas.{or-false}
+use Rattle.cutset_lists.specs.Sets.{AreAlike, is_short_within, is_smaller_within, IsMinimalFrom}
+use Rattle.cutset_lists.specs.declared.waiting.Waiting.{Waiting}
+use Rattle.cutset_lists.specs.Waiting.{AreReady, AreWaiting, AreFilled, IsWaiter, Waits, set_at, waiters_at}
 use Rattle.std.proofs.lemmas.Bool.Decides.{nat_tests}
-use Rattle.cutset_lists.proofs.MinimalLemmas.{all_at, size_of_less, none_larger, keeps_out-step, keeps-step}
+use Rattle.cutset_lists.proofs.SetLemmas.{same_bool}
+use Rattle.cutset_lists.proofs.MinimalLemmas.{all_at, size_of_less, none_larger}
 
 -- ---- who waits
 
@@ -43,12 +41,6 @@ none_wait units at none sets = record {
       ∙ nobody units unit)) (All-nil (IsWaiter sets 0));
   placed = λ place below. absurd (omega arith);
 }
-
--- a unit at a place of a set
-pub unit_there : (set : List ℕ) (unit i d : ℕ) → i < length set → unit ≡ get_or set i d → among set unit ≡ true
-unit_there set unit i d short is =
-    subst (λ (u : ℕ). among set u ≡ true) (sym is)
-    (among-from_Contains set (get_or set i d) (Contains-get_or set i d short))
 
 known_more : (sets : List (List ℕ)) (count : ℕ) (waiters : List Waiter) → All (IsWaiter sets count) waiters
     → All (IsWaiter sets (count + 1)) waiters
@@ -171,11 +163,6 @@ module _ (sets : List (List ℕ)) (count : ℕ) (at : List (List Waiter)) (set :
 
 -- ---- who is found
 
-both_ways : (a b : Bool) → (a ≡ true → b ≡ true) → (b ≡ true → a ≡ true) → a ≡ b
-both_ways true b there back = sym (there refl)
-both_ways false true there back = back refl
-both_ways false false there back = refl
-
 pub some_holds : {X : Type 0} (p : X → Bool) (xs : List X) (x : X) → Contains xs x → p x ≡ true → list_any p xs ≡ true
 some_holds p xs x (k, short, same) holds = list_any-from_Any p xs (k, x, short, same, holds)
 
@@ -243,7 +230,7 @@ module _ (sets : List (List ℕ)) (count : ℕ) (at : List (List Waiter)) (marke
 
   pub found_among_waiting : list_any finds_at set ≡ list_any (is_short_within size set) (take count sets)
   found_among_waiting =
-      both_ways (list_any finds_at set) (list_any (is_short_within size set) (take count sets)) found_is_there
+      same_bool (list_any finds_at set) (list_any (is_short_within size set) (take count sets)) found_is_there
       there_is_found
 
 -- ---- the same, of values as the code has them
@@ -318,70 +305,6 @@ finds-none sets count at marked set size i before alike long none =
     ∙ subst (λ (l : List ℕ). list_any (finds_at sets count at marked set size alike before) l ≡ false)
     (take_all i set long) none
 
--- ---- sets one after another
-
-or-swap : (a b : Bool) → (a || b) ≡ (b || a)
-or-swap true true = refl
-or-swap true false = refl
-or-swap false true = refl
-or-swap false false = refl
-
-and-not : (a : Bool) → (a && not a) ≡ false
-and-not true = refl
-and-not false = refl
-
-eqb_sym : (a b : ℕ) → (a == b) ≡ (b == a)
-eqb_sym a b = grind (arith, nat_tests)
-
-take_out : (a b e f : Bool) → e ≡ f → ((a && not b) && not e) ≡ (a && not (b || f))
-take_out true true e f same = refl
-take_out true false e f same = ap not same
-take_out false b e f same = refl
-
-pub among_next : (set : List ℕ) (unit i d other : ℕ) → i < length set → unit ≡ get_or set i d
-    → among (take (i + 1) set) other ≡ (among (take i set) other || (unit == other))
-among_next set unit i d other short is =
-    ap (λ (l : List ℕ). among l other) (take_more set i d short)
-    ∙ list_any-append (λ member. member == other) (take i set) (get_or set i d ∷ [])
-    ∙ ap (λ (u : ℕ). among (take i set) other || ((u == other) || false)) (sym is)
-    ∙ ap (λ b. among (take i set) other || b) (or-false (unit == other))
-
-pub marks_more : (set marked new : List ℕ) (unit i d : ℕ) → i < length set → unit ≡ get_or set i d
-    → ((other : ℕ) → among marked other ≡ among (take i set) other)
-    → new ≡ with_unit unit marked → (other : ℕ) → among new other ≡ among (take (i + 1) set) other
-marks_more set marked new unit i d short is before with_it other =
-    ap (λ (l : List ℕ). among l other) with_it
-    ∙ among-with_unit unit marked other
-    ∙ or-swap (unit == other) (among marked other)
-    ∙ ap (λ b. b || (unit == other)) (before other)
-    ∙ sym (among_next set unit i d other short is)
-
-pub marks_fewer : (set marked new : List ℕ) (unit i d : ℕ) → i < length set → unit ≡ get_or set i d
-    → ((other : ℕ) → among marked other ≡ (among set other && not (among (take i set) other)))
-    → new ≡ without_unit unit marked → (other : ℕ)
-    → among new other ≡ (among set other && not (among (take (i + 1) set) other))
-marks_fewer set marked new unit i d short is before without_it other =
-    ap (λ (l : List ℕ). among l other) without_it
-    ∙ among-without_unit unit marked other
-    ∙ ap (λ b. b && not (other == unit)) (before other)
-    ∙ take_out (among set other) (among (take i set) other) (other == unit) (unit == other) (eqb_sym other unit)
-    ∙ ap (λ b. among set other && not b) (sym (among_next set unit i d other short is))
-
--- a set without members
-pub no_members : (set : List ℕ) → ((unit : ℕ) → among set unit ≡ false) → set ≡ []
-no_members [] none = refl
-no_members (first ∷ others) none =
-    let here : among (first ∷ others) first ≡ true =
-    among-from_Contains (first ∷ others) first (Contains-get_or (first ∷ others) 0 first (omega arith)) in
-    let nowhere = none first in
-    absurd cc
-
-pub all_taken_out : (set marked : List ℕ) (i : ℕ) → length set ≤ i
-    → ((other : ℕ) → among marked other ≡ (among set other && not (among (take i set) other))) → marked ≡ []
-all_taken_out set marked i long left =
-    no_members marked (λ unit. left unit ∙ ap (λ (l : List ℕ). among set unit && not (among l unit))
-    (take_all i set long) ∙ and-not (among set unit))
-
 -- ---- an empty set
 
 pub filled : (sets : List (List ℕ)) → IsInCutOrder sets → 1 ≤ length (set_at sets 0) → AreFilled sets
@@ -393,25 +316,6 @@ filled sets ordered some (suc place) inside =
     size_of_less (length (get_or sets 0 [])) (length (get_or sets (suc place) []))
     (slice_cmp nat_cmp (get_or sets 0 []) (get_or sets (suc place) [])) less in
     omega arith
-
-pub empty_within : (sets : List (List ℕ)) (set : List ℕ) → HasEmptyFirst sets
-    → list_any (is_smaller_within set) sets ≡ nat_lt 0 (length set)
-empty_within sets set (some, empty) = go set refl
-  where
-    none_in : (l : List (List ℕ)) → list_any (is_smaller_within []) l ≡ false
-    none_in [] = refl
-    none_in (smaller ∷ others) =
-        or_from _ _ (and_left (nat_lt (length smaller) 0) (is_within [] smaller)
-        (le-ltb (length smaller) 0 (omega arith))) (none_in others)
-
-    go : (s : List ℕ) → s ≡ set → list_any (is_smaller_within set) sets ≡ nat_lt 0 (length set)
-    go [] is = subst (λ (s : List ℕ). list_any (is_smaller_within s) sets ≡ nat_lt 0 (length s)) is (none_in sets)
-    go (unit ∷ others) is =
-        subst (λ (s : List ℕ). list_any (is_smaller_within s) sets ≡ nat_lt 0 (length s)) is
-        (some_holds (is_smaller_within (unit ∷ others)) sets [] (0, some, empty)
-        (and_from (nat_lt 0 (length (unit ∷ others))) (is_within (unit ∷ others) [])
-        (lt-ltb 0 (length (unit ∷ others)) (omega arith)) refl)
-        ∙ sym (lt-ltb 0 (length (unit ∷ others)) (omega arith)))
 
 -- ---- all sets
 
@@ -430,29 +334,35 @@ all_decided sets set count false low ordered large is =
       | inr all ↦ is ∙ ap (list_any (is_smaller_within set)) (take_all count sets all)
     ]
 
--- ---- one set after another, of values as the code has them
+-- where the first of some sets in order has a unit, each has
+pub all_filled : {X : Type 0} (units : X → List ℕ) (cuts : List X) (first : X) (empty : Bool) → 0 < length cuts
+    → IsInCutOrder (map units cuts) → empty ≡ (length (units (get_or cuts 0 first)) == 0) → empty ≡ false
+    → AreFilled (map units cuts)
+all_filled units cuts first empty some ordered empty_is not_empty =
+    let size : length (get_or (map units cuts) 0 []) ≡ length (units (get_or cuts 0 first)) =
+    ap length (get_or-map units cuts 0 first [] some) in
+    let filled_first : 1 ≤ length (units (get_or cuts 0 first)) = grind (arith, nat_tests) in
+    filled (map units cuts) ordered (omega arith)
 
-pub some_unit : (set : List ℕ) (empty : Bool) → empty ≡ (length set == 0) → not empty ≡ nat_lt 0 (length set)
-some_unit set empty is = grind (arith, nat_tests)
+-- what is kept of sets that each have a unit has units
+pub kept_filled : (sorted kept : List (List ℕ)) (i : ℕ) → AreFilled sorted → IsMinimalFrom (take i sorted) kept
+    → AreFilled kept
+kept_filled sorted kept i filled_all minimal place inside =
+    let set : List ℕ = set_at kept place in
+    let (k, short, is) = minimal.members place [] inside in
+    let below : k < i = omega (arith, length-take {A = List ℕ}) in
+    let within : k < length sorted = omega (arith, length-take {A = List ℕ}) in
+    let at : get_or sorted k [] ≡ set =
+    get_or_default sorted k [] set within ∙ sym (get_or-take i sorted k set below) ∙ is in
+    let size : length (get_or sorted k []) ≡ length set = ap length at in
+    let some = filled_all k within in
+    omega arith
 
-pub filled_unless : (sets : List (List ℕ)) (first : List ℕ) (empty : Bool) → IsInCutOrder sets
-    → first ≡ get_or sets 0 [] → empty ≡ (length first == 0) → empty ≡ false → AreFilled sets
-filled_unless sets first empty ordered is empty_is not_empty =
-    let size : length first ≡ length (get_or sets 0 []) = ap length is in
-    let some : 1 ≤ length first = grind (arith, nat_tests) in
-    filled sets ordered (omega arith)
-
-pub sifts_one : {X : Type 0} (units : X → List ℕ) (cuts : List X) (kept new : List (List ℕ)) (cut : X) (i : ℕ)
-    (found : Bool) → i < length cuts → cut ≡ get_or cuts i cut → IsInCutOrder (map units cuts)
-    → IsMinimalFrom (take i (map units cuts)) kept → found ≡ list_any (is_smaller_within (units cut)) kept
-    → new ≡ (if found then kept else kept ++ units cut ∷ []) → IsMinimalFrom (take (i + 1) (map units cuts)) new
-sifts_one units cuts kept new cut i true short cut_is ordered before is kept_is =
-    keeps_out-step units cuts kept new cut i short cut_is ordered before (sym is) kept_is
-sifts_one units cuts kept new cut i false short cut_is ordered before is kept_is =
-    keeps-step units cuts kept new cut i short cut_is ordered before (sym is) kept_is
-
-pub waits_on : (kept new : List (List ℕ)) (count : ℕ) (at : List (List Waiter)) (set : List ℕ) (found : Bool)
-    → AreWaiting kept count at → new ≡ (if found then kept else kept ++ set ∷ []) → AreWaiting new count at
-waits_on kept new count at set true before is = subst (λ (l : List (List ℕ)). AreWaiting l count at) (sym is) before
-waits_on kept new count at set false before is =
-    subst (λ (l : List (List ℕ)). AreWaiting l count at) (sym is) (longer_list kept count at set before)
+-- a set that is kept leaves those that wait ready
+pub ready_on : (kept new : List (List ℕ)) (waiting : Waiting) (set : List ℕ) → AreReady kept waiting
+    → new ≡ kept ++ set ∷ [] → AreReady new waiting
+ready_on kept new waiting set ready is = record {
+  wait = subst (λ (l : List (List ℕ)). AreWaiting l waiting.count waiting.at.items) (sym is)
+      (longer_list kept waiting.count waiting.at.items set ready.wait);
+  none_marked = ready.none_marked;
+}

@@ -1,6 +1,6 @@
 -- Lists that count by how many of some nodes they are true.
-use Rattle.std.specs.Prelude.{◌≡◌, ℕ, ◌+◌, ◌-◌, ◌<◌, ◌≤◌, Bool, ◌&&◌, ◌||◌, nat_le, List, [], ◌∷◌, length, All}
-use Rattle.std.specs.Prelude.{replicate, slice_index_or, slice_set}
+use Rattle.std.specs.Prelude.{◌≡◌, ℕ, ◌+◌, ◌-◌, ◌<◌, ◌≤◌, Bool, ◌&&◌, ◌||◌, nat_le, List, [], length, All}
+use Rattle.std.specs.Prelude.{slice_index_or, slice_set}
 use Rattle.fault_definitions.specs.Reading.{true_count}
 use Rattle.cutset_lists.specs.Sets.{AreSetsOf}
 use Rattle.cutset_lists.specs.Generation.{reading_of}
@@ -9,10 +9,6 @@ use Rattle.unit_sets.specs.UnitList.{some_within}
 -- the list for a count of nodes; the empty list, which is never true, where the counts do not go so far
 abbrev pub count_at : List (List (List ℕ)) → ℕ → List (List ℕ)
 count_at counts at = slice_index_or counts at []
-
--- of no nodes: none is always reached, and no more
-abbrev pub counts_of_none : ℕ → List (List (List ℕ))
-counts_of_none most = ([] ∷ []) ∷ replicate most []
 
 -- from a lowest count up, each list is true where so many of the nodes' lists are
 pub record IsCounting (lists : List (List (List ℕ))) (nodes : List ℕ) (most lowest : ℕ)

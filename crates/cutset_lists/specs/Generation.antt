@@ -23,6 +23,11 @@ list_at lists node = slice_index_or lists (node - 1) []
 abbrev pub HasList : List (List (List ℕ)) → ℕ → Type 0
 HasList lists node = (1 ≤ node) × (node ≤ length lists)
 
+-- the nodes have lists, and a list that is to be made of these has no set yet
+pub record StartsFrom (lists : List (List (List ℕ))) (nodes : List ℕ) (made : List (List ℕ)) : Type 0 where
+  pub have : All (HasList lists) nodes
+  pub none : made ≡ []
+
 -- the reading that the lists stand for
 abbrev pub reading_of : List (List (List ℕ)) → (ℕ → Bool) → ℕ → Bool
 reading_of lists within node = some_within (list_at lists node) within

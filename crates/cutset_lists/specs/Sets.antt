@@ -1,8 +1,12 @@
 -- Lists of sets of units that stand for a monotone reading: it is true where some set lies within.
-use Rattle.std.specs.Prelude.{◌≡◌, ℕ, Bool, true, false, ◌&&◌, ◌||◌, nat_lt, List, length, All, Contains}
+use Rattle.std.specs.Prelude.{◌≡◌, ℕ, Bool, true, false, ◌&&◌, ◌||◌, ◌++◌, nat_lt, List, length, All, Contains}
 use Rattle.std.specs.List.{list_any, list_all}
 use Rattle.unit_sets.specs.CutOrder.{IsInCutOrder}
-use Rattle.unit_sets.specs.UnitList.{IsRising, is_within, some_within}
+use Rattle.unit_sets.specs.UnitList.{among, IsRising, is_within, some_within}
+
+-- two sets have the same units
+abbrev pub AreAlike : List ℕ → List ℕ → Type 0
+AreAlike set other = (unit : ℕ) → among set unit ≡ among other unit
 
 -- a set of units that pass a test, in rising order
 pub record IsSetOf (passes : ℕ → Bool) (set : List ℕ) : Type 0 where
@@ -18,34 +22,19 @@ pub record IsUnion (left right union : List ℕ) : Type 0 where
   pub within : (within : ℕ → Bool) → list_all within union ≡ (list_all within left && list_all within right)
   pub rising : IsRising left → IsRising right → IsRising union
 
--- a list is now also true where a set and a list are
-pub record AddsWithin (set : List ℕ) (list old new : List (List ℕ)) : Type 0 where
+-- a list is now also true where a set and a list are, and has sets of units as before
+pub record AddsUnions (set : List ℕ) (list old new : List (List ℕ)) : Type 0 where
   pub some_within : (within : ℕ → Bool) → some_within new within
       ≡ (some_within old within || (list_all within set && some_within list within))
-
--- it has sets of units as before
-pub record AddsSets (set : List ℕ) (list old new : List (List ℕ)) : Type 0 where
   pub sets : (passes : ℕ → Bool) → IsSetOf passes set → AreSetsOf passes list → AreSetsOf passes old
       → AreSetsOf passes new
 
--- a list is now also true where both of two are
-pub record AddsBoth (left right old new : List (List ℕ)) : Type 0 where
+-- a list is now also true where both of two are, and has sets of units where both of them do, as before
+pub record AddsProduct (left right old new : List (List ℕ)) : Type 0 where
   pub some_within : (within : ℕ → Bool) → some_within new within
       ≡ (some_within old within || (some_within left within && some_within right within))
-
--- it has sets of units where both of two do, as before
-pub record AddsSetsOf (left right old new : List (List ℕ)) : Type 0 where
   pub sets : (passes : ℕ → Bool) → AreSetsOf passes left → AreSetsOf passes right → AreSetsOf passes old
       → AreSetsOf passes new
-
--- a list is true where both of two are
-pub record WithinBoth (left right both : List (List ℕ)) : Type 0 where
-  pub some_within : (within : ℕ → Bool) → some_within both within
-      ≡ (some_within left within && some_within right within)
-
--- a list has sets of units where both of two do
-pub record AreSetsAs (left right both : List (List ℕ)) : Type 0 where
-  pub sets : (passes : ℕ → Bool) → AreSetsOf passes left → AreSetsOf passes right → AreSetsOf passes both
 
 -- ---- minimal sets
 
@@ -91,3 +80,9 @@ pub record IsSplit (list other including rest : List (List ℕ)) : Type 0 where
       ≡ (some_within including within || some_within rest within)
   pub included : All (Includes other) including
   pub sets : (passes : ℕ → Bool) → AreSetsOf passes list → AreSetsOf passes including × AreSetsOf passes rest
+
+-- the first part is added to a list
+pub record Splits (list other old new rest : List (List ℕ)) : Type 0 where
+  pub including : List (List ℕ)
+  pub is : new ≡ old ++ including
+  pub split : IsSplit list other including rest

@@ -2,6 +2,7 @@
 use Rattle.std.specs.Prelude.{◌≡◌, ℕ, ◌<◌, ◌≤◌, true, List, [], length, All, Contains, slice_index_or}
 use Rattle.unit_sets.specs.UnitList.{among}
 use Rattle.cutset_lists.specs.declared.waiting.Waiter.{Waiter}
+use Rattle.cutset_lists.specs.declared.waiting.Waiting.{Waiting}
 
 -- the set at a place of a list; the empty set behind its end
 abbrev pub set_at : List (List ℕ) → ℕ → List ℕ
@@ -30,14 +31,11 @@ pub record AreWaiting (sets : List (List ℕ)) (count : ℕ) (at : List (List Wa
   pub known : (unit : ℕ) → All (IsWaiter sets count) (waiters_at at unit)
   pub placed : (place : ℕ) → place < count → Waits sets at place
 
--- two sets have the same units
-abbrev pub AreAlike : List ℕ → List ℕ → Type 0
-AreAlike set other = (unit : ℕ) → among set unit ≡ among other unit
+-- all of the first sets wait, and no set is looked at
+pub record AreReady (sets : List (List ℕ)) (waiting : Waiting) : Type 0 where
+  pub wait : AreWaiting sets waiting.count waiting.at.items
+  pub none_marked : waiting.marked ≡ []
 
 -- each set has some unit
 abbrev pub AreFilled : List (List ℕ) → Type 0
 AreFilled sets = (place : ℕ) → place < length sets → 1 ≤ length (set_at sets place)
-
--- the first set has no unit
-abbrev pub HasEmptyFirst : List (List ℕ) → Type 0
-HasEmptyFirst sets = (0 < length sets) × (set_at sets 0 ≡ [])

@@ -1,6 +1,6 @@
 //! Lists that are true where two others are.
 ghost use Rattle.std.specs.Prelude.{OnOk};
-ghost use Rattle.cutset_lists.specs.Sets.{AddsWithin, AddsSets, AddsBoth, AddsSetsOf};
+ghost use Rattle.cutset_lists.specs.Sets.{AddsUnions, AddsProduct};
 
 use crate::merge::merge;
 use crate::{NoMemory, Sets, UnitNo};
@@ -13,8 +13,7 @@ fn add_unions(
     set: &[UnitNo],
     list: &Sets,
 ) -> Result<(), NoMemory>
-    ensures within { OnOk result (AddsWithin set.now list.now sets.old sets.new) }
-    ensures sets { OnOk result (AddsSets set.now list.now sets.old sets.new) }
+    ensures { OnOk result (AddsUnions set.now list.now sets.old sets.new) }
 {
     for i in 0..list.len() {
         merge(union, set, list.row(i))?;
@@ -30,8 +29,7 @@ pub fn add_all_unions(
     left: &Sets,
     right: &Sets,
 ) -> Result<(), NoMemory>
-    ensures within { OnOk result (AddsBoth left.now right.now sets.old sets.new) }
-    ensures sets { OnOk result (AddsSetsOf left.now right.now sets.old sets.new) }
+    ensures { OnOk result (AddsProduct left.now right.now sets.old sets.new) }
 {
     let mut union = Vec::new(alloc);
     for i in 0..left.len() {

@@ -6,7 +6,7 @@ ghost use Rattle.unit_sets.specs.UnitList.{IsRising};
 ghost use Rattle.cutset_lists.specs.Generation.{HasHeavyCutList};
 
 use crate::bottom_up::top_list;
-use crate::minimal::minimal;
+use crate::minimal::minimize;
 use crate::{Room, Sets};
 use fault_model::Tree;
 use linked_list_allocator::LocalHeap;
@@ -40,7 +40,8 @@ pub fn mcs_within(alloc: Global, tree: &Tree, bytes: usize) -> Result<CutList, L
 {
     let heap = LocalHeap::new(alloc, bytes)?;
     let room = Room { heap: &heap, alloc };
-    let sets = minimal(room, &top_list(room, tree)?)?;
+    let mut sets = top_list(room, tree)?;
+    minimize(room, &mut sets)?;
     cut_list(alloc, &sets)
 }
 

@@ -12,6 +12,7 @@ mod bottom_up;
 mod combine;
 mod cut_list;
 mod gate;
+mod marks;
 mod merge;
 mod minimal;
 mod order;

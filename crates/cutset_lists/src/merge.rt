@@ -26,6 +26,5 @@ pub fn merge(union: &mut Vec<UnitNo>, left: &[UnitNo], right: &[UnitNo]) -> Resu
         }
     }
     union.extend_from_slice(&left[i..])?;
-    union.extend_from_slice(&right[j..])?;
-    Ok(())
+    union.extend_from_slice(&right[j..])
 }

@@ -9,9 +9,10 @@ use std::alloc::Global;
 
 // How many sets the list of a node has, or 0 where there is no such list.
 fn length_of(lists: &[Sets], node: NodeNo) -> usize {
-    lists
-        .get((node.0 as usize).saturating_sub(1))
-        .map_or(0, |list| list.len())
+    match lists.get((node.0 as usize).saturating_sub(1)) {
+        Some(list) => list.len(),
+        None => 0,
+    }
 }
 
 /// The nodes, those with the shortest lists first: so what is multiplied stays short for as long as it can.
@@ -22,8 +23,7 @@ pub fn shortest_first(
 ) -> Result<Vec<NodeNo>, NoMemory>
     ensures { IfOk result (λ order. IsPermutation nodes.now order.items) }
 {
-    let mut order = Vec::new(alloc);
-    order.extend_from_slice(nodes)?;
+    let mut order = Vec::from_slice(alloc, nodes)?;
     order.sort_by_key(|node| length_of(lists, *node))?;
     Ok(order)
 }

@@ -3,13 +3,15 @@
 //! A set of one list that has one of the other within it is its own union with that set, and all its other unions
 //! include it, so it stands for them all. Where lists share units such sets are split off, and only the rest is
 //! multiplied.
-ghost use Rattle.std.specs.Prelude.{◌≡◌, ℕ, List, true, IfOk, OnOk};
-ghost use Rattle.cutset_lists.specs.Sets.{AddsBoth, AddsSetsOf, WithinBoth, AreSetsAs, IsSplit};
+ghost use Rattle.std.specs.Prelude.{◌≡◌, [], true, OnOk};
+ghost use Rattle.cutset_lists.specs.Sets.{AddsProduct};
 ghost use Rattle.cutset_lists.specs.Waiting.{AreFilled};
 
 use crate::combine::add_all_unions;
-use crate::split::{Parts, are_filled, split};
+use crate::minimal::reduce;
+use crate::split::{are_filled, split};
 use crate::{NoMemory, Room, Sets};
+use std::mem;
 
 // From so many sets on in both lists, a split pays for the tables of those that wait.
 const MANY: usize = 16;
@@ -22,25 +24,8 @@ fn are_split(left: &Sets, right: &Sets) -> bool
     left.len() >= MANY && right.len() >= MANY && are_filled(left) && are_filled(right)
 }
 
-// Adds the sets that stand for themselves and the unions of the others.
-fn add_parts<'h>(
-    room: Room<'h>,
-    sets: &mut Sets<'h>,
-    lefts: &Parts<'h>,
-    rights: &Parts<'h>,
-) -> Result<(), NoMemory>
-    ensures { OnOk result ((left right : List (List ℕ)) → IsSplit left right lefts.now.including lefts.now.rest
-        → IsSplit right left rights.now.including rights.now.rest
-        → AddsBoth left right sets.old sets.new × AddsSetsOf left right sets.old sets.new) }
-{
-    sets.append(&lefts.including)?;
-    sets.append(&rights.including)?;
-    add_all_unions(room.alloc, sets, &lefts.rest, &rights.rest)?;
-    Ok(())
-}
-
-/// Adds the product by the sets that stand for themselves and the unions of the others.
-pub fn add_split<'h>(
+// Adds the product by the sets that stand for themselves and the unions of the others.
+fn add_split<'h>(
     room: Room<'h>,
     sets: &mut Sets<'h>,
     left: &Sets,
@@ -48,27 +33,24 @@ pub fn add_split<'h>(
 ) -> Result<(), NoMemory>
     requires left { AreFilled left.now }
     requires right { AreFilled right.now }
-    ensures within { OnOk result (AddsBoth left.now right.now sets.old sets.new) }
-    ensures sets { OnOk result (AddsSetsOf left.now right.now sets.old sets.new) }
+    ensures { OnOk result (AddsProduct left.now right.now sets.old sets.new) }
 {
-    let lefts = split(room, left, right)?;
-    let rights = split(room, right, left)?;
-    let added = add_parts(room, sets, &lefts, &rights);
-    drop(lefts);
-    drop(rights);
-    added
+    let mut lefts = room.no_sets();
+    let mut rights = room.no_sets();
+    split(room.alloc, left, right, sets, &mut lefts)?;
+    split(room.alloc, right, left, sets, &mut rights)?;
+    add_all_unions(room.alloc, sets, &lefts, &rights)
 }
 
-/// Adds the product of two lists. Where they are apart no set of one includes one of the other.
-pub fn add_product<'h>(
+// Adds the product of two lists. Where they are apart no set of one includes one of the other.
+fn add_product<'h>(
     room: Room<'h>,
     sets: &mut Sets<'h>,
     left: &Sets,
     right: &Sets,
     apart: bool,
 ) -> Result<(), NoMemory>
-    ensures within { OnOk result (AddsBoth left.now right.now sets.old sets.new) }
-    ensures sets { OnOk result (AddsSetsOf left.now right.now sets.old sets.new) }
+    ensures { OnOk result (AddsProduct left.now right.now sets.old sets.new) }
 {
     if !apart && are_split(left, right) {
         add_split(room, sets, left, right)
@@ -77,17 +59,29 @@ pub fn add_product<'h>(
     }
 }
 
-/// The product of two lists.
-pub fn product<'h>(
+/// Adds the product of two lists, and then leaves the sets that have no other within them, unless all are apart.
+pub fn add_reduced<'h>(
     room: Room<'h>,
+    sets: &mut Sets<'h>,
     left: &Sets,
     right: &Sets,
     apart: bool,
-) -> Result<Sets<'h>, NoMemory>
-    ensures within { IfOk result (WithinBoth left.now right.now) }
-    ensures sets { IfOk result (AreSetsAs left.now right.now) }
+) -> Result<(), NoMemory>
+    ensures { OnOk result (AddsProduct left.now right.now sets.old sets.new) }
 {
-    let mut sets = room.no_sets();
-    add_product(room, &mut sets, left, right, apart)?;
-    Ok(sets)
+    add_product(room, sets, left, right, apart)?;
+    reduce(room, sets, apart)
+}
+
+/// Puts the product of a list and another into its place.
+pub fn multiply<'h>(
+    room: Room<'h>,
+    sets: &mut Sets<'h>,
+    list: &Sets,
+    apart: bool,
+) -> Result<(), NoMemory>
+    ensures { OnOk result (AddsProduct sets.old list.now [] sets.new) }
+{
+    let left = mem::replace(sets, room.no_sets());
+    add_reduced(room, sets, &left, list, apart)
 }

@@ -1,19 +1,11 @@
 //! A list in two parts: the sets that include one of another list, and the rest.
-ghost use Rattle.std.specs.Prelude.{◌≡◌, [], true, IfOk, OnOk};
-ghost use Rattle.cutset_lists.specs.Sets.{Includes, IsSplit};
-ghost use Rattle.cutset_lists.specs.Waiting.{AreFilled, AreWaiting};
+ghost use Rattle.std.specs.Prelude.{◌≡◌, [], true, OnOk};
+ghost use Rattle.cutset_lists.specs.Sets.{Splits};
+ghost use Rattle.cutset_lists.specs.Waiting.{AreFilled, AreReady};
 
-use crate::sifting::{keep_unless, mark, unmark};
 use crate::waiting::Waiting;
-use crate::{NoMemory, Room, Sets, UnitNo};
-use unit_sets::UnitSet;
-
-/// The sets of a list that have one of another within them, and the rest.
-#[derive(Drop)]
-pub struct Parts<'h> {
-    pub including: Sets<'h>,
-    pub rest: Sets<'h>,
-}
+use crate::{NoMemory, Sets};
+use std::alloc::Global;
 
 /// Whether each set has a unit. If so, the sets can wait at their units.
 pub fn are_filled(sets: &Sets) -> bool
@@ -27,57 +19,43 @@ pub fn are_filled(sets: &Sets) -> bool
     true
 }
 
-// Whether a set includes one of those that wait. It may be told that it does not where it does: then it is multiplied.
-fn includes_some(waiting: &Waiting, marked: &mut UnitSet, sets: &Sets, set: &[UnitNo]) -> bool
-    requires waiting { AreWaiting sets.now waiting.now.count waiting.now.at.items }
-    requires marked { marked.old ≡ [] }
-    ensures found { result ≡ true → Includes sets.now set.now }
-    ensures marked { marked.new ≡ [] }
-{
-    mark(marked, set);
-    let found = waiting.finds(sets, marked, set, set.len() + 1);
-    unmark(marked, set);
-    found
-}
-
-// Puts the sets of a list into two parts, of which neither has a set yet.
+// Adds those sets of a list that include one of another, whose sets wait, and puts the rest into a list of its own. A
+// set that includes one may also go to the rest: then it is multiplied.
 fn spread(
-    waiting: &Waiting,
-    marked: &mut UnitSet,
+    waiting: &mut Waiting,
     list: &Sets,
     other: &Sets,
-    parts: &mut Parts,
+    including: &mut Sets,
+    rest: &mut Sets,
 ) -> Result<(), NoMemory>
-    requires waiting { AreWaiting other.now waiting.now.count waiting.now.at.items }
-    requires marked { marked.old ≡ [] }
-    requires including { parts.old.including ≡ [] }
-    requires rest { parts.old.rest ≡ [] }
-    ensures { OnOk result (IsSplit list.now other.now parts.new.including parts.new.rest) }
+    requires waiting { AreReady other.now waiting.old }
+    requires rest { rest.old ≡ [] }
+    ensures { OnOk result (Splits list.now other.now including.old including.new rest.new) }
 {
     for i in 0..list.len() {
         let set = list.row(i);
-        let found = includes_some(waiting, marked, other, set);
-        keep_unless(&mut parts.including, set, !found)?;
-        keep_unless(&mut parts.rest, set, found)?;
+        if waiting.finds(other, set, set.len() + 1) {
+            including.push(set)?;
+        } else {
+            rest.push(set)?;
+        }
     }
     Ok(())
 }
 
-/// Splits the sets that include one of another list off a list.
-pub fn split<'h>(room: Room<'h>, list: &Sets, other: &Sets) -> Result<Parts<'h>, NoMemory>
-    requires { AreFilled other.now }
-    ensures { IfOk result (λ parts. IsSplit list.now other.now parts.including parts.rest) }
+/// Adds the sets of a list that include one of another list, and puts the rest into a list of its own.
+pub fn split(
+    alloc: Global,
+    list: &Sets,
+    other: &Sets,
+    including: &mut Sets,
+    rest: &mut Sets,
+) -> Result<(), NoMemory>
+    requires filled { AreFilled other.now }
+    requires rest { rest.old ≡ [] }
+    ensures { OnOk result (Splits list.now other.now including.old including.new rest.new) }
 {
-    let mut waiting = Waiting::new(room.alloc)?;
+    let mut waiting = Waiting::new(alloc)?;
     waiting.take_up(other, usize::MAX)?;
-    let mut marked = UnitSet::new(room.alloc)?;
-    let mut parts = Parts {
-        including: room.no_sets(),
-        rest: room.no_sets(),
-    };
-    let ended = spread(&waiting, &mut marked, list, other, &mut parts);
-    drop(waiting);
-    drop(marked);
-    ended?;
-    Ok(parts)
+    spread(&mut waiting, list, other, including, rest)
 }

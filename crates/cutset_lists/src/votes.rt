@@ -1,27 +1,14 @@
 //! The list of a gate that needs some number of its inputs.
-ghost use Rattle.std.specs.Prelude.{◌≡◌, ◌≤◌, ◌<◌, length, All, IfOk, OnOk};
-ghost use Rattle.cutset_lists.specs.Generation.{HasList, Follows, at_least_rule};
-ghost use Rattle.cutset_lists.specs.Counts.{counts_of_none, CountsMore, CountsList};
+ghost use Rattle.std.specs.Prelude.{◌≤◌, ◌<◌, length, OnOk};
+ghost use Rattle.cutset_lists.specs.Generation.{at_least_rule, Follows, StartsFrom};
+ghost use Rattle.cutset_lists.specs.Counts.{CountsMore, CountsList};
 
-use crate::gate::{empty_set, reduced};
 use crate::order::shortest_first;
 use crate::overlap::are_apart;
-use crate::product::add_product;
+use crate::product::add_reduced;
 use crate::{NoMemory, Room, Sets};
 use fault_model::NodeNo;
 use std::mem;
-
-// Lists for none, one, two and more of no nodes: the first has the empty set, and the others have no set.
-fn none_counted<'h>(room: Room<'h>, most: usize) -> Result<Vec<Sets<'h>>, NoMemory>
-    ensures { IfOk result (λ counts. counts.items ≡ counts_of_none most) }
-{
-    let mut counts = Vec::new(room.alloc);
-    counts.push(empty_set(room)?)?;
-    for _i in 0..most {
-        counts.push(room.no_sets())?;
-    }
-    Ok(counts)
-}
 
 // One count is also reached from the one below where the list is true.
 fn count_more<'h>(
@@ -36,9 +23,9 @@ fn count_more<'h>(
     ensures { OnOk result (CountsMore list.now at counts.old.items counts.new.items) }
 {
     let mut sets = mem::replace(&mut counts[at], room.no_sets());
-    add_product(room, &mut sets, &counts[at - 1], list, apart)?;
-    counts[at] = reduced(room, sets, apart)?;
-    Ok(())
+    let added = add_reduced(room, &mut sets, &counts[at - 1], list, apart);
+    counts[at] = sets;
+    added
 }
 
 // The same for each count from the highest down to the lowest that still matters.
@@ -61,18 +48,22 @@ fn count_list<'h>(
     Ok(())
 }
 
-// The unions of a set of each of `least` of the nodes' lists, one list after another.
+// Puts in the unions of a set of each of `least` of the nodes' lists, one list after another. The first count, of none,
+// has the empty set, and the others have no set yet.
 fn at_least_in_turn<'h>(
     room: Room<'h>,
     lists: &[Sets<'h>],
-    least: usize,
+    least: u32,
     nodes: &[NodeNo],
-) -> Result<Sets<'h>, NoMemory>
-    requires { All (HasList lists.now) nodes.now }
-    ensures { IfOk result (Follows lists.now (at_least_rule least nodes.now)) }
+    sets: &mut Sets<'h>,
+) -> Result<(), NoMemory>
+    requires { StartsFrom lists.now nodes.now sets.old }
+    ensures { OnOk result (Follows lists.now (at_least_rule least nodes.now) sets.new) }
 {
+    let least = least as usize;
     let apart = are_apart(room.alloc, lists, nodes)?;
-    let mut counts = none_counted(room, least)?;
+    let mut counts = room.no_lists(least + 1)?;
+    counts[0].push(&[])?;
     for i in 0..nodes.len() {
         // what has less than this can no longer get as many as are needed
         let left = nodes.len() - i - 1;
@@ -81,19 +72,21 @@ fn at_least_in_turn<'h>(
             count_list(room, &mut counts, lowest, &lists[nodes[i].index()], apart)?;
         }
     }
-    Ok(mem::replace(&mut counts[least], room.no_sets()))
+    mem::swap(sets, &mut counts[least]);
+    Ok(())
 }
 
-// The unions of a set of each of `least` of the nodes' lists.
+/// Puts in the unions of a set of each of `least` of the nodes' lists.
 pub fn at_least<'h>(
     room: Room<'h>,
     lists: &[Sets<'h>],
-    least: usize,
+    least: u32,
     nodes: &[NodeNo],
-) -> Result<Sets<'h>, NoMemory>
-    requires { All (HasList lists.now) nodes.now }
-    ensures { IfOk result (Follows lists.now (at_least_rule least nodes.now)) }
+    sets: &mut Sets<'h>,
+) -> Result<(), NoMemory>
+    requires { StartsFrom lists.now nodes.now sets.old }
+    ensures { OnOk result (Follows lists.now (at_least_rule least nodes.now) sets.new) }
 {
     let order = shortest_first(room.alloc, lists, nodes)?;
-    at_least_in_turn(room, lists, least, order.as_slice())
+    at_least_in_turn(room, lists, least, order.as_slice(), sets)
 }

@@ -4,10 +4,11 @@
 ghost use Rattle.std.specs.Prelude.{◌≡◌, ℕ, ◌+◌, ◌<◌, ◌≤◌, true, List, [], length, vec_len, take, All, IfOk};
 ghost use Rattle.std.specs.Prelude.{OnOk};
 ghost use Rattle.std.specs.List.{list_any};
-ghost use Rattle.unit_sets.specs.UnitList.{among, is_within};
-ghost use Rattle.cutset_lists.specs.Sets.{is_short_within};
+ghost use Rattle.unit_sets.specs.UnitList.{among};
+ghost use Rattle.cutset_lists.specs.Sets.{is_short_within, AreAlike};
 ghost use Rattle.cutset_lists.specs.declared.waiting.TheConstants.{UNITS};
 
+use crate::marks::{all_marked, mark, unmark};
 use crate::{NoMemory, Sets, UnitNo};
 use flat_rows::{GrowingList, empty_lists};
 use std::alloc::Global;
@@ -24,31 +25,26 @@ pub struct Waiter {
     pub sign: UnitNo,
 }
 
-/// The first sets of a list, each at one of its units.
+/// The first sets of a list, each at one of its units, and the units of the set that is looked at.
 #[derive(Drop)]
 pub struct Waiting {
     at: Vec<GrowingList<Waiter>>,
     count: usize,
+    marked: UnitSet,
     ghost all_units: { vec_len at ≡ UNITS },
 }
 
-// Whether the units of a set are all marked.
-fn are_marked(marked: &UnitSet, set: &[UnitNo]) -> bool
-    ensures { result ≡ is_within marked.now set.now }
-{
-    set.iter().all(|unit| marked.contains(*unit))
-}
-
 impl Waiting {
-    ghost use Rattle.cutset_lists.specs.Waiting.{AreAlike, AreFilled, AreWaiting, IsWaiter, set_at, waiters_at};
+    ghost use Rattle.cutset_lists.specs.Waiting.{AreFilled, AreReady, AreWaiting, IsWaiter, set_at, waiters_at};
     ghost use Rattle.cutset_lists.specs.declared.waiting.Waiter.{Waiter};
 
     pub fn new(alloc: Global) -> Result<Waiting, NoMemory>
-        ensures { IfOk result (λ waiting. (sets : List (List ℕ)) → AreWaiting sets waiting.count waiting.at.items) }
+        ensures { IfOk result (λ waiting. (sets : List (List ℕ)) → AreReady sets waiting) }
     {
         Ok(Waiting {
             at: empty_lists(alloc, UNITS)?,
             count: 0,
+            marked: UnitSet::new(alloc)?,
         })
     }
 
@@ -75,10 +71,10 @@ impl Waiting {
 
     // The next set waits too.
     fn add(&mut self, sets: &Sets) -> Result<(), NoMemory>
-        requires waiting { AreWaiting sets.now self.old.count self.old.at.items }
+        requires waiting { AreReady sets.now self.old }
         requires inside { self.old.count < length sets.now }
         requires filled { AreFilled sets.now }
-        ensures waiting { OnOk result (AreWaiting sets.now self.new.count self.new.at.items) }
+        ensures waiting { OnOk result (AreReady sets.now self.new) }
         ensures more { OnOk result (self.new.count ≡ self.old.count + 1) }
     {
         // The count is below this length, so its successor is a number too.
@@ -97,9 +93,9 @@ impl Waiting {
 
     /// All sets of fewer units than a size wait, of a list that goes by size.
     pub fn take_up(&mut self, sets: &Sets, size: usize) -> Result<(), NoMemory>
-        requires waiting { AreWaiting sets.now self.old.count self.old.at.items }
+        requires waiting { AreReady sets.now self.old }
         requires filled { AreFilled sets.now }
-        ensures waiting { OnOk result (AreWaiting sets.now self.new.count self.new.at.items) }
+        ensures waiting { OnOk result (AreReady sets.now self.new) }
         ensures rest { OnOk result (self.new.count < length sets.now → size ≤ length (set_at sets.now self.new.count)) }
     {
         while self.count < sets.len() && sets.row(self.count).len() < size {
@@ -117,7 +113,7 @@ impl Waiting {
             return false;
         }
         let smaller = sets.row(waiter.place);
-        smaller.len() < size && are_marked(marked, smaller)
+        smaller.len() < size && all_marked(marked, smaller)
     }
 
     // Whether one of some waiters' sets does.
@@ -134,18 +130,31 @@ impl Waiting {
         false
     }
 
-    /// Whether one of the sets that wait has fewer units than a size, and lies within a set, whose units are marked.
-    pub fn finds(&self, sets: &Sets, marked: &UnitSet, set: &[UnitNo], size: usize) -> bool
+    // Whether one of the sets that wait has fewer units than a size, and lies within a set, whose units are marked.
+    fn finds_marked(&self, sets: &Sets, set: &[UnitNo], size: usize) -> bool
         requires waiting { AreWaiting sets.now self.now.count self.now.at.items }
-        requires marks { AreAlike marked.now set.now }
+        requires marks { AreAlike self.now.marked set.now }
         ensures { result ≡ list_any (is_short_within size set.now) (take self.now.count sets.now) }
     {
         for unit in set {
             let waiters = self.at[unit.number() as usize].as_slice();
-            if Waiting::is_any_found(sets, marked, size, waiters) {
+            if Waiting::is_any_found(sets, &self.marked, size, waiters) {
                 return true;
             }
         }
         false
+    }
+
+    /// Whether one of the sets that wait has fewer units than a size, and lies within a set.
+    pub fn finds(&mut self, sets: &Sets, set: &[UnitNo], size: usize) -> bool
+        requires { AreReady sets.now self.old }
+        ensures found { result ≡ list_any (is_short_within size set.now) (take self.old.count sets.now) }
+        ensures same { self.new.count ≡ self.old.count }
+        ensures waiting { AreReady sets.now self.new }
+    {
+        mark(&mut self.marked, set);
+        let found = self.finds_marked(sets, set, size);
+        unmark(&mut self.marked, set);
+        found
     }
 }

@@ -4,7 +4,7 @@ use Rattle.cutset_lists.specs.Plan.{IsBuiltTo, until_of}
 use Rattle.cutset_lists.proofs.GateLemmas.{node_read, list_read}
 use Rattle.cutset_lists.proofs.PlanLemmas.{IsBuiltTo-step, IsBuiltTo-skips, Generates-top, end_read}
 use Rattle.cutset_lists.proofs.bottom_up.top_list.Goals as goal
-use Rattle.cutset_lists.proofs.bottom_up.top_list.Goals.{then-index-place+in_ok-list, else-index-place}
+use Rattle.cutset_lists.proofs.bottom_up.top_list.Goals.{then-index-place+in_ok-node_list, else-index-place}
 
 pub loop-place-preserved : goal.loop-place-preserved
 loop-place-preserved c =
@@ -18,16 +18,16 @@ loop-place-preserved c =
     c.bottom_up-order.ensures.order c.in_ok-until.ensures (omega arith) is c.index.ensures
     c.index-in-loop-place.ensures in
     elim c.if-index-place.branch [
-      | then-index-place+in_ok-list w ↦
+      | then-index-place+in_ok-node_list w ↦
           subst (IsBuiltTo c.args.tree.now order until (c.loop-place.place + 1)) (ap (λ v. v.items) (sym w.lists-is))
           (IsBuiltTo-step c.args.tree.now c.bottom_up-order.ensures.kept order until c.bottom_up-order.ensures.order
           c.in_ok-until.ensures c.loop-place.place node (omega arith) is c.loop-place.lists.items
           c.loop-place.invariant
-          w.in_ok-list.list w.deref.result.now (set c.loop-place.lists.items w.index-then-index-place.result
-          w.in_ok-list.list) w.release.new.lists.items w.deref-then-index-place.result.now
+          w.node_list.new.sets w.deref.result.now (set c.loop-place.lists.items w.index-then-index-place.result
+          w.node_list.new.sets) w.release.new.lists.items w.deref-then-index-place.result.now
           (let low = w.if-index-place.true in omega arith) w.deref.ensures.value w.deref-then-index-place.ensures.value
-          (ap (λ k. set c.loop-place.lists.items k w.in_ok-list.list) w.index-then-index-place.ensures)
-          w.in_ok-list.ensures w.release.ensures)
+          (ap (λ k. set c.loop-place.lists.items k w.node_list.new.sets) w.index-then-index-place.ensures)
+          w.in_ok-node_list.ensures w.release.ensures)
       | else-index-place w ↦
           subst (IsBuiltTo c.args.tree.now order until (c.loop-place.place + 1)) (ap (λ v. v.items) (sym w.lists-is))
           (IsBuiltTo-skips c.args.tree.now c.bottom_up-order.ensures.kept order until c.bottom_up-order.ensures.order

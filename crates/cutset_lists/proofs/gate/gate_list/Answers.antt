@@ -1,17 +1,20 @@
-use Rattle.std.proofs.Common.{sym, subst}
-use Rattle.std.proofs.lemmas.Result.{IfOk-weaker}
-use Rattle.std.specs.Result.{IfOk}
+use Rattle.std.proofs.Common.{subst, sym}
+use Rattle.std.proofs.lemmas.Result.{on_ok_weaker}
 use Rattle.fault_words.specs.declared.kind.GateKind.{GateKind}
-use Rattle.fault_words.specs.declared.kind.GateKind.TheVariants.{Or}
-use Rattle.cutset_lists.specs.Generation.{AddsSome, Follows, gate_rule}
-use Rattle.cutset_lists.proofs.GateLemmas.{or_list}
+use Rattle.cutset_lists.specs.Generation.{Follows, gate_rule}
+use Rattle.cutset_lists.proofs.GateLemmas.{or_list, por_list}
 use Rattle.cutset_lists.proofs.gate.gate_list.Goals as goal
 
 pub returns-in-Or : goal.returns-in-Or
 returns-in-Or c =
-    subst (λ (k : GateKind). IfOk c.some_of.result (Follows c.args.lists.now (gate_rule k c.args.inputs.now)))
-    (sym c.in-Or.is)
-    (IfOk-weaker c.some_of.result (AddsSome c.args.lists.now c.args.inputs.now c.no_sets.result)
-    (Follows c.args.lists.now (gate_rule Or c.args.inputs.now))
-    (λ made adds. or_list c.args.lists.now c.args.inputs.now c.no_sets.result made c.no_sets.ensures adds)
-    c.some_of.ensures)
+    on_ok_weaker c.some_of.result (λ adds. subst (λ (k : GateKind).
+    Follows c.args.lists.now (gate_rule k c.args.inputs.now) c.some_of.new.sets) (sym c.in-Or.is)
+    (or_list c.args.lists.now c.args.inputs.now c.args.sets.now c.some_of.new.sets c.requires.none adds))
+    c.some_of.ensures
+
+pub returns-in-Por : goal.returns-in-Por
+returns-in-Por c =
+    on_ok_weaker c.some_of-in-Por.result (λ adds. subst (λ (k : GateKind).
+    Follows c.args.lists.now (gate_rule k c.args.inputs.now) c.some_of-in-Por.new.sets) (sym c.in-Por.is)
+    (por_list c.args.lists.now c.args.inputs.now c.first_of.result.now c.args.sets.now c.some_of-in-Por.new.sets
+    c.requires.none c.first_of.ensures adds)) c.some_of-in-Por.ensures

@@ -1,7 +1,5 @@
 use Rattle.std.proofs.Common.{arith}
-use Rattle.std.proofs.lemmas.Result.{IfOk-weaker}
-use Rattle.cutset_lists.specs.Sets.{IsReducedFrom}
-use Rattle.cutset_lists.specs.Generation.{AddsSome}
+use Rattle.std.proofs.lemmas.Result.{on_ok_weaker}
 use Rattle.cutset_lists.proofs.GateLemmas.{AddsSome-step, AddsSome-reduced}
 use Rattle.cutset_lists.proofs.gate.some_of.Goals as goal
 
@@ -9,12 +7,9 @@ pub loop-node-preserved : goal.loop-node-preserved
 loop-node-preserved c =
     AddsSome-step c.args.lists.now c.args.nodes.now c.loop-node.node-index c.node-item.result c.index.result
     c.index-lists-index.result (omega arith) c.node-item.is c.requires c.index.ensures c.index-lists-index.is
-    c.args.sets c.loop-node.sets c.append.new.self c.in_ok-append.ensures.ok c.loop-node.invariant
+    c.args.sets.now c.loop-node.sets c.append.new.self c.in_ok-append.ensures.ok c.loop-node.invariant
 
 pub returns : goal.returns
 returns c =
-    IfOk-weaker c.reduced.result (IsReducedFrom c.loop-node.sets)
-    (AddsSome c.args.lists.now c.args.nodes.now c.args.sets)
-    (λ made less. AddsSome-reduced c.args.lists.now c.args.nodes.now c.args.sets c.loop-node.sets made
-    c.loop-node.node-index (omega arith) less c.loop-node.invariant)
-    c.reduced.ensures
+    on_ok_weaker c.reduce.result (λ less. AddsSome-reduced c.args.lists.now c.args.nodes.now c.args.sets.now
+    c.loop-node.sets c.reduce.new.sets c.loop-node.node-index (omega arith) less c.loop-node.invariant) c.reduce.ensures

@@ -1,23 +1,22 @@
-use Rattle.std.proofs.Common.{arith, [], sym, subst, map, List, ℕ}
-use Rattle.std.proofs.lemmas.List.{take_all, length-map}
+use Rattle.std.proofs.Common.{map, subst, sym, ◌∙◌}
 use Rattle.cutset_lists.specs.Cuts.{units_of}
 use Rattle.cutset_lists.specs.Sets.{IsMinimalFrom}
-use Rattle.cutset_lists.proofs.MinimalLemmas.{IsMinimalFrom-none}
-use Rattle.cutset_lists.proofs.WaitingLemmas.{sifts_one}
+use Rattle.cutset_lists.proofs.MinimalLemmas.{IsMinimalFrom-none, keeps_out-step, keeps-step}
+use Rattle.cutset_lists.proofs.minimal.few.Goals.{then-not-has_smaller_within+in_ok-push, else-not-has_smaller_within}
 use Rattle.cutset_lists.proofs.minimal.few.Goals as goal
 
 pub loop-cut-init : goal.loop-cut-init
-loop-cut-init c =
-    subst (IsMinimalFrom []) (sym c.no_sets-kept.ensures) (IsMinimalFrom-none (map units_of c.args.cuts.now))
+loop-cut-init c = subst (IsMinimalFrom _) (sym c.requires.none) (IsMinimalFrom-none (map units_of c.args.cuts.now))
 
 pub loop-cut-preserved : goal.loop-cut-preserved
 loop-cut-preserved c =
-    sifts_one units_of c.args.cuts.now c.loop-cut.kept c.keep_unless.new.kept c.cut-item.result c.loop-cut.cut-index
-    c.has_smaller_within-found.result c.loop-cut-test.true c.cut-item.is c.requires c.loop-cut.invariant
-    c.has_smaller_within-found.ensures c.in_ok-keep_unless.ensures
-
-pub returns : goal.returns
-returns c =
-    subst (λ (l : List (List ℕ)). IsMinimalFrom l c.loop-cut.kept)
-    (take_all c.loop-cut.cut-index (map units_of c.args.cuts.now)
-    (omega (arith, length-map c.args.cuts.now units_of))) c.loop-cut.invariant
+    elim c.if-not-has_smaller_within.branch [
+      | then-not-has_smaller_within+in_ok-push w ↦
+          keeps-step units_of c.args.cuts.now c.loop-cut.kept c.if-not-has_smaller_within.kept c.cut-item.result
+          c.loop-cut.cut-index c.loop-cut-test.true c.cut-item.is c.requires.order c.loop-cut.invariant
+          (sym w.if-not-has_smaller_within.ensures) (w.kept-is ∙ w.in_ok-push.ensures.ok)
+      | else-not-has_smaller_within w ↦
+          keeps_out-step units_of c.args.cuts.now c.loop-cut.kept c.if-not-has_smaller_within.kept c.cut-item.result
+          c.loop-cut.cut-index c.loop-cut-test.true c.cut-item.is c.requires.order c.loop-cut.invariant
+          (sym w.if-not-has_smaller_within.ensures) w.kept-is
+    ]

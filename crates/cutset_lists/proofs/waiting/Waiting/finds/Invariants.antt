@@ -1,5 +1,0 @@
-use Rattle.cutset_lists.proofs.WaitingLemmas.{NoneAt}
-use Rattle.cutset_lists.proofs.waiting.Waiting.finds.Given as goal
-
-abbrev pub invariant-loop-unit : goal.invariant-loop-unit
-invariant-loop-unit l = NoneAt l.sets l.self.at.items l.marked l.size l.set l.unit-index
