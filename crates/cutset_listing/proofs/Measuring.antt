@@ -1,15 +1,14 @@
 -- The size of a branch, and the sizes that are found on the way to it.
 use Rattle.std.proofs.Common.{◌≡◌, ◌≢◌, ℕ, ◌+◌, ◌*◌, ◌<◌, ◌≤◌, List, [], ◌∷◌, ◌++◌, length, refl, sym, ◌∙◌}
 use Rattle.std.proofs.Common.{ap, subst}
-use Rattle.std.proofs.Common.{inl, inr, arith, length-append}
-use Rattle.std.specs.Prelude.{nat_eq, Some, IfSome, Result, Ok, Err, IfOk, OnOk}
-use Rattle.std.proofs.lemmas.Bool.{cases_Bool, cond-true, cond-false, eqb-true}
+use Rattle.std.proofs.Common.{arith, length-append}
+use Rattle.std.specs.Prelude.{Result, Ok, Err, IfOk, OnOk}
 use Rattle.unit_sets.specs.CutOrder.{weight, weight_limit}
 use Rattle.unit_sets.specs.declared.refusal.ListEnd.{ListEnd}
 use Rattle.zdd_families.specs.Family.{branch, each_with}
 use Rattle.zdd_families.specs.Map.{family}
 use Rattle.zdd_families.proofs.MapLemmas.{family-empty, family-unit}
-use Rattle.cutset_listing.specs.FamilySizes.{AreSizes, IsSizeOf, size_at, with_size}
+use Rattle.cutset_listing.specs.FamilySizes.{IsSizeOf}
 use Rattle.cutset_listing.specs.declared.measure.FamilySize.{FamilySize}
 use Rattle.cutset_listing.proofs.Behind.{parts_weigh_less, weight-append, weight-cons}
 
@@ -56,21 +55,6 @@ light_count (set ∷ f) = let rest = light_count f in let e = weight-cons set f 
 
 -- ---- the sizes that were found
 
-pub none_found : (known : ℕ → ℕ) → AreSizes known []
-none_found known r = tt
-
-pub one_more_found : (known : ℕ → ℕ) (old new : List (ℕ × FamilySize)) (r : ℕ) (size : FamilySize)
-    → AreSizes known old → IsSizeOf (family known r) size → ((q : ℕ) → size_at new q ≡ with_size r size old q)
-    → AreSizes known new
-one_more_found known old new r size are is put q =
-    subst (λ s. IfSome s (IsSizeOf (family known q))) (sym (put q)) (elim (cases_Bool (nat_eq r q)) [
-      | inl same ↦ subst (λ s. IfSome s (IsSizeOf (family known q)))
-          (sym (cond-true (nat_eq r q) (Some size) (size_at old q) same))
-          (subst (λ n. IsSizeOf (family known n) size) (eqb-true r q same) is)
-      | inr other ↦ subst (λ s. IfSome s (IsSizeOf (family known q)))
-          (sym (cond-false (nat_eq r q) (Some size) (size_at old q) other)) (are q)
-    ])
-
 -- ---- a node and its parts
 
 pub empty_size : (known : ℕ → ℕ) (r : ℕ) → r ≡ 0 → IsSizeOf (family known r) (record { sets = 0; weight = 0 })
@@ -104,9 +88,6 @@ module _ (known : ℕ → ℕ) (r x lo hi : ℕ) (parts : IsParted known r x lo 
 
   pub hi_less : 2 * weight (family known hi) + 1 < 2 * weight (family known r)
   hi_less = let less = both_less in omega (arith, less)
-
-  pub lo_heavy : weight_limit < weight (family known lo) → weight_limit < weight (family known r)
-  lo_heavy heavy = let less = both_less in omega (arith, less, heavy)
 
   pub hi_heavy : weight_limit < weight (family known hi) → weight_limit < weight (family known r)
   hi_heavy heavy = let less = both_less in omega (arith, less, heavy)

@@ -15,7 +15,7 @@ use Rattle.cutset_listing.specs.declared.walk.Pending.{Pending}
 use Rattle.cutset_listing.specs.declared.walk.Walk.{Walk}
 use Rattle.cutset_listing.specs.BySize.{of_size, at_size}
 use Rattle.cutset_listing.specs.Visits.{behind, still, IsPending, Nested, IsOn, Keeps, Stands, visits_left}
-use Rattle.cutset_listing.specs.Visits.{ahead, with_later, WalksOn, IsTooHeavy}
+use Rattle.cutset_listing.specs.Visits.{ahead, Descends, with_later, WalksOn, IsTooHeavy}
 use Rattle.cutset_listing.proofs.Behind.{behind-nothing, of_size-branch, weight-append, weight-cons}
 use Rattle.cutset_listing.proofs.Behind.{weight-branch, parts_weigh_less}
 
@@ -98,14 +98,6 @@ starts known root path nodes found weighs knows e f g h =
       by_size = λ size. ap (of_size size) (behind-nothing (family known root));
       weight = let same = ap weight (behind-nothing (family known root)) in omega (arith, same);
     })
-
--- where no node is left, all was found
-pub ends : (known : ℕ → ℕ) (sets : List (List ℕ)) (path : List ℕ) (nodes : List Pending) (found : List (List (List ℕ)))
-    (weighs : ℕ) → IsOn known sets path nodes found weighs →
-    nodes ≡ [] → (size : ℕ) → at_size found size ≡ of_size size sets
-ends known sets path nodes found weighs on none size =
-    sym (append-nil (at_size found size)) ∙ ap (λ n. at_size found size ++ of_size size (still known path n)) (sym none)
-    ∙ on.by_size size
 
 module _ (known : ℕ → ℕ) (sets : List (List ℕ)) (path : List ℕ) (later : List Pending) (at : Pending)
     (found : List (List (List ℕ))) (weighs : ℕ) (on : IsOn known sets path (later ++ at ∷ []) found weighs) where
@@ -374,6 +366,22 @@ module _ (known : ℕ → ℕ) (old new : Walk) (node x lo hi : ℕ) (is : Opens
             let f = ap (visits_left known) e.0 in
             omega (arith, less, a, b, d, f)
       ]
+
+  pub opens_to : family known hi ≢ [] → Descends known old node new hi
+  opens_to filled = record {
+    on = opens_on;
+    weight = is.weight;
+    fewer = let less = opens_fewer filled in omega (arith, less);
+  }
+
+-- one step after another
+pub Descends-then : (known : ℕ → ℕ) (old mid new : Walk) (node next last : ℕ) → Descends known old node mid next
+    → Descends known mid next new last → Descends known old node new last
+Descends-then known old mid new node next last first second = record {
+  on = λ sets stands. second.on sets (first.on sets stands);
+  weight = second.weight ∙ first.weight;
+  fewer = let a = first.fewer in let b = second.fewer in omega (arith, a, b);
+}
 
 -- the empty set alone: the units of the path are a set
 pub keeps_on : (known : ℕ → ℕ) (sets : List (List ℕ)) (old new : Walk) (at : Pending) → Keeps old new

@@ -4,6 +4,7 @@ use Rattle.std.specs.Prelude.{if◌then◌else◌}
 use Rattle.std.specs.List.{AllByRecursion}
 use Rattle.unit_sets.specs.CutOrder.{weight, weight_limit}
 use Rattle.zdd_families.specs.Map.{Knows, family}
+use Rattle.zdd_shared_table.specs.Seats.{map_of, Seated, TableId}
 use Rattle.cutset_listing.specs.declared.walk.Pending.{Pending}
 use Rattle.cutset_listing.specs.declared.walk.Walk.{Walk}
 use Rattle.cutset_listing.specs.BySize.{of_size, at_size}
@@ -16,6 +17,11 @@ behind front sets = map (λ set. front ++ set) sets
 abbrev pub still : (ℕ → ℕ) → List ℕ → List Pending → List (List ℕ)
 still known path [] = []
 still known path (node ∷ later) = still known path later ++ behind (take node.before path) (family known node.node)
+
+-- the seat is one of the store, and knows the reference
+pub record CanRead (store : TableId) (seat : Seated) (r : ℕ) : Type 0 where
+  pub own : seat.store ≡ store
+  pub knows : Knows (map_of seat) r
 
 -- a pending node is known, and so many units of the path stand before it
 abbrev pub IsPending : (ℕ → ℕ) → List ℕ → Pending → Type 0
@@ -65,3 +71,13 @@ pub record Keeps (old new : Walk) : Type 0 where
 abbrev pub visits_left : (ℕ → ℕ) → List Pending → ℕ
 visits_left known [] = 0
 visits_left known (node ∷ later) = (1 + 2 * weight (family known node.node)) + visits_left known later
+
+-- the same with a node at the end of a walk's path
+abbrev pub visits_ahead : (ℕ → ℕ) → Walk → ℕ → ℕ
+visits_ahead known walk node = visits_left known (walk.pending.items ++ ahead walk node ∷ [])
+
+-- a walk goes on from a node at the end of its path to another: nothing is found yet, and no more visits are left
+pub record Descends (known : ℕ → ℕ) (old : Walk) (node : ℕ) (new : Walk) (next : ℕ) : Type 0 where
+  pub on : WalksOn known old (old.pending.items ++ ahead old node ∷ []) new (new.pending.items ++ ahead new next ∷ [])
+  pub weight : new.weight ≡ old.weight
+  pub fewer : visits_ahead known new next ≤ visits_ahead known old node

@@ -41,8 +41,7 @@ impl Found {
     {
         let size = set.len();
         self.make_room(alloc, size)?;
-        self.lists[size].push(set)?;
-        Ok(())
+        self.lists[size].push(set)
     }
 
     // Lists up to this size.

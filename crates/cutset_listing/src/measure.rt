@@ -4,6 +4,7 @@ ghost use Rattle.unit_sets.specs.CutOrder.{weight, weight_limit};
 ghost use Rattle.zdd_families.specs.Map.{Knows, family};
 ghost use Rattle.zdd_shared_table.specs.Seats.{map_of};
 ghost use Rattle.cutset_listing.specs.FamilySizes.{AreSizes, IsSizeOf, size_at, with_size};
+ghost use Rattle.cutset_listing.specs.Visits.{CanRead};
 
 use indexmap::IndexMap;
 use std::alloc::Global;
@@ -72,8 +73,7 @@ impl Sizes {
         seat: &mut StoreSeat,
         r: NodeRef,
     ) -> Result<FamilySize, ListEnd>
-        requires own { seat.old.store ≡ store.now }
-        requires knows { Knows (map_of seat.old) r }
+        requires node { CanRead store.now seat.old r }
         requires found { AreSizes (map_of seat.old) self.old }
         ensures found { OnOk result (AreSizes (map_of seat.old) self.new) }
         ensures size { IfOk result (IsSizeOf (family (map_of seat.old) r)) }
@@ -102,8 +102,7 @@ impl Sizes {
         seat: &mut StoreSeat,
         r: NodeRef,
     ) -> Result<FamilySize, ListEnd>
-        requires own { seat.old.store ≡ store.now }
-        requires knows { Knows (map_of seat.old) r }
+        requires node { CanRead store.now seat.old r }
         requires inner { 2 ≤ r }
         requires found { AreSizes (map_of seat.old) self.old }
         ensures found { OnOk result (AreSizes (map_of seat.old) self.new) }

@@ -6,7 +6,8 @@ ghost use Rattle.unit_sets.specs.CutOrder.{weight, weight_limit};
 ghost use Rattle.zdd_families.specs.Map.{Knows, family};
 ghost use Rattle.zdd_shared_table.specs.Seats.{map_of};
 ghost use Rattle.cutset_listing.specs.BySize.{of_size, at_size};
-ghost use Rattle.cutset_listing.specs.Visits.{IsPending, Keeps, WalksOn, IsTooHeavy, ahead, visits_left, with_later};
+ghost use Rattle.cutset_listing.specs.Visits.{CanRead, Descends, IsPending, IsTooHeavy, Keeps, visits_ahead};
+ghost use Rattle.cutset_listing.specs.Visits.{visits_left, WalksOn, with_later};
 
 use crate::found::Found;
 use std::alloc::Global;
@@ -41,8 +42,7 @@ pub(crate) fn find(
     seat: &mut StoreSeat,
     root: NodeRef,
 ) -> Result<Found, ListEnd>
-    requires own { seat.old.store ≡ store.now }
-    requires knows { Knows (map_of seat.old) root }
+    requires { CanRead store.now seat.old root }
     ensures sets { IfOk result (λ found. (size : ℕ)
         → at_size found size ≡ of_size size (family (map_of seat.old) root)) }
     ensures within { OnOk result (weight (family (map_of seat.old) root) ≤ weight_limit) }
@@ -119,8 +119,7 @@ impl Walk {
         seat: &mut StoreSeat,
         at: Pending,
     ) -> Result<(), ListEnd>
-        requires own { seat.old.store ≡ store.now }
-        requires knows { Knows (map_of seat.old) at.node }
+        requires node { CanRead store.now seat.old at.node }
         requires light { self.old.weight ≤ weight_limit }
         requires at_end { length self.old.path.items ≡ at.before }
         ensures on { OnOk result (WalksOn (map_of seat.old) self.old (self.old.pending.items ++ at ∷ []) self.new
@@ -146,15 +145,9 @@ impl Walk {
         seat: &mut StoreSeat,
         node: NodeRef,
     ) -> Result<(), NoMemory>
-        requires own { seat.old.store ≡ store.now }
-        requires knows { Knows (map_of seat.old) node }
+        requires node { CanRead store.now seat.old node }
         requires filled { node ≢ 0 }
-        ensures on { OnOk result (WalksOn (map_of seat.old) self.old
-            (self.old.pending.items ++ ahead self.old node ∷ []) self.new
-            (self.new.pending.items ++ ahead self.new 1 ∷ [])) }
-        ensures fewer { OnOk result (visits_left (map_of seat.old) (self.new.pending.items ++ ahead self.new 1 ∷ [])
-            ≤ visits_left (map_of seat.old) (self.old.pending.items ++ ahead self.old node ∷ [])) }
-        ensures weight { OnOk result (self.new.weight ≡ self.old.weight) }
+        ensures on { OnOk result (Descends (map_of seat.old) self.old node self.new 1) }
         ensures seat { seat.new ≡ seat.old }
     {
         let mut at = node;
@@ -171,18 +164,13 @@ impl Walk {
         seat: &mut StoreSeat,
         node: NodeRef,
     ) -> Result<NodeRef, NoMemory>
-        requires own { seat.old.store ≡ store.now }
-        requires knows { Knows (map_of seat.old) node }
+        requires node { CanRead store.now seat.old node }
         requires inner { 2 ≤ node }
-        ensures on { IfOk result (λ hi. WalksOn (map_of seat.old) self.old
-            (self.old.pending.items ++ ahead self.old node ∷ []) self.new
-            (self.new.pending.items ++ ahead self.new hi ∷ [])) }
-        ensures fewer { IfOk result (λ hi. visits_left (map_of seat.old)
-            (self.new.pending.items ++ ahead self.new hi ∷ [])
-            < visits_left (map_of seat.old) (self.old.pending.items ++ ahead self.old node ∷ [])) }
+        ensures on { IfOk result (Descends (map_of seat.old) self.old node self.new) }
+        ensures fewer { IfOk result (λ hi. visits_ahead (map_of seat.old) self.new hi
+            < visits_ahead (map_of seat.old) self.old node) }
         ensures knows { IfOk result (Knows (map_of seat.old)) }
         ensures filled { IfOk result (λ hi. hi ≢ 0) }
-        ensures weight { OnOk result (self.new.weight ≡ self.old.weight) }
         ensures seat { seat.new ≡ seat.old }
     {
         let parts = store.parts(seat, node);

@@ -38,7 +38,10 @@ pub of_parts-of-requires : goal.of_parts-of-requires
 of_parts-of-requires t c =
     let seat = c.parts-parts.ensures.seat in
     let less = lo_less _ _ _ _ _ (parted t (goal.at.of_parts-of-requires t c).After-parts-parts) in
-    rw seat (omega (arith, less), (c.requires.own, (rw seat at c.parts-parts.ensures.lo.0, c.requires.found)))
+    rw seat (
+      omega (arith, less),
+      (record { own = c.requires.node.own; knows = rw seat at c.parts-parts.ensures.lo.0 }, c.requires.found),
+    )
 
 pub of_parts-of-requires-2 : goal.of_parts-of-requires-2
 of_parts-of-requires-2 t c =
@@ -48,11 +51,8 @@ of_parts-of-requires-2 t c =
     rw same (
       omega (arith, less),
       (
-        c.requires.own,
-        (
-          rw seat at c.parts-parts.ensures.hi.0,
-          rw seat at c.in_ok-lo.ensures.found,
-        ),
+        record { own = c.requires.node.own; knows = rw seat at c.parts-parts.ensures.hi.0 },
+        rw seat at c.in_ok-lo.ensures.found,
       ),
     )
 

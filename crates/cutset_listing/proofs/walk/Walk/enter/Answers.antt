@@ -16,16 +16,16 @@ returns-then-eq-clause-fewer c = fewer_left _ _ c.args.at
 pub returns-clause-on : goal.returns-clause-on
 returns-clause-on c =
     on_ok_weaker c.keep.result
-    (λ kept. finds_on _ c.args.self.now c.descend.new.self c.args.at c.requires.at_end c.in_ok-descend.ensures.on
+    (λ kept. finds_on _ c.args.self.now c.descend.new.self c.args.at c.requires.at_end c.in_ok-descend.ensures.on.on
     c.keep.new.self kept) c.keep.ensures.kept
 
 pub returns-clause-fewer : goal.returns-clause-fewer
 returns-clause-fewer c =
     on_ok_weaker c.keep.result
-    (λ kept. finds_fewer _ c.args.self.now c.descend.new.self c.args.at c.requires.at_end c.in_ok-descend.ensures.on
-    c.keep.new.self c.in_ok-descend.ensures.fewer kept) c.keep.ensures.kept
+    (λ kept. finds_fewer _ c.args.self.now c.descend.new.self c.args.at c.requires.at_end c.in_ok-descend.ensures.on.on
+    c.keep.new.self c.in_ok-descend.ensures.on.fewer kept) c.keep.ensures.kept
 
 pub returns-clause-limit : goal.returns-clause-limit
 returns-clause-limit c = λ refused.
-    finds_heavy _ c.args.self.now c.descend.new.self c.args.at c.requires.at_end c.in_ok-descend.ensures.on
+    finds_heavy _ c.args.self.now c.descend.new.self c.args.at c.requires.at_end c.in_ok-descend.ensures.on.on
     (c.keep.ensures.limit refused)

@@ -3,7 +3,7 @@ use Rattle.zdd_families.proofs.Canonical.{family-filled}
 use Rattle.zdd_shared_table.specs.Seats.{map_of}
 use Rattle.cutset_listing.specs.declared.walk.Walk.{Walk}
 use Rattle.cutset_listing.specs.Visits.{with_later}
-use Rattle.cutset_listing.proofs.Walks.{Opens, opens_on, opens_fewer}
+use Rattle.cutset_listing.proofs.Walks.{Opens, opens_fewer, opens_to}
 use Rattle.cutset_listing.proofs.walk.Walk.open.Goals.{In_ok-push}
 use Rattle.cutset_listing.proofs.walk.Walk.open.Goals as goal
 
@@ -32,7 +32,11 @@ opened c =
     }
 
 pub returns-clause-on : goal.returns-clause-on
-returns-clause-on c = λ sets on. opens_on _ c.args.self.now (new_walk c) c.args.node _ _ _ (opened c) sets on
+returns-clause-on c =
+    let seat = c.parts-parts.ensures.seat in
+    opens_to _ c.args.self.now (new_walk c) c.args.node _ _ _ (opened c)
+    (family-filled _ c.parts-parts.result.hi (rw seat at c.parts-parts.ensures.sound.closed)
+    (rw seat at c.parts-parts.ensures.hi.0) c.parts-parts.ensures.filled)
 
 pub returns-clause-fewer : goal.returns-clause-fewer
 returns-clause-fewer c =
