@@ -1,6 +1,6 @@
 -- Sets that are dealt to workers, and gathered again.
 use Rattle.std.proofs.Common.{◌≡◌, ℕ, zero, suc, ◌+◌, ◌-◌, ◌*◌, ◌/◌, ◌%◌, ◌<◌, ◌≤◌, List, [], ◌∷◌, ◌++◌, length, get_or}
-use Rattle.std.proofs.Common.{take, drop, true, All, Option, None, is_some, replicate, refl, ap, sym, subst, ◌∙◌}
+use Rattle.std.proofs.Common.{take, drop, All, Option, None, replicate, refl, ap, sym, subst, ◌∙◌}
 use Rattle.std.proofs.Common.{arith, add-one}
 use Rattle.std.proofs.Math.Nat.{div-add-mod, mod-lt}
 use Rattle.std.specs.List.{sum_by}
@@ -76,11 +76,6 @@ dealt-none zero others (list ∷ lists) none =
     )
 dealt-none (suc waits) others (list ∷ lists) none =
     dealt-none waits others lists (λ k d short. none (suc k) d (omega arith))
-
-pub listed-within : (share : Share) (k : ℕ) → is_some (get_or share k None) ≡ true → k < length share
-listed-within [] k is = absurd cc
-listed-within (list ∷ share) zero is = omega arith
-listed-within (list ∷ share) (suc k) is = omega (arith, listed-within share k is)
 
 -- ---- all sets together
 
@@ -176,11 +171,3 @@ share_at lists sets shares i workers share are view all here =
     (subst (λ n. share ≡ get_or shares (i % n) share) all here) [] in
     ap (λ (s : Share). get_or s (i / workers) None) at
     ∙ ap (λ n. get_or (get_or shares (i % length shares) []) (i / n) None) all ∙ list_in-is lists shares whole i
-
--- a set that is listed stands in its share
-pub share_has : (lists : Share) (sets : ℕ) (shares : List Share) (i workers : ℕ) (share : Share)
-    → AreShares (gathered sets shares) shares → gathered sets shares ≡ lists → workers ≡ length shares
-    → share ≡ get_or shares (i % workers) share → is_some (get_or lists i None) ≡ true → i / workers < length share
-share_has lists sets shares i workers share are view all here listed =
-    listed-within share (i / workers) (ap (λ (o : Option (List (List ℕ))). is_some o)
-    (share_at lists sets shares i workers share are view all here) ∙ listed)

@@ -1,11 +1,12 @@
 -- The search goes through all failing orders of a set.
-use Rattle.std.proofs.Common.{◌≡◌, ℕ, zero, suc, ◌+◌, ◌<◌, ◌≤◌, Bool, true, false, ◌&&◌, ◌||◌, ◌==◌, List, [], ◌∷◌}
+use Rattle.std.proofs.Common.{◌≡◌, ℕ, zero, suc, ◌+◌, ◌-◌, ◌<◌, ◌≤◌, Bool, true, false, ◌&&◌, ◌||◌, ◌==◌, List, [], ◌∷◌}
 use Rattle.std.proofs.Common.{◌++◌, length, get_or, take, drop, map, filter, remove, All, is_some, refl, ap, sym, subst}
 use Rattle.std.proofs.Common.{inl, inr, ◌∙◌, arith, append-nil, append_assoc, length-append, eq-eqb, if◌then◌else◌}
 use Rattle.std.specs.List.{flat_map, AllByRecursion}
 use Rattle.std.specs.List.Sorted.{IsStrictlySortedBy}
 use Rattle.std.specs.Ordering.{nat_cmp}
 use Rattle.std.specs.declared.cmp.Ordering.TheVariants.{Less}
+use Rattle.std.proofs.Math.Seq.{take-append_seam}
 use Rattle.std.proofs.lemmas.Bool.{or_cases, or_left, or_right, false_from_ne_true, both_ways}
 use Rattle.std.proofs.lemmas.Bool.Decides.{nat_tests}
 use Rattle.std.proofs.lemmas.List.{map-append, map-id, get_or-map, length-map, take_more, take_all}
@@ -18,13 +19,15 @@ use Rattle.fault_definitions.specs.Tree.{FaultTree, IsUnitOf}
 use Rattle.fault_definitions.specs.WellFormed.{IsTree}
 use Rattle.fault_definitions.specs.FailingOrder.{is_admissible, is_failing}
 use Rattle.fault_definitions.specs.Step.{step}
+use Rattle.replay_semantics.specs.Replayed.{Replayed}
 use Rattle.replay_semantics.proofs.Places.{among-append}
 use Rattle.replay_semantics.proofs.AdmissionLaws.{admissible_before}
 use Rattle.cut_sequences.specs.declared.refusal.OrderEnd.{OrderEnd}
-use Rattle.cut_sequences.specs.Orders.{failing_orders, IsOver}
+use Rattle.cut_sequences.specs.declared.search.Search.{Search}
+use Rattle.cut_sequences.specs.Orders.{failing_orders, order_limit, IsOver}
 use Rattle.cut_sequences.proofs.ListLemmas.{IsOver-more}
 use Rattle.cut_sequences.specs.Permutations.{picks, arrangements, permutations}
-use Rattle.cut_sequences.specs.Going.{CanGoOn, failing_from, failing_after}
+use Rattle.cut_sequences.specs.Going.{CanGoOn, failing_from, failing_after, CanSearch, IsBack, due}
 
 -- ---- the member of a place, and the others
 
@@ -110,10 +113,6 @@ gone (first ∷ units) (suc i) rising short =
     other false h less rest = ap (λ b. b || among (remove units i) (get_or units i 0)) h ∙ rest
 
 -- ---- one unit more
-
-pub unit_at : (tree : FaultTree) (order left : List ℕ) (i : ℕ) → CanGoOn tree order left → i < length left
-    → IsUnitOf tree (get_or left i 0)
-unit_at tree order left i can short = All-get_or (IsUnitOf tree) left i 0 short can.units
 
 pub fresh_at : (tree : FaultTree) (order left : List ℕ) (i : ℕ) → CanGoOn tree order left → i < length left
     → among order (get_or left i 0) ≡ false
@@ -269,40 +268,110 @@ failing_below-le tree order left i short =
       ap length (failing_from-next tree order left (omega arith)),
     )
 
--- the search went through the unit of one place more
-pub through_more : (tree tree' : FaultTree) (order order' left left' : List ℕ) (i : ℕ)
-    (before now after : List (List ℕ)) → tree' ≡ tree → order' ≡ order → left' ≡ left → i < length left
-    → now ≡ before ++ failing_below tree order left i → after ≡ now ++ failing_after tree' order' left' i
-    → after ≡ before ++ failing_below tree order left (i + 1)
-through_more tree tree' order order' left left' i before now after same_tree same_order same_left short so_far more =
-    let one : failing_after tree' order' left' i ≡ failing_after tree order left i =
-    ap (λ (t : FaultTree). failing_after t order' left' i) same_tree
-    ∙ ap (λ (o : List ℕ). failing_after tree o left' i) same_order
-    ∙ ap (λ (l : List ℕ). failing_after tree order l i) same_left in
-    more ∙ ap (λ (l : List (List ℕ)). l ++ failing_after tree' order' left' i) so_far
-    ∙ ap (λ (l : List (List ℕ)). (before ++ failing_below tree order left i) ++ l) one
-    ∙ append_assoc before (failing_below tree order left i) (failing_after tree order left i)
-    ∙ ap (λ (l : List (List ℕ)). before ++ l) (sym (failing_below-more tree order left i short))
+-- ---- the search itself, one place after another
 
-pub through_over : (tree tree' : FaultTree) (order order' left left' : List ℕ) (i : ℕ) (before now : List (List ℕ))
-    (end : OrderEnd) → tree' ≡ tree → order' ≡ order → left' ≡ left → i < length left
-    → now ≡ before ++ failing_below tree order left i
-    → IsOver (length now + length (failing_after tree' order' left' i)) end
-    → IsOver (length before + length (failing_from tree order left)) end
-through_over tree tree' order order' left left' i before now end same_tree same_order same_left short so_far over =
-    let one : failing_after tree' order' left' i ≡ failing_after tree order left i =
-    ap (λ (t : FaultTree). failing_after t order' left' i) same_tree
-    ∙ ap (λ (o : List ℕ). failing_after tree o left' i) same_order
-    ∙ ap (λ (l : List ℕ). failing_after tree order l i) same_left in
-    let so_long : length now ≡ length before + length (failing_below tree order left i) =
-    ap length so_far ∙ length-append before (failing_below tree order left i) in
-    IsOver-more (length now + length (failing_after tree' order' left' i))
-    (length before + length (failing_from tree order left)) end
-    (omega (arith, so_long, ap length one, failing_below-le tree order left i short)) over
+-- the failing orders where the unit of a place fails next, and those of all places before it
+abbrev pub due_at : Search → ℕ → List (List ℕ)
+due_at search i = failing_after search.replay.tree search.replay.order search.left.items i
 
-pub through_all : (tree : FaultTree) (order left : List ℕ) (i : ℕ) (before now : List (List ℕ)) → 0 < length left
-    → i ≡ length left
-    → now ≡ before ++ failing_below tree order left i → now ≡ before ++ failing_from tree order left
-through_all tree order left i before now some all so_far =
-    so_far ∙ ap (λ n. before ++ failing_below tree order left n) all
-    ∙ ap (λ (l : List (List ℕ)). before ++ l) (failing_below-all tree order left some)
+abbrev pub due_below : Search → ℕ → List (List ℕ)
+due_below search i = failing_below search.replay.tree search.replay.order search.left.items i
+
+-- the search went through the units of so many places
+pub record HasGone (before now : Search) (i : ℕ) : Type 0 where
+  pub back : IsBack before now before.left.items
+  pub few : length now.orders ≤ order_limit
+  pub listed : now.orders ≡ before.orders ++ due_below before i
+
+pub gone_nowhere : (search : Search) → CanSearch search search.left.items → HasGone search search 0
+gone_nowhere search can = record {
+  back = record { replay = refl; left = refl };
+  few = can.few;
+  listed = sym (append-nil search.orders);
+}
+
+pub gone_all : (before now : Search) (i : ℕ) → HasGone before now i → 0 < length before.left.items
+    → i ≡ length before.left.items → now.orders ≡ before.orders ++ due before before.left.items
+gone_all before now i gone some all =
+    gone.listed ∙ ap (λ n. before.orders ++ due_below before n) all
+    ∙ ap (λ (l : List (List ℕ)). before.orders ++ l)
+    (failing_below-all before.replay.tree before.replay.order before.left.items some)
+
+module _ (before now : Search) (i : ℕ) (gone : HasGone before now i) (short : i < length before.left.items) where
+  same_due : due_at now i ≡ due_at before i
+  same_due =
+      ap (λ (r : Replayed). failing_after r.tree r.order now.left.items i) gone.back.replay
+      ∙ ap (λ (l : List ℕ). failing_after before.replay.tree before.replay.order l i) gone.back.left
+
+  pub can_still : CanSearch before before.left.items → CanSearch now now.left.items
+  can_still can = record {
+    units =
+        subst (λ (r : Replayed). CanGoOn r.tree r.order now.left.items) (sym gone.back.replay)
+        (subst (CanGoOn before.replay.tree before.replay.order) (sym gone.back.left) can.units);
+    few = gone.few;
+  }
+
+  pub gone_more : (after : Search) → IsBack now after now.left.items → after.orders ≡ now.orders ++ due_at now i
+      → length after.orders ≤ order_limit → HasGone before after (i + 1)
+  gone_more after back more few = record {
+    back = record { replay = back.replay ∙ gone.back.replay; left = back.left ∙ gone.back.left };
+    few = few;
+    listed =
+        more ∙ ap (λ (l : List (List ℕ)). l ++ due_at now i) gone.listed
+        ∙ ap (λ (l : List (List ℕ)). (before.orders ++ due_below before i) ++ l) same_due
+        ∙ append_assoc before.orders (due_below before i) (due_at before i)
+        ∙ ap (λ (l : List (List ℕ)). before.orders ++ l)
+        (sym (failing_below-more before.replay.tree before.replay.order before.left.items i short));
+  }
+
+  pub gone_over : (end : OrderEnd) → IsOver (length now.orders + length (due_at now i)) end
+      → IsOver (length before.orders + length (due before before.left.items)) end
+  gone_over end over =
+      IsOver-more (length now.orders + length (due_at now i))
+      (length before.orders + length (due before before.left.items)) end (omega (
+        arith,
+        ap length gone.listed,
+        length-append before.orders (due_below before i),
+        ap length same_due,
+        failing_below-le before.replay.tree before.replay.order before.left.items i short,
+      )) over
+
+-- ---- the unit of a place fails, and is taken back
+
+module _ (search : Search) (i unit : ℕ) (can : CanSearch search search.left.items)
+    (short : i < length search.left.items) (is : unit ≡ get_or search.left.items i 0) where
+  pub is_unit : IsUnitOf search.replay.tree unit
+  is_unit =
+      subst (IsUnitOf search.replay.tree) (sym is) (All-get_or (IsUnitOf search.replay.tree) search.left.items i 0 short
+      can.units.units)
+
+  pub is_fresh : among search.replay.order unit ≡ false
+  is_fresh =
+      subst (λ (u : ℕ). among search.replay.order u ≡ false) (sym is)
+      (fresh_at search.replay.tree search.replay.order search.left.items i can.units short)
+
+  module _ (next : Search) (tree : next.replay.tree ≡ search.replay.tree)
+      (order : next.replay.order ≡ search.replay.order ++ unit ∷ [])
+      (left : next.left.items ≡ remove search.left.items i) where
+    pub can_next : length next.orders ≤ order_limit → CanSearch next next.left.items
+    can_next few = record {
+      units =
+          rw (tree, order, left, is) (can_go_on_after search.replay.tree search.replay.order search.left.items i
+          can.units short);
+      few = few;
+    }
+
+    pub due_next : due next next.left.items ≡ due_at search i
+    due_next = rw (tree, order, left, is) refl
+
+pub taken_back : (before pushed after : Replayed) (unit : ℕ) → pushed.tree ≡ before.tree
+    → pushed.order ≡ before.order ++ unit ∷ [] → after.tree ≡ pushed.tree
+    → after.order ≡ take (length pushed.order - 1) pushed.order → after ≡ before
+taken_back before pushed after unit tree order tree' order' =
+    ap (λ (t : FaultTree). record { tree = t; order = after.order }) (tree' ∙ tree)
+    ∙ ap (λ (o : List ℕ). record { tree = before.tree; order = o }) (order'
+    ∙ ap (λ (o : List ℕ). take (length o - 1) o) order ∙ ap (λ n. take n (before.order ++ unit ∷ [])) one_less
+    ∙ take-append_seam before.order (unit ∷ []))
+  where
+    one_less : length (before.order ++ unit ∷ []) - 1 ≡ length before.order
+    one_less = omega (arith, length-append before.order (unit ∷ []))

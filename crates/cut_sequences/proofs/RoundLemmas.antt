@@ -12,13 +12,16 @@ use Rattle.std.proofs.lemmas.List.Sums.{sum_by_more}
 use Rattle.deck_limits.specs.declared.TheConstants.{MOST_WORKERS}
 use Rattle.cut_sequences.specs.declared.refusal.OrderEnd.{OrderEnd}
 use Rattle.cut_sequences.specs.declared.refusal.OrderEnd.TheVariants.{OrderLimit}
+use Rattle.cut_sequences.specs.declared.share.Sets.{Sets}
 use Rattle.cut_sequences.specs.declared.share.Work.{Work}
 use Rattle.cut_sequences.specs.declared.share.Stop.{Stop}
 use Rattle.cut_sequences.specs.Orders.{order_limit, order_total, IsOver}
 use Rattle.cut_sequences.specs.Dealing.{dealt, Share, AreShares}
-use Rattle.cut_sequences.specs.Working.{whole, HasStopped, WentOn, AreAtWork, orders_of_work}
+use Rattle.cut_sequences.specs.Working.{whole, lists_due, AreOfTree, HasStopped, WentOn, AreAtWork, HaveWorked}
+use Rattle.cut_sequences.specs.Working.{IsEndOfListed, orders_of_work}
 use Rattle.cut_sequences.proofs.DealLemmas.{dealt-le, dealt-drop, dealt-none, dealt_total, dealt_total-all}
 use Rattle.cut_sequences.proofs.ListLemmas.{IsOver-more, order_total-append}
+use Rattle.cut_sequences.proofs.ShareLemmas.{none_listed}
 
 no_work : Work
 no_work = record { share = []; next = 0 }
@@ -28,10 +31,10 @@ no_work = record { share = []; next = 0 }
 have_le : (lists : Share) (workers : ℕ) (work : Work) → orders_of_work work ≤ order_total (whole lists workers work)
 have_le lists workers work = omega (arith, order_total-append work.share (dealt 0 (workers - 1) (drop work.next lists)))
 
-works_total : (lists : Share) (works : List Work) → AreAtWork lists works → (n : ℕ) → n ≤ length works
-    → sum_by orders_of_work (take n works) ≤ dealt_total n (length works - 1) lists
-works_total lists works are zero short = omega arith
-works_total lists works are (suc n) short =
+works_total : (sets : Sets) (works : List Work) → AreAtWork sets works → (n : ℕ) → n ≤ length works
+    → sum_by orders_of_work (take n works) ≤ dealt_total n (length works - 1) (lists_due sets)
+works_total sets works are zero short = omega arith
+works_total sets works are (suc n) short =
     let below : n < length works = omega arith in
     let more : sum_by orders_of_work (take (suc n) works)
     ≡ sum_by orders_of_work (take n works) + orders_of_work (get_or works n no_work) =
@@ -40,45 +43,49 @@ works_total lists works are (suc n) short =
     omega (
       arith,
       more,
-      works_total lists works are n (omega arith),
-      have_le lists (length works) (get_or works n no_work),
+      works_total sets works are n (omega arith),
+      have_le (lists_due sets) (length works) (get_or works n no_work),
       ap order_total (are.each n no_work below),
     )
 
 -- the workers have no more orders together than all sets
-pub works_le : (lists : Share) (works : List Work) → AreAtWork lists works
-    → sum_by orders_of_work works ≤ order_total lists
-works_le lists works are =
+pub works_le : (sets : Sets) (works : List Work) → AreAtWork sets works
+    → sum_by orders_of_work works ≤ order_total (lists_due sets)
+works_le sets works are =
     let some : 0 < length works = are.some in
     let all : length works ≡ suc (length works - 1) = omega arith in
     omega (
       arith,
       ap (sum_by orders_of_work) (take_all (length works) works (omega arith)),
-      works_total lists works are (length works) (omega arith),
-      ap (λ n. dealt_total n (length works - 1) lists) all,
-      dealt_total-all (length works - 1) lists,
+      works_total sets works are (length works) (omega arith),
+      ap (λ n. dealt_total n (length works - 1) (lists_due sets)) all,
+      dealt_total-all (length works - 1) (lists_due sets),
     )
 
 -- ---- the answers of a round
 
-module _ (lists : Share) (stop : Stop) (works : List Work) (answers : List (Result Work OrderEnd))
-    (are : AreAtWork lists works) (many : length answers ≡ length works)
+module _ (sets : Sets) (stop : Stop) (works : List Work) (answers : List (Result Work OrderEnd))
+    (are : AreAtWork sets works) (many : length answers ≡ length works)
     (each : (worker : ℕ) (work : Work) (d : Result Work OrderEnd) → worker < length works
-    → WentOn lists (length works) stop (get_or works worker work) (get_or answers worker d)) where
+    → WentOn (lists_due sets) (length works) stop (get_or works worker work) (get_or answers worker d)) where
   -- a worker that has ended early had too many orders, if not too little memory
   abbrev ended : Result Work OrderEnd → Type 0
   ended (Ok work) = ⊤
-  ended (Err end) = IsOver (order_total lists) end
+  ended (Err end) = IsOver (order_total (lists_due sets)) end
 
   ended_by : (worker : ℕ) (answer : Result Work OrderEnd) → worker < length works
-      → WentOn lists (length works) stop (get_or works worker no_work) answer → ended answer
+      → WentOn (lists_due sets) (length works) stop (get_or works worker no_work) answer → ended answer
   ended_by worker (Ok work) within went = tt
   ended_by worker (Err end) within went =
-      IsOver-more (order_total (whole lists (length works) (get_or works worker no_work))) (order_total lists) end
-      (omega (arith, ap order_total (are.each worker no_work within), dealt-le worker (length works - 1) lists)) went
+      IsOver-more (order_total (whole (lists_due sets) (length works) (get_or works worker no_work)))
+      (order_total (lists_due sets)) end (omega (
+        arith,
+        ap order_total (are.each worker no_work within),
+        dealt-le worker (length works - 1) (lists_due sets),
+      )) went
 
   -- a worker that has too many orders shows that all sets have
-  pub round_over : Contains answers (Err OrderLimit) → order_limit < order_total lists
+  pub round_over : Contains answers (Err OrderLimit) → order_limit < order_total (lists_due sets)
   round_over has =
       All-contains ended answers (Err OrderLimit)
       (All-from_get_or ended answers (Ok no_work) (λ worker short.
@@ -86,33 +93,35 @@ module _ (lists : Share) (stop : Stop) (works : List Work) (answers : List (Resu
       ended_by worker (get_or answers worker (Ok no_work)) within (each worker no_work (Ok no_work) within))) has
 
   module _ (later : List Work) (oks : answers ≡ map Ok later) where
-    pub as_many : length later ≡ length works
+    as_many : length later ≡ length works
     as_many = sym (length-map later Ok) ∙ sym (ap length oks) ∙ many
 
-    pub went_at : (worker : ℕ) (d : Work) → worker < length works
-        → WentOn lists (length works) stop (get_or works worker d) (Ok (get_or later worker d))
+    went_at : (worker : ℕ) (d : Work) → worker < length works
+        → WentOn (lists_due sets) (length works) stop (get_or works worker d) (Ok (get_or later worker d))
     went_at worker d within =
         let short : worker < length later = omega (arith, as_many) in
         let ok : get_or answers worker (Ok d) ≡ Ok (get_or later worker d) =
         ap (λ (l : List (Result Work OrderEnd)). get_or l worker (Ok d)) oks
         ∙ get_or-map Ok later worker d (Ok d) short in
-        subst (WentOn lists (length works) stop (get_or works worker d)) ok (each worker d (Ok d) within)
+        subst (WentOn (lists_due sets) (length works) stop (get_or works worker d)) ok (each worker d (Ok d) within)
 
-    pub still_at_work : AreAtWork lists later
-    still_at_work = record {
-      some = omega (arith, are.some, as_many);
-      few = omega (arith, are.few, as_many);
-      each = λ worker d short.
+    pub have_worked : HaveWorked (HasStopped stop) sets works later
+    have_worked = record {
+      at_work = record {
+        some = omega (arith, are.some, as_many);
+        few = omega (arith, are.few, as_many);
+        units = are.units;
+        each = λ worker d short.
+            let within : worker < length works = omega (arith, as_many) in
+            subst (λ n. whole (lists_due sets) n (get_or later worker d) ≡ dealt worker (n - 1) (lists_due sets))
+            (sym as_many) ((went_at worker d within).0 ∙ are.each worker d within);
+      };
+      workers = as_many;
+      done =
+          All-from_get_or (HasStopped stop) later no_work (λ worker short.
           let within : worker < length works = omega (arith, as_many) in
-          subst (λ n. whole lists n (get_or later worker d) ≡ dealt worker (n - 1) lists) (sym as_many)
-          ((went_at worker d within).0 ∙ are.each worker d within);
+          (went_at worker no_work within).1);
     }
-
-    pub have_stopped : All (HasStopped stop) later
-    have_stopped =
-        All-from_get_or (HasStopped stop) later no_work (λ worker short.
-        let within : worker < length works = omega (arith, as_many) in
-        (went_at worker no_work within).1)
 
 -- ---- the first round and the last
 
@@ -128,15 +137,16 @@ one_start_more works next many each worker d within = elim (cases_eq worker next
       get_or_append_left works _ d worker below ∙ each worker d below
 ]
 
-pub all_start : (lists : Share) (works : List Work) → 0 < length works → length works ≤ MOST_WORKERS
+pub all_start : (sets : Sets) (works : List Work) → AreOfTree sets → 0 < length works → length works ≤ MOST_WORKERS
     → ((worker : ℕ) (d : Work) → worker < length works → get_or works worker d ≡ record { share = []; next = worker })
-    → AreAtWork lists works
-all_start lists works some few each = record {
+    → AreAtWork sets works
+all_start sets works units some few each = record {
   some = some;
   few = few;
+  units = units;
   each =
-      λ worker d within. ap (whole lists (length works)) (each worker d within)
-      ∙ dealt-drop worker (length works - 1) lists;
+      λ worker d within. ap (whole (lists_due sets) (length works)) (each worker d within)
+      ∙ dealt-drop worker (length works - 1) (lists_due sets);
 }
 
 none_later : (lists : Share) (end next : ℕ) → end ≤ next → All (λ list. list ≡ None) (drop end lists)
@@ -147,10 +157,13 @@ none_later lists end next before none =
     (All-drop (λ list. list ≡ None) (next - end) (drop end lists) none)
 
 -- the workers' shares, where no worker lacks a set before an end from which on none is listed
-pub shares_at_end : (lists : Share) (end : ℕ) (works : List Work) (shares : List Share) → AreAtWork lists works
-    → All (λ list. list ≡ None) (drop end lists) → All (λ (work : Work). end ≤ work.next) works
-    → shares ≡ map (λ (work : Work). work.share) works → AreShares lists shares
-shares_at_end lists end works shares are none done is =
+pub shares_at_end : (sets : Sets) (end : ℕ) (works : List Work) (shares : List Share) → AreAtWork sets works
+    → IsEndOfListed sets.cuts.now sets.most end → All (λ (work : Work). end ≤ work.next) works
+    → shares ≡ map (λ (work : Work). work.share) works → AreShares (lists_due sets) shares
+shares_at_end sets end works shares are ends done is =
+    let lists : Share = lists_due sets in
+    let none : All (λ list. list ≡ None) (drop end lists) =
+    none_listed sets.tree.now sets.most end sets.cuts.now ends.larger in
     let many : length shares ≡ length works = ap length is ∙ length-map works (λ (work : Work). work.share) in
     record {
       some = omega (arith, are.some, many);

@@ -1,5 +1,5 @@
 -- The sets of a worker, one after another.
-use Rattle.std.proofs.Common.{◌≡◌, ℕ, zero, suc, ◌+◌, ◌-◌, ◌<◌, ◌≤◌, Bool, List, [], ◌∷◌, ◌++◌, length, get_or, drop}
+use Rattle.std.proofs.Common.{◌≡◌, ℕ, zero, suc, ◌+◌, ◌-◌, ◌<◌, ◌≤◌, List, [], ◌∷◌, ◌++◌, length, get_or, drop}
 use Rattle.std.proofs.Common.{All, Option, None, Some, slice_get, ap, sym, ◌∙◌, arith, append_assoc}
 use Rattle.std.proofs.lemmas.List.{get_or-map, length-map}
 use Rattle.std.proofs.lemmas.List.Elements.{All-cons}
@@ -10,11 +10,14 @@ use Rattle.unit_sets.proofs.CutOrderLemmas.{cut_at}
 use Rattle.unit_sets.proofs.Sorted.{All-slice_get}
 use Rattle.fault_definitions.specs.Tree.{FaultTree, IsUnitOf}
 use Rattle.fault_definitions.specs.WellFormed.{IsTree}
+use Rattle.cut_sequences.specs.declared.share.GrowingShare.{GrowingShare}
+use Rattle.cut_sequences.specs.declared.share.Sets.{Sets}
 use Rattle.cut_sequences.specs.declared.refusal.OrderEnd.{OrderEnd}
 use Rattle.cut_sequences.specs.Orders.{orders_of, order_lists, order_count, order_total, IsOver}
 use Rattle.cut_sequences.specs.Going.{CanGoOn}
 use Rattle.cut_sequences.specs.Dealing.{dealt, Share}
-use Rattle.cut_sequences.specs.Holding.{lists_of, HoldsShare}
+use Rattle.cut_sequences.specs.Holding.{lists_of}
+use Rattle.cut_sequences.specs.Working.{whole, work_of, lists_due, share_of, CanGrow}
 use Rattle.cut_sequences.proofs.DealLemmas.{dealt-next}
 use Rattle.cut_sequences.proofs.GoingLemmas.{can_start}
 use Rattle.cut_sequences.proofs.ListLemmas.{IsOver-more, order_total-append}
@@ -74,38 +77,32 @@ part-le : (listed rest due : Share) (list : Option (List (List ℕ))) → listed
     → order_total listed + order_count list ≤ order_total due
 part-le listed rest due list is = omega (arith, sym (ap order_total is), order_total-append listed (list ∷ rest))
 
-pub share_more : (tree tree' : FaultTree) (most : ℕ) (cuts : List (List ℕ)) (next workers : ℕ) (cut : List ℕ)
-    (listed listed' due : Share) → tree' ≡ tree → 0 < workers → next < length cuts → slice_get cuts next ≡ Some cut
-    → listed ++ dealt 0 (workers - 1) (drop next (order_lists tree cuts most)) ≡ due
-    → listed' ≡ listed ++ orders_of tree' most cut ∷ []
-    → listed' ++ dealt 0 (workers - 1) (drop (next + workers) (order_lists tree cuts most)) ≡ due
-share_more tree tree' most cuts next workers cut listed listed' due same some short at so_far more =
-    let rest : Share = dealt 0 (workers - 1) (drop (next + workers) (order_lists tree cuts most)) in
-    ap (λ (l : Share). l ++ rest) more
-    ∙ ap (λ (t : FaultTree). (listed ++ orders_of t most cut ∷ []) ++ rest) same
-    ∙ append_assoc listed (orders_of tree most cut ∷ []) rest
-    ∙ ap (λ (l : Share). listed ++ l) (sym (next_list tree most cuts next workers cut some short at))
-    ∙ so_far
+-- a worker goes on with the set of its next place
+module _ (sets : Sets) (workers next : ℕ) (cut : List ℕ) (growing : GrowingShare) (all : Share) (some : 0 < workers)
+    (short : next < length sets.cuts.now) (at : slice_get sets.cuts.now next ≡ Some cut)
+    (so_far : whole (lists_due sets) workers (work_of growing next) ≡ all) where
+  abbrev rest : Share
+  rest = dealt 0 (workers - 1) (drop (next + workers) (lists_due sets))
 
-pub share_over : (tree tree' : FaultTree) (most : ℕ) (cuts : List (List ℕ)) (next workers : ℕ) (cut : List ℕ)
-    (kept : List Bool) (ends : List ℕ) (orders : List (List ℕ)) (due : Share) (end : OrderEnd) → tree' ≡ tree
-    → 0 < workers → next < length cuts → slice_get cuts next ≡ Some cut
-    → HoldsShare kept ends orders → lists_of kept ends orders
-    ++ dealt 0 (workers - 1) (drop next (order_lists tree cuts most)) ≡ due
-    → IsOver (length orders + order_count (orders_of tree' most cut)) end → IsOver (order_total due) end
-share_over tree tree' most cuts next workers cut kept ends orders due end same some short at held so_far over =
-    let all : Share = order_lists tree cuts most in
-    let count : order_count (orders_of tree' most cut) ≡ order_count (orders_of tree most cut) =
-    ap (λ (t : FaultTree). order_count (orders_of t most cut)) same in
-    let parts : lists_of kept ends orders ++ orders_of tree most cut ∷ dealt 0 (workers - 1) (drop (next + workers) all)
-    ≡ due =
-    ap (λ (l : Share). lists_of kept ends orders ++ l) (sym (next_list tree most cuts next workers cut some short at))
-    ∙ so_far in
-    IsOver-more (length orders + order_count (orders_of tree' most cut)) (order_total due) end
-    (omega (
-      arith,
-      count,
-      held.total,
-      part-le (lists_of kept ends orders)
-          (dealt 0 (workers - 1) (drop (next + workers) all)) due (orders_of tree most cut) parts,
-    )) over
+  parts : lists_of (share_of growing) ++ orders_of sets.tree.now sets.most cut ∷ rest ≡ all
+  parts =
+      ap (λ (l : Share). lists_of (share_of growing) ++ l)
+      (sym (next_list sets.tree.now sets.most sets.cuts.now next workers cut some short at)) ∙ so_far
+
+  pub share_more : (after : GrowingShare)
+      → lists_of (share_of after) ≡ lists_of (share_of growing) ++ orders_of sets.tree.now sets.most cut ∷ []
+      → whole (lists_due sets) workers (work_of after (next + workers)) ≡ all
+  share_more after more =
+      ap (λ (l : Share). l ++ rest) more
+      ∙ append_assoc (lists_of (share_of growing)) (orders_of sets.tree.now sets.most cut ∷ []) rest ∙ parts
+
+  pub share_over : (end : OrderEnd) → CanGrow sets growing
+      → IsOver (length growing.search.orders + order_count (orders_of sets.tree.now sets.most cut)) end
+      → IsOver (order_total all) end
+  share_over end grows over =
+      IsOver-more (length growing.search.orders + order_count (orders_of sets.tree.now sets.most cut))
+      (order_total all) end (omega (
+        arith,
+        grows.held.total,
+        part-le (lists_of (share_of growing)) rest all (orders_of sets.tree.now sets.most cut) parts,
+      )) over

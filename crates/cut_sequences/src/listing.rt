@@ -1,7 +1,8 @@
 //! The orders of each cut set that fail the top event.
-ghost use Rattle.std.specs.Prelude.{◌≡◌, ◌<◌, ◌≤◌, length, All, IfOk, IsErrOf, drop};
+ghost use Rattle.std.specs.Prelude.{◌≡◌, ◌<◌, ◌≤◌, All, IfOk, IsErrOf};
 ghost use Rattle.fault_definitions.specs.Tree.{IsUnitOf};
 ghost use Rattle.cut_sequences.specs.Orders.{order_limit, order_lists, order_total};
+ghost use Rattle.cut_sequences.specs.Working.{IsEndOfListed};
 
 use crate::lists::gather;
 use crate::rounds::all_shares;
@@ -19,8 +20,7 @@ pub const ORDER_LIMIT: u64 = 2_000_000;
 // The place after the last set that is listed. All that come after it are larger: the sets stand by their sizes, so it
 // is found by halves.
 fn end_of_listed(cuts: &CutList, most: u32) -> usize
-    ensures within { result ≤ length cuts.now }
-    ensures larger { All (λ cut. most < length cut) (drop result cuts.now) }
+    ensures { IsEndOfListed cuts.now most result }
 {
     let mut low = 0;
     let mut high = cuts.len();

@@ -1,5 +1,5 @@
 //! The orders of the sets of a cut list.
-ghost use Rattle.std.specs.Prelude.{◌≡◌, ◌<◌, ◌≤◌, [], length, true, IfOk, IsErrOf, slice_index_or, sum_by};
+ghost use Rattle.std.specs.Prelude.{◌≡◌, ◌<◌, ◌≤◌, [], None, length, true, IfOk, IsErrOf, slice_index_or, sum_by};
 ghost use Rattle.cut_sequences.specs.Dealing.{AreShares, gathered};
 ghost use Rattle.cut_sequences.specs.Orders.{is_listed, orders_at, order_limit, order_total};
 
@@ -48,13 +48,21 @@ impl OrderLists {
         self.total
     }
 
+    // The share that has the list of a set, and the set's place among those of the share.
+    fn share_of(&self, i: usize) -> (&Share, usize)
+        ensures { slice_index_or result.0.now result.1 None ≡ slice_index_or self.now i None }
+    {
+        let workers = self.shares.len();
+        (&self.shares[i % workers], i / workers)
+    }
+
     /// Whether the set of a place is listed.
     pub fn listed(&self, i: usize) -> bool
         requires { i < length self.now }
         ensures { result ≡ is_listed self.now i }
     {
-        let workers = self.shares.len();
-        self.shares[i % workers].listed(i / workers)
+        let (share, place) = self.share_of(i);
+        share.listed(place)
     }
 
     /// The number of orders of a listed set.
@@ -63,8 +71,8 @@ impl OrderLists {
         requires listed { is_listed self.now i ≡ true }
         ensures { result ≡ length (orders_at self.now i) }
     {
-        let workers = self.shares.len();
-        self.shares[i % workers].count(i / workers)
+        let (share, place) = self.share_of(i);
+        share.count(place)
     }
 
     /// The order of a number, from 0, of a listed set.
@@ -74,8 +82,8 @@ impl OrderLists {
         requires order { j < length (orders_at self.now i) }
         ensures { result.now ≡ slice_index_or (orders_at self.now i) j [] }
     {
-        let workers = self.shares.len();
-        self.shares[i % workers].order(i / workers, j)
+        let (share, place) = self.share_of(i);
+        share.order(place, j)
     }
 }
 

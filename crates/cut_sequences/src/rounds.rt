@@ -2,10 +2,12 @@
 //!
 //! No worker runs far ahead of the others, so that all stop soon after they have too many orders together.
 ghost use Rattle.std.specs.Prelude.{◌≡◌, ◌<◌, ◌≤◌, ℕ, true, false, length, map, slice_index_or, All, IfOk, IsErrOf};
-ghost use Rattle.std.specs.Prelude.{Contains, Ok, Err, drop, sum_by};
-ghost use Rattle.cut_sequences.specs.Dealing.{AreShares, Share as Lists};
+ghost use Rattle.std.specs.Prelude.{Contains, Ok, Err, sum_by};
+ghost use Rattle.cut_sequences.specs.declared.share.Sets.{Sets};
+ghost use Rattle.cut_sequences.specs.Dealing.{AreShares};
 ghost use Rattle.cut_sequences.specs.Orders.{order_limit, order_total};
-ghost use Rattle.cut_sequences.specs.Working.{AreOfTree, WentOn, AreAtWork, HasStopped, lists_due, orders_of_work};
+ghost use Rattle.cut_sequences.specs.Working.{AreOfTree, CanWork, WentOn, AreAtWork, HasStopped, HaveWorked};
+ghost use Rattle.cut_sequences.specs.Working.{IsEndOfListed, lists_due, orders_of_work};
 
 use crate::share::{Sets, Share, Stop, Work, go_on};
 use crate::{ORDER_LIMIT, OrderEnd};
@@ -28,10 +30,7 @@ fn answers_of<R: Threads + Sync>(
     stop: Stop,
     works: Vec<Work>,
 ) -> Result<Vec<Result<Work, OrderEnd>>, AllocError>
-    requires some { 0 < length works.items }
-    requires few { length works.items ≤ MOST_WORKERS }
-    requires place { stop.place ≤ length sets.cuts.now }
-    requires units { AreOfTree sets }
+    requires { CanWork sets (length works.items) stop }
     ensures all { IfOk result (λ answers. length answers.items ≡ length works.items) }
     ensures each { IfOk result (λ answers. (worker : ℕ) (work : _) (d : _) → worker < length works.items
         → WentOn (lists_due sets.entry) (length works.items) stop (slice_index_or works.items worker work)
@@ -77,12 +76,9 @@ fn round<R: Threads + Sync>(
     stop: Stop,
     works: Vec<Work>,
 ) -> Result<Vec<Work>, OrderEnd>
-    requires at_work { AreAtWork (lists_due sets) works.items }
+    requires at_work { AreAtWork sets works.items }
     requires place { stop.place ≤ length sets.cuts.now }
-    requires units { AreOfTree sets }
-    ensures at_work { IfOk result (λ later. AreAtWork (lists_due sets.entry) later.items) }
-    ensures stopped { IfOk result (λ later. All (HasStopped stop) later.items) }
-    ensures workers { IfOk result (λ later. length later.items ≡ length works.items) }
+    ensures worked { IfOk result (λ later. HaveWorked (HasStopped stop) sets.entry works.items later.items) }
     ensures limit { IsErrOf result OrderEnd.OrderLimit → order_limit < order_total (lists_due sets.entry) }
 {
     let works = works_of(alloc, answers_of(rt, alloc, sets, stop, works)?)?;
@@ -115,13 +111,11 @@ fn all_rounds<R: Threads + Sync>(
     stop: Stop,
     works: Vec<Work>,
 ) -> Result<Vec<Work>, OrderEnd>
-    requires at_work { AreAtWork (lists_due sets) works.items }
+    requires at_work { AreAtWork sets works.items }
     requires end { end ≤ length sets.cuts.now }
     requires place { stop.place ≤ end }
-    requires units { AreOfTree sets }
-    ensures at_work { IfOk result (λ later. AreAtWork (lists_due sets.entry) later.items) }
-    ensures done { IfOk result (λ later. All (λ work. end ≤ work.next) later.items) }
-    ensures workers { IfOk result (λ later. length later.items ≡ length works.items) }
+    ensures worked { IfOk result (λ later.
+        HaveWorked (λ work. end ≤ work.next) sets.entry works.items later.items) }
     ensures limit { IsErrOf result OrderEnd.OrderLimit → order_limit < order_total (lists_due sets.entry) }
 {
     let works = round(rt, alloc, sets, stop, works)?;
@@ -150,7 +144,7 @@ fn all_rounds<R: Threads + Sync>(
 fn starts(alloc: Global, workers: usize) -> Result<Vec<Work>, OrderEnd>
     requires some { 0 < workers }
     requires few { workers ≤ MOST_WORKERS }
-    ensures at_work { IfOk result (λ works. (lists : Lists) → AreAtWork lists works.items) }
+    ensures at_work { IfOk result (λ works. (sets : Sets) → AreOfTree sets → AreAtWork sets works.items) }
     ensures workers { IfOk result (λ works. length works.items ≡ workers) }
     ensures memory { IsErrOf result OrderEnd.OrderLimit → ⊥ }
 {
@@ -185,8 +179,7 @@ pub fn all_shares<R: Threads + Sync>(
     end: usize,
     workers: usize,
 ) -> Result<Vec<Share>, OrderEnd>
-    requires within { end ≤ length sets.cuts.now }
-    requires larger { All (λ cut. sets.most < length cut) (drop end sets.cuts.now) }
+    requires end { IsEndOfListed sets.cuts.now sets.most end }
     requires some { 0 < workers }
     requires few { workers ≤ MOST_WORKERS }
     requires units { AreOfTree sets }

@@ -1,19 +1,15 @@
 //! The search for the failing orders of a set: a unit fails, the search goes on with the units that are left, and the
 //! unit is taken back.
-ghost use Rattle.std.specs.Prelude.{◌≡◌, ◌<◌, ◌≤◌, true, false, [], ◌∷◌, ◌++◌, length, All, IfOk, OnOk, is_some};
-ghost use Rattle.std.specs.Prelude.{remove, slice_index};
-ghost use Rattle.unit_sets.specs.UnitList.{among};
+ghost use Rattle.std.specs.Prelude.{◌≡◌, ◌<◌, ◌≤◌, [], ◌∷◌, length, IfOk, is_some};
 ghost use Rattle.fault_definitions.specs.FailingOrder.{is_admissible};
 ghost use Rattle.fault_definitions.specs.Step.{step};
-ghost use Rattle.fault_definitions.specs.Tree.{IsUnitOf};
-ghost use Rattle.fault_definitions.specs.WellFormed.{IsTree};
-ghost use Rattle.cut_sequences.specs.Orders.{failing_orders, order_limit};
-ghost use Rattle.cut_sequences.specs.Going.{CanGoOn, failing_from, failing_after, Lists};
+ghost use Rattle.cut_sequences.specs.Orders.{order_limit};
+ghost use Rattle.cut_sequences.specs.Going.{failing_after, Lists, IsFirst, CanSearch, Searches, due};
 
 use crate::{ORDER_LIMIT, OrderEnd};
 use fault_model::{NoMemory, Tree};
 use flat_rows::Rows;
-use replay_semantics::Replay;
+use replay_semantics::{Pushed, Replay};
 use std::alloc::Global;
 use unit_sets::UnitNo;
 
@@ -40,10 +36,7 @@ fn list(orders: &mut Rows<UnitNo>, order: &[UnitNo]) -> Result<(), OrderEnd>
 impl<'t> Search<'t> {
     /// No unit has failed, and none is left. There is room for the units of any set.
     pub fn new(alloc: Global, tree: &'t Tree) -> Result<Search<'t>, NoMemory>
-        ensures kept { IfOk result (λ search. IsTree search.replay.tree) }
-        ensures tree { IfOk result (λ search. search.replay.tree ≡ tree.now) }
-        ensures order { IfOk result (λ search. search.replay.order ≡ []) }
-        ensures orders { IfOk result (λ search. search.orders ≡ []) }
+        ensures { IfOk result (IsFirst tree.now) }
     {
         Ok(Search {
             left: Vec::with_capacity(alloc, tree.units() as usize)?,
@@ -52,62 +45,31 @@ impl<'t> Search<'t> {
         })
     }
 
-    /// Lists the failing orders of a set.
+    /// Lists the failing orders that go on with the units of a set.
     pub fn list_set(&mut self, set: &[UnitNo]) -> Result<(), OrderEnd>
-        requires start { self.old.replay.order ≡ [] }
-        requires set { CanGoOn self.old.replay.tree [] set.now }
+        requires can { CanSearch self.old set.now }
         requires some { 0 < length set.now }
-        requires few { length self.old.orders ≤ order_limit }
-
-        ensures tree { OnOk result (self.new.replay.tree ≡ self.old.replay.tree) }
-        ensures order { OnOk result (self.new.replay.order ≡ []) }
-        ensures listed { Lists self.old.orders self.new.orders (failing_orders self.old.replay.tree set.now) result }
+        ensures { Searches self.old self.new set.now (due self.old set.now) result }
     {
         self.left.clear();
         self.left.extend_from_slice(set)?;
         self.go_through()
     }
 
-    // A unit fails next, and then the units that are left.
+    // Goes on with the units that are left, if any, where those that have failed can do so one after another.
     #[cycle(search)]
-    fn fail(&mut self, unit: UnitNo) -> Result<(), OrderEnd>
-        requires unit { IsUnitOf self.old.replay.tree unit }
-        requires fresh { among self.old.replay.order unit ≡ false }
-        requires left { CanGoOn self.old.replay.tree (self.old.replay.order ++ unit ∷ []) self.old.left.items }
-        requires few { length self.old.orders ≤ order_limit }
-
-        ensures tree { OnOk result (self.new.replay.tree ≡ self.old.replay.tree) }
-        ensures order { OnOk result (self.new.replay.order ≡ self.old.replay.order) }
-        ensures left { OnOk result (self.new.left.items ≡ self.old.left.items) }
-        ensures listed { Lists self.old.orders self.new.orders
-            (failing_from self.old.replay.tree (self.old.replay.order ++ unit ∷ []) self.old.left.items) result }
-    {
-        let pushed = self.replay.push(unit);
-        if pushed.admissible {
-            self.go_on(pushed.top_failed)?;
-        }
-        self.replay.pop();
-        Ok(())
-    }
-
-    // The units that have failed can do so one after another: goes on with those that are left, if any.
-    #[cycle(search)]
-    fn go_on(&mut self, top_failed: bool) -> Result<(), OrderEnd>
-        requires left { CanGoOn self.old.replay.tree self.old.replay.order self.old.left.items }
-        requires admissible { is_admissible self.old.replay.tree self.old.replay.order ≡ true }
-        requires top_failed { top_failed ≡ is_some (step self.old.replay.tree self.old.replay.order
+    fn go_on(&mut self, pushed: Pushed) -> Result<(), OrderEnd>
+        requires can { CanSearch self.old self.old.left.items }
+        requires admissible { pushed.admissible ≡ is_admissible self.old.replay.tree self.old.replay.order }
+        requires top_failed { pushed.top_failed ≡ is_some (step self.old.replay.tree self.old.replay.order
             self.old.replay.tree.top) }
-        requires few { length self.old.orders ≤ order_limit }
-
-        ensures tree { OnOk result (self.new.replay.tree ≡ self.old.replay.tree) }
-        ensures order { OnOk result (self.new.replay.order ≡ self.old.replay.order) }
-        ensures left { OnOk result (self.new.left.items ≡ self.old.left.items) }
-        ensures listed { Lists self.old.orders self.new.orders
-            (failing_from self.old.replay.tree self.old.replay.order self.old.left.items) result }
+        ensures { Searches self.old self.new self.old.left.items (due self.old self.old.left.items) result }
     {
-        if !self.left.is_empty() {
+        if !pushed.admissible {
+            Ok(())
+        } else if !self.left.is_empty() {
             self.go_through()
-        } else if top_failed {
+        } else if pushed.top_failed {
             list(&mut self.orders, self.replay.order())
         } else {
             Ok(())
@@ -117,15 +79,9 @@ impl<'t> Search<'t> {
     // Each unit that is left fails next, one after another in rising order.
     #[cycle(search)]
     fn go_through(&mut self) -> Result<(), OrderEnd>
-        requires left { CanGoOn self.old.replay.tree self.old.replay.order self.old.left.items }
+        requires can { CanSearch self.old self.old.left.items }
         requires some { 0 < length self.old.left.items }
-        requires few { length self.old.orders ≤ order_limit }
-
-        ensures tree { OnOk result (self.new.replay.tree ≡ self.old.replay.tree) }
-        ensures order { OnOk result (self.new.replay.order ≡ self.old.replay.order) }
-        ensures left { OnOk result (self.new.left.items ≡ self.old.left.items) }
-        ensures listed { Lists self.old.orders self.new.orders
-            (failing_from self.old.replay.tree self.old.replay.order self.old.left.items) result }
+        ensures { Searches self.old self.new self.old.left.items (due self.old self.old.left.items) result }
     {
         for i in 0..self.left.len() {
             self.fail_at(i)?;
@@ -133,21 +89,18 @@ impl<'t> Search<'t> {
         Ok(())
     }
 
-    // The unit of a place fails next.
+    // The unit of a place fails next, and then the units that are left.
     #[cycle(search)]
     fn fail_at(&mut self, i: usize) -> Result<(), OrderEnd>
-        requires left { CanGoOn self.old.replay.tree self.old.replay.order self.old.left.items }
+        requires can { CanSearch self.old self.old.left.items }
         requires within { i < length self.old.left.items }
-        requires few { length self.old.orders ≤ order_limit }
-
-        ensures tree { OnOk result (self.new.replay.tree ≡ self.old.replay.tree) }
-        ensures order { OnOk result (self.new.replay.order ≡ self.old.replay.order) }
-        ensures left { OnOk result (self.new.left.items ≡ self.old.left.items) }
-        ensures listed { Lists self.old.orders self.new.orders
+        ensures { Searches self.old self.new self.old.left.items
             (failing_after self.old.replay.tree self.old.replay.order self.old.left.items i) result }
     {
         let unit = self.left.remove(i);
-        self.fail(unit)?;
+        let pushed = self.replay.push(unit);
+        self.go_on(pushed)?;
+        self.replay.pop();
         self.left.insert(i, unit)?;
         Ok(())
     }

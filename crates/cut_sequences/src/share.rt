@@ -1,16 +1,12 @@
 //! The sets that one worker gets, and their orders in one buffer.
-ghost use Rattle.std.specs.Prelude.{◌≡◌, ◌<◌, ◌≤◌, [], length, All, OnOk, true, slice_index_or};
-ghost use Rattle.fault_definitions.specs.Tree.{IsUnitOf};
-ghost use Rattle.fault_definitions.specs.WellFormed.{IsTree};
-ghost use Rattle.cut_sequences.specs.Going.{CanGoOn};
-ghost use Rattle.cut_sequences.specs.Working.{AddsSets, AreOfTree, WentOn, lists_due, work_of};
+ghost use Rattle.std.specs.Prelude.{◌≡◌, ◌<◌, ◌≤◌, [], length, true, slice_index_or};
 ghost use Rattle.flat_rows.specs.Rows.{start_of};
-ghost use Rattle.cut_sequences.specs.Holding.{lists_of, HoldsShare, AddsList};
-ghost use Rattle.cut_sequences.specs.Orders.{order_limit, order_lists, order_total, orders_of, orders_at, is_listed};
+ghost use Rattle.cut_sequences.specs.Orders.{order_limit, order_total, orders_of, orders_at, is_listed};
+ghost use Rattle.cut_sequences.specs.Going.{CanGoOn};
+ghost use Rattle.cut_sequences.specs.Working.{AddsList, AddsSets, CanGrow, CanWork, WentOn, lists_due};
 
 use crate::OrderEnd;
 use crate::search::Search;
-use deck_limits::MOST_WORKERS;
 use fault_model::Tree;
 use flat_rows::Rows;
 use std::alloc::Global;
@@ -32,9 +28,9 @@ impl Model for Share {
 
     ghost Value = { List (Option (List (List ℕ))) };
 
-    ghost view = { λ share. lists_of share.listed.items share.ends.items share.orders };
+    ghost view = { λ share. lists_of share };
 
-    ghost invariant = { λ share. HoldsShare share.listed.items share.ends.items share.orders };
+    ghost invariant = { λ share. HoldsShare share };
 }
 
 /// The sets whose orders the workers list: those of a tree's cut list with at most so many members.
@@ -96,8 +92,7 @@ impl Share {
 
     /// The number of orders of a listed set.
     pub fn count(&self, i: usize) -> usize
-        requires within { i < length self.now }
-        requires listed { is_listed self.now i ≡ true }
+        requires { is_listed self.now i ≡ true }
         ensures { result ≡ length (orders_at self.now i) }
     {
         self.ends[i] - start(self.ends.as_slice(), i)
@@ -105,8 +100,7 @@ impl Share {
 
     /// The order of a number, from 0, of the set of a place.
     pub fn order(&self, i: usize, j: usize) -> &[UnitNo]
-        requires within { i < length self.now }
-        requires order { j < length (orders_at self.now i) }
+        requires { j < length (orders_at self.now i) }
         ensures { result.now ≡ slice_index_or (orders_at self.now i) j [] }
     {
         self.orders.row(start(self.ends.as_slice(), i) + j)
@@ -123,19 +117,13 @@ struct GrowingShare<'t> {
 
 impl<'t> GrowingShare<'t> {
     // Lists the orders of one set more, if it is not too large.
-    fn add_set(&mut self, set: &[UnitNo], most: u32) -> Result<(), OrderEnd>
-        requires start { self.old.search.replay.order ≡ [] }
-        requires set { CanGoOn self.old.search.replay.tree [] set.now }
+    fn add_set(&mut self, sets: Sets, set: &[UnitNo]) -> Result<(), OrderEnd>
+        requires grows { CanGrow sets self.old }
+        requires set { CanGoOn sets.tree.now [] set.now }
         requires some { 0 < length set.now }
-        requires held { HoldsShare self.old.listed.items self.old.ends.items self.old.search.orders }
-
-        ensures tree { OnOk result (self.new.search.replay.tree ≡ self.old.search.replay.tree) }
-        ensures order { OnOk result (self.new.search.replay.order ≡ []) }
-        ensures added { AddsList self.old.listed.items self.old.ends.items self.old.search.orders
-            self.new.listed.items self.new.ends.items self.new.search.orders
-            (orders_of self.old.search.replay.tree most set.now) result }
+        ensures { AddsList sets.entry self.old self.new (orders_of sets.entry.tree.now sets.entry.most set.now) result }
     {
-        let small = set.len() <= most as usize;
+        let small = set.len() <= sets.most as usize;
         if small {
             self.search.list_set(set)?;
         }
@@ -148,27 +136,18 @@ impl<'t> GrowingShare<'t> {
     // set.
     fn add_sets(
         &mut self,
-        cuts: &CutList,
-        most: u32,
+        sets: Sets,
         workers: usize,
         stop: Stop,
         from: usize,
     ) -> Result<usize, OrderEnd>
-        requires kept { IsTree self.old.search.replay.tree }
-        requires start { self.old.search.replay.order ≡ [] }
-        requires some { 0 < workers }
-        requires few { workers ≤ MOST_WORKERS }
-        requires place { stop.place ≤ length cuts.now }
-        requires units { All (λ cut. All (IsUnitOf self.old.search.replay.tree) cut) cuts.now }
-        requires held { HoldsShare self.old.listed.items self.old.ends.items self.old.search.orders }
-
-        ensures { AddsSets (order_lists self.old.search.replay.tree cuts.now most) workers stop
-            (work_of self.old.listed.items self.old.ends.items self.old.search.orders from)
-            self.new.listed.items self.new.ends.items self.new.search.orders result }
+        requires can { CanWork sets workers stop }
+        requires grows { CanGrow sets self.old }
+        ensures { AddsSets sets.entry workers stop self.old from self.new result }
     {
         let mut next = from;
         while next < stop.place && self.search.orders.len() <= stop.orders {
-            self.add_set(cuts.members(next), most)?;
+            self.add_set(sets, sets.cuts.members(next))?;
             next += workers;
         }
         Ok(next)
@@ -183,11 +162,7 @@ pub fn go_on(
     stop: Stop,
     work: Work,
 ) -> Result<Work, OrderEnd>
-    requires some { 0 < workers }
-    requires few { workers ≤ MOST_WORKERS }
-    requires place { stop.place ≤ length sets.cuts.now }
-    requires units { AreOfTree sets }
-
+    requires { CanWork sets workers stop }
     ensures { WentOn (lists_due sets.entry) workers stop work result }
 {
     let mut search = Search::new(alloc, sets.tree)?;
@@ -203,7 +178,7 @@ pub fn go_on(
         ends,
         listed,
     };
-    let next = growing.add_sets(sets.cuts, sets.most, workers, stop, next)?;
+    let next = growing.add_sets(sets, workers, stop, next)?;
     let GrowingShare {
         search,
         ends,

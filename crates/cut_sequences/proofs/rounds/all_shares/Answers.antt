@@ -1,28 +1,22 @@
-use Rattle.std.proofs.Common.{◌∙◌, List, ap, length}
+use Rattle.std.proofs.Common.{◌∙◌, ap, length}
 use Rattle.std.proofs.lemmas.List.{length-map}
 use Rattle.std.proofs.lemmas.Result.{IfOk-weaker}
 use Rattle.cut_sequences.specs.declared.share.Work.{Work}
-use Rattle.cut_sequences.specs.Dealing.{Share}
-use Rattle.cut_sequences.specs.Working.{lists_due}
 use Rattle.cut_sequences.proofs.RoundLemmas.{shares_at_end}
-use Rattle.cut_sequences.proofs.ShareLemmas.{none_listed}
 use Rattle.cut_sequences.proofs.rounds.all_shares.Goals as goal
 
 pub all_rounds-requires-clause-at_work : goal.all_rounds-requires-clause-at_work
-all_rounds-requires-clause-at_work g c κs within =
-    c.in_ok-works.ensures.at_work (lists_due c.args.sets)
+all_rounds-requires-clause-at_work g c κs within = c.in_ok-works.ensures.at_work c.args.sets c.requires.units
 
 pub returns-clause-shares : goal.returns-clause-shares
 returns-clause-shares g c =
-    let lists : Share = lists_due c.args.sets in
-    let works : List Work = c.in_ok-all_rounds.field-0.items in
     IfOk-weaker c.shares_of.result _ _ (λ shares is.
-    shares_at_end lists c.args.end works shares.items c.in_ok-all_rounds.ensures.at_work
-    (none_listed c.args.sets.tree.now c.args.sets.most c.args.end c.args.sets.cuts.now c.requires.larger)
-    c.in_ok-all_rounds.ensures.done is) c.shares_of.ensures.shares
+    shares_at_end c.args.sets c.args.end c.in_ok-all_rounds.field-0.items shares.items
+    c.in_ok-all_rounds.ensures.worked.at_work c.requires.end c.in_ok-all_rounds.ensures.worked.done is)
+    c.shares_of.ensures.shares
 
 pub returns-clause-workers : goal.returns-clause-workers
 returns-clause-workers g c =
     IfOk-weaker c.shares_of.result _ _ (λ shares is.
     ap length is ∙ length-map c.in_ok-all_rounds.field-0.items (λ (work : Work). work.share)
-    ∙ c.in_ok-all_rounds.ensures.workers ∙ c.in_ok-works.ensures.workers) c.shares_of.ensures.shares
+    ∙ c.in_ok-all_rounds.ensures.worked.workers ∙ c.in_ok-works.ensures.workers) c.shares_of.ensures.shares

@@ -5,7 +5,8 @@ use Rattle.cut_sequences.proofs.rounds.starts.Goals as goal
 
 pub returns-clause-at_work : goal.returns-clause-at_work
 returns-clause-at_work c =
-    λ lists. all_start lists c.loop-next.works.items (omega (arith, c.requires.some, c.loop-next.invariant.many))
+    let works = c.loop-next.works.items in
+    λ sets units. all_start sets works units (omega (arith, c.requires.some, c.loop-next.invariant.many))
     (omega (arith, c.requires.few, c.loop-next.invariant.many)) c.loop-next.invariant.each
 
 pub loop-next-preserved : goal.loop-next-preserved

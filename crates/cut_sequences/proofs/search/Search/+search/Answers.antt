@@ -1,108 +1,79 @@
-use Rattle.std.proofs.Common.{◌≡◌, ℕ, List, [], ◌∷◌, ◌++◌, ◌+◌, ◌<◌, length, get_or, remove, false, append-nil, ◌∙◌, ap}
-use Rattle.std.proofs.Common.{sym, subst, arith, rules}
+use Rattle.std.proofs.Common.{◌≡◌, ℕ, List, ◌++◌, ◌+◌, ◌<◌, length, get_or, false, append-nil, refl, ◌∙◌, ap, sym}
+use Rattle.std.proofs.Common.{subst, arith, rules}
+use Rattle.std.proofs.lemmas.Bool.{not-true}
 use Rattle.std.proofs.lemmas.List.{get_or_read}
 use Rattle.std.proofs.lemmas.Result.{err_from_is_err_and}
 use Rattle.fault_definitions.specs.FailingOrder.{is_admissible}
-use Rattle.fault_definitions.specs.Tree.{IsUnitOf}
-use Rattle.unit_sets.specs.UnitList.{among}
-use Rattle.cut_sequences.specs.Going.{CanGoOn, failing_from}
+use Rattle.cut_sequences.specs.declared.search.Search.{Search}
 use Rattle.cut_sequences.specs.Orders.{IsOver}
-use Rattle.cut_sequences.proofs.GoingLemmas.{pruned, unit_at, fresh_at, can_go_on_after, through_more, through_over}
-use Rattle.cut_sequences.proofs.GoingLemmas.{through_all}
+use Rattle.cut_sequences.proofs.GoingLemmas.{pruned, can_next, due_next, gone_all, gone_more, gone_over}
 use Rattle.cut_sequences.proofs.search.Search.+search.Goals as goal
-use Rattle.cut_sequences.proofs.search.Search.+search.Goals.{fail-then-pushed+in_ok-go_on, fail-else-pushed}
 
-pub fail-returns-clause-listed : goal.fail-returns-clause-listed
-fail-returns-clause-listed t c =
-    let tree = c.args.self.now.replay.tree in
-    let longer : List ℕ = c.args.self.now.replay.order ++ c.args.unit ∷ [] in
-    let left : List ℕ = c.args.self.now.left.items in
-    let orders : List (List ℕ) = c.args.self.now.orders in
-    elim c.if-pushed.branch [
-      | fail-then-pushed+in_ok-go_on w ↦ rw (w.self-is, ← c.push-pushed.ensures.tree, ← c.push-pushed.ensures.order)
-          w.in_ok-go_on.ensures.listed
-      | fail-else-pushed w ↦
-          let lacks : is_admissible tree longer ≡ false =
-          rw (← c.push-pushed.ensures.tree, ← c.push-pushed.ensures.order)
-          (sym c.push-pushed.ensures.admissible ∙ w.if-pushed.false) in
-          rw w.self-is (
-            sym (ap (λ (l : List (List ℕ)). orders ++ l) (pruned tree longer left c.requires.left lacks)
-                ∙ append-nil orders),
-            c.requires.few,
-          )
-    ]
-
-pub fail_at-fail-requires : goal.fail_at-fail-requires
-fail_at-fail-requires t c =
-    let value : c.remove-unit.result ≡ get_or c.args.self.now.left.items c.args.i 0 =
-    get_or_read c.args.self.now.left.items c.args.i c.remove-unit.result c.requires.within
-    c.remove-unit.ensures.value 0 in
-    let tree = c.args.self.now.replay.tree in
-    let order : List ℕ = c.args.self.now.replay.order in
-    let left : List ℕ = c.args.self.now.left.items in (
+pub fail_at-go_on-requires : goal.fail_at-go_on-requires
+fail_at-go_on-requires t c =
+    let before : Search = c.args.self.now in
+    let is : c.remove-unit.result ≡ get_or before.left.items c.args.i 0 =
+    get_or_read before.left.items c.args.i c.remove-unit.result c.requires.within c.remove-unit.ensures.value 0 in
+    let next : Search =
+    record { replay = c.push-pushed.new.self; left = c.remove-unit.new.self; orders = before.orders } in (
       search rules,
       (
-        subst (IsUnitOf tree) (sym value) (unit_at tree order left c.args.i c.requires.left c.requires.within),
-        (
-          subst (λ (u : ℕ). among order u ≡ false) (sym value)
-              (fresh_at tree order left c.args.i c.requires.left c.requires.within),
-          (
-            subst (λ (l : List ℕ). CanGoOn tree (order ++ c.remove-unit.result ∷ []) l)
-                (sym c.remove-unit.ensures.items)
-                (subst (λ (u : ℕ). CanGoOn tree (order ++ u ∷ []) (remove left c.args.i)) (sym value)
-                (can_go_on_after tree order left c.args.i c.requires.left c.requires.within)),
-            c.requires.few,
-          ),
-        ),
+        can_next before c.args.i c.remove-unit.result c.requires.can c.requires.within is next
+            c.push-pushed.ensures.tree c.push-pushed.ensures.order c.remove-unit.ensures.items c.requires.can.few,
+        (c.push-pushed.ensures.admissible, c.push-pushed.ensures.top_failed),
       ),
     )
 
-pub fail_at-returns-in_err-fail-clause-listed : goal.fail_at-returns-in_err-fail-clause-listed
-fail_at-returns-in_err-fail-clause-listed t c =
-    let tree = c.args.self.now.replay.tree in
-    let order : List ℕ = c.args.self.now.replay.order in
-    let left : List ℕ = c.args.self.now.left.items in
-    let before : ℕ = length c.args.self.now.orders in
-    let value : c.remove-unit.result ≡ get_or left c.args.i 0 =
-    get_or_read left c.args.i c.remove-unit.result c.requires.within c.remove-unit.ensures.value 0 in
+pub fail_at-returns-in_err-go_on : goal.fail_at-returns-in_err-go_on
+fail_at-returns-in_err-go_on t c =
+    let before : Search = c.args.self.now in
+    let is : c.remove-unit.result ≡ get_or before.left.items c.args.i 0 =
+    get_or_read before.left.items c.args.i c.remove-unit.result c.requires.within c.remove-unit.ensures.value 0 in
+    let next : Search =
+    record { replay = c.push-pushed.new.self; left = c.remove-unit.new.self; orders = before.orders } in
     let p = err_from_is_err_and c.from_residual.result c.from_residual.ensures.1 in
-    rw (p.1, p.2)
-    (subst (λ (u : ℕ). IsOver (before + length (failing_from tree (order ++ u ∷ []) (remove left c.args.i)))
-    c.in_err-fail.field-0.0) value
-    (subst (λ (l : List ℕ). IsOver (before + length (failing_from tree (order ++ c.remove-unit.result ∷ []) l))
-    c.in_err-fail.field-0.0) c.remove-unit.ensures.items c.in_err-fail.ensures.listed))
+    rw (p.1, p.2) (
+      tt,
+      subst (λ (l : List (List ℕ)). IsOver (length before.orders + length l) c.in_err-go_on.field-0.0)
+          (due_next before c.args.i c.remove-unit.result c.requires.can c.requires.within is next
+          c.push-pushed.ensures.tree c.push-pushed.ensures.order c.remove-unit.ensures.items) c.in_err-go_on.ensures.1,
+    )
+
+pub go_on-returns-then-not-pushed : goal.go_on-returns-then-not-pushed
+go_on-returns-then-not-pushed t c =
+    let before : Search = c.args.self.now in
+    let lacks : is_admissible before.replay.tree before.replay.order ≡ false =
+    sym c.requires.admissible ∙ not-true c.args.pushed.admissible c.if-not-pushed.true in (
+      record { replay = refl; left = refl },
+      (
+        sym (ap (λ (l : List (List ℕ)). before.orders ++ l)
+            (pruned before.replay.tree before.replay.order before.left.items c.requires.can.units lacks)
+            ∙ append-nil before.orders),
+        c.requires.can.few,
+      ),
+    )
+
+pub go_through-returns-in_err-fail_at : goal.go_through-returns-in_err-fail_at
+go_through-returns-in_err-fail_at t c =
+    let short : c.loop-i.i < length c.args.self.now.left.items = omega arith in
+    let p = err_from_is_err_and c.from_residual.result c.from_residual.ensures.1 in
+    rw (p.1, p.2) (
+      tt,
+      gone_over c.args.self.now c.loop-i.self c.loop-i.i c.loop-i.invariant short c.in_err-fail_at.field-0.0
+          c.in_err-fail_at.ensures.1,
+    )
 
 pub go_through-loop-i-preserved : goal.go_through-loop-i-preserved
 go_through-loop-i-preserved t c =
     let short : c.loop-i.i < length c.args.self.now.left.items = omega arith in
-    record {
-      tree = c.in_ok-fail_at.ensures.tree ∙ c.loop-i.invariant.tree;
-      order = c.in_ok-fail_at.ensures.order ∙ c.loop-i.invariant.order;
-      left = c.in_ok-fail_at.ensures.left ∙ c.loop-i.invariant.left;
-      few = c.in_ok-fail_at.ensures.listed.1;
-      listed =
-          through_more c.args.self.now.replay.tree c.loop-i.self.replay.tree c.args.self.now.replay.order
-          c.loop-i.self.replay.order c.args.self.now.left.items c.loop-i.self.left.items c.loop-i.i
-          c.args.self.now.orders c.loop-i.self.orders c.fail_at.new.self.orders c.loop-i.invariant.tree
-          c.loop-i.invariant.order c.loop-i.invariant.left short c.loop-i.invariant.listed
-          c.in_ok-fail_at.ensures.listed.0;
-    }
+    gone_more c.args.self.now c.loop-i.self c.loop-i.i c.loop-i.invariant short c.fail_at.new.self
+    c.in_ok-fail_at.ensures.0 c.in_ok-fail_at.ensures.1.0 c.in_ok-fail_at.ensures.1.1
 
-pub go_through-returns-in_err-fail_at-clause-listed : goal.go_through-returns-in_err-fail_at-clause-listed
-go_through-returns-in_err-fail_at-clause-listed t c =
-    let short : c.loop-i.i < length c.args.self.now.left.items = omega arith in
-    let p = err_from_is_err_and c.from_residual.result c.from_residual.ensures.1 in
-    rw (p.1, p.2)
-    (through_over c.args.self.now.replay.tree c.loop-i.self.replay.tree c.args.self.now.replay.order
-    c.loop-i.self.replay.order c.args.self.now.left.items c.loop-i.self.left.items c.loop-i.i
-    c.args.self.now.orders c.loop-i.self.orders c.in_err-fail_at.field-0.0 c.loop-i.invariant.tree
-    c.loop-i.invariant.order c.loop-i.invariant.left short c.loop-i.invariant.listed
-    c.in_err-fail_at.ensures.listed)
-
-pub go_through-returns-clause-listed : goal.go_through-returns-clause-listed
-go_through-returns-clause-listed t c = (
-  through_all c.args.self.now.replay.tree c.args.self.now.replay.order c.args.self.now.left.items c.loop-i.i
-      c.args.self.now.orders c.loop-i.self.orders
-      c.requires.some (omega arith) c.loop-i.invariant.listed,
-  c.loop-i.invariant.few,
+pub go_through-returns : goal.go_through-returns
+go_through-returns t c = (
+  c.loop-i.invariant.back,
+  (
+    gone_all c.args.self.now c.loop-i.self c.loop-i.i c.loop-i.invariant c.requires.some (omega arith),
+    c.loop-i.invariant.few,
+  ),
 )
