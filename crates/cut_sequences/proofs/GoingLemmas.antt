@@ -1,12 +1,11 @@
 -- The search goes through all failing orders of a set.
-use Rattle.std.proofs.Common.{◌≡◌, ℕ, zero, suc, ◌+◌, ◌-◌, ◌<◌, ◌≤◌, Bool, true, false, ◌&&◌, ◌||◌, ◌==◌, List, [], ◌∷◌}
+use Rattle.std.proofs.Common.{◌≡◌, ℕ, zero, suc, ◌+◌, ◌<◌, ◌≤◌, Bool, true, false, ◌&&◌, ◌||◌, ◌==◌, List, [], ◌∷◌}
 use Rattle.std.proofs.Common.{◌++◌, length, get_or, take, drop, map, filter, remove, All, is_some, refl, ap, sym, subst}
 use Rattle.std.proofs.Common.{inl, inr, ◌∙◌, arith, append-nil, append_assoc, length-append, eq-eqb, if◌then◌else◌}
 use Rattle.std.specs.List.{flat_map, AllByRecursion}
 use Rattle.std.specs.List.Sorted.{IsStrictlySortedBy}
 use Rattle.std.specs.Ordering.{nat_cmp}
 use Rattle.std.specs.declared.cmp.Ordering.TheVariants.{Less}
-use Rattle.std.proofs.Math.Seq.{take-append_seam}
 use Rattle.std.proofs.lemmas.Bool.{or_cases, or_left, or_right, false_from_ne_true, both_ways}
 use Rattle.std.proofs.lemmas.Bool.Decides.{nat_tests}
 use Rattle.std.proofs.lemmas.List.{map-append, map-id, get_or-map, length-map, take_more, take_all}
@@ -363,15 +362,3 @@ module _ (search : Search) (i unit : ℕ) (can : CanSearch search search.left.it
 
     pub due_next : due next next.left.items ≡ due_at search i
     due_next = rw (tree, order, left, is) refl
-
-pub taken_back : (before pushed after : Replayed) (unit : ℕ) → pushed.tree ≡ before.tree
-    → pushed.order ≡ before.order ++ unit ∷ [] → after.tree ≡ pushed.tree
-    → after.order ≡ take (length pushed.order - 1) pushed.order → after ≡ before
-taken_back before pushed after unit tree order tree' order' =
-    ap (λ (t : FaultTree). record { tree = t; order = after.order }) (tree' ∙ tree)
-    ∙ ap (λ (o : List ℕ). record { tree = before.tree; order = o }) (order'
-    ∙ ap (λ (o : List ℕ). take (length o - 1) o) order ∙ ap (λ n. take n (before.order ++ unit ∷ [])) one_less
-    ∙ take-append_seam before.order (unit ∷ []))
-  where
-    one_less : length (before.order ++ unit ∷ []) - 1 ≡ length before.order
-    one_less = omega (arith, length-append before.order (unit ∷ []))

@@ -2,7 +2,7 @@
 //!
 //! No worker runs far ahead of the others, so that all stop soon after they have too many orders together.
 ghost use Rattle.std.specs.Prelude.{◌≡◌, ◌<◌, ◌≤◌, ℕ, true, false, length, map, slice_index_or, All, IfOk, IsErrOf};
-ghost use Rattle.std.specs.Prelude.{Contains, Ok, Err, sum_by};
+ghost use Rattle.std.specs.Prelude.{Contains, Ok, Err, None, IfSome, sum_by, ◌+◌, ◌-◌};
 ghost use Rattle.cut_sequences.specs.declared.share.Sets.{Sets};
 ghost use Rattle.cut_sequences.specs.Dealing.{AreShares};
 ghost use Rattle.cut_sequences.specs.Orders.{order_limit, order_total};
@@ -102,6 +102,32 @@ fn has_enough(works: &[Work], stop: Stop) -> bool
     false
 }
 
+// Where the workers stop next, unless none lacks a set before the end: some orders later where one of them has enough,
+// and else some sets further.
+fn next_stop(works: &[Work], end: usize, stop: Stop) -> Option<Stop>
+    requires place { stop.place ≤ end }
+    requires stopped { All (HasStopped stop) works.now }
+    ensures place { IfSome result (λ next. next.place ≤ end) }
+    ensures later { IfSome result (λ next. (end - next.place) + (order_limit - next.orders)
+        < (end - stop.place) + (order_limit - stop.orders)) }
+    ensures done { result ≡ None → All (λ work. end ≤ work.next) works.now }
+{
+    if has_enough(works, stop) {
+        return Some(Stop {
+            orders: stop.orders + ORDERS_A_ROUND,
+            ..stop
+        });
+    }
+    if stop.place >= end {
+        return None;
+    }
+    let further = stop.place.saturating_mul(4);
+    Some(Stop {
+        place: further.saturating_add(FIRST_SETS).min(end),
+        ..stop
+    })
+}
+
 // The rounds from a stop on, until no worker lacks a set before the end.
 fn all_rounds<R: Threads + Sync>(
     rt: &R,
@@ -119,25 +145,10 @@ fn all_rounds<R: Threads + Sync>(
     ensures limit { IsErrOf result OrderEnd.OrderLimit → order_limit < order_total (lists_due sets.entry) }
 {
     let works = round(rt, alloc, sets, stop, works)?;
-    if has_enough(works.as_slice(), stop) {
-        let more = Stop {
-            orders: stop.orders + ORDERS_A_ROUND,
-            ..stop
-        };
-        return all_rounds(rt, alloc, sets, end, more, works);
+    match next_stop(works.as_slice(), end, stop) {
+        Some(next) => all_rounds(rt, alloc, sets, end, next, works),
+        None => Ok(works),
     }
-    if stop.place < end {
-        let further = Stop {
-            place: stop
-                .place
-                .saturating_mul(4)
-                .saturating_add(FIRST_SETS)
-                .min(end),
-            ..stop
-        };
-        return all_rounds(rt, alloc, sets, end, further, works);
-    }
-    Ok(works)
 }
 
 // No worker has listed a set: each begins with the set of its number.

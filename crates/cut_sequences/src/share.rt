@@ -3,7 +3,8 @@ ghost use Rattle.std.specs.Prelude.{◌≡◌, ◌<◌, ◌≤◌, [], length, t
 ghost use Rattle.flat_rows.specs.Rows.{start_of};
 ghost use Rattle.cut_sequences.specs.Orders.{order_limit, order_total, orders_of, orders_at, is_listed};
 ghost use Rattle.cut_sequences.specs.Going.{CanGoOn};
-ghost use Rattle.cut_sequences.specs.Working.{AddsList, AddsSets, CanGrow, CanWork, WentOn, lists_due};
+ghost use Rattle.cut_sequences.specs.Holding.{lists_of, HoldsShare};
+ghost use Rattle.cut_sequences.specs.Working.{AddsList, AddsSets, CanGrow, CanWork, WentOn, lists_due, share_of};
 
 use crate::OrderEnd;
 use crate::search::Search;
@@ -132,6 +133,24 @@ impl<'t> GrowingShare<'t> {
         Ok(())
     }
 
+    // The share as far as it has grown.
+    fn end(self) -> Share
+        requires { HoldsShare (share_of self) }
+        ensures { result ≡ lists_of (share_of self.entry) }
+    {
+        let GrowingShare {
+            search,
+            ends,
+            listed,
+        } = self;
+        let Search { orders, .. } = search;
+        Share {
+            orders,
+            ends,
+            listed,
+        }
+    }
+
     // Lists the orders of a worker's sets from a place on, until the worker has to stop: answers the place of the next
     // set.
     fn add_sets(
@@ -154,6 +173,26 @@ impl<'t> GrowingShare<'t> {
     }
 }
 
+// The search goes on with the orders of a share.
+fn growing_from<'t>(search: Search<'t>, share: Share) -> GrowingShare<'t>
+    ensures search { result.search.replay ≡ search.entry.replay }
+    ensures share { share ≡ lists_of (share_of result) }
+    ensures held { HoldsShare (share_of result) }
+{
+    let Share {
+        orders,
+        ends,
+        listed,
+    } = share;
+    let mut search = search;
+    search.orders = orders;
+    GrowingShare {
+        search,
+        ends,
+        listed,
+    }
+}
+
 /// Goes on with a worker's sets, every so many sets one, until it has to stop.
 pub fn go_on(
     alloc: Global,
@@ -165,32 +204,17 @@ pub fn go_on(
     requires { CanWork sets workers stop }
     ensures { WentOn (lists_due sets.entry) workers stop work result }
 {
-    let mut search = Search::new(alloc, sets.tree)?;
+    let search = Search::new(alloc, sets.tree)?;
     let Work { share, next } = work;
-    let Share {
-        orders,
-        ends,
-        listed,
-    } = share;
-    search.orders = orders;
-    let mut growing = GrowingShare {
-        search,
-        ends,
-        listed,
-    };
-    let next = growing.add_sets(sets, workers, stop, next)?;
-    let GrowingShare {
-        search,
-        ends,
-        listed,
-    } = growing;
-    let Search { orders, .. } = search;
-    Ok(Work {
-        share: Share {
-            orders,
-            ends,
-            listed,
-        },
-        next,
-    })
+    let mut growing = growing_from(search, share);
+    match growing.add_sets(sets, workers, stop, next) {
+        Ok(next) => Ok(Work {
+            share: growing.end(),
+            next,
+        }),
+        Err(end) => {
+            drop(growing);
+            Err(end)
+        }
+    }
 }

@@ -18,7 +18,8 @@ use Rattle.replay_semantics.proofs.GrowthLemmas.{grows-stays, grows-at_most, gro
 use Rattle.replay_semantics.proofs.StepGrowth.{node_step-grows, place-grows, step-at_most}
 use Rattle.replay_semantics.specs.Table.{step_in, has_step, IsTableFor, HoldsSteps}
 use Rattle.replay_semantics.proofs.Places.{among-append, or_nothing, place-other, place-itself}
-use Rattle.replay_semantics.specs.Spread.{AreFailed, HaveFailed, IsSpreading, Turn, step_without, reads_some}
+use Rattle.replay_semantics.specs.declared.failures.Failures.{Failures}
+use Rattle.replay_semantics.specs.Spread.{AreFailed, HaveFailed, HaveMore, IsSpreading, Turn, step_without, reads_some}
 use Rattle.replay_semantics.specs.Readers.{readers_in, AreReaders}
 use Rattle.replay_semantics.proofs.FixedLemmas.{fixed-step, settled_table, node_step-place, node_step-some}
 use Rattle.replay_semantics.proofs.FixedLemmas.{node_step-placed, node_step-others}
@@ -431,6 +432,11 @@ enter tree rows readers turn steps log next node short is spreading =
 pub few_failed : (tree : FaultTree) (steps : List Step) (log : List ℕ) → AreFailed tree steps log
     → length log ≤ node_count tree
 few_failed tree steps log kept = few_distinct (node_count tree) log kept.distinct kept.nodes
+
+pub more_again : (tree : FaultTree) (before now after : Failures) → HaveMore tree before now → HaveMore tree now after
+    → HaveMore tree before after
+more_again tree before now after more again =
+    record { can = again.can; longer = omega (arith, more.longer, again.longer) }
 
 -- ---- taking steps away again
 

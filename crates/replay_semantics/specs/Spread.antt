@@ -1,12 +1,13 @@
 -- How a failure spreads to all that reads a failed node, and what has been reached on the way.
 use Rattle.std.specs.Prelude.{◌≡◌, ◌⊎◌, ℕ, ◌≤◌, Bool, true, false, ◌||◌, List, length, take, drop, is_some, All}
-use Rattle.std.specs.Prelude.{if◌then◌else◌}
+use Rattle.std.specs.Prelude.{if◌then◌else◌, vec_capacity}
 use Rattle.std.specs.List.{list_any}
 use Rattle.unit_sets.specs.UnitList.{among}
 use Rattle.fault_model.specs.Order.{AreDistinct}
-use Rattle.fault_definitions.specs.Tree.{FaultTree, IsNodeOf, is_above_units}
+use Rattle.fault_definitions.specs.Tree.{FaultTree, IsNodeOf, is_above_units, node_count}
 use Rattle.fault_definitions.specs.Trigger.{below}
 use Rattle.fault_definitions.specs.Step.{Step, never, place, node_step}
+use Rattle.replay_semantics.specs.declared.failures.Failures.{Failures}
 use Rattle.replay_semantics.specs.Growth.{AllGrow}
 use Rattle.replay_semantics.specs.Table.{step_in, has_step, IsTableFor, HoldsSteps}
 
@@ -17,6 +18,16 @@ pub record AreFailed (tree : FaultTree) (steps : List Step) (log : List ℕ) : T
   pub nodes : All (IsNodeOf tree) log
   pub distinct : AreDistinct log
   pub failed : All (λ node. has_step steps node ≡ true) log
+
+-- the same of failures in a tree, which have room for each node's
+pub record CanFail (tree : FaultTree) (failures : Failures) : Type 0 where
+  pub kept : AreFailed tree failures.steps.items failures.log.items
+  pub room : node_count tree ≤ vec_capacity failures.log
+
+-- none or more nodes have failed besides
+pub record HaveMore (tree : FaultTree) (before after : Failures) : Type 0 where
+  pub can : CanFail tree after
+  pub longer : length before.log.items ≤ length after.log.items
 
 -- the steps without those of some nodes
 abbrev pub step_without : List ℕ → List Step → ℕ → Step
@@ -52,6 +63,10 @@ pub record IsSpreading (tree : FaultTree) (turn : Turn) (steps : List Step) (log
   pub right : (node : ℕ) → IsNodeOf tree node
       → (step_in steps node ≡ node_step tree turn.longer (step_in steps) node)
       ⊎ ((step_in steps node ≡ never) × ((among todo node || reads_some tree (drop next log) node) ≡ true))
+
+-- the same of failures
+abbrev pub Spread : FaultTree → Turn → Failures → List ℕ → ℕ → Type 0
+Spread tree turn failures todo next = IsSpreading tree turn failures.steps.items failures.log.items todo next
 
 -- a unit has failed, with all that fails by it: the table has the steps under the longer order, and without those of
 -- the nodes that failed now it is as before

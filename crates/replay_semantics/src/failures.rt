@@ -6,7 +6,7 @@ ghost use Rattle.fault_definitions.specs.Tree.{IsNodeOf, IsUnitOf, node_count};
 ghost use Rattle.fault_definitions.specs.WellFormed.{IsTree};
 ghost use Rattle.replay_semantics.specs.Admission.{all_in_turn};
 ghost use Rattle.replay_semantics.specs.Readers.{readers_in, AreReaders};
-ghost use Rattle.replay_semantics.specs.Spread.{AreFailed, HaveFailed, IsSpreading, Turn, step_without};
+ghost use Rattle.replay_semantics.specs.Spread.{CanFail, HaveFailed, HaveMore, Spread, Turn, step_without};
 ghost use Rattle.replay_semantics.specs.Table.{step_in, has_step, AreIn, HoldsSteps};
 
 use crate::admission::keep_turns;
@@ -36,43 +36,27 @@ impl Failures {
         })
     }
 
-    // A node fails.
-    fn fail(&mut self, node: NodeNo, at: u16)
-        requires node { node < length self.old.steps.items }
-        requires room { vec_len self.old.log < vec_capacity self.old.log }
+    // A node fails that had not failed.
+    fn fail_first(&mut self, tree: &Tree, node: NodeNo, at: u16)
+        requires node { IsNodeOf tree.now node }
+        requires can { CanFail tree.now self.old }
+        requires fresh { has_step self.old.steps.items node ≡ false }
+        ensures more { HaveMore tree.now self.old self.new }
         ensures steps { self.new.steps.items ≡ slice_set self.old.steps.items node (Some at) }
         ensures log { self.new.log.items ≡ self.old.log.items ++ node ∷ [] }
-        ensures room { vec_capacity self.new.log ≡ vec_capacity self.old.log }
     {
         self.steps[node.number() as usize] = Some(at);
         self.log.push_reserved(node);
     }
 
-    // A node fails that had not failed.
-    fn fail_first(&mut self, tree: &Tree, node: NodeNo, at: u16)
-        requires node { IsNodeOf tree.now node }
-        requires kept { AreFailed tree.now self.old.steps.items self.old.log.items }
-        requires room { node_count tree.now ≤ vec_capacity self.old.log }
-        requires fresh { has_step self.old.steps.items node ≡ false }
-        ensures kept { AreFailed tree.now self.new.steps.items self.new.log.items }
-        ensures steps { self.new.steps.items ≡ slice_set self.old.steps.items node (Some at) }
-        ensures log { self.new.log.items ≡ self.old.log.items ++ node ∷ [] }
-        ensures room { vec_capacity self.new.log ≡ vec_capacity self.old.log }
-    {
-        self.fail(node, at);
-    }
-
     // Lets a node fail that has not, where it does by what it reads.
     fn reach(&mut self, tree: &Tree, node: NodeNo, at: u16)
         requires node { IsNodeOf tree.now node }
-        requires kept { AreFailed tree.now self.old.steps.items self.old.log.items }
-        requires room { node_count tree.now ≤ vec_capacity self.old.log }
-        ensures kept { AreFailed tree.now self.new.steps.items self.new.log.items }
-        ensures room { vec_capacity self.new.log ≡ vec_capacity self.old.log }
-        ensures longer { length self.old.log.items ≤ length self.new.log.items }
+        requires can { CanFail tree.now self.old }
+        ensures more { HaveMore tree.now self.old self.new }
         ensures spreads { (turn : Turn) (todo : List ℕ) (next : ℕ) → turn.last ≡ at
-            → IsSpreading tree.now turn self.old.steps.items self.old.log.items (node ∷ todo) next
-            → IsSpreading tree.now turn self.new.steps.items self.new.log.items todo next }
+            → Spread tree.now turn self.old (node ∷ todo) next
+            → Spread tree.now turn self.new todo next }
     {
         if has_failed(&self.steps, node) {
             return;
@@ -85,14 +69,11 @@ impl Failures {
     // The same of several nodes.
     fn reach_each(&mut self, tree: &Tree, nodes: &[NodeNo], at: u16)
         requires nodes { All (IsNodeOf tree.now) nodes.now }
-        requires kept { AreFailed tree.now self.old.steps.items self.old.log.items }
-        requires room { node_count tree.now ≤ vec_capacity self.old.log }
-        ensures kept { AreFailed tree.now self.new.steps.items self.new.log.items }
-        ensures room { vec_capacity self.new.log ≡ vec_capacity self.old.log }
-        ensures longer { length self.old.log.items ≤ length self.new.log.items }
+        requires can { CanFail tree.now self.old }
+        ensures more { HaveMore tree.now self.old self.new }
         ensures spreads { (turn : Turn) (next : ℕ) → turn.last ≡ at
-            → IsSpreading tree.now turn self.old.steps.items self.old.log.items nodes.now next
-            → IsSpreading tree.now turn self.new.steps.items self.new.log.items [] next }
+            → Spread tree.now turn self.old nodes.now next
+            → Spread tree.now turn self.new [] next }
     {
         for node in nodes {
             self.reach(tree, *node, at);
@@ -103,14 +84,11 @@ impl Failures {
     fn spread(&mut self, tree: &Tree, readers: &Rows<NodeNo>, start: usize, at: u16)
         requires readers { AreReaders tree.now readers.now }
         requires start { start ≤ length self.old.log.items }
-        requires kept { AreFailed tree.now self.old.steps.items self.old.log.items }
-        requires room { node_count tree.now ≤ vec_capacity self.old.log }
-        ensures kept { AreFailed tree.now self.new.steps.items self.new.log.items }
-        ensures room { vec_capacity self.new.log ≡ vec_capacity self.old.log }
-        ensures longer { length self.old.log.items ≤ length self.new.log.items }
+        requires can { CanFail tree.now self.old }
+        ensures more { HaveMore tree.now self.old self.new }
         ensures spreads { (turn : Turn) → turn.last ≡ at
-            → IsSpreading tree.now turn self.old.steps.items self.old.log.items [] start
-            → IsSpreading tree.now turn self.new.steps.items self.new.log.items [] (length self.new.log.items) }
+            → Spread tree.now turn self.old [] start
+            → Spread tree.now turn self.new [] (length self.new.log.items) }
     {
         let mut next = start;
         while next < self.log.len() {
@@ -125,11 +103,8 @@ impl Failures {
         requires tree { IsTree tree.now }
         requires readers { AreReaders tree.now readers.now }
         requires unit { IsNodeOf tree.now unit }
-        requires kept { AreFailed tree.now self.old.steps.items self.old.log.items }
-        requires room { node_count tree.now ≤ vec_capacity self.old.log }
-        ensures kept { AreFailed tree.now self.new.steps.items self.new.log.items }
-        ensures room { vec_capacity self.new.log ≡ vec_capacity self.old.log }
-        ensures longer { length self.old.log.items ≤ length self.new.log.items }
+        requires can { CanFail tree.now self.old }
+        ensures more { HaveMore tree.now self.old self.new }
         ensures failed { (order : List ℕ) → IsUnitOf tree.now unit → suc (length order) ≡ at
             → HoldsSteps tree.now order self.old.steps.items
             → HaveFailed tree.now (order ++ unit ∷ []) self.old.steps.items self.new.steps.items self.old.log.items
@@ -147,7 +122,7 @@ impl Failures {
     /// gate asks for that.
     pub fn keep_turns(&self, tree: &Tree, readers: &Rows<NodeNo>, start: usize) -> bool
         requires readers { AreReaders tree.now readers.now }
-        requires kept { AreFailed tree.now self.now.steps.items self.now.log.items }
+        requires can { CanFail tree.now self.now }
         requires start { start ≤ length self.now.log.items }
         ensures { result ≡ all_in_turn tree.now readers.now self.now.steps.items (drop start self.now.log.items) }
     {

@@ -9,7 +9,7 @@ ghost use Rattle.fault_definitions.specs.Tree.{IsUnitOf, node_count};
 ghost use Rattle.fault_definitions.specs.WellFormed.{IsTree};
 ghost use Rattle.replay_semantics.specs.Held.{admitted_after};
 ghost use Rattle.replay_semantics.specs.Readers.{AreReaders};
-ghost use Rattle.replay_semantics.specs.Spread.{AreFailed, HaveFailed};
+ghost use Rattle.replay_semantics.specs.Spread.{CanFail, HaveFailed};
 ghost use Rattle.replay_semantics.specs.Table.{HoldsSteps};
 
 use crate::admission::all_await;
@@ -77,10 +77,8 @@ fn fail_next(
     requires tree { IsTree tree.now }
     requires readers { AreReaders tree.now readers.now }
     requires unit { IsUnitOf tree.now unit }
-    requires kept { AreFailed tree.now failures.old.steps.items failures.old.log.items }
-    requires room { node_count tree.now ≤ vec_capacity failures.old.log }
-    ensures kept { AreFailed tree.now failures.new.steps.items failures.new.log.items }
-    ensures room { vec_capacity failures.new.log ≡ vec_capacity failures.old.log }
+    requires can { CanFail tree.now failures.old }
+    ensures can { CanFail tree.now failures.new }
     ensures failed { (order : List ℕ) → suc (length order) ≡ at → HoldsSteps tree.now order failures.old.steps.items
         → HaveFailed tree.now (order ++ unit ∷ []) failures.old.steps.items failures.new.steps.items
         failures.old.log.items failures.new.log.items }

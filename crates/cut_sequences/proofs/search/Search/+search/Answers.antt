@@ -6,8 +6,21 @@ use Rattle.std.proofs.lemmas.Result.{err_from_is_err_and}
 use Rattle.fault_definitions.specs.FailingOrder.{is_admissible}
 use Rattle.cut_sequences.specs.declared.search.Search.{Search}
 use Rattle.cut_sequences.specs.Orders.{IsOver}
-use Rattle.cut_sequences.proofs.GoingLemmas.{pruned, can_next, due_next, gone_all, gone_more, gone_over}
+use Rattle.cut_sequences.proofs.GoingLemmas.{pruned, is_unit, is_fresh, can_next, due_next, can_still, gone_all}
+use Rattle.cut_sequences.proofs.GoingLemmas.{gone_more, gone_over}
 use Rattle.cut_sequences.proofs.search.Search.+search.Goals as goal
+
+pub fail_at-push-pushed-requires-clause-unit : goal.fail_at-push-pushed-requires-clause-unit
+fail_at-push-pushed-requires-clause-unit t c =
+    let before : Search = c.args.self.now in
+    is_unit before c.args.i c.remove-unit.result c.requires.can c.requires.within
+    (get_or_read before.left.items c.args.i c.remove-unit.result c.requires.within c.remove-unit.ensures.value 0)
+
+pub fail_at-push-pushed-requires-clause-fresh : goal.fail_at-push-pushed-requires-clause-fresh
+fail_at-push-pushed-requires-clause-fresh t c =
+    let before : Search = c.args.self.now in
+    is_fresh before c.args.i c.remove-unit.result c.requires.can c.requires.within
+    (get_or_read before.left.items c.args.i c.remove-unit.result c.requires.within c.remove-unit.ensures.value 0)
 
 pub fail_at-go_on-requires : goal.fail_at-go_on-requires
 fail_at-go_on-requires t c =
@@ -50,6 +63,16 @@ go_on-returns-then-not-pushed t c =
             (pruned before.replay.tree before.replay.order before.left.items c.requires.can.units lacks)
             ∙ append-nil before.orders),
         c.requires.can.few,
+      ),
+    )
+
+pub go_through-fail_at-requires : goal.go_through-fail_at-requires
+go_through-fail_at-requires t c =
+    let short : c.loop-i.i < length c.args.self.now.left.items = omega arith in (
+      search rules,
+      (
+        can_still c.args.self.now c.loop-i.self c.loop-i.i c.loop-i.invariant short c.requires.can,
+        omega (arith, ap length c.loop-i.invariant.back.left, short),
       ),
     )
 

@@ -1,16 +1,24 @@
-use Rattle.std.proofs.Common.{arith}
+use Rattle.std.proofs.Common.{ap, length, arith}
+use Rattle.std.proofs.lemmas.List.{length_push}
 use Rattle.replay_semantics.proofs.LogLemmas.{room_for_more, failed_more}
 use Rattle.replay_semantics.proofs.failures.Failures.fail_first.Goals as goal
 
-pub fail-requires-clause-room : goal.fail-requires-clause-room
-fail-requires-clause-room c =
+pub push_reserved-requires : goal.push_reserved-requires
+push_reserved-requires c =
     let room =
-    room_for_more c.args.tree.now c.args.self.now.steps.items c.args.self.now.log.items c.requires.kept c.args.node
+    room_for_more c.args.tree.now c.args.self.now.steps.items c.args.self.now.log.items c.requires.can.kept c.args.node
     c.requires.node c.requires.fresh in
-    omega arith
+    omega (arith, room, c.requires.can.room)
 
-pub returns-clause-kept : goal.returns-clause-kept
-returns-clause-kept c =
-    rw (c.fail.ensures.steps, c.fail.ensures.log)
-    (failed_more c.args.tree.now c.args.self.now.steps.items c.args.self.now.log.items c.requires.kept c.args.node
-    c.requires.node c.requires.fresh c.args.at)
+pub returns-clause-more : goal.returns-clause-more
+returns-clause-more c = record {
+  can = record {
+    kept =
+        rw (c.push_reserved.ensures.items, c.number.ensures)
+        (failed_more c.args.tree.now c.args.self.now.steps.items c.args.self.now.log.items c.requires.can.kept
+        c.args.node c.requires.node c.requires.fresh c.args.at);
+    room = omega (arith, c.push_reserved.ensures.capacity, c.requires.can.room);
+  };
+  longer =
+      omega (arith, ap length c.push_reserved.ensures.items, length_push c.args.self.now.log.items c.args.node);
+}

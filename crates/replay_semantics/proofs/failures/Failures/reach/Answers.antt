@@ -15,5 +15,5 @@ returns-then-node_fails-clause-spreads c = λ turn todo next last spreading.
     ap (λ (s : List Step). node_fails c.args.tree.now (step_in s) c.args.node) (sym c.deref-2.ensures.value)
     ∙ sym c.node_fails.ensures ∙ c.if-node_fails.true in
     rw (c.fail_first.ensures.steps, c.fail_first.ensures.log, ← last)
-    (fails_more c.args.tree.now turn steps c.args.self.now.log.items todo next c.args.node c.requires.kept.table
+    (fails_more c.args.tree.now turn steps c.args.self.now.log.items todo next c.args.node c.requires.can.kept.table
     c.requires.node spreading has fails)

@@ -69,9 +69,9 @@ invariant_of-self c =
       )
           (holds_more tree c.self.inside.readers steps log order starts c.self.inside.admitted (held at) c.args.unit
           (is_unit at) (fresh at) c.fail_next-fits.new.failures.steps.items c.fail_next-fits.new.failures.log.items
-          c.fail_next-fits.result c.fail_next-fits.ensures.kept (c.fail_next-fits.ensures.failed order last holds)
+          c.fail_next-fits.result c.fail_next-fits.ensures.can.kept (c.fail_next-fits.ensures.failed order last holds)
           (c.fail_next-fits.ensures.fits order last (fresh at) holds)),
-      omega (arith, c.fail_next-fits.ensures.room, c.self.invariant.1),
+      c.fail_next-fits.ensures.can.room,
       omega (arith, c.push_reserved.ensures.capacity, c.self.invariant.2),
       omega (arith, c.push_reserved-2.ensures.capacity, c.self.invariant.3),
     )
