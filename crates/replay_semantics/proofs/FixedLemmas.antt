@@ -1,6 +1,6 @@
 -- The steps of a tree are the one solution of the rule that each node's step is by those of what it reads.
-use Rattle.std.proofs.Common.{◌≡◌, ◌≢◌, ℕ, zero, suc, ◌<◌, Bool, true, false, List, [], ◌∷◌, length, get_or, Some, None}
-use Rattle.std.proofs.Common.{is_some, if◌then◌else◌, refl, arith, ap, sym, ◌∙◌}
+use Rattle.std.proofs.Common.{◌≡◌, ◌≢◌, ℕ, zero, suc, ◌<◌, Bool, true, false, List, [], ◌∷◌, length, get_or}
+use Rattle.std.proofs.Common.{is_some, if◌then◌else◌, arith, ap, sym, ◌∙◌}
 use Rattle.std.proofs.lemmas.Bool.{or_left, or_right, cond-false}
 use Rattle.unit_sets.specs.UnitList.{among}
 use Rattle.unit_sets.proofs.UnitListLemmas.{among-from_Contains}
@@ -53,10 +53,6 @@ module _ (tree : FaultTree) (f : ℕ → Step) (node : ℕ) where
       → is_some (if above then gate else earlier own triggered) ≡ true
   choice_some true gate own triggered h = h
   choice_some false gate own triggered h = earlier-some own triggered ∙ or_right (is_some own) (is_some triggered) h
-
-  is_none : (at : Step) → is_some at ≡ false → at ≡ never
-  is_none None h = refl
-  is_none (Some n) h = absurd cc
 
   pub node_step-some : (order : List ℕ) → node_fails tree f node ≡ true → is_some (node_step tree order f node) ≡ true
   node_step-some order h =

@@ -242,9 +242,6 @@ module _ (tree : FaultTree) (rows : List (List ℕ)) (steps : List Step) (log or
               ∙ held.back at inner node is_node
               ∙ ap (λ w. step tree w node) (sym (take-append-le at order (unit ∷ []) inner))
 
-      up_to' : ℕ
-      up_to' = admitted_after up_to (length order) fits
-
       after_true : ((up_to == length order) && fits) ≡ true
           → admitted_after up_to (length order) fits ≡ suc (length order)
       after_true all = cond-true ((up_to == length order) && fits) (suc (length order)) up_to all

@@ -18,20 +18,6 @@ All-from_among P xs each k d short =
     each (get_or xs k d) (among-from_Contains xs (get_or xs k d) (Contains-get_or xs k d short))
 
 -- the last of some nodes is among them
-pub among-at : (xs : List ℕ) (k d : ℕ) → k < length xs → among xs (get_or xs k d) ≡ true
-among-at xs k d short = among-from_Contains xs (get_or xs k d) (Contains-get_or xs k d short)
-
-pub no_more : (rows : List (List ℕ)) (node reader : ℕ) → among (readers_in rows node) reader ≡ true
-    → MoreReaders rows rows (node ∷ []) reader
-no_more rows node reader has = record {
-  all = refl;
-  added =
-      λ n one. let same : node ≡ n = eqb-true node n (sym (or_nothing (node == n)) ∙ one) in
-      subst (λ (m : ℕ). among (readers_in rows m) reader ≡ true) same has;
-  kept = λ n other h. h;
-  only = λ n other h. inl h;
-}
-
 pub one_more : (rows : List (List ℕ)) (node reader : ℕ) → node < length rows
     → MoreReaders rows (set rows node (readers_in rows node ++ reader ∷ [])) (node ∷ []) reader
 one_more rows node reader short =
@@ -69,14 +55,6 @@ one_more rows node reader short =
         | inr apart ↦ inl (sym (ap (λ xs. among xs other) (get_or-set_other rows node n row [] apart)) ∙ h)
       ];
     }
-
-pub none_more : (rows : List (List ℕ)) (reader : ℕ) → MoreReaders rows rows [] reader
-none_more rows reader = record {
-  all = refl;
-  added = λ n none. absurd cc;
-  kept = λ n other h. h;
-  only = λ n other h. inl h;
-}
 
 replicate_at : (count node : ℕ) → readers_in (replicate count (let none : List ℕ = [] in none)) node ≡ []
 replicate_at zero node = refl

@@ -153,28 +153,6 @@ module _ (tree : FaultTree) (turn : Turn) (steps : List Step) (log todo : List �
   waits_apart n apart =
       ap (λ (b : Bool). (b || among todo n) || reads_some tree (drop next log) n) (ne_eqb node n (λ e. apart (sym e)))
 
-  -- the node has failed already, or it does not yet fail
-  passes : step_in steps node ≡ node_step tree turn.longer (step_in steps) node
-      → IsSpreading tree turn steps log todo next
-  passes here = record {
-    places = spreading.places;
-    settled = spreading.settled;
-    low = spreading.low;
-    high = spreading.high;
-    front = spreading.front;
-    grown = spreading.grown;
-    undone = spreading.undone;
-    placed = spreading.placed;
-    right = λ n in_tree. elim (cases_eq n node) [
-      | inl same ↦ inl (subst (λ (m : ℕ). step_in steps m ≡ node_step tree turn.longer (step_in steps) m) (sym same)
-          here)
-      | inr apart ↦ elim (spreading.right n in_tree) [
-        | inl fits ↦ inl fits
-        | inr waits ↦ inr (waits.0, sym (waits_apart n apart) ∙ waits.1)
-      ]
-    ];
-  }
-
   pub fails_more : has_step steps node ≡ false → node_fails tree (step_in steps) node ≡ true
       → IsSpreading tree turn (set steps node (Some turn.last)) (log ++ node ∷ []) todo next
   fails_more has fails =
