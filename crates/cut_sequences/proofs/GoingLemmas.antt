@@ -282,13 +282,6 @@ pub record HasGone (before now : Search) (i : ℕ) : Type 0 where
   pub few : length now.orders ≤ order_limit
   pub listed : now.orders ≡ before.orders ++ due_below before i
 
-pub gone_nowhere : (search : Search) → CanSearch search search.left.items → HasGone search search 0
-gone_nowhere search can = record {
-  back = record { replay = refl; left = refl };
-  few = can.few;
-  listed = sym (append-nil search.orders);
-}
-
 pub gone_all : (before now : Search) (i : ℕ) → HasGone before now i → 0 < length before.left.items
     → i ≡ length before.left.items → now.orders ≡ before.orders ++ due before before.left.items
 gone_all before now i gone some all =
