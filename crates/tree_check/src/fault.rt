@@ -40,7 +40,7 @@ pub enum CheckCode {
 }
 
 /// Why a text was refused.
-#[derive(Clone, Copy)]
+#[derive(Clone, Copy, Debug)]
 pub enum CheckFault {
     /// The first class that occurs, and its first place.
     Fault(CheckCode, Place),
