@@ -3,10 +3,8 @@ use Rattle.std.proofs.Common.{◌≡◌, ℕ, ◌+◌, ◌-◌, true, List, [], 
 use Rattle.std.proofs.Common.{◌∙◌, subst, inl, inr, arith}
 use Rattle.std.specs.Prelude.{All, OnOk, Result, Ok, Err, codes}
 use Rattle.std.specs.List.{flat_map}
-use Rattle.std.proofs.lemmas.Bool.{cases_lt}
-use Rattle.std.proofs.lemmas.List.{get_or_default}
-use Rattle.std.proofs.lemmas.List.Concat.{flat_map-append}
-use Rattle.std.proofs.lemmas.List.Folds.{flat_map-map}
+use Rattle.std.proofs.{lemmas.Bool.cases_lt, lemmas.List.get_or_default, lemmas.List.Concat.flat_map-append}
+use Rattle.std.proofs.{lemmas.List.Folds.flat_map-map}
 use Rattle.fault_words.specs.Name.{is_name}
 use Rattle.fault_definitions.specs.Tree.{FaultTree, IsGateOf, IsUnitOf, inputs_of, kind_of, name_of, unit_count}
 use Rattle.fault_definitions.specs.WellFormed.{IsTree}

@@ -1,8 +1,7 @@
 -- The sums of a history.
 use Rattle.std.specs.Prelude.{ℕ, ◌≤◌, Bool, List, length, take}
-use Rattle.std.proofs.Common.{arith}
-use Rattle.std.proofs.lemmas.List.{length-take-le}
-use Rattle.std.proofs.lemmas.List.Sums.{count_by-le-length, length-filter}
+use Rattle.std.proofs.{Common.arith, lemmas.List.length-take-le, lemmas.List.Sums.count_by-le-length}
+use Rattle.std.proofs.{lemmas.List.Sums.length-filter}
 use Rattle.margin_policy.specs.declared.request.Reply.{Reply}
 use Rattle.outage_board.specs.declared.entry.Entry.{Entry}
 use Rattle.board_report.specs.SummaryText.{reply_count}

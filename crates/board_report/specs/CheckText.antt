@@ -1,8 +1,7 @@
 -- The text of the command `check`: that the deck is well formed, and how large it is.
 use Rattle.std.specs.Prelude.{ℕ, List, [], ◌++◌, length, codes, decimal, Option, Some, None}
 use Rattle.fault_definitions.specs.Tree.{FaultTree}
-use Rattle.crew_script.specs.Dockets.{request_count}
-use Rattle.crew_script.specs.declared.dockets.Crew.{Crew}
+use Rattle.crew_script.specs.{Dockets.request_count, declared.dockets.Crew.Crew}
 use Rattle.cut_texts.specs.CutsText.{titled_line}
 
 -- `crews: N, requests: R`, where there is a crew part

@@ -3,8 +3,7 @@ use Rattle.std.specs.Prelude.{◌≡◌, ℕ, ◌+◌, true, List, ◌++◌, All
 use Rattle.std.specs.List.{flat_map, range_with_len}
 use Rattle.fault_words.specs.Name.{is_name}
 use Rattle.fault_definitions.specs.Tree.{FaultTree, unit_count, gate_count, name_of, kind_of, inputs_of, attributes_of}
-use Rattle.deck_reading.specs.TreeStatements.{HasNames}
-use Rattle.deck_reading.specs.Written.{attribute_text, quoted}
+use Rattle.deck_reading.specs.{TreeStatements.HasNames, Written.attribute_text, Written.quoted}
 use Rattle.text_pieces.specs.GateWords.{gate_word}
 
 -- `toplevel "NAME";`

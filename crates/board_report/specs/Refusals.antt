@@ -8,9 +8,8 @@ use Rattle.tree_check.specs.declared.fault.CheckCode.{CheckCode}
 use Rattle.tree_check.specs.declared.fault.CheckCode.TheVariants as check
 use Rattle.crew_script.specs.declared.fault.CrewCode.{CrewCode}
 use Rattle.crew_script.specs.declared.fault.CrewCode.TheVariants as crew
-use Rattle.deck_reading.specs.declared.fault.FaultCode.{FaultCode}
+use Rattle.deck_reading.specs.{declared.fault.FaultCode.FaultCode, declared.fault.DeckFault.DeckFault}
 use Rattle.deck_reading.specs.declared.fault.FaultCode.TheVariants.{Lex, Expected, Check, Crew}
-use Rattle.deck_reading.specs.declared.fault.DeckFault.{DeckFault}
 use Rattle.board_report.specs.declared.notice.Notice.{Notice}
 use Rattle.board_report.specs.declared.notice.Notice.TheVariants.{Usage, ReadFault, TooLong, ListLimit, OrderLimit}
 

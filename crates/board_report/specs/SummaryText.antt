@@ -3,12 +3,9 @@
 use Rattle.std.specs.Prelude.{ℕ, Bool, true, false, List, ◌++◌, length, filter, codes, decimal, Option}
 use Rattle.fault_definitions.specs.Tree.{FaultTree, unit_count, gate_count}
 use Rattle.cut_sequences.specs.Orders.{order_total}
-use Rattle.margin_policy.specs.Decide.{is_granted}
-use Rattle.margin_policy.specs.Held.{units_out}
-use Rattle.margin_policy.specs.declared.request.Reply.{Reply}
-use Rattle.margin_policy.specs.declared.request.Reply.TheVariants.{Granted, Denied}
-use Rattle.outage_board.specs.Boards.{BoardView, standing_of}
-use Rattle.outage_board.specs.declared.entry.Entry.{Entry}
+use Rattle.margin_policy.specs.{Decide.is_granted, Held.units_out, declared.request.Reply.Reply}
+use Rattle.margin_policy.specs.{declared.request.Reply.TheVariants.Granted, declared.request.Reply.TheVariants.Denied}
+use Rattle.outage_board.specs.{Boards.BoardView, Boards.standing_of, declared.entry.Entry.Entry}
 use Rattle.board_texts.specs.BoardText.{out_head}
 use Rattle.cut_texts.specs.CutsText.{count_line}
 

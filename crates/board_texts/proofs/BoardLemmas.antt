@@ -3,15 +3,12 @@ use Rattle.std.specs.Prelude.{◌≡◌, ℕ, zero, suc, ◌+◌, ◌<◌, ◌�
 use Rattle.std.specs.Prelude.{length, drop, get_or, All, Option, Some, None, is_some, codes, cond}
 use Rattle.std.specs.List.{flat_map}
 use Rattle.std.proofs.Common.{refl, sym, ap, ◌∙◌, subst, arith, inl, inr, append-nil, append_assoc, add-one}
-use Rattle.std.proofs.lemmas.Bool.{cases_lt}
-use Rattle.std.proofs.lemmas.List.{drop_more, drop_all}
-use Rattle.std.proofs.lemmas.List.Concat.{flat_map-append}
+use Rattle.std.proofs.{lemmas.Bool.cases_lt, lemmas.List.drop_more, lemmas.List.drop_all}
+use Rattle.std.proofs.{lemmas.List.Concat.flat_map-append}
 use Rattle.edge_io.specs.Out.{Output, Puts, has_failed}
 use Rattle.edge_io.proofs.OutLemmas.{Puts-none, Puts-trans}
-use Rattle.unit_sets.specs.Unit.{IsUnit}
+use Rattle.unit_sets.specs.{Unit.IsUnit, Words.passing_below, declared.request.CrewNo.CrewNo}
 use Rattle.unit_sets.proofs.UnitListLemmas.{Contains-from_among}
-use Rattle.unit_sets.specs.Words.{passing_below}
-use Rattle.unit_sets.specs.declared.request.CrewNo.{CrewNo}
 use Rattle.residual_ledger.proofs.Passing.{passing-more, passing-none, length-passing-more}
 use Rattle.residual_ledger.specs.Residual.{residual, cut_at}
 use Rattle.fault_definitions.specs.Tree.{FaultTree, name_of, unit_count}
@@ -19,9 +16,8 @@ use Rattle.crew_script.specs.declared.dockets.Crew.{Crew}
 use Rattle.margin_policy.specs.Held.{Held, holder_of, units_out}
 use Rattle.margin_policy.proofs.HeldLaws.{is_held, among-units_out}
 use Rattle.margin_policy.specs.Standing.{StandingView}
-use Rattle.outage_board.specs.declared.entry.Entry.{Entry}
-use Rattle.outage_board.specs.Histories.{standing_after, after_entry}
-use Rattle.outage_board.specs.Boards.{BoardView, standing_of}
+use Rattle.outage_board.specs.{declared.entry.Entry.Entry, Histories.standing_after, Histories.after_entry}
+use Rattle.outage_board.specs.{Boards.BoardView, Boards.standing_of}
 use Rattle.text_pieces.specs.Shown.{show}
 use Rattle.board_texts.specs.BoardText.{IsDeckOf, holder_text, left_line, left_lines, out_line}
 use Rattle.board_texts.specs.LogText.{entry_line, entry_lines}
@@ -34,9 +30,9 @@ units_after : (standing : StandingView) (history : List Entry)
 units_after standing [] = refl
 units_after standing (entry ∷ entries) = units_after (after_entry standing entry) entries
 
-pub units_at_end : (tree : FaultTree) (board : BoardView) → IsDeckOf tree board.deck
+pub units_at_end : {tree : FaultTree} (board : BoardView) → IsDeckOf tree board.deck
     → (standing_of board).units ≡ unit_count tree
-units_at_end tree board deck = units_after board.deck.opening board.history ∙ deck.units
+units_at_end board deck = units_after board.deck.opening board.history ∙ deck.units
 
 -- ---- the units that are out
 
@@ -103,11 +99,11 @@ pub next_left : (out : List ℕ) (cuts : List (List ℕ)) (i : ℕ) → i < leng
     ++ left_lines out (i + 1 + 1) (drop (i + 1) cuts)
 next_left out cuts i short = ap (left_lines out (i + 1)) (drop_more cuts i [] short)
 
-pub next_entry : (crews : List Crew) (history : List Entry) (i : ℕ) (entry : Entry) → i < length history
+pub next_entry : (crews : List Crew) (history : List Entry) (i : ℕ) {entry : Entry} → i < length history
     → entry ≡ get_or history i entry
     → entry_lines crews (i + 1) (drop i history) ≡ entry_line crews (i + 1) entry
     ++ entry_lines crews (i + 1 + 1) (drop (i + 1) history)
-next_entry crews history i entry short is =
+next_entry crews history i {entry} short is =
     ap (entry_lines crews (i + 1)) (drop_more history i entry short)
     ∙ ap (λ e. entry_line crews (i + 1) e ++ entry_lines crews (i + 1 + 1) (drop (i + 1) history)) (sym is)
 
@@ -116,10 +112,10 @@ one_at_most true = omega arith
 one_at_most false = omega arith
 
 -- one more number is counted
-pub counted_more : (held : Held) (number count one : ℕ) → count ≡ length (passing_below (is_held held) number)
+pub counted_more : (held : Held) (number : ℕ) {count one : ℕ} → count ≡ length (passing_below (is_held held) number)
     → one ≡ cond (is_held held number) 1 0
     → count + one ≡ length (passing_below (is_held held) (number + 1))
-counted_more held number count one was is =
+counted_more held number was is =
     let more = length-passing-more (is_held held) number in
     let next : length (passing_below (is_held held) (number + 1)) ≡ length (passing_below (is_held held) (suc number)) =
     ap (λ n. length (passing_below (is_held held) n)) (add-one number) in
@@ -144,24 +140,23 @@ module _ {K : Type 0} (taken : K → Option (List ℕ)) (faults : K → ℕ) (li
       ∙ ap (flat_map line) (sym (passing-more test number)) ∙ ap lines_below (sym (add-one number))
 
   -- the line of a number behind those of the numbers below it
-  pub line_put : (old mid now : Output K) (number : ℕ) → Puts taken faults old mid (lines_below number)
+  pub line_put : {old mid now : Output K} (number : ℕ) → Puts taken faults old mid (lines_below number)
       → Puts taken faults mid now (flat_map line (here number))
       → Puts taken faults old now (lines_below (number + 1))
-  line_put old mid now number before one =
-      subst (Puts taken faults old now) (one_more_line number)
-      (Puts-trans taken faults old mid now (lines_below number) (flat_map line (here number)) before one)
+  line_put {old} {now} number before one =
+      subst (Puts taken faults old now) (one_more_line number) (Puts-trans before one)
 
   -- and then a write has failed
-  pub line_short : (old mid now : Output K) (number end : ℕ) → number + 1 ≤ end
+  pub line_short : {old mid now : Output K} (number end : ℕ) → number + 1 ≤ end
       → Puts taken faults old mid (lines_below number) → Puts taken faults mid now (flat_map line (here number))
       → has_failed now ≡ true → Puts taken faults old now (lines_below end)
-  line_short old mid now number end within before one failed =
+  line_short {old} {now} number end within before one failed =
       let rest = behind test (number + 1) end within in
       subst (Puts taken faults old now) (sym (flat_map-append line (passing_below test (number + 1)) rest.rest)
-      ∙ ap (flat_map line) rest.is)
-      (first_short taken faults old now (lines_below (number + 1)) (flat_map line rest.rest)
-      (line_put old mid now number before one) failed)
+      ∙ ap (flat_map line) rest.is) (first_short taken faults (flat_map line rest.rest)
+      (line_put number before one) failed)
 
-  pub no_line : (old : Output K) → passing_below test 1 ≡ [] → Puts taken faults old old (lines_below 1)
-  no_line old none =
-      subst (λ numbers. Puts taken faults old old (flat_map line numbers)) (sym none) (Puts-none taken faults old)
+  pub no_line : {old : Output K} → passing_below test 1 ≡ [] → Puts taken faults old old (lines_below 1)
+  no_line {old} none =
+      subst (λ numbers. Puts taken faults old old (flat_map line numbers)) (sym none)
+      (Puts-none {taken = taken} {faults = faults} {out = old})

@@ -5,33 +5,31 @@ use Rattle.std.proofs.lemmas.Bool.{and_parts, or_left, or_right, not-true}
 use Rattle.std.proofs.lemmas.List.{length-map, get_or-map}
 use Rattle.fault_words.specs.Name.{is_name}
 use Rattle.fault_words.specs.Names.{same_name, has_name, all_differ}
-use Rattle.crew_script.specs.Dockets.{names_of, crew_at}
-use Rattle.crew_script.specs.declared.dockets.Crew.{Crew}
+use Rattle.crew_script.specs.{Dockets.names_of, Dockets.crew_at, declared.dockets.Crew.Crew}
 use lib.Pointwise.{bytes_decides}
 
-has_at : (names : List (List ℕ)) (place : ℕ) (name : List ℕ) → place < length names → name ≡ get_or names place []
+has_at : (names : List (List ℕ)) (place : ℕ) {name : List ℕ} → place < length names → name ≡ get_or names place []
     → has_name names name ≡ true
-has_at [] place name short is = absurd (omega (arith, short))
-has_at (first ∷ names) zero name short is =
+has_at [] place short is = absurd (omega (arith, short))
+has_at (first ∷ names) zero {name} short is =
     or_left (same_name name first) (has_name names name) ((bytes_decides name first).1 is)
-has_at (first ∷ names) (suc place) name short is =
-    or_right (same_name name first) (has_name names name) (has_at names place name (omega (arith, short)) is)
+has_at (first ∷ names) (suc place) {name} short is =
+    or_right (same_name name first) (has_name names name) (has_at names place (omega (arith, short)) is)
 
-first_again : {P : Type 0} (first : List ℕ) (names : List (List ℕ)) (place : ℕ)
+first_again : {P : Type 0} {first : List ℕ} (names : List (List ℕ)) (place : ℕ)
     → all_differ (first ∷ names) ≡ true → place < length names
     → first ≡ get_or names place [] → P
-first_again first names place differ short same =
+first_again {first} names place differ short same =
     let parts = and_parts (not (has_name names first)) (all_differ names) differ in
-    absurd (true≢false (sym (has_at names place first short same) ∙ not-true (has_name names first) parts.0))
+    absurd (true≢false (sym (has_at names place short same) ∙ not-true (has_name names first) parts.0))
 
 same_place : (names : List (List ℕ)) (i j : ℕ) → all_differ names ≡ true → i < length names
     → j < length names → get_or names i [] ≡ get_or names j [] → i ≡ j
 same_place [] i j differ short also same = absurd (omega (arith, short))
 same_place (first ∷ names) zero zero differ short also same = refl
-same_place (first ∷ names) zero (suc j) differ short also same =
-    first_again first names j differ (omega (arith, also)) same
+same_place (first ∷ names) zero (suc j) differ short also same = first_again names j differ (omega (arith, also)) same
 same_place (first ∷ names) (suc i) zero differ short also same =
-    first_again first names i differ (omega (arith, short)) (sym same)
+    first_again names i differ (omega (arith, short)) (sym same)
 same_place (first ∷ names) (suc i) (suc j) differ short also same =
     let parts = and_parts (not (has_name names first)) (all_differ names) differ in
     let places = same_place names i j parts.1 (omega (arith, short)) (omega (arith, also)) same in

@@ -5,14 +5,11 @@ use Rattle.std.specs.Fmt.{digits, digits_onto, digit_glyph}
 use Rattle.std.proofs.Common.{refl, sym, ap, ◌∙◌, subst, arith, append_assoc, get_or, eq-eqb}
 use Rattle.std.proofs.lemmas.Bool.{and_from, ne_eqb}
 use Rattle.std.proofs.lemmas.List.Elements.{All-head, All-tail}
-use Rattle.fault_words.specs.Name.{is_name}
-use Rattle.fault_words.specs.Names.{all_differ}
+use Rattle.fault_words.specs.{Name.is_name, Names.all_differ}
 use Rattle.crew_script.specs.Dockets.{names_of, crew_at, ask_at}
-use Rattle.crew_script.specs.declared.dockets.Ask.{Ask}
+use Rattle.crew_script.specs.{declared.dockets.Ask.Ask, declared.dockets.Crew.Crew}
 use Rattle.crew_script.specs.declared.dockets.Ask.TheVariants.{Take, Return, Margin}
-use Rattle.crew_script.specs.declared.dockets.Crew.{Crew}
-use Rattle.margin_policy.specs.Standing.{StandingView, reply_of}
-use Rattle.margin_policy.specs.declared.request.Request.{Request}
+use Rattle.margin_policy.specs.{Standing.StandingView, Standing.reply_of, declared.request.Request.Request}
 use Rattle.outage_board.specs.declared.entry.Entry.{Entry}
 use Rattle.outage_board.specs.Histories.{after_entry, IsLegal, IsWhole, asked_by, entries_of}
 use Rattle.board_texts.specs.LogText.{crew_shown, ask_text, entry_end, entry_line, entry_lines, log_head, log_text}
@@ -45,11 +42,11 @@ decimal_avoids : (n : ℕ) → avoids 10 (decimal n) ≡ true
 unfolding digits
 decimal_avoids n = digits_avoid 64 n [] refl
 
-head_apart : (m n : ℕ) (rest other : List ℕ) → log_head m ++ rest ≡ log_head n ++ other → rest ≡ other
-head_apart m n rest other e =
-    (up_to_mark 10 (decimal m) (decimal n) rest other (decimal_avoids m) (decimal_avoids n)
+head_apart : (m n : ℕ) {rest other : List ℕ} → log_head m ++ rest ≡ log_head n ++ other → rest ≡ other
+head_apart m n {rest} {other} e =
+    (up_to_mark 10 (decimal m) (decimal n) (decimal_avoids m) (decimal_avoids n)
     (sym (append_assoc (decimal m) (codes "\n") rest)
-    ∙ cancelled (codes "log: ") ((decimal m ++ codes "\n") ++ rest) ((decimal n ++ codes "\n") ++ other) e
+    ∙ cancelled (codes "log: ") {a = (decimal m ++ codes "\n") ++ rest} {b = (decimal n ++ codes "\n") ++ other} e
     ∙ append_assoc (decimal n) (codes "\n") other)).1
 
 -- ---- the crew of a line
@@ -87,10 +84,9 @@ module _ (crews : List Crew) where
   unfolding behind_crew
   crew_named number entry other more rest names one two e =
       let shown =
-      ap (drop 1) (cancelled (decimal number) _ _ (sym (line_parts number entry more) ∙ e
+      ap (drop 1) (cancelled (decimal number) (sym (line_parts number entry more) ∙ e
       ∙ line_parts number other rest)) in
-      shown_apart (crew_at crews entry.crew.0).name (crew_at crews other.crew.0).name _ _ (is_named entry.crew.0 one)
-      (is_named other.crew.0 two)
+      shown_apart _ _ (is_named entry.crew.0 one) (is_named other.crew.0 two)
       (ap (λ l. crew_shown crews entry.crew ++ l) (sym
       (asked_behind (ask_at crews entry.crew.0 entry.place) (entry_end crews entry.reply ++ more)))
       ∙ shown
@@ -102,9 +98,9 @@ module _ (crews : List Crew) where
 
 -- ---- entries
 
-same_entry : (entry other : Entry) → entry.crew ≡ other.crew → entry.place ≡ other.place → entry.request ≡ other.request
+same_entry : {entry other : Entry} → entry.crew ≡ other.crew → entry.place ≡ other.place → entry.request ≡ other.request
     → entry.reply ≡ other.reply → entry ≡ other
-same_entry entry other crew place request reply =
+same_entry crew place request reply =
     λ i. record { crew = crew i; place = place i; request = request i; reply = reply i }
 
 own_first : (crew : ℕ) (entry : Entry) (entries : List Entry) → entry.crew.0 ≡ crew
@@ -112,8 +108,8 @@ own_first : (crew : ℕ) (entry : Entry) (entries : List Entry) → entry.crew.0
 own_first crew entry entries own =
     ap (λ b. if b then entry ∷ entries_of crew entries else entries_of crew entries) (eq-eqb entry.crew.0 crew own)
 
-no_asked : {P : Type 0} (first : ℕ × Request) (more : List (ℕ × Request)) → [] ≡ first ∷ more → P
-no_asked first more e = let clash = ap length e in absurd (omega (arith, clash))
+no_asked : {P : Type 0} {first : ℕ × Request} {more : List (ℕ × Request)} → [] ≡ first ∷ more → P
+no_asked e = let clash = ap length e in absurd (omega (arith, clash))
 
 -- the same was asked of each crew
 abbrev AskAlike : List Entry → List Entry → Type 0
@@ -121,8 +117,7 @@ AskAlike entries others = (crew : ℕ) → asked_by (entries_of crew entries) �
 
 none_left : {P : Type 0} (entry : Entry) (entries : List Entry) → AskAlike [] (entry ∷ entries) → P
 none_left entry entries alike =
-    no_asked (entry.place, entry.request) (asked_by (entries_of entry.crew.0 entries))
-    (alike entry.crew.0 ∙ ap asked_by (own_first entry.crew.0 entry entries refl))
+    no_asked (alike entry.crew.0 ∙ ap asked_by (own_first entry.crew.0 entry entries refl))
 
 -- behind one and the same entry
 alike_behind : (entry : Entry) (entries others : List Entry) → AskAlike (entry ∷ entries) (entry ∷ others)
@@ -167,8 +162,7 @@ module _ (crews : List Crew) (names : All (λ (crew : Crew). is_name crew.name �
       (crew_named crews number entry other more rest names short too e) in
       let crew_is : entry.crew ≡ other.crew = λ i. record { 0 = number_is i } in
       let asked = first_alike entry other entries others number_is alike in
-      same_entry entry other crew_is asked.0 asked.1
-      (legal.0 ∙ (λ i. reply_of standing (crew_is i) (asked.1 i)) ∙ sym also.0)
+      same_entry crew_is asked.0 asked.1 (legal.0 ∙ (λ i. reply_of standing (crew_is i) (asked.1 i)) ∙ sym also.0)
 
   same_history : (entries others : List Entry) (standing : StandingView) (number : ℕ) → OfCrews entries → OfCrews others
       → IsLegal standing entries → IsLegal standing others
@@ -186,18 +180,16 @@ module _ (crews : List Crew) (names : All (λ (crew : Crew). is_name crew.name �
       (All-tail (λ (e : Entry). e.crew.0 < length crews) other others two)
       legal.1 (subst (λ e. IsLegal (after_entry standing e) others) (sym first) also.1)
       (alike_behind entry entries others (subst (λ e. AskAlike (entry ∷ entries) (e ∷ others)) (sym first) alike))
-      (cancelled (entry_line crews number entry) (entry_lines crews (number + 1) entries)
-      (entry_lines crews (number + 1) others)
+      (cancelled (entry_line crews number entry)
       (subst (λ e. entry_line crews number entry ++ entry_lines crews (number + 1) entries
       ≡ entry_line crews number e ++ entry_lines crews (number + 1) others) (sym first) e)) in
       ap (λ e. e ∷ entries) first ∙ ap (λ l. other ∷ l) later
 
-  pub same_log : (standing : StandingView) (dockets : List (List Request)) (history other : List Entry)
+  pub same_log : (standing : StandingView) {dockets : List (List Request)} {history other : List Entry}
       → length dockets ≡ length crews
       → IsLegal standing history → IsWhole dockets history → IsLegal standing other → IsWhole dockets other
       → log_text crews history ≡ log_text crews other → history ≡ other
-  same_log standing dockets history other all legal whole also too e =
+  same_log standing {history} {other} all legal whole also too e =
       same_history history other standing 1 (subst (λ n. All (λ (entry : Entry). entry.crew.0 < n) history) all
       whole.crews) (subst (λ n. All (λ (entry : Entry). entry.crew.0 < n) other) all too.crews)
-      legal also (λ crew. whole.each crew ∙ sym (too.each crew))
-      (head_apart (length history) (length other) (entry_lines crews 1 history) (entry_lines crews 1 other) e)
+      legal also (λ crew. whole.each crew ∙ sym (too.each crew)) (head_apart (length history) (length other) e)

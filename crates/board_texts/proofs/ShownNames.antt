@@ -11,24 +11,24 @@ use Rattle.text_pieces.specs.Shown.{show}
 abbrev pub avoids : ℕ → List ℕ → Bool
 avoids mark bytes = list_all (λ byte. not (byte == mark)) bytes
 
-pub cancelled : (front a b : List ℕ) → front ++ a ≡ front ++ b → a ≡ b
-cancelled [] a b e = e
-cancelled (byte ∷ front) a b e = cancelled front a b (ap (drop 1) e)
+pub cancelled : (front : List ℕ) {a b : List ℕ} → front ++ a ≡ front ++ b → a ≡ b
+cancelled [] e = e
+cancelled (byte ∷ front) e = cancelled front (ap (drop 1) e)
 
-not_mark : {P : Type 0} (byte mark : ℕ) → not (byte == mark) ≡ true → byte ≡ mark → P
-not_mark byte mark e same = absurd (true≢false (sym e ∙ ap not (eq-eqb byte mark same)))
+not_mark : {P : Type 0} {byte mark : ℕ} → not (byte == mark) ≡ true → byte ≡ mark → P
+not_mark {byte} {mark} e same = absurd (true≢false (sym e ∙ ap not (eq-eqb byte mark same)))
 
 -- two texts up to a mark that neither has
-pub up_to_mark : (mark : ℕ) (a b rest other : List ℕ) → avoids mark a ≡ true → avoids mark b ≡ true
+pub up_to_mark : (mark : ℕ) (a b : List ℕ) {rest other : List ℕ} → avoids mark a ≡ true → avoids mark b ≡ true
     → a ++ mark ∷ rest ≡ b ++ mark ∷ other → (a ≡ b) × (rest ≡ other)
-up_to_mark mark [] [] rest other no_a no_b e = (refl, ap (drop 1) e)
-up_to_mark mark [] (y ∷ ys) rest other no_a no_b e =
-    not_mark y mark (and_parts (not (y == mark)) (avoids mark ys) no_b).0 (sym (ap (λ l. get_or l 0 0) e))
-up_to_mark mark (x ∷ xs) [] rest other no_a no_b e =
-    not_mark x mark (and_parts (not (x == mark)) (avoids mark xs) no_a).0 (ap (λ l. get_or l 0 0) e)
-up_to_mark mark (x ∷ xs) (y ∷ ys) rest other no_a no_b e =
+up_to_mark mark [] [] no_a no_b e = (refl, ap (drop 1) e)
+up_to_mark mark [] (y ∷ ys) no_a no_b e =
+    not_mark (and_parts (not (y == mark)) (avoids mark ys) no_b).0 (sym (ap (λ l. get_or l 0 0) e))
+up_to_mark mark (x ∷ xs) [] no_a no_b e =
+    not_mark (and_parts (not (x == mark)) (avoids mark xs) no_a).0 (ap (λ l. get_or l 0 0) e)
+up_to_mark mark (x ∷ xs) (y ∷ ys) no_a no_b e =
     let more =
-    up_to_mark mark xs ys rest other (and_parts (not (x == mark)) (avoids mark xs) no_a).1
+    up_to_mark mark xs ys (and_parts (not (x == mark)) (avoids mark xs) no_a).1
     (and_parts (not (y == mark)) (avoids mark ys) no_b).1 (ap (drop 1) e) in
     let first : x ≡ y = ap (λ l. get_or l 0 0) e in
     (ap (λ z. z ∷ xs) first ∙ ap (λ zs. y ∷ zs) more.0, more.1)
@@ -65,9 +65,10 @@ no_blank (first ∷ rest) e =
     (and_from (is_bare_start first) true parts.0 refl))).0
     (avoids_by is_bare_byte 32 refl rest parts.1)
 
-bare_first : {P : Type 0} (name rest other : List ℕ) → is_bare_name name ≡ true → name ++ rest ≡ 34 ∷ other → P
-bare_first [] rest other e same = absurd cc
-bare_first (first ∷ more) rest other e same =
+bare_first : {P : Type 0} (name rest : List ℕ) {other : List ℕ} → is_bare_name name ≡ true → name ++ rest ≡ 34 ∷ other
+    → P
+bare_first [] rest e same = absurd cc
+bare_first (first ∷ more) rest e same =
     let start = (and_parts (is_bare_start first) (list_all is_bare_byte more) e).0 in
     let quote : first ≡ 34 = ap (λ l. get_or l 0 0) same in
     absurd (true≢false (sym start ∙ ap is_bare_start quote))
@@ -82,20 +83,18 @@ shown_quoted name rest e =
     ap (λ b. (if b then name else codes "\"" ++ name ++ codes "\"") ++ rest) e
     ∙ ap (λ l. 34 ∷ l) (append_assoc name (34 ∷ []) rest)
 
-pub shown_apart : (a b rest other : List ℕ) → is_name a ≡ true → is_name b ≡ true
+pub shown_apart : {a b : List ℕ} (rest other : List ℕ) → is_name a ≡ true → is_name b ≡ true
     → show a ++ 32 ∷ rest ≡ show b ++ 32 ∷ other → a ≡ b
-shown_apart a b rest other name_a name_b e = by_form (is_bare_name a) (is_bare_name b) refl refl
+shown_apart {a} {b} rest other name_a name_b e = by_form (is_bare_name a) (is_bare_name b) refl refl
   where
     by_form : (bare_a bare_b : Bool) → is_bare_name a ≡ bare_a → is_bare_name b ≡ bare_b → a ≡ b
     by_form true true is_a is_b =
-        (up_to_mark 32 a b rest other (no_blank a is_a) (no_blank b is_b)
+        (up_to_mark 32 a b (no_blank a is_a) (no_blank b is_b)
         (sym (shown_bare a (32 ∷ rest) is_a) ∙ e ∙ shown_bare b (32 ∷ other) is_b)).0
     by_form true false is_a is_b =
-        bare_first a (32 ∷ rest) (b ++ 34 ∷ 32 ∷ other) is_a
-        (sym (shown_bare a (32 ∷ rest) is_a) ∙ e ∙ shown_quoted b (32 ∷ other) is_b)
+        bare_first a (32 ∷ rest) is_a (sym (shown_bare a (32 ∷ rest) is_a) ∙ e ∙ shown_quoted b (32 ∷ other) is_b)
     by_form false true is_a is_b =
-        bare_first b (32 ∷ other) (a ++ 34 ∷ 32 ∷ rest) is_b
-        (sym (shown_bare b (32 ∷ other) is_b) ∙ sym e ∙ shown_quoted a (32 ∷ rest) is_a)
+        bare_first b (32 ∷ other) is_b (sym (shown_bare b (32 ∷ other) is_b) ∙ sym e ∙ shown_quoted a (32 ∷ rest) is_a)
     by_form false false is_a is_b =
-        (up_to_mark 34 a b (32 ∷ rest) (32 ∷ other) (no_quote a name_a) (no_quote b name_b)
+        (up_to_mark 34 a b (no_quote a name_a) (no_quote b name_b)
         (ap (drop 1) (sym (shown_quoted a (32 ∷ rest) is_a) ∙ e ∙ shown_quoted b (32 ∷ other) is_b))).0

@@ -7,12 +7,9 @@ use Rattle.fault_definitions.specs.Tree.{FaultTree, unit_count, name_of}
 use Rattle.residual_ledger.specs.Residual.{residual}
 use Rattle.crew_script.specs.declared.dockets.Crew.{Crew}
 use Rattle.margin_policy.specs.Held.{Held, holder_of, units_out}
-use Rattle.margin_policy.specs.Decide.{is_granted}
-use Rattle.margin_policy.specs.Standing.{StandingView}
-use Rattle.margin_policy.specs.declared.request.Request.{Request}
+use Rattle.margin_policy.specs.{Decide.is_granted, Standing.StandingView, declared.request.Request.Request}
 use Rattle.margin_policy.specs.declared.request.Request.TheVariants.{Take, Return, Margin}
-use Rattle.outage_board.specs.declared.entry.Entry.{Entry}
-use Rattle.outage_board.specs.Requests.{requests_of}
+use Rattle.outage_board.specs.{declared.entry.Entry.Entry, Requests.requests_of}
 use Rattle.outage_board.specs.Boards.{Deck, BoardView, standing_of}
 use Rattle.text_pieces.specs.Shown.{show}
 use Rattle.board_texts.specs.LogText.{crew_shown, log_text}

@@ -2,10 +2,8 @@
 use Rattle.std.specs.Prelude.{ℕ, ◌+◌, List, [], ◌∷◌, ◌++◌, length, codes, decimal}
 use Rattle.std.specs.List.{flat_map}
 use Rattle.unit_sets.specs.declared.request.CrewNo.{CrewNo}
-use Rattle.crew_script.specs.Dockets.{crew_at, ask_at}
-use Rattle.crew_script.specs.declared.dockets.Ask.{Ask}
+use Rattle.crew_script.specs.{Dockets.crew_at, Dockets.ask_at, declared.dockets.Ask.Ask, declared.dockets.Crew.Crew}
 use Rattle.crew_script.specs.declared.dockets.Ask.TheVariants.{Take, Return, Margin}
-use Rattle.crew_script.specs.declared.dockets.Crew.{Crew}
 use Rattle.margin_policy.specs.declared.request.Reply.{Reply}
 use Rattle.margin_policy.specs.declared.request.Reply.TheVariants.{Granted, Denied, UnknownUnit, AlreadyOut, NotOut}
 use Rattle.margin_policy.specs.declared.request.Reply.TheVariants.{HeldBy, NotSupervisor}

@@ -1,7 +1,6 @@
 -- Entries that a log can show.
 use Rattle.std.specs.Prelude.{◌<◌, List, length}
-use Rattle.crew_script.specs.Dockets.{crew_at}
-use Rattle.crew_script.specs.declared.dockets.Crew.{Crew}
+use Rattle.crew_script.specs.{Dockets.crew_at, declared.dockets.Crew.Crew}
 use Rattle.margin_policy.specs.Holders.{NamesCrewBelow}
 use Rattle.outage_board.specs.declared.entry.Entry.{Entry}
 

@@ -1,8 +1,7 @@
 -- Which words say a number.
 use Rattle.std.specs.Prelude.{◌≡◌, ℕ, zero, suc, ◌+◌, ◌-◌, ◌*◌, ◌^◌, ◌<◌, ◌≤◌, Bool, true, false, ◌&&◌, not, nat_le}
 use Rattle.std.specs.Prelude.{if◌then◌else◌, List, [], ◌∷◌, length, decimal, Option, Some, None, unwrap_or}
-use Rattle.std.specs.List.{list_all}
-use Rattle.std.specs.Char.{is_ascii_digit}
+use Rattle.std.specs.{List.list_all, Char.is_ascii_digit}
 use Rattle.std.proofs.Common.{refl, arith, sym, ap, ◌∙◌, subst, get_or}
 use Rattle.std.proofs.lemmas.Bool.{and_parts, and_from, leb-true, le-leb, eqb-false, not-true, ne_eqb}
 use Rattle.std.proofs.lemmas.Str.Parse.{IsNumeralModel, IsDigitsTest, FoldsDigits, numerals_by_fold, digits_value_short}
@@ -134,9 +133,9 @@ says least most word n e =
       high = subst (λ k. k ≤ most) same (leb-true m most bounds.1);
     }
 
-within_if : (a b : Bool) (n m : ℕ) → a ≡ true → b ≡ true → m ≡ n
+within_if : {a b : Bool} {n m : ℕ} → a ≡ true → b ≡ true → m ≡ n
     → (if a then (if b then Some m else None) else None) ≡ Some n
-within_if a b n m one two same =
+within_if {b} {m} one two same =
     ap (λ c. if c then (if b then Some m else None) else None) one ∙ ap (λ c. if c then Some m else None) two
     ∙ ap (λ k. Some k) same
 
@@ -145,9 +144,7 @@ pub said_within : (least most n : ℕ) → most < 1000000 → least ≤ n → n 
 said_within least most n few low high =
     let under : n < 1000000 = omega (arith, few, high) in
     let same : number_from 0 (decimal n) ≡ n = digits_value-decimal own n (omega (arith, under)) in
-    within_if (is_numeral 6 (decimal n)) (nat_le least (number_from 0 (decimal n))
-    && nat_le (number_from 0 (decimal n)) most) n (number_from 0 (decimal n))
-    (decimal_numeral n under)
+    within_if (decimal_numeral n under)
     (and_from (nat_le least (number_from 0 (decimal n))) (nat_le (number_from 0 (decimal n)) most)
     (le-leb least (number_from 0 (decimal n)) (omega (arith, same, low)))
     (le-leb (number_from 0 (decimal n)) most (omega (arith, same, high))))

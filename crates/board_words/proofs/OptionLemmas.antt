@@ -18,7 +18,7 @@ taken_off known [] d long = absurd (omega (arith, long))
 taken_off known (option ∷ []) d long = absurd (omega (arith, long))
 taken_off known (option ∷ value ∷ rest) d long = refl
 
-module _ (known : List (List ℕ)) (words : List (List ℕ)) (d : List ℕ) (long : 2 ≤ length words) (option : List ℕ)
+module _ (known : List (List ℕ)) (words : List (List ℕ)) (d : List ℕ) (long : 2 ≤ length words) {option : List ℕ}
     (first : option ≡ get_or words 0 d) where
   said_there : is_said_once known option (behind words) ≡ is_said_once known (get_or words 0 d) (drop 2 words)
   said_there =

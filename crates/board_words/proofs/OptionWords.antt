@@ -13,11 +13,11 @@ use Rattle.board_words.proofs.Numerals.{says, said_within}
 pub same_word : (word other : List ℕ) → is_same word other ≡ true → word ≡ other
 same_word word other = (bytes_decides word other).0
 
-pub word_same : (word other : List ℕ) → word ≡ other → is_same word other ≡ true
-word_same word other = (bytes_decides word other).1
+pub word_same : {word other : List ℕ} → word ≡ other → is_same word other ≡ true
+word_same {word} {other} = (bytes_decides word other).1
 
 pub other_word : (word other : List ℕ) → is_same word other ≡ false → word ≢ other
-other_word word other e same = true≢false (sym (word_same word other same) ∙ e)
+other_word word other e same = true≢false (sym (word_same same) ∙ e)
 
 word_other : (word other : List ℕ) → word ≢ other → is_same word other ≡ false
 word_other word other apart = by_test (is_same word other) refl
@@ -46,7 +46,7 @@ pub has_value : (known : List (List ℕ)) (options : List Said) (option value : 
 has_value known [] option value all has = absurd has
 has_value known (said ∷ more) option value all has = elim has [
   | inl here ↦ ap (λ b. if b then Some said.value else value_of option (words_of more))
-      (word_same said.option option here.0) ∙ ap (λ v. Some v) here.1
+      (word_same here.0) ∙ ap (λ v. Some v) here.1
   | inr behind ↦
       ap (λ b. if b then Some said.value else value_of option (words_of more))
       (word_other said.option option (λ same. has_not more option value (subst (Lacks more) same all.1) behind))
@@ -90,7 +90,7 @@ any_weaker P Q f xs any = (any.0, any.1, any.2, any.3, f any.1 any.4)
 known_is : (known : List (List ℕ)) (word : List ℕ) → Any (λ option. word ≡ option) known → is_known known word ≡ true
 known_is known word any =
     list_any-from_Any (is_same word) known (any_weaker (λ option. word ≡ option) (λ option. is_same word option ≡ true)
-    (λ option. word_same word option) known any)
+    (λ option. word_same {word = word} {other = option}) known any)
 
 is_known_one : (known : List (List ℕ)) (word : List ℕ) → is_known known word ≡ true
     → Any (λ option. word ≡ option) known
@@ -134,14 +134,14 @@ as_said known (option ∷ value ∷ rest) e =
 
 -- ---- numbers
 
-pub number_read : (least most : ℕ) (default : Option ℕ) (known : List (List ℕ)) (option : List ℕ) (options : List Said)
-    (number : ℕ)
+pub number_read : {least most : ℕ} {default : Option ℕ} (known : List (List ℕ)) {option : List ℕ} {options : List Said}
+    {number : ℕ}
     → most < 1000000 → AreSaid known options → SaysNumber least most default option options number
     → number_said least most default (value_of option (words_of options)) ≡ Some number
-number_read least most default known option options number few all (written has low high) =
+number_read {least} {most} {default} known {option} {options} {number} few all (written has low high) =
     ap (number_said least most default) (has_value known options option (decimal number) all has)
     ∙ said_within least most number few low high
-number_read least most default known option options number few all (unsaid lacks is) =
+number_read {least} {most} {default} known {option} {options} few all (unsaid lacks is) =
     ap (number_said least most default) (lacks_value options option lacks) ∙ is
 
 pub number_says : (least most : ℕ) (default : Option ℕ) (option : List ℕ) (options : List Said) (number : ℕ)

@@ -1,8 +1,7 @@
 -- Options of a command: words that are an option and its value, an option and its value, and so on.
 use Rattle.std.specs.Prelude.{ℕ, Bool, true, false, ◌&&◌, nat_eq, if◌then◌else◌, List, [], ◌∷◌, Option, Some, None}
 use Rattle.std.specs.Prelude.{is_none}
-use Rattle.std.specs.List.{list_any}
-use Rattle.std.specs.Cmp.Lexicographic.{pointwise}
+use Rattle.std.specs.{List.list_any, Cmp.Lexicographic.pointwise}
 use Rattle.board_words.specs.Number.{number_within}
 
 -- two words are the same

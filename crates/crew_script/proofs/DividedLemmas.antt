@@ -5,13 +5,11 @@ use Rattle.std.specs.List.{All, list_any, position_or_len, before_first, after_f
 use Rattle.std.specs.Cmp.Lexicographic.{pointwise, same_text}
 use Rattle.std.proofs.Common.{refl, sym, ap, ◌∙◌, subst, inl, inr, arith}
 use Rattle.std.proofs.lemmas.Bool.{cases_lt, cases_eq, or_parts, or_cases, eq-eqb, ne_eqb}
-use Rattle.std.proofs.lemmas.List.{length-append}
+use Rattle.std.proofs.{lemmas.List.length-append, lemmas.Grind.common_steps, lemmas.List.Folds.list_any-append}
+use Rattle.std.proofs.{lemmas.List.Folds.list_any_none}
 use Rattle.std.proofs.lemmas.List.Splits.{slice_split_at, slice_split_first, slice_split_none, length-slice_split}
 use Rattle.std.proofs.lemmas.List.Sums.{fails_before_first, passes_at_first, split_at_first}
-use Rattle.std.proofs.lemmas.Grind.{common_steps}
-use Rattle.std.proofs.lemmas.List.Folds.{list_any-append, list_any_none}
-use Rattle.crew_script.specs.declared.deck.CrewsAt.{CrewsAt}
-use Rattle.crew_script.specs.declared.deck.Split.{Split}
+use Rattle.crew_script.specs.{declared.deck.CrewsAt.CrewsAt, declared.deck.Split.Split}
 use Rattle.crew_script.specs.Deck.{is_feed, is_crews, lines_of, divided, split_by, split_of}
 use Rattle.crew_script.specs.Divides.{without_return, size_of, IsDividedAt, CrewsBegin, Divides}
 
@@ -117,9 +115,9 @@ take_behind (first ∷ line) byte count rest =
     (let e : length (first ∷ line) + 1 + count ≡ suc (length line + 1 + count) = omega arith in e)
     ∙ ap (λ l. first ∷ l) (take_behind line byte count rest)
 
-parts_are : (first second : List ℕ) (some more : List (List ℕ)) → first ∷ some ≡ second ∷ more
+parts_are : {first second : List ℕ} {some more : List (List ℕ)} → first ∷ some ≡ second ∷ more
     → (first ≡ second) × (some ≡ more)
-parts_are first second some more e = (grind (arith, e), grind (arith, e))
+parts_are e = (grind (arith, e), grind (arith, e))
 
 pub lines_before : (before : List (List ℕ)) (line : List ℕ) (behind : List (List ℕ)) (bytes : List ℕ)
     → lines_of bytes ≡ before ++ line ∷ behind → lines_of (take (size_of before) bytes) ≡ before ++ [] ∷ []
@@ -127,9 +125,7 @@ lines_before [] line behind bytes are = refl
 lines_before (first ∷ before) line behind bytes are =
     elim (cases_lt (position_or_len is_feed bytes) (length bytes)) [
       | inl feeds ↦
-          let (same, later) =
-          parts_are (before_first is_feed bytes) first (lines_of (after_first is_feed bytes))
-          (before ++ line ∷ behind) (sym (slice_split_first is_feed bytes 0 feeds) ∙ are) in
+          let (same, later) = parts_are (sym (slice_split_first is_feed bytes 0 feeds) ∙ are) in
           let feed = get_or bytes (position_or_len is_feed bytes) 0 in
           let text : bytes ≡ first ++ feed ∷ after_first is_feed bytes =
           split_at_first is_feed bytes 0 feeds ∙ ap (λ l. l ++ feed ∷ after_first is_feed bytes) same in
@@ -143,7 +139,7 @@ lines_before (first ∷ before) line behind bytes are =
       | inr none ↦
           let one : lines_of bytes ≡ bytes ∷ [] =
           slice_split_none is_feed bytes (λ k d short. fails_before_first is_feed bytes k d (omega arith)) in
-          absurd (none_left before line behind (parts_are bytes first [] (before ++ line ∷ behind) (sym one ∙ are)).1)
+          absurd (none_left before line behind (parts_are (sym one ∙ are)).1)
     ]
   where
     none_left : (before : List (List ℕ)) (line : List ℕ) (behind : List (List ℕ)) → [] ≡ before ++ line ∷ behind → ⊥

@@ -1,8 +1,7 @@
 -- Crews and their requests, and what one line more makes of them.
 use Rattle.std.proofs.Common.{◌≡◌, ℕ, zero, suc, ◌+◌, ◌-◌, ◌<◌, ◌≤◌, true, false, List, [], ◌∷◌, ◌++◌, length, sym}
 use Rattle.std.proofs.Common.{refl, ap, ◌∙◌, subst, arith, length-append, inl, inr, set, get_or}
-use Rattle.std.specs.Prelude.{None}
-use Rattle.std.specs.List.{All}
+use Rattle.std.specs.{Prelude.None, List.All}
 use Rattle.std.proofs.lemmas.Bool.{cases_Bool, or_left, or_right}
 use Rattle.std.proofs.lemmas.List.{map-append}
 use Rattle.std.proofs.lemmas.List.Elements.{All-push, All-nil, All-cons, All-head, All-tail}
@@ -38,15 +37,15 @@ count_more [] more = omega arith
 count_more (first ∷ crews) more = omega (arith, count_more crews more)
 
 -- a crew at some place has the name
-pub has_at : (crews : List Crew) (name : List ℕ) (place : ℕ) (crew : Crew) → place < length crews
+pub has_at : (crews : List Crew) (name : List ℕ) (place : ℕ) {crew : Crew} → place < length crews
     → crew ≡ get_or crews place crew → same_name name crew.name ≡ true → has_name (names_of crews) name ≡ true
-has_at [] name place crew within is same = absurd (omega (arith, within))
-has_at (first ∷ crews) name zero crew within is same =
+has_at [] name place within is same = absurd (omega (arith, within))
+has_at (first ∷ crews) name zero within is same =
     or_left (same_name name first.name) (has_name (names_of crews) name)
     (subst (λ (c : Crew). same_name name c.name ≡ true) is same)
-has_at (first ∷ crews) name (suc place) crew within is same =
+has_at (first ∷ crews) name (suc place) within is same =
     or_right (same_name name first.name) (has_name (names_of crews) name)
-    (has_at crews name place crew (omega (arith, within)) is same)
+    (has_at crews name place (omega (arith, within)) is same)
 
 pub ask_last : (crews : List Crew) (crew : Crew) (ask : Ask)
     → with_ask ask (crews ++ crew ∷ []) ≡ crews ++ more_asked ask crew ∷ []
@@ -142,12 +141,12 @@ ask_there : (crew : Crew) (crews : List Crew) (ask : Ask) (d : Crew)
 ask_there crew [] ask d = refl
 ask_there crew (next ∷ crews) ask d = ap (λ l. crew ∷ l) (ask_there next crews ask d)
 
-pub ask_placed : (crews : List Crew) (count : ℕ) (last : Crew) (ask : Ask) (docket : List Ask)
+pub ask_placed : (crews : List Crew) {count : ℕ} {last : Crew} (ask : Ask) {docket : List Ask}
     → request_fault crews ≡ None → count ≡ length crews → last ≡ get_or crews (count - 1) last
     → docket ≡ last.docket ++ ask ∷ []
     → set crews (count - 1) (record { name = last.name; docket = docket }) ≡ with_ask ask crews
-ask_placed [] count last ask docket none counted at asked = absurd cc
-ask_placed (crew ∷ crews) count last ask docket none counted at asked =
+ask_placed [] ask none counted at asked = absurd cc
+ask_placed (crew ∷ crews) {count} {last} ask {docket} none counted at asked =
     let place : count - 1 ≡ length crews = omega (arith, counted) in
     ap (λ d. set (crew ∷ crews) (count - 1) (record { name = last.name; docket = d })) asked
     ∙ ap (λ n. set (crew ∷ crews) n (more_asked ask last)) place

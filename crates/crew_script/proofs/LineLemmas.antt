@@ -3,8 +3,7 @@ use Rattle.std.proofs.Common.{◌≡◌, ℕ, ◌+◌, ◌≤◌, List, [], ◌�
 use Rattle.std.specs.List.{position_or_len, onto_first}
 use Rattle.std.proofs.lemmas.List.Splits.{slice_split_none, length-slice_split}
 use Rattle.std.proofs.lemmas.List.Sums.{fails_before_first, count_by-le-length}
-use Rattle.crew_script.specs.Deck.{is_feed, lines_of}
-use Rattle.crew_script.specs.Divides.{size_of}
+use Rattle.crew_script.specs.{Deck.is_feed, Deck.lines_of, Divides.size_of}
 
 -- a text without a line feed is a line
 pub line_whole : (bytes : List ℕ) → length bytes ≤ position_or_len is_feed bytes → lines_of bytes ≡ bytes ∷ []

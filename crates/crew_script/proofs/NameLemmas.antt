@@ -4,13 +4,11 @@ use Rattle.std.proofs.Common.{◌∙◌, arith, true≢false}
 use Rattle.std.specs.Prelude.{◌||◌, Some, None, codes}
 use Rattle.std.proofs.lemmas.Bool.{and_from, and_parts, or_from, or_left, or_parts, or_right, not-true}
 use Rattle.std.proofs.lemmas.Bool.{false_from_ne_true}
-use Rattle.std.proofs.lemmas.List.Folds.{list_any-append}
-use Rattle.std.proofs.lemmas.Grind.{common_steps}
+use Rattle.std.proofs.{lemmas.List.Folds.list_any-append, lemmas.Grind.common_steps}
 use lib.Pointwise.{bytes_decides}
 use Rattle.fault_words.specs.Names.{same_name, has_name, all_differ}
-use Rattle.crew_script.specs.Words.{Word, first_of}
+use Rattle.crew_script.specs.{Words.Word, Words.first_of, declared.line.Line.Line}
 use Rattle.crew_script.specs.Lines.{take_line, name_in, is_comment, says, line_of, request_line}
-use Rattle.crew_script.specs.declared.line.Line.{Line}
 
 other_way : (name other : List ℕ) → same_name name other ≡ false → same_name other name ≡ false
 other_way name other apart =
@@ -54,16 +52,18 @@ none_left [] none = refl
 none_left (word ∷ words) none = absurd cc
 
 -- one more name is taken
-pub take_step : (said : Line) (names : List (List ℕ)) (words rest : List Word) (word : Word) (name : List ℕ)
+pub take_step : {said : Line} (names : List (List ℕ)) (words : List Word) {rest : List Word} (word : Word)
+    (name : List ℕ)
     → said ≡ take_line names words → first_of words ≡ Some word → rest ≡ drop 1 words → name_in word ≡ Some name
     → length names < 16 → has_name names name ≡ false → said ≡ take_line (names ++ name ∷ []) rest
-take_step said names [] rest word name same first behind is few new = absurd cc
-take_step said names (next ∷ words) rest word name same first behind is few new = grind (arith, common_steps)
+take_step names [] word name same first behind is few new = absurd cc
+take_step names (next ∷ words) word name same first behind is few new = grind (arith, common_steps)
 
 -- a line that says no crew and begins no comment
-pub request_step : (words rest : List Word) (first : Word) → first_of words ≡ Some first → rest ≡ drop 1 words
+pub request_step : (words : List Word) {rest : List Word} (first : Word) → first_of words ≡ Some first
+    → rest ≡ drop 1 words
     → is_comment first ≡ false → says first (codes "crew") ≡ false → request_line first rest ≡ line_of words
-request_step [] rest first begins behind comment crew = absurd cc
-request_step (next ∷ words) rest first begins behind comment crew =
+request_step [] first begins behind comment crew = absurd cc
+request_step (next ∷ words) first begins behind comment crew =
     let same : next ≡ first = grind (arith, begins) in
     rw (same, behind, comment, crew) refl

@@ -4,28 +4,20 @@ use Rattle.std.proofs.Common.{subst, ◌∙◌, arith, append_assoc, append-nil,
 use Rattle.std.specs.Prelude.{Result, Ok, Err, Some, None, if◌then◌else◌}
 use Rattle.std.specs.List.{flat_map}
 use Rattle.std.proofs.lemmas.Bool.{lt-leb}
-use Rattle.fault_words.specs.declared.place.Place.{Place}
-use Rattle.fault_words.specs.Names.{all_differ, has_name}
-use Rattle.crew_script.specs.declared.dockets.TheConstants.{MOST_CREWS, MOST_REQUESTS}
-use Rattle.crew_script.specs.Dockets.{names_of, request_count}
+use Rattle.fault_words.specs.{declared.place.Place.Place, Names.all_differ, Names.has_name}
+use Rattle.crew_script.specs.{declared.dockets.TheConstants.MOST_CREWS, declared.dockets.TheConstants.MOST_REQUESTS}
+use Rattle.crew_script.specs.{Dockets.names_of, Dockets.request_count, Says.Says, declared.dockets.Ask.Ask}
+use Rattle.crew_script.specs.{declared.dockets.Crew.Crew, declared.line.Line.Line, declared.fault.CrewCode.CrewCode}
+use Rattle.crew_script.specs.{declared.fault.CrewCode.TheVariants.TooManyRequests, declared.fault.CrewFault.CrewFault}
+use Rattle.crew_script.specs.{declared.fault.CrewFault.TheVariants.Fault, declared.fault.CrewFault.TheVariants.NoMemory}
 use Rattle.crew_script.specs.Crews.{said, after, with_ask, crew_fault, request_fault, fault_behind, fault_at}
 use Rattle.crew_script.specs.Crews.{unless_fault, crews_from}
-use Rattle.crew_script.specs.Says.{Says}
 use Rattle.crew_script.specs.CrewsOf.{Say, say_none, say_nothing, say_next, lines_for, AreCrews, HasFault, bad_line}
 use Rattle.crew_script.specs.CrewsOf.{duplicate_crew, too_many_crews, request_before_crew, too_many_requests}
 use Rattle.crew_script.specs.CrewsOf.{IsFirstFault, Answers}
-use Rattle.crew_script.specs.declared.dockets.Ask.{Ask}
-use Rattle.crew_script.specs.declared.dockets.Crew.{Crew}
-use Rattle.crew_script.specs.declared.line.Line.{Line}
 use Rattle.crew_script.specs.declared.line.Line.TheVariants as line
-use Rattle.crew_script.specs.declared.fault.CrewCode.{CrewCode}
-use Rattle.crew_script.specs.declared.fault.CrewCode.TheVariants.{TooManyRequests}
-use Rattle.crew_script.specs.declared.fault.CrewFault.{CrewFault}
-use Rattle.crew_script.specs.declared.fault.CrewFault.TheVariants.{Fault, NoMemory}
-use Rattle.crew_script.proofs.NameLemmas.{differ_at}
+use Rattle.crew_script.proofs.{NameLemmas.differ_at, Saying.says_one, Saying.says_read, Standing.fault_cases}
 use Rattle.crew_script.proofs.DocketLemmas.{ask_last, names_more, count_more}
-use Rattle.crew_script.proofs.Saying.{says_one, says_read}
-use Rattle.crew_script.proofs.Standing.{fault_cases}
 
 -- the crews behind what is said, where no line has a fault
 abbrev after_all : List Crew → List Line → List Crew
@@ -37,22 +29,22 @@ AreClean crews [] = Unit {0}
 AreClean crews (other ∷ more) = (fault_behind crews other ≡ None) × AreClean (after crews other) more
 
 -- one line of which it is known what it says
-one_read : (number : ℕ) (crews : List Crew) (bytes : List ℕ) (lines : List (List ℕ)) (other : Line) → Says bytes other
+one_read : (number : ℕ) (crews : List Crew) {bytes : List ℕ} (lines : List (List ℕ)) {other : Line} → Says bytes other
     → crews_from number crews (bytes ∷ lines) ≡ unless_fault number (fault_behind crews other)
     (crews_from (number + 1) (after crews other) lines)
-one_read number crews bytes lines other says =
+one_read number crews {bytes} lines {other} says =
     ap (λ l. unless_fault number (fault_behind crews l) (crews_from (number + 1) (after crews l) lines))
     (says_one bytes other says)
 
-run : (number : ℕ) (crews : List Crew) (lines : List (List ℕ)) (all : List Line) → Say lines all → AreClean crews all
+run : (number : ℕ) (crews : List Crew) {lines : List (List ℕ)} {all : List Line} → Say lines all → AreClean crews all
     → crews_from number crews lines ≡ Ok (after_all crews all)
-run number crews _ _ say_none clean = refl
-run number crews _ _ (say_nothing bytes lines more says rest) clean =
-    one_read number crews bytes lines line.Nothing says ∙ run (number + 1) crews lines more rest clean
-run number crews _ _ (say_next bytes other lines more says some rest) clean =
-    one_read number crews bytes lines other says
+run number crews say_none clean = refl
+run number crews (say_nothing bytes lines more says rest) clean =
+    one_read number crews lines says ∙ run (number + 1) crews rest clean
+run number crews (say_next bytes other lines more says some rest) clean =
+    one_read number crews lines says
     ∙ ap (λ f. unless_fault number f (crews_from (number + 1) (after crews other) lines)) clean.0
-    ∙ run (number + 1) (after crews other) lines more rest clean.1
+    ∙ run (number + 1) (after crews other) rest clean.1
 
 -- ---- what is said for crews has no fault
 
@@ -75,19 +67,19 @@ record Ran (crews : List Crew) (all : List Line) (end : List Crew) : Type 0 wher
   clean : AreClean crews all
   gives : after_all crews all ≡ end
 
-docket_ran : (crews : List Crew) (name : List ℕ) (front back : List Ask) (rest : List Line) (end : List Crew)
+docket_ran : (crews : List Crew) (name : List ℕ) (front back : List Ask) {rest : List Line} {end : List Crew}
     → request_count crews + length front + length back ≤ MOST_REQUESTS
     → Ran (crews ++ crew_with name (front ++ back) ∷ []) rest end
     → Ran (crews ++ crew_with name front ∷ []) (map line.Request back ++ rest) end
-docket_ran crews name front [] rest end few ran =
+docket_ran crews name front [] {rest} {end} few ran =
     subst (λ d. Ran (crews ++ crew_with name d ∷ []) rest end) (append-nil front) ran
-docket_ran crews name front (ask ∷ back) rest end few ran =
+docket_ran crews name front (ask ∷ back) {rest} {end} few ran =
     let now = crews ++ crew_with name front ∷ [] in
     let next = crews ++ crew_with name (front ++ ask ∷ []) ∷ [] in
     let count = count_more crews (crew_with name front ∷ []) in
     let last : with_ask ask now ≡ next = ask_last crews (crew_with name front) ask in
     let more : Ran next (map line.Request back ++ rest) end =
-    docket_ran crews name (front ++ ask ∷ []) back rest end
+    docket_ran crews name (front ++ ask ∷ []) back
     (let long = length-append front (ask ∷ []) in omega (arith, few, long))
     (subst (λ d. Ran (crews ++ crew_with name d ∷ []) rest end) (sym (append_assoc front (ask ∷ []) back)) ran) in
     let moved : Ran (with_ask ask now) (map line.Request back ++ rest) end =
@@ -115,36 +107,35 @@ crews_ran crews (crew ∷ more) differ few_crews few_requests =
     (subst (λ l. length l ≤ MOST_CREWS) (sym whole) few_crews)
     (subst (λ l. request_count l ≤ MOST_REQUESTS) (sym whole) few_requests)) in
     let docket =
-    docket_ran crews crew.name [] crew.docket (flat_map lines_for more) (crews ++ crew ∷ more)
-    (omega (arith, count, few_requests)) rest in
+    docket_ran crews crew.name [] crew.docket (omega (arith, count, few_requests)) rest in
     record {
       clean = (crew_open crews crew.name new (omega (arith, long, few_crews)), docket.clean);
       gives =
           docket.gives;
     }
 
-stands_one : (number : ℕ) (lines : List (List ℕ)) (crews : List Crew) → AreCrews lines crews
+stands_one : (number : ℕ) {lines : List (List ℕ)} {crews : List Crew} → AreCrews lines crews
     → crews_from number [] lines ≡ Ok crews
-stands_one number lines crews stand =
+stands_one number {crews} stand =
     let ran = crews_ran [] crews stand.differ stand.few_crews stand.few_requests in
-    run number [] lines (flat_map lines_for crews) stand.say ran.clean ∙ ap Ok ran.gives
+    run number [] stand.say ran.clean ∙ ap Ok ran.gives
 
 -- ---- the first fault
 
-fault_is : (crews : List Crew) (bytes : List ℕ) (code : CrewCode) → HasFault crews bytes code
+fault_is : {crews : List Crew} (bytes : List ℕ) (code : CrewCode) → HasFault crews bytes code
     → fault_behind crews (said bytes) ≡ Some code
-fault_is _ _ _ (bad_line crews bytes never) = elim (says_read bytes) [
+fault_is _ _ (bad_line crews bytes never) = elim (says_read bytes) [
   | inl bad ↦ ap (fault_behind crews) bad
   | inr says ↦ absurd (never (said bytes) says)
 ]
-fault_is _ _ _ (duplicate_crew crews bytes name says hit) =
+fault_is _ _ (duplicate_crew crews bytes name says hit) =
     ap (fault_behind crews) (says_one bytes (line.Crew name) says) ∙ rw hit refl
-fault_is _ _ _ (too_many_crews crews bytes name says miss many) =
+fault_is _ _ (too_many_crews crews bytes name says miss many) =
     ap (fault_behind crews) (says_one bytes (line.Crew name) says)
     ∙ rw (miss, le-leb MOST_CREWS (length crews) many) refl
-fault_is _ _ _ (request_before_crew bytes ask says) = ap (fault_behind []) (says_one bytes (line.Request ask) says)
-fault_is _ _ _ (too_many_requests [] bytes ask says some many) = absurd (some refl)
-fault_is _ _ _ (too_many_requests (first ∷ crews) bytes ask says some many) =
+fault_is _ _ (request_before_crew bytes ask says) = ap (fault_behind []) (says_one bytes (line.Request ask) says)
+fault_is _ _ (too_many_requests [] bytes ask says some many) = absurd (some refl)
+fault_is _ _ (too_many_requests (first ∷ crews) bytes ask says some many) =
     ap (fault_behind (first ∷ crews)) (says_one bytes (line.Request ask) says)
     ∙ rw (le-leb MOST_REQUESTS (request_count (first ∷ crews)) many) refl
 
@@ -172,21 +163,20 @@ read_on number crews (bytes ∷ lines) more end same = elim (fault_cases (fault_
       absurd (let clash = sym fails ∙ same in cc)
 ]
 
-faults_one : (number : ℕ) (lines : List (List ℕ)) (code : CrewCode) (place : Place)
+faults_one : {number : ℕ} {lines : List (List ℕ)} {code : CrewCode} {place : Place}
     → IsFirstFault number lines code place
     → crews_from number [] lines ≡ Err (Fault code place)
-faults_one number lines code place first =
+faults_one {number} {code} {place} first =
     let at = number + length first.before in
     let rest = crews_from (at + 1) (after first.crews (said first.bytes)) first.behind in
     ap (crews_from number []) first.split
-    ∙ read_on number [] first.before (first.bytes ∷ first.behind) first.crews
-    (stands_one number first.before first.crews first.stand)
-    ∙ ap (λ f. unless_fault at f rest) (fault_is first.crews first.bytes code first.has)
+    ∙ read_on number [] first.before (first.bytes ∷ first.behind) first.crews (stands_one number first.stand)
+    ∙ ap (λ f. unless_fault at f rest) (fault_is first.bytes code first.has)
     ∙ ap (λ l. Err (Fault code (record { line = l; column = 1 }))) (sym first.line)
     ∙ ap (λ k. Err (Fault code (record { line = place.line; column = k }))) (sym first.column)
 
 pub one_answer : (number : ℕ) (lines : List (List ℕ)) (read : Result (List Crew) CrewFault) → Answers number lines read
     → crews_from number [] lines ≡ read
-one_answer number lines (Ok crews) stand = stands_one number lines crews stand
-one_answer number lines (Err (Fault code place)) first = faults_one number lines code place first
+one_answer number lines (Ok crews) stand = stands_one number stand
+one_answer number lines (Err (Fault code place)) first = faults_one first
 one_answer number lines (Err NoMemory) never = absurd never

@@ -6,13 +6,13 @@ use Rattle.std.specs.Prelude.{◌⊎◌, ◌||◌, ◌&&◌, codes, Option, Some
 use Rattle.std.specs.List.{list_all, position_or_len}
 use Rattle.std.specs.Str.{str_eq_ignore_ascii_case, str_to_ascii_lowercase, bytes_eq}
 use Rattle.std.proofs.lemmas.Bool.{cases_Bool, and_parts, not-true, leb-true, ltb-true}
-use Rattle.fault_words.specs.Name.{is_name, is_bare_name}
+use Rattle.fault_words.specs.{Name.is_name, Name.is_bare_name, Names.all_differ, Names.has_name}
 use lib.Pointwise.{bytes_decides}
 use Rattle.std.proofs.lemmas.List.{length-map}
 use Rattle.crew_script.specs.Words.{Word, Between, InQuotes, Closed, words, words_of, is_blank, is_quote, bare}
 use Rattle.crew_script.specs.Words.{are_blank, Spells, no_word}
-use Rattle.fault_words.specs.Names.{all_differ, has_name}
-use Rattle.crew_script.specs.Names.{are_taken}
+use Rattle.crew_script.specs.{Names.are_taken, Crews.said, declared.dockets.Ask.TheVariants.Take}
+use Rattle.crew_script.specs.{declared.line.Line.Line}
 use Rattle.crew_script.specs.Lines.{is_bare_kind, is_quoted_kind, is_name_word, says, is_comment, begins_comment}
 use Rattle.crew_script.specs.Lines.{only_name, only_margin, margin_of, crew_line, return_line, margin_line, take_line}
 use Rattle.crew_script.specs.Lines.{is_taken_too, request_line, line_of, SaysMargin}
@@ -20,9 +20,6 @@ use Rattle.decimal_numerals.specs.Numeral.{is_numeral, number_from}
 use Rattle.deck_limits.specs.declared.TheConstants.{GREATEST_MARGIN}
 use Rattle.crew_script.specs.Says.{Says, says_blank, says_comment, says_crew, says_take, says_return, says_margin}
 use Rattle.crew_script.specs.Says.{texts}
-use Rattle.crew_script.specs.Crews.{said}
-use Rattle.crew_script.specs.declared.dockets.Ask.TheVariants.{Take}
-use Rattle.crew_script.specs.declared.line.Line.{Line}
 use Rattle.crew_script.specs.declared.line.Line.TheVariants.{Nothing, Request, Bad}
 use Rattle.crew_script.proofs.NameLemmas.{differ_at, differ_push}
 use Rattle.crew_script.proofs.WordLemmas.{blank_skipped, bare_on}
@@ -140,7 +137,7 @@ says_one line _ (says_blank _ blank) = ap line_of (no_words line blank)
 says_one _ _ (says_comment gap rest blank) =
     ap line_of (gap_skipped gap (35 ∷ rest) blank ∙ bare_begins 35 rest hash_no_blank refl ∙ bare_on (35 ∷ []) rest)
 says_one line _ (says_crew _ first name spells form is) =
-    ap line_of (words_spelled (first ∷ name ∷ []) line spells)
+    ap line_of (words_spelled spells)
     ∙ rw (no_comment first (codes "crew") form refl, form, is) refl
 says_one line _ (says_take _ first names spells form are taken) =
     let (sizes, differ) =
@@ -150,7 +147,7 @@ says_one line _ (says_take _ first names spells form are taken) =
     let long : length (texts names) ≡ length names = length-map names (λ (word : Word). word.text) in
     let least = leb-true 1 (length (texts names)) some in
     let most = leb-true (length (texts names)) 16 few in
-    ap line_of (words_spelled (first ∷ names) line spells)
+    ap line_of (words_spelled spells)
     ∙ rw (no_comment first (codes "take") form refl, other_form first (codes "take") (codes "crew") form refl, form)
     (take_all [] names (record {
       are = are;
@@ -160,7 +157,7 @@ says_one line _ (says_take _ first names spells form are taken) =
           omega (arith, long, least);
     }))
 says_one line _ (says_return _ first name spells form is) =
-    ap line_of (words_spelled (first ∷ name ∷ []) line spells)
+    ap line_of (words_spelled spells)
     ∙ rw (
       no_comment first (codes "return") form refl,
       other_form first (codes "return") (codes "crew") form refl,
@@ -169,7 +166,7 @@ says_one line _ (says_return _ first name spells form is) =
       is,
     ) refl
 says_one line _ (says_margin _ first word number spells form kind is) =
-    ap line_of (words_spelled (first ∷ word ∷ []) line spells)
+    ap line_of (words_spelled spells)
     ∙ rw (
       no_comment first (codes "margin") form refl,
       other_form first (codes "margin") (codes "crew") form refl,
@@ -182,11 +179,11 @@ says_one line _ (says_margin _ first word number spells form kind is) =
 
 -- ---- from the words to the form
 
-none_spelled : (line : List ℕ) → Spells [] line → are_blank line ≡ true
-none_spelled _ (no_word gap blank) = blank
+none_spelled : {line : List ℕ} → Spells [] line → are_blank line ≡ true
+none_spelled (no_word gap blank) = blank
 
-spells_all : (line : List ℕ) (all : List Word) → words_of line ≡ all → list_all is_whole all ≡ true → Spells all line
-spells_all line all same whole =
+spells_all : (line : List ℕ) {all : List Word} → words_of line ≡ all → list_all is_whole all ≡ true → Spells all line
+spells_all line same whole =
     subst (λ l. Spells l line) same (spelled Between line tt (subst (λ l. list_all is_whole l ≡ true) (sym same) whole))
 
 form_whole : (word : Word) (form : List ℕ) → says word form ≡ true → is_whole word ≡ true
@@ -216,22 +213,22 @@ names_whole (word ∷ words) are =
     rw (name_whole word is) (names_whole words more)
 
 -- a line whose first word begins a comment
-closed_first : (text line : List ℕ) (first : Word) (rest : List Word) → words (Closed text) line ≡ first ∷ rest
+closed_first : (text line : List ℕ) {first : Word} {rest : List Word} → words (Closed text) line ≡ first ∷ rest
     → is_bare_kind first.kind ≡ false
-closed_first text [] first rest same = grind (arith, same)
-closed_first text (byte ∷ line) first rest same = elim (cases_Bool (is_blank byte)) [
+closed_first text [] same = grind (arith, same)
+closed_first text (byte ∷ line) same = elim (cases_Bool (is_blank byte)) [
   | inl hit ↦ grind (arith, same, hit)
   | inr miss ↦ grind (arith, same, miss)
 ]
 
-quotes_first : (text line : List ℕ) (first : Word) (rest : List Word) → words (InQuotes text) line ≡ first ∷ rest
+quotes_first : (text line : List ℕ) {first : Word} {rest : List Word} → words (InQuotes text) line ≡ first ∷ rest
     → is_bare_kind first.kind ≡ false
-quotes_first text [] first rest same = grind (arith, same)
-quotes_first text (byte ∷ line) first rest same = elim (cases_Bool (is_quote byte)) [
-  | inl hit ↦ closed_first text line first rest
+quotes_first text [] same = grind (arith, same)
+quotes_first text (byte ∷ line) {first} {rest} same = elim (cases_Bool (is_quote byte)) [
+  | inl hit ↦ closed_first text line
       (subst (λ b. cond b (words (Closed text) line) (words (InQuotes (text ++ byte ∷ [])) line) ≡ first ∷ rest) hit
       same)
-  | inr miss ↦ quotes_first (text ++ byte ∷ []) line first rest
+  | inr miss ↦ quotes_first (text ++ byte ∷ []) line
       (subst (λ b. cond b (words (Closed text) line) (words (InQuotes (text ++ byte ∷ [])) line) ≡ first ∷ rest) miss
       same)
 ]
@@ -242,12 +239,12 @@ record IsComment (line : List ℕ) : Type 0 where
   blank : are_blank gap ≡ true
   split : line ≡ gap ++ 35 ∷ more
 
-comment_found : (line : List ℕ) (first : Word) (rest : List Word) → words_of line ≡ first ∷ rest
+comment_found : (line : List ℕ) {first : Word} {rest : List Word} → words_of line ≡ first ∷ rest
     → is_comment first ≡ true → IsComment line
-comment_found [] first rest same here = absurd cc
-comment_found (byte ∷ line) first rest same here = elim (cases_Bool (is_blank byte)) [
+comment_found [] same here = absurd cc
+comment_found (byte ∷ line) {first} same here = elim (cases_Bool (is_blank byte)) [
   | inl hit ↦
-      let found = comment_found line first rest (sym (blank_skipped byte line hit) ∙ same) here in
+      let found = comment_found line (sym (blank_skipped byte line hit) ∙ same) here in
       record {
         gap = byte ∷ found.gap;
         more = found.more;
@@ -257,7 +254,7 @@ comment_found (byte ∷ line) first rest same here = elim (cases_Bool (is_blank 
   | inr miss ↦ elim (cases_Bool (is_quote byte)) [
     | inl quote ↦
         let opens : words_of (byte ∷ line) ≡ words (InQuotes []) line = rw (miss, quote) refl in
-        let kind = quotes_first [] line first rest (sym opens ∙ same) in
+        let kind = quotes_first [] line (sym opens ∙ same) in
         let parts = and_parts (is_bare_kind first.kind) (begins_comment first.text) here in
         absurd (let both = sym parts.0 ∙ kind in cc)
     | inr other ↦
@@ -270,8 +267,8 @@ comment_found (byte ∷ line) first rest same here = elim (cases_Bool (is_blank 
   ]
 ]
 
-comment_says : (line : List ℕ) → IsComment line → Says line Nothing
-comment_says line found = subst (λ l. Says l Nothing) (sym found.split) (says_comment found.gap found.more found.blank)
+comment_says : {line : List ℕ} → IsComment line → Says line Nothing
+comment_says found = subst (λ l. Says l Nothing) (sym found.split) (says_comment found.gap found.more found.blank)
 
 record OnlyName (words : List Word) : Type 0 where
   word : Word
@@ -313,27 +310,27 @@ abbrev Reads : List ℕ → Line → Type 0
 Reads line other = (other ≡ Bad) ⊎ Says line other
 
 -- a line of a form whose rest is one name
-read_name : (line : List ℕ) (first : Word) (rest : List Word) (form : List ℕ) (saying : Option (List ℕ) → Line)
+read_name : (line : List ℕ) {first : Word} {rest : List Word} (form : List ℕ) (saying : Option (List ℕ) → Line)
     → words_of line ≡ first ∷ rest → says first form ≡ true → saying None ≡ Bad
     → ((name : Word) → Spells (first ∷ name ∷ []) line → is_name_word name ≡ true → Says line (saying (Some name.text)))
     → Reads line (saying (only_name rest))
-read_name line first rest form saying same here bad says_so = elim (name_read rest) [
+read_name line {first} {rest} form saying same here bad says_so = elim (name_read rest) [
   | inl none ↦ inl (ap saying none ∙ bad)
   | inr found ↦
       let spells =
-      spells_all line (first ∷ found.word ∷ []) (same ∙ ap (λ l. first ∷ l) found.alone)
+      spells_all line (same ∙ ap (λ l. first ∷ l) found.alone)
       (rw (form_whole first form here, name_whole found.word found.is) refl) in
       let one : only_name rest ≡ Some found.word.text = ap only_name found.alone ∙ rw found.is refl in
       inr (subst (λ o. Says line (saying o)) (sym one) (says_so found.word spells found.is))
 ]
 
-read_margin : (line : List ℕ) (first : Word) (rest : List Word) → words_of line ≡ first ∷ rest
+read_margin : (line : List ℕ) {first : Word} {rest : List Word} → words_of line ≡ first ∷ rest
     → says first (codes "margin") ≡ true → Reads line (margin_line (only_margin rest))
-read_margin line first rest same form = elim (margin_read rest) [
+read_margin line {first} {rest} same form = elim (margin_read rest) [
   | inl none ↦ inl (ap margin_line none)
   | inr found ↦
       let spells =
-      spells_all line (first ∷ found.word ∷ []) (same ∙ ap (λ l. first ∷ l) found.alone)
+      spells_all line (same ∙ ap (λ l. first ∷ l) found.alone)
       (rw (form_whole first (codes "margin") form, found.kind) refl) in
       let one : only_margin rest ≡ Some found.number = ap only_margin found.alone ∙ rw found.kind found.is in
       inr (subst (λ o. Says line (margin_line o)) (sym one)
@@ -348,45 +345,44 @@ took_taken names took =
       le-leb (length (texts names)) 16 (omega (arith, took.few, long)),
     ) took.differ
 
-read_take : (line : List ℕ) (first : Word) (rest : List Word) → words_of line ≡ first ∷ rest
+read_take : (line : List ℕ) {first : Word} {rest : List Word} → words_of line ≡ first ∷ rest
     → says first (codes "take") ≡ true → Reads line (take_line [] rest)
-read_take line first rest same form = elim (take_read [] rest (omega arith) refl) [
+read_take line {first} {rest} same form = elim (take_read [] rest (omega arith) refl) [
   | inl bad ↦ inl bad
   | inr took ↦
-      let spells =
-      spells_all line (first ∷ rest) same (rw (form_whole first (codes "take") form) (names_whole rest took.are)) in
+      let spells = spells_all line same (rw (form_whole first (codes "take") form) (names_whole rest took.are)) in
       inr (subst (Says line) (sym (take_all [] rest took))
       (says_take line first rest spells form took.are (took_taken rest took)))
 ]
 
-read_request : (line : List ℕ) (first : Word) (rest : List Word) → words_of line ≡ first ∷ rest
+read_request : (line : List ℕ) {first : Word} {rest : List Word} → words_of line ≡ first ∷ rest
     → Reads line (request_line first rest)
-read_request line first rest same = elim (cases_Bool (says first (codes "take"))) [
+read_request line {first} {rest} same = elim (cases_Bool (says first (codes "take"))) [
   | inl take ↦ subst (Reads line) (sym (let e : request_line first rest ≡ take_line [] rest = rw take refl in e))
-      (read_take line first rest same take)
+      (read_take line same take)
   | inr no_take ↦ elim (cases_Bool (says first (codes "return"))) [
     | inl back ↦ subst (Reads line) (sym (let e : request_line first rest ≡ return_line (only_name rest) =
-        rw (no_take, back) refl in e)) (read_name line first rest (codes "return") return_line same back refl
+        rw (no_take, back) refl in e)) (read_name line (codes "return") return_line same back refl
         (λ name spells is. says_return line first name spells back is))
     | inr no_back ↦ elim (cases_Bool (says first (codes "margin"))) [
       | inl margin ↦ subst (Reads line) (sym (let e : request_line first rest ≡ margin_line (only_margin rest) =
-          rw (no_take, no_back, margin) refl in e)) (read_margin line first rest same margin)
+          rw (no_take, no_back, margin) refl in e)) (read_margin line same margin)
       | inr none ↦ inl (rw (no_take, no_back, none) refl)
     ]
   ]
 ]
 
 by_words : (line : List ℕ) (all : List Word) → words_of line ≡ all → Reads line (line_of all)
-by_words line [] same = inr (says_blank line (none_spelled line (spells_all line [] same refl)))
+by_words line [] same = inr (says_blank line (none_spelled (spells_all line same refl)))
 by_words line (first ∷ rest) same = elim (cases_Bool (is_comment first)) [
   | inl hit ↦ subst (Reads line) (sym (let e : line_of (first ∷ rest) ≡ Nothing = rw hit refl in e))
-      (inr (comment_says line (comment_found line first rest same hit)))
+      (inr (comment_says (comment_found line same hit)))
   | inr miss ↦ elim (cases_Bool (says first (codes "crew"))) [
     | inl crew ↦ subst (Reads line) (sym (let e : line_of (first ∷ rest) ≡ crew_line (only_name rest) =
-        rw (miss, crew) refl in e)) (read_name line first rest (codes "crew") crew_line same crew refl
+        rw (miss, crew) refl in e)) (read_name line (codes "crew") crew_line same crew refl
         (λ name spells is. says_crew line first name spells crew is))
     | inr other ↦ subst (Reads line) (sym (let e : line_of (first ∷ rest) ≡ request_line first rest =
-        rw (miss, other) refl in e)) (read_request line first rest same)
+        rw (miss, other) refl in e)) (read_request line same)
   ]
 ]
 
@@ -406,17 +402,17 @@ small_margin text number is =
       | inr miss ↦ let none : None ≡ Some number = sym (rw miss refl) ∙ is in absurd cc
     ]
 
-says_small : (line : List ℕ) (other : Line) → Says line other → SaysMargin other
-says_small _ _ (says_blank _ blank) = tt
-says_small _ _ (says_comment gap rest blank) = tt
-says_small _ _ (says_crew _ first name spells form is) = tt
-says_small _ _ (says_take _ first names spells form are taken) = tt
-says_small _ _ (says_return _ first name spells form is) = tt
-says_small _ _ (says_margin _ first word number spells form kind is) = small_margin word.text number is
+says_small : {line : List ℕ} {other : Line} → Says line other → SaysMargin other
+says_small (says_blank _ blank) = tt
+says_small (says_comment gap rest blank) = tt
+says_small (says_crew _ first name spells form is) = tt
+says_small (says_take _ first names spells form are taken) = tt
+says_small (says_return _ first name spells form is) = tt
+says_small (says_margin _ first word number spells form kind is) = small_margin word.text number is
 
 -- a line says no margin above the greatest
 pub said_small : (line : List ℕ) → SaysMargin (said line)
 said_small line = elim (says_read line) [
   | inl bad ↦ subst SaysMargin (sym bad) tt
-  | inr says ↦ says_small line (said line) says
+  | inr says ↦ says_small says
 ]

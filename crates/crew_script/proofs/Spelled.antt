@@ -84,11 +84,11 @@ word_run _ _ rest (quoted_word text none) ends =
     ∙ closed_parts text rest ends
 
 -- the words that spell a line are its words
-pub words_spelled : (all : List Word) (line : List ℕ) → Spells all line → words_of line ≡ all
-words_spelled _ _ (no_word gap blank) = no_words gap blank
-words_spelled _ _ (word_on gap written rest word more blank writes ends spells) =
+pub words_spelled : {all : List Word} {line : List ℕ} → Spells all line → words_of line ≡ all
+words_spelled (no_word gap blank) = no_words gap blank
+words_spelled (word_on gap written rest word more blank writes ends spells) =
     gap_skipped gap (written ++ rest) blank ∙ word_run word written rest writes ends
-    ∙ ap (λ l. word ∷ l) (words_spelled more rest spells)
+    ∙ ap (λ l. word ∷ l) (words_spelled spells)
 
 -- ---- what is read is spelled, unless it is broken
 
@@ -108,10 +108,10 @@ IsOpen (InBare text) = (begins_bare text ≡ true) × (list_any is_blank text �
 IsOpen (InQuotes text) = list_any is_quote text ≡ false
 IsOpen (Closed text) = list_any is_quote text ≡ false
 
-spells_blank : (all : List Word) (byte : ℕ) (line : List ℕ) → is_blank byte ≡ true → Spells all line
+spells_blank : {all : List Word} (byte : ℕ) {line : List ℕ} → is_blank byte ≡ true → Spells all line
     → Spells all (byte ∷ line)
-spells_blank _ byte _ hit (no_word gap blank) = no_word (byte ∷ gap) (rw hit blank)
-spells_blank _ byte _ hit (word_on gap written rest word more blank writes ends spells) =
+spells_blank byte hit (no_word gap blank) = no_word (byte ∷ gap) (rw hit blank)
+spells_blank byte hit (word_on gap written rest word more blank writes ends spells) =
     word_on (byte ∷ gap) written rest word more (rw hit blank) writes ends spells
 
 begins_push : (text : List ℕ) (byte : ℕ) → begins_bare text ≡ true → begins_bare (text ++ byte ∷ []) ≡ true
@@ -124,8 +124,7 @@ spelled Between [] is whole = no_word [] refl
 spelled Between (byte ∷ line) is whole = elim (cases_Bool (is_blank byte)) [
   | inl hit ↦
       let same = blank_skipped byte line hit in
-      subst (λ l. Spells l (byte ∷ line)) (sym same)
-      (spells_blank (words_of line) byte line hit (spelled Between line tt
+      subst (λ l. Spells l (byte ∷ line)) (sym same) (spells_blank byte hit (spelled Between line tt
       (subst (λ l. list_all is_whole l ≡ true) same whole)))
   | inr miss ↦ elim (cases_Bool (is_quote byte)) [
     | inl quote ↦
@@ -148,8 +147,7 @@ spelled (InBare text) (byte ∷ line) is whole = elim (cases_Bool (is_blank byte
       let same : words (InBare text) (byte ∷ line) ≡ bare text ∷ words_of line = rw hit refl in
       subst (λ l. Spells l (text ++ byte ∷ line)) (sym same)
       (word_on [] text (byte ∷ line) (bare text) (words_of line) refl (bare_word text is.0 is.1) hit
-      (spells_blank (words_of line) byte line hit (spelled Between line tt
-      (subst (λ l. list_all is_whole l ≡ true) same whole))))
+      (spells_blank byte hit (spelled Between line tt (subst (λ l. list_all is_whole l ≡ true) same whole))))
   | inr miss ↦
       let same : words (InBare text) (byte ∷ line) ≡ words (InBare (text ++ byte ∷ [])) line = rw miss refl in
       subst (λ l. Spells l (text ++ byte ∷ line)) (sym same)
@@ -180,8 +178,7 @@ spelled (Closed text) (byte ∷ line) is whole = elim (cases_Bool (is_blank byte
       let same : words (Closed text) (byte ∷ line) ≡ quoted text ∷ words_of line = rw hit refl in
       subst (λ l. Spells l (34 ∷ ((text ++ 34 ∷ []) ++ byte ∷ line))) (sym same)
       (word_on [] (34 ∷ text ++ 34 ∷ []) (byte ∷ line) (quoted text) (words_of line) refl (quoted_word text is) hit
-      (spells_blank (words_of line) byte line hit (spelled Between line tt
-      (subst (λ l. list_all is_whole l ≡ true) same whole))))
+      (spells_blank byte hit (spelled Between line tt (subst (λ l. list_all is_whole l ≡ true) same whole))))
   | inr miss ↦
       let same : words (Closed text) (byte ∷ line) ≡ broken ∷ [] = rw miss refl in
       let clash : list_all is_whole (broken ∷ []) ≡ true = subst (λ l. list_all is_whole l ≡ true) same whole in

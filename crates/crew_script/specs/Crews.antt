@@ -1,21 +1,15 @@
 -- What the lines of a crew part say, and the crews with their requests that come of it.
 use Rattle.std.specs.Prelude.{◌≡◌, ℕ, ◌+◌, nat_le, if◌then◌else◌, List, [], ◌∷◌, ◌++◌, length, Result, Ok, Err}
 use Rattle.std.specs.Prelude.{Option, Some, None}
-use Rattle.crew_script.specs.Deck.{lines_of}
-use Rattle.crew_script.specs.Words.{words_of}
-use Rattle.crew_script.specs.Lines.{line_of}
+use Rattle.crew_script.specs.{Deck.lines_of, Words.words_of, Lines.line_of, Dockets.names_of, Dockets.request_count}
+use Rattle.crew_script.specs.{declared.dockets.TheConstants.MOST_CREWS, declared.dockets.TheConstants.MOST_REQUESTS}
+use Rattle.crew_script.specs.{declared.dockets.Ask.Ask, declared.dockets.Crew.Crew, declared.line.Line.Line}
+use Rattle.crew_script.specs.{declared.fault.CrewCode.CrewCode, declared.fault.CrewFault.CrewFault}
+use Rattle.crew_script.specs.{declared.fault.CrewFault.TheVariants.Fault, declared.fault.CrewFault.TheVariants.NoMemory}
 use Rattle.fault_words.specs.Names.{has_name}
-use Rattle.crew_script.specs.Dockets.{names_of, request_count}
-use Rattle.crew_script.specs.declared.dockets.TheConstants.{MOST_CREWS, MOST_REQUESTS}
-use Rattle.crew_script.specs.declared.dockets.Ask.{Ask}
-use Rattle.crew_script.specs.declared.dockets.Crew.{Crew}
-use Rattle.crew_script.specs.declared.line.Line.{Line}
 use Rattle.crew_script.specs.declared.line.Line.TheVariants as line
-use Rattle.crew_script.specs.declared.fault.CrewCode.{CrewCode}
 use Rattle.crew_script.specs.declared.fault.CrewCode.TheVariants.{BadLine, DuplicateCrew, RequestBeforeCrew}
 use Rattle.crew_script.specs.declared.fault.CrewCode.TheVariants.{TooManyCrews, TooManyRequests}
-use Rattle.crew_script.specs.declared.fault.CrewFault.{CrewFault}
-use Rattle.crew_script.specs.declared.fault.CrewFault.TheVariants.{Fault, NoMemory}
 
 -- one more request of the last crew
 abbrev pub with_ask : Ask → List Crew → List Crew

@@ -1,18 +1,13 @@
 -- The crews that lines say, and the first line's fault, as the format puts them.
 use Rattle.std.specs.Prelude.{◌≡◌, ◌≢◌, ℕ, ◌+◌, ◌≤◌, true, false, List, [], ◌∷◌, ◌++◌, map, length, Result, Ok, Err}
 use Rattle.std.specs.List.{flat_map}
-use Rattle.fault_words.specs.declared.place.Place.{Place}
-use Rattle.fault_words.specs.Names.{all_differ, has_name}
-use Rattle.crew_script.specs.Dockets.{names_of, request_count}
-use Rattle.crew_script.specs.Says.{Says}
-use Rattle.crew_script.specs.declared.dockets.TheConstants.{MOST_CREWS, MOST_REQUESTS}
-use Rattle.crew_script.specs.declared.dockets.Ask.{Ask}
-use Rattle.crew_script.specs.declared.dockets.Crew.{Crew}
-use Rattle.crew_script.specs.declared.line.Line.{Line}
+use Rattle.fault_words.specs.{declared.place.Place.Place, Names.all_differ, Names.has_name}
+use Rattle.crew_script.specs.{Dockets.names_of, Dockets.request_count, Says.Says}
+use Rattle.crew_script.specs.{declared.dockets.TheConstants.MOST_CREWS, declared.dockets.TheConstants.MOST_REQUESTS}
+use Rattle.crew_script.specs.{declared.dockets.Ask.Ask, declared.dockets.Crew.Crew, declared.line.Line.Line}
+use Rattle.crew_script.specs.{declared.fault.CrewFault.CrewFault, declared.fault.CrewFault.TheVariants.Fault}
+use Rattle.crew_script.specs.{declared.fault.CrewFault.TheVariants.NoMemory, declared.fault.CrewCode.CrewCode}
 use Rattle.crew_script.specs.declared.line.Line.TheVariants as line
-use Rattle.crew_script.specs.declared.fault.CrewFault.{CrewFault}
-use Rattle.crew_script.specs.declared.fault.CrewFault.TheVariants.{Fault, NoMemory}
-use Rattle.crew_script.specs.declared.fault.CrewCode.{CrewCode}
 use Rattle.crew_script.specs.declared.fault.CrewCode.TheVariants.{BadLine, DuplicateCrew, RequestBeforeCrew}
 use Rattle.crew_script.specs.declared.fault.CrewCode.TheVariants.{TooManyCrews, TooManyRequests}
 

@@ -3,8 +3,7 @@
 -- once one carriage return at its end is dropped.
 use Rattle.std.specs.Prelude.{ℕ, ◌+◌, min, Bool, ◌||◌, ◌==◌, if◌then◌else◌, List, [], ◌∷◌, ◌++◌, length, codes, Some}
 use Rattle.std.specs.Prelude.{None, nat_eq}
-use Rattle.std.specs.List.{slice_split}
-use Rattle.std.specs.Cmp.Lexicographic.{pointwise}
+use Rattle.std.specs.{List.slice_split, Cmp.Lexicographic.pointwise}
 use Rattle.crew_script.specs.declared.deck.Split.{Split}
 
 -- a line feed

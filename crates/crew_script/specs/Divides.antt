@@ -3,9 +3,7 @@
 use Rattle.std.specs.Prelude.{◌≡◌, ℕ, ◌+◌, ◌==◌, min, false, true, if◌then◌else◌, List, [], ◌∷◌, ◌++◌, length}
 use Rattle.std.specs.Prelude.{Option, Some, None}
 use Rattle.std.specs.List.{list_any}
-use Rattle.crew_script.specs.declared.deck.CrewsAt.{CrewsAt}
-use Rattle.crew_script.specs.declared.deck.Split.{Split}
-use Rattle.crew_script.specs.Deck.{is_crews, lines_of}
+use Rattle.crew_script.specs.{declared.deck.CrewsAt.CrewsAt, declared.deck.Split.Split, Deck.is_crews, Deck.lines_of}
 
 -- a line without one carriage return at its end
 abbrev pub without_return : List ℕ → List ℕ

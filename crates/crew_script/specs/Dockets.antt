@@ -2,8 +2,7 @@
 use Rattle.std.specs.Prelude.{◌≡◌, ℕ, ◌+◌, ◌≤◌, true, List, [], ◌∷◌, map, length, get_or}
 use Rattle.std.specs.List.{All}
 use Rattle.deck_limits.specs.declared.TheConstants.{GREATEST_MARGIN}
-use Rattle.fault_words.specs.Name.{is_name}
-use Rattle.fault_words.specs.Names.{all_differ}
+use Rattle.fault_words.specs.{Name.is_name, Names.all_differ}
 use Rattle.crew_script.specs.declared.dockets.TheConstants.{MOST_CREWS, MOST_REQUESTS}
 use Rattle.crew_script.specs.declared.dockets.Ask.{Ask}
 use Rattle.crew_script.specs.declared.dockets.Ask.TheVariants.{Take, Return, Margin}

@@ -3,16 +3,12 @@ use Rattle.std.specs.Prelude.{ℕ, Bool, true, false, not, ◌==◌, ◌&&◌, �
 use Rattle.std.specs.Prelude.{if◌then◌else◌, List, [], ◌∷◌, ◌++◌, length, codes, Option, Some, None}
 use Rattle.std.specs.Str.{str_eq_ignore_ascii_case}
 use Rattle.decimal_numerals.specs.Numeral.{is_numeral, number_from}
-use Rattle.fault_words.specs.Name.{is_name, is_bare_name}
-use Rattle.crew_script.specs.declared.word.WordKind.{WordKind}
+use Rattle.fault_words.specs.{Name.is_name, Name.is_bare_name, Names.has_name}
+use Rattle.crew_script.specs.{declared.word.WordKind.WordKind, Words.Word, Names.most_taken, Dockets.HasMargin}
+use Rattle.crew_script.specs.{declared.line.Line.Line}
 use Rattle.crew_script.specs.declared.word.WordKind.TheVariants.{Bare, Quoted, Broken}
-use Rattle.crew_script.specs.Words.{Word}
-use Rattle.fault_words.specs.Names.{has_name}
-use Rattle.crew_script.specs.Names.{most_taken}
-use Rattle.crew_script.specs.Dockets.{HasMargin}
 use Rattle.deck_limits.specs.declared.TheConstants.{GREATEST_MARGIN}
 use Rattle.crew_script.specs.declared.dockets.Ask.TheVariants.{Take, Return, Margin}
-use Rattle.crew_script.specs.declared.line.Line.{Line}
 use Rattle.crew_script.specs.declared.line.Line.TheVariants.{Nothing, Crew, Request, Bad}
 
 -- a word that does not begin with a quotation mark

@@ -2,10 +2,9 @@
 use Rattle.std.specs.Prelude.{◌≡◌, ℕ, true, List, [], ◌∷◌, ◌++◌, map, codes, Some}
 use Rattle.std.specs.List.{list_all}
 use Rattle.crew_script.specs.Words.{Word, Spells, are_blank}
-use Rattle.crew_script.specs.Names.{are_taken}
+use Rattle.crew_script.specs.{Names.are_taken, declared.line.Line.Line}
 use Rattle.crew_script.specs.Lines.{says, is_name_word, is_bare_kind, margin_of}
 use Rattle.crew_script.specs.declared.dockets.Ask.TheVariants.{Take, Return, Margin}
-use Rattle.crew_script.specs.declared.line.Line.{Line}
 use Rattle.crew_script.specs.declared.line.Line.TheVariants.{Nothing, Crew, Request}
 
 -- the texts of words

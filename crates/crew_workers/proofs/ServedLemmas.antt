@@ -2,10 +2,9 @@
 use Rattle.std.proofs.Common.{◌≡◌, ℕ, ◌+◌, ◌<◌, List, [], ◌∷◌, ◌++◌, length, refl, sym, ◌∙◌, ap, subst, arith, inl, inr}
 use Rattle.std.proofs.Common.{⊎_elim, Contains, length-append}
 use Rattle.std.specs.Prelude.{Option, Some, None, is_some, IsNone, IfSome, IfNone, MatchBool, ◌↔◌, slice_get}
-use Rattle.std.proofs.lemmas.List.{length-map}
+use Rattle.std.proofs.{lemmas.List.length-map, lemmas.Option.slice_get_cases}
 use Rattle.std.proofs.lemmas.List.Elements.{All-head, All-tail, Contains-push_cases}
 use Rattle.std.proofs.lemmas.List.Elements.{Contains-append_cases}
-use Rattle.std.proofs.lemmas.Option.{slice_get_cases}
 use Rattle.unit_sets.proofs.Sorted.{Contains-nil}
 use Rattle.margin_policy.specs.declared.request.Request.{Request}
 use Rattle.outage_board.specs.declared.entry.Entry.{Entry}

@@ -1,7 +1,6 @@
 -- Passes whose crews are served.
 use Rattle.std.specs.Prelude.{◌≡◌, ℕ, List, length, All}
-use Rattle.outage_board.specs.Histories.{docket_of}
-use Rattle.outage_board.specs.Passes.{Pass}
+use Rattle.outage_board.specs.{Histories.docket_of, Passes.Pass}
 
 -- how many requests the crew of a pass has
 abbrev pub docket_size : Pass → ℕ

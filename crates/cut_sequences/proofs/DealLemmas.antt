@@ -2,10 +2,9 @@
 use Rattle.std.proofs.Common.{◌≡◌, ℕ, zero, suc, ◌+◌, ◌-◌, ◌*◌, ◌/◌, ◌%◌, ◌<◌, ◌≤◌, List, [], ◌∷◌, ◌++◌, length, get_or}
 use Rattle.std.proofs.Common.{take, drop, All, Option, None, replicate, refl, ap, sym, subst, ◌∙◌}
 use Rattle.std.proofs.Common.{arith, add-one}
-use Rattle.std.proofs.Math.Nat.{div-add-mod, mod-lt}
+use Rattle.std.proofs.{Math.Nat.div-add-mod, Math.Nat.mod-lt, lemmas.List.Sums.sum_by_more}
 use Rattle.std.specs.List.{sum_by}
 use Rattle.std.proofs.lemmas.List.{drop_more, drop-drop, take_more, take_all, get_or_read}
-use Rattle.std.proofs.lemmas.List.Sums.{sum_by_more}
 use Rattle.cut_sequences.specs.Orders.{order_count, order_total}
 use Rattle.cut_sequences.specs.Dealing.{dealt, Share, AreShares, list_in, gathered}
 
@@ -79,9 +78,9 @@ dealt-none (suc waits) others (list ∷ lists) none =
 
 -- ---- all sets together
 
-pub list_in-is : (lists : Share) (shares : List Share) → AreShares lists shares → (i : ℕ)
+pub list_in-is : {lists : Share} {shares : List Share} → AreShares lists shares → (i : ℕ)
     → list_in shares i ≡ get_or lists i None
-list_in-is lists shares are i =
+list_in-is {lists} {shares} are i =
     let within : i % length shares < length shares = mod-lt i are.some in
     let share = are.each (i % length shares) within in
     sym (get_or-padded (get_or shares (i % length shares) []) share.0 (i / length shares))
@@ -89,19 +88,18 @@ list_in-is lists shares are i =
     ∙ get_or-dealt (i % length shares) (length shares - 1) (i / length shares) lists None
     ∙ ap (λ n. get_or lists n None) (place_again i (length shares) are.some)
 
-gathered-take : (lists : Share) (shares : List Share) → AreShares lists shares → (sets : ℕ) → sets ≤ length lists
+gathered-take : {lists : Share} {shares : List Share} → AreShares lists shares → (sets : ℕ) → sets ≤ length lists
     → gathered sets shares ≡ take sets lists
-gathered-take lists shares are zero short = refl
-gathered-take lists shares are (suc sets) short =
+gathered-take are zero short = refl
+gathered-take {lists} {shares} are (suc sets) short =
     let below : sets < length lists = omega arith in
-    ap (λ (l : Share). l ++ list_in shares sets ∷ []) (gathered-take lists shares are sets (omega arith))
-    ∙ ap (λ (o : Option (List (List ℕ))). take sets lists ++ o ∷ []) (list_in-is lists shares are sets)
+    ap (λ (l : Share). l ++ list_in shares sets ∷ []) (gathered-take are sets (omega arith))
+    ∙ ap (λ (o : Option (List (List ℕ))). take sets lists ++ o ∷ []) (list_in-is are sets)
     ∙ sym (take_more lists sets None below) ∙ ap (λ n. take n lists) (add-one sets)
 
-pub gathered-is : (lists : Share) (shares : List Share) (sets : ℕ) → AreShares lists shares → sets ≡ length lists
+pub gathered-is : {lists : Share} {shares : List Share} {sets : ℕ} → AreShares lists shares → sets ≡ length lists
     → gathered sets shares ≡ lists
-gathered-is lists shares sets are all =
-    gathered-take lists shares are sets (omega arith) ∙ take_all sets lists (omega arith)
+gathered-is {lists} {sets} are all = gathered-take are sets (omega arith) ∙ take_all sets lists (omega arith)
 
 pub length-gathered : (sets : ℕ) (shares : List Share) → length (gathered sets shares) ≡ sets
 length-gathered zero shares = refl
@@ -134,40 +132,40 @@ dealt_total-all others [] = dealt_total-nil (suc others) others
 dealt_total-all others (list ∷ lists) =
     omega (arith, dealt_total-cons others others list lists, dealt_total-all others lists)
 
-shares_total : (lists : Share) (shares : List Share) → AreShares lists shares → (n : ℕ) → n ≤ length shares
+shares_total : {lists : Share} {shares : List Share} → AreShares lists shares → (n : ℕ) → n ≤ length shares
     → sum_by order_total (take n shares) ≡ dealt_total n (length shares - 1) lists
-shares_total lists shares are zero short = refl
-shares_total lists shares are (suc n) short =
+shares_total are zero short = refl
+shares_total {shares} are (suc n) short =
     let below : n < length shares = omega arith in
     ap (λ m. sum_by order_total (take m shares)) (sym (add-one n))
     ∙ sum_by_more order_total shares n [] below
     ∙ omega (
       arith,
-      shares_total lists shares are n (omega arith),
+      shares_total are n (omega arith),
       order_total-padded (get_or shares n []) (are.each n below).0,
       ap order_total (are.each n below).1,
     )
 
 -- the shares have as many orders as all lists together
-pub total_of_shares : (lists : Share) (shares : List Share) → AreShares lists shares
+pub total_of_shares : {lists : Share} {shares : List Share} → AreShares lists shares
     → sum_by order_total shares ≡ order_total lists
-total_of_shares lists shares are =
+total_of_shares {lists} {shares} are =
     let all : length shares ≡ suc (length shares - 1) = let some : 0 < length shares = are.some in omega arith in
     ap (sum_by order_total) (sym (take_all (length shares) shares (omega arith)))
-    ∙ shares_total lists shares are (length shares) (omega arith)
+    ∙ shares_total are (length shares) (omega arith)
     ∙ ap (λ n. dealt_total n (length shares - 1) lists) all
     ∙ dealt_total-all (length shares - 1) lists
 
 -- ---- a set's list in its share
 
-pub share_at : (lists : Share) (sets : ℕ) (shares : List Share) (i workers : ℕ) (share : Share)
+pub share_at : {lists : Share} (sets : ℕ) {shares : List Share} (i workers : ℕ) {share : Share}
     → AreShares (gathered sets shares) shares → gathered sets shares ≡ lists → workers ≡ length shares
     → share ≡ get_or shares (i % workers) share → get_or share (i / workers) None ≡ get_or lists i None
-share_at lists sets shares i workers share are view all here =
+share_at {lists} sets {shares} i workers {share} are view all here =
     let whole : AreShares lists shares = subst (λ (l : Share). AreShares l shares) view are in
     let within : i % length shares < length shares = mod-lt i whole.some in
     let at : share ≡ get_or shares (i % length shares) [] =
     get_or_read shares (i % length shares) share within
     (subst (λ n. share ≡ get_or shares (i % n) share) all here) [] in
     ap (λ (s : Share). get_or s (i / workers) None) at
-    ∙ ap (λ n. get_or (get_or shares (i % length shares) []) (i / n) None) all ∙ list_in-is lists shares whole i
+    ∙ ap (λ n. get_or (get_or shares (i % length shares) []) (i / n) None) all ∙ list_in-is whole i

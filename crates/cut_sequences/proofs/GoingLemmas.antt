@@ -2,27 +2,20 @@
 use Rattle.std.proofs.Common.{◌≡◌, ℕ, zero, suc, ◌+◌, ◌<◌, ◌≤◌, Bool, true, false, ◌&&◌, ◌||◌, ◌==◌, List, [], ◌∷◌}
 use Rattle.std.proofs.Common.{◌++◌, length, get_or, take, drop, map, filter, remove, All, is_some, refl, ap, sym, subst}
 use Rattle.std.proofs.Common.{inl, inr, ◌∙◌, arith, append-nil, append_assoc, length-append, eq-eqb, if◌then◌else◌}
-use Rattle.std.specs.List.{flat_map, AllByRecursion}
-use Rattle.std.specs.List.Sorted.{IsStrictlySortedBy}
-use Rattle.std.specs.Ordering.{nat_cmp}
-use Rattle.std.specs.declared.cmp.Ordering.TheVariants.{Less}
+use Rattle.std.specs.{List.flat_map, List.AllByRecursion, List.Sorted.IsStrictlySortedBy, Ordering.nat_cmp}
+use Rattle.std.specs.{declared.cmp.Ordering.TheVariants.Less}
 use Rattle.std.proofs.lemmas.Bool.{or_cases, or_left, or_right, false_from_ne_true, both_ways}
-use Rattle.std.proofs.lemmas.Bool.Decides.{nat_tests}
+use Rattle.std.proofs.{lemmas.Bool.Decides.nat_tests, lemmas.List.Concat.flat_map-append}
+use Rattle.std.proofs.{lemmas.List.Folds.length-flat_map-take}
 use Rattle.std.proofs.lemmas.List.{map-append, map-id, get_or-map, length-map, take_more, take_all}
-use Rattle.std.proofs.lemmas.List.Concat.{flat_map-append}
 use Rattle.std.proofs.lemmas.List.Elements.{filter-append, All-from_get_or, recursion_from_All, All-get_or, All-append}
 use Rattle.std.proofs.lemmas.List.Elements.{All-take, All-drop}
-use Rattle.std.proofs.lemmas.List.Folds.{length-flat_map-take}
 use Rattle.unit_sets.specs.UnitList.{among, IsRising}
-use Rattle.fault_definitions.specs.Tree.{FaultTree, IsUnitOf}
-use Rattle.fault_definitions.specs.WellFormed.{IsTree}
-use Rattle.fault_definitions.specs.FailingOrder.{is_admissible, is_failing}
-use Rattle.fault_definitions.specs.Step.{step}
+use Rattle.fault_definitions.specs.{Tree.FaultTree, Tree.IsUnitOf, WellFormed.IsTree, FailingOrder.is_admissible}
+use Rattle.fault_definitions.specs.{FailingOrder.is_failing, Step.step}
 use Rattle.replay_semantics.specs.Replayed.{Replayed}
-use Rattle.replay_semantics.proofs.Places.{among-append}
-use Rattle.replay_semantics.proofs.AdmissionLaws.{admissible_before}
-use Rattle.cut_sequences.specs.declared.refusal.OrderEnd.{OrderEnd}
-use Rattle.cut_sequences.specs.declared.search.Search.{Search}
+use Rattle.replay_semantics.proofs.{Places.among-append, AdmissionLaws.admissible_before}
+use Rattle.cut_sequences.specs.{declared.refusal.OrderEnd.OrderEnd, declared.search.Search.Search}
 use Rattle.cut_sequences.specs.Orders.{failing_orders, order_limit, IsOver}
 use Rattle.cut_sequences.proofs.ListLemmas.{IsOver-more}
 use Rattle.cut_sequences.specs.Permutations.{picks, arrangements, permutations}
@@ -113,13 +106,13 @@ gone (first ∷ units) (suc i) rising short =
 
 -- ---- one unit more
 
-pub fresh_at : (tree : FaultTree) (order left : List ℕ) (i : ℕ) → CanGoOn tree order left → i < length left
+pub fresh_at : {tree : FaultTree} {order left : List ℕ} (i : ℕ) → CanGoOn tree order left → i < length left
     → among order (get_or left i 0) ≡ false
-fresh_at tree order left i can short = can.apart (get_or left i 0) (among_at left i short)
+fresh_at {left} i can short = can.apart (get_or left i 0) (among_at left i short)
 
-pub can_go_on_after : (tree : FaultTree) (order left : List ℕ) (i : ℕ) → CanGoOn tree order left → i < length left
+pub can_go_on_after : {tree : FaultTree} {order left : List ℕ} (i : ℕ) → CanGoOn tree order left → i < length left
     → CanGoOn tree (order ++ get_or left i 0 ∷ []) (remove left i)
-can_go_on_after tree order left i can short = record {
+can_go_on_after {tree} {order} {left} i can short = record {
   kept = can.kept;
   rising = rising_remove left i can.rising;
   units =
@@ -140,9 +133,9 @@ can_go_on_after tree order left i can short = record {
         absurd cc
     other unit has false h = ap (λ b. b || false) h
 
-pub can_start : (tree : FaultTree) (set : List ℕ) → IsTree tree → IsRising set → All (IsUnitOf tree) set
+pub can_start : {tree : FaultTree} {set : List ℕ} → IsTree tree → IsRising set → All (IsUnitOf tree) set
     → CanGoOn tree [] set
-can_start tree set kept rising units = record { kept = kept; rising = rising; units = units; apart = λ unit has. refl }
+can_start kept rising units = record { kept = kept; rising = rising; units = units; apart = λ unit has. refl }
 
 -- ---- the failing orders, by the unit that fails next
 
@@ -205,14 +198,14 @@ none_of f (x ∷ xs) d each =
     ap (λ (l : List _). l ++ flat_map f xs) (each 0 (omega arith))
     ∙ none_of f xs d (λ i short. each (suc i) (omega arith))
 
-pruned_by : (n : ℕ) (tree : FaultTree) (order left : List ℕ) → length left ≡ n → CanGoOn tree order left
+pruned_by : (n : ℕ) {tree : FaultTree} {order : List ℕ} (left : List ℕ) → length left ≡ n → CanGoOn tree order left
     → is_admissible tree order ≡ false → failing_from tree order left ≡ []
-pruned_by zero tree order [] all can lacks =
+pruned_by zero {tree} {order} [] all can lacks =
     ap (λ (o : List ℕ). if is_failing tree o then o ∷ [] else []) (append-nil order)
     ∙ ap (λ b. if b && is_some (step tree order tree.top) then order ∷ [] else []) lacks
-pruned_by zero tree order (unit ∷ units) all can lacks = absurd (omega arith)
-pruned_by (suc n) tree order [] all can lacks = absurd (omega arith)
-pruned_by (suc n) tree order (unit ∷ units) all can lacks =
+pruned_by zero (unit ∷ units) all can lacks = absurd (omega arith)
+pruned_by (suc n) [] all can lacks = absurd (omega arith)
+pruned_by (suc n) {tree} {order} (unit ∷ units) all can lacks =
     failing_from-next tree order (unit ∷ units) (omega arith)
     ∙ none_of (failing_pick tree order) (picks (unit ∷ units)) (0, []) (λ i short.
     let within : i < length (unit ∷ units) = omega (arith, length-picks (unit ∷ units)) in
@@ -220,15 +213,14 @@ pruned_by (suc n) tree order (unit ∷ units) all can lacks =
     let longer : is_admissible tree (order ++ next ∷ []) ≡ false =
     false_from_ne_true (is_admissible tree (order ++ next ∷ [])) (λ yes.
     both_ways (is_admissible tree order) lacks (admissible_before tree can.kept order next
-    (fresh_at tree order (unit ∷ units) i can within) yes)) in
+    (fresh_at i can within) yes)) in
     ap (failing_pick tree order) (get_or-picks (unit ∷ units) i (0, []) within)
-    ∙ pruned_by n tree (order ++ next ∷ []) (remove (unit ∷ units) i)
-    (omega (arith, length-remove (unit ∷ units) i within)) (can_go_on_after tree order (unit ∷ units) i can within)
-    longer)
+    ∙ pruned_by n (remove (unit ∷ units) i)
+    (omega (arith, length-remove (unit ∷ units) i within)) (can_go_on_after i can within) longer)
 
-pub pruned : (tree : FaultTree) (order left : List ℕ) → CanGoOn tree order left → is_admissible tree order ≡ false
+pub pruned : {tree : FaultTree} {order left : List ℕ} → CanGoOn tree order left → is_admissible tree order ≡ false
     → failing_from tree order left ≡ []
-pruned tree order left can lacks = pruned_by (length left) tree order left refl can lacks
+pruned {left} can lacks = pruned_by (length left) left refl can lacks
 
 -- ---- the units that are left, one after another
 
@@ -282,14 +274,14 @@ pub record HasGone (before now : Search) (i : ℕ) : Type 0 where
   pub few : length now.orders ≤ order_limit
   pub listed : now.orders ≡ before.orders ++ due_below before i
 
-pub gone_all : (before now : Search) (i : ℕ) → HasGone before now i → 0 < length before.left.items
+pub gone_all : {before now : Search} {i : ℕ} → HasGone before now i → 0 < length before.left.items
     → i ≡ length before.left.items → now.orders ≡ before.orders ++ due before before.left.items
-gone_all before now i gone some all =
+gone_all {before} gone some all =
     gone.listed ∙ ap (λ n. before.orders ++ due_below before n) all
     ∙ ap (λ (l : List (List ℕ)). before.orders ++ l)
     (failing_below-all before.replay.tree before.replay.order before.left.items some)
 
-module _ (before now : Search) (i : ℕ) (gone : HasGone before now i) (short : i < length before.left.items) where
+module _ {before now : Search} {i : ℕ} (gone : HasGone before now i) (short : i < length before.left.items) where
   same_due : due_at now i ≡ due_at before i
   same_due =
       ap (λ (r : Replayed). failing_after r.tree r.order now.left.items i) gone.back.replay
@@ -303,9 +295,9 @@ module _ (before now : Search) (i : ℕ) (gone : HasGone before now i) (short : 
     few = gone.few;
   }
 
-  pub gone_more : (after : Search) → IsBack now after now.left.items → after.orders ≡ now.orders ++ due_at now i
+  pub gone_more : {after : Search} → IsBack now after now.left.items → after.orders ≡ now.orders ++ due_at now i
       → length after.orders ≤ order_limit → HasGone before after (i + 1)
-  gone_more after back more few = record {
+  gone_more back more few = record {
     back = record { replay = back.replay ∙ gone.back.replay; left = back.left ∙ gone.back.left };
     few = few;
     listed =
@@ -330,7 +322,7 @@ module _ (before now : Search) (i : ℕ) (gone : HasGone before now i) (short : 
 
 -- ---- the unit of a place fails, and is taken back
 
-module _ (search : Search) (i unit : ℕ) (can : CanSearch search search.left.items)
+module _ {search : Search} (i : ℕ) {unit : ℕ} (can : CanSearch search search.left.items)
     (short : i < length search.left.items) (is : unit ≡ get_or search.left.items i 0) where
   pub is_unit : IsUnitOf search.replay.tree unit
   is_unit =
@@ -339,8 +331,7 @@ module _ (search : Search) (i unit : ℕ) (can : CanSearch search search.left.it
 
   pub is_fresh : among search.replay.order unit ≡ false
   is_fresh =
-      subst (λ (u : ℕ). among search.replay.order u ≡ false) (sym is)
-      (fresh_at search.replay.tree search.replay.order search.left.items i can.units short)
+      subst (λ (u : ℕ). among search.replay.order u ≡ false) (sym is) (fresh_at i can.units short)
 
   module _ (next : Search) (tree : next.replay.tree ≡ search.replay.tree)
       (order : next.replay.order ≡ search.replay.order ++ unit ∷ [])
@@ -348,8 +339,7 @@ module _ (search : Search) (i unit : ℕ) (can : CanSearch search search.left.it
     pub can_next : length next.orders ≤ order_limit → CanSearch next next.left.items
     can_next few = record {
       units =
-          rw (tree, order, left, is) (can_go_on_after search.replay.tree search.replay.order search.left.items i
-          can.units short);
+          rw (tree, order, left, is) (can_go_on_after i can.units short);
       few = few;
     }
 

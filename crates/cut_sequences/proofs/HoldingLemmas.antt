@@ -8,18 +8,14 @@ use Rattle.fault_definitions.specs.Tree.{FaultTree}
 use Rattle.flat_rows.specs.Rows.{between, rows_from, start_of}
 use Rattle.flat_rows.proofs.RowsLemmas.{length-rows_from, row_at, rows_from-push, Rise-at, Rise-push}
 use Rattle.replay_semantics.specs.Replayed.{Replayed}
-use Rattle.cut_sequences.specs.declared.refusal.OrderEnd.{OrderEnd}
-use Rattle.cut_sequences.specs.declared.search.Search.{Search}
-use Rattle.cut_sequences.specs.declared.share.GrowingShare.{GrowingShare}
-use Rattle.cut_sequences.specs.declared.share.Share.TheInside.{Inside}
-use Rattle.cut_sequences.specs.declared.share.Sets.{Sets}
-use Rattle.cut_sequences.specs.Going.{failing_from, due}
+use Rattle.cut_sequences.specs.{declared.refusal.OrderEnd.OrderEnd, declared.search.Search.Search}
+use Rattle.cut_sequences.specs.{declared.share.GrowingShare.GrowingShare, declared.share.Share.TheInside.Inside}
+use Rattle.cut_sequences.specs.{declared.share.Sets.Sets, Going.failing_from, Going.due, Working.share_of}
+use Rattle.cut_sequences.specs.{Working.CanGrow}
 use Rattle.cut_sequences.specs.Holding.{if_listed, lists_of, HoldsShare}
 use Rattle.cut_sequences.specs.Orders.{failing_orders, orders_of, order_count, order_limit, order_total, is_listed}
 use Rattle.cut_sequences.specs.Orders.{orders_at, IsOver}
-use Rattle.cut_sequences.specs.Working.{share_of, CanGrow}
-use Rattle.cut_sequences.proofs.GoingLemmas.{failing_from-start}
-use Rattle.cut_sequences.proofs.ListLemmas.{order_total-push, get_or-between}
+use Rattle.cut_sequences.proofs.{GoingLemmas.failing_from-start, ListLemmas.order_total-push, ListLemmas.get_or-between}
 
 length-if_listed : (listed : List Bool) (rows : List (List (List ℕ))) → length listed ≡ length rows
     → length (if_listed listed rows) ≡ length listed
@@ -58,16 +54,16 @@ pub record ListStands (lists : List (Option (List (List ℕ)))) (share : Inside)
   pub count : is_listed lists i ≡ true
       → length (orders_at lists i) ≡ get_or share.ends.items i 0 - start_of 0 share.ends.items i
 
-rows_count : (share : Inside) → HoldsShare share
+rows_count : {share : Inside} → HoldsShare share
     → length share.listed.items ≡ length (rows_from 0 share.ends.items share.orders)
-rows_count share held = held.sets ∙ sym (length-rows_from 0 share.ends.items share.orders)
+rows_count {share} held = held.sets ∙ sym (length-rows_from 0 share.ends.items share.orders)
 
 -- as many sets have a mark as have a list
-pub held_count : (lists : List (Option (List (List ℕ)))) (share : Inside) → HoldsShare share
+pub held_count : {lists : List (Option (List (List ℕ)))} {share : Inside} → HoldsShare share
     → lists_of share ≡ lists → length lists ≡ length share.listed.items
-held_count lists share held view =
+held_count {share} held view =
     sym (ap length view)
-    ∙ length-if_listed share.listed.items (rows_from 0 share.ends.items share.orders) (rows_count share held)
+    ∙ length-if_listed share.listed.items (rows_from 0 share.ends.items share.orders) (rows_count held)
 
 pub past_listed : (lists : List (Option (List (List ℕ)))) (i : ℕ) → length lists ≤ i → is_listed lists i ≡ false
 past_listed [] i past = refl
@@ -84,19 +80,19 @@ length-between from to items within =
     let room : to - from ≤ length (drop from items) = rw length-drop (omega arith) in
     length-take-le (to - from) (drop from items) room
 
-pub list_stands : (lists : List (Option (List (List ℕ)))) (share : Inside) (i : ℕ) → HoldsShare share
+pub list_stands : {lists : List (Option (List (List ℕ)))} {share : Inside} (i : ℕ) → HoldsShare share
     → lists_of share ≡ lists → i < length lists → ListStands lists share i
-list_stands lists share i held view within =
+list_stands {lists} {share} i held view within =
     let listed : List Bool = share.listed.items in
     let ends : List ℕ = share.ends.items in
     let rows : List (List (List ℕ)) = rows_from 0 ends share.orders in
-    let short : i < length listed = omega (arith, held_count lists share held view) in
+    let short : i < length listed = omega (arith, held_count held view) in
     let below : i < length ends = omega (arith, held.sets) in
     let rises = Rise-at 0 ends (length share.orders) i held.rise below in
     let part : List (List ℕ) = between (start_of 0 ends i) (get_or ends i 0) share.orders in
     let at : get_or lists i None ≡ (if get_or listed i false then Some part else None) =
     ap (λ (l : List (Option (List (List ℕ)))). get_or l i None) (sym view)
-    ∙ if_listed-at listed rows i (rows_count share held) short
+    ∙ if_listed-at listed rows i (rows_count held) short
     ∙ ap (λ (l : List (List ℕ)). if get_or listed i false then Some l else None) (row_at 0 ends share.orders i below) in
     let mark : is_listed lists i ≡ get_or listed i false = ap is_some at ∙ some_if (get_or listed i false) part in
     let there : is_listed lists i ≡ true → orders_at lists i ≡ part =
@@ -133,11 +129,11 @@ listed_from_order lists i j short = either (get_or lists i None) short
     either None h = absurd (omega arith)
     either (Some orders) h = refl
 
-pub order_stands : (lists : List (Option (List (List ℕ)))) (share : Inside) (i j : ℕ) → HoldsShare share
+pub order_stands : {lists : List (Option (List (List ℕ)))} {share : Inside} (i j : ℕ) → HoldsShare share
     → lists_of share ≡ lists → j < length (orders_at lists i) → OrderStands lists share i j
-order_stands lists share i j held view order =
+order_stands {lists} {share} i j held view order =
     let yes : is_listed lists i ≡ true = listed_from_order lists i j order in
-    let here : ListStands lists share i = list_stands lists share i held view (listed-within lists i yes) in
+    let here : ListStands lists share i = list_stands i held view (listed-within lists i yes) in
     let start : ℕ = start_of 0 share.ends.items i in
     let short : j < get_or share.ends.items i 0 - start = omega (arith, order, here.count yes) in
     record {
@@ -158,9 +154,10 @@ record Adds (share share' : Inside) (due : List (List ℕ)) (is : Bool) : Type 0
   few : length share'.orders ≤ order_limit
   none : is ≡ false → due ≡ []
 
-holds_more : (share share' : Inside) (due : List (List ℕ)) (is : Bool) → HoldsShare share → Adds share share' due is
+holds_more : {share : Inside} (share' : Inside) (due : List (List ℕ)) (is : Bool) → HoldsShare share
+    → Adds share share' due is
     → HoldsShare share' × (lists_of share' ≡ lists_of share ++ (if is then Some due else None) ∷ [])
-holds_more share share' due is held adds =
+holds_more {share} share' due is held adds =
     let long : length share'.orders ≡ length share.orders + length due =
     ap length adds.orders ∙ length-append share.orders due in
     let ends : share'.ends.items ≡ share.ends.items ++ (length share.orders + length due) ∷ [] =
@@ -168,7 +165,7 @@ holds_more share share' due is held adds =
     let lists : lists_of share' ≡ lists_of share ++ (if is then Some due else None) ∷ [] =
     rw (adds.listed, ends, adds.orders)
     (ap (if_listed (share.listed.items ++ is ∷ [])) (rows_from-push 0 share.ends.items share.orders due held.rise)
-    ∙ if_listed-push share.listed.items (rows_from 0 share.ends.items share.orders) is due (rows_count share held)) in (
+    ∙ if_listed-push share.listed.items (rows_from 0 share.ends.items share.orders) is due (rows_count held)) in (
       record {
         sets =
             omega (
@@ -193,21 +190,21 @@ holds_more share share' due is held adds =
     counted false n = sym (ap length (n refl))
 
 -- what is due of a set where no unit has failed
-due_first : (sets : Sets) (set : List ℕ) (growing : GrowingShare) → CanGrow sets growing
+due_first : {sets : Sets} (set : List ℕ) {growing : GrowingShare} → CanGrow sets growing
     → due growing.search set ≡ failing_orders sets.tree.now set
-due_first sets set growing grows =
+due_first {sets} set grows =
     ap (λ (r : Replayed). failing_from r.tree r.order set) grows.start ∙ failing_from-start sets.tree.now set
 
-pub over_listed : (sets : Sets) (set : List ℕ) (growing : GrowingShare) (end : OrderEnd) → CanGrow sets growing
+pub over_listed : {sets : Sets} (set : List ℕ) {growing : GrowingShare} (end : OrderEnd) → CanGrow sets growing
     → length set ≤ sets.most → IsOver (length growing.search.orders + length (due growing.search set)) end
     → IsOver (length growing.search.orders + order_count (orders_of sets.tree.now sets.most set)) end
-over_listed sets set growing end grows small over =
-    subst (λ n. IsOver (length growing.search.orders + n) end) (ap length (due_first sets set growing grows)
+over_listed {sets} set {growing} end grows small over =
+    subst (λ n. IsOver (length growing.search.orders + n) end) (ap length (due_first set grows)
     ∙ ap (λ test. order_count (if test then Some (failing_orders sets.tree.now set) else None))
     (sym (le-leb (length set) sets.most small))) over
 
 -- a set of at most so many members, and a larger one
-module _ (sets : Sets) (set : List ℕ) (before after : GrowingShare) (grows : CanGrow sets before)
+module _ {sets : Sets} (set : List ℕ) {before : GrowingShare} (after : GrowingShare) (grows : CanGrow sets before)
     (listed : after.listed.items ≡ before.listed.items ++ nat_le (length set) sets.most ∷ [])
     (ends : after.ends.items ≡ before.ends.items ++ length after.search.orders ∷ []) where
   pub adds_listed : length set ≤ sets.most → after.search.replay ≡ before.search.replay
@@ -217,8 +214,8 @@ module _ (sets : Sets) (set : List ℕ) (before after : GrowingShare) (grows : C
   adds_listed small replay more few =
       let tree : FaultTree = sets.tree.now in
       let orders : after.search.orders ≡ before.search.orders ++ failing_orders tree set =
-      more ∙ ap (λ (l : List (List ℕ)). before.search.orders ++ l) (due_first sets set before grows) in
-      let held = holds_more (share_of before) (share_of after) (failing_orders tree set) (nat_le (length set) sets.most)
+      more ∙ ap (λ (l : List (List ℕ)). before.search.orders ++ l) (due_first set grows) in
+      let held = holds_more (share_of after) (failing_orders tree set) (nat_le (length set) sets.most)
       grows.held (record {
         listed = listed;
         ends = ends;
@@ -234,7 +231,7 @@ module _ (sets : Sets) (set : List ℕ) (before after : GrowingShare) (grows : C
   adds_unlisted large same =
       let lacks : nat_le (length set) sets.most ≡ false = lt-leb (length set) sets.most large in
       let orders : after.search.orders ≡ before.search.orders = ap (λ (s : Search). s.orders) same in
-      let held = holds_more (share_of before) (share_of after) [] (nat_le (length set) sets.most) grows.held (record {
+      let held = holds_more (share_of after) [] (nat_le (length set) sets.most) grows.held (record {
         listed = listed;
         ends = ends;
         orders = orders ∙ sym (append-nil before.search.orders);

@@ -1,19 +1,15 @@
 -- The permutations of a rising set: exactly the orders of its units, in lexicographic order.
 use Rattle.std.proofs.Common.{◌≡◌, ◌≢◌, ℕ, zero, suc, ◌<◌, Bool, true, false, ◌||◌, ◌==◌, List, [], ◌∷◌, ◌++◌, length}
 use Rattle.std.proofs.Common.{get_or, map, remove, All, Contains, refl, ap, sym, subst, ◌∙◌, arith, eq-eqb}
-use Rattle.std.specs.Cmp.Lexicographic.{slice_cmp}
-use Rattle.std.specs.List.{flat_map, AllByRecursion}
-use Rattle.std.specs.List.Sorted.{IsStrictlySortedBy}
-use Rattle.std.specs.Ordering.{nat_cmp, ordering_then}
-use Rattle.std.specs.declared.cmp.Ordering.{Ordering}
-use Rattle.std.specs.declared.cmp.Ordering.TheVariants.{Less}
+use Rattle.std.specs.{Cmp.Lexicographic.slice_cmp, List.flat_map, List.AllByRecursion, List.Sorted.IsStrictlySortedBy}
+use Rattle.std.specs.{Ordering.nat_cmp, Ordering.ordering_then, declared.cmp.Ordering.Ordering}
+use Rattle.std.specs.{declared.cmp.Ordering.TheVariants.Less}
 use Rattle.std.proofs.lemmas.Bool.{both_ways, or_left, false_from_ne_true}
-use Rattle.std.proofs.lemmas.Bool.Decides.{nat_tests}
-use Rattle.std.proofs.lemmas.Cmp.{nat_cmp_total, tied_itself}
+use Rattle.std.proofs.{lemmas.Bool.Decides.nat_tests, lemmas.Cmp.nat_cmp_total, lemmas.Cmp.tied_itself}
+use Rattle.std.proofs.{lemmas.List.Kept.AllPairs-cons}
 use Rattle.std.proofs.lemmas.List.{get_or-map, length-map, get_or_default}
 use Rattle.std.proofs.lemmas.List.Elements.{All-append, All-nil, All-map, All-cons, All-contains, All-from_get_or}
 use Rattle.std.proofs.lemmas.List.Elements.{recursion_from_All, Contains-append_left, Contains-append_right}
-use Rattle.std.proofs.lemmas.List.Kept.{AllPairs-cons}
 use Rattle.unit_sets.specs.UnitList.{among, IsRising}
 use Rattle.unit_sets.proofs.UnitListLemmas.{Contains-from_among}
 use Rattle.fault_model.specs.Order.{AreDistinct}
@@ -58,9 +54,9 @@ none_like unit units lacks =
     All-from_get_or (λ other. unit ≢ other) units 0 (λ i short same.
     both_ways (among units unit) lacks (subst (λ (u : ℕ). among units u ≡ true) (sym same) (among_at units i short)))
 
-is_order_cons : (units order : List ℕ) (i : ℕ) → IsRising units → i < length units → IsOrderOf (remove units i) order
+is_order_cons : {units order : List ℕ} (i : ℕ) → IsRising units → i < length units → IsOrderOf (remove units i) order
     → IsOrderOf units (get_or units i 0 ∷ order)
-is_order_cons units order i rising short rest = record {
+is_order_cons {units} {order} i rising short rest = record {
   distinct =
       AllPairs-cons (λ earlier later. earlier ≢ later) (get_or units i 0) order
       (none_like (get_or units i 0) order (rest.members (get_or units i 0) ∙ gone units i rising short))
@@ -82,7 +78,7 @@ sound_by (suc n) units all rising =
     (all_picks (λ (pick : ℕ × List ℕ). All (IsOrderOf units) (begun n pick)) units (λ i short.
     let fewer : length (remove units i) ≡ n = omega (arith, length-remove units i short) in
     All-map (IsOrderOf units) (λ (order : List ℕ). get_or units i 0 ∷ order) (arrangements n (remove units i))
-    (λ k d within. is_order_cons units (get_or (arrangements n (remove units i)) k d) i rising short
+    (λ k d within. is_order_cons i rising short
     (sound_by n (remove units i) fewer (rising_remove units i rising) k d within)))))
 
 pub permutations_sound : (set order : List ℕ) → IsRising set → Contains (permutations set) order → IsOrderOf set order
@@ -112,9 +108,9 @@ distinct_tail : (unit : ℕ) (order : List ℕ) → AreDistinct (unit ∷ order)
 distinct_tail unit order distinct = λ i j d less short. distinct (suc i) (suc j) d (omega arith) (omega arith)
 
 -- without its first unit an order is one of the other units
-is_order_tail : (units order : List ℕ) (i unit : ℕ) → IsRising units → i < length units → get_or units i 0 ≡ unit
+is_order_tail : {units order : List ℕ} (i : ℕ) {unit : ℕ} → IsRising units → i < length units → get_or units i 0 ≡ unit
     → IsOrderOf units (unit ∷ order) → IsOrderOf (remove units i) order
-is_order_tail units order i unit rising short here is = record {
+is_order_tail {units} {order} i {unit} rising short here is = record {
   distinct = distinct_tail unit order is.distinct;
   members = λ other. by other (unit == other) refl;
 }
@@ -149,7 +145,7 @@ complete_by (suc n) (first ∷ units) (unit ∷ order) all rising is =
     ∙ or_left (unit == unit) (among order unit) (eq-eqb unit unit refl)))
     (λ i short here. complete_by n (remove (first ∷ units) i) order
     (omega (arith, length-remove (first ∷ units) i short)) (rising_remove (first ∷ units) i rising)
-    (is_order_tail (first ∷ units) order i unit rising short here is))
+    (is_order_tail i rising short here is))
   where
     at : Contains (first ∷ units) unit → ((i : ℕ) → i < length (first ∷ units) → get_or (first ∷ units) i 0 ≡ unit
         → Contains (arrangements n (remove (first ∷ units) i)) order)

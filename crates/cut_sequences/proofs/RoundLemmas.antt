@@ -4,24 +4,19 @@ use Rattle.std.proofs.Common.{inl, inr, ◌∷◌}
 use Rattle.std.proofs.Common.{All, None, Result, Ok, Err, ap, sym, subst, Contains, replicate, ◌∙◌, arith, add-one}
 use Rattle.std.specs.Bool.{⊤}
 use Rattle.std.specs.List.{sum_by}
-use Rattle.std.proofs.lemmas.Bool.{cases_eq}
+use Rattle.std.proofs.{lemmas.Bool.cases_eq, lemmas.List.Sums.sum_by_more}
 use Rattle.std.proofs.lemmas.List.{take_all, take_more, drop-drop, length-map, get_or-map}
 use Rattle.std.proofs.lemmas.List.{get_or_append_left, get_or_push, length_push}
 use Rattle.std.proofs.lemmas.List.Elements.{All-from_get_or, All-get_or, All-push, All-contains, All-drop}
-use Rattle.std.proofs.lemmas.List.Sums.{sum_by_more}
 use Rattle.deck_limits.specs.declared.TheConstants.{MOST_WORKERS}
-use Rattle.cut_sequences.specs.declared.refusal.OrderEnd.{OrderEnd}
-use Rattle.cut_sequences.specs.declared.refusal.OrderEnd.TheVariants.{OrderLimit}
-use Rattle.cut_sequences.specs.declared.share.Sets.{Sets}
-use Rattle.cut_sequences.specs.declared.share.Work.{Work}
-use Rattle.cut_sequences.specs.declared.share.Stop.{Stop}
+use Rattle.cut_sequences.specs.{declared.refusal.OrderEnd.OrderEnd, declared.refusal.OrderEnd.TheVariants.OrderLimit}
+use Rattle.cut_sequences.specs.{declared.share.Sets.Sets, declared.share.Work.Work, declared.share.Stop.Stop}
 use Rattle.cut_sequences.specs.Orders.{order_limit, order_total, IsOver}
 use Rattle.cut_sequences.specs.Dealing.{dealt, Share, AreShares}
 use Rattle.cut_sequences.specs.Working.{whole, lists_due, AreOfTree, HasStopped, WentOn, AreAtWork, HaveWorked}
 use Rattle.cut_sequences.specs.Working.{IsEndOfListed, orders_of_work}
 use Rattle.cut_sequences.proofs.DealLemmas.{dealt-le, dealt-drop, dealt-none, dealt_total, dealt_total-all}
-use Rattle.cut_sequences.proofs.ListLemmas.{IsOver-more, order_total-append}
-use Rattle.cut_sequences.proofs.ShareLemmas.{none_listed}
+use Rattle.cut_sequences.proofs.{ListLemmas.IsOver-more, ListLemmas.order_total-append, ShareLemmas.none_listed}
 
 no_work : Work
 no_work = record { share = []; next = 0 }
@@ -31,10 +26,10 @@ no_work = record { share = []; next = 0 }
 have_le : (lists : Share) (workers : ℕ) (work : Work) → orders_of_work work ≤ order_total (whole lists workers work)
 have_le lists workers work = omega (arith, order_total-append work.share (dealt 0 (workers - 1) (drop work.next lists)))
 
-works_total : (sets : Sets) (works : List Work) → AreAtWork sets works → (n : ℕ) → n ≤ length works
+works_total : {sets : Sets} {works : List Work} → AreAtWork sets works → (n : ℕ) → n ≤ length works
     → sum_by orders_of_work (take n works) ≤ dealt_total n (length works - 1) (lists_due sets)
-works_total sets works are zero short = omega arith
-works_total sets works are (suc n) short =
+works_total are zero short = omega arith
+works_total {sets} {works} are (suc n) short =
     let below : n < length works = omega arith in
     let more : sum_by orders_of_work (take (suc n) works)
     ≡ sum_by orders_of_work (take n works) + orders_of_work (get_or works n no_work) =
@@ -43,28 +38,28 @@ works_total sets works are (suc n) short =
     omega (
       arith,
       more,
-      works_total sets works are n (omega arith),
+      works_total are n (omega arith),
       have_le (lists_due sets) (length works) (get_or works n no_work),
       ap order_total (are.each n no_work below),
     )
 
 -- the workers have no more orders together than all sets
-pub works_le : (sets : Sets) (works : List Work) → AreAtWork sets works
+pub works_le : {sets : Sets} {works : List Work} → AreAtWork sets works
     → sum_by orders_of_work works ≤ order_total (lists_due sets)
-works_le sets works are =
+works_le {sets} {works} are =
     let some : 0 < length works = are.some in
     let all : length works ≡ suc (length works - 1) = omega arith in
     omega (
       arith,
       ap (sum_by orders_of_work) (take_all (length works) works (omega arith)),
-      works_total sets works are (length works) (omega arith),
+      works_total are (length works) (omega arith),
       ap (λ n. dealt_total n (length works - 1) (lists_due sets)) all,
       dealt_total-all (length works - 1) (lists_due sets),
     )
 
 -- ---- the answers of a round
 
-module _ (sets : Sets) (stop : Stop) (works : List Work) (answers : List (Result Work OrderEnd))
+module _ {sets : Sets} (stop : Stop) {works : List Work} (answers : List (Result Work OrderEnd))
     (are : AreAtWork sets works) (many : length answers ≡ length works)
     (each : (worker : ℕ) (work : Work) (d : Result Work OrderEnd) → worker < length works
     → WentOn (lists_due sets) (length works) stop (get_or works worker work) (get_or answers worker d)) where
@@ -125,11 +120,11 @@ module _ (sets : Sets) (stop : Stop) (works : List Work) (answers : List (Result
 
 -- ---- the first round and the last
 
-pub one_start_more : (works : List Work) (next : ℕ) → length works ≡ next
+pub one_start_more : (works : List Work) {next : ℕ} → length works ≡ next
     → ((worker : ℕ) (d : Work) → worker < length works → get_or works worker d ≡ record { share = []; next = worker })
     → (worker : ℕ) (d : Work) → worker < length (works ++ record { share = []; next = next } ∷ [])
     → get_or (works ++ record { share = []; next = next } ∷ []) worker d ≡ record { share = []; next = worker }
-one_start_more works next many each worker d within = elim (cases_eq worker next) [
+one_start_more works {next} many each worker d within = elim (cases_eq worker next) [
   | inl same ↦ get_or_push works (record { share = []; next = next }) d worker (many ∙ sym same)
       ∙ ap (λ n. record { share = []; next = n }) (sym same)
   | inr apart ↦
@@ -137,10 +132,10 @@ one_start_more works next many each worker d within = elim (cases_eq worker next
       get_or_append_left works _ d worker below ∙ each worker d below
 ]
 
-pub all_start : (sets : Sets) (works : List Work) → AreOfTree sets → 0 < length works → length works ≤ MOST_WORKERS
+pub all_start : {sets : Sets} {works : List Work} → AreOfTree sets → 0 < length works → length works ≤ MOST_WORKERS
     → ((worker : ℕ) (d : Work) → worker < length works → get_or works worker d ≡ record { share = []; next = worker })
     → AreAtWork sets works
-all_start sets works units some few each = record {
+all_start {sets} {works} units some few each = record {
   some = some;
   few = few;
   units = units;
@@ -157,10 +152,10 @@ none_later lists end next before none =
     (All-drop (λ list. list ≡ None) (next - end) (drop end lists) none)
 
 -- the workers' shares, where no worker lacks a set before an end from which on none is listed
-pub shares_at_end : (sets : Sets) (end : ℕ) (works : List Work) (shares : List Share) → AreAtWork sets works
+pub shares_at_end : {sets : Sets} {end : ℕ} {works : List Work} {shares : List Share} → AreAtWork sets works
     → IsEndOfListed sets.cuts.now sets.most end → All (λ (work : Work). end ≤ work.next) works
     → shares ≡ map (λ (work : Work). work.share) works → AreShares (lists_due sets) shares
-shares_at_end sets end works shares are ends done is =
+shares_at_end {sets} {end} {works} {shares} are ends done is =
     let lists : Share = lists_due sets in
     let none : All (λ list. list ≡ None) (drop end lists) =
     none_listed sets.tree.now sets.most end sets.cuts.now ends.larger in
@@ -184,18 +179,18 @@ shares_at_end sets end works shares are ends done is =
 
 -- ---- workers that have stopped
 
-pub one_more : (place i : ℕ) (works : List Work) (item : Work) → i < length works → item ≡ get_or works i item
+pub one_more : (place i : ℕ) (works : List Work) {item : Work} → i < length works → item ≡ get_or works i item
     → All (λ (work : Work). place ≤ work.next) (take i works) → place ≤ item.next
     → All (λ (work : Work). place ≤ work.next) (take (i + 1) works)
-one_more place i works item short is so_far here =
+one_more place i works {item} short is so_far here =
     subst (All (λ (work : Work). place ≤ work.next)) (sym (take_more works i item short))
     (All-push (λ (work : Work). place ≤ work.next) (take i works) (get_or works i item) so_far
     (subst (λ (work : Work). place ≤ work.next) is here))
 
-pub stopped_there : (stop : Stop) (i : ℕ) (works : List Work) (item : Work) → i < length works
+pub stopped_there : (stop : Stop) (i : ℕ) (works : List Work) {item : Work} → i < length works
     → item ≡ get_or works i item → All (HasStopped stop) works → order_total item.share ≤ stop.orders
     → stop.place ≤ item.next
-stopped_there stop i works item short is stopped few =
+stopped_there stop i works {item} short is stopped few =
     subst (λ (work : Work). stop.place ≤ work.next) (sym is)
     (All-get_or (HasStopped stop) works i item short stopped
     (subst (λ (work : Work). order_total work.share ≤ stop.orders) is few))

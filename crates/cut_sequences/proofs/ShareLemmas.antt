@@ -1,26 +1,18 @@
 -- The sets of a worker, one after another.
 use Rattle.std.proofs.Common.{◌≡◌, ℕ, zero, suc, ◌+◌, ◌-◌, ◌<◌, ◌≤◌, List, [], ◌∷◌, ◌++◌, length, get_or, drop}
 use Rattle.std.proofs.Common.{All, Option, None, Some, slice_get, ap, sym, ◌∙◌, arith, append_assoc}
-use Rattle.std.proofs.lemmas.List.{get_or-map, length-map}
-use Rattle.std.proofs.lemmas.List.Elements.{All-cons}
-use Rattle.std.proofs.lemmas.List.Sums.{sum_by-cons}
-use Rattle.std.proofs.lemmas.Bool.Decides.{nat_tests}
+use Rattle.std.proofs.{lemmas.List.get_or-map, lemmas.List.length-map, lemmas.List.Elements.All-cons}
+use Rattle.std.proofs.{lemmas.List.Sums.sum_by-cons, lemmas.Bool.Decides.nat_tests}
 use Rattle.unit_sets.specs.CutOrder.{IsOrderedCuts, weight, weight_limit}
-use Rattle.unit_sets.proofs.CutOrderLemmas.{cut_at}
-use Rattle.unit_sets.proofs.Sorted.{All-slice_get}
-use Rattle.fault_definitions.specs.Tree.{FaultTree, IsUnitOf}
-use Rattle.fault_definitions.specs.WellFormed.{IsTree}
-use Rattle.cut_sequences.specs.declared.share.GrowingShare.{GrowingShare}
-use Rattle.cut_sequences.specs.declared.share.Sets.{Sets}
-use Rattle.cut_sequences.specs.declared.refusal.OrderEnd.{OrderEnd}
+use Rattle.unit_sets.proofs.{CutOrderLemmas.cut_at, Sorted.All-slice_get}
+use Rattle.fault_definitions.specs.{Tree.FaultTree, Tree.IsUnitOf, WellFormed.IsTree}
+use Rattle.cut_sequences.specs.{declared.share.GrowingShare.GrowingShare, declared.share.Sets.Sets}
+use Rattle.cut_sequences.specs.{declared.refusal.OrderEnd.OrderEnd, Going.CanGoOn, Dealing.dealt, Dealing.Share}
+use Rattle.cut_sequences.specs.{Holding.lists_of}
 use Rattle.cut_sequences.specs.Orders.{orders_of, order_lists, order_count, order_total, IsOver}
-use Rattle.cut_sequences.specs.Going.{CanGoOn}
-use Rattle.cut_sequences.specs.Dealing.{dealt, Share}
-use Rattle.cut_sequences.specs.Holding.{lists_of}
 use Rattle.cut_sequences.specs.Working.{whole, work_of, lists_due, share_of, CanGrow}
-use Rattle.cut_sequences.proofs.DealLemmas.{dealt-next}
-use Rattle.cut_sequences.proofs.GoingLemmas.{can_start}
-use Rattle.cut_sequences.proofs.ListLemmas.{IsOver-more, order_total-append}
+use Rattle.cut_sequences.proofs.{DealLemmas.dealt-next, GoingLemmas.can_start, ListLemmas.IsOver-more}
+use Rattle.cut_sequences.proofs.{ListLemmas.order_total-append}
 
 length-weight : (cuts : List (List ℕ)) → length cuts ≤ weight cuts
 length-weight [] = omega arith
@@ -29,10 +21,10 @@ length-weight (cut ∷ cuts) = omega (arith, length-weight cuts, sum_by-cons (λ
 pub few_sets : (cuts : List (List ℕ)) → IsOrderedCuts cuts → length cuts ≤ weight_limit
 few_sets cuts ordered = omega (arith, length-weight cuts, ordered.within)
 
-pub can_start_cut : (tree : FaultTree) (cuts : List (List ℕ)) (i : ℕ) (cut : List ℕ) → IsTree tree → IsOrderedCuts cuts
+pub can_start_cut : {tree : FaultTree} (cuts : List (List ℕ)) (i : ℕ) {cut : List ℕ} → IsTree tree → IsOrderedCuts cuts
     → All (λ (c : List ℕ). All (IsUnitOf tree) c) cuts → slice_get cuts i ≡ Some cut → CanGoOn tree [] cut
-can_start_cut tree cuts i cut kept ordered units at =
-    can_start tree cut kept (cut_at cuts i cut ordered at).rising
+can_start_cut {tree} cuts i {cut} kept ordered units at =
+    can_start kept (cut_at cuts i cut ordered at).rising
     (All-slice_get (λ (c : List ℕ). All (IsUnitOf tree) c) cuts i cut units at)
 
 pub get_or_from_get : (cuts : List (List ℕ)) (i : ℕ) (cut : List ℕ) → slice_get cuts i ≡ Some cut
@@ -73,9 +65,9 @@ next_list tree most cuts next workers cut some short at =
     ∙ ap (λ n. orders_of tree most cut ∷ dealt 0 (workers - 1) (drop n all)) step
 
 -- what has been listed and the list of one set more are no more than all that is due
-part-le : (listed rest due : Share) (list : Option (List (List ℕ))) → listed ++ list ∷ rest ≡ due
+part-le : (listed rest : Share) {due : Share} (list : Option (List (List ℕ))) → listed ++ list ∷ rest ≡ due
     → order_total listed + order_count list ≤ order_total due
-part-le listed rest due list is = omega (arith, sym (ap order_total is), order_total-append listed (list ∷ rest))
+part-le listed rest list is = omega (arith, sym (ap order_total is), order_total-append listed (list ∷ rest))
 
 -- a worker goes on with the set of its next place
 module _ (sets : Sets) (workers next : ℕ) (cut : List ℕ) (growing : GrowingShare) (all : Share) (some : 0 < workers)
@@ -104,5 +96,5 @@ module _ (sets : Sets) (workers next : ℕ) (cut : List ℕ) (growing : GrowingS
       (order_total all) end (omega (
         arith,
         grows.held.total,
-        part-le (lists_of (share_of growing)) rest all (orders_of sets.tree.now sets.most cut) parts,
+        part-le (lists_of (share_of growing)) rest (orders_of sets.tree.now sets.most cut) parts,
       )) over

@@ -2,14 +2,10 @@
 use Rattle.std.specs.Prelude.{◌≡◌, ℕ, ◌+◌, ◌≤◌, true, false, List, [], ◌∷◌, ◌++◌, length, map, filter, All, Result, Ok}
 use Rattle.std.specs.Prelude.{Err, OnOk, remove, slice_index}
 use Rattle.unit_sets.specs.UnitList.{among, IsRising}
-use Rattle.fault_definitions.specs.Tree.{FaultTree, IsUnitOf}
-use Rattle.fault_definitions.specs.WellFormed.{IsTree}
-use Rattle.fault_definitions.specs.FailingOrder.{is_failing}
+use Rattle.fault_definitions.specs.{Tree.FaultTree, Tree.IsUnitOf, WellFormed.IsTree, FailingOrder.is_failing}
 use Rattle.replay_semantics.specs.Replayed.{Replayed}
-use Rattle.cut_sequences.specs.declared.refusal.OrderEnd.{OrderEnd}
-use Rattle.cut_sequences.specs.declared.search.Search.{Search}
-use Rattle.cut_sequences.specs.Orders.{order_limit, IsOver}
-use Rattle.cut_sequences.specs.Permutations.{permutations}
+use Rattle.cut_sequences.specs.{declared.refusal.OrderEnd.OrderEnd, declared.search.Search.Search, Orders.order_limit}
+use Rattle.cut_sequences.specs.{Orders.IsOver, Permutations.permutations}
 
 -- the units that are left can fail after those of an order
 pub record CanGoOn (tree : FaultTree) (order left : List ℕ) : Type 0 where

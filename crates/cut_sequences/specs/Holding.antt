@@ -1,8 +1,7 @@
 -- How one list of orders holds the lists of several sets.
 use Rattle.std.specs.Prelude.{◌≡◌, ℕ, ◌≤◌, Bool, List, [], ◌∷◌, length, Option, Some, None, if◌then◌else◌}
 use Rattle.flat_rows.specs.Rows.{rows_from, Rise}
-use Rattle.cut_sequences.specs.declared.share.Share.TheInside.{Inside}
-use Rattle.cut_sequences.specs.Orders.{order_limit, order_total}
+use Rattle.cut_sequences.specs.{declared.share.Share.TheInside.Inside, Orders.order_limit, Orders.order_total}
 
 -- of each set its orders, if it is listed
 abbrev pub if_listed : List Bool → List (List (List ℕ)) → List (Option (List (List ℕ)))

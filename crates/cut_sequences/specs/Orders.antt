@@ -4,8 +4,7 @@ use Rattle.std.specs.Prelude.{None, unwrap_or, slice_index_or, if◌then◌else�
 use Rattle.cut_sequences.specs.declared.listing.TheConstants.{ORDER_LIMIT}
 use Rattle.cut_sequences.specs.declared.refusal.OrderEnd.{OrderEnd}
 use Rattle.cut_sequences.specs.declared.refusal.OrderEnd.TheVariants.{OrderLimit, NoMemory}
-use Rattle.fault_definitions.specs.Tree.{FaultTree}
-use Rattle.fault_definitions.specs.FailingOrder.{is_failing}
+use Rattle.fault_definitions.specs.{Tree.FaultTree, FailingOrder.is_failing}
 use Rattle.cut_sequences.specs.Permutations.{permutations}
 
 -- the orders of a set that can happen and fail the top event, in lexicographic order by unit numbers

@@ -2,18 +2,12 @@
 use Rattle.std.specs.Prelude.{◌≡◌, ℕ, ◌+◌, ◌-◌, ◌<◌, ◌≤◌, List, [], ◌∷◌, ◌++◌, length, drop, All, slice_index_or}
 use Rattle.std.specs.Prelude.{Option, Result, Ok, Err}
 use Rattle.deck_limits.specs.declared.TheConstants.{MOST_WORKERS}
-use Rattle.fault_definitions.specs.Tree.{IsUnitOf}
-use Rattle.fault_definitions.specs.WellFormed.{IsTree}
-use Rattle.cut_sequences.specs.declared.refusal.OrderEnd.{OrderEnd}
-use Rattle.cut_sequences.specs.declared.share.GrowingShare.{GrowingShare}
-use Rattle.cut_sequences.specs.declared.share.Share.TheInside.{Inside}
-use Rattle.cut_sequences.specs.declared.share.Sets.{Sets}
-use Rattle.cut_sequences.specs.declared.share.Work.{Work}
-use Rattle.cut_sequences.specs.declared.share.Stop.{Stop}
-use Rattle.cut_sequences.specs.Going.{none_failed}
-use Rattle.cut_sequences.specs.Holding.{lists_of, HoldsShare}
+use Rattle.fault_definitions.specs.{Tree.IsUnitOf, WellFormed.IsTree}
+use Rattle.cut_sequences.specs.{declared.refusal.OrderEnd.OrderEnd, declared.share.GrowingShare.GrowingShare}
+use Rattle.cut_sequences.specs.{declared.share.Share.TheInside.Inside, declared.share.Sets.Sets}
+use Rattle.cut_sequences.specs.{declared.share.Work.Work, declared.share.Stop.Stop, Going.none_failed, Holding.lists_of}
+use Rattle.cut_sequences.specs.{Holding.HoldsShare, Dealing.dealt, Dealing.Share}
 use Rattle.cut_sequences.specs.Orders.{order_count, order_lists, order_total, IsOver}
-use Rattle.cut_sequences.specs.Dealing.{dealt, Share}
 
 -- each of the sets has units of the tree alone
 abbrev pub AreOfTree : Sets → Type 0

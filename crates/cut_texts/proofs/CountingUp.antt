@@ -7,9 +7,8 @@ use Rattle.std.specs.Prelude.{set, decimal}
 use Rattle.std.proofs.lemmas.List.{set_at, get_or_push, take_at, take-set, drop_at, drop_all, drop-set, length_push}
 use Rattle.std.proofs.lemmas.List.{length-drop}
 use Rattle.std.proofs.lemmas.List.{length-take-le}
-use Rattle.std.proofs.lemmas.Slice.{drop-put_mid}
-use Rattle.std.proofs.lemmas.Bool.{cases_lt}
-use Rattle.std.proofs.lemmas.Fmt.{decimal_digit, decimal_step}
+use Rattle.std.proofs.{lemmas.Slice.drop-put_mid, lemmas.Bool.cases_lt, lemmas.Fmt.decimal_digit}
+use Rattle.std.proofs.{lemmas.Fmt.decimal_step}
 
 -- the last digit of a number, and those before it: none, or those of the tens
 record Ends (n : ℕ) : Type 0 where
@@ -17,8 +16,8 @@ record Ends (n : ℕ) : Type 0 where
   is : decimal n ≡ front ++ (48 + n % 10) ∷ []
   tens : ((n < 10) × (front ≡ [])) ⊎ ((10 ≤ n) × (front ≡ decimal (n / 10)))
 
-ends_small : (n : ℕ) → n < 10 → Ends n
-ends_small n small =
+ends_small : {n : ℕ} → n < 10 → Ends n
+ends_small {n} small =
     let digit : n ≡ n % 10 = omega arith in
     record {
       front = [];
@@ -26,17 +25,17 @@ ends_small n small =
       tens = inl (small, refl);
     }
 
-ends_large : (n : ℕ) → 10 ≤ n → n < 2 ^ 64 → Ends n
-ends_large n large within =
+ends_large : {n : ℕ} → 10 ≤ n → n < 2 ^ 64 → Ends n
+ends_large {n} large within =
     record { front = decimal (n / 10); is = decimal_step n large within; tens = inr (large, refl) }
 
-ends_of : (n : ℕ) → n < 2 ^ 64 → Ends n
-ends_of n within = elim (cases_lt n 10) [
-  | inl small ↦ ends_small n small
-  | inr large ↦ ends_large n large within
+ends_of : {n : ℕ} → n < 2 ^ 64 → Ends n
+ends_of {n} within = elim (cases_lt n 10) [
+  | inl small ↦ ends_small small
+  | inr large ↦ ends_large large within
 ]
 
-module _ (n : ℕ) (within : n + 1 < 2 ^ 64) (e : Ends n) where
+module _ {n : ℕ} (within : n + 1 < 2 ^ 64) (e : Ends n) where
   -- the last digit is no nine
   next : n % 10 < 9 → decimal (n + 1) ≡ e.front ++ (48 + n % 10 + 1) ∷ []
   next less = elim e.tens [
@@ -62,7 +61,7 @@ module _ (n : ℕ) (within : n + 1 < 2 ^ 64) (e : Ends n) where
       decimal_step (n + 1) (omega (arith, many)) within
       ∙ ap (λ t. decimal t ++ (48 + (n + 1) % 10) ∷ []) tens ∙ ap (λ d. decimal (n / 10 + 1) ++ d ∷ []) digit
 
-  module _ (digits : List ℕ) (is : digits ≡ decimal n) where
+  module _ {digits : List ℕ} (is : digits ≡ decimal n) where
     split : digits ≡ e.front ++ (48 + n % 10) ∷ []
     split = is ∙ e.is
 
@@ -111,22 +110,23 @@ module _ (n : ℕ) (within : n + 1 < 2 ^ 64) (e : Ends n) where
           ∙ sym (carry (omega (arith, last, nine)) many)
     ]
 
-pub more : (digits : List ℕ) (n : ℕ) → n + 1 < 2 ^ 64 → digits ≡ decimal n → get_or digits (length digits - 1) 0 < 57
+pub more : {digits : List ℕ} (n : ℕ) → n + 1 < 2 ^ 64 → digits ≡ decimal n → get_or digits (length digits - 1) 0 < 57
     → set digits (length digits - 1) (get_or digits (length digits - 1) 0 + 1) ≡ decimal (n + 1)
-more digits n within is less = more_with n within (ends_of n (omega (arith, within))) digits is less
+more n within is less = more_with within (ends_of (omega (arith, within))) is less
 
-pub carried : (digits new : List ℕ) (n : ℕ) → n + 1 < 2 ^ 64 → digits ≡ decimal n
+pub carried : {digits : List ℕ} (new : List ℕ) (n : ℕ) → n + 1 < 2 ^ 64 → digits ≡ decimal n
     → 57 ≤ get_or digits (length digits - 1) 0
     → ((m : ℕ) → m + 1 < 2 ^ 64
     → take (length digits - 1) (set digits (length digits - 1) 48) ≡ decimal m → new ≡ decimal (m + 1))
     → (take (length digits - 1) (set digits (length digits - 1) 48) ≡ [] → true ≡ false)
     → new ++ drop (length digits - 1) (set digits (length digits - 1) 48) ≡ decimal (n + 1)
-carried digits new n within is nine counted none =
-    carried_with n within (ends_of n (omega (arith, within))) digits is new nine counted none
+carried new n within is nine counted none =
+    carried_with within (ends_of (omega (arith, within))) is new nine counted none
 
 -- ---- the digits in the head of a line
 
-module _ (items shown new : List ℕ) (len head : ℕ) (value : shown ≡ items) (all : len ≡ length items) (room : 5 ≤ head)
+module _ {items shown : List ℕ} (new : List ℕ) {len : ℕ} (head : ℕ) (value : shown ≡ items) (all : len ≡ length items)
+    (room : 5 ≤ head)
     (inside : head ≤ length items) (same : length new ≡ head - 1 - 4) where
   -- the text with new digits
   abbrev pub part : List ℕ → List ℕ

@@ -3,19 +3,16 @@ use Rattle.std.specs.Prelude.{if◌then◌else◌, All, Option, Result, Ok, Err,
 use Rattle.std.proofs.Common.{Bool, true, false, ◌≡◌, ℕ, ◌+◌, ◌-◌, ◌<◌, ◌≤◌, List, [], ◌∷◌, ◌++◌, length, take, drop}
 use Rattle.std.proofs.Common.{get_or, sym, ap, subst, true≢false}
 use Rattle.std.proofs.Common.{◌∙◌, refl, arith, append_assoc, append-nil, length-append, take-append-drop, below_more}
-use Rattle.std.proofs.lemmas.List.{drop-take, drop_all, drop-append-le, get_or-take, get_or_append_left, get_or_push}
+use Rattle.std.proofs.lemmas.List.{drop-take, drop-append-le, get_or-take, get_or_append_left, get_or_push}
 use Rattle.std.proofs.lemmas.List.{length-drop, length-take-le, length_push, take-append-le, take-take, take_all}
 use Rattle.std.proofs.lemmas.List.{take_at, take_more}
 use Rattle.std.proofs.lemmas.List.Concat.{flat_map-append}
-use Rattle.std.proofs.lemmas.List.Elements.{All-drop, All-nil, All-push, All-take}
+use Rattle.std.proofs.lemmas.List.Elements.{All-drop, All-push, All-take}
 use Rattle.edge_io.specs.Out.{Output, Puts}
 use Rattle.edge_io.proofs.OutLemmas.{Puts-trans}
 use Rattle.fault_definitions.specs.Tree.{FaultTree, IsUnitOf}
-use Rattle.cut_texts.specs.UnitTexts.{spaced, unit_text}
-use Rattle.cut_texts.specs.declared.line.Line.{Line}
-use Rattle.cut_texts.specs.Lines.{SameHead, Spells}
-use Rattle.cut_texts.specs.Spelling.{CanSpell}
-use Rattle.cut_texts.specs.declared.spelled.Spelled.{Spelled}
+use Rattle.cut_texts.specs.{UnitTexts.spaced, UnitTexts.unit_text, declared.line.Line.Line, Lines.SameHead}
+use Rattle.cut_texts.specs.{Lines.Spells, Spelling.CanSpell, declared.spelled.Spelled.Spelled}
 
 module _ (tree : FaultTree) where
   spaced_split : (units : List ℕ) (count : ℕ)
@@ -30,31 +27,22 @@ module _ (tree : FaultTree) where
       flat_map-append (unit_text tree) units (unit ∷ [])
       ∙ ap (λ l. spaced tree units ++ l) (append-nil (unit_text tree unit))
 
-  -- no units
-  pub spells_none : (head : ℕ) (text : List ℕ) → head ≡ length text → Spells tree head [] [] text []
-  spells_none head text all = record {
-    known = All-nil (IsUnitOf tree);
-    count = refl;
-    places = λ k short. absurd (omega (arith, short));
-    headed = omega (arith, all);
-    spelled = drop_all head text (omega (arith, all));
-  }
-
-  module _ (head : ℕ) (units ends text tail : List ℕ) (s : Spells tree head units ends text tail) where
+  module _ {head : ℕ} {units ends text tail : List ℕ} (s : Spells tree head units ends text tail) where
     -- ---- where the names of the first units end
-    pub first_end : (count end : ℕ) → count ≡ 0 → end ≡ head → end ≡ head + length (spaced tree (take count units))
-    first_end count end none is =
+    pub first_end : (count : ℕ) {end : ℕ} → count ≡ 0 → end ≡ head
+        → end ≡ head + length (spaced tree (take count units))
+    first_end count {end} none is =
         subst (λ n. end ≡ head + length (spaced tree (take n units))) (sym none) (omega (arith, is))
 
-    pub later_end : (count end : ℕ) → 0 < count → count ≤ length units → end ≡ get_or ends (count - 1) 0
+    pub later_end : (count : ℕ) {end : ℕ} → 0 < count → count ≤ length units → end ≡ get_or ends (count - 1) 0
         → end ≡ head + length (spaced tree (take count units))
-    later_end count end some within is =
+    later_end count some within is =
         let next : count - 1 + 1 ≡ count = omega (arith, some) in
         is ∙ s.places (count - 1) (omega (arith, some, within))
         ∙ ap (λ n. head + length (spaced tree (take n units))) next
 
     -- ---- only the first units are kept
-    module _ (count end : ℕ) (within : count ≤ length units)
+    module _ (count : ℕ) {end : ℕ} (within : count ≤ length units)
         (is : end ≡ head + length (spaced tree (take count units))) where
       split : drop head text ≡ spaced tree (take count units) ++ (spaced tree (drop count units) ++ tail)
       split =
@@ -95,9 +83,9 @@ module _ (tree : FaultTree) where
       start_kept = take-take head end text (omega (arith, is))
 
     -- ---- the head changes where it stands
-    pub counted : (new : List ℕ) → drop head new ≡ drop head text → length new ≡ length text
+    pub counted : {new : List ℕ} → drop head new ≡ drop head text → length new ≡ length text
         → Spells tree head units ends new tail
-    counted new same long = record {
+    counted same long = record {
       known = s.known;
       count = s.count;
       places = s.places;
@@ -105,12 +93,12 @@ module _ (tree : FaultTree) where
       spelled = same ∙ s.spelled;
     }
 
-  module _ (head : ℕ) (units ends text : List ℕ) (s : Spells tree head units ends text []) where
+  module _ {head : ℕ} {units ends text : List ℕ} (s : Spells tree head units ends text []) where
     names : drop head text ≡ spaced tree units
     names = s.spelled ∙ append-nil (spaced tree units)
 
     -- one unit more
-    module _ (unit : ℕ) (piece : List ℕ) (known : IsUnitOf tree unit) (same : piece ≡ unit_text tree unit) where
+    module _ (unit : ℕ) {piece : List ℕ} (known : IsUnitOf tree unit) (same : piece ≡ unit_text tree unit) where
       more : drop head (text ++ piece) ≡ spaced tree (units ++ unit ∷ [])
       more =
           drop-append-le head text piece s.headed ∙ ap (λ l. l ++ piece) names ∙ ap (λ l. spaced tree units ++ l) same
@@ -141,9 +129,6 @@ module _ (tree : FaultTree) where
             spelled = more ∙ sym (append-nil (spaced tree (units ++ unit ∷ [])));
           }
 
-      pub start_added : take head (text ++ piece) ≡ take head text
-      start_added = take-append-le head text piece s.headed
-
     -- a tail
     pub ended : (tail : List ℕ) → Spells tree head units ends (text ++ tail) tail
     ended tail = record {
@@ -155,36 +140,37 @@ module _ (tree : FaultTree) where
     }
 
     -- or want of memory for it
-    pub ended_or_not : (fits : Bool) (tail new : List ℕ) → new ≡ (if fits then text ++ tail else text)
+    pub ended_or_not : (fits : Bool) (tail : List ℕ) {new : List ℕ} → new ≡ (if fits then text ++ tail else text)
         → (rest : List ℕ) × Spells tree head units ends new rest
-    ended_or_not true tail new is = (tail, subst (λ l. Spells tree head units ends l tail) (sym is) (ended tail))
-    ended_or_not false tail new is = ([], subst (λ l. Spells tree head units ends l []) (sym is) s)
+    ended_or_not true tail is = (tail, subst (λ l. Spells tree head units ends l tail) (sym is) (ended tail))
+    ended_or_not false tail is = ([], subst (λ l. Spells tree head units ends l []) (sym is) s)
 
     -- the whole text
-    pub whole : (start tail new : List ℕ) → take head text ≡ start → new ≡ text ++ tail
+    pub whole : {start : List ℕ} (tail : List ℕ) {new : List ℕ} → take head text ≡ start → new ≡ text ++ tail
         → new ≡ start ++ (spaced tree units ++ tail)
-    whole start tail new is ends =
+    whole {start} tail is ends =
         ends ∙ ap (λ l. l ++ tail) (sym (take-append-drop head text) ∙ ap (λ l. l ++ drop head text) is
         ∙ ap (λ l. start ++ l) names)
         ∙ append_assoc start (spaced tree units) tail
 
 -- ---- heads that stay
 
-pub start_ended : (head : ℕ) (text tail new : List ℕ) (fits : Bool) → new ≡ (if fits then text ++ tail else text)
+pub start_ended : (head : ℕ) (text tail : List ℕ) {new : List ℕ} (fits : Bool)
+    → new ≡ (if fits then text ++ tail else text)
     → head ≤ length text → take head new ≡ take head text
-start_ended head text tail new true is within = ap (take head) is ∙ take-append-le head text tail within
-start_ended head text tail new false is within = ap (take head) is
+start_ended head text tail true is within = ap (take head) is ∙ take-append-le head text tail within
+start_ended head text tail false is within = ap (take head) is
 
-pub SameHead-trans : (old mid new : Line) → SameHead old mid → SameHead mid new → SameHead old new
-SameHead-trans old mid new first second = record {
+pub SameHead-trans : {old mid new : Line} → SameHead old mid → SameHead mid new → SameHead old new
+SameHead-trans {mid} {new} first second = record {
   head = second.head ∙ first.head;
   start = subst (λ n. take n new.text.items ≡ take n mid.text.items) first.head second.start ∙ first.start;
 }
 
 -- the start of a line that has a head
-pub start_is : (start : List ℕ) (old new : Line) → SameHead old new → take old.head old.text.items ≡ start
+pub start_is : {start : List ℕ} {old new : Line} → SameHead old new → take old.head old.text.items ≡ start
     → take new.head new.text.items ≡ start
-start_is start old new same is = ap (λ n. take n new.text.items) same.head ∙ same.start ∙ is
+start_is {new} same is = ap (λ n. take n new.text.items) same.head ∙ same.start ∙ is
 
 -- ---- what can be spelled
 
@@ -194,37 +180,38 @@ behind_first units count =
     take_all (length units - count) (drop count units) (omega (arith, length-drop count units))
 
 -- they can be spelled where all can
-pub spelled_behind : (names : Spelled) (units : List ℕ) (count : ℕ) → CanSpell names units
+pub spelled_behind : {names : Spelled} {units : List ℕ} (count : ℕ) → CanSpell names units
     → CanSpell names (take (length units - count) (drop count units))
-spelled_behind names units count can = record {
+spelled_behind {names} {units} count can = record {
   texts = can.texts;
   units = subst (All (IsUnitOf names.tree.now)) (sym (behind_first units count))
       (All-drop (IsUnitOf names.tree.now) count units can.units);
 }
 
 -- a line that begins as some units do, and is given the others, has all
-pub all_there : {T E : Type 0} (answer : Result T E) (units now begun old : List ℕ) (count : ℕ)
+pub all_there : {T E : Type 0} (answer : Result T E) (units now : List ℕ) {begun : List ℕ} (old : List ℕ) (count : ℕ)
     → is_err answer ≡ false → OnOk answer (now ≡ begun ++ take (length units - count) (drop count units))
     → begun ≡ take count old → take count old ≡ take count units → now ≡ units
-all_there (Ok value) units now begun old count fine grown first same =
+all_there (Ok value) units now old count fine grown first same =
     grown ∙ ap (λ l. l ++ take (length units - count) (drop count units)) (first ∙ same)
     ∙ ap (λ l. take count units ++ l) (behind_first units count) ∙ take-append-drop count units
-all_there (Err error) units now begun old count fine grown first same = absurd (true≢false fine)
+all_there (Err error) units now old count fine grown first same = absurd (true≢false fine)
 
 -- one of them has a text
-pub has_text : (names : Spelled) (units : List ℕ) (place unit : ℕ) → CanSpell names units → place < length units
+pub has_text : {names : Spelled} {units : List ℕ} (place : ℕ) {unit : ℕ} → CanSpell names units → place < length units
     → unit ≡ get_or units place unit → unit ≤ length names.texts.now
-has_text names units place unit can short at =
+has_text {names} place {unit} can short at =
     let known : IsUnitOf names.tree.now unit = subst (IsUnitOf names.tree.now) (sym at) (can.units place unit short) in
     omega (arith, known.1, can.texts.count)
 
 -- the name of one more unit is put
-pub one_more_put : {K : Type 0} (taken : K → Option (List ℕ)) (faults : K → ℕ) (old mid new : Output K)
-    (names : Spelled) (units : List ℕ) (place unit : ℕ) (piece : List ℕ) → CanSpell names units → place < length units
+pub one_more_put : {K : Type 0} {taken : K → Option (List ℕ)} {faults : K → ℕ} {old mid new : Output K}
+    {names : Spelled} {units : List ℕ} (place : ℕ) {unit : ℕ} {piece : List ℕ} → CanSpell names units
+    → place < length units
     → unit ≡ get_or units place unit → piece ≡ slice_index_or names.texts.now (unit - 1) []
     → Puts taken faults old mid (spaced names.tree.now (take place units)) → Puts taken faults mid new piece
     → Puts taken faults old new (spaced names.tree.now (take (place + 1) units))
-one_more_put taken faults old mid new names units place unit piece can short at is before put =
+one_more_put {taken} {faults} {old} {new} {names} {units} place {unit} {piece} can short at is before put =
     let tree = names.tree.now in
     let known : IsUnitOf tree unit = subst (IsUnitOf tree) (sym at) (can.units place unit short) in
     let grown : spaced tree (take place units) ++ piece ≡ spaced tree (take (place + 1) units) =
@@ -232,5 +219,4 @@ one_more_put taken faults old mid new names units place unit piece can short at 
     ∙ sym (spaced_push tree (take place units) unit)
     ∙ ap (λ u. spaced tree (take place units ++ u ∷ [])) at
     ∙ ap (spaced tree) (sym (take_more units place unit short)) in
-    subst (Puts taken faults old new) grown
-    (Puts-trans taken faults old mid new (spaced tree (take place units)) piece before put)
+    subst (Puts taken faults old new) grown (Puts-trans before put)

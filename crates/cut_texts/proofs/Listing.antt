@@ -10,10 +10,8 @@ use Rattle.edge_io.specs.Out.{Output, Puts}
 use Rattle.fault_definitions.specs.Tree.{FaultTree, IsUnitOf, unit_count, gate_count}
 use Rattle.cut_texts.specs.CutsText.{Listed, count_line, cut_block, cut_blocks, cut_line, cut_number, listed_with}
 use Rattle.cut_texts.specs.CutsText.{order_line, order_lines, orders_in, tree_counts}
-use Rattle.cut_texts.specs.DiagramText.{counts_text}
-use Rattle.cut_texts.specs.Spelling.{CanList, CanSpell}
-use Rattle.cut_texts.specs.UnitTexts.{spaced}
-use Rattle.cut_texts.specs.declared.spelled.Listing.{Listing}
+use Rattle.cut_texts.specs.{DiagramText.counts_text, Spelling.CanList, Spelling.CanSpell, UnitTexts.spaced}
+use Rattle.cut_texts.specs.{declared.spelled.Listing.Listing}
 
 -- the set at a place
 set_at : (cuts : List (List ℕ)) (i : ℕ) (set : List ℕ) → slice_get cuts i ≡ Some set → get_or cuts i [] ≡ set
@@ -21,19 +19,19 @@ set_at cuts i set at =
     ap (λ o. unwrap_or o set) (sym (slice_get-get_or cuts i [] (slice_get_within cuts i set at)) ∙ at)
 
 -- its units have their texts
-pub set_spelled : (listing : Listing) (i : ℕ) (set : List ℕ) → CanList listing
+pub set_spelled : {listing : Listing} (i : ℕ) {set : List ℕ} → CanList listing
     → slice_get listing.cuts.now i ≡ Some set → CanSpell listing.names set
-set_spelled listing i set can at = record {
+set_spelled {listing} i {set} can at = record {
   texts = can.texts;
   units = subst (All (IsUnitOf listing.names.tree.now)) (set_at listing.cuts.now i set at)
       (can.units i [] (slice_get_within listing.cuts.now i set at));
 }
 
 -- so have those of an order
-pub order_spelled : (listing : Listing) (i j : ℕ) (order : List ℕ) → CanList listing → i < length listing.orders.now
+pub order_spelled : {listing : Listing} (i j : ℕ) {order : List ℕ} → CanList listing → i < length listing.orders.now
     → j < length (orders_at listing.orders.now i) → order ≡ get_or (orders_at listing.orders.now i) j []
     → CanSpell listing.names order
-order_spelled listing i j order can within below is = record {
+order_spelled {listing} i j can within below is = record {
   texts = can.texts;
   units = subst (All (IsUnitOf listing.names.tree.now)) (sym is) (can.made.units i None within j [] below);
 }
@@ -106,12 +104,12 @@ listed_lines tree (Some []) listed some = absurd (omega (arith, some))
 listed_lines tree (Some (order ∷ orders)) listed some = refl
 
 -- the block of the set at a place
-pub block_put : {K : Type 0} (taken : K → Option (List ℕ)) (faults : K → ℕ) (old new : Output K) (listing : Listing)
-    (i : ℕ) (set : List ℕ) → slice_get listing.cuts.now i ≡ Some set → (text : List ℕ) → Puts taken faults old new text
+pub block_put : {K : Type 0} {taken : K → Option (List ℕ)} {faults : K → ℕ} {old new : Output K} (listing : Listing)
+    (i : ℕ) (set : List ℕ) → slice_get listing.cuts.now i ≡ Some set → {text : List ℕ} → Puts taken faults old new text
     → text ≡ cut_block listing.names.tree.now (i + 1) set (get_or listing.orders.now i None)
     → Puts taken faults old new (cut_block listing.names.tree.now (i + 1) (get_or listing.cuts.now i [])
     (get_or listing.orders.now i None))
-block_put taken faults old new listing i set at text put is =
+block_put {taken} {faults} {old} {new} listing i set at put is =
     subst (Puts taken faults old new) (is ∙ ap (λ s. cut_block listing.names.tree.now (i + 1) s
     (get_or listing.orders.now i None)) (sym (set_at listing.cuts.now i set at))) put
 
@@ -124,30 +122,30 @@ no_block tree cuts lists i same all =
     (subst (λ n. n ≤ i) (sym (length_with cuts lists same)) all))
 
 -- how many there are, and how many orders
-pub counts_with : (cuts : List (List ℕ)) (lists : List (Option (List (List ℕ)))) (count total : ℕ)
+pub counts_with : (cuts : List (List ℕ)) (lists : List (Option (List (List ℕ)))) {count total : ℕ}
     → length lists ≡ length cuts → count ≡ length cuts
     → total ≡ order_total lists → count_line count total
     ≡ count_line (length (listed_with cuts lists)) (order_total (orders_in (listed_with cuts lists)))
-counts_with cuts lists count total same is all =
+counts_with cuts lists {total} same is all =
     ap (λ n. count_line n total) (is ∙ sym (length_with cuts lists same))
     ∙ ap (count_line (length (listed_with cuts lists))) (all ∙ ap order_total (sym (orders_with cuts lists same)))
 
 -- the counts of a tree, put as numbers
-pub counted : {K : Type 0} (taken : K → Option (List ℕ)) (faults : K → ℕ) (old new : Output K) (title : List ℕ)
-    (tree : FaultTree) (units gates : ℕ)
+pub counted : {K : Type 0} {taken : K → Option (List ℕ)} {faults : K → ℕ} {old new : Output K} (title : List ℕ)
+    (tree : FaultTree) {units gates : ℕ}
     → units ≡ unit_count tree → gates ≡ gate_count tree → Puts taken faults old new (tree_counts title units gates)
     → Puts taken faults old new (tree_counts title (unit_count tree) (gate_count tree))
-counted taken faults old new title tree units gates all all_gates put =
+counted {taken} {faults} {old} {new} title tree {gates} all all_gates put =
     subst (Puts taken faults old new) (ap (λ n. tree_counts title n gates) all
     ∙ ap (tree_counts title (unit_count tree)) all_gates) put
 
 -- a text round two numbers, put in five pieces
-pub two_numbers : {K : Type 0} (taken : K → Option (List ℕ)) (faults : K → ℕ) (old new : Output K)
-    (front middle back one : List ℕ) (first : List ℕ) → one ≡ first
-    → (two second : List ℕ) → two ≡ second → Puts taken faults old new
+pub two_numbers : {K : Type 0} {taken : K → Option (List ℕ)} {faults : K → ℕ} {old new : Output K}
+    (front middle back : List ℕ) {one : List ℕ} {first : List ℕ} → one ≡ first
+    → {two second : List ℕ} → two ≡ second → Puts taken faults old new
     (front ++ (one ++ (middle ++ (two ++ (back ++ [])))))
     → Puts taken faults old new (front ++ first ++ middle ++ second ++ back)
-two_numbers taken faults old new front middle back one first is two second is_two put =
+two_numbers {taken} {faults} {old} {new} front middle back {one} {first} is {two} is_two put =
     let joined : front ++ (one ++ (middle ++ (two ++ (back ++ [])))) ≡ front ++ one ++ middle ++ two ++ back =
     simp (append_assoc, append-nil) refl in
     subst (Puts taken faults old new)
@@ -155,10 +153,10 @@ two_numbers taken faults old new front middle back one first is two second is_tw
     put
 
 -- two counts a line
-pub counts_put : {K : Type 0} (taken : K → Option (List ℕ)) (faults : K → ℕ) (old new : Output K) (cuts members : ℕ)
+pub counts_put : {K : Type 0} {taken : K → Option (List ℕ)} {faults : K → ℕ} {old new : Output K} (cuts members : ℕ)
     → Puts taken faults old new (codes "cuts: " ++ decimal cuts ++ codes "\nmembers: " ++ decimal members ++ codes "\n")
     → Puts taken faults old new (counts_text cuts members)
-counts_put taken faults old new cuts members put =
+counts_put {taken} {faults} {old} {new} cuts members put =
     let joined : codes "cuts: " ++ decimal cuts ++ codes "\nmembers: " ++ decimal members ++ codes "\n"
     ≡ counts_text cuts members = simp (append_assoc) refl in
     subst (Puts taken faults old new) joined put

@@ -1,7 +1,6 @@
 -- The members of cut sets.
 use Rattle.std.specs.Prelude.{◌≡◌, ℕ, ◌+◌, List, [], ◌∷◌, length}
-use Rattle.std.proofs.Common.{refl, arith}
-use Rattle.std.proofs.lemmas.List.Sums.{sum_by-cons}
+use Rattle.std.proofs.{Common.refl, Common.arith, lemmas.List.Sums.sum_by-cons}
 use Rattle.unit_sets.specs.CutOrder.{weight}
 use Rattle.cut_texts.specs.DiagramText.{member_count}
 

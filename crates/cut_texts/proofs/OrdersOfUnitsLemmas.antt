@@ -5,8 +5,7 @@ use Rattle.std.specs.List.{flat_map}
 use Rattle.std.proofs.lemmas.List.{length-map}
 use Rattle.std.proofs.lemmas.List.Elements.{All-nil, All-cons, All-head, All-tail, All-append, All-map, All-weaker}
 use Rattle.std.proofs.lemmas.List.Elements.{All-filter}
-use Rattle.fault_definitions.specs.Tree.{FaultTree, IsUnitOf}
-use Rattle.fault_definitions.specs.FailingOrder.{is_failing}
+use Rattle.fault_definitions.specs.{Tree.FaultTree, Tree.IsUnitOf, FailingOrder.is_failing}
 use Rattle.cut_sequences.specs.Permutations.{picks, arrangements, permutations}
 use Rattle.cut_sequences.specs.Orders.{failing_orders, orders_of, order_lists}
 use Rattle.cut_texts.specs.OrdersOfUnits.{AreOfUnits, AreOrdersOf}

@@ -13,17 +13,17 @@ pub record AreFirstTexts (tree : FaultTree) (texts : List (List ℕ)) (count : �
   pub each : (unit : ℕ) → 1 ≤ unit → unit ≤ count → slice_index_or texts (unit - 1) [] ≡ unit_text tree unit
 
 module _ (tree : FaultTree) where
-  pub none_yet : (texts : List (List ℕ)) → texts ≡ [] → AreFirstTexts tree texts 0
-  none_yet texts is = record {
+  pub none_yet : {texts : List (List ℕ)} → texts ≡ [] → AreFirstTexts tree texts 0
+  none_yet is = record {
     some = ap length is;
     few = omega arith;
     each = λ unit some few. absurd (omega (arith, some, few));
   }
 
-  pub one_more : (texts new : List (List ℕ)) (count : ℕ) (row : List ℕ) → AreFirstTexts tree texts count
+  pub one_more : {texts new : List (List ℕ)} {count : ℕ} {row : List ℕ} → AreFirstTexts tree texts count
       → count < unit_count tree → row ≡ unit_text tree (count + 1) → new ≡ texts ++ row ∷ []
       → AreFirstTexts tree new (count + 1)
-  one_more texts new count row first less is grown =
+  one_more {texts} {count} {row} first less is grown =
       let each : (unit : ℕ) → 1 ≤ unit → unit ≤ count + 1
       → slice_index_or (texts ++ row ∷ []) (unit - 1) [] ≡ unit_text tree unit = λ unit some few.
       elim (cases_lt count unit) [
@@ -41,9 +41,9 @@ module _ (tree : FaultTree) where
         each = λ unit some few. ap (λ l. slice_index_or l (unit - 1) []) grown ∙ each unit some few;
       }
 
-  pub all_of_them : (texts : List (List ℕ)) (count : ℕ) → AreFirstTexts tree texts count → unit_count tree ≤ count
+  pub all_of_them : {texts : List (List ℕ)} {count : ℕ} → AreFirstTexts tree texts count → unit_count tree ≤ count
       → AreTextsOf tree texts
-  all_of_them texts count first all = record {
+  all_of_them {count} first all = record {
     count = omega (arith, first.some, all);
     each = λ unit known. first.each unit known.0 (omega (arith, known.1, all));
   }

@@ -1,8 +1,7 @@
 -- Lines that are kept: a head, the names of some units of a tree, and a tail.
 use Rattle.std.specs.Prelude.{◌≡◌, ℕ, ◌+◌, ◌<◌, ◌≤◌, List, ◌++◌, All, length, take, drop, get_or}
 use Rattle.fault_definitions.specs.Tree.{FaultTree, IsUnitOf}
-use Rattle.cut_texts.specs.declared.line.Line.{Line}
-use Rattle.cut_texts.specs.UnitTexts.{spaced}
+use Rattle.cut_texts.specs.{declared.line.Line.Line, UnitTexts.spaced}
 
 -- behind a head of so many bytes a text spells some units of the tree, whose names end at these places, and then comes
 -- a tail

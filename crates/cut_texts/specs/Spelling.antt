@@ -1,10 +1,8 @@
 -- What can be spelled by the texts of the units of a tree.
 use Rattle.std.specs.Prelude.{ℕ, List, All}
 use Rattle.fault_definitions.specs.Tree.{IsUnitOf}
-use Rattle.cut_texts.specs.OrdersOfUnits.{AreOrdersOf}
-use Rattle.cut_texts.specs.UnitTexts.{AreTextsOf}
-use Rattle.cut_texts.specs.declared.spelled.Listing.{Listing}
-use Rattle.cut_texts.specs.declared.spelled.Spelled.{Spelled}
+use Rattle.cut_texts.specs.{OrdersOfUnits.AreOrdersOf, UnitTexts.AreTextsOf, declared.spelled.Listing.Listing}
+use Rattle.cut_texts.specs.{declared.spelled.Spelled.Spelled}
 
 -- units of the tree, each of which has its text
 pub record CanSpell (names : Spelled) (spelled : List ℕ) : Type 0 where

@@ -8,8 +8,7 @@ use Rattle.std.proofs.lemmas.List.Elements.{filter-append}
 use Rattle.std.proofs.lemmas.List.Sums.{sum_by-append, sum_by-cons}
 use Rattle.unit_sets.specs.CutOrder.{weight}
 use Rattle.zdd_families.specs.Family.{branch, each_with}
-use Rattle.cutset_listing.specs.BySize.{of_size}
-use Rattle.cutset_listing.specs.Visits.{behind}
+use Rattle.cutset_listing.specs.{BySize.of_size, Visits.behind}
 
 -- ---- sets behind some units
 
@@ -29,15 +28,15 @@ behind-nothing [] = refl
 behind-nothing (set ∷ f) = ap (λ sets. set ∷ sets) (behind-nothing f)
 
 -- sets behind units and one unit more are longer than these units
-none_so_short : (front : List ℕ) (x size : ℕ) (f : List (List ℕ)) → length front ≡ size
+none_so_short : (front : List ℕ) (x : ℕ) {size : ℕ} (f : List (List ℕ)) → length front ≡ size
     → of_size size (behind (front ++ x ∷ []) f) ≡ []
-none_so_short front x size [] same = refl
-none_so_short front x size (set ∷ f) same =
+none_so_short front x [] same = refl
+none_so_short front x {size} (set ∷ f) same =
     let long : length ((front ++ x ∷ []) ++ set) ≡ (length front + 1) + length set =
     length-append (front ++ x ∷ []) set ∙ ap (λ n. n + length set) (length-append front (x ∷ [])) in
     cond-false (length ((front ++ x ∷ []) ++ set) == size) _ (of_size size (behind (front ++ x ∷ []) f))
     (ne_eqb (length ((front ++ x ∷ []) ++ set)) size (λ e. omega (arith, e, long, same)))
-    ∙ none_so_short front x size f same
+    ∙ none_so_short front x f same
 
 -- the sets of one size of a branch: those of hi with the unit, and then those of lo
 pub of_size-branch : (size : ℕ) (front : List ℕ) (x : ℕ) (lo hi : List (List ℕ)) →
@@ -54,7 +53,7 @@ of_size-branch size front x ([] ∷ others) hi =
       | inl so_long ↦
           let same : length front ≡ size =
           ap length (sym (append-nil front)) ∙ eqb-true (length (front ++ [])) size so_long in
-          let none : of_size size A ≡ [] = none_so_short front x size hi same in
+          let none : of_size size A ≡ [] = none_so_short front x hi same in
           cond-true (length (front ++ []) == size) ((front ++ [])
           ∷ of_size size (behind front (each_with x hi ++ others)))
           (of_size size (behind front (each_with x hi ++ others))) so_long
@@ -120,8 +119,9 @@ weight-each_with x (set ∷ other ∷ f) filled =
     omega (arith, e, e', less)
 
 -- both parts of a branch together weigh less than the branch
-pub parts_weigh_less : (x : ℕ) (lo hi : List (List ℕ)) → hi ≢ [] → weight lo + weight hi < weight (branch x lo hi)
-parts_weigh_less x lo hi filled =
+pub parts_weigh_less : (x : ℕ) (lo : List (List ℕ)) {hi : List (List ℕ)} → hi ≢ []
+    → weight lo + weight hi < weight (branch x lo hi)
+parts_weigh_less x lo {hi} filled =
     let whole : weight (branch x lo hi) ≡ weight (behind (x ∷ []) hi) + weight (behind [] lo) =
     ap weight (sym (behind-nothing (branch x lo hi))) ∙ weight-branch [] x lo hi in
     let e : weight (behind [] lo) ≡ weight lo = ap weight (behind-nothing lo) in

@@ -2,9 +2,8 @@
 use Rattle.std.proofs.Common.{◌≡◌, ℕ, suc, ◌<◌, false, List, [], ◌∷◌, length, map, refl, sym, ap, ◌∙◌, inl, inr, arith}
 use Rattle.std.specs.Prelude.{◌==◌, max, if◌then◌else◌}
 use Rattle.std.specs.List.{range_with_len}
-use Rattle.std.proofs.lemmas.Bool.{cases_lt}
-use Rattle.std.proofs.lemmas.List.{get_or_past}
-use Rattle.std.proofs.lemmas.List.FromFn.{get_or-map-range_with_len, length-map-range_with_len}
+use Rattle.std.proofs.{lemmas.Bool.cases_lt, lemmas.List.get_or_past, lemmas.List.FromFn.get_or-map-range_with_len}
+use Rattle.std.proofs.{lemmas.List.FromFn.length-map-range_with_len}
 use Rattle.unit_sets.specs.CutOrder.{IsInCutOrder, weight, weight_limit}
 use Rattle.zdd_families.specs.Family.{IsFamily}
 use Rattle.cutset_listing.specs.BySize.{at_size, joined, of_size}
@@ -53,7 +52,7 @@ module _ (family : List (List ℕ)) where
   in_a_list is = record {
     list = joined sizes;
     sets = joined-sets sizes family each_size;
-    ordered = joined-in_order sizes family each_size is;
+    ordered = joined-in_order sizes each_size is;
     as_many = length-joined sizes family each_size;
     as_heavy = weight-joined sizes family each_size;
   }

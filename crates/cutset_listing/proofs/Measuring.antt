@@ -3,13 +3,10 @@ use Rattle.std.proofs.Common.{◌≡◌, ◌≢◌, ℕ, ◌+◌, ◌*◌, ◌<�
 use Rattle.std.proofs.Common.{ap, subst}
 use Rattle.std.proofs.Common.{arith, length-append}
 use Rattle.std.specs.Prelude.{Result, Ok, Err, IfOk, OnOk}
-use Rattle.unit_sets.specs.CutOrder.{weight, weight_limit}
-use Rattle.unit_sets.specs.declared.refusal.ListEnd.{ListEnd}
-use Rattle.zdd_families.specs.Family.{branch, each_with}
-use Rattle.zdd_families.specs.Map.{family}
+use Rattle.unit_sets.specs.{CutOrder.weight, CutOrder.weight_limit, declared.refusal.ListEnd.ListEnd}
+use Rattle.zdd_families.specs.{Family.branch, Family.each_with, Map.family}
 use Rattle.zdd_families.proofs.MapLemmas.{family-empty, family-unit}
-use Rattle.cutset_listing.specs.FamilySizes.{IsSizeOf}
-use Rattle.cutset_listing.specs.declared.measure.FamilySize.{FamilySize}
+use Rattle.cutset_listing.specs.{FamilySizes.IsSizeOf, declared.measure.FamilySize.FamilySize}
 use Rattle.cutset_listing.proofs.Behind.{parts_weigh_less, weight-append, weight-cons}
 
 -- ---- how many sets a branch has, and what they weigh
@@ -72,7 +69,7 @@ pub record IsParted (known : ℕ → ℕ) (r x lo hi : ℕ) : Type 0 where
   pub branch : family known r ≡ branch x (family known lo) (family known hi)
   pub filled : family known hi ≢ []
 
-module _ (known : ℕ → ℕ) (r x lo hi : ℕ) (parts : IsParted known r x lo hi) where
+module _ {known : ℕ → ℕ} {r x lo hi : ℕ} (parts : IsParted known r x lo hi) where
   weight_of_parts : weight (family known r) ≡ weight (family known lo) + (weight (family known hi)
       + length (family known hi))
   weight_of_parts = ap weight parts.branch ∙ weight-branch x (family known lo) (family known hi)
@@ -80,7 +77,7 @@ module _ (known : ℕ → ℕ) (r x lo hi : ℕ) (parts : IsParted known r x lo 
   both_less : weight (family known lo) + weight (family known hi) < weight (family known r)
   both_less =
       let e = ap weight parts.branch in
-      let less = parts_weigh_less x (family known lo) (family known hi) parts.filled in
+      let less = parts_weigh_less x (family known lo) parts.filled in
       omega (arith, e, less)
 
   pub lo_less : 2 * weight (family known lo) + 1 < 2 * weight (family known r)
@@ -111,10 +108,10 @@ module _ (known : ℕ → ℕ) (r x lo hi : ℕ) (parts : IsParted known r x lo 
         → weight_limit < weight (family known r)
     both_heavy heavy = let a = weighs_so in omega (arith, a, heavy)
 
-    pub size_of_parts : (size : FamilySize) → size.sets ≡ of_lo.sets + of_hi.sets
+    pub size_of_parts : {size : FamilySize} → size.sets ≡ of_lo.sets + of_hi.sets
         → size.weight ≡ of_lo.weight + (of_hi.weight + of_hi.sets)
         → of_lo.weight + (of_hi.weight + of_hi.sets) ≤ weight_limit → IsSizeOf (family known r) size
-    size_of_parts size sets weighs light =
+    size_of_parts sets weighs light =
         let a = ap length parts.branch ∙ length-branch x (family known lo) (family known hi) in
         let b = lo_is.count in let c = hi_is.count in let d = weighs_so in
         record {
@@ -128,5 +125,5 @@ module _ (known : ℕ → ℕ) (r x lo hi : ℕ) (parts : IsParted known r x lo 
         → IfOk result (λ size. size.weight ≡ of_lo.weight + (of_hi.weight + of_hi.sets))
         → OnOk result (of_lo.weight + (of_hi.weight + of_hi.sets) ≤ weight_limit)
         → IfOk result (IsSizeOf (family known r))
-    sized_of_parts (Ok size) sets weighs light = size_of_parts size sets weighs light
+    sized_of_parts (Ok size) sets weighs light = size_of_parts sets weighs light
     sized_of_parts (Err end) sets weighs light = tt

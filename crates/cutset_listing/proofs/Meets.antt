@@ -12,11 +12,9 @@ use Rattle.unit_sets.proofs.Sorted.{all-push}
 use Rattle.zdd_words.specs.Reference.{IsReference}
 use Rattle.zdd_words.specs.Word.{packed, lo_of, hi_of}
 use Rattle.zdd_words.proofs.WordLemmas.{lo_of-packed, hi_of-packed}
-use Rattle.zdd_families.specs.Map.{Knows, IsClosed}
-use Rattle.zdd_families.proofs.MapLemmas.{lo_known, hi_known}
-use Rattle.zdd_families.specs.Counting.{EachOnce}
-use Rattle.zdd_families.proofs.CountingLemmas.{each_once-length}
-use Rattle.zdd_families.proofs.CutsLemmas.{each-contains, each-from_contains}
+use Rattle.zdd_families.specs.{Map.Knows, Map.IsClosed, Counting.EachOnce}
+use Rattle.zdd_families.proofs.{MapLemmas.lo_known, MapLemmas.hi_known, CountingLemmas.each_once-length}
+use Rattle.zdd_families.proofs.{CutsLemmas.each-contains, CutsLemmas.each-from_contains}
 use Rattle.zdd_families.specs.Nodes.{Reaches, reaches_itself, reaches_lo, reaches_hi}
 use Rattle.cutset_listing.specs.Nodes.{with_node}
 use Rattle.cutset_listing.proofs.NodesLemmas.{IsMet, HasParts, HasMet}
@@ -130,15 +128,15 @@ with_node-once r nodes once =
 -- ---- what the root reaches
 
 module _ (known : ℕ → ℕ) (closed : IsClosed known) where
-  reached-inner : (r q : ℕ) → Reaches known r q → known q ≢ 0
-  reached-inner r q (reaches_itself has) = has
-  reached-inner r q (reaches_lo has deeper) = reached-inner (lo_of (known r)) q deeper
-  reached-inner r q (reaches_hi has deeper) = reached-inner (hi_of (known r)) q deeper
+  reached-inner : {r q : ℕ} → Reaches known r q → known q ≢ 0
+  reached-inner (reaches_itself has) = has
+  reached-inner (reaches_lo has deeper) = reached-inner deeper
+  reached-inner (reaches_hi has deeper) = reached-inner deeper
 
-  reaches_then : (r q p : ℕ) → Reaches known r q → Reaches known q p → Reaches known r p
-  reaches_then r q p (reaches_itself has) more = more
-  reaches_then r q p (reaches_lo has deeper) more = reaches_lo has (reaches_then (lo_of (known r)) q p deeper more)
-  reaches_then r q p (reaches_hi has deeper) more = reaches_hi has (reaches_then (hi_of (known r)) q p deeper more)
+  reaches_then : {r q p : ℕ} → Reaches known r q → Reaches known q p → Reaches known r p
+  reaches_then (reaches_itself has) more = more
+  reaches_then (reaches_lo has deeper) more = reaches_lo has (reaches_then deeper more)
+  reaches_then (reaches_hi has deeper) more = reaches_hi has (reaches_then deeper more)
 
   met-now : (r : ℕ) (nodes : List ℕ) → IsMet known (with_node r nodes) r
   met-now r nodes has =
@@ -173,9 +171,9 @@ module _ (known : ℕ → ℕ) (closed : IsClosed known) where
   }
 
   -- a reference that the root reaches
-  meets_more : (root r : ℕ) (nodes : List ℕ) (place : ℕ) → (2 ≤ r → Reaches known root r) → place ≤ length nodes
+  meets_more : {root : ℕ} (r : ℕ) {nodes : List ℕ} {place : ℕ} → (2 ≤ r → Reaches known root r) → place ≤ length nodes
       → HasMet known root nodes place → HasMet known root (with_node r nodes) place
-  meets_more root r nodes place reaches short met = record {
+  meets_more {root} r {nodes} {place} reaches short met = record {
     once = with_node-once r nodes met.once;
     reached = with_node-reached root r nodes reaches met.reached;
     from_root = λ has. with_node-grows r nodes root (met.from_root has);
@@ -193,7 +191,7 @@ module _ (known : ℕ → ℕ) (closed : IsClosed known) where
   at_place (node ∷ nodes) (suc place) short =
       Contains-cons_other node (slice_index_or nodes place 0) nodes (at_place nodes place (omega (arith, short)))
 
-  module _ (root : ℕ) (nodes : List ℕ) (place r : ℕ) (met : HasMet known root nodes place)
+  module _ {root : ℕ} {nodes : List ℕ} {place r : ℕ} (met : HasMet known root nodes place)
       (short : place < length nodes) (is : r ≡ slice_index_or nodes place 0) where
     here : Reaches known root r
     here =
@@ -201,32 +199,32 @@ module _ (known : ℕ → ℕ) (closed : IsClosed known) where
         (subst (Contains nodes) (sym is) (at_place nodes place short))
 
     pub inner : known r ≢ 0
-    inner = reached-inner root r here
+    inner = reached-inner here
 
     lo_reached : 2 ≤ lo_of (known r) → Reaches known root (lo_of (known r))
-    lo_reached above = elim (lo_known known (known r) (closed r inner).1) [
+    lo_reached above = elim (lo_known {known = known} {word = known r} (closed r inner).1) [
       | inl terminal ↦ absurd (omega (arith, above, terminal))
-      | inr lo_has ↦ reaches_then root r (lo_of (known r)) here (reaches_lo inner (reaches_itself lo_has))
+      | inr lo_has ↦ reaches_then here (reaches_lo inner (reaches_itself lo_has))
     ]
 
     hi_reached : 2 ≤ hi_of (known r) → Reaches known root (hi_of (known r))
-    hi_reached above = elim (hi_known known (known r) (closed r inner).1) [
+    hi_reached above = elim (hi_known {known = known} {word = known r} (closed r inner).1) [
       | inl terminal ↦ absurd (omega (arith, above, terminal))
-      | inr hi_has ↦ reaches_then root r (hi_of (known r)) here (reaches_hi inner (reaches_itself hi_has))
+      | inr hi_has ↦ reaches_then here (reaches_hi inner (reaches_itself hi_has))
     ]
 
     -- both parts of the next node
-    pub meets_parts : (lo hi : ℕ) (nodes' : List ℕ) → lo ≡ lo_of (known r) → hi ≡ hi_of (known r)
+    pub meets_parts : {lo hi : ℕ} {nodes' : List ℕ} → lo ≡ lo_of (known r) → hi ≡ hi_of (known r)
         → nodes' ≡ with_node hi (with_node lo nodes) →
         HasMet known root nodes' (place + 1) × (place + 1 ≤ length nodes')
-    meets_parts lo hi nodes' lo_is hi_is nodes_is =
+    meets_parts {hi} {nodes'} lo_is hi_is nodes_is =
         let first : List ℕ = with_node (lo_of (known r)) nodes in
         let both : List ℕ = with_node (hi_of (known r)) first in
         let longer : length nodes ≤ length first = with_node-longer (lo_of (known r)) nodes in
         let longer' : length first ≤ length both = with_node-longer (hi_of (known r)) first in
         let met' : HasMet known root both place =
-        meets_more root (hi_of (known r)) first place hi_reached (omega (arith, short, longer))
-        (meets_more root (lo_of (known r)) nodes place lo_reached (omega (arith, short)) met) in
+        meets_more (hi_of (known r)) hi_reached (omega (arith, short, longer))
+        (meets_more (lo_of (known r)) lo_reached (omega (arith, short)) met) in
         let front : take (place + 1) both ≡ take place both ++ r ∷ [] =
         take_more both place 0 (omega (arith, short, longer, longer'))
         ∙ ap (λ q. take place both ++ q ∷ []) (with_node-at (hi_of (known r)) first place
@@ -250,9 +248,9 @@ module _ (known : ℕ → ℕ) (closed : IsClosed known) where
         )
 
   -- where all parts were met, the nodes are those that the root reaches
-  pub met_all : (root : ℕ) (nodes : List ℕ) (place : ℕ) → HasMet known root nodes place → length nodes ≤ place → (q : ℕ)
+  pub met_all : {root : ℕ} {nodes : List ℕ} {place : ℕ} → HasMet known root nodes place → length nodes ≤ place → (q : ℕ)
       → Contains nodes q ↔ Reaches known root q
-  met_all root nodes place met all q = (
+  met_all {root} {nodes} {place} met all q = (
     λ has. each-contains (Reaches known root) nodes q met.reached has,
     λ reaches. follow root q reaches met.from_root,
   )
@@ -294,18 +292,19 @@ below-contains (suc n) x less =
           (Contains-cons_first n (below n))
     ]
 
-pub few_nodes : (known : ℕ → ℕ) (closed : IsClosed known) (root size : ℕ) (nodes : List ℕ) (place : ℕ)
+pub few_nodes : {known : ℕ → ℕ} (closed : IsClosed known) {root : ℕ} (size : ℕ) {nodes : List ℕ} {place : ℕ}
     → HasMet known root nodes place → ((r : ℕ) → known r ≢ 0 → r < size) → length nodes ≤ size
-few_nodes known closed root size nodes place met within =
+few_nodes {known} closed {root} size {nodes} met within =
     let long = below-length size in
     let few = each_once-length nodes (below size) met.once
-    (λ q has. below-contains size q (within q (reached-inner known closed root q
+    (λ q has. below-contains size q (within q (reached-inner known closed
     (each-contains (Reaches known root) nodes q met.reached has)))) in
     omega (arith, long, few)
 
 -- the parts of a packed word
-pub lo_of_word : (word level lo hi : ℕ) → word ≡ packed level lo hi → IsReference lo → IsReference hi → lo ≡ lo_of word
-lo_of_word word level lo hi is is_lo is_hi = sym (ap lo_of is ∙ lo_of-packed level lo hi is_lo is_hi)
+pub lo_of_word : {word : ℕ} (level : ℕ) {lo : ℕ} (hi : ℕ) → word ≡ packed level lo hi → IsReference lo → IsReference hi
+    → lo ≡ lo_of word
+lo_of_word level {lo} hi is is_lo is_hi = sym (ap lo_of is ∙ lo_of-packed level lo hi is_lo is_hi)
 
-pub hi_of_word : (word level lo hi : ℕ) → word ≡ packed level lo hi → IsReference hi → hi ≡ hi_of word
-hi_of_word word level lo hi is is_hi = sym (ap hi_of is ∙ hi_of-packed level lo hi is_hi)
+pub hi_of_word : {word : ℕ} (level lo : ℕ) {hi : ℕ} → word ≡ packed level lo hi → IsReference hi → hi ≡ hi_of word
+hi_of_word level lo {hi} is is_hi = sym (ap hi_of is ∙ hi_of-packed level lo hi is_hi)

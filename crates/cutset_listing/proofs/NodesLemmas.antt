@@ -2,8 +2,7 @@
 use Rattle.std.specs.Prelude.{◌≢◌, ℕ, List, take, Contains}
 use Rattle.std.specs.List.{AllByRecursion}
 use Rattle.zdd_words.specs.Word.{lo_of, hi_of}
-use Rattle.zdd_families.specs.Counting.{EachOnce}
-use Rattle.zdd_families.specs.Nodes.{Reaches}
+use Rattle.zdd_families.specs.{Counting.EachOnce, Nodes.Reaches}
 
 -- a node of the map is among those that were met
 abbrev pub IsMet : (ℕ → ℕ) → List ℕ → ℕ → Type 0

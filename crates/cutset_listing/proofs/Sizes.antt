@@ -2,17 +2,12 @@
 use Rattle.std.proofs.Common.{◌≡◌, ℕ, zero, suc, ◌+◌, ◌-◌, ◌<◌, ◌≤◌, Bool, true, false, List, [], ◌∷◌, ◌++◌, length}
 use Rattle.std.proofs.Common.{take, drop, refl, sym, ◌∙◌, ap, subst, inl, inr, arith, append_assoc, eq-eqb}
 use Rattle.std.specs.Prelude.{filter, ◌==◌, Contains, nat_le, sum_by}
-use Rattle.std.specs.List.{AllByRecursion}
-use Rattle.std.specs.List.Sorted.{IsStrictlySortedBy}
-use Rattle.std.specs.Ordering.{nat_cmp, ordering_then}
-use Rattle.std.specs.declared.cmp.Ordering.{Ordering}
-use Rattle.std.specs.declared.cmp.Ordering.TheVariants.{Less}
+use Rattle.std.specs.{List.AllByRecursion, List.Sorted.IsStrictlySortedBy, Ordering.nat_cmp, Ordering.ordering_then}
+use Rattle.std.specs.{declared.cmp.Ordering.Ordering, declared.cmp.Ordering.TheVariants.Less}
 use Rattle.std.proofs.lemmas.Bool.{cases_Bool, cases_lt, cases_eq, cond-true, cond-false, ne_eqb, eqb-true}
-use Rattle.std.proofs.lemmas.Bool.Decides.{nat_tests}
-use Rattle.std.proofs.lemmas.Cmp.{nat_cmp_total, tied_itself}
-use Rattle.std.proofs.lemmas.List.{append-nil}
+use Rattle.std.proofs.{lemmas.Bool.Decides.nat_tests, lemmas.Cmp.nat_cmp_total, lemmas.Cmp.tied_itself}
+use Rattle.std.proofs.{lemmas.List.append-nil, lemmas.List.Sums.sum_by-append, lemmas.List.Sums.sum_by-cons}
 use Rattle.std.proofs.lemmas.List.Elements.{Contains-append_cases, Contains-append_left, Contains-append_right}
-use Rattle.std.proofs.lemmas.List.Sums.{sum_by-append, sum_by-cons}
 use Rattle.unit_sets.specs.CutOrder.{cut_cmp, IsInCutOrder, weight}
 use Rattle.unit_sets.specs.UnitList.{IsRising}
 use Rattle.unit_sets.proofs.Sorted.{Contains-cons_first, Contains-cons_other, Contains-cons_cases, Contains-nil}
@@ -20,8 +15,7 @@ use Rattle.zdd_families.specs.Family.{IsFamily, set_cmp}
 use Rattle.zdd_families.proofs.Lists.{each-append, each-weaker, sorted-append, filter-all}
 use Rattle.cutset_listing.specs.BySize.{of_size, at_size, joined}
 use Rattle.cutset_listing.specs.Listing.{HasSetsOf, LacksEmptySet}
-use Rattle.cutset_listing.proofs.Behind.{weight-append}
-use Rattle.cutset_listing.proofs.Walks.{each-front}
+use Rattle.cutset_listing.proofs.{Behind.weight-append, Walks.each-front}
 
 each-back : {K : Type 0} (P : K → Type 0) (xs ys : List K) → AllByRecursion P (xs ++ ys) → AllByRecursion P ys
 each-back P [] ys all = all
@@ -167,19 +161,19 @@ at_one_size a b same less =
     ap (λ n. ordering_then (nat_cmp n (length b)) (set_cmp a b)) same
     ∙ ap (λ o. ordering_then o (set_cmp a b)) (tied_itself nat_cmp_total (length b)) ∙ less
 
-below_all : (a : List ℕ) (size : ℕ) (sets : List (List ℕ)) → length a ≡ size
+below_all : (a : List ℕ) {size : ℕ} (sets : List (List ℕ)) → length a ≡ size
     → AllByRecursion (λ (set : List ℕ). length set ≡ size) sets → AllByRecursion (λ b. set_cmp a b ≡ Less) sets
     → AllByRecursion (λ b. cut_cmp a b ≡ Less) sets
-below_all a size [] same long less = tt
-below_all a size (b ∷ sets) same long less =
-    (at_one_size a b (same ∙ sym long.0) less.0, below_all a size sets same long.1 less.1)
+below_all a [] same long less = tt
+below_all a (b ∷ sets) same long less =
+    (at_one_size a b (same ∙ sym long.0) less.0, below_all a sets same long.1 less.1)
 
 one_size_ordered : (size : ℕ) (sets : List (List ℕ)) → AllByRecursion (λ (set : List ℕ). length set ≡ size) sets
     → IsStrictlySortedBy set_cmp sets → IsInCutOrder sets
 unfolding IsStrictlySortedBy
 one_size_ordered size [] long sorted = tt
 one_size_ordered size (set ∷ sets) long sorted =
-    (below_all set size sets long.0 long.1 sorted.0, one_size_ordered size sets long.1 sorted.1)
+    (below_all set sets long.0 long.1 sorted.0, one_size_ordered size sets long.1 sorted.1)
 
 joined-ordered : (from : ℕ) (lists : List (List (List ℕ))) (f : List (List ℕ)) → Splits from lists f
     → IsStrictlySortedBy set_cmp f → IsInCutOrder (joined lists)
@@ -201,14 +195,14 @@ joined-ordered from (list ∷ lists) f splits sorted =
     (λ a same. each-weaker (λ (b : List ℕ). suc from ≤ length b) (λ b. cut_cmp a b ≡ Less) (joined lists)
     (λ b more. smaller_first a b (omega (arith, same, more))) longer) long)
 
-pub joined-in_order : (lists : List (List (List ℕ))) (f : List (List ℕ))
+pub joined-in_order : (lists : List (List (List ℕ))) {f : List (List ℕ)}
     → ((size : ℕ) → at_size lists size ≡ of_size size f) → IsFamily f → IsInCutOrder (joined lists)
-joined-in_order lists f splits is =
+joined-in_order lists {f} splits is =
     joined-ordered 0 lists f (λ k. splits k ∙ ap (λ n. of_size n f) (omega arith)) is.ordered
 
-pub joined-rising : (lists : List (List (List ℕ))) (f : List (List ℕ))
+pub joined-rising : (lists : List (List (List ℕ))) {f : List (List ℕ)}
     → ((size : ℕ) → at_size lists size ≡ of_size size f) → IsFamily f → AllByRecursion IsRising (joined lists)
-joined-rising lists f splits is =
+joined-rising lists {f} splits is =
     joined-each IsRising 0 lists f (λ k. splits k ∙ ap (λ n. of_size n f) (omega arith)) is.rising
 
 filled_set : (f : List (List ℕ)) → LacksEmptySet f → (set : List ℕ) → Contains f set → 0 < length set
@@ -359,33 +353,36 @@ part_each P (list ∷ lists) zero short all = each-front P list (joined lists) a
 part_each P (list ∷ lists) (suc k) short all =
     part_each P lists k (omega (arith, short)) (each-back P list (joined lists) all)
 
-pub part-each : (P : List ℕ → Type 0) (lists : List (List (List ℕ))) (k : ℕ) (sets : List (List ℕ)) → k < length lists
+pub part-each : (P : List ℕ → Type 0) (lists : List (List (List ℕ))) (k : ℕ) {sets : List (List ℕ)} → k < length lists
     → sets ≡ at_size lists k → AllByRecursion P (joined lists) → AllByRecursion P sets
-part-each P lists k sets short is all = subst (AllByRecursion P) (sym is) (part_each P lists k short all)
+part-each P lists k short is all = subst (AllByRecursion P) (sym is) (part_each P lists k short all)
 
 -- the lists up to a place, with the one that stands there
-with_next : (lists : List (List (List ℕ))) (k : ℕ) (cuts sets : List (List ℕ)) → k < length lists
+with_next : (lists : List (List (List ℕ))) (k : ℕ) (cuts : List (List ℕ)) {sets : List (List ℕ)} → k < length lists
     → cuts ≡ joined (take k lists) → sets ≡ at_size lists k → cuts ++ sets ≡ joined (take (suc k) lists)
-with_next lists k cuts sets short same is =
+with_next lists k cuts {sets} short same is =
     ap (λ q. q ++ sets) same ∙ ap (λ q. joined (take k lists) ++ q) is ∙ sym (joined-next lists k short)
 
-pub part-next : (lists : List (List (List ℕ))) (k : ℕ) (cuts cuts' sets : List (List ℕ)) → k < length lists
+pub part-next : (lists : List (List (List ℕ))) (k : ℕ) (cuts : List (List ℕ)) {cuts' sets : List (List ℕ)}
+    → k < length lists
     → cuts ≡ joined (take k lists) → sets ≡ at_size lists k → cuts' ≡ cuts ++ sets → cuts' ≡ joined (take (k + 1) lists)
-part-next lists k cuts cuts' sets short same is added =
-    added ∙ with_next lists k cuts sets short same is
+part-next lists k cuts short same is added =
+    added ∙ with_next lists k cuts short same is
     ∙ ap (λ n. joined (take n lists)) (let e : suc k ≡ k + 1 = omega arith in e)
 
-pub part-ordered : (lists : List (List (List ℕ))) (k : ℕ) (cuts sets : List (List ℕ)) → k < length lists
+pub part-ordered : (lists : List (List (List ℕ))) (k : ℕ) (cuts : List (List ℕ)) {sets : List (List ℕ)}
+    → k < length lists
     → cuts ≡ joined (take k lists) → sets ≡ at_size lists k → IsInCutOrder (joined lists) → IsInCutOrder (cuts ++ sets)
-part-ordered lists k cuts sets short same is ordered =
-    subst IsInCutOrder (sym (with_next lists k cuts sets short same is))
+part-ordered lists k cuts short same is ordered =
+    subst IsInCutOrder (sym (with_next lists k cuts short same is))
     (sorted-front cut_cmp (joined (take (suc k) lists)) (joined (drop (suc k) lists))
     (subst IsInCutOrder (joined-front lists (suc k)) ordered))
 
-pub part-weight : (lists : List (List (List ℕ))) (k : ℕ) (cuts sets : List (List ℕ)) → k < length lists
+pub part-weight : (lists : List (List (List ℕ))) (k : ℕ) (cuts : List (List ℕ)) {sets : List (List ℕ)}
+    → k < length lists
     → cuts ≡ joined (take k lists) → sets ≡ at_size lists k → weight (cuts ++ sets) ≤ weight (joined lists)
-part-weight lists k cuts sets short same is =
-    let a = ap weight (with_next lists k cuts sets short same is) in
+part-weight lists k cuts short same is =
+    let a = ap weight (with_next lists k cuts short same is) in
     let b = ap weight (joined-front lists (suc k)) in
     let d = weight-append (joined (take (suc k) lists)) (joined (drop (suc k) lists)) in
     omega (arith, a, b, d)

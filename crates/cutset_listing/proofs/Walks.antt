@@ -4,16 +4,12 @@ use Rattle.std.proofs.Common.{ap, subst, inl, inr, arith, append_assoc, length-a
 use Rattle.std.specs.Prelude.{◌==◌, ◌⊎◌, Err, IsErrOf}
 use Rattle.std.specs.List.{AllByRecursion}
 use Rattle.std.proofs.lemmas.Bool.{cases_Bool, cond-true, cond-false, eqb-true}
-use Rattle.std.proofs.Math.Seq.{take-length}
+use Rattle.std.proofs.{Math.Seq.take-length, lemmas.List.Elements.filter-append}
 use Rattle.std.proofs.lemmas.List.{append-nil, take-take, take-append-le, length-take-le}
-use Rattle.std.proofs.lemmas.List.Elements.{filter-append}
 use Rattle.unit_sets.specs.CutOrder.{weight, weight_limit}
-use Rattle.zdd_families.specs.Family.{branch}
-use Rattle.zdd_families.specs.Map.{Knows, family}
+use Rattle.zdd_families.specs.{Family.branch, Map.Knows, Map.family}
 use Rattle.zdd_families.proofs.MapLemmas.{family-empty, family-unit}
-use Rattle.cutset_listing.specs.declared.walk.Pending.{Pending}
-use Rattle.cutset_listing.specs.declared.walk.Walk.{Walk}
-use Rattle.cutset_listing.specs.BySize.{of_size, at_size}
+use Rattle.cutset_listing.specs.{declared.walk.Pending.Pending, declared.walk.Walk.Walk, BySize.of_size, BySize.at_size}
 use Rattle.cutset_listing.specs.Visits.{behind, still, IsPending, Nested, IsOn, Keeps, Stands, visits_left}
 use Rattle.cutset_listing.specs.Visits.{ahead, Descends, with_later, WalksOn, IsTooHeavy}
 use Rattle.cutset_listing.proofs.Behind.{behind-nothing, of_size-branch, weight-append, weight-cons}
@@ -86,11 +82,11 @@ nested-push (node ∷ nodes) last nested below = (
 -- ---- the steps
 
 -- a walk at the top of a diagram
-pub starts : (known : ℕ → ℕ) (root : ℕ) (path : List ℕ) (nodes : List Pending) (found : List (List (List ℕ)))
-    (weighs : ℕ) → Knows known root →
+pub starts : (known : ℕ → ℕ) (root : ℕ) {path : List ℕ} {nodes : List Pending} {found : List (List (List ℕ))}
+    {weighs : ℕ} → Knows known root →
     path ≡ [] → nodes ≡ record { node = root; before = 0 } ∷ [] → found ≡ [] → weighs ≡ 0
     → IsOn known (family known root) path nodes found weighs
-starts known root path nodes found weighs knows e f g h =
+starts known root knows e f g h =
     rw (e, f, g, h)
     (record {
       each_pending = ((knows, omega arith), tt);
@@ -99,7 +95,7 @@ starts known root path nodes found weighs knows e f g h =
       weight = let same = ap weight (behind-nothing (family known root)) in omega (arith, same);
     })
 
-module _ (known : ℕ → ℕ) (sets : List (List ℕ)) (path : List ℕ) (later : List Pending) (at : Pending)
+module _ (known : ℕ → ℕ) {sets : List (List ℕ)} (path : List ℕ) (later : List Pending) (at : Pending)
     (found : List (List (List ℕ))) (weighs : ℕ) (on : IsOn known sets path (later ++ at ∷ []) found weighs) where
   below : AllByRecursion (λ (node : Pending). node.before ≤ at.before) later
   below = nested-below later at on.nested
@@ -161,11 +157,11 @@ module _ (known : ℕ → ℕ) (sets : List (List ℕ)) (path : List ℕ) (later
           ap (λ n. weighs + n) (sym (weight-cons path (still known path later)) ∙ ap weight (sym one_set)) ∙ on.weight
 
       -- the family of the empty set gives the units of the path
-      pub keeps : (found' : List (List (List ℕ))) (weighs' : ℕ)
+      pub keeps : (found' : List (List (List ℕ))) {weighs' : ℕ}
           → ((size : ℕ) → at_size found' size ≡ at_size found size ++ of_size size (path ∷ []))
           → weighs' ≡ weighs + (1 + length path) →
           IsOn known sets path later found' weighs'
-      keeps found' weighs' added more = record {
+      keeps found' added more = record {
         each_pending = each_later;
         nested = nested-front later at on.nested;
         by_size = λ size.
@@ -184,11 +180,11 @@ module _ (known : ℕ → ℕ) (sets : List (List ℕ)) (path : List ℕ) (later
     -- a node gives the sets of hi behind its unit, and those of lo
     pub opens : (x lo hi : ℕ) → family known at.node ≡ branch x (family known lo) (family known hi) → Knows known lo
         → Knows known hi →
-        (path' : List ℕ) (nodes' : List Pending) → path' ≡ path ++ x ∷ []
+        {path' : List ℕ} (nodes' : List Pending) → path' ≡ path ++ x ∷ []
         → nodes' ≡ (later ++ record { node = lo; before = at.before } ∷ [])
         ++ record { node = hi; before = at.before + 1 } ∷ [] →
         IsOn known sets path' nodes' found weighs
-    opens x lo hi is knows_lo knows_hi path' nodes' e f =
+    opens x lo hi is knows_lo knows_hi nodes' e f =
         let lo_at : Pending = record { node = lo; before = at.before } in
         let hi_at : Pending = record { node = hi; before = at.before + 1 } in
         let on_path : List ℕ = path ++ x ∷ [] in
@@ -268,17 +264,17 @@ parts_left known nodes nodes' last x lo hi n m is filled same =
     let c = visits-push known nodes lo_at in
     let d = visits-push known nodes last in
     let e = ap weight is in
-    let less = parts_weigh_less x (family known lo) (family known hi) filled in
+    let less = parts_weigh_less x (family known lo) filled in
     omega (arith, a, b, c, d, e, less)
 
 -- ---- going down
 
 -- a node without sets that stands before the last one
-pub leaves_out : (known : ℕ → ℕ) (sets : List (List ℕ)) (path : List ℕ) (later : List Pending) (none last : Pending)
+pub leaves_out : (known : ℕ → ℕ) {sets : List (List ℕ)} (path : List ℕ) (later : List Pending) (none last : Pending)
     (found : List (List (List ℕ))) (weighs : ℕ) → none.node ≡ 0
     → IsOn known sets path ((later ++ none ∷ []) ++ last ∷ []) found weighs →
     IsOn known sets path (later ++ last ∷ []) found weighs
-leaves_out known sets path later none last found weighs empty on =
+leaves_out known path later none last found weighs empty on =
     let below = nested-below (later ++ none ∷ []) last on.nested in
     let H : List (List ℕ) = behind (take last.before path) (family known last.node) in
     let same : still known path ((later ++ none ∷ []) ++ last ∷ []) ≡ still known path (later ++ last ∷ []) =
@@ -341,14 +337,13 @@ module _ (known : ℕ → ℕ) (old new : Walk) (node x lo hi : ℕ) (is : Opens
       → Stands known sets new (new.pending.items ++ ahead new hi ∷ [])
   opens_on sets on =
       let same : IsOn known sets new.path.items both old.found old.weight =
-      opens known sets old.path.items old.pending.items (ahead old node) old.found old.weight on refl x lo hi is.parts
-      is.knows_lo is.knows_hi new.path.items both is.path refl in
+      opens known old.path.items old.pending.items (ahead old node) old.found old.weight on refl x lo hi is.parts
+      is.knows_lo is.knows_hi both is.path refl in
       let now_on : IsOn known sets new.path.items both new.found new.weight = rw (is.found, is.weight) same in
       elim left_now [
         | inl e ↦ subst (λ nodes. IsOn known sets new.path.items nodes new.found new.weight) (sym e) now_on
         | inr e ↦ subst (λ nodes. IsOn known sets new.path.items nodes new.found new.weight) (sym e.0)
-            (leaves_out known sets new.path.items old.pending.items (ahead old lo) hi_at new.found new.weight e.1
-            now_on)
+            (leaves_out known new.path.items old.pending.items (ahead old lo) hi_at new.found new.weight e.1 now_on)
       ]
 
   pub opens_fewer : family known hi ≢ [] → visits_left known (new.pending.items ++ ahead new hi ∷ [])
@@ -375,21 +370,21 @@ module _ (known : ℕ → ℕ) (old new : Walk) (node x lo hi : ℕ) (is : Opens
   }
 
 -- one step after another
-pub Descends-then : (known : ℕ → ℕ) (old mid new : Walk) (node next last : ℕ) → Descends known old node mid next
+pub Descends-then : {known : ℕ → ℕ} {old mid new : Walk} {node next last : ℕ} → Descends known old node mid next
     → Descends known mid next new last → Descends known old node new last
-Descends-then known old mid new node next last first second = record {
+Descends-then first second = record {
   on = λ sets stands. second.on sets (first.on sets stands);
   weight = second.weight ∙ first.weight;
   fewer = let a = first.fewer in let b = second.fewer in omega (arith, a, b);
 }
 
 -- the empty set alone: the units of the path are a set
-pub keeps_on : (known : ℕ → ℕ) (sets : List (List ℕ)) (old new : Walk) (at : Pending) → Keeps old new
+pub keeps_on : (known : ℕ → ℕ) {sets : List (List ℕ)} (old new : Walk) (at : Pending) → Keeps old new
     → length old.path.items ≡ at.before → at.node ≡ 1 →
     Stands known sets old (old.pending.items ++ at ∷ []) → Stands known sets new new.pending.items
-keeps_on known sets old new at kept at_end unit on =
-    rw (kept.path, kept.pending) (keeps known sets old.path.items old.pending.items at old.found old.weight on at_end
-    unit new.found new.weight kept.found kept.weight)
+keeps_on known old new at kept at_end unit on =
+    rw (kept.path, kept.pending) (keeps known old.path.items old.pending.items at old.found old.weight on at_end
+    unit new.found kept.found kept.weight)
 
 pub keeps_fewer : (known : ℕ → ℕ) (old new : Walk) (at : Pending) → Keeps old new
     → visits_left known new.pending.items < visits_left known (old.pending.items ++ at ∷ [])
@@ -403,18 +398,18 @@ module _ (known : ℕ → ℕ) (old end : Walk) (at : Pending) (at_end : length 
   at_is : ahead old at.node ≡ at
   at_is = ap (λ n. record { node = at.node; before = n }) at_end
 
-  at_end_on : (sets : List (List ℕ)) → Stands known sets old (old.pending.items ++ at ∷ [])
+  at_end_on : {sets : List (List ℕ)} → Stands known sets old (old.pending.items ++ at ∷ [])
       → Stands known sets end (end.pending.items ++ ahead end 1 ∷ [])
-  at_end_on sets stands =
+  at_end_on {sets} stands =
       on sets (subst (λ (q : Pending). Stands known sets old (old.pending.items ++ q ∷ [])) (sym at_is) stands)
 
   pub finds_on : (new : Walk) → Keeps end new → WalksOn known old (old.pending.items ++ at ∷ []) new new.pending.items
-  finds_on new kept sets stands = keeps_on known sets end new (ahead end 1) kept refl refl (at_end_on sets stands)
+  finds_on new kept sets stands = keeps_on known end new (ahead end 1) kept refl refl (at_end_on stands)
 
   pub finds_heavy : weight_limit < end.weight + (1 + length end.path.items)
       → IsTooHeavy known old (old.pending.items ++ at ∷ [])
   finds_heavy heavy sets stands =
-      too_heavy known sets end.path.items end.pending.items (ahead end 1) end.found end.weight (at_end_on sets stands)
+      too_heavy known end.path.items end.pending.items (ahead end 1) end.found end.weight (at_end_on stands)
       refl refl heavy
 
   pub finds_fewer : (new : Walk) → visits_left known (end.pending.items ++ ahead end 1 ∷ [])

@@ -5,9 +5,7 @@ use Rattle.std.specs.List.{AllByRecursion}
 use Rattle.unit_sets.specs.CutOrder.{weight, weight_limit}
 use Rattle.zdd_families.specs.Map.{Knows, family}
 use Rattle.zdd_shared_table.specs.Seats.{map_of, Seated, TableId}
-use Rattle.cutset_listing.specs.declared.walk.Pending.{Pending}
-use Rattle.cutset_listing.specs.declared.walk.Walk.{Walk}
-use Rattle.cutset_listing.specs.BySize.{of_size, at_size}
+use Rattle.cutset_listing.specs.{declared.walk.Pending.Pending, declared.walk.Walk.Walk, BySize.of_size, BySize.at_size}
 
 -- each set behind these units
 abbrev pub behind : List ℕ → List (List ℕ) → List (List ℕ)

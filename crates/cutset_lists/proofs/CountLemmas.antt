@@ -29,11 +29,11 @@ none_reached most (suc at) within = ap (λ s. some_within s within) (none_at mos
     ∙ sym (lt-leb (suc at) 0 (omega arith))
 
 -- none is always reached, and no more
-pub IsCounting-none : (lists : List (List (List ℕ))) (nodes : List ℕ) (most lowest : ℕ)
-    (none counts : List (List (List ℕ))) (first pushed : List (List ℕ)) → none ≡ replicate (most + 1) []
+pub IsCounting-none : {lists : List (List (List ℕ))} (nodes : List ℕ) {most lowest : ℕ}
+    {none counts : List (List (List ℕ))} {first pushed : List (List ℕ)} → none ≡ replicate (most + 1) []
     → first ≡ get_or none 0 first → pushed ≡ first ++ [] ∷ [] → counts ≡ set none 0 pushed
     → IsCounting lists (take 0 nodes) most lowest counts
-IsCounting-none lists nodes most lowest none counts first pushed none_is first_is pushed_is counts_are =
+IsCounting-none {lists} nodes {most} {lowest} {none} {first} {pushed} none_is first_is pushed_is counts_are =
     let all : none ≡ [] ∷ replicate most [] = none_is ∙ ap (λ n. replicate n []) (add-one most) in
     let empty : first ≡ [] = first_is ∙ ap (λ (l : List (List (List ℕ))). get_or l 0 first) all in
     subst (IsCounting lists (take 0 nodes) most lowest)
@@ -49,7 +49,7 @@ IsCounting-none lists nodes most lowest none counts first pushed none_is first_i
 
 -- ---- one list more
 
-module _ (list : List (List ℕ)) (old now new : List (List (List ℕ))) (at : ℕ) (above_none : 1 ≤ at)
+module _ {list : List (List ℕ)} {old now new : List (List (List ℕ))} {at : ℕ} (above_none : 1 ≤ at)
     (short : at < length old) (before : CountsList list (at + 1) old now) (more : CountsMore list at now new) where
   at_place : count_at new at ≡ more.grown
   at_place =
@@ -101,7 +101,7 @@ count_step : (at count : ℕ) (reads : Bool) → 1 ≤ at
 count_step at count true some = grind (arith, nat_tests)
 count_step at count false some = grind (arith, nat_tests)
 
-module _ (lists : List (List (List ℕ))) (nodes : List ℕ) (i node : ℕ) (short : i < length nodes)
+module _ (lists : List (List (List ℕ))) (nodes : List ℕ) (i : ℕ) {node : ℕ} (short : i < length nodes)
     (is : node ≡ get_or nodes i 0) where
   counted : (within : ℕ → Bool) → true_count (reading_of lists within) (take (i + 1) nodes)
       ≡ true_count (reading_of lists within) (take i nodes) + (if reading_of lists within node then 1 else 0)
@@ -111,11 +111,11 @@ module _ (lists : List (List (List ℕ))) (nodes : List ℕ) (i node : ℕ) (sho
       ∙ ap (λ n. true_count (reading_of lists within) (take i nodes) + (if reading_of lists within n then 1 else 0))
       (sym is)
 
-  pub IsCounting-more : (most floor lowest floor' : ℕ) (counts new : List (List (List ℕ))) (list : List (List ℕ))
+  pub IsCounting-more : {most floor lowest floor' : ℕ} {counts new : List (List (List ℕ))} {list : List (List ℕ)}
       → list ≡ list_at lists node → HasList lists node → 1 ≤ lowest → floor + 1 ≤ lowest
       → (lowest ≤ floor') ⊎ (lowest ≡ 1) → lowest ≤ most → IsCounting lists (take i nodes) most floor counts
       → CountsList list lowest counts new → IsCounting lists (take (i + 1) nodes) most floor' new
-  IsCounting-more most floor lowest floor' counts new list at has some low high within_most counting grows = record {
+  IsCounting-more {lowest} {counts} {new} {list} at has some low high within_most counting grows = record {
     all = grows.all ∙ counting.all;
     reached = λ q above below within.
         elim (cases_lt q lowest) [
@@ -150,10 +150,10 @@ module _ (lists : List (List (List ℕ))) (nodes : List ℕ) (i node : ℕ) (sho
   }
 
 -- counts up to none stay
-pub IsCounting-stays : (lists : List (List (List ℕ))) (before after : List ℕ) (floor floor' : ℕ)
-    (counts : List (List (List ℕ))) → IsCounting lists before 0 floor counts → floor ≡ 0
+pub IsCounting-stays : {lists : List (List (List ℕ))} {before : List ℕ} (after : List ℕ) {floor : ℕ} (floor' : ℕ)
+    {counts : List (List (List ℕ))} → IsCounting lists before 0 floor counts → floor ≡ 0
     → IsCounting lists after 0 floor' counts
-IsCounting-stays lists before after floor floor' counts counting low = record {
+IsCounting-stays {lists} after floor' {counts} counting low = record {
   all = counting.all;
   reached = λ q above below within.
       let none : q ≡ 0 = omega arith in
@@ -164,10 +164,11 @@ IsCounting-stays lists before after floor floor' counts counting low = record {
   sets = counting.sets;
 }
 
-pub IsCounting-end : (lists : List (List (List ℕ))) (nodes : List ℕ) (most i floor : ℕ) (counts : List (List (List ℕ)))
-    (made : List (List ℕ)) → length nodes ≤ i → floor ≤ most → made ≡ count_at counts most
+pub IsCounting-end : {lists : List (List (List ℕ))} (nodes : List ℕ) {most : ℕ} (i : ℕ) {floor : ℕ}
+    {counts : List (List (List ℕ))}
+    {made : List (List ℕ)} → length nodes ≤ i → floor ≤ most → made ≡ count_at counts most
     → IsCounting lists (take i nodes) most floor counts → Follows lists (at_least_rule most nodes) made
-IsCounting-end lists nodes most i floor counts made long low made_is counting = record {
+IsCounting-end {lists} nodes {most} i {counts} long low made_is counting = record {
   some_within =
       λ within. ap (λ s. some_within s within) made_is ∙ counting.reached most low (omega arith) within
       ∙ ap (λ ns. nat_le most (true_count (reading_of lists within) ns)) (take_all i nodes long);
@@ -181,11 +182,12 @@ IsCounting-end lists nodes most i floor counts made long low made_is counting = 
 
 -- a list is taken out, grows, and is put back
 pub CountsMore-from : (list : List (List ℕ)) (old : List (List (List ℕ))) (at : ℕ)
-    (empty read taken below grown : List (List ℕ)) → 1 ≤ at → at < length old → taken ≡ read
+    (empty : List (List ℕ)) {read taken below : List (List ℕ)} (grown : List (List ℕ)) → 1 ≤ at → at < length old
+    → taken ≡ read
     → read ≡ get_or old at read
     → below ≡ get_or (set old at empty) (at - 1) below → AddsProduct below list taken grown
     → CountsMore list at old (set (set old at empty) at grown)
-CountsMore-from list old at empty read taken below grown some short taken_read read_is below_is adds =
+CountsMore-from list old at empty {read} {taken} {below} grown some short taken_read read_is below_is adds =
     let taken_is : taken ≡ count_at old at = taken_read ∙ read_is ∙ get_or_default old at read [] short in
     let below_at : below ≡ count_at old (at - 1) =
     below_is
@@ -206,25 +208,25 @@ CountsMore-from list old at empty read taken below grown some short taken_read r
           (subst (AreSetsOf passes) (sym taken_is) (All-get_or (AreSetsOf passes) old at [] short each));
     }
 
-pub CountsList-step : (list : List (List ℕ)) (old now new : List (List (List ℕ))) (above at : ℕ) → 1 ≤ at
+pub CountsList-step : {list : List (List ℕ)} {old now new : List (List (List ℕ))} {above at : ℕ} → 1 ≤ at
     → above ≡ at + 1 → above ≤ length old → CountsList list above old now → CountsMore list at now new
     → CountsList list at old new
-CountsList-step list old now new above at some is short before more =
-    CountsList-more list old now new at some (omega arith) (subst (λ (n : ℕ). CountsList list n old now) is before) more
+CountsList-step {list} {old} {now} some is short before more =
+    CountsList-more some (omega arith) (subst (λ (n : ℕ). CountsList list n old now) is before) more
 
-module _ (lists : List (List (List ℕ))) (nodes : List ℕ) (most i left lowest node place : ℕ) (list : List (List ℕ))
-    (counts new : List (List (List ℕ))) (short : i < length nodes) (left_is : left ≡ length nodes - i - 1)
+module _ {lists : List (List (List ℕ))} (nodes : List ℕ) {most : ℕ} (i left : ℕ) {lowest : ℕ} (node place : ℕ)
+    (list : List (List ℕ))
+    {counts : List (List (List ℕ))} (new : List (List (List ℕ))) (short : i < length nodes)
+    (left_is : left ≡ length nodes - i - 1)
     (lowest_is : lowest ≡ max (most - left) 1) (all : All (HasList lists) nodes)
     (before : IsCounting lists (take i nodes) most (most - (length nodes - i)) counts) where
   pub counts-step : node ≡ get_or nodes i node → place ≡ node - 1 → list ≡ get_or lists place list → lowest ≤ most
       → CountsList list lowest counts new → IsCounting lists (take (i + 1) nodes) most (most - (length nodes - (i + 1)))
       new
   counts-step is place_is read high counted =
-      let has : HasList lists node = has_list lists nodes i node short is all in
-      IsCounting-more lists nodes i node short (node_read nodes i node short is) most (most - (length nodes - i)) lowest
-      (most - (length nodes - (i + 1))) counts new list
-      (list_read lists list node place has place_is read) has (omega arith) (omega arith) (low_cases) high before
-      counted
+      let has : HasList lists node = has_list lists nodes i short is all in
+      IsCounting-more lists nodes i short (node_read nodes i short is)
+      (list_read lists node has place_is read) has (omega arith) (omega arith) (low_cases) high before counted
     where
       low_cases : (lowest ≤ most - (length nodes - (i + 1))) ⊎ (lowest ≡ 1)
       low_cases = elim (cases_lt 1 (most - left)) [ inl more ↦ inl (omega arith) | inr one ↦ inr (omega arith) ]
@@ -235,5 +237,4 @@ module _ (lists : List (List (List ℕ))) (nodes : List ℕ) (most i left lowest
       let zero_before : IsCounting lists (take i nodes) 0 (0 - (length nodes - i)) counts =
       subst (λ (n : ℕ). IsCounting lists (take i nodes) n (n - (length nodes - i)) counts) none before in
       subst (λ (n : ℕ). IsCounting lists (take (i + 1) nodes) n (n - (length nodes - (i + 1))) counts) (sym none)
-      (IsCounting-stays lists (take i nodes) (take (i + 1) nodes) (0 - (length nodes - i))
-      (0 - (length nodes - (i + 1))) counts zero_before (omega arith))
+      (IsCounting-stays (take (i + 1) nodes) (0 - (length nodes - (i + 1))) zero_before (omega arith))

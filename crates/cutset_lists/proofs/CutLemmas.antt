@@ -1,15 +1,13 @@
 -- The minimal sets of a list that stands for the top event are the cut list.
 use Rattle.std.specs.Prelude.{◌≡◌, ℕ, ◌+◌, ◌<◌, ◌≤◌, Bool, true, false, not, ◌||◌, ◌==◌, nat_le, nat_lt, List, [], ◌∷◌}
 use Rattle.std.specs.Prelude.{◌++◌, length, take, filter, All, Contains, get_or}
-use Rattle.std.specs.List.{list_any, list_all}
-use Rattle.std.specs.List.Sorted.{IsStrictlySortedBy}
-use Rattle.std.specs.Ordering.{nat_cmp}
-use Rattle.std.specs.declared.cmp.Ordering.TheVariants.{Less}
+use Rattle.std.specs.{List.list_any, List.list_all, List.Sorted.IsStrictlySortedBy, Ordering.nat_cmp}
+use Rattle.std.specs.{declared.cmp.Ordering.TheVariants.Less}
 use Rattle.std.proofs.Common.{refl, sym, ◌∙◌, ap, subst, inl, inr, arith}
 use Rattle.std.proofs.lemmas.Bool.{and_parts, and_from, and_cases, or_cases, or_parts, or_left, or_right, cases_Bool}
 use Rattle.std.proofs.lemmas.Bool.{cases_order, cond_both, cond-true, cond-false, false_from_ne_true, leb-true, lt-ltb}
 use Rattle.std.proofs.lemmas.Bool.{ne_eqb, not_from_true, not_from_false}
-use Rattle.std.proofs.lemmas.Bool.Decides.{nat_tests}
+use Rattle.std.proofs.{lemmas.Bool.Decides.nat_tests, lemmas.List.take_more}
 use Rattle.std.proofs.lemmas.List.Elements.{All-nil, All-cons, All-contains, All-from_recursion, All-weaker}
 use Rattle.std.proofs.lemmas.List.Elements.{All-contains_itself}
 use Rattle.unit_sets.proofs.Sorted.{Contains-cons_first, Contains-cons_other, Contains-cons_cases, Contains-nil}
@@ -19,16 +17,12 @@ use Rattle.unit_sets.proofs.UnitListLemmas.{among-without_unit, Contains-from_am
 use Rattle.unit_sets.proofs.UnitListLemmas.{among-from_Contains, among-from_is_within, is_within-from_among, same_set}
 use Rattle.unit_sets.proofs.UnitListLemmas.{IsRising-without_unit}
 use Rattle.unit_sets.specs.CutOrder.{cut_cmp, IsInCutOrder}
-use Rattle.std.proofs.lemmas.List.{take_more}
 use Rattle.fault_definitions.specs.Tree.{FaultTree, IsUnitOf, unit_count}
-use Rattle.fault_definitions.specs.WellFormed.{IsTree}
-use Rattle.fault_definitions.specs.Reading.{reads}
+use Rattle.fault_definitions.specs.{WellFormed.IsTree, Reading.reads, Cut.IsMinimalCut, Cut.IsCutList}
 use Rattle.fault_definitions.proofs.ReadingLaws.{reads-empty}
-use Rattle.fault_definitions.specs.Cut.{IsMinimalCut, IsCutList}
 use Rattle.cutset_lists.specs.Sets.{IsSetOf, AreSetsOf, is_smaller_within, IsSharp, IsMinimalFrom}
 use Rattle.cutset_lists.specs.Generation.{is_unit_of, Generates}
-use Rattle.cutset_lists.proofs.SetLemmas.{same_bool}
-use Rattle.cutset_lists.proofs.MinimalLemmas.{same_by_test}
+use Rattle.cutset_lists.proofs.{SetLemmas.same_bool, MinimalLemmas.same_by_test}
 
 -- ---- sizes of rising sets
 
@@ -52,8 +46,7 @@ within_rest : (first : ℕ) (others smaller : List ℕ) → ((n : ℕ) → among
 within_rest first others smaller above inside =
     is_within-from_among others smaller (λ n here.
     elim (or_cases (first == n) (among others n) (among-from_is_within (first ∷ others) smaller n inside here)) [
-      | inl same ↦ let e : first ≡ n =
-          same_by_test first n same in let low : first < n = above n here in absurd (omega arith)
+      | inl same ↦ let e : first ≡ n = same_by_test same in let low : first < n = above n here in absurd (omega arith)
       | inr later ↦ later
     ])
 
@@ -62,7 +55,7 @@ from_first : (low first : ℕ) (others : List ℕ) → low < first → IsRising 
     → among (first ∷ others) n ≡ true → low < n
 from_first low first others below rising n here =
     elim (or_cases (first == n) (among others n) here) [
-      | inl same ↦ let e : first ≡ n = same_by_test first n same in omega arith
+      | inl same ↦ let e : first ≡ n = same_by_test same in omega arith
       | inr later ↦ let above : first < n = below_first first n others rising later in omega arith
     ]
 
@@ -90,7 +83,7 @@ no_longer (first ∷ others) (first' ∷ others') rising rising' inside =
           omega arith
       | inr (inr over) ↦
           elim (or_cases (first == first') (among others first') parts.0) [
-            | inl same ↦ let e : first ≡ first' = same_by_test first first' same in absurd (omega arith)
+            | inl same ↦ let e : first ≡ first' = same_by_test same in absurd (omega arith)
             | inr later ↦ let above : first < first' =
                 below_first first first' others rising later in absurd (omega arith)
           ]
@@ -184,7 +177,7 @@ units_of_tree tree (first ∷ others) pass =
     All-cons (IsUnitOf tree) first others (leb-true 1 first both.0, leb-true first (unit_count tree) both.1)
     (units_of_tree tree others parts.1)
 
-module _ (tree : FaultTree) (kept : IsTree tree) (made minimal : List (List ℕ))
+module _ {tree : FaultTree} (kept : IsTree tree) {made minimal : List (List ℕ)}
     (generates : Generates tree tree.top made) (is : IsMinimalFrom made minimal) where
   sets_of : AreSetsOf (is_unit_of tree) minimal
   sets_of =
@@ -230,9 +223,10 @@ module _ (tree : FaultTree) (kept : IsTree tree) (made minimal : List (List ℕ)
   }) minimal (All-contains_itself minimal)
 
   -- a set of the list within a minimal cut has all of its units
-  all_units : (cut set : List ℕ) → IsMinimalCut tree cut → Contains minimal set → is_within cut set ≡ true → (unit : ℕ)
+  all_units : {cut : List ℕ} (set : List ℕ) → IsMinimalCut tree cut → Contains minimal set → is_within cut set ≡ true
+      → (unit : ℕ)
       → among cut unit ≡ true → among set unit ≡ true
-  all_units cut set minimal_cut here inside unit member =
+  all_units {cut} set minimal_cut here inside unit member =
       elim (cases_Bool (among set unit)) [
         | inl is_member ↦ is_member
         | inr no_member ↦
@@ -258,7 +252,7 @@ module _ (tree : FaultTree) (kept : IsTree tree) (made minimal : List (List ℕ)
       let same : set ≡ cut =
       same_set set cut (set_of set found.1).rising minimal_cut.rising
       (λ unit. same_bool (among set unit) (among cut unit) (among-from_is_within cut set unit found.2)
-      (all_units cut set minimal_cut found.1 found.2 unit)) in
+      (all_units set minimal_cut found.1 found.2 unit)) in
       subst (λ (s : List ℕ). Contains minimal s) same found.1
 
   pub IsCutList-minimal : IsCutList tree minimal
@@ -269,7 +263,7 @@ module _ (tree : FaultTree) (kept : IsTree tree) (made minimal : List (List ℕ)
   filled [] here =
       let fails : reads tree (among []) tree.top ≡ true =
       sym (reads_by (among [])) ∙ hit_from minimal [] (among []) here refl in
-      let lives : reads tree (among []) tree.top ≡ false = reads-empty tree kept (among []) (λ _. refl) tree.top in
+      let lives : reads tree (among []) tree.top ≡ false = reads-empty kept (among []) (λ _. refl) tree.top in
       absurd cc
   filled (first ∷ others) here = omega arith
 
@@ -282,8 +276,8 @@ module _ (tree : FaultTree) (kept : IsTree tree) (made minimal : List (List ℕ)
       (All-contains_itself minimal)
 
 -- the sets before a place, and then the set there, are in order
-pub next_in_order : (sets cuts : List (List ℕ)) (i : ℕ) (set : List ℕ) → IsInCutOrder sets → i < length sets
+pub next_in_order : (sets cuts : List (List ℕ)) (i : ℕ) {set : List ℕ} → IsInCutOrder sets → i < length sets
     → set ≡ get_or sets i [] → cuts ≡ take i sets → IsInCutOrder (cuts ++ set ∷ [])
-next_in_order sets cuts i set ordered short set_is cuts_is =
+next_in_order sets cuts i {set} ordered short set_is cuts_is =
     subst IsInCutOrder (take_more sets i [] short ∙ ap (λ s. take i sets ++ s ∷ []) (sym set_is)
     ∙ ap (λ c. c ++ set ∷ []) (sym cuts_is)) (sorted-take cut_cmp (i + 1) sets ordered)

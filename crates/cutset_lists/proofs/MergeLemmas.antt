@@ -1,15 +1,11 @@
 -- How two rising rows are merged into one.
 use Rattle.std.specs.Prelude.{◌≡◌, ℕ, ◌+◌, ◌<◌, Bool, true, false, ◌&&◌, List, [], ◌∷◌, ◌++◌, length, drop}
 use Rattle.std.specs.Prelude.{get_or}
-use Rattle.std.specs.List.{list_all, AllByRecursion}
-use Rattle.std.specs.List.Sorted.{IsStrictlySortedBy}
-use Rattle.std.specs.Ordering.{nat_cmp}
-use Rattle.std.specs.declared.cmp.Ordering.TheVariants.{Less}
+use Rattle.std.specs.{List.list_all, List.AllByRecursion, List.Sorted.IsStrictlySortedBy, Ordering.nat_cmp}
+use Rattle.std.specs.{declared.cmp.Ordering.TheVariants.Less}
 use Rattle.std.proofs.Common.{refl, sym, ◌∙◌, ap, subst, add-one, append_assoc, arith, drop-cons}
-use Rattle.std.proofs.lemmas.Bool.Decides.{nat_tests}
-use Rattle.std.proofs.lemmas.List.Folds.{list_all-append}
-use Rattle.std.proofs.lemmas.Cmp.{nat_cmp_total}
-use Rattle.std.proofs.lemmas.List.{get_or_default}
+use Rattle.std.proofs.{lemmas.Bool.Decides.nat_tests, lemmas.List.Folds.list_all-append, lemmas.Cmp.nat_cmp_total}
+use Rattle.std.proofs.{lemmas.List.get_or_default}
 use Rattle.unit_sets.specs.UnitList.{IsRising}
 
 -- what was merged so far, before the rests of both rows
@@ -51,12 +47,6 @@ all_front : (P : ℕ → Type 0) (out xs : List ℕ) (x : ℕ) → AllByRecursio
 all_front P [] xs x h = (h.0, tt)
 all_front P (o ∷ out) xs x h = (h.0, all_front P out xs x h.1)
 
--- the row so far with one item more, and nothing after it
-rises_alone : (out xs : List ℕ) (x : ℕ) → IsRising (out ++ x ∷ xs) → IsRising ((out ++ x ∷ []) ++ [])
-unfolding IsStrictlySortedBy
-rises_alone [] xs x h = (tt, tt)
-rises_alone (o ∷ out) xs x h = (all_front (λ z. nat_cmp o z ≡ Less) out xs x h.0, rises_alone out xs x h.1)
-
 take_left : (o x a r : Bool) → ((o && (x && true)) && (a && r)) ≡ (o && ((x && a) && r))
 take_left true true a r = refl
 take_left true false a r = refl
@@ -71,7 +61,7 @@ take_right false y a r = refl
 less : (x y : ℕ) → x < y → nat_cmp x y ≡ Less
 less x y h = grind (arith, nat_tests)
 
-module _ (left right : List ℕ) (i j : ℕ) (out : List ℕ) (at_left : i < length left) (at_right : j < length right)
+module _ {left right : List ℕ} {i j : ℕ} {out : List ℕ} (at_left : i < length left) (at_right : j < length right)
     (before : IsMerging left right i j out) where
   L : drop i left ≡ get_or left i 0 ∷ drop (i + 1) left
   L = at_place left i at_left
@@ -136,7 +126,7 @@ module _ (left right : List ℕ) (i j : ℕ) (out : List ℕ) (at_left : i < len
 
 -- ---- the same of items as they are read
 
-module _ (left right : List ℕ) (i j : ℕ) (out new : List ℕ) (x y : ℕ) (at_left : i < length left)
+module _ {left right : List ℕ} {i j : ℕ} {out : List ℕ} (new : List ℕ) {x y : ℕ} (at_left : i < length left)
     (at_right : j < length right) (x_is : x ≡ get_or left i x) (y_is : y ≡ get_or right j y)
     (before : IsMerging left right i j out) where
   X : x ≡ get_or left i 0
@@ -149,10 +139,10 @@ module _ (left right : List ℕ) (i j : ℕ) (out new : List ℕ) (x y : ℕ) (a
   left_next is below =
       subst (IsMerging left right (i + 1) j) (sym is)
       (subst (λ (v : ℕ). IsMerging left right (i + 1) j (out ++ v ∷ [])) (sym X)
-      (takes_left left right i j out at_left at_right before (let p = X in let q = Y in omega arith)))
+      (takes_left at_left at_right before (let p = X in let q = Y in omega arith)))
 
   pub right_next : new ≡ out ++ y ∷ [] → y < x → IsMerging left right i (j + 1) new
   right_next is below =
       subst (IsMerging left right i (j + 1)) (sym is)
       (subst (λ (v : ℕ). IsMerging left right i (j + 1) (out ++ v ∷ [])) (sym Y)
-      (takes_right left right i j out at_left at_right before (let p = X in let q = Y in omega arith)))
+      (takes_right at_left at_right before (let p = X in let q = Y in omega arith)))

@@ -1,21 +1,17 @@
 -- How the minimal sets of a sorted list are kept, one after another.
 use Rattle.std.specs.Prelude.{◌≡◌, ℕ, zero, suc, ◌+◌, ◌<◌, ◌≤◌, Bool, true, false, ◌||◌, nat_lt, ◌==◌, map, List, []}
 use Rattle.std.specs.Prelude.{◌∷◌, ◌++◌, length, take, All, Contains, get_or}
-use Rattle.std.specs.List.{list_any, list_all}
-use Rattle.std.specs.List.Sorted.{IsStrictlySortedBy}
-use Rattle.std.specs.Cmp.Lexicographic.{slice_cmp}
-use Rattle.std.specs.Ordering.{nat_cmp, ordering_then}
-use Rattle.std.specs.declared.cmp.Ordering.{Ordering}
-use Rattle.std.specs.declared.cmp.Ordering.TheVariants.{Less, Greater}
+use Rattle.std.specs.{List.list_any, List.list_all, List.Sorted.IsStrictlySortedBy, Cmp.Lexicographic.slice_cmp}
+use Rattle.std.specs.{Ordering.nat_cmp, Ordering.ordering_then, declared.cmp.Ordering.Ordering}
+use Rattle.std.specs.{declared.cmp.Ordering.TheVariants.Less, declared.cmp.Ordering.TheVariants.Greater}
 use Rattle.std.proofs.Common.{refl, sym, ◌∙◌, ap, subst, inl, inr, arith}
 use Rattle.std.proofs.lemmas.Bool.{or_cases, or_left, or_right, or_from, or_parts, and_parts, and_from, and_left}
 use Rattle.std.proofs.lemmas.Bool.{le-ltb, cases_lt}
-use Rattle.std.proofs.lemmas.Bool.Decides.{nat_tests}
+use Rattle.std.proofs.{lemmas.Bool.Decides.nat_tests, lemmas.List.Folds.list_any-append}
+use Rattle.std.proofs.{lemmas.Map.Keys.Less-from_sorted}
 use Rattle.std.proofs.lemmas.List.{get_or_default, get_or-take, length-take, length-map, get_or-map}
-use Rattle.std.proofs.lemmas.List.Folds.{list_any-append}
 use Rattle.std.proofs.lemmas.List.Elements.{All-push, All-nil, All-cons, All-weaker, All-contains, recursion_from_All}
 use Rattle.std.proofs.lemmas.List.Elements.{Contains-append_left, Contains-push}
-use Rattle.std.proofs.lemmas.Map.Keys.{Less-from_sorted}
 use Rattle.unit_sets.specs.CutOrder.{cut_cmp, IsInCutOrder}
 use Rattle.unit_sets.proofs.Sorted.{sorted-push}
 use Rattle.unit_sets.specs.UnitList.{among, is_within, some_within}
@@ -24,8 +20,8 @@ use Rattle.cutset_lists.proofs.SetLemmas.{some_within-push, some_within-more, ne
 
 -- ---- sets within others
 
-pub same_by_test : (a b : ℕ) → (a == b) ≡ true → a ≡ b
-same_by_test a b h = grind (arith, nat_tests)
+pub same_by_test : {a b : ℕ} → (a == b) ≡ true → a ≡ b
+same_by_test h = grind (arith, nat_tests)
 
 -- what holds of each unit of a set holds of one
 pub all_at : (within : ℕ → Bool) (set : List ℕ) (unit : ℕ) → list_all within set ≡ true → among set unit ≡ true
@@ -34,7 +30,7 @@ all_at within [] unit all here = absurd cc
 all_at within (first ∷ others) unit all here =
     let parts = and_parts (within first) (list_all within others) all in
     elim (or_cases (first == unit) (among others unit) here) [
-      | inl same ↦ subst (λ (u : ℕ). within u ≡ true) (same_by_test first unit same) parts.0
+      | inl same ↦ subst (λ (u : ℕ). within u ≡ true) (same_by_test {a = first} {b = unit} same) parts.0
       | inr later ↦ all_at within others unit parts.1 later
     ]
 
@@ -134,17 +130,17 @@ none_larger set smaller sets i short ordered is large none =
 
 -- ---- one set after another
 
-module _ (sorted kept : List (List ℕ)) (set : List ℕ) (i : ℕ) (short : i < length sorted)
+module _ (sorted : List (List ℕ)) {kept : List (List ℕ)} {set : List ℕ} (i : ℕ) (short : i < length sorted)
     (set_is : set ≡ get_or sorted i []) (ordered : IsInCutOrder sorted)
     (before : IsMinimalFrom (take i sorted) kept) where
   hits_more : (within : ℕ → Bool) → some_within (take (i + 1) sorted) within
       ≡ (some_within kept within || list_all within set)
   hits_more within =
-      some_within-more sorted i set short set_is within
+      some_within-more sorted i short set_is within
       ∙ ap (λ b. b || list_all within set) (sym (before.some_within within))
 
   taken : take (i + 1) sorted ≡ take i sorted ++ set ∷ []
-  taken = next_row sorted i set short set_is
+  taken = next_row sorted i short set_is
 
   members_more : All (Contains (take (i + 1) sorted)) kept
   members_more =
@@ -152,8 +148,8 @@ module _ (sorted kept : List (List ℕ)) (set : List ℕ) (i : ℕ) (short : i <
       (λ s here. subst (λ (l : List (List ℕ)). Contains l s) (sym taken)
       (Contains-append_left (take i sorted) (set ∷ []) s here)) kept before.members
 
-  below_at : (k : ℕ) (s : List ℕ) → k < i → get_or sorted k s ≡ s → cut_cmp s set ≡ Less
-  below_at k s lower is =
+  below_at : (k : ℕ) {s : List ℕ} → k < i → get_or sorted k s ≡ s → cut_cmp s set ≡ Less
+  below_at k {s} lower is =
       let less : cut_cmp (get_or sorted k []) (get_or sorted i []) ≡ Less =
       Less-from_sorted cut_cmp sorted k i [] ordered lower short in
       let same : get_or sorted k [] ≡ s = get_or_default sorted k [] s (omega arith) ∙ is in
@@ -164,7 +160,7 @@ module _ (sorted kept : List (List ℕ)) (set : List ℕ) (i : ℕ) (short : i <
   all_below =
       All-weaker (Contains (take i sorted)) (λ s. cut_cmp s set ≡ Less)
       (λ s (k, here, is). let lower : k < i = omega (arith, length-take {A = List ℕ}) in
-      below_at k s lower (sym (get_or-take i sorted k s lower) ∙ is)) kept before.members
+      below_at k lower (sym (get_or-take i sorted k s lower) ∙ is)) kept before.members
 
   pub keeps_out : list_any (is_smaller_within set) kept ≡ true → IsMinimalFrom (take (i + 1) sorted) kept
   keeps_out found = record {
@@ -213,9 +209,9 @@ unfolding IsStrictlySortedBy
 one_ordered = (tt, tt)
 
 -- an empty set that comes first stands for all
-pub IsMinimalFrom-empty : (sorted kept : List (List ℕ)) → 0 < length sorted → get_or sorted 0 [] ≡ []
+pub IsMinimalFrom-empty : {sorted kept : List (List ℕ)} → 0 < length sorted → get_or sorted 0 [] ≡ []
     → kept ≡ [] ∷ [] → IsMinimalFrom sorted kept
-IsMinimalFrom-empty sorted kept some first is = subst (IsMinimalFrom sorted) (sym is) (record {
+IsMinimalFrom-empty {sorted} some first is = subst (IsMinimalFrom sorted) (sym is) (record {
   some_within = λ within. sym (go within sorted some first);
   members = All-cons (Contains sorted) [] [] (0, some, first) (All-nil _);
   ordered = one_ordered;
@@ -228,23 +224,24 @@ IsMinimalFrom-empty sorted kept some first is = subst (IsMinimalFrom sorted) (sy
         ap (λ (s : List ℕ). list_all within s || some_within sets within) is
 
 -- the same, of values as the code has them
-pub IsMinimalFrom-emptied : {X : Type 0} (units : X → List ℕ) (cuts : List X) (old new : List (List ℕ)) (first : X)
-    (empty : Bool) → 0 < length cuts → empty ≡ (length (units (get_or cuts 0 first)) == 0) → empty ≡ true → old ≡ []
+pub IsMinimalFrom-emptied : {X : Type 0} (units : X → List ℕ) (cuts : List X) {old : List (List ℕ)}
+    (new : List (List ℕ)) (first : X)
+    {empty : Bool} → 0 < length cuts → empty ≡ (length (units (get_or cuts 0 first)) == 0) → empty ≡ true → old ≡ []
     → new ≡ old ++ [] ∷ [] → IsMinimalFrom (map units cuts) new
-IsMinimalFrom-emptied units cuts old new first empty some empty_is is_empty none pushed =
-    IsMinimalFrom-empty (map units cuts) new (omega (arith, length-map cuts units))
+IsMinimalFrom-emptied units cuts new first some empty_is is_empty none pushed =
+    IsMinimalFrom-empty (omega (arith, length-map cuts units))
     (get_or-map units cuts 0 first [] some ∙ no_units (units (get_or cuts 0 first)) (sym empty_is ∙ is_empty))
     (pushed ∙ ap (λ (o : List (List ℕ)). o ++ [] ∷ []) none)
   where
     no_units : (set : List ℕ) → (length set == 0) ≡ true → set ≡ []
     no_units [] is = refl
     no_units (unit ∷ units) is =
-        let none : length (unit ∷ units) ≡ 0 = same_by_test (length (unit ∷ units)) 0 is in absurd (omega arith)
+        let none : length (unit ∷ units) ≡ 0 = same_by_test is in absurd (omega arith)
 
 -- the minimal sets of a sorted list are those of what was sorted
-pub IsMinimalFrom-sorted : (sets sorted minimal : List (List ℕ)) → IsSortedFrom sets sorted
+pub IsMinimalFrom-sorted : {sets sorted minimal : List (List ℕ)} → IsSortedFrom sets sorted
     → IsMinimalFrom sorted minimal → IsMinimalFrom sets minimal
-IsMinimalFrom-sorted sets sorted minimal from is = record {
+IsMinimalFrom-sorted {sets} {sorted} {minimal} from is = record {
   some_within = λ within. is.some_within within ∙ from.some_within within;
   members =
       All-weaker (Contains sorted) (Contains sets) (λ s here. All-contains (Contains sets) sorted s from.members here)
@@ -255,7 +252,8 @@ IsMinimalFrom-sorted sets sorted minimal from is = record {
 
 -- ---- the steps, of values as the code has them
 
-module _ {X : Type 0} (units : X → List ℕ) (cuts : List X) (kept new : List (List ℕ)) (cut : X) (i : ℕ)
+module _ {X : Type 0} (units : X → List ℕ) (cuts : List X) {kept : List (List ℕ)} (new : List (List ℕ)) {cut : X}
+    (i : ℕ)
     (short : i < length cuts) (cut_is : cut ≡ get_or cuts i cut) (ordered : IsInCutOrder (map units cuts))
     (before : IsMinimalFrom (take i (map units cuts)) kept) where
   within_map : i < length (map units cuts)
@@ -268,10 +266,10 @@ module _ {X : Type 0} (units : X → List ℕ) (cuts : List X) (kept new : List 
       → IsMinimalFrom (take (i + 1) (map units cuts)) new
   keeps_out-step found same =
       subst (IsMinimalFrom (take (i + 1) (map units cuts))) (sym same)
-      (keeps_out (map units cuts) kept (units cut) i within_map at_map ordered before found)
+      (keeps_out (map units cuts) i within_map at_map ordered before found)
 
   pub keeps-step : list_any (is_smaller_within (units cut)) kept ≡ false → new ≡ kept ++ units cut ∷ []
       → IsMinimalFrom (take (i + 1) (map units cuts)) new
   keeps-step none same =
       subst (IsMinimalFrom (take (i + 1) (map units cuts))) (sym same)
-      (keeps (map units cuts) kept (units cut) i within_map at_map ordered before none)
+      (keeps (map units cuts) i within_map at_map ordered before none)

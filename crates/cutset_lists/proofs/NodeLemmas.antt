@@ -1,23 +1,21 @@
 -- The list of a node of the tree.
 use Rattle.std.specs.Prelude.{◌≡◌, ℕ, ◌<◌, ◌≤◌, Bool, true, false, ◌&&◌, ◌||◌, nat_le, List, [], ◌∷◌}
-use Rattle.std.specs.List.{list_any}
-use Rattle.std.specs.List.Sorted.{IsStrictlySortedBy}
+use Rattle.std.specs.{List.list_any, List.Sorted.IsStrictlySortedBy}
 use Rattle.std.proofs.Common.{refl, sym, ◌∙◌, ap, subst}
 use Rattle.std.proofs.lemmas.Bool.{cond-true, cond-false, and_from, le-leb, lt-ltb, le-ltb}
 use Rattle.std.proofs.lemmas.List.Elements.{All-nil, All-cons}
 use Rattle.unit_sets.specs.UnitList.{IsRising, some_within}
 use Rattle.fault_words.specs.declared.kind.GateKind.{GateKind}
 use Rattle.fault_definitions.specs.Tree.{FaultTree, is_above_units, unit_count, kind_of, inputs_of}
-use Rattle.fault_definitions.specs.Trigger.{below, triggers_of}
-use Rattle.fault_definitions.specs.Reading.{gate_reads}
+use Rattle.fault_definitions.specs.{Trigger.below, Trigger.triggers_of, Reading.gate_reads}
 use Rattle.cutset_lists.specs.Sets.{IsSetOf, AreSetsOf}
 use Rattle.cutset_lists.specs.Generation.{reading_of, Follows, AddsSome, gate_rule, is_unit_of, IsNodeList}
 
-module _ (tree : FaultTree) (lists : List (List (List ℕ))) (node : ℕ) (list : List ℕ) (list_is : list ≡ below tree node)
+module _ (tree : FaultTree) (lists : List (List (List ℕ))) (node : ℕ) {list : List ℕ} (list_is : list ≡ below tree node)
     (made : List (List ℕ)) where
-  pub gate_node : (kind : GateKind) → unit_count tree < node → kind ≡ kind_of tree node
+  pub gate_node : {kind : GateKind} → unit_count tree < node → kind ≡ kind_of tree node
       → Follows lists (gate_rule kind list) made → IsNodeList tree lists node made
-  gate_node kind above kind_is follows =
+  gate_node above kind_is follows =
       let over : is_above_units tree node ≡ true = lt-ltb (unit_count tree) node above in
       record {
         some_within = λ within.
@@ -37,9 +35,9 @@ module _ (tree : FaultTree) (lists : List (List (List ℕ))) (node : ℕ) (list 
   unfolding IsStrictlySortedBy
   one_rising = (tt, tt)
 
-  pub unit_node : (old : List (List ℕ)) → 1 ≤ node → node ≤ unit_count tree → old ≡ (node ∷ []) ∷ []
+  pub unit_node : {old : List (List ℕ)} → 1 ≤ node → node ≤ unit_count tree → old ≡ (node ∷ []) ∷ []
       → AddsSome lists list old made → IsNodeList tree lists node made
-  unit_node old some low old_is adds =
+  unit_node some low old_is adds =
       let under : is_above_units tree node ≡ false = le-ltb (unit_count tree) node low in
       let passes : is_unit_of tree node ≡ true =
       and_from (nat_le 1 node) (nat_le node (unit_count tree)) (le-leb 1 node some)

@@ -20,9 +20,9 @@ all_by_none reading (node ∷ nodes) =
     ap (λ b. reading node && b) (all_by_none reading nodes)
     ∙ not_any (reading node) (list_any (λ other. not (reading other)) nodes)
 
-pub list_all-IsPermutation : (reading : ℕ → Bool) (nodes order : List ℕ) → IsPermutation nodes order
+pub list_all-IsPermutation : (reading : ℕ → Bool) {nodes order : List ℕ} → IsPermutation nodes order
     → list_all reading order ≡ list_all reading nodes
-list_all-IsPermutation reading nodes order moved =
+list_all-IsPermutation reading {nodes} {order} moved =
     all_by_none reading order ∙ sym (ap not (list_any-IsPermutation (λ node. not (reading node)) nodes order moved))
     ∙ sym (all_by_none reading nodes)
 
@@ -32,21 +32,21 @@ one_if reading node = if reading node then 1 else 0
 count_by_sum : (reading : ℕ → Bool) (nodes : List ℕ) → true_count reading nodes ≡ sum_by (one_if reading) nodes
 count_by_sum reading nodes = is_sum_by (true_count reading) (one_if reading) refl (λ node others. refl) nodes
 
-pub true_count-IsPermutation : (reading : ℕ → Bool) (nodes order : List ℕ) → IsPermutation nodes order
+pub true_count-IsPermutation : (reading : ℕ → Bool) {nodes order : List ℕ} → IsPermutation nodes order
     → true_count reading order ≡ true_count reading nodes
-true_count-IsPermutation reading nodes order moved =
+true_count-IsPermutation reading {nodes} {order} moved =
     count_by_sum reading order ∙ sum_by-IsPermutation (one_if reading) nodes order moved
     ∙ sym (count_by_sum reading nodes)
 
 -- ---- of values as the code has them
 
-module _ (lists : List (List (List ℕ))) (nodes order items : List ℕ) (moved : IsPermutation nodes items)
+module _ (lists : List (List (List ℕ))) {nodes order items : List ℕ} (moved : IsPermutation nodes items)
     (items_are : order ≡ items) where
   moved_order : IsPermutation nodes order
   moved_order = subst (IsPermutation nodes) (sym items_are) moved
 
-  pub StartsFrom-order : (made : List (List ℕ)) → StartsFrom lists nodes made → StartsFrom lists order made
-  StartsFrom-order made starts = record {
+  pub StartsFrom-order : {made : List (List ℕ)} → StartsFrom lists nodes made → StartsFrom lists order made
+  StartsFrom-order starts = record {
     have = All-permutation (HasList lists) nodes order moved_order starts.have;
     none = starts.none;
   }
@@ -54,7 +54,7 @@ module _ (lists : List (List (List ℕ))) (nodes order items : List ℕ) (moved 
   pub each-order : (made : List (List ℕ)) → Follows lists (each_rule order) made → Follows lists (each_rule nodes) made
   each-order made follows = record {
     some_within = λ within. follows.some_within within
-        ∙ list_all-IsPermutation (reading_of lists within) nodes order moved_order;
+        ∙ list_all-IsPermutation (reading_of lists within) moved_order;
     sets = follows.sets;
   }
 
@@ -63,6 +63,6 @@ module _ (lists : List (List (List ℕ))) (nodes order items : List ℕ) (moved 
   at_least-order least made follows = record {
     some_within =
         λ within. follows.some_within within ∙ ap (nat_le least)
-        (true_count-IsPermutation (reading_of lists within) nodes order moved_order);
+        (true_count-IsPermutation (reading_of lists within) moved_order);
     sets = follows.sets;
   }

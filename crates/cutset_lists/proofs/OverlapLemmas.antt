@@ -10,8 +10,7 @@ use Rattle.unit_sets.specs.UnitList.{among}
 use Rattle.unit_sets.proofs.UnitListLemmas.{among-from_Contains, Contains-from_among}
 use Rattle.cutset_lists.specs.Generation.{HasList, list_at}
 use Rattle.cutset_lists.specs.Overlap.{AreAllApart, AreApart, has_unit}
-use Rattle.cutset_lists.proofs.GateLemmas.{has_list, list_read}
-use Rattle.cutset_lists.proofs.WaitingLemmas.{some_holds}
+use Rattle.cutset_lists.proofs.{GateLemmas.has_list, GateLemmas.list_read, WaitingLemmas.some_holds}
 
 -- ---- what is seen
 
@@ -30,7 +29,7 @@ any_flat p [] = refl
 any_flat p (set ∷ list) =
     list_any-append p set (flat_map (λ s. s) list) ∙ ap (λ b. list_any p set || b) (any_flat p list)
 
-module _ (seen units : List ℕ) (list : List (List ℕ)) (units_are : units ≡ flat_map (λ set. set) list) where
+module _ (seen : List ℕ) {units : List ℕ} (list : List (List ℕ)) (units_are : units ≡ flat_map (λ set. set) list) where
   pub are_units : (unit : ℕ) → among units unit ≡ has_unit list unit
   are_units unit = ap (λ (l : List ℕ). among l unit) units_are ∙ any_flat (λ member. member == unit) list
 
@@ -52,12 +51,12 @@ unless false h = refl
 
 -- ---- nodes one after another, of which one is next
 
-module _ (lists : List (List (List ℕ))) (nodes : List ℕ) (k node place : ℕ) (list : List (List ℕ))
+module _ {lists : List (List (List ℕ))} {nodes : List ℕ} {k node place : ℕ} {list : List (List ℕ)}
     (short : k < length nodes) (is : node ≡ get_or nodes k node) (all : All (HasList lists) nodes)
-    (place_is : place ≡ node - 1) (read : list ≡ get_or lists place list) (seen units : List ℕ)
+    (place_is : place ≡ node - 1) (read : list ≡ get_or lists place list) {seen units : List ℕ}
     (units_are : units ≡ flat_map (λ set. set) list) (before : HasSeen lists nodes k seen) where
   list_is : list ≡ list_at lists node
-  list_is = list_read lists list node place (has_list lists nodes k node short is all) place_is read
+  list_is = list_read lists node (has_list lists nodes k short is all) place_is read
 
   abbrev has : ℕ → ℕ → Bool
   has unit n = has_unit (list_at lists n) unit
@@ -66,7 +65,7 @@ module _ (lists : List (List (List ℕ))) (nodes : List ℕ) (k node place : ℕ
       → (unit : ℕ) → among new unit ≡ list_any (has unit) (take (k + 1) nodes)
   met_more new more unit =
       more unit
-      ∙ ap (λ b. among seen unit || b) (are_units seen units list units_are unit)
+      ∙ ap (λ b. among seen unit || b) (are_units seen list units_are unit)
       ∙ ap (λ b. b || has_unit list unit) (before.met unit)
       ∙ ap (λ l. list_any (has unit) (take k nodes) || has_unit l unit) (list_is ∙ ap (list_at lists) is)
       ∙ sym (list_any_more (has unit) nodes k node short)
@@ -79,11 +78,11 @@ module _ (lists : List (List (List ℕ))) (nodes : List ℕ) (k node place : ℕ
       (λ j e within unit there. unless (has unit node) (λ here.
       let met : among seen unit ≡ true =
       before.met unit ∙ list_any_at (has unit) (take k nodes) j e within there in
-      sym none ∙ some_meets_at seen units list units_are unit (ap (λ l. has_unit l unit) list_is ∙ here) met)))
+      sym none ∙ some_meets_at seen list units_are unit (ap (λ l. has_unit l unit) list_is ∙ here) met)))
 
   pub unit_twice : list_any (among seen) units ≡ true → AreAllApart lists nodes → IsTrue false
   unit_twice meets apart =
-      let met = unit_met seen units list units_are meets in
+      let met = unit_met seen list units_are meets in
       let first = Any-from_list_any (has met.0) (take k nodes) (sym (before.met met.0) ∙ met.2) in
       let earlier : first.0 < k = (let within = first.2 in let size = length-take k nodes in omega arith) in
       let at : get_or nodes first.0 first.1 ≡ first.1 =
@@ -94,24 +93,24 @@ module _ (lists : List (List (List ℕ))) (nodes : List ℕ) (k node place : ℕ
       sym none ∙ ap (has met.0) last ∙ sym (ap (λ l. has_unit l met.0) list_is) ∙ met.1
 
 -- after all nodes
-pub all_apart : (lists : List (List (List ℕ))) (nodes : List ℕ) (k : ℕ) (seen : List ℕ) → length nodes ≤ k
+pub all_apart : {lists : List (List (List ℕ))} {nodes : List ℕ} {k : ℕ} {seen : List ℕ} → length nodes ≤ k
     → HasSeen lists nodes k seen → AreAllApart lists nodes
-all_apart lists nodes k seen past held = subst (AreAllApart lists) (take_all k nodes past) held.apart
+all_apart {lists} {nodes} {k} past held = subst (AreAllApart lists) (take_all k nodes past) held.apart
 
 -- ---- two lists
 
-module _ (left right : List (List ℕ)) (none seen units others : List ℕ) (empty : none ≡ [])
+module _ (left right : List (List ℕ)) {none : List ℕ} (seen : List ℕ) {units others : List ℕ} (empty : none ≡ [])
     (units_are : units ≡ flat_map (λ set. set) left) (others_are : others ≡ flat_map (λ set. set) right)
     (more : (unit : ℕ) → among seen unit ≡ (among none unit || among units unit)) where
   met : (unit : ℕ) → among seen unit ≡ has_unit left unit
   met unit =
-      more unit ∙ ap (λ (s : List ℕ). among s unit || among units unit) empty ∙ are_units none units left units_are unit
+      more unit ∙ ap (λ (s : List ℕ). among s unit || among units unit) empty ∙ are_units none left units_are unit
 
   pub two_apart : list_any (among seen) others ≡ false → AreApart left right
   two_apart apart unit there = unless (has_unit right unit) (λ here.
-      sym apart ∙ some_meets_at seen others right others_are unit here (met unit ∙ there))
+      sym apart ∙ some_meets_at seen right others_are unit here (met unit ∙ there))
 
   pub none_meets : AreApart left right → list_any (among seen) others ≡ false
   none_meets apart = unless (list_any (among seen) others) (λ meets.
-      let unit = unit_met seen others right others_are meets in
+      let unit = unit_met seen right others_are meets in
       sym (apart unit.0 (sym (met unit.0) ∙ unit.2)) ∙ unit.1)

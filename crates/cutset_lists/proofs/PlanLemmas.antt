@@ -7,11 +7,8 @@ use Rattle.std.proofs.lemmas.List.{take_more, take_all, get_or-set_other, get_or
 use Rattle.std.proofs.lemmas.List.{get_or_default}
 use Rattle.std.proofs.lemmas.List.Elements.{All-nil, All-get_or, All-more, All-weaker, All-contains}
 use Rattle.std.proofs.lemmas.List.Elements.{All-set, All-take, Contains-push_cases}
-use Rattle.fault_definitions.specs.Tree.{FaultTree, IsNodeOf}
-use Rattle.fault_definitions.specs.Trigger.{below}
-use Rattle.fault_definitions.specs.WellFormed.{IsTree}
+use Rattle.fault_definitions.specs.{Tree.FaultTree, Tree.IsNodeOf, Trigger.below, WellFormed.IsTree, Reading.reads}
 use Rattle.fault_model.specs.TreeTables.{IsFromBelow}
-use Rattle.fault_definitions.specs.Reading.{reads}
 use Rattle.fault_definitions.proofs.ReadingLaws.{node_reads-agree, reads-node}
 use Rattle.cutset_lists.specs.Sets.{IsSetOf, AreSetsOf}
 use Rattle.cutset_lists.specs.Generation.{HasList, list_at, reading_of, is_unit_of, IsNodeList, Generates}
@@ -58,9 +55,10 @@ Raises-set node end old has low = record {
 pub Raises-stays : (node end : ℕ) (old : List ℕ) → end ≤ until_of old node → Raises node end old old
 Raises-stays node end old high = record { all = refl; here = high; rises = λ n. omega arith; from_end = λ _ _. refl }
 
-pub Keeps-more : (nodes : List ℕ) (i node end : ℕ) (old now new : List ℕ) → i < length nodes → node ≡ get_or nodes i 0
+pub Keeps-more : (nodes : List ℕ) (i : ℕ) {node end : ℕ} (old : List ℕ) {now new : List ℕ} → i < length nodes
+    → node ≡ get_or nodes i 0
     → Keeps (take i nodes) end old now → Raises node end now new → Keeps (take (i + 1) nodes) end old new
-Keeps-more nodes i node end old now new short is keeps raises = record {
+Keeps-more nodes i {end} old {now} {new} short is keeps raises = record {
   all = raises.all ∙ keeps.all;
   reached = All-more (λ n. end ≤ until_of new n) nodes i 0 short
       (All-weaker (λ n. end ≤ until_of now n) (λ n. end ≤ until_of new n)
@@ -74,10 +72,10 @@ Keeps-more nodes i node end old now new short is keeps raises = record {
 
 -- ---- the plan
 
-module _ (tree : FaultTree) (order until : List ℕ) (place above node : ℕ) (above_is : above ≡ place + 1)
+module _ {tree : FaultTree} {order until : List ℕ} (place : ℕ) {above node : ℕ} (above_is : above ≡ place + 1)
     (short : place < length order) (is : node ≡ get_or order place 0) (plan : IsPlanFrom tree order until above) where
-  pub IsPlanFrom-keeps : (new : List ℕ) → Keeps (below tree node) above until new → IsPlanFrom tree order new place
-  IsPlanFrom-keeps new keeps = record {
+  pub IsPlanFrom-keeps : {new : List ℕ} → Keeps (below tree node) above until new → IsPlanFrom tree order new place
+  IsPlanFrom-keeps {new} keeps = record {
     all = keeps.all ∙ plan.all;
     top = let up = keeps.rises tree.top in let t = plan.top in omega arith;
     served = λ q from within needed.
@@ -99,9 +97,9 @@ module _ (tree : FaultTree) (order until : List ℕ) (place above node : ℕ) (a
 
 -- ---- lists that are given back
 
-pub Releases-more : (until : List ℕ) (end node : ℕ) (old now : List (List (List ℕ))) → 1 ≤ node
+pub Releases-more : {until : List ℕ} {end : ℕ} (node : ℕ) {old now : List (List (List ℕ))} → 1 ≤ node
     → until_of until node ≤ end → Releases until end old now → Releases until end old (set now (node - 1) [])
-Releases-more until end node old now some over releases = record {
+Releases-more {until} node {now} some over releases = record {
   all = length-set now (node - 1) [] ∙ releases.all;
   others = λ n needed.
       get_or-set_other now (node - 1) (n - 1) [] []
@@ -114,9 +112,9 @@ Releases-more until end node old now some over releases = record {
 
 -- ---- the lists on the way
 
-module _ (tree : FaultTree) (kept : IsTree tree) (order until : List ℕ) (from_below : IsFromBelow tree order)
-    (plan : IsPlan tree order until) (k node : ℕ) (short : k < length order) (is : node ≡ get_or order k 0)
-    (lists : List (List (List ℕ))) (before : IsBuiltTo tree order until k lists) where
+module _ {tree : FaultTree} (kept : IsTree tree) {order until : List ℕ} (from_below : IsFromBelow tree order)
+    (plan : IsPlan tree order until) {k node : ℕ} (short : k < length order) (is : node ≡ get_or order k 0)
+    {lists : List (List (List ℕ))} (before : IsBuiltTo tree order until k lists) where
   is_node : IsNodeOf tree node
   is_node = subst (IsNodeOf tree) (sym is) (All-get_or (IsNodeOf tree) order k 0 short from_below.nodes)
 
@@ -152,17 +150,17 @@ module _ (tree : FaultTree) (kept : IsTree tree) (order until : List ℕ) (from_
       (plan.served k (omega arith) short (subst (λ (n : ℕ). k < until_of until n) is needed)) in
       before.built m (here j d inside) (served j d inside) within
 
-  made_reads : (made : List (List ℕ)) → k < until_of until node → IsNodeList tree lists node made → (within : ℕ → Bool)
+  made_reads : {made : List (List ℕ)} → k < until_of until node → IsNodeList tree lists node made → (within : ℕ → Bool)
       → some_within made within ≡ reads tree within node
-  made_reads made needed list within =
+  made_reads needed list within =
       list.some_within within
       ∙ node_reads-agree tree within (reading_of lists within) (reads tree within) node (below_read needed within)
       ∙ sym (reads-node tree kept within node is_node)
 
-  pub IsBuiltTo-more : (made : List (List ℕ)) (new : List (List (List ℕ))) → k < until_of until node
+  pub IsBuiltTo-more : {made : List (List ℕ)} {new : List (List (List ℕ))} → k < until_of until node
       → IsNodeList tree lists node made → Releases until (k + 1) (set lists (node - 1) made) new
       → IsBuiltTo tree order until (k + 1) new
-  IsBuiltTo-more made new needed list releases = record {
+  IsBuiltTo-more {made} needed list releases = record {
     all = releases.all ∙ length-set lists (node - 1) made ∙ before.all;
     built = λ n here still within.
         ap (λ s. some_within s within) (releases.others n still)
@@ -180,7 +178,7 @@ module _ (tree : FaultTree) (kept : IsTree tree) (order until : List ℕ) (from_
                 subst (λ (m : ℕ). reading_of (set lists (node - 1) made) within m ≡ reads tree within m) (sym same)
                 (ap (λ s. some_within s within) (get_or-set_same lists (node - 1) made []
                 (let p = is_node.0 in let q = is_node.1 in let a = before.all in omega arith))
-                ∙ made_reads made needed list within)
+                ∙ made_reads needed list within)
             | inr other ↦
                 elim (node_cases n here) [
                   | inl earlier ↦
@@ -194,11 +192,11 @@ module _ (tree : FaultTree) (kept : IsTree tree) (order until : List ℕ) (from_
                 ]
           ]
 
-pub Generates-top : (tree : FaultTree) (order until : List ℕ) (place : ℕ) (lists : List (List (List ℕ)))
-    (made : List (List ℕ)) → IsFromBelow tree order → IsPlan tree order until → IsNodeOf tree tree.top
+pub Generates-top : {tree : FaultTree} {order until : List ℕ} {place : ℕ} {lists : List (List (List ℕ))}
+    {made : List (List ℕ)} → IsFromBelow tree order → IsPlan tree order until → IsNodeOf tree tree.top
     → length order ≤ place → place ≤ length order → made ≡ list_at lists tree.top
     → IsBuiltTo tree order until place lists → Generates tree tree.top made
-Generates-top tree order until place lists made from_below plan top_is long low made_is built = record {
+Generates-top {tree} {order} {place} {lists} from_below plan top_is long low made_is built = record {
   some_within = λ within.
       ap (λ s. some_within s within) made_is
       ∙ built.built tree.top (subst (λ (l : List ℕ). Contains l tree.top) (sym (take_all place order long))
@@ -211,13 +209,14 @@ Generates-top tree order until place lists made from_below plan top_is long low 
 
 -- ---- values as the code has them
 
-read_end : (until : List ℕ) (node place read : ℕ) → HasEnd until node → place ≡ node - 1
+read_end : (until : List ℕ) (node : ℕ) {place read : ℕ} → HasEnd until node → place ≡ node - 1
     → read ≡ get_or until place read → read ≡ until_of until node
-read_end until node place read has at is =
+read_end until node {place} {read} has at is =
     is ∙ get_or_default until place read 0 (let p = has.0 in let q = has.1 in omega arith)
     ∙ ap (λ k. get_or until k 0) at
 
-module _ (nodes : List ℕ) (i node place end read : ℕ) (old now new : List ℕ) (short : i < length nodes)
+module _ (nodes : List ℕ) (i : ℕ) {node place : ℕ} (end : ℕ) {read : ℕ} (old now new : List ℕ)
+    (short : i < length nodes)
     (is : node ≡ get_or nodes i node) (all : All (HasEnd old) nodes) (at : place ≡ node - 1)
     (read_is : read ≡ get_or now place read) (before : Keeps (take i nodes) end old now) where
   has_old : HasEnd old node
@@ -227,55 +226,54 @@ module _ (nodes : List ℕ) (i node place end read : ℕ) (old now new : List �
   has_now = let e = before.all in (has_old.0, let q = has_old.1 in omega arith)
 
   value : read ≡ until_of now node
-  value = read_end now node place read has_now at read_is
+  value = read_end now node has_now at read_is
 
   pub Keeps-raised : read < end → new ≡ set now place end → Keeps (take (i + 1) nodes) end old new
   Keeps-raised low new_is =
-      Keeps-more nodes i node end old now new short (is ∙ get_or_default nodes i node 0 short) before
+      Keeps-more nodes i old short (is ∙ get_or_default nodes i node 0 short) before
       (subst (Raises node end now) (sym (new_is ∙ ap (λ k. set now k end) at))
       (Raises-set node end now has_now (let v = value in omega arith)))
 
   pub Keeps-stays : end ≤ read → new ≡ now → Keeps (take (i + 1) nodes) end old new
   Keeps-stays high new_is =
-      Keeps-more nodes i node end old now new short (is ∙ get_or_default nodes i node 0 short) before
+      Keeps-more nodes i old short (is ∙ get_or_default nodes i node 0 short) before
       (subst (Raises node end now) (sym new_is) (Raises-stays node end now (let v = value in omega arith)))
 
-module _ (tree : FaultTree) (order until : List ℕ) (above place node : ℕ) (above_is : above ≡ place + 1)
+module _ {tree : FaultTree} {order until : List ℕ} {above : ℕ} (place : ℕ) {node : ℕ} (above_is : above ≡ place + 1)
     (within : above ≤ length order) (is : node ≡ get_or order place 0) (plan : IsPlanFrom tree order until above) where
-  pub plan_keeps : (list new : List ℕ) (end : ℕ) → list ≡ below tree node → end ≡ above → Keeps list end until new
+  pub plan_keeps : {list new : List ℕ} {end : ℕ} → list ≡ below tree node → end ≡ above → Keeps list end until new
       → IsPlanFrom tree order new place
-  plan_keeps list new end list_is end_is keeps =
-      IsPlanFrom-keeps tree order until place above node above_is (omega arith) is plan new
-      (subst (λ (l : List ℕ). Keeps l above until new) list_is
+  plan_keeps {list} {new} list_is end_is keeps =
+      IsPlanFrom-keeps place above_is (omega arith) is plan (subst (λ (l : List ℕ). Keeps l above until new) list_is
       (subst (λ (e : ℕ). Keeps list e until new) end_is keeps))
 
-pub Releases-step : (until nodes : List ℕ) (end i node place : ℕ) (item : List (List ℕ))
-    (old now new : List (List (List ℕ))) → i < length nodes → node ≡ get_or nodes i node → All (HasList old) nodes
+pub Releases-step : {until : List ℕ} (nodes : List ℕ) {end : ℕ} (i : ℕ) {node place : ℕ} {item : List (List ℕ)}
+    {old now new : List (List (List ℕ))} → i < length nodes → node ≡ get_or nodes i node → All (HasList old) nodes
     → place ≡ node - 1 → get_or until place 0 ≤ end → item ≡ [] → new ≡ set now place item → Releases until end old now
     → Releases until end old new
-Releases-step until nodes end i node place item old now new short is all at low none new_is releases =
+Releases-step {until} nodes {end} i {node} {place} {old} {now} short is all at low none new_is releases =
     let has : HasList old node = subst (HasList old) (sym is) (All-get_or (HasList old) nodes i node short all) in
     subst (Releases until end old) (sym (new_is ∙ ap (λ x. set now place x) none ∙ ap (λ k. set now k []) at))
-    (Releases-more until end node old now has.0 (subst (λ (k : ℕ). get_or until k 0 ≤ end) at low) releases)
+    (Releases-more node has.0 (subst (λ (k : ℕ). get_or until k 0 ≤ end) at low) releases)
 
-pub IsBuiltTo-step : (tree : FaultTree) → IsTree tree → (order until : List ℕ) → IsFromBelow tree order
-    → IsPlan tree order until → (k node : ℕ) → k < length order → node ≡ get_or order k 0
-    → (lists : List (List (List ℕ))) → IsBuiltTo tree order until k lists
-    → (made : List (List ℕ)) (seen changed new : List (List (List ℕ))) (until' : List ℕ) → k < until_of until node
+pub IsBuiltTo-step : {tree : FaultTree} → IsTree tree → {order until : List ℕ} → IsFromBelow tree order
+    → IsPlan tree order until → {k node : ℕ} → k < length order → node ≡ get_or order k 0
+    → {lists : List (List (List ℕ))} → IsBuiltTo tree order until k lists
+    → {made : List (List ℕ)} {seen changed new : List (List (List ℕ))} {until' : List ℕ} → k < until_of until node
     → seen ≡ lists → until' ≡ until → changed ≡ set lists (node - 1) made → IsNodeList tree seen node made
     → Releases until' (k + 1) changed new → IsBuiltTo tree order until (k + 1) new
-IsBuiltTo-step tree kept order until from_below plan k node short is lists before made seen changed new until' needed
+IsBuiltTo-step {tree} kept {until} from_below plan {k} {node} short is before {made} {changed} {new} needed
     seen_is until_is changed_is list releases =
-    IsBuiltTo-more tree kept order until from_below plan k node short is lists before made new needed
+    IsBuiltTo-more kept from_below plan short is before needed
     (subst (λ (l : List (List (List ℕ))). IsNodeList tree l node made) seen_is list)
     (subst (λ (l : List (List (List ℕ))). Releases until (k + 1) l new) changed_is
     (subst (λ (u : List ℕ). Releases u (k + 1) changed new) until_is releases))
 
 -- the end of a node of the order, as it is read
-pub end_read : (tree : FaultTree) (order until : List ℕ) (k node place read : ℕ) → IsFromBelow tree order
+pub end_read : {tree : FaultTree} {order until : List ℕ} (k : ℕ) {node place read : ℕ} → IsFromBelow tree order
     → IsPlan tree order until → k < length order → node ≡ get_or order k 0 → place ≡ node - 1
     → read ≡ get_or until place read → read ≡ until_of until node
-end_read tree order until k node place read from_below plan short is at read_is =
+end_read {tree} {order} {until} k {node} from_below plan short is at read_is =
     let is_node : IsNodeOf tree node =
     subst (IsNodeOf tree) (sym is) (All-get_or (IsNodeOf tree) order k 0 short from_below.nodes) in
-    read_end until node place read (is_node.0, let q = is_node.1 in let a = plan.all in omega arith) at read_is
+    read_end until node (is_node.0, let q = is_node.1 in let a = plan.all in omega arith) at read_is

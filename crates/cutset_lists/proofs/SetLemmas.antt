@@ -3,10 +3,8 @@ use Rattle.std.specs.Prelude.{◌≡◌, ℕ, ◌+◌, ◌<◌, Bool, true, fals
 use Rattle.std.specs.Prelude.{get_or, Some}
 use Rattle.std.specs.List.{list_all}
 use Rattle.std.proofs.Common.{refl, sym, ◌∙◌, ap, subst}
-use Rattle.std.proofs.Math.Bool.{or-false}
-use Rattle.std.proofs.lemmas.List.{take_more}
-use Rattle.std.proofs.lemmas.List.Folds.{list_any-append}
-use Rattle.std.proofs.lemmas.List.Elements.{All-push, All-pop}
+use Rattle.std.proofs.{Math.Bool.or-false, lemmas.List.take_more, lemmas.List.Folds.list_any-append}
+use Rattle.std.proofs.{lemmas.List.Elements.All-push, lemmas.List.Elements.All-pop}
 use Rattle.cutset_lists.specs.Sets.{IsSetOf, AreSetsOf, IsUnion, AddsUnions, AddsProduct, IsReducedFrom}
 use Rattle.unit_sets.specs.UnitList.{some_within}
 
@@ -25,7 +23,7 @@ some_within-push sets set within =
     some_within-append sets (set ∷ []) within ∙ ap (λ b. some_within sets within || b) (or-false (list_all within set))
 
 -- with one row more
-module _ (sets : List (List ℕ)) (i : ℕ) (row : List ℕ) (short : i < length sets) (is : row ≡ get_or sets i []) where
+module _ (sets : List (List ℕ)) (i : ℕ) {row : List ℕ} (short : i < length sets) (is : row ≡ get_or sets i []) where
   pub next_row : take (i + 1) sets ≡ take i sets ++ row ∷ []
   next_row = take_more sets i [] short ∙ ap (λ r. take i sets ++ r ∷ []) (sym is)
 
@@ -41,66 +39,66 @@ module _ (sets : List (List ℕ)) (i : ℕ) (row : List ℕ) (short : i < length
 
 -- ---- unions
 
-pub IsUnion-set : (passes : ℕ → Bool) (left right union : List ℕ) → IsUnion left right union → IsSetOf passes left
+pub IsUnion-set : {passes : ℕ → Bool} {left right union : List ℕ} → IsUnion left right union → IsSetOf passes left
     → IsSetOf passes right → IsSetOf passes union
-IsUnion-set passes left right union is l r = record {
+IsUnion-set {passes} is l r = record {
   rising = is.rising l.rising r.rising;
   pass = let e = is.within passes in let p = l.pass in let q = r.pass in cc;
 }
 
-adds_step : (o s t h n m u : Bool) → n ≡ (o || (s && t)) → m ≡ (n || u) → u ≡ (s && h) → m ≡ (o || (s && (t || h)))
-adds_step true s t h n m u e f g = cc
-adds_step false true t h n m u e f g = cc
-adds_step false false t h n m u e f g = cc
+adds_step : (o s t h : Bool) {n m u : Bool} → n ≡ (o || (s && t)) → m ≡ (n || u) → u ≡ (s && h)
+    → m ≡ (o || (s && (t || h)))
+adds_step true s t h e f g = cc
+adds_step false true t h e f g = cc
+adds_step false false t h e f g = cc
 
 -- the union with one set more
-module _ (set row union : List ℕ) (list old sets new : List (List ℕ)) (i : ℕ) (short : i < length list)
+module _ {set row union : List ℕ} (list old sets : List (List ℕ)) {new : List (List ℕ)} (i : ℕ)
+    (short : i < length list)
     (row_is : row ≡ get_or list i []) (new_is : new ≡ sets ++ union ∷ []) (is : IsUnion set row union) where
   pub AddsUnions-step : AddsUnions set (take i list) old sets → AddsUnions set (take (i + 1) list) old new
   AddsUnions-step adds = record {
     some_within = λ within.
         adds_step (some_within old within) (list_all within set) (some_within (take i list) within)
-        (list_all within row) (some_within sets within) (some_within new within) (list_all within union)
+        (list_all within row)
         (adds.some_within within) (ap (λ s. some_within s within) new_is ∙ some_within-push sets union within)
         (is.within within)
         ∙ ap (λ b. some_within old within || (list_all within set && b))
-        (sym (some_within-more list i row short row_is within));
+        (sym (some_within-more list i short row_is within));
     sets = λ passes one each before.
-        let parts = sets_before list i row short row_is passes each in
+        let parts = sets_before list i short row_is passes each in
         subst (AreSetsOf passes) (sym new_is)
-        (All-push (IsSetOf passes) sets union (adds.sets passes one parts.0 before)
-        (IsUnion-set passes set row union is one parts.1));
+        (All-push (IsSetOf passes) sets union (adds.sets passes one parts.0 before) (IsUnion-set is one parts.1));
   }
 
 -- ---- products
 
-product_step : (o l r s n m : Bool) → n ≡ (o || (l && r)) → m ≡ (n || (s && r)) → m ≡ (o || ((l || s) && r))
-product_step true l r s n m e f = cc
-product_step false true true s n m e f = cc
-product_step false true false true n m e f = cc
-product_step false true false false n m e f = cc
-product_step false false r s n m e f = cc
+product_step : (o l r s : Bool) {n m : Bool} → n ≡ (o || (l && r)) → m ≡ (n || (s && r)) → m ≡ (o || ((l || s) && r))
+product_step true l r s e f = cc
+product_step false true true s e f = cc
+product_step false true false true e f = cc
+product_step false true false false e f = cc
+product_step false false r s e f = cc
 
-module _ (row : List ℕ) (left right old sets new : List (List ℕ)) (i : ℕ) (short : i < length left)
+module _ {row : List ℕ} (left right old sets new : List (List ℕ)) (i : ℕ) (short : i < length left)
     (row_is : row ≡ get_or left i []) where
   pub AddsProduct-step : AddsProduct (take i left) right old sets → AddsUnions row right sets new
       → AddsProduct (take (i + 1) left) right old new
   AddsProduct-step both adds = record {
     some_within = λ within.
         product_step (some_within old within) (some_within (take i left) within) (some_within right within)
-        (list_all within row) (some_within sets within) (some_within new within)
-        (both.some_within within) (adds.some_within within)
+        (list_all within row) (both.some_within within) (adds.some_within within)
         ∙ ap (λ b. some_within old within || (b && some_within right within))
-        (sym (some_within-more left i row short row_is within));
+        (sym (some_within-more left i short row_is within));
     sets = λ passes l r before.
-        let parts = sets_before left i row short row_is passes l in
+        let parts = sets_before left i short row_is passes l in
         adds.sets passes parts.1 r (both.sets passes parts.0 r before);
   }
 
 -- a product with fewer sets
-pub AddsProduct-reduced : (left right old sets new : List (List ℕ)) → AddsProduct left right old sets
+pub AddsProduct-reduced : {left right old sets : List (List ℕ)} (new : List (List ℕ)) → AddsProduct left right old sets
     → IsReducedFrom sets new → AddsProduct left right old new
-AddsProduct-reduced left right old sets new adds less = record {
+AddsProduct-reduced {sets} new adds less = record {
   some_within = λ within. less.some_within within ∙ adds.some_within within;
   sets = λ passes l r before. less.sets passes (adds.sets passes l r before);
 }

@@ -2,28 +2,24 @@
 use Rattle.std.specs.Prelude.{◌≡◌, ℕ, Bool, true, false, ◌||◌, List, [], ◌∷◌, map, All, Contains}
 use Rattle.std.specs.List.{list_any, list_all, dedup, dedup_from, AllByRecursion}
 use Rattle.std.specs.List.Sorted.{IsPermutation, IsSorted, IsStrictlySortedBy}
-use Rattle.std.specs.Cmp.{on_total}
+use Rattle.std.specs.{Cmp.on_total, declared.cmp.Ordering.Ordering}
 use Rattle.std.specs.Ordering.{on, eq_by_cmp, is_eq}
-use Rattle.std.specs.declared.cmp.Ordering.{Ordering}
 use Rattle.std.specs.declared.cmp.Ordering.TheVariants.{Less, Equal, Greater}
 use Rattle.std.proofs.Common.{refl, sym, ◌∙◌, ap, subst}
-use Rattle.std.proofs.lemmas.Bool.{cond_both}
+use Rattle.std.proofs.{lemmas.Bool.cond_both, lemmas.List.Filters.All-dedup, lemmas.List.Kept.IsStrictlySortedBy-dedup}
+use Rattle.std.proofs.{lemmas.List.Sorted.All-permutation, lemmas.List.Sorted.list_any-IsPermutation}
 use Rattle.std.proofs.lemmas.List.Elements.{All-contains_itself, All-map, All-nil, All-cons, All-head, All-tail}
-use Rattle.std.proofs.lemmas.List.Filters.{All-dedup}
-use Rattle.std.proofs.lemmas.List.Kept.{IsStrictlySortedBy-dedup}
-use Rattle.std.proofs.lemmas.List.Sorted.{All-permutation, list_any-IsPermutation}
-use Rattle.unit_sets.specs.CutOrder.{cut_cmp, cut_cmp_total}
+use Rattle.unit_sets.specs.{CutOrder.cut_cmp, CutOrder.cut_cmp_total, UnitList.some_within}
 use Rattle.unit_sets.proofs.CutOrderLemmas.{cut_cmp-same}
 use Rattle.cutset_lists.specs.Sets.{IsSortedFrom}
-use Rattle.unit_sets.specs.UnitList.{some_within}
 
 -- ---- what a repeat does not change
 
-or_same : (a b c d : Bool) → a ≡ b → c ≡ (b || d) → c ≡ (b || (a || d))
-or_same true true c d e f = f
-or_same false false c d e f = f
-or_same true false c d e f = absurd cc
-or_same false true c d e f = absurd cc
+or_same : (a b : Bool) {c : Bool} (d : Bool) → a ≡ b → c ≡ (b || d) → c ≡ (b || (a || d))
+or_same true true d e f = f
+or_same false false d e f = f
+or_same true false d e f = absurd cc
+or_same false true d e f = absurd cc
 
 module _ {X : Type 0} (same : X → X → Bool) (p : X → Bool) (alike : (x y : X) → same x y ≡ true → p x ≡ p y) where
   any_dedup_from : (k : X) (xs : List X) → list_any p (dedup_from same k xs) ≡ (p k || list_any p xs)
@@ -31,7 +27,7 @@ module _ {X : Type 0} (same : X → X → Bool) (p : X → Bool) (alike : (x y :
   any_dedup_from k (x ∷ xs) =
       cond_both (same x k) (dedup_from same k xs) (k ∷ dedup_from same x xs)
       (λ ys. list_any p ys ≡ (p k || (p x || list_any p xs)))
-      (λ yes. or_same (p x) (p k) _ (list_any p xs) (alike x k yes) (any_dedup_from k xs))
+      (λ yes. or_same (p x) (p k) (list_any p xs) (alike x k yes) (any_dedup_from k xs))
       (λ no. ap (λ b. p k || b) (any_dedup_from x xs))
 
   any_dedup : (xs : List X) → list_any p (dedup same xs) ≡ list_any p xs
@@ -68,7 +64,7 @@ equal_by_test Less h = absurd cc
 equal_by_test Equal h = refl
 equal_by_test Greater h = absurd cc
 
-module _ {X : Type 0} (units : X → List ℕ) (sets : List (List ℕ)) (rows sorted : List X)
+module _ {X : Type 0} (units : X → List ℕ) {sets : List (List ℕ)} {rows sorted : List X}
     (rows_are : map units rows ≡ sets) (moved : IsPermutation rows sorted) where
   order : X → X → Ordering
   order = on units cut_cmp

@@ -1,7 +1,8 @@
 -- How sets wait at their units, and how those within another are found.
 use Rattle.std.specs.Prelude.{◌≡◌, ◌≢◌, ℕ, zero, suc, ◌+◌, ◌<◌, ◌≤◌, Bool, true, false, ◌&&◌, ◌==◌, nat_lt}
 use Rattle.std.specs.Prelude.{List, [], ◌∷◌, ◌++◌, length, take, replicate, All, Contains, get_or, slice_set, map}
-use Rattle.std.specs.List.{list_any}
+use Rattle.std.specs.{List.list_any, Cmp.Lexicographic.slice_cmp, Ordering.nat_cmp}
+use Rattle.std.specs.{declared.cmp.Ordering.TheVariants.Less}
 use Rattle.std.proofs.Common.{refl, sym, ◌∙◌, ap, subst, inl, inr, arith, length-append}
 use Rattle.std.proofs.lemmas.Bool.{or_from, and_parts, and_right, cases_lt, cases_eq}
 use Rattle.std.proofs.lemmas.List.{get_or_default, take_more, take_all, get_or-take, length-take, get_or_append_left}
@@ -10,18 +11,12 @@ use Rattle.std.proofs.lemmas.List.{get_or-set_same, get_or-set_other}
 use Rattle.std.proofs.lemmas.List.Folds.{list_any-append, Any-from_list_any, list_any-from_Any}
 use Rattle.std.proofs.lemmas.List.Elements.{All-push, All-nil, All-weaker, All-contains, Contains-get_or}
 use Rattle.std.proofs.lemmas.List.Elements.{Contains-append_left, Contains-push}
-use Rattle.unit_sets.specs.UnitList.{among, is_within}
+use Rattle.unit_sets.specs.{UnitList.among, UnitList.is_within, CutOrder.cut_cmp, CutOrder.IsInCutOrder}
 use Rattle.unit_sets.proofs.UnitListLemmas.{Contains-from_among}
-use Rattle.unit_sets.specs.CutOrder.{cut_cmp, IsInCutOrder}
-use Rattle.std.specs.Cmp.Lexicographic.{slice_cmp}
-use Rattle.std.specs.Ordering.{nat_cmp}
-use Rattle.std.specs.declared.cmp.Ordering.TheVariants.{Less}
-use Rattle.std.proofs.lemmas.Map.Keys.{Less-from_sorted}
-use Rattle.cutset_lists.specs.declared.waiting.Waiter.{Waiter}
+use Rattle.std.proofs.{lemmas.Map.Keys.Less-from_sorted, lemmas.Bool.Decides.nat_tests}
+use Rattle.cutset_lists.specs.{declared.waiting.Waiter.Waiter, declared.waiting.Waiting.Waiting}
 use Rattle.cutset_lists.specs.Sets.{AreAlike, is_short_within, is_smaller_within, IsMinimalFrom}
-use Rattle.cutset_lists.specs.declared.waiting.Waiting.{Waiting}
 use Rattle.cutset_lists.specs.Waiting.{AreReady, AreWaiting, AreFilled, IsWaiter, Waits, set_at, waiters_at}
-use Rattle.std.proofs.lemmas.Bool.Decides.{nat_tests}
 use Rattle.cutset_lists.proofs.SetLemmas.{same_bool}
 use Rattle.cutset_lists.proofs.MinimalLemmas.{all_at, size_of_less, none_larger}
 
@@ -32,9 +27,9 @@ nobody zero unit = refl
 nobody (suc units) zero = refl
 nobody (suc units) (suc unit) = nobody units unit
 
-pub none_wait : (units : ℕ) (at : List (List Waiter)) → at ≡ replicate units [] → (sets : List (List ℕ))
+pub none_wait : (units : ℕ) {at : List (List Waiter)} → at ≡ replicate units [] → {sets : List (List ℕ)}
     → AreWaiting sets 0 at
-none_wait units at none sets = record {
+none_wait units none {sets} = record {
   inside = omega arith;
   known =
       λ unit. subst (All (IsWaiter sets 0)) (sym (ap (λ (l : List (List Waiter)). get_or l unit []) none
@@ -49,7 +44,7 @@ known_more sets count waiters known =
     (λ waiter is. record { inside = let low = is.inside in omega arith; sign = is.sign }) waiters known
 
 -- the next set waits at one of its units
-module _ (sets : List (List ℕ)) (count : ℕ) (at new : List (List Waiter)) (home : ℕ) (waiter : Waiter)
+module _ {sets : List (List ℕ)} {count : ℕ} {at new : List (List Waiter)} (home : ℕ) (waiter : Waiter)
     (inside : count < length sets) (room : home < length at)
     (of_set : among (set_at sets count) home ≡ true) (sign : among (set_at sets count) waiter.sign ≡ true)
     (place : waiter.place ≡ count)
@@ -59,8 +54,8 @@ module _ (sets : List (List ℕ)) (count : ℕ) (at new : List (List Waiter)) (h
       ap (λ (l : List (List Waiter)). get_or l home []) is
       ∙ get_or-set_same at home (waiters_at at home ++ waiter ∷ []) [] room
 
-  elsewhere : (unit : ℕ) → unit ≢ home → waiters_at new unit ≡ waiters_at at unit
-  elsewhere unit other =
+  elsewhere : {unit : ℕ} → unit ≢ home → waiters_at new unit ≡ waiters_at at unit
+  elsewhere {unit} other =
       ap (λ (l : List (List Waiter)). get_or l unit []) is
       ∙ get_or-set_other at home unit (waiters_at at home ++ waiter ∷ []) [] other
 
@@ -77,7 +72,7 @@ module _ (sets : List (List ℕ)) (count : ℕ) (at new : List (List Waiter)) (h
             (subst (All (IsWaiter sets (count + 1))) (sym here)
             (All-push (IsWaiter sets (count + 1)) (waiters_at at home) waiter
             (known_more sets count (waiters_at at home) (before.known home)) is_waiter))
-        | inr other ↦ subst (All (IsWaiter sets (count + 1))) (sym (elsewhere unit other))
+        | inr other ↦ subst (All (IsWaiter sets (count + 1))) (sym (elsewhere other))
             (known_more sets count (waiters_at at unit) (before.known unit))
       ]
 
@@ -88,11 +83,11 @@ module _ (sets : List (List ℕ)) (count : ℕ) (at new : List (List Waiter)) (h
             (subst (λ (l : List Waiter). Contains l old) (sym here)
             (Contains-append_left (waiters_at at home) (waiter ∷ []) old
             (subst (λ (u : ℕ). Contains (waiters_at at u) old) same there)))
-        | inr other ↦ subst (λ (l : List Waiter). Contains l old) (sym (elsewhere unit other)) there
+        | inr other ↦ subst (λ (l : List Waiter). Contains l old) (sym (elsewhere other)) there
       ]
 
-  waits_still : (p : ℕ) → Waits sets at p → Waits sets new p
-  waits_still p old = record {
+  waits_still : {p : ℕ} → Waits sets at p → Waits sets new p
+  waits_still old = record {
     unit = old.unit;
     of_set = old.of_set;
     waiter = old.waiter;
@@ -114,30 +109,29 @@ module _ (sets : List (List ℕ)) (count : ℕ) (at new : List (List Waiter)) (h
     inside = omega arith;
     known = known_now;
     placed = λ p below. elim (cases_lt p count) [
-      | inl lower ↦ waits_still p (before.placed p lower)
+      | inl lower ↦ waits_still (before.placed p lower)
       | inr last ↦ let e : count ≡ p = omega arith in subst (Waits sets new) e waits_now
     ];
   }
 
 -- the same, of values as the code has them
-pub one_more-step : (sets : List (List ℕ)) (count : ℕ) (at : List (List Waiter)) (home place : ℕ) (waiter : Waiter)
-    (set : List ℕ) (found pushed : List Waiter)
+pub one_more-step : {sets : List (List ℕ)} {count : ℕ} {at : List (List Waiter)} {home place : ℕ} (waiter : Waiter)
+    {set : List ℕ} {found pushed : List Waiter}
     → count < length sets → place < length at → place ≡ home → set ≡ get_or sets count [] → among set home ≡ true
     → among set waiter.sign ≡ true → waiter.place ≡ count
     → found ≡ get_or at place found → pushed ≡ found ++ waiter ∷ [] → AreWaiting sets count at
     → AreWaiting sets (count + 1) (slice_set at place pushed)
-one_more-step sets count at home place waiter set found pushed inside room same set_is of_set sign at_count found_is
+one_more-step {sets} {count} {at} {home} {place} waiter {found} inside room same set_is of_set sign at_count found_is
     pushed_is before =
     let there : found ≡ waiters_at at place = found_is ∙ get_or_default at place found [] room in
-    one_more sets count at (slice_set at place pushed) place waiter inside room
-    (subst (λ (u : ℕ). among (set_at sets count) u ≡ true) (sym same)
+    one_more place waiter inside room (subst (λ (u : ℕ). among (set_at sets count) u ≡ true) (sym same)
     (subst (λ (s : List ℕ). among s home ≡ true) set_is of_set))
     (subst (λ (s : List ℕ). among s waiter.sign ≡ true) set_is sign)
     at_count (ap (λ (l : List Waiter). slice_set at place l)
     (pushed_is ∙ ap (λ (l : List Waiter). l ++ waiter ∷ []) there)) before
 
 -- with one set more in the list the same wait
-module _ (sets : List (List ℕ)) (count : ℕ) (at : List (List Waiter)) (set : List ℕ)
+module _ {sets : List (List ℕ)} {count : ℕ} {at : List (List Waiter)} (set : List ℕ)
     (before : AreWaiting sets count at) where
   same_set_at : (place : ℕ) → place < count → set_at (sets ++ set ∷ []) place ≡ set_at sets place
   same_set_at place below = let low = before.inside in get_or_append_left sets (set ∷ []) [] place (omega arith)
@@ -241,29 +235,30 @@ sign_missing marked smaller size sign there missing =
     and_right (nat_lt (length smaller) size) (is_within marked smaller) (no_sign marked smaller sign there missing)
 
 -- those who wait are sets of the list
-pub in_list : (sets : List (List ℕ)) (count : ℕ) (at : List (List Waiter)) (unit : ℕ) → AreWaiting sets count at
+pub in_list : {sets : List (List ℕ)} {count : ℕ} {at : List (List Waiter)} (unit : ℕ) → AreWaiting sets count at
     → All (IsWaiter sets (length sets)) (waiters_at at unit)
-in_list sets count at unit before =
+in_list {sets} {count} {at} unit before =
     All-weaker (IsWaiter sets count) (IsWaiter sets (length sets))
     (λ waiter is. record { inside = let low = is.inside in let all = before.inside in omega arith; sign = is.sign })
     (waiters_at at unit) (before.known unit)
 
-pub found_waiters : (sets : List (List ℕ)) (count : ℕ) (at : List (List Waiter)) (place : ℕ)
-    (found waiters : List Waiter)
+pub found_waiters : {sets : List (List ℕ)} {count : ℕ} {at : List (List Waiter)} (place : ℕ)
+    {found waiters : List Waiter}
     → AreWaiting sets count at → place < length at → found ≡ get_or at place found → waiters ≡ found
     → All (IsWaiter sets (length sets)) waiters
-found_waiters sets count at place found waiters before room found_is waiters_are =
+found_waiters {sets} {at} place {found} before room found_is waiters_are =
     subst (All (IsWaiter sets (length sets))) (sym (waiters_are ∙ found_is ∙ get_or_default at place found [] room))
-    (in_list sets count at place before)
+    (in_list place before)
 
 -- a unit where one is found
-pub finds-some : (sets : List (List ℕ)) (count : ℕ) (at : List (List Waiter)) (marked set : List ℕ)
-    (size unit place i d : ℕ) (waiters found : List Waiter)
+pub finds-some : {sets : List (List ℕ)} {count : ℕ} {at : List (List Waiter)} (marked set : List ℕ)
+    (size : ℕ) {unit place : ℕ} (i d : ℕ) {waiters found : List Waiter}
     → AreWaiting sets count at → AreAlike marked set → i < length set → unit ≡ get_or set i d → place ≡ unit
     → place < length at → found ≡ get_or at place found → waiters ≡ found
     → list_any (λ (waiter : Waiter). is_short_within size marked (set_at sets waiter.place)) waiters ≡ true
     → list_any (is_short_within size set) (take count sets) ≡ true
-finds-some sets count at marked set size unit place i d waiters found before alike short is same room found_is
+finds-some {sets} {count} {at} marked set size {unit} {place} i d {waiters} {found} before alike short is same room
+    found_is
     waiters_are holds =
     let here : waiters ≡ waiters_at at unit =
     waiters_are ∙ found_is ∙ get_or_default at place found [] room ∙ ap (waiters_at at) same in
@@ -280,13 +275,14 @@ NoneAt sets at marked size set i =
     list_any (λ (unit : ℕ). list_any (λ (waiter : Waiter). is_short_within size marked (set_at sets waiter.place))
     (waiters_at at unit)) (take i set) ≡ false
 
-pub NoneAt-more : (sets : List (List ℕ)) (at : List (List Waiter)) (marked set : List ℕ) (size unit place i d : ℕ)
-    (waiters found : List Waiter)
+pub NoneAt-more : (sets : List (List ℕ)) (at : List (List Waiter)) (marked set : List ℕ) (size : ℕ) {unit place : ℕ}
+    (i d : ℕ)
+    {waiters found : List Waiter}
     → i < length set → unit ≡ get_or set i d → place ≡ unit → place < length at → found ≡ get_or at place found
     → waiters ≡ found
     → list_any (λ (waiter : Waiter). is_short_within size marked (set_at sets waiter.place)) waiters ≡ false
     → NoneAt sets at marked size set i → NoneAt sets at marked size set (i + 1)
-NoneAt-more sets at marked set size unit place i d waiters found short is same room found_is waiters_are none before =
+NoneAt-more sets at marked set size {place} i d {waiters} {found} short is same room found_is waiters_are none before =
     let here : waiters ≡ waiters_at at (get_or set i d) =
     waiters_are ∙ found_is ∙ get_or_default at place found [] room ∙ ap (waiters_at at) (same ∙ is) in
     let p : ℕ → Bool =
@@ -297,10 +293,10 @@ NoneAt-more sets at marked set size unit place i d waiters found short is same r
     ∙ or_from _ _ before (or_from _ _ (subst (λ (l : List Waiter). list_any
     (λ (waiter : Waiter). is_short_within size marked (set_at sets waiter.place)) l ≡ false) here none) refl)
 
-pub finds-none : (sets : List (List ℕ)) (count : ℕ) (at : List (List Waiter)) (marked set : List ℕ) (size i : ℕ)
+pub finds-none : {sets : List (List ℕ)} {count : ℕ} {at : List (List Waiter)} (marked set : List ℕ) (size i : ℕ)
     → AreWaiting sets count at → AreAlike marked set → length set ≤ i → NoneAt sets at marked size set i
     → list_any (is_short_within size set) (take count sets) ≡ false
-finds-none sets count at marked set size i before alike long none =
+finds-none {sets} {count} {at} marked set size i before alike long none =
     sym (found_among_waiting sets count at marked set size alike before)
     ∙ subst (λ (l : List ℕ). list_any (finds_at sets count at marked set size alike before) l ≡ false)
     (take_all i set long) none
@@ -335,19 +331,20 @@ all_decided sets set count false low ordered large is =
     ]
 
 -- where the first of some sets in order has a unit, each has
-pub all_filled : {X : Type 0} (units : X → List ℕ) (cuts : List X) (first : X) (empty : Bool) → 0 < length cuts
+pub all_filled : {X : Type 0} (units : X → List ℕ) (cuts : List X) (first : X) {empty : Bool} → 0 < length cuts
     → IsInCutOrder (map units cuts) → empty ≡ (length (units (get_or cuts 0 first)) == 0) → empty ≡ false
     → AreFilled (map units cuts)
-all_filled units cuts first empty some ordered empty_is not_empty =
+all_filled units cuts first some ordered empty_is not_empty =
     let size : length (get_or (map units cuts) 0 []) ≡ length (units (get_or cuts 0 first)) =
     ap length (get_or-map units cuts 0 first [] some) in
     let filled_first : 1 ≤ length (units (get_or cuts 0 first)) = grind (arith, nat_tests) in
     filled (map units cuts) ordered (omega arith)
 
 -- what is kept of sets that each have a unit has units
-pub kept_filled : (sorted kept : List (List ℕ)) (i : ℕ) → AreFilled sorted → IsMinimalFrom (take i sorted) kept
+pub kept_filled : (sorted : List (List ℕ)) {kept : List (List ℕ)} (i : ℕ) → AreFilled sorted
+    → IsMinimalFrom (take i sorted) kept
     → AreFilled kept
-kept_filled sorted kept i filled_all minimal place inside =
+kept_filled sorted {kept} i filled_all minimal place inside =
     let set : List ℕ = set_at kept place in
     let (k, short, is) = minimal.members place [] inside in
     let below : k < i = omega (arith, length-take {A = List ℕ}) in
@@ -359,10 +356,10 @@ kept_filled sorted kept i filled_all minimal place inside =
     omega arith
 
 -- a set that is kept leaves those that wait ready
-pub ready_on : (kept new : List (List ℕ)) (waiting : Waiting) (set : List ℕ) → AreReady kept waiting
+pub ready_on : {kept new : List (List ℕ)} {waiting : Waiting} (set : List ℕ) → AreReady kept waiting
     → new ≡ kept ++ set ∷ [] → AreReady new waiting
-ready_on kept new waiting set ready is = record {
+ready_on {waiting} set ready is = record {
   wait = subst (λ (l : List (List ℕ)). AreWaiting l waiting.count waiting.at.items) (sym is)
-      (longer_list kept waiting.count waiting.at.items set ready.wait);
+      (longer_list set ready.wait);
   none_marked = ready.none_marked;
 }

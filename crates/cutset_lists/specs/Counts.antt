@@ -2,8 +2,7 @@
 use Rattle.std.specs.Prelude.{◌≡◌, ℕ, ◌+◌, ◌-◌, ◌<◌, ◌≤◌, Bool, ◌&&◌, ◌||◌, nat_le, List, [], length, All}
 use Rattle.std.specs.Prelude.{slice_index_or, slice_set}
 use Rattle.fault_definitions.specs.Reading.{true_count}
-use Rattle.cutset_lists.specs.Sets.{AreSetsOf}
-use Rattle.cutset_lists.specs.Generation.{reading_of}
+use Rattle.cutset_lists.specs.{Sets.AreSetsOf, Generation.reading_of}
 use Rattle.unit_sets.specs.UnitList.{some_within}
 
 -- the list for a count of nodes; the empty list, which is never true, where the counts do not go so far

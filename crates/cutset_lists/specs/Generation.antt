@@ -1,13 +1,11 @@
 -- Lists of sets that stand for the nodes of a tree.
 use Rattle.std.specs.Prelude.{◌≡◌, ℕ, ◌-◌, ◌<◌, ◌≤◌, Bool, ◌&&◌, ◌||◌, nat_le, List, [], length, All, slice_index_or}
 use Rattle.std.specs.List.{list_any, list_all}
-use Rattle.unit_sets.specs.CutOrder.{weight, weight_limit}
+use Rattle.unit_sets.specs.{CutOrder.weight, CutOrder.weight_limit, UnitList.some_within}
 use Rattle.fault_words.specs.declared.kind.GateKind.{GateKind}
-use Rattle.fault_definitions.specs.Tree.{FaultTree, unit_count}
+use Rattle.fault_definitions.specs.{Tree.FaultTree, Tree.unit_count, Cut.IsCutList}
 use Rattle.fault_definitions.specs.Reading.{true_count, gate_reads, node_reads, reads}
-use Rattle.fault_definitions.specs.Cut.{IsCutList}
 use Rattle.cutset_lists.specs.Sets.{AreSetsOf}
-use Rattle.unit_sets.specs.UnitList.{some_within}
 
 -- the tree has a cut list, and it weighs more than a list may
 abbrev pub HasHeavyCutList : FaultTree → Type 0

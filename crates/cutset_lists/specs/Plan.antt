@@ -1,8 +1,6 @@
 -- Until which place of a tree's order the list of each node is needed.
 use Rattle.std.specs.Prelude.{◌≡◌, ℕ, ◌-◌, ◌<◌, ◌≤◌, Bool, List, length, take, All, Contains, slice_index}
-use Rattle.fault_definitions.specs.Tree.{FaultTree, node_count}
-use Rattle.fault_definitions.specs.Trigger.{below}
-use Rattle.fault_definitions.specs.Reading.{reads}
+use Rattle.fault_definitions.specs.{Tree.FaultTree, Tree.node_count, Trigger.below, Reading.reads}
 use Rattle.cutset_lists.specs.Sets.{AreSetsOf}
 use Rattle.cutset_lists.specs.Generation.{list_at, reading_of, is_unit_of}
 

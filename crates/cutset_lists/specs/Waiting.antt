@@ -1,8 +1,7 @@
 -- The first sets of a list, each waiting at one of its units.
 use Rattle.std.specs.Prelude.{◌≡◌, ℕ, ◌<◌, ◌≤◌, true, List, [], length, All, Contains, slice_index_or}
 use Rattle.unit_sets.specs.UnitList.{among}
-use Rattle.cutset_lists.specs.declared.waiting.Waiter.{Waiter}
-use Rattle.cutset_lists.specs.declared.waiting.Waiting.{Waiting}
+use Rattle.cutset_lists.specs.{declared.waiting.Waiter.Waiter, declared.waiting.Waiting.Waiting}
 
 -- the set at a place of a list; the empty set behind its end
 abbrev pub set_at : List (List ℕ) → ℕ → List ℕ

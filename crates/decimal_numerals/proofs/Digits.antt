@@ -1,9 +1,7 @@
 -- The number that a few digits write stays small.
 use Rattle.std.proofs.Common.{◌≡◌, ℕ, ◌+◌, ◌-◌, ◌*◌, ◌^◌, ◌<◌, ◌≤◌, true, List, length, get_or, arith, add-one, refl}
-use Rattle.std.specs.List.{list_all}
-use Rattle.std.specs.Char.{is_ascii_digit}
-use Rattle.std.proofs.Math.Nat.{pow-le-pow_right, pow-suc}
-use Rattle.std.proofs.lemmas.List.Sums.{AllPass-from_list_all}
+use Rattle.std.specs.{List.list_all, Char.is_ascii_digit}
+use Rattle.std.proofs.{Math.Nat.pow-le-pow_right, Math.Nat.pow-suc, lemmas.List.Sums.AllPass-from_list_all}
 
 digit_value : (byte : ℕ) → is_ascii_digit byte ≡ true → (48 ≤ byte) × (byte ≤ 57)
 digit_value byte digit = (grind arith, grind arith)

@@ -1,7 +1,6 @@
 -- Decimal numerals: digits, and the number that they write.
 use Rattle.std.specs.Prelude.{ℕ, ◌+◌, ◌-◌, ◌*◌, Bool, false, ◌&&◌, not, ◌==◌, nat_le, List, [], ◌∷◌, length}
-use Rattle.std.specs.List.{list_all}
-use Rattle.std.specs.Char.{is_ascii_digit}
+use Rattle.std.specs.{List.list_all, Char.is_ascii_digit}
 
 -- one digit or more, and no more than so many
 abbrev pub are_digits : ℕ → List ℕ → Bool

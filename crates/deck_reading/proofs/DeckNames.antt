@@ -3,27 +3,21 @@ use Rattle.std.proofs.Common.{◌≡◌, ℕ, Bool, true, List, [], ◌∷◌, �
 use Rattle.std.specs.Prelude.{◌&&◌, ◌||◌, All}
 use Rattle.std.specs.List.{flat_map}
 use Rattle.std.proofs.lemmas.List.Elements.{All-append, All-cons, All-head, All-map, All-nil, All-tail, All-weaker}
-use Rattle.fault_words.specs.declared.attribute.Attribute.{Attribute}
-use Rattle.fault_words.specs.Name.{is_bare_name, is_name as is_name_text}
+use Rattle.fault_words.specs.{declared.attribute.Attribute.Attribute, Name.is_bare_name, Name.is_name as is_name_text}
 use Rattle.fault_definitions.specs.Tree.{FaultTree}
-use Rattle.galileo_lexer.specs.declared.token.TokenKind.{TokenKind}
+use Rattle.galileo_lexer.specs.{declared.token.TokenKind.TokenKind, Lexed.tokens_of, Spelling.IsSpelled}
 use Rattle.galileo_lexer.specs.declared.token.TokenKind.TheVariants.{Word, Quoted, Equals, Semicolon}
-use Rattle.galileo_lexer.specs.Lexed.{tokens_of}
-use Rattle.galileo_lexer.specs.Spelling.{IsSpelled}
-use Rattle.galileo_tree.specs.declared.raw.RawAttribute.{RawAttribute}
-use Rattle.galileo_tree.specs.declared.raw.RawBasic.{RawBasic}
-use Rattle.galileo_tree.specs.declared.raw.RawGate.{RawGate}
-use Rattle.galileo_tree.specs.declared.raw.Statement.{Statement}
+use Rattle.galileo_tree.specs.{declared.raw.RawAttribute.RawAttribute, declared.raw.RawBasic.RawBasic}
+use Rattle.galileo_tree.specs.{declared.raw.RawGate.RawGate, declared.raw.Statement.Statement, Parsed.lexemes_of}
+use Rattle.galileo_tree.specs.{Parsed.parsed_text}
 use Rattle.galileo_tree.specs.declared.raw.Statement.TheVariants.{Top, Gate, Basic}
 use Rattle.galileo_tree.specs.Grammar.{AreAttributes, IsReading, Spells, SpellsAll, Written, attribute_in, lexemes_in}
 use Rattle.galileo_tree.specs.Lexeme.{HasNameText, Lexeme, is_bare, is_name, is_quoted_kind, is_value, is_word_kind}
 use Rattle.galileo_tree.specs.Lexeme.{lexeme_of}
-use Rattle.galileo_tree.specs.Parsed.{lexemes_of, parsed_text}
 use Rattle.galileo_tree.proofs.NameTexts.{spelled_name}
 use Rattle.tree_check.specs.Said.{basic_names, basics, gate_names}
 use Rattle.tree_check.specs.TreeOf.{tree_of}
-use Rattle.deck_reading.specs.Deck.{StandsFor, tree_part}
-use Rattle.deck_reading.specs.TreeStatements.{HasNames, IsNamed}
+use Rattle.deck_reading.specs.{Deck.StandsFor, Deck.tree_part, TreeStatements.HasNames, TreeStatements.IsNamed}
 
 -- ---- lexemes
 

@@ -7,26 +7,21 @@ use Rattle.std.specs.Cmp.Lexicographic.{pointwise}
 use Rattle.std.proofs.lemmas.Bool.{and_from, and_left, and_parts, or_from}
 use Rattle.std.proofs.lemmas.List.{append-nil, length-map, take_at}
 use Rattle.std.proofs.lemmas.List.Elements.{All-cons, All-head, All-nil, All-tail}
-use Rattle.std.proofs.lemmas.List.Folds.{list_all-append, list_any-append}
-use Rattle.std.proofs.lemmas.List.Prefix.{front_rest}
-use Rattle.std.proofs.lemmas.List.Splits.{slice_split_at}
+use Rattle.std.proofs.{lemmas.List.Folds.list_all-append, lemmas.List.Folds.list_any-append}
+use Rattle.std.proofs.{lemmas.List.Prefix.front_rest, lemmas.List.Splits.slice_split_at}
 use Rattle.fault_words.specs.declared.attribute.Attribute.{Attribute}
 use Rattle.fault_words.specs.Name.{is_bare_byte, is_bare_name, is_bare_start, is_name, is_name_byte}
 use Rattle.galileo_lexer.specs.Bytes.{is_word_byte}
-use Rattle.crew_script.specs.Crews.{crews_of}
+use Rattle.crew_script.specs.{Crews.crews_of, declared.deck.CrewsAt.CrewsAt, declared.deck.Split.Split}
+use Rattle.crew_script.specs.{declared.dockets.Crew.Crew, declared.fault.CrewFault.CrewFault}
 use Rattle.crew_script.specs.Deck.{is_crews, is_feed, lines_of, split_of}
 use Rattle.crew_script.specs.Divides.{Divides, IsDividedAt, size_of}
-use Rattle.crew_script.specs.declared.deck.CrewsAt.{CrewsAt}
-use Rattle.crew_script.specs.declared.deck.Split.{Split}
-use Rattle.crew_script.specs.declared.dockets.Crew.{Crew}
-use Rattle.crew_script.specs.declared.fault.CrewFault.{CrewFault}
 use Rattle.deck_reading.specs.Deck.{crew_part, crews_behind, tree_part}
 use Rattle.deck_reading.specs.Written.{AreGood, Bare, InQuotes, IsGood, Top, Gate, Basic, WrittenName, WrittenStatement}
 use Rattle.deck_reading.specs.Written.{attribute_text, attribute_word, input_text, is_good_attribute}
 use Rattle.text_pieces.specs.GateWords.{gate_word}
 use Rattle.deck_reading.specs.Written.{is_good_name, name_text, quoted, statement_text, value_text, written}
-use Rattle.deck_reading.proofs.GateWords.{gate_word_text}
-use Rattle.deck_reading.proofs.Pieces.{defined_good}
+use Rattle.deck_reading.proofs.{GateWords.gate_word_text, Pieces.defined_good}
 
 -- ---- lines
 

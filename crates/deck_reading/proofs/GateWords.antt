@@ -2,18 +2,13 @@
 use Rattle.std.proofs.Common.{◌≡◌, ℕ, suc, ◌+◌, ◌-◌, ◌*◌, ◌/◌, ◌%◌, ◌<◌, ◌≤◌, Bool, true, false, cond, List, [], ◌∷◌}
 use Rattle.std.proofs.Common.{◌++◌, length, take, drop, Some, None, refl, sym, ap, ◌∙◌, arith, length-append, le-leb}
 use Rattle.std.specs.Prelude.{◌&&◌, codes, decimal, nat_eq, nat_lt, nat_le, if◌then◌else◌}
-use Rattle.std.specs.List.{list_all, prefix_len}
-use Rattle.std.specs.Char.{is_ascii_digit, to_ascii_lowercase}
+use Rattle.std.specs.{List.list_all, List.prefix_len, Char.is_ascii_digit, Char.to_ascii_lowercase}
 use Rattle.std.specs.Str.{bytes_eq, str_eq_ignore_ascii_case, str_to_ascii_lowercase}
 use Rattle.std.proofs.lemmas.Bool.{and_from, and_left, and_parts}
-use Rattle.std.proofs.lemmas.Fmt.{decimal_by_steps, length-decimal-le}
-use Rattle.std.proofs.lemmas.List.{take_at}
-use Rattle.std.proofs.lemmas.List.Folds.{list_all-append}
-use Rattle.std.proofs.lemmas.List.Prefix.{front_rest}
-use Rattle.fault_words.specs.declared.kind.GateKind.{GateKind}
-use Rattle.fault_words.specs.declared.kind.GateKind.TheVariants.{Votes}
-use Rattle.galileo_lexer.specs.Bytes.{is_word_byte}
-use Rattle.galileo_lexer.specs.Pieces.{IsNameText}
+use Rattle.std.proofs.{lemmas.Fmt.decimal_by_steps, lemmas.Fmt.length-decimal-le, lemmas.List.take_at}
+use Rattle.std.proofs.{lemmas.List.Folds.list_all-append, lemmas.List.Prefix.front_rest}
+use Rattle.fault_words.specs.{declared.kind.GateKind.GateKind, declared.kind.GateKind.TheVariants.Votes}
+use Rattle.galileo_lexer.specs.{Bytes.is_word_byte, Pieces.IsNameText}
 use Rattle.galileo_tree.specs.ReadTree.{HasShortNumbers}
 use Rattle.decimal_numerals.specs.Numeral.{number_from, are_digits}
 use Rattle.galileo_tree.specs.GateWord.{votes_behind, votes_if, votes_of, gate_word as kind_in}
@@ -97,10 +92,10 @@ votes_two front back =
     let two : nat_lt (length (codes "of" ++ back)) 2 ≡ false = grind arith in
     ap (λ b. if b then None else votes_if front (codes "of") back) two
 
-votes_split : (size : ℕ) (word front back : List ℕ) → length front ≡ size → word ≡ front ++ (codes "of" ++ back)
+votes_split : {size : ℕ} (word front back : List ℕ) → length front ≡ size → word ≡ front ++ (codes "of" ++ back)
     → prefix_len is_ascii_digit word ≡ size
     → votes_of word ≡ votes_if front (codes "of") back
-votes_split size word front back long is prefix =
+votes_split {size} word front back long is prefix =
     let behind : List ℕ = codes "of" ++ back in
     let taken : take size word ≡ front = ap (take size) is ∙ take_at front behind size long in
     let dropped : drop size word ≡ behind = ap (λ n. drop n word) (sym long) ∙ front_rest word front behind is in
@@ -114,7 +109,7 @@ number_kind : (least of : ℕ) → least ≤ 999999999 → of ≤ 999999999
 number_kind least of few enough =
     let front = few_digits least few in
     let back = few_digits of enough in
-    votes_split (length (decimal least)) (gate_word (Votes least of)) (decimal least) (decimal of) refl refl
+    votes_split (gate_word (Votes least of)) (decimal least) (decimal of) refl refl
     (prefix_is (decimal least) 111 (102 ∷ decimal of) front.0.each refl)
     ∙ votes_parts (decimal least) (decimal of) (digits_are least few) (digits_are of enough)
     ∙ ap (λ k. Some (Votes k (number_from 0 (decimal of)))) front.0.number

@@ -4,11 +4,9 @@ use Rattle.std.proofs.Common.{ap, ◌∙◌, arith, append_assoc, length-append}
 use Rattle.std.specs.Prelude.{◌==◌, map, slice_range, Ok}
 use Rattle.std.proofs.lemmas.List.{append-nil, map-append, take_at}
 use Rattle.std.proofs.lemmas.List.Prefix.{front_rest}
-use Rattle.galileo_lexer.specs.declared.spot.Spot.{Spot}
-use Rattle.galileo_lexer.specs.declared.token.TokenKind.{TokenKind}
+use Rattle.galileo_lexer.specs.{declared.spot.Spot.Spot, declared.token.TokenKind.TokenKind, Lexed.Lexed}
 use Rattle.galileo_lexer.specs.declared.token.TokenKind.TheVariants.{Word, Quoted, Equals, Semicolon}
 use Rattle.galileo_lexer.specs.Spot.{origin, place_of, step, walk}
-use Rattle.galileo_lexer.specs.Lexed.{Lexed}
 use Rattle.galileo_lexer.specs.Pieces.{Piece, Blank, LineComment, BlockComment, AWord, AQuoted, AnEquals, ASemicolon}
 use Rattle.galileo_lexer.specs.Pieces.{ArePieces, Reads, bytes_of, token_of, tokens_from}
 use Rattle.galileo_tree.specs.Lexeme.{Lexeme, lexeme_of, place_at}
@@ -66,10 +64,11 @@ lexemes-append spot (piece ∷ front) back =
 
 -- ---- the lexemes of the tokens
 
-slice_is : (text front bytes back : List ℕ) (start stop : ℕ) → text ≡ front ++ (bytes ++ back) → start ≡ length front
+slice_is : {text : List ℕ} (front bytes back : List ℕ) {start : ℕ} (stop : ℕ) → text ≡ front ++ (bytes ++ back)
+    → start ≡ length front
     → stop ≡ length front + length bytes
     → slice_range text start stop ≡ bytes
-slice_is text front bytes back start stop is begins ends =
+slice_is {text} front bytes back {start} stop is begins ends =
     let size : length bytes ≡ stop - start = omega arith in
     let rest : drop start text ≡ bytes ++ back = ap (λ n. drop n text) begins
     ∙ front_rest text front (bytes ++ back) is in
@@ -83,21 +82,20 @@ module _ (text front : List ℕ) (spot : Spot) (there : spot.offset ≡ length f
   one_lexeme (BlockComment bytes) back is = refl
   one_lexeme (AWord bytes) back is =
       ap (λ t. lexeme_at spot Word t ∷ [])
-      (slice_is text front bytes back spot.offset (spot.offset + length bytes) is there (omega arith))
+      (slice_is front bytes back (spot.offset + length bytes) is there (omega arith))
   one_lexeme (AQuoted bytes) back is =
       let inner : text ≡ (front ++ 34 ∷ []) ++ (bytes ++ (34 ∷ back)) =
       is ∙ ap (λ t. front ++ (34 ∷ t)) (append_assoc bytes (34 ∷ []) back)
       ∙ sym (append_assoc front (34 ∷ []) (bytes ++ (34 ∷ back))) in
       let long : length (front ++ 34 ∷ []) ≡ length front + 1 = length-append front (34 ∷ []) in
       ap (λ t. lexeme_at spot Quoted t ∷ [])
-      (slice_is text (front ++ 34 ∷ []) bytes (34 ∷ back) (spot.offset + 1) (spot.offset + length bytes + 2 - 1) inner
+      (slice_is (front ++ 34 ∷ []) bytes (34 ∷ back) {start = spot.offset + 1} (spot.offset + length bytes + 2 - 1)
+      inner
       (omega arith) (omega arith))
   one_lexeme AnEquals back is =
-      ap (λ t. lexeme_at spot Equals t ∷ [])
-      (slice_is text front (61 ∷ []) back spot.offset (spot.offset + 1) is there (omega arith))
+      ap (λ t. lexeme_at spot Equals t ∷ []) (slice_is front (61 ∷ []) back (spot.offset + 1) is there (omega arith))
   one_lexeme ASemicolon back is =
-      ap (λ t. lexeme_at spot Semicolon t ∷ [])
-      (slice_is text front (59 ∷ []) back spot.offset (spot.offset + 1) is there (omega arith))
+      ap (λ t. lexeme_at spot Semicolon t ∷ []) (slice_is front (59 ∷ []) back (spot.offset + 1) is there (omega arith))
 
 lexemes_are : (text front : List ℕ) (spot : Spot) (pieces : List Piece) → spot.offset ≡ length front → text ≡ front
     ++ spelled pieces

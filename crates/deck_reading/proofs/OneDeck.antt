@@ -3,18 +3,12 @@ use Rattle.std.specs.Prelude.{◌≡◌, ℕ, List, Option, Result, Ok, Err}
 use Rattle.std.proofs.Common.{sym, ap, subst, ◌∙◌}
 use Rattle.fault_definitions.specs.Tree.{FaultTree}
 use Rattle.fault_words.specs.declared.place.Place.{Place}
-use Rattle.galileo_tree.specs.declared.fault.ParseFault.{ParseFault}
+use Rattle.galileo_tree.specs.{declared.fault.ParseFault.ParseFault, Parsed.parsed_text, ReadTree.ReadTree}
 use Rattle.galileo_tree.specs.declared.fault.ParseFault.TheVariants.{Lex, Expected, NoMemory}
-use Rattle.galileo_tree.specs.Parsed.{parsed_text}
-use Rattle.galileo_tree.specs.ReadTree.{ReadTree}
-use Rattle.tree_check.specs.Checked.{Stands}
-use Rattle.tree_check.proofs.OneTree.{same_tree}
-use Rattle.tree_check.proofs.OneFault.{no_fault, same_fault}
-use Rattle.tree_check.specs.declared.fault.CheckCode.{CheckCode}
-use Rattle.crew_script.specs.declared.dockets.Crew.{Crew}
-use Rattle.crew_script.specs.declared.fault.CrewCode.{CrewCode}
-use Rattle.crew_script.specs.declared.fault.CrewFault.{CrewFault}
-use Rattle.crew_script.specs.declared.fault.CrewFault.TheVariants.{Fault}
+use Rattle.tree_check.specs.{Checked.Stands, declared.fault.CheckCode.CheckCode}
+use Rattle.tree_check.proofs.{OneTree.same_tree, OneFault.no_fault, OneFault.same_fault}
+use Rattle.crew_script.specs.{declared.dockets.Crew.Crew, declared.fault.CrewCode.CrewCode}
+use Rattle.crew_script.specs.{declared.fault.CrewFault.CrewFault, declared.fault.CrewFault.TheVariants.Fault}
 use Rattle.deck_reading.specs.declared.fault.DeckFault.{DeckFault}
 use Rattle.deck_reading.specs.declared.fault.FaultCode.{FaultCode}
 use Rattle.deck_reading.specs.declared.fault.FaultCode.TheVariants.{Check, Crew as of_crews}
@@ -29,9 +23,9 @@ abbrev read_or : ReadTree → Result ReadTree ParseFault → ReadTree
 read_or read (Ok other) = other
 read_or read (Err fault) = read
 
-pub same_deck_tree : (bytes : List ℕ) (tree other : FaultTree) → StandsFor bytes tree → StandsFor bytes other
+pub same_deck_tree : {bytes : List ℕ} {tree other : FaultTree} → StandsFor bytes tree → StandsFor bytes other
     → tree ≡ other
-same_deck_tree bytes tree other one two =
+same_deck_tree {tree} {other} one two =
     let same : one.read ≡ two.read = ap (read_or one.read) (sym one.parsed ∙ two.parsed) in
     same_tree two.read tree other (subst (λ r. Stands r tree) same one.stands) one.kept two.stands two.kept
 
@@ -41,43 +35,43 @@ check_of c = Check c
 abbrev with_both : FaultCode → Place → DeckFault
 with_both c p = record { code = c; place = p }
 
-same_fault_of : (read : Result ReadTree ParseFault) (fault other : DeckFault) → IsFaultOf read fault
+same_fault_of : (read : Result ReadTree ParseFault) {fault other : DeckFault} → IsFaultOf read fault
     → IsFaultOf read other → fault ≡ other
-same_fault_of (Err (Lex found)) fault other one two = one ∙ sym two
-same_fault_of (Err (Expected wanted place)) fault other one two = one ∙ sym two
-same_fault_of (Err NoMemory) fault other one two = absurd one
-same_fault_of (Ok read) fault other (code, is, first) (code', is', first') =
+same_fault_of (Err (Lex found)) one two = one ∙ sym two
+same_fault_of (Err (Expected wanted place)) one two = one ∙ sym two
+same_fault_of (Err NoMemory) one two = absurd one
+same_fault_of (Ok read) {fault} {other} (code, is, first) (code', is', first') =
     let (same, there) = same_fault read code code' fault.place other.place first first' in
     let codes_same : fault.code ≡ other.code = is ∙ ap check_of same ∙ sym is' in
     ap (λ c. with_both c fault.place) codes_same ∙ ap (with_both other.code) there
 
 -- a tree and a fault at once
-no_tree_and_fault : {P : Type 0} (bytes : List ℕ) (tree : FaultTree) (fault : DeckFault) → StandsFor bytes tree
+no_tree_and_fault : {P : Type 0} {bytes : List ℕ} {tree : FaultTree} (fault : DeckFault) → StandsFor bytes tree
     → IsTreeFault bytes fault → P
-no_tree_and_fault bytes tree fault stands refused =
+no_tree_and_fault fault stands refused =
     let (code, is, first) = subst (λ r. IsFaultOf r fault) stands.parsed refused in
     absurd (no_fault stands.read code fault.place stands.stands.faultless first)
 
 -- ---- the crew part
 
 -- where there is no crew part, none is refused
-lacking_and_faulty : {P : Type 0} (part : CrewPart) (bytes : List ℕ) (fault : CrewFault) → LacksCrews part bytes
+lacking_and_faulty : {P : Type 0} {part : CrewPart} (bytes : List ℕ) (fault : CrewFault) → LacksCrews part bytes
     → crews_read part bytes ≡ Err fault → P
-lacking_and_faulty part bytes fault (needed, none) err =
+lacking_and_faulty bytes fault (needed, none) err =
     let read : crews_said (crew_part bytes) ≡ Err fault = subst (λ p. crews_read p bytes ≡ Err fault) needed err in
     let clash = subst (λ said. crews_said said ≡ Err fault) none read in
     absurd cc
 
-err_and_ok : {P : Type 0} (said : Result (Option (List Crew)) CrewFault) (fault : CrewFault)
+err_and_ok : {P : Type 0} {said : Result (Option (List Crew)) CrewFault} (fault : CrewFault)
     (crews : Option (List Crew)) → said ≡ Err fault → said ≡ Ok crews → P
-err_and_ok said fault crews err ok = let clash = sym err ∙ ok in absurd cc
+err_and_ok fault crews err ok = let clash = sym err ∙ ok in absurd cc
 
 abbrev crew_fault : CrewCode → Place → DeckFault
 crew_fault code place = record { code = of_crews code; place = place }
 
-same_crew_fault : (said : Result (Option (List Crew)) CrewFault) (code code' : CrewCode) (place place' : Place)
+same_crew_fault : {said : Result (Option (List Crew)) CrewFault} (code code' : CrewCode) (place place' : Place)
     → said ≡ Err (Fault code place) → said ≡ Err (Fault code' place') → crew_fault code place ≡ crew_fault code' place'
-same_crew_fault said code code' place place' is is' =
+same_crew_fault code code' place place' is is' =
     let both = sym is ∙ is' in
     let codes : code ≡ code' = cc in
     let places : place ≡ place' = cc in
@@ -90,31 +84,29 @@ pub one_fault : (part : CrewPart) (bytes : List ℕ) (one two : DeckFault) → I
 one_fault part bytes one two (no_crews lacks is) (no_crews lacks' is') = is ∙ sym is'
 one_fault part bytes one two (no_crews lacks is) (bad_tree has refused) = absurd (has lacks)
 one_fault part bytes one two (no_crews lacks is) (bad_crews tree code place stands said is') =
-    lacking_and_faulty part bytes (Fault code place) lacks said
+    lacking_and_faulty bytes (Fault code place) lacks said
 one_fault part bytes one two (bad_tree has refused) (no_crews lacks is) = absurd (has lacks)
 one_fault part bytes one two (bad_tree has refused) (bad_tree has' refused') =
-    same_fault_of (parsed_text (tree_part bytes)) one two refused refused'
+    same_fault_of (parsed_text (tree_part bytes)) refused refused'
 one_fault part bytes one two (bad_tree has refused) (bad_crews tree code place stands said is) =
-    no_tree_and_fault bytes tree one stands refused
+    no_tree_and_fault one stands refused
 one_fault part bytes one two (bad_crews tree code place stands said is) (no_crews lacks is') =
-    lacking_and_faulty part bytes (Fault code place) lacks said
+    lacking_and_faulty bytes (Fault code place) lacks said
 one_fault part bytes one two (bad_crews tree code place stands said is) (bad_tree has refused) =
-    no_tree_and_fault bytes tree two stands refused
+    no_tree_and_fault two stands refused
 one_fault part bytes one two (bad_crews tree code place stands said is)
-    (bad_crews tree' code' place' stands' said' is') =
-    is ∙ same_crew_fault (crews_read part bytes) code code' place place' said said' ∙ sym is'
+    (bad_crews tree' code' place' stands' said' is') = is ∙ same_crew_fault code code' place place' said said' ∙ sym is'
 
 -- a deck without a fault has none
 pub no_deck_and_fault : {P : Type 0} (part : CrewPart) (bytes : List ℕ) (tree : FaultTree) (crews : Option (List Crew))
     (fault : DeckFault)
     → IsWellFormed part bytes tree crews → IsDeckFault part bytes fault → P
 no_deck_and_fault part bytes tree crews fault deck (no_crews lacks is) = absurd (deck.has_crews lacks)
-no_deck_and_fault part bytes tree crews fault deck (bad_tree has refused) =
-    no_tree_and_fault bytes tree fault deck.stands refused
+no_deck_and_fault part bytes tree crews fault deck (bad_tree has refused) = no_tree_and_fault fault deck.stands refused
 no_deck_and_fault part bytes tree crews fault deck (bad_crews tree' code place stands said is) =
-    err_and_ok (crews_read part bytes) (Fault code place) crews said deck.said
+    err_and_ok (Fault code place) crews said deck.said
 
 -- the same crews, whatever tree it is read with
-pub same_crews : (part : CrewPart) (bytes : List ℕ) (crews crews' : Option (List Crew))
+pub same_crews : (part : CrewPart) (bytes : List ℕ) {crews crews' : Option (List Crew)}
     → crews_read part bytes ≡ Ok crews → crews_read part bytes ≡ Ok crews' → crews ≡ crews'
-same_crews part bytes crews crews' is is' = let both = sym is ∙ is' in cc
+same_crews part bytes is is' = let both = sym is ∙ is' in cc

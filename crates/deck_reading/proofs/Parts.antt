@@ -2,16 +2,12 @@
 use Rattle.std.specs.Prelude.{◌≡◌, ℕ, List, Option, Some, None, Result, Ok, Err, IfOk, IfErr}
 use Rattle.std.proofs.Common.{sym, ap, ◌∙◌, inl, inr}
 use Rattle.fault_definitions.specs.Tree.{FaultTree}
-use Rattle.crew_script.specs.Deck.{split_of}
-use Rattle.crew_script.specs.declared.dockets.Crew.{Crew}
-use Rattle.crew_script.specs.declared.deck.CrewsAt.{CrewsAt}
-use Rattle.crew_script.specs.declared.fault.CrewFault.{CrewFault}
-use Rattle.deck_reading.specs.declared.deck.CrewPart.{CrewPart}
+use Rattle.crew_script.specs.{Deck.split_of, declared.dockets.Crew.Crew, declared.deck.CrewsAt.CrewsAt}
+use Rattle.crew_script.specs.{declared.fault.CrewFault.CrewFault}
+use Rattle.deck_reading.specs.{declared.deck.CrewPart.CrewPart, declared.deck.DeckEnd.DeckEnd}
+use Rattle.deck_reading.specs.{declared.deck.DeckParts.DeckParts, Deck.StandsFor, Deck.crews_behind}
 use Rattle.deck_reading.specs.declared.deck.CrewPart.TheVariants.{Unread, IfAny, Needed}
-use Rattle.deck_reading.specs.declared.deck.DeckEnd.{DeckEnd}
 use Rattle.deck_reading.specs.declared.deck.DeckEnd.TheVariants as end
-use Rattle.deck_reading.specs.declared.deck.DeckParts.{DeckParts}
-use Rattle.deck_reading.specs.Deck.{StandsFor, crews_behind}
 use Rattle.deck_reading.specs.Ends.{IsCrewEnd, IsDeckEnd, IsPartsEnd, IsTreeEnd}
 use Rattle.deck_reading.specs.Faults.{IsWellFormed, LacksCrews, bad_crews, bad_tree, crews_read, crews_said}
 
@@ -27,10 +23,10 @@ pub tree_end : {A : Type 0} (bytes : List ℕ) (said : Result A CrewFault) (end 
 tree_end bytes said (end.Fault fault) refused = inl refused
 tree_end bytes said end.NoMemory free = tt
 
-pub crews_end : {A : Type 0} (bytes : List ℕ) (tree : FaultTree) (said : Result A CrewFault) (end : DeckEnd)
+pub crews_end : {A : Type 0} {bytes : List ℕ} {tree : FaultTree} (said : Result A CrewFault) (end : DeckEnd)
     → StandsFor bytes tree → IsCrewEnd said end → IsPartsEnd bytes said end
-crews_end bytes tree said (end.Fault fault) stands refused = inr (tree, stands, refused)
-crews_end bytes tree said end.NoMemory stands free = tt
+crews_end {tree} said (end.Fault fault) stands refused = inr (tree, stands, refused)
+crews_end said end.NoMemory stands free = tt
 
 -- ---- the deck
 
@@ -51,9 +47,8 @@ module _ (part : CrewPart) (bytes : List ℕ) where
   pub at_unread : part ≡ Unread → IsReadAt part bytes None
   at_unread is = (not_unread is, ap (λ p. crews_read p bytes) is)
 
-  pub at_any : part ≡ IfAny → (at : Option CrewsAt) → (split_of bytes).crews ≡ at → IsReadAt part bytes at
-  at_any is at split =
-      (not_if_any is, ap (λ p. crews_read p bytes) is ∙ ap (λ a. crews_said (crews_behind bytes a)) split)
+  pub at_any : part ≡ IfAny → {at : Option CrewsAt} → (split_of bytes).crews ≡ at → IsReadAt part bytes at
+  at_any is split = (not_if_any is, ap (λ p. crews_read p bytes) is ∙ ap (λ a. crews_said (crews_behind bytes a)) split)
 
   pub at_needed : part ≡ Needed → (at : CrewsAt) → (split_of bytes).crews ≡ Some at → IsReadAt part bytes (Some at)
   at_needed is at split =

@@ -2,12 +2,10 @@
 use Rattle.std.proofs.Common.{◌≡◌, ℕ, Bool, true, false, List, [], ◌∷◌, ◌++◌, length, refl, sym, ap, ◌∙◌, subst, arith}
 use Rattle.std.proofs.Common.{append_assoc}
 use Rattle.std.specs.Prelude.{◌&&◌, not, codes, nat_le, if◌then◌else◌}
-use Rattle.std.specs.List.{list_all, flat_map}
-use Rattle.std.specs.Str.{str_eq_ignore_ascii_case}
+use Rattle.std.specs.{List.list_all, List.flat_map, Str.str_eq_ignore_ascii_case}
 use Rattle.std.proofs.lemmas.Bool.{and_from, and_parts, leb-true}
-use Rattle.std.proofs.lemmas.List.{append-nil}
-use Rattle.std.proofs.lemmas.List.Concat.{flat_map-append}
-use Rattle.std.proofs.lemmas.List.Elements.{All-head, All-tail}
+use Rattle.std.proofs.{lemmas.List.append-nil, lemmas.List.Concat.flat_map-append, lemmas.List.Elements.All-head}
+use Rattle.std.proofs.{lemmas.List.Elements.All-tail}
 use Rattle.fault_words.specs.declared.attribute.Attribute.{Attribute}
 use Rattle.fault_words.specs.Name.{is_bare_byte, is_bare_name, is_bare_start, is_name, is_name_byte}
 use Rattle.galileo_lexer.specs.Bytes.{begins_with, is_blank, is_quotable, is_word_byte}
@@ -83,20 +81,18 @@ attribute_spelled attribute =
     ∙ value_spelled value attribute.value)
     ∙ ap (λ t. 32 ∷ t) (sym (append_assoc attribute.word (61 ∷ []) (value_text attribute.value)))
 
-behind_spelled : (pieces : List Piece) (text : List ℕ) → spelled pieces ≡ text → spelled (pieces ++ end_pieces) ≡ text
+behind_spelled : (pieces : List Piece) {text : List ℕ} → spelled pieces ≡ text → spelled (pieces ++ end_pieces) ≡ text
     ++ codes ";\n"
-behind_spelled pieces text is = flat_map-append bytes_of pieces end_pieces ∙ ap (λ t. t ++ codes ";\n") is
+behind_spelled pieces is = flat_map-append bytes_of pieces end_pieces ∙ ap (λ t. t ++ codes ";\n") is
 
 pub statement_spelled : (statement : WrittenStatement) → spelled (statement_pieces statement) ≡ statement_text statement
 statement_spelled (Top name) = ap (λ t. codes "toplevel " ++ (t ++ codes ";\n")) (name_spelled name)
 statement_spelled (Gate name kind inputs) =
-    ap (λ t. bytes_of (name_piece name) ++ (32 ∷ (gate_word kind ++ t)))
-    (behind_spelled (flat_map input_pieces inputs) (flat_map input_text inputs)
+    ap (λ t. bytes_of (name_piece name) ++ (32 ∷ (gate_word kind ++ t))) (behind_spelled (flat_map input_pieces inputs)
     (spelled_each input_pieces input_text input_spelled inputs))
     ∙ ap (λ t. t ++ (32 ∷ (gate_word kind ++ (flat_map input_text inputs ++ codes ";\n")))) (name_spelled name)
 statement_spelled (Basic name attributes) =
-    ap (λ t. bytes_of (name_piece name) ++ t)
-    (behind_spelled (flat_map attribute_pieces attributes) (flat_map attribute_text attributes)
+    ap (λ t. bytes_of (name_piece name) ++ t) (behind_spelled (flat_map attribute_pieces attributes)
     (spelled_each attribute_pieces attribute_text attribute_spelled attributes))
     ∙ ap (λ t. t ++ (flat_map attribute_text attributes ++ codes ";\n")) (name_spelled name)
 
@@ -132,20 +128,19 @@ bare_bytes (first ∷ rest) is =
     (list_all-wider is_bare_byte is_word_byte bare_in_word rest parts.1)
 
 -- a name's text has the size of one
-name_sized : (allowed : ℕ → Bool) (name : List ℕ) → is_name name ≡ true → list_all allowed name ≡ true
+name_sized : {allowed : ℕ → Bool} {name : List ℕ} → is_name name ≡ true → list_all allowed name ≡ true
     → IsNameText allowed name
-name_sized allowed name is each =
+name_sized {name} is each =
     let parts = and_parts (nat_le 1 (length name) && nat_le (length name) 255) (list_all is_name_byte name) is in
     let sizes = and_parts (nat_le 1 (length name)) (nat_le (length name) 255) parts.0 in
     record { some = leb-true 1 (length name) sizes.0; few = leb-true (length name) 255 sizes.1; each = each }
 
 pub bare_text : (name : List ℕ) → is_name name ≡ true → is_bare_name name ≡ true → IsNameText is_word_byte name
-bare_text name is bare = name_sized is_word_byte name is (bare_bytes name bare)
+bare_text name is bare = name_sized is (bare_bytes name bare)
 
-pub quoted_text : (name : List ℕ) → is_name name ≡ true → IsNameText is_quotable name
-quoted_text name is =
-    name_sized is_quotable name is
-    (list_all-wider is_name_byte is_quotable quotable_byte name
+pub quoted_text : {name : List ℕ} → is_name name ≡ true → IsNameText is_quotable name
+quoted_text {name} is =
+    name_sized is (list_all-wider is_name_byte is_quotable quotable_byte name
     (and_parts (nat_le 1 (length name) && nat_le (length name) 255) (list_all is_name_byte name) is).1)
 
 -- no byte of a word follows
@@ -212,7 +207,7 @@ name_is : (name : WrittenName) (rest : List ℕ) → is_good_name name ≡ true 
 name_is (Bare name) rest good over =
     let parts = and_parts (is_name name) (is_bare_name name) good in
     (bare_text name parts.0 parts.1, over)
-name_is (InQuotes name) rest good over = quoted_text name good
+name_is (InQuotes name) rest good over = quoted_text good
 
 -- a name that defines is a good name
 pub defined_good : (name : WrittenName) → is_good_definition name ≡ true → is_good_name name ≡ true
@@ -229,8 +224,8 @@ inputs_end name rest = blank_ends (spelled (name_piece name ∷ []) ++ rest)
 
 value_is : (b : Bool) (value rest : List ℕ) → list_all is_word_byte value ≡ b → is_name value ≡ true → EndsWord rest
     → IsPiece (value_piece b value) rest
-value_is true value rest each is over = (name_sized is_word_byte value is each, over)
-value_is false value rest each is over = quoted_text value is
+value_is true value rest each is over = (name_sized {allowed = is_word_byte} {name = value} is each, over)
+value_is false value rest each is over = quoted_text is
 
 attributes_are : (attribute : Attribute) (rest : List ℕ) → is_good_attribute attribute ≡ true → EndsWord rest
     → ArePieces (attribute_pieces attribute) rest

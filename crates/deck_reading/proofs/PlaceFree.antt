@@ -5,18 +5,13 @@ use Rattle.std.proofs.Common.{◌≡◌, ℕ, Bool, true, false, List, [], ◌�
 use Rattle.std.specs.Prelude.{◌&&◌, not, filter, if◌then◌else◌, nat_lt}
 use Rattle.std.specs.List.{flat_map, list_any}
 use Rattle.std.proofs.lemmas.List.{drop-map, length-map, map-append}
-use Rattle.fault_words.specs.declared.kind.GateKind.{GateKind}
+use Rattle.fault_words.specs.{declared.kind.GateKind.GateKind, declared.place.Place.Place, Names.has_name}
 use Rattle.unit_sets.specs.Unit.{most_units}
-use Rattle.fault_definitions.specs.declared.parts.TheConstants.{MOST_GATES}
-use Rattle.fault_words.specs.declared.place.Place.{Place}
-use Rattle.fault_definitions.specs.Tree.{is_fdep_kind}
-use Rattle.galileo_tree.specs.declared.raw.Placed.{Placed}
-use Rattle.galileo_tree.specs.declared.raw.RawAttribute.{RawAttribute}
-use Rattle.galileo_tree.specs.declared.raw.RawBasic.{RawBasic}
-use Rattle.galileo_tree.specs.declared.raw.RawTop.{RawTop}
-use Rattle.galileo_tree.specs.declared.raw.Statement.{Statement}
-use Rattle.galileo_tree.specs.ReadTree.{ReadTree}
-use Rattle.tree_check.specs.declared.fault.CheckCode.{CheckCode}
+use Rattle.fault_definitions.specs.{declared.parts.TheConstants.MOST_GATES, Tree.is_fdep_kind}
+use Rattle.galileo_tree.specs.{declared.raw.Placed.Placed, declared.raw.RawAttribute.RawAttribute}
+use Rattle.galileo_tree.specs.{declared.raw.RawBasic.RawBasic, declared.raw.RawTop.RawTop}
+use Rattle.galileo_tree.specs.{declared.raw.Statement.Statement, ReadTree.ReadTree}
+use Rattle.tree_check.specs.{declared.fault.CheckCode.CheckCode, Checked.places}
 use Rattle.tree_check.specs.declared.fault.CheckCode.TheVariants.{NoToplevel, TwoToplevels, DuplicateName}
 use Rattle.tree_check.specs.declared.fault.CheckCode.TheVariants.{Undefined}
 use Rattle.tree_check.specs.declared.fault.CheckCode.TheVariants.{Votes, DummyInput, NoInputs, FdepShape}
@@ -24,7 +19,6 @@ use Rattle.tree_check.specs.declared.fault.CheckCode.TheVariants.{DependentGate}
 use Rattle.tree_check.specs.declared.fault.CheckCode.TheVariants.{SpareNotBasic, SharedSpare, Replicated}
 use Rattle.tree_check.specs.declared.fault.CheckCode.TheVariants.{TopIsFdep}
 use Rattle.tree_check.specs.declared.fault.CheckCode.TheVariants.{Cycle, TooManyUnits, TooManyGates}
-use Rattle.tree_check.specs.Checked.{places}
 use Rattle.tree_check.specs.Classes.{SpareUse, clash, dummies, dummies_in, fdep_tops, gates_after_first}
 use Rattle.tree_check.specs.Classes.{gates_beyond}
 use Rattle.tree_check.specs.Classes.{inputless, is_empty, is_replicated, is_short_fdep, places_where}
@@ -32,7 +26,6 @@ use Rattle.tree_check.specs.Classes.{reads_nothing}
 use Rattle.tree_check.specs.Classes.{repeats_after, replicated, shared_after, short_fdeps, spare_uses}
 use Rattle.tree_check.specs.Classes.{spare_uses_in}
 use Rattle.tree_check.specs.Classes.{undefined, units_beyond, uses_of, wrong_vote, wrong_votes}
-use Rattle.fault_words.specs.Names.{has_name}
 use Rattle.tree_check.specs.Said.{basics, definitions, names, tops, uses}
 use Rattle.tree_check.specs.Numbered.{drops_fdeps, is_fdep_in, is_gate, is_spare_kind, kept_by, kept_inputs}
 use Rattle.tree_check.specs.Numbered.{kinds}

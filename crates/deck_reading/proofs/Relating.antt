@@ -1,24 +1,15 @@
 -- What is read of a deck byte by byte is what the relations between whole lists relate it to.
-use Rattle.std.specs.Prelude.{◌≡◌, ◌↔◌, ℕ, List, take, drop, Option, Some, None, Result, Ok}
+use Rattle.std.specs.Prelude.{◌≡◌, ◌↔◌, ℕ, List, take, drop, Option, Some, None, Result}
 use Rattle.std.proofs.Common.{sym, ap, subst, ◌∙◌, refl}
 use Rattle.fault_definitions.specs.Tree.{FaultTree}
-use Rattle.galileo_lexer.specs.Lexed.{Lexed, tokens_of}
-use Rattle.galileo_lexer.specs.Pieces.{Reads}
-use Rattle.galileo_tree.specs.declared.fault.ParseFault.{ParseFault}
-use Rattle.galileo_tree.specs.Grammar.{IsReading}
-use Rattle.galileo_tree.specs.Parsed.{lexemes_of, parsed_text}
-use Rattle.galileo_tree.specs.ReadTree.{ReadTree}
-use Rattle.crew_script.specs.Crews.{crews_of}
-use Rattle.crew_script.specs.CrewsOf.{Answers}
-use Rattle.crew_script.specs.Deck.{lines_of, split_of}
-use Rattle.crew_script.specs.Divides.{Divides}
-use Rattle.crew_script.specs.declared.deck.CrewsAt.{CrewsAt}
-use Rattle.crew_script.specs.declared.deck.Split.{Split}
-use Rattle.crew_script.specs.declared.dockets.Crew.{Crew}
-use Rattle.crew_script.specs.declared.fault.CrewFault.{CrewFault}
+use Rattle.galileo_lexer.specs.{Lexed.Lexed, Lexed.tokens_of, Pieces.Reads}
+use Rattle.galileo_tree.specs.{declared.fault.ParseFault.ParseFault, Grammar.IsReading, Parsed.lexemes_of}
+use Rattle.galileo_tree.specs.{Parsed.parsed_text, ReadTree.ReadTree}
+use Rattle.crew_script.specs.{Crews.crews_of, CrewsOf.Answers, Deck.lines_of, Deck.split_of, Divides.Divides}
+use Rattle.crew_script.specs.{declared.deck.CrewsAt.CrewsAt, declared.deck.Split.Split, declared.dockets.Crew.Crew}
+use Rattle.crew_script.specs.{declared.fault.CrewFault.CrewFault}
 use Rattle.deck_reading.specs.Deck.{StandsFor, crew_part, crews_behind, tree_part}
-use Rattle.deck_reading.specs.declared.fault.DeckFault.{DeckFault}
-use Rattle.deck_reading.specs.Faults.{IsFaultOf, IsTreeFault}
+use Rattle.deck_reading.specs.{declared.fault.DeckFault.DeckFault, Faults.IsFaultOf, Faults.IsTreeFault}
 use Rattle.deck_reading.specs.Relations.{AreCrewsOf, IsFaultIn, IsReadAs, IsTreeOf, stream_of}
 
 module _ (divides : (bytes : List ℕ) → Divides bytes (split_of bytes))
@@ -37,9 +28,9 @@ module _ (divides : (bytes : List ℕ) → Divides bytes (split_of bytes))
       statements = parses (tree_part bytes);
     }
 
-    is_read : (bytes : List ℕ) (read : Result ReadTree ParseFault) → IsReadAs bytes read
+    is_read : {bytes : List ℕ} {read : Result ReadTree ParseFault} → IsReadAs bytes read
         → parsed_text (tree_part bytes) ≡ read
-    is_read bytes read as_read =
+    is_read {bytes} {read} as_read =
         let part : take as_read.split.tree bytes ≡ tree_part bytes =
         ap (λ (s : Split). take s.tree bytes) (sym (once bytes as_read.split as_read.divides)) in
         let tokens : Reads (tree_part bytes) as_read.lexed =
@@ -52,26 +43,26 @@ module _ (divides : (bytes : List ℕ) → Divides bytes (split_of bytes))
     pub tree_by_relations : (bytes : List ℕ) (tree : FaultTree) → StandsFor bytes tree ↔ IsTreeOf bytes tree
     tree_by_relations bytes tree = (
       λ stands. (stands.read, subst (IsReadAs bytes) stands.parsed (read_as bytes), stands.stands, stands.kept),
-      λ is. record { read = is.0; parsed = is_read bytes (Ok is.0) is.1; stands = is.2; kept = is.3 },
+      λ is. record { read = is.0; parsed = is_read is.1; stands = is.2; kept = is.3 },
     )
 
     pub fault_by_relations : (bytes : List ℕ) (fault : DeckFault) → IsTreeFault bytes fault ↔ IsFaultIn bytes fault
     fault_by_relations bytes fault = (
       λ refused. (parsed_text (tree_part bytes), read_as bytes, refused),
-      λ is. subst (λ r. IsFaultOf r fault) (sym (is_read bytes is.0 is.1)) is.2,
+      λ is. subst (λ r. IsFaultOf r fault) (sym (is_read is.1)) is.2,
     )
 
     pub read_by_relations : (bytes : List ℕ) (read : Result ReadTree ParseFault)
         → (parsed_text (tree_part bytes) ≡ read) ↔ IsReadAs bytes read
-    read_by_relations bytes read = (λ is. subst (IsReadAs bytes) is (read_as bytes), is_read bytes read)
+    read_by_relations bytes read = (λ is. subst (IsReadAs bytes) is (read_as bytes), is_read {bytes = bytes})
 
   module _ (answers : (number : ℕ) (bytes : List ℕ) → Answers number (lines_of bytes) (crews_of number bytes))
       (one_answer : (number : ℕ) (bytes : List ℕ) (read : Result (List Crew) CrewFault)
       → Answers number (lines_of bytes) read → crews_of number bytes ≡ read) where
-    behind : (bytes : List ℕ) (said : Result (List Crew) CrewFault) (crews : Option CrewsAt)
+    behind : {bytes : List ℕ} {said : Result (List Crew) CrewFault} (crews : Option CrewsAt)
         → (split_of bytes).crews ≡ crews → crews_behind bytes crews ≡ Some said → AreCrewsOf bytes said
-    behind bytes said None is none = let clash = none in absurd cc
-    behind bytes said (Some at) is some_said = record {
+    behind None is none = let clash = none in absurd cc
+    behind {bytes} (Some at) is some_said = record {
       split = split_of bytes;
       divides = divides bytes;
       at = at;
@@ -84,7 +75,7 @@ module _ (divides : (bytes : List ℕ) → Divides bytes (split_of bytes))
     pub crews_by_relations : (bytes : List ℕ) (said : Result (List Crew) CrewFault)
         → (crew_part bytes ≡ Some said) ↔ AreCrewsOf bytes said
     crews_by_relations bytes said = (
-      λ is. behind bytes said (split_of bytes).crews refl is,
+      λ is. behind (split_of bytes).crews refl is,
       λ crews.
           let begins : (split_of bytes).crews ≡ Some crews.at =
           ap (λ (s : Split). s.crews) (once bytes crews.split crews.divides) ∙ crews.begins in

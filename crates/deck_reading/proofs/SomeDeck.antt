@@ -1,28 +1,19 @@
 -- A deck is read: as a tree and its crews, or by its first fault.
 use Rattle.std.specs.Prelude.{◌≡◌, ◌⊎◌, ℕ, All, List, drop, Option, Some, None, Result, Ok, Err}
 use Rattle.std.proofs.Common.{sym, ap, subst, ◌∙◌, refl, inl, inr}
-use Rattle.fault_definitions.specs.Tree.{FaultTree}
-use Rattle.fault_definitions.specs.WellFormed.{IsTree}
+use Rattle.fault_definitions.specs.{Tree.FaultTree, WellFormed.IsTree}
 use Rattle.fault_words.specs.declared.place.Place.{Place}
 use Rattle.galileo_tree.specs.Grammar.{IsReading, at_end, at_lexeme, at_token}
-use Rattle.galileo_tree.specs.Lexeme.{place_at}
-use Rattle.galileo_tree.specs.Parsed.{lexemes_of, parsed_text}
-use Rattle.galileo_tree.specs.ReadTree.{KeepsForm, ReadTree}
-use Rattle.galileo_tree.specs.declared.fault.ParseFault.{ParseFault}
+use Rattle.galileo_tree.specs.{Lexeme.place_at, Parsed.lexemes_of, Parsed.parsed_text, ReadTree.KeepsForm}
+use Rattle.galileo_tree.specs.{ReadTree.ReadTree, declared.fault.ParseFault.ParseFault}
 use Rattle.galileo_tree.specs.declared.fault.ParseFault.TheVariants.{Lex, Expected, NoMemory}
-use Rattle.tree_check.specs.Checked.{IsFirstFault, Stands}
-use Rattle.tree_check.specs.declared.fault.CheckCode.{CheckCode}
-use Rattle.crew_script.specs.Crews.{crews_of}
-use Rattle.crew_script.specs.CrewsOf.{Answers}
-use Rattle.crew_script.specs.Deck.{lines_of, split_of}
-use Rattle.crew_script.specs.declared.deck.CrewsAt.{CrewsAt}
-use Rattle.crew_script.specs.declared.dockets.Crew.{Crew}
-use Rattle.crew_script.specs.declared.fault.CrewFault.{CrewFault}
-use Rattle.crew_script.specs.declared.fault.CrewFault.TheVariants.{Fault}
+use Rattle.tree_check.specs.{Checked.IsFirstFault, Checked.Stands, declared.fault.CheckCode.CheckCode}
+use Rattle.crew_script.specs.{Crews.crews_of, CrewsOf.Answers, Deck.lines_of, Deck.split_of}
+use Rattle.crew_script.specs.{declared.deck.CrewsAt.CrewsAt, declared.dockets.Crew.Crew}
+use Rattle.crew_script.specs.{declared.fault.CrewFault.CrewFault, declared.fault.CrewFault.TheVariants.Fault}
 use Rattle.crew_script.specs.declared.fault.CrewFault.TheVariants as crew
-use Rattle.deck_reading.specs.declared.fault.DeckFault.{DeckFault}
+use Rattle.deck_reading.specs.{declared.fault.DeckFault.DeckFault, declared.deck.CrewPart.CrewPart}
 use Rattle.deck_reading.specs.declared.fault.FaultCode.TheVariants as report
-use Rattle.deck_reading.specs.declared.deck.CrewPart.{CrewPart}
 use Rattle.deck_reading.specs.declared.deck.CrewPart.TheVariants.{Unread, IfAny, Needed}
 use Rattle.deck_reading.specs.Deck.{StandsFor, crew_part, crews_behind, tree_part}
 use Rattle.deck_reading.specs.Faults.{HasDeck, HasDeckFault, IsFaultOf, IsTreeFault}
@@ -95,22 +86,22 @@ module _ (reads : (text : List ℕ) → IsReading (lexemes_of text) (parsed_text
     lacks_or_has Needed bytes None is = inl (refl, is)
     lacks_or_has Needed bytes (Some said) is = inr (λ lacks. let clash = sym is ∙ lacks.1 in absurd cc)
 
-    behind_tree : (part : CrewPart) (bytes : List ℕ) (tree : FaultTree) → ¬ LacksCrews part bytes → StandsFor bytes tree
+    behind_tree : {part : CrewPart} {bytes : List ℕ} {tree : FaultTree} → ¬ LacksCrews part bytes → StandsFor bytes tree
         → (said : Result (Option (List Crew)) CrewFault)
         → crews_read part bytes ≡ said → HasDeck part bytes ⊎ HasDeckFault part bytes
-    behind_tree part bytes tree has stands (Ok crews) is =
+    behind_tree {tree} has stands (Ok crews) is =
         inl (tree, crews, record { has_crews = has; stands = stands; said = is })
-    behind_tree part bytes tree has stands (Err (Fault code place)) is =
+    behind_tree {tree} has stands (Err (Fault code place)) is =
         let fault : DeckFault = record { code = report.Crew code; place = place } in
         inr (fault, bad_crews tree code place stands is refl)
-    behind_tree part bytes tree has stands (Err crew.NoMemory) is = absurd (read_memory part bytes is)
+    behind_tree {part} {bytes} has stands (Err crew.NoMemory) is = absurd (read_memory part bytes is)
 
     pub deck_or_fault : (part : CrewPart) (bytes : List ℕ) → HasDeck part bytes ⊎ HasDeckFault part bytes
     deck_or_fault part bytes =
         elim (lacks_or_has part bytes (crew_part bytes) refl) [
           | inl lacks ↦ inr (no_crew_part bytes, no_crews lacks refl)
           | inr has ↦ elim (tree_or_fault bytes) [
-            | inl (tree, stands) ↦ behind_tree part bytes tree has stands (crews_read part bytes) refl
+            | inl (tree, stands) ↦ behind_tree has stands (crews_read part bytes) refl
             | inr (fault, refused) ↦ inr (fault, bad_tree has refused)
           ]
         ]

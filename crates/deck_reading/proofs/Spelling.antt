@@ -1,29 +1,20 @@
 -- The lexemes of written statements spell these statements.
 use Rattle.std.proofs.Common.{◌≡◌, ℕ, Bool, true, false, List, [], ◌∷◌, ◌++◌, Some, refl, ap, ◌∙◌}
 use Rattle.std.specs.Prelude.{◌&&◌, not, map, codes}
-use Rattle.std.specs.List.{list_all, flat_map}
-use Rattle.std.specs.Str.{str_eq_ignore_ascii_case}
+use Rattle.std.specs.{List.list_all, List.flat_map, Str.str_eq_ignore_ascii_case}
 use Rattle.std.proofs.lemmas.Bool.{and_from, and_parts}
 use Rattle.std.proofs.lemmas.List.Elements.{All-head, All-tail}
-use Rattle.fault_words.specs.declared.attribute.Attribute.{Attribute}
-use Rattle.fault_words.specs.declared.kind.GateKind.{GateKind}
-use Rattle.fault_words.specs.Name.{is_bare_name, is_name as is_name_text}
-use Rattle.galileo_lexer.specs.declared.spot.Spot.{Spot}
-use Rattle.galileo_lexer.specs.declared.token.TokenKind.{TokenKind}
+use Rattle.fault_words.specs.{declared.attribute.Attribute.Attribute, declared.kind.GateKind.GateKind}
+use Rattle.fault_words.specs.{Name.is_bare_name, Name.is_name as is_name_text}
+use Rattle.galileo_lexer.specs.{declared.spot.Spot.Spot, declared.token.TokenKind.TokenKind, Bytes.is_word_byte}
+use Rattle.galileo_lexer.specs.{Spot.walk}
 use Rattle.galileo_lexer.specs.declared.token.TokenKind.TheVariants.{Word, Quoted, Equals, Semicolon}
-use Rattle.galileo_lexer.specs.Bytes.{is_word_byte}
-use Rattle.galileo_lexer.specs.Spot.{walk}
 use Rattle.galileo_lexer.specs.Pieces.{Piece, Blank, AWord, bytes_of}
-use Rattle.galileo_tree.specs.declared.raw.Placed.{Placed}
-use Rattle.galileo_tree.specs.declared.raw.RawAttribute.{RawAttribute}
-use Rattle.galileo_tree.specs.declared.raw.RawTop.{RawTop}
-use Rattle.galileo_tree.specs.declared.raw.RawGate.{RawGate}
-use Rattle.galileo_tree.specs.declared.raw.RawBasic.{RawBasic}
-use Rattle.galileo_tree.specs.declared.raw.Statement.{Statement}
+use Rattle.galileo_tree.specs.{declared.raw.Placed.Placed, declared.raw.RawAttribute.RawAttribute}
+use Rattle.galileo_tree.specs.{declared.raw.RawTop.RawTop, declared.raw.RawGate.RawGate, declared.raw.RawBasic.RawBasic}
+use Rattle.galileo_tree.specs.{declared.raw.Statement.Statement, ReadTree.HasShortNumbers, GateWord.kind_said}
 use Rattle.galileo_tree.specs.declared.raw.Statement.TheVariants as raw
-use Rattle.galileo_tree.specs.ReadTree.{HasShortNumbers}
 use Rattle.galileo_tree.specs.Lexeme.{Lexeme, is_bare, is_equals, is_name, is_semicolon, is_top_word, is_value, placed}
-use Rattle.galileo_tree.specs.GateWord.{kind_said}
 use Rattle.galileo_tree.specs.Grammar.{AreAttributes, IsDefinedName, Spells, SpellsAll, SpellsBasic, SpellsGate}
 use Rattle.galileo_tree.specs.Grammar.{SpellsTop, Written, attribute_in, lexemes_in as attribute_lexemes}
 use Rattle.deck_reading.specs.Written.{AreGood, Bare, InQuotes, IsGood, Top, Gate, Basic, WrittenName, WrittenStatement}

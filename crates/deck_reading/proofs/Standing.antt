@@ -2,16 +2,12 @@
 use Rattle.std.proofs.Common.{◌≡◌, ℕ, ◌<◌, List, [], ◌∷◌, length, map, refl, sym, ap, ◌∙◌, subst}
 use Rattle.std.specs.Prelude.{slice_index}
 use Rattle.std.proofs.lemmas.List.{length-map}
-use Rattle.fault_words.specs.declared.kind.GateKind.{GateKind}
-use Rattle.fault_words.specs.declared.place.Place.{Place}
+use Rattle.fault_words.specs.{declared.kind.GateKind.GateKind, declared.place.Place.Place}
 use Rattle.fault_definitions.specs.Tree.{FaultTree}
-use Rattle.galileo_tree.specs.declared.raw.RawAttribute.{RawAttribute}
-use Rattle.galileo_tree.specs.declared.raw.RawBasic.{RawBasic}
-use Rattle.galileo_tree.specs.declared.raw.Statement.{Statement}
-use Rattle.galileo_tree.specs.ReadTree.{ReadTree}
-use Rattle.tree_check.specs.declared.fault.CheckCode.{CheckCode}
+use Rattle.galileo_tree.specs.{declared.raw.RawAttribute.RawAttribute, declared.raw.RawBasic.RawBasic}
+use Rattle.galileo_tree.specs.{declared.raw.Statement.Statement, ReadTree.ReadTree}
+use Rattle.tree_check.specs.{declared.fault.CheckCode.CheckCode, Said.basics, Said.definitions}
 use Rattle.tree_check.specs.Checked.{NoneOf, Stands, after_cycles, before_cycles, places}
-use Rattle.tree_check.specs.Said.{basics, definitions}
 use Rattle.tree_check.specs.Numbered.{drops_fdeps, is_fdep_in, kept_inputs, kinds, numbered_definitions}
 use Rattle.tree_check.specs.Numbered.{numbered_gates}
 use Rattle.tree_check.specs.Numbered.{numbered_tops, unit_total}
@@ -100,8 +96,8 @@ module _ (ss : List Statement) (end : Place) where
   none_aside (code ∷ codes) none =
       (map_none away (places here code) (sym (class_aside ss end code) ∙ none.0), none_aside codes none.1)
 
-  stands_aside : (tree : FaultTree) → Stands aside tree → Stands here tree
-  stands_aside tree stands = record {
+  stands_aside : {tree : FaultTree} → Stands aside tree → Stands here tree
+  stands_aside {tree} stands = record {
     faultless = record {
       before = none_aside before_cycles stands.faultless.before;
       acyclic = acyclic_aside ss stands.faultless.acyclic;
@@ -116,4 +112,4 @@ pub stands_anywhere : (read : ReadTree) (statements : List WrittenStatement) (tr
     → Stands (said_tree statements) tree → Stands read tree
 stands_anywhere read statements tree says stands =
     let tree_with = λ (l : List Statement). (let r : ReadTree = record { statements = l; end = nowhere } in r) in
-    stands_aside read.statements read.end tree (subst (λ l. Stands (tree_with l) tree) (sym says) stands)
+    stands_aside read.statements read.end (subst (λ l. Stands (tree_with l) tree) (sym says) stands)

@@ -10,7 +10,7 @@ use Rattle.std.proofs.lemmas.Slice.Zip.{length-zip}
 use Rattle.fault_definitions.specs.declared.parts.TheConstants.{MOST_GATES}
 use Rattle.fault_words.specs.declared.kind.GateKind.{GateKind}
 use Rattle.fault_words.specs.declared.kind.GateKind.TheVariants.{And, Or, Votes, Pand, Por, Seq, Fdep, Csp, Wsp, Hsp}
-use Rattle.fault_definitions.specs.Tree.{FaultTree, IsUnitOf, is_fdep, is_fdep_kind, gate_count, unit_count}
+use Rattle.fault_definitions.specs.Tree.{FaultTree, IsUnitOf, is_fdep_kind, unit_count}
 use Rattle.fault_definitions.specs.Tree as trees
 use Rattle.fault_definitions.specs.WellFormed.{IsSoundGate, IsSoundKind, IsTree}
 use Rattle.tree_check.specs.Classes.{dummies, dummies_in, fdep_tops, gates_after_first, gates_beyond, inputless}
@@ -20,8 +20,7 @@ use Rattle.tree_check.specs.Classes.{wrong_votes}
 use Rattle.tree_check.specs.Numbered.{drops_fdeps, is_fdep_in, is_gate, is_spare_kind, kept_by, kept_inputs}
 use Rattle.tree_check.specs.Numbered.{kinds}
 use Rattle.tree_check.specs.TreeOf.{input_lists, numbers}
-use Rattle.deck_reading.proofs.Anywhere.{Numbered, NumberedGate}
-use Rattle.deck_reading.proofs.Passing.{map_through}
+use Rattle.deck_reading.proofs.{Anywhere.Numbered, Anywhere.NumberedGate, Passing.map_through}
 use Rattle.deck_reading.proofs.TreeLists.{map_same, node_at, numbered_at}
 
 -- ---- lists of which nothing is left, or all
@@ -66,7 +65,7 @@ zip_second [] (y ∷ ys) same = absurd (omega arith)
 zip_second (x ∷ xs) [] same = absurd (omega arith)
 zip_second (x ∷ xs) (y ∷ ys) same = ap (λ l. y ∷ l) (zip_second xs ys (omega arith))
 
-module _ (tree : FaultTree) (kept : IsTree tree) where
+module _ {tree : FaultTree} (kept : IsTree tree) where
   abbrev N : ℕ → Numbered
   N = node_at tree kept
 

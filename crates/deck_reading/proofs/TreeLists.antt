@@ -13,17 +13,13 @@ use Rattle.std.proofs.lemmas.List.Folds.{flat_map-map}
 use Rattle.std.proofs.lemmas.List.FromFn.{get_or-map-range_with_len, get_or-range_with_len, length-map-range_with_len}
 use Rattle.std.proofs.lemmas.List.FromFn.{length-range_with_len}
 use Rattle.std.proofs.lemmas.Slice.Zip.{get_or-zip, length-zip}
-use Rattle.fault_words.specs.declared.kind.GateKind.{GateKind}
-use Rattle.fault_words.specs.declared.kind.GateKind.TheVariants.{Fdep}
-use Rattle.fault_definitions.specs.Tree.{FaultTree, IsGateOf, IsNodeOf, IsUnitOf, attributes_of, gate_count, inputs_of}
+use Rattle.fault_words.specs.{declared.kind.GateKind.GateKind, declared.kind.GateKind.TheVariants.Fdep}
+use Rattle.fault_definitions.specs.Tree.{FaultTree, IsNodeOf, attributes_of, gate_count, inputs_of}
 use Rattle.fault_definitions.specs.Tree.{kind_of, name_of, node_count, unit_count}
 use Rattle.fault_definitions.specs.Tree as trees
 use Rattle.fault_definitions.specs.WellFormed.{IsSoundGate, IsTree}
-use Rattle.galileo_tree.specs.declared.raw.Placed.{Placed}
-use Rattle.galileo_tree.specs.declared.raw.RawBasic.{RawBasic}
-use Rattle.galileo_tree.specs.declared.raw.RawGate.{RawGate}
-use Rattle.galileo_tree.specs.declared.raw.RawTop.{RawTop}
-use Rattle.galileo_tree.specs.declared.raw.Statement.{Statement}
+use Rattle.galileo_tree.specs.{declared.raw.Placed.Placed, declared.raw.RawBasic.RawBasic, declared.raw.RawGate.RawGate}
+use Rattle.galileo_tree.specs.{declared.raw.RawTop.RawTop, declared.raw.Statement.Statement}
 use Rattle.tree_check.specs.Said.{basic_in, basics, definition_in, definitions, gate_in, gates}
 use Rattle.fault_words.specs.Names.{has_name, same_name, number_in}
 use Rattle.tree_check.specs.Said.{names, top_in, tops, uses, uses_in}
@@ -31,21 +27,19 @@ use Rattle.tree_check.specs.Numbered.{numbered, numbered_definitions, numbered_g
 use Rattle.tree_check.specs.Numbered.{numbered_tops}
 use Rattle.tree_check.specs.Numbered.{unit_total}
 use Rattle.tree_check.specs.TreeOf.{numbers}
-use Rattle.tree_check.proofs.Differ.{same_is, same_itself}
-use Rattle.tree_check.proofs.Numbers.{number_some}
+use Rattle.tree_check.proofs.{Differ.same_is, Differ.same_itself, Numbers.number_some}
 use Rattle.deck_reading.specs.TreeStatements.{gate_numbers, gate_statement, node_name, statements_of, top_statement}
 use Rattle.deck_reading.specs.TreeStatements.{unit_numbers, unit_statement}
 use Rattle.deck_reading.specs.Unplaced.{attributed, named, nowhere, said}
-use Rattle.deck_reading.proofs.Anywhere.{Numbered, NumberedGate}
-use Rattle.deck_reading.proofs.Passing.{map_through}
+use Rattle.deck_reading.proofs.{Anywhere.Numbered, Anywhere.NumberedGate, Passing.map_through}
 
 -- ---- lists by number
 
 -- the values of numbers from one on are a list
-pub listed : {X : Type 0} (xs : List X) (f : ℕ → X) (start count : ℕ) → length xs ≡ count
+pub listed : {X : Type 0} {xs : List X} (f : ℕ → X) (start count : ℕ) → length xs ≡ count
     → ((k : ℕ) (d : X) → k < count → f (start + k) ≡ get_or xs k d)
     → map f (range_with_len start count) ≡ xs
-listed xs f start count size each =
+listed {xs} f start count size each =
     same_lists (map f (range_with_len start count)) xs (length-map-range_with_len f start count ∙ sym size)
     (λ k d short.
     let within : k < count = omega (arith, short, length-map-range_with_len f start count) in
@@ -188,15 +182,12 @@ module _ (tree : FaultTree) (kept : IsTree tree) where
       let of_gate = λ (gate : RawGate). gate.name.name in
       let all : length tree.names ≡ units + gate_count tree = kept.names_all in
       let front : map (name_of tree) (unit_numbers tree) ≡ take units tree.names =
-      listed (take units tree.names) (name_of tree) 1 units (length-take-le units tree.names (omega arith))
-      (λ k d short.
+      listed (name_of tree) 1 units (length-take-le units tree.names (omega arith)) (λ k d short.
       let at : 1 + k - 1 ≡ k = omega arith in
       ap (λ n. get_or tree.names n []) at ∙ get_or_default tree.names k [] d (omega arith)
       ∙ sym (get_or-take units tree.names k d short)) in
       let back : map (name_of tree) (gate_numbers tree) ≡ drop units tree.names =
-      listed (drop units tree.names) (name_of tree) (units + 1) (gate_count tree)
-      (omega (arith, length-drop units tree.names))
-      (λ k d short.
+      listed (name_of tree) (units + 1) (gate_count tree) (omega (arith, length-drop units tree.names)) (λ k d short.
       let at : units + 1 + k - 1 ≡ units + k = omega arith in
       ap (λ n. get_or tree.names n []) at ∙ get_or_default tree.names (units + k) [] d (omega arith)
       ∙ sym (get_or-drop units tree.names k d)) in
@@ -231,7 +222,7 @@ module _ (tree : FaultTree) (kept : IsTree tree) where
   pairs_are =
       let units = unit_count tree in
       let all : length tree.inputs ≡ gate_count tree = kept.inputs_all in
-      listed (trees.gates tree) (λ g. (kind_of tree g, inputs_of tree g)) (units + 1) (gate_count tree)
+      listed (λ g. (kind_of tree g, inputs_of tree g)) (units + 1) (gate_count tree)
       (omega (arith, length-zip tree.kinds tree.inputs))
       (λ k d short.
       let at : units + 1 + k - units - 1 ≡ k = omega arith in

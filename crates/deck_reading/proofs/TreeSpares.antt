@@ -13,8 +13,7 @@ use Rattle.fault_definitions.specs.Tree as trees
 use Rattle.fault_definitions.specs.WellFormed.{IsTree, primaries, primary_in, spares, spares_in}
 use Rattle.tree_check.specs.Classes.{SpareUse, clash, later_uses, shared_after, shared_spares, spare_uses}
 use Rattle.tree_check.specs.Classes.{spare_uses_in, uses_of}
-use Rattle.deck_reading.proofs.Anywhere.{Numbered}
-use Rattle.deck_reading.proofs.TreeLists.{node_at, numbered_at}
+use Rattle.deck_reading.proofs.{Anywhere.Numbered, TreeLists.node_at, TreeLists.numbered_at}
 
 -- ---- uses by whether they are first
 
@@ -176,7 +175,7 @@ none_shared earlier (later ∷ uses) apart cross =
 
 -- ---- the uses of a tree's gates
 
-module _ (tree : FaultTree) (kept : IsTree tree) where
+module _ {tree : FaultTree} (kept : IsTree tree) where
   abbrev nodes_in : List ℕ → List Numbered
   nodes_in inputs = map (node_at tree kept) inputs
 

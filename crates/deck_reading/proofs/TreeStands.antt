@@ -12,10 +12,9 @@ use Rattle.std.proofs.lemmas.List.FromFn.{get_or-range_with_len, length-map-rang
 use lib.Pointwise.{bytes_decides}
 use Rattle.unit_sets.specs.Unit.{most_units}
 use Rattle.unit_sets.proofs.UnitListLemmas.{Contains-from_among}
-use Rattle.fault_words.specs.declared.attribute.Attribute.{Attribute}
-use Rattle.fault_words.specs.declared.kind.GateKind.{GateKind}
+use Rattle.fault_words.specs.{declared.attribute.Attribute.Attribute, declared.kind.GateKind.GateKind}
+use Rattle.fault_words.specs.{Name.is_bare_name, Name.is_name}
 use Rattle.fault_words.specs.declared.kind.GateKind.TheVariants.{And, Or, Votes, Pand, Por, Seq, Fdep, Csp, Wsp, Hsp}
-use Rattle.fault_words.specs.Name.{is_bare_name, is_name}
 use Rattle.fault_definitions.proofs.RankLaws.{below_are_nodes, below_ranks, gate_sound, inputs_are_nodes}
 use Rattle.fault_definitions.specs.Tree.{FaultTree, IsNodeOf, attributes_of, gate_count, inputs_of, is_above_units}
 use Rattle.fault_definitions.specs.Tree.{kind_of}
@@ -23,11 +22,8 @@ use Rattle.fault_definitions.specs.Tree.{name_of, rank_of, unit_count}
 use Rattle.fault_definitions.specs.Tree as trees
 use Rattle.fault_definitions.specs.Trigger.{below}
 use Rattle.fault_definitions.specs.WellFormed.{IsSoundAttribute, IsSoundKind, IsTree}
-use Rattle.galileo_tree.specs.declared.raw.Placed.{Placed}
-use Rattle.galileo_tree.specs.declared.raw.RawAttribute.{RawAttribute}
-use Rattle.galileo_tree.specs.declared.raw.RawBasic.{RawBasic}
-use Rattle.galileo_tree.specs.declared.raw.RawTop.{RawTop}
-use Rattle.galileo_tree.specs.ReadTree.{HasShortNumbers}
+use Rattle.galileo_tree.specs.{declared.raw.Placed.Placed, declared.raw.RawAttribute.RawAttribute}
+use Rattle.galileo_tree.specs.{declared.raw.RawBasic.RawBasic, declared.raw.RawTop.RawTop, ReadTree.HasShortNumbers}
 use Rattle.tree_check.specs.Checked.{NoneOf, Stands, before_cycles}
 use Rattle.tree_check.specs.Classes.{dummies, fdep_tops, gates_after_first, gates_beyond, inputless, is_empty}
 use Rattle.tree_check.specs.Classes.{is_replicated, repeats, replicated, shared_spares, short_fdeps, undefined}
@@ -42,15 +38,14 @@ use Rattle.deck_reading.specs.TreeStatements.{HasNames, IsNamed, gate_numbers, g
 use Rattle.deck_reading.specs.TreeStatements.{top_statement, unit_numbers, unit_statement}
 use Rattle.deck_reading.specs.Unplaced.{attributed, named, nowhere, said_tree}
 use Rattle.deck_reading.specs.Written.{AreGood, IsGood, WrittenStatement, is_good_attribute, is_good_name}
-use Rattle.deck_reading.proofs.Anywhere.{Numbered, NumberedGate}
-use Rattle.deck_reading.proofs.Passing.{map_through}
+use Rattle.deck_reading.proofs.{Anywhere.Numbered, Anywhere.NumberedGate, Passing.map_through, TreeSpares.no_shared}
+use Rattle.deck_reading.proofs.{TreeSpares.none_any}
 use Rattle.deck_reading.proofs.TreeClasses.{filter_empty, filter_none, flat_none, inputs_are, kinds_are}
 use Rattle.deck_reading.proofs.TreeClasses.{no_dependent_gate, no_dummies, no_fdep_top, no_gate_beyond, no_inputless}
 use Rattle.deck_reading.proofs.TreeClasses.{no_short_fdep, no_spare_gate, no_wrong_vote}
 use Rattle.deck_reading.proofs.TreeLists.{basic_at, basics_are, definitions_nodes, input_names, listed}
 use Rattle.deck_reading.proofs.TreeLists.{name_at, name_known, names_are, node_at, numbered_at, numbered_gates_are}
 use Rattle.deck_reading.proofs.TreeLists.{numbered_tops_are, ss, tops_are, units_are, uses_are}
-use Rattle.deck_reading.proofs.TreeSpares.{no_shared, none_any}
 
 -- ---- names that differ
 
@@ -131,7 +126,7 @@ module _ (tree : FaultTree) (kept : IsTree tree) where
       All-map Known named (map (node_name tree) (inputs_of tree g))
       (All-map (λ name. Known (named name)) (node_name tree) (inputs_of tree g)
       (All-weaker (IsNodeOf tree) (λ n. Known (name_at tree kept n)) known (inputs_of tree g)
-      (inputs_are_nodes tree kept g above)))
+      (inputs_are_nodes kept g above)))
 
   no_undefined : undefined (names (ss tree kept)) (uses (ss tree kept)) ≡ []
   no_undefined =
@@ -184,17 +179,16 @@ module _ (tree : FaultTree) (kept : IsTree tree) where
     ranks = [];
   }
 
-  falls : (x y : ℕ) → LeadsTo bare_tree x y → IsNodeOf tree x → (rank_of tree y < rank_of tree x) × IsNodeOf tree y
-  falls x y (edge among_below) is =
+  falls : {x y : ℕ} → LeadsTo bare_tree x y → IsNodeOf tree x → (rank_of tree y < rank_of tree x) × IsNodeOf tree y
+  falls {x} {y} (edge among_below) is =
       let there = Contains-from_among (below tree x) y among_below in (
-        All-contains (λ n. rank_of tree n < rank_of tree x) (below tree x) y (below_ranks tree kept x is) there,
-        All-contains (IsNodeOf tree) (below tree x) y (below_are_nodes tree kept x) there,
+        All-contains (λ n. rank_of tree n < rank_of tree x) (below tree x) y (below_ranks kept x is) there,
+        All-contains (IsNodeOf tree) (below tree x) y (below_are_nodes kept x) there,
       )
-  falls x z (way {y = y} among_below leads) is =
+  falls {x} (way {y = y} among_below leads) is =
       let there = Contains-from_among (below tree x) y among_below in
-      let lower = All-contains (λ n. rank_of tree n < rank_of tree x) (below tree x) y
-      (below_ranks tree kept x is) there in
-      let more = falls y z leads (All-contains (IsNodeOf tree) (below tree x) y (below_are_nodes tree kept x) there) in
+      let lower = All-contains (λ n. rank_of tree n < rank_of tree x) (below tree x) y (below_ranks kept x is) there in
+      let more = falls leads (All-contains (IsNodeOf tree) (below tree x) y (below_are_nodes kept x) there) in
       (let further = more.0 in omega (arith, lower, further), more.1)
 
   -- ---- the tree
@@ -207,8 +201,7 @@ module _ (tree : FaultTree) (kept : IsTree tree) where
       ap (map all) (basics_are tree kept)
       ∙ map_through all (basic_at tree kept) (attributes_of tree) (λ u. same_attributes (attributes_of tree u))
       (unit_numbers tree)
-      ∙ listed tree.attributes (attributes_of tree) 1 (unit_count tree) refl
-      (λ k d short.
+      ∙ listed {xs = tree.attributes} (attributes_of tree) 1 (unit_count tree) refl (λ k d short.
       let at : 1 + k - 1 ≡ k = omega arith in
       ap (λ n. get_or tree.attributes n []) at ∙ get_or_default tree.attributes k [] d short)
     where
@@ -226,11 +219,11 @@ module _ (tree : FaultTree) (kept : IsTree tree) where
     ranks = ranks;
   }
   tree_is ranks =
-      let kinds_path = ap kinds (numbered_gates_are tree kept) ∙ kinds_are tree kept in
+      let kinds_path = ap kinds (numbered_gates_are tree kept) ∙ kinds_are kept in
       let inputs_path =
       ap (λ n. input_lists n (numbered_gates (ss tree kept))) (units_are tree kept)
       ∙ ap (input_lists (unit_count tree)) (numbered_gates_are tree kept)
-      ∙ inputs_are tree kept in
+      ∙ inputs_are kept in
       let top_path = ap first_number (numbered_tops_are tree kept) in
       λ i. record {
         names = names_are tree kept i;
@@ -249,8 +242,7 @@ module _ (tree : FaultTree) (kept : IsTree tree) where
       ∙ length-map (definitions (ss tree kept)) (numbered (names (ss tree kept))) in
       let node : IsNodeOf tree (slice_index ns i) = All-get_or (IsNodeOf tree) ns i 0 (omega arith)
       (definitions_nodes tree kept) in
-      let back = falls (slice_index ns i) (slice_index ns i)
-      (subst (λ t. LeadsTo t (slice_index ns i) (slice_index ns i)) (tree_is []) cyclic) node in
+      let back = falls (subst (λ t. LeadsTo t (slice_index ns i) (slice_index ns i)) (tree_is []) cyclic) node in
       (let lower = back.0 in omega arith)
 
   -- ---- all classes
@@ -272,17 +264,14 @@ module _ (tree : FaultTree) (kept : IsTree tree) where
   before : NoneOf (said_tree (statements_of tree)) before_cycles
   before =
       also no_missing (also no_further (also no_repeats (also no_undefined
-      (also (by_gates wrong_votes (no_wrong_vote tree kept))
-      (also (by_units dummies (no_dummies tree kept))
-      (also (by_units inputless (no_inputless tree kept))
-      (also (by_gates short_fdeps (no_short_fdep tree kept))
+      (also (by_gates wrong_votes (no_wrong_vote kept)) (also (by_units dummies (no_dummies kept))
+      (also (by_units inputless (no_inputless kept)) (also (by_gates short_fdeps (no_short_fdep kept))
       (also (by_units (λ units gates. flat_map (gates_after_first trees.is_fdep_kind units) gates)
-      (no_dependent_gate tree kept))
-      (also (by_units (λ units gates. flat_map (gates_after_first is_spare_kind units) gates) (no_spare_gate tree kept))
-      (also (by_gates shared_spares (no_shared tree kept))
-      (also no_replicated
+      (no_dependent_gate kept))
+      (also (by_units (λ units gates. flat_map (gates_after_first is_spare_kind units) gates) (no_spare_gate kept))
+      (also (by_gates shared_spares (no_shared kept)) (also no_replicated
       (also (ap (fdep_tops (unit_total (ss tree kept)) (numbered_gates (ss tree kept))) (numbered_tops_are tree kept)
-      ∙ by_units (λ units gates. fdep_tops units gates (node_at tree kept tree.top ∷ [])) (no_fdep_top tree kept))
+      ∙ by_units (λ units gates. fdep_tops units gates (node_at tree kept tree.top ∷ [])) (no_fdep_top kept))
       tt))))))))))))
 
   pub stands : Stands (said_tree (statements_of tree)) tree
@@ -290,7 +279,7 @@ module _ (tree : FaultTree) (kept : IsTree tree) where
     faultless = record {
       before = before;
       acyclic = acyclic;
-      after = (no_unit_beyond, (by_gates gates_beyond (no_gate_beyond tree kept), tt));
+      after = (no_unit_beyond, (by_gates gates_beyond (no_gate_beyond kept), tt));
     };
     is = sym (tree_is tree.ranks);
   }
@@ -324,7 +313,7 @@ module _ (tree : FaultTree) (kept : IsTree tree) where
     gate_good : (g : ℕ) → unit_count tree + 1 ≤ g → g < unit_count tree + 1 + gate_count tree
         → IsGood (gate_statement tree g)
     gate_good g low high =
-        let sound = gate_sound tree kept g (omega arith, omega arith) in (
+        let sound = gate_sound kept g (omega arith, omega arith) in (
           name_good g (omega arith, omega arith),
           short_kind (kind_of tree g) (inputs_of tree g) sound.kind,
           inputs_good

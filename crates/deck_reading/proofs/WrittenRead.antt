@@ -4,13 +4,10 @@ use Rattle.std.specs.Prelude.{map}
 use Rattle.galileo_lexer.specs.Spot.{origin, place_of, walk}
 use Rattle.galileo_lexer.specs.Lexed.{Lexed, tokens_of}
 use Rattle.galileo_lexer.specs.Pieces.{Piece, Reads, tokens_from}
-use Rattle.galileo_tree.specs.declared.fault.ParseFault.{ParseFault}
-use Rattle.galileo_tree.specs.Grammar.{IsReading, SpellsAll}
-use Rattle.galileo_tree.specs.Lexeme.{lexeme_of, place_at}
-use Rattle.galileo_tree.specs.Parsed.{lexemes_of, parsed_text}
-use Rattle.galileo_tree.specs.ReadTree.{ReadTree}
-use Rattle.deck_reading.specs.Relations.{stream_of}
-use Rattle.deck_reading.specs.Unplaced.{SaysAll}
+use Rattle.galileo_tree.specs.{declared.fault.ParseFault.ParseFault, Grammar.IsReading, Grammar.SpellsAll}
+use Rattle.galileo_tree.specs.{Lexeme.lexeme_of, Lexeme.place_at, Parsed.lexemes_of, Parsed.parsed_text}
+use Rattle.galileo_tree.specs.{ReadTree.ReadTree}
+use Rattle.deck_reading.specs.{Relations.stream_of, Unplaced.SaysAll}
 use Rattle.deck_reading.specs.Written.{AreGood, WrittenStatement, written}
 use Rattle.deck_reading.proofs.Pieces.{all_are, all_pieces, all_spelled, spelled}
 use Rattle.deck_reading.proofs.Lexemes.{is_lexed, lexed_as, lexemes_spelled}

@@ -1,15 +1,10 @@
 -- What the bytes of a deck stand for: the tree of its tree part, and the crews of its crew part.
 use Rattle.std.specs.Prelude.{◌≡◌, ℕ, List, take, drop, Option, Some, None, Result, Ok}
-use Rattle.fault_definitions.specs.Tree.{FaultTree}
-use Rattle.fault_definitions.specs.WellFormed.{IsTree}
-use Rattle.galileo_tree.specs.Parsed.{parsed_text}
-use Rattle.galileo_tree.specs.ReadTree.{ReadTree}
+use Rattle.fault_definitions.specs.{Tree.FaultTree, WellFormed.IsTree}
+use Rattle.galileo_tree.specs.{Parsed.parsed_text, ReadTree.ReadTree}
 use Rattle.tree_check.specs.Checked.{Stands}
-use Rattle.crew_script.specs.Crews.{crews_of}
-use Rattle.crew_script.specs.Deck.{split_of}
-use Rattle.crew_script.specs.declared.deck.CrewsAt.{CrewsAt}
-use Rattle.crew_script.specs.declared.dockets.Crew.{Crew}
-use Rattle.crew_script.specs.declared.fault.CrewFault.{CrewFault}
+use Rattle.crew_script.specs.{Crews.crews_of, Deck.split_of, declared.deck.CrewsAt.CrewsAt, declared.dockets.Crew.Crew}
+use Rattle.crew_script.specs.{declared.fault.CrewFault.CrewFault}
 
 -- ---- the tree part
 

@@ -3,21 +3,15 @@
 use Rattle.std.specs.Prelude.{◌≡◌, ◌⊎◌, ℕ, List, Result, Err}
 use Rattle.fault_definitions.specs.Tree.{FaultTree}
 use Rattle.fault_words.specs.declared.place.Place.{Place}
-use Rattle.galileo_tree.specs.declared.fault.ParseFault.{ParseFault}
+use Rattle.galileo_tree.specs.{declared.fault.ParseFault.ParseFault, Lexeme.place_at, ReadTree.ReadTree}
 use Rattle.galileo_tree.specs.declared.fault.ParseFault.TheVariants as parse
-use Rattle.galileo_tree.specs.Lexeme.{place_at}
-use Rattle.galileo_tree.specs.ReadTree.{ReadTree}
-use Rattle.tree_check.specs.Checked.{IsFirstFault}
-use Rattle.tree_check.specs.declared.fault.CheckCode.{CheckCode}
-use Rattle.crew_script.specs.declared.fault.CrewCode.{CrewCode}
-use Rattle.crew_script.specs.declared.fault.CrewFault.{CrewFault}
+use Rattle.tree_check.specs.{Checked.IsFirstFault, declared.fault.CheckCode.CheckCode}
+use Rattle.crew_script.specs.{declared.fault.CrewCode.CrewCode, declared.fault.CrewFault.CrewFault}
 use Rattle.crew_script.specs.declared.fault.CrewFault.TheVariants as crew
-use Rattle.deck_reading.specs.declared.deck.CrewPart.{CrewPart}
-use Rattle.deck_reading.specs.declared.deck.DeckEnd.{DeckEnd}
+use Rattle.deck_reading.specs.{declared.deck.CrewPart.CrewPart, declared.deck.DeckEnd.DeckEnd, Deck.StandsFor}
+use Rattle.deck_reading.specs.{Faults.IsDeckFault, Faults.IsTreeFault}
 use Rattle.deck_reading.specs.declared.deck.DeckEnd.TheVariants as end
 use Rattle.deck_reading.specs.declared.fault.FaultCode.TheVariants as report
-use Rattle.deck_reading.specs.Deck.{StandsFor}
-use Rattle.deck_reading.specs.Faults.{IsDeckFault, IsTreeFault}
 
 -- why a text gives no tree: it has this fault, or memory was refused, for which no cause is owed
 abbrev pub IsTreeEnd : List ℕ → DeckEnd → Type 0

@@ -4,22 +4,16 @@ use Rattle.std.specs.Prelude.{◌≡◌, ℕ, List, Option, Some, None, Result, 
 use Rattle.fault_definitions.specs.Tree.{FaultTree}
 use Rattle.fault_words.specs.declared.place.Place.{Place}
 use Rattle.galileo_lexer.specs.Spot.{place_behind}
-use Rattle.galileo_tree.specs.declared.fault.ParseFault.{ParseFault}
+use Rattle.galileo_tree.specs.{declared.fault.ParseFault.ParseFault, Lexeme.place_at, Parsed.parsed_text}
+use Rattle.galileo_tree.specs.{ReadTree.ReadTree}
 use Rattle.galileo_tree.specs.declared.fault.ParseFault.TheVariants as parse
-use Rattle.galileo_tree.specs.Lexeme.{place_at}
-use Rattle.galileo_tree.specs.Parsed.{parsed_text}
-use Rattle.galileo_tree.specs.ReadTree.{ReadTree}
-use Rattle.tree_check.specs.Checked.{IsFirstFault}
-use Rattle.tree_check.specs.declared.fault.CheckCode.{CheckCode}
-use Rattle.crew_script.specs.declared.dockets.Crew.{Crew}
-use Rattle.crew_script.specs.declared.fault.CrewCode.{CrewCode}
-use Rattle.crew_script.specs.declared.fault.CrewCode.TheVariants.{NoCrewPart}
-use Rattle.crew_script.specs.declared.fault.CrewFault.{CrewFault}
-use Rattle.crew_script.specs.declared.fault.CrewFault.TheVariants.{Fault}
+use Rattle.tree_check.specs.{Checked.IsFirstFault, declared.fault.CheckCode.CheckCode}
+use Rattle.crew_script.specs.{declared.dockets.Crew.Crew, declared.fault.CrewCode.CrewCode}
+use Rattle.crew_script.specs.{declared.fault.CrewCode.TheVariants.NoCrewPart, declared.fault.CrewFault.CrewFault}
+use Rattle.crew_script.specs.{declared.fault.CrewFault.TheVariants.Fault}
 use Rattle.deck_reading.specs.Deck.{StandsFor, crew_part, tree_part}
-use Rattle.deck_reading.specs.declared.fault.DeckFault.{DeckFault}
+use Rattle.deck_reading.specs.{declared.fault.DeckFault.DeckFault, declared.deck.CrewPart.CrewPart}
 use Rattle.deck_reading.specs.declared.fault.FaultCode.TheVariants as report
-use Rattle.deck_reading.specs.declared.deck.CrewPart.{CrewPart}
 use Rattle.deck_reading.specs.declared.deck.CrewPart.TheVariants.{Unread, IfAny, Needed}
 
 -- ---- the tree part

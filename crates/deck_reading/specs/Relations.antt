@@ -1,24 +1,14 @@
 -- What a deck is read as, by relations between whole lists: the line that divides it, the tokens of its tree part, the
 -- statements that the tokens spell, and the crews that the lines of its crew part say.
 use Rattle.std.specs.Prelude.{◌≡◌, ℕ, List, map, take, drop, Some, Result, Ok}
-use Rattle.fault_definitions.specs.Tree.{FaultTree}
-use Rattle.fault_definitions.specs.WellFormed.{IsTree}
-use Rattle.galileo_lexer.specs.Lexed.{Lexed}
-use Rattle.galileo_lexer.specs.Pieces.{Reads}
-use Rattle.galileo_tree.specs.declared.fault.ParseFault.{ParseFault}
-use Rattle.galileo_tree.specs.Grammar.{IsReading}
-use Rattle.galileo_tree.specs.Lexeme.{Stream, lexeme_of}
-use Rattle.galileo_tree.specs.ReadTree.{ReadTree}
+use Rattle.fault_definitions.specs.{Tree.FaultTree, WellFormed.IsTree}
+use Rattle.galileo_lexer.specs.{Lexed.Lexed, Pieces.Reads}
+use Rattle.galileo_tree.specs.{declared.fault.ParseFault.ParseFault, Grammar.IsReading, Lexeme.Stream, Lexeme.lexeme_of}
+use Rattle.galileo_tree.specs.{ReadTree.ReadTree}
 use Rattle.tree_check.specs.Checked.{Stands}
-use Rattle.crew_script.specs.CrewsOf.{Answers}
-use Rattle.crew_script.specs.Deck.{lines_of}
-use Rattle.crew_script.specs.Divides.{Divides}
-use Rattle.crew_script.specs.declared.deck.CrewsAt.{CrewsAt}
-use Rattle.crew_script.specs.declared.deck.Split.{Split}
-use Rattle.crew_script.specs.declared.dockets.Crew.{Crew}
-use Rattle.crew_script.specs.declared.fault.CrewFault.{CrewFault}
-use Rattle.deck_reading.specs.declared.fault.DeckFault.{DeckFault}
-use Rattle.deck_reading.specs.Faults.{IsFaultOf}
+use Rattle.crew_script.specs.{CrewsOf.Answers, Deck.lines_of, Divides.Divides, declared.deck.CrewsAt.CrewsAt}
+use Rattle.crew_script.specs.{declared.deck.Split.Split, declared.dockets.Crew.Crew, declared.fault.CrewFault.CrewFault}
+use Rattle.deck_reading.specs.{declared.fault.DeckFault.DeckFault, Faults.IsFaultOf}
 
 -- the lexemes of the tokens of a text
 abbrev pub stream_of : List ℕ → Lexed → Stream

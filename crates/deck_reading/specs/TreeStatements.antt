@@ -1,8 +1,7 @@
 -- The statements of a tree, as they are written with every name in quotes.
 use Rattle.std.specs.Prelude.{◌≡◌, ℕ, ◌+◌, true, List, ◌∷◌, ◌++◌, map, All}
 use Rattle.std.specs.List.{range_with_len}
-use Rattle.fault_words.specs.declared.attribute.Attribute.{Attribute}
-use Rattle.fault_words.specs.Name.{is_name}
+use Rattle.fault_words.specs.{declared.attribute.Attribute.Attribute, Name.is_name}
 use Rattle.fault_definitions.specs.Tree.{FaultTree, attributes_of, gate_count, inputs_of, kind_of, name_of, unit_count}
 use Rattle.deck_reading.specs.Written.{InQuotes, Top, Gate, Basic, WrittenName, WrittenStatement}
 

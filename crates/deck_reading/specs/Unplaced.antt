@@ -1,13 +1,10 @@
 -- What statements say, wherever they stand in a text: two are the same but for their places where they are equal once
 -- each place is put aside.
 use Rattle.std.specs.Prelude.{◌≡◌, List, map}
-use Rattle.fault_words.specs.declared.attribute.Attribute.{Attribute}
-use Rattle.fault_words.specs.declared.place.Place.{Place}
-use Rattle.galileo_tree.specs.declared.raw.Placed.{Placed}
-use Rattle.galileo_tree.specs.declared.raw.RawAttribute.{RawAttribute}
-use Rattle.galileo_tree.specs.declared.raw.Statement.{Statement}
+use Rattle.fault_words.specs.{declared.attribute.Attribute.Attribute, declared.place.Place.Place}
+use Rattle.galileo_tree.specs.{declared.raw.Placed.Placed, declared.raw.RawAttribute.RawAttribute}
+use Rattle.galileo_tree.specs.{declared.raw.Statement.Statement, ReadTree.ReadTree}
 use Rattle.galileo_tree.specs.declared.raw.Statement.TheVariants as raw
-use Rattle.galileo_tree.specs.ReadTree.{ReadTree}
 use Rattle.deck_reading.specs.Written.{WrittenName, WrittenStatement, Top, Gate, Basic, name_in}
 
 -- a place that no text has

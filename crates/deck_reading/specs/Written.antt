@@ -1,11 +1,9 @@
 -- Statements as they are written, one a line: names bare or in quotes, and one blank in front of each word but the
 -- first.
 use Rattle.std.specs.Prelude.{◌≡◌, ℕ, Bool, true, not, ◌&&◌, if◌then◌else◌, List, ◌++◌, All, codes}
-use Rattle.std.specs.List.{flat_map, list_all}
-use Rattle.std.specs.Str.{str_eq_ignore_ascii_case}
-use Rattle.fault_words.specs.declared.attribute.Attribute.{Attribute}
-use Rattle.fault_words.specs.declared.kind.GateKind.{GateKind}
-use Rattle.fault_words.specs.Name.{is_bare_name, is_name}
+use Rattle.std.specs.{List.flat_map, List.list_all, Str.str_eq_ignore_ascii_case}
+use Rattle.fault_words.specs.{declared.attribute.Attribute.Attribute, declared.kind.GateKind.GateKind}
+use Rattle.fault_words.specs.{Name.is_bare_name, Name.is_name}
 use Rattle.galileo_lexer.specs.Bytes.{is_word_byte}
 use Rattle.galileo_tree.specs.ReadTree.{HasShortNumbers}
 use Rattle.text_pieces.specs.GateWords.{gate_word}

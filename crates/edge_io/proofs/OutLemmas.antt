@@ -11,9 +11,9 @@ use Rattle.event_counts.proofs.CountLemmas.{Rose-later}
 use Rattle.edge_io.specs.Out.{Delivers, Output, Puts, has_failed, sink_of, waiting}
 
 -- nothing put
-pub Puts-none : {K : Type 0} (taken : K → Option (List ℕ)) (faults : K → ℕ) (out : Output K)
+pub Puts-none : {K : Type 0} {taken : K → Option (List ℕ)} {faults : K → ℕ} {out : Output K}
     → Puts taken faults out out []
-Puts-none taken faults out = record {
+Puts-none {taken} {out} = record {
   same_sink = refl;
   front = [];
   left = waiting out;
@@ -26,9 +26,9 @@ Puts-none taken faults out = record {
 }
 
 -- a text put while a write had failed before
-pub Puts-failed : {K : Type 0} (taken : K → Option (List ℕ)) (faults : K → ℕ) (out : Output K) (text : List ℕ)
+pub Puts-failed : {K : Type 0} {taken : K → Option (List ℕ)} {faults : K → ℕ} {out : Output K} {text : List ℕ}
     → has_failed out ≡ true → Puts taken faults out out text
-Puts-failed taken faults out text failed = record {
+Puts-failed {taken} {out} {text} failed = record {
   same_sink = refl;
   front = [];
   left = waiting out ++ text;
@@ -41,10 +41,10 @@ Puts-failed taken faults out text failed = record {
 }
 
 -- a text that waits
-pub Puts-held : {K : Type 0} (taken : K → Option (List ℕ)) (faults : K → ℕ) (old new : Output K) (text : List ℕ)
+pub Puts-held : {K : Type 0} {taken : K → Option (List ℕ)} {faults : K → ℕ} {old new : Output K} {text : List ℕ}
     → new.sink ≡ old.sink → new.waiting ≡ old.waiting ++ text → new.has_failed ≡ old.has_failed
     → Puts taken faults old new text
-Puts-held taken faults old new text sink grown state = record {
+Puts-held {taken} {faults} {old} {text} sink grown state = record {
   same_sink = ap (λ s. s.ghost_name) sink;
   front = [];
   left = waiting old ++ text;
@@ -57,10 +57,10 @@ Puts-held taken faults old new text sink grown state = record {
 }
 
 -- one text put behind another: where the first put failed the second wrote nothing
-pub Puts-trans : {K : Type 0} (taken : K → Option (List ℕ)) (faults : K → ℕ) (old mid new : Output K)
-    (text more : List ℕ)
+pub Puts-trans : {K : Type 0} {taken : K → Option (List ℕ)} {faults : K → ℕ} {old mid new : Output K}
+    {text more : List ℕ}
     → Puts taken faults old mid text → Puts taken faults mid new more → Puts taken faults old new (text ++ more)
-Puts-trans taken faults old mid new text more first second =
+Puts-trans {taken} {faults} {old} {mid} {new} {text} {more} first second =
     let same = second.same_sink ∙ first.same_sink in
     let steady : faults (sink_of old) ≤ faults (sink_of new) = omega (arith, first.steady, second.steady) in
     let stopped : has_failed old ≡ true → (has_failed new ≡ true) × (sink_of new ≡ sink_of old) =
@@ -98,8 +98,7 @@ Puts-trans taken faults old mid new text more first second =
       waits = second.waits;
       stopped = stopped;
       rose =
-          λ _ failed. Rose-later (faults (sink_of old)) (faults (sink_of mid)) (faults (sink_of new)) first.steady
-          (second.rose fine failed);
+          λ _ failed. Rose-later (faults (sink_of old)) (faults (sink_of mid)) first.steady (second.rose fine failed);
       steady = steady;
     } in
     elim (has_failed mid) as P [ true ↦ after_failure | false ↦ after_success ] refl
@@ -110,8 +109,8 @@ OnErr-always (Ok x) fact = tt
 OnErr-always (Err e) fact = fact
 
 -- a text that was put first, and then finished
-pub Puts-finished : {K W : Type 0} (taken : K → Option (List ℕ)) (faults : K → ℕ) (old out : Output K) (new : K)
-    (text left : List ℕ) (answer : Result (Unit {0}) W)
+pub Puts-finished : {K W : Type 0} {taken : K → Option (List ℕ)} {faults : K → ℕ} {old out : Output K} {new : K}
+    {text left : List ℕ} (answer : Result (Unit {0}) W)
     → waiting old ≡ [] → has_failed old ≡ false → Puts taken faults old out text
     → OnOk answer (Appends (taken (sink_of out)) (taken new) (waiting out))
     → TakesFront taken (sink_of out) new (waiting out) left
@@ -119,7 +118,8 @@ pub Puts-finished : {K W : Type 0} (taken : K → Option (List ℕ)) (faults : K
     → (has_failed out ≡ true → IsErr answer × (new ≡ sink_of out))
     → faults (sink_of out) ≤ faults new
     → Delivers taken faults (sink_of old) new text answer
-Puts-finished {K} {W} taken faults old out new text left answer none fine puts all front rose stopped steady =
+Puts-finished {K} {W} {taken} {faults} {old} {out} {new} {text} {left} answer none fine puts all front rose stopped
+    steady =
     let whole : text ≡ puts.front ++ puts.left = subst (λ l. l ++ text ≡ puts.front ++ puts.left) none puts.split in
     let P : Bool → Type 0 = λ b. has_failed out ≡ b → Delivers taken faults (sink_of old) new text answer in
     let after_failure : P true = λ failed.
@@ -157,7 +157,7 @@ Puts-finished {K} {W} taken faults old out new text left answer none fine puts a
             front.added;
       };
       rose =
-          on_err_weaker answer (Rose-later (faults (sink_of old)) (faults (sink_of out)) (faults new) puts.steady)
+          on_err_weaker answer (Rose-later (faults (sink_of old)) (faults (sink_of out)) {new = faults new} puts.steady)
           (rose going);
       steady = omega (arith, puts.steady, steady);
     } in

@@ -14,9 +14,9 @@ pub record HasRead {S : Type 0} (held : S → Option (List ℕ)) (faults : S →
   pub run : Reads reads old bytes new
 
 pub HasRead-none : {S : Type 0} (held : S → Option (List ℕ)) (faults : S → ℕ)
-    (reads : S → ℕ → Option (List ℕ) → S → Type 0) (old : S) (bytes : List ℕ) (limit : ℕ)
+    (reads : S → ℕ → Option (List ℕ) → S → Type 0) (old : S) {bytes : List ℕ} (limit : ℕ)
     → bytes ≡ [] → HasRead held faults reads old old bytes limit
-HasRead-none held faults reads old bytes limit e =
+HasRead-none held faults reads old limit e =
     subst (λ l. HasRead held faults reads old old l limit) (sym e) (record {
       within = omega arith;
       taken = Consumes-nil (held old);
@@ -34,13 +34,14 @@ Reads-more reads old mid new bytes into n run some fits step =
     read_more bytes (take n into) mid new (length into) run (omega arith) step
 
 pub HasRead-more : {S : Type 0} (held : S → Option (List ℕ)) (faults : S → ℕ)
-    (reads : S → ℕ → Option (List ℕ) → S → Type 0) (old mid new : S) (bytes into grown : List ℕ) (limit n : ℕ)
+    (reads : S → ℕ → Option (List ℕ) → S → Type 0) (old mid new : S) (bytes into : List ℕ) {grown : List ℕ}
+    (limit n : ℕ)
     → HasRead held faults reads old mid bytes limit → grown ≡ bytes ++ take n into → length bytes + n ≤ limit → 0 < n
     → n ≤ length into
     → Consumes (held mid) (held new) (take n into) → faults mid ≤ faults new
     → reads mid (length into) (Some (take n into)) new
     → HasRead held faults reads old new grown limit
-HasRead-more held faults reads old mid new bytes into grown limit n h e room some fits next steady step =
+HasRead-more held faults reads old mid new bytes into limit n h e room some fits next steady step =
     let count = length-take n into in
     let both = length-append bytes (take n into) in
     subst (λ l. HasRead held faults reads old new l limit) (sym e) (record {

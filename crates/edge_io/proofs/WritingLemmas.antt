@@ -15,10 +15,10 @@ pub record Written {K : Type 0} (taken : K → Option (List ℕ)) (faults : K �
   pub steady : faults old ≤ faults new
   pub run : Writes writes old bytes (drop done bytes) new
 
-pub Written-none : {K : Type 0} (taken : K → Option (List ℕ)) (faults : K → ℕ)
-    (writes : K → List ℕ → Option ℕ → K → Type 0) (old : K) (bytes : List ℕ)
+pub Written-none : {K : Type 0} {taken : K → Option (List ℕ)} {faults : K → ℕ}
+    {writes : K → List ℕ → Option ℕ → K → Type 0} {old : K} {bytes : List ℕ}
     → Written taken faults writes old old bytes 0
-Written-none taken faults writes old bytes = record {
+Written-none {taken} {old} = record {
   within = omega arith;
   added = Appends-nil (taken old);
   steady = omega arith;
@@ -30,12 +30,12 @@ pub left_all : (bytes : List ℕ) (done : ℕ) → take (length bytes - done) (d
 left_all bytes done = take_all (length bytes - done) (drop done bytes) (omega (arith, length-drop done bytes))
 
 -- one more write, of all that was left, took so many
-pub Written-more : {K : Type 0} (taken : K → Option (List ℕ)) (faults : K → ℕ)
-    (writes : K → List ℕ → Option ℕ → K → Type 0) (old mid new : K) (bytes left : List ℕ) (done n : ℕ)
+pub Written-more : {K : Type 0} {taken : K → Option (List ℕ)} {faults : K → ℕ}
+    {writes : K → List ℕ → Option ℕ → K → Type 0} {old mid new : K} {bytes left : List ℕ} (done n : ℕ)
     → Written taken faults writes old mid bytes done → left ≡ drop done bytes → 0 < n → n ≤ length left
     → Appends (taken mid) (taken new) (take n left) → faults mid ≤ faults new → writes mid left (Some n) new
     → Written taken faults writes old new bytes (done + n)
-Written-more taken faults writes old mid new bytes left done n w e some fits added steady step =
+Written-more {taken} {writes} {old} {mid} {new} {bytes} {left} done n w e some fits added steady step =
     let count : length left ≡ length bytes - done = ap length e ∙ length-drop done bytes in
     let taken_all : take done bytes ++ take n left ≡ take (done + n) bytes =
     ap (λ l. take done bytes ++ take n l) e ∙ sym (take-add done n bytes) in
@@ -52,11 +52,11 @@ Written-more taken faults writes old mid new bytes left done n w e some fits add
     }
 
 -- the front that is written, and what is left, after a write that took nothing
-pub Written-front : {K : Type 0} (taken : K → Option (List ℕ)) (faults : K → ℕ)
-    (writes : K → List ℕ → Option ℕ → K → Type 0) (old mid new : K) (bytes : List ℕ) (done : ℕ)
+pub Written-front : {K : Type 0} {taken : K → Option (List ℕ)} {faults : K → ℕ}
+    {writes : K → List ℕ → Option ℕ → K → Type 0} {old mid new : K} {bytes : List ℕ} (done : ℕ)
     → Written taken faults writes old mid bytes done → Appends (taken mid) (taken new) []
     → TakesFront taken old new bytes (drop done bytes)
-Written-front taken faults writes old mid new bytes done w nothing = record {
+Written-front {taken} {old} {mid} {new} {bytes} done w nothing = record {
   front = take done bytes;
   split = sym (take-append-drop done bytes);
   added =

@@ -2,9 +2,8 @@
 use Rattle.std.specs.Prelude.{◌≡◌, ℕ, ◌≤◌, Option, List, ◌++◌, Bool, true, false, Result, OnOk}
 use Rattle.std.specs.Prelude.{OnErr}
 use Rattle.std.specs.Io.KnownBytes.{Appends}
-use Rattle.edge_io.specs.Writing.{TakesFront}
+use Rattle.edge_io.specs.{Writing.TakesFront, declared.out.Out.Out}
 use Rattle.event_counts.specs.Count.{Rose}
-use Rattle.edge_io.specs.declared.out.Out.{Out}
 
 -- the output to a sink of a type, through a buffer of bytes
 abbrev pub Output : Type 0 → Type 0

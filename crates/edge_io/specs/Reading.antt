@@ -1,8 +1,7 @@
 -- What a source gives, read after read.
 use Rattle.std.specs.Prelude.{ℕ, Option, ◌<◌, ◌≤◌, List, [], ◌++◌, length, take, None, Some, ⊤, Result, Ok, Err}
-use Rattle.edge_io.specs.declared.reading.ReadEnd.{ReadEnd}
+use Rattle.edge_io.specs.{declared.reading.ReadEnd.ReadEnd, declared.reading.TheConstants.INPUT_LIMIT}
 use Rattle.edge_io.specs.declared.reading.ReadEnd.TheVariants.{ReadFault, TooLong, NoMemory}
-use Rattle.edge_io.specs.declared.reading.TheConstants.{INPUT_LIMIT}
 
 -- what one read gave: the front of its buffer that it filled, or nothing where it failed
 abbrev pub given : {E : Type 0} → Result ℕ E → List ℕ → Option (List ℕ)

@@ -5,8 +5,8 @@ use Rattle.std.proofs.lemmas.Bool.{cases_lt}
 use Rattle.event_counts.specs.Count.{Rose, last_count, next_count}
 
 -- a count that rose since later rose since before
-pub Rose-later : (old mid new : ℕ) → old ≤ mid → Rose mid new → Rose old new
-Rose-later old mid new below rose = elim rose [ inl more ↦ inl (omega arith) | inr last ↦ inr last ]
+pub Rose-later : (old mid : ℕ) {new : ℕ} → old ≤ mid → Rose mid new → Rose old new
+Rose-later old mid below rose = elim rose [ inl more ↦ inl (omega arith) | inr last ↦ inr last ]
 
 -- one more event is a rise
 pub Rose-next : (n : ℕ) → Rose n (next_count n)

@@ -2,8 +2,7 @@
 use Rattle.std.specs.Prelude.{ℕ, List, get_or}
 use Rattle.std.proofs.Common.{sym, ◌∙◌}
 use Rattle.zdd_families.specs.Map.{IsClosed, Grown}
-use Rattle.zdd_families.proofs.MapLemmas.{Knows-grown}
-use Rattle.zdd_families.proofs.Canonical.{family-grown}
+use Rattle.zdd_families.proofs.{MapLemmas.Knows-grown, Canonical.family-grown}
 use Rattle.family_memory.specs.Memory.{Held, IsSound, Went}
 use Rattle.family_memory.proofs.After.{still, still_has}
 use Rattle.family_copies.specs.Copies.{AreCopies, IsCopy}
@@ -11,13 +10,13 @@ use Rattle.family_copies.specs.Copies.{AreCopies, IsCopy}
 -- ---- copies stay copies
 
 -- where the memory goes on
-pub copies-went : (before after : Held) (known : ℕ → ℕ) → IsSound before → Went before after → (copies : List ℕ)
+pub copies-went : {before after : Held} (known : ℕ → ℕ) → IsSound before → Went before after → (copies : List ℕ)
     → AreCopies before known copies → AreCopies after known copies
-copies-went before after known sound went copies are own noted =
+copies-went {before} known sound went copies are own noted =
     let is : IsCopy before known (get_or copies own 0) own = are own noted in record {
       knows = is.knows;
-      has = still_has before after sound went own is.has;
-      same = still before after sound went own is.has ∙ is.same;
+      has = still_has sound went own is.has;
+      same = still sound went own is.has ∙ is.same;
     }
 
 -- where the map grows

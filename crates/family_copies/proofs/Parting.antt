@@ -34,13 +34,13 @@ module _ (r : ℕ) (parts : Parts) (inner : 2 ≤ r) (unit : IsUnit parts.level)
     cut = record { is = is; lo_above = lo_above; hi_above = hi_above };
   }
 
-  pub parts_are : (old new : Seated) → new ≡ old → IsSoundSeat new → Knows (map_of old) r → Knows (map_of new) parts.lo
+  pub parts_are : {old new : Seated} → new ≡ old → IsSoundSeat new → Knows (map_of old) r → Knows (map_of new) parts.lo
       → Knows (map_of new) parts.hi
       → parts.level ≡ first_unit (family (map_of old) r)
       → family (map_of new) r ≡ branch parts.level (family (map_of new) parts.lo) (family (map_of new) parts.hi)
       → IsAbove parts.level (family (map_of new) parts.lo) → IsAbove parts.level (family (map_of new) parts.hi)
       → ArePartsOf (map_of old) r parts
-  parts_are old new same sound knows knows_lo knows_hi level is lo_above hi_above =
+  parts_are {new} same sound knows knows_lo knows_hi level is lo_above hi_above =
       subst (λ (s : Seated). ArePartsOf (map_of s) r parts) same
       (parts_at new sound (subst (λ (s : Seated). Knows (map_of s) r) (sym same) knows) knows_lo knows_hi
       (subst (λ (s : Seated). parts.level ≡ first_unit (family (map_of s) r)) (sym same) level) is lo_above hi_above)
@@ -57,6 +57,6 @@ same_terminal known known' (suc (suc r)) small = absurd (omega arith)
 abbrev pub levels_above : (ℕ → ℕ) → ℕ → ℕ
 levels_above known r = 4096 - level_in known r
 
-pub fewer : (known : ℕ → ℕ) (r q x : ℕ) → IsUnit x → level_in known r ≡ x → x < level_in known q
+pub fewer : (known : ℕ → ℕ) (r q : ℕ) {x : ℕ} → IsUnit x → level_in known r ≡ x → x < level_in known q
     → levels_above known q < levels_above known r
-fewer known r q x unit at above = let u = unit.1 in omega arith
+fewer known r q unit at above = let u = unit.1 in omega arith

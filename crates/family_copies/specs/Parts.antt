@@ -2,9 +2,8 @@
 use Rattle.std.specs.Prelude.{◌≡◌, ◌≢◌, ℕ, ◌<◌, List}
 use Rattle.unit_sets.specs.Unit.{IsUnit}
 use Rattle.zdd_words.specs.declared.word.Parts.{Parts}
-use Rattle.zdd_families.specs.Family.{IsAbove}
+use Rattle.zdd_families.specs.{Family.IsAbove, Cuts.Cuts}
 use Rattle.zdd_families.specs.Map.{Knows, family, level_in}
-use Rattle.zdd_families.specs.Cuts.{Cuts}
 
 -- its level and both parts, whose units lie above the level
 pub record ArePartsOf (known : ℕ → ℕ) (r : ℕ) (parts : Parts) : Type 0 where

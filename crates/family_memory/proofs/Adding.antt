@@ -7,17 +7,15 @@ use Rattle.event_counts.proofs.CountLemmas.{next_count-steady, next_count-fits}
 use Rattle.unit_sets.specs.Unit.{IsUnit}
 use Rattle.zdd_words.specs.Word.{level_of, lo_of, hi_of}
 use Rattle.zdd_words.proofs.WordLemmas.{level_of-zero}
-use Rattle.zdd_families.specs.Family.{IsAbove, branch}
+use Rattle.zdd_families.specs.{Family.IsAbove, Family.branch, Antichains.IsAntichain}
 use Rattle.zdd_families.specs.Map.{IsNode, IsClosed, Grown, level_in}
 use Rattle.zdd_families.proofs.MapLemmas.{IsNode-grown, family-node, lo_known, hi_known}
 use Rattle.zdd_families.proofs.Canonical.{family-grown}
-use Rattle.zdd_families.specs.Antichains.{IsAntichain}
 use Rattle.family_memory.specs.Memory.{Held, Has, IsSound, IsUsedUp, Went, family_in, map_of, word_family}
 use Rattle.kept_answers.specs.declared.answers.Entry.{Entry}
 use Rattle.family_memory.specs.declared.extents.Extent.{Extent}
 use Rattle.family_memory.specs.Kept.{AreExtents, IsAdded, KeepsNodes, refusing}
-use Rattle.family_memory.proofs.Entries.{all_told}
-use Rattle.family_memory.proofs.After.{knows, level_above}
+use Rattle.family_memory.proofs.{Entries.all_told, After.knows, After.level_above}
 
 abbrev pub with_word : Held → ℕ → Held
 with_word held word = record { words = held.words ++ word ∷ []; room = held.room; refused = held.refused }
@@ -82,18 +80,16 @@ module _ (held : Held) (word : ℕ) (sound : IsSound held) (node : IsNode (map_o
       ]
 
   same_family : (r : ℕ) → Has held r → family_in more r ≡ family_in held r
-  same_family r has = family-grown (map_of held) (map_of more) r sound.closed closed grown (knows held r sound has)
+  same_family r has = family-grown (map_of held) (map_of more) r sound.closed closed grown (knows r sound has)
 
   new_family : family_in more (length held.words) ≡ word_family held word
   new_family =
       family-node (map_of more) (length held.words) closed (λ none. word_filled (sym last ∙ none))
       ∙ ap (λ w. branch (level_of w) (family_in more (lo_of w)) (family_in more (hi_of w))) last
       ∙ ap (λ q. branch (level_of word) q (family_in more (hi_of word)))
-      (family-grown (map_of held) (map_of more) (lo_of word) sound.closed closed grown
-      (lo_known (map_of held) word node))
+      (family-grown (map_of held) (map_of more) (lo_of word) sound.closed closed grown (lo_known node))
       ∙ ap (λ q. branch (level_of word) (family_in held (lo_of word)) q)
-      (family-grown (map_of held) (map_of more) (hi_of word) sound.closed closed grown
-      (hi_known (map_of held) word node))
+      (family-grown (map_of held) (map_of more) (hi_of word) sound.closed closed grown (hi_known node))
 
   filled : (r : ℕ) → 2 ≤ r → Has more r → map_of more r ≢ 0
   filled r inner has none =
@@ -128,14 +124,14 @@ module _ (held : Held) (word : ℕ) (sound : IsSound held) (node : IsNode (map_o
   }
 
 -- a level and parts above it make a node
-pub node_of : (held : Held) (level lo hi word : ℕ) → IsSound held → IsUnit level → Has held lo → Has held hi → hi ≢ 0
+pub node_of : {held : Held} {level lo hi word : ℕ} → IsSound held → IsUnit level → Has held lo → Has held hi → hi ≢ 0
     → IsAbove level (family_in held lo) → IsAbove level (family_in held hi) → level_of word ≡ level → lo_of word ≡ lo
     → hi_of word ≡ hi → IsNode (map_of held) word
-node_of held level lo hi word sound unit has_lo has_hi filled above above' e f g =
+node_of {held} {level} {lo} {hi} {word} sound unit has_lo has_hi filled above above' e f g =
     let h : level < level_in (map_of held) lo =
-    level_above held level lo sound has_lo (let u = unit.1 in omega arith) above in
+    level_above level lo sound has_lo (let u = unit.1 in omega arith) above in
     let k : level < level_in (map_of held) hi =
-    level_above held level hi sound has_hi (let u = unit.1 in omega arith) above' in
+    level_above level hi sound has_hi (let u = unit.1 in omega arith) above' in
     record {
       unit = subst IsUnit (sym e) unit;
       lo_above =
@@ -148,24 +144,24 @@ node_of held level lo hi word sound unit has_lo has_hi filled above above' e f g
     }
 
 -- the family of such a word
-pub word_is : (held : Held) (level lo hi word : ℕ) → level_of word ≡ level → lo_of word ≡ lo → hi_of word ≡ hi
+pub word_is : (held : Held) {level lo hi : ℕ} (word : ℕ) → level_of word ≡ level → lo_of word ≡ lo → hi_of word ≡ hi
     → word_family held word ≡ branch level (family_in held lo) (family_in held hi)
-word_is held level lo hi word e f g =
+word_is held {level} {lo} word e f g =
     ap (λ x. branch x (family_in held (lo_of word)) (family_in held (hi_of word))) e
     ∙ ap (λ q. branch level (family_in held q) (family_in held (hi_of word))) f
     ∙ ap (λ q. branch level (family_in held lo) (family_in held q)) g
 
 -- a reference with a word stands for the word's family
-pub found_is : (held : Held) (r word : ℕ) → IsSound held → map_of held r ≡ word → word ≢ 0
+pub found_is : {held : Held} (r : ℕ) {word : ℕ} → IsSound held → map_of held r ≡ word → word ≢ 0
     → family_in held r ≡ word_family held word
-found_is held r word sound same filled =
+found_is {held} r sound same filled =
     family-node (map_of held) r sound.closed (λ none. filled (sym same ∙ none))
     ∙ ap (λ w. branch (level_of w) (family_in held (lo_of w)) (family_in held (hi_of w))) same
 
 -- ---- what the fields keep when a node is added
 
-pub went_added : (before : Held) (word : ℕ) (after : Held) (r : ℕ) → IsAdded before word after r → Went before after
-went_added before word after r is = record {
+pub went_added : {before : Held} {word : ℕ} {after : Held} {r : ℕ} → IsAdded before word after r → Went before after
+went_added {before} {word} is = record {
   longer = let e = ap length is.words ∙ length-append before.words (word ∷ []) in omega (arith, e);
   keeps = is.keeps;
   room = is.room;
@@ -173,7 +169,7 @@ went_added before word after r is = record {
   sound = is.sound;
 }
 
-module _ (inside held : Held) (word : ℕ) (same : inside ≡ held) (sound : IsSound inside)
+module _ {inside held : Held} {word : ℕ} (same : inside ≡ held) (sound : IsSound inside)
     (node : IsNode (map_of held) word) (antichain : IsAntichain (word_family held word))
     (room : length inside.words < inside.room + 2) where
   added_inside : IsAdded inside word (with_word inside word) (length inside.words)
@@ -198,35 +194,34 @@ module _ (inside held : Held) (word : ℕ) (same : inside ≡ held) (sound : IsS
         refused = n;
       }) (length inside.words)) (sym as_often) added_inside))
 
-  pub added_to : (after : Held) (r : ℕ) → after.words ≡ inside.words ++ word ∷ [] → after.room ≡ inside.room
+  pub added_to : {after : Held} {r : ℕ} → after.words ≡ inside.words ++ word ∷ [] → after.room ≡ inside.room
       → after.refused ≡ inside.refused → r ≡ length inside.words → IsAdded held word after r
-  added_to after r words as_before as_often at =
+  added_to {after} {r} words as_before as_often at =
       subst (λ (h : Held). IsAdded h word after r) same
       (subst (IsAdded inside word after) (sym at) (as_added after words as_before as_often))
 
-  pub kept_added : (after : Held) (capacity capacity' : ℕ) (entries : List Entry)
-      (extents extents' : List Extent) (taken taken' : ℕ) → after.words ≡ inside.words ++ word ∷ []
+  pub kept_added : {after : Held} {capacity capacity' : ℕ} {entries : List Entry}
+      {extents extents' : List Extent} {taken taken' : ℕ} → after.words ≡ inside.words ++ word ∷ []
       → after.room ≡ inside.room → after.refused ≡ inside.refused
       → KeepsNodes inside capacity entries extents taken → capacity ≤ capacity'
       → (IsAdded inside word after (length inside.words) → AreExtents after extents') → taken ≤ taken'
       → KeepsNodes after capacity' entries extents' taken'
-  kept_added after capacity capacity' entries extents extents' taken taken' words as_before as_often kept more are
+  kept_added {after} {entries} {taken} words as_before as_often kept more are
       more' =
       let is : IsAdded inside word after (length inside.words) = as_added after words as_before as_often in
       record {
         sound = is.sound;
         few = let h = kept.few in omega arith;
         taken = let h = kept.taken in omega arith;
-        told =
-            all_told inside after entries sound (went_added inside word after (length inside.words) is) kept.told;
+        told = all_told entries sound (went_added is) kept.told;
         reach = are is;
         reach_taken = let h = kept.reach_taken in omega arith;
       }
 
 -- ---- what they keep when a node is refused
 
-pub sound_refusing : (held : Held) → IsSound held → IsSound (refusing held)
-sound_refusing held sound = record {
+pub sound_refusing : {held : Held} → IsSound held → IsSound (refusing held)
+sound_refusing {held} sound = record {
   terminals = sound.terminals;
   fits = sound.fits;
   closed = sound.closed;
@@ -235,25 +230,24 @@ sound_refusing held sound = record {
   counted = next_count-fits held.refused;
 }
 
-pub went_refusing : (held : Held) → IsSound held → Went held (refusing held)
-went_refusing held sound = record {
+pub went_refusing : {held : Held} → IsSound held → Went held (refusing held)
+went_refusing {held} sound = record {
   longer = omega arith;
   keeps = λ r has. refl;
   room = refl;
   steady = next_count-steady held.refused sound.counted;
-  sound = sound_refusing held sound;
+  sound = sound_refusing sound;
 }
 
-pub kept_refusing : (held after : Held) (capacity : ℕ) (entries : List Entry) (extents : List Extent) (taken : ℕ)
+pub kept_refusing : {held after : Held} {capacity : ℕ} {entries : List Entry} {extents : List Extent} {taken : ℕ}
     → after ≡ refusing held → KeepsNodes held capacity entries extents taken
     → KeepsNodes after capacity entries extents taken
-kept_refusing held after capacity entries extents taken same kept =
+kept_refusing {capacity} {entries} {extents} {taken} same kept =
     subst (λ (h : Held). KeepsNodes h capacity entries extents taken) (sym same) (record {
-      sound = sound_refusing held kept.sound;
+      sound = sound_refusing kept.sound;
       few = kept.few;
       taken = kept.taken;
-      told =
-          all_told held (refusing held) entries kept.sound (went_refusing held kept.sound) kept.told;
+      told = all_told entries kept.sound (went_refusing kept.sound) kept.told;
       reach = record {
         count = kept.reach.count;
         each = kept.reach.each;
@@ -266,8 +260,8 @@ kept_refusing held after capacity entries extents taken same kept =
     })
 
 -- both answers leave the memory sound
-pub sound_asked : {E : Type 0} (before after : Held) (word : ℕ) (result : Result ℕ E) → IsSound before
+pub sound_asked : {E : Type 0} {before after : Held} (word : ℕ) (result : Result ℕ E) → IsSound before
     → MatchResult result (λ r. IsAdded before word after r) (λ _. (after ≡ refusing before) × IsUsedUp before)
     → IsSound after
-sound_asked before after word (Ok r) sound is = is.sound
-sound_asked before after word (Err e) sound is = subst IsSound (sym is.0) (sound_refusing before sound)
+sound_asked word (Ok r) sound is = is.sound
+sound_asked word (Err e) sound is = subst IsSound (sym is.0) (sound_refusing sound)

@@ -2,8 +2,7 @@
 use Rattle.std.proofs.Common.{MatchResult, IfOk, IfErr, Result, Ok, Err, ◌≡◌, ℕ, ◌<◌, List, refl, sym, ◌∙◌, subst, inl}
 use Rattle.std.proofs.Common.{inr, arith, ◌≤◌, ◌⊎◌, ◌++◌, [], ◌∷◌, length, length-append, ap}
 use Rattle.event_counts.specs.Count.{Rose}
-use Rattle.std.proofs.lemmas.Bool.{cases_lt}
-use Rattle.std.proofs.lemmas.Result.{MatchResult-weaker}
+use Rattle.std.proofs.{lemmas.Bool.cases_lt, lemmas.Result.MatchResult-weaker}
 use Rattle.zdd_families.specs.Family.{IsFamily, IsAbove}
 use Rattle.zdd_families.specs.Map.{Knows, Grown, level_in}
 use Rattle.zdd_families.proofs.MapLemmas.{level_in-grown}
@@ -12,42 +11,42 @@ use Rattle.event_counts.specs.Count.{next_count}
 use Rattle.event_counts.proofs.CountLemmas.{Rose-later, Rose-next, next_count-steady}
 use Rattle.family_memory.specs.Memory.{Held, Has, IsSound, IsUsedUp, Went, Gave, RanOut, family_in, map_of}
 
-pub knows : (held : Held) (r : ℕ) → IsSound held → Has held r → Knows (map_of held) r
-knows held r sound has =
+pub knows : {held : Held} (r : ℕ) → IsSound held → Has held r → Knows (map_of held) r
+knows r sound has =
     elim (cases_lt r 2) [
       | inl small ↦ inl small
       | inr inner ↦ inr (sound.filled r inner has)
     ]
 
-pub is_family : (held : Held) (r : ℕ) → IsSound held → Has held r → IsFamily (family_in held r)
-is_family held r sound has = IsFamily-family (map_of held) r sound.closed (knows held r sound has)
+pub is_family : {held : Held} (r : ℕ) → IsSound held → Has held r → IsFamily (family_in held r)
+is_family {held} r sound has = IsFamily-family (map_of held) r sound.closed (knows r sound has)
 
-pub above : (held : Held) (x r : ℕ) → IsSound held → Has held r → x < level_in (map_of held) r
+pub above : {held : Held} (x r : ℕ) → IsSound held → Has held r → x < level_in (map_of held) r
     → IsAbove x (family_in held r)
-above held x r sound has h = family-above (map_of held) x r sound.closed (knows held r sound has) h
+above {held} x r sound has h = family-above (map_of held) x r sound.closed (knows r sound has) h
 
-pub level_above : (held : Held) (x r : ℕ) → IsSound held → Has held r → x < 4096 → IsAbove x (family_in held r)
+pub level_above : {held : Held} (x r : ℕ) → IsSound held → Has held r → x < 4096 → IsAbove x (family_in held r)
     → x < level_in (map_of held) r
-level_above held x r sound has h above = level-above (map_of held) x r sound.closed (knows held r sound has) h above
+level_above {held} x r sound has h above = level-above (map_of held) x r sound.closed (knows r sound has) h above
 
 -- ---- what stood for a family still does
 
 pub grown_then : (a b c : ℕ → ℕ) → Grown a b → Grown b c → Grown a c
 grown_then a b c first second r has = second r (λ none. has (sym (first r has) ∙ none)) ∙ first r has
 
-module _ (before after : Held) (sound : IsSound before) (went : Went before after) where
+module _ {before after : Held} (sound : IsSound before) (went : Went before after) where
   pub still_has : (r : ℕ) → Has before r → Has after r
   still_has r has = let more = went.longer in omega arith
 
   pub still : (r : ℕ) → Has before r → family_in after r ≡ family_in before r
   still r has =
-      family-grown (map_of before) (map_of after) r sound.closed went.sound.closed went.keeps (knows before r sound has)
+      family-grown (map_of before) (map_of after) r sound.closed went.sound.closed went.keeps (knows r sound has)
 
   pub still_level : (r : ℕ) → Has before r → level_in (map_of after) r ≡ level_in (map_of before) r
-  still_level r has = level_in-grown (map_of before) (map_of after) r went.keeps (knows before r sound has)
+  still_level r has = level_in-grown (map_of before) (map_of after) r went.keeps (knows r sound has)
 
-pub Went-nowhere : (held : Held) → IsSound held → Went held held
-Went-nowhere held sound = record {
+pub Went-nowhere : {held : Held} → IsSound held → Went held held
+Went-nowhere sound = record {
   longer = omega arith;
   keeps = λ r has. refl;
   room = refl;
@@ -55,8 +54,8 @@ Went-nowhere held sound = record {
   sound = sound;
 }
 
-pub Went-then : (a b c : Held) → Went a b → Went b c → Went a c
-Went-then a b c first second = record {
+pub Went-then : {a b c : Held} → Went a b → Went b c → Went a c
+Went-then {a} {b} {c} first second = record {
   longer = let h = first.longer in let k = second.longer in omega arith;
   keeps = grown_then (map_of a) (map_of b) (map_of c) first.keeps second.keeps;
   room = second.room ∙ first.room;
@@ -65,47 +64,44 @@ Went-then a b c first second = record {
 }
 
 -- a reference that was there stands for such a family
-pub Gave-there : (is : List (List ℕ) → Type 0) (held : Held) (r : ℕ) → IsSound held → Has held r → is (family_in held r)
+pub Gave-there : {is : List (List ℕ) → Type 0} {held : Held} {r : ℕ} → IsSound held → Has held r → is (family_in held r)
     → Gave is held held r
-Gave-there is held r sound has fact = record { went = Went-nowhere held sound; has = has; is = fact }
+Gave-there {is} sound has fact = record { went = Went-nowhere sound; has = has; is = fact }
 
 -- what a last step gives is the answer, where its family is such a one
-module _ (a b c : Held) (first : Went a b) where
+module _ {a b : Held} (c : Held) (first : Went a b) where
   pub RanOut-then : RanOut b c → RanOut a c
   RanOut-then out = record {
-    went = Went-then a b c first out.went;
+    went = Went-then first out.went;
     used_up = out.used_up;
-    rose = Rose-later a.refused b.refused c.refused first.steady out.rose;
+    rose = Rose-later a.refused b.refused first.steady out.rose;
   }
 
-  pub Gave-then : (is is' : List (List ℕ) → Type 0) (r : ℕ) → ((f : List (List ℕ)) → is f → is' f) → Gave is b c r
+  pub Gave-then : {is is' : List (List ℕ) → Type 0} {r : ℕ} → ((f : List (List ℕ)) → is f → is' f) → Gave is b c r
       → Gave is' a c r
-  Gave-then is is' r to gave =
-      record { went = Went-then a b c first gave.went; has = gave.has; is = to (family_in c r) gave.is }
+  Gave-then {is} {r} to gave =
+      record { went = Went-then first gave.went; has = gave.has; is = to (family_in c r) gave.is }
 
   pub ended : {E : Type 0} (is is' : List (List ℕ) → Type 0) (result : Result ℕ E)
       → ((f : List (List ℕ)) → is f → is' f) → MatchResult result (Gave is b c) (λ _. RanOut b c)
       → MatchResult result (Gave is' a c) (λ _. RanOut a c)
-  ended is is' result to m =
-      MatchResult-weaker result m (λ r gave. Gave-then is is' r to gave) (λ _ out. RanOut-then out)
+  ended is is' result to m = MatchResult-weaker result m (λ r gave. Gave-then to gave) (λ _ out. RanOut-then out)
 
 -- ---- facts of two families that stood before
 
 -- a fact of two families, at families that are equal to them
-pub at_both : (R : List (List ℕ) → List (List ℕ) → Type 0) (f f' g g' : List (List ℕ)) → f ≡ f' → g ≡ g' → R f g
+pub at_both : (R : List (List ℕ) → List (List ℕ) → Type 0) {f f' g g' : List (List ℕ)} → f ≡ f' → g ≡ g' → R f g
     → R f' g'
-at_both R f f' g g' same same' fact = subst (λ q. R f' q) same' (subst (λ q. R q g) same fact)
+at_both R {f'} {g} same same' fact = subst (λ q. R f' q) same' (subst (λ q. R q g) same fact)
 
-module _ (before after : Held) (sound : IsSound before) (went : Went before after) where
+module _ {before after : Held} (sound : IsSound before) (went : Went before after) where
   pub at_start : (R : List (List ℕ) → List (List ℕ) → Type 0) (r q : ℕ) → Has before r → Has before q
       → R (family_in after r) (family_in after q) → R (family_in before r) (family_in before q)
-  at_start R r q has has' =
-      at_both R _ _ _ _ (still before after sound went r has) (still before after sound went q has')
+  at_start R r q has has' = at_both R (still sound went r has) (still sound went q has')
 
   pub of_start : (R : List (List ℕ) → List (List ℕ) → Type 0) (r q : ℕ) → Has before r → Has before q
       → R (family_in before r) (family_in before q) → R (family_in after r) (family_in after q)
-  of_start R r q has has' =
-      at_both R _ _ _ _ (sym (still before after sound went r has)) (sym (still before after sound went q has'))
+  of_start R r q has has' = at_both R (sym (still sound went r has)) (sym (still sound went q has'))
 
 -- the clause of both answers, by that of each
 pub answers_of : {E : Type 0} (Is : List (List ℕ) → Type 0) (before after : Held) (result : Result ℕ E)
@@ -116,7 +112,7 @@ answers_of Is before after (Err e) gave out = out
 
 -- ---- a node that was asked for
 
-module _ (before after : Held) (sound : IsSound before) (keeps : Grown (map_of before) (map_of after))
+module _ {before after : Held} (sound : IsSound before) (keeps : Grown (map_of before) (map_of after))
     (room : after.room ≡ before.room) (sound' : IsSound after) where
   -- it was added, or was there
   pub node_went : length before.words ≤ length after.words → after.refused ≡ before.refused → Went before after

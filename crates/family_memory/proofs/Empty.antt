@@ -6,11 +6,9 @@ use Rattle.event_counts.specs.Count.{last_count}
 use Rattle.zdd_families.proofs.MapLemmas.{family-empty, family-unit}
 use Rattle.zdd_families.proofs.MinimalLemmas.{minimal-none, minimal-unit}
 use Rattle.zdd_families.specs.Antichains.{IsAntichain}
-use Rattle.kept_answers.specs.declared.answers.Entry.{Entry}
-use Rattle.family_memory.specs.declared.extents.Extent.{Extent}
-use Rattle.kept_answers.specs.Kept.{AreKept}
+use Rattle.kept_answers.specs.{declared.answers.Entry.Entry, Kept.AreKept}
+use Rattle.family_memory.specs.{declared.extents.Extent.Extent, Kept.AreExtents, Kept.KeepsNodes}
 use Rattle.family_memory.proofs.Entries.{told_of_none}
-use Rattle.family_memory.specs.Kept.{AreExtents, KeepsNodes}
 use Rattle.family_memory.specs.Memory.{Held, Has, IsSound, family_in, map_of}
 
 abbrev pub no_nodes : ℕ → ℕ → Held
@@ -38,11 +36,11 @@ sound room refused counted = record {
   counted = counted;
 }
 
-pub kept_empty : (held : Held) (capacity : ℕ) (entries : List Entry) (extents : List Extent) (capacity' : ℕ)
+pub kept_empty : {held : Held} {capacity : ℕ} {entries : List Entry} {extents : List Extent} {capacity' : ℕ}
     → held.words ≡ 0 ∷ 0 ∷ [] → held.refused ≤ last_count → held.room ≤ 2 ^ 25 → held.room + 2 ≤ capacity
     → AreKept [] entries → AreExtents held extents → held.room + 2 ≤ capacity'
     → KeepsNodes held capacity entries extents capacity'
-kept_empty held capacity entries extents capacity' none counted few taken kept are taken' =
+kept_empty {held} {entries} none counted few taken kept are taken' =
     let is : IsSound held =
     subst (λ l. IsSound (record { words = l; room = held.room; refused = held.refused })) (sym none)
     (sound held.room held.refused counted) in
@@ -50,7 +48,7 @@ kept_empty held capacity entries extents capacity' none counted few taken kept a
       sound = is;
       few = few;
       taken = taken;
-      told = told_of_none held entries is kept;
+      told = told_of_none entries is kept;
       reach = are;
       reach_taken = taken';
     }
@@ -60,13 +58,13 @@ two [] few e f = absurd (omega arith)
 two (w ∷ []) few e f = absurd (omega arith)
 two (w ∷ v ∷ words) few e f = ap (λ n. n ∷ v ∷ take 0 words) e ∙ ap (λ n. 0 ∷ n ∷ take 0 words) f
 
-no_word : (held : Held) → IsSound held → (r : ℕ) → r < 2 → map_of held r ≡ 0
-no_word held is r small =
+no_word : {held : Held} → IsSound held → (r : ℕ) → r < 2 → map_of held r ≡ 0
+no_word {held} is r small =
     elim (cases_eq (map_of held r) 0) [
       | inl none ↦ none
       | inr has ↦ absurd (let above : 2 ≤ r = (is.closed r has).0 in omega arith)
     ]
 
 -- the words that are kept of a memory that is emptied
-pub first_two : (held : Held) → IsSound held → take 2 held.words ≡ 0 ∷ 0 ∷ []
-first_two held is = two held.words is.terminals (no_word held is 0 (omega arith)) (no_word held is 1 (omega arith))
+pub first_two : {held : Held} → IsSound held → take 2 held.words ≡ 0 ∷ 0 ∷ []
+first_two {held} is = two held.words is.terminals (no_word is 0 (omega arith)) (no_word is 1 (omega arith))

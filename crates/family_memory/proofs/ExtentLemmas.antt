@@ -4,37 +4,28 @@ use Rattle.std.proofs.Common.{sym, ◌∙◌, ap, subst, inl, inr, arith, length
 use Rattle.std.proofs.lemmas.Bool.{cases_lt}
 use Rattle.std.proofs.lemmas.List.{get_or_append_left, get_or_push, get_or_read}
 use Rattle.zdd_words.specs.Word.{level_of, lo_of, hi_of}
-use Rattle.zdd_families.specs.Map.{IsNode}
+use Rattle.zdd_families.specs.{Map.IsNode, Family.branch}
 use Rattle.zdd_families.proofs.MapLemmas.{family-empty, family-unit, lo_known, hi_known}
 use Rattle.zdd_families.proofs.Canonical.{hi_filled}
-use Rattle.zdd_families.specs.Family.{branch}
 use Rattle.family_memory.specs.Memory.{Held, Has, IsSound, family_in, map_of, word_family}
-use Rattle.family_memory.specs.declared.extents.Extent.{Extent}
-use Rattle.family_memory.specs.Extents.{IsExtent}
+use Rattle.family_memory.specs.{declared.extents.Extent.Extent, Extents.IsExtent, Rests.IsRest}
 use Rattle.family_memory.specs.Kept.{AreExtents, IsAdded, no_extent}
-use Rattle.family_memory.specs.Rests.{IsRest}
-use Rattle.family_memory.proofs.Adding.{went_added}
-use Rattle.family_memory.proofs.After.{still}
-use Rattle.family_memory.proofs.Empty.{no_nodes}
-use Rattle.family_memory.proofs.Nodes.{has_known}
-use Rattle.family_memory.proofs.RestLemmas.{rests_more}
+use Rattle.family_memory.proofs.{Adding.went_added, After.still, Empty.no_nodes, Nodes.has_known, RestLemmas.rests_more}
 
 -- ---- a node that is yet to be added
 
-pub has_lo : (held : Held) (word lo : ℕ) → IsSound held → IsNode (map_of held) word → lo ≡ lo_of word → Has held lo
-has_lo held word lo sound node same =
-    subst (Has held) (sym same) (has_known held (lo_of word) sound (lo_known (map_of held) word node))
+pub has_lo : {held : Held} {word lo : ℕ} → IsSound held → IsNode (map_of held) word → lo ≡ lo_of word → Has held lo
+has_lo {held} {word} sound node same = subst (Has held) (sym same) (has_known (lo_of word) sound (lo_known node))
 
-pub has_hi : (held : Held) (word hi : ℕ) → IsSound held → IsNode (map_of held) word → hi ≡ hi_of word → Has held hi
-has_hi held word hi sound node same =
-    subst (Has held) (sym same) (has_known held (hi_of word) sound (hi_known (map_of held) word node))
+pub has_hi : {held : Held} {word hi : ℕ} → IsSound held → IsNode (map_of held) word → hi ≡ hi_of word → Has held hi
+has_hi {held} {word} sound node same = subst (Has held) (sym same) (has_known (hi_of word) sound (hi_known node))
 
-pub extent_of_word : (held : Held) (word level lo hi : ℕ) (a b e : Extent) → IsSound held → IsNode (map_of held) word
+pub extent_of_word : {held : Held} {word level lo hi : ℕ} {a b e : Extent} → IsSound held → IsNode (map_of held) word
     → level ≡ level_of word → lo ≡ lo_of word → hi ≡ hi_of word → IsExtent (family_in held lo) a
     → IsExtent (family_in held hi) b
     → ((f g : List (List ℕ)) → IsExtent f a → IsExtent g b → g ≢ [] → IsExtent (branch level f g) e)
     → IsExtent (word_family held word) e
-extent_of_word held word level lo hi a b e sound node same of_lo of_hi is is' made =
+extent_of_word {held} {word} {a} {b} {e} sound node same of_lo of_hi is is' made =
     subst (λ x. IsExtent (branch x (family_in held (lo_of word)) (family_in held (hi_of word))) e) same
     (made (family_in held (lo_of word)) (family_in held (hi_of word))
     (subst (λ q. IsExtent (family_in held q) a) of_lo is) (subst (λ q. IsExtent (family_in held q) b) of_hi is')
@@ -42,7 +33,7 @@ extent_of_word held word level lo hi a b e sound node same of_lo of_hi is is' ma
 
 -- ---- a node that was added
 
-module _ (held after : Held) (word r : ℕ) (extent : Extent) (extents : List Extent) (sound : IsSound held)
+module _ {held after : Held} {word r : ℕ} {extent : Extent} {extents : List Extent} (sound : IsSound held)
     (is : IsAdded held word after r) (here : r ≡ length held.words) (are : AreExtents held extents)
     (of_word : IsExtent (word_family held word) extent)
     (rest : IsRest held (level_of word) (word_family held word) extent.rest) where
@@ -56,7 +47,7 @@ module _ (held after : Held) (word r : ℕ) (extent : Extent) (extents : List Ex
             let short : q < length extents = let e = are.count in omega (arith, e, there) in
             subst (IsExtent (family_in after q)) (sym (get_or_append_left extents (extent ∷ []) no_extent q short))
             (subst (λ f. IsExtent f (get_or extents q no_extent))
-            (sym (still held after sound (went_added held word after r is) q there)) (are.each q there))
+            (sym (still sound (went_added is) q there)) (are.each q there))
         | inr past ↦
             let at : q ≡ r = let e = longer in omega (arith, e, here, past, has) in
             let end : q ≡ length extents = let e = are.count in omega (arith, e, at, here) in
@@ -71,13 +62,12 @@ module _ (held after : Held) (word r : ℕ) (extent : Extent) (extents : List Ex
         length-append extents (extent ∷ []) ∙ (let e = are.count in let f = longer in omega (arith, e, f));
     each = each_more;
     rests =
-        λ q inner has. rests_more held after word r extent extents sound is here are rest q inner
-        (let e = longer in omega (arith, e, has));
+        λ q inner has. rests_more extent sound is here are rest q inner (let e = longer in omega (arith, e, has));
   }
 
 -- ---- no nodes
 
-module _ (none unit : Extent) (of_none : IsExtent [] none) (of_unit : IsExtent ([] ∷ []) unit) where
+module _ {none unit : Extent} (of_none : IsExtent [] none) (of_unit : IsExtent ([] ∷ []) unit) where
   of_terminals : (room refused r : ℕ) → Has (no_nodes room refused) r
       → IsExtent (family_in (no_nodes room refused) r) (get_or (none ∷ unit ∷ []) r no_extent)
   of_terminals room refused zero has =
@@ -86,9 +76,9 @@ module _ (none unit : Extent) (of_none : IsExtent [] none) (of_unit : IsExtent (
       subst (λ f. IsExtent f unit) (sym (family-unit (map_of (no_nodes room refused)))) of_unit
   of_terminals room refused (suc (suc r)) has = absurd (omega arith)
 
-  pub extents_empty : (held : Held) (extents : List Extent) → held.words ≡ 0 ∷ 0 ∷ [] → extents ≡ none ∷ unit ∷ []
+  pub extents_empty : {held : Held} {extents : List Extent} → held.words ≡ 0 ∷ 0 ∷ [] → extents ≡ none ∷ unit ∷ []
       → AreExtents held extents
-  extents_empty held extents no_words both =
+  extents_empty {held} {extents} no_words both =
       subst (λ l. AreExtents (record { words = l; room = held.room; refused = held.refused }) extents) (sym no_words)
       (subst (AreExtents (no_nodes held.room held.refused)) (sym both)
       (record {
@@ -98,23 +88,22 @@ module _ (none unit : Extent) (of_none : IsExtent [] none) (of_unit : IsExtent (
       }))
 
 -- the extents that are kept of a memory that is emptied
-pub first_two_extents : (held after : Held) (extents : List Extent) → IsSound held → AreExtents held extents
+pub first_two_extents : {held : Held} (after : Held) (extents : List Extent) → IsSound held → AreExtents held extents
     → after.words ≡ 0 ∷ 0 ∷ [] → AreExtents after (take 2 extents)
-first_two_extents held after [] sound are none =
+first_two_extents after [] sound are none =
     absurd (let few = sound.terminals in let e = are.count in omega (arith, e, few))
-first_two_extents held after (a ∷ []) sound are none =
+first_two_extents after (a ∷ []) sound are none =
     absurd (let few = sound.terminals in let e = are.count in omega (arith, e, few))
-first_two_extents held after (a ∷ b ∷ extents) sound are none =
+first_two_extents {held} after (a ∷ b ∷ extents) sound are none =
     let few = sound.terminals in
-    extents_empty a b (subst (λ f. IsExtent f a) (family-empty (map_of held)) (are.each 0 (omega (arith, few))))
-    (subst (λ f. IsExtent f b) (family-unit (map_of held)) (are.each 1 (omega (arith, few)))) after
-    (a ∷ b ∷ take 0 extents) none refl
+    extents_empty (subst (λ f. IsExtent f a) (family-empty (map_of held)) (are.each 0 (omega (arith, few))))
+    (subst (λ f. IsExtent f b) (family-unit (map_of held)) (are.each 1 (omega (arith, few)))) none refl
 
 -- ---- an extent that was read
 
-pub extent_read : (inside held : Held) (extents : List Extent) (n r : ℕ) (extent : Extent) → inside ≡ held → n ≡ r
+pub extent_read : {inside held : Held} {extents : List Extent} {n r : ℕ} {extent : Extent} → inside ≡ held → n ≡ r
     → Has held r → AreExtents inside extents → extent ≡ get_or extents n extent → IsExtent (family_in held r) extent
-extent_read inside held extents n r extent same e has are read =
+extent_read {inside} {extents} {n} {r} {extent} same e has are read =
     let there : Has inside r = subst (λ (h : Held). Has h r) (sym same) has in
     let short : n < length extents = let c = are.count in omega (arith, c, e, there) in
     let is : extent ≡ get_or extents r no_extent =

@@ -6,7 +6,7 @@ use Rattle.std.proofs.lemmas.Bool.{cases_eq}
 use Rattle.std.proofs.lemmas.Nat.Bits.{bit_at-lt, bit_at-pow_other, bit_at-pow_same, bit_at_and, bit_at_or}
 
 -- the marks of both parts, and one more
-module _ (lo hi own mark : ℕ) (only : own ≡ 2 ^ mark) where
+module _ (lo hi : ℕ) {own : ℕ} (mark : ℕ) (only : own ≡ 2 ^ mark) where
   pub own_marked : bit_at (bit_or (bit_or lo hi) own) mark ≡ 1
   own_marked =
       let same : bit_at own mark ≡ 1 = ap (λ w. bit_at w mark) only ∙ bit_at-pow_same mark in

@@ -5,14 +5,11 @@ use Rattle.std.proofs.lemmas.Bool.{cases_lt, or_left}
 use Rattle.std.proofs.lemmas.List.{get_or_append_left, get_or_push, get_or_read}
 use Rattle.unit_sets.specs.UnitList.{among}
 use Rattle.zdd_words.specs.Word.{level_of, lo_of, hi_of}
-use Rattle.zdd_families.specs.Family.{branch}
-use Rattle.zdd_families.specs.Map.{level_in}
-use Rattle.zdd_families.proofs.MapLemmas.{level_in-inner}
-use Rattle.zdd_families.proofs.Members.{branch-cases, branch-has_lo}
-use Rattle.family_memory.specs.declared.extents.Extent.{Extent}
+use Rattle.zdd_families.specs.{Family.branch, Map.level_in}
+use Rattle.zdd_families.proofs.{MapLemmas.level_in-inner, Members.branch-cases, Members.branch-has_lo}
+use Rattle.family_memory.specs.{declared.extents.Extent.Extent, Rests.HasUnitBelow, Rests.IsRest}
 use Rattle.family_memory.specs.Memory.{Held, Has, IsSound, Went, family_in, map_of, word_family}
 use Rattle.family_memory.specs.Kept.{AreExtents, IsAdded, no_extent}
-use Rattle.family_memory.specs.Rests.{HasUnitBelow, IsRest}
 use Rattle.family_memory.proofs.Adding.{went_added}
 use Rattle.family_memory.proofs.After.{still, still_has, still_level}
 
@@ -41,9 +38,9 @@ module _ (held : Held) (level lo : ℕ) (hi : List (List ℕ)) (lower : level < 
   }
 
   -- or what is left of these
-  pub rest_beyond : (rest : ℕ) → IsRest held (level_in (map_of held) lo) (family_in held lo) rest
+  pub rest_beyond : {rest : ℕ} → IsRest held (level_in (map_of held) lo) (family_in held lo) rest
       → IsRest held level (branch level (family_in held lo) hi) rest
-  rest_beyond rest is =
+  rest_beyond {rest} is =
       let far : level < level_in (map_of held) rest = let h = is.above in omega (arith, h, lower) in
       record {
         has = is.has;
@@ -58,10 +55,11 @@ module _ (held : Held) (level lo : ℕ) (hi : List (List ℕ)) (lower : level < 
       }
 
 -- that of a node by that of its parts
-pub rest_of_word : (held : Held) (word level lo rest rest' : ℕ) → level ≡ level_of word → lo ≡ lo_of word → rest' ≡ rest
+pub rest_of_word : {held : Held} (word : ℕ) {level lo rest rest' : ℕ} → level ≡ level_of word → lo ≡ lo_of word
+    → rest' ≡ rest
     → ((hi : List (List ℕ)) → IsRest held level (branch level (family_in held lo) hi) rest)
     → IsRest held (level_of word) (word_family held word) rest'
-rest_of_word held word level lo rest rest' same of_lo is_rest is =
+rest_of_word {held} word {level} {rest} same of_lo is_rest is =
     subst (IsRest held (level_of word) (word_family held word)) (sym is_rest)
     (subst (λ x. IsRest held x (branch x (family_in held (lo_of word)) (family_in held (hi_of word))) rest) same
     (subst (λ q. IsRest held level (branch level (family_in held q) (family_in held (hi_of word))) rest) of_lo
@@ -70,14 +68,13 @@ rest_of_word held word level lo rest rest' same of_lo is_rest is =
 -- ---- a memory that has more
 
 -- what was left still is
-pub rest_still : (before after : Held) (level : ℕ) (f : List (List ℕ)) (rest : ℕ) → IsSound before → Went before after
+pub rest_still : {before after : Held} {level : ℕ} {f : List (List ℕ)} {rest : ℕ} → IsSound before → Went before after
     → IsRest before level f rest → IsRest after level f rest
-rest_still before after level f rest sound went is =
-    let same : family_in after rest ≡ family_in before rest = still before after sound went rest is.has in
-    let at : level_in (map_of after) rest ≡ level_in (map_of before) rest =
-    still_level before after sound went rest is.has in
+rest_still {before} {after} {rest} sound went is =
+    let same : family_in after rest ≡ family_in before rest = still sound went rest is.has in
+    let at : level_in (map_of after) rest ≡ level_in (map_of before) rest = still_level sound went rest is.has in
     record {
-      has = still_has before after sound went rest is.has;
+      has = still_has sound went rest is.has;
       above = let h = is.above in omega (arith, at, h);
       some = λ set has. is.some set (subst (λ (q : List (List ℕ)). Contains q set) same has);
       others =
@@ -87,11 +84,11 @@ rest_still before after level f rest sound went is =
           ];
     }
 
-module _ (held after : Held) (word r : ℕ) (extent : Extent) (extents : List Extent) (sound : IsSound held)
+module _ {held after : Held} {word r : ℕ} (extent : Extent) {extents : List Extent} (sound : IsSound held)
     (is : IsAdded held word after r) (here : r ≡ length held.words) (are : AreExtents held extents)
     (of_word : IsRest held (level_of word) (word_family held word) extent.rest) where
   went : Went held after
-  went = went_added held word after r is
+  went = went_added is
 
   added_word : map_of after r ≡ word
   added_word = ap (λ l. get_or l r 0) is.words ∙ get_or_push held.words word 0 r (sym here)
@@ -100,17 +97,15 @@ module _ (held after : Held) (word r : ℕ) (extent : Extent) (extents : List Ex
       → IsRest after (level_in (map_of after) q) (family_in after q) (get_or extents q no_extent).rest
   rest_there q inner there =
       let rest = (get_or extents q no_extent).rest in
-      subst (λ n. IsRest after n (family_in after q) rest) (sym (still_level held after sound went q there))
-      (subst (λ f. IsRest after (level_in (map_of held) q) f rest) (sym (still held after sound went q there))
-      (rest_still held after (level_in (map_of held) q) (family_in held q) rest sound went
-      (are.rests q inner there)))
+      subst (λ n. IsRest after n (family_in after q) rest) (sym (still_level sound went q there))
+      (subst (λ f. IsRest after (level_in (map_of held) q) f rest) (sym (still sound went q there))
+      (rest_still sound went (are.rests q inner there)))
 
   rest_here : 2 ≤ r → IsRest after (level_in (map_of after) r) (family_in after r) extent.rest
   rest_here inner =
       subst (λ n. IsRest after n (family_in after r) extent.rest)
       (sym (level_in-inner (map_of after) r inner ∙ ap level_of added_word))
-      (subst (λ f. IsRest after (level_of word) f extent.rest) (sym is.family)
-      (rest_still held after (level_of word) (word_family held word) extent.rest sound went of_word))
+      (subst (λ f. IsRest after (level_of word) f extent.rest) (sym is.family) (rest_still sound went of_word))
 
   pub rests_more : (q : ℕ) → 2 ≤ q → q < length held.words + 1
       → IsRest after (level_in (map_of after) q) (family_in after q)
@@ -132,10 +127,10 @@ module _ (held after : Held) (word r : ℕ) (extent : Extent) (extents : List Ex
 
 -- ---- one that was read
 
-pub rest_read : (inside held : Held) (extents : List Extent) (n r : ℕ) (extent : Extent) → inside ≡ held → n ≡ r
+pub rest_read : {inside held : Held} {extents : List Extent} {n r : ℕ} {extent : Extent} → inside ≡ held → n ≡ r
     → 2 ≤ r → Has held r → AreExtents inside extents → extent ≡ get_or extents n extent
     → IsRest held (level_in (map_of held) r) (family_in held r) extent.rest
-rest_read inside held extents n r extent same e inner has are read =
+rest_read {inside} {extents} {n} {r} {extent} same e inner has are read =
     let there : Has inside r = subst (λ (h : Held). Has h r) (sym same) has in
     let short : n < length extents = let c = are.count in omega (arith, c, e, there) in
     let is : extent ≡ get_or extents r no_extent =

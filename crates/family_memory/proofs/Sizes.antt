@@ -6,13 +6,10 @@ use Rattle.std.specs.Int.{bit_at}
 use Rattle.std.proofs.lemmas.Bool.{cases_lt, or_left, or_right, or_cases}
 use Rattle.std.proofs.lemmas.Nat.Bits.{bit_at_and, bit_at-lt, bit_at-zero, same_from_bits}
 use Rattle.unit_sets.specs.UnitList.{among}
-use Rattle.unit_sets.proofs.Sorted.{Contains-nil, Contains-cons_cases}
-use Rattle.unit_sets.proofs.UnitListLemmas.{among-from_is_within}
-use Rattle.zdd_families.specs.Family.{IsFamily, branch}
-use Rattle.zdd_families.proofs.Members.{HasWith, branch-cases}
-use Rattle.zdd_families.proofs.CutsLemmas.{set_rises}
-use Rattle.zdd_families.proofs.InclusionLemmas.{within-length}
-use Rattle.zdd_families.specs.Units.{IsLastUnit}
+use Rattle.unit_sets.proofs.{Sorted.Contains-nil, Sorted.Contains-cons_cases, UnitListLemmas.among-from_is_within}
+use Rattle.zdd_families.specs.{Family.IsFamily, Family.branch, Units.IsLastUnit}
+use Rattle.zdd_families.proofs.{Members.HasWith, Members.branch-cases, CutsLemmas.set_rises}
+use Rattle.zdd_families.proofs.{InclusionLemmas.within-length}
 use Rattle.zdd_families.proofs.UnitsLemmas.{last-none, last-unit, last-branch}
 use Rattle.family_memory.specs.declared.extents.Extent.{Extent}
 use Rattle.family_memory.specs.Extents.{HaveAtLeast, HaveAtMost, HaveMarks, IncludesNone, IsExtent, Reach, ShareMarks}
@@ -50,7 +47,8 @@ extent-unit rest = record {
   common = λ mark shared set has. absurd (omega (arith, shared, bit_at-zero mark));
 }
 
-module _ (x : ℕ) (f g : List (List ℕ)) (a b e : Extent) (is : IsExtent f a) (is' : IsExtent g b) (filled : g ≢ [])
+module _ (x : ℕ) {f g : List (List ℕ)} {a b : Extent} (e : Extent) (is : IsExtent f a) (is' : IsExtent g b)
+    (filled : g ≢ [])
     (last : e.last ≡ max (max x a.last) b.last) (reach : e.reach ≤ a.reach) (reach' : e.reach ≤ max x b.reach)
     (least : e.least ≤ a.least) (least' : e.least ≤ b.least + 1)
     (most : a.most ≤ e.most) (most' : e.most < 65535 → b.most + 1 ≤ e.most)
@@ -58,8 +56,8 @@ module _ (x : ℕ) (f g : List (List ℕ)) (a b e : Extent) (is : IsExtent f a) 
     (units' : (mark : ℕ) → bit_at b.units mark ≡ 1 → bit_at e.units mark ≡ 1)
     (common : (mark : ℕ) → bit_at e.common mark ≡ 1 → bit_at a.common mark ≡ 1)
     (common' : (mark : ℕ) → bit_at e.common mark ≡ 1 → (mark ≡ x % 64) ⊎ (bit_at b.common mark ≡ 1)) where
-  past : 1 ≤ e.reach → (set : List ℕ) → HasWith x g set → (unit : ℕ) × (e.reach ≤ unit) × (among set unit ≡ true)
-  past some set with_x =
+  past : 1 ≤ e.reach → {set : List ℕ} → HasWith x g set → (unit : ℕ) × (e.reach ≤ unit) × (among set unit ≡ true)
+  past some with_x =
       elim (cases_lt x e.reach) [
         | inl more ↦
             let up = is'.reach (omega (arith, more, reach')) with_x.0 with_x.2 in (
@@ -75,26 +73,26 @@ module _ (x : ℕ) (f g : List (List ℕ)) (a b e : Extent) (is : IsExtent f a) 
         )
       ]
 
-  long : (set : List ℕ) → HasWith x g set → e.least ≤ length set
-  long set with_x =
+  long : {set : List ℕ} → HasWith x g set → e.least ≤ length set
+  long with_x =
       let h = is'.least with_x.0 with_x.2 in let n = ap length with_x.1 in omega (arith, h, n, least')
 
-  short : e.most < 65535 → (set : List ℕ) → HasWith x g set → length set ≤ e.most
-  short few set with_x =
+  short : e.most < 65535 → {set : List ℕ} → HasWith x g set → length set ≤ e.most
+  short few with_x =
       let m = most' few in
       let h = is'.most (omega (arith, m, few)) with_x.0 with_x.2 in
       let n = ap length with_x.1 in omega (arith, h, n, m)
 
-  marked : (set : List ℕ) → HasWith x g set → (unit : ℕ) → among set unit ≡ true → bit_at e.units (unit % 64) ≡ 1
-  marked set with_x unit there =
+  marked : {set : List ℕ} → HasWith x g set → (unit : ℕ) → among set unit ≡ true → bit_at e.units (unit % 64) ≡ 1
+  marked with_x unit there =
       elim (or_cases (x == unit) (among with_x.0 unit) (subst (λ q. among q unit ≡ true) with_x.1 there)) [
         | inl same ↦ subst (λ q. bit_at e.units (q % 64) ≡ 1) (eqb-true x unit same) own
         | inr later ↦ units' (unit % 64) (is'.units with_x.0 with_x.2 unit later)
       ]
 
-  shared : (mark : ℕ) → bit_at e.common mark ≡ 1 → (set : List ℕ) → HasWith x g set
+  shared : {mark : ℕ} → bit_at e.common mark ≡ 1 → {set : List ℕ} → HasWith x g set
       → (unit : ℕ) × (unit % 64 ≡ mark) × (among set unit ≡ true)
-  shared mark set_there set with_x =
+  shared {mark} set_there with_x =
       elim (common' mark set_there) [
         | inl of_x ↦ (
           x,
@@ -111,50 +109,51 @@ module _ (x : ℕ) (f g : List (List ℕ)) (a b e : Extent) (is : IsExtent f a) 
 
   pub extent-branch : IsExtent (branch x f g) e
   extent-branch = record {
-    last = last-branch x f g a.last b.last e.last filled is.last is'.last last;
+    last = last-branch x filled is.last is'.last last;
     reach =
         λ some set has. elim (branch-cases x f g set has) [
           | inl of_lo ↦
               let up = is.reach (omega (arith, some, reach)) set of_lo in
               (up.0, (let h = up.1 in omega (arith, h, reach)), up.2)
-          | inr with_x ↦ past some set with_x
+          | inr with_x ↦ past some with_x
         ];
     least =
         λ set has. elim (branch-cases x f g set has) [
           | inl of_lo ↦ let h = is.least set of_lo in omega (arith, h, least)
-          | inr with_x ↦ long set with_x
+          | inr with_x ↦ long with_x
         ];
     most =
         λ few set has. elim (branch-cases x f g set has) [
           | inl of_lo ↦ let h = is.most (omega (arith, few, most)) set of_lo in omega (arith, h, most)
-          | inr with_x ↦ short few set with_x
+          | inr with_x ↦ short few with_x
         ];
     units =
         λ set has unit there. elim (branch-cases x f g set has) [
           | inl of_lo ↦ units (unit % 64) (is.units set of_lo unit there)
-          | inr with_x ↦ marked set with_x unit there
+          | inr with_x ↦ marked with_x unit there
         ];
     common =
         λ mark there set has. elim (branch-cases x f g set has) [
           | inl of_lo ↦ is.common mark (common mark there) set of_lo
-          | inr with_x ↦ shared mark there set with_x
+          | inr with_x ↦ shared there with_x
         ];
   }
 
-pub none_by_reach : (f g : List (List ℕ)) (last reach : ℕ) → IsLastUnit f last → Reach g reach → last < reach
+pub none_by_reach : {f : List (List ℕ)} (g : List (List ℕ)) {last : ℕ} (reach : ℕ) → IsLastUnit f last → Reach g reach
+    → last < reach
     → IncludesNone f g
-none_by_reach f g last reach is at h set part has has' within =
+none_by_reach g reach is at h set part has has' within =
     let up = at (omega (arith, h)) part has' in
     let low = is.most up.0 (set, has, among-from_is_within set part up.0 within up.2) in
     let past = up.1 in
     omega (arith, low, h, past)
 
-pub none_by_sizes : (f g : List (List ℕ)) (most least : ℕ) → least < 65536 → IsFamily f → IsFamily g
+pub none_by_sizes : {f g : List (List ℕ)} (most least : ℕ) → least < 65536 → IsFamily f → IsFamily g
     → HaveAtMost f most → HaveAtLeast g least → most < least → IncludesNone f g
-none_by_sizes f g most least fits is is' at_most at_least h set part has has' within =
+none_by_sizes most least fits is is' at_most at_least h set part has has' within =
     let m = at_most (omega (arith, h, fits)) set has in
     let n = at_least part has' in
-    let w = within-length set part (set_rises f set is has) (set_rises g part is' has') within in
+    let w = within-length set part (set_rises set is has) (set_rises part is' has') within in
     omega (arith, h, m, n, w)
 
 min_of_marks : (m n : ℕ) → m < 2 → (m ≡ 1 → n ≡ 1) → min m n ≡ m
@@ -163,9 +162,9 @@ min_of_marks (suc zero) n few there = let e = there refl in omega (arith, e)
 min_of_marks (suc (suc m)) n few there = absurd (omega (arith, few))
 
 -- marks that each set of the second family has, of which the first family's units lack one
-pub none_by_marks : (f g : List (List ℕ)) (units common : ℕ) → HaveMarks f units → ShareMarks g common
+pub none_by_marks : (f g : List (List ℕ)) (units : ℕ) {common : ℕ} → HaveMarks f units → ShareMarks g common
     → bit_and common units ≢ common → IncludesNone f g
-none_by_marks f g units common have share lacks set part has has' within =
+none_by_marks f g units {common} have share lacks set part has has' within =
     lacks (same_from_bits (bit_and common units) common (λ mark.
     bit_at_and common units mark ∙ min_of_marks (bit_at common mark) (bit_at units mark) (bit_at-lt common mark)
     (λ there. let u = share mark there part has' in

@@ -1,12 +1,9 @@
 -- What the kept entries say, over what a memory holds.
 use Rattle.std.specs.Prelude.{ℕ, List}
-use Rattle.zdd_families.specs.Minimal.{IsMinimal}
-use Rattle.zdd_families.specs.Without.{IsWithout}
-use Rattle.zdd_families.specs.Least.{IsLeastUnion, IsLeastProduct}
+use Rattle.zdd_families.specs.{Minimal.IsMinimal, Without.IsWithout, Least.IsLeastUnion, Least.IsLeastProduct}
 use Rattle.family_memory.specs.Memory.{Held, Has, family_in}
-use Rattle.kept_answers.specs.declared.answers.Operation.{Operation}
+use Rattle.kept_answers.specs.{declared.answers.Operation.Operation, declared.answers.Entry.Entry}
 use Rattle.kept_answers.specs.declared.answers.Operation.TheVariants.{Without, Union, Product, Minimal}
-use Rattle.kept_answers.specs.declared.answers.Entry.{Entry}
 
 -- the family is the operation's of two families; the minimal sets are those of the first
 abbrev pub IsAnswer : Operation → List (List ℕ) → List (List ℕ) → List (List ℕ) → Type 0

@@ -3,10 +3,7 @@ use Rattle.std.specs.Prelude.{◌≡◌, ℕ, ◌+◌, ◌≤◌, ◌^◌, List,
 use Rattle.std.specs.List.{All}
 use Rattle.zdd_families.specs.Map.{Grown, level_in}
 use Rattle.kept_answers.specs.declared.answers.Entry.{Entry}
-use Rattle.family_memory.specs.declared.extents.Extent.{Extent}
-use Rattle.family_memory.specs.Extents.{IsExtent}
-use Rattle.family_memory.specs.Answers.{IsTold}
-use Rattle.family_memory.specs.Rests.{IsRest}
+use Rattle.family_memory.specs.{declared.extents.Extent.Extent, Extents.IsExtent, Answers.IsTold, Rests.IsRest}
 use Rattle.event_counts.specs.Count.{next_count}
 use Rattle.family_memory.specs.Memory.{Held, Has, IsSound, family_in, map_of, word_family}
 

@@ -3,11 +3,9 @@ use Rattle.std.specs.Prelude.{◌≡◌, ◌≢◌, ℕ, ◌+◌, ◌<◌, ◌�
 use Rattle.event_counts.specs.Count.{Rose, last_count}
 use Rattle.unit_sets.specs.Unit.{IsUnit}
 use Rattle.zdd_words.specs.Word.{level_of, lo_of, hi_of}
-use Rattle.zdd_families.specs.Family.{branch}
+use Rattle.zdd_families.specs.{Family.branch, Cuts.Cuts, Antichains.IsAntichain}
 use Rattle.zdd_families.specs.Map.{IsClosed, Grown, family, level_in}
 use Rattle.zdd_words.specs.declared.word.Parts.{Parts}
-use Rattle.zdd_families.specs.Cuts.{Cuts}
-use Rattle.zdd_families.specs.Antichains.{IsAntichain}
 
 -- what a memory holds: the word of each reference, where the terminals have none, how many nodes it takes at most, and
 -- how often it had no room for a node

@@ -3,14 +3,11 @@ use Rattle.std.specs.Prelude.{◌≡◌, ℕ, true, false, not, ◌==◌, List}
 use Rattle.std.proofs.Common.{◌∙◌, subst, inl, inr}
 use Rattle.std.proofs.lemmas.Bool.{and_from, ne_eqb, not_from_false, cases_Bool}
 use Rattle.std.proofs.lemmas.List.Elements.{All-contains}
-use Rattle.unit_sets.specs.UnitList.{among, without_unit}
+use Rattle.unit_sets.specs.{UnitList.among, UnitList.without_unit, CutOrder.cut_cmp_total}
 use Rattle.unit_sets.proofs.UnitListLemmas.{among-without_unit, Contains-from_among}
-use Rattle.unit_sets.specs.CutOrder.{cut_cmp_total}
 use Rattle.unit_sets.proofs.Sorted.{same_from_members}
-use Rattle.fault_definitions.specs.Tree.{FaultTree}
-use Rattle.fault_definitions.specs.Reading.{reads}
+use Rattle.fault_definitions.specs.{Tree.FaultTree, Reading.reads, Reading.Within}
 use Rattle.fault_definitions.proofs.ReadingLaws.{reads-rises}
-use Rattle.fault_definitions.specs.Reading.{Within}
 use Rattle.fault_definitions.specs.Cut.{IsMinimalFor, IsMinimalCut, IsCutList}
 
 -- A set that lacks a member of a minimal one, and has none besides, does not fail the node.

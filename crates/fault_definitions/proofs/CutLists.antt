@@ -1,25 +1,21 @@
 -- A tree has a cut list: all sets of its units are tried, and the minimal cuts among them put into order.
 use Rattle.std.specs.Prelude.{◌≡◌, ◌⊎◌, ℕ, zero, suc, Bool, true, false, not, ◌&&◌, List, [], ◌∷◌, ◌++◌, map, All}
 use Rattle.std.specs.Prelude.{Contains, if◌then◌else◌}
-use Rattle.std.specs.Cmp.{IsTotalOrder}
-use Rattle.std.specs.List.{list_all, AllByRecursion}
-use Rattle.std.specs.List.Sorted.{IsStrictlySortedBy}
-use Rattle.std.specs.declared.cmp.Ordering.{Ordering}
+use Rattle.std.specs.{Cmp.IsTotalOrder, List.list_all, List.AllByRecursion, List.Sorted.IsStrictlySortedBy}
+use Rattle.std.specs.{declared.cmp.Ordering.Ordering}
 use Rattle.std.specs.declared.cmp.Ordering.TheVariants.{Less, Equal, Greater}
 use Rattle.std.proofs.Common.{refl, sym, ◌∙◌, ap, subst, inl, inr}
 use Rattle.std.proofs.lemmas.Bool.{and_parts, and_from, cond_both, false≢true, not_from_false}
 use Rattle.std.proofs.lemmas.List.Elements.{All-nil, All-cons, All-head, All-tail, All-weaker, All-contains}
 use Rattle.std.proofs.lemmas.List.Elements.{All-contains_itself, Contains-append_left, Contains-append_right}
 use Rattle.unit_sets.specs.CutOrder.{IsInCutOrder, cut_cmp, cut_cmp_total}
-use Rattle.unit_sets.proofs.CutOrderLemmas.{cut_cmp-same}
+use Rattle.unit_sets.proofs.{CutOrderLemmas.cut_cmp-same, UnitListLemmas.same_set, UnitListLemmas.Contains-from_among}
 use Rattle.unit_sets.proofs.Sorted.{Contains-nil, Contains-cons_cases, Contains-cons_first, Contains-cons_other}
 use Rattle.unit_sets.specs.UnitList.{among, with_unit, without_unit, IsRising}
-use Rattle.unit_sets.proofs.UnitListLemmas.{same_set, Contains-from_among}
-use Rattle.fault_definitions.specs.Cut.{IsMinimalCut, IsCutList}
+use Rattle.fault_definitions.specs.{Cut.IsMinimalCut, Cut.IsCutList, Reading.reads}
 use Rattle.fault_definitions.proofs.MinimalCuts.{passing, passing-none, passing-more, passing_rises, passing_to}
 use Rattle.fault_definitions.proofs.MinimalCuts.{passing_from}
 use Rattle.fault_definitions.proofs.MinimalCuts.{units_of_all}
-use Rattle.fault_definitions.specs.Reading.{reads}
 use Rattle.fault_definitions.specs.Tree.{FaultTree, IsUnitOf, unit_count}
 
 -- ---- a member put into its place in a list in strict order
@@ -240,8 +236,8 @@ module _ (tree : FaultTree) where
           (λ other. absurd (false≢true (sym other ∙ minimal)))
 
   -- a set of units of the tree is its units
-  own_units : (set : List ℕ) → IsRising set → All (IsUnitOf tree) set → units_in set ≡ set
-  own_units set rising units =
+  own_units : {set : List ℕ} → IsRising set → All (IsUnitOf tree) set → units_in set ≡ set
+  own_units {set} rising units =
       same_set (units_in set) set (passing_rises (among set) (unit_count tree)) rising
       (λ unit. same_Bool (among (units_in set) unit) (among set unit)
       (λ has. (passing_to (among set) (unit_count tree) unit has).2)
@@ -250,7 +246,7 @@ module _ (tree : FaultTree) where
 
   complete : (set : List ℕ) → IsMinimalCut tree set → Contains (least_of (sets_to (unit_count tree))) set
   complete set minimal =
-      let same : units_in set ≡ set = own_units set minimal.rising minimal.units in
+      let same : units_in set ≡ set = own_units minimal.rising minimal.units in
       let again : units_in (units_in set) ≡ set = ap units_in same ∙ same in
       let is : is_minimal set ≡ true =
       and_from (reads tree (among set) tree.top) _ minimal.fails (needed_to set set minimal.needed) in

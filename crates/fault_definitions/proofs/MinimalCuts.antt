@@ -1,8 +1,7 @@
 -- Each set of units that fails a node includes a minimal one; and a tree has a cut list.
 use Rattle.std.specs.Prelude.{◌≡◌, ℕ, zero, suc, ◌<◌, ◌≤◌, Bool, true, false, not, ◌||◌, ◌==◌, List, [], ◌∷◌, length}
 use Rattle.std.specs.Prelude.{filter, All, Contains, get_or, if◌then◌else◌}
-use Rattle.std.specs.List.{list_any}
-use Rattle.std.specs.List.Sorted.{IsStrictlySortedBy}
+use Rattle.std.specs.{List.list_any, List.Sorted.IsStrictlySortedBy}
 use Rattle.std.proofs.Common.{refl, sym, ◌∙◌, ap, subst, inl, inr, arith, eq-eqb}
 use Rattle.std.proofs.lemmas.Bool.{cases_Bool, cases_eq, or_cases, or_left, or_right, or_parts, and_parts, cond_both}
 use Rattle.std.proofs.lemmas.Bool.{cond-true, cond-false, eqb-true, ltb-false, false≢true, not_from_true}
@@ -19,12 +18,11 @@ use Rattle.fault_definitions.specs.Reading.{node_reads, reads}
 use Rattle.fault_definitions.proofs.ReadingLaws.{node_reads-agree, reads-node}
 use Rattle.fault_definitions.specs.Reading.{Within}
 use Rattle.fault_definitions.specs.Tree.{FaultTree, IsNodeOf, IsUnitOf, is_above_units, rank_of, unit_count}
-use Rattle.fault_definitions.specs.Trigger.{below, triggers_of}
-use Rattle.fault_definitions.specs.WellFormed.{IsTree}
+use Rattle.fault_definitions.specs.{Trigger.below, Trigger.triggers_of, WellFormed.IsTree}
 
 -- ---- a reading asks for units of the tree alone
 
-module _ (tree : FaultTree) (kept : IsTree tree) (a b : ℕ → Bool)
+module _ {tree : FaultTree} (kept : IsTree tree) (a b : ℕ → Bool)
     (same : (unit : ℕ) → IsUnitOf tree unit → a unit ≡ b unit) where
   by_units : (reading : ℕ → Bool) (node : ℕ) → IsNodeOf tree node
       → node_reads tree a reading node ≡ node_reads tree b reading node
@@ -45,8 +43,8 @@ module _ (tree : FaultTree) (kept : IsTree tree) (a b : ℕ → Bool)
   within_rank (suc bound) node is_node low =
       reads-node tree kept a node is_node
       ∙ node_reads-agree tree a (reads tree a) (reads tree b) node
-      (λ k d short. within_rank bound (get_or (below tree node) k d) (below_are_nodes tree kept node k d short)
-      (let lower = below_ranks tree kept node is_node k d short in omega arith))
+      (λ k d short. within_rank bound (get_or (below tree node) k d) (below_are_nodes kept node k d short)
+      (let lower = below_ranks kept node is_node k d short in omega arith))
       ∙ by_units (reads tree b) node is_node
       ∙ sym (reads-node tree kept b node is_node)
 
@@ -130,9 +128,9 @@ record Passing (test : ℕ → Bool) (set : List ℕ) : Type 0 where
   has : among set member ≡ true
   passes : test member ≡ true
 
-passing_member : (test : ℕ → Bool) (set : List ℕ) → list_any test set ≡ true → Passing test set
-passing_member test [] h = absurd cc
-passing_member test (first ∷ others) h =
+passing_member : {test : ℕ → Bool} (set : List ℕ) → list_any test set ≡ true → Passing test set
+passing_member [] h = absurd cc
+passing_member {test} (first ∷ others) h =
     elim (or_cases (test first) (list_any test others) h) [
       | inl here ↦ record {
         member = first;
@@ -141,7 +139,7 @@ passing_member test (first ∷ others) h =
         passes = here;
       }
       | inr later ↦
-          let found : Passing test others = passing_member test others later in
+          let found : Passing test others = passing_member others later in
           record {
             member = found.member;
             has = or_right (first == found.member) (among others found.member) found.has;
@@ -210,8 +208,8 @@ module _ (tree : FaultTree) (node : ℕ) where
     pub units : (unit : ℕ) → among set unit ≡ true → IsUnitOf tree unit
     pub fails : reads tree (among set) node ≡ true
 
-  less : (set : List ℕ) (unit : ℕ) → Fails set → can_go set unit ≡ true → Fails (without_unit unit set)
-  less set unit f goes = record {
+  less : {set : List ℕ} (unit : ℕ) → Fails set → can_go set unit ≡ true → Fails (without_unit unit set)
+  less {set} unit f goes = record {
     rising = IsRising-without_unit unit set f.rising;
     units = λ n has. f.units n ((inside set unit).kept n has);
     fails = goes;
@@ -222,8 +220,8 @@ module _ (tree : FaultTree) (node : ℕ) where
       filter_shorter (λ member. not (member == unit)) set unit has
       (not_from_true (unit == unit) (eq-eqb unit unit refl))
 
-  itself : (set : List ℕ) → Fails set → list_any (can_go set) set ≡ false → HasMinimal tree node set
-  itself set f none = record {
+  itself : {set : List ℕ} → Fails set → list_any (can_go set) set ≡ false → HasMinimal tree node set
+  itself {set} f none = record {
     part = set;
     minimal = record {
       rising = f.rising;
@@ -236,46 +234,45 @@ module _ (tree : FaultTree) (node : ℕ) where
     within = record { kept = λ n has. has };
   }
 
-  of_less : (set : List ℕ) (unit : ℕ) → HasMinimal tree node (without_unit unit set) → HasMinimal tree node set
-  of_less set unit found = record {
+  of_less : {set : List ℕ} (unit : ℕ) → HasMinimal tree node (without_unit unit set) → HasMinimal tree node set
+  of_less {set} unit found = record {
     part = found.part;
     minimal = found.minimal;
     within = record { kept = λ n has. (inside set unit).kept n (found.within.kept n has) };
   }
 
-  pub shrink : (size : ℕ) (set : List ℕ) → length set ≤ size → Fails set → HasMinimal tree node set
-  shrink zero set small f =
+  pub shrink : (size : ℕ) {set : List ℕ} → length set ≤ size → Fails set → HasMinimal tree node set
+  shrink zero {set} small f =
       elim (cases_Bool (list_any (can_go set) set)) [
         | inl some ↦
-            let found : Passing (can_go set) set = passing_member (can_go set) set some in
+            let found : Passing (can_go set) set = passing_member set some in
             absurd (let k = shorter set found.member found.has in omega (arith, k))
-        | inr none ↦ itself set f none
+        | inr none ↦ itself f none
       ]
-  shrink (suc size) set small f =
+  shrink (suc size) {set} small f =
       elim (cases_Bool (list_any (can_go set) set)) [
         | inl some ↦
-            let found : Passing (can_go set) set = passing_member (can_go set) set some in
-            of_less set found.member
-            (shrink size (without_unit found.member set) (let k = shorter set found.member found.has in
-            omega (arith, k)) (less set found.member f found.passes))
-        | inr none ↦ itself set f none
+            let found : Passing (can_go set) set = passing_member set some in
+            of_less found.member (shrink size (let k = shorter set found.member found.has in
+            omega (arith, k)) (less found.member f found.passes))
+        | inr none ↦ itself f none
       ]
 
 -- whatever fails a node includes a minimal set of it: the units of the tree in it are tried one by one
-pub part_of_failing : (tree : FaultTree) → IsTree tree → (node : ℕ) → IsNodeOf tree node → (within : ℕ → Bool)
+pub part_of_failing : {tree : FaultTree} → IsTree tree → (node : ℕ) → IsNodeOf tree node → (within : ℕ → Bool)
     → reads tree within node ≡ true
     → (found : HasMinimal tree node (passing within (unit_count tree)))
     × ((unit : ℕ) → among found.part unit ≡ true → within unit ≡ true)
-part_of_failing tree kept node is_node within fails =
+part_of_failing {tree} kept node is_node within fails =
     let units : List ℕ = passing within (unit_count tree) in
     let of_units : Fails tree node units = record {
       rising = passing_rises within (unit_count tree);
       units = λ unit has. let both = passing_to within (unit_count tree) unit has in (both.0, both.1);
       fails =
-          sym (reads-by_units tree kept within (among (passing within (unit_count tree))) (λ unit is. alike unit is)
+          sym (reads-by_units kept within (among (passing within (unit_count tree))) (λ unit is. alike unit is)
           node is_node) ∙ fails;
     } in
-    let found : HasMinimal tree node units = shrink tree node (length units) units (omega arith) of_units in
+    let found : HasMinimal tree node units = shrink tree node (length units) (omega arith) of_units in
     (found, λ unit has. (passing_to within (unit_count tree) unit (found.within.kept unit has)).2)
   where
     alike : (unit : ℕ) → IsUnitOf tree unit → within unit ≡ among (passing within (unit_count tree)) unit
@@ -292,5 +289,5 @@ part_of_failing tree kept node is_node within fails =
 pub includes_minimal : (tree : FaultTree) → IsTree tree → (set : List ℕ) → is_cut tree set ≡ true
     → (part : List ℕ) × IsMinimalCut tree part × (is_within set part ≡ true)
 includes_minimal tree kept set cut =
-    let found = part_of_failing tree kept tree.top kept.top_is_node (among set) cut in
+    let found = part_of_failing kept tree.top kept.top_is_node (among set) cut in
     (found.0.part, found.0.minimal, is_within-from_among set found.0.part found.1)

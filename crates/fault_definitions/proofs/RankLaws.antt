@@ -19,7 +19,7 @@ use Rattle.fault_definitions.specs.WellFormed.{IsTree, IsSoundGate}
 
 -- ---- what a node reads are nodes
 
-module _ (tree : FaultTree) (kept : IsTree tree) where
+module _ {tree : FaultTree} (kept : IsTree tree) where
   -- the gate of a number is one of the gates, and sound
   pub gate_sound : (gate : ℕ) → IsGateOf tree gate → IsSoundGate tree (kind_of tree gate, inputs_of tree gate)
   gate_sound gate (above, within_nodes) =
@@ -89,18 +89,18 @@ rank_over-all tree (node ∷ nodes) =
     (λ n h. omega arith) nodes (rank_over-all tree nodes))
 
 -- what a node reads has a lower rank
-pub below_ranks : (tree : FaultTree) → IsTree tree → (node : ℕ) → IsNodeOf tree node
+pub below_ranks : {tree : FaultTree} → IsTree tree → (node : ℕ) → IsNodeOf tree node
     → All (λ n. rank_of tree n < rank_of tree node) (below tree node)
-below_ranks tree kept node is_node =
+below_ranks {tree} kept node is_node =
     subst (λ rank. All (λ n. rank_of tree n < rank) (below tree node)) (sym (kept.ranked node is_node))
     (rank_over-all tree (below tree node))
 
 -- what stands at the place of a node, among the ranks, is by the rule
-pub read_rank_rule : (tree : FaultTree) (ranks : List ℕ) (node place rank : ℕ) → IsTree tree → IsNodeOf tree node
+pub read_rank_rule : {tree : FaultTree} {ranks : List ℕ} (node : ℕ) {place rank : ℕ} → IsTree tree → IsNodeOf tree node
     → ranks ≡ tree.ranks → place ≡ node - 1 → rank ≡ get_or ranks place rank
     → rank ≡ rank_over tree (below tree node)
-read_rank_rule tree ranks zero place rank kept is_node same at is = absurd (omega (arith, is_node.0))
-read_rank_rule tree ranks (suc k) place rank kept is_node same at is =
+read_rank_rule zero kept is_node same at is = absurd (omega (arith, is_node.0))
+read_rank_rule {tree} {ranks} (suc k) {place} {rank} kept is_node same at is =
     let here : place ≡ k = omega arith in
     let within : place < length ranks = omega (arith, is_node.1, kept.ranks_all, ap length same) in
     is ∙ get_or_default ranks place rank 0 within ∙ ap (λ l. get_or l place 0) same
@@ -113,7 +113,7 @@ abbrev pub AgreesBelow : {V : Type 0} → FaultTree → ((ℕ → V) → ℕ →
 AgreesBelow {V} tree rule =
     (f g : ℕ → V) (node : ℕ) → All (λ n. f n ≡ g n) (below tree node) → rule f node ≡ rule g node
 
-module _ {V : Type 0} (tree : FaultTree) (kept : IsTree tree) (lowest : V) (rule : (ℕ → V) → ℕ → V)
+module _ {V : Type 0} {tree : FaultTree} (kept : IsTree tree) (lowest : V) (rule : (ℕ → V) → ℕ → V)
     (agrees : AgreesBelow tree rule) where
   -- any depth beyond the rank gives the same value
   within-deep : (depth other node : ℕ) → IsNodeOf tree node → rank_of tree node < depth → rank_of tree node < other
@@ -122,9 +122,9 @@ module _ {V : Type 0} (tree : FaultTree) (kept : IsTree tree) (lowest : V) (rule
   within-deep (suc depth) zero node is_node deep deep' = absurd (omega arith)
   within-deep (suc depth) (suc other) node is_node deep deep' =
       agrees (within lowest rule depth) (within lowest rule other) node
-      (λ k d short. within-deep depth other (get_or (below tree node) k d) (below_are_nodes tree kept node k d short)
-      (let lower = below_ranks tree kept node is_node k d short in omega arith)
-      (let lower = below_ranks tree kept node is_node k d short in omega arith))
+      (λ k d short. within-deep depth other (get_or (below tree node) k d) (below_are_nodes kept node k d short)
+      (let lower = below_ranks kept node is_node k d short in omega arith)
+      (let lower = below_ranks kept node is_node k d short in omega arith))
 
   -- the value of a node is by its rule from the values of what it reads
   pub by_rank-node : (node : ℕ) → IsNodeOf tree node
@@ -134,5 +134,5 @@ module _ {V : Type 0} (tree : FaultTree) (kept : IsTree tree) (lowest : V) (rule
       agrees (within lowest rule (rank_of tree node)) (λ n. within lowest rule (suc (rank_of tree n)) n) node
       (λ k d short.
       let n : ℕ = get_or (below tree node) k d in
-      within-deep (rank_of tree node) (suc (rank_of tree n)) n (below_are_nodes tree kept node k d short)
-      (below_ranks tree kept node is_node k d short) (omega arith))
+      within-deep (rank_of tree node) (suc (rank_of tree n)) n (below_are_nodes kept node k d short)
+      (below_ranks kept node is_node k d short) (omega arith))

@@ -5,15 +5,13 @@ use Rattle.std.specs.List.{list_any, list_all}
 use Rattle.std.proofs.Common.{refl, ◌∙◌, ap, subst, inl, inr, arith}
 use Rattle.std.proofs.lemmas.Bool.{cond_both, cases_lt, cases_Bool, ltb-true, ltb-false, leb-true, le-leb, lt-leb}
 use Rattle.std.proofs.lemmas.Bool.{or_cases, or_left, or_right, or_from, and_from, and_parts, cond-true, cond-false}
-use Rattle.std.proofs.lemmas.List.{get_or_past}
-use Rattle.std.proofs.lemmas.List.Recursion.{is_count_by}
-use Rattle.std.proofs.lemmas.List.Elements.{All-head, All-tail}
+use Rattle.std.proofs.{lemmas.List.get_or_past, lemmas.List.Recursion.is_count_by, lemmas.List.Elements.All-head}
+use Rattle.std.proofs.{lemmas.List.Elements.All-tail}
 use Rattle.fault_words.specs.declared.kind.GateKind.{GateKind}
 use Rattle.fault_words.specs.declared.kind.GateKind.TheVariants.{And, Or, Votes, Pand, Por, Seq, Fdep, Csp, Wsp, Hsp}
 use Rattle.fault_definitions.specs.Tree.{FaultTree, IsNodeOf, IsUnitOf, kind_of, inputs_of, is_above_units, is_fdep}
 use Rattle.fault_definitions.specs.Tree.{is_fdep_kind, unit_count, rank_of}
-use Rattle.fault_definitions.specs.Trigger.{triggers_of}
-use Rattle.fault_definitions.specs.Rank.{within, by_rank}
+use Rattle.fault_definitions.specs.{Trigger.triggers_of, Rank.within, Rank.by_rank}
 use Rattle.fault_definitions.proofs.RankLaws.{AgreesBelow, by_rank-node, gate_sound, below_ranks}
 use Rattle.fault_definitions.specs.WellFormed.{IsTree, IsSoundGate, IsSoundKind}
 use Rattle.fault_definitions.specs.Reading.{Within}
@@ -81,7 +79,7 @@ pub reads-node : (tree : FaultTree) → IsTree tree → (set : ℕ → Bool) (no
     → reads tree set node ≡ node_reads tree set (reads tree set) node
 unfolding reads
 reads-node tree kept set node is_node =
-    by_rank-node tree kept false (node_reads tree set) (node_reads-agree tree set) node is_node
+    by_rank-node kept false (node_reads tree set) (node_reads-agree tree set) node is_node
 
 -- the count is std's
 pub true_count-count_by : (f : ℕ → Bool) (inputs : List ℕ) → true_count f inputs ≡ count_by f inputs
@@ -201,7 +199,7 @@ module _ (f : ℕ → Bool) (none : (n : ℕ) → f n ≡ false) where
   gate_reads-none tree Wsp inputs sound = list_all-none inputs sound.enough
   gate_reads-none tree Hsp inputs sound = list_all-none inputs sound.enough
 
-module _ (tree : FaultTree) (kept : IsTree tree) (set : ℕ → Bool) (empty : (n : ℕ) → set n ≡ false) where
+module _ {tree : FaultTree} (kept : IsTree tree) (set : ℕ → Bool) (empty : (n : ℕ) → set n ≡ false) where
   gate_number_reads-none : (f : ℕ → Bool) → ((n : ℕ) → f n ≡ false) → (gate : ℕ) → is_above_units tree gate ≡ true
       → gate_reads (kind_of tree gate) f (inputs_of tree gate) ≡ false
   gate_number_reads-none f none gate above =
@@ -209,7 +207,7 @@ module _ (tree : FaultTree) (kept : IsTree tree) (set : ℕ → Bool) (empty : (
       let higher : unit_count tree < gate = ltb-true (unit_count tree) gate above in
       elim (cases_lt at (length tree.kinds)) [
         | inl reach ↦ gate_reads-none f none tree (kind_of tree gate) (inputs_of tree gate)
-            (gate_sound tree kept gate (higher, omega arith)).kind
+            (gate_sound kept gate (higher, omega arith)).kind
         | inr past ↦ ap (λ kind. gate_reads kind f (inputs_of tree gate)) (get_or_past tree.kinds at Fdep past)
       ]
 
@@ -231,13 +229,13 @@ module _ (tree : FaultTree) (kept : IsTree tree) (set : ℕ → Bool) (empty : (
 
 -- ---- the set of all units
 
-counted : (a : Bool) (m n : ℕ) → a ≡ true → m ≡ n → (if a then 1 else 0) + m ≡ suc n
-counted true m n e same = omega arith
-counted false m n e same = absurd cc
+counted : (a : Bool) {m n : ℕ} → a ≡ true → m ≡ n → (if a then 1 else 0) + m ≡ suc n
+counted true e same = omega arith
+counted false e same = absurd cc
 
-fdep_kind : (above fdep : Bool) → above ≡ true → (above && fdep) ≡ false → fdep ≡ false
-fdep_kind true fdep e h = h
-fdep_kind false fdep e h = absurd cc
+fdep_kind : (above : Bool) {fdep : Bool} → above ≡ true → (above && fdep) ≡ false → fdep ≡ false
+fdep_kind true e h = h
+fdep_kind false e h = absurd cc
 
 module _ (f : ℕ → Bool) where
   list_any-all : (inputs : List ℕ) → 1 ≤ length inputs → All (λ n. f n ≡ true) inputs → list_any f inputs ≡ true
@@ -256,7 +254,7 @@ module _ (f : ℕ → Bool) where
   true_count-all (input ∷ inputs) all =
       let e = All-head (λ n. f n ≡ true) input inputs all in
       let rest = true_count-all inputs (All-tail (λ n. f n ≡ true) input inputs all) in
-      counted (f input) (true_count f inputs) (length inputs) e rest
+      counted (f input) e rest
 
   gate_reads-all : (tree : FaultTree) (kind : GateKind) (inputs : List ℕ) → is_fdep_kind kind ≡ false
       → IsSoundKind tree kind inputs → All (λ n. f n ≡ true) inputs → gate_reads kind f inputs ≡ true
@@ -273,7 +271,7 @@ module _ (f : ℕ → Bool) where
   gate_reads-all tree Wsp inputs read sound all = list_all-all inputs all
   gate_reads-all tree Hsp inputs read sound all = list_all-all inputs all
 
-module _ (tree : FaultTree) (kept : IsTree tree) (set : ℕ → Bool)
+module _ {tree : FaultTree} (kept : IsTree tree) (set : ℕ → Bool)
     (full : (unit : ℕ) → IsUnitOf tree unit → set unit ≡ true) where
   all_read : (bound node : ℕ) → IsNodeOf tree node → is_fdep tree node ≡ false → rank_of tree node < bound
       → reads tree set node ≡ true
@@ -283,13 +281,12 @@ module _ (tree : FaultTree) (kept : IsTree tree) (set : ℕ → Bool)
         | inl above ↦
             let higher : unit_count tree < node = ltb-true (unit_count tree) node above in
             let gate : IsSoundGate tree (kind_of tree node, inputs_of tree node) =
-            gate_sound tree kept node (higher, is_node.1) in
+            gate_sound kept node (higher, is_node.1) in
             let lower : All (λ n. rank_of tree n < rank_of tree node) (inputs_of tree node) =
             subst (All (λ n. rank_of tree n < rank_of tree node))
             (cond-true (is_above_units tree node) (inputs_of tree node) (triggers_of tree node) above)
-            (below_ranks tree kept node is_node) in
-            let kind : is_fdep_kind (kind_of tree node) ≡ false =
-            fdep_kind (is_above_units tree node) (is_fdep_kind (kind_of tree node)) above read in
+            (below_ranks kept node is_node) in
+            let kind : is_fdep_kind (kind_of tree node) ≡ false = fdep_kind (is_above_units tree node) above read in
             reads-node tree kept set node is_node
             ∙ cond-true (is_above_units tree node) _ _ above
             ∙ gate_reads-all (reads tree set) tree (kind_of tree node) (inputs_of tree node) kind gate.kind

@@ -10,10 +10,8 @@ use Rattle.unit_sets.specs.UnitList.{among}
 use Rattle.fault_words.specs.declared.kind.GateKind.{GateKind}
 use Rattle.fault_words.specs.declared.kind.GateKind.TheVariants.{And, Or, Votes, Pand, Por, Seq, Fdep, Csp, Wsp, Hsp}
 use Rattle.fault_definitions.specs.Tree.{FaultTree, IsNodeOf, kind_of, inputs_of, is_above_units}
-use Rattle.fault_definitions.specs.Trigger.{triggers_of}
-use Rattle.fault_definitions.specs.Rank.{within, by_rank}
+use Rattle.fault_definitions.specs.{Trigger.triggers_of, Rank.within, Rank.by_rank, WellFormed.IsTree}
 use Rattle.fault_definitions.proofs.RankLaws.{AgreesBelow, by_rank-node}
-use Rattle.fault_definitions.specs.WellFormed.{IsTree}
 use Rattle.fault_definitions.specs.Reading.{true_count, gate_reads, node_reads, reads}
 use Rattle.fault_definitions.proofs.ReadingLaws.{true_count-agree, list_all-agree}
 use Rattle.fault_definitions.specs.Step.{Step, never, no_later, earlier, later, earliest, latest, last_step}
@@ -115,7 +113,7 @@ pub step-node : (tree : FaultTree) → IsTree tree → (order : List ℕ) (node 
     → step tree order node ≡ node_step tree order (step tree order) node
 unfolding step
 step-node tree kept order node is_node =
-    by_rank-node tree kept never (node_step tree order) (node_step-agree tree order) node is_node
+    by_rank-node kept never (node_step tree order) (node_step-agree tree order) node is_node
 
 -- ---- the static bound
 
@@ -140,7 +138,7 @@ later_is_some (Some number) (Some other) h = refl
 pub record Bounds (reading : ℕ → Bool) (step_of : ℕ → Step) : Type 0 where
   pub reads : (node : ℕ) → is_some (step_of node) ≡ true → reading node ≡ true
 
-module _ (r : ℕ → Bool) (f : ℕ → Step) (bounds : Bounds r f) where
+module _ {r : ℕ → Bool} {f : ℕ → Step} (bounds : Bounds r f) where
   earliest-bound : (nodes : List ℕ) → is_some (earliest f nodes) ≡ true → list_any r nodes ≡ true
   earliest-bound [] h = h
   earliest-bound (node ∷ nodes) h =
@@ -257,23 +255,22 @@ choice-bound true gate unit x y at_gate at_unit h = at_gate h
 choice-bound false gate unit x y at_gate at_unit h = at_unit h
 
 module _ (tree : FaultTree) (order : List ℕ) where
-  node_step-bound : (r : ℕ → Bool) (f : ℕ → Step) → Bounds r f → (node : ℕ)
+  node_step-bound : {r : ℕ → Bool} {f : ℕ → Step} → Bounds r f → (node : ℕ)
       → is_some (node_step tree order f node) ≡ true → node_reads tree (among order) r node ≡ true
-  node_step-bound r f bounds node h =
-      choice-bound (is_above_units tree node) _ _ _ _
-      (gate_step-bound r f bounds (kind_of tree node) (inputs_of tree node))
+  node_step-bound {r} {f} bounds node h =
+      choice-bound (is_above_units tree node) _ _ _ _ (gate_step-bound bounds (kind_of tree node) (inputs_of tree node))
       (λ some. elim (or_cases (is_some (place order node)) (is_some (earliest f (triggers_of tree node)))
       (earlier_is_some (place order node) (earliest f (triggers_of tree node)) some)) [
         | inl own ↦ or_left (among order node) (list_any r (triggers_of tree node)) (place_from-among 1 order node own)
         | inr triggered ↦ or_right (among order node) (list_any r (triggers_of tree node))
-            (earliest-bound r f bounds (triggers_of tree node) triggered)
+            (earliest-bound bounds (triggers_of tree node) triggered)
       ])
       h
 
   within-bound : (depth : ℕ) → Bounds (within false (node_reads tree (among order)) depth)
       (within never (node_step tree order) depth)
   within-bound zero = record { reads = λ node h. h }
-  within-bound (suc depth) = record { reads = λ node. node_step-bound _ _ (within-bound depth) node }
+  within-bound (suc depth) = record { reads = λ node. node_step-bound (within-bound depth) node }
 
   -- The static bound: a node that fails at some step of an order reads true under the order's units.
   pub step-reads : (node : ℕ) → is_some (step tree order node) ≡ true → reads tree (among order) node ≡ true

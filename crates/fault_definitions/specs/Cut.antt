@@ -2,8 +2,7 @@
 use Rattle.std.specs.Prelude.{◌≡◌, ℕ, Bool, true, false, List, All, Contains}
 use Rattle.unit_sets.specs.UnitList.{among, without_unit, IsRising}
 use Rattle.unit_sets.specs.CutOrder.{IsInCutOrder}
-use Rattle.fault_definitions.specs.Tree.{FaultTree, IsUnitOf}
-use Rattle.fault_definitions.specs.Reading.{reads}
+use Rattle.fault_definitions.specs.{Tree.FaultTree, Tree.IsUnitOf, Reading.reads}
 
 -- the set fails the node, and no longer does without any one of its members
 pub record IsMinimalFor (tree : FaultTree) (node : ℕ) (set : List ℕ) : Type 0 where

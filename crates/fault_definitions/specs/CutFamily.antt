@@ -1,10 +1,7 @@
 -- The cut family of a node: its minimal cuts as a family of sets, after Minato.
 use Rattle.std.specs.Prelude.{ℕ, List, All, Contains}
-use Rattle.std.specs.Cmp.Lexicographic.{slice_cmp}
-use Rattle.std.specs.List.Sorted.{IsStrictlySortedBy}
-use Rattle.std.specs.Ordering.{nat_cmp}
-use Rattle.fault_definitions.specs.Cut.{IsMinimalFor}
-use Rattle.fault_definitions.specs.Tree.{FaultTree}
+use Rattle.std.specs.{Cmp.Lexicographic.slice_cmp, List.Sorted.IsStrictlySortedBy, Ordering.nat_cmp}
+use Rattle.fault_definitions.specs.{Cut.IsMinimalFor, Tree.FaultTree}
 
 -- exactly the sets that fail the node and no longer do without any one of their members, each once, in lexicographic
 -- order

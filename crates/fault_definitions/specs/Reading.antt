@@ -5,8 +5,7 @@ use Rattle.std.specs.List.{list_any, list_all}
 use Rattle.fault_words.specs.declared.kind.GateKind.{GateKind}
 use Rattle.fault_words.specs.declared.kind.GateKind.TheVariants.{And, Or, Votes, Pand, Por, Seq, Fdep, Csp, Wsp, Hsp}
 use Rattle.fault_definitions.specs.Tree.{FaultTree, kind_of, inputs_of, is_above_units}
-use Rattle.fault_definitions.specs.Trigger.{triggers_of}
-use Rattle.fault_definitions.specs.Rank.{by_rank}
+use Rattle.fault_definitions.specs.{Trigger.triggers_of, Rank.by_rank}
 
 -- how many of the positions read true
 abbrev pub true_count : (ℕ → Bool) → List ℕ → ℕ

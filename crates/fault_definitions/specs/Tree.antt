@@ -1,9 +1,8 @@
 -- A fault tree, after the Galileo manual: units and gates under numbers, what each gate reads, and the top event.
 use Rattle.std.specs.Prelude.{ℕ, ◌+◌, ◌-◌, ◌<◌, ◌≤◌, Bool, true, false, nat_lt, ◌&&◌, List, [], ◌∷◌, length, zip}
 use Rattle.std.specs.Prelude.{slice_index, slice_index_or}
-use Rattle.fault_words.specs.declared.attribute.Attribute.{Attribute}
-use Rattle.fault_words.specs.declared.kind.GateKind.{GateKind}
-use Rattle.fault_words.specs.declared.kind.GateKind.TheVariants.{Fdep}
+use Rattle.fault_words.specs.{declared.attribute.Attribute.Attribute, declared.kind.GateKind.GateKind}
+use Rattle.fault_words.specs.{declared.kind.GateKind.TheVariants.Fdep}
 use Rattle.fault_definitions.specs.declared.parts.TreeParts.{TreeParts}
 
 -- The units are 1 to U, and the gates U+1 to U+G. Each list goes in the order of the numbers.

@@ -1,8 +1,7 @@
 -- Functional dependencies: by which nodes a unit is triggered, and what a node reads.
 use Rattle.std.specs.Prelude.{ℕ, List, [], ◌∷◌, drop, Option, Some, None, if◌then◌else◌, filter_map}
 use Rattle.unit_sets.specs.UnitList.{among}
-use Rattle.fault_words.specs.declared.kind.GateKind.{GateKind}
-use Rattle.fault_words.specs.declared.kind.GateKind.TheVariants.{Fdep}
+use Rattle.fault_words.specs.{declared.kind.GateKind.GateKind, declared.kind.GateKind.TheVariants.Fdep}
 use Rattle.fault_definitions.specs.Tree.{FaultTree, gates, inputs_of, is_above_units}
 
 -- the first input of an `fdep`, where the unit is among the others

@@ -3,14 +3,12 @@ use Rattle.std.specs.Prelude.{◌≡◌, ◌≢◌, ℕ, ◌≤◌, false, IsTru
 use Rattle.std.specs.Prelude.{Contains, codes}
 use Rattle.std.specs.Str.{str_to_ascii_lowercase}
 use Rattle.unit_sets.specs.Unit.{most_units}
-use Rattle.fault_definitions.specs.declared.parts.TheConstants.{MOST_GATES}
-use Rattle.fault_words.specs.declared.attribute.Attribute.{Attribute}
-use Rattle.fault_words.specs.declared.kind.GateKind.{GateKind}
+use Rattle.fault_definitions.specs.{declared.parts.TheConstants.MOST_GATES, Rank.IsRanked}
+use Rattle.fault_words.specs.{declared.attribute.Attribute.Attribute, declared.kind.GateKind.GateKind}
+use Rattle.fault_words.specs.{Name.is_bare_name}
 use Rattle.fault_words.specs.declared.kind.GateKind.TheVariants.{And, Or, Votes, Pand, Por, Seq, Fdep, Csp, Wsp, Hsp}
-use Rattle.fault_words.specs.Name.{is_bare_name}
 use Rattle.fault_definitions.specs.Tree.{FaultTree, unit_count, gate_count, node_count, gates, is_fdep, IsNodeOf}
 use Rattle.fault_definitions.specs.Tree.{IsUnitOf}
-use Rattle.fault_definitions.specs.Rank.{IsRanked}
 
 -- ---- gates
 

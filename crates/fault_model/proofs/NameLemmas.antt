@@ -2,24 +2,23 @@
 use Rattle.std.proofs.Common.{◌≡◌, ℕ, zero, suc, ◌+◌, ◌-◌, ◌<◌, false, List, [], ◌∷◌, length, get_or}
 use Rattle.std.proofs.Common.{Bool, cond, not, inl, inr, refl, sym, ◌∙◌, ap, subst, arith}
 use Rattle.std.specs.Prelude.{nat_eq, nat_lt, take, position, Option, Some, None, IfSome, IsNone, IsSome, ◌↔◌}
-use Rattle.std.proofs.lemmas.List.Quantifiers.{position-Some}
+use Rattle.std.proofs.{lemmas.List.Quantifiers.position-Some, lemmas.List.get_or-take, lemmas.List.length-take-le}
 use Rattle.std.specs.List.{list_any, position_or_len}
 use Rattle.std.proofs.lemmas.Bool.{cases_Bool, cond-true, lt-ltb, or_from, or_parts}
-use Rattle.std.proofs.lemmas.List.{get_or-take, length-take-le}
 use Rattle.fault_definitions.specs.Tree.{FaultTree, name_of, unit_count, IsUnitOf}
 use Rattle.fault_definitions.specs.WellFormed.{IsTree}
 use lib.Pointwise.{pointwise, bytes_decides}
 use Rattle.fault_words.specs.Names.{has_name, same_name}
 
-no_such_at : (name : List ℕ) (names : List (List ℕ)) (place : ℕ) → list_any (pointwise nat_eq name) names ≡ false
+no_such_at : {name : List ℕ} (names : List (List ℕ)) (place : ℕ) → list_any (pointwise nat_eq name) names ≡ false
     → place < length names → get_or names place [] ≡ name → ⊥
-no_such_at name [] place none short same = absurd (omega arith)
-no_such_at name (first ∷ names) zero none short same =
+no_such_at [] place none short same = absurd (omega arith)
+no_such_at {name} (first ∷ names) zero none short same =
     let apart = (or_parts (pointwise nat_eq name first) (list_any (pointwise nat_eq name) names) none).0 in
     let met = (bytes_decides name first).1 (sym same) in
     absurd cc
-no_such_at name (first ∷ names) (suc place) none short same =
-    no_such_at name names place (or_parts (pointwise nat_eq name first) (list_any (pointwise nat_eq name) names) none).1
+no_such_at {name} (first ∷ names) (suc place) none short same =
+    no_such_at names place (or_parts (pointwise nat_eq name first) (list_any (pointwise nat_eq name) names) none).1
     (omega arith) same
 
 absent : (name : List ℕ) (names : List (List ℕ)) → (position_or_len (same_name name) names < length names → ⊥)
@@ -47,7 +46,7 @@ none_there name names none =
     (lt-ltb place (length names) short) in cc))
 
 -- the names of a tree's units are the first ones
-module _ (tree : FaultTree) (kept : IsTree tree) (names : List (List ℕ))
+module _ {tree : FaultTree} (kept : IsTree tree) {names : List (List ℕ)}
     (first : names ≡ take (unit_count tree) tree.names) (name : List ℕ) where
   name_at : (unit : ℕ) → IsUnitOf tree unit → get_or names (unit - 1) [] ≡ name_of tree unit
   name_at unit is_unit =
@@ -62,7 +61,7 @@ module _ (tree : FaultTree) (kept : IsTree tree) (names : List (List ℕ))
   -- no such name, no unit
   pub unnamed : position (same_name name) names ≡ None → (unit : ℕ) → IsUnitOf tree unit → name_of tree unit ≡ name → ⊥
   unnamed none unit is_unit same =
-      no_such_at name names (unit - 1) (none_there name names none)
+      no_such_at names (unit - 1) (none_there name names none)
       (omega (arith, count, is_unit.0, is_unit.1)) (name_at unit is_unit ∙ same)
 
   -- the place of a name, and its unit

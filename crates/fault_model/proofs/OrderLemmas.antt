@@ -10,13 +10,13 @@ use Rattle.fault_model.specs.Order.{AreDistinct}
 use Rattle.fault_model.proofs.TriggerLemmas.{among-push}
 
 -- a list of units, one of which is next
-module _ (units : List ℕ) (i unit : ℕ) (short : i < length units) (is : unit ≡ get_or units i unit) where
+module _ (units : List ℕ) (i : ℕ) {unit : ℕ} (short : i < length units) (is : unit ≡ get_or units i unit) where
   pushed : take (i + 1) units ≡ take i units ++ unit ∷ []
   pushed = take_more units i unit short ∙ ap (λ u. take i units ++ u ∷ []) (sym is)
 
-  pub seen_more : (seen seen' : List ℕ) → ((u : ℕ) → among seen u ≡ among (take i units) u)
+  pub seen_more : (seen : List ℕ) {seen' : List ℕ} → ((u : ℕ) → among seen u ≡ among (take i units) u)
       → seen' ≡ with_unit unit seen → (u : ℕ) → among seen' u ≡ among (take (i + 1) units) u
-  seen_more seen seen' same with u =
+  seen_more seen same with u =
       ap (λ s. among s u) with ∙ among-with_unit unit seen u
       ∙ turned (unit == u) (among seen u) (among (take i units) u) (same u)
       ∙ sym (ap (λ l. among l u) pushed ∙ among-push (take i units) unit u)

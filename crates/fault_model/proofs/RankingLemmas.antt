@@ -12,29 +12,28 @@ use Rattle.graph_cycles.specs.Graph.{IsGraph, Goes, IsReverseTopological, Leads,
 use Rattle.graph_cycles.specs.Graph.Leads.{edge, way}
 use Rattle.graph_cycles.proofs.RankBound.{rank_low}
 use Rattle.fault_definitions.specs.Tree.{FaultTree, IsNodeOf, node_count, rank_of}
-use Rattle.fault_definitions.specs.Trigger.{below}
-use Rattle.fault_definitions.specs.Rank.{IsRanked, rank_over as tree_rank_over}
+use Rattle.fault_definitions.specs.{Trigger.below, Rank.IsRanked, Rank.rank_over as tree_rank_over, WellFormed.IsTree}
 use Rattle.fault_model.specs.Ranking.{AreRanks, places, with_ranks}
 use Rattle.fault_model.specs.TreeTables.{HoldsLists, IsFromBelow}
-use Rattle.fault_definitions.specs.WellFormed.{IsTree}
 use Rattle.fault_definitions.proofs.RankLaws.{below_are_nodes, below_ranks}
 
 -- ---- places
 
 -- the rows of some nodes behind others, with one more
-pub row_more : (before below : List (List ℕ)) (i : ℕ) (list row : List ℕ) (old new : List (List ℕ)) → i < length below
+pub row_more : (before below : List (List ℕ)) (i : ℕ) {list row : List ℕ} {old new : List (List ℕ)} → i < length below
     → list ≡ get_or below i list → row ≡ places list → old ≡ before ++ map places (take i below) → new ≡ old ++ row ∷ []
     → new ≡ before ++ map places (take (i + 1) below)
-row_more before below i list row old new short is row_is old_is new_is =
+row_more before below i {list} {row} short is row_is old_is new_is =
     new_is ∙ ap (λ rows. rows ++ row ∷ []) old_is
     ∙ ap (λ r. (before ++ map places (take i below)) ++ r ∷ []) (row_is ∙ ap places is)
     ∙ append_assoc before (map places (take i below)) (places (get_or below i list) ∷ [])
     ∙ ap (λ rows. before ++ rows) (sym (map_more places below i list short))
 
 -- numbers made of those of a list, with one more
-pub map_step : (f : ℕ → ℕ) (xs : List ℕ) (i x y : ℕ) (old new : List ℕ) → i < length xs → x ≡ get_or xs i x → y ≡ f x
+pub map_step : (f : ℕ → ℕ) (xs : List ℕ) (i : ℕ) {x y : ℕ} {old new : List ℕ} → i < length xs → x ≡ get_or xs i x
+    → y ≡ f x
     → old ≡ map f (take i xs) → new ≡ old ++ y ∷ [] → new ≡ map f (take (i + 1) xs)
-map_step f xs i x y old new short is y_is old_is new_is =
+map_step f xs i {x} {y} short is y_is old_is new_is =
     new_is ∙ ap (λ ys. ys ++ y ∷ []) old_is ∙ ap (λ v. map f (take i xs) ++ v ∷ []) (y_is ∙ ap f is)
     ∙ sym (map_more f xs i x short)
 
@@ -84,11 +83,11 @@ rank_over-places tree ranks (suc place ∷ nodes) some =
 
 -- ---- the graph of a tree
 
-module _ (tree : FaultTree) (kept : IsTree tree) (lists : List (List ℕ)) (holds : HoldsLists tree lists) where
+module _ {tree : FaultTree} (kept : IsTree tree) {lists : List (List ℕ)} (holds : HoldsLists tree lists) where
   positive : (x : ℕ) → All (λ node. 1 ≤ node) (below tree (suc x))
   positive x =
       All-weaker (IsNodeOf tree) (λ node. 1 ≤ node) (λ node is_node. is_node.0) (below tree (suc x))
-      (below_are_nodes tree kept (suc x))
+      (below_are_nodes kept (suc x))
 
   list_at : (x : ℕ) → x < length lists → slice_index_or lists x [] ≡ below tree (suc x)
   list_at x l =
@@ -100,8 +99,8 @@ module _ (tree : FaultTree) (kept : IsTree tree) (lists : List (List ℕ)) (hold
       All-from_get_or (All (λ node. 1 ≤ node)) lists []
       (λ i l. subst (All (λ node. 1 ≤ node)) (sym (list_at i l)) (positive i))
 
-module _ (tree : FaultTree) (kept : IsTree tree) (lists : List (List ℕ)) (holds : HoldsLists tree lists)
-    (graph : List (List ℕ)) (is : graph ≡ map places lists) where
+module _ {tree : FaultTree} (kept : IsTree tree) {lists : List (List ℕ)} (holds : HoldsLists tree lists)
+    {graph : List (List ℕ)} (is : graph ≡ map places lists) where
   graph_all : length graph ≡ node_count tree
   graph_all = ap length is ∙ (length-map lists places ∙ holds.all)
 
@@ -109,13 +108,13 @@ module _ (tree : FaultTree) (kept : IsTree tree) (lists : List (List ℕ)) (hold
   is_node x l = (omega arith, omega (arith, graph_all))
 
   above_zero : (x : ℕ) → All (λ node. 1 ≤ node) (below tree (suc x))
-  above_zero = positive tree kept lists holds
+  above_zero = positive kept holds
 
   row_at : (x : ℕ) → x < length graph → successors graph x ≡ places (below tree (suc x))
   row_at x l =
       let within : x < length lists = omega (arith, graph_all, holds.all) in
       ap (λ g. slice_index_or g x []) is
-      ∙ (get_or-map places lists x [] [] within ∙ ap places (list_at tree kept lists holds x within))
+      ∙ (get_or-map places lists x [] [] within ∙ ap places (list_at kept holds x within))
 
   goes_within : (x y : ℕ) → Goes graph x y → x < length graph
   goes_within x y goes = elim (cases_lt x (length graph)) [
@@ -134,14 +133,13 @@ module _ (tree : FaultTree) (kept : IsTree tree) (lists : List (List ℕ)) (hold
   pub tree_is_graph : IsGraph graph
   tree_is_graph x y goes =
       let node : IsNodeOf tree (suc y) =
-      All-contains (IsNodeOf tree) (below tree (suc x)) (suc y) (below_are_nodes tree kept (suc x))
-      (goes_below x y goes) in
+      All-contains (IsNodeOf tree) (below tree (suc x)) (suc y) (below_are_nodes kept (suc x)) (goes_below x y goes) in
       omega (arith, node.1, graph_all)
 
   falls : (x y : ℕ) → Goes graph x y → rank_of tree (suc y) < rank_of tree (suc x)
   falls x y goes =
       All-contains (λ n. rank_of tree n < rank_of tree (suc x)) (below tree (suc x)) (suc y)
-      (below_ranks tree kept (suc x) (is_node x (goes_within x y goes))) (goes_below x y goes)
+      (below_ranks kept (suc x) (is_node x (goes_within x y goes))) (goes_below x y goes)
 
   leads_down : {x y : ℕ} → Leads graph x y → rank_of tree (suc y) < rank_of tree (suc x)
   leads_down {x} {y} (edge e) = falls x y e
@@ -152,7 +150,7 @@ module _ (tree : FaultTree) (kept : IsTree tree) (lists : List (List ℕ)) (hold
 
   -- ---- what the search finds
 
-  module _ (marks : List Bool) (ranks order : List ℕ) (ranks_all : length ranks ≡ length graph)
+  module _ (marks : List Bool) (ranks : List ℕ) {order : List ℕ} (ranks_all : length ranks ≡ length graph)
       (exact : (x : ℕ) → x < length graph → IsTrue (slice_index_or marks x false) ↔ Leads graph x x)
       (ranked : (x : ℕ) → x < length graph → slice_index_or marks x false ≡ false
       → slice_index ranks x ≡ rank_over ranks (successors graph x))

@@ -5,19 +5,16 @@ use Rattle.std.specs.Prelude.{All, zip}
 use Rattle.std.proofs.lemmas.Bool.{cases_lt, cond-true, cond-false, lt-ltb, le-ltb}
 use Rattle.std.proofs.lemmas.List.{get_or_append_left, get_or-append_right}
 use Rattle.std.proofs.lemmas.List.Elements.{All-nil, All-weaker}
-use Rattle.fault_words.specs.declared.kind.GateKind.{GateKind}
+use Rattle.fault_words.specs.{declared.kind.GateKind.GateKind, declared.attribute.Attribute.Attribute}
 use Rattle.fault_words.specs.declared.kind.GateKind.TheVariants.{And, Or, Votes, Pand, Por, Seq, Fdep, Csp, Wsp, Hsp}
-use Rattle.fault_definitions.specs.declared.parts.TreeParts.{TreeParts}
-use Rattle.fault_words.specs.declared.attribute.Attribute.{Attribute}
+use Rattle.fault_definitions.specs.{declared.parts.TreeParts.TreeParts, Rank.IsRanked}
 use lib.Seq.{drop-append_seam}
-use Rattle.fault_model.specs.declared.trigger.TriggerTable.{TriggerTable}
+use Rattle.fault_model.specs.{declared.trigger.TriggerTable.TriggerTable, TriggerTable.IsUnitBelow}
+use Rattle.fault_model.specs.{TriggerTable.IsTableOf, Ranking.AreRanks}
 use Rattle.fault_definitions.specs.Tree.{FaultTree, ranked, unit_count, node_count, gates, inputs_of, is_above_units}
 use Rattle.fault_definitions.specs.Tree.{IsNodeOf}
 use Rattle.fault_definitions.specs.Trigger.{below, dependents_in, triggers_of}
-use Rattle.fault_definitions.specs.Rank.{IsRanked}
 use Rattle.fault_definitions.specs.WellFormed.{IsTree, IsSoundGate, IsSoundKind}
-use Rattle.fault_model.specs.TriggerTable.{IsUnitBelow, IsTableOf}
-use Rattle.fault_model.specs.Ranking.{AreRanks}
 use Rattle.fault_model.specs.TreeTables.{HoldsLists, HoldsTables, IsFromBelow, below_in}
 
 -- ---- the dependents of every gate are units
@@ -27,18 +24,18 @@ units_triggered : (tree : FaultTree) (gate : GateKind × List ℕ) → IsSoundGa
 units_triggered tree (Fdep, inputs) sound = sound.kind.units
 units_triggered tree _ sound = All-nil (IsUnitBelow (unit_count tree))
 
-pub dependents_below : (parts : TreeParts) (given : List ℕ) (units : ℕ) (attributes : List (List Attribute))
-    (kinds : List GateKind) (inputs : List (List ℕ)) → units ≡ length attributes
+pub dependents_below : (parts : TreeParts) (given : List ℕ) {units : ℕ} {attributes : List (List Attribute)}
+    {kinds : List GateKind} {inputs : List (List ℕ)} → units ≡ length attributes
     → attributes ≡ parts.attributes → kinds ≡ parts.kinds → inputs ≡ parts.inputs → IsTree (ranked parts given)
     → All (λ gate. All (IsUnitBelow units) (dependents_in gate)) (zip kinds inputs)
-dependents_below parts given units attributes kinds inputs count a k i kept =
+dependents_below parts given count a k i kept =
     rw (count, a, k, i)
     (All-weaker (IsSoundGate (ranked parts given)) (λ gate. All (IsUnitBelow (length parts.attributes))
     (dependents_in gate)) (units_triggered (ranked parts given)) (gates (ranked parts given)) kept.gates_sound)
 
 -- ---- the lists of what each node reads
 
-module _ (tree : FaultTree) (kept : IsTree tree) (triggers lists : List (List ℕ))
+module _ {tree : FaultTree} (kept : IsTree tree) (triggers : List (List ℕ)) {lists : List (List ℕ)}
     (triggers_all : length triggers ≡ unit_count tree)
     (triggers_at : (unit : ℕ) → IsUnitBelow (unit_count tree) unit
     → get_or triggers (unit - 1) [] ≡ triggers_of tree unit) (joined : lists ≡ triggers ++ tree.inputs) where
@@ -107,12 +104,12 @@ module _ (parts : TreeParts) (given made : List ℕ) where
 
 -- ---- the tree that is made
 
-module _ (parts : TreeParts) (given : List ℕ) (kept : IsTree (ranked parts given)) (table : TriggerTable)
-    (lists : List (List ℕ))
+module _ (parts : TreeParts) (given : List ℕ) (kept : IsTree (ranked parts given)) {table : TriggerTable}
+    {lists : List (List ℕ)}
     (has_table : IsTableOf (unit_count (ranked parts given)) (gates (ranked parts given)) table)
     (joined : lists ≡ table.lists.items ++ parts.inputs) where
   pub parts_lists : HoldsLists (ranked parts given) lists
-  parts_lists = lists_held (ranked parts given) kept table.lists.items lists has_table.all has_table.triggers joined
+  parts_lists = lists_held kept table.lists.items has_table.all has_table.triggers joined
 
   pub inputs_kept : drop (length parts.attributes) lists ≡ parts.inputs
   inputs_kept =
@@ -133,7 +130,7 @@ module _ (parts : TreeParts) (given : List ℕ) (kept : IsTree (ranked parts giv
   pub made_is : (ranks : List ℕ) → with_inputs ranks (drop (length parts.attributes) lists) ≡ ranked parts ranks
   made_is ranks = ap (with_inputs ranks) inputs_kept
 
-  module _ (ranks order : List ℕ) (are_ranks : AreRanks (ranked parts given) ranks)
+  module _ {ranks order : List ℕ} (are_ranks : AreRanks (ranked parts given) ranks)
       (from_below : IsFromBelow (ranked parts given) order) where
     pub made_tables : HoldsTables (ranked parts ranks) lists order
     made_tables = record {
@@ -144,22 +141,20 @@ module _ (parts : TreeParts) (given : List ℕ) (kept : IsTree (ranked parts giv
     }
 
     -- the same of the value that the code keeps
-    pub made_holds : (names : List (List ℕ)) → names ≡ parts.names
-        → HoldsTables (record {
-          names = names;
-          kinds = parts.kinds;
-          inputs = drop (length parts.attributes) lists;
-          attributes = parts.attributes;
-          top = parts.top;
-          ranks = ranks;
-        }) lists order
-    made_holds names same_names =
-        rw (same_names, inputs_kept) made_tables
+    pub made_holds : {names : List (List ℕ)} → names ≡ parts.names → HoldsTables (record {
+      names = names;
+      kinds = parts.kinds;
+      inputs = drop (length parts.attributes) lists;
+      attributes = parts.attributes;
+      top = parts.top;
+      ranks = ranks;
+    }) lists order
+    made_holds same_names = rw (same_names, inputs_kept) made_tables
 
-pub table_for : (parts : TreeParts) (given : List ℕ) (units : ℕ) (attributes : List (List Attribute))
-    (kinds : List GateKind) (inputs : List (List ℕ)) (table : TriggerTable) → units ≡ length attributes
+pub table_for : (parts : TreeParts) (given : List ℕ) {units : ℕ} {attributes : List (List Attribute)}
+    {kinds : List GateKind} {inputs : List (List ℕ)} {table : TriggerTable} → units ≡ length attributes
     → attributes ≡ parts.attributes → kinds ≡ parts.kinds → inputs ≡ parts.inputs
     → IsTableOf units (zip kinds inputs) table → IsTableOf (unit_count (ranked parts given))
     (gates (ranked parts given)) table
-table_for parts given units attributes kinds inputs table count a k i h =
+table_for parts given count a k i h =
     rw (← a, ← k, ← i, ← count) h

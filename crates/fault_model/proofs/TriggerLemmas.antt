@@ -6,9 +6,8 @@ use Rattle.std.specs.Prelude.{if◌then◌else◌, ◌==◌, ◌||◌, Option, S
 use Rattle.std.specs.List.{cons_option}
 use Rattle.std.proofs.lemmas.Bool.{cases_eq, cases_Bool, eq-eqb, ne_eqb, eqb-true, or_left, or_right}
 use Rattle.std.proofs.lemmas.List.{append-nil, take_all, take_more, length-replicate, get_or-replicate}
-use Rattle.std.proofs.lemmas.List.Elements.{filter_map-append}
-use Rattle.std.proofs.lemmas.Slice.Zip.{length-zip, get_or-zip}
-use Rattle.std.proofs.lemmas.List.Folds.{list_any-append}
+use Rattle.std.proofs.{lemmas.List.Elements.filter_map-append, lemmas.Slice.Zip.length-zip, lemmas.Slice.Zip.get_or-zip}
+use Rattle.std.proofs.{lemmas.List.Folds.list_any-append}
 use Rattle.unit_sets.specs.UnitList.{among}
 use Rattle.fault_words.specs.declared.kind.GateKind.{GateKind}
 use Rattle.fault_definitions.specs.Trigger.{dependents_in, trigger_by}
@@ -16,17 +15,17 @@ use Rattle.fault_model.specs.TriggerTable.{IsUnitBelow, IsTableOf, AreMarks, Add
 use Rattle.fault_model.specs.declared.trigger.TriggerTable.{TriggerTable}
 
 -- a table with nothing in it
-pub no_lists : (units : ℕ) (table : TriggerTable) → table.lists.items ≡ replicate {A = List ℕ} units []
+pub no_lists : {units : ℕ} {table : TriggerTable} → table.lists.items ≡ replicate {A = List ℕ} units []
     → IsTableOf units [] table
-no_lists units table is = record {
+no_lists {units} is = record {
   all = ap length is ∙ length-replicate {A = List ℕ} units [];
   triggers = λ unit is_unit.
       ap (λ lists. get_or lists (unit - 1) []) is
       ∙ get_or-replicate {A = List ℕ} units (unit - 1) [] [] (omega (arith, is_unit.0, is_unit.1));
 }
 
-pub no_marks : (units : ℕ) (table : TriggerTable) → table.marks.items ≡ replicate units 0 → AreMarks units 1 table
-no_marks units table is = record {
+pub no_marks : {units : ℕ} {table : TriggerTable} → table.marks.items ≡ replicate units 0 → AreMarks units 1 table
+no_marks {units} {table} is = record {
   all = ap length is ∙ length-replicate units 0;
   low = λ unit is_unit.
       let none : get_or table.marks.items (unit - 1) 0 ≡ 0 =
@@ -65,7 +64,7 @@ set_cases P values unit other value d one reach one' here there =
 
 module _ (units mark trigger : ℕ) (old_lists : List (List ℕ)) (old_marks : List ℕ)
     (low : (unit : ℕ) → IsUnitBelow units unit → get_or old_marks (unit - 1) 0 < mark) where
-  module _ (done : List ℕ) (lists : List (List ℕ)) (marks : List ℕ) (unit : ℕ) (is_unit : IsUnitBelow units unit)
+  module _ {done : List ℕ} {lists : List (List ℕ)} {marks : List ℕ} (unit : ℕ) (is_unit : IsUnitBelow units unit)
       (h : HasNoted units mark trigger done old_lists old_marks lists marks) where
     -- a unit with another mark was not noted
     pub not_noted : (get_or marks (unit - 1) 0 ≡ mark → ⊥) → among done unit ≡ false
@@ -154,33 +153,33 @@ module _ (units mark trigger : ℕ) (old_lists : List (List ℕ)) (old_marks : L
             grown (among done other) (unit == other) true
             (λ e. subst (λ n. among done n ≡ true) (eqb-true unit other e) known) ∙ sym (among-push done unit other)
 
-module _ (units mark trigger : ℕ) (old_lists : List (List ℕ)) (old_marks : List ℕ)
+module _ {units mark trigger : ℕ} {old_lists : List (List ℕ)} {old_marks : List ℕ}
     (low : (unit : ℕ) → IsUnitBelow units unit → get_or old_marks (unit - 1) 0 < mark)
-    (done : List ℕ) (lists : List (List ℕ)) (marks : List ℕ) (unit : ℕ) (is_unit : IsUnitBelow units unit)
+    {done : List ℕ} {lists : List (List ℕ)} {marks : List ℕ} (unit : ℕ) (is_unit : IsUnitBelow units unit)
     (h : HasNoted units mark trigger done old_lists old_marks lists marks) where
   -- one unit more, whether or not it was noted before
-  pub noted_one : (lists' : List (List ℕ)) (marks' : List ℕ)
+  pub noted_one : {lists' : List (List ℕ)} {marks' : List ℕ}
       → (get_or marks (unit - 1) 0 ≡ mark → lists' ≡ lists) → (get_or marks (unit - 1) 0 ≡ mark → marks' ≡ marks)
       → ((get_or marks (unit - 1) 0 ≡ mark → ⊥) → lists'
       ≡ set lists (unit - 1) (get_or lists (unit - 1) [] ++ trigger ∷ []))
       → ((get_or marks (unit - 1) 0 ≡ mark → ⊥) → marks' ≡ set marks (unit - 1) mark)
       → HasNoted units mark trigger (done ++ unit ∷ []) old_lists old_marks lists' marks'
-  noted_one lists' marks' lists_stay marks_stay lists_more marks_more =
+  noted_one lists_stay marks_stay lists_more marks_more =
       elim (cases_eq (get_or marks (unit - 1) 0) mark) [
         | inl known ↦ rw (lists_stay known, marks_stay known)
-            (noted_again units mark trigger old_lists old_marks low done lists marks unit is_unit h
-            (was_noted units mark trigger old_lists old_marks low done lists marks unit is_unit h known))
+            (noted_again units mark trigger old_lists old_marks low unit is_unit h
+            (was_noted units mark trigger old_lists old_marks low unit is_unit h known))
         | inr fresh ↦ rw (lists_more fresh, marks_more fresh)
-            (noted_new units mark trigger old_lists old_marks low done lists marks unit is_unit h
-            (not_noted units mark trigger old_lists old_marks low done lists marks unit is_unit h fresh))
+            (noted_new units mark trigger old_lists old_marks low unit is_unit h
+            (not_noted units mark trigger old_lists old_marks low unit is_unit h fresh))
       ]
 
 -- ---- over all gates
 
-gate_at : (kinds : List GateKind) (inputs : List (List ℕ)) (i : ℕ) (e : GateKind) (list item : List ℕ)
+gate_at : (kinds : List GateKind) (inputs : List (List ℕ)) (i : ℕ) (e : GateKind) {list item : List ℕ}
     → i < length kinds → length inputs ≡ length kinds → list ≡ item → item ≡ get_or inputs i item
     → get_or (zip kinds inputs) i (e, item) ≡ (get_or kinds i e, list)
-gate_at kinds inputs i e list item short all same is =
+gate_at kinds inputs i e {item} short all same is =
     let short' : i < length inputs = omega arith in
     get_or-zip kinds inputs i (e, item) short short' ∙ ap (λ (l : List ℕ). (get_or kinds i e, l)) (sym is ∙ sym same)
 
@@ -189,7 +188,7 @@ one_option None = refl
 one_option (Some n) = refl
 
 module _ (units : ℕ) (kinds : List GateKind) (inputs : List (List ℕ)) (all : length inputs ≡ length kinds) (i : ℕ)
-    (short : i < length kinds) (e : GateKind) (list item : List ℕ) (same : list ≡ item)
+    (short : i < length kinds) (e : GateKind) {list item : List ℕ} (same : list ≡ item)
     (is : item ≡ get_or inputs i item) where
   short_zip : i < length (zip kinds inputs)
   short_zip = omega (arith, length-zip kinds inputs)
@@ -199,12 +198,12 @@ module _ (units : ℕ) (kinds : List GateKind) (inputs : List (List ℕ)) (all :
       → All (IsUnitBelow units) (dependents_in (get_or kinds i e, list))
   dependents_at sound =
       subst (λ gate. All (IsUnitBelow units) (dependents_in gate))
-      (gate_at kinds inputs i e list item short all same is) (sound i (e, item) short_zip)
+      (gate_at kinds inputs i e short all same is) (sound i (e, item) short_zip)
 
   -- with its triggers the table is that of one gate more
-  pub table_more : (old new : TriggerTable) → IsTableOf units (take i (zip kinds inputs)) old
+  pub table_more : {old new : TriggerTable} → IsTableOf units (take i (zip kinds inputs)) old
       → AddsTriggers units (get_or kinds i e, list) old new → IsTableOf units (take (i + 1) (zip kinds inputs)) new
-  table_more old new table adds = record {
+  table_more table adds = record {
     all = adds.all;
     triggers = λ unit is_unit.
         adds.triggers unit is_unit
@@ -213,10 +212,10 @@ module _ (units : ℕ) (kinds : List GateKind) (inputs : List (List ℕ)) (all :
         (sym (one_option (trigger_by unit (get_or kinds i e, list))))
         ∙ sym (filter_map-append (trigger_by unit) (take i (zip kinds inputs)) ((get_or kinds i e, list) ∷ []))
         ∙ ap (λ (gate : GateKind × List ℕ). filter_map (trigger_by unit) (take i (zip kinds inputs) ++ gate ∷ []))
-        (sym (gate_at kinds inputs i e list item short all same is))
+        (sym (gate_at kinds inputs i e short all same is))
         ∙ ap (filter_map (trigger_by unit)) (sym (take_more (zip kinds inputs) i (e, item) short_zip));
   }
 
-pub table_full : (units : ℕ) (gates : List (GateKind × List ℕ)) (n : ℕ) (table : TriggerTable) → length gates ≤ n
+pub table_full : {units : ℕ} {gates : List (GateKind × List ℕ)} (n : ℕ) {table : TriggerTable} → length gates ≤ n
     → IsTableOf units (take n gates) table → IsTableOf units gates table
-table_full units gates n table long h = subst (λ gs. IsTableOf units gs table) (take_all n gates long) h
+table_full {units} {gates} n {table} long h = subst (λ gs. IsTableOf units gs table) (take_all n gates long) h

@@ -1,7 +1,6 @@
 -- The ranks that a search finds for the nodes of a tree.
 use Rattle.std.specs.Prelude.{◌≡◌, ℕ, ◌-◌, List, length, map}
-use Rattle.fault_definitions.specs.Tree.{FaultTree, node_count}
-use Rattle.fault_definitions.specs.Rank.{IsRanked}
+use Rattle.fault_definitions.specs.{Tree.FaultTree, Tree.node_count, Rank.IsRanked}
 
 -- the places of nodes in a list of all, from 0
 abbrev pub places : List ℕ → List ℕ

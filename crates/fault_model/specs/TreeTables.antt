@@ -1,8 +1,7 @@
 -- The tables that a tree is kept in: what each node reads, and the nodes from below.
 use Rattle.std.specs.Prelude.{◌≡◌, ℕ, ◌-◌, ◌<◌, List, [], length, take, All, Contains, slice_index, slice_index_or}
 use Rattle.fault_definitions.specs.Tree.{FaultTree, IsNodeOf, node_count}
-use Rattle.fault_definitions.specs.Trigger.{below}
-use Rattle.fault_definitions.specs.WellFormed.{IsTree}
+use Rattle.fault_definitions.specs.{Trigger.below, WellFormed.IsTree}
 
 -- every node is in the order, after all that it reads
 pub record IsFromBelow (tree : FaultTree) (order : List ℕ) : Type 0 where

@@ -1,7 +1,6 @@
 -- The form of names and bare names, after the Galileo manual.
 use Rattle.std.specs.Prelude.{ℕ, Bool, false, not, ◌==◌, ◌&&◌, ◌||◌, nat_le, List, [], ◌∷◌, length}
-use Rattle.std.specs.List.{list_all}
-use Rattle.std.specs.Char.{is_ascii_alphabetic, is_ascii_alphanumeric}
+use Rattle.std.specs.{List.list_all, Char.is_ascii_alphabetic, Char.is_ascii_alphanumeric}
 use Rattle.deck_limits.specs.declared.TheConstants.{LONGEST_NAME}
 
 -- printable ASCII other than the quotation mark

@@ -1,7 +1,6 @@
 -- Lists of names.
 use Rattle.std.specs.Prelude.{ℕ, suc, Bool, true, not, ◌&&◌, nat_eq, List, [], ◌∷◌, Option, Some, None, position}
-use Rattle.std.specs.List.{list_any}
-use Rattle.std.specs.Cmp.Lexicographic.{pointwise}
+use Rattle.std.specs.{List.list_any, Cmp.Lexicographic.pointwise}
 
 -- two names differ where any byte differs
 abbrev pub same_name : List ℕ → List ℕ → Bool

@@ -5,8 +5,7 @@ use Rattle.std.specs.Prelude.{sum_by, flat_map}
 use Rattle.std.proofs.Common.{arith, ap, sym, ◌∙◌, length-drop}
 use Rattle.std.proofs.lemmas.List.{take-append-le, drop-append-le, drop_at, take_all, length-take-le}
 use Rattle.std.proofs.lemmas.List.{drop_all, drop-drop, take-append-drop}
-use Rattle.std.proofs.lemmas.List.Sums.{sum_by-cons}
-use Rattle.std.proofs.Math.Seq.{drop-append-add}
+use Rattle.std.proofs.{lemmas.List.Sums.sum_by-cons, Math.Seq.drop-append-add}
 use Rattle.flat_rows.specs.Rows.{Rise, between, rows_from, start_of, raised}
 
 -- there are as many rows as ends
@@ -71,9 +70,10 @@ rows_from-push from (e ∷ es) items row h =
 
 -- ---- the items of all rows
 
-counted : (all part rest from end size : ℕ) → all ≡ part + rest → part ≡ end - from → rest + end ≡ size → from ≤ end
+counted : {all part : ℕ} (rest from end : ℕ) {size : ℕ} → all ≡ part + rest → part ≡ end - from → rest + end ≡ size
+    → from ≤ end
     → all + from ≡ size
-counted all part rest from end size a b c d = omega arith
+counted rest from end a b c d = omega arith
 
 -- the rows have all items together
 pub items-rows_from : {X : Type 0} (from : ℕ) (ends : List ℕ) (items : List X) → Rise from ends (length items)
@@ -83,8 +83,7 @@ items-rows_from from (e ∷ es) items h =
     let inside : e ≤ length items = Rise-le e es (length items) h.1 in
     let size : length (between from e items) ≡ e - from =
     length-take-le (e - from) (drop from items) (omega (arith, length-drop from items)) in
-    counted (sum_by length (rows_from from (e ∷ es) items)) (length (between from e items))
-    (sum_by length (rows_from e es items)) from e (length items)
+    counted (sum_by length (rows_from e es items)) from e
     (sum_by-cons length (between from e items) (rows_from e es items)) size (items-rows_from e es items h.1) h.0
 
 -- ---- rows behind other rows

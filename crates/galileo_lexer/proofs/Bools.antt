@@ -10,17 +10,17 @@ pub and_left : (a b : Bool) → (a && b) ≡ true → a ≡ true
 and_left true b both = refl
 and_left false b both = both
 
-pub and_right : (a b : Bool) → (a && b) ≡ true → b ≡ true
-and_right true b both = both
-and_right false b both = absurd (cc)
+pub and_right : (a : Bool) {b : Bool} → (a && b) ≡ true → b ≡ true
+and_right true both = both
+and_right false both = absurd (cc)
 
 pub or_left : (a b : Bool) → (a || b) ≡ false → a ≡ false
 or_left true b neither = neither
 or_left false b neither = refl
 
-pub or_right : (a b : Bool) → (a || b) ≡ false → b ≡ false
-or_right true b neither = absurd (cc)
-or_right false b neither = neither
+pub or_right : (a : Bool) {b : Bool} → (a || b) ≡ false → b ≡ false
+or_right true neither = absurd (cc)
+or_right false neither = neither
 
 pub not_true : (b : Bool) → not b ≡ true → b ≡ false
 not_true true is = absurd (cc)
@@ -30,9 +30,9 @@ pub not_false : (b : Bool) → not b ≡ false → b ≡ true
 not_false true is = refl
 not_false false is = absurd (cc)
 
-pub or_false : (a b : Bool) → a ≡ false → b ≡ false → (a || b) ≡ false
-or_false true b left right = left
-or_false false b left right = right
+pub or_false : (a : Bool) {b : Bool} → a ≡ false → b ≡ false → (a || b) ≡ false
+or_false true left right = left
+or_false false left right = right
 
 pub and_none : (a : Bool) → (a && false) ≡ false
 and_none true = refl

@@ -5,13 +5,11 @@ use Rattle.std.specs.Prelude.{◌==◌, ◌&&◌, not}
 use Rattle.std.specs.List.{list_all, flat_map}
 use Rattle.std.proofs.lemmas.Bool.{eqb-true, eq-eqb, ne_eqb, lt-leb}
 use Rattle.std.proofs.lemmas.List.{append-nil}
-use Rattle.galileo_lexer.specs.declared.spot.Spot.{Spot}
-use Rattle.galileo_lexer.specs.declared.token.LexPlace.{LexPlace}
-use Rattle.galileo_lexer.specs.declared.token.LexFault.{LexFault}
-use Rattle.galileo_lexer.specs.declared.token.Token.{Token}
-use Rattle.galileo_lexer.specs.declared.token.TokenKind.{TokenKind}
+use Rattle.galileo_lexer.specs.{declared.spot.Spot.Spot, declared.token.LexPlace.LexPlace}
+use Rattle.galileo_lexer.specs.{declared.token.LexFault.LexFault, declared.token.Token.Token}
+use Rattle.galileo_lexer.specs.{declared.token.TokenKind.TokenKind, declared.token.TokenKind.TheVariants.Word}
+use Rattle.galileo_lexer.specs.{declared.token.TokenKind.TheVariants.Quoted}
 use Rattle.galileo_lexer.specs.declared.token.LexCode.TheVariants.{BadByte, EmptyName, NameTooLong}
-use Rattle.galileo_lexer.specs.declared.token.TokenKind.TheVariants.{Word, Quoted}
 use Rattle.galileo_lexer.specs.Bytes.{is_blank, is_word_byte, is_quotable, begins_with}
 use Rattle.galileo_lexer.specs.Spot.{along, step, walk}
 use Rattle.galileo_lexer.specs.Lexed.{Lexed, Mode, failed, Between, InQuotes, InLine, InBlock, lexed, name_ends}
@@ -34,7 +32,7 @@ word_run start stop [] rest each = ap (λ n. word_from start n rest) (sym (add-z
 word_run start stop (byte ∷ bytes) rest each =
     let there : stop + 1 + length bytes ≡ stop + length (byte ∷ bytes) = omega arith in
     word_step start stop byte (bytes ++ rest) (and_left _ _ each)
-    ∙ word_run start (stop + 1) bytes rest (and_right _ _ each)
+    ∙ word_run start (stop + 1) bytes rest (and_right _ each)
     ∙ ap (λ n. word_from start n rest) there
 
 word_whole : (spot : Spot) (bytes rest : List ℕ) → 0 < length bytes → list_all is_word_byte bytes ≡ true →
@@ -43,7 +41,7 @@ word_whole spot [] rest some each = absurd (omega arith)
 word_whole spot (byte ∷ bytes) rest some each =
     let there : spot.offset + 1 + length bytes ≡ spot.offset + length (byte ∷ bytes) = omega arith in
     word_first spot byte (bytes ++ rest) (and_left _ _ each)
-    ∙ word_run spot (spot.offset + 1) bytes rest (and_right _ _ each)
+    ∙ word_run spot (spot.offset + 1) bytes rest (and_right _ each)
     ∙ ap (λ n. word_from spot n rest) there
 
 word_over : (start : Spot) (stop : ℕ) (rest : List ℕ) → begins_with is_word_byte rest ≡ false →
@@ -60,13 +58,13 @@ quoted_run : (start at : Spot) (bytes rest : List ℕ) → list_all is_quotable 
 quoted_run start at [] rest each = refl
 quoted_run start at (byte ∷ bytes) rest each =
     let quotable = and_left _ _ each in
-    rw (quotable_no_quote byte quotable, quotable) (quoted_run start (step at byte) bytes rest (and_right _ _ each))
+    rw (quotable_no_quote byte quotable, quotable) (quoted_run start (step at byte) bytes rest (and_right _ each))
 
 line_run : (at : Spot) (bytes rest : List ℕ) → list_all (λ byte. not (byte == 10)) bytes ≡ true →
     lexed InLine at (bytes ++ rest) ≡ lexed InLine (walk at bytes) rest
 line_run at [] rest each = refl
 line_run at (byte ∷ bytes) rest each =
-    rw (not_true (byte == 10) (and_left _ _ each)) (line_run (along at (at.offset + 1)) bytes rest (and_right _ _ each))
+    rw (not_true (byte == 10) (and_left _ _ each)) (line_run (along at (at.offset + 1)) bytes rest (and_right _ each))
 
 line_stop : (at : Spot) (rest : List ℕ) → begins_with (λ byte. not (byte == 10)) rest ≡ false →
     lexed InLine at rest ≡ lexed Between at rest
@@ -82,7 +80,7 @@ block_run : (start at : Spot) (starred : Bool) (bytes rest : List ℕ) → has_c
     ≡ lexed (InBlock start (ends_starred starred bytes)) (walk at bytes) rest
 block_run start at starred [] rest open_still apart = refl
 block_run start at starred (byte ∷ bytes) rest open_still apart =
-    rw apart (block_run start (step at byte) (byte == 42) bytes rest (or_right _ _ open_still) (or_left _ _ open_still))
+    rw apart (block_run start (step at byte) (byte == 42) bytes rest (or_right _ open_still) (or_left _ _ open_still))
 
 block_close : (start at : Spot) (starred : Bool) (rest : List ℕ) →
     lexed (InBlock start starred) at (42 ∷ 47 ∷ rest) ≡ lexed Between (walk at (42 ∷ 47 ∷ [])) rest
@@ -121,11 +119,11 @@ closed spot bytes rest some =
     ∙ ap (λ s. proceed (name_ends Quoted spot (spot.offset + length bytes + 2) (length bytes))
     (λ mode. lexed mode s rest)) (sym (walk-append (step spot 34) bytes (34 ∷ []))))
 
-quoted_runs : (spot : Spot) (bytes text : List ℕ) → IsNameText is_quotable bytes →
+quoted_runs : (spot : Spot) {bytes : List ℕ} (text : List ℕ) → IsNameText is_quotable bytes →
     lexed Between spot ((34 ∷ bytes ++ 34 ∷ []) ++ text)
     ≡ with_token (token_from Quoted spot (spot.offset + length bytes + 2))
     (lexed Between (walk spot (34 ∷ bytes ++ 34 ∷ [])) text)
-quoted_runs spot bytes text is =
+quoted_runs spot {bytes} text is =
     let few : leb (length bytes) 255 ≡ true = le-leb _ _ is.few in
     ap (λ t. lexed Between spot (34 ∷ t)) (append_assoc bytes (34 ∷ []) text)
     ∙ quoted_whole spot bytes (34 ∷ text) is.each
@@ -153,7 +151,7 @@ piece_runs spot (AWord bytes) text is =
     ∙ word_over spot stop text is.1
     ∙ rw few (ap (λ s. with_token (token_from Word spot stop) (lexed Between s text))
     (sym (walk-along spot bytes (λ byte. word_no_feed byte) is.0.each)))
-piece_runs spot (AQuoted bytes) text is = quoted_runs spot bytes text is
+piece_runs spot (AQuoted bytes) text is = quoted_runs spot text is
 piece_runs spot AnEquals text is = refl
 piece_runs spot ASemicolon text is = refl
 
@@ -163,20 +161,20 @@ bad_runs : (spot : Spot) (byte : ℕ) (more : List ℕ) → begins_nothing byte 
 bad_runs spot byte more bad =
     let a = not_true (is_blank byte) (and_left _ _ (and_left _ _ (and_left _ _ (and_left _ _ (and_left _ _ bad))))) in
     let b =
-    not_true (byte == 47) (and_right (not (is_blank byte)) _
+    not_true (byte == 47) (and_right (not (is_blank byte))
     (and_left _ _ (and_left _ _ (and_left _ _ (and_left _ _ bad))))) in
     let c =
-    not_true (byte == 34) (and_right (not (is_blank byte) && not (byte == 47)) _
+    not_true (byte == 34) (and_right (not (is_blank byte) && not (byte == 47))
     (and_left _ _ (and_left _ _ (and_left _ _ bad)))) in
     let d =
-    not_true (byte == 61) (and_right ((not (is_blank byte) && not (byte == 47)) && not (byte == 34)) _
+    not_true (byte == 61) (and_right ((not (is_blank byte) && not (byte == 47)) && not (byte == 34))
     (and_left _ _ (and_left _ _ bad))) in
     let e =
     not_true (byte == 59) (and_right (((not (is_blank byte) && not (byte == 47)) && not (byte == 34))
-    && not (byte == 61)) _ (and_left _ _ bad)) in
+    && not (byte == 61)) (and_left _ _ bad)) in
     let f =
     not_true (is_word_byte byte) (and_right ((((not (is_blank byte) && not (byte == 47)) && not (byte == 34))
-    && not (byte == 61)) && not (byte == 59)) _ bad) in
+    && not (byte == 61)) && not (byte == 59)) bad) in
     rw (a, b, c, d, e, f) refl
 
 slash_runs : (spot : Spot) (more : List ℕ) → begins_with (λ byte. byte == 47) more ≡ false
@@ -202,28 +200,27 @@ empty_runs spot more =
     after_quote spot (34 ∷ more) ∙ rw here refl
 
 -- each fault is what is read
-fault_runs : (spot : Spot) (rest : List ℕ) (fault : LexFault) → IsFault spot rest fault →
+fault_runs : {spot : Spot} {rest : List ℕ} {fault : LexFault} → IsFault spot rest fault →
     lexed Between spot rest ≡ record { tokens = []; ending = Err fault }
 unfolding is_blank
-fault_runs spot rest fault (bad_byte byte more text bad is) = rw (text, is) (bad_runs spot byte more bad)
-fault_runs spot rest fault (bad_slash more text no_slash no_star is) =
-    rw (text, is) (slash_runs spot more no_slash no_star)
-fault_runs spot rest fault (bad_quoted bytes byte more text each bad no_quote is) =
+fault_runs {spot} (bad_byte byte more text bad is) = rw (text, is) (bad_runs spot byte more bad)
+fault_runs {spot} (bad_slash more text no_slash no_star is) = rw (text, is) (slash_runs spot more no_slash no_star)
+fault_runs {spot} (bad_quoted bytes byte more text each bad no_quote is) =
     rw (text, is) (quoted_whole spot bytes (byte ∷ more) each
     ∙ quoted_stops spot (walk spot (34 ∷ bytes)) byte more bad no_quote)
-fault_runs spot rest fault (open_quote bytes text each is) =
+fault_runs {spot} (open_quote bytes text each is) =
     rw (text, is) (ap (λ t. lexed Between spot (34 ∷ t)) (sym (append-nil bytes)) ∙ quoted_whole spot bytes [] each)
-fault_runs spot rest fault (open_comment bytes text unclosed is) =
+fault_runs {spot} (open_comment bytes text unclosed is) =
     rw (text, is) (ap (λ t. lexed Between spot (47 ∷ 42 ∷ t)) (sym (append-nil bytes))
     ∙ block_run spot (walk spot (47 ∷ 42 ∷ [])) false bytes [] unclosed refl)
-fault_runs spot rest fault (empty_name more text is) = rw (text, is) (empty_runs spot more)
-fault_runs spot rest fault (long_word bytes more text each over long is) =
+fault_runs {spot} (empty_name more text is) = rw (text, is) (empty_runs spot more)
+fault_runs {spot} (long_word bytes more text each over long is) =
     let stop = spot.offset + length bytes in
     rw (text, is)
     (word_whole spot bytes more (omega arith) each
     ∙ word_over spot stop more over
     ∙ long_stops Word spot stop (stop - spot.offset) (λ mode. lexed mode (along spot stop) more) (omega arith))
-fault_runs spot rest fault (long_quoted bytes more text each long is) =
+fault_runs {spot} (long_quoted bytes more text each long is) =
     rw (text, is)
     (quoted_whole spot bytes (34 ∷ more) each
     ∙ closed spot bytes more (omega arith)
@@ -234,7 +231,7 @@ fault_runs spot rest fault (long_quoted bytes more text each long is) =
 ending_runs : (spot : Spot) (rest : List ℕ) (ending : Result LexPlace LexFault) → EndsAs spot rest ending →
     lexed Between spot rest ≡ record { tokens = []; ending = ending }
 ending_runs spot rest (Ok place) ends = rw (ends.0, ends.1) refl
-ending_runs spot rest (Err fault) ends = fault_runs spot rest fault ends
+ending_runs spot rest (Err fault) ends = fault_runs ends
 
 regroup : (a b : List Token) (read : Lexed) → with_tokens a (with_tokens b read) ≡ with_tokens (a ++ b) read
 regroup a b read =
@@ -259,9 +256,9 @@ pieces_run spot (piece ∷ pieces) rest each =
     ∙ regroup tokens (tokens_from then_spot pieces) (lexed Between (walk spot (bytes ++ more)) rest)
 
 -- a text that is read in this way is read in no other
-pub only : (spot : Spot) (text : List ℕ) (pieces : List Piece) (rest : List ℕ) (read : Lexed) →
+pub only : {spot : Spot} {text : List ℕ} {pieces : List Piece} {rest : List ℕ} {read : Lexed} →
     IsReadAs spot text pieces rest read → lexed Between spot text ≡ read
-only spot text pieces rest read is =
+only {spot} {pieces} {rest} {read} is =
     ap (lexed Between spot) is.spelled
     ∙ pieces_run spot pieces rest is.each
     ∙ ap (with_tokens (tokens_from spot pieces)) (ending_runs (walk spot (flat_map bytes_of pieces)) rest read.ending

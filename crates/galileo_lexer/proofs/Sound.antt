@@ -5,15 +5,13 @@ use Rattle.std.specs.Prelude.{◌==◌, ◌&&◌, not, nat_le}
 use Rattle.std.specs.List.{list_all, flat_map}
 use Rattle.std.proofs.lemmas.Bool.{eqb-true, eqb-false, leb-true, leb-false}
 use Rattle.std.proofs.lemmas.List.{append-nil}
-use Rattle.galileo_lexer.specs.declared.spot.Spot.{Spot}
-use Rattle.galileo_lexer.specs.declared.token.LexFault.{LexFault}
-use Rattle.galileo_lexer.specs.declared.token.TokenKind.TheVariants.{Word, Quoted}
+use Rattle.galileo_lexer.specs.{declared.spot.Spot.Spot, declared.token.LexFault.LexFault}
+use Rattle.galileo_lexer.specs.{declared.token.TokenKind.TheVariants.Word, declared.token.TokenKind.TheVariants.Quoted}
+use Rattle.galileo_lexer.specs.{Spot.step, Spot.walk, Found.fault_at}
 use Rattle.galileo_lexer.specs.declared.token.LexCode.TheVariants.{BadByte, OpenQuote, OpenComment, EmptyName}
 use Rattle.galileo_lexer.specs.Bytes.{is_blank, is_word_byte, is_quotable, begins_with}
-use Rattle.galileo_lexer.specs.Spot.{step, walk}
 use Rattle.galileo_lexer.specs.Lexed.{Lexed, Mode, Between, InWord, InQuotes, InLine, Opening, InBlock, Go, lexed}
 use Rattle.galileo_lexer.specs.Lexed.{in_word, at_slash, at_close, proceed, with_token, token_from, finished, failed}
-use Rattle.galileo_lexer.specs.Found.{fault_at}
 use Rattle.galileo_lexer.specs.Pieces.{Piece, Blank, LineComment, BlockComment, AWord, AQuoted, AnEquals, ASemicolon}
 use Rattle.galileo_lexer.specs.Pieces.{bytes_of, token_of, has_close, IsPiece, IsFault, bad_byte, bad_slash, bad_quoted}
 use Rattle.galileo_lexer.specs.Pieces.{open_quote, open_comment, empty_name, long_word, long_quoted, EndsAs, ReadsFrom}
@@ -23,10 +21,10 @@ use Rattle.galileo_lexer.proofs.Walks.{has_close-push, has_close-front, ends_sta
 use Rattle.galileo_lexer.proofs.Runs.{with_tokens}
 
 -- a piece in front of what is read
-prepend : (spot : Spot) (piece : Piece) (text : List ℕ) (read : Lexed) → IsPiece piece text →
+prepend : (spot : Spot) (piece : Piece) {text : List ℕ} {read : Lexed} → IsPiece piece text →
     ReadsFrom (walk spot (bytes_of piece)) text read →
     ReadsFrom spot (bytes_of piece ++ text) (with_tokens (token_of spot piece) read)
-prepend spot piece text read is reads =
+prepend spot piece {read} is reads =
     let pieces = reads.0 in
     let rest = reads.1 in
     let as_read = reads.2 in
@@ -44,12 +42,12 @@ prepend spot piece text read is reads =
     )
 
 -- a fault right here
-faulty : (spot : Spot) (text : List ℕ) (fault : LexFault) → IsFault spot text fault →
+faulty : {spot : Spot} {text : List ℕ} {fault : LexFault} → IsFault spot text fault →
     ReadsFrom spot text (record { tokens = []; ending = Err fault })
-faulty spot text fault is = ([], text, record { spelled = refl; each = tt; tokens = refl; ending = is })
+faulty {text} is = ([], text, record { spelled = refl; each = tt; tokens = refl; ending = is })
 
-at_end : (spot : Spot) → ReadsFrom spot [] (finished spot)
-at_end spot = ([], [], record { spelled = refl; each = tt; tokens = refl; ending = (refl, refl) })
+at_end : {spot : Spot} → ReadsFrom spot [] (finished spot)
+at_end = ([], [], record { spelled = refl; each = tt; tokens = refl; ending = (refl, refl) })
 
 -- what is claimed of each mode, with the bytes of the construct so far
 abbrev Claim : Mode → Spot → List ℕ → Type 0
@@ -105,12 +103,11 @@ word_on start spot front byte rest behind each there in_a_word =
     rw few
     (subst (λ n. ReadsFrom start (longer ++ rest)
     (with_token (token_from Word start n) (lexed Between (step spot byte) rest))) (sym stop)
-    (prepend start (AWord longer) rest (lexed Between (step spot byte) rest)
-    (record { some = omega arith; few = omega arith; each = all_longer }, off)
+    (prepend start (AWord longer) (record { some = omega arith; few = omega arith; each = all_longer }, off)
     (subst (λ s. ReadsFrom s rest (lexed Between (step spot byte) rest)) there_longer (behind Between)))))
     (λ many.
     let long : 255 < spot.offset + 1 - start.offset = leb-false _ _ many in
-    rw many (faulty start (longer ++ rest) _ (long_word longer rest refl all_longer off (omega arith) refl))))))
+    rw many (faulty (long_word longer rest refl all_longer off (omega arith) refl))))))
 
 empty_list : (bytes : List ℕ) → length bytes ≡ 0 → bytes ≡ []
 empty_list [] none = refl
@@ -121,10 +118,11 @@ positive zero some = absurd (some refl)
 positive (suc n) some = omega arith
 
 -- a closing quote
-closes : (start spot : Spot) (front rest : List ℕ) → ReadsFrom (step spot 34) rest (lexed Between (step spot 34) rest) →
+closes : (start : Spot) {spot : Spot} (front : List ℕ) {rest : List ℕ}
+    → ReadsFrom (step spot 34) rest (lexed Between (step spot 34) rest) →
     list_all is_quotable front ≡ true → spot ≡ walk start (34 ∷ front) →
     ReadsFrom start (34 ∷ front ++ 34 ∷ rest) (proceed (at_close start spot) (λ mode. lexed mode (step spot 34) rest))
-closes start spot front rest behind each there =
+closes start {spot} front {rest} behind each there =
     let reached : spot.offset ≡ start.offset + length (34 ∷ front) =
     ap (λ (s : Spot). s.offset) there ∙ walk-offset start (34 ∷ front) in
     by_test (spot.offset == start.offset + 1)
@@ -132,8 +130,7 @@ closes start spot front rest behind each there =
     let none : spot.offset ≡ start.offset + 1 = eqb-true _ _ here in
     let empty : front ≡ [] = empty_list front (omega arith) in
     rw here (subst (λ f. ReadsFrom start (34 ∷ f ++ 34 ∷ rest) (failed EmptyName start)) (sym empty)
-    (faulty start (34 ∷ 34 ∷ rest) _ (empty_name rest refl refl))))
-    (λ further.
+    (faulty (empty_name rest refl refl)))) (λ further.
     let some : 0 < length front = positive (length front) (λ none. eqb-false _ _ further (omega arith)) in
     let count : spot.offset - (start.offset + 1) ≡ length front = omega arith in
     let stop : spot.offset + 1 ≡ start.offset + length front + 2 = omega arith in
@@ -146,25 +143,24 @@ closes start spot front rest behind each there =
     (with_token (token_from Quoted start n) (lexed Between (step spot 34) rest))) (sym stop)
     (subst (λ t. ReadsFrom start (34 ∷ t) (with_token (token_from Quoted start (start.offset + length front + 2))
     (lexed Between (step spot 34) rest)))
-    (append_assoc front (34 ∷ []) rest)
-    (prepend start (AQuoted front) rest (lexed Between (step spot 34) rest)
+    (append_assoc front (34 ∷ []) rest) (prepend start (AQuoted front)
     (record { some = some; few = omega arith; each = each })
     (subst (λ s. ReadsFrom s rest (lexed Between (step spot 34) rest))
     (ap (λ s. step s 34) there ∙ sym (walk-append start (34 ∷ front) (34 ∷ []))) behind)))))
     (λ many.
     let long : 255 < spot.offset - (start.offset + 1) = leb-false _ _ many in
-    rw many (faulty start (34 ∷ front ++ 34 ∷ rest) _ (long_quoted front rest refl each (omega arith) refl)))))
+    rw many (faulty (long_quoted front rest refl each (omega arith) refl)))))
 
 -- one more byte of a quoted text
-quoted_on : (start spot : Spot) (front : List ℕ) (byte : ℕ) (rest : List ℕ) → Behind spot byte rest →
+quoted_on : {start spot : Spot} (front : List ℕ) (byte : ℕ) (rest : List ℕ) → Behind spot byte rest →
     list_all is_quotable front ≡ true → spot ≡ walk start (34 ∷ front) →
     ReadsFrom start (34 ∷ front ++ byte ∷ rest) (lexed (InQuotes start) spot (byte ∷ rest))
-quoted_on start spot front byte rest behind each there =
+quoted_on {start} {spot} front byte rest behind each there =
     by_test (byte == 34)
     (λ quote.
     let is : byte ≡ 34 = eqb-true _ _ quote in
     subst (λ b. ReadsFrom start (34 ∷ front ++ b ∷ rest) (lexed (InQuotes start) spot (b ∷ rest))) (sym is)
-    (closes start spot front rest (subst (λ b. ReadsFrom (step spot b) rest (lexed Between (step spot b) rest)) is
+    (closes start front (subst (λ b. ReadsFrom (step spot b) rest (lexed Between (step spot b) rest)) is
     (behind Between)) each there))
     (λ other. rw other
     (by_test (is_quotable byte)
@@ -172,24 +168,22 @@ quoted_on start spot front byte rest behind each there =
     (subst (λ t. ReadsFrom start (34 ∷ t) (lexed (InQuotes start) (step spot byte) rest)) (push-append front byte rest)
     (behind (InQuotes start) (front ++ byte ∷ []) (list_all-push is_quotable front byte each quotable)
     (ap (λ s. step s byte) there ∙ sym (walk-append start (34 ∷ front) (byte ∷ []))))))
-    (λ bad. rw bad
-    (faulty start (34 ∷ front ++ byte ∷ rest) _ (bad_quoted front byte rest refl each bad other
-    (ap (fault_at BadByte) there))))))
+    (λ bad. rw bad (faulty (bad_quoted front byte rest refl each bad other (ap (fault_at BadByte) there))))))
 
 -- a comment of a line is over in front of a line feed, and at the end
-line_closes : (start spot : Spot) (front text : List ℕ) (read : Lexed) → ReadsFrom spot text read →
+line_closes : (start : Spot) {spot : Spot} (front text : List ℕ) {read : Lexed} → ReadsFrom spot text read →
     list_all (λ b. not (b == 10)) front ≡ true → spot ≡ walk start (47 ∷ front) →
     begins_with (λ b. b == 47) (front ++ text) ≡ true → begins_with (λ b. not (b == 10)) text ≡ false →
     ReadsFrom start (47 ∷ front ++ text) read
-line_closes start spot [] [] read reads each there slashed over = absurd (cc)
-line_closes start spot [] (b ∷ text) read reads each there slashed over =
+line_closes start [] [] reads each there slashed over = absurd (cc)
+line_closes start [] (b ∷ text) reads each there slashed over =
     let is : b ≡ 47 = eqb-true _ _ slashed in
     let feed : b ≡ 10 = eqb-true _ _ (not_false (b == 10) over) in
     absurd (omega arith)
-line_closes start spot (b ∷ bytes) text read reads each there slashed over =
+line_closes start (b ∷ bytes) text {read} reads each there slashed over =
     let is : b ≡ 47 = eqb-true _ _ slashed in
     subst (λ c. ReadsFrom start (47 ∷ c ∷ bytes ++ text) read) (sym is)
-    (prepend start (LineComment bytes) text read (and_right (not (b == 10)) _ each, over)
+    (prepend start (LineComment bytes) (and_right (not (b == 10)) each, over)
     (subst (λ s. ReadsFrom s text read) (there ∙ ap (λ c. walk start (47 ∷ c ∷ bytes)) is) reads))
 
 line_goes : (spot : Spot) (byte : ℕ) (rest : List ℕ) → eqb byte 10 ≡ false
@@ -198,18 +192,17 @@ line_goes spot byte rest other =
     ap (λ b. proceed (cond b (Go Between) (Go InLine)) (λ mode. lexed mode (step spot byte) rest)) other
 
 -- one more byte of a comment of a line, or the line feed behind it
-line_on : (start spot : Spot) (front : List ℕ) (byte : ℕ) (rest : List ℕ) → Behind spot byte rest →
+line_on : {start spot : Spot} (front : List ℕ) (byte : ℕ) (rest : List ℕ) → Behind spot byte rest →
     list_all (λ b. not (b == 10)) front ≡ true → spot ≡ walk start (47 ∷ front) →
     begins_with (λ b. b == 47) (front ++ byte ∷ rest) ≡ true →
     ReadsFrom start (47 ∷ front ++ byte ∷ rest) (lexed InLine spot (byte ∷ rest))
 unfolding is_blank
-line_on start spot front byte rest behind each there slashed =
+line_on {start} {spot} front byte rest behind each there slashed =
     by_test (byte == 10)
     (λ feed.
     let is : byte ≡ 10 = eqb-true _ _ feed in
     subst (λ b. ReadsFrom start (47 ∷ front ++ b ∷ rest) (lexed InLine spot (b ∷ rest))) (sym is)
-    (line_closes start spot front (10 ∷ rest) (lexed Between (step spot 10) rest)
-    (prepend spot (Blank 10) rest (lexed Between (step spot 10) rest) refl
+    (line_closes start front (10 ∷ rest) (prepend spot (Blank 10) refl
     (subst (λ b. ReadsFrom (step spot b) rest (lexed Between (step spot b) rest)) is (behind Between)))
     each there (subst (λ b. begins_with (λ c. c == 47) (front ++ b ∷ rest) ≡ true) is slashed) refl))
     (λ other. subst (ReadsFrom start (47 ∷ front ++ byte ∷ rest)) (sym (line_goes spot byte rest other))
@@ -220,10 +213,11 @@ line_on start spot front byte rest behind each there slashed =
     (subst (λ t. begins_with (λ c. c == 47) t ≡ true) (sym (push-append front byte rest)) slashed))))
 
 -- the slash behind a star closes a comment
-block_closes : (start spot : Spot) (front rest : List ℕ) (read : Lexed) → ReadsFrom (step spot 47) rest read →
+block_closes : (start : Spot) {spot : Spot} (front : List ℕ) {rest : List ℕ} {read : Lexed}
+    → ReadsFrom (step spot 47) rest read →
     has_close front ≡ false → ends_starred false front ≡ true → spot ≡ walk start (47 ∷ 42 ∷ front) →
     ReadsFrom start (47 ∷ 42 ∷ front ++ 47 ∷ rest) read
-block_closes start spot front rest read reads unclosed ends there =
+block_closes start {spot} front {rest} {read} reads unclosed ends there =
     let last = star_last front ends in
     let inner = last.0 in
     let close : List ℕ = 42 ∷ 47 ∷ [] in
@@ -237,21 +231,20 @@ block_closes start spot front rest read reads unclosed ends there =
     ∙ ap (λ t. walk start (47 ∷ 42 ∷ t)) (sym bytes_are) in
     let inner_unclosed : has_close inner ≡ false =
     has_close-front inner (42 ∷ []) (ap has_close (sym last.1) ∙ unclosed) in
-    subst (λ t. ReadsFrom start (47 ∷ 42 ∷ t) read) text_is
-    (prepend start (BlockComment inner) rest read inner_unclosed
+    subst (λ t. ReadsFrom start (47 ∷ 42 ∷ t) read) text_is (prepend start (BlockComment inner) inner_unclosed
     (subst (λ s. ReadsFrom s rest read) there_closed reads))
 
 -- one more byte of a comment in `/*` and `*/`
-block_on : (start spot : Spot) (starred : Bool) (front : List ℕ) (byte : ℕ) (rest : List ℕ) → Behind spot byte rest →
+block_on : {start spot : Spot} {starred : Bool} (front : List ℕ) (byte : ℕ) (rest : List ℕ) → Behind spot byte rest →
     has_close front ≡ false → ends_starred false front ≡ starred → spot ≡ walk start (47 ∷ 42 ∷ front) →
     ReadsFrom start (47 ∷ 42 ∷ front ++ byte ∷ rest) (lexed (InBlock start starred) spot (byte ∷ rest))
-block_on start spot starred front byte rest behind unclosed ends there =
+block_on {start} {spot} {starred} front byte rest behind unclosed ends there =
     by_test (starred && byte == 47)
     (λ closed.
-    let is : byte ≡ 47 = eqb-true _ _ (and_right starred (byte == 47) closed) in
+    let is : byte ≡ 47 = eqb-true _ _ (and_right starred {b = byte == 47} closed) in
     rw closed
     (subst (λ b. ReadsFrom start (47 ∷ 42 ∷ front ++ b ∷ rest) (lexed Between (step spot byte) rest)) (sym is)
-    (block_closes start spot front rest (lexed Between (step spot byte) rest)
+    (block_closes start front
     (subst (λ b. ReadsFrom (step spot b) rest (lexed Between (step spot byte) rest)) is (behind Between))
     unclosed (ends ∙ and_left starred (byte == 47) closed) there)))
     (λ still. rw still
@@ -263,82 +256,75 @@ block_on start spot starred front byte rest behind unclosed ends there =
     (ap (λ s. step s byte) there ∙ sym (walk-append start (47 ∷ 42 ∷ front) (byte ∷ []))))))
 
 -- a slash where a piece begins
-slash_on : (spot : Spot) (rest : List ℕ) → Behind spot 47 rest →
+slash_on : {spot : Spot} {rest : List ℕ} → Behind spot 47 rest →
     ReadsFrom spot (47 ∷ rest) (proceed (at_slash spot rest) (λ mode. lexed mode (step spot 47) rest))
-slash_on spot rest behind =
+slash_on {spot} {rest} behind =
     by_test (begins_with (λ byte. byte == 47) rest)
     (λ line. rw line (behind InLine spot [] refl refl line))
     (λ no_slash. rw no_slash
     (by_test (begins_with (λ byte. byte == 42) rest)
     (λ block. rw block (behind (Opening spot) refl block))
-    (λ no_star. rw no_star (faulty spot (47 ∷ rest) _ (bad_slash rest refl no_slash no_star refl)))))
+    (λ no_star. rw no_star (faulty (bad_slash rest refl no_slash no_star refl)))))
 
 -- a byte where a piece begins, when it is known
-known_on : (spot : Spot) (byte known : ℕ) (rest : List ℕ) → (byte == known) ≡ true → Behind spot byte rest →
+known_on : {spot : Spot} {byte : ℕ} (known : ℕ) {rest : List ℕ} → (byte == known) ≡ true → Behind spot byte rest →
     (Behind spot known rest → ReadsFrom spot (known ∷ rest) (lexed Between spot (known ∷ rest))) →
     ReadsFrom spot (byte ∷ rest) (lexed Between spot (byte ∷ rest))
-known_on spot byte known rest is behind at_known =
+known_on {spot} {byte} known {rest} is behind at_known =
     let same : byte ≡ known = eqb-true _ _ is in
     subst (λ b. ReadsFrom spot (b ∷ rest) (lexed Between spot (b ∷ rest))) (sym same)
     (at_known (subst (λ b. Behind spot b rest) same behind))
 
-at_known_slash : (spot : Spot) (rest : List ℕ) → Behind spot 47 rest
+at_known_slash : {spot : Spot} {rest : List ℕ} → Behind spot 47 rest
     → ReadsFrom spot (47 ∷ rest) (lexed Between spot (47 ∷ rest))
 unfolding is_blank
-at_known_slash spot rest behind = slash_on spot rest behind
+at_known_slash behind = slash_on behind
 
-at_known_quote : (spot : Spot) (rest : List ℕ) → Behind spot 34 rest
+at_known_quote : {spot : Spot} {rest : List ℕ} → Behind spot 34 rest
     → ReadsFrom spot (34 ∷ rest) (lexed Between spot (34 ∷ rest))
 unfolding is_blank
-at_known_quote spot rest behind = behind (InQuotes spot) [] refl refl
+at_known_quote {spot} behind = behind (InQuotes spot) [] refl refl
 
-at_known_equals : (spot : Spot) (rest : List ℕ) → Behind spot 61 rest
+at_known_equals : {spot : Spot} {rest : List ℕ} → Behind spot 61 rest
     → ReadsFrom spot (61 ∷ rest) (lexed Between spot (61 ∷ rest))
 unfolding is_blank
-at_known_equals spot rest behind = prepend spot AnEquals rest (lexed Between (step spot 61) rest) tt (behind Between)
+at_known_equals {spot} behind = prepend spot AnEquals tt (behind Between)
 
-at_known_semicolon : (spot : Spot) (rest : List ℕ) → Behind spot 59 rest
+at_known_semicolon : {spot : Spot} {rest : List ℕ} → Behind spot 59 rest
     → ReadsFrom spot (59 ∷ rest) (lexed Between spot (59 ∷ rest))
 unfolding is_blank
-at_known_semicolon spot rest behind =
-    prepend spot ASemicolon rest (lexed Between (step spot 59) rest) tt (behind Between)
+at_known_semicolon {spot} behind = prepend spot ASemicolon tt (behind Between)
 
 -- a byte where a piece begins
-start_on : (spot : Spot) (byte : ℕ) (rest : List ℕ) → Behind spot byte rest
+start_on : {spot : Spot} {byte : ℕ} {rest : List ℕ} → Behind spot byte rest
     → ReadsFrom spot (byte ∷ rest) (lexed Between spot (byte ∷ rest))
-start_on spot byte rest behind =
-    by_test (is_blank byte)
-    (λ blank. rw blank (prepend spot (Blank byte) rest (lexed Between (step spot byte) rest) blank (behind Between)))
-    (λ no_blank. by_test (byte == 47)
-    (λ slash. known_on spot byte 47 rest slash behind (at_known_slash spot rest))
-    (λ no_slash. by_test (byte == 34)
-    (λ quote. known_on spot byte 34 rest quote behind (at_known_quote spot rest))
-    (λ no_quote. by_test (byte == 61)
-    (λ equals. known_on spot byte 61 rest equals behind (at_known_equals spot rest))
-    (λ no_equals. by_test (byte == 59)
-    (λ semicolon. known_on spot byte 59 rest semicolon behind (at_known_semicolon spot rest))
+start_on {spot} {byte} {rest} behind =
+    by_test (is_blank byte) (λ blank. rw blank (prepend spot (Blank byte) blank (behind Between)))
+    (λ no_blank. by_test (byte == 47) (λ slash. known_on 47 slash behind (at_known_slash))
+    (λ no_slash. by_test (byte == 34) (λ quote. known_on 34 quote behind (at_known_quote))
+    (λ no_quote. by_test (byte == 61) (λ equals. known_on 61 equals behind (at_known_equals))
+    (λ no_equals. by_test (byte == 59) (λ semicolon. known_on 59 semicolon behind (at_known_semicolon))
     (λ no_semicolon. rw (no_blank, no_slash, no_quote, no_equals, no_semicolon)
     (by_test (is_word_byte byte)
-    (λ in_a_word. rw in_a_word (word_on spot spot [] byte rest behind refl refl in_a_word))
-    (λ bad. rw bad (faulty spot (byte ∷ rest) _
+    (λ in_a_word. rw in_a_word (word_on spot spot [] byte rest behind refl refl in_a_word)) (λ bad. rw bad (faulty
     (bad_byte byte rest refl (rw (no_blank, no_slash, no_quote, no_equals, no_semicolon, bad) refl) refl)))))))))
 
 -- each mode's claim holds of each text
 claims : (mode : Mode) (spot : Spot) (text : List ℕ) → Claim mode spot text
-claims Between spot [] = at_end spot
-claims Between spot (byte ∷ rest) = start_on spot byte rest (λ mode. claims mode (step spot byte) rest)
+claims Between spot [] = at_end
+claims Between spot (byte ∷ rest) = start_on (λ mode. claims mode (step spot byte) rest)
 claims (InWord start) spot [] = λ front some each there goes_on. absurd (cc)
 claims (InWord start) spot (byte ∷ rest) = λ front some each there goes_on.
     word_on start spot front byte rest (λ mode. claims mode (step spot byte) rest) each there goes_on
 claims (InQuotes start) spot [] = λ front each there.
     subst (λ t. ReadsFrom start (34 ∷ t) (failed OpenQuote start)) (sym (append-nil front))
-    (faulty start (34 ∷ front) _ (open_quote front refl each refl))
+    (faulty (open_quote front refl each refl))
 claims (InQuotes start) spot (byte ∷ rest) = λ front each there.
-    quoted_on start spot front byte rest (λ mode. claims mode (step spot byte) rest) each there
+    quoted_on front byte rest (λ mode. claims mode (step spot byte) rest) each there
 claims InLine spot [] = λ start front each there slashed.
-    line_closes start spot front [] (finished spot) (at_end spot) each there slashed refl
+    line_closes start front [] (at_end) each there slashed refl
 claims InLine spot (byte ∷ rest) = λ start front each there slashed.
-    line_on start spot front byte rest (λ mode. claims mode (step spot byte) rest) each there slashed
+    line_on front byte rest (λ mode. claims mode (step spot byte) rest) each there slashed
 claims (Opening start) spot [] = λ there starred. absurd (cc)
 claims (Opening start) spot (byte ∷ rest) = λ there starred.
     let is : byte ≡ 42 = eqb-true _ _ starred in
@@ -347,9 +333,9 @@ claims (Opening start) spot (byte ∷ rest) = λ there starred.
     (ap (λ s. step s byte) there ∙ ap (λ b. walk start (47 ∷ b ∷ [])) is))
 claims (InBlock start starred) spot [] = λ front unclosed ends there.
     subst (λ t. ReadsFrom start (47 ∷ 42 ∷ t) (failed OpenComment start)) (sym (append-nil front))
-    (faulty start (47 ∷ 42 ∷ front) _ (open_comment front refl unclosed refl))
+    (faulty (open_comment front refl unclosed refl))
 claims (InBlock start starred) spot (byte ∷ rest) = λ front unclosed ends there.
-    block_on start spot starred front byte rest (λ mode. claims mode (step spot byte) rest) unclosed ends there
+    block_on front byte rest (λ mode. claims mode (step spot byte) rest) unclosed ends there
 
 -- what is read of a text is a reading of it
 pub reads : (spot : Spot) (text : List ℕ) → ReadsFrom spot text (lexed Between spot text)

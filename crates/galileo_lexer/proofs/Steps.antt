@@ -4,12 +4,11 @@ use Rattle.std.proofs.Common.{sym, refl, ap, ◌∙◌, arith}
 use Rattle.std.specs.Prelude.{◌==◌}
 use Rattle.std.proofs.lemmas.Bool.{ne_eqb}
 use Rattle.std.proofs.lemmas.List.{at_drop_more, at_drop_all, drop_more}
-use Rattle.galileo_lexer.specs.declared.spot.Spot.{Spot}
+use Rattle.galileo_lexer.specs.{declared.spot.Spot.Spot, Spot.along, Spot.step}
+use Rattle.galileo_lexer.specs.{declared.token.LexCode.TheVariants.BadByte}
 use Rattle.galileo_lexer.specs.Bytes.{is_word_byte, is_quotable, is_blank, begins_with}
-use Rattle.galileo_lexer.specs.Spot.{along, step}
 use Rattle.galileo_lexer.specs.Lexed.{Lexed, Mode, Between, InQuotes, InLine, InBlock, at_start, in_word, proceed}
 use Rattle.galileo_lexer.specs.Lexed.{lexed, ended, failed}
-use Rattle.galileo_lexer.specs.declared.token.LexCode.TheVariants.{BadByte}
 
 -- what a text gives from a spot inside it is what its byte there makes of the rest
 pub lexed_here : (mode : Mode) (spot : Spot) (text : List ℕ) → spot.offset < length text →
@@ -137,10 +136,10 @@ slash_here : (start : Spot) (text : List ℕ) → start.offset < length text →
 slash_here start text inside slash =
     lexed_here Between start text inside ∙ ap (λ b. lexed Between start (b ∷ drop (start.offset + 1) text)) slash
 
-second_here : (start : Spot) (text : List ℕ) (second : ℕ) → start.offset + 1 < length text
+second_here : (start : Spot) (text : List ℕ) {second : ℕ} → start.offset + 1 < length text
     → get_or text (start.offset + 1) 0 ≡ second →
     drop (start.offset + 1) text ≡ second ∷ drop (start.offset + 1 + 1) text
-second_here start text second inside is =
+second_here start text inside is =
     drop_more text (start.offset + 1) 0 inside ∙ ap (λ b. b ∷ drop (start.offset + 1 + 1) text) is
 
 pub line_begins : (start : Spot) (text : List ℕ) → start.offset + 1 < length text → get_or text start.offset 0 ≡ 47
@@ -150,8 +149,8 @@ pub line_begins : (start : Spot) (text : List ℕ) → start.offset + 1 < length
 unfolding is_blank
 line_begins start text inside slash again =
     slash_here start text (omega arith) slash
-    ∙ ap (λ rest. lexed Between start (47 ∷ rest)) (second_here start text 47 inside again)
-    ∙ sym (ap (lexed InLine (along start (start.offset + 1))) (second_here start text 47 inside again))
+    ∙ ap (λ rest. lexed Between start (47 ∷ rest)) (second_here start text inside again)
+    ∙ sym (ap (lexed InLine (along start (start.offset + 1))) (second_here start text inside again))
 
 pub block_begins : (start : Spot) (text : List ℕ) → start.offset + 1 < length text → get_or text start.offset 0 ≡ 47
     → get_or text (start.offset + 1) 0 ≡ 42 →
@@ -160,7 +159,7 @@ pub block_begins : (start : Spot) (text : List ℕ) → start.offset + 1 < lengt
 unfolding is_blank
 block_begins start text inside slash star =
     slash_here start text (omega arith) slash
-    ∙ ap (λ rest. lexed Between start (47 ∷ rest)) (second_here start text 42 inside star)
+    ∙ ap (λ rest. lexed Between start (47 ∷ rest)) (second_here start text inside star)
 
 -- no byte that isn't at its place begins the rest
 no_second : (text : List ℕ) (i byte : ℕ) → (i < length text → get_or text i 0 ≡ byte → ⊥)

@@ -4,10 +4,8 @@ use Rattle.std.proofs.Common.{◌∙◌, arith, append_assoc, add-zero, eqb-true
 use Rattle.galileo_lexer.proofs.Bools.{and_left, and_right, and_none, or_left, or_right, or_false}
 use Rattle.std.specs.Prelude.{◌==◌, ◌&&◌}
 use Rattle.std.specs.List.{list_all}
-use Rattle.galileo_lexer.specs.declared.spot.Spot.{Spot}
-use Rattle.galileo_lexer.specs.Bytes.{begins_with}
+use Rattle.galileo_lexer.specs.{declared.spot.Spot.Spot, Bytes.begins_with, Pieces.has_close}
 use Rattle.galileo_lexer.specs.Spot.{along, step, walk}
-use Rattle.galileo_lexer.specs.Pieces.{has_close}
 
 pub walk-append : (spot : Spot) (a b : List ℕ) → walk spot (a ++ b) ≡ walk (walk spot a) b
 walk-append spot [] b = refl
@@ -47,7 +45,7 @@ walk-along spot [] one_line each = ap (along spot) (sym (add-zero spot.offset))
 walk-along spot {test} (byte ∷ bytes) one_line each =
     let there : spot.offset + 1 + length bytes ≡ spot.offset + length (byte ∷ bytes) = omega arith in
     rw (one_line byte (and_left _ _ each))
-    (walk-along (along spot (spot.offset + 1)) {test = test} bytes one_line (and_right (test byte) _ each)
+    (walk-along (along spot (spot.offset + 1)) {test = test} bytes one_line (and_right (test byte) each)
     ∙ ap (along spot) there)
 
 -- one more byte tells by itself whether it ends them with a star
@@ -60,19 +58,18 @@ ends_starred-push starred (b ∷ bytes) byte = ends_starred-push (b == 42) bytes
 pub has_close-push : (starred : Bool) (bytes : List ℕ) (byte : ℕ) → has_close bytes ≡ false →
     (starred && begins_with (λ next. next == 47) bytes) ≡ false →
     (ends_starred starred bytes && byte == 47) ≡ false → has_close (bytes ++ byte ∷ []) ≡ false
-has_close-push starred [] byte unclosed apart still = or_false _ _ (and_none (byte == 42)) refl
-has_close-push starred (b ∷ []) byte unclosed apart still =
-    or_false _ _ still (or_false _ _ (and_none (byte == 42)) refl)
+has_close-push starred [] byte unclosed apart still = or_false _ (and_none (byte == 42)) refl
+has_close-push starred (b ∷ []) byte unclosed apart still = or_false _ still (or_false _ (and_none (byte == 42)) refl)
 has_close-push starred (b ∷ c ∷ bytes) byte unclosed apart still =
-    or_false _ _ (or_left _ _ unclosed)
-    (has_close-push (b == 42) (c ∷ bytes) byte (or_right _ _ unclosed) (or_left _ _ unclosed) still)
+    or_false _ (or_left _ _ unclosed)
+    (has_close-push (b == 42) (c ∷ bytes) byte (or_right _ unclosed) (or_left _ _ unclosed) still)
 
 -- bytes in front of others have no close where all of them have none
 pub has_close-front : (bytes more : List ℕ) → has_close (bytes ++ more) ≡ false → has_close bytes ≡ false
 has_close-front [] more unclosed = refl
-has_close-front (b ∷ []) more unclosed = or_false _ _ (and_none (b == 42)) refl
+has_close-front (b ∷ []) more unclosed = or_false _ (and_none (b == 42)) refl
 has_close-front (b ∷ c ∷ bytes) more unclosed =
-    or_false _ _ (or_left _ _ unclosed) (has_close-front (c ∷ bytes) more (or_right _ _ unclosed))
+    or_false _ (or_left _ _ unclosed) (has_close-front (c ∷ bytes) more (or_right _ unclosed))
 
 -- bytes that end with a star are bytes and that star
 pub star_last : (bytes : List ℕ) → ends_starred false bytes ≡ true → (front : List ℕ) × (bytes ≡ front ++ 42 ∷ [])

@@ -1,12 +1,9 @@
 -- What a step of the lexer finds is what the text gives from there on.
 use Rattle.std.specs.Prelude.{◌≡◌, ℕ, ◌<◌, List, [], drop, nat_le, if◌then◌else◌, Result, Ok, Err}
 use Rattle.deck_limits.specs.declared.TheConstants.{LONGEST_NAME}
-use Rattle.galileo_lexer.specs.declared.spot.Spot.{Spot}
-use Rattle.galileo_lexer.specs.declared.token.TokenKind.{TokenKind}
-use Rattle.galileo_lexer.specs.declared.token.LexCode.{LexCode}
-use Rattle.galileo_lexer.specs.declared.token.LexCode.TheVariants.{NameTooLong}
-use Rattle.galileo_lexer.specs.declared.token.LexFault.{LexFault}
-use Rattle.galileo_lexer.specs.declared.constructs.Found.{Found}
+use Rattle.galileo_lexer.specs.{declared.spot.Spot.Spot, declared.token.TokenKind.TokenKind}
+use Rattle.galileo_lexer.specs.{declared.token.LexCode.LexCode, declared.token.LexCode.TheVariants.NameTooLong}
+use Rattle.galileo_lexer.specs.{declared.token.LexFault.LexFault, declared.constructs.Found.Found}
 use Rattle.galileo_lexer.specs.declared.constructs.Found.TheVariants.{Token, End, Fault}
 use Rattle.galileo_lexer.specs.Spot.{IsSpot, along, place_of}
 use Rattle.galileo_lexer.specs.Lexed.{Lexed, Between, lexed, finished, with_token, token_from}

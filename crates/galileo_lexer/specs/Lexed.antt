@@ -2,15 +2,12 @@
 use Rattle.std.specs.Prelude.{ℕ, ◌+◌, ◌-◌, Bool, false, ◌&&◌, ◌==◌, nat_le, if◌then◌else◌, List, [], ◌∷◌, drop, Result}
 use Rattle.std.specs.Prelude.{Ok, Err, Option, Some, None}
 use Rattle.deck_limits.specs.declared.TheConstants.{LONGEST_NAME}
-use Rattle.galileo_lexer.specs.declared.spot.Spot.{Spot}
-use Rattle.galileo_lexer.specs.declared.token.LexPlace.{LexPlace}
-use Rattle.galileo_lexer.specs.declared.token.Token.{Token}
-use Rattle.galileo_lexer.specs.declared.token.TokenKind.{TokenKind}
+use Rattle.galileo_lexer.specs.{declared.spot.Spot.Spot, declared.token.LexPlace.LexPlace, declared.token.Token.Token}
+use Rattle.galileo_lexer.specs.{declared.token.TokenKind.TokenKind, declared.token.LexCode.LexCode}
+use Rattle.galileo_lexer.specs.{declared.token.LexFault.LexFault}
 use Rattle.galileo_lexer.specs.declared.token.TokenKind.TheVariants.{Word, Quoted, Equals, Semicolon}
-use Rattle.galileo_lexer.specs.declared.token.LexCode.{LexCode}
 use Rattle.galileo_lexer.specs.declared.token.LexCode.TheVariants.{BadByte, OpenQuote, OpenComment, EmptyName}
 use Rattle.galileo_lexer.specs.declared.token.LexCode.TheVariants.{NameTooLong}
-use Rattle.galileo_lexer.specs.declared.token.LexFault.{LexFault}
 use Rattle.galileo_lexer.specs.Bytes.{is_blank, is_word_byte, is_quotable, begins_with}
 use Rattle.galileo_lexer.specs.Spot.{origin, step, place_of}
 

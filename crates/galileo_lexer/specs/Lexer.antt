@@ -1,10 +1,7 @@
 -- The model of `Lexer`.
 use Rattle.std.specs.Prelude.{ℕ, ◌≤◌, List, [], length, drop, Option, Some, None, Err}
-use Rattle.galileo_lexer.specs.declared.lexer.TheConstants.{LONGEST_TEXT}
-use Rattle.galileo_lexer.specs.declared.lexer.Lexer.TheInside.{Inside}
-use Rattle.galileo_lexer.specs.declared.spot.Spot.{Spot}
-use Rattle.galileo_lexer.specs.declared.token.LexFault.{LexFault}
-use Rattle.galileo_lexer.specs.Spot.{IsSpot}
+use Rattle.galileo_lexer.specs.{declared.lexer.TheConstants.LONGEST_TEXT, declared.lexer.Lexer.TheInside.Inside}
+use Rattle.galileo_lexer.specs.{declared.spot.Spot.Spot, declared.token.LexFault.LexFault, Spot.IsSpot}
 use Rattle.galileo_lexer.specs.Lexed.{Lexed, Between, lexed}
 
 -- what is still to come of a text from a spot on, or the fault that was found

@@ -4,17 +4,13 @@ use Rattle.std.specs.Prelude.{◌≡◌, ℕ, ◌+◌, ◌<◌, ◌≤◌, Bool,
 use Rattle.std.specs.Prelude.{length, Result, Ok, Err}
 use Rattle.std.specs.List.{flat_map, list_all}
 use Rattle.deck_limits.specs.declared.TheConstants.{LONGEST_NAME}
-use Rattle.galileo_lexer.specs.declared.spot.Spot.{Spot}
-use Rattle.galileo_lexer.specs.declared.token.Token.{Token}
+use Rattle.galileo_lexer.specs.{declared.spot.Spot.Spot, declared.token.Token.Token, declared.token.LexFault.LexFault}
+use Rattle.galileo_lexer.specs.{declared.token.LexPlace.LexPlace, Lexed.Lexed, Lexed.token_from, Found.fault_at}
 use Rattle.galileo_lexer.specs.declared.token.TokenKind.TheVariants.{Word, Quoted, Equals, Semicolon}
-use Rattle.galileo_lexer.specs.declared.token.LexFault.{LexFault}
-use Rattle.galileo_lexer.specs.declared.token.LexPlace.{LexPlace}
 use Rattle.galileo_lexer.specs.declared.token.LexCode.TheVariants.{BadByte, OpenQuote, OpenComment, EmptyName}
 use Rattle.galileo_lexer.specs.declared.token.LexCode.TheVariants.{NameTooLong}
 use Rattle.galileo_lexer.specs.Bytes.{is_blank, is_word_byte, is_quotable, begins_with}
 use Rattle.galileo_lexer.specs.Spot.{origin, walk, place_of}
-use Rattle.galileo_lexer.specs.Lexed.{Lexed, token_from}
-use Rattle.galileo_lexer.specs.Found.{fault_at}
 
 -- a blank, a comment or a token of the text, by its bytes
 pub data Piece : Type 0 where

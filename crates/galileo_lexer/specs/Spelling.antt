@@ -1,11 +1,8 @@
 -- The bytes of a token, in the text that it lies in.
 use Rattle.std.specs.Prelude.{◌≡◌, ℕ, ◌<◌, ◌≤◌, List, [], ◌∷◌, ◌++◌, length, slice_range, take}
-use Rattle.galileo_lexer.specs.declared.token.Token.{Token}
-use Rattle.galileo_lexer.specs.declared.token.TokenKind.{TokenKind}
+use Rattle.galileo_lexer.specs.{declared.token.Token.Token, declared.token.TokenKind.TokenKind, Bytes.is_word_byte}
+use Rattle.galileo_lexer.specs.{Bytes.is_quotable, Pieces.IsNameText, Spot.place_behind}
 use Rattle.galileo_lexer.specs.declared.token.TokenKind.TheVariants.{Word, Quoted, Equals, Semicolon}
-use Rattle.galileo_lexer.specs.Bytes.{is_word_byte, is_quotable}
-use Rattle.galileo_lexer.specs.Pieces.{IsNameText}
-use Rattle.galileo_lexer.specs.Spot.{place_behind}
 
 -- the bytes of a token
 abbrev pub token_bytes : List ℕ → Token → List ℕ

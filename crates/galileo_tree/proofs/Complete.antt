@@ -1,26 +1,16 @@
 -- The spelling of statements is read as these statements, and each row of what may stand next is reached.
 use Rattle.std.proofs.Common.{◌≡◌, ℕ, true, false, List, [], ◌∷◌, ◌++◌, Result, Ok, Err, Option, Some, None, refl}
 use Rattle.std.proofs.Common.{sym, ap, ◌∙◌, append_assoc}
-use Rattle.std.specs.Prelude.{map}
-use Rattle.std.specs.List.{list_all, flat_map}
-use Rattle.std.proofs.lemmas.Bool.{and_parts}
-use Rattle.std.proofs.lemmas.List.{append-nil}
-use Rattle.fault_words.specs.declared.kind.GateKind.{GateKind}
-use Rattle.fault_words.specs.declared.place.Place.{Place}
-use Rattle.galileo_lexer.specs.declared.token.LexPlace.{LexPlace}
-use Rattle.galileo_lexer.specs.declared.token.LexFault.{LexFault}
-use Rattle.galileo_tree.specs.declared.raw.Placed.{Placed}
-use Rattle.galileo_tree.specs.declared.raw.RawTop.{RawTop}
-use Rattle.galileo_tree.specs.declared.raw.RawGate.{RawGate}
-use Rattle.galileo_tree.specs.declared.raw.RawBasic.{RawBasic}
-use Rattle.galileo_tree.specs.declared.raw.RawAttribute.{RawAttribute}
-use Rattle.galileo_tree.specs.declared.raw.Statement.{Statement}
+use Rattle.std.specs.{Prelude.map, List.list_all, List.flat_map}
+use Rattle.std.proofs.{lemmas.Bool.and_parts, lemmas.List.append-nil}
+use Rattle.fault_words.specs.{declared.kind.GateKind.GateKind, declared.place.Place.Place}
+use Rattle.galileo_lexer.specs.{declared.token.LexPlace.LexPlace, declared.token.LexFault.LexFault}
+use Rattle.galileo_tree.specs.{declared.raw.Placed.Placed, declared.raw.RawTop.RawTop, declared.raw.RawGate.RawGate}
+use Rattle.galileo_tree.specs.{declared.raw.RawBasic.RawBasic, declared.raw.RawAttribute.RawAttribute}
+use Rattle.galileo_tree.specs.{declared.raw.Statement.Statement, declared.fault.ParseFault.ParseFault}
+use Rattle.galileo_tree.specs.{declared.fault.ParseFault.TheVariants.Expected, ReadTree.ReadTree, GateWord.kind_said}
 use Rattle.galileo_tree.specs.declared.raw.Statement.TheVariants.{Top, Gate, Basic}
-use Rattle.galileo_tree.specs.declared.fault.ParseFault.{ParseFault}
-use Rattle.galileo_tree.specs.declared.fault.ParseFault.TheVariants.{Expected}
-use Rattle.galileo_tree.specs.ReadTree.{ReadTree}
 use Rattle.galileo_tree.specs.Lexeme.{Lexeme, is_equals, is_semicolon, is_bare, is_name, is_value, is_top_word, placed}
-use Rattle.galileo_tree.specs.GateWord.{kind_said}
 use Rattle.galileo_tree.specs.Parsed.{State, Outside, TopWord, TopName, Defined, GateWord, Inputs, AttributeWord}
 use Rattle.galileo_tree.specs.Parsed.{AttributeEquals, Attributes, On, Whole, Stop, step, expected, proceed, parsed}
 use Rattle.galileo_tree.specs.Parsed.{with_statement, attribute_of, top_of, gate_of, basic_of}
@@ -60,9 +50,9 @@ pub top_name_run : (place : Place) (name : Lexeme) (rest : List Lexeme) (ending 
 top_name_run place name rest ending is =
     on_run (TopWord place) (TopName place (placed name)) name rest ending (rw is refl)
 
-pub name_run : (name : Lexeme) (rest : List Lexeme) (ending : Ending) → IsDefinedName name →
+pub name_run : {name : Lexeme} (rest : List Lexeme) (ending : Ending) → IsDefinedName name →
     parsed Outside (name ∷ rest) ending ≡ parsed (Defined (placed name)) rest ending
-name_run name rest ending is = on_run Outside (Defined (placed name)) name rest ending (rw (is.no_top, is.named) refl)
+name_run {name} rest ending is = on_run Outside (Defined (placed name)) name rest ending (rw (is.no_top, is.named) refl)
 
 -- a gate word
 pub gate_word_run : (name : Placed) (word : Lexeme) (kind : GateKind) (rest : List Lexeme) (ending : Ending) →
@@ -226,7 +216,7 @@ spelled_run (Top top) lexemes rest ending is =
 spelled_run (Gate gate) lexemes rest ending is =
     let name = placed is.name in
     ap (λ all. parsed Outside (all ++ rest) ending) is.spelled
-    ∙ name_run is.name (is.word ∷ (is.inputs ++ is.close ∷ []) ++ rest) ending is.defined
+    ∙ name_run (is.word ∷ (is.inputs ++ is.close ∷ []) ++ rest) ending is.defined
     ∙ gate_word_run name is.word gate.kind ((is.inputs ++ is.close ∷ []) ++ rest) ending
     (said_alone is.word gate.kind is.said) is.said
     ∙ ap (λ all. parsed (GateWord name is.word gate.kind) all ending) (append_assoc is.inputs (is.close ∷ []) rest)
@@ -239,7 +229,7 @@ spelled_run (Basic basic) lexemes rest ending is =
     let name = placed is.name in
     let attributes = flat_map lexemes_in is.attributes in
     ap (λ all. parsed Outside (all ++ rest) ending) is.spelled
-    ∙ name_run is.name ((attributes ++ is.close ∷ []) ++ rest) ending is.defined
+    ∙ name_run ((attributes ++ is.close ∷ []) ++ rest) ending is.defined
     ∙ ap (λ all. parsed (Defined name) all ending) (append_assoc attributes (is.close ∷ []) rest)
     ∙ attributes_run name is.attributes (is.close ∷ rest) ending is.each
     ∙ whole_run (attributes_state name is.attributes) (basic_of name (map attribute_in is.attributes)) is.close rest

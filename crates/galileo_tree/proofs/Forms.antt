@@ -2,15 +2,12 @@
 use Rattle.std.proofs.Common.{◌≡◌, ℕ, suc, ◌+◌, ◌*◌, ◌-◌, ◌^◌, ◌<◌, ◌≤◌, Bool, true, ◌&&◌, List, [], ◌∷◌, length, map}
 use Rattle.std.proofs.Common.{take, drop, Option, Some, None, Ok, sym, ap, ◌∙◌, ◌++◌, append-nil, subst, arith}
 use Rattle.std.specs.Prelude.{All, IfSome, nat_le, nat_lt, codes, if◌then◌else◌}
-use Rattle.std.specs.List.{list_all, prefix_len}
-use Rattle.std.specs.Char.{is_ascii_digit}
-use Rattle.std.specs.Str.{str_eq_ignore_ascii_case}
+use Rattle.std.specs.{List.list_all, List.prefix_len, Char.is_ascii_digit, Str.str_eq_ignore_ascii_case}
 use Rattle.std.proofs.lemmas.Bool.{and_parts, cond_both, leb-true}
 use Rattle.std.proofs.lemmas.List.Elements.{All-nil, All-cons}
-use Rattle.fault_words.specs.declared.kind.GateKind.{GateKind}
+use Rattle.fault_words.specs.{declared.kind.GateKind.GateKind, Name.is_bare_name}
 use Rattle.fault_words.specs.declared.kind.GateKind.TheVariants.{And, Or, Votes, Pand, Por, Seq, Fdep, Csp, Wsp, Hsp}
-use Rattle.fault_words.specs.Name.{is_bare_name}
-use Rattle.galileo_tree.specs.declared.raw.Statement.{Statement}
+use Rattle.galileo_tree.specs.{declared.raw.Statement.Statement, Reads.EndsIn}
 use Rattle.galileo_tree.specs.declared.raw.Statement.TheVariants.{Top, Gate, Basic}
 use Rattle.galileo_tree.specs.ReadTree.{HasShortNumbers, HasBareWord, KeepsForm}
 use Rattle.galileo_tree.specs.Lexeme.{Lexeme, is_bare, is_word_kind}
@@ -22,9 +19,7 @@ use Rattle.galileo_tree.specs.ReadTree.{ReadTree}
 use Rattle.galileo_tree.specs.Lexeme.{Stream, place_at}
 use Rattle.galileo_tree.specs.Parsed.{Outside, lexemes_of, parsed, parsed_from, parsed_text}
 use Rattle.galileo_tree.specs.Grammar.{IsReading}
-use Rattle.galileo_tree.specs.Reads.{EndsIn}
-use Rattle.galileo_tree.proofs.Parses.{with_front}
-use Rattle.galileo_tree.proofs.Sound.{sound}
+use Rattle.galileo_tree.proofs.{Parses.with_front, Sound.sound}
 use Rattle.decimal_numerals.proofs.Digits.{digit_at, milliard, small_more}
 
 -- ---- gate words

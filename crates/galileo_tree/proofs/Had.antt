@@ -3,16 +3,11 @@ use Rattle.std.proofs.Common.{◌≡◌, ℕ, true, List, [], ◌∷◌, ◌++�
 use Rattle.std.proofs.Common.{subst, append_assoc}
 use Rattle.std.specs.Prelude.{map, ◌&&◌}
 use Rattle.std.specs.List.{list_all, flat_map}
-use Rattle.std.proofs.lemmas.Bool.{and_from}
-use Rattle.std.proofs.lemmas.List.{append-nil, map-append}
-use Rattle.std.proofs.lemmas.List.Folds.{list_all-append}
-use Rattle.std.proofs.lemmas.List.Concat.{flat_map-append}
-use Rattle.fault_words.specs.declared.kind.GateKind.{GateKind}
-use Rattle.fault_words.specs.declared.place.Place.{Place}
-use Rattle.galileo_tree.specs.declared.raw.Placed.{Placed}
-use Rattle.galileo_tree.specs.declared.raw.RawAttribute.{RawAttribute}
+use Rattle.std.proofs.{lemmas.Bool.and_from, lemmas.List.append-nil, lemmas.List.map-append}
+use Rattle.std.proofs.{lemmas.List.Folds.list_all-append, lemmas.List.Concat.flat_map-append}
+use Rattle.fault_words.specs.{declared.kind.GateKind.GateKind, declared.place.Place.Place}
+use Rattle.galileo_tree.specs.{declared.raw.Placed.Placed, declared.raw.RawAttribute.RawAttribute, GateWord.kind_said}
 use Rattle.galileo_tree.specs.Lexeme.{Lexeme, is_equals, is_semicolon, is_bare, is_name, is_value, is_top_word, placed}
-use Rattle.galileo_tree.specs.GateWord.{kind_said}
 use Rattle.galileo_tree.specs.Parsed.{State, Outside, TopWord, TopName, Defined, GateWord, Inputs, AttributeWord}
 use Rattle.galileo_tree.specs.Parsed.{AttributeEquals, Attributes, Step, On, Whole, Stop, step, expected, defined_step}
 use Rattle.galileo_tree.specs.Parsed.{attribute_of}
@@ -76,19 +71,18 @@ Had (AttributeEquals name attributes word) had =
 Had (Attributes name attributes) had = (whole : List Written) × HadBasic name attributes [] had whole × IsSome whole
 
 -- what has been had stands before what the state expects
-word_stands : (name : Placed) (attributes : List RawAttribute) (had : List Lexeme) (whole : List Written)
-    (begun : Lexeme) →
+word_stands : {name : Placed} {attributes : List RawAttribute} {had : List Lexeme} (whole : List Written)
+    {begun : Lexeme} →
     HadBasic name attributes (begun ∷ []) had whole → is_bare begun ≡ true → IsNextWord whole begun
     → Stands had (expected (AttributeWord name attributes begun.text))
-word_stands name attributes had [] begun basic bare next =
-    behind_first_word basic.first begun basic.is basic.defined bare next refl
-word_stands name attributes had (written ∷ whole) begun basic bare next =
+word_stands [] {begun} basic bare next = behind_first_word basic.first begun basic.is basic.defined bare next refl
+word_stands (written ∷ whole) {begun} basic bare next =
     behind_next_word basic.first written whole begun basic.is basic.defined basic.each bare refl
 
-value_stands : (name : Placed) (attributes : List RawAttribute) (had : List Lexeme) (whole : List Written) →
+value_stands : {name : Placed} {attributes : List RawAttribute} {had : List Lexeme} (whole : List Written) →
     HadBasic name attributes [] had whole → IsSome whole → Stands had (expected (Attributes name attributes))
-value_stands name attributes had [] basic some = absurd some
-value_stands name attributes had (written ∷ whole) basic some =
+value_stands [] basic some = absurd some
+value_stands (written ∷ whole) basic some =
     behind_value basic.first written whole (basic.is
     ∙ ap (λ l. basic.first ∷ l) (append-nil (flat_map lexemes_in (written ∷ whole)))) basic.defined basic.each refl
 
@@ -100,10 +94,10 @@ stands (Defined name) had is = behind_name is.0 is.1 is.2 refl
 stands (GateWord name word kind) had is = behind_inputs is.0 word kind [] is.1 is.2 is.3 refl refl
 stands (Inputs name place kind inputs) had is =
     behind_inputs is.first is.word kind is.rest is.is is.defined is.said is.named refl
-stands (AttributeWord name attributes word) had is = word_stands name attributes had is.0 is.1 is.2 is.3 is.5
+stands (AttributeWord name attributes word) had is = word_stands is.0 is.2 is.3 is.5
 stands (AttributeEquals name attributes word) had is =
     behind_equals is.3.first is.0 is.1 is.2 is.3.is is.3.defined is.3.each is.4 is.6 refl
-stands (Attributes name attributes) had is = value_stands name attributes had is.0 is.1 is.2
+stands (Attributes name attributes) had is = value_stands is.0 is.1 is.2
 
 -- what a step makes of what has been had
 abbrev pub Makes : List Lexeme → Step → Type 0
@@ -127,10 +121,10 @@ some_pushed [] last = tt
 some_pushed (first ∷ whole) last = tt
 
 -- behind a defined name
-defined_makes : (name : Placed) (first : Lexeme) (lexeme : Lexeme) (said : Option GateKind) → kind_said lexeme ≡ said →
+defined_makes : {name : Placed} {first : Lexeme} (lexeme : Lexeme) (said : Option GateKind) → kind_said lexeme ≡ said →
     IsDefinedName first → name ≡ placed first → Makes (first ∷ lexeme ∷ []) (defined_step name lexeme said)
-defined_makes name first lexeme (Some kind) said defined is = (first, refl, defined, said, is)
-defined_makes name first lexeme None said defined is =
+defined_makes {first} lexeme (Some kind) said defined is = (first, refl, defined, said, is)
+defined_makes {first} lexeme None said defined is =
     by_test (is_bare lexeme)
     (λ bare. rw bare (
       [],
@@ -151,17 +145,17 @@ outside_makes lexeme =
     (λ named. rw named (lexeme, refl, record { named = named; no_top = no_top }, refl))
     (λ other. rw other tt)))
 
-top_word_makes : (place : Place) (word lexeme : Lexeme) → is_top_word word ≡ true → place ≡ word.place →
+top_word_makes : {place : Place} (word lexeme : Lexeme) → is_top_word word ≡ true → place ≡ word.place →
     Makes (word ∷ lexeme ∷ []) (step (TopWord place) lexeme)
-top_word_makes place word lexeme top is =
+top_word_makes word lexeme top is =
     by_test (is_name lexeme)
     (λ named. rw named (word, lexeme, refl, top, named, is, refl))
     (λ other. rw other tt)
 
-top_name_makes : (place : Place) (name : Placed) (word second lexeme : Lexeme) → is_top_word word ≡ true
+top_name_makes : {place : Place} {name : Placed} (word second lexeme : Lexeme) → is_top_word word ≡ true
     → is_name second ≡ true →
     place ≡ word.place → name ≡ placed second → Makes (word ∷ second ∷ lexeme ∷ []) (step (TopName place name) lexeme)
-top_name_makes place name word second lexeme top named place_is name_is =
+top_name_makes {name} word second lexeme top named place_is name_is =
     by_test (is_semicolon lexeme)
     (λ close. rw (close, place_is, name_is)
     (record {
@@ -176,9 +170,9 @@ top_name_makes place name word second lexeme top named place_is name_is =
     }))
     (λ other. rw other tt)
 
-name_makes : (name : Placed) (first lexeme : Lexeme) → IsDefinedName first → name ≡ placed first →
+name_makes : {name : Placed} {first : Lexeme} (lexeme : Lexeme) → IsDefinedName first → name ≡ placed first →
     Makes (first ∷ lexeme ∷ []) (step (Defined name) lexeme)
-name_makes name first lexeme defined name_is =
+name_makes {name} {first} lexeme defined name_is =
     by_test (is_semicolon lexeme)
     (λ close. rw (close, name_is)
     (record {
@@ -191,13 +185,13 @@ name_makes name first lexeme defined name_is =
       closed =
           close;
       is = refl;
-    }))
-    (λ open_still. rw open_still (defined_makes name first lexeme (kind_said lexeme) refl defined name_is))
+    })) (λ open_still. rw open_still (defined_makes lexeme (kind_said lexeme) refl defined name_is))
 
-gate_word_makes : (name : Placed) (word : Lexeme) (kind : GateKind) (first lexeme : Lexeme) → IsDefinedName first
+gate_word_makes : {name : Placed} (word : Lexeme) (kind : GateKind) {first : Lexeme} (lexeme : Lexeme)
+    → IsDefinedName first
     → kind_said word ≡ Some kind →
     name ≡ placed first → Makes (first ∷ word ∷ lexeme ∷ []) (step (GateWord name word kind) lexeme)
-gate_word_makes name word kind first lexeme defined said name_is =
+gate_word_makes {name} word kind {first} lexeme defined said name_is =
     by_test (is_semicolon lexeme)
     (λ close. rw (close, name_is)
     (record {
@@ -251,10 +245,10 @@ gate_word_makes name word kind first lexeme defined said name_is =
     (λ other. rw other tt)))
     (λ other. rw other tt)))))
 
-inputs_make : (name : Placed) (place : Place) (kind : GateKind) (inputs : List Placed) (had : List Lexeme)
+inputs_make : {name : Placed} {place : Place} {kind : GateKind} {inputs : List Placed} {had : List Lexeme}
     (lexeme : Lexeme) → HadGate name place kind inputs had →
     Makes (had ++ lexeme ∷ []) (step (Inputs name place kind inputs) lexeme)
-inputs_make name place kind inputs had lexeme gate =
+inputs_make {name} {inputs} {had} lexeme gate =
     let longer : had ++ lexeme ∷ [] ≡ gate.first ∷ gate.word ∷ gate.rest ++ lexeme ∷ [] =
     ap (λ l. l ++ lexeme ∷ []) gate.is in
     by_test (is_semicolon lexeme)
@@ -305,11 +299,11 @@ basic_longer name attributes begun had whole lexeme basic = record {
   attributes_are = basic.attributes_are;
 }
 
-word_makes : (name : Placed) (attributes : List RawAttribute) (word : List ℕ) (had : List Lexeme) (whole : List Written)
-    (begun lexeme : Lexeme) →
+word_makes : {name : Placed} {attributes : List RawAttribute} {word : List ℕ} {had : List Lexeme} {whole : List Written}
+    {begun : Lexeme} (lexeme : Lexeme) →
     HadBasic name attributes (begun ∷ []) had whole → is_bare begun ≡ true → word ≡ begun.text →
     Makes (had ++ lexeme ∷ []) (step (AttributeWord name attributes word) lexeme)
-word_makes name attributes word had whole begun lexeme basic bare word_is =
+word_makes {name} {attributes} {had} {whole} {begun} lexeme basic bare word_is =
     by_test (is_equals lexeme)
     (λ equals. rw equals (
       whole,
@@ -322,13 +316,13 @@ word_makes name attributes word had whole begun lexeme basic bare word_is =
     ))
     (λ other. rw other tt)
 
-equals_makes : (name : Placed) (attributes : List RawAttribute) (word : List ℕ) (had : List Lexeme)
-    (whole : List Written) (begun equals lexeme : Lexeme) →
+equals_makes : {name : Placed} {attributes : List RawAttribute} {word : List ℕ} {had : List Lexeme}
+    {whole : List Written} (begun equals lexeme : Lexeme) →
     HadBasic name attributes (begun ∷ equals ∷ []) had whole → is_bare begun ≡ true → word ≡ begun.text
     → is_equals equals ≡ true →
     Makes (had ++ lexeme ∷ []) (step (AttributeEquals name attributes word) lexeme)
 unfolding basic_longer
-equals_makes name attributes word had whole begun equals lexeme basic bare word_is equals_is =
+equals_makes {name} {attributes} {word} {had} {whole} begun equals lexeme basic bare word_is equals_is =
     by_test (is_value lexeme)
     (λ valued.
     let last : Written = record { word = begun; equals = equals; value = lexeme } in
@@ -355,12 +349,12 @@ next_word_is : (whole : List Written) (lexeme : Lexeme) → IsSome whole → IsN
 next_word_is [] lexeme some = absurd some
 next_word_is (written ∷ whole) lexeme some = tt
 
-value_makes : (name : Placed) (attributes : List RawAttribute) (had : List Lexeme) (whole : List Written)
+value_makes : {name : Placed} {attributes : List RawAttribute} {had : List Lexeme} {whole : List Written}
     (lexeme : Lexeme) →
     HadBasic name attributes [] had whole → IsSome whole
     → Makes (had ++ lexeme ∷ []) (step (Attributes name attributes) lexeme)
 unfolding basic_longer
-value_makes name attributes had whole lexeme basic some =
+value_makes {name} {attributes} {had} {whole} lexeme basic some =
     let longer = basic_longer name attributes [] had whole lexeme basic in
     by_test (is_semicolon lexeme)
     (λ close. rw (close, basic.name_is, basic.attributes_are)
@@ -386,19 +380,16 @@ makes Outside had lexeme is =
     subst (λ l. Makes (l ++ lexeme ∷ []) (step Outside lexeme)) (sym is) (outside_makes lexeme)
 makes (TopWord place) had lexeme is =
     subst (λ l. Makes (l ++ lexeme ∷ []) (step (TopWord place) lexeme)) (sym is.1)
-    (top_word_makes place is.0 lexeme is.2 is.3)
+    (top_word_makes is.0 lexeme is.2 is.3)
 makes (TopName place name) had lexeme is =
     subst (λ l. Makes (l ++ lexeme ∷ []) (step (TopName place name) lexeme)) (sym is.2)
-    (top_name_makes place name is.0 is.1 lexeme is.3 is.4 is.5 is.6)
+    (top_name_makes is.0 is.1 lexeme is.3 is.4 is.5 is.6)
 makes (Defined name) had lexeme is =
-    subst (λ l. Makes (l ++ lexeme ∷ []) (step (Defined name) lexeme)) (sym is.1)
-    (name_makes name is.0 lexeme is.2 is.3)
+    subst (λ l. Makes (l ++ lexeme ∷ []) (step (Defined name) lexeme)) (sym is.1) (name_makes lexeme is.2 is.3)
 makes (GateWord name word kind) had lexeme is =
     subst (λ l. Makes (l ++ lexeme ∷ []) (step (GateWord name word kind) lexeme)) (sym is.1)
-    (gate_word_makes name word kind is.0 lexeme is.2 is.3 is.4)
-makes (Inputs name place kind inputs) had lexeme is = inputs_make name place kind inputs had lexeme is
-makes (AttributeWord name attributes word) had lexeme is =
-    word_makes name attributes word had is.0 is.1 lexeme is.2 is.3 is.4
-makes (AttributeEquals name attributes word) had lexeme is =
-    equals_makes name attributes word had is.0 is.1 is.2 lexeme is.3 is.4 is.5 is.6
-makes (Attributes name attributes) had lexeme is = value_makes name attributes had is.0 lexeme is.1 is.2
+    (gate_word_makes word kind lexeme is.2 is.3 is.4)
+makes (Inputs name place kind inputs) had lexeme is = inputs_make lexeme is
+makes (AttributeWord name attributes word) had lexeme is = word_makes lexeme is.2 is.3 is.4
+makes (AttributeEquals name attributes word) had lexeme is = equals_makes is.1 is.2 lexeme is.3 is.4 is.5 is.6
+makes (Attributes name attributes) had lexeme is = value_makes lexeme is.1 is.2

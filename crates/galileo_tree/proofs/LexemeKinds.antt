@@ -1,9 +1,8 @@
 -- A lexeme is of one kind.
 use Rattle.std.proofs.Common.{◌≡◌, Bool, true, false, Option, Some, None, refl}
 use Rattle.std.specs.Prelude.{◌&&◌, ◌||◌, if◌then◌else◌}
-use Rattle.fault_words.specs.declared.kind.GateKind.{GateKind}
+use Rattle.fault_words.specs.{declared.kind.GateKind.GateKind, Name.is_bare_name}
 use Rattle.galileo_tree.specs.GateWord.{gate_word, kind_said}
-use Rattle.fault_words.specs.Name.{is_bare_name}
 use Rattle.galileo_lexer.specs.declared.token.TokenKind.{TokenKind}
 use Rattle.galileo_lexer.specs.declared.token.TokenKind.TheVariants.{Word, Quoted, Equals, Semicolon}
 use Rattle.galileo_tree.specs.Lexeme.{Lexeme, is_equals, is_semicolon, is_name, is_bare, is_word_kind, is_quoted_kind}

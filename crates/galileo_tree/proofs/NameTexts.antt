@@ -6,28 +6,26 @@ use Rattle.std.proofs.lemmas.List.{take_at, drop-drop, take_rest}
 use Rattle.std.specs.Prelude.{◌&&◌, slice_range}
 use Rattle.std.specs.List.{list_all}
 use Rattle.fault_words.specs.Name.{is_name, is_name_byte}
-use Rattle.galileo_lexer.specs.declared.token.TokenKind.{TokenKind}
+use Rattle.galileo_lexer.specs.{declared.token.TokenKind.TokenKind, Bytes.is_word_byte, Bytes.is_quotable}
+use Rattle.galileo_lexer.specs.{Pieces.IsNameText, Spelling.Spells}
 use Rattle.galileo_lexer.specs.declared.token.TokenKind.TheVariants.{Word, Quoted, Equals, Semicolon}
-use Rattle.galileo_lexer.specs.Bytes.{is_word_byte, is_quotable}
-use Rattle.galileo_lexer.specs.Pieces.{IsNameText}
-use Rattle.galileo_lexer.specs.Spelling.{Spells}
 use Rattle.galileo_tree.specs.Lexeme.{HasNameText, text_between}
 
-and_split : (a b : Bool) → (a && b) ≡ true → (a ≡ true) × (b ≡ true)
-and_split true b both = (refl, both)
-and_split false b both = absurd (cc)
+and_split : (a : Bool) {b : Bool} → (a && b) ≡ true → (a ≡ true) × (b ≡ true)
+and_split true both = (refl, both)
+and_split false both = absurd (cc)
 
-both_hold : (a b : Bool) → a ≡ true → b ≡ true → (a && b) ≡ true
-both_hold true b left right = right
-both_hold false b left right = left
+both_hold : (a : Bool) {b : Bool} → a ≡ true → b ≡ true → (a && b) ≡ true
+both_hold true left right = right
+both_hold false left right = left
 
 -- bytes that pass a test pass a wider one
 list_all-wider : (narrow wide : ℕ → Bool) → ((byte : ℕ) → narrow byte ≡ true → wide byte ≡ true) →
     (bytes : List ℕ) → list_all narrow bytes ≡ true → list_all wide bytes ≡ true
 list_all-wider narrow wide widens [] each = refl
 list_all-wider narrow wide widens (byte ∷ bytes) each =
-    let parts = and_split (narrow byte) _ each in
-    both_hold (wide byte) _ (widens byte parts.0) (list_all-wider narrow wide widens bytes parts.1)
+    let parts = and_split (narrow byte) each in
+    both_hold (wide byte) (widens byte parts.0) (list_all-wider narrow wide widens bytes parts.1)
 
 word_byte_named : (byte : ℕ) → is_word_byte byte ≡ true → is_name_byte byte ≡ true
 unfolding is_word_byte
@@ -37,10 +35,10 @@ quotable_named : (byte : ℕ) → is_quotable byte ≡ true → is_name_byte byt
 unfolding is_quotable
 quotable_named byte is = is
 
-name_text : (allowed : ℕ → Bool) → ((byte : ℕ) → allowed byte ≡ true → is_name_byte byte ≡ true) →
-    (bytes : List ℕ) → IsNameText allowed bytes → is_name bytes ≡ true
-name_text allowed widens bytes is =
-    both_hold _ _ (both_hold _ _ (le-leb _ _ is.some) (le-leb _ _ is.few))
+name_text : {allowed : ℕ → Bool} → ((byte : ℕ) → allowed byte ≡ true → is_name_byte byte ≡ true) →
+    {bytes : List ℕ} → IsNameText allowed bytes → is_name bytes ≡ true
+name_text {allowed} widens {bytes} is =
+    both_hold _ (both_hold _ (le-leb _ _ is.some) (le-leb _ _ is.few))
     (list_all-wider allowed is_name_byte widens bytes is.each)
 
 quoted_length : (name : List ℕ) → length (34 ∷ name ++ 34 ∷ []) ≡ length name + 2
@@ -64,9 +62,9 @@ between text start stop name in_text some is =
 -- a spelled token's text has the form of a name, where it is a word or quoted
 pub spelled_name : (text : List ℕ) (kind : TokenKind) (start stop : ℕ) → stop ≤ length text → start < stop →
     Spells kind (slice_range text start stop) → HasNameText kind (text_between kind text start stop)
-spelled_name text Word start stop in_text some spells named = name_text is_word_byte word_byte_named _ spells
+spelled_name text Word start stop in_text some spells named = name_text word_byte_named spells
 spelled_name text Quoted start stop in_text some spells named =
-    rw (between text start stop spells.0 in_text some spells.2) (name_text is_quotable quotable_named spells.0 spells.1)
+    rw (between text start stop spells.0 in_text some spells.2) (name_text quotable_named spells.1)
 spelled_name text Equals start stop in_text some spells named = absurd (cc)
 spelled_name text Semicolon start stop in_text some spells named = absurd (cc)
 

@@ -1,29 +1,22 @@
 -- Lexemes have one reading.
 use Rattle.std.proofs.Common.{◌≡◌, List, [], ◌∷◌, ◌++◌, Result, Ok, Err, refl, sym, ap, ◌∙◌, subst, append_assoc}
-use Rattle.std.specs.Prelude.{map}
-use Rattle.std.specs.List.{flat_map}
+use Rattle.std.specs.{Prelude.map, List.flat_map}
 use Rattle.std.proofs.lemmas.List.{append-nil}
 use Rattle.fault_words.specs.declared.kind.GateKind.{GateKind}
-use Rattle.galileo_lexer.specs.declared.token.LexPlace.{LexPlace}
-use Rattle.galileo_lexer.specs.declared.token.LexFault.{LexFault}
-use Rattle.galileo_tree.specs.declared.raw.Placed.{Placed}
-use Rattle.galileo_tree.specs.declared.raw.Statement.{Statement}
-use Rattle.galileo_tree.specs.declared.fault.What.{What}
+use Rattle.galileo_lexer.specs.{declared.token.LexPlace.LexPlace, declared.token.LexFault.LexFault}
+use Rattle.galileo_tree.specs.{declared.raw.Placed.Placed, declared.raw.Statement.Statement, declared.fault.What.What}
+use Rattle.galileo_tree.specs.{declared.fault.ParseFault.ParseFault, ReadTree.ReadTree}
 use Rattle.galileo_tree.specs.declared.fault.What.TheVariants as what
-use Rattle.galileo_tree.specs.declared.fault.ParseFault.{ParseFault}
 use Rattle.galileo_tree.specs.declared.fault.ParseFault.TheVariants.{Lex, Expected, NoMemory}
-use Rattle.galileo_tree.specs.ReadTree.{ReadTree}
 use Rattle.galileo_tree.specs.Lexeme.{Lexeme, Stream, placed, place_at}
 use Rattle.galileo_tree.specs.Parsed.{Outside, Defined, GateWord, parsed, parsed_from}
 use Rattle.galileo_tree.specs.Grammar.{lexemes_in, attribute_in, SpellsAll, IsViable, Stands, at_start, behind_top_word}
 use Rattle.galileo_tree.specs.Grammar.{behind_top_name, behind_name, behind_first_word, behind_inputs, behind_equals}
 use Rattle.galileo_tree.specs.Grammar.{behind_value, behind_next_word, Expects, IsFirstFault, at_lexeme, at_end}
 use Rattle.galileo_tree.specs.Grammar.{at_token, IsReading}
-use Rattle.galileo_tree.proofs.LexemeKinds.{said_alone}
-use Rattle.galileo_tree.proofs.Parses.{with_front}
+use Rattle.galileo_tree.proofs.{LexemeKinds.said_alone, Parses.with_front, Sound.sound}
 use Rattle.galileo_tree.proofs.Complete.{top_word_run, top_name_run, name_run, gate_word_run, inputs_state, inputs_run}
 use Rattle.galileo_tree.proofs.Complete.{first_word_run, next_word_run, attributes_run, word_equals_run, all_run}
-use Rattle.galileo_tree.proofs.Sound.{sound}
 
 -- ---- what is expected is one thing
 
@@ -53,55 +46,50 @@ inputs_row : (name : Placed) (word : Lexeme) (kind : GateKind) (inputs : List Le
 inputs_row name word kind [] = refl
 inputs_row name word kind (input ∷ inputs) = refl
 
-stands_row : (open_part : List Lexeme) (wanted : What) → Stands open_part wanted → row_behind open_part ≡ wanted
-stands_row open_part wanted (at_start is wants) = rw (is, wants) refl
-stands_row open_part wanted (behind_top_word word is top wants) =
+stands_row : (open_part : List Lexeme) {wanted : What} → Stands open_part wanted → row_behind open_part ≡ wanted
+stands_row open_part (at_start is wants) = rw (is, wants) refl
+stands_row open_part (behind_top_word word is top wants) =
     rw (is, wants) (ap row_of (top_word_run word [] somewhere top))
-stands_row open_part wanted (behind_top_name word name is top named wants) =
+stands_row open_part (behind_top_name word name is top named wants) =
     rw (is, wants) (ap row_of (top_word_run word (name ∷ []) somewhere top
     ∙ top_name_run word.place name [] somewhere named))
-stands_row open_part wanted (behind_name name is defined wants) =
-    rw (is, wants) (ap row_of (name_run name [] somewhere defined))
-stands_row open_part wanted (behind_first_word name word is defined bare said wants) =
-    rw (is, wants) (ap row_of (name_run name (word ∷ []) somewhere defined
+stands_row open_part (behind_name name is defined wants) = rw (is, wants) (ap row_of (name_run [] somewhere defined))
+stands_row open_part (behind_first_word name word is defined bare said wants) =
+    rw (is, wants) (ap row_of (name_run (word ∷ []) somewhere defined
     ∙ first_word_run (placed name) word [] somewhere bare said))
-stands_row open_part wanted (behind_inputs name word kind inputs is defined said named wants) =
-    rw (is, wants)
-    (ap row_of (name_run name (word ∷ inputs) somewhere defined
+stands_row open_part (behind_inputs name word kind inputs is defined said named wants) =
+    rw (is, wants) (ap row_of (name_run (word ∷ inputs) somewhere defined
     ∙ gate_word_run (placed name) word kind inputs somewhere (said_alone word kind said) said
     ∙ ap (λ l. parsed (GateWord (placed name) word kind) l somewhere) (sym (append-nil inputs))
     ∙ inputs_run (placed name) word kind inputs [] somewhere named)
     ∙ inputs_row (placed name) word kind inputs)
-stands_row open_part wanted (behind_equals name attributes word equals is defined each bare equal wants) =
-    rw (is, wants)
-    (ap row_of (name_run name (flat_map lexemes_in attributes ++ word ∷ equals ∷ []) somewhere defined
+stands_row open_part (behind_equals name attributes word equals is defined each bare equal wants) =
+    rw (is, wants) (ap row_of (name_run (flat_map lexemes_in attributes ++ word ∷ equals ∷ []) somewhere defined
     ∙ attributes_run (placed name) attributes (word ∷ equals ∷ []) somewhere each
     ∙ word_equals_run (placed name) attributes word equals [] somewhere bare equal))
-stands_row open_part wanted (behind_value name first attributes is defined each wants) =
+stands_row open_part (behind_value name first attributes is defined each wants) =
     let all = flat_map lexemes_in (first ∷ attributes) in
-    rw (is, wants)
-    (ap row_of (name_run name all somewhere defined
+    rw (is, wants) (ap row_of (name_run all somewhere defined
     ∙ ap (λ l. parsed (Defined (placed name)) l somewhere) (sym (append-nil all))
     ∙ attributes_run (placed name) (first ∷ attributes) [] somewhere each))
-stands_row open_part wanted (behind_next_word name first attributes word is defined each bare wants) =
-    rw (is, wants)
-    (ap row_of (name_run name (flat_map lexemes_in (first ∷ attributes) ++ word ∷ []) somewhere defined
+stands_row open_part (behind_next_word name first attributes word is defined each bare wants) =
+    rw (is, wants) (ap row_of (name_run (flat_map lexemes_in (first ∷ attributes) ++ word ∷ []) somewhere defined
     ∙ attributes_run (placed name) (first ∷ attributes) (word ∷ []) somewhere each
     ∙ next_word_run (placed name) (map attribute_in (first ∷ attributes)) word [] somewhere bare))
 
-expects_row : (before : List Lexeme) (wanted : What) → Expects before wanted → row_behind before ≡ wanted
-expects_row before wanted expects =
+expects_row : {before : List Lexeme} {wanted : What} → Expects before wanted → row_behind before ≡ wanted
+expects_row expects =
     let statements = expects.0 in
     let whole = expects.1 in
     let open_part = expects.2 in
     ap row_behind expects.3
     ∙ ap row_of (all_run statements whole open_part somewhere expects.4)
     ∙ row-front statements (parsed Outside open_part somewhere)
-    ∙ stands_row open_part wanted expects.5
+    ∙ stands_row open_part expects.5
 
-one_wanted : (before : List Lexeme) (first second : What) → Expects before first → Expects before second
+one_wanted : {before : List Lexeme} {first second : What} → Expects before first → Expects before second
     → first ≡ second
-one_wanted before first second a b = sym (expects_row before first a) ∙ expects_row before second b
+one_wanted a b = sym (expects_row a) ∙ expects_row b
 
 -- ---- the first fault is one
 
@@ -111,109 +99,103 @@ data Meets (front : List Lexeme) (lexeme : Lexeme) (other_front : List Lexeme) (
   earlier : (middle : List Lexeme) → other_front ≡ front ++ lexeme ∷ middle → Meets front lexeme other_front other
   later : (middle : List Lexeme) → front ≡ other_front ++ other ∷ middle → Meets front lexeme other_front other
 
-one_more : (x y : Lexeme) (front : List Lexeme) (lexeme : Lexeme) (other_front : List Lexeme) (other : Lexeme) → x ≡ y →
+one_more : {x y : Lexeme} {front : List Lexeme} {lexeme : Lexeme} {other_front : List Lexeme} {other : Lexeme} → x ≡ y →
     Meets front lexeme other_front other → Meets (x ∷ front) lexeme (y ∷ other_front) other
-one_more x y front lexeme other_front other same (same_place fronts items) =
+one_more {x} {other_front} same (same_place fronts items) =
     same_place (ap (λ l. x ∷ l) fronts ∙ ap (λ z. z ∷ other_front) same) items
-one_more x y front lexeme other_front other same (earlier middle is) =
+one_more {x} {other_front} same (earlier middle is) =
     earlier middle (ap (λ z. z ∷ other_front) (sym same) ∙ ap (λ l. x ∷ l) is)
-one_more x y front lexeme other_front other same (later middle is) =
-    later middle (ap (λ z. z ∷ front) same ∙ ap (λ l. y ∷ l) is)
+one_more {y} {front} same (later middle is) = later middle (ap (λ z. z ∷ front) same ∙ ap (λ l. y ∷ l) is)
 
-meets : (front : List Lexeme) (lexeme : Lexeme) (back other_front : List Lexeme) (other : Lexeme)
+meets : (front : List Lexeme) {lexeme : Lexeme} (back other_front : List Lexeme) {other : Lexeme}
     (other_back : List Lexeme) →
     front ++ lexeme ∷ back ≡ other_front ++ other ∷ other_back → Meets front lexeme other_front other
-meets [] lexeme back [] other other_back same = let heads : lexeme ≡ other = cc in same_place refl heads
-meets [] lexeme back (y ∷ other_front) other other_back same =
+meets [] {lexeme} back [] {other} other_back same = let heads : lexeme ≡ other = cc in same_place refl heads
+meets [] {lexeme} back (y ∷ other_front) other_back same =
     let heads : y ≡ lexeme = cc in earlier other_front (ap (λ z. z ∷ other_front) heads)
-meets (x ∷ front) lexeme back [] other other_back same =
+meets (x ∷ front) back [] {other} other_back same =
     let heads : x ≡ other = cc in later front (ap (λ z. z ∷ front) heads)
-meets (x ∷ front) lexeme back (y ∷ other_front) other other_back same =
+meets (x ∷ front) {lexeme} back (y ∷ other_front) {other} other_back same =
     let heads : x ≡ y = cc in
     let tails : front ++ lexeme ∷ back ≡ other_front ++ other ∷ other_back = cc in
-    one_more x y front lexeme other_front other heads (meets front lexeme back other_front other other_back tails)
+    one_more heads (meets front back other_front other_back tails)
 
 -- a front of a viable list is viable
 viable_front : (front back : List Lexeme) → IsViable (front ++ back) → IsViable front
 viable_front front back viable =
     (back ++ viable.0, viable.1, subst (SpellsAll viable.1) (append_assoc front back viable.0) viable.2)
 
-viable_at : (lexemes front : List Lexeme) (lexeme : Lexeme) (back : List Lexeme) → lexemes ≡ front ++ lexeme ∷ back
+viable_at : {lexemes : List Lexeme} (front : List Lexeme) (lexeme : Lexeme) (back : List Lexeme)
+    → lexemes ≡ front ++ lexeme ∷ back
     → IsViable lexemes → IsViable (front ++ lexeme ∷ [])
-viable_at lexemes front lexeme back is viable =
+viable_at front lexeme back is viable =
     viable_front (front ++ lexeme ∷ []) back (subst IsViable (is ∙ sym (append_assoc front (lexeme ∷ []) back)) viable)
 
 spelled_viable : (lexemes : List Lexeme) (statements : List Statement) → SpellsAll statements lexemes → IsViable lexemes
 spelled_viable lexemes statements spells =
     ([], statements, subst (SpellsAll statements) (sym (append-nil lexemes)) spells)
 
-same_lexeme : (front : List Lexeme) (lexeme : Lexeme) (wanted : What) (other_front : List Lexeme) (other : Lexeme)
-    (other_wanted : What) →
+same_lexeme : {front : List Lexeme} {lexeme : Lexeme} {wanted : What} {other_front : List Lexeme} {other : Lexeme}
+    {other_wanted : What} →
     IsViable front → (IsViable (front ++ lexeme ∷ []) → ⊥) → Expects front wanted →
     IsViable other_front → (IsViable (other_front ++ other ∷ []) → ⊥) → Expects other_front other_wanted →
     Meets front lexeme other_front other → Expected wanted lexeme.place ≡ Expected other_wanted other.place
-same_lexeme front lexeme wanted other_front other other_wanted viable stops expects other_viable other_stops
+same_lexeme {lexeme} {wanted} {other_wanted} viable stops expects other_viable other_stops
     other_expects (same_place fronts items) =
-    let wants : wanted ≡ other_wanted =
-    one_wanted other_front wanted other_wanted (subst (λ l. Expects l wanted) fronts expects) other_expects in
+    let wants : wanted ≡ other_wanted = one_wanted (subst (λ l. Expects l wanted) fronts expects) other_expects in
     ap (λ w. Expected w lexeme.place) wants ∙ ap (λ (l : Lexeme). Expected other_wanted l.place) items
-same_lexeme front lexeme wanted other_front other other_wanted viable stops expects other_viable other_stops
-    other_expects (earlier middle is) =
-    absurd (stops (viable_at other_front front lexeme middle is other_viable))
-same_lexeme front lexeme wanted other_front other other_wanted viable stops expects other_viable other_stops
-    other_expects (later middle is) =
-    absurd (other_stops (viable_at front other_front other middle is viable))
+same_lexeme {front} {lexeme} viable stops expects other_viable other_stops
+    other_expects (earlier middle is) = absurd (stops (viable_at front lexeme middle is other_viable))
+same_lexeme {other_front} {other} viable stops expects other_viable other_stops
+    other_expects (later middle is) = absurd (other_stops (viable_at other_front other middle is viable))
 
-one_fault : (stream : Stream) (first second : ParseFault) → IsFirstFault stream first → IsFirstFault stream second
+one_fault : {stream : Stream} {first second : ParseFault} → IsFirstFault stream first → IsFirstFault stream second
     → first ≡ second
-one_fault stream first second (at_lexeme front lexeme back wanted is viable stops expects fault)
+one_fault (at_lexeme front lexeme back wanted is viable stops expects fault)
     (at_lexeme other_front other other_back other_wanted other_is other_viable other_stops other_expects other_fault) =
     fault
-    ∙ same_lexeme front lexeme wanted other_front other other_wanted viable stops expects other_viable other_stops
-    other_expects
-    (meets front lexeme back other_front other other_back (sym is ∙ other_is))
+    ∙ same_lexeme viable stops expects other_viable other_stops other_expects
+    (meets front back other_front other_back (sym is ∙ other_is))
     ∙ sym other_fault
-one_fault stream first second (at_lexeme front lexeme back wanted is viable stops expects fault)
+one_fault (at_lexeme front lexeme back wanted is viable stops expects fault)
     (at_end place other_wanted ends whole_viable unspelled other_expects other_fault) =
-    absurd (stops (viable_at stream.lexemes front lexeme back is whole_viable))
-one_fault stream first second (at_lexeme front lexeme back wanted is viable stops expects fault)
-    (at_token found ends whole_viable other_fault) =
-    absurd (stops (viable_at stream.lexemes front lexeme back is whole_viable))
-one_fault stream first second (at_end place wanted ends whole_viable unspelled expects fault)
+    absurd (stops (viable_at front lexeme back is whole_viable))
+one_fault (at_lexeme front lexeme back wanted is viable stops expects fault)
+    (at_token found ends whole_viable other_fault) = absurd (stops (viable_at front lexeme back is whole_viable))
+one_fault (at_end place wanted ends whole_viable unspelled expects fault)
     (at_lexeme front lexeme back other_wanted is viable stops other_expects other_fault) =
-    absurd (stops (viable_at stream.lexemes front lexeme back is whole_viable))
-one_fault stream first second (at_end place wanted ends whole_viable unspelled expects fault)
+    absurd (stops (viable_at front lexeme back is whole_viable))
+one_fault (at_end place wanted ends whole_viable unspelled expects fault)
     (at_end other_place other_wanted other_ends other_viable other_unspelled other_expects other_fault) =
-    let wants : wanted ≡ other_wanted = one_wanted stream.lexemes wanted other_wanted expects other_expects in
+    let wants : wanted ≡ other_wanted = one_wanted expects other_expects in
     let places : place ≡ other_place = cc in
     fault ∙ ap (λ w. Expected w (place_at place)) wants ∙ ap (λ p. Expected other_wanted (place_at p)) places
     ∙ sym other_fault
-one_fault stream first second (at_end place wanted ends whole_viable unspelled expects fault)
+one_fault (at_end place wanted ends whole_viable unspelled expects fault)
     (at_token found other_ends other_viable other_fault) = absurd (cc)
-one_fault stream first second (at_token found ends whole_viable fault)
+one_fault (at_token found ends whole_viable fault)
     (at_lexeme front lexeme back wanted is viable stops expects other_fault) =
-    absurd (stops (viable_at stream.lexemes front lexeme back is whole_viable))
-one_fault stream first second (at_token found ends whole_viable fault)
+    absurd (stops (viable_at front lexeme back is whole_viable))
+one_fault (at_token found ends whole_viable fault)
     (at_end place wanted other_ends other_viable unspelled expects other_fault) = absurd (cc)
-one_fault stream first second (at_token found ends whole_viable fault)
+one_fault (at_token found ends whole_viable fault)
     (at_token other_found other_ends other_viable other_fault) =
     let founds : found ≡ other_found = cc in
     fault ∙ ap Lex founds ∙ sym other_fault
 
 -- a text that is spelled has no fault
-spelled_whole : (stream : Stream) (tree : ReadTree) (fault : ParseFault) → IsReading stream (Ok tree)
+spelled_whole : {stream : Stream} (tree : ReadTree) {fault : ParseFault} → IsReading stream (Ok tree)
     → IsFirstFault stream fault → ⊥
-spelled_whole stream tree fault reads (at_lexeme front lexeme back wanted is viable stops expects fault_is) =
-    stops (viable_at stream.lexemes front lexeme back is (spelled_viable stream.lexemes tree.statements reads.0))
-spelled_whole stream tree fault reads (at_end place wanted ends whole_viable unspelled expects fault_is) =
+spelled_whole {stream} tree reads (at_lexeme front lexeme back wanted is viable stops expects fault_is) =
+    stops (viable_at front lexeme back is (spelled_viable stream.lexemes tree.statements reads.0))
+spelled_whole tree reads (at_end place wanted ends whole_viable unspelled expects fault_is) =
     unspelled tree.statements reads.0
-spelled_whole stream tree fault reads (at_token found ends whole_viable fault_is) = let whole = reads.2 in absurd (cc)
+spelled_whole tree reads (at_token found ends whole_viable fault_is) = let whole = reads.2 in absurd (cc)
 
-faulty_read : (stream : Stream) (fault : ParseFault) (read : Result ReadTree ParseFault) → IsFirstFault stream fault
+faulty_read : {stream : Stream} {fault : ParseFault} (read : Result ReadTree ParseFault) → IsFirstFault stream fault
     → IsReading stream read → read ≡ Err fault
-faulty_read stream fault (Ok tree) is reads = absurd (spelled_whole stream tree fault reads is)
-faulty_read stream fault (Err other) is reads =
-    ap (λ f. let r : Result ReadTree ParseFault = Err f in r) (one_fault stream other fault reads is)
+faulty_read (Ok tree) is reads = absurd (spelled_whole tree reads is)
+faulty_read (Err other) is reads = ap (λ f. let r : Result ReadTree ParseFault = Err f in r) (one_fault reads is)
 
 spelled_read : (stream : Stream) (tree : ReadTree) → IsReading stream (Ok tree) → parsed_from Outside stream ≡ Ok tree
 spelled_read stream tree reads =
@@ -230,4 +212,4 @@ spelled_read stream tree reads =
 pub one_way : (stream : Stream) (read : Result ReadTree ParseFault) → IsReading stream read
     → parsed_from Outside stream ≡ read
 one_way stream (Ok tree) reads = spelled_read stream tree reads
-one_way stream (Err fault) reads = faulty_read stream fault (parsed_from Outside stream) reads (sound stream)
+one_way stream (Err fault) reads = faulty_read (parsed_from Outside stream) reads (sound stream)

@@ -3,18 +3,15 @@ use Rattle.std.proofs.Common.{◌≡◌, ℕ, true, List, [], ◌∷◌, ◌++�
 use Rattle.std.proofs.Common.{append_assoc}
 use Rattle.std.proofs.lemmas.List.{append-nil}
 use Rattle.fault_words.specs.declared.place.Place.{Place}
-use Rattle.galileo_lexer.specs.declared.token.LexPlace.{LexPlace}
-use Rattle.galileo_lexer.specs.declared.token.LexFault.{LexFault}
+use Rattle.galileo_lexer.specs.{declared.token.LexPlace.LexPlace, declared.token.LexFault.LexFault}
 use Rattle.galileo_lexer.specs.declared.token.TokenKind.TheVariants.{Quoted, Equals, Semicolon}
-use Rattle.galileo_tree.specs.declared.raw.Statement.{Statement}
-use Rattle.galileo_tree.specs.declared.fault.ParseFault.{ParseFault}
-use Rattle.galileo_tree.specs.declared.fault.ParseFault.TheVariants.{Expected}
+use Rattle.galileo_tree.specs.{declared.raw.Statement.Statement, declared.fault.ParseFault.ParseFault}
+use Rattle.galileo_tree.specs.{declared.fault.ParseFault.TheVariants.Expected, declared.raw.Placed.Placed}
+use Rattle.galileo_tree.specs.{declared.raw.RawAttribute.RawAttribute}
 use Rattle.galileo_tree.specs.Lexeme.{Lexeme, Stream, is_equals, is_semicolon, is_name, is_value, is_bare, placed}
 use Rattle.galileo_tree.specs.Parsed.{State, Outside, TopWord, TopName, Defined, GateWord, Inputs, AttributeWord}
 use Rattle.galileo_tree.specs.Parsed.{AttributeEquals, Attributes, Step, On, Whole, Stop, step, expected, missing}
 use Rattle.galileo_tree.specs.Parsed.{parsed, parsed_from, top_of, gate_of, basic_of, attribute_of}
-use Rattle.galileo_tree.specs.declared.raw.Placed.{Placed}
-use Rattle.galileo_tree.specs.declared.raw.RawAttribute.{RawAttribute}
 use Rattle.galileo_tree.specs.Grammar.{Spells, SpellsAll, IsViable, at_lexeme, at_end, at_token, IsReading}
 use Rattle.galileo_tree.proofs.Parses.{with_front, with_front-push, with_front-none}
 use Rattle.galileo_tree.proofs.Complete.{on_run, whole_run, stop_run, all_run}
@@ -188,10 +185,11 @@ open_end statements whole state had (Err found) spells is runs fails =
     (at_token found refl (front_viable statements whole had spells (completes state had is)) refl)
 
 -- they end where no statement is open
-closed_end : (statements : List Statement) (whole had : List Lexeme) (ending : Ending) → SpellsAll statements whole
+closed_end : (statements : List Statement) (whole : List Lexeme) {had : List Lexeme} (ending : Ending)
+    → SpellsAll statements whole
     → had ≡ [] →
     IsReading (at_stream (whole ++ had ++ []) ending) (with_front statements (parsed Outside [] ending))
-closed_end statements whole had (Ok place) spells is =
+closed_end statements whole {had} (Ok place) spells is =
     let same : whole ++ had ++ [] ≡ whole = append-nil (whole ++ had) ∙ ap (λ l. whole ++ l) is ∙ append-nil whole in (
       subst (SpellsAll (statements ++ [])) (sym same)
           (subst (λ s. SpellsAll s whole) (sym (append-nil statements)) spells),
@@ -199,13 +197,13 @@ closed_end statements whole had (Ok place) spells is =
       refl,
       refl,
     )
-closed_end statements whole had (Err found) spells is =
+closed_end statements whole {had} (Err found) spells is =
     let same : whole ++ had ++ [] ≡ whole = append-nil (whole ++ had) ∙ ap (λ l. whole ++ l) is ∙ append-nil whole in
     subst (λ l. IsReading (at_stream l (Err found)) (with_front statements (parsed Outside [] (Err found)))) (sym same)
     (at_token found refl ([], statements, subst (SpellsAll statements) (sym (append-nil whole)) spells) refl)
 
 end_claim : (ending : Ending) → Claim [] ending
-end_claim ending statements whole Outside had spells is runs = closed_end statements whole had ending spells is
+end_claim ending statements whole Outside had spells is runs = closed_end statements whole ending spells is
 end_claim ending statements whole (TopWord place) had spells is runs =
     open_end statements whole (TopWord place) had ending spells is runs (λ e. refl)
 end_claim ending statements whole (TopName place name) had spells is runs =

@@ -1,13 +1,11 @@
 -- What the lexer's answer says of the tokens that are left.
 use Rattle.std.proofs.Common.{◌≡◌, ℕ, List, [], ◌∷◌, drop, Some, None, Result, Ok, Err, refl, sym, ap, ◌∙◌}
-use Rattle.galileo_lexer.specs.declared.token.Token.{Token}
-use Rattle.galileo_lexer.specs.declared.token.LexPlace.{LexPlace}
-use Rattle.galileo_lexer.specs.declared.token.LexFault.{LexFault}
+use Rattle.galileo_lexer.specs.{declared.token.Token.Token, declared.token.LexPlace.LexPlace}
+use Rattle.galileo_lexer.specs.{declared.token.LexFault.LexFault}
 use Rattle.std.specs.Prelude.{map}
 use Rattle.galileo_lexer.specs.Lexed.{Lexed, next_of, after}
-use Rattle.galileo_tree.specs.declared.fault.ParseFault.TheVariants.{Lex}
-use Rattle.galileo_tree.specs.Lexeme.{Stream, lexeme_of}
-use Rattle.galileo_tree.specs.Reads.{TakesFirst, Nexts}
+use Rattle.galileo_tree.specs.{declared.fault.ParseFault.TheVariants.Lex, Lexeme.Stream, Lexeme.lexeme_of}
+use Rattle.galileo_tree.specs.{Reads.TakesFirst, Reads.Nexts}
 
 answered_token : (tokens : List Token) (ending : Result LexPlace LexFault) (token : Token) →
     next_of tokens ending ≡ Ok (Some token) → tokens ≡ token ∷ drop 1 tokens
@@ -32,19 +30,21 @@ abbrev pub stream_of : List ℕ → Lexed → Stream
 stream_of text read = record { lexemes = map (lexeme_of text) read.tokens; ending = read.ending }
 
 -- what the lexer answers, as lexemes
-pub nexts_token : (text : List ℕ) (old new : Lexed) (token : Token) → Ok (Some token) ≡ next_of old.tokens old.ending
+pub nexts_token : (text : List ℕ) (old : Lexed) {new : Lexed} (token : Token)
+    → Ok (Some token) ≡ next_of old.tokens old.ending
     → new ≡ after old →
     TakesFirst (stream_of text old) (lexeme_of text token) (stream_of text new)
-nexts_token text old new token answer rest = record {
+nexts_token text old token answer rest = record {
   first =
       ap (map (lexeme_of text)) (answered_token old.tokens old.ending token (sym answer))
       ∙ ap (λ (l : Lexed). lexeme_of text token ∷ map (lexeme_of text) l.tokens) (sym rest);
   same_ending = ap (λ (l : Lexed). l.ending) rest;
 }
 
-pub nexts_none : (text : List ℕ) (old new : Lexed) → Ok None ≡ next_of old.tokens old.ending → new ≡ after old →
+pub nexts_none : (text : List ℕ) (old : Lexed) {new : Lexed} → Ok None ≡ next_of old.tokens old.ending → new ≡ after old
+    →
     Nexts (stream_of text old) (Ok None) (stream_of text new)
-nexts_none text old new answer rest =
+nexts_none text old answer rest =
     let ended = answered_none old.tokens old.ending (sym answer) in (
       ended.0,
       record { none_left = ap (map (lexeme_of text)) ended.1; ending = ended.2 },

@@ -1,9 +1,7 @@
 -- The words that say what a gate does.
 use Rattle.std.specs.Prelude.{ℕ, ◌&&◌, if◌then◌else◌, List, length, take, drop}
 use Rattle.std.specs.Prelude.{nat_lt, codes, Option, Some, None}
-use Rattle.std.specs.List.{prefix_len}
-use Rattle.std.specs.Char.{is_ascii_digit}
-use Rattle.std.specs.Str.{str_eq_ignore_ascii_case}
+use Rattle.std.specs.{List.prefix_len, Char.is_ascii_digit, Str.str_eq_ignore_ascii_case}
 use Rattle.fault_words.specs.declared.kind.GateKind.{GateKind}
 use Rattle.fault_words.specs.declared.kind.GateKind.TheVariants.{And, Or, Votes, Pand, Por, Seq, Fdep, Csp, Wsp, Hsp}
 use Rattle.decimal_numerals.specs.Numeral.{are_digits, number_from}

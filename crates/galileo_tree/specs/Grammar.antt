@@ -3,23 +3,17 @@
 use Rattle.std.specs.Prelude.{◌≡◌, true, false, List, [], ◌∷◌, ◌++◌, map, Result, Ok, Err, Some, None}
 use Rattle.std.specs.List.{list_all, flat_map}
 use Rattle.fault_words.specs.declared.kind.GateKind.{GateKind}
-use Rattle.galileo_lexer.specs.declared.token.LexPlace.{LexPlace}
-use Rattle.galileo_lexer.specs.declared.token.LexFault.{LexFault}
-use Rattle.galileo_tree.specs.declared.raw.RawAttribute.{RawAttribute}
-use Rattle.galileo_tree.specs.declared.raw.RawTop.{RawTop}
-use Rattle.galileo_tree.specs.declared.raw.RawGate.{RawGate}
-use Rattle.galileo_tree.specs.declared.raw.RawBasic.{RawBasic}
-use Rattle.galileo_tree.specs.declared.raw.Statement.{Statement}
+use Rattle.galileo_lexer.specs.{declared.token.LexPlace.LexPlace, declared.token.LexFault.LexFault}
+use Rattle.galileo_tree.specs.{declared.raw.RawAttribute.RawAttribute, declared.raw.RawTop.RawTop}
+use Rattle.galileo_tree.specs.{declared.raw.RawGate.RawGate, declared.raw.RawBasic.RawBasic}
+use Rattle.galileo_tree.specs.{declared.raw.Statement.Statement, declared.fault.What.What}
+use Rattle.galileo_tree.specs.{declared.fault.ParseFault.ParseFault, declared.fault.ParseFault.TheVariants.Lex}
+use Rattle.galileo_tree.specs.{declared.fault.ParseFault.TheVariants.Expected, ReadTree.ReadTree, GateWord.kind_said}
+use Rattle.galileo_tree.specs.{Parsed.attribute_of}
 use Rattle.galileo_tree.specs.declared.raw.Statement.TheVariants.{Top, Gate, Basic}
-use Rattle.galileo_tree.specs.declared.fault.What.{What}
 use Rattle.galileo_tree.specs.declared.fault.What.TheVariants as what
-use Rattle.galileo_tree.specs.declared.fault.ParseFault.{ParseFault}
-use Rattle.galileo_tree.specs.declared.fault.ParseFault.TheVariants.{Lex, Expected}
-use Rattle.galileo_tree.specs.ReadTree.{ReadTree}
 use Rattle.galileo_tree.specs.Lexeme.{Lexeme, Stream, place_at, is_equals, is_semicolon, is_bare, is_name, is_value}
 use Rattle.galileo_tree.specs.Lexeme.{is_top_word, placed}
-use Rattle.galileo_tree.specs.GateWord.{kind_said}
-use Rattle.galileo_tree.specs.Parsed.{attribute_of}
 
 -- ---- statements and their spellings
 

@@ -1,13 +1,10 @@
 -- A token with its text: what the grammar sees of it.
 use Rattle.std.specs.Prelude.{◌≡◌, ℕ, ◌+◌, ◌-◌, Bool, true, false, ◌&&◌, ◌||◌, List, slice_range, codes, Result}
 use Rattle.std.specs.Str.{str_eq_ignore_ascii_case}
-use Rattle.fault_words.specs.declared.place.Place.{Place}
-use Rattle.fault_words.specs.Name.{is_bare_name, is_name as is_name_text}
-use Rattle.galileo_lexer.specs.declared.token.Token.{Token}
-use Rattle.galileo_lexer.specs.declared.token.TokenKind.{TokenKind}
+use Rattle.fault_words.specs.{declared.place.Place.Place, Name.is_bare_name, Name.is_name as is_name_text}
+use Rattle.galileo_lexer.specs.{declared.token.Token.Token, declared.token.TokenKind.TokenKind}
+use Rattle.galileo_lexer.specs.{declared.token.LexPlace.LexPlace, declared.token.LexFault.LexFault}
 use Rattle.galileo_lexer.specs.declared.token.TokenKind.TheVariants.{Word, Quoted, Equals, Semicolon}
-use Rattle.galileo_lexer.specs.declared.token.LexPlace.{LexPlace}
-use Rattle.galileo_lexer.specs.declared.token.LexFault.{LexFault}
 use Rattle.galileo_tree.specs.declared.raw.Placed.{Placed}
 
 -- a token's kind, the text of its word or between its quotes, and its place

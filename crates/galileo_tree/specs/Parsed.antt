@@ -1,23 +1,16 @@
 -- What lexemes give, read one after the other: statements, or the first fault. The states are the rows of what
 -- the grammar accepts next.
 use Rattle.std.specs.Prelude.{ℕ, if◌then◌else◌, List, [], ◌∷◌, ◌++◌, map, Result, Ok, Err, Option, Some, None}
-use Rattle.fault_words.specs.declared.kind.GateKind.{GateKind}
-use Rattle.fault_words.specs.declared.place.Place.{Place}
-use Rattle.galileo_lexer.specs.declared.token.LexPlace.{LexPlace}
-use Rattle.galileo_lexer.specs.declared.token.LexFault.{LexFault}
-use Rattle.galileo_lexer.specs.Lexed.{tokens_of}
-use Rattle.galileo_tree.specs.declared.raw.Placed.{Placed}
-use Rattle.galileo_tree.specs.declared.raw.RawAttribute.{RawAttribute}
-use Rattle.galileo_tree.specs.declared.raw.Statement.{Statement}
+use Rattle.fault_words.specs.{declared.kind.GateKind.GateKind, declared.place.Place.Place}
+use Rattle.galileo_lexer.specs.{declared.token.LexPlace.LexPlace, declared.token.LexFault.LexFault, Lexed.tokens_of}
+use Rattle.galileo_tree.specs.{declared.raw.Placed.Placed, declared.raw.RawAttribute.RawAttribute}
+use Rattle.galileo_tree.specs.{declared.raw.Statement.Statement, declared.fault.What.What}
+use Rattle.galileo_tree.specs.{declared.fault.ParseFault.ParseFault, declared.fault.ParseFault.TheVariants.Lex}
+use Rattle.galileo_tree.specs.{declared.fault.ParseFault.TheVariants.Expected, ReadTree.ReadTree, GateWord.kind_said}
 use Rattle.galileo_tree.specs.declared.raw.Statement.TheVariants.{Top, Gate, Basic}
-use Rattle.galileo_tree.specs.declared.fault.What.{What}
 use Rattle.galileo_tree.specs.declared.fault.What.TheVariants as what
-use Rattle.galileo_tree.specs.declared.fault.ParseFault.{ParseFault}
-use Rattle.galileo_tree.specs.declared.fault.ParseFault.TheVariants.{Lex, Expected}
-use Rattle.galileo_tree.specs.ReadTree.{ReadTree}
 use Rattle.galileo_tree.specs.Lexeme.{Lexeme, Stream, lexeme_of, place_at, is_equals, is_semicolon, is_bare, is_name}
 use Rattle.galileo_tree.specs.Lexeme.{is_value, is_top_word, placed}
-use Rattle.galileo_tree.specs.GateWord.{kind_said}
 
 -- what stands before, of the open statement
 pub data State : Type 0 where

@@ -1,12 +1,9 @@
 -- What is read of a text that is in the grammar.
 use Rattle.std.specs.Prelude.{◌≡◌, ◌≤◌, true, List, All}
-use Rattle.fault_words.specs.declared.kind.GateKind.{GateKind}
-use Rattle.fault_words.specs.declared.kind.GateKind.TheVariants.{Votes}
-use Rattle.fault_words.specs.declared.place.Place.{Place}
-use Rattle.fault_words.specs.Name.{is_bare_name}
-use Rattle.galileo_tree.specs.declared.raw.Statement.{Statement}
+use Rattle.fault_words.specs.{declared.kind.GateKind.GateKind, declared.kind.GateKind.TheVariants.Votes}
+use Rattle.fault_words.specs.{declared.place.Place.Place, Name.is_bare_name}
+use Rattle.galileo_tree.specs.{declared.raw.Statement.Statement, declared.raw.RawAttribute.RawAttribute}
 use Rattle.galileo_tree.specs.declared.raw.Statement.TheVariants.{Top, Gate, Basic}
-use Rattle.galileo_tree.specs.declared.raw.RawAttribute.{RawAttribute}
 
 -- the statements in their order, and the place behind the last byte
 pub record ReadTree : Type 0 where

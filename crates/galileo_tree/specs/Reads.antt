@@ -1,16 +1,11 @@
 -- What a step of the reader gives is what the lexemes give from there on.
 use Rattle.std.specs.Prelude.{◌≡◌, ℕ, ◌<◌, List, [], ◌∷◌, ◌++◌, length, Result, Ok, Err, Option, Some, None}
-use Rattle.galileo_lexer.specs.declared.token.LexPlace.{LexPlace}
-use Rattle.galileo_lexer.specs.declared.token.LexFault.{LexFault}
-use Rattle.galileo_tree.specs.declared.raw.Statement.{Statement}
-use Rattle.galileo_tree.specs.declared.raw.Placed.{Placed}
-use Rattle.galileo_tree.specs.declared.raw.RawAttribute.{RawAttribute}
-use Rattle.galileo_tree.specs.declared.raw.RawGate.{RawGate}
-use Rattle.galileo_tree.specs.declared.raw.Statement.TheVariants.{Gate}
-use Rattle.galileo_tree.specs.declared.fault.What.{What}
-use Rattle.galileo_tree.specs.declared.fault.ParseFault.{ParseFault}
+use Rattle.galileo_lexer.specs.{declared.token.LexPlace.LexPlace, declared.token.LexFault.LexFault}
+use Rattle.galileo_tree.specs.{declared.raw.Statement.Statement, declared.raw.Placed.Placed}
+use Rattle.galileo_tree.specs.{declared.raw.RawAttribute.RawAttribute, declared.raw.RawGate.RawGate}
+use Rattle.galileo_tree.specs.{declared.raw.Statement.TheVariants.Gate, declared.fault.What.What}
+use Rattle.galileo_tree.specs.{declared.fault.ParseFault.ParseFault, ReadTree.ReadTree}
 use Rattle.galileo_tree.specs.declared.fault.ParseFault.TheVariants.{Lex, Expected, NoMemory}
-use Rattle.galileo_tree.specs.ReadTree.{ReadTree}
 use Rattle.galileo_tree.specs.Lexeme.{Lexeme, Stream, place_at, placed}
 use Rattle.fault_words.specs.declared.place.Place.{Place}
 use Rattle.galileo_tree.specs.Parsed.{State, Outside, Inputs, AttributeEquals, Attributes, basic_of, missing}

@@ -12,13 +12,13 @@ use Rattle.graph_cycles.specs.Walk.{mark_at}
 use Rattle.graph_cycles.proofs.Left.{shorter_by_one, at_before, Rises-less, IsOn-less}
 use Rattle.graph_cycles.proofs.Cycles.{IsClosing, open_top, stays, cycles-leads, leads-cycles}
 
-module _ (graph : List (List ℕ)) (stages : List Stage) (explored unclosed pieces path : List ℕ) (marks : List Bool)
-    (t : ℕ)
-    (stages' : List Stage) (marks' : List Bool)
+module _ {graph : List (List ℕ)} {stages : List Stage} {explored unclosed pieces path : List ℕ} {marks : List Bool}
+    {t : ℕ}
+    {stages' : List Stage} {marks' : List Bool}
     (h : IsClosing graph stages explored unclosed pieces path marks t)
     (c : Closes (drop t unclosed) (piece_cycles graph unclosed t) stages stages' marks marks') where
   pub top_open : t < length unclosed
-  top_open = open_top graph stages explored unclosed pieces path marks t h
+  top_open = open_top h
 
   -- the position in the piece
   at_tail : (i : ℕ) → t ≤ i → slice_index (drop t unclosed) (i - t) ≡ slice_index unclosed i
@@ -119,8 +119,7 @@ module _ (graph : List (List ℕ)) (stages : List Stage) (explored unclosed piec
   goes_closed x y now goes = elim (was_closed x (stage_at stages x) refl now) [
     | inl done ↦ closed_stays y (h.sound.closed x y done goes)
     | inr (i, from, l, is) ↦
-        closed_or_open y (stays graph stages explored unclosed pieces path marks t h i y from l
-        (subst (λ k. Goes graph k y) (sym is) goes))
+        closed_or_open y (stays h i y from l (subst (λ k. Goes graph k y) (sym is) goes))
   ]
 
   marks_exact : (x : ℕ) → stage_at stages' x ≡ Closed → IsTrue (mark_at marks' x) ↔ Leads graph x x
@@ -131,8 +130,8 @@ module _ (graph : List (List ℕ)) (stages : List Stage) (explored unclosed piec
         subst (λ k. IsTrue (mark_at marks' k) ↔ Leads graph k k) is
         (subst (λ m. IsTrue m ↔ Leads graph (slice_index unclosed i) (slice_index unclosed i))
         (sym (closes_mark i from l)) (
-          cycles-leads graph stages explored unclosed pieces path marks t h i from l,
-          leads-cycles graph stages explored unclosed pieces path marks t h i from l,
+          cycles-leads h i from l,
+          leads-cycles h i from l,
         ))
   ]
 
@@ -204,7 +203,7 @@ module _ (graph : List (List ℕ)) (stages : List Stage) (explored unclosed piec
     left_done = λ i l.
         let below : i < t = omega (arith, length_less) in
         elim (h.sound.left_done i (omega (arith, top_open))) [
-          | inl on ↦ inl (IsOn-less path t i h.top (λ same. absurd (omega arith)) on)
+          | inl on ↦ inl (IsOn-less path h.top (λ same. absurd (omega arith)) on)
           | inr full ↦ inr (subst (λ k. length (successors graph k) ≤ slice_index explored k) (sym (at_kept i below))
               full)
         ];
@@ -213,8 +212,7 @@ module _ (graph : List (List ℕ)) (stages : List Stage) (explored unclosed piec
         let earlier : slice_index pieces k < slice_index pieces (length pieces - 1) =
         h.sound.pieces_rise k (length pieces - 1) below (omega (arith, h.root.0)) in
         subst (IsOn (take (length path - 1) path)) (sym (at_before pieces k below))
-        (IsOn-less path t (slice_index pieces k) h.top (λ same. absurd (omega (arith, h.root.1, earlier)))
-        (h.sound.roots k (omega arith)));
+        (IsOn-less path h.top (λ same. absurd (omega (arith, h.root.1, earlier))) (h.sound.roots k (omega arith)));
     first = λ some.
         let at_first : (0 < length pieces) × (slice_index pieces 0 ≡ 0) = h.sound.first (omega (arith, top_open)) in
         let more : 0 < length pieces - 1 = elim (cases_lt 0 (length pieces - 1)) [

@@ -9,8 +9,7 @@ use Rattle.graph_cycles.specs.Graph.Leads.{edge, way}
 use Rattle.graph_cycles.specs.declared.walk.Stage.{Stage}
 use Rattle.graph_cycles.specs.declared.walk.Stage.TheVariants.{Open, Closed}
 use Rattle.graph_cycles.specs.Walk.{IsSound, IsTop, Reaches, seen_of, stage_at}
-use Rattle.graph_cycles.proofs.Ways.{top_most}
-use Rattle.graph_cycles.proofs.Surveys.{Leads_then}
+use Rattle.graph_cycles.proofs.{Ways.top_most, Surveys.Leads_then}
 
 -- the state at which the piece that begins at the end of the path is closed
 pub record IsClosing (graph : List (List ℕ)) (stages : List Stage) (explored unclosed pieces path : List ℕ)
@@ -20,8 +19,8 @@ pub record IsClosing (graph : List (List ℕ)) (stages : List Stage) (explored u
   pub full : length (successors graph (slice_index unclosed t)) ≤ slice_index explored (slice_index unclosed t)
   pub root : IsTop pieces t
 
-module _ (graph : List (List ℕ)) (stages : List Stage) (explored unclosed pieces path : List ℕ) (marks : List Bool)
-    (t : ℕ)
+module _ {graph : List (List ℕ)} {stages : List Stage} {explored unclosed pieces path : List ℕ} {marks : List Bool}
+    {t : ℕ}
     (h : IsClosing graph stages explored unclosed pieces path marks t) where
   pub open_top : t < length unclosed
   open_top = omega (arith, h.sound.path_open (length path - 1) (omega (arith, h.top.0)), h.top.1)
@@ -34,7 +33,7 @@ module _ (graph : List (List ℕ)) (stages : List Stage) (explored unclosed piec
         ≤ slice_index explored (slice_index unclosed k)) (sym same) h.full
     | inr other ↦ elim (h.sound.left_done i l) [
       | inl on ↦
-          let before : i ≤ t = top_most path t i h.sound.path_rises h.top.0 h.top.1 on in
+          let before : i ≤ t = top_most path h.sound.path_rises h.top.0 h.top.1 on in
           let same : i ≡ t = omega arith in
           absurd (other same)
       | inr full ↦ full
@@ -68,7 +67,7 @@ module _ (graph : List (List ℕ)) (stages : List Stage) (explored unclosed piec
   mutual_reach i j from l from' l' =
       h.sound.together i j l l' (λ c lc _.
       let begins : slice_index pieces c ≤ t =
-      top_most pieces t (slice_index pieces c) h.sound.pieces_rise h.root.0 h.root.1 (c, lc, refl) in
+      top_most pieces {i = slice_index pieces c} h.sound.pieces_rise h.root.0 h.root.1 (c, lc, refl) in
       omega arith)
 
   leads_between : (i j : ℕ) → t ≤ i → i < length unclosed → t ≤ j → j < length unclosed → i ≢ j

@@ -3,8 +3,7 @@ use Rattle.std.proofs.Common.{◌≡◌, ◌≢◌, ℕ, ◌+◌, ◌<◌, ◌�
 use Rattle.std.proofs.Common.{ap, ◌∙◌, subst, inl, inr, arith}
 use Rattle.std.specs.Prelude.{slice_index, slice_set, ◌==◌, ◌||◌}
 use Rattle.std.proofs.lemmas.List.{take_more, length-set, get_or-set_same, get_or-set_other}
-use Rattle.std.proofs.lemmas.List.Folds.{list_any-append}
-use Rattle.std.proofs.lemmas.Bool.{cases_eq}
+use Rattle.std.proofs.{lemmas.List.Folds.list_any-append, lemmas.Bool.cases_eq}
 use Rattle.graph_cycles.specs.Graph.{has, successors}
 use Rattle.graph_cycles.specs.declared.walk.Stage.{Stage}
 use Rattle.graph_cycles.specs.declared.walk.Stage.TheVariants.{New, Open}
@@ -21,9 +20,9 @@ has-take_more xs i y l h =
       | inr other ↦ inl (grind (arith, more, h, other))
     ]
 
-pub IsSound-explored : (graph : List (List ℕ)) (stages : List Stage) (explored unclosed pieces path : List ℕ)
-    (marks : List Bool)
-    (t : ℕ)
+pub IsSound-explored : {graph : List (List ℕ)} {stages : List Stage} {explored unclosed pieces path : List ℕ}
+    {marks : List Bool}
+    {t : ℕ}
     → IsSound graph stages explored unclosed pieces path marks
     → IsOn path t
     → slice_index explored (slice_index unclosed t) < length (successors graph (slice_index unclosed t))
@@ -31,7 +30,7 @@ pub IsSound-explored : (graph : List (List ℕ)) (stages : List Stage) (explored
     (slice_index explored (slice_index unclosed t)))
     → IsSound graph stages (slice_set explored (slice_index unclosed t)
     (slice_index explored (slice_index unclosed t) + 1)) unclosed pieces path marks
-IsSound-explored graph stages explored unclosed pieces path marks t s on more next = record {
+IsSound-explored {graph} {stages} {explored} {unclosed} {pieces} {path} {t} s on more next = record {
   stages_all = s.stages_all;
   explored_all = length-set explored node (e + 1) ∙ s.explored_all;
   marks_all = s.marks_all;

@@ -4,8 +4,7 @@ use Rattle.std.proofs.Common.{arith}
 use Rattle.std.specs.Prelude.{slice_index}
 use Rattle.std.proofs.lemmas.List.{get_or-take, length-take-le}
 use Rattle.std.proofs.lemmas.Bool.{cases_lt, cases_eq}
-use Rattle.graph_cycles.specs.Graph.{successors}
-use Rattle.graph_cycles.specs.declared.walk.Stage.{Stage}
+use Rattle.graph_cycles.specs.{Graph.successors, declared.walk.Stage.Stage}
 use Rattle.graph_cycles.specs.Walk.{IsSound, IsOn, IsTop, Rises}
 
 -- a list without its last number
@@ -22,8 +21,8 @@ module _ (xs : List ℕ) where
       omega (arith, at_before p (omega arith), at_before q below, rises p q less (omega arith))
 
   -- a place that is not the last one stays
-  pub IsOn-less : (t i : ℕ) → IsTop xs t → i ≢ t → IsOn xs i → IsOn (take (length xs - 1) xs) i
-  IsOn-less t i top other (p, l, is) =
+  pub IsOn-less : {t i : ℕ} → IsTop xs t → i ≢ t → IsOn xs i → IsOn (take (length xs - 1) xs) i
+  IsOn-less top other (p, l, is) =
       elim (cases_lt p (length xs - 1)) [
         | inl before ↦ (p, omega (arith, shorter_by_one), at_before p before ∙ is)
         | inr last ↦
@@ -31,15 +30,15 @@ module _ (xs : List ℕ) where
             absurd (other (sym is ∙ (ap (slice_index xs) place ∙ top.1)))
       ]
 
-pub IsSound-left : (graph : List (List ℕ)) (stages : List Stage) (explored unclosed pieces path : List ℕ)
-    (marks : List Bool)
-    (t : ℕ)
+pub IsSound-left : {graph : List (List ℕ)} {stages : List Stage} {explored unclosed pieces path : List ℕ}
+    {marks : List Bool}
+    {t : ℕ}
     → IsSound graph stages explored unclosed pieces path marks
     → IsTop path t
     → length (successors graph (slice_index unclosed t)) ≤ slice_index explored (slice_index unclosed t)
     → ((c : ℕ) → c < length pieces → slice_index pieces c ≢ t)
     → IsSound graph stages explored unclosed pieces (take (length path - 1) path) marks
-IsSound-left graph stages explored unclosed pieces path marks t s top full no_root = record {
+IsSound-left {graph} {explored} {unclosed} {path} {t} s top full no_root = record {
   stages_all = s.stages_all;
   explored_all = s.explored_all;
   marks_all = s.marks_all;
@@ -54,9 +53,9 @@ IsSound-left graph stages explored unclosed pieces path marks t s top full no_ro
   left_done = λ i l. elim (cases_eq i t) [
     | inl same ↦ inr (subst (λ k. length (successors graph (slice_index unclosed k))
         ≤ slice_index explored (slice_index unclosed k)) (sym same) full)
-    | inr other ↦ elim (s.left_done i l) [ inl on ↦ inl (IsOn-less path t i top other on) | inr done ↦ inr done ]
+    | inr other ↦ elim (s.left_done i l) [ inl on ↦ inl (IsOn-less path top other on) | inr done ↦ inr done ]
   ];
-  roots = λ c l. IsOn-less path t (slice_index pieces c) top (no_root c l) (s.roots c l);
+  roots = λ c l. IsOn-less path top (no_root c l) (s.roots c l);
   first = s.first;
   path_open = λ p l.
       let below : p < length path - 1 = omega (arith, shorter_by_one path) in

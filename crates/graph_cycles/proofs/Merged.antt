@@ -2,10 +2,8 @@
 use Rattle.std.proofs.Common.{◌≡◌, ℕ, ◌-◌, ◌<◌, ◌≤◌, Bool, List, length, take, get_or, sym, ap, ◌∙◌, subst, inl, inr}
 use Rattle.std.proofs.Common.{arith}
 use Rattle.std.specs.Prelude.{slice_index}
-use Rattle.std.proofs.lemmas.List.{get_or-take}
-use Rattle.std.proofs.lemmas.Bool.{cases_lt}
-use Rattle.graph_cycles.specs.Graph.{Goes}
-use Rattle.graph_cycles.specs.declared.walk.Stage.{Stage}
+use Rattle.std.proofs.{lemmas.List.get_or-take, lemmas.Bool.cases_lt}
+use Rattle.graph_cycles.specs.{Graph.Goes, declared.walk.Stage.Stage}
 use Rattle.graph_cycles.specs.Walk.{IsSound, IsKnown, IsOn, IsTop, Within, Reaches}
 use Rattle.graph_cycles.proofs.Ways.{Reaches_then, Reaches-edge, some_above_or_none, top_most}
 
@@ -49,14 +47,14 @@ module _ (old new : List ℕ) (at : ℕ) (h : Keeps old new at) where
         | inr gone ↦ absurd (omega (arith, h.dropped d gone below))
       ]
 
-pub IsSound-merged : (graph : List (List ℕ)) (stages : List Stage) (explored unclosed pieces path : List ℕ)
-    (marks : List Bool)
-    (t at : ℕ) (fewer : List ℕ)
+pub IsSound-merged : {graph : List (List ℕ)} {stages : List Stage} {explored unclosed pieces path : List ℕ}
+    {marks : List Bool}
+    {t : ℕ} (at : ℕ) (fewer : List ℕ)
     → IsSound graph stages explored unclosed pieces path marks
     → IsTop path t → at < length unclosed → Goes graph (slice_index unclosed t) (slice_index unclosed at)
     → Keeps pieces fewer at
     → IsSound graph stages explored unclosed fewer path marks
-IsSound-merged graph stages explored unclosed pieces path marks t at fewer s top met goes h = record {
+IsSound-merged {graph} {stages} {unclosed} {pieces} {path} {t} at fewer s top met goes h = record {
   stages_all = s.stages_all;
   explored_all = s.explored_all;
   marks_all = s.marks_all;
@@ -71,8 +69,7 @@ IsSound-merged graph stages explored unclosed pieces path marks t at fewer s top
     | inr none ↦
         let to_top : Reaches graph (slice_index unclosed i) (slice_index unclosed t) =
         s.together i t li open_top (λ c l _. all_before c l) in
-        Reaches_then (slice_index unclosed i) (slice_index unclosed at) (slice_index unclosed j)
-        (inr (Reaches-edge (slice_index unclosed i) (slice_index unclosed t) (slice_index unclosed at) to_top goes))
+        Reaches_then (inr (Reaches-edge (slice_index unclosed at) to_top goes))
         (s.together at j met lj (within_all pieces fewer at h j none))
   ];
   known = λ i y l seen. known_front pieces fewer at h stages i y (s.known i y l seen);
@@ -94,7 +91,7 @@ IsSound-merged graph stages explored unclosed pieces path marks t at fewer s top
     open_top = omega (arith, s.path_open (length path - 1) (omega (arith, top.0)), top.1)
 
     all_before : (c : ℕ) → c < length pieces → slice_index pieces c ≤ t
-    all_before c l = top_most path t (slice_index pieces c) s.path_rises top.0 top.1 (s.roots c l)
+    all_before c l = top_most path s.path_rises top.0 top.1 (s.roots c l)
 
     first_kept : (0 < length pieces) × (slice_index pieces 0 ≡ 0) → (0 < length fewer) × (slice_index fewer 0 ≡ 0)
     first_kept (some, zero_at) =

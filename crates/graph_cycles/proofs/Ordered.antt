@@ -12,11 +12,11 @@ use Rattle.graph_cycles.specs.Walk.{AreOrdered, stage_at}
 use Rattle.graph_cycles.proofs.Seal.{has-at}
 
 -- where the same nodes are closed, the order serves
-pub AreOrdered-same : (graph : List (List ℕ)) (stages stages' : List Stage) (order : List ℕ)
+pub AreOrdered-same : {graph : List (List ℕ)} {stages : List Stage} (stages' : List Stage) {order : List ℕ}
     → ((x : ℕ) → stage_at stages x ≡ Closed → stage_at stages' x ≡ Closed)
     → ((x : ℕ) → stage_at stages' x ≡ Closed → stage_at stages x ≡ Closed)
     → AreOrdered graph stages order → AreOrdered graph stages' order
-AreOrdered-same graph stages stages' order stays was h = record {
+AreOrdered-same stages' {order} stays was h = record {
   closed = λ k l. stays (slice_index order k) (h.closed k l);
   all = λ x now. h.all x (was x now);
   after_successors = h.after_successors;
@@ -24,7 +24,7 @@ AreOrdered-same graph stages stages' order stays was h = record {
 
 -- the nodes of a piece are closed: of a piece with a node that lies on no cycle it is the only one, and all its
 -- successors were closed before
-module _ (graph : List (List ℕ)) (stages stages' : List Stage) (order piece : List ℕ)
+module _ {graph : List (List ℕ)} {stages : List Stage} (stages' : List Stage) {order : List ℕ} (piece : List ℕ)
     (stays : (x : ℕ) → stage_at stages x ≡ Closed → stage_at stages' x ≡ Closed)
     (closes : (k : ℕ) → k < length piece → stage_at stages' (slice_index piece k) ≡ Closed)
     (was : (x : ℕ) → stage_at stages' x ≡ Closed → (stage_at stages x ≡ Closed) ⊎ Contains piece x)
@@ -101,10 +101,10 @@ closed_within stages x done = elim (cases_lt x (length stages)) [
 ]
 
 -- once all nodes are closed the order has every node
-pub whole_order : (graph : List (List ℕ)) (stages : List Stage) (order : List ℕ) → length stages ≡ length graph
+pub whole_order : {graph : List (List ℕ)} {stages : List Stage} {order : List ℕ} → length stages ≡ length graph
     → ((x : ℕ) → x < length graph → stage_at stages x ≡ Closed) → AreOrdered graph stages order
     → IsReverseTopological graph order
-whole_order graph stages order same closed h = record {
+whole_order {graph} {stages} {order} same closed h = record {
   nodes = All-from_get_or (λ x. x < length graph) order 0
       (λ k l. omega (arith, closed_within stages (slice_index order k) (h.closed k l)));
   all = λ x l. h.all x (closed x l);

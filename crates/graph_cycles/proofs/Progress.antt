@@ -3,51 +3,43 @@ use Rattle.std.proofs.Common.{◌≡◌, ◌≢◌, ℕ, ◌+◌, ◌-◌, ◌<�
 use Rattle.std.proofs.Common.{refl, sym, ap, ◌∙◌, subst, inl, inr, arith, length-append, length-drop}
 use Rattle.std.specs.Prelude.{slice_index, slice_set, nat_lt}
 use Rattle.std.proofs.lemmas.Bool.{cases_lt, cases_Bool, or_left, or_right, lt-ltb}
-use Rattle.std.proofs.lemmas.List.{get_or-drop}
-use Rattle.std.proofs.lemmas.List.Elements.{Contains-get_or}
+use Rattle.std.proofs.{lemmas.List.get_or-drop, lemmas.List.Elements.Contains-get_or}
 use Rattle.graph_cycles.specs.Graph.{IsGraph, Goes, Leads, has, successors}
-use Rattle.graph_cycles.specs.declared.walk.Stage.{Stage}
+use Rattle.graph_cycles.specs.{declared.walk.Stage.Stage, declared.walk.Walk.Walk}
 use Rattle.graph_cycles.specs.declared.walk.Stage.TheVariants.{New, Open, Closed}
-use Rattle.graph_cycles.specs.declared.walk.Walk.{Walk}
 use Rattle.graph_cycles.specs.Walk.{IsSound, IsKnown, IsOn, IsTop, HasRanks, AreOrdered, piece_cycles, stage_at}
 use Rattle.graph_cycles.specs.Walk.{mark_at, stage_work, work_left}
 use Rattle.graph_cycles.specs.State.{Stands, Steps, Counts, Follows, Shuts, explored_at, edges_at}
-use Rattle.graph_cycles.proofs.Ways.{top_most}
-use Rattle.graph_cycles.proofs.Explored.{IsSound-explored}
-use Rattle.graph_cycles.proofs.Left.{IsSound-left, shorter_by_one}
+use Rattle.graph_cycles.proofs.{Ways.top_most, Explored.IsSound-explored, Left.IsSound-left, Left.shorter_by_one}
+use Rattle.graph_cycles.proofs.{Ranked.HasRanks-one, Ranked.HasRanks-marked, Ordered.AreOrdered-more}
+use Rattle.graph_cycles.proofs.{Work.work-explored, Work.work-same, Steps.Followed, Steps.Followed-Follows, Seal.has-at}
 use Rattle.graph_cycles.proofs.Cycles.{IsClosing, cycles-leads, stays}
 use Rattle.graph_cycles.proofs.Closed.{IsSound-closed, was_closed, was_new, stays_mark, stays_stage, not_closed}
 use Rattle.graph_cycles.proofs.Closed.{not_new, closes_mark, closes_stage, closed_stays, open_stays}
-use Rattle.graph_cycles.proofs.Ranked.{HasRanks-one, HasRanks-marked}
-use Rattle.graph_cycles.proofs.Ordered.{AreOrdered-more}
-use Rattle.graph_cycles.proofs.Work.{work-explored, work-same}
-use Rattle.graph_cycles.proofs.Steps.{Followed, Followed-Follows}
-use Rattle.graph_cycles.proofs.Seal.{has-at}
 
 -- an edge of the node at the end of the path is followed
-pub followed_edge : (graph : List (List ℕ)) (old mid : Walk) (t x : ℕ)
+pub followed_edge : {graph : List (List ℕ)} {old mid : Walk} {t x : ℕ}
     → IsGraph graph → Stands graph old → IsTop old.path.items t
     → explored_at old t < length (edges_at graph old t)
     → x ≡ slice_index (edges_at graph old t) (explored_at old t)
     → Follows old mid x
     → Followed graph old mid t x
-followed_edge graph old mid t x whole s top more is f =
-    Followed-Follows graph old mid t x whole s top
-    (subst (λ y. Goes graph (slice_index old.unclosed.items t) y) (sym is)
+followed_edge {graph} {old} {t} whole s top more is f =
+    Followed-Follows graph whole s top (subst (λ y. Goes graph (slice_index old.unclosed.items t) y) (sym is)
     (has-at (edges_at graph old t) (explored_at old t) more)) f
 
-pub top_open : (graph : List (List ℕ)) (w : Walk) (t : ℕ) → Stands graph w → IsOn w.path.items t
+pub top_open : (graph : List (List ℕ)) {w : Walk} {t : ℕ} → Stands graph w → IsOn w.path.items t
     → t < length w.unclosed.items
-top_open graph w t s on = omega (arith, s.sound.path_open on.0 on.1, on.2)
+top_open graph s on = omega (arith, s.sound.path_open on.0 on.1, on.2)
 
 -- and counted
-pub Steps-explored : (graph : List (List ℕ)) (old mid new : Walk) (t x : ℕ)
+pub Steps-explored : {graph : List (List ℕ)} {old mid new : Walk} {t x : ℕ}
     → explored_at old t < length (edges_at graph old t)
     → x ≡ slice_index (edges_at graph old t) (explored_at old t)
     → Followed graph old mid t x
     → Counts mid new t
     → Steps graph old new
-Steps-explored graph old mid new t x more is d c = record {
+Steps-explored {graph} {old} {mid} {new} {t} {x} more is d c = record {
   stands = record {
     sound =
         rw (
@@ -79,7 +71,7 @@ Steps-explored graph old mid new t x more is d c = record {
 }
   where
     node_in : slice_index mid.unclosed.items t < length graph
-    node_in = d.stands.sound.nodes t (top_open graph mid t d.stands d.on)
+    node_in = d.stands.sound.nodes t (top_open graph d.stands d.on)
 
     same_explored : explored_at mid t ≡ explored_at old t
     same_explored =
@@ -102,17 +94,15 @@ Steps-explored graph old mid new t x more is d c = record {
 
     sound : IsSound graph mid.stages.items (slice_set mid.explored.items (slice_index mid.unclosed.items t)
         (explored_at mid t + 1)) mid.unclosed.items mid.pieces.items mid.path.items mid.on_cycle.items
-    sound =
-        IsSound-explored graph mid.stages.items mid.explored.items mid.unclosed.items mid.pieces.items mid.path.items
-        mid.on_cycle.items t d.stands.sound d.on more_now known
+    sound = IsSound-explored d.stands.sound d.on more_now known
 
 -- no piece begins at the end of the path where the last one doesn't
-no_root : (graph : List (List ℕ)) (old : Walk) (t : ℕ) → Stands graph old → IsTop old.path.items t
+no_root : (graph : List (List ℕ)) {old : Walk} {t : ℕ} → Stands graph old → IsTop old.path.items t
     → ¬ IsTop old.pieces.items t
     → (c : ℕ) → c < length old.pieces.items → slice_index old.pieces.items c ≢ t
-no_root graph old t s top other c l same =
+no_root graph {old} {t} s top other c l same =
     let last_on : slice_index old.pieces.items (length old.pieces.items - 1) ≤ t =
-    top_most old.path.items t (slice_index old.pieces.items (length old.pieces.items - 1)) s.sound.path_rises top.0
+    top_most old.path.items s.sound.path_rises top.0
     top.1 (s.sound.roots (length old.pieces.items - 1) (omega arith)) in
     elim (cases_lt c (length old.pieces.items - 1)) [
       | inl before ↦ absurd (omega (arith, s.sound.pieces_rise c (length old.pieces.items - 1) before (omega arith)))
@@ -122,14 +112,13 @@ no_root graph old t s top other c l same =
     ]
 
 -- the node at the end of the path is left
-pub Steps-left : (graph : List (List ℕ)) (old new : Walk) (t : ℕ)
-    → Stands graph old → IsTop old.path.items t
+pub Steps-left : {graph : List (List ℕ)} {old new : Walk} {t : ℕ} → Stands graph old → IsTop old.path.items t
     → length (edges_at graph old t) ≤ explored_at old t
     → ¬ IsTop old.pieces.items t
     → new ≡ record old { path = new.path }
     → new.path.items ≡ take (length old.path.items - 1) old.path.items
     → Steps graph old new
-Steps-left graph old new t s top full other same is = record {
+Steps-left {graph} {old} {new} s top full other same is = record {
   stands = record {
     sound =
         rw (
@@ -139,9 +128,7 @@ Steps-left graph old new t s top full other same is = record {
           ap (λ w. w.pieces.items) same,
           is,
           ap (λ w. w.on_cycle.items) same,
-        )
-        (IsSound-left graph old.stages.items old.explored.items old.unclosed.items old.pieces.items old.path.items
-        old.on_cycle.items t s.sound top full (no_root graph old t s top other));
+        ) (IsSound-left s.sound top full (no_root graph s top other));
     ranks =
         rw (
           ap (λ w. w.stages.items) same,
@@ -159,7 +146,7 @@ Steps-left graph old new t s top full other same is = record {
       omega (arith, ap length is, shorter_by_one old.path.items, top.0);
 }
 
-module _ (graph : List (List ℕ)) (old new : Walk) (t : ℕ)
+module _ (graph : List (List ℕ)) {old : Walk} (new : Walk) {t : ℕ}
     (whole : IsGraph graph) (s : Stands graph old) (top : IsTop old.path.items t)
     (full : length (edges_at graph old t) ≤ explored_at old t)
     (root : IsTop old.pieces.items t)
@@ -188,18 +175,13 @@ module _ (graph : List (List ℕ)) (old new : Walk) (t : ℕ)
       → (stage_at old.stages.items x ≡ Closed) ⊎ ((i : ℕ) × (t ≤ i) × (i < length old.unclosed.items)
       × (slice_index old.unclosed.items i ≡ x))
   where_closed x now =
-      was_closed graph old.stages.items old.explored.items old.unclosed.items old.pieces.items old.path.items
-      old.on_cycle.items t new.stages.items new.on_cycle.items closing h.sealed x (stage_at old.stages.items x) refl
-      now
+      was_closed closing h.sealed x (stage_at old.stages.items x) refl now
 
   -- the mark of a node that was closed before stays
   mark_stays : (x : ℕ) → stage_at old.stages.items x ≡ Closed
       → mark_at new.on_cycle.items x ≡ mark_at old.on_cycle.items x
   mark_stays x done =
-      stays_mark graph old.stages.items old.explored.items old.unclosed.items old.pieces.items old.path.items
-      old.on_cycle.items t new.stages.items new.on_cycle.items closing h.sealed x
-      (not_closed graph old.stages.items old.explored.items old.unclosed.items old.pieces.items old.path.items
-      old.on_cycle.items t new.stages.items new.on_cycle.items closing h.sealed x done)
+      stays_mark closing h.sealed x (not_closed closing h.sealed x done)
 
   was_unmarked : piece_cycles graph old.unclosed.items t ≡ true → (x : ℕ) → stage_at new.stages.items x ≡ Closed
       → mark_at new.on_cycle.items x ≡ false
@@ -208,9 +190,7 @@ module _ (graph : List (List ℕ)) (old new : Walk) (t : ℕ)
     | inl done ↦ (done, sym (mark_stays x done) ∙ unmarked)
     | inr (i, from, l, is) ↦
         let marked : mark_at new.on_cycle.items (slice_index old.unclosed.items i)
-        ≡ piece_cycles graph old.unclosed.items t =
-        closes_mark graph old.stages.items old.explored.items old.unclosed.items old.pieces.items old.path.items
-        old.on_cycle.items t new.stages.items new.on_cycle.items closing h.sealed i from l in
+        ≡ piece_cycles graph old.unclosed.items t = closes_mark closing h.sealed i from l in
         let never : true ≡ false = sym cycles ∙ (sym marked ∙ (ap (mark_at new.on_cycle.items) is ∙ unmarked)) in
         absurd cc
   ]
@@ -218,9 +198,7 @@ module _ (graph : List (List ℕ)) (old new : Walk) (t : ℕ)
   ranks_marked : piece_cycles graph old.unclosed.items t ≡ true
       → HasRanks graph new.stages.items new.ranks.items new.on_cycle.items (length new.closed.items)
   ranks_marked cycles =
-      rw (h.unranked cycles)
-      (HasRanks-marked graph old.stages.items new.stages.items old.ranks.items old.on_cycle.items new.on_cycle.items
-      (length old.closed.items) (length new.closed.items)
+      rw (h.unranked cycles) (HasRanks-marked new.stages.items new.on_cycle.items (length new.closed.items)
       (was_unmarked cycles) (omega (arith, more_closed)) s.ranks)
 
   alone : piece_cycles graph old.unclosed.items t ≡ false → length old.unclosed.items - t ≤ 1
@@ -252,9 +230,7 @@ module _ (graph : List (List ℕ)) (old new : Walk) (t : ℕ)
   ranks_one : piece_cycles graph old.unclosed.items t ≡ false
       → HasRanks graph new.stages.items new.ranks.items new.on_cycle.items (length new.closed.items)
   ranks_one cycles =
-      rw (h.ranked cycles)
-      (HasRanks-one graph old.stages.items new.stages.items old.ranks.items old.on_cycle.items new.on_cycle.items
-      (length old.closed.items) (length new.closed.items) node
+      rw (h.ranked cycles) (HasRanks-one new.stages.items new.on_cycle.items (length new.closed.items) node
       (omega (arith, s.ranks.ranks_all, s.sound.nodes t open_top))
       (λ done. let is_open : stage_at old.stages.items node ≡ Open t = s.sound.opened t open_top in cc)
       s.sound.closed (was_other cycles) (loopless cycles) more_closed s.ranks)
@@ -290,8 +266,7 @@ module _ (graph : List (List ℕ)) (old new : Walk) (t : ℕ)
   goes_closed : piece_cycles graph old.unclosed.items t ≡ false → (y : ℕ) → Goes graph node y
       → stage_at old.stages.items y ≡ Closed
   goes_closed cycles y goes =
-      elim (stays graph old.stages.items old.explored.items old.unclosed.items old.pieces.items old.path.items
-      old.on_cycle.items t closing t y (omega arith) open_top goes) [
+      elim (stays closing t y (omega arith) open_top goes) [
         | inl done ↦ done
         | inr (j, from, is_open) ↦
             let at_j : (j < length old.unclosed.items) × (slice_index old.unclosed.items j ≡ y) =
@@ -308,8 +283,7 @@ module _ (graph : List (List ℕ)) (old new : Walk) (t : ℕ)
       elim (cases_Bool (piece_cycles graph old.unclosed.items t)) [
         | inl cycles ↦
             absurd (no_cycle (subst (λ n. Leads graph n n) (sym (at_piece k))
-            (cycles-leads graph old.stages.items old.explored.items old.unclosed.items old.pieces.items old.path.items
-            old.on_cycle.items t closing (t + k) (omega arith) below cycles)))
+            (cycles-leads closing (t + k) (omega arith) below cycles)))
         | inr cycles ↦
             let first : k ≡ 0 = omega (arith, alone cycles) in
             let place : t + k ≡ t = omega arith in
@@ -319,51 +293,36 @@ module _ (graph : List (List ℕ)) (old new : Walk) (t : ℕ)
 
   has_order : AreOrdered graph new.stages.items new.closed.items
   has_order =
-      rw h.closed
-      (AreOrdered-more graph old.stages.items new.stages.items old.closed.items piece
-      (closed_stays graph old.stages.items old.explored.items old.unclosed.items old.pieces.items old.path.items
-      old.on_cycle.items t new.stages.items new.on_cycle.items closing h.sealed)
+      rw h.closed (AreOrdered-more new.stages.items piece (closed_stays closing h.sealed)
       h.sealed.inside_stage was_or_in stands_alone s.order)
 
   same_work : (x : ℕ) (stage : Stage) → stage_at old.stages.items x ≡ stage
       → stage_work (stage_at new.stages.items x) ≡ stage_work (stage_at old.stages.items x)
   same_work x New is =
-      ap stage_work (stays_stage graph old.stages.items old.explored.items old.unclosed.items old.pieces.items
-      old.path.items old.on_cycle.items t new.stages.items new.on_cycle.items closing h.sealed x
-      (not_new graph old.stages.items old.explored.items old.unclosed.items old.pieces.items old.path.items
-      old.on_cycle.items t new.stages.items new.on_cycle.items closing h.sealed x is))
+      ap stage_work (stays_stage closing h.sealed x (not_new closing h.sealed x is))
   same_work x Closed is =
-      let now : stage_at new.stages.items x ≡ Closed =
-      closed_stays graph old.stages.items old.explored.items old.unclosed.items old.pieces.items old.path.items
-      old.on_cycle.items t new.stages.items new.on_cycle.items closing h.sealed x is in
+      let now : stage_at new.stages.items x ≡ Closed = closed_stays closing h.sealed x is in
       ap stage_work now ∙ sym (ap stage_work is)
   same_work x (Open i) is = elim (cases_lt i t) [
     | inl before ↦
-        let now : stage_at new.stages.items x ≡ Open i =
-        open_stays graph old.stages.items old.explored.items old.unclosed.items old.pieces.items old.path.items
-        old.on_cycle.items t new.stages.items new.on_cycle.items closing h.sealed x i is before in
+        let now : stage_at new.stages.items x ≡ Open i = open_stays closing h.sealed x i is before in
         ap stage_work now ∙ sym (ap stage_work is)
     | inr from ↦
         let at_i : (i < length old.unclosed.items) × (slice_index old.unclosed.items i ≡ x) = s.sound.placed x i is in
         let done : stage_at new.stages.items x ≡ Closed = sym (ap (stage_at new.stages.items) at_i.1)
-        ∙ closes_stage graph old.stages.items old.explored.items old.unclosed.items old.pieces.items old.path.items
-        old.on_cycle.items t new.stages.items new.on_cycle.items closing h.sealed i from at_i.0 in
+        ∙ closes_stage closing h.sealed i from at_i.0 in
         ap stage_work done ∙ sym (ap stage_work is)
   ]
 
   pub Steps-closed : Steps graph old new
   Steps-closed = record {
     stands = record {
-      sound = rw (h.explored, h.unclosed, h.pieces, h.path)
-          (IsSound-closed graph old.stages.items old.explored.items old.unclosed.items old.pieces.items old.path.items
-          old.on_cycle.items t new.stages.items new.on_cycle.items closing h.sealed);
+      sound = rw (h.explored, h.unclosed, h.pieces, h.path) (IsSound-closed closing h.sealed);
       ranks = has_ranks;
       order = has_order;
     };
     met =
-        λ y now. was_new graph old.stages.items old.explored.items old.unclosed.items old.pieces.items old.path.items
-        old.on_cycle.items t new.stages.items new.on_cycle.items closing h.sealed y (stage_at old.stages.items y)
-        refl now;
+        λ y now. was_new closing h.sealed y (stage_at old.stages.items y) refl now;
     fewer =
         let paths : length new.path.items ≡ length old.path.items - 1 =
         ap length h.path ∙ shorter_by_one old.path.items in

@@ -5,8 +5,7 @@ use Rattle.std.specs.Prelude.{slice_index, slice_set, ◌==◌}
 use Rattle.std.proofs.lemmas.List.{length-set, get_or-set_same, get_or-set_other}
 use Rattle.std.proofs.lemmas.Bool.{cases_eq, or_left, or_right, eq-eqb}
 use Rattle.graph_cycles.specs.Graph.{Goes, has, successors, rank_over}
-use Rattle.graph_cycles.specs.declared.walk.Stage.{Stage}
-use Rattle.graph_cycles.specs.declared.walk.Stage.TheVariants.{Closed}
+use Rattle.graph_cycles.specs.{declared.walk.Stage.Stage, declared.walk.Stage.TheVariants.Closed}
 use Rattle.graph_cycles.specs.Walk.{HasRanks, stage_at, mark_at}
 
 -- ranks that agree on these nodes give one rank above them
@@ -26,32 +25,35 @@ rank_over-bounded ranks [] count h = omega arith
 rank_over-bounded ranks (node ∷ nodes) count h = omega (arith, h node, rank_over-bounded ranks nodes count h)
 
 -- where no more nodes are closed, the ranks serve
-pub HasRanks-fewer : (graph : List (List ℕ)) (stages stages' : List Stage) (ranks : List ℕ) (marks : List Bool)
-    (count : ℕ)
+pub HasRanks-fewer : {graph : List (List ℕ)} {stages : List Stage} (stages' : List Stage) {ranks : List ℕ}
+    {marks : List Bool}
+    {count : ℕ}
     → ((x : ℕ) → stage_at stages' x ≡ Closed → stage_at stages x ≡ Closed)
     → HasRanks graph stages ranks marks count → HasRanks graph stages' ranks marks count
-HasRanks-fewer graph stages stages' ranks marks count was h = record {
+HasRanks-fewer stages' was h = record {
   ranks_all = h.ranks_all;
   ranked = λ x now unmarked. h.ranked x (was x now) unmarked;
   bounded = h.bounded;
 }
 
 -- a closed node that is marked needs no rank
-pub HasRanks-marked : (graph : List (List ℕ)) (stages stages' : List Stage) (ranks : List ℕ) (marks marks' : List Bool)
-    (count count' : ℕ)
+pub HasRanks-marked : {graph : List (List ℕ)} {stages : List Stage} (stages' : List Stage) {ranks : List ℕ}
+    {marks : List Bool} (marks' : List Bool)
+    {count : ℕ} (count' : ℕ)
     → ((x : ℕ) → stage_at stages' x ≡ Closed → mark_at marks' x ≡ false
     → (stage_at stages x ≡ Closed) × (mark_at marks x ≡ false))
     → count ≤ count'
     → HasRanks graph stages ranks marks count → HasRanks graph stages' ranks marks' count'
-HasRanks-marked graph stages stages' ranks marks marks' count count' was more h = record {
+HasRanks-marked stages' marks' count' was more h = record {
   ranks_all = h.ranks_all;
   ranked = λ x now unmarked. let before = was x now unmarked in h.ranked x before.0 before.1;
   bounded = λ x. omega (arith, h.bounded x);
 }
 
 -- one node more is closed, with its rank
-pub HasRanks-one : (graph : List (List ℕ)) (stages stages' : List Stage) (ranks : List ℕ) (marks marks' : List Bool)
-    (count count' v : ℕ)
+pub HasRanks-one : {graph : List (List ℕ)} {stages : List Stage} (stages' : List Stage) {ranks : List ℕ}
+    {marks : List Bool} (marks' : List Bool)
+    {count : ℕ} (count' v : ℕ)
     → v < length ranks
     → stage_at stages v ≢ Closed
     → ((x y : ℕ) → stage_at stages x ≡ Closed → Goes graph x y → stage_at stages y ≡ Closed)
@@ -61,7 +63,8 @@ pub HasRanks-one : (graph : List (List ℕ)) (stages stages' : List Stage) (rank
     → count < count'
     → HasRanks graph stages ranks marks count
     → HasRanks graph stages' (slice_set ranks v (rank_over ranks (successors graph v))) marks' count'
-HasRanks-one graph stages stages' ranks marks marks' count count' v in_ranks opened closed was loopless more h =
+HasRanks-one {graph} {stages} stages' {ranks} {marks} marks' {count} count' v in_ranks opened closed was loopless more
+    h =
     record {
       ranks_all = length-set ranks v (rank_over ranks (successors graph v)) ∙ h.ranks_all;
       ranked = λ x now unmarked. elim (cases_eq x v) [

@@ -15,12 +15,12 @@ has-at [] i l = absurd (omega arith)
 has-at (x ∷ xs) zero l = or_left (x == x) (has xs x) (eq-eqb x x refl)
 has-at (x ∷ xs) (suc i) l = or_right (x == slice_index xs i) (has xs (slice_index xs i)) (has-at xs i (omega arith))
 
-pub Closes-more : (nodes : List ℕ) (i : ℕ) (mark : Bool) (stages stages' : List Stage) (marks marks' : List Bool)
+pub Closes-more : (nodes : List ℕ) (i : ℕ) {mark : Bool} {stages stages' : List Stage} {marks marks' : List Bool}
     → i < length nodes → slice_index nodes i < length stages' → slice_index nodes i < length marks'
     → Closes (take i nodes) mark stages stages' marks marks'
     → Closes (take (i + 1) nodes) mark stages (slice_set stages' (slice_index nodes i) Closed) marks
     (slice_set marks' (slice_index nodes i) mark)
-Closes-more nodes i mark stages stages' marks marks' l in_stages in_marks h = record {
+Closes-more nodes i {mark} {stages'} {marks'} l in_stages in_marks h = record {
   stages_same = length-set stages' v Closed ∙ h.stages_same;
   marks_same = length-set marks' v mark ∙ h.marks_same;
   inside_stage = λ k below. elim (cases_eq (slice_index nodes k) v) [
@@ -72,8 +72,8 @@ Closes-more nodes i mark stages stages' marks marks' l in_stages in_marks h = re
     ]
 
 -- the same, of lists and marks that are equal to these
-pub Closes-as : (nodes nodes' : List ℕ) (mark mark' : Bool) (a a' b b' : List Stage) (m m' n n' : List Bool)
+pub Closes-as : {nodes nodes' : List ℕ} {mark mark' : Bool} {a a' b b' : List Stage} {m m' n n' : List Bool}
     → nodes ≡ nodes' → mark ≡ mark' → a ≡ a' → b ≡ b' → m ≡ m' → n ≡ n'
     → Closes nodes' mark' a' b' m' n' → Closes nodes mark a b m n
-Closes-as nodes nodes' mark mark' a a' b b' m m' n n' e1 e2 e3 e4 e5 e6 h =
+Closes-as e1 e2 e3 e4 e5 e6 h =
     rw (e1, e2, e3, e4, e5, e6) h

@@ -3,18 +3,13 @@ use Rattle.std.proofs.Common.{◌≡◌, ◌≢◌, ℕ, ◌+◌, ◌-◌, ◌<�
 use Rattle.std.specs.Prelude.{slice_index, slice_set}
 use Rattle.std.proofs.lemmas.List.{length_push, get_or-set_same, get_or-set_other}
 use Rattle.std.proofs.lemmas.Bool.{cases_eq}
-use Rattle.graph_cycles.specs.Graph.{IsGraph, Goes}
-use Rattle.graph_cycles.specs.declared.walk.Stage.{Stage}
+use Rattle.graph_cycles.specs.{Graph.IsGraph, Graph.Goes, declared.walk.Stage.Stage, declared.walk.Walk.Walk}
 use Rattle.graph_cycles.specs.declared.walk.Stage.TheVariants.{New, Open, Closed}
-use Rattle.graph_cycles.specs.declared.walk.Walk.{Walk}
 use Rattle.graph_cycles.specs.Walk.{IsKnown, IsOn, IsTop, stage_at, work_left}
 use Rattle.graph_cycles.specs.State.{Stands, StaysMet, Meets, Joins, Follows, steps_left}
-use Rattle.graph_cycles.proofs.Ways.{top_most}
-use Rattle.graph_cycles.proofs.Merged.{IsSound-merged, Keeps as KeepsPieces}
+use Rattle.graph_cycles.proofs.{Ways.top_most, Merged.IsSound-merged, Merged.Keeps as KeepsPieces}
+use Rattle.graph_cycles.proofs.{Ranked.HasRanks-fewer, Ordered.AreOrdered-same, Work.work-visited}
 use Rattle.graph_cycles.proofs.Visited.{IsSound-visited, IsOn-more, at_old}
-use Rattle.graph_cycles.proofs.Ranked.{HasRanks-fewer}
-use Rattle.graph_cycles.proofs.Ordered.{AreOrdered-same}
-use Rattle.graph_cycles.proofs.Work.{work-visited}
 
 -- an edge from the node at a position of the path is followed
 pub record Followed (graph : List (List ℕ)) (old new : Walk) (t x : ℕ) : Type 0 where
@@ -26,17 +21,17 @@ pub record Followed (graph : List (List ℕ)) (old new : Walk) (t x : ℕ) : Typ
   pub met : StaysMet old new
   pub steps : steps_left graph new ≤ steps_left graph old
 
-open_top : (graph : List (List ℕ)) (w : Walk) (t : ℕ) → Stands graph w → IsTop w.path.items t
+open_top : (graph : List (List ℕ)) {w : Walk} {t : ℕ} → Stands graph w → IsTop w.path.items t
     → t < length w.unclosed.items
-open_top graph w t s top = omega (arith, s.sound.path_open (length w.path.items - 1) (omega (arith, top.0)), top.1)
+open_top graph {w} s top = omega (arith, s.sound.path_open (length w.path.items - 1) (omega (arith, top.0)), top.1)
 
-IsOn-top : (path : List ℕ) (t : ℕ) → IsTop path t → IsOn path t
-IsOn-top path t top = (length path - 1, omega (arith, top.0), top.1)
+IsOn-top : (path : List ℕ) {t : ℕ} → IsTop path t → IsOn path t
+IsOn-top path top = (length path - 1, omega (arith, top.0), top.1)
 
 -- a stage other than the one that x was given was there before
-not_given : (stages : List Stage) (x n y : ℕ) (stage : Stage) → Open n ≢ stage → x < length stages
+not_given : (stages : List Stage) (x n y : ℕ) {stage : Stage} → Open n ≢ stage → x < length stages
     → stage_at (slice_set stages x (Open n)) y ≡ stage → stage_at stages y ≡ stage
-not_given stages x n y stage differs l is = elim (cases_eq y x) [
+not_given stages x n y differs l is = elim (cases_eq y x) [
   | inl same ↦
       let at_x : stage_at (slice_set stages x (Open n)) y ≡ Open n =
       ap (stage_at (slice_set stages x (Open n))) same ∙ get_or-set_same stages x (Open n) New l in
@@ -51,23 +46,19 @@ pub record Met (graph : List (List ℕ)) (old new : Walk) (x : ℕ) : Type 0 whe
   pub met : StaysMet old new
   pub steps : steps_left graph new + 1 ≡ steps_left graph old
 
-pub Met-Meets : (graph : List (List ℕ)) (old new : Walk) (x : ℕ)
+pub Met-Meets : (graph : List (List ℕ)) {old new : Walk} {x : ℕ}
     → Stands graph old → x < length graph → stage_at old.stages.items x ≡ New
     → ((t : ℕ) → IsTop old.path.items t → Goes graph (slice_index old.unclosed.items t) x)
     → Meets old new x → Met graph old new x
-Met-Meets graph old new x s in_graph is_new ahead m = record {
+Met-Meets graph {old} {new} {x} s in_graph is_new ahead m = record {
   stands = record {
     sound = rw (m.stages, m.keeps.explored, m.unclosed, m.pieces, m.path, m.keeps.on_cycle)
-        (IsSound-visited graph old.stages.items old.explored.items old.unclosed.items old.pieces.items old.path.items
-        old.on_cycle.items x s.sound is_new in_graph ahead);
-    ranks = rw (m.keeps.ranks, m.keeps.on_cycle, m.keeps.closed)
-        (HasRanks-fewer graph old.stages.items new.stages.items old.ranks.items old.on_cycle.items
-        (length old.closed.items) was_closed s.ranks);
-    order = rw m.keeps.closed
-        (AreOrdered-same graph old.stages.items new.stages.items old.closed.items stays_closed was_closed s.order);
+        (IsSound-visited x s.sound is_new in_graph ahead);
+    ranks = rw (m.keeps.ranks, m.keeps.on_cycle, m.keeps.closed) (HasRanks-fewer new.stages.items was_closed s.ranks);
+    order = rw m.keeps.closed (AreOrdered-same new.stages.items stays_closed was_closed s.order);
   };
   is_open = ap (λ ss. stage_at ss x) m.stages ∙ get_or-set_same old.stages.items x (Open n) New x_in;
-  met = λ y is. not_given old.stages.items x n y New (λ e. cc) x_in (subst (λ ss. stage_at ss y ≡ New) m.stages is);
+  met = λ y is. not_given old.stages.items x n y (λ e. cc) x_in (subst (λ ss. stage_at ss y ≡ New) m.stages is);
   steps =
       let paths : length new.path.items ≡ length old.path.items + 1 = ap length m.path ∙ length_push old.path.items n in
       let works : work_left graph new.explored.items new.stages.items + 2
@@ -84,8 +75,7 @@ Met-Meets graph old new x s in_graph is_new ahead m = record {
     x_in = omega (arith, s.sound.stages_all, in_graph)
 
     was_closed : (y : ℕ) → stage_at new.stages.items y ≡ Closed → stage_at old.stages.items y ≡ Closed
-    was_closed y is =
-        not_given old.stages.items x n y Closed (λ e. cc) x_in (subst (λ ss. stage_at ss y ≡ Closed) m.stages is)
+    was_closed y is = not_given old.stages.items x n y (λ e. cc) x_in (subst (λ ss. stage_at ss y ≡ Closed) m.stages is)
 
     stays_closed : (y : ℕ) → stage_at old.stages.items y ≡ Closed → stage_at new.stages.items y ≡ Closed
     stays_closed y is = subst (λ ss. stage_at ss y ≡ Closed) (sym m.stages) (elim (cases_eq y x) [
@@ -95,25 +85,24 @@ Met-Meets graph old new x s in_graph is_new ahead m = record {
       | inr other ↦ get_or-set_other old.stages.items x y (Open n) New other ∙ is
     ])
 
-module _ (graph : List (List ℕ)) (old new : Walk) (t x : ℕ)
+module _ (graph : List (List ℕ)) {old new : Walk} {t x : ℕ}
     (whole : IsGraph graph) (s : Stands graph old) (top : IsTop old.path.items t)
     (goes : Goes graph (slice_index old.unclosed.items t) x)
     (f : Follows old new x) where
   followed_new : stage_at old.stages.items x ≡ New → Followed graph old new t x
   followed_new is =
       let m : Meets old new x = f.to_new is in
-      let l : t < length old.unclosed.items = open_top graph old t s top in
+      let l : t < length old.unclosed.items = open_top graph s top in
       let below : (c : ℕ) → c < length old.pieces.items → slice_index old.pieces.items c ≤ t =
-      λ c lc. top_most old.path.items t (slice_index old.pieces.items c) s.sound.path_rises top.0 top.1
-      (s.sound.roots c lc) in
-      let done : Met graph old new x = Met-Meets graph old new x s (whole (slice_index old.unclosed.items t) x goes) is
+      λ c lc. top_most old.path.items s.sound.path_rises top.0 top.1 (s.sound.roots c lc) in
+      let done : Met graph old new x = Met-Meets graph s (whole (slice_index old.unclosed.items t) x goes) is
       (λ t' top'. subst (λ k. Goes graph (slice_index old.unclosed.items k) x) (sym top.1 ∙ top'.1) goes) m in
       record {
         stands = done.stands;
         known = inr (length old.unclosed.items, done.is_open, λ c lc le. omega (arith, l));
         on =
-            subst (λ p. IsOn p t) (sym m.path) (IsOn-more old.path.items (length old.unclosed.items) t
-            (IsOn-top old.path.items t top));
+            subst (λ p. IsOn p t) (sym m.path) (IsOn-more old.path.items (length old.unclosed.items)
+            (IsOn-top old.path.items top));
         node = ap (λ us. slice_index us t) m.unclosed ∙ at_old old.unclosed.items x t l;
         explored = m.keeps.explored;
         met = done.met;
@@ -129,15 +118,14 @@ module _ (graph : List (List ℕ)) (old new : Walk) (t x : ℕ)
       record {
         stands = record {
           sound = rw (j.stages, j.keeps.explored, j.unclosed, j.path, j.keeps.on_cycle)
-              (IsSound-merged graph old.stages.items old.explored.items old.unclosed.items old.pieces.items
-              old.path.items old.on_cycle.items t i new.pieces.items
+              (IsSound-merged i new.pieces.items
               s.sound top at_i.0 (subst (λ y. Goes graph (slice_index old.unclosed.items t) y) (sym at_i.1) goes)
               keeps);
           ranks = rw (j.stages, j.keeps.ranks, j.keeps.on_cycle, j.keeps.closed) s.ranks;
           order = rw (j.stages, j.keeps.closed) s.order;
         };
         known = inr (i, ap (λ ss. stage_at ss x) j.stages ∙ is, λ c lc le. j.kept c lc);
-        on = subst (λ p. IsOn p t) (sym j.path) (IsOn-top old.path.items t top);
+        on = subst (λ p. IsOn p t) (sym j.path) (IsOn-top old.path.items top);
         node = ap (λ us. slice_index us t) j.unclosed;
         explored = j.keeps.explored;
         met = λ y is'. subst (λ ss. stage_at ss y ≡ New) j.stages is';
@@ -154,7 +142,7 @@ module _ (graph : List (List ℕ)) (old new : Walk) (t x : ℕ)
       (record {
         stands = s;
         known = inl is;
-        on = IsOn-top old.path.items t top;
+        on = IsOn-top old.path.items top;
         node = refl;
         explored = refl;
         met = λ y is'. is';

@@ -77,14 +77,14 @@ module _ (graph : List (List ℕ)) where
   reached_over zero x y = has (successors graph x) y
   reached_over (suc k) x y = reached_over k x y || (reached_over k x k && reached_over k k y)
 
-  reached-leads : (k x y : ℕ) → reached_over k x y ≡ true → Leads graph x y
-  reached-leads zero x y found = edge found
-  reached-leads (suc k) x y found =
+  reached-leads : (k : ℕ) {x y : ℕ} → reached_over k x y ≡ true → Leads graph x y
+  reached-leads zero found = edge found
+  reached-leads (suc k) {x} {y} found =
       elim (or_cases (reached_over k x y) (reached_over k x k && reached_over k k y) found) [
-        | inl before ↦ reached-leads k x y before
+        | inl before ↦ reached-leads k before
         | inr both ↦
             let parts = and_parts (reached_over k x k) (reached_over k k y) both in
-            Leads_then (reached-leads k x k parts.0) (reached-leads k k y parts.1)
+            Leads_then (reached-leads k parts.0) (reached-leads k parts.1)
       ]
 
   over_more : (k x y : ℕ) → reached_over k x y ≡ true → reached_over (suc k) x y ≡ true
@@ -226,7 +226,7 @@ module _ (graph : List (List ℕ)) where
 
     marks_exact : (x : ℕ) → x < length graph → IsTrue (slice_index_or all_marks x false) ↔ Leads graph x x
     marks_exact x low = (
-      λ marked. reached-leads (length graph) x x (sym (mark_at x low) ∙ marked),
+      λ marked. reached-leads (length graph) (sym (mark_at x low) ∙ marked),
       λ round. mark_at x low ∙ leads-found round,
     )
 

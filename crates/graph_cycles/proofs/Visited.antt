@@ -26,8 +26,8 @@ module _ (xs : List ℕ) (y : ℕ) where
   old_or_new i l =
       elim (cases_lt i (length xs)) [ inl below ↦ inl below | inr not_below ↦ inr (omega (arith, length_push xs y)) ]
 
-  pub IsOn-more : (i : ℕ) → IsOn xs i → IsOn (xs ++ y ∷ []) i
-  IsOn-more i (p, l, is) = (p, omega (arith, length_push xs y), at_old p l ∙ is)
+  pub IsOn-more : {i : ℕ} → IsOn xs i → IsOn (xs ++ y ∷ []) i
+  IsOn-more (p, l, is) = (p, omega (arith, length_push xs y), at_old p l ∙ is)
 
   pub IsOn-new : IsOn (xs ++ y ∷ []) y
   IsOn-new = (length xs, omega (arith, length_push xs y), at_new)
@@ -41,15 +41,15 @@ module _ (xs : List ℕ) (y : ℕ) where
             omega (arith, at_old p (omega arith), same, below p (omega arith))
       ]
 
-pub IsSound-visited : (graph : List (List ℕ)) (stages : List Stage) (explored unclosed pieces path : List ℕ)
-    (marks : List Bool)
+pub IsSound-visited : {graph : List (List ℕ)} {stages : List Stage} {explored unclosed pieces path : List ℕ}
+    {marks : List Bool}
     (x : ℕ)
     → IsSound graph stages explored unclosed pieces path marks
     → stage_at stages x ≡ New → x < length graph
     → ((t : ℕ) → IsTop path t → Goes graph (slice_index unclosed t) x)
     → IsSound graph (slice_set stages x (Open (length unclosed))) explored (unclosed ++ x ∷ [])
     (pieces ++ length unclosed ∷ []) (path ++ length unclosed ∷ []) marks
-IsSound-visited graph stages explored unclosed pieces path marks x s new in_graph ahead = record {
+IsSound-visited {graph} {stages} {explored} {unclosed} {pieces} {path} x s new in_graph ahead = record {
   stages_all = length-set stages x (Open n) ∙ s.stages_all;
   explored_all = s.explored_all;
   marks_all = s.marks_all;
@@ -93,15 +93,14 @@ IsSound-visited graph stages explored unclosed pieces path marks x s new in_grap
   ];
   left_done = λ i l. elim (old_or_new unclosed x i l) [
     | inl old ↦ elim (s.left_done i old) [
-      | inl on ↦ inl (IsOn-more path n i on)
+      | inl on ↦ inl (IsOn-more path n on)
       | inr full ↦ inr (subst (λ k. length (successors graph k) ≤ slice_index explored k)
           (sym (at_old unclosed x i old)) full)
     ]
     | inr last ↦ inl (subst (IsOn (path ++ n ∷ [])) (sym last) (IsOn-new path n))
   ];
   roots = λ c l. elim (old_or_new pieces n c l) [
-    | inl old ↦ subst (IsOn (path ++ n ∷ [])) (sym (at_old pieces n c old))
-        (IsOn-more path n (slice_index pieces c) (s.roots c old))
+    | inl old ↦ subst (IsOn (path ++ n ∷ [])) (sym (at_old pieces n c old)) (IsOn-more path n (s.roots c old))
     | inr last ↦ subst (IsOn (path ++ n ∷ [])) (sym (ap (slice_index (pieces ++ n ∷ [])) last ∙ at_new pieces n))
         (IsOn-new path n)
   ];
@@ -196,8 +195,7 @@ IsSound-visited graph stages explored unclosed pieces path marks x s new in_grap
         let some : 0 < length path = path_some (omega arith) in
         let t : ℕ = slice_index path (length path - 1) in
         let open_top : t < n = s.path_open (length path - 1) (omega arith) in
-        inr (Reaches-edge (slice_index unclosed i) (slice_index unclosed t) x
-        (s.together i t l open_top (λ c lc _. top_most path t (slice_index pieces c) s.path_rises some refl
+        inr (Reaches-edge x (s.together i t l open_top (λ c lc _. top_most path {t = t} s.path_rises some refl
         (s.roots c lc)))
         (ahead t (some, refl)))
 

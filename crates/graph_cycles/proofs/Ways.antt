@@ -2,19 +2,18 @@
 use Rattle.std.proofs.Common.{◌≡◌, ℕ, zero, suc, ◌-◌, ◌<◌, ◌≤◌, ◌⊎◌, List, [], ◌∷◌, length, get_or, sym, ap, subst, inl}
 use Rattle.std.proofs.Common.{inr, arith}
 use Rattle.std.proofs.lemmas.Bool.{cases_lt}
-use Rattle.graph_cycles.specs.Graph.{Goes, Leads}
-use Rattle.graph_cycles.specs.Graph.Leads.{edge}
+use Rattle.graph_cycles.specs.{Graph.Goes, Graph.Leads, Graph.Leads.edge}
 use Rattle.graph_cycles.proofs.Surveys.{Leads_then}
 use Rattle.graph_cycles.specs.Walk.{Reaches, Rises, IsOn}
 
-pub Reaches_then : {graph : List (List ℕ)} (x y z : ℕ) → Reaches graph x y → Reaches graph y z → Reaches graph x z
-Reaches_then {graph} x y z a b = elim a [
+pub Reaches_then : {graph : List (List ℕ)} {x y z : ℕ} → Reaches graph x y → Reaches graph y z → Reaches graph x z
+Reaches_then {graph} {x} {z} a b = elim a [
   | inl same ↦ subst (λ w. Reaches graph w z) (sym same) b
   | inr v ↦ elim b [ inl same ↦ subst (λ w. Reaches graph x w) same (inr v) | inr w ↦ inr (Leads_then v w) ]
 ]
 
-pub Reaches-edge : {graph : List (List ℕ)} (x y z : ℕ) → Reaches graph x y → Goes graph y z → Leads graph x z
-Reaches-edge {graph} x y z a e = elim a [
+pub Reaches-edge : {graph : List (List ℕ)} {x y : ℕ} (z : ℕ) → Reaches graph x y → Goes graph y z → Leads graph x z
+Reaches-edge {graph} z a e = elim a [
   | inl same ↦ subst (λ w. Leads graph w z) (sym same) (edge e)
   | inr v ↦ Leads_then v (edge e)
 ]
@@ -38,9 +37,9 @@ some_above_or_none (x ∷ xs) j =
     at_front x xs j h none (suc c) l = none c (omega arith)
 
 -- every place that rises with the path is at most the one at its end
-pub top_most : (path : List ℕ) (t i : ℕ) → Rises path → 0 < length path → get_or path (length path - 1) 0 ≡ t
+pub top_most : (path : List ℕ) {t i : ℕ} → Rises path → 0 < length path → get_or path (length path - 1) 0 ≡ t
     → IsOn path i → i ≤ t
-top_most path t i rises some top (p, below, is) =
+top_most path rises some top (p, below, is) =
     elim (cases_lt p (length path - 1)) [
       | inl before ↦ omega (arith, rises p (length path - 1) before (omega arith))
       | inr last ↦

@@ -1,9 +1,8 @@
 -- The walk as it stands between two steps.
 use Rattle.std.specs.Prelude.{◌≡◌, ◌≢◌, ℕ, ◌+◌, ◌-◌, ◌<◌, ◌≤◌, true, false, List, [], ◌∷◌, ◌++◌, length, take, drop}
 use Rattle.std.specs.Prelude.{slice_index, slice_set}
-use Rattle.graph_cycles.specs.declared.walk.Walk.{Walk}
+use Rattle.graph_cycles.specs.{declared.walk.Walk.Walk, Graph.successors, Graph.rank_over}
 use Rattle.graph_cycles.specs.declared.walk.Stage.TheVariants.{New, Open, Closed}
-use Rattle.graph_cycles.specs.Graph.{successors, rank_over}
 use Rattle.graph_cycles.specs.Walk.{IsSound, HasRanks, AreOrdered, Closes, piece_cycles, stage_at, work_left}
 
 -- the walk keeps what it is for: it is sound, its closed nodes have their ranks, and they stand in order

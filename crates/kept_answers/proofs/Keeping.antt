@@ -4,8 +4,7 @@ use Rattle.std.proofs.Common.{inl, inr, refl, replicate, sym, subst, slice_set}
 use Rattle.std.proofs.lemmas.List.Elements.{All-append, All-contains, All-contains_itself, All-replicate, All-set}
 use Rattle.std.proofs.lemmas.List.Elements.{All-take, All-weaker}
 use Rattle.unit_sets.proofs.Sorted.{Contains-cons_first, Contains-cons_other}
-use Rattle.kept_answers.specs.Kept.{AreKept, first_entry}
-use Rattle.kept_answers.specs.declared.answers.Entry.{Entry}
+use Rattle.kept_answers.specs.{Kept.AreKept, Kept.first_entry, declared.answers.Entry.Entry}
 
 -- what is true of the first entry and of all that were there is true of all that are kept
 pub all_kept : (P : Entry → Type 0) (before after : List Entry) → P first_entry → All P before → AreKept before after
@@ -22,18 +21,17 @@ kept_itself entries =
     All-weaker (Contains entries) (λ entry. Contains entries entry ⊎ (entry ≡ first_entry)) (λ entry has. inl has)
     entries (All-contains_itself entries)
 
-pub kept_resized : (fits : Bool) (n more : ℕ) (old new : List Entry)
+pub kept_resized : (fits : Bool) (n more : ℕ) (old : List Entry) {new : List Entry}
     → new ≡ (if fits then take n old ++ replicate more first_entry else old) → AreKept old new
-kept_resized true n more old new same =
+kept_resized true n more old same =
     let From : Entry → Type 0 = λ entry. Contains old entry ⊎ (entry ≡ first_entry) in
     subst (All From) (sym same) (All-append From (take n old) (replicate more first_entry)
     (All-take From n old (kept_itself old)) (All-replicate From more first_entry (inr refl)))
-kept_resized false n more old new same = subst (AreKept old) (sym same) (kept_itself old)
+kept_resized false n more old same = subst (AreKept old) (sym same) (kept_itself old)
 
-pub kept_from_none : (fits : Bool) (n more : ℕ) (old new : List Entry) → old ≡ []
+pub kept_from_none : (fits : Bool) (n more : ℕ) {old new : List Entry} → old ≡ []
     → new ≡ (if fits then take n old ++ replicate more first_entry else old) → AreKept [] new
-kept_from_none fits n more old new none same =
-    subst (λ l. AreKept l new) none (kept_resized fits n more old new same)
+kept_from_none fits n more {old} {new} none same = subst (λ l. AreKept l new) none (kept_resized fits n more old same)
 
 -- one more that may be there
 pub kept_more : (entry : Entry) (before after : List Entry) → AreKept before after → AreKept (entry ∷ before) after

@@ -1,7 +1,6 @@
 -- Where the entries of a table of answers come from.
 use Rattle.std.specs.Prelude.{◌≡◌, ◌⊎◌, List, All, Contains}
-use Rattle.kept_answers.specs.declared.answers.Entry.{Entry}
-use Rattle.kept_answers.specs.declared.answers.Operation.TheVariants.{Without}
+use Rattle.kept_answers.specs.{declared.answers.Entry.Entry, declared.answers.Operation.TheVariants.Without}
 
 -- what stands in a place before the first answer: nothing is left of no sets without no sets
 abbrev pub first_entry : Entry

@@ -8,19 +8,13 @@ use Rattle.std.proofs.lemmas.Bool.{cases_lt, and_parts, and_from, false_from_ne_
 use Rattle.std.proofs.lemmas.Bool.{lt-ltb, ne_eqb, or_left, or_right, or_cases}
 use Rattle.unit_sets.specs.UnitList.{among, is_within, some_within}
 use Rattle.unit_sets.proofs.UnitListLemmas.{is_within-from_among}
-use Rattle.zdd_families.specs.Family.{IsAbove}
-use Rattle.zdd_families.specs.Within.{count_within}
+use Rattle.zdd_families.specs.{Family.IsAbove, Within.count_within, Inclusion.includes_one, Least.IsLeastVotes}
+use Rattle.zdd_families.specs.{LeastNodes.IncludesNoneOf, Units.HasUnit}
 use Rattle.zdd_families.proofs.WithinLemmas.{HasWithin, HasWithin-from_test, passes_at, passes_from}
 use Rattle.zdd_families.proofs.WithinLemmas.{some_within-from_set}
-use Rattle.zdd_families.specs.Inclusion.{includes_one}
-use Rattle.zdd_families.proofs.InclusionLemmas.{same_Bool}
-use Rattle.zdd_families.proofs.CutAtUnit.{above_only}
-use Rattle.zdd_families.specs.Least.{IsLeastVotes}
-use Rattle.zdd_families.proofs.LeastLemmas.{IsLeastFor-same, least-above}
-use Rattle.zdd_families.specs.LeastNodes.{IncludesNoneOf}
-use Rattle.zdd_families.specs.Units.{HasUnit}
-use Rattle.many_families.specs.Lists.{AreApartFrom, IsBetween}
-use Rattle.many_families.specs.Joins.{IsJoined, IsBelow}
+use Rattle.zdd_families.proofs.{InclusionLemmas.same_Bool, CutAtUnit.above_only, LeastLemmas.IsLeastFor-same}
+use Rattle.zdd_families.proofs.{LeastLemmas.least-above}
+use Rattle.many_families.specs.{Lists.AreApartFrom, Lists.IsBetween, Joins.IsJoined, Joins.IsBelow}
 
 -- ---- which units a family asks of
 
@@ -30,7 +24,7 @@ votes_of hit = if hit then 1 else 0
 hit_too : (f : List (List ℕ)) (p q : ℕ → Bool) → ((unit : ℕ) → HasUnit f unit → p unit ≡ q unit)
     → some_within f p ≡ true → some_within f q ≡ true
 hit_too f p q same t =
-    let found : HasWithin f p = HasWithin-from_test f p t in
+    let found : HasWithin f p = HasWithin-from_test f t in
     some_within-from_set f q found.set found.has (passes_from q found.set (λ unit h.
     sym (same unit (found.set, found.has, h)) ∙ passes_at p found.set unit found.passes h))
 
@@ -94,7 +88,7 @@ within_none (u ∷ set) passes = absurd (false≢true passes)
 no_hit : (f : List (List ℕ)) → (Contains f [] → ⊥) → some_within f (among []) ≡ false
 no_hit f lacks =
     false_from_ne_true (some_within f (among [])) (λ t.
-    let found : HasWithin f (among []) = HasWithin-from_test f (among []) t in
+    let found : HasWithin f (among []) = HasWithin-from_test f t in
     lacks (subst (Contains f) (within_none found.set found.passes) found.has))
 
 none_hit : (floor : ℕ) (fs : List (List (List ℕ))) → AreApartFrom floor fs → count_within fs (among []) ≡ 0
@@ -107,13 +101,12 @@ none_hit floor (f ∷ fs) (next, is, others) =
 -- ---- votes over them
 
 module _ (floor count : ℕ) (fs : List (List (List ℕ))) (are : AreApartFrom floor fs) where
-  votes_above : (x wanted : ℕ) (least : List (List ℕ)) → x < floor → IsLeastVotes wanted fs least → IsAbove x least
-  votes_above x wanted least low is =
-      least-above (λ within. nat_le wanted (count_within fs within)) x least is
-      (λ within. ap (nat_le wanted) (same_from floor fs (above_only x within) within are
+  votes_above : (x wanted : ℕ) {least : List (List ℕ)} → x < floor → IsLeastVotes wanted fs least → IsAbove x least
+  votes_above x wanted low is =
+      least-above x is (λ within. ap (nat_le wanted) (same_from floor fs (above_only x within) within are
       (λ unit high. ap (λ b. within unit && b) (lt-ltb x unit (omega arith)) ∙ sym (and_yes (within unit)))))
 
-  module _ (fewer : List (List ℕ)) (fewer_is : IsLeastVotes count fs fewer) where
+  module _ {fewer : List (List ℕ)} (fewer_is : IsLeastVotes count fs fewer) where
     -- a set with more votes would do without any one of its units
     no_more : (set : List ℕ) → Contains fewer set → count < count_within fs (among set) → ⊥
     no_more [] has more = let none = none_hit floor fs are in omega (arith, none, more)
@@ -124,7 +117,7 @@ module _ (floor count : ℕ) (fs : List (List (List ℕ))) (are : AreApartFrom f
         let hit : some_within fewer (except u (among set)) ≡ true =
         fewer_is.some_within (except u (among set)) ∙ le-leb count (count_within fs (except u (among set)))
         (omega (arith, less, more)) in
-        let found : HasWithin fewer (except u (among set)) = HasWithin-from_test fewer (except u (among set)) hit in
+        let found : HasWithin fewer (except u (among set)) = HasWithin-from_test fewer hit in
         let passes : (v : ℕ) → among found.set v ≡ true → except u (among set) v ≡ true =
         λ v h. passes_at (except u (among set)) found.set v found.passes h in
         let within : is_within set found.set ≡ true =
@@ -135,18 +128,18 @@ module _ (floor count : ℕ) (fs : List (List (List ℕ))) (are : AreApartFrom f
         let lacks : not (u == u) ≡ true = (and_parts (among set u) (not (u == u)) (passes u there)).1 in
         false≢true (ap not (sym (eq-eqb u u refl)) ∙ lacks)
 
-    pub votes_include_none : (same : List (List ℕ)) → IsLeastVotes (suc count) fs same → IncludesNoneOf same fewer
-    votes_include_none same same_is set has =
+    pub votes_include_none : {same : List (List ℕ)} → IsLeastVotes (suc count) fs same → IncludesNoneOf same fewer
+    votes_include_none {same} same_is set has =
         false_from_ne_true (includes_one same set) (λ t.
         let more = leb-true (suc count) (count_within fs (among set)) (sym (same_is.some_within (among set)) ∙ t) in
         no_more set has (omega (arith, more)))
 
-    pub is_below : (low : ℕ) (voter same : List (List ℕ)) → IsBetween low floor voter
+    pub is_below : {low : ℕ} {voter same : List (List ℕ)} → IsBetween low floor voter
         → IsLeastVotes (suc count) fs same → IsBelow voter same fewer
-    is_below low voter same between same_is = record {
-      same_above = λ unit has. votes_above unit (suc count) same (between.high unit has) same_is;
-      fewer_above = λ unit has. votes_above unit count fewer (between.high unit has) fewer_is;
-      includes_none = votes_include_none same same_is;
+    is_below between same_is = record {
+      same_above = λ unit has. votes_above unit (suc count) (between.high unit has) same_is;
+      fewer_above = λ unit has. votes_above unit count (between.high unit has) fewer_is;
+      includes_none = votes_include_none same_is;
       lacks = between.lacks;
     }
 
@@ -174,13 +167,13 @@ one_vote p c true =
     same_Bool (nat_le (suc p) (1 + c)) (nat_le (suc p) c || (nat_le p c && true)) (vote_to p c) (vote_from p c)
 one_vote p c false = ap (nat_le (suc p)) (let e : 0 + c ≡ c = omega arith in e) ∙ or_no (nat_le (suc p) c) (nat_le p c)
 
-both_of : (a a' b b' c : Bool) → a ≡ a' → b ≡ b' → (a || (b && c)) ≡ (a' || (b' && c))
-both_of a a' b b' c e e' = ap (λ q. q || (b && c)) e ∙ ap (λ q. a' || (q && c)) e'
+both_of : {a a' b b' : Bool} (c : Bool) → a ≡ a' → b ≡ b' → (a || (b && c)) ≡ (a' || (b' && c))
+both_of {a'} {b} c e e' = ap (λ q. q || (b && c)) e ∙ ap (λ q. a' || (q && c)) e'
 
-pub votes_joined : (count : ℕ) (f : List (List ℕ)) (fs : List (List (List ℕ))) (same fewer h : List (List ℕ))
+pub votes_joined : (count : ℕ) (f : List (List ℕ)) (fs : List (List (List ℕ))) {same fewer h : List (List ℕ)}
     → IsLeastVotes (suc count) fs same → IsLeastVotes count fs fewer → IsJoined f same fewer h
     → IsLeastVotes (suc count) (f ∷ fs) h
-votes_joined count f fs same fewer h same_is fewer_is is =
-    IsLeastFor-same (λ within. some_within same within || (some_within fewer within && some_within f within)) _ h is
-    (λ within. both_of _ _ _ _ (some_within f within) (same_is.some_within within) (fewer_is.some_within within)
+votes_joined count f fs same_is fewer_is is =
+    IsLeastFor-same is
+    (λ within. both_of (some_within f within) (same_is.some_within within) (fewer_is.some_within within)
     ∙ sym (one_vote count (count_within fs within) (some_within f within)))

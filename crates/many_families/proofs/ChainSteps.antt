@@ -6,21 +6,15 @@ use Rattle.std.proofs.lemmas.Bool.{cases_lt}
 use Rattle.std.proofs.lemmas.List.{get_or-set_other, get_or-set_same, map-append}
 use Rattle.std.proofs.lemmas.List.Elements.{All-contains, All-drop, All-from_get_or, All-tail}
 use Rattle.zdd_families.specs.Family.{IsAbove, sets_with, sets_without}
-use Rattle.zdd_families.specs.Map.{level_in}
-use Rattle.zdd_families.proofs.MapLemmas.{family-empty}
-use Rattle.zdd_families.specs.Cuts.{Cuts}
-use Rattle.zdd_families.specs.Least.{IsLeastOfAll, IsLeastUnion}
-use Rattle.zdd_families.proofs.Many.{least_of_none, least_of_one}
+use Rattle.zdd_families.specs.{Map.level_in, Cuts.Cuts, Least.IsLeastOfAll, Least.IsLeastUnion}
+use Rattle.zdd_families.proofs.{MapLemmas.family-empty, Many.least_of_none, Many.least_of_one}
 use Rattle.family_memory.specs.Memory.{Held, Has, IsSound, Went, Gave, RanOut, family_in, map_of}
 use Rattle.family_memory.proofs.After.{Gave-there, Went-then, ended, still, still_has}
-use Rattle.minimal_operations.specs.Halves.{IsHalf}
-use Rattle.minimal_operations.specs.Rests.{IsRidBranch}
-use Rattle.minimal_operations.specs.declared.halves.Half.{Half}
+use Rattle.minimal_operations.specs.{Halves.IsHalf, Rests.IsRidBranch, declared.halves.Half.Half}
 use Rattle.many_families.specs.Lists.{families}
 use Rattle.many_families.specs.Chains.{AreFrom, IsLowered, uppers}
 use Rattle.many_families.proofs.Levels.{AreCut, least_of_levels, lowers, lowers_above, own_hi, own_lo, uppers_above}
-use Rattle.many_families.proofs.Lists.{families_parts, families_stay}
-use Rattle.many_families.proofs.ManySteps.{both_united}
+use Rattle.many_families.proofs.{Lists.families_parts, Lists.families_stay, ManySteps.both_united}
 
 -- ---- the measure: how many levels there are from the least of a list on
 
@@ -43,10 +37,10 @@ least_at held (r ∷ list) zero inside = omega arith
 least_at held (r ∷ list) (suc place) inside =
     let h = least_at held list place (omega (arith, inside)) in omega (arith, h)
 
-pub fewer_levels : (held after : Held) (list lower : List ℕ) (r x : ℕ) → Contains list r
+pub fewer_levels : (held after : Held) (list lower : List ℕ) (r : ℕ) {x : ℕ} → Contains list r
     → level_in (map_of held) r ≡ x → x < 4096 → AreFrom after (x + 1) lower
     → 4096 - least_level after lower < 4096 - least_level held list
-fewer_levels held after list lower r x member here unit from =
+fewer_levels held after list lower r {x} member here unit from =
     let most : least_level held list ≤ level_in (map_of held) r =
     All-contains (λ q. least_level held list ≤ level_in (map_of held) q) list r
     (All-from_get_or (λ q. least_level held list ≤ level_in (map_of held) q) list 0 (least_at held list)) member in
@@ -71,8 +65,7 @@ module _ (held : Held) (x : ℕ) where
   cut_all (r ∷ list) [] size each = absurd (omega (arith, size))
   cut_all (r ∷ list) (q ∷ lower) size each =
       let one = each 0 (omega arith) in (
-        subst (λ lo. Cuts x (family_in held r) lo (sets_with x (family_in held r)))
-            (sym (own_lo x (family_in held r) (family_in held q) (sets_with x (family_in held r)) one.cut)) one.cut,
+        subst (λ lo. Cuts x (family_in held r) lo (sets_with x (family_in held r))) (sym (own_lo one.cut)) one.cut,
         cut_all list lower (omega (arith, size)) (tail_lowered r q list lower each),
       )
 
@@ -83,8 +76,7 @@ module _ (held : Held) (x : ℕ) where
   lowered_families (r ∷ list) [] size each = absurd (omega (arith, size))
   lowered_families (r ∷ list) (q ∷ lower) size each =
       let one = each 0 (omega arith) in
-      ap (λ f. f ∷ families held lower)
-      (sym (own_lo x (family_in held r) (family_in held q) (sets_with x (family_in held r)) one.cut))
+      ap (λ f. f ∷ families held lower) (sym (own_lo one.cut))
       ∙ ap (λ fs. sets_without x (family_in held r) ∷ fs)
       (lowered_families list lower (omega (arith, size)) (tail_lowered r q list lower each))
 
@@ -100,15 +92,14 @@ module _ (held : Held) (x : ℕ) where
       let h = (each place (omega (arith, size, inside))).above in omega (arith, h))
 
 -- one more
-lowered_one : (held : Held) (x r : ℕ) (half : Half) → IsHalf held x r half → IsLowered held x r half.lo
-lowered_one held x r half is = record {
+lowered_one : {held : Held} {x r : ℕ} {half : Half} → IsHalf held x r half → IsLowered held x r half.lo
+lowered_one {held} {x} {r} {half} is = record {
   has = is.has_lo;
   above = is.lo_above;
-  cut = subst (λ hi. Cuts x (family_in held r) (family_in held half.lo) hi)
-      (sym (own_hi x (family_in held r) (family_in held half.lo) (family_in held half.hi) is.cut)) is.cut;
+  cut = subst (λ hi. Cuts x (family_in held r) (family_in held half.lo) hi) (sym (own_hi is.cut)) is.cut;
 }
 
-module _ (held : Held) (x place : ℕ) (before list : List ℕ) (half : Half) (inside : place < length list)
+module _ {held : Held} {x : ℕ} (place : ℕ) (before list : List ℕ) {half : Half} (inside : place < length list)
     (waits : get_or list place 0 ≡ get_or before place 0)
     (each : (at : ℕ) → at < place → IsLowered held x (get_or before at 0) (get_or list at 0))
     (is : IsHalf held x (get_or list place 0) half) where
@@ -123,7 +114,7 @@ module _ (held : Held) (x place : ℕ) (before list : List ℕ) (half : Half) (i
             let here : at ≡ place = omega (arith, before_end, not) in
             subst (λ n. IsLowered held x (get_or before n 0) (get_or (slice_set list place half.lo) n 0)) (sym here)
             (subst (IsLowered held x (get_or before place 0)) (sym (get_or-set_same list place half.lo 0 inside))
-            (subst (λ r. IsLowered held x r half.lo) waits (lowered_one held x (get_or list place 0) half is)))
+            (subst (λ r. IsLowered held x r half.lo) waits (lowered_one is)))
       ]
 
 pub waits_on : (before list : List ℕ) (place q at : ℕ) → place + 1 ≤ at → get_or list at 0 ≡ get_or before at 0
@@ -134,32 +125,30 @@ waits_on before list place q at past waits =
 -- ---- the sets with the unit
 
 -- of none
-pub upper_of_none : (held : Held) (x : ℕ) (list : List ℕ) → IsSound held → length list ≡ 0
+pub upper_of_none : {held : Held} (x : ℕ) (list : List ℕ) → IsSound held → length list ≡ 0
     → Gave (IsLeastOfAll (uppers x (families held list))) held held 0
-upper_of_none held x [] sound none =
-    Gave-there (IsLeastOfAll []) held 0 sound (let some = sound.terminals in omega (arith, some))
+upper_of_none {held} x [] sound none =
+    Gave-there sound (let some = sound.terminals in omega (arith, some))
     (subst (IsLeastOfAll []) (sym (family-empty (map_of held))) least_of_none)
-upper_of_none held x (r ∷ list) sound none = absurd (omega (arith, none))
+upper_of_none x (r ∷ list) sound none = absurd (omega (arith, none))
 
 -- of one family
-pub upper_of_one : (held : Held) (x : ℕ) (list : List ℕ) (half : Half) → IsSound held → length list ≡ 1
+pub upper_of_one : {held : Held} {x : ℕ} (list : List ℕ) {half : Half} → IsSound held → length list ≡ 1
     → IsHalf held x (get_or list 0 0) half → Gave (IsLeastOfAll (uppers x (families held list))) held held half.hi
-upper_of_one held x [] half sound one is = absurd (omega (arith, one))
-upper_of_one held x (r ∷ []) half sound one is =
-    Gave-there (IsLeastOfAll (sets_with x (family_in held r) ∷ [])) held half.hi sound is.has_hi
-    (subst (λ f. IsLeastOfAll (f ∷ []) (family_in held half.hi))
-    (sym (own_hi x (family_in held r) (family_in held half.lo) (family_in held half.hi) is.cut))
-    (least_of_one (family_in held half.hi) (sound.antichains half.hi is.has_hi)))
-upper_of_one held x (r ∷ q ∷ list) half sound one is = absurd (omega (arith, one))
+upper_of_one [] sound one is = absurd (omega (arith, one))
+upper_of_one {held} (r ∷ []) {half} sound one is =
+    Gave-there sound is.has_hi (subst (λ f. IsLeastOfAll (f ∷ []) (family_in held half.hi)) (sym (own_hi is.cut))
+    (least_of_one (sound.antichains half.hi is.has_hi)))
+upper_of_one (r ∷ q ∷ list) sound one is = absurd (omega (arith, one))
 
 -- of both halves
-module _ (s0 s1 s2 : Held) (x : ℕ) (list : List ℕ) (middle : ℕ) (sound : IsSound s0) (has : All (Has s0) list)
-    (first second : ℕ) (gave1 : Gave (IsLeastOfAll (uppers x (families s0 (take middle list)))) s0 s1 first)
+module _ {s0 s1 s2 : Held} (x : ℕ) (list : List ℕ) (middle : ℕ) (sound : IsSound s0) (has : All (Has s0) list)
+    {first second : ℕ} (gave1 : Gave (IsLeastOfAll (uppers x (families s0 (take middle list)))) s0 s1 first)
     (gave2 : Gave (IsLeastOfAll (uppers x (families s1 (drop middle list)))) s1 s2 second) where
   of_rest : Gave (IsLeastOfAll (uppers x (families s0 (drop middle list)))) s1 s2 second
   of_rest =
       subst (λ fs. Gave (IsLeastOfAll (uppers x fs)) s1 s2 second)
-      (families_stay s0 s1 (drop middle list) sound gave1.went (All-drop (Has s0) middle list has)) gave2
+      (families_stay (drop middle list) sound gave1.went (All-drop (Has s0) middle list has)) gave2
 
   parts : uppers x (families s0 list)
       ≡ uppers x (families s0 (take middle list)) ++ uppers x (families s0 (drop middle list))
@@ -172,16 +161,16 @@ module _ (s0 s1 s2 : Held) (x : ℕ) (list : List ℕ) (middle : ℕ) (sound : I
       → MatchResult result (Gave (IsLeastOfAll (uppers x (families s0 list))) s0 s3) (λ _. RanOut s0 s3)
   uppers_united s3 result m =
       subst (λ fs. MatchResult result (Gave (IsLeastOfAll fs) s0 s3) (λ _. RanOut s0 s3)) (sym parts)
-      (both_united s0 s1 s2 (uppers x (families s0 (take middle list))) (uppers x (families s0 (drop middle list)))
-      first second gave1 of_rest s3 result m)
+      (both_united (uppers x (families s0 (take middle list))) (uppers x (families s0 (drop middle list))) gave1 of_rest
+      s3 result m)
 
 -- ---- the node of both
 
-module _ (s0 s1 : Held) (x : ℕ) (list lower : List ℕ) (all : ℕ) (sound : IsSound s0) (has : All (Has s0) list)
+module _ {s0 s1 : Held} (x : ℕ) (list lower : List ℕ) {all : ℕ} (sound : IsSound s0) (has : All (Has s0) list)
     (gave_all : Gave (IsLeastOfAll (uppers x (families s0 list))) s0 s1 all) (size : length lower ≡ length list)
     (each : AreLowered s1 x list lower) where
   same_fs : families s1 list ≡ families s0 list
-  same_fs = families_stay s0 s1 list sound gave_all.went has
+  same_fs = families_stay list sound gave_all.went has
 
   cut : AreCut x (families s0 list)
   cut = subst (AreCut x) same_fs (cut_all s1 x list lower size each)
@@ -189,9 +178,9 @@ module _ (s0 s1 : Held) (x : ℕ) (list lower : List ℕ) (all : ℕ) (sound : I
   lower_fs : families s1 lower ≡ lowers x (families s0 list)
   lower_fs = lowered_families s1 x list lower size each ∙ ap (lowers x) same_fs
 
-  module _ (s2 : Held) (lo : ℕ) (gave_lo : Gave (IsLeastOfAll (families s1 lower)) s1 s2 lo) where
+  module _ {s2 : Held} {lo : ℕ} (gave_lo : Gave (IsLeastOfAll (families s1 lower)) s1 s2 lo) where
     pub went_levels : Went s0 s2
-    went_levels = Went-then s0 s1 s2 gave_all.went gave_lo.went
+    went_levels = Went-then gave_all.went gave_lo.went
 
     of_lo : IsLeastOfAll (lowers x (families s0 list)) (family_in s2 lo)
     of_lo = subst (λ gs. IsLeastOfAll gs (family_in s2 lo)) lower_fs gave_lo.is
@@ -199,22 +188,22 @@ module _ (s0 s1 : Held) (x : ℕ) (list lower : List ℕ) (all : ℕ) (sound : I
     of_all : IsLeastOfAll (uppers x (families s0 list)) (family_in s2 all)
     of_all =
         subst (IsLeastOfAll (uppers x (families s0 list)))
-        (sym (still s1 s2 gave_all.went.sound gave_lo.went all gave_all.has)) gave_all.is
+        (sym (still gave_all.went.sound gave_lo.went all gave_all.has)) gave_all.is
 
     pub has_all : Has s2 all
-    has_all = still_has s1 s2 gave_all.went.sound gave_lo.went all gave_all.has
+    has_all = still_has gave_all.went.sound gave_lo.went all gave_all.has
 
     pub lo_above : IsAbove x (family_in s2 lo)
-    lo_above = lowers_above x (families s0 list) cut (family_in s2 lo) of_lo
+    lo_above = lowers_above x (families s0 list) cut of_lo
 
     pub all_above : IsAbove x (family_in s2 all)
-    all_above = uppers_above x (families s0 list) cut (family_in s2 all) of_all
+    all_above = uppers_above x (families s0 list) cut of_all
 
     pub levels_united : {E : Type 0} (s3 : Held) (result : Result ℕ E)
         → MatchResult result (Gave (IsRidBranch x (family_in s2 lo) (family_in s2 all)) s2 s3) (λ _. RanOut s2 s3)
         → MatchResult result (Gave (IsLeastOfAll (families s0 list)) s0 s3) (λ _. RanOut s0 s3)
     levels_united s3 result m =
-        ended s0 s2 s3 went_levels (IsRidBranch x (family_in s2 lo) (family_in s2 all))
+        ended s3 went_levels (IsRidBranch x (family_in s2 lo) (family_in s2 all))
         (IsLeastOfAll (families s0 list)) result
         (λ f rid. subst (IsLeastOfAll (families s0 list)) (sym rid.is)
-        (least_of_levels x (families s0 list) cut (family_in s2 lo) (family_in s2 all) rid.hi of_lo of_all rid.left)) m
+        (least_of_levels x (families s0 list) cut of_lo of_all rid.left)) m

@@ -4,37 +4,30 @@ use Rattle.std.proofs.Common.{◌||◌, List, [], Contains, refl, sym, ap, subst
 use Rattle.unit_sets.proofs.Sorted.{Contains-cons_first}
 use Rattle.unit_sets.specs.UnitList.{some_within}
 use Rattle.zdd_words.specs.declared.word.Parts.{Parts}
-use Rattle.zdd_families.specs.Family.{branch}
-use Rattle.zdd_families.specs.Map.{level_in}
-use Rattle.zdd_families.proofs.Canonical.{family-filled}
-use Rattle.zdd_families.proofs.MapLemmas.{family-empty, family-unit}
-use Rattle.zdd_families.specs.Antichains.{IsAntichain}
-use Rattle.zdd_families.specs.Least.{IsLeastUnion, IsLeastProduct}
-use Rattle.zdd_families.proofs.LeastLemmas.{IsLeastFor-same}
-use Rattle.zdd_families.proofs.StepsLemmas.{or_of}
-use Rattle.zdd_families.specs.Units.{HasUnit, LiesBelow}
-use Rattle.zdd_families.proofs.UnitsLemmas.{below-hi, cut_unit}
+use Rattle.zdd_families.specs.{Family.branch, Map.level_in, Antichains.IsAntichain, Least.IsLeastUnion}
+use Rattle.zdd_families.specs.{Least.IsLeastProduct, Units.HasUnit, Units.LiesBelow}
+use Rattle.zdd_families.proofs.{Canonical.family-filled, MapLemmas.family-empty, MapLemmas.family-unit}
+use Rattle.zdd_families.proofs.{LeastLemmas.IsLeastFor-same, StepsLemmas.or_of, UnitsLemmas.below-hi}
+use Rattle.zdd_families.proofs.{UnitsLemmas.cut_unit}
 use Rattle.family_memory.specs.Memory.{Held, Has, IsSound, IsNodeOf, Gave, RanOut, family_in, map_of}
 use Rattle.family_memory.proofs.After.{Gave-there, answers_of, at_start, ended, knows, of_start, still}
-use Rattle.minimal_operations.specs.Operands.{Answers}
-use Rattle.minimal_operations.specs.Rests.{CanBranch}
+use Rattle.minimal_operations.specs.{Operands.Answers, Rests.CanBranch}
 use Rattle.minimal_operations.proofs.Steps.{then_has, then_is, then_went}
 use Rattle.many_families.specs.Joins.{CanJoin, IsJoined, IsBelow}
 use Rattle.many_families.proofs.JoinedBelow.{below_lo, joined_above, joined_by_parts, product_above}
 
 -- ---- any member
 
-pub joined_any : {E : Type 0} (s0 s1 s2 : Held) (voter same fewer more : ℕ) → IsSound s0 → Has s0 same
+pub joined_any : {E : Type 0} {s0 s1 : Held} (s2 : Held) (voter same fewer : ℕ) {more : ℕ} → IsSound s0 → Has s0 same
     → Gave (IsLeastProduct (family_in s0 fewer) (family_in s0 voter)) s0 s1 more
     → (result : Result ℕ E) → IfOk result (Gave (IsLeastUnion (family_in s1 same) (family_in s1 more)) s1 s2)
     → IfErr result (λ _. RanOut s1 s2)
     → Answers (IsJoined (family_in s0 voter) (family_in s0 same) (family_in s0 fewer)) s0 s2 result
-joined_any s0 s1 s2 voter same fewer more sound has gave result gives spent =
-    ended s0 s1 s2 gave.went (IsLeastUnion (family_in s1 same) (family_in s1 more))
+joined_any {s0} {s1} s2 voter same fewer {more} sound has gave result gives spent =
+    ended s2 gave.went (IsLeastUnion (family_in s1 same) (family_in s1 more))
     (IsJoined (family_in s0 voter) (family_in s0 same) (family_in s0 fewer)) result
     (λ h is.
-    IsLeastFor-same (λ within. some_within (family_in s1 same) within || some_within (family_in s1 more) within) _ h is
-    (λ within. or_of _ _ _ _ (ap (λ f. some_within f within) (still s0 s1 sound gave.went same has))
+    IsLeastFor-same is (λ within. or_of (ap (λ f. some_within f within) (still sound gave.went same has))
     (gave.is.some_within within)))
     (answers_of (IsLeastUnion (family_in s1 same) (family_in s1 more)) s1 s2 result gives spent)
 
@@ -45,21 +38,19 @@ none_more true b = refl
 none_more false true = refl
 none_more false false = refl
 
-joined_none : (same fewer : List (List ℕ)) → IsAntichain same → IsJoined [] same fewer same
-joined_none same fewer is =
+joined_none : {same : List (List ℕ)} (fewer : List (List ℕ)) → IsAntichain same → IsJoined [] same fewer same
+joined_none {same} fewer is =
     record { antichain = is; some_within = λ within. none_more (some_within same within) (some_within fewer within) }
 
-pub joined_end : (held : Held) (voter same fewer : ℕ) → IsSound held → Has held same → voter < 2
+pub joined_end : {held : Held} (voter : ℕ) {same : ℕ} (fewer : ℕ) → IsSound held → Has held same → voter < 2
     → IsBelow (family_in held voter) (family_in held same) (family_in held fewer)
     → Gave (IsJoined (family_in held voter) (family_in held same) (family_in held fewer)) held held same
-joined_end held zero same fewer sound has small below =
-    Gave-there (IsJoined (family_in held 0) (family_in held same) (family_in held fewer)) held same sound has
-    (subst (λ f. IsJoined f (family_in held same) (family_in held fewer) (family_in held same))
-    (sym (family-empty (map_of held)))
-    (joined_none (family_in held same) (family_in held fewer) (sound.antichains same has)))
-joined_end held (suc zero) same fewer sound has small below =
+joined_end {held} zero {same} fewer sound has small below =
+    Gave-there sound has (subst (λ f. IsJoined f (family_in held same) (family_in held fewer) (family_in held same))
+    (sym (family-empty (map_of held))) (joined_none (family_in held fewer) (sound.antichains same has)))
+joined_end {held} (suc zero) fewer sound has small below =
     absurd (below.lacks (subst (λ f. Contains f []) (sym (family-unit (map_of held))) (Contains-cons_first [] [])))
-joined_end held (suc (suc r)) same fewer sound has small below = absurd (omega arith)
+joined_end (suc (suc r)) fewer sound has small below = absurd (omega arith)
 
 -- the voter is a node, which is read, and lies below the votes of the others
 module _ {s0 : Held} {voter same fewer : ℕ} {one : Parts} (has : CanJoin s0 voter same fewer)
@@ -67,23 +58,20 @@ module _ {s0 : Held} {voter same fewer : ℕ} {one : Parts} (has : CanJoin s0 vo
     (below : IsBelow (family_in s0 voter) (family_in s0 same) (family_in s0 fewer)) where
   has_level : HasUnit (family_in s0 voter) one.level
   has_level =
-      cut_unit one.level (family_in s0 voter) (family_in s0 one.lo) (family_in s0 one.hi) node.cut
-      (family-filled (map_of s0) one.hi has.sound.closed (knows s0 one.hi has.sound node.has_hi) node.filled)
+      cut_unit node.cut
+      (family-filled (map_of s0) one.hi has.sound.closed (knows one.hi has.sound node.has_hi) node.filled)
 
   pub lo_fewer : 4096 - level_in (map_of s0) one.lo < 4096 - level_in (map_of s0) voter
   lo_fewer = let h = node.lo_above in let e = node.level in let u = node.unit.1 in omega (arith, h, e, u)
 
   pub lo_is_below : IsBelow (family_in s0 one.lo) (family_in s0 same) (family_in s0 fewer)
-  lo_is_below =
-      below_lo one.level (family_in s0 voter) (family_in s0 one.lo) (family_in s0 one.hi) (family_in s0 same)
-      (family_in s0 fewer) node.cut below
+  lo_is_below = below_lo node.cut below
 
   module _ {s1 : Held} {lo : ℕ} (gave_lo : Gave (IsJoined (family_in s0 one.lo) (family_in s0 same)
       (family_in s0 fewer)) s0 s1 lo) where
     pub hi_lies_below : LiesBelow (family_in s1 one.hi) (family_in s1 fewer)
     hi_lies_below =
-        of_start s0 s1 has.sound gave_lo.went LiesBelow one.hi fewer node.has_hi has.has_fewer
-        (below-hi one.level (family_in s0 voter) (family_in s0 one.lo) (family_in s0 one.hi) (family_in s0 fewer)
+        of_start has.sound gave_lo.went LiesBelow one.hi fewer node.has_hi has.has_fewer (below-hi (family_in s0 fewer)
         node.cut below.fewer_above)
 
     module _ {s2 : Held} {hi : ℕ} (gave_hi : Gave (IsLeastProduct (family_in s1 one.hi) (family_in s1 fewer)) s1 s2
@@ -93,14 +81,13 @@ module _ {s0 : Held} {voter same fewer : ℕ} {one : Parts} (has : CanJoin s0 vo
 
       hi_is : IsLeastProduct (family_in s0 one.hi) (family_in s0 fewer) (family_in s2 hi)
       hi_is =
-          at_start s0 s1 has.sound gave_lo.went (λ f g. IsLeastProduct f g (family_in s2 hi)) one.hi fewer
+          at_start has.sound gave_lo.went (λ f g. IsLeastProduct f g (family_in s2 hi)) one.hi fewer
           node.has_hi has.has_fewer gave_hi.is
 
       joined : IsJoined (family_in s0 voter) (family_in s0 same) (family_in s0 fewer)
           (branch one.level (family_in s2 lo) (family_in s2 hi))
       joined =
-          joined_by_parts one.level (family_in s0 voter) (family_in s0 one.lo) (family_in s0 one.hi)
-          (family_in s0 same) (family_in s0 fewer) node.cut below (family_in s2 lo) (family_in s2 hi)
+          joined_by_parts node.cut below
           (has.sound.antichains voter has.has_voter) (below.same_above one.level has_level)
           (below.fewer_above one.level has_level) lo_is hi_is
 
@@ -110,13 +97,11 @@ module _ {s0 : Held} {voter same fewer : ℕ} {one : Parts} (has : CanJoin s0 vo
         has_lo = then_has gave_lo gave_hi.went;
         has_hi = gave_hi.has;
         lo_above =
-            joined_above one.level (family_in s0 voter) (family_in s0 one.lo) (family_in s0 one.hi) (family_in s0 same)
-            (family_in s0 fewer) node.cut below (family_in s2 lo) (family_in s2 hi)
+            joined_above node.cut below
             (has.sound.antichains voter has.has_voter) (below.same_above one.level has_level)
             (below.fewer_above one.level has_level) lo_is hi_is;
         hi_above =
-            product_above one.level (family_in s0 voter) (family_in s0 one.lo) (family_in s0 one.hi) (family_in s0 same)
-            (family_in s0 fewer) node.cut below (family_in s2 lo) (family_in s2 hi)
+            product_above node.cut below
             (has.sound.antichains voter has.has_voter) (below.same_above one.level has_level)
             (below.fewer_above one.level has_level) lo_is hi_is;
         antichain = joined.antichain;
@@ -126,8 +111,7 @@ module _ {s0 : Held} {voter same fewer : ℕ} {one : Parts} (has : CanJoin s0 vo
           → Answers (λ f. f ≡ branch one.level (family_in s2 lo) (family_in s2 hi)) s2 s3 result
           → Answers (IsJoined (family_in s0 voter) (family_in s0 same) (family_in s0 fewer)) s0 s3 result
       joined_below s3 result m =
-          ended s0 s2 s3 (then_went gave_lo gave_hi.went)
-          (λ f. f ≡ branch one.level (family_in s2 lo) (family_in s2 hi))
+          ended s3 (then_went gave_lo gave_hi.went) (λ f. f ≡ branch one.level (family_in s2 lo) (family_in s2 hi))
           (IsJoined (family_in s0 voter) (family_in s0 same) (family_in s0 fewer)) result
           (λ f same_family. subst (IsJoined (family_in s0 voter) (family_in s0 same) (family_in s0 fewer))
           (sym same_family) joined) m

@@ -4,22 +4,19 @@ use Rattle.std.specs.List.{list_any}
 use Rattle.std.proofs.Common.{refl, sym, ◌∙◌, ap}
 use Rattle.unit_sets.specs.UnitList.{some_within}
 use Rattle.zdd_families.specs.Family.{IsAbove, branch, sets_with, sets_without}
-use Rattle.zdd_families.proofs.FamilyLemmas.{sets_with-branch, sets_without-branch}
-use Rattle.zdd_families.specs.Cuts.{Cuts}
-use Rattle.zdd_families.specs.Without.{IsWithout}
-use Rattle.zdd_families.specs.Least.{IsLeastOfAll}
+use Rattle.zdd_families.proofs.{FamilyLemmas.sets_with-branch, FamilyLemmas.sets_without-branch}
+use Rattle.zdd_families.proofs.{LeastLemmas.IsLeastFor-same, LeastLemmas.least-above, LeastNodesLemmas.least-node}
+use Rattle.zdd_families.proofs.{StepsLemmas.or_of}
+use Rattle.zdd_families.specs.{Cuts.Cuts, Without.IsWithout, Least.IsLeastOfAll}
 use Rattle.zdd_families.proofs.CutAtUnit.{above_only, some_within-above, some_within-cut}
-use Rattle.zdd_families.proofs.LeastLemmas.{IsLeastFor-same, least-above}
-use Rattle.zdd_families.proofs.LeastNodesLemmas.{least-node}
-use Rattle.zdd_families.proofs.StepsLemmas.{or_of}
 use Rattle.many_families.specs.Chains.{uppers}
 
 -- the parts of a family that is cut are its sets without the unit and with it
-pub own_lo : (x : ℕ) (f lo hi : List (List ℕ)) → Cuts x f lo hi → sets_without x f ≡ lo
-own_lo x f lo hi cut = ap (sets_without x) cut.is ∙ sets_without-branch x lo hi cut.lo_above
+pub own_lo : {x : ℕ} {f lo hi : List (List ℕ)} → Cuts x f lo hi → sets_without x f ≡ lo
+own_lo {x} {lo} {hi} cut = ap (sets_without x) cut.is ∙ sets_without-branch x lo hi cut.lo_above
 
-pub own_hi : (x : ℕ) (f lo hi : List (List ℕ)) → Cuts x f lo hi → sets_with x f ≡ hi
-own_hi x f lo hi cut = ap (sets_with x) cut.is ∙ sets_with-branch x lo hi cut.lo_above cut.hi_above
+pub own_hi : {x : ℕ} {f lo hi : List (List ℕ)} → Cuts x f lo hi → sets_with x f ≡ hi
+own_hi {x} {lo} {hi} cut = ap (sets_with x) cut.is ∙ sets_with-branch x lo hi cut.lo_above cut.hi_above
 
 -- of each family the sets without x
 abbrev pub lowers : ℕ → List (List (List ℕ)) → List (List (List ℕ))
@@ -52,8 +49,7 @@ one_within-cut : (x : ℕ) (fs : List (List (List ℕ))) (within : ℕ → Bool)
     → one_within fs within ≡ (one_within (lowers x fs) within || (within x && one_within (uppers x fs) within))
 one_within-cut x [] within cut = none_of (within x)
 one_within-cut x (f ∷ fs) within cut =
-    or_of (some_within f within) _ (one_within fs within) _
-    (some_within-cut x f (sets_without x f) (sets_with x f) cut.0 within) (one_within-cut x fs within cut.1)
+    or_of (some_within-cut cut.0 within) (one_within-cut x fs within cut.1)
     ∙ parts_of_or (within x) (some_within (sets_without x f) within) (some_within (sets_with x f) within)
     (one_within (lowers x fs) within) (one_within (uppers x fs) within)
 
@@ -61,31 +57,24 @@ lowers_ask : (x : ℕ) (fs : List (List (List ℕ))) (within : ℕ → Bool) →
     → one_within (lowers x fs) (above_only x within) ≡ one_within (lowers x fs) within
 lowers_ask x [] within cut = refl
 lowers_ask x (f ∷ fs) within cut =
-    or_of (some_within (sets_without x f) (above_only x within)) (some_within (sets_without x f) within)
-    (one_within (lowers x fs) (above_only x within)) (one_within (lowers x fs) within)
-    (some_within-above x (sets_without x f) within cut.0.lo_above) (lowers_ask x fs within cut.1)
+    or_of (some_within-above x (sets_without x f) within cut.0.lo_above) (lowers_ask x fs within cut.1)
 
 uppers_ask : (x : ℕ) (fs : List (List (List ℕ))) (within : ℕ → Bool) → AreCut x fs
     → one_within (uppers x fs) (above_only x within) ≡ one_within (uppers x fs) within
 uppers_ask x [] within cut = refl
 uppers_ask x (f ∷ fs) within cut =
-    or_of (some_within (sets_with x f) (above_only x within)) (some_within (sets_with x f) within)
-    (one_within (uppers x fs) (above_only x within)) (one_within (uppers x fs) within)
-    (some_within-above x (sets_with x f) within cut.0.hi_above) (uppers_ask x fs within cut.1)
+    or_of (some_within-above x (sets_with x f) within cut.0.hi_above) (uppers_ask x fs within cut.1)
 
 module _ (x : ℕ) (fs : List (List (List ℕ))) (cut : AreCut x fs) where
-  pub lowers_above : (lo : List (List ℕ)) → IsLeastOfAll (lowers x fs) lo → IsAbove x lo
-  lowers_above lo is = least-above (one_within (lowers x fs)) x lo is (λ within. lowers_ask x fs within cut)
+  pub lowers_above : {lo : List (List ℕ)} → IsLeastOfAll (lowers x fs) lo → IsAbove x lo
+  lowers_above is = least-above x is (λ within. lowers_ask x fs within cut)
 
-  pub uppers_above : (all : List (List ℕ)) → IsLeastOfAll (uppers x fs) all → IsAbove x all
-  uppers_above all is = least-above (one_within (uppers x fs)) x all is (λ within. uppers_ask x fs within cut)
+  pub uppers_above : {all : List (List ℕ)} → IsLeastOfAll (uppers x fs) all → IsAbove x all
+  uppers_above is = least-above x is (λ within. uppers_ask x fs within cut)
 
   -- the node of both unions is the union
-  pub least_of_levels : (lo all hi : List (List ℕ)) → IsLeastOfAll (lowers x fs) lo → IsLeastOfAll (uppers x fs) all
+  pub least_of_levels : {lo all hi : List (List ℕ)} → IsLeastOfAll (lowers x fs) lo → IsLeastOfAll (uppers x fs) all
       → IsWithout all lo hi → IsLeastOfAll fs (branch x lo hi)
-  least_of_levels lo all hi of_lo of_all left =
-      IsLeastFor-same
-      (λ within. one_within (lowers x fs) within || (within x && one_within (uppers x fs) within)) (one_within fs)
-      (branch x lo hi)
-      (least-node x lo all hi (one_within (lowers x fs)) (one_within (uppers x fs)) (lowers_above lo of_lo)
-      (uppers_above all of_all) of_lo of_all left) (λ within. sym (one_within-cut x fs within cut))
+  least_of_levels of_lo of_all left =
+      IsLeastFor-same (least-node x (lowers_above of_lo)
+      (uppers_above of_all) of_lo of_all left) (λ within. sym (one_within-cut x fs within cut))

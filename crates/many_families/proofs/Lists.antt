@@ -11,17 +11,17 @@ use Rattle.family_memory.specs.Memory.{Held, Has, IsSound, Went, Gave, family_in
 use Rattle.family_memory.proofs.After.{Gave-there, still, still_has}
 use Rattle.many_families.specs.Lists.{families}
 
-pub families_stay : (before after : Held) (list : List ℕ) → IsSound before → Went before after → All (Has before) list
+pub families_stay : {before after : Held} (list : List ℕ) → IsSound before → Went before after → All (Has before) list
     → families after list ≡ families before list
-families_stay before after [] sound went has = refl
-families_stay before after (r ∷ list) sound went has =
-    ap (λ f. f ∷ families after list) (still before after sound went r (All-head (Has before) r list has))
-    ∙ ap (λ fs. family_in before r ∷ fs) (families_stay before after list sound went (All-tail (Has before) r list has))
+families_stay [] sound went has = refl
+families_stay {before} {after} (r ∷ list) sound went has =
+    ap (λ f. f ∷ families after list) (still sound went r (All-head (Has before) r list has))
+    ∙ ap (λ fs. family_in before r ∷ fs) (families_stay list sound went (All-tail (Has before) r list has))
 
-pub still_all : (before after : Held) (list : List ℕ) → IsSound before → Went before after → All (Has before) list
+pub still_all : {before after : Held} (list : List ℕ) → IsSound before → Went before after → All (Has before) list
     → All (Has after) list
-still_all before after list sound went has =
-    λ k d inside. still_has before after sound went (get_or list k d) (has k d inside)
+still_all list sound went has =
+    λ k d inside. still_has sound went (get_or list k d) (has k d inside)
 
 map_append : (held : Held) (xs ys : List ℕ) → families held (xs ++ ys) ≡ families held xs ++ families held ys
 map_append held [] ys = refl
@@ -34,36 +34,36 @@ families_parts held n list =
 
 -- ---- unions
 
-pub few_united : (held : Held) (list : List ℕ) (r : ℕ) → IsSound held → All (Has held) list → length list < 2
+pub few_united : {held : Held} (list : List ℕ) {r : ℕ} → IsSound held → All (Has held) list → length list < 2
     → r ≡ (if nat_lt 0 (length list) then get_or list 0 0 else 0) → Gave (IsLeastOfAll (families held list)) held held r
-few_united held [] r sound has few is =
+few_united {held} [] sound has few is =
     subst (Gave (IsLeastOfAll []) held held) (sym is)
-    (Gave-there (IsLeastOfAll []) held 0 sound (let some = sound.terminals in omega arith)
+    (Gave-there {is = IsLeastOfAll []} {r = 0} sound (let some = sound.terminals in omega arith)
     (subst (IsLeastOfAll []) (sym (family-empty (map_of held))) least_of_none))
-few_united held (q ∷ []) r sound has few is =
+few_united {held} (q ∷ []) {r} sound has few is =
     let here : r ≡ q = is ∙ cond-true (nat_lt 0 (length (q ∷ []))) q 0 (lt-ltb 0 (length (q ∷ [])) (omega arith)) in
     let there : Has held q = has 0 0 (omega arith) in
     subst (Gave (IsLeastOfAll (family_in held q ∷ [])) held held) (sym here)
-    (Gave-there (IsLeastOfAll (family_in held q ∷ [])) held q sound there
-    (least_of_one (family_in held q) (sound.antichains q there)))
-few_united held (q ∷ p ∷ list) r sound has few is = absurd (omega arith)
+    (Gave-there {is = IsLeastOfAll (family_in held q ∷ [])} {r = q} sound there
+    (least_of_one (sound.antichains q there)))
+few_united (q ∷ p ∷ list) sound has few is = absurd (omega arith)
 
 -- ---- products
 
-pub product_begun : (held : Held) (list : List ℕ) → IsSound held
+pub product_begun : {held : Held} (list : List ℕ) → IsSound held
     → IsLeastProductOfAll (take 0 (families held list)) (family_in held 1)
-product_begun held list sound = subst (IsLeastProductOfAll []) (sym (family-unit (map_of held))) product_of_none
+product_begun {held} list sound = subst (IsLeastProductOfAll []) (sym (family-unit (map_of held))) product_of_none
 
-pub product_goes_on : (fs : List (List (List ℕ))) (place : ℕ) (f g h : List (List ℕ)) → place < length fs
+pub product_goes_on : (fs : List (List (List ℕ))) (place : ℕ) {f g h : List (List ℕ)} → place < length fs
     → get_or fs place [] ≡ g → IsLeastProductOfAll (take place fs) f → IsLeastProduct f g h
     → IsLeastProductOfAll (take (place + 1) fs) h
-product_goes_on fs place f g h inside here of_fs is =
+product_goes_on fs place {f} {g} {h} inside here of_fs is =
     subst (λ l. IsLeastProductOfAll l h) (sym (take_more fs place [] inside ∙ ap (λ q. take place fs ++ q ∷ []) here))
     (product_of_more (take place fs) f g h of_fs is)
 
-pub member_family : (held : Held) (list : List ℕ) (place r : ℕ) → place < length list → r ≡ get_or list place 0
+pub member_family : (held : Held) (list : List ℕ) (place : ℕ) {r : ℕ} → place < length list → r ≡ get_or list place 0
     → get_or (families held list) place [] ≡ family_in held r
-member_family held list place r inside is =
+member_family held list place inside is =
     get_or-map (family_in held) list place 0 [] inside ∙ ap (family_in held) (sym is)
 
 pub many_families : (held : Held) (list : List ℕ) → length (families held list) ≡ length list

@@ -5,18 +5,15 @@ use Rattle.std.proofs.Common.{subst, inl, inr, arith, length-drop, eq-eqb, refl}
 use Rattle.std.proofs.lemmas.Bool.{cases_eq, cases_lt, cond-true, cond-false, lt-leb, ne_eqb}
 use Rattle.std.proofs.lemmas.List.{drop_more, get_or-set_same, get_or-set_other, get_or_past, length-set}
 use Rattle.std.proofs.lemmas.List.Elements.{All-set}
-use Rattle.zdd_families.specs.Within.{count_within}
-use Rattle.zdd_families.proofs.MinimalLemmas.{minimal-none}
-use Rattle.zdd_families.proofs.MapLemmas.{family-empty, family-unit}
-use Rattle.zdd_families.specs.Least.{IsLeastVotes}
-use Rattle.zdd_families.proofs.Many.{no_votes}
+use Rattle.zdd_families.specs.{Within.count_within, Least.IsLeastVotes}
+use Rattle.zdd_families.proofs.{MinimalLemmas.minimal-none, MapLemmas.family-empty, MapLemmas.family-unit}
+use Rattle.zdd_families.proofs.{Many.no_votes}
 use Rattle.family_memory.specs.Memory.{Held, Has, IsSound, Went, Gave, family_in, map_of}
 use Rattle.family_memory.proofs.After.{Gave-there, still, still_has}
 use Rattle.many_families.specs.Lists.{families, AreApartFrom, IsBetween, IsVote, IsVoter, IsVoting, HaveVoted}
 use Rattle.many_families.specs.Lists.{VotesAt, VotesNext}
 use Rattle.many_families.specs.Joins.{IsJoined, IsBelow}
-use Rattle.many_families.proofs.Lists.{many_families, still_all}
-use Rattle.many_families.proofs.ApartVotes.{is_below, votes_joined}
+use Rattle.many_families.proofs.{Lists.many_families, Lists.still_all, ApartVotes.is_below, ApartVotes.votes_joined}
 use Rattle.unit_sets.specs.UnitList.{some_within}
 
 -- ---- no votes, and more votes than members
@@ -39,43 +36,43 @@ too_many held fs votes many =
       some_within = λ within. sym (lt-leb votes (count_within fs within) (let h = hits_few fs within in omega arith));
     }
 
-pub given_no_votes : (held : Held) (list : List ℕ) (votes : ℕ) → IsSound held → votes ≡ 0
+pub given_no_votes : {held : Held} (list : List ℕ) (votes : ℕ) → IsSound held → votes ≡ 0
     → Gave (IsLeastVotes votes (families held list)) held held 1
-given_no_votes held list votes sound none =
-    Gave-there (IsLeastVotes votes (families held list)) held 1 sound (let few = sound.terminals in omega arith)
+given_no_votes {held} list votes sound none =
+    Gave-there sound (let few = sound.terminals in omega arith)
     (subst (λ n. IsLeastVotes n (families held list) (family_in held 1)) (sym none)
     (subst (IsLeastVotes 0 (families held list)) (sym (family-unit (map_of held))) (no_votes (families held list))))
 
-pub given_too_many : (held : Held) (list : List ℕ) (votes : ℕ) → IsSound held → length list < votes
+pub given_too_many : {held : Held} (list : List ℕ) (votes : ℕ) → IsSound held → length list < votes
     → Gave (IsLeastVotes votes (families held list)) held held 0
-given_too_many held list votes sound many =
-    Gave-there (IsLeastVotes votes (families held list)) held 0 sound (let few = sound.terminals in omega arith)
+given_too_many {held} list votes sound many =
+    Gave-there sound (let few = sound.terminals in omega arith)
     (too_many held (families held list) votes (let e = many_families held list in omega arith))
 
 -- ---- what stands stays
 
-module _ (before after : Held) (fs : List (List (List ℕ))) (sound : IsSound before) (went : Went before after) where
-  pub vote_stays : (from count r : ℕ) → IsVote before fs from count r → IsVote after fs from count r
-  vote_stays from count r vote = record {
-    has = still_has before after sound went r vote.has;
-    is = subst (IsLeastVotes count (drop from fs)) (sym (still before after sound went r vote.has)) vote.is;
+module _ {before after : Held} (fs : List (List (List ℕ))) (sound : IsSound before) (went : Went before after) where
+  pub vote_stays : {from count r : ℕ} → IsVote before fs from count r → IsVote after fs from count r
+  vote_stays {from} {count} {r} vote = record {
+    has = still_has sound went r vote.has;
+    is = subst (IsLeastVotes count (drop from fs)) (sym (still sound went r vote.has)) vote.is;
   }
 
-  pub voter_stays : (member floor voter : ℕ) → IsVoter before fs member floor voter
+  pub voter_stays : {member floor voter : ℕ} → IsVoter before fs member floor voter
       → IsVoter after fs member floor voter
-  voter_stays member floor voter is = record {
-    has = still_has before after sound went voter is.has;
-    is = still before after sound went voter is.has ∙ is.is;
+  voter_stays {member} {floor} {voter} is = record {
+    has = still_has sound went voter is.has;
+    is = still sound went voter is.has ∙ is.is;
     units =
         λ some. subst (λ f. AreApartFrom floor (f ∷ drop (member + 1) fs))
-        (sym (still before after sound went voter is.has)) (is.units some);
+        (sym (still sound went voter is.has)) (is.units some);
   }
 
 -- ---- one member more at one place
 
 module _ {s0 : Held} {fs : List (List (List ℕ))} {votes member place floor voter : ℕ} {members : List ℕ}
-    (turn : VotesAt s0 fs votes member place floor voter members) (fewer : ℕ)
-    (fewer_is : fewer ≡ (if place == member then 1 else get_or members place 0)) (same : ℕ)
+    (turn : VotesAt s0 fs votes member place floor voter members) {fewer : ℕ}
+    (fewer_is : fewer ≡ (if place == member then 1 else get_or members place 0)) {same : ℕ}
     (same_is : same ≡ get_or members (place + 1) 0) where
   pub fewer_vote : IsVote s0 fs (member + 1) (place - member) fewer
   fewer_vote =
@@ -128,8 +125,7 @@ module _ {s0 : Held} {fs : List (List (List ℕ))} {votes member place floor vot
     before_others : AreApartFrom floor (family_in s0 voter ∷ drop (member + 1) fs)
         → IsBelow (family_in s0 voter) (family_in s0 same) (family_in s0 fewer)
     before_others (next, between, others) =
-        is_below next (place - member) (drop (member + 1) fs) others (family_in s0 fewer) fewer_vote.is floor
-        (family_in s0 voter) (family_in s0 same) between same_vote.is
+        is_below next (place - member) (drop (member + 1) fs) others fewer_vote.is between same_vote.is
 
   module _ {s1 : Held} {made : ℕ} (gave : Gave (IsJoined (family_in s0 voter) (family_in s0 same) (family_in s0 fewer))
       s0 s1 made) where
@@ -144,8 +140,8 @@ module _ {s0 : Held} {fs : List (List (List ℕ))} {votes member place floor vot
       has = gave.has;
       is =
           subst (λ l. IsLeastVotes (suc (place - member)) l (family_in s1 made)) (sym next)
-          (votes_joined (place - member) (family_in s0 voter) (drop (member + 1) fs) (family_in s0 same)
-          (family_in s0 fewer) (family_in s1 made) same_vote.is fewer_vote.is gave.is);
+          (votes_joined (place - member) (family_in s0 voter) (drop (member + 1) fs) same_vote.is fewer_vote.is
+          gave.is);
     }
 
     other_place : (at : ℕ) → ¬ (at ≡ place) → get_or (set members place made) at 0 ≡ get_or members at 0
@@ -154,16 +150,15 @@ module _ {s0 : Held} {fs : List (List (List ℕ))} {votes member place floor vot
     pub voted_at : IsVoting s1 fs votes member (place + 1) (set members place made)
     voted_at = record {
       count = length-set members place made ∙ turn.voting.count;
-      has = All-set (Has s1) members place made gave.has (still_all s0 s1 members turn.sound gave.went turn.voting.has);
+      has = All-set (Has s1) members place made gave.has (still_all members turn.sound gave.went turn.voting.has);
       waiting = λ at low.
           ap (family_in s1) (other_place at (λ e. let h = turn.from in omega (arith, h, e, low)))
-          ∙ still s0 s1 turn.sound gave.went (get_or members at 0)
+          ∙ still turn.sound gave.went (get_or members at 0)
           (turn.voting.has at 0 (let h = turn.from in let k = turn.inside in omega (arith, h, k, low)))
           ∙ turn.voting.waiting at low;
       before = λ at from low enough most inside.
           subst (IsVote s1 fs (member + 1) (suc (at - (member + 1))))
-          (sym (other_place at (λ e. omega (arith, e, from))))
-          (vote_stays s0 s1 fs turn.sound gave.went (member + 1) (suc (at - (member + 1))) (get_or members at 0)
+          (sym (other_place at (λ e. omega (arith, e, from)))) (vote_stays fs turn.sound gave.went
           (turn.voting.before at (omega (arith, from)) low enough most
           (let e = length-set members place made in omega (arith, e, inside))));
       after = λ at until low enough most inside.
@@ -174,8 +169,7 @@ module _ {s0 : Held} {fs : List (List (List ℕ))} {votes member place floor vot
                 (sym (get_or-set_same members place made 0 turn.inside)) made_vote)
             | inr other ↦
                 subst (IsVote s1 fs member (suc (at - member))) (sym (other_place at other))
-                (vote_stays s0 s1 fs turn.sound gave.went member (suc (at - member)) (get_or members at 0)
-                (turn.voting.after at (omega (arith, until, other)) low enough most
+                (vote_stays fs turn.sound gave.went (turn.voting.after at (omega (arith, until, other)) low enough most
                 (let e = length-set members place made in omega (arith, e, inside))))
           ];
     }
@@ -183,7 +177,7 @@ module _ {s0 : Held} {fs : List (List (List ℕ))} {votes member place floor vot
 -- ---- a member begins, and has voted
 
 module _ {held : Held} {fs : List (List (List ℕ))} {votes member floor : ℕ} {members : List ℕ}
-    (waits : VotesNext held fs votes member floor members) (voter : ℕ) (voter_is : voter ≡ get_or members member 0)
+    (waits : VotesNext held fs votes member floor members) {voter : ℕ} (voter_is : voter ≡ get_or members member 0)
     (lower : ℕ)
     (between : 1 ≤ lower → IsBetween lower floor (family_in held voter)) where
   pub has_voter : Has held voter
@@ -196,9 +190,9 @@ module _ {held : Held} {fs : List (List (List ℕ))} {votes member floor : ℕ} 
     units = λ some. (floor, between some, waits.voted.units (let h = (between some).order in omega (arith, h, some)));
   }
 
-  pub voting_begins : (place : ℕ) → ((at : ℕ) → member ≤ at → votes ≤ at + 1 → place ≤ at)
+  pub voting_begins : {place : ℕ} → ((at : ℕ) → member ≤ at → votes ≤ at + 1 → place ≤ at)
       → IsVoting held fs votes member place members
-  voting_begins place lowest = record {
+  voting_begins lowest = record {
     count = waits.voted.count;
     has = waits.voted.has;
     waiting = λ at low. waits.voted.waiting at (omega arith);
@@ -206,11 +200,11 @@ module _ {held : Held} {fs : List (List (List ℕ))} {votes member floor : ℕ} 
     after = λ at until low enough most within. absurd (let h = lowest at low enough in omega (arith, h, until));
   }
 
-pub member_voted : (held : Held) (fs : List (List (List ℕ))) (votes member place lower : ℕ) (members : List ℕ)
-    (voter : ℕ) → member < length members → IsVoter held fs member lower voter
+pub member_voted : {held : Held} {fs : List (List (List ℕ))} (votes : ℕ) {member place lower : ℕ} {members : List ℕ}
+    {voter : ℕ} → member < length members → IsVoter held fs member lower voter
     → IsVoting held fs votes member place members → ((at : ℕ) → at < member + votes → at < length members → at < place)
     → HaveVoted held fs votes member lower members
-member_voted held fs votes member place lower members voter inside is_voter voting highest = record {
+member_voted {fs} votes {member} {lower} inside is_voter voting highest = record {
   count = voting.count;
   has = voting.has;
   waiting = voting.waiting;

@@ -1,8 +1,6 @@
 -- Families that are cut at their least unit, to be united from there on.
 use Rattle.std.specs.Prelude.{◌≡◌, ℕ, ◌<◌, ◌≤◌, List, All, Contains, length, map, slice_index}
-use Rattle.zdd_families.specs.Family.{sets_with}
-use Rattle.zdd_families.specs.Map.{level_in}
-use Rattle.zdd_families.specs.Cuts.{Cuts}
+use Rattle.zdd_families.specs.{Family.sets_with, Map.level_in, Cuts.Cuts}
 use Rattle.family_memory.specs.Memory.{Held, Has, family_in, map_of}
 
 -- no reference of the list has a level below the floor

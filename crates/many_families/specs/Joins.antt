@@ -1,9 +1,7 @@
 -- One family more in votes.
 use Rattle.std.specs.Prelude.{ℕ, ◌&&◌, ◌||◌, List, [], Contains}
 use Rattle.unit_sets.specs.UnitList.{some_within}
-use Rattle.zdd_families.specs.Least.{IsLeastFor}
-use Rattle.zdd_families.specs.LeastNodes.{IncludesNoneOf}
-use Rattle.zdd_families.specs.Units.{LiesBelow}
+use Rattle.zdd_families.specs.{Least.IsLeastFor, LeastNodes.IncludesNoneOf, Units.LiesBelow}
 use Rattle.family_memory.specs.Memory.{Held, Has, IsSound}
 
 -- the minimal sets of one family, and of the unions of sets of two others

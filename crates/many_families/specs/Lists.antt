@@ -1,8 +1,7 @@
 -- The families of a list of references, and votes over its last members.
 use Rattle.std.specs.Prelude.{◌≡◌, ℕ, suc, ◌+◌, ◌-◌, ◌<◌, ◌≤◌, List, [], ◌∷◌, All, Contains, drop, get_or, length}
 use Rattle.std.specs.Prelude.{map, slice_index}
-use Rattle.zdd_families.specs.Least.{IsLeastVotes}
-use Rattle.zdd_families.specs.Units.{HasUnit}
+use Rattle.zdd_families.specs.{Least.IsLeastVotes, Units.HasUnit}
 use Rattle.family_memory.specs.Memory.{Held, Has, IsSound, family_in}
 
 -- the families of a list of references

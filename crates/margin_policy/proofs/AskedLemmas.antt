@@ -45,9 +45,9 @@ pub record IsFillingPlaces (units places : List ℕ) (i : ℕ) : Type 0 where
   pub front : take i places ≡ take i units
   pub rest : drop i places ≡ replicate (asked_limit - i) 1
 
-pub filling-more : (units places : List ℕ) (i unit : ℕ) → i < length units → i < asked_limit → unit ≡ get_or units i 0
+pub filling-more : {units places : List ℕ} {i unit : ℕ} → i < length units → i < asked_limit → unit ≡ get_or units i 0
     → IsFillingPlaces units places i → IsFillingPlaces units (set places i unit) (i + 1)
-filling-more units places i unit short inside at was =
+filling-more {units} {places} {i} {unit} short inside at was =
     let there : i < length places = omega (arith, was.all) in
     let same_front : take i (set places i unit) ≡ take i places = take-set places i unit in
     record {
@@ -69,9 +69,9 @@ filling-more units places i unit short inside at was =
     fewer i = omega arith
 
 -- all units stand in the array
-pub filled : (units places : List ℕ) (count : ℕ) (unknown : Bool) → length units ≡ count → count ≤ asked_limit
+pub filled : {units places : List ℕ} {count : ℕ} {unknown : Bool} → length units ≡ count → count ≤ asked_limit
     → can_be_asked units unknown ≡ true → IsFillingPlaces units places count → HoldsAsked places count unknown
-filled units places count unknown long few asked was = record {
+filled {units} {count} {unknown} long few asked was = record {
   all = was.all;
   few = few;
   rest = was.rest;

@@ -3,8 +3,7 @@ use Rattle.std.specs.Prelude.{◌≡◌, ℕ, ◌<◌, ◌++◌, Bool, true, fal
 use Rattle.std.specs.Prelude.{None, if◌then◌else◌}
 use Rattle.std.proofs.Common.{refl, sym, ◌∙◌, ap}
 use Rattle.std.proofs.lemmas.List.Folds.{list_any-append}
-use Rattle.unit_sets.specs.UnitList.{among}
-use Rattle.unit_sets.specs.declared.request.CrewNo.{CrewNo}
+use Rattle.unit_sets.specs.{UnitList.among, declared.request.CrewNo.CrewNo}
 use Rattle.residual_ledger.specs.Tight.{tight}
 use Rattle.residual_ledger.proofs.TightLaws.{tight-alike}
 use Rattle.margin_policy.specs.declared.request.Reply.TheVariants.{Granted, UnknownUnit, NotSupervisor}

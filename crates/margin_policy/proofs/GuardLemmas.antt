@@ -7,15 +7,13 @@ use Rattle.std.proofs.lemmas.Bool.{cases_Bool, cases_eq, cases_lt, leb-true, le-
 use Rattle.std.proofs.lemmas.Bool.{or_cases}
 use Rattle.std.proofs.lemmas.List.{get_or_past, length-replicate}
 use Rattle.std.proofs.lemmas.List.Elements.{All-head, All-tail}
-use Rattle.unit_sets.specs.UnitList.{among}
-use Rattle.unit_sets.specs.declared.request.CrewNo.{CrewNo}
+use Rattle.unit_sets.specs.{UnitList.among, declared.request.CrewNo.CrewNo}
 use Rattle.residual_ledger.specs.Residual.{residual}
 use Rattle.residual_ledger.proofs.ResidualFacts.{residual-cons}
 use Rattle.residual_ledger.specs.Tight.{is_tight, numbers_from, tight}
-use Rattle.margin_policy.specs.declared.request.Request.{Request}
+use Rattle.margin_policy.specs.{declared.request.Request.Request, declared.request.Reply.Reply}
+use Rattle.margin_policy.specs.{declared.request.Reply.TheVariants.Granted}
 use Rattle.margin_policy.specs.declared.request.Request.TheVariants.{Take, Return, Margin}
-use Rattle.margin_policy.specs.declared.request.Reply.{Reply}
-use Rattle.margin_policy.specs.declared.request.Reply.TheVariants.{Granted}
 use Rattle.margin_policy.specs.Held.{Held, holder_of, units_out, without_held}
 use Rattle.margin_policy.proofs.HeldLaws.{is_held, among-units_out, length-with_all_held}
 use Rattle.margin_policy.specs.Decide.{decide_return, is_granted, held_after_granted}

@@ -5,8 +5,7 @@ use Rattle.std.proofs.Common.{refl, sym, ◌∙◌, ap, arith, inl, inr, eq-eqb,
 use Rattle.std.proofs.Common.{get_or-set_other}
 use Rattle.std.proofs.lemmas.Bool.{cases_eq, cases_lt, lt-ltb, le-ltb, ne_eqb, or_left, or_right}
 use Rattle.std.proofs.lemmas.List.{get_or_past}
-use Rattle.unit_sets.specs.UnitList.{among, IsRising}
-use Rattle.unit_sets.specs.declared.request.CrewNo.{CrewNo}
+use Rattle.unit_sets.specs.{UnitList.among, UnitList.IsRising, declared.request.CrewNo.CrewNo}
 use Rattle.residual_ledger.proofs.Passing.{among-passing, IsRising-passing}
 use Rattle.margin_policy.specs.Held.{Held, holder_of, units_out, with_held, with_all_held}
 

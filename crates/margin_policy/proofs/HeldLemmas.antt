@@ -10,11 +10,10 @@ use Rattle.unit_sets.specs.UnitList.{among, IsRising, with_unit, without_unit}
 use Rattle.unit_sets.proofs.UnitListLemmas.{same_set, IsRising-with_unit}
 use Rattle.unit_sets.proofs.UnitListLemmas.{IsRising-without_unit, among-with_unit, among-without_unit}
 use Rattle.unit_sets.specs.declared.request.CrewNo.{CrewNo}
-use Rattle.margin_policy.specs.Asked.{has_repeat}
+use Rattle.margin_policy.specs.{Asked.has_repeat, Standing.nothing_held}
 use Rattle.margin_policy.specs.Held.{Held, holder_of, units_out, with_held, with_all_held, without_held, or_else}
 use Rattle.margin_policy.specs.Held.{first_holder}
 use Rattle.margin_policy.proofs.HeldLaws.{is_held, IsRising-units_out, among-units_out, is_held-with_held}
-use Rattle.margin_policy.specs.Standing.{nothing_held}
 use Rattle.margin_policy.proofs.AskedLemmas.{once_at}
 
 -- ---- nothing is out
@@ -106,10 +105,10 @@ with_all_held-append : (crew : CrewNo) (units more : List ℕ) (held : Held)
 with_all_held-append crew [] more held = refl
 with_all_held-append crew (unit ∷ units) more held = with_all_held-append crew units more (with_held crew unit held)
 
-pub with_all_held-more : (crew : CrewNo) (units : List ℕ) (held : Held) (i unit : ℕ) → i < length units
+pub with_all_held-more : (crew : CrewNo) (units : List ℕ) (held : Held) (i : ℕ) {unit : ℕ} → i < length units
     → unit ≡ get_or units i 0 → with_held crew unit (with_all_held crew (take i units) held)
     ≡ with_all_held crew (take (i + 1) units) held
-with_all_held-more crew units held i unit short at =
+with_all_held-more crew units held i {unit} short at =
     sym (ap (λ some. with_all_held crew some held)
     (take_more units i 0 short ∙ ap (λ (u : ℕ). take i units ++ u ∷ []) (sym at))
     ∙ with_all_held-append crew (take i units) (unit ∷ []) held)
@@ -129,9 +128,9 @@ held_as_before crew (first ∷ units) held unit none =
     clash false h k = absurd cc
 
 -- the unit whose turn it is is still in service
-pub still_free : (crew : CrewNo) (units : List ℕ) (held : Held) (i unit : ℕ) → has_repeat units ≡ false
+pub still_free : (crew : CrewNo) (units : List ℕ) (held : Held) (i : ℕ) {unit : ℕ} → has_repeat units ≡ false
     → first_holder held units ≡ None → i < length units → unit ≡ get_or units i 0
     → holder_of (with_all_held crew (take i units) held) unit ≡ None
-still_free crew units held i unit once none short at =
+still_free crew units held i {unit} once none short at =
     held_as_before crew (take i units) held unit (ap (among (take i units)) at ∙ once_at units i once short)
     ∙ ap (holder_of held) at ∙ first_holder-none held units none i short

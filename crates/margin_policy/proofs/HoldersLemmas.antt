@@ -6,9 +6,8 @@ use Rattle.std.proofs.lemmas.Bool.{cases_eq, cases_lt}
 use Rattle.std.proofs.lemmas.List.{get_or_past, get_or-replicate, length-replicate}
 use Rattle.unit_sets.specs.declared.request.CrewNo.{CrewNo}
 use Rattle.residual_ledger.specs.Tight.{tight}
-use Rattle.margin_policy.specs.declared.request.Request.{Request}
+use Rattle.margin_policy.specs.{declared.request.Request.Request, declared.request.Reply.Reply}
 use Rattle.margin_policy.specs.declared.request.Request.TheVariants.{Take, Return, Margin}
-use Rattle.margin_policy.specs.declared.request.Reply.{Reply}
 use Rattle.margin_policy.specs.declared.request.Reply.TheVariants.{Granted, UnknownUnit}
 use Rattle.margin_policy.specs.declared.request.Reply.TheVariants.{HeldBy, NotSupervisor}
 use Rattle.margin_policy.specs.Held.{Held, holder_of, units_out, with_held, with_all_held, or_else}

@@ -1,18 +1,13 @@
 -- What the tests need of lists that they make.
-use Rattle.std.proofs.Common.{◌≡◌, ℕ, zero, suc, ◌+◌, ◌-◌, ◌<◌, ◌≤◌, true, List, [], ◌∷◌, ◌++◌, length, get_or}
+use Rattle.std.proofs.Common.{◌≡◌, ℕ, zero, suc, ◌+◌, ◌<◌, ◌≤◌, true, List, [], ◌∷◌, ◌++◌, length, get_or}
 use Rattle.std.proofs.Common.{slice_get, Some, refl, sym, ◌∙◌, ap, arith, inl, inr, length-append}
-use Rattle.std.specs.Ordering.{nat_cmp, is_lt}
-use Rattle.std.specs.List.Sorted.{IsStrictlySortedBy}
-use Rattle.std.specs.declared.cmp.Ordering.{Ordering}
+use Rattle.std.specs.{Ordering.nat_cmp, Ordering.is_lt, List.Sorted.IsStrictlySortedBy, declared.cmp.Ordering.Ordering}
 use Rattle.std.specs.declared.cmp.Ordering.TheVariants.{Less, Equal, Greater}
-use Rattle.std.proofs.lemmas.Bool.{cases_eq}
-use Rattle.std.proofs.lemmas.Bool.Decides.{nat_tests}
-use Rattle.std.proofs.lemmas.Cmp.{nat_cmp_total}
-use Rattle.std.proofs.lemmas.List.{get_or_append_left, get_or_push}
-use Rattle.std.proofs.lemmas.Map.Keys.{Less-from_sorted, sorted_from_all_adjacent}
+use Rattle.std.proofs.{lemmas.Bool.cases_eq, lemmas.Bool.Decides.nat_tests, lemmas.Cmp.nat_cmp_total}
+use Rattle.std.proofs.{lemmas.List.get_or_append_left, lemmas.List.get_or_push, lemmas.Map.Keys.Less-from_sorted}
+use Rattle.std.proofs.{lemmas.Map.Keys.sorted_from_all_adjacent}
 use Rattle.unit_sets.specs.CutOrder.{cut_cmp, cut_cmp_total, IsInCutOrder, IsOrderedCuts, IsCutSet}
-use Rattle.unit_sets.specs.Unit.{IsUnit, most_units}
-use Rattle.unit_sets.specs.UnitList.{IsRising}
+use Rattle.unit_sets.specs.{Unit.IsUnit, Unit.most_units, UnitList.IsRising}
 use Rattle.residual_ledger.specs.Residual.{HasUnitsUpTo}
 
 -- the units before a place rise
@@ -22,8 +17,8 @@ pub record RisesSoFar (units : List ℕ) (i : ℕ) : Type 0 where
 less_from : (a b : ℕ) → a < b → nat_cmp a b ≡ Less
 less_from a b h = grind (arith, nat_tests)
 
-pub rises-all : (units : List ℕ) (i : ℕ) → length units ≤ i → RisesSoFar units i → IsRising units
-rises-all units i full was =
+pub rises-all : {units : List ℕ} {i : ℕ} → length units ≤ i → RisesSoFar units i → IsRising units
+rises-all {units} full was =
     sorted_from_all_adjacent nat_cmp_total units 0
     (λ k h. less_from (get_or units k 0) (get_or units (k + 1) 0) (was.below k (omega arith)))
 

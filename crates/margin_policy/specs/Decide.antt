@@ -2,12 +2,10 @@
 use Rattle.std.specs.Prelude.{ℕ, Bool, true, false, ◌==◌, ◌++◌, List, [], ◌∷◌, Option, Some, None, if◌then◌else◌}
 use Rattle.unit_sets.specs.declared.request.CrewNo.{CrewNo}
 use Rattle.residual_ledger.specs.Tight.{tight}
-use Rattle.margin_policy.specs.declared.request.Request.{Request}
+use Rattle.margin_policy.specs.{declared.request.Request.Request, declared.request.Reply.Reply, Asked.AskedView}
 use Rattle.margin_policy.specs.declared.request.Request.TheVariants.{Take, Return, Margin}
-use Rattle.margin_policy.specs.declared.request.Reply.{Reply}
 use Rattle.margin_policy.specs.declared.request.Reply.TheVariants.{Granted, Denied, UnknownUnit, AlreadyOut, NotOut}
 use Rattle.margin_policy.specs.declared.request.Reply.TheVariants.{HeldBy, NotSupervisor}
-use Rattle.margin_policy.specs.Asked.{AskedView}
 use Rattle.margin_policy.specs.Held.{Held, holder_of, units_out, with_all_held, without_held, first_holder}
 
 -- whether two crews are the same

@@ -3,10 +3,8 @@
 use Rattle.std.specs.Prelude.{◌≡◌, ◌+◌, Bool, true, false, []}
 use Rattle.std.specs.Prelude.{length}
 use Rattle.residual_ledger.specs.Tight.{tight}
-use Rattle.margin_policy.specs.declared.request.Request.{Request}
+use Rattle.margin_policy.specs.{declared.request.Request.Request, Held.units_out, Standing.StandingView}
 use Rattle.margin_policy.specs.declared.request.Request.TheVariants.{Take, Return, Margin}
-use Rattle.margin_policy.specs.Held.{units_out}
-use Rattle.margin_policy.specs.Standing.{StandingView}
 
 -- every cut set keeps more members in service than the margin in force
 abbrev pub KeepsMore : StandingView → Type 0

@@ -1,7 +1,6 @@
 -- Which units are out of service, and who holds them.
 use Rattle.std.specs.Prelude.{ℕ, List, [], ◌∷◌, length, slice_index_or, slice_set, Option, Some, None, is_some}
-use Rattle.unit_sets.specs.declared.request.CrewNo.{CrewNo}
-use Rattle.unit_sets.specs.Words.{passing_below}
+use Rattle.unit_sets.specs.{declared.request.CrewNo.CrewNo, Words.passing_below}
 
 -- The map from each unit that is out to its holder: at the place of a unit's number its holder, if it is out.
 abbrev pub Held : Type 0

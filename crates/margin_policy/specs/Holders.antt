@@ -1,10 +1,8 @@
 -- Which crews hold units, and which crews replies name: they are crews that asked before.
 use Rattle.std.specs.Prelude.{ℕ, ◌<◌, Option, Some, None}
 use Rattle.unit_sets.specs.declared.request.CrewNo.{CrewNo}
-use Rattle.margin_policy.specs.declared.request.Reply.{Reply}
-use Rattle.margin_policy.specs.declared.request.Reply.TheVariants.{AlreadyOut}
-use Rattle.margin_policy.specs.declared.request.Reply.TheVariants.{HeldBy}
-use Rattle.margin_policy.specs.Held.{Held, holder_of}
+use Rattle.margin_policy.specs.{declared.request.Reply.Reply, declared.request.Reply.TheVariants.AlreadyOut}
+use Rattle.margin_policy.specs.{declared.request.Reply.TheVariants.HeldBy, Held.Held, Held.holder_of}
 
 -- a holder is one of so many crews
 abbrev pub HolderBelow : ℕ → Option CrewNo → Type 0

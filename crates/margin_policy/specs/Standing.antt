@@ -3,10 +3,9 @@ use Rattle.std.specs.Prelude.{◌≡◌, ℕ, ◌+◌, ◌≤◌, List, length, 
 use Rattle.deck_limits.specs.declared.TheConstants.{GREATEST_MARGIN}
 use Rattle.unit_sets.specs.declared.request.CrewNo.{CrewNo}
 use Rattle.residual_ledger.specs.Ledger.{LedgerView, IsLedgerFor}
-use Rattle.margin_policy.specs.declared.request.Request.{Request}
+use Rattle.margin_policy.specs.{declared.request.Request.Request, declared.request.Reply.Reply, Held.Held}
+use Rattle.margin_policy.specs.{Held.units_out}
 use Rattle.margin_policy.specs.declared.request.Request.TheVariants.{Take, Return, Margin}
-use Rattle.margin_policy.specs.declared.request.Reply.{Reply}
-use Rattle.margin_policy.specs.Held.{Held, units_out}
 use Rattle.margin_policy.specs.Decide.{decide, held_after, margin_after}
 
 -- how many units there are, the cut sets, the margin in force, the supervisor if there is one, and who holds what

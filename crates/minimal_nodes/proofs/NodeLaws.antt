@@ -6,36 +6,28 @@ use Rattle.std.proofs.Common.{refl, sym, ◌∙◌, ap, subst}
 use Rattle.std.proofs.lemmas.Bool.{cond-true, cond-false, lt-ltb, le-ltb}
 use Rattle.fault_words.specs.declared.kind.GateKind.{GateKind}
 use Rattle.fault_words.specs.declared.kind.GateKind.TheVariants.{And, Or, Votes, Pand, Por, Seq, Fdep, Csp, Wsp, Hsp}
-use Rattle.fault_definitions.specs.CutFamily.{IsCutFamily}
+use Rattle.fault_definitions.specs.{CutFamily.IsCutFamily, Trigger.below, Trigger.triggers_of, WellFormed.IsTree}
 use Rattle.fault_definitions.specs.Reading.{reads, true_count, first_reads, gate_reads}
-use Rattle.fault_definitions.proofs.ReadingLaws.{reads-node}
+use Rattle.fault_definitions.proofs.{ReadingLaws.reads-node, RankLaws.below_are_nodes}
 use Rattle.fault_definitions.specs.Tree.{FaultTree, IsGateOf, IsNodeOf, IsUnitOf, inputs_of, is_above_units, kind_of}
 use Rattle.fault_definitions.specs.Tree.{unit_count}
-use Rattle.fault_definitions.specs.Trigger.{below, triggers_of}
-use Rattle.fault_definitions.specs.WellFormed.{IsTree}
-use Rattle.zdd_families.specs.Within.{count_within}
-use Rattle.zdd_families.specs.Least.{IsLeastFor}
+use Rattle.zdd_families.specs.{Within.count_within, Least.IsLeastFor}
 use Rattle.zdd_families.proofs.LeastLemmas.{IsLeastFor-same, minimal-from_within}
 use Rattle.minimal_nodes.specs.Gates.{first_within, gate_within, IsLeastOfGate}
-use Rattle.fault_definitions.proofs.RankLaws.{below_are_nodes}
 use Rattle.tree_families.proofs.Building.{all_generate, gate_below, unit_below}
-use Rattle.tree_families.proofs.CutFamilies.{cut_family-minimal}
-use Rattle.tree_families.proofs.FailingSets.{IsFamilyFor-cut_family}
-use Rattle.tree_families.specs.Generation.{IsFamilyFor}
-use Rattle.tree_families.specs.Recipe.{StandFor, alone}
-use Rattle.tree_families.proofs.TreeParts.{has_cut_family}
+use Rattle.tree_families.proofs.{CutFamilies.cut_family-minimal, FailingSets.IsFamilyFor-cut_family}
+use Rattle.tree_families.proofs.{TreeParts.has_cut_family}
+use Rattle.tree_families.specs.{Generation.IsFamilyFor, Recipe.StandFor, Recipe.alone}
 use Rattle.unit_sets.specs.UnitList.{some_within}
 
-pub cut_family-least : (tree : FaultTree) → IsTree tree → (node : ℕ) → IsNodeOf tree node → (least : List (List ℕ))
+pub cut_family-least : {tree : FaultTree} → IsTree tree → {node : ℕ} → IsNodeOf tree node → {least : List (List ℕ)}
     → IsLeastFor (λ within. reads tree within node) least → IsCutFamily tree node least
-cut_family-least tree kept node is_node least is =
+cut_family-least {tree} kept {node} is_node {least} is =
     let found = has_cut_family tree kept node is_node in
     let generates : IsFamilyFor tree node found.family =
     IsFamilyFor-cut_family tree kept node is_node found.family found.is in
-    cut_family-minimal tree node found.family least generates
-    (minimal-from_within found.family least generates.of_tree.is_family
-    (IsLeastFor-same (λ within. reads tree within node) (some_within found.family) least is
-    (λ within. sym (generates.some_within within))))
+    cut_family-minimal tree node found.family least generates (minimal-from_within least generates.of_tree.is_family
+    (IsLeastFor-same is (λ within. sym (generates.some_within within))))
 
 -- ---- the families of what a node reads are true where these fail
 
@@ -92,19 +84,17 @@ one : (b : Bool) → ((b && true) || false) ≡ b
 one true = refl
 one false = refl
 
-module _ (tree : FaultTree) (kept : IsTree tree) (node : ℕ) (is_node : IsNodeOf tree node)
+module _ {tree : FaultTree} (kept : IsTree tree) (node : ℕ) (is_node : IsNodeOf tree node)
     (families : List (List (List ℕ))) (stand : StandFor (IsCutFamily tree) (below tree node) families) where
   generate : StandFor (IsFamilyFor tree) (below tree node) families
-  generate = all_generate tree kept (below tree node) families (below_are_nodes tree kept node) stand
+  generate = all_generate kept (below tree node) families (below_are_nodes kept node) stand
 
-  pub gate_cut_family : IsGateOf tree node → (least : List (List ℕ)) → IsLeastOfGate (kind_of tree node) families least
+  pub gate_cut_family : IsGateOf tree node → {least : List (List ℕ)} → IsLeastOfGate (kind_of tree node) families least
       → IsCutFamily tree node least
-  gate_cut_family is_gate least is =
+  gate_cut_family is_gate is =
       let inputs : StandFor (IsFamilyFor tree) (inputs_of tree node) families =
       subst (λ nodes. StandFor (IsFamilyFor tree) nodes families) (gate_below tree node is_gate) generate in
-      cut_family-least tree kept node is_node least
-      (IsLeastFor-same (gate_within (kind_of tree node) families) (λ within. reads tree within node) least is
-      (λ within.
+      cut_family-least kept is_node (IsLeastFor-same is (λ within.
       gate_fails tree within (kind_of tree node) (inputs_of tree node) families inputs
       ∙ sym (reads-node tree kept within node is_node
       ∙ cond-true (is_above_units tree node) _ _ (lt-ltb (unit_count tree) node is_gate.0))))
@@ -112,16 +102,14 @@ module _ (tree : FaultTree) (kept : IsTree tree) (node : ℕ) (is_node : IsNodeO
   alone_hit : (within : ℕ → Bool) → some_within (alone node) within ≡ within node
   alone_hit within = one (within node)
 
-  pub unit_cut_family : IsUnitOf tree node → (least : List (List ℕ))
+  pub unit_cut_family : IsUnitOf tree node → {least : List (List ℕ)}
       → IsLeastFor (λ within. some_within (alone node) within
       || list_any (λ family. some_within family within) families) least
       → IsCutFamily tree node least
-  unit_cut_family is_unit least is =
+  unit_cut_family is_unit is =
       let triggers : StandFor (IsFamilyFor tree) (triggers_of tree node) families =
       subst (λ nodes. StandFor (IsFamilyFor tree) nodes families) (unit_below tree node is_unit) generate in
-      cut_family-least tree kept node is_node least
-      (IsLeastFor-same _ (λ within. reads tree within node) least is
-      (λ within.
+      cut_family-least kept is_node (IsLeastFor-same is (λ within.
       ap (λ b. b || list_any (λ family. some_within family within) families) (alone_hit within)
       ∙ ap (λ b. within node || b) (any_fails tree within (triggers_of tree node) families triggers)
       ∙ sym (reads-node tree kept within node is_node

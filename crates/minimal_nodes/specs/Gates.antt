@@ -3,8 +3,7 @@ use Rattle.std.specs.Prelude.{ℕ, Bool, false, nat_le, List, [], ◌∷◌}
 use Rattle.std.specs.List.{list_any, list_all}
 use Rattle.fault_words.specs.declared.kind.GateKind.{GateKind}
 use Rattle.fault_words.specs.declared.kind.GateKind.TheVariants.{And, Or, Votes, Pand, Por, Seq, Fdep, Csp, Wsp, Hsp}
-use Rattle.zdd_families.specs.Within.{count_within}
-use Rattle.zdd_families.specs.Least.{IsLeastFor}
+use Rattle.zdd_families.specs.{Within.count_within, Least.IsLeastFor}
 use Rattle.unit_sets.specs.UnitList.{some_within}
 
 -- whether the first family has a set within

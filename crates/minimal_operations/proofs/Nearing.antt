@@ -2,16 +2,13 @@
 use Rattle.std.proofs.Common.{◌≡◌, ℕ, ◌<◌, ◌≤◌, true, List, Contains, sym, ◌∙◌, inl, inr, arith}
 use Rattle.unit_sets.specs.UnitList.{is_within}
 use Rattle.unit_sets.proofs.UnitListLemmas.{among-from_is_within}
-use Rattle.zdd_families.specs.Map.{level_in}
-use Rattle.zdd_families.specs.Inclusion.{includes_one}
-use Rattle.zdd_families.proofs.CutsLemmas.{set_above}
+use Rattle.zdd_families.specs.{Map.level_in, Inclusion.includes_one}
+use Rattle.zdd_families.proofs.{CutsLemmas.set_above, SetsLemmas.unit_above}
 use Rattle.zdd_families.proofs.InclusionLemmas.{Includes-from_test, same_Bool, test-from_part}
-use Rattle.zdd_families.proofs.SetsLemmas.{unit_above}
 use Rattle.family_memory.specs.Memory.{Held, family_in, map_of}
 use Rattle.family_memory.specs.Rests.{HasUnitBelow, IsRest}
 use Rattle.family_memory.proofs.After.{above}
-use Rattle.minimal_operations.specs.Operands.{HasBoth}
-use Rattle.minimal_operations.specs.Rests.{Serves}
+use Rattle.minimal_operations.specs.{Operands.HasBoth, Rests.Serves}
 
 module _ {held : Held} {a b level rest : ℕ} (has : HasBoth held a b) (is : IsRest held level (family_in held b) rest)
     (near : level_in (map_of held) rest ≤ level_in (map_of held) a) where
@@ -22,7 +19,7 @@ module _ {held : Held} {a b level rest : ℕ} (has : HasBoth held a b) (is : IsR
       let lower : low.0 < level_in (map_of held) a = let h = low.1 in omega (arith, h, near) in
       let past : low.0 < low.0 =
       unit_above low.0 low.0 set
-      (set_above low.0 (family_in held a) set (above held low.0 a has.sound has.first lower) there)
+      (set_above low.0 (family_in held a) set (above low.0 a has.sound has.first lower) there)
       (among-from_is_within set part low.0 within low.2) in
       omega (arith, past)
 

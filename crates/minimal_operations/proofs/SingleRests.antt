@@ -3,15 +3,12 @@ use Rattle.std.proofs.Common.{◌≡◌, ◌≢◌, ℕ, [], ◌∷◌, Contains
 use Rattle.std.proofs.lemmas.Bool.{cases_lt}
 use Rattle.unit_sets.proofs.Sorted.{Contains-nil}
 use Rattle.zdd_words.specs.declared.word.Parts.{Parts}
-use Rattle.zdd_families.specs.Family.{branch}
-use Rattle.zdd_families.specs.Without.{IsWithout}
-use Rattle.zdd_families.proofs.CutsLemmas.{cut_has_lo}
+use Rattle.zdd_families.specs.{Family.branch, Without.IsWithout}
+use Rattle.zdd_families.proofs.{CutsLemmas.cut_has_lo, Ends.unit-left}
 use Rattle.zdd_families.proofs.WithoutLemmas.{without-none, without-step, without-unit}
-use Rattle.zdd_families.proofs.Ends.{unit-left}
 use Rattle.family_memory.specs.Memory.{Held, IsNodeOf, family_in}
 use Rattle.family_memory.proofs.After.{Gave-there}
-use Rattle.minimal_operations.specs.declared.halves.Half.{Half}
-use Rattle.minimal_operations.specs.Halves.{IsHalf}
+use Rattle.minimal_operations.specs.{declared.halves.Half.Half, Halves.IsHalf}
 use Rattle.minimal_operations.specs.Operands.{EndsIn, HasBoth, NoneLower}
 use Rattle.minimal_operations.proofs.Ends.{node_lacks, none, nothing_left, unit}
 
@@ -24,7 +21,7 @@ module _ {held : Held} {a b : ℕ} {one : Parts} {other : Half} (nodes : NoneLow
   f0 = none held one.lo no_lo
 
   f1 : family_in held one.hi ≡ [] ∷ []
-  f1 = unit held one.hi unit_hi
+  f1 = unit held unit_hi
 
   lo_is : IsWithout (family_in held one.lo) (family_in held other.lo) []
   lo_is = subst (λ f. IsWithout f (family_in held other.lo) []) (sym f0) (without-none (family_in held other.lo))
@@ -34,20 +31,19 @@ module _ {held : Held} {a b : ℕ} {one : Parts} {other : Half} (nodes : NoneLow
   single_gone same =
       nothing_left has
       (without-step one.level _ _ _ _ _ _ [] [] [] is.cut half.cut lo_is
-      (subst (λ g. IsWithout (family_in held one.hi) g []) (sym (unit held other.hi same))
+      (subst (λ g. IsWithout (family_in held one.hi) g []) (sym (unit held same))
       (without-unit (family_in held one.hi)))
       (without-none (family_in held other.lo)))
 
   lo_lacks : Contains (family_in held other.lo) [] → ⊥
-  lo_lacks there =
-      node_lacks held b has.sound has.second nodes.nodes.second (cut_has_lo one.level _ _ _ [] half.cut there)
+  lo_lacks there = node_lacks b has.sound has.second nodes.nodes.second (cut_has_lo [] half.cut there)
 
   hi_lacks : other.hi ≢ 1 → Contains (family_in held other.hi) [] → ⊥
   hi_lacks other_than there =
       elim (cases_lt other.hi 2) [
         | inl small ↦
             Contains-nil [] (subst (λ f. Contains f []) (none held other.hi (omega (arith, small, other_than))) there)
-        | inr large ↦ node_lacks held other.hi has.sound half.has_hi large there
+        | inr large ↦ node_lacks other.hi has.sound half.has_hi large there
       ]
 
   whole : branch one.level [] ([] ∷ []) ≡ family_in held a
@@ -56,8 +52,7 @@ module _ {held : Held} {a b : ℕ} {one : Parts} {other : Half} (nodes : NoneLow
   -- it is none
   pub single_stays : other.hi ≢ 1 → EndsIn IsWithout held a b a
   single_stays other_than =
-      Gave-there (IsWithout (family_in held a) (family_in held b)) held a has.sound has.first
-      (subst (IsWithout (family_in held a) (family_in held b)) whole
+      Gave-there has.sound has.first (subst (IsWithout (family_in held a) (family_in held b)) whole
       (without-step one.level _ _ _ _ _ _ [] ([] ∷ []) ([] ∷ []) is.cut half.cut lo_is
       (subst (λ f. IsWithout f (family_in held other.hi) ([] ∷ [])) (sym f1)
       (unit-left (family_in held other.hi) (hi_lacks other_than)))

@@ -6,11 +6,11 @@ use Rattle.family_memory.proofs.After.{Gave-there}
 use Rattle.minimal_operations.specs.Operands.{AnswersOf, EndsIn}
 
 module _ (Is : List (List ℕ) → List (List ℕ) → List (List ℕ) → Type 0) where
-  pub end_swapped : (held : Held) (a b r : ℕ) → ((f g h : List (List ℕ)) → Is f g h → Is g f h) → EndsIn Is held b a r
+  pub end_swapped : {held : Held} (a b : ℕ) {r : ℕ} → ((f g h : List (List ℕ)) → Is f g h → Is g f h)
+      → EndsIn Is held b a r
       → EndsIn Is held a b r
-  end_swapped held a b r to gave =
-      Gave-there (Is (family_in held a) (family_in held b)) held r gave.went.sound gave.has
-      (to (family_in held b) (family_in held a) (family_in held r) gave.is)
+  end_swapped {held} a b {r} to gave =
+      Gave-there gave.went.sound gave.has (to (family_in held b) (family_in held a) (family_in held r) gave.is)
 
   pub swapped : {E : Type 0} (before after : Held) (a b : ℕ) (result : Result ℕ E)
       → ((f g h : List (List ℕ)) → Is f g h → Is g f h) → AnswersOf Is before after b a result

@@ -6,23 +6,21 @@ use Rattle.family_memory.specs.Answers.{IsTold, IsAnswer}
 use Rattle.kept_answers.specs.declared.answers.Operation.{Operation}
 use Rattle.minimal_operations.specs.Operands.{EndsIn, HasBoth}
 
-pub told_made : (operation : Operation) (before after : Held) (a b r : ℕ) → HasBoth before a b
+pub told_made : (operation : Operation) {before after : Held} (a b : ℕ) {r : ℕ} → HasBoth before a b
     → Gave (IsAnswer operation (family_in before a) (family_in before b)) before after r
     → IsTold after (record { question = record { operation = operation; first = a; second = b }; answer = r })
-told_made operation before after a b r has gave = record {
-  first = still_has before after has.sound gave.went a has.first;
-  second = still_has before after has.sound gave.went b has.second;
+told_made operation {after} a b {r} has gave = record {
+  first = still_has has.sound gave.went a has.first;
+  second = still_has has.sound gave.went b has.second;
   answer = gave.has;
-  is = at_both (λ f g. IsAnswer operation f g (family_in after r)) _ _ _ _
-      (sym (still before after has.sound gave.went a has.first))
-      (sym (still before after has.sound gave.went b has.second)) gave.is;
+  is = at_both (λ f g. IsAnswer operation f g (family_in after r)) (sym (still has.sound gave.went a has.first))
+      (sym (still has.sound gave.went b has.second)) gave.is;
 }
 
-pub recalled : (operation : Operation) (held : Held) (a b r : ℕ) → IsSound held
+pub recalled : (operation : Operation) {held : Held} (a b : ℕ) {r : ℕ} → IsSound held
     → IsTold held (record { question = record { operation = operation; first = a; second = b }; answer = r })
     → EndsIn (IsAnswer operation) held a b r
-recalled operation held a b r sound told =
-    Gave-there (IsAnswer operation (family_in held a) (family_in held b)) held r sound told.answer told.is
+recalled operation a b sound told = Gave-there sound told.answer told.is
 
 -- the memory is as it was, once the answer is kept
 pub kept : {Is : List (List ℕ) → Type 0} {before after after' : Held} {r : ℕ} → after' ≡ after → Gave Is before after r

@@ -2,8 +2,7 @@
 use Rattle.std.specs.Prelude.{ℕ, ◌<◌}
 use Rattle.unit_sets.specs.Unit.{IsUnit}
 use Rattle.zdd_words.specs.declared.word.Parts.{Parts}
-use Rattle.zdd_families.specs.Map.{level_in}
-use Rattle.zdd_families.specs.Cuts.{Cuts}
+use Rattle.zdd_families.specs.{Map.level_in, Cuts.Cuts}
 use Rattle.family_memory.specs.Memory.{Held, Has, IsSound, family_in, map_of}
 use Rattle.minimal_operations.specs.declared.halves.Half.{Half}
 

@@ -1,8 +1,6 @@
 -- Nodes whose sets with the level are rid of those that include one without it.
 use Rattle.std.specs.Prelude.{◌≡◌, ℕ, List}
-use Rattle.zdd_families.specs.Family.{IsAbove, branch}
-use Rattle.zdd_families.specs.Without.{IsWithout}
-use Rattle.zdd_families.specs.Antichains.{IsAntichain}
+use Rattle.zdd_families.specs.{Family.IsAbove, Family.branch, Without.IsWithout, Antichains.IsAntichain}
 use Rattle.family_memory.specs.Memory.{Held, Has, IsSound, family_in}
 
 -- the family has the sets of lo, and each with x what is left of all the others without lo

@@ -33,10 +33,10 @@ position-behind name keys =
     rw (place, whole) refl
 
 -- the place of a name by reference gives the number of the name
-pub number_found : (keys : List (Bor (List ℕ))) (name bytes : List ℕ) (found : Option ℕ) → bytes ≡ name
+pub number_found : (keys : List (Bor (List ℕ))) {name bytes : List ℕ} {found : Option ℕ} → bytes ≡ name
     → found ≡ position (λ (key : Bor (List ℕ)). same_name bytes key.now) keys
     → number_at found ≡ number_in (behind keys) name
-number_found keys name bytes found same is =
+number_found keys {bytes} same is =
     ap number_at (is ∙ (position-behind bytes keys ∙ ap (λ b. position (same_name b) (behind keys)) same))
 
 -- the name at a place, by reference and itself
@@ -46,27 +46,26 @@ name_there keys place key there =
     get_or-map (λ (other : Bor (List ℕ)). other.now) keys place key [] (slice_get_within keys place key there)
     ∙ ap (λ (other : Bor (List ℕ)). other.now) (get_or_from_slice_get keys place key key there)
 
-apart_at : (key : Bor (List ℕ)) (keys : List (Bor (List ℕ))) (name : List ℕ) (place : ℕ)
+apart_at : (key : Bor (List ℕ)) (keys : List (Bor (List ℕ))) {name : List ℕ} (place : ℕ)
     → AllByRecursion (λ (other : Bor (List ℕ)). same_name key.now other.now ≡ false) keys → place < length keys
     → get_or (behind keys) place [] ≡ name → same_name key.now name ≡ false
-apart_at key [] name place apart short is = absurd (omega arith)
-apart_at key (other ∷ keys) name zero apart short is = ap (same_name key.now) (sym is) ∙ apart.0
-apart_at key (other ∷ keys) name (suc place) apart short is =
-    apart_at key keys name place apart.1 (omega arith) is
+apart_at key [] place apart short is = absurd (omega arith)
+apart_at key (other ∷ keys) zero apart short is = ap (same_name key.now) (sym is) ∙ apart.0
+apart_at key (other ∷ keys) (suc place) apart short is = apart_at key keys place apart.1 (omega arith) is
 
 -- where no two are equal, a name is found at the place where it stands
-place_found : (keys : List (Bor (List ℕ))) (name : List ℕ) (place : ℕ)
+place_found : (keys : List (Bor (List ℕ))) {name : List ℕ} (place : ℕ)
     → IsDistinct (λ (key other : Bor (List ℕ)). same_name key.now other.now) keys → place < length keys
     → get_or (behind keys) place [] ≡ name
     → position_or_len (λ (key : Bor (List ℕ)). same_name name key.now) keys ≡ place
 unfolding IsDistinct
-place_found [] name place apart short is = absurd (omega arith)
-place_found (key ∷ keys) name zero apart short is =
+place_found [] place apart short is = absurd (omega arith)
+place_found (key ∷ keys) {name} zero apart short is =
     ap (λ b. cond (not b) (1 + position_or_len (λ (other : Bor (List ℕ)). same_name name other.now) keys) 0)
     ((bytes_decides name key.now).1 (sym is))
-place_found (key ∷ keys) name (suc place) apart short is =
-    let rest = place_found keys name place apart.1 (omega arith) is in
-    let apart_here = apart_at key keys name place apart.0 (omega arith) is in
+place_found (key ∷ keys) {name} (suc place) apart short is =
+    let rest = place_found keys place apart.1 (omega arith) is in
+    let apart_here = apart_at key keys place apart.0 (omega arith) is in
     let other : same_name name key.now ≡ false =
     false_from_ne_true (same_name name key.now) (λ same. (let turned : same_name key.now name ≡ true =
     (bytes_decides key.now name).1 (sym ((bytes_decides name key.now).0 same)) in cc)) in
@@ -75,12 +74,12 @@ place_found (key ∷ keys) name (suc place) apart short is =
     omega (arith, whole, rest)
 
 -- and so its number is known
-pub number_there : (keys : List (Bor (List ℕ))) (name : List ℕ) (place : ℕ)
+pub number_there : (keys : List (Bor (List ℕ))) {name : List ℕ} (place : ℕ)
     → IsDistinct (λ (key other : Bor (List ℕ)). same_name key.now other.now) keys → place < length (behind keys)
     → get_or (behind keys) place [] ≡ name → number_in (behind keys) name ≡ place + 1
-number_there keys name place apart short is =
+number_there keys {name} place apart short is =
     let few = length-map keys (λ (key : Bor (List ℕ)). key.now) in
-    let at = place_found keys name place apart (omega (arith, few, short)) is in
+    let at = place_found keys place apart (omega (arith, few, short)) is in
     ap number_at
     (sym (position-behind name keys) ∙ ap (λ n. cond (nat_lt n (length keys)) (Some n) None) at
     ∙ cond-true (nat_lt place (length keys)) (Some place) None (lt-ltb place (length keys) (omega (arith, few, short))))

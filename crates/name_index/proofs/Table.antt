@@ -3,8 +3,7 @@ use Rattle.std.proofs.Common.{◌≡◌, ◌≢◌, ℕ, ◌<◌, Bool, false, n
 use Rattle.std.proofs.Common.{All, AllPairs, refl, sym, ◌∙◌, ap, subst, arith, append_assoc, length-append}
 use Rattle.std.specs.Prelude.{if◌then◌else◌}
 use Rattle.std.proofs.lemmas.Bool.{or_from, false_from_ne_true, not_from_false, cond-true}
-use Rattle.std.proofs.lemmas.List.{get_or_append_left}
-use Rattle.std.proofs.lemmas.List.Elements.{All-head, All-tail}
+use Rattle.std.proofs.{lemmas.List.get_or_append_left, lemmas.List.Elements.All-head, lemmas.List.Elements.All-tail}
 use lib.Pointwise.{bytes_decides}
 use Rattle.fault_words.specs.Names.{has_name, same_name}
 
@@ -36,10 +35,11 @@ earlier_differ names name rest differ k d short =
     get_or_middle (y ∷ xs) x ys e = get_or_middle xs x ys e
 
 -- the next name goes to the end of the table
-pub insert_next : (names keys rest keys' rest' : List (List ℕ)) (name : List ℕ) (added : Bool) → Differ names
+pub insert_next : {names : List (List ℕ)} (keys : List (List ℕ)) {rest keys' rest' : List (List ℕ)} {name : List ℕ}
+    {added : Bool} → Differ names
     → keys ++ rest ≡ names → rest ≡ name ∷ rest' → added ≡ not (has_name keys name)
     → keys' ≡ (if added then keys ++ name ∷ [] else keys) → keys' ++ rest' ≡ names
-insert_next names keys rest keys' rest' name added differ before next new inserted =
+insert_next {names} keys {keys'} {rest'} {name} {added} differ before next new inserted =
     let whole : keys ++ name ∷ rest' ≡ names = ap (λ r. keys ++ r) (sym next) ∙ before in
     let fresh : has_name keys name ≡ false =
     no_such name keys (earlier_differ keys name rest' (subst Differ (sym whole) differ)) in

@@ -4,18 +4,15 @@ use Rattle.std.proofs.Common.{◌∙◌, ap, subst, arith, inl, inr, length-appe
 use Rattle.std.proofs.Common.{get_or-set_other}
 use Rattle.std.specs.Prelude.{Option, Some, None, IsNone, slice_get, ◌↔◌}
 use Rattle.std.specs.List.{All}
-use Rattle.std.proofs.lemmas.Bool.{cases_eq}
-use Rattle.std.proofs.lemmas.List.Elements.{All-push}
-use Rattle.std.proofs.lemmas.Option.{get_or_from_slice_get, slice_get_cases}
+use Rattle.std.proofs.{lemmas.Bool.cases_eq, lemmas.List.Elements.All-push, lemmas.Option.get_or_from_slice_get}
+use Rattle.std.proofs.{lemmas.Option.slice_get_cases}
 use Rattle.unit_sets.specs.declared.request.CrewNo.{CrewNo}
-use Rattle.margin_policy.specs.Holders.{HoldersBelow, NamesCrewBelow}
+use Rattle.margin_policy.specs.{Holders.HoldersBelow, Holders.NamesCrewBelow, declared.request.Request.Request}
 use Rattle.margin_policy.proofs.HoldersLemmas.{reply_names_below, holders_after_below}
 use Rattle.margin_policy.specs.Standing.{StandingView, IsRequestFor, reply_of, after}
-use Rattle.margin_policy.specs.declared.request.Request.{Request}
-use Rattle.outage_board.specs.declared.entry.Entry.{Entry}
-use Rattle.outage_board.specs.Histories.{served, docket_of}
+use Rattle.outage_board.specs.{declared.entry.Entry.Entry, Histories.served, Histories.docket_of, Kept.KeepsBoard}
+use Rattle.outage_board.specs.{Kept.left_in}
 use Rattle.outage_board.specs.Boards.{BoardView, IsBoard, standing_of, next_entry, entry_for, IsUsedUp}
-use Rattle.outage_board.specs.Kept.{KeepsBoard, left_in}
 use Rattle.outage_board.proofs.HistoryLemmas.{standing_after-push, units_stay, IsLegal-push, entries_of-other}
 use Rattle.outage_board.proofs.HistoryLemmas.{served-own, IsWholeUpTo-push}
 
@@ -28,14 +25,14 @@ pub record IsEntryFor (standing : StandingView) (crew : CrewNo) (place : ℕ) (f
   pub asked : found ≡ Some entry.request
   pub decided : entry.reply ≡ reply_of standing crew entry.request
 
-entry_is : (entry other : Entry) → Some entry ≡ Some other → entry ≡ other
-entry_is entry other e = cc
+entry_is : {entry : Entry} (other : Entry) → Some entry ≡ Some other → entry ≡ other
+entry_is other e = cc
 
-pub entry_for-is : (standing : StandingView) (crew : CrewNo) (place : ℕ) (found : Option Request) (entry : Entry)
+pub entry_for-is : {standing : StandingView} {crew : CrewNo} {place : ℕ} (found : Option Request) {entry : Entry}
     → entry_for standing crew place found ≡ Some entry → IsEntryFor standing crew place found entry
-entry_for-is standing crew place None entry is = absurd cc
-entry_for-is standing crew place (Some request) entry is =
-    subst (IsEntryFor standing crew place (Some request)) (entry_is _ entry is)
+entry_for-is None is = absurd cc
+entry_for-is {standing} {crew} {place} (Some request) {entry} is =
+    subst (IsEntryFor standing crew place (Some request)) (entry_is entry is)
     (record { own = refl; at = refl; asked = refl; decided = refl })
 
 past_end : (docket : List Request) (count : ℕ) → slice_get docket count ≡ None → length docket ≤ count
@@ -58,9 +55,9 @@ inside_end docket count request some = elim ((slice_get_cases docket count).1) [
     some_none e = absurd cc
 
 -- there is no next entry exactly where the docket is used up
-pub no_next : (board : BoardView) (crew : CrewNo) (found : Option Entry) → IsBoard board → found ≡ next_entry board crew
+pub no_next : (board : BoardView) (crew : CrewNo) {found : Option Entry} → IsBoard board → found ≡ next_entry board crew
     → IsNone found ↔ IsUsedUp board crew.0
-no_next board crew found kept is =
+no_next board crew kept is =
     subst (λ f. IsNone f ↔ IsUsedUp board crew.0) (sym is)
     (by_request (slice_get (docket_of board.deck.dockets crew.0) (served crew.0 board.history)) refl)
   where
@@ -93,14 +90,13 @@ left_in-served (docket ∷ dockets) (place ∷ next) (suc crew) all short some =
 
 -- ---- a crew is served
 
-module _ (board : BoardView) (standing : StandingView) (next : List ℕ) (room : ℕ) (entry : Entry)
+module _ {board : BoardView} {standing : StandingView} {next : List ℕ} {room : ℕ} (entry : Entry)
     (kept : KeepsBoard board standing next room)
     (within : entry.crew.0 < length board.deck.crews) (is : next_entry board entry.crew ≡ Some entry) where
   fact : IsEntryFor (standing_of board) entry.crew (served entry.crew.0 board.history)
       (slice_get (docket_of board.deck.dockets entry.crew.0) (served entry.crew.0 board.history)) entry
   fact =
-      entry_for-is (standing_of board) entry.crew (served entry.crew.0 board.history)
-      (slice_get (docket_of board.deck.dockets entry.crew.0) (served entry.crew.0 board.history)) entry is
+      entry_for-is (slice_get (docket_of board.deck.dockets entry.crew.0) (served entry.crew.0 board.history)) is
 
   short : served entry.crew.0 board.history < length (docket_of board.deck.dockets entry.crew.0)
   short =
@@ -141,8 +137,7 @@ module _ (board : BoardView) (standing : StandingView) (next : List ℕ) (room :
   sound_next = record {
     legal = IsLegal-push board.deck.opening board.history entry kept.sound.legal fact.decided;
     whole =
-        IsWholeUpTo-push board.deck.dockets board.history entry kept.sound.whole
-        (let both = kept.sound.all in omega (arith, within)) fact.at short
+        IsWholeUpTo-push entry kept.sound.whole (let both = kept.sound.all in omega (arith, within)) fact.at short
         (get_or_from_slice_get (docket_of board.deck.dockets entry.crew.0) (served entry.crew.0 board.history)
         entry.request entry.request fact.asked);
     all = kept.sound.all;
@@ -181,7 +176,7 @@ module _ (board : BoardView) (standing : StandingView) (next : List ℕ) (room :
     | inr apart ↦
         get_or-set_other next entry.crew.0 other (get_or next entry.crew.0 0 + 1) 0 apart
         ∙ kept.places other (let e = length-set next entry.crew.0 (get_or next entry.crew.0 0 + 1) in omega arith)
-        ∙ sym (ap length (entries_of-other board.history entry other apart))
+        ∙ sym (ap length (entries_of-other board.history entry apart))
   ]
 
   pub keeps_next : KeepsBoard (record board { history = board.history ++ entry ∷ [] })

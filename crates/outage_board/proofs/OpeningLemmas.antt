@@ -7,18 +7,15 @@ use Rattle.std.proofs.lemmas.List.{length-map, length-replicate, get_or-replicat
 use Rattle.std.proofs.lemmas.List.Elements.{All-nil, All-head, All-tail, All-cons}
 use Rattle.unit_sets.specs.declared.request.CrewNo.{CrewNo}
 use Rattle.fault_definitions.specs.Tree.{FaultTree, unit_count}
-use Rattle.crew_script.specs.declared.dockets.TheConstants.{MOST_REQUESTS}
+use Rattle.crew_script.specs.{declared.dockets.TheConstants.MOST_REQUESTS, declared.dockets.Ask.Ask}
+use Rattle.crew_script.specs.{declared.dockets.Crew.Crew}
 use Rattle.crew_script.specs.Dockets.{IsDockets, HasMargin, HasMargins, request_count}
-use Rattle.crew_script.specs.declared.dockets.Ask.{Ask}
 use Rattle.crew_script.specs.declared.dockets.Ask.TheVariants as asks
-use Rattle.crew_script.specs.declared.dockets.Crew.{Crew}
-use Rattle.margin_policy.specs.Holders.{NamesCrewBelow}
+use Rattle.margin_policy.specs.{Holders.NamesCrewBelow, declared.request.Request.Request}
 use Rattle.margin_policy.proofs.HoldersLemmas.{none_held_below}
 use Rattle.margin_policy.specs.Standing.{StandingView, IsRequestFor, nothing_held}
-use Rattle.margin_policy.specs.declared.request.Request.{Request}
-use Rattle.outage_board.specs.declared.entry.Entry.{Entry}
+use Rattle.outage_board.specs.{declared.entry.Entry.Entry, Histories.docket_of}
 use Rattle.outage_board.specs.Requests.{unit_of, with_unit, units_of, request_of, requests_of, supervisor_of}
-use Rattle.outage_board.specs.Histories.{docket_of}
 use Rattle.outage_board.specs.Boards.{deck_of, BoardView, IsBoard}
 use Rattle.outage_board.specs.Kept.{KeepsBoard, left_in, emptied}
 use Rattle.outage_board.proofs.NameLemmas.{named_by}
@@ -80,7 +77,7 @@ first_places : (count crew : ℕ) → crew < length (zeros count) → get_or (ze
 first_places count crew low =
     get_or-replicate count crew 0 0 (subst (λ (n : ℕ). crew < n) (length-replicate count 0) low)
 
-module _ (tree : FaultTree) (cuts : List (List ℕ)) (crews : List Crew) (margin room : ℕ) (kept : IsDockets crews)
+module _ (tree : FaultTree) (cuts : List (List ℕ)) {crews : List Crew} (margin room : ℕ) (kept : IsDockets crews)
     (roomy : request_count crews ≤ room) where
   abbrev opened : BoardView
   opened = record { deck = deck_of tree cuts crews margin; history = [] }
@@ -116,8 +113,8 @@ module _ (tree : FaultTree) (cuts : List (List ℕ)) (crews : List Crew) (margin
   }
 
   -- of the parts that `open` makes
-  pub opens : (standing : StandingView) (dockets : List (List Request)) (history : List Entry) (next : List ℕ)
-      (units : ℕ) (supervisor : Option CrewNo) (copy : List Crew)
+  pub opens : {standing : StandingView} {dockets : List (List Request)} {history : List Entry} {next : List ℕ}
+      {units : ℕ} {supervisor : Option CrewNo} {copy : List Crew}
       → copy ≡ crews → units ≡ unit_count tree → supervisor ≡ supervisor_of crews
       → standing ≡ record {
         units = units;
@@ -132,7 +129,7 @@ module _ (tree : FaultTree) (cuts : List (List ℕ)) (crews : List Crew) (margin
         deck = record { opening = emptied margin standing; crews = copy; dockets = dockets };
         history = history;
       }) standing next room
-  opens standing dockets history next units supervisor copy copied units_are supervisor_is standing_is dockets_are
+  opens {standing} {dockets} {history} {units} {supervisor} copied units_are supervisor_is standing_is dockets_are
       history_is next_is =
       let same : standing ≡ (deck_of tree cuts crews margin).opening =
       standing_is ∙ ap (λ (p : ℕ × Option CrewNo). record {

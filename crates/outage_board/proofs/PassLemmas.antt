@@ -2,17 +2,13 @@
 use Rattle.std.proofs.Common.{◌≡◌, ℕ, zero, suc, ◌+◌, ◌<◌, ◌==◌, List, [], ◌∷◌, ◌++◌, length, refl, sym, ◌∙◌, ap, subst}
 use Rattle.std.proofs.Common.{arith, inl, inr, ⊎_elim, Contains, eq-eqb}
 use Rattle.std.specs.List.{All}
-use Rattle.std.proofs.lemmas.Bool.{cases_eq}
-use Rattle.std.proofs.lemmas.List.{map-append}
+use Rattle.std.proofs.{lemmas.Bool.cases_eq, lemmas.List.map-append}
 use Rattle.std.proofs.lemmas.List.Elements.{All-nil, All-head, All-tail, All-cons, Contains-push, Contains-push_cases}
 use Rattle.std.proofs.lemmas.List.Elements.{Contains-append_left, Contains-append_cases}
 use Rattle.unit_sets.proofs.Sorted.{Contains-nil}
-use Rattle.outage_board.specs.declared.entry.Entry.{Entry}
-use Rattle.outage_board.specs.declared.view.Made.{Made}
-use Rattle.outage_board.specs.Histories.{entries_of}
-use Rattle.outage_board.specs.Rule.{one_if, times_of}
+use Rattle.outage_board.specs.{declared.entry.Entry.Entry, declared.view.Made.Made, Histories.entries_of, Rule.one_if}
+use Rattle.outage_board.specs.{Rule.times_of, Dealing.made_back}
 use Rattle.outage_board.specs.Passes.{OpenBoard, Pass, new_pass, new_passes, AreOf, crews_of, MadeAll}
-use Rattle.outage_board.specs.Dealing.{made_back}
 use Rattle.outage_board.proofs.TimesLemmas.{times_of-append, AreMade}
 
 -- ---- new passes
@@ -70,10 +66,9 @@ last_of P (y ∷ xs) x all =
     let later = last_of P xs x (All-tail P y (xs ++ x ∷ []) all) in
     (All-cons P y xs (All-head P y (xs ++ x ∷ []) all) later.0, later.1)
 
-pub pop_of : (board : OpenBoard) (passes before : List Pass) (pass : Pass) → passes ≡ before ++ pass ∷ []
+pub pop_of : (board : OpenBoard) {passes : List Pass} (before : List Pass) (pass : Pass) → passes ≡ before ++ pass ∷ []
     → AreOf board passes → AreOf board before × (pass.board ≡ board)
-pop_of board passes before pass are of =
-    last_of (λ (p : Pass). p.board ≡ board) before pass (subst (AreOf board) are of)
+pop_of board before pass are of = last_of (λ (p : Pass). p.board ≡ board) before pass (subst (AreOf board) are of)
 
 pub made_all : (history : List Entry) (passes : List Pass) → AreMade history (made_back passes) → MadeAll history passes
 made_all history [] made = All-nil (λ (pass : Pass). entries_of pass.crew.0 history ≡ pass.made)

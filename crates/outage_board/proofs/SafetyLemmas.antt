@@ -1,20 +1,16 @@
 -- The margin rule along a legal history.
 use Rattle.std.proofs.Common.{◌≡◌, ◌⊎◌, ℕ, ◌+◌, false, List, [], ◌∷◌, ◌++◌, length, refl, sym, ◌∙◌, ap, subst, inl, inr}
-use Rattle.std.specs.Prelude.{Option, None}
-use Rattle.std.specs.List.{All}
+use Rattle.std.specs.{Prelude.Option, Prelude.None, List.All}
 use Rattle.std.proofs.lemmas.List.{length-replicate}
 use Rattle.std.proofs.lemmas.List.Elements.{All-nil, All-head, All-tail, All-cons}
 use Rattle.unit_sets.specs.declared.request.CrewNo.{CrewNo}
-use Rattle.margin_policy.specs.declared.request.Reply.{Reply}
-use Rattle.margin_policy.specs.declared.request.Reply.TheVariants.{Granted}
-use Rattle.margin_policy.specs.Decide.{is_granted}
-use Rattle.margin_policy.specs.Guard.{KeepsMore, HasAllUnits}
+use Rattle.margin_policy.specs.{declared.request.Reply.Reply, declared.request.Reply.TheVariants.Granted}
+use Rattle.margin_policy.specs.{Decide.is_granted, Guard.KeepsMore, Guard.HasAllUnits}
 use Rattle.margin_policy.proofs.GuardLemmas.{granted_keeps_more, decided_keeps_more, first_kept}
 use Rattle.margin_policy.proofs.GuardLemmas.{all_units_after}
 use Rattle.margin_policy.specs.Standing.{StandingView, IsRequestFor, reply_of, after, nothing_held}
-use Rattle.outage_board.specs.declared.entry.Entry.{Entry}
+use Rattle.outage_board.specs.{declared.entry.Entry.Entry, Boards.BoardView, Boards.IsBoard}
 use Rattle.outage_board.specs.Histories.{after_entry, standing_after, IsLegal}
-use Rattle.outage_board.specs.Boards.{BoardView, IsBoard}
 use Rattle.outage_board.specs.Safety.{IsSafe, IsJudgedGrant, GrantsNothing}
 use Rattle.outage_board.proofs.HistoryLemmas.{standing_after-push, IsLegal-parts, units_stay}
 

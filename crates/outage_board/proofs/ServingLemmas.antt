@@ -6,18 +6,14 @@ use Rattle.std.proofs.lemmas.List.Elements.{All-head}
 use Rattle.atomic_table.specs.Table.{Me, rest}
 use Rattle.unit_sets.specs.declared.request.CrewNo.{CrewNo}
 use Rattle.margin_policy.specs.declared.request.Request.{Request}
-use Rattle.outage_board.specs.declared.entry.Entry.{Entry}
-use Rattle.outage_board.specs.declared.view.View.{View}
-use Rattle.outage_board.specs.declared.view.Made.{Made}
+use Rattle.outage_board.specs.{declared.entry.Entry.Entry, declared.view.View.View, declared.view.Made.Made}
+use Rattle.outage_board.specs.{Rule.times_of, Passes.entries_made, Passes.IsPass}
 use Rattle.outage_board.specs.Histories.{entries_of, served, docket_of}
 use Rattle.outage_board.specs.Boards.{BoardView, Deck, standing_of, next_entry, with_entry, IsUsedUp}
 use Rattle.outage_board.specs.Views.{holding, settled, made_in}
-use Rattle.outage_board.specs.Rule.{times_of}
-use Rattle.outage_board.specs.Passes.{entries_made, IsPass}
 use Rattle.outage_board.specs.Turns.{HasTaken, MayFollow, MayGive, HasGiven, MayTake, held, made_with}
-use Rattle.outage_board.proofs.HistoryLemmas.{entries_of-own}
-use Rattle.outage_board.proofs.BoardLemmas.{IsEntryFor, entry_for-is}
-use Rattle.outage_board.proofs.TimesLemmas.{times_of-first}
+use Rattle.outage_board.proofs.{HistoryLemmas.entries_of-own, BoardLemmas.IsEntryFor, BoardLemmas.entry_for-is}
+use Rattle.outage_board.proofs.{TimesLemmas.times_of-first}
 
 -- a pass of one crew may ask for the turn
 pub may_ask : (deck : Deck) (me : Me BoardView View) (crew : CrewNo) → me.0.opened.deck ≡ deck → IsPass me crew
@@ -32,8 +28,8 @@ may_ask deck me crew opened pass =
     }
 
 -- the state that a place holds, and what is left of it
-pub held_first : (me : List (ℕ × BoardView)) (board : BoardView) → me ≡ (0, board) ∷ [] → me ≡ (0, board) ∷ rest me
-held_first me board is = is ∙ ap (λ (l : List (ℕ × BoardView)). (0, board) ∷ rest l) (sym is)
+pub held_first : {me : List (ℕ × BoardView)} (board : BoardView) → me ≡ (0, board) ∷ [] → me ≡ (0, board) ∷ rest me
+held_first board is = is ∙ ap (λ (l : List (ℕ × BoardView)). (0, board) ∷ rest l) (sym is)
 
 module _ (crew : CrewNo) (before taken : Me BoardView View) (pass : IsPass before crew)
     (has : HasTaken before taken) where
@@ -72,9 +68,7 @@ module _ (crew : CrewNo) (before taken : Me BoardView View) (pass : IsPass befor
     facts : (entry : Entry) → result ≡ Some entry
         → IsEntryFor (standing_of board) crew (served crew.0 has.history) (slice_get docket (served crew.0 has.history))
         entry
-    facts entry there =
-        entry_for-is (standing_of board) crew (served crew.0 has.history) (slice_get docket (served crew.0 has.history))
-        entry (sym next_is ∙ there)
+    facts entry there = entry_for-is (slice_get docket (served crew.0 has.history)) (sym next_is ∙ there)
 
     pub none_when : IsNone result ↔ IsUsedUp (held taken.1) crew.0 → IsNone result ↔ (length made ≡ length docket)
     none_when up =
@@ -86,9 +80,6 @@ module _ (crew : CrewNo) (before taken : Me BoardView View) (pass : IsPass befor
 
     pub at_place : (entry : Entry) → result ≡ Some entry → entry.place ≡ length made
     at_place entry there = (facts entry there).at ∙ ap length all_made
-
-    pub of_docket : (entry : Entry) → result ≡ Some entry → slice_get docket entry.place ≡ Some entry.request
-    of_docket entry there = ap (slice_get docket) ((facts entry there).at) ∙ (facts entry there).asked
 
     follows : (found : Option Entry) → result ≡ found
         → MayFollow (holding has.history before.0) (with_entry board found).history
@@ -127,7 +118,7 @@ module _ (crew : CrewNo) (before taken : Me BoardView View) (pass : IsPass befor
           → entries_of crew.0 (with_entry board found).history ≡ made_with found made
       made_then None same = all_made
       made_then (Some entry) same =
-          entries_of-own has.history entry crew.0 (sym (ap (λ (c : CrewNo). c.0) (own_crew entry same)))
+          entries_of-own has.history entry (sym (ap (λ (c : CrewNo). c.0) (own_crew entry same)))
           ∙ ap (λ l. l ++ entry ∷ []) all_made
 
       module _ (after : Me BoardView View) (gave : HasGiven then after) where
@@ -143,16 +134,6 @@ module _ (crew : CrewNo) (before taken : Me BoardView View) (pass : IsPass befor
 
         pub now_made : entries_made after.0.crews ≡ made_with result made
         now_made = ap entries_made crews_are
-
-        pub still_opened : after.0.opened ≡ before.0.opened
-        still_opened = ap (λ (v : View). v.opened) view_is
-
-        pub still_pass : IsPass after crew
-        still_pass = record {
-          own = crews_are ∙ ap (λ es. record { crew = crew.0; entries = es } ∷ []) (sym now_made);
-          turn = ap (λ (v : View). v.turn) view_is;
-          holds_none = gave.holds_none;
-        }
 
 -- a fact of an entry that there is
 pub if_some : (P : Entry → Type 0) (result : Option Entry) → ((entry : Entry) → result ≡ Some entry → P entry)

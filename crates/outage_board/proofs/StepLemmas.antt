@@ -1,22 +1,17 @@
 -- Each kind of step keeps the rule of a board, whatever the other passes did before.
 use Rattle.std.proofs.Common.{◌≡◌, ◌≢◌, ◌⊎◌, ℕ, zero, suc, ◌<◌, ◌≤◌, ◌==◌, Bool, true, false, List, [], ◌∷◌, ◌++◌}
 use Rattle.std.proofs.Common.{length, set, refl, sym, ◌∙◌, ap, subst, arith, inl, inr, ⊎_elim}
-use Rattle.std.specs.Prelude.{MatchBool, slice_index}
-use Rattle.std.specs.List.{All}
+use Rattle.std.specs.{Prelude.MatchBool, Prelude.slice_index, List.All, declared.snapshot.Snapshot.Snapshot}
 use Rattle.std.proofs.lemmas.Bool.{cases_eq}
 use Rattle.std.proofs.lemmas.List.Elements.{All-nil, All-head, All-tail, All-cons, All-append}
 use mathlib.Core.Option.{Option, some, none, some-injective, some-ne-none}
 use lib.ListN.{get_elem?}
 use prog.Atomic.{either}
-use Rattle.std.specs.declared.snapshot.Snapshot.{Snapshot}
 use Rattle.atomic_table.specs.Table.{State, Me, Act, keeps, takes, gives, stepped, Valid, carried_after, Allows, Splits}
 use Rattle.atomic_table.specs.Table.{Joins, Enters}
 use Rattle.atomic_table.proofs.Lists.{at_set, at_snoc, at_longer, set_here, set_else, set_again}
-use Rattle.outage_board.specs.declared.entry.Entry.{Entry}
-use Rattle.outage_board.specs.declared.view.View.{View}
-use Rattle.outage_board.specs.declared.view.Made.{Made}
-use Rattle.outage_board.specs.Histories.{entries_of}
-use Rattle.outage_board.specs.Boards.{BoardView, Deck}
+use Rattle.outage_board.specs.{declared.entry.Entry.Entry, declared.view.View.View, declared.view.Made.Made}
+use Rattle.outage_board.specs.{Histories.entries_of, Boards.BoardView, Boards.Deck}
 use Rattle.outage_board.specs.Views.{first_view, spent, bare, holding, settled, first_of, rest_of}
 use Rattle.outage_board.specs.Views.{of_first, of_others, together}
 use Rattle.outage_board.specs.Rule.{times_of, times_in, Free, Busy, Knows, KeepsTurns}
@@ -58,7 +53,7 @@ inside_at (first ∷ views) (suc seat) v at = let e = inside_at views seat v at 
 
 -- ---- the turn is taken
 
-module _ (about : Snapshot BoardView) (slots seat : ℕ) (v : View) (may : MayTake about.value.deck (v, [])) (s : Table)
+module _ {about : Snapshot BoardView} (slots seat : ℕ) (v : View) (may : MayTake about.value.deck (v, [])) {s : Table}
     (rule : KeepsTurns about s) (mine : get_elem? s.views seat ≡ some v) where
   abbrev Took : List ℕ × List (Option BoardView) → Type 0
   Took p = (w : View) × (a : Act BoardView) × Valid p.1 [] a
@@ -127,22 +122,21 @@ module _ (about : Snapshot BoardView) (slots seat : ℕ) (v : View) (may : MayTa
     | inr busy ↦ subst Took (λ i. (sym busy.word i, sym busy.home i)) (lost busy)
   ]
 
-pub allows_take : (about : Snapshot BoardView) (slots seat : ℕ) (me : Me BoardView View) → MayTake about.value.deck me
+pub allows_take : (about : Snapshot BoardView) (slots seat : ℕ) {me : Me BoardView View} → MayTake about.value.deck me
     → Allows (KeepsTurns about) slots seat me 0 (λ n. either (n == 0) 1 n)
     (λ found after. MatchBool (found == 0) (HasTaken me after) (after ≡ me))
-allows_take about slots seat me may =
+allows_take about slots seat {me} may =
     let P : List (ℕ × BoardView) → Type 0 =
     λ c. Allows (KeepsTurns about) slots seat (me.0, c) 0 (λ n. either (n == 0) 1 n)
     (λ found after. MatchBool (found == 0) (HasTaken (me.0, c) after) (after ≡ (me.0, c))) in
-    subst P (sym may.holds_none)
-    (λ s rule homes mine in_range. took about slots seat me.0
-    (record { opened = may.opened; turn = may.turn; crew = may.crew; holds_none = refl }) s rule mine)
+    subst P (sym may.holds_none) (λ s rule homes mine in_range. took slots seat me.0
+    (record { opened = may.opened; turn = may.turn; crew = may.crew; holds_none = refl }) rule mine)
 
 -- ---- the turn is given back
 
-module _ (about : Snapshot BoardView) (seat : ℕ) (v : View) (history : List Entry)
+module _ {about : Snapshot BoardView} (seat : ℕ) (v : View) {history : List Entry}
     (opened : v.opened.deck ≡ about.value.deck) (turn : v.turn ≡ true) (follows : MayFollow v history)
-    (s : Table) (rule : KeepsTurns about s) (mine : get_elem? s.views seat ≡ some v) where
+    {s : Table} (rule : KeepsTurns about s) (mine : get_elem? s.views seat ≡ some v) where
   mine_busy : (busy : Busy rule.history s) → seat ≡ busy.seat
   mine_busy busy = elim (cases_eq seat busy.seat) [
     | inl same ↦ same
@@ -222,9 +216,9 @@ module _ (about : Snapshot BoardView) (seat : ℕ) (v : View) (history : List En
         subst Q (λ i. (sym busy.word i, sym busy.home i)) kept
   ]
 
-pub allows_give : (about : Snapshot BoardView) (slots seat : ℕ) (me : Me BoardView View) → MayGive about.value.deck me
+pub allows_give : (about : Snapshot BoardView) (slots seat : ℕ) {me : Me BoardView View} → MayGive about.value.deck me
     → Allows (KeepsTurns about) slots seat me 0 (λ _. 0) (λ found after. HasGiven me after)
-allows_give about slots seat me may =
+allows_give about slots seat {me} may =
     let board : BoardView = record { deck = about.value.deck; history = may.history } in
     let P : List (ℕ × BoardView) → Type 0 =
     λ c. Allows (KeepsTurns about) slots seat (me.0, c) 0 (λ _. 0) (λ found after. HasGiven (me.0, c) after) in
@@ -232,18 +226,18 @@ allows_give about slots seat me may =
       settled may.history me.0,
       gives,
       tt,
-      gave about seat me.0 may.history may.opened may.turn may.follows s rule mine,
+      gave seat me.0 may.opened may.turn may.follows rule mine,
       record { board = board; state = refl; view = refl; holds_none = refl },
     ))
 
 -- ---- passes are dealt and gathered
 
 -- where a pass without the turn changes its crews alone, the board stands as before
-stands_set : (deck : Deck) (history : List Entry) (s : Table) (seat : ℕ) (v w : View) → get_elem? s.views seat ≡ some v
+stands_set : (deck : Deck) {history : List Entry} {s : Table} (seat : ℕ) (v w : View) → get_elem? s.views seat ≡ some v
     → v.turn ≡ false → w.turn ≡ false → Free deck history s ⊎ Busy history s
     → Free deck history (record s { views = set s.views seat w })
     ⊎ Busy history (record s { views = set s.views seat w })
-stands_set deck history s seat v w mine off off' stands = elim stands [
+stands_set deck {s} seat v w mine off off' stands = elim stands [
   | inl free ↦ inl (record {
     word = free.word;
     home = free.home;
@@ -270,10 +264,10 @@ stands_set deck history s seat v w mine off off' stands = elim stands [
       })
 ]
 
-stands_push : (deck : Deck) (history : List Entry) (s : Table) (w : View) → w.turn ≡ false
+stands_push : (deck : Deck) {history : List Entry} {s : Table} (w : View) → w.turn ≡ false
     → Free deck history s ⊎ Busy history s
     → Free deck history (record s { views = s.views ++ w ∷ [] }) ⊎ Busy history (record s { views = s.views ++ w ∷ [] })
-stands_push deck history s w off stands = elim stands [
+stands_push deck {s} w off stands = elim stands [
   | inl free ↦ inl (record {
     word = free.word;
     home = free.home;
@@ -313,8 +307,7 @@ allows_split about seat v opened off s rule mine =
     record {
       history = rule.history;
       stands =
-          stands_push deck rule.history left (of_first v) off
-          (stands_set deck rule.history s seat v (of_others v) mine off off rule.stands);
+          stands_push deck (of_first v) off (stands_set deck seat v (of_others v) mine off off rule.stands);
       views = λ other u at. ⊎_elim
           (each_after (λ _ x. Knows deck rule.history x) s.views seat (of_others v)
           (record {
@@ -341,10 +334,10 @@ allows_split about seat v opened off s rule mine =
           let o = rule.once crew in omega arith;
     }
 
-pub allows_join : (about : Snapshot BoardView) (seat : ℕ) (v : View) (other : ℕ) (w : View)
+pub allows_join : (about : Snapshot BoardView) {seat : ℕ} {v : View} {other : ℕ} {w : View}
     → v.opened.deck ≡ about.value.deck → v.turn ≡ false → w.turn ≡ false
     → Joins (KeepsTurns about) seat v other w (together v w) spent
-allows_join about seat v other w opened off off' s rule mine differ theirs =
+allows_join about {seat} {v} {other} {w} opened off off' s rule mine differ theirs =
     let deck = about.value.deck in
     let at : get_elem? s.views other ≡ some w = sym (set_else s.views seat other (together v w) differ) ∙ theirs in
     let knows = rule.views seat v mine in
@@ -353,8 +346,8 @@ allows_join about seat v other w opened off off' s rule mine differ theirs =
     record {
       history = rule.history;
       stands =
-          stands_set deck rule.history one other w spent theirs off' refl
-          (stands_set deck rule.history s seat v (together v w) mine off off rule.stands);
+          stands_set deck other w spent theirs off' refl
+          (stands_set deck seat v (together v w) mine off off rule.stands);
       views = each_after (λ _ u. Knows deck rule.history u) (set s.views seat (together v w)) other spent
           (record {
             opened = λ not. absurd (not refl);
@@ -385,7 +378,7 @@ allows_enter about slots s rule homes in_range =
       w,
       record {
         history = rule.history;
-        stands = stands_push deck rule.history s w refl rule.stands;
+        stands = stands_push deck w refl rule.stands;
         views = λ other u at. ⊎_elim (rule.views other u)
             (λ (same : w ≡ u). subst (Knows deck rule.history) same
             (record {

@@ -1,18 +1,14 @@
 -- A board that is opened keeps its rule, and one that is closed gives its history back.
 use Rattle.std.proofs.Common.{◌≡◌, ◌≢◌, ℕ, zero, suc, ◌+◌, ◌<◌, ◌≤◌, ◌==◌, false, List, [], ◌∷◌}
 use Rattle.std.proofs.Common.{length, refl, sym, ◌∙◌, ap, subst, arith, inl, inr, eq-eqb}
-use Rattle.std.specs.List.{All}
+use Rattle.std.specs.{List.All, declared.snapshot.Snapshot.Snapshot}
 use Rattle.std.proofs.lemmas.Bool.{cases_eq, ne_eqb}
 use Rattle.std.proofs.lemmas.List.Elements.{All-nil, All-head, All-cons}
 use mathlib.Core.Option.{Option, some, some-injective, some-ne-none}
 use lib.ListN.{get_elem?}
-use Rattle.std.specs.declared.snapshot.Snapshot.{Snapshot}
 use Rattle.atomic_table.specs.Table.{State, opening, Final, Seen}
-use Rattle.outage_board.specs.declared.view.View.{View}
-use Rattle.outage_board.specs.declared.view.Made.{Made}
-use Rattle.outage_board.specs.Histories.{entries_of}
-use Rattle.outage_board.specs.Boards.{BoardView, Deck}
-use Rattle.outage_board.specs.Views.{nothing_made, first_view}
+use Rattle.outage_board.specs.{declared.view.View.View, declared.view.Made.Made, Histories.entries_of, Boards.BoardView}
+use Rattle.outage_board.specs.{Boards.Deck, Views.nothing_made, Views.first_view}
 use Rattle.outage_board.specs.Rule.{one_if, times_of, Busy, Knows, KeepsTurns}
 use Rattle.outage_board.proofs.StepLemmas.{clash_turn}
 use Rattle.outage_board.proofs.TimesLemmas.{times_of-first, times_in-two, AreMade}

@@ -123,12 +123,12 @@ may_be_asked tree names taken =
       some_asked (units_of tree names) (length names) (leb-true 1 (length names) sizes.0),
     ) refl
 
-pub not_refused : (asked : Bool) → false ≡ asked → asked ≡ true → ⊥
-not_refused asked e h = absurd cc
+pub not_refused : {asked : Bool} → false ≡ asked → asked ≡ true → ⊥
+not_refused e h = absurd cc
 
 -- ---- of the parts that `take` makes
 
-module _ (tree : FaultTree) (names slice : List (List ℕ)) (units : List ℕ) (count : ℕ) (slice_is : slice ≡ names)
+module _ (tree : FaultTree) {names slice : List (List ℕ)} {units : List ℕ} {count : ℕ} (slice_is : slice ≡ names)
     (units_are : units ≡ units_of tree slice) (count_is : count ≡ length units) where
   whole : units ≡ units_of tree names
   whole = units_are ∙ ap (units_of tree) slice_is
@@ -150,9 +150,9 @@ module _ (tree : FaultTree) (names slice : List (List ℕ)) (units : List ℕ) (
       ∙ ap (λ (b : Bool). record { units = units_of tree names; unknown = b }) (sym (unknown_is tree names))
 
 -- what was made of the first elements, with what is made of the next one put behind it
-pub map_take_more : {A B : Type 0} (f : A → B) (xs : List A) (i : ℕ) (d : A) (made more : List B) (x : B)
+pub map_take_more : {A B : Type 0} (f : A → B) (xs : List A) (i : ℕ) (d : A) {made more : List B} {x : B}
     → i < length xs → made ≡ map f (take i xs) → x ≡ f (get_or xs i d) → more ≡ made ++ x ∷ []
     → more ≡ map f (take (i + 1) xs)
-map_take_more f xs i d made more x within before is push =
+map_take_more f xs i d within before is push =
     push ∙ (λ k. before k ++ is k ∷ []) ∙ sym (map-append f (take i xs) (get_or xs i d ∷ []))
     ∙ ap (map f) (sym (take_more xs i d within))

@@ -5,10 +5,8 @@ use Rattle.std.specs.List.{All}
 use Rattle.std.proofs.lemmas.List.Elements.{All-nil, All-head, All-tail, All-cons}
 use mathlib.Core.Option.{some, some-injective, some-ne-none}
 use lib.ListN.{get_elem?}
-use Rattle.outage_board.specs.declared.entry.Entry.{Entry}
-use Rattle.outage_board.specs.declared.view.View.{View}
-use Rattle.outage_board.specs.declared.view.Made.{Made}
-use Rattle.outage_board.specs.Histories.{entries_of}
+use Rattle.outage_board.specs.{declared.entry.Entry.Entry, declared.view.View.View, declared.view.Made.Made}
+use Rattle.outage_board.specs.{Histories.entries_of}
 use Rattle.outage_board.specs.Views.{made_in, first_of, rest_of}
 use Rattle.outage_board.specs.Rule.{one_if, times_of, times_in}
 use Rattle.outage_board.proofs.HistoryLemmas.{entries_of-other}
@@ -90,7 +88,7 @@ made_as_before history entry (first ∷ crews) none made =
     let apart : first.crew ≢ entry.crew.0 =
     λ same. let e : one_if (first.crew == entry.crew.0) ≡ 1 = ap one_if (eq-eqb first.crew entry.crew.0 same) in
     absurd (omega arith) in
-    All-cons Q first crews (entries_of-other history entry first.crew apart ∙ All-head P first crews made)
+    All-cons Q first crews (entries_of-other history entry apart ∙ All-head P first crews made)
     (made_as_before history entry crews (omega arith) (All-tail P first crews made))
 
 pub settled_made : (history : List Entry) (crews : List Made) → AreMade history (made_in history crews)

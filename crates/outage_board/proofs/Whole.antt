@@ -2,8 +2,7 @@
 use Rattle.std.specs.Prelude.{◌≡◌, ℕ, ◌<◌, [], length, take}
 use Rattle.std.specs.List.{enumerate_from}
 use Rattle.std.proofs.Common.{◌∙◌, ap, arith, inl, inr}
-use Rattle.std.proofs.lemmas.Bool.{cases_lt}
-use Rattle.std.proofs.lemmas.List.{get_or_past}
+use Rattle.std.proofs.{lemmas.Bool.cases_lt, lemmas.List.get_or_past}
 use Rattle.outage_board.specs.Histories.{docket_of, IsWhole}
 use Rattle.outage_board.specs.Boards.{BoardView, IsBoard, IsUsedUp}
 

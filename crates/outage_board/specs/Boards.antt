@@ -2,13 +2,10 @@
 use Rattle.std.specs.Prelude.{◌≡◌, ℕ, ◌<◌, ◌≤◌, List, [], ◌∷◌, ◌++◌, map, length, All, Option, Some, None, slice_get}
 use Rattle.unit_sets.specs.declared.request.CrewNo.{CrewNo}
 use Rattle.fault_definitions.specs.Tree.{FaultTree, unit_count}
-use Rattle.crew_script.specs.Dockets.{request_count}
-use Rattle.crew_script.specs.declared.dockets.Crew.{Crew}
-use Rattle.margin_policy.specs.Holders.{HoldersBelow, NamesCrewBelow}
+use Rattle.crew_script.specs.{Dockets.request_count, declared.dockets.Crew.Crew}
+use Rattle.margin_policy.specs.{Holders.HoldersBelow, Holders.NamesCrewBelow, declared.request.Request.Request}
 use Rattle.margin_policy.specs.Standing.{StandingView, IsRequestFor, reply_of, nothing_held}
-use Rattle.margin_policy.specs.declared.request.Request.{Request}
-use Rattle.outage_board.specs.declared.entry.Entry.{Entry}
-use Rattle.outage_board.specs.Requests.{requests_of, supervisor_of}
+use Rattle.outage_board.specs.{declared.entry.Entry.Entry, Requests.requests_of, Requests.supervisor_of}
 use Rattle.outage_board.specs.Histories.{standing_after, IsLegal, IsWholeUpTo, served, docket_of}
 
 -- what a board is opened for: how things stand at first, the crews, and the requests of each crew in order

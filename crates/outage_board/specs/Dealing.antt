@@ -1,13 +1,9 @@
 -- How passes are dealt when a board is opened, and gathered when it is closed.
 use Rattle.std.specs.Prelude.{◌≡◌, ℕ, false, List, [], ◌∷◌, ◌++◌}
 use Rattle.std.specs.declared.snapshot.Snapshot.{Snapshot}
-use Rattle.atomic_table.specs.Table.{Me}
-use Rattle.atomic_table.specs.Seated.{TableId}
-use Rattle.outage_board.specs.declared.view.View.{View}
-use Rattle.outage_board.specs.declared.view.Made.{Made}
-use Rattle.outage_board.specs.Boards.{BoardView, Deck}
-use Rattle.outage_board.specs.Views.{first_view, nothing_made}
-use Rattle.outage_board.specs.Passes.{OpenBoard, Pass}
+use Rattle.atomic_table.specs.{Table.Me, Seated.TableId}
+use Rattle.outage_board.specs.{declared.view.View.View, declared.view.Made.Made, Boards.BoardView, Boards.Deck}
+use Rattle.outage_board.specs.{Views.first_view, Views.nothing_made, Passes.OpenBoard, Passes.Pass}
 
 -- the board of a table
 abbrev pub board_of : TableId → Snapshot BoardView → OpenBoard

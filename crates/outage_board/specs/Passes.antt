@@ -1,13 +1,9 @@
 -- What contracts see of a board that threads share, and of the passes with which they serve crews.
 use Rattle.std.specs.Prelude.{◌≡◌, ℕ, zero, suc, ◌<◌, false, List, [], ◌∷◌, length, map, All, Contains}
-use Rattle.atomic_table.specs.Table.{Me}
-use Rattle.atomic_table.specs.Seated.{TableId}
+use Rattle.atomic_table.specs.{Table.Me, Seated.TableId}
 use Rattle.unit_sets.specs.declared.request.CrewNo.{CrewNo}
-use Rattle.outage_board.specs.declared.entry.Entry.{Entry}
-use Rattle.outage_board.specs.declared.view.View.{View}
-use Rattle.outage_board.specs.declared.view.Made.{Made}
-use Rattle.outage_board.specs.Histories.{entries_of}
-use Rattle.outage_board.specs.Boards.{BoardView, Deck}
+use Rattle.outage_board.specs.{declared.entry.Entry.Entry, declared.view.View.View, declared.view.Made.Made}
+use Rattle.outage_board.specs.{Histories.entries_of, Boards.BoardView, Boards.Deck}
 
 -- which board it is, and the deck that it was opened for
 pub record OpenBoard : Type 0 where

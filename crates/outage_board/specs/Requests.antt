@@ -5,9 +5,8 @@ use Rattle.std.specs.List.{list_any}
 use Rattle.unit_sets.specs.declared.request.CrewNo.{CrewNo}
 use Rattle.fault_definitions.specs.Tree.{FaultTree, unit_count}
 use Rattle.fault_words.specs.Names.{same_name}
-use Rattle.crew_script.specs.declared.dockets.Ask.{Ask}
+use Rattle.crew_script.specs.{declared.dockets.Ask.Ask, declared.dockets.Crew.Crew}
 use Rattle.crew_script.specs.declared.dockets.Ask.TheVariants as asks
-use Rattle.crew_script.specs.declared.dockets.Crew.{Crew}
 use Rattle.margin_policy.specs.declared.request.Request.{Request}
 use Rattle.margin_policy.specs.declared.request.Request.TheVariants.{Take, Return, Margin}
 

@@ -4,12 +4,8 @@ use mathlib.Core.Option.{some, none}
 use lib.ListN.{get_elem?}
 use Rattle.atomic_table.specs.Table.{State}
 use Rattle.std.specs.declared.snapshot.Snapshot.{Snapshot}
-use Rattle.outage_board.specs.declared.entry.Entry.{Entry}
-use Rattle.outage_board.specs.declared.view.View.{View}
-use Rattle.outage_board.specs.declared.view.Made.{Made}
-use Rattle.outage_board.specs.Histories.{entries_of}
-use Rattle.outage_board.specs.Boards.{BoardView, Deck}
-use Rattle.outage_board.specs.Views.{spent}
+use Rattle.outage_board.specs.{declared.entry.Entry.Entry, declared.view.View.View, declared.view.Made.Made}
+use Rattle.outage_board.specs.{Histories.entries_of, Boards.BoardView, Boards.Deck, Views.spent}
 
 -- 1 where something is so, else 0
 abbrev pub one_if : Bool → ℕ

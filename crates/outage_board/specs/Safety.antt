@@ -1,11 +1,8 @@
 -- What the margin rule promises along a history.
 use Rattle.std.specs.Prelude.{◌≡◌, true, false, List, ◌∷◌, ◌++◌, [], All}
-use Rattle.margin_policy.specs.declared.request.Reply.TheVariants.{Granted}
-use Rattle.margin_policy.specs.Guard.{KeepsMore, is_judged}
-use Rattle.margin_policy.specs.Decide.{is_granted}
-use Rattle.margin_policy.specs.Standing.{StandingView}
-use Rattle.outage_board.specs.declared.entry.Entry.{Entry}
-use Rattle.outage_board.specs.Histories.{standing_after}
+use Rattle.margin_policy.specs.{declared.request.Reply.TheVariants.Granted, Guard.KeepsMore, Guard.is_judged}
+use Rattle.margin_policy.specs.{Decide.is_granted, Standing.StandingView}
+use Rattle.outage_board.specs.{declared.entry.Entry.Entry, Histories.standing_after}
 
 -- a take or a wish for a margin that was granted
 abbrev pub IsJudgedGrant : Entry → Type 0

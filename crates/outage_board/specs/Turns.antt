@@ -1,14 +1,9 @@
 -- What the steps of a board's turn tell the pass that makes them.
 use Rattle.std.specs.Prelude.{◌≡◌, ◌⊎◌, ℕ, ◌<◌, true, false, List, [], ◌∷◌, ◌++◌, length, All, Option, Some, None}
-use Rattle.atomic_table.specs.Table.{Me}
-use Rattle.atomic_table.specs.declared.shared.Seat.{Seat}
-use Rattle.outage_board.specs.declared.entry.Entry.{Entry}
-use Rattle.outage_board.specs.declared.view.View.{View}
-use Rattle.outage_board.specs.declared.view.Made.{Made}
-use Rattle.outage_board.specs.Boards.{BoardView, Deck}
+use Rattle.atomic_table.specs.{Table.Me, declared.shared.Seat.Seat}
+use Rattle.outage_board.specs.{declared.entry.Entry.Entry, declared.view.View.View, declared.view.Made.Made}
+use Rattle.outage_board.specs.{Boards.BoardView, Boards.Deck, Histories.entries_of, Rule.times_of}
 use Rattle.outage_board.specs.Views.{holding, settled, spent}
-use Rattle.outage_board.specs.Histories.{entries_of}
-use Rattle.outage_board.specs.Rule.{times_of}
 
 -- the pass may ask for the turn: it has a crew and no turn, and holds no state
 pub record MayTake (deck : Deck) (me : Me BoardView View) : Type 0 where

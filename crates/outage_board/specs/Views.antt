@@ -1,10 +1,7 @@
 -- What a pass knows of a board, and what that becomes by each kind of step.
 use Rattle.std.specs.Prelude.{ℕ, zero, suc, true, false, List, [], ◌∷◌, ◌++◌, map, length, None}
-use Rattle.outage_board.specs.declared.entry.Entry.{Entry}
-use Rattle.outage_board.specs.declared.view.View.{View}
-use Rattle.outage_board.specs.declared.view.Made.{Made}
-use Rattle.outage_board.specs.Histories.{entries_of}
-use Rattle.outage_board.specs.Boards.{BoardView}
+use Rattle.outage_board.specs.{declared.entry.Entry.Entry, declared.view.View.View, declared.view.Made.Made}
+use Rattle.outage_board.specs.{Histories.entries_of, Boards.BoardView}
 
 -- the crews from a number on, none of which has made anything
 abbrev pub nothing_made : ℕ → ℕ → List Made

@@ -4,31 +4,26 @@ use Rattle.std.specs.Io.KnownBytes.{Consumes, IsAtEnd}
 use Rattle.std.proofs.Common.{sym, ap, subst, ◌∙◌, refl, append-nil}
 use Rattle.std.proofs.lemmas.Bool.{cond-true, cond-false, lt-ltb, le-ltb}
 use Rattle.unit_sets.specs.CutOrder.{weight, weight_limit}
-use Rattle.fault_definitions.specs.Tree.{FaultTree}
-use Rattle.fault_definitions.specs.Cut.{IsCutList}
+use Rattle.fault_definitions.specs.{Tree.FaultTree, Cut.IsCutList}
 use Rattle.cutset_lists.specs.Generation.{HasHeavyCutList}
 use Rattle.cut_sequences.specs.Orders.{order_limit, order_lists, order_total}
 use Rattle.crew_script.specs.declared.dockets.Crew.{Crew}
 use Rattle.edge_io.specs.declared.reading.TheConstants.{INPUT_LIMIT}
-use Rattle.board_report.specs.CheckText.{check_text}
-use Rattle.cut_texts.specs.CutsText.{cuts_text, listed_with}
-use Rattle.cut_texts.specs.DiagramText.{sizes_text}
-use Rattle.board_report.specs.PrintText.{print_text}
+use Rattle.board_report.specs.{CheckText.check_text, PrintText.print_text}
+use Rattle.cut_texts.specs.{CutsText.cuts_text, CutsText.listed_with, DiagramText.sizes_text}
 use Rattle.deck_reading.specs.declared.deck.CrewPart.{CrewPart}
 use Rattle.deck_reading.specs.declared.deck.CrewPart.TheVariants.{Unread, IfAny}
-use Rattle.outage_engine.specs.declared.listing.Listing.{Listing}
-use Rattle.outage_engine.specs.declared.sizes.Counts.{Counts}
+use Rattle.outage_engine.specs.{declared.listing.Listing.Listing, declared.sizes.Counts.Counts}
+use Rattle.outage_engine.specs.{declared.refusal.RunEnd.RunEnd, declared.refusal.RunEnd.TheVariants.Refused}
+use Rattle.outage_engine.specs.{declared.refusal.RunEnd.TheVariants.NoMemory, Gives.OfDeckOr, Gives.OfInput}
+use Rattle.outage_engine.specs.{Store.method_by}
 use Rattle.outage_engine.specs.declared.refusal.Refusal.TheVariants.{Usage, ReadFault, TooLong, Fault, ListLimit}
 use Rattle.outage_engine.specs.declared.refusal.Refusal.TheVariants.{OrderLimit}
-use Rattle.outage_engine.specs.declared.refusal.RunEnd.{RunEnd}
-use Rattle.outage_engine.specs.declared.refusal.RunEnd.TheVariants.{Refused, NoMemory}
 use Rattle.outage_engine.specs.Answers.{AreCountsOf, IfRefused, IsFaultOfDeck, IsLimitOf, IsListingOf, IsReadRefusal}
 use Rattle.outage_engine.specs.Answers.{IsRefusalFor, IsWeightLimitOf, found_in, listing_text}
 use Rattle.deck_reading.specs.Faults.{IsDeckFault, IsWellFormed}
 use Rattle.outage_engine.specs.Finding.{Finds, Found, Faulty, Ready, TooHeavy, TooManyOrders, Wants, WithOrders}
 use Rattle.outage_engine.specs.Finding.{bad_deck, judged, well_formed}
-use Rattle.outage_engine.specs.Gives.{OfDeckOr, OfInput}
-use Rattle.outage_engine.specs.Store.{method_by}
 use Rattle.outage_engine.specs.Texts.{IsCheckText, IsCutsText, IsDiagramText, IsPrintText, cuts_said, for_diagram}
 use Rattle.outage_engine.proofs.Clauses.{of_deck, of_input}
 
@@ -59,7 +54,7 @@ module _ (most : ℕ) (found : Found) where
 
 -- ---- what is found in a deck that was read
 
-module _ (part : CrewPart) (most : ℕ) (bytes : List ℕ) (tree : FaultTree) (crews : Option (List Crew))
+module _ {part : CrewPart} (most : ℕ) {bytes : List ℕ} {tree : FaultTree} {crews : Option (List Crew)}
     (deck : IsWellFormed part bytes tree crews) where
   abbrev with_orders : Wants
   with_orders = record { crews = part; cuts = WithOrders most }
@@ -75,9 +70,9 @@ module _ (part : CrewPart) (most : ℕ) (bytes : List ℕ) (tree : FaultTree) (c
   finds_many (cuts, list, light, many) =
       well_formed (as_found cuts) deck list (sym (judged-many most (as_found cuts) light many))
 
-  pub finds_ready : (listing : Listing) → IsListingOf most tree listing
+  pub finds_ready : {listing : Listing} → IsListingOf most tree listing
       → Finds with_orders bytes (Ready (found_in listing crews))
-  finds_ready listing is =
+  finds_ready {listing} is =
       let found : Found = found_in listing crews in
       let few : order_total (order_lists tree listing.cuts most) ≤ order_limit =
       subst (λ orders. order_total orders ≤ order_limit) is.orders is.few in
@@ -86,9 +81,9 @@ module _ (part : CrewPart) (most : ℕ) (bytes : List ℕ) (tree : FaultTree) (c
       (sym (judged-ready most found is.list.light
       (subst (λ t. order_total (order_lists t listing.cuts most) ≤ order_limit) (sym is.of_tree) few)))
 
-pub orders_of_listing : (most : ℕ) (tree : FaultTree) (listing : Listing) → IsListingOf most tree listing
+pub orders_of_listing : {most : ℕ} {tree : FaultTree} {listing : Listing} → IsListingOf most tree listing
     → listing.orders ≡ order_lists listing.tree listing.cuts most
-orders_of_listing most tree listing is = is.orders ∙ ap (λ t. order_lists t listing.cuts most) (sym is.of_tree)
+orders_of_listing {most} {listing} is = is.orders ∙ ap (λ t. order_lists t listing.cuts most) (sym is.of_tree)
 
 -- the text of a listing is what is said of its cut list
 pub said_of : (most : ℕ) (listing : Listing) (crews : Option (List Crew))
@@ -96,21 +91,21 @@ pub said_of : (most : ℕ) (listing : Listing) (crews : Option (List Crew))
     → listing_text listing ≡ cuts_said most (found_in listing crews)
 said_of most listing crews is = ap (λ orders. cuts_text listing.tree (listed_with listing.cuts orders)) is
 
-check_said : (bytes : List ℕ) (tree : FaultTree) (crews : Option (List Crew)) → IsWellFormed IfAny bytes tree crews
+check_said : {bytes : List ℕ} {tree : FaultTree} {crews : Option (List Crew)} → IsWellFormed IfAny bytes tree crews
     → IsCheckText bytes (check_text tree crews)
-check_said bytes tree crews deck =
+check_said {tree} {crews} deck =
     let found : Found = record { tree = tree; cuts = []; crews = crews } in
     record { found = found; finds = well_formed found deck refl refl; is = refl }
 
-print_said : (bytes : List ℕ) (tree : FaultTree) (crews : Option (List Crew)) → IsWellFormed Unread bytes tree crews
+print_said : {bytes : List ℕ} {tree : FaultTree} {crews : Option (List Crew)} → IsWellFormed Unread bytes tree crews
     → IsPrintText bytes (print_text tree)
-print_said bytes tree crews deck =
+print_said {tree} {crews} deck =
     let found : Found = record { tree = tree; cuts = []; crews = crews } in
     record { found = found; finds = well_formed found deck refl refl; is = refl }
 
 -- ---- what is found for `diagram`
 
-module _ (bytes : List ℕ) (tree : FaultTree) (crews : Option (List Crew))
+module _ {bytes : List ℕ} {tree : FaultTree} {crews : Option (List Crew)}
     (deck : IsWellFormed Unread bytes tree crews) where
   abbrev with_cuts : List (List ℕ) → Found
   with_cuts cuts = record { tree = tree; cuts = cuts; crews = crews }
@@ -126,9 +121,9 @@ module _ (bytes : List ℕ) (tree : FaultTree) (crews : Option (List Crew))
       well_formed (with_cuts cuts) deck list (sym (cond-false (nat_lt weight_limit (weight cuts)) TooHeavy
       (Ready (with_cuts cuts)) (le-ltb weight_limit (weight cuts) light)))
 
-  sizes_said : (counts : Counts) → AreCountsOf tree counts
+  sizes_said : {counts : Counts} → AreCountsOf tree counts
       → IsDiagramText (method_by counts.nodes) bytes (sizes_text tree counts.cuts counts.members counts.nodes)
-  sizes_said counts are = record {
+  sizes_said {counts} are = record {
     found = with_cuts are.list;
     finds = finds_cuts are.list are.within.all are.within.light;
     nodes = counts.nodes;
@@ -153,36 +148,35 @@ of_whole (Some all) (Some rest) bytes P consumes at_end within holds =
 
 module _ (held left : Option (List ℕ)) (tree : FaultTree) where
   module _ (crews : Option (List Crew)) (read : OfInput held left (λ bytes. IsWellFormed Unread bytes tree crews)) where
-    pub cuts_of_input : (most : ℕ) (listing : Listing) → IsListingOf most tree listing
+    pub cuts_of_input : {most : ℕ} {listing : Listing} → IsListingOf most tree listing
         → OfInput held left (λ bytes. IsCutsText most bytes (listing_text listing))
-    cuts_of_input most listing is =
+    cuts_of_input {most} {listing} is =
         of_input held left (λ bytes. IsWellFormed Unread bytes tree crews)
         (λ bytes. IsCutsText most bytes (listing_text listing))
         (λ bytes deck. record {
           found = found_in listing crews;
-          finds = finds_ready Unread most bytes tree crews deck listing is;
-          is = said_of most listing crews (orders_of_listing most tree listing is);
+          finds = finds_ready most deck is;
+          is = said_of most listing crews (orders_of_listing is);
         }) read
 
-    pub diagram_of_input : (counts : Counts) → AreCountsOf tree counts
+    pub diagram_of_input : {counts : Counts} → AreCountsOf tree counts
         → OfInput held left (λ bytes. IsDiagramText (method_by counts.nodes) bytes
         (sizes_text tree counts.cuts counts.members counts.nodes))
-    diagram_of_input counts are =
+    diagram_of_input {counts} are =
         of_input held left (λ bytes. IsWellFormed Unread bytes tree crews)
         (λ bytes. IsDiagramText (method_by counts.nodes) bytes
-        (sizes_text tree counts.cuts counts.members counts.nodes))
-        (λ bytes deck. sizes_said bytes tree crews deck counts are) read
+        (sizes_text tree counts.cuts counts.members counts.nodes)) (λ bytes deck. sizes_said deck are) read
 
     pub print_of_input : OfInput held left (λ bytes. IsPrintText bytes (print_text tree))
     print_of_input =
         of_input held left (λ bytes. IsWellFormed Unread bytes tree crews)
-        (λ bytes. IsPrintText bytes (print_text tree)) (λ bytes deck. print_said bytes tree crews deck) read
+        (λ bytes. IsPrintText bytes (print_text tree)) (λ bytes deck. print_said deck) read
 
   pub check_of_input : (crews : Option (List Crew)) → OfInput held left (λ bytes. IsWellFormed IfAny bytes tree crews)
       → OfInput held left (λ bytes. IsCheckText bytes (check_text tree crews))
   check_of_input crews read =
       of_input held left (λ bytes. IsWellFormed IfAny bytes tree crews)
-      (λ bytes. IsCheckText bytes (check_text tree crews)) (λ bytes deck. check_said bytes tree crews deck) read
+      (λ bytes. IsCheckText bytes (check_text tree crews)) (λ bytes deck. check_said deck) read
 
 -- ---- refusals
 
@@ -195,11 +189,11 @@ module _ (own held left : Option (List ℕ)) (rose : Type 0) where
     limit_for part most (Refused ListLimit) read heavy =
         of_deck own held left (λ bytes. IsWellFormed part bytes tree crews)
         (λ bytes. Finds (record { crews = part; cuts = WithOrders most }) bytes TooHeavy)
-        (λ bytes deck. finds_heavy part most bytes tree crews deck heavy) read
+        (λ bytes deck. finds_heavy most deck heavy) read
     limit_for part most (Refused OrderLimit) read many =
         of_deck own held left (λ bytes. IsWellFormed part bytes tree crews)
         (λ bytes. Finds (record { crews = part; cuts = WithOrders most }) bytes TooManyOrders)
-        (λ bytes deck. finds_many part most bytes tree crews deck many) read
+        (λ bytes deck. finds_many most deck many) read
     limit_for part most (Refused (Fault fault)) read never = absurd never
     limit_for part most (Refused ReadFault) read never = absurd never
     limit_for part most (Refused TooLong) read never = absurd never
@@ -211,7 +205,7 @@ module _ (own held left : Option (List ℕ)) (rose : Type 0) where
         → IfRefused (IsWeightLimitOf tree) end → IfRefused (IsRefusalFor own for_diagram held left rose) end
     weight_limit_for (Refused ListLimit) read heavy =
         of_deck own held left (λ bytes. IsWellFormed Unread bytes tree crews)
-        (λ bytes. Finds for_diagram bytes TooHeavy) (λ bytes deck. finds_heavy_cuts bytes tree crews deck heavy) read
+        (λ bytes. Finds for_diagram bytes TooHeavy) (λ bytes deck. finds_heavy_cuts deck heavy) read
     weight_limit_for (Refused OrderLimit) read never = absurd never
     weight_limit_for (Refused (Fault fault)) read never = absurd never
     weight_limit_for (Refused ReadFault) read never = absurd never

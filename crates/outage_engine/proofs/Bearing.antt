@@ -2,36 +2,26 @@
 -- includes a cut set.
 use Rattle.std.specs.Prelude.{◌≡◌, ℕ, suc, ◌<◌, ◌≤◌, Bool, true, false, not, ◌==◌, List, [], ◌∷◌, ◌++◌, length, filter}
 use Rattle.std.specs.Prelude.{Contains}
-use Rattle.std.specs.List.Sorted.{IsStrictlySortedBy}
-use Rattle.std.specs.Ordering.{nat_cmp}
+use Rattle.std.specs.{List.Sorted.IsStrictlySortedBy, Ordering.nat_cmp, declared.cmp.Ordering.TheVariants.Less}
 use Rattle.std.proofs.Common.{sym, subst, ◌∙◌, ap, refl, inl, inr, arith, eq-eqb}
 use Rattle.std.proofs.lemmas.Bool.{cases_Bool, and_parts, and_from, ne_eqb, not_from_false, or_left, or_right}
 use Rattle.std.proofs.lemmas.Bool.{false≢true, cond-true, cond-false, cond_both, eqb-true, le-leb, or_cases}
 use Rattle.std.proofs.lemmas.List.Elements.{All-contains, All-from_recursion}
 use Rattle.std.proofs.lemmas.List.Kept.{IsStrictlySortedBy-filter}
-use Rattle.std.specs.declared.cmp.Ordering.TheVariants.{Less}
 use Rattle.unit_sets.specs.UnitList.{among, outside, is_within, without_unit, IsRising}
 use Rattle.unit_sets.proofs.UnitListLemmas.{among-filter}
 use Rattle.unit_sets.proofs.UnitListLemmas.{among-without_unit, among-from_is_within, Contains-from_among}
 use Rattle.unit_sets.proofs.Sorted.{Contains-nil, Contains-cons_cases}
-use Rattle.fault_definitions.specs.Tree.{FaultTree}
-use Rattle.fault_definitions.specs.Cut.{IsCutList, is_cut}
-use Rattle.fault_definitions.specs.FailingOrder.{is_admissible, is_failing}
-use Rattle.fault_definitions.proofs.MinimalCuts.{includes_minimal}
-use Rattle.fault_definitions.specs.Step.{step}
-use Rattle.fault_definitions.proofs.StepLaws.{step-reads}
-use Rattle.fault_definitions.specs.WellFormed.{IsTree}
+use Rattle.fault_definitions.specs.{Tree.FaultTree, Cut.IsCutList, Cut.is_cut, FailingOrder.is_admissible}
+use Rattle.fault_definitions.specs.{FailingOrder.is_failing, Step.step, WellFormed.IsTree}
+use Rattle.fault_definitions.proofs.{MinimalCuts.includes_minimal, StepLaws.step-reads}
 use Rattle.residual_ledger.specs.Residual.{residual}
 use Rattle.residual_ledger.specs.Tight.{is_tight, numbers_from, tight}
-use Rattle.margin_policy.specs.Guard.{KeepsMore}
-use Rattle.margin_policy.specs.Held.{units_out}
-use Rattle.margin_policy.specs.Standing.{StandingView}
-use Rattle.outage_board.specs.Histories.{after_entry, standing_after}
-use Rattle.outage_board.specs.Safety.{IsSafe}
-use Rattle.outage_board.specs.declared.entry.Entry.{Entry}
+use Rattle.margin_policy.specs.{Guard.KeepsMore, Held.units_out, Standing.StandingView}
+use Rattle.outage_board.specs.{Histories.after_entry, Histories.standing_after, Safety.IsSafe}
+use Rattle.outage_board.specs.{declared.entry.Entry.Entry, Boards.Deck}
 use Rattle.std.specs.Prelude.{is_some}
 use Rattle.outage_engine.specs.Safety.{Bears, BearsThroughout}
-use Rattle.outage_board.specs.Boards.{Deck}
 
 -- ---- a rising list whose members another list has is no longer
 
@@ -137,7 +127,7 @@ cuts_stay standing (entry ∷ history) = cuts_stay (after_entry standing entry) 
 
 -- ---- what the tree bears
 
-module _ (tree : FaultTree) (kept : IsTree tree) (cuts : List (List ℕ)) (list : IsCutList tree cuts) where
+module _ {tree : FaultTree} (kept : IsTree tree) {cuts : List (List ℕ)} (list : IsCutList tree cuts) where
   no_cut : (standing : StandingView) → standing.cuts ≡ cuts → KeepsMore standing → (set : List ℕ)
       → length (outside (units_out standing.held) set) ≤ standing.margin → is_cut tree set ≡ false
   no_cut standing same keeps set few =
@@ -154,8 +144,8 @@ module _ (tree : FaultTree) (kept : IsTree tree) (cuts : List (List ℕ)) (list 
         | inr none ↦ none
       ]
 
-  bears : (standing : StandingView) → standing.cuts ≡ cuts → KeepsMore standing → Bears tree standing
-  bears standing same keeps = record {
+  bears : {standing : StandingView} → standing.cuts ≡ cuts → KeepsMore standing → Bears tree standing
+  bears {standing} same keeps = record {
     sets = no_cut standing same keeps;
     orders = λ order few.
         elim (cases_Bool (is_failing tree order)) [
@@ -171,5 +161,4 @@ module _ (tree : FaultTree) (kept : IsTree tree) (cuts : List (List ℕ)) (list 
   pub bears_throughout : (deck : Deck) (history : List Entry) → deck.opening.cuts ≡ cuts → IsSafe deck.opening history
       → BearsThroughout tree deck history
   bears_throughout deck history same safe before entry rest parts grant =
-      bears (standing_after deck.opening (before ++ entry ∷ [])) (cuts_stay deck.opening (before ++ entry ∷ []) ∙ same)
-      (safe before entry rest parts grant)
+      bears (cuts_stay deck.opening (before ++ entry ∷ []) ∙ same) (safe before entry rest parts grant)

@@ -6,18 +6,14 @@ use Rattle.unit_sets.specs.CutOrder.{IsInCutOrder, weight, weight_limit}
 use Rattle.unit_sets.specs.declared.refusal.ListEnd.{ListEnd}
 use Rattle.unit_sets.specs.declared.refusal.ListEnd.TheVariants.{ListLimit, NoMemory}
 use Rattle.unit_sets.specs.UnitList.{IsRising}
-use Rattle.fault_definitions.specs.Cut.{IsCutList, IsMinimalFor}
-use Rattle.fault_definitions.specs.Tree.{FaultTree}
-use Rattle.fault_definitions.specs.WellFormed.{IsTree}
+use Rattle.fault_definitions.specs.{Cut.IsCutList, Cut.IsMinimalFor, Tree.FaultTree, WellFormed.IsTree}
 use Rattle.cutset_lists.specs.Generation.{HasHeavyCutList}
 use Rattle.tree_families.proofs.CutFamilies.{cut_list-from_family, no_empty_set}
-use Rattle.zdd_families.specs.Family.{IsFamily}
-use Rattle.zdd_families.specs.Map.{family}
+use Rattle.zdd_families.specs.{Family.IsFamily, Map.family, Nodes.IsNodeCount}
 use Rattle.zdd_shared_table.specs.Seats.{Seated, map_of}
 use Rattle.cutset_listing.specs.Listing.{HasHeavyList, HasSetsOf, LacksEmptySet}
 use Rattle.cutset_listing.proofs.HeavyLists.{in_a_list, heavy_list as heavy_list_of}
 use Rattle.cut_texts.proofs.Members.{weight_parts}
-use Rattle.zdd_families.specs.Nodes.{IsNodeCount}
 use Rattle.outage_engine.specs.declared.refusal.Refusal.{Refusal}
 use Rattle.outage_engine.specs.declared.refusal.Refusal.TheVariants as refusal
 use Rattle.outage_engine.specs.Answers.{AreCountsOf, IfRefused, end_without}
@@ -43,11 +39,11 @@ module _ (tree : FaultTree) (seat : Seated) (root : ℕ) (is : IsRootOf seat tre
   }
 
   -- the sets of the family are as many as those of the cut list, and weigh as much
-  pub counts_of_root : (sets weighs nodes : ℕ) → sets ≡ length (family (map_of seat) root)
+  pub counts_of_root : {sets weighs nodes : ℕ} → sets ≡ length (family (map_of seat) root)
       → weighs ≡ weight (family (map_of seat) root) → weight (family (map_of seat) root) ≤ weight_limit
       → IsNodeCount (family (map_of seat) root) nodes
       → AreCountsOf tree (record { cuts = sets; members = weighs - sets; nodes = Some nodes })
-  counts_of_root sets weighs nodes count total light counted =
+  counts_of_root {nodes} count total light counted =
       let has = in_a_list (family (map_of seat) root) is_family in
       let many = has.as_many in
       let heavy = has.as_heavy in
@@ -60,9 +56,9 @@ module _ (tree : FaultTree) (seat : Seated) (root : ℕ) (is : IsRootOf seat tre
         nodes = (family (map_of seat) root, is.1, counted);
       }
 
-  pub few_counted : (sets weighs : ℕ) → sets ≡ length (family (map_of seat) root)
+  pub few_counted : {sets weighs : ℕ} → sets ≡ length (family (map_of seat) root)
       → weighs ≡ weight (family (map_of seat) root) → sets ≤ weighs
-  few_counted sets weighs count total =
+  few_counted count total =
       let has = in_a_list (family (map_of seat) root) is_family in
       let many = has.as_many in
       let heavy = has.as_heavy in

@@ -3,24 +3,21 @@ use Rattle.std.specs.Prelude.{◌≡◌, ◌⊎◌, ℕ, ◌<◌, ◌≤◌, Lis
 use Rattle.std.specs.Io.KnownBytes.{Appends}
 use Rattle.std.proofs.Common.{sym, subst, ◌∙◌, refl, inl, inr, arith}
 use Rattle.edge_io.specs.declared.reading.TheConstants.{INPUT_LIMIT}
-use Rattle.board_words.specs.Command.{command_of}
+use Rattle.board_words.specs.{Command.command_of, declared.command.Command.Command}
 use Rattle.tree_maker.specs.MadeDeck.{made_deck}
-use Rattle.board_words.specs.declared.command.Command.{Command}
 use Rattle.board_words.specs.declared.command.Command.TheVariants.{Cuts, Board, Check, Print, Diagram, Make, Help}
 use Rattle.board_words.specs.declared.command.Show.TheVariants as shown
 use Rattle.board_report.specs.Refusals.{fault_line, notice_line}
 use Rattle.board_report.specs.declared.notice.Notice.TheVariants as notice
-use Rattle.outage_engine.specs.declared.status.Status.{Status}
+use Rattle.outage_engine.specs.{declared.status.Status.Status, declared.status.Method.Method, Safety.IsSafeText}
 use Rattle.outage_engine.specs.declared.status.Status.TheVariants.{Done, Refused, ListLimit, OrderLimit, Usage}
 use Rattle.outage_engine.specs.declared.status.Status.TheVariants.{ReadFault, TooLong, WriteFault, NoMemory}
-use Rattle.outage_engine.specs.declared.status.Method.{Method}
 use Rattle.outage_engine.specs.Finding.{Finding, Finds, Found, Faulty, TooHeavy, TooManyOrders, Ready, Wants}
 use Rattle.outage_engine.specs.Gives.{AreReading, Gives, IsBeyond, IsDeckOr, IsMethodOf, IsRunDeck, IsTextOf, OfDeck}
 use Rattle.outage_engine.specs.Gives.{OfDeckOr, OfInput, done, own_deck, wanted, wants_of}
 use Rattle.outage_engine.specs.Gives.{usage, read_fault, too_long, refused, list_limit, order_limit}
 use Rattle.outage_engine.specs.Runs as runs
 use Rattle.outage_engine.specs.Runs.{Answers, Fails, HasFound, IsDone, Runs}
-use Rattle.outage_engine.specs.Safety.{IsSafeText}
 use Rattle.outage_engine.specs.Texts.{IsBoardText, IsCheckText, IsCutsText, IsDiagramText, IsPrintText, for_board}
 use Rattle.outage_engine.specs.Texts.{for_check, for_cuts, for_diagram, for_print, for_summary}
 use Rattle.outage_engine.proofs.OneFinding.{one_finding}
@@ -60,9 +57,9 @@ fact_of_deck (Some own) held left P bytes same fact = subst P same fact
 fact_of_deck None held left P bytes (holds, short) fact =
     (input bytes left P (subst (λ h. OfInput h left P) holds fact)).1
 
-plain_text : (margin most : ℕ) (bytes text : List ℕ) → IsSafeText margin most bytes text
+plain_text : {margin most : ℕ} {bytes text : List ℕ} → IsSafeText margin most bytes text
     → IsBoardText margin most bytes text
-plain_text margin most bytes text is =
+plain_text is =
     record { found = is.found; finds = is.finds; history = is.history; of_deck = is.of_deck; is = is.is }
 
 -- ---- words are of one kind
@@ -81,11 +78,11 @@ same_command : (words : List (List ℕ)) (one two : Command) → command_of word
     → one ≡ two
 same_command words one two at at' = let same : Some one ≡ Some two = sym at ∙ at' in cc
 
-same_some : (one two : Wants) → Some one ≡ Some two → one ≡ two
-same_some one two same = cc
+same_some : {one two : Wants} → Some one ≡ Some two → one ≡ two
+same_some same = cc
 
-same_wants : (words : List (List ℕ)) (one two : Wants) → wanted words ≡ Some one → wanted words ≡ Some two → one ≡ two
-same_wants words one two at at' = let same : Some one ≡ Some two = sym at ∙ at' in cc
+same_wants : (words : List (List ℕ)) {one two : Wants} → wanted words ≡ Some one → wanted words ≡ Some two → one ≡ two
+same_wants words {one} {two} at at' = let same : Some one ≡ Some two = sym at ∙ at' in cc
 
 -- ---- what the relation says of each status
 
@@ -111,14 +108,14 @@ module _ (words : List (List ℕ)) (held left : Option (List ℕ)) (rose : Type 
   abbrev Caused : Status → Type 0
   Caused status = Cause words held left rose status text
 
-  cause : (status : Status) → Gives words held left rose status text → Caused status
-  cause status (done command method at is_method is_text is) = subst Caused (sym is) (command, at, is_method, is_text)
-  cause status (usage none is line) = subst Caused (sym is) (none, line)
-  cause status (read_fault reading rises is line) = subst Caused (sym is) (reading, rises, line)
-  cause status (too_long reading beyond is line) = subst Caused (sym is) (reading, beyond, line)
-  cause status (refused wants fault at found is line) = subst Caused (sym is) ((wants, at, found), line)
-  cause status (list_limit wants at found is line) = subst Caused (sym is) ((wants, at, found), line)
-  cause status (order_limit wants at found is line) = subst Caused (sym is) ((wants, at, found), line)
+  cause : {status : Status} → Gives words held left rose status text → Caused status
+  cause (done command method at is_method is_text is) = subst Caused (sym is) (command, at, is_method, is_text)
+  cause (usage none is line) = subst Caused (sym is) (none, line)
+  cause (read_fault reading rises is line) = subst Caused (sym is) (reading, rises, line)
+  cause (too_long reading beyond is line) = subst Caused (sym is) (reading, beyond, line)
+  cause (refused wants fault at found is line) = subst Caused (sym is) ((wants, at, found), line)
+  cause (list_limit wants at found is line) = subst Caused (sym is) ((wants, at, found), line)
+  cause (order_limit wants at found is line) = subst Caused (sym is) ((wants, at, found), line)
 
   text_of_command : (method : Method) (command : Command) → command_of words ≡ Some command
       → IsDoneText words held left method text → IsTextOf command method held left text
@@ -135,29 +132,29 @@ module _ (held left : Option (List ℕ)) (text : List ℕ) (wants : Wants) where
   ready_for : (command : Command) (method : Method) → wants_of (Some command) ≡ Some wants
       → IsTextOf command method held left text → OfDeckOr (own_deck (Some command)) held left IsReady
   ready_for (Cuts most workers) method at is_text =
-      let same : for_cuts most ≡ wants = same_some (for_cuts most) wants at in
+      let same : for_cuts most ≡ wants = same_some at in
       of_input held left (λ b. IsCutsText most b text) IsReady
       (λ b whole. (whole.found, subst (λ w. Finds w b (Ready whole.found)) same whole.finds)) is_text
   ready_for (Board margin most workers) method at is_text =
-      let same : for_board most ≡ wants = same_some (for_board most) wants at in
+      let same : for_board most ≡ wants = same_some at in
       of_input held left (λ b. IsSafeText margin most b text) IsReady
       (λ b whole. (whole.found, subst (λ w. Finds w b (Ready whole.found)) same whole.finds)) is_text
   ready_for Check method at is_text =
-      let same : for_check ≡ wants = same_some for_check wants at in
+      let same : for_check ≡ wants = same_some at in
       of_input held left (λ b. IsCheckText b text) IsReady
       (λ b whole. (whole.found, subst (λ w. Finds w b (Ready whole.found)) same whole.finds)) is_text
   ready_for Print method at is_text =
-      let same : for_print ≡ wants = same_some for_print wants at in
+      let same : for_print ≡ wants = same_some at in
       of_input held left (λ b. IsPrintText b text) IsReady
       (λ b whole. (whole.found, subst (λ w. Finds w b (Ready whole.found)) same whole.finds)) is_text
   ready_for Help method at is_text = absurd cc
   ready_for (Diagram workers) method at is_text =
-      let same : for_diagram ≡ wants = same_some for_diagram wants at in
+      let same : for_diagram ≡ wants = same_some at in
       of_input held left (λ b. IsDiagramText method b text) IsReady
       (λ b whole. (whole.found, subst (λ w. Finds w b (Ready whole.found)) same whole.finds)) is_text
   ready_for (Make number shown.Deck) method at is_text = absurd cc
   ready_for (Make number shown.Summary) method at is_text =
-      let same : for_summary ≡ wants = same_some for_summary wants at in
+      let same : for_summary ≡ wants = same_some at in
       (is_text.found, subst (λ w. Finds w (made_deck number) (Ready is_text.found)) same is_text.finds)
 
   -- of a run that is done
@@ -170,39 +167,37 @@ module _ (held left : Option (List ℕ)) (text : List ℕ) (wants : Wants) where
 module _ (words : List (List ℕ)) (bytes : List ℕ) (held left : Option (List ℕ)) (rose : Type 0)
     (text : List ℕ) where
   -- of a deck, the status goes with its finding
-  goes_with : IsRunDeck words held bytes → (wants : Wants) (finding other : Finding) (status : Status)
+  goes_with : IsRunDeck words held bytes → {wants : Wants} {finding : Finding} (other : Finding) (status : Status)
       → wanted words ≡ Some wants → Finds wants bytes finding → HasFound words held left other
       → (Answers other status) → Answers finding status
-  goes_with deck wants finding other status at finds (wants', at', found) answers =
-      let same : wants' ≡ wants = same_wants words wants' wants at' at in
+  goes_with deck {wants} {finding} other status at finds (wants', at', found) answers =
+      let same : wants' ≡ wants = same_wants words at' at in
       let found' : Finds wants bytes other =
       subst (λ w. Finds w bytes other) same
       (fact_of_deck (own_deck (command_of words)) held left (λ b. Finds wants' b other) bytes deck found) in
       subst (λ f. Answers f status) (one_finding wants bytes other finding found' finds) answers
 
-  deck_due : IsRunDeck words held bytes → (wants : Wants) (finding : Finding) → wanted words ≡ Some wants
+  deck_due : IsRunDeck words held bytes → {wants : Wants} {finding : Finding} → wanted words ≡ Some wants
       → Finds wants bytes finding
       → (status : Status) → Cause words held left rose status text → Answers finding status ⊎ Fails status
-  deck_due deck wants finding at finds (Done method) is_done =
+  deck_due deck {wants} {finding} at finds (Done method) is_done =
       let ready =
       fact_of_deck (own_deck (command_of words)) held left (IsReady held left text wants) bytes deck
       (ready_of held left text wants words method at is_done) in
       inl (subst (λ f. Answers f (Done method)) (one_finding wants bytes (Ready ready.0) finding ready.1 finds)
       (method, refl))
-  deck_due deck wants finding at finds (Refused fault) (found, line) =
-      inl (goes_with deck wants finding (Faulty fault) (Refused fault) at finds found refl)
-  deck_due deck wants finding at finds ListLimit (found, line) =
-      inl (goes_with deck wants finding TooHeavy ListLimit at finds found refl)
-  deck_due deck wants finding at finds OrderLimit (found, line) =
-      inl (goes_with deck wants finding TooManyOrders OrderLimit at finds found refl)
-  deck_due deck wants finding at finds Usage (none, line) = wanted_by words wants at none
-  deck_due deck wants finding at finds ReadFault failed = inr (inl refl)
-  deck_due deck wants finding at finds TooLong (reading, beyond, line) =
+  deck_due deck at finds (Refused fault) (found, line) =
+      inl (goes_with deck (Faulty fault) (Refused fault) at finds found refl)
+  deck_due deck at finds ListLimit (found, line) = inl (goes_with deck TooHeavy ListLimit at finds found refl)
+  deck_due deck at finds OrderLimit (found, line) = inl (goes_with deck TooManyOrders OrderLimit at finds found refl)
+  deck_due deck {wants} at finds Usage (none, line) = wanted_by words wants at none
+  deck_due deck at finds ReadFault failed = inr (inl refl)
+  deck_due deck at finds TooLong (reading, beyond, line) =
       let whole : (held ≡ Some bytes) × (length bytes ≤ INPUT_LIMIT) =
       subst (λ own. IsDeckOr own held bytes) reading.2 deck in
       not_short_and_long bytes whole.1 (long_input bytes left (subst (λ h. IsBeyond h left) whole.0 beyond))
-  deck_due deck wants finding at finds WriteFault none = absurd none
-  deck_due deck wants finding at finds NoMemory none = absurd none
+  deck_due deck at finds WriteFault none = absurd none
+  deck_due deck at finds NoMemory none = absurd none
 
 module _ (words : List (List ℕ)) (bytes : List ℕ) (left : Option (List ℕ)) (rose : Type 0) (text : List ℕ) where
   -- an input of which something is known is not too long
@@ -278,15 +273,15 @@ module _ {K : Type 0} {words : List (List ℕ)} {held left : Option (List ℕ)} 
     {taken : K → Option (List ℕ)} {faults : K → ℕ} {old new : K} {result : Status}
     (ran : Runs words held left rose taken faults old new result) where
   -- the cause and the text of a status that is written whole
-  written : (status : Status) → ¬ (status ≡ WriteFault) → ¬ (status ≡ NoMemory) → result ≡ status
+  written : {status : Status} → ¬ (status ≡ WriteFault) → ¬ (status ≡ NoMemory) → result ≡ status
       → (text : List ℕ) × Cause words held left rose status text × Appends (taken old) (taken new) text
-  written status no_fault enough is = elim ran [
+  written no_fault enough is = elim ran [
     | inl memory ↦ absurd (enough (sym is ∙ memory.0))
     | inr told ↦ elim told.told [
       | inl whole ↦ (
         told.text,
         subst (λ s. Cause words held left rose s told.text) (sym whole.0 ∙ is)
-            (cause words held left rose told.text told.status told.gives),
+            (cause words held left rose told.text told.gives),
         whole.1,
       )
       | inr short ↦ absurd (no_fault (sym is ∙ short.0))
@@ -295,7 +290,7 @@ module _ {K : Type 0} {words : List (List ℕ)} {held left : Option (List ℕ)} 
 
   done_text : (method : Method) → result ≡ Done method
       → (text : List ℕ) × IsDoneText words held left method text × Appends (taken old) (taken new) text
-  done_text method is = written (Done method) (λ e. let clash = e in cc) (λ e. let clash = e in cc) is
+  done_text method is = written (λ e. let clash = e in cc) (λ e. let clash = e in cc) is
 
   -- the text of a command was written
   command_text : (command : Command) (method : Method) → command_of words ≡ Some command → result ≡ Done method
@@ -331,8 +326,7 @@ module _ {K : Type 0} {words : List (List ℕ)} {held left : Option (List ℕ)} 
       let found = prints_safely margin most workers asks is_done in (
         found.0,
         of_input held left (λ bytes. IsSafeText margin most bytes found.0)
-            (λ bytes. IsBoardText margin most bytes found.0) (λ bytes is. plain_text margin most bytes found.0 is)
-            found.1,
+            (λ bytes. IsBoardText margin most bytes found.0) (λ bytes is. plain_text is) found.1,
         found.2,
       )
 
@@ -351,32 +345,32 @@ module _ {K : Type 0} {words : List (List ℕ)} {held left : Option (List ℕ)} 
   -- the line of a refusal, with its cause
   pub refuses_words : runs.RefusesWords words taken old new result
   refuses_words is =
-      let found = written Usage (λ e. let clash = e in cc) (λ e. let clash = e in cc) is in
+      let found = written (λ e. let clash = e in cc) (λ e. let clash = e in cc) is in
       (found.1.0, subst (Appends (taken old) (taken new)) found.1.1 found.2)
 
   pub refuses_deck : runs.RefusesDeck words held left taken old new result
   refuses_deck fault is =
-      let found = written (Refused fault) (λ e. let clash = e in cc) (λ e. let clash = e in cc) is in
+      let found = written (λ e. let clash = e in cc) (λ e. let clash = e in cc) is in
       (found.1.0, subst (Appends (taken old) (taken new)) found.1.1 found.2)
 
   pub refuses_weight : runs.RefusesWeight words held left taken old new result
   refuses_weight is =
-      let found = written ListLimit (λ e. let clash = e in cc) (λ e. let clash = e in cc) is in
+      let found = written (λ e. let clash = e in cc) (λ e. let clash = e in cc) is in
       (found.1.0, subst (Appends (taken old) (taken new)) found.1.1 found.2)
 
   pub refuses_orders : runs.RefusesOrders words held left taken old new result
   refuses_orders is =
-      let found = written OrderLimit (λ e. let clash = e in cc) (λ e. let clash = e in cc) is in
+      let found = written (λ e. let clash = e in cc) (λ e. let clash = e in cc) is in
       (found.1.0, subst (Appends (taken old) (taken new)) found.1.1 found.2)
 
   pub refuses_length : runs.RefusesLength words held left taken old new result
   refuses_length is =
-      let found = written TooLong (λ e. let clash = e in cc) (λ e. let clash = e in cc) is in
+      let found = written (λ e. let clash = e in cc) (λ e. let clash = e in cc) is in
       (found.1.0, found.1.1, subst (Appends (taken old) (taken new)) found.1.2 found.2)
 
   pub fails_to_read : runs.FailsToRead words rose taken old new result
   fails_to_read is =
-      let found = written ReadFault (λ e. let clash = e in cc) (λ e. let clash = e in cc) is in
+      let found = written (λ e. let clash = e in cc) (λ e. let clash = e in cc) is in
       (found.1.0, found.1.1, subst (Appends (taken old) (taken new)) found.1.2 found.2)
 
   pub unwritten : result ≡ NoMemory → new ≡ old
@@ -384,7 +378,7 @@ module _ {K : Type 0} {words : List (List ℕ)} {held left : Option (List ℕ)} 
     | inl memory ↦ memory.1
     | inr told ↦ elim told.told [
       | inl whole ↦ absurd (subst (λ s. Cause words held left rose s told.text) (sym whole.0 ∙ is)
-          (cause words held left rose told.text told.status told.gives))
+          (cause words held left rose told.text told.gives))
       | inr short ↦ let clash = sym is ∙ short.0 in absurd cc
     ]
   ]
@@ -394,7 +388,7 @@ module _ {K : Type 0} {words : List (List ℕ)} {held left : Option (List ℕ)} 
     | inl memory ↦ let clash = sym is ∙ memory.0 in absurd cc
     | inr told ↦ elim told.told [
       | inl whole ↦ absurd (subst (λ s. Cause words held left rose s told.text) (sym whole.0 ∙ is)
-          (cause words held left rose told.text told.status told.gives))
+          (cause words held left rose told.text told.gives))
       | inr short ↦ (told.status, told.text, told.gives, short.1)
     ]
   ]
@@ -406,7 +400,7 @@ module _ {K : Type 0} {words : List (List ℕ)} {held left : Option (List ℕ)} 
     | inl memory ↦ inr (inr (inr memory.0))
     | inr told ↦ elim told.told [
       | inl whole ↦ subst (λ s. P s ⊎ Fails s) (sym whole.0)
-          (each told.status told.text (cause words held left rose told.text told.status told.gives))
+          (each told.status told.text (cause words held left rose told.text told.gives))
       | inr short ↦ inr (inr (inl short.0))
     ]
   ]
@@ -422,7 +416,7 @@ module _ {K : Type 0} {words : List (List ℕ)} {held left : Option (List ℕ)} 
   pub answers_deck : runs.AnswersDeck words held result
   answers_deck bytes wants finding deck at finds =
       due (Answers finding) (λ status text causes.
-      deck_due words bytes held left rose text deck wants finding at finds status causes)
+      deck_due words bytes held left rose text deck at finds status causes)
 
   pub answers_length : runs.AnswersLength words held result
   answers_length bytes holds long reading =

@@ -2,27 +2,23 @@
 use Rattle.std.specs.Prelude.{◌≡◌, ℕ, List, Option, Some, None, Ok, Err}
 use Rattle.std.proofs.Common.{sym, ap, subst, ◌∙◌, refl, inl, inr}
 use Rattle.fault_definitions.specs.Tree.{FaultTree}
-use Rattle.board_words.specs.Command.{command_of}
-use Rattle.board_words.specs.declared.command.Command.{Command}
+use Rattle.board_words.specs.{Command.command_of, declared.command.Command.Command}
 use Rattle.board_words.specs.declared.command.Command.TheVariants as said
 use Rattle.board_words.specs.declared.command.Show.TheVariants as shown
 use Rattle.tree_maker.specs.MadeDeck.{made_deck}
 use Rattle.zdd_shared_table.specs.Seats.{Seated}
-use Rattle.outage_engine.specs.declared.answer.Answer.{Answer}
+use Rattle.outage_engine.specs.{declared.answer.Answer.Answer, declared.listing.Listing.Listing}
+use Rattle.outage_engine.specs.{declared.refusal.Refusal.Refusal, declared.refusal.RunEnd.RunEnd}
+use Rattle.outage_engine.specs.{declared.refusal.RunEnd.TheVariants.Refused}
+use Rattle.outage_engine.specs.{declared.refusal.RunEnd.TheVariants.NoMemory, declared.sizes.Counts.Counts}
+use Rattle.outage_engine.specs.{declared.status.Method.TheVariants.Plain, declared.status.Status.Status}
+use Rattle.outage_engine.specs.{declared.status.Status.TheVariants.Done, declared.summary.Summary.Summary}
+use Rattle.outage_engine.specs.{Openings.HasRun, Runs.Tells, StoreAfter.BearsOut, StoreAfter.IsLeftBy}
 use Rattle.outage_engine.specs.declared.answer.Answer.TheVariants as answer
 use Rattle.deck_reading.specs.declared.deck.CrewPart.TheVariants.{IfAny, Unread}
 use Rattle.deck_reading.specs.declared.deck.DeckParts.{DeckParts}
-use Rattle.outage_engine.specs.declared.listing.Listing.{Listing}
-use Rattle.outage_engine.specs.declared.refusal.Refusal.{Refusal}
 use Rattle.outage_engine.specs.declared.refusal.Refusal.TheVariants as refusal
-use Rattle.outage_engine.specs.declared.refusal.RunEnd.{RunEnd}
-use Rattle.outage_engine.specs.declared.refusal.RunEnd.TheVariants.{Refused, NoMemory}
-use Rattle.outage_engine.specs.declared.sizes.Counts.{Counts}
-use Rattle.outage_engine.specs.declared.status.Method.TheVariants.{Plain}
-use Rattle.outage_engine.specs.declared.status.Status.{Status}
 use Rattle.outage_engine.specs.declared.status.Status.TheVariants as status
-use Rattle.outage_engine.specs.declared.status.Status.TheVariants.{Done}
-use Rattle.outage_engine.specs.declared.summary.Summary.{Summary}
 use Rattle.outage_engine.specs.Answers.{AreCountsOf, HasCome, HasOrders, IfRefused, IsLimitOf, IsListingOf}
 use Rattle.outage_engine.specs.Answers.{IsReadRefusal, IsRefusalFor, IsRefusalOf, IsWeightLimitOf}
 use Rattle.outage_engine.specs.Answers.{refusal_line, refusal_status, status_of, summed_text, text_of}
@@ -30,10 +26,7 @@ use Rattle.deck_reading.specs.Faults.{IsWellFormed}
 use Rattle.outage_engine.specs.Finding.{Faulty, Finding, Finds, TooHeavy, TooManyOrders, Wants}
 use Rattle.outage_engine.specs.Gives as gives
 use Rattle.outage_engine.specs.Gives.{Gives, OfDeck, OfDeckOr, OfInput, own_deck, wants_of}
-use Rattle.outage_engine.specs.Openings.{HasRun}
-use Rattle.outage_engine.specs.Runs.{Tells}
 use Rattle.outage_engine.specs.Store.{IsFoundBy, IsLeftFor, method_by}
-use Rattle.outage_engine.specs.StoreAfter.{BearsOut, IsLeftBy}
 use Rattle.outage_engine.specs.Texts.{IsSummaryText, for_cuts, for_diagram, for_summary}
 use Rattle.outage_engine.proofs.Answering.{check_of_input, cuts_of_input, diagram_of_input, limit_for, made_for}
 use Rattle.outage_engine.proofs.Answering.{print_of_input, refused_for, weight_limit_for}
@@ -50,26 +43,26 @@ module _ (held left : Option (List ℕ)) (rose : Type 0) where
   of_wants command wants NoMemory at free = tt
 
 module _ {held left : Option (List ℕ)} {rose : Type 0} {before after : Seated} where
-  pub refused_came : (command : Command) (wants : Wants) (end : RunEnd) → wants_of (Some command) ≡ Some wants
+  pub refused_came : {command : Command} (wants : Wants) (end : RunEnd) → wants_of (Some command) ≡ Some wants
       → IfRefused (IsRefusalFor (own_deck (Some command)) wants held left rose) end
       → IsLeftBy (own_deck (Some command)) held left before after
       → HasCome command held left rose before after (Err end)
-  refused_came command wants end at holds is_left =
+  refused_came {command} wants end at holds is_left =
       record { answer = tt; refusal = of_wants held left rose command wants end at holds; seat = is_left }
 
   -- of a tree that was read and searched
-  module _ (tree : FaultTree) (read : OfInput held left (λ bytes. IsWellFormed Unread bytes tree None))
+  module _ {tree : FaultTree} (read : OfInput held left (λ bytes. IsWellFormed Unread bytes tree None))
       (left_for : IsLeftFor tree before after) where
     module _ (most workers : ℕ) where
-      pub cuts_came : (listing : Listing) → IsListingOf most tree listing
+      pub cuts_came : {listing : Listing} → IsListingOf most tree listing
           → IsFoundBy before after tree (method_by listing.root)
           → HasCome (said.Cuts most workers) held left rose before after (Ok (answer.Cuts listing))
-      cuts_came listing listed found = record {
+      cuts_came {listing} listed found = record {
         answer = record {
           method = method_by listing.root;
           is_done = refl;
           of_command = finds_sets listing.root;
-          text = cuts_of_input held left tree None read most listing listed;
+          text = cuts_of_input held left tree None read listed;
           writable = listed.units;
           bears = bears_out None held left before after Unread tree None read (method_by listing.root) found;
         };
@@ -80,21 +73,20 @@ module _ {held left : Option (List ℕ)} {rose : Type 0} {before after : Seated}
       pub cuts_refused : (end : RunEnd) → IfRefused (IsLimitOf most tree) end
           → HasCome (said.Cuts most workers) held left rose before after (Err end)
       cuts_refused end limit =
-          refused_came (said.Cuts most workers) (for_cuts most) end refl
-          (limit_for None held left rose tree None Unread most end read limit)
+          refused_came (for_cuts most) end refl (limit_for None held left rose tree None Unread most end read limit)
           (left_by None held left before after Unread tree None read left_for)
 
     module _ (workers : ℕ) where
-      pub sizes_came : (counts : Counts) → AreCountsOf tree counts
+      pub sizes_came : {counts : Counts} → AreCountsOf tree counts
           → IsFoundBy before after tree (method_by counts.nodes)
           → HasCome (said.Diagram workers) held left rose before after
           (Ok (answer.Diagram (record { tree = tree; counts = counts })))
-      sizes_came counts are found = record {
+      sizes_came {counts} are found = record {
         answer = record {
           method = method_by counts.nodes;
           is_done = refl;
           of_command = finds_sets counts.nodes;
-          text = diagram_of_input held left tree None read counts are;
+          text = diagram_of_input held left tree None read are;
           writable = tt;
           bears = bears_out None held left before after Unread tree None read (method_by counts.nodes) found;
         };
@@ -105,8 +97,7 @@ module _ {held left : Option (List ℕ)} {rose : Type 0} {before after : Seated}
       pub sizes_refused : (end : RunEnd) → IfRefused (IsWeightLimitOf tree) end
           → HasCome (said.Diagram workers) held left rose before after (Err end)
       sizes_refused end limit =
-          refused_came (said.Diagram workers) for_diagram end refl
-          (weight_limit_for None held left rose tree None end read limit)
+          refused_came for_diagram end refl (weight_limit_for None held left rose tree None end read limit)
           (left_by None held left before after Unread tree None read left_for)
 
   -- of a summary
@@ -130,19 +121,17 @@ module _ {held left : Option (List ℕ)} {rose : Type 0} {before after : Seated}
     pub sum_refused : (end : RunEnd) → IfRefused (IsRefusalFor (Some (made_deck number)) for_summary None None ⊥) end
         → HasCome (said.Make number shown.Summary) held left rose before after (Err end)
     sum_refused end holds =
-        refused_came (said.Make number shown.Summary) for_summary end refl
-        (made_for held left rose (made_deck number) for_summary end holds) is_left
+        refused_came for_summary end refl (made_for held left rose (made_deck number) for_summary end holds) is_left
 
 -- ---- of a command that leaves the seat as it was
 
 module _ {held left : Option (List ℕ)} {rose : Type 0} {seat : Seated} where
   -- its deck was refused
-  pub unread_came : (command : Command) (wants : Wants) (end : RunEnd) → wants_of (Some command) ≡ Some wants
+  pub unread_came : {command : Command} (wants : Wants) (end : RunEnd) → wants_of (Some command) ≡ Some wants
       → own_deck (Some command) ≡ None → IfRefused (IsReadRefusal wants.crews held left rose) end
       → HasCome command held left rose seat seat (Err end)
-  unread_came command wants end at none holds =
-      refused_came command wants end at
-      (subst (λ own. IfRefused (IsRefusalFor own wants held left rose) end) (sym none)
+  unread_came wants end at none holds =
+      refused_came wants end at (subst (λ own. IfRefused (IsRefusalFor own wants held left rose) end) (sym none)
       (refused_for held left rose wants end holds)) (inl refl, refl)
 
   pub checked_came : (deck : DeckParts) → OfInput held left (λ bytes. IsWellFormed IfAny bytes deck.tree deck.crews)
@@ -198,9 +187,9 @@ IsRefusalBy words held left rose refusal = Gives words held left rose (refusal_s
 
 module _ (words : List (List ℕ)) (held left : Option (List ℕ)) (command : Command)
     (says : command_of words ≡ Some command) where
-  pub left_by_words : (before after : Seated) → IsLeftBy (own_deck (Some command)) held left before after
+  pub left_by_words : {before after : Seated} → IsLeftBy (own_deck (Some command)) held left before after
       → IsLeftBy (own_deck (command_of words)) held left before after
-  left_by_words before after is_left = subst (λ c. IsLeftBy (own_deck c) held left before after) (sym says) is_left
+  left_by_words {before} {after} is_left = subst (λ c. IsLeftBy (own_deck c) held left before after) (sym says) is_left
 
   pub bears_by_words : (before after : Seated) (status : Status)
       → BearsOut (own_deck (Some command)) held left before after status
@@ -233,11 +222,11 @@ module _ (words : List (List ℕ)) (held left : Option (List ℕ)) (command : Co
 module _ {K : Type 0} {words : List (List ℕ)} {held left : Option (List ℕ)} {rose : Type 0}
     {taken : K → Option (List ℕ)} {faults : K → ℕ} {old new : K} {before after : Seated}
     (is_left : IsLeftBy (own_deck (command_of words)) held left before after) where
-  pub told_run : {result : Status} (status : Status) (text : List ℕ) → Gives words held left rose status text
+  pub told_run : {result : Status} {status : Status} {text : List ℕ} → Gives words held left rose status text
       → BearsOut (own_deck (command_of words)) held left before after status
       → Tells taken faults old new status text result
       → HasRun words held left rose taken faults old new before after result
-  told_run {result = result} status text gives bears told = record {
+  told_run {result = result} {status} {text} gives bears told = record {
     runs = inr (record { status = status; text = text; gives = gives; told = told });
     bears = told_bears_out (own_deck (command_of words)) held left before after taken faults old new status text result
         bears told;
@@ -248,8 +237,7 @@ module _ {K : Type 0} {words : List (List ℕ)} {held left : Option (List ℕ)} 
       → Tells taken faults old new (refusal_status why) (refusal_line why) result
       → HasRun words held left rose taken faults old new before after result
   refused_run why is told =
-      told_run (refusal_status why) (refusal_line why) is
-      (refusal_bears_out (own_deck (command_of words)) held left before after why) told
+      told_run is (refusal_bears_out (own_deck (command_of words)) held left before after why) told
 
   pub idle_run : new ≡ old → HasRun words held left rose taken faults old new before after status.NoMemory
   idle_run same = record { runs = inl (refl, same); bears = tt; seat = is_left }
@@ -263,7 +251,7 @@ module _ {K : Type 0} {held left : Option (List ℕ)} {rose : Type 0} {taken : K
       → HasRun words held left rose taken faults old new before after result
   answered_run answer came told =
       let is = came.answer in
-      told_run (left_by_words words held left command says before after came.seat) (status_of answer) (text_of answer)
+      told_run (left_by_words words held left command says came.seat)
       (gives.done command is.method says is.of_command is.text is.is_done)
       (bears_by_words words held left command says before after (status_of answer)
       (subst (BearsOut (own_deck (Some command)) held left before after) (sym is.is_done) is.bears))
@@ -274,5 +262,5 @@ module _ {K : Type 0} {held left : Option (List ℕ)} {rose : Type 0} {taken : K
       → Tells taken faults old new (refusal_status why) (refusal_line why) result
       → HasRun words held left rose taken faults old new before after result
   declined_run why came told =
-      refused_run (left_by_words words held left command says before after came.seat) why
+      refused_run (left_by_words words held left command says came.seat) why
       (refused_by words held left command says rose why came.refusal) told

@@ -8,9 +8,9 @@ use Rattle.outage_engine.specs.Finding.{Finds, Found, Ready, bad_deck, well_form
 use Rattle.outage_engine.specs.Texts.{IsPrintText, for_print}
 
 -- a deck whose tree alone is wanted stands for it
-stands : (bytes : List ℕ) (found : Found) → Finds for_print bytes (Ready found) → StandsFor bytes found.tree
-stands bytes found (bad_deck fault refused is) = absurd (cc)
-stands bytes found (well_formed other deck cuts is) =
+stands : {bytes : List ℕ} (found : Found) → Finds for_print bytes (Ready found) → StandsFor bytes found.tree
+stands found (bad_deck fault refused is) = absurd (cc)
+stands {bytes} found (well_formed other deck cuts is) =
     let same : other ≡ found = cc in
     subst (λ (f : Found). StandsFor bytes f.tree) same deck.stands
 
@@ -19,5 +19,5 @@ pub printed_stands : ((bytes : List ℕ) (tree : FaultTree) → StandsFor bytes 
     → IsPrintText bytes text → (tree : FaultTree) × StandsFor bytes tree × StandsFor text tree
 printed_stands again bytes text printed =
     let tree = printed.found.tree in
-    let first = stands bytes printed.found printed.finds in
+    let first = stands printed.found printed.finds in
     (tree, first, subst (λ t. StandsFor t tree) (sym printed.is) (again bytes tree first))

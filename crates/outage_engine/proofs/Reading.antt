@@ -4,8 +4,7 @@ use Rattle.std.specs.Io.KnownBytes.{Consumes, IsAtEnd}
 use Rattle.std.proofs.Common.{subst, refl}
 use Rattle.fault_definitions.specs.Tree.{FaultTree}
 use Rattle.edge_io.specs.declared.reading.TheConstants.{INPUT_LIMIT}
-use Rattle.crew_script.specs.declared.dockets.Crew.{Crew}
-use Rattle.crew_script.specs.declared.fault.CrewFault.{CrewFault}
+use Rattle.crew_script.specs.{declared.dockets.Crew.Crew, declared.fault.CrewFault.CrewFault}
 use Rattle.deck_reading.specs.declared.deck.CrewPart.{CrewPart}
 use Rattle.deck_reading.specs.declared.deck.CrewPart.TheVariants.{Unread, Needed}
 use Rattle.deck_reading.specs.Deck.{crew_part}
@@ -17,10 +16,9 @@ use Rattle.outage_engine.specs.Answers.{IfRefused, IsFaultOfDeck, IsReadRefusal}
 use Rattle.outage_engine.proofs.Answering.{of_whole}
 
 -- a crew part that is needed was read
-pub crews_are_there : (bytes : List ℕ) (tree : FaultTree) (crews : Option (List Crew))
+pub crews_are_there : {bytes : List ℕ} {tree : FaultTree} {crews : Option (List Crew)}
     → IsWellFormed Needed bytes tree crews → IsSome crews
-crews_are_there bytes tree crews deck =
-    said_some (crew_part bytes) crews (λ none. deck.has_crews (refl, none)) deck.said
+crews_are_there {bytes} {crews} deck = said_some (crew_part bytes) crews (λ none. deck.has_crews (refl, none)) deck.said
   where
     said_some : (said : Option (Result (List Crew) CrewFault)) (crews : Option (List Crew)) → ¬ (said ≡ None)
         → crews_said said ≡ Ok crews → IsSome crews
@@ -29,9 +27,9 @@ crews_are_there bytes tree crews deck =
     said_some (Some (Ok read)) crews some is = let same : Some read ≡ crews = cc in subst IsSome same refl
 
 -- a deck whose crew part was passed over has no crews
-pub without_crews : (bytes : List ℕ) (tree : FaultTree) (crews : Option (List Crew))
+pub without_crews : {bytes : List ℕ} {tree : FaultTree} (crews : Option (List Crew))
     → IsWellFormed Unread bytes tree crews → IsWellFormed Unread bytes tree None
-without_crews bytes tree crews deck = record { has_crews = deck.has_crews; stands = deck.stands; said = refl }
+without_crews crews deck = record { has_crews = deck.has_crews; stands = deck.stands; said = refl }
 
 -- why a deck that the source held is refused, as a run is
 pub refused_reading : (part : CrewPart) (held left : Option (List ℕ)) (rose : Type 0) (bytes : List ℕ) (end : RunEnd)

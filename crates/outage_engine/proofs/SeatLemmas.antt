@@ -4,18 +4,12 @@ use Rattle.std.proofs.Common.{sym, subst, inl, inr}
 use Rattle.fault_definitions.specs.Tree.{FaultTree}
 use Rattle.zdd_shared_table.specs.Seats.{Seated}
 use Rattle.crew_script.specs.declared.dockets.Crew.{Crew}
-use Rattle.deck_reading.specs.declared.deck.CrewPart.{CrewPart}
-use Rattle.outage_engine.specs.declared.refusal.Refusal.{Refusal}
+use Rattle.deck_reading.specs.{declared.deck.CrewPart.CrewPart, Deck.StandsFor, Faults.IsWellFormed}
+use Rattle.outage_engine.specs.{declared.refusal.Refusal.Refusal, declared.status.Method.Method}
+use Rattle.outage_engine.specs.{declared.status.Status.Status, declared.status.Status.TheVariants.Done}
+use Rattle.outage_engine.specs.{Answers.refusal_status, Gives.OfDeckOr, Runs.Tells}
 use Rattle.outage_engine.specs.declared.refusal.Refusal.TheVariants as refusal
-use Rattle.outage_engine.specs.declared.status.Method.{Method}
 use Rattle.outage_engine.specs.declared.status.Method.TheVariants.{Plain, Lists, Diagram}
-use Rattle.outage_engine.specs.declared.status.Status.{Status}
-use Rattle.outage_engine.specs.declared.status.Status.TheVariants.{Done}
-use Rattle.outage_engine.specs.Answers.{refusal_status}
-use Rattle.deck_reading.specs.Deck.{StandsFor}
-use Rattle.deck_reading.specs.Faults.{IsWellFormed}
-use Rattle.outage_engine.specs.Gives.{OfDeckOr}
-use Rattle.outage_engine.specs.Runs.{Tells}
 use Rattle.outage_engine.specs.Store.{IsFoundBy, IsLeftFor, KnowsDiagram}
 use Rattle.outage_engine.specs.StoreAfter.{BearsOut, FindsFull, IsLeftBy, OfTreeOr}
 use Rattle.outage_engine.proofs.Clauses.{of_deck}
@@ -60,9 +54,9 @@ module _ (own held left : Option (List ℕ)) (before after : Seated) where
     | inr short ↦ subst (BearsOut own held left before after) (sym short.0) tt
   ]
 
-  pub leaves_diagram : (result : Status) → BearsOut own held left before after result → result ≡ Done Diagram
+  pub leaves_diagram : {result : Status} → BearsOut own held left before after result → result ≡ Done Diagram
       → OfTreeOr own held left (KnowsDiagram after)
-  leaves_diagram result bears is = subst (BearsOut own held left before after) is bears
+  leaves_diagram bears is = subst (BearsOut own held left before after) is bears
 
   pub finds_full : (result : Status) → BearsOut own held left before after result → FindsFull before after result
   finds_full result bears is = subst (BearsOut own held left before after) is bears

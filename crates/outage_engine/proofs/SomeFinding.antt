@@ -1,10 +1,8 @@
 -- A deck has a finding: its first fault, a limit that is passed, or its tree, cut list and crews.
 use Rattle.std.specs.Prelude.{◌⊎◌, ℕ, List, []}
 use Rattle.std.proofs.Common.{refl, inl, inr}
-use Rattle.fault_definitions.specs.Cut.{IsCutList}
-use Rattle.fault_definitions.specs.Tree.{FaultTree}
-use Rattle.deck_reading.specs.declared.deck.CrewPart.{CrewPart}
-use Rattle.deck_reading.specs.Faults.{HasDeck, HasDeckFault}
+use Rattle.fault_definitions.specs.{Cut.IsCutList, Tree.FaultTree}
+use Rattle.deck_reading.specs.{declared.deck.CrewPart.CrewPart, Faults.HasDeck, Faults.HasDeckFault}
 use Rattle.outage_engine.specs.Finding.{AreCutsFor, CutsAlone, CutsWanted, Finding, Faulty, Finds, Found, NoCuts, Wants}
 use Rattle.outage_engine.specs.Finding.{WithOrders, bad_deck, judged, well_formed}
 

@@ -4,46 +4,38 @@ use Rattle.std.specs.Prelude.{Bool, true, false, nat_lt, if◌then◌else◌, Re
 use Rattle.std.specs.Prelude.{Ok, MatchBool, IsNone, is_some, ◌↔◌, slice_get}
 use Rattle.std.proofs.Common.{sym, ap, subst, ◌∙◌, refl, inl, inr, arith}
 use Rattle.std.proofs.lemmas.Option.{slice_get_cases}
-use Rattle.unit_sets.specs.CutOrder.{weight, weight_limit}
-use Rattle.unit_sets.specs.declared.request.CrewNo.{CrewNo}
+use Rattle.unit_sets.specs.{CutOrder.weight, CutOrder.weight_limit, declared.request.CrewNo.CrewNo}
 use Rattle.fault_definitions.specs.Tree.{FaultTree}
-use Rattle.crew_script.specs.declared.dockets.Crew.{Crew}
-use Rattle.crew_script.specs.declared.fault.CrewFault.{CrewFault}
+use Rattle.crew_script.specs.{declared.dockets.Crew.Crew, declared.fault.CrewFault.CrewFault}
 use Rattle.margin_policy.specs.declared.request.Request.{Request}
 use Rattle.outage_board.specs.Boards.{BoardView, Deck, IsUsedUp, next_entry, standing_of, with_entry}
 use Rattle.outage_board.specs.Histories.{IsLegal, IsWhole, docket_of, served}
 use Rattle.outage_board.specs.declared.entry.Entry.{Entry}
-use Rattle.outage_board.proofs.BoardLemmas.{entry_for-is}
-use Rattle.outage_board.proofs.HistoryLemmas.{served-own}
+use Rattle.outage_board.proofs.{BoardLemmas.entry_for-is, HistoryLemmas.served-own}
 use Rattle.cut_sequences.specs.Orders.{order_limit, order_lists, order_total}
-use Rattle.deck_reading.specs.declared.fault.DeckFault.{DeckFault}
+use Rattle.deck_reading.specs.{declared.fault.DeckFault.DeckFault, Deck.crew_part}
+use Rattle.deck_reading.specs.{declared.deck.CrewPart.TheVariants.Needed, Faults.IsWellFormed, Faults.crews_said}
 use Rattle.cut_texts.specs.OrdersOfUnits.{AreOrdersOf}
 use Rattle.board_report.specs.SummaryText.{summary_text}
-use Rattle.deck_reading.specs.Deck.{crew_part}
-use Rattle.tree_maker.specs.MadeDeck.{made_deck}
-use Rattle.tree_maker.specs.WellMade.{IsWellMade, made_crew}
-use Rattle.deck_reading.specs.declared.deck.CrewPart.TheVariants.{Needed}
-use Rattle.outage_engine.specs.declared.listing.Listing.{Listing}
-use Rattle.outage_engine.specs.declared.summary.Summary.{Summary}
+use Rattle.tree_maker.specs.{MadeDeck.made_deck, WellMade.IsWellMade, WellMade.made_crew}
+use Rattle.outage_engine.specs.{declared.listing.Listing.Listing, declared.summary.Summary.Summary}
+use Rattle.outage_engine.specs.{Summaries.IsServedFor, Summaries.IsSummaryOf}
 use Rattle.outage_engine.specs.Answers.{IsListingOf, found_in, summed_text}
-use Rattle.deck_reading.specs.Faults.{IsWellFormed, crews_read, crews_said}
 use Rattle.outage_engine.specs.Finding.{Faulty, Finds, Found, Ready, TooHeavy, TooManyOrders, bad_deck, well_formed}
-use Rattle.outage_engine.specs.Summaries.{IsServedFor, IsSummaryOf}
 use Rattle.outage_engine.specs.Texts.{IsSummaryText, board_deck, for_summary, summary_said, summed_margin, summed_most}
 use Rattle.deck_reading.proofs.OneDeck.{no_deck_and_fault}
 use Rattle.outage_engine.proofs.Answering.{finds_ready, orders_of_listing}
 
 -- ---- the deck
 
-same_ok : (said : Result (Option (List Crew)) CrewFault) (one two : Option (List Crew)) → said ≡ Ok one → said ≡ Ok two
+same_ok : {said : Result (Option (List Crew)) CrewFault} {one two : Option (List Crew)} → said ≡ Ok one → said ≡ Ok two
     → one ≡ two
-same_ok said one two is is' = let same = sym is ∙ is' in cc
+same_ok is is' = let same = sym is ∙ is' in cc
 
 -- the crews that are read of a crew part
-pub crews_are : (bytes : List ℕ) (tree : FaultTree) (crews : Option (List Crew)) (said : List Crew)
+pub crews_are : {bytes : List ℕ} {tree : FaultTree} {crews : Option (List Crew)} (said : List Crew)
     → crew_part bytes ≡ Some (Ok said) → IsWellFormed Needed bytes tree crews → crews ≡ Some said
-crews_are bytes tree crews said part deck =
-    same_ok (crews_read Needed bytes) crews (Some said) deck.said (ap crews_said part)
+crews_are said part deck = same_ok deck.said (ap crews_said part)
 
 -- a judgement is no fault
 not_faulty : (heavy many : Bool) (found : Found) (fault : DeckFault)
@@ -53,15 +45,15 @@ not_faulty false true found fault is = absurd cc
 not_faulty false false found fault is = absurd cc
 
 -- a made deck has no fault
-pub never_faulty : (number : ℕ) (tree : FaultTree) → IsWellMade number (made_deck number) tree → (fault : DeckFault)
+pub never_faulty : {number : ℕ} {tree : FaultTree} → IsWellMade number (made_deck number) tree → (fault : DeckFault)
     → Finds for_summary (made_deck number) (Faulty fault) → ⊥
-never_faulty number tree made fault (bad_deck other refused is) =
+never_faulty {number} {tree} made fault (bad_deck other refused is) =
     no_deck_and_fault Needed (made_deck number) tree (Some (made_crew number ∷ [])) other (record {
       has_crews = λ lacks. let clash = sym made.crews ∙ lacks.1 in absurd cc;
       stands = made.stands;
       said = ap crews_said made.crews;
     }) refused
-never_faulty number tree made fault (well_formed found deck cuts is) =
+never_faulty made fault (well_formed found deck cuts is) =
     not_faulty (nat_lt weight_limit (weight found.cuts))
     (nat_lt order_limit (order_total (order_lists found.tree found.cuts summed_most))) found fault is
 
@@ -89,40 +81,41 @@ module _ (board : BoardView) (crew : CrewNo) where
 
   one_less : (entry : Entry) → next_entry board crew ≡ Some entry → left (with_entry board (Some entry)) < left board
   one_less entry is =
-      let facts = entry_for-is (standing_of board) crew place (slice_get docket place) entry is in
+      let facts = entry_for-is {standing = standing_of board} {crew = crew} {place = place} (slice_get docket place)
+      {entry = entry} is in
       let short = within docket place entry.request facts.asked in
       let more : served crew.0 (board.history ++ entry ∷ []) ≡ place + 1 =
       served-own board.history entry crew.0 (ap (λ (c : CrewNo). c.0) (sym facts.own)) in
       omega (arith, short, more)
 
   -- one request fewer is left, or none was
-  next_served : (entry : Option Entry) (after : BoardView) → entry ≡ next_entry board crew
+  next_served : (entry : Option Entry) {after : BoardView} → entry ≡ next_entry board crew
       → after ≡ with_entry board entry → IsNone entry ↔ IsUsedUp board crew.0
       → MatchBool (is_some entry) (left after < left board) (IsUsedUp after crew.0)
-  next_served None after is same up = subst (λ (b : BoardView). IsUsedUp b crew.0) (sym same) (up.0 refl)
-  next_served (Some entry) after is same up =
+  next_served None is same up = subst (λ (b : BoardView). IsUsedUp b crew.0) (sym same) (up.0 refl)
+  next_served (Some entry) is same up =
       subst (λ (b : BoardView). left b < left board) (sym same) (one_less entry (sym is))
 
-  pub next_told : (entry : Option Entry) (after : BoardView) (told : Bool) → told ≡ is_some entry
+  pub next_told : {entry : Option Entry} {after : BoardView} (told : Bool) → told ≡ is_some entry
       → entry ≡ next_entry board crew → after ≡ with_entry board entry → IsNone entry ↔ IsUsedUp board crew.0
       → MatchBool told (left after < left board) (IsUsedUp after crew.0)
-  next_told entry after told says is same up =
+  next_told {entry} {after} told says is same up =
       subst (λ b. MatchBool b (left after < left board) (IsUsedUp after crew.0)) (sym says)
-      (next_served entry after is same up)
+      (next_served entry is same up)
 
-pub same_deck : (board : BoardView) (entry : Option Entry) (after : BoardView) → after ≡ with_entry board entry
+pub same_deck : (board : BoardView) (entry : Option Entry) {after : BoardView} → after ≡ with_entry board entry
     → after.deck ≡ board.deck
-same_deck board None after same = ap (λ (b : BoardView). b.deck) same
-same_deck board (Some entry) after same = ap (λ (b : BoardView). b.deck) same
+same_deck board None same = ap (λ (b : BoardView). b.deck) same
+same_deck board (Some entry) same = ap (λ (b : BoardView). b.deck) same
 
 -- ---- all requests of the one crew
 
 -- ---- the summary
 
 module _ (number : ℕ) (tree : FaultTree) (crews : List Crew) (summary : Summary) where
-  pub summary_of : (listing : Listing) → IsListingOf summed_most tree listing
+  pub summary_of : {listing : Listing} → IsListingOf summed_most tree listing
       → IsServedFor number listing crews summary → IsSummaryOf number tree crews summary
-  summary_of listing listed served =
+  summary_of {listing} listed served =
       let same = served.of_listing in
       let cuts : summary.board.deck.opening.cuts ≡ listing.cuts =
       ap (λ (d : Deck). d.opening.cuts) served.deck in
@@ -145,8 +138,7 @@ module _ (number : ℕ) (tree : FaultTree) (crews : List Crew) (summary : Summar
         ≡ summary_said number (found_in summary.listing (Some crews)) summary.board.history
     text_is =
         ap (λ n. summary_text n summary.listing.tree summary.listing.orders summary.board) of.served.of_number
-        ∙ ap (λ orders. summary_text number summary.listing.tree orders summary.board)
-        (orders_of_listing summed_most tree summary.listing of.listed)
+        ∙ ap (λ orders. summary_text number summary.listing.tree orders summary.board) (orders_of_listing of.listed)
         ∙ ap (λ deck. summary_text number summary.listing.tree
         (order_lists summary.listing.tree summary.listing.cuts summed_most)
         (record { deck = deck; history = summary.board.history })) of.served.deck
@@ -155,7 +147,7 @@ module _ (number : ℕ) (tree : FaultTree) (crews : List Crew) (summary : Summar
         → IsSummaryText number (summed_text summary)
     summary_is_text deck = record {
       found = found_in summary.listing (Some crews);
-      finds = finds_ready Needed summed_most (made_deck number) tree (Some crews) deck summary.listing of.listed;
+      finds = finds_ready summed_most deck of.listed;
       history = summary.board.history;
       of_deck = record {
         legal = subst (λ d. IsLegal d.opening summary.board.history) of.served.deck of.served.legal;

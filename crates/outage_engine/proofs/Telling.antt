@@ -9,21 +9,20 @@ use Rattle.fault_definitions.specs.Tree.{FaultTree}
 use Rattle.crew_script.specs.declared.dockets.Crew.{Crew}
 use Rattle.board_report.specs.CheckText.{check_text}
 use denote.Ref.{Bor}
-use Rattle.outage_engine.specs.declared.status.Status.{Status}
-use Rattle.outage_engine.specs.declared.status.Status.TheVariants.{WriteFault}
-use Rattle.outage_engine.specs.Runs.{Tells}
+use Rattle.outage_engine.specs.{declared.status.Status.Status, declared.status.Status.TheVariants.WriteFault}
+use Rattle.outage_engine.specs.{Runs.Tells}
 
-pub told_whole : {K W : Type 0} (taken : K → Option (List ℕ)) (faults : K → ℕ) (old new : K) (text : List ℕ)
-    (answer : Result (Unit {0}) W) (value : Unit {0}) (status result : Status)
+pub told_whole : {K W : Type 0} {taken : K → Option (List ℕ)} {faults : K → ℕ} {old new : K} {text : List ℕ}
+    {answer : Result (Unit {0}) W} (value : Unit {0}) (status : Status) {result : Status}
     → answer ≡ Ok value → Delivers taken faults old new text answer → result ≡ status
     → Tells taken faults old new status text result
-told_whole taken faults old new text answer value status result is delivered same =
+told_whole {taken} {old} {new} {text} value status is delivered same =
     inl (same, subst (λ r. OnOk r (Appends (taken old) (taken new) text)) is delivered.all)
 
-pub told_front : {K W : Type 0} (taken : K → Option (List ℕ)) (faults : K → ℕ) (old new : K) (text : List ℕ)
-    (answer : Result (Unit {0}) W) (error : W) (status : Status)
+pub told_front : {K W : Type 0} {taken : K → Option (List ℕ)} {faults : K → ℕ} {old new : K} {text : List ℕ}
+    {answer : Result (Unit {0}) W} (error : W) (status : Status)
     → answer ≡ Err error → Delivers taken faults old new text answer → Tells taken faults old new status text WriteFault
-told_front taken faults old new text answer error status is delivered =
+told_front {faults} {old} {new} error status is delivered =
     inr (
       refl,
       record {

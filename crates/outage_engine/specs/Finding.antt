@@ -2,13 +2,11 @@
 -- limit, or all that the command's text needs.
 use Rattle.std.specs.Prelude.{◌≡◌, ℕ, nat_lt, List, [], Option, if◌then◌else◌}
 use Rattle.unit_sets.specs.CutOrder.{weight, weight_limit}
-use Rattle.fault_definitions.specs.Tree.{FaultTree}
-use Rattle.fault_definitions.specs.Cut.{IsCutList}
+use Rattle.fault_definitions.specs.{Tree.FaultTree, Cut.IsCutList}
 use Rattle.cut_sequences.specs.Orders.{order_limit, order_lists, order_total}
 use Rattle.crew_script.specs.declared.dockets.Crew.{Crew}
-use Rattle.deck_reading.specs.declared.fault.DeckFault.{DeckFault}
-use Rattle.deck_reading.specs.declared.deck.CrewPart.{CrewPart}
-use Rattle.deck_reading.specs.Faults.{IsDeckFault, IsWellFormed}
+use Rattle.deck_reading.specs.{declared.fault.DeckFault.DeckFault, declared.deck.CrewPart.CrewPart, Faults.IsDeckFault}
+use Rattle.deck_reading.specs.{Faults.IsWellFormed}
 
 -- what a command wants of the cut sets: nothing, the cut list, or the cut list and the failing orders of its sets of at
 -- most so many members

@@ -1,9 +1,7 @@
 -- Which status comes with which text: one relation for all commands.
 use Rattle.std.specs.Prelude.{◌≡◌, ℕ, ◌+◌, ◌<◌, ◌≤◌, List, [], length, Option, Some, None}
-use Rattle.edge_io.specs.Reading.{IfTold}
-use Rattle.edge_io.specs.declared.reading.TheConstants.{INPUT_LIMIT}
-use Rattle.board_words.specs.Command.{command_of}
-use Rattle.board_words.specs.declared.command.Command.{Command}
+use Rattle.edge_io.specs.{Reading.IfTold, declared.reading.TheConstants.INPUT_LIMIT}
+use Rattle.board_words.specs.{Command.command_of, declared.command.Command.Command}
 use Rattle.board_words.specs.declared.command.Command.TheVariants.{Cuts, Board, Check, Print, Diagram, Make, Help}
 use Rattle.board_words.specs.declared.command.Show.TheVariants as shown
 use Rattle.tree_maker.specs.MadeDeck.{made_deck}

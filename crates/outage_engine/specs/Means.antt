@@ -1,12 +1,10 @@
 -- What may be asked of a run, and the seat that it needs.
 use Rattle.std.specs.Prelude.{◌≡◌, ℕ, ◌≤◌, List, Some}
-use Rattle.board_words.specs.Command.{command_of}
-use Rattle.board_words.specs.declared.command.Command.TheVariants.{Board}
+use Rattle.board_words.specs.{Command.command_of, declared.command.Command.TheVariants.Board}
 use Rattle.deck_limits.specs.declared.TheConstants.{GREATEST_MARGIN, MOST_ORDERED, MOST_WORKERS}
 use Rattle.zdd_build.specs.declared.building.TheConstants.{TEAM_SHARE}
 use Rattle.zdd_shared_table.specs.Seats.{Seated, TableId}
-use Rattle.outage_engine.specs.declared.means.Asked.{Asked}
-use Rattle.outage_engine.specs.declared.means.BoardAsked.{BoardAsked}
+use Rattle.outage_engine.specs.{declared.means.Asked.Asked, declared.means.BoardAsked.BoardAsked}
 
 -- so many workers may be asked for
 pub record AreWorkers (workers : ℕ) : Type 0 where

@@ -1,28 +1,19 @@
 -- A board that is opened for a deck, and what came of it.
 use Rattle.std.specs.Prelude.{◌≡◌, ℕ, List, ◌++◌, Option}
-use Rattle.fault_definitions.specs.Tree.{FaultTree}
-use Rattle.fault_definitions.specs.Cut.{IsCutList}
-use Rattle.fault_definitions.specs.WellFormed.{IsTree}
+use Rattle.fault_definitions.specs.{Tree.FaultTree, Cut.IsCutList, WellFormed.IsTree}
 use Rattle.cut_sequences.specs.Orders.{order_lists}
 use Rattle.crew_script.specs.declared.dockets.Crew.{Crew}
 use Rattle.board_words.specs.Command.{command_of}
-use Rattle.outage_board.specs.Boards.{BoardView, IsBoard}
-use Rattle.outage_board.specs.Histories.{IsWhole}
-use Rattle.outage_board.specs.Passes.{AreOf, HaveAll}
-use Rattle.outage_board.specs.declared.board.BoardStart.{BoardStart}
+use Rattle.outage_board.specs.{Boards.BoardView, Boards.IsBoard, Histories.IsWhole, Passes.AreOf, Passes.HaveAll}
+use Rattle.outage_board.specs.{declared.board.BoardStart.BoardStart}
 use Rattle.zdd_shared_table.specs.Seats.{Seated}
 use Rattle.board_texts.specs.BoardText.{IsDeckOf, board_text}
-use Rattle.outage_engine.specs.declared.status.Status.{Status}
+use Rattle.outage_engine.specs.{declared.status.Status.Status, declared.listing.Listing.Listing}
+use Rattle.outage_engine.specs.{declared.opening.Opened.Opened, Finding.Finds, Finding.Ready, Gives.own_deck, Runs.Runs}
+use Rattle.outage_engine.specs.{Runs.Tells, Store.method_by, StoreAfter.BearsOut, StoreAfter.IsLeftBy, Texts.board_deck}
+use Rattle.outage_engine.specs.{Texts.for_board}
 use Rattle.outage_engine.specs.declared.status.Status.TheVariants as status
-use Rattle.outage_engine.specs.declared.listing.Listing.{Listing}
-use Rattle.outage_engine.specs.declared.opening.Opened.{Opened}
 use Rattle.outage_engine.specs.Answers.{IsListingOf, IsOfUnits, found_in, listing_text}
-use Rattle.outage_engine.specs.Finding.{Finds, Ready}
-use Rattle.outage_engine.specs.Gives.{own_deck}
-use Rattle.outage_engine.specs.Runs.{Runs, Tells}
-use Rattle.outage_engine.specs.Store.{method_by}
-use Rattle.outage_engine.specs.StoreAfter.{BearsOut, IsLeftBy}
-use Rattle.outage_engine.specs.Texts.{board_deck, for_board}
 
 -- ---- an open board
 

@@ -3,23 +3,19 @@
 use Rattle.std.specs.Prelude.{◌≡◌, ◌⊎◌, ℕ, ◌<◌, List, length, Option, Some, None}
 use Rattle.std.specs.Io.KnownBytes.{Appends}
 use Rattle.event_counts.specs.Count.{Rose}
-use Rattle.edge_io.specs.Writing.{TakesFront}
-use Rattle.edge_io.specs.declared.reading.TheConstants.{INPUT_LIMIT}
-use Rattle.board_words.specs.Command.{command_of}
-use Rattle.board_words.specs.declared.command.Command.{Command}
+use Rattle.edge_io.specs.{Writing.TakesFront, declared.reading.TheConstants.INPUT_LIMIT}
+use Rattle.board_words.specs.{Command.command_of, declared.command.Command.Command}
 use Rattle.board_words.specs.declared.command.Command.TheVariants.{Cuts, Board, Check, Print, Diagram, Make, Help}
 use Rattle.board_words.specs.declared.command.Show.TheVariants as shown
 use Rattle.tree_maker.specs.MadeDeck.{made_deck}
 use Rattle.board_report.specs.Refusals.{fault_line, notice_line}
 use Rattle.deck_reading.specs.declared.fault.DeckFault.{DeckFault}
 use Rattle.board_report.specs.declared.notice.Notice.TheVariants as notice
-use Rattle.outage_engine.specs.declared.status.Method.{Method}
-use Rattle.outage_engine.specs.declared.status.Status.{Status}
+use Rattle.outage_engine.specs.{declared.status.Method.Method, declared.status.Status.Status, Safety.IsSafeText}
 use Rattle.outage_engine.specs.declared.status.Status.TheVariants.{Done, Refused, ListLimit, OrderLimit, Usage}
 use Rattle.outage_engine.specs.declared.status.Status.TheVariants.{ReadFault, TooLong, WriteFault, NoMemory}
 use Rattle.outage_engine.specs.Finding.{Finding, Finds, Faulty, TooHeavy, TooManyOrders, Ready, Wants}
 use Rattle.outage_engine.specs.Gives.{AreReading, Gives, IsBeyond, IsMethodOf, IsRunDeck, OfDeck, OfInput, wanted}
-use Rattle.outage_engine.specs.Safety.{IsSafeText}
 use Rattle.outage_engine.specs.Texts.{IsBoardText, IsCheckText, IsCutsText, IsDiagramText, IsPrintText}
 use Rattle.outage_engine.specs.Texts.{IsSummaryText}
 

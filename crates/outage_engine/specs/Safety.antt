@@ -1,15 +1,9 @@
 -- What a planner may rely on after each granted request of a board.
 use Rattle.std.specs.Prelude.{◌≡◌, ℕ, ◌≤◌, false, List, ◌++◌, ◌∷◌, [], length}
 use Rattle.unit_sets.specs.UnitList.{outside}
-use Rattle.fault_definitions.specs.Tree.{FaultTree}
-use Rattle.fault_definitions.specs.Cut.{is_cut}
-use Rattle.fault_definitions.specs.FailingOrder.{is_failing}
-use Rattle.margin_policy.specs.Held.{units_out}
-use Rattle.margin_policy.specs.Standing.{StandingView}
-use Rattle.outage_board.specs.Boards.{Deck}
-use Rattle.outage_board.specs.Histories.{standing_after}
-use Rattle.outage_board.specs.Safety.{IsJudgedGrant}
-use Rattle.outage_board.specs.declared.entry.Entry.{Entry}
+use Rattle.fault_definitions.specs.{Tree.FaultTree, Cut.is_cut, FailingOrder.is_failing}
+use Rattle.margin_policy.specs.{Held.units_out, Standing.StandingView}
+use Rattle.outage_board.specs.{Boards.Deck, Histories.standing_after, Safety.IsJudgedGrant, declared.entry.Entry.Entry}
 use Rattle.outage_engine.specs.Finding.{Finds, Found, Ready}
 use Rattle.outage_engine.specs.Texts.{IsHistoryOf, board_deck, board_said, for_board}
 

@@ -1,7 +1,6 @@
 -- What finding the cut sets of a tree does to the seat of a store.
 use Rattle.std.specs.Prelude.{◌≡◌, ℕ, ◌<◌, List, Option, Some, None}
-use Rattle.fault_definitions.specs.CutFamily.{IsCutFamily}
-use Rattle.fault_definitions.specs.Tree.{FaultTree}
+use Rattle.fault_definitions.specs.{CutFamily.IsCutFamily, Tree.FaultTree}
 use Rattle.zdd_families.specs.Nodes.{IsNodeCount}
 use Rattle.zdd_shared_table.specs.Seats.{Seated, map_of}
 use Rattle.tree_families.specs.Due.{IsDueToTree}

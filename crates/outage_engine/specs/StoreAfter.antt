@@ -5,12 +5,10 @@ use Rattle.tree_families.specs.Due.{IsDueToTree}
 use Rattle.board_words.specs.Command.{command_of}
 use Rattle.zdd_shared_table.specs.Seats.{Seated}
 use Rattle.zdd_product.specs.Seats.{WentAll}
-use Rattle.outage_engine.specs.declared.status.Method.TheVariants.{Lists, Diagram}
-use Rattle.outage_engine.specs.declared.status.Status.{Status}
-use Rattle.outage_engine.specs.declared.status.Status.TheVariants.{Done}
+use Rattle.outage_engine.specs.{declared.status.Method.TheVariants.Lists, declared.status.Method.TheVariants.Diagram}
+use Rattle.outage_engine.specs.{declared.status.Status.Status, declared.status.Status.TheVariants.Done, Gives.OfDeckOr}
+use Rattle.outage_engine.specs.{Gives.own_deck, Store.KnowsDiagram}
 use Rattle.deck_reading.specs.Deck.{StandsFor}
-use Rattle.outage_engine.specs.Gives.{OfDeckOr, own_deck}
-use Rattle.outage_engine.specs.Store.{KnowsDiagram}
 
 -- a fact of the tree that this deck stands for where there is one, and else of the input's
 abbrev pub OfTreeOr : Option (List ℕ) → Option (List ℕ) → Option (List ℕ) → (FaultTree → Type 0) → Type 0

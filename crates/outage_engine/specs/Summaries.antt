@@ -4,8 +4,7 @@ use Rattle.fault_definitions.specs.Tree.{FaultTree}
 use Rattle.crew_script.specs.declared.dockets.Crew.{Crew}
 use Rattle.outage_board.specs.Boards.{BoardView}
 use Rattle.outage_board.specs.Histories.{IsLegal, IsWhole, docket_of, served}
-use Rattle.outage_engine.specs.declared.listing.Listing.{Listing}
-use Rattle.outage_engine.specs.declared.summary.Summary.{Summary}
+use Rattle.outage_engine.specs.{declared.listing.Listing.Listing, declared.summary.Summary.Summary}
 use Rattle.outage_engine.specs.Answers.{HasOrders, IsListingOf, found_in}
 use Rattle.outage_engine.specs.Texts.{board_deck, summed_margin, summed_most}
 

@@ -2,20 +2,15 @@
 use Rattle.std.specs.Prelude.{◌≡◌, ℕ, List, [], ◌++◌, Option, Some, None}
 use Rattle.cut_sequences.specs.Orders.{order_lists}
 use Rattle.crew_script.specs.declared.dockets.Crew.{Crew}
-use Rattle.outage_board.specs.Boards.{Deck, deck_of}
-use Rattle.outage_board.specs.Histories.{IsLegal, IsWhole}
-use Rattle.outage_board.specs.declared.entry.Entry.{Entry}
+use Rattle.outage_board.specs.{Boards.Deck, Boards.deck_of, Histories.IsLegal, Histories.IsWhole}
+use Rattle.outage_board.specs.{declared.entry.Entry.Entry}
 use Rattle.board_texts.specs.BoardText.{board_text}
-use Rattle.board_report.specs.CheckText.{check_text}
-use Rattle.cut_texts.specs.CutsText.{cuts_text, listed_with}
-use Rattle.cut_texts.specs.DiagramText.{diagram_text}
-use Rattle.board_report.specs.PrintText.{print_text}
-use Rattle.board_report.specs.SummaryText.{summary_text}
+use Rattle.board_report.specs.{CheckText.check_text, PrintText.print_text, SummaryText.summary_text}
+use Rattle.cut_texts.specs.{CutsText.cuts_text, CutsText.listed_with, DiagramText.diagram_text}
 use Rattle.tree_maker.specs.MadeDeck.{made_deck}
-use Rattle.outage_engine.specs.declared.status.Method.{Method}
+use Rattle.outage_engine.specs.{declared.status.Method.Method, Store.AreNodesOf, Store.method_by}
 use Rattle.deck_reading.specs.declared.deck.CrewPart.TheVariants.{Unread, IfAny, Needed}
 use Rattle.outage_engine.specs.Finding.{Finds, Found, Ready, Wants, NoCuts, CutsAlone, WithOrders}
-use Rattle.outage_engine.specs.Store.{AreNodesOf, method_by}
 
 -- ---- what each command wants of a deck
 

@@ -5,11 +5,8 @@ use Rattle.std.specs.Io.KnownBytes.{Consumes, IsAtEnd}
 use Rattle.std.proofs.Common.{refl, sym, ap, ◌∙◌, subst, append-nil}
 use Rattle.edge_io.specs.declared.reading.TheConstants.{INPUT_LIMIT}
 use Rattle.fault_definitions.specs.Tree.{FaultTree}
-use Rattle.deck_reading.specs.Deck.{StandsFor}
-use Rattle.deck_reading.specs.Ends.{IsDeckEnd}
-use Rattle.deck_reading.specs.Faults.{IsDeckFault}
-use Rattle.deck_reading.specs.declared.deck.CrewPart.TheVariants.{IfAny}
-use Rattle.deck_reading.specs.declared.deck.DeckEnd.{DeckEnd}
+use Rattle.deck_reading.specs.{Deck.StandsFor, Ends.IsDeckEnd, Faults.IsDeckFault}
+use Rattle.deck_reading.specs.{declared.deck.CrewPart.TheVariants.IfAny, declared.deck.DeckEnd.DeckEnd}
 use Rattle.deck_reading.specs.declared.deck.DeckEnd.TheVariants as end
 use Rattle.outage_engine.specs.Gives.{OfInput}
 use Rattle.tree_picture.specs.PictureText.{picture_text}
@@ -17,15 +14,12 @@ use Rattle.picture_program.specs.Finding.{IfRefused, IsCutRefusal, IsMarkRefusal
 use Rattle.picture_program.specs.Finding.{IsPictureOf, IsReadRefusal, no_picture, text_of}
 use Rattle.picture_program.specs.Pictures.{AreMarked, IsPictureFor, IsPictureText}
 use Rattle.picture_program.specs.Refusals.{HasCause, HasFewerCuts, IsTooHeavy}
-use Rattle.picture_program.specs.Words.{asked}
-use Rattle.picture_program.specs.declared.finding.Picture.{Picture}
-use Rattle.picture_program.specs.declared.refusal.NoPicture.{NoPicture}
-use Rattle.picture_program.specs.declared.refusal.NoPicture.TheVariants.{Refused, NoMemory}
-use Rattle.picture_program.specs.declared.refusal.Refusal.{Refusal}
+use Rattle.picture_program.specs.{Words.asked, declared.finding.Picture.Picture, declared.refusal.NoPicture.NoPicture}
+use Rattle.picture_program.specs.{declared.refusal.NoPicture.TheVariants.Refused}
+use Rattle.picture_program.specs.{declared.refusal.NoPicture.TheVariants.NoMemory, declared.refusal.Refusal.Refusal}
+use Rattle.picture_program.specs.{declared.words.Mark.Mark, declared.words.Mark.TheVariants.Cut}
 use Rattle.picture_program.specs.declared.refusal.Refusal.TheVariants.{Usage, ReadFault, TooLong, Fault, ListLimit}
 use Rattle.picture_program.specs.declared.refusal.Refusal.TheVariants.{NoSuchCut}
-use Rattle.picture_program.specs.declared.words.Mark.{Mark}
-use Rattle.picture_program.specs.declared.words.Mark.TheVariants.{Cut}
 
 -- ---- facts of an input
 
@@ -37,22 +31,22 @@ of_input (Some bytes) None P Q more is = absurd is
 of_input (Some bytes) (Some rest) P Q more (at_end, within, holds) = (at_end, within, more bytes holds)
 
 -- a fact of the bytes that were read to the end
-pub of_whole : (held left : Option (List ℕ)) (bytes given : List ℕ) (P : List ℕ → Type 0) → given ≡ bytes
+pub of_whole : (held left : Option (List ℕ)) {bytes given : List ℕ} (P : List ℕ → Type 0) → given ≡ bytes
     → Consumes held left bytes → IsAtEnd left → length bytes ≤ INPUT_LIMIT → P given → OfInput held left P
-of_whole None left bytes given P is consumes at_end within holds = tt
-of_whole (Some all) None bytes given P is consumes at_end within holds = absurd consumes
-of_whole (Some all) (Some rest) bytes given P is consumes at_end within holds =
+of_whole None left P is consumes at_end within holds = tt
+of_whole (Some all) None P is consumes at_end within holds = absurd consumes
+of_whole (Some all) (Some rest) {bytes} P is consumes at_end within holds =
     let same : all ≡ bytes = consumes ∙ ap (λ l. bytes ++ l) at_end ∙ append-nil bytes in
     (at_end, subst (λ l. length l ≤ INPUT_LIMIT) (sym same) within, subst P (is ∙ sym same) holds)
 
 -- ---- the tree
 
-pub read_refused : (held left : Option (List ℕ)) (rose : Type 0) (bytes given : List ℕ) (end : DeckEnd)
+pub read_refused : (held left : Option (List ℕ)) (rose : Type 0) {bytes given : List ℕ} (end : DeckEnd)
     → given ≡ bytes → Consumes held left bytes → IsAtEnd left → length bytes ≤ INPUT_LIMIT
     → IsDeckEnd IfAny given end → IfRefused (IsReadRefusal held left rose) (no_picture end)
-read_refused held left rose bytes given (end.Fault fault) is consumes at_end within holds =
-    of_whole held left bytes given (λ b. IsDeckFault IfAny b fault) is consumes at_end within holds
-read_refused held left rose bytes given end.NoMemory is consumes at_end within free = tt
+read_refused held left rose (end.Fault fault) is consumes at_end within holds =
+    of_whole held left (λ b. IsDeckFault IfAny b fault) is consumes at_end within holds
+read_refused held left rose end.NoMemory is consumes at_end within free = tt
 
 -- ---- the cut set
 
@@ -60,8 +54,8 @@ read_refused held left rose bytes given end.NoMemory is consumes at_end within f
 
 module _ (words : List (List ℕ)) (held left : Option (List ℕ)) (mark : Mark) (tree : FaultTree)
     (ask : asked words ≡ Some mark) (stands : OfInput held left (λ bytes. StandsFor bytes tree)) where
-  pub picture_of : (picture : Picture) → IsMarkedTree mark tree picture → IsPictureOf words held left picture
-  picture_of picture is = record {
+  pub picture_of : {picture : Picture} → IsMarkedTree mark tree picture → IsPictureOf words held left picture
+  picture_of {picture} is = record {
     mark = mark;
     words_ask = ask;
     stands = subst (λ t. OfInput held left (λ bytes. StandsFor bytes t)) (sym is.of_tree) stands;
@@ -95,11 +89,11 @@ module _ (words : List (List ℕ)) (held left : Option (List ℕ)) (mark : Mark)
   mark_cause rose (Refused refusal) (number, same, is) = marking_cause rose number refusal same is
   mark_cause rose NoMemory is = tt
 
-pub picture_for : (words : List (List ℕ)) (held left : Option (List ℕ)) (picture : Picture)
+pub picture_for : {words : List (List ℕ)} {held left : Option (List ℕ)} {picture : Picture}
     → IsPictureOf words held left picture
     → IsPictureFor words held left (text_of picture)
 unfolding text_of
-picture_for words held left picture is = record {
+picture_for {held} {left} {picture} is = record {
   mark = is.mark;
   words_ask = is.words_ask;
   of_input =

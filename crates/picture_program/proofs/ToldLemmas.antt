@@ -7,37 +7,34 @@ use Rattle.edge_io.specs.Out.{Delivers}
 use Rattle.outage_engine.specs.Runs.{WritesFront}
 use Rattle.picture_program.specs.Ends.{Notes, Refuses, Tells, WritesPicture, WritesPictureFront}
 use Rattle.picture_program.specs.Runs.{Runs, no_memory, refused, told}
-use Rattle.picture_program.specs.declared.refusal.Refusal.{Refusal}
-use Rattle.picture_program.specs.declared.end.PictureEnd.{PictureEnd}
+use Rattle.picture_program.specs.{declared.refusal.Refusal.Refusal, declared.end.PictureEnd.PictureEnd}
 use Rattle.picture_program.specs.declared.end.PictureEnd.TheVariants.{Done, NoMemory, Refused, WriteFault}
 
-front_of : {K W : Type 0} (taken : K → Option (List ℕ)) (faults : K → ℕ) (old new : K) (text : List ℕ)
-    (answer : Result (Unit {0}) W) (error : W) → answer ≡ Err error → Delivers taken faults old new text answer
+front_of : {K W : Type 0} {taken : K → Option (List ℕ)} {faults : K → ℕ} {old new : K} {text : List ℕ}
+    {answer : Result (Unit {0}) W} (error : W) → answer ≡ Err error → Delivers taken faults old new text answer
     → WritesFront taken faults old new text
-front_of taken faults old new text answer error is delivered = record {
+front_of {faults} {old} {new} error is delivered = record {
   rose = subst (λ r. OnErr r (Rose (faults old) (faults new))) is delivered.rose;
   left = delivered.left;
   front = delivered.front;
 }
 
-pub told_front : {K W : Type 0} (taken : K → Option (List ℕ)) (faults : K → ℕ) (old new : K) (text : List ℕ)
-    (answer : Result (Unit {0}) W) (error : W) → answer ≡ Err error → Delivers taken faults old new text answer
+pub told_front : {K W : Type 0} {taken : K → Option (List ℕ)} {faults : K → ℕ} {old new : K} {text : List ℕ}
+    {answer : Result (Unit {0}) W} (error : W) → answer ≡ Err error → Delivers taken faults old new text answer
     → Tells taken faults old new text WriteFault
-told_front taken faults old new text answer error is delivered =
-    inr (refl, front_of taken faults old new text answer error is delivered)
+told_front error is delivered = inr (refl, front_of error is delivered)
 
-pub told_whole : {K W : Type 0} (taken : K → Option (List ℕ)) (faults : K → ℕ) (old new : K) (text : List ℕ)
-    (answer : Result (Unit {0}) W) (done : Unit {0}) → answer ≡ Ok done → Delivers taken faults old new text answer
+pub told_whole : {K W : Type 0} {taken : K → Option (List ℕ)} {faults : K → ℕ} {old new : K} {text : List ℕ}
+    {answer : Result (Unit {0}) W} (done : Unit {0}) → answer ≡ Ok done → Delivers taken faults old new text answer
     → Tells taken faults old new text Done
-told_whole taken faults old new text answer done is delivered =
+told_whole {taken} {old} {new} {text} done is delivered =
     inl (refl, subst (λ r. OnOk r (Appends (taken old) (taken new) text)) is delivered.all)
 
 -- what finishing did, whatever it answered
-pub noted : {N W : Type 0} (taken : N → Option (List ℕ)) (faults : N → ℕ) (old new : N) (text : List ℕ)
+pub noted : {N W : Type 0} {taken : N → Option (List ℕ)} {faults : N → ℕ} {old new : N} {text : List ℕ}
     (answer : Result (Unit {0}) W) → Delivers taken faults old new text answer → Notes taken faults old new text
-noted taken faults old new text (Ok done) delivered = inl delivered.all
-noted taken faults old new text (Err error) delivered =
-    inr (front_of taken faults old new text (Err error) error refl delivered)
+noted (Ok done) delivered = inl delivered.all
+noted (Err error) delivered = inr (front_of error refl delivered)
 
 -- ---- the clauses of a run
 

@@ -2,11 +2,9 @@
 use Rattle.std.specs.Prelude.{◌≡◌, ◌⊎◌, ℕ, List, Option}
 use Rattle.std.specs.Io.KnownBytes.{Appends}
 use Rattle.outage_engine.specs.Runs.{Writes, WritesFront}
-use Rattle.picture_program.specs.Pictures.{IsPictureFor}
-use Rattle.picture_program.specs.Refusals.{HasCause, refusal_line}
-use Rattle.picture_program.specs.declared.refusal.Refusal.{Refusal}
+use Rattle.picture_program.specs.{Pictures.IsPictureFor, Refusals.HasCause, Refusals.refusal_line}
+use Rattle.picture_program.specs.{declared.refusal.Refusal.Refusal, declared.end.PictureEnd.PictureEnd}
 use Rattle.picture_program.specs.declared.refusal.Refusal.TheVariants as refusal
-use Rattle.picture_program.specs.declared.end.PictureEnd.{PictureEnd}
 use Rattle.picture_program.specs.declared.end.PictureEnd.TheVariants.{Done, Refused, WriteFault, NoMemory}
 
 -- the exit status

@@ -1,25 +1,18 @@
 -- The picture that is found, or why none is.
 use Rattle.std.specs.Prelude.{◌≡◌, ℕ, ◌<◌, List, length, Option, Some}
-use Rattle.fault_definitions.specs.Tree.{FaultTree}
-use Rattle.fault_definitions.specs.Cut.{IsCutList}
+use Rattle.fault_definitions.specs.{Tree.FaultTree, Cut.IsCutList}
 use Rattle.cutset_lists.specs.Generation.{HasHeavyCutList}
-use Rattle.deck_reading.specs.Deck.{StandsFor}
-use Rattle.deck_reading.specs.Faults.{IsDeckFault}
-use Rattle.deck_reading.specs.declared.deck.CrewPart.TheVariants.{IfAny}
-use Rattle.deck_reading.specs.declared.deck.DeckEnd.{DeckEnd}
+use Rattle.deck_reading.specs.{Deck.StandsFor, Faults.IsDeckFault, declared.deck.CrewPart.TheVariants.IfAny}
+use Rattle.deck_reading.specs.{declared.deck.DeckEnd.DeckEnd}
 use Rattle.deck_reading.specs.declared.deck.DeckEnd.TheVariants as end
 use Rattle.outage_engine.specs.Gives.{IsBeyond, OfInput}
 use Rattle.tree_picture.specs.PictureText.{picture_text}
-use Rattle.picture_program.specs.Pictures.{AreMarked}
-use Rattle.picture_program.specs.Words.{asked}
-use Rattle.picture_program.specs.declared.finding.Picture.{Picture}
-use Rattle.picture_program.specs.declared.refusal.NoPicture.{NoPicture}
-use Rattle.picture_program.specs.declared.refusal.NoPicture.TheVariants.{Refused, NoMemory}
-use Rattle.picture_program.specs.declared.refusal.Refusal.{Refusal}
+use Rattle.picture_program.specs.{Pictures.AreMarked, Words.asked, declared.finding.Picture.Picture}
+use Rattle.picture_program.specs.{declared.refusal.NoPicture.NoPicture, declared.refusal.NoPicture.TheVariants.Refused}
+use Rattle.picture_program.specs.{declared.refusal.NoPicture.TheVariants.NoMemory, declared.refusal.Refusal.Refusal}
+use Rattle.picture_program.specs.{declared.words.Mark.Mark, declared.words.Mark.TheVariants.Cut}
 use Rattle.picture_program.specs.declared.refusal.Refusal.TheVariants.{Usage, ReadFault, TooLong, Fault, ListLimit}
 use Rattle.picture_program.specs.declared.refusal.Refusal.TheVariants.{NoSuchCut}
-use Rattle.picture_program.specs.declared.words.Mark.{Mark}
-use Rattle.picture_program.specs.declared.words.Mark.TheVariants.{Cut}
 
 -- a refusal has this cause; want of memory is free
 abbrev pub IfRefused : (Refusal → Type 0) → NoPicture → Type 0

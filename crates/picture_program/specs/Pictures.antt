@@ -1,13 +1,11 @@
 -- Which picture the words and the input ask for.
 use Rattle.std.specs.Prelude.{◌≡◌, ℕ, ◌-◌, ◌≤◌, List, [], slice_get, Option, Some}
-use Rattle.fault_definitions.specs.Tree.{FaultTree}
-use Rattle.fault_definitions.specs.Cut.{IsCutList}
+use Rattle.fault_definitions.specs.{Tree.FaultTree, Cut.IsCutList}
 use Rattle.deck_reading.specs.Deck.{StandsFor}
 use Rattle.outage_engine.specs.Gives.{OfInput}
 use Rattle.tree_picture.specs.PictureText.{picture_text}
-use Rattle.picture_program.specs.Words.{asked}
-use Rattle.picture_program.specs.declared.words.Mark.{Mark}
-use Rattle.picture_program.specs.declared.words.Mark.TheVariants.{Nothing, Cut}
+use Rattle.picture_program.specs.{Words.asked, declared.words.Mark.Mark, declared.words.Mark.TheVariants.Nothing}
+use Rattle.picture_program.specs.{declared.words.Mark.TheVariants.Cut}
 
 -- the units are those of the minimal cut set of a number, from 1, in the order of the cut list
 pub record IsCutNumbered (tree : FaultTree) (number : ℕ) (units : List ℕ) : Type 0 where

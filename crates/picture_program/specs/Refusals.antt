@@ -1,19 +1,14 @@
 -- Why there is no picture, and the line that says so.
 use Rattle.std.specs.Prelude.{◌≡◌, ℕ, ◌<◌, List, ◌++◌, length, codes, decimal, Option, Some, None}
-use Rattle.fault_definitions.specs.Tree.{FaultTree}
-use Rattle.fault_definitions.specs.Cut.{IsCutList}
+use Rattle.fault_definitions.specs.{Tree.FaultTree, Cut.IsCutList}
 use Rattle.cutset_lists.specs.Generation.{HasHeavyCutList}
-use Rattle.deck_reading.specs.Deck.{StandsFor}
+use Rattle.deck_reading.specs.{Deck.StandsFor, Faults.IsDeckFault, declared.deck.CrewPart.TheVariants.IfAny}
 use Rattle.board_report.specs.Refusals.{fault_line, notice_line}
 use Rattle.board_report.specs.declared.notice.Notice.TheVariants as notice
-use Rattle.deck_reading.specs.Faults.{IsDeckFault}
-use Rattle.deck_reading.specs.declared.deck.CrewPart.TheVariants.{IfAny}
 use Rattle.outage_engine.specs.Gives.{IsBeyond, OfInput}
-use Rattle.picture_program.specs.Words.{asked}
-use Rattle.picture_program.specs.declared.refusal.Refusal.{Refusal}
+use Rattle.picture_program.specs.{Words.asked, declared.refusal.Refusal.Refusal, declared.words.Mark.TheVariants.Cut}
 use Rattle.picture_program.specs.declared.refusal.Refusal.TheVariants.{Usage, ReadFault, TooLong, Fault, ListLimit}
 use Rattle.picture_program.specs.declared.refusal.Refusal.TheVariants.{NoSuchCut}
-use Rattle.picture_program.specs.declared.words.Mark.TheVariants.{Cut}
 
 -- ---- what is said
 

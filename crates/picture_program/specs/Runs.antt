@@ -1,10 +1,8 @@
 -- What a run did, as one of its three ends: it found no memory, it refused, or it told a picture.
 use Rattle.std.specs.Prelude.{◌≡◌, ℕ, List, Option}
-use Rattle.picture_program.specs.Ends.{Refuses, Tells}
-use Rattle.picture_program.specs.Pictures.{IsPictureFor}
-use Rattle.picture_program.specs.declared.refusal.Refusal.{Refusal}
-use Rattle.picture_program.specs.declared.end.PictureEnd.{PictureEnd}
-use Rattle.picture_program.specs.declared.end.PictureEnd.TheVariants.{NoMemory, Refused}
+use Rattle.picture_program.specs.{Ends.Refuses, Ends.Tells, Pictures.IsPictureFor, declared.refusal.Refusal.Refusal}
+use Rattle.picture_program.specs.{declared.end.PictureEnd.PictureEnd, declared.end.PictureEnd.TheVariants.NoMemory}
+use Rattle.picture_program.specs.{declared.end.PictureEnd.TheVariants.Refused}
 
 -- A run wrote nothing for want of memory; or it refused for a cause, and wrote its line to the notes alone; or it wrote
 -- the picture that was asked for to the output alone. Where the writing failed it was a front of the line or picture.

@@ -6,8 +6,7 @@ use Rattle.std.proofs.Common.{sym, subst, ◌∙◌, inl, inr}
 use Rattle.std.specs.List.{list_all}
 use Rattle.std.proofs.lemmas.Bool.{cases_Bool, cases_eq, or_left, or_right, and_from, and_parts, ne_eqb, eq-eqb, le-leb}
 use Rattle.std.proofs.lemmas.Bool.{lt-leb, leb-true}
-use Rattle.std.proofs.lemmas.List.Elements.{All-contains}
-use Rattle.std.proofs.lemmas.Slice.Zip.{length-zip, get_or-zip}
+use Rattle.std.proofs.{lemmas.List.Elements.All-contains, lemmas.Slice.Zip.length-zip, lemmas.Slice.Zip.get_or-zip}
 use Rattle.unit_sets.specs.UnitList.{among}
 use Rattle.unit_sets.proofs.UnitListLemmas.{Contains-from_among}
 use Rattle.fault_words.specs.declared.kind.GateKind.{GateKind}
@@ -45,7 +44,7 @@ list_all-from_all p xs all = list_all-from p xs 0 (λ k short. all k 0 short)
 
 -- ---- the gates by their numbers
 
-module _ (tree : FaultTree) (kept : IsTree tree) (p : GateKind × List ℕ → Bool) where
+module _ {tree : FaultTree} (kept : IsTree tree) (p : GateKind × List ℕ → Bool) where
   place_short : (gate : ℕ) → IsGateOf tree gate → gate - unit_count tree - 1 < length (gates tree)
   place_short gate (above, within) =
       let all : length tree.inputs ≡ gate_count tree = kept.inputs_all in
@@ -130,7 +129,7 @@ at_unit false false more = refl
 
 -- ---- one gate
 
-module _ (f g : ℕ → Step) (order : List ℕ) (unit : ℕ) (fresh : among order unit ≡ false)
+module _ {f g : ℕ → Step} (order : List ℕ) (unit : ℕ) (fresh : among order unit ≡ false)
     (grow : AllGrow (suc (length order)) f g) (low : (node n : ℕ) → f node ≡ Some n → n < suc (length order)) where
   abbrev longer : List ℕ
   longer = order ++ unit ∷ []
@@ -174,14 +173,14 @@ module _ (f g : ℕ → Step) (order : List ℕ) (unit : ℕ) (fresh : among ord
   some_place None some = absurd cc
   some_place (Some n) some = (n, refl)
 
-  waits_same : (input spare : ℕ) → spare ≢ unit → waits g longer input spare ≡ waits f order input spare
-  waits_same input spare apart =
+  waits_same : (input : ℕ) {spare : ℕ} → spare ≢ unit → waits g longer input spare ≡ waits f order input spare
+  waits_same input {spare} apart =
       let none : (unit == spare || false) ≡ false =
       or_nothing (unit == spare) ∙ ne_eqb unit spare (λ e. apart (sym e)) in
       let same : among longer spare ≡ among order spare =
       among-append order (unit ∷ []) spare ∙ ap (λ b. among order spare || b) none
       ∙ or_nothing (among order spare) in
-      let there : place longer spare ≡ place order spare = place-other order unit spare apart in
+      let there : place longer spare ≡ place order spare = place-other order apart in
       ap (λ b. not b || is_before (g input) (place longer spare)) same
       ∙ ap (λ (s : Step). not (among order spare) || is_before (g input) s) there
       ∙ elim (cases_Bool (among order spare)) [
@@ -200,8 +199,8 @@ module _ (f g : ℕ → Step) (order : List ℕ) (unit : ℕ) (fresh : among ord
             ∙ ap (λ b. not b || is_before (f input) (place order spare)) (sym lacks)
       ]
 
-  waits_unit : (input spare : ℕ) → spare ≡ unit → waits g longer input spare ≡ is_some (f input)
-  waits_unit input spare same =
+  waits_unit : (input : ℕ) {spare : ℕ} → spare ≡ unit → waits g longer input spare ≡ is_some (f input)
+  waits_unit input same =
       let here : among longer unit ≡ true =
       among-append order (unit ∷ []) unit ∙ or_right (among order unit) _
       (or_left (unit == unit) false (eq-eqb unit unit refl)) in
@@ -210,9 +209,8 @@ module _ (f g : ℕ → Step) (order : List ℕ) (unit : ℕ) (fresh : among ord
       ∙ ap (is_before (g input)) (place-last order unit fresh)
       ∙ before_last (suc (length order)) (f input) (g input) (grow.each input) (low input)
 
-  free_unit : (input spare : ℕ) → spare ≡ unit → waits f order input spare ≡ true
-  free_unit input spare same =
-      ap (waits f order input) same ∙ ap (λ b. not b || is_before (f input) (place order unit)) fresh
+  free_unit : (input : ℕ) {spare : ℕ} → spare ≡ unit → waits f order input spare ≡ true
+  free_unit input same = ap (waits f order input) same ∙ ap (λ b. not b || is_before (f input) (place order unit)) fresh
 
   spares_next : (input : ℕ) (spares : List ℕ) → list_all (waits g longer input) spares
       ≡ (list_all (waits f order input) spares && (not (among spares unit) || is_some (f input)))
@@ -222,16 +220,16 @@ module _ (f g : ℕ → Step) (order : List ℕ) (unit : ℕ) (fresh : among ord
       elim (cases_eq spare unit) [
         | inl same ↦
             let here : (spare == unit) ≡ true = eq-eqb spare unit same in
-            ap (λ b. b && list_all (waits g longer input) spares) (waits_unit input spare same)
+            ap (λ b. b && list_all (waits g longer input) spares) (waits_unit input same)
             ∙ ap (λ b. is_some (f input) && b) rest
             ∙ at_unit (is_some (f input)) (list_all (waits f order input) spares) (among spares unit)
             ∙ ap (λ b. (b && list_all (waits f order input) spares) && (false || is_some (f input)))
-            (sym (free_unit input spare same))
+            (sym (free_unit input same))
             ∙ ap (λ b. (waits f order input spare && list_all (waits f order input) spares)
             && (not (b || among spares unit) || is_some (f input))) (sym here)
         | inr apart ↦
             let there : (spare == unit) ≡ false = ne_eqb spare unit apart in
-            ap (λ b. b && list_all (waits g longer input) spares) (waits_same input spare apart)
+            ap (λ b. b && list_all (waits g longer input) spares) (waits_same input apart)
             ∙ ap (λ b. waits f order input spare && b) rest
             ∙ and_assoc (waits f order input spare) (list_all (waits f order input) spares)
             (not (among spares unit) || is_some (f input))
@@ -357,8 +355,7 @@ pub admissible_before : (tree : FaultTree) → IsTree tree → (order : List ℕ
     → is_admissible tree (order ++ unit ∷ []) ≡ true → is_admissible tree order ≡ true
 admissible_before tree kept order unit fresh admits =
     let g : ℕ → Step = step tree (order ++ unit ∷ []) in
-    gates-from tree kept (gate_admits (step tree order) order) (λ gate is_gate.
-    admits_back (step tree order) g order unit fresh (step-grows tree order unit)
+    gates-from kept (gate_admits (step tree order) order) (λ gate is_gate.
+    admits_back order unit fresh (step-grows tree order unit)
     (λ node n is. let low = step-at_most tree order node n is in omega arith) (kind_of tree gate)
-    (inputs_of tree gate)
-    (gates-at tree kept (gate_admits g (order ++ unit ∷ [])) admits gate is_gate))
+    (inputs_of tree gate) (gates-at kept (gate_admits g (order ++ unit ∷ [])) admits gate is_gate))

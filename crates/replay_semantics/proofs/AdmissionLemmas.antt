@@ -10,20 +10,15 @@ use Rattle.unit_sets.specs.UnitList.{among}
 use Rattle.fault_words.specs.declared.kind.GateKind.{GateKind}
 use Rattle.fault_words.specs.declared.kind.GateKind.TheVariants.{Seq, Csp}
 use Rattle.fault_definitions.specs.Tree.{FaultTree, IsNodeOf, IsGateOf, kind_of, inputs_of, is_above_units, unit_count}
-use Rattle.fault_definitions.specs.Trigger.{below, triggers_of}
-use Rattle.fault_definitions.proofs.RankLaws.{inputs_are_nodes}
-use Rattle.fault_definitions.specs.WellFormed.{IsTree}
+use Rattle.fault_definitions.specs.{Trigger.below, Trigger.triggers_of, WellFormed.IsTree, FailingOrder.gate_admits}
+use Rattle.fault_definitions.specs.{FailingOrder.is_admissible}
+use Rattle.fault_definitions.proofs.{RankLaws.inputs_are_nodes, StepLaws.never_falls-agree}
 use Rattle.fault_definitions.specs.Step.{Step, never, step}
-use Rattle.fault_definitions.proofs.StepLaws.{never_falls-agree}
-use Rattle.fault_definitions.specs.FailingOrder.{gate_admits, is_admissible}
 use Rattle.replay_semantics.specs.Admission.{is_awaited, gate_awaits, gate_in_turn, node_awaits, node_in_turn}
 use Rattle.replay_semantics.specs.Admission.{all_in_turn}
-use Rattle.replay_semantics.proofs.FailingLemmas.{same_test}
-use Rattle.replay_semantics.specs.Growth.{AllGrow}
-use Rattle.replay_semantics.specs.Readers.{readers_in, AreReaders}
-use Rattle.replay_semantics.specs.Spread.{HaveFailed}
-use Rattle.replay_semantics.proofs.StepGrowth.{step-grows, step-at_most}
-use Rattle.replay_semantics.specs.Table.{step_in, HoldsSteps}
+use Rattle.replay_semantics.proofs.{FailingLemmas.same_test, StepGrowth.step-grows, StepGrowth.step-at_most}
+use Rattle.replay_semantics.specs.{Growth.AllGrow, Readers.readers_in, Readers.AreReaders, Spread.HaveFailed}
+use Rattle.replay_semantics.specs.{Table.step_in, Table.HoldsSteps}
 use Rattle.replay_semantics.proofs.AdmissionLaws.{gates-at, gates-from, list_all-among, list_all-from_all, admits_back}
 use Rattle.replay_semantics.proofs.AdmissionLaws.{awaits_from, in_turn_from, was_in_turn, admits_next, awaits_elsewhere}
 
@@ -102,12 +97,11 @@ module _ (tree : FaultTree) (kept : IsTree tree) (rows : List (List ℕ)) (reade
 
   inputs_before : (gate : ℕ) → IsGateOf tree gate → All (λ n. step_in before n ≡ f n) (inputs_of tree gate)
   inputs_before gate is_gate k d short =
-      holds (get_or (inputs_of tree gate) k d) (inputs_are_nodes tree kept gate (gate_above gate is_gate) k d short)
+      holds (get_or (inputs_of tree gate) k d) (inputs_are_nodes kept gate (gate_above gate is_gate) k d short)
 
   inputs_after : (gate : ℕ) → IsGateOf tree gate → All (λ n. step_in after n ≡ g n) (inputs_of tree gate)
   inputs_after gate is_gate k d short =
-      failed.holds (get_or (inputs_of tree gate) k d)
-      (inputs_are_nodes tree kept gate (gate_above gate is_gate) k d short)
+      failed.holds (get_or (inputs_of tree gate) k d) (inputs_are_nodes kept gate (gate_above gate is_gate) k d short)
 
   node_awaits-gate : (gate : ℕ) → IsGateOf tree gate
       → node_awaits tree (step_in before) unit gate ≡ gate_awaits f unit (kind_of tree gate) (inputs_of tree gate)
@@ -149,23 +143,20 @@ module _ (tree : FaultTree) (kept : IsTree tree) (rows : List (List ℕ)) (reade
   to : is_admissible tree (order ++ unit ∷ []) ≡ true → (is_admissible tree order && (awaited && in_turn)) ≡ true
   to admits =
       let each : (gate : ℕ) → IsGateOf tree gate → gate_admits g (order ++ unit ∷ [])
-      (kind_of tree gate, inputs_of tree gate) ≡ true =
-      gates-at tree kept (gate_admits g (order ++ unit ∷ [])) admits in
-      and_from (is_admissible tree order) (awaited && in_turn)
-      (gates-from tree kept (gate_admits f order) (λ gate is_gate.
-      admits_back f g order unit fresh grow low_steps (kind_of tree gate) (inputs_of tree gate)
-      (each gate is_gate)))
+      (kind_of tree gate, inputs_of tree gate) ≡ true = gates-at kept (gate_admits g (order ++ unit ∷ [])) admits in
+      and_from (is_admissible tree order) (awaited && in_turn) (gates-from kept (gate_admits f order) (λ gate is_gate.
+      admits_back order unit fresh grow low_steps (kind_of tree gate) (inputs_of tree gate) (each gate is_gate)))
       (and_from awaited in_turn
       (list_all-from_all (node_awaits tree (step_in before) unit) (readers_in rows unit) (λ k d short.
       node_awaits-each (get_or (readers_in rows unit) k d) (readers.nodes unit k d short)
-      (λ gate is_gate. awaits_from f g order unit fresh grow low_steps (kind_of tree gate) (inputs_of tree gate)
+      (λ gate is_gate. awaits_from order unit fresh grow low_steps (kind_of tree gate) (inputs_of tree gate)
       (each gate is_gate))))
       (list_all-from_all (λ node. list_all (node_in_turn tree (step_in after)) (readers_in rows node))
       (drop (length log) log') (λ k d short.
       let node : ℕ = get_or (drop (length log) log') k d in
       list_all-from_all (node_in_turn tree (step_in after)) (readers_in rows node) (λ j e within.
       node_in_turn-each (get_or (readers_in rows node) j e) (readers.nodes node j e within)
-      (λ gate is_gate. in_turn_from f g order unit fresh grow low_steps (kind_of tree gate) (inputs_of tree gate)
+      (λ gate is_gate. in_turn_from order unit fresh grow low_steps (kind_of tree gate) (inputs_of tree gate)
       (each gate is_gate))))))
 
   unchanged : (node : ℕ) → IsNodeOf tree node → among (drop (length log) log') node ≡ false → g node ≡ f node
@@ -178,8 +169,8 @@ module _ (tree : FaultTree) (kept : IsTree tree) (rows : List (List ℕ)) (reade
       → gate_admits g (order ++ unit ∷ []) (kind_of tree gate, inputs_of tree gate) ≡ true
   gate_next admits awaits turn gate is_gate =
       let was : gate_admits f order (kind_of tree gate, inputs_of tree gate) ≡ true =
-      gates-at tree kept (gate_admits f order) admits gate is_gate in
-      admits_next f g order unit fresh grow low_steps (kind_of tree gate) (inputs_of tree gate) was
+      gates-at kept (gate_admits f order) admits gate is_gate in
+      admits_next order unit fresh grow low_steps (kind_of tree gate) (inputs_of tree gate) was
       (elim (cases_Bool (among (inputs_of tree gate) unit)) [
         | inl has ↦
             let listed : among (readers_in rows unit) gate ≡ true =
@@ -187,8 +178,7 @@ module _ (tree : FaultTree) (kept : IsTree tree) (rows : List (List ℕ)) (reade
             (ap (λ xs. among xs unit) (below_gate gate is_gate) ∙ has) in
             sym (node_awaits-gate gate is_gate) ∙ list_all-among (node_awaits tree (step_in before) unit)
             (readers_in rows unit) gate awaits listed
-        | inr lacks ↦ awaits_elsewhere f g order unit fresh grow low_steps (kind_of tree gate) (inputs_of tree gate)
-            lacks
+        | inr lacks ↦ awaits_elsewhere order unit fresh grow low_steps (kind_of tree gate) (inputs_of tree gate) lacks
       ])
       (elim (some_or_none (drop (length log) log') (inputs_of tree gate)) [
         | inl found ↦
@@ -202,15 +192,15 @@ module _ (tree : FaultTree) (kept : IsTree tree) (rows : List (List ℕ)) (reade
         | inr none ↦
             gate_in_turn-agree g f (kind_of tree gate) (inputs_of tree gate)
             (λ k d short. unchanged (get_or (inputs_of tree gate) k d)
-            (inputs_are_nodes tree kept gate (gate_above gate is_gate) k d short) (none k d short))
-            ∙ was_in_turn f g order unit fresh grow low_steps (kind_of tree gate) (inputs_of tree gate) was
+            (inputs_are_nodes kept gate (gate_above gate is_gate) k d short) (none k d short))
+            ∙ was_in_turn order unit fresh grow low_steps (kind_of tree gate) (inputs_of tree gate) was
       ])
 
   from : (is_admissible tree order && (awaited && in_turn)) ≡ true → is_admissible tree (order ++ unit ∷ []) ≡ true
   from h =
       let parts = and_parts (is_admissible tree order) (awaited && in_turn) h in
       let both = and_parts awaited in_turn parts.1 in
-      gates-from tree kept (gate_admits g (order ++ unit ∷ [])) (gate_next parts.0 both.0 both.1)
+      gates-from kept (gate_admits g (order ++ unit ∷ [])) (gate_next parts.0 both.0 both.1)
 
   -- the longer order can happen exactly where the shorter one can, the unit was awaited, and all that reads a failed
   -- node is in turn
@@ -222,11 +212,11 @@ module _ (tree : FaultTree) (kept : IsTree tree) (rows : List (List ℕ)) (reade
 
 -- ---- what the two tests say together
 
-pub fits_awaited : (admits first second result : Bool) → first ≡ true → second ≡ result
+pub fits_awaited : (admits : Bool) {first second result : Bool} → first ≡ true → second ≡ result
     → (admits && (first && second)) ≡ (admits && result)
-fits_awaited admits first second result is same = ap (λ b. admits && (b && second)) is ∙ ap (λ b. admits && b) same
+fits_awaited admits {second} is same = ap (λ b. admits && (b && second)) is ∙ ap (λ b. admits && b) same
 
-pub fits_not : (admits first second result : Bool) → first ≡ result → result ≡ false
+pub fits_not : (admits : Bool) {first : Bool} (second : Bool) {result : Bool} → first ≡ result → result ≡ false
     → (admits && (first && second)) ≡ (admits && result)
-fits_not admits first second result same none =
+fits_not admits second same none =
     ap (λ b. admits && (b && second)) (same ∙ none) ∙ ap (λ b. admits && b) (sym none)

@@ -4,11 +4,8 @@ use Rattle.std.specs.Prelude.{is_some, filter, nat_le, if◌then◌else◌}
 use Rattle.std.specs.List.{list_all, list_any}
 use Rattle.std.proofs.Common.{refl, sym, ◌∙◌, ap, subst, inl, inr, arith}
 use Rattle.std.proofs.lemmas.Bool.{cases_lt, leb-true, le-leb, eq-eqb, eqb-true, or_left, or_right, or_cases, and_parts}
-use Rattle.fault_words.specs.declared.kind.GateKind.{GateKind}
-use Rattle.fault_words.specs.declared.kind.GateKind.TheVariants.{Votes}
-use Rattle.fault_definitions.specs.Tree.{FaultTree}
-use Rattle.fault_definitions.specs.Reading.{true_count}
-use Rattle.fault_definitions.specs.WellFormed.{IsSoundKind, IsSoundVote}
+use Rattle.fault_words.specs.{declared.kind.GateKind.GateKind, declared.kind.GateKind.TheVariants.Votes}
+use Rattle.fault_definitions.specs.{Tree.FaultTree, Reading.true_count, WellFormed.IsSoundKind, WellFormed.IsSoundVote}
 use Rattle.fault_definitions.specs.Step.{Step, no_later, earlier, later, earliest, latest}
 use Rattle.fault_definitions.specs.Step.{never_falls}
 use Rattle.fault_definitions.specs.Step.{failed_by, kth_step}

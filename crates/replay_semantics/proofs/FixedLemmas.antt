@@ -5,17 +5,14 @@ use Rattle.std.proofs.lemmas.Bool.{or_left, or_right, cond-false}
 use Rattle.unit_sets.specs.UnitList.{among}
 use Rattle.unit_sets.proofs.UnitListLemmas.{among-from_Contains}
 use Rattle.fault_definitions.specs.Tree.{FaultTree, IsNodeOf, kind_of, inputs_of, is_above_units, rank_of}
-use Rattle.fault_definitions.specs.Trigger.{below, triggers_of}
-use Rattle.fault_definitions.specs.Rank.{within, by_rank}
+use Rattle.fault_definitions.specs.{Trigger.below, Trigger.triggers_of, Rank.within, Rank.by_rank, WellFormed.IsTree}
 use Rattle.fault_definitions.proofs.RankLaws.{below_are_nodes, below_ranks}
-use Rattle.fault_definitions.specs.WellFormed.{IsTree}
 use Rattle.fault_definitions.specs.Step.{Step, never, earlier, earliest, gate_step, place, node_step, step}
 use Rattle.fault_definitions.proofs.StepLaws.{node_step-agree, step-node}
-use Rattle.replay_semantics.specs.Failing.{node_fails}
+use Rattle.replay_semantics.specs.{Failing.node_fails, Table.step_in, Table.HoldsSteps}
 use Rattle.replay_semantics.proofs.FailingLemmas.{earlier-some}
-use Rattle.replay_semantics.specs.Table.{step_in, HoldsSteps}
 
-module _ (tree : FaultTree) (kept : IsTree tree) (order : List ℕ) (f : ℕ → Step)
+module _ {tree : FaultTree} (kept : IsTree tree) (order : List ℕ) (f : ℕ → Step)
     (fixed : (node : ℕ) → IsNodeOf tree node → f node ≡ node_step tree order f node) where
   fixed-within : (depth node : ℕ) → IsNodeOf tree node → rank_of tree node < depth
       → f node ≡ within never (node_step tree order) depth node
@@ -23,21 +20,21 @@ module _ (tree : FaultTree) (kept : IsTree tree) (order : List ℕ) (f : ℕ →
   fixed-within (suc depth) node is_node deep =
       fixed node is_node
       ∙ node_step-agree tree order f (within never (node_step tree order) depth) node
-      (λ k d short. fixed-within depth (get_or (below tree node) k d) (below_are_nodes tree kept node k d short)
-      (let lower = below_ranks tree kept node is_node k d short in omega arith))
+      (λ k d short. fixed-within depth (get_or (below tree node) k d) (below_are_nodes kept node k d short)
+      (let lower = below_ranks kept node is_node k d short in omega arith))
 
   pub fixed-step : (node : ℕ) → IsNodeOf tree node → f node ≡ step tree order node
   unfolding step by_rank
   fixed-step node is_node = fixed-within (suc (rank_of tree node)) node is_node (omega arith)
 
 -- a table that holds the steps has for each node what its rule gives
-pub settled_table : (tree : FaultTree) → IsTree tree → (order : List ℕ) (steps : List Step)
+pub settled_table : {tree : FaultTree} → IsTree tree → (order : List ℕ) (steps : List Step)
     → HoldsSteps tree order steps → (node : ℕ) → IsNodeOf tree node
     → step_in steps node ≡ node_step tree order (step_in steps) node
-settled_table tree kept order steps holds node is_node =
+settled_table {tree} kept order steps holds node is_node =
     holds node is_node ∙ step-node tree kept order node is_node
     ∙ sym (node_step-agree tree order (step_in steps) (step tree order) node
-    (λ k d short. holds (get_or (below tree node) k d) (below_are_nodes tree kept node k d short)))
+    (λ k d short. holds (get_or (below tree node) k d) (below_are_nodes kept node k d short)))
 
 -- ---- a node's rule
 

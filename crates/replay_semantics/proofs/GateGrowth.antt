@@ -10,8 +10,7 @@ use Rattle.fault_words.specs.declared.kind.GateKind.{GateKind}
 use Rattle.fault_words.specs.declared.kind.GateKind.TheVariants.{And, Or, Votes, Pand, Por, Seq, Fdep, Csp, Wsp, Hsp}
 use Rattle.fault_definitions.specs.Step.{Step, never, no_later, earlier, earliest, last_step, never_falls, failed_by}
 use Rattle.fault_definitions.specs.Step.{kth_step, first_step, gate_step}
-use Rattle.fault_definitions.proofs.StepLaws.{never_falls-agree}
-use Rattle.fault_definitions.proofs.ReadingLaws.{list_all-agree}
+use Rattle.fault_definitions.proofs.{StepLaws.never_falls-agree, ReadingLaws.list_all-agree}
 use Rattle.replay_semantics.specs.Growth.{Grows, AllGrow}
 use Rattle.replay_semantics.proofs.GrowthLemmas.{grows-same, earliest-grows, latest-grows, last_step-grows}
 
@@ -36,7 +35,7 @@ earliest_counting f p (node ∷ nodes) =
     first true kept others e = ap (earlier (f node)) e
     first false kept others e = e ∙ none_first others
 
-module _ (last : ℕ) (f g : ℕ → Step) (grow : AllGrow last f g) where
+module _ {last : ℕ} {f g : ℕ → Step} (grow : AllGrow last f g) where
   by_same : (number : ℕ) (a b : Step) → Grows last a b → number < last
       → no_later a (Some number) ≡ no_later b (Some number)
   by_same number None None h below = refl
@@ -113,8 +112,7 @@ module _ (last : ℕ) (f g : ℕ → Step) (grow : AllGrow last f g) where
       } in
       subst (λ (s : Step). Grows last s (kth_step least g nodes)) (sym (earliest_counting f p nodes))
       (subst (λ (s : Step). Grows last (earliest (λ node. counting (p node) (f node)) nodes) s)
-      (sym (earliest_counting g q nodes))
-      (earliest-grows last (λ node. counting (p node) (f node)) (λ node. counting (q node) (g node)) counts nodes))
+      (sym (earliest_counting g q nodes)) (earliest-grows counts nodes))
 
 -- ---- priority gates
 
@@ -143,7 +141,7 @@ up_to_last f number (node ∷ next ∷ nodes) up is =
     All-cons (λ n. no_later (f n) (Some number) ≡ true) node (next ∷ nodes)
     (no_later_trans (f node) (f next) number parts.0 second) rest
 
-module _ (last : ℕ) (f g : ℕ → Step) (grow : AllGrow last f g) where
+module _ {last : ℕ} {f g : ℕ → Step} (grow : AllGrow last f g) where
   stays_by : (number : ℕ) (a b : Step) → Grows last a b → no_later a (Some number) ≡ true → a ≡ b
   stays_by number None b h by = absurd cc
   stays_by number (Some before) None h by = absurd h
@@ -190,9 +188,7 @@ module _ (last : ℕ) (f g : ℕ → Step) (grow : AllGrow last f g) where
       (if never_falls g nodes then last_step g nodes else never)
   pand-grows nodes =
       pand_choice (never_falls f nodes) (never_falls g nodes) (last_step f nodes) (last_step g nodes)
-      (last_step-grows last f g grow nodes)
-      (λ n up is. falls_as n nodes up is)
-      (λ n below up is. fell_as n nodes below up is)
+      (last_step-grows grow nodes) (λ n up is. falls_as n nodes up is) (λ n below up is. fell_as n nodes below up is)
 
   beside_same : (number : ℕ) (a b : Step) → number ≤ last → Grows last a b
       → no_later (Some number) a ≡ no_later (Some number) b
@@ -237,13 +233,13 @@ module _ (last : ℕ) (f g : ℕ → Step) (grow : AllGrow last f g) where
 
   pub gate_step-grows : (kind : GateKind) (nodes : List ℕ)
       → Grows last (gate_step kind f nodes) (gate_step kind g nodes)
-  gate_step-grows And nodes = latest-grows last f g grow nodes
-  gate_step-grows Or nodes = earliest-grows last f g grow nodes
-  gate_step-grows (Votes least of) nodes = kth_step-grows last f g grow least nodes
+  gate_step-grows And nodes = latest-grows grow nodes
+  gate_step-grows Or nodes = earliest-grows grow nodes
+  gate_step-grows (Votes least of) nodes = kth_step-grows grow least nodes
   gate_step-grows Pand nodes = pand-grows nodes
   gate_step-grows Por nodes = por-grows nodes
-  gate_step-grows Seq nodes = latest-grows last f g grow nodes
+  gate_step-grows Seq nodes = latest-grows grow nodes
   gate_step-grows Fdep nodes = tt
-  gate_step-grows Csp nodes = latest-grows last f g grow nodes
-  gate_step-grows Wsp nodes = latest-grows last f g grow nodes
-  gate_step-grows Hsp nodes = latest-grows last f g grow nodes
+  gate_step-grows Csp nodes = latest-grows grow nodes
+  gate_step-grows Wsp nodes = latest-grows grow nodes
+  gate_step-grows Hsp nodes = latest-grows grow nodes

@@ -44,10 +44,10 @@ grows-same last number below = (refl, below)
 -- ---- two steps
 
 module _ (last : ℕ) where
-  both_stay : (test : Bool) (m n m' n' : ℕ) → m' ≡ m → n' ≡ n → m ≤ last → n ≤ last
+  both_stay : (test : Bool) {m n m' n' : ℕ} → m' ≡ m → n' ≡ n → m ≤ last → n ≤ last
       → Grows last (if test then Some m else Some n) (if test then Some m' else Some n')
-  both_stay true m n m' n' e e' h h' = (e, h)
-  both_stay false m n m' n' e e' h h' = (e', h')
+  both_stay true e e' h h' = (e, h)
+  both_stay false e e' h h' = (e', h')
 
   one_now : (test : Bool) (m n : ℕ) → (test ≡ true → m ≡ last) → (test ≡ false → n ≡ last)
       → Grows last None (if test then Some m else Some n)
@@ -59,10 +59,10 @@ module _ (last : ℕ) where
   one_stays true before m n below h h' = (h refl, below)
   one_stays false before m n below h h' = (h' refl, below)
 
-  same_test : (m n m' n' : ℕ) → m' ≡ m → n' ≡ n → (x y x' y' : Step)
+  same_test : {m n m' n' : ℕ} → m' ≡ m → n' ≡ n → (x y x' y' : Step)
       → Grows last (if nat_le m n then x else y) (if nat_le m n then x' else y')
       → Grows last (if nat_le m n then x else y) (if nat_le m' n' then x' else y')
-  same_test m n m' n' e e' x y x' y' h =
+  same_test {m} {n} {n'} e e' x y x' y' h =
       subst (λ (q : ℕ). Grows last (if nat_le m n then x else y) (if nat_le q n' then x' else y')) (sym e)
       (subst (λ (q : ℕ). Grows last (if nat_le m n then x else y) (if nat_le m q then x' else y')) (sym e') h)
 
@@ -82,8 +82,7 @@ module _ (last : ℕ) where
       one_stays (nat_le m' n') m m' n' g.1 (λ _. g.0) (λ gt. absurd (omega (arith, leb-false m' n' gt, g.0, g.1, h)))
   earlier-grows (Some m) (Some m') (Some n) None g h = absurd h
   earlier-grows (Some m) (Some m') (Some n) (Some n') g h =
-      same_test m n m' n' g.0 h.0 (Some m) (Some n) (Some m') (Some n')
-      (both_stay (nat_le m n) m n m' n' g.0 h.0 g.1 h.1)
+      same_test g.0 h.0 (Some m) (Some n) (Some m') (Some n') (both_stay (nat_le m n) g.0 h.0 g.1 h.1)
 
   pub later-grows : (a a' b b' : Step) → Grows last a a' → Grows last b b' → Grows last (later a b) (later a' b')
   later-grows None None None None g h = tt
@@ -101,12 +100,11 @@ module _ (last : ℕ) where
       one_now (nat_le m' n') n' m' (λ _. h) (λ gt. absurd (omega (arith, leb-false m' n' gt, g.0, g.1, h)))
   later-grows (Some m) (Some m') (Some n) None g h = absurd h
   later-grows (Some m) (Some m') (Some n) (Some n') g h =
-      same_test m n m' n' g.0 h.0 (Some n) (Some m) (Some n') (Some m')
-      (both_stay (nat_le m n) n m n' m' h.0 g.0 h.1 g.1)
+      same_test g.0 h.0 (Some n) (Some m) (Some n') (Some m') (both_stay (nat_le m n) h.0 g.0 h.1 g.1)
 
 -- ---- the steps of several nodes
 
-module _ (last : ℕ) (f g : ℕ → Step) (grow : AllGrow last f g) where
+module _ {last : ℕ} {f g : ℕ → Step} (grow : AllGrow last f g) where
   pub earliest-grows : (nodes : List ℕ) → Grows last (earliest f nodes) (earliest g nodes)
   earliest-grows [] = tt
   earliest-grows (node ∷ nodes) =

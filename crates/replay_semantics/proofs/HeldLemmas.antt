@@ -18,18 +18,15 @@ use Rattle.fault_words.specs.declared.kind.GateKind.TheVariants.{Seq, Csp}
 use Rattle.fault_model.specs.Order.{AreDistinct}
 use Rattle.fault_definitions.specs.Tree.{FaultTree, IsNodeOf, IsUnitOf, node_count, unit_count, kind_of, inputs_of}
 use Rattle.fault_definitions.specs.WellFormed.{IsTree}
-use Rattle.fault_definitions.proofs.ReadingLaws.{reads-empty}
+use Rattle.fault_definitions.proofs.{ReadingLaws.reads-empty, StepLaws.step-reads}
 use Rattle.fault_definitions.specs.Step.{Step, never, no_later, is_before, never_falls, place, step}
-use Rattle.fault_definitions.proofs.StepLaws.{step-reads}
 use Rattle.fault_definitions.specs.FailingOrder.{spares_wait, gate_admits, is_admissible, is_failing}
-use Rattle.replay_semantics.proofs.FailingLemmas.{same_test}
+use Rattle.replay_semantics.proofs.{FailingLemmas.same_test, Places.among-append, AdmissionLaws.gates-from}
+use Rattle.replay_semantics.proofs.{LogLemmas.few_distinct}
 use Rattle.replay_semantics.specs.Held.{HoldsReplay, start_of, GoesBack, StartsRise, IsAdmittedUpTo, admitted_after}
-use Rattle.replay_semantics.proofs.Places.{among-append}
 use Rattle.replay_semantics.specs.Readers.{AreReaders}
 use Rattle.replay_semantics.specs.Spread.{AreFailed, HaveFailed, step_without}
 use Rattle.replay_semantics.specs.Table.{step_in, has_step, HoldsSteps}
-use Rattle.replay_semantics.proofs.AdmissionLaws.{gates-from}
-use Rattle.replay_semantics.proofs.LogLemmas.{few_distinct}
 
 -- ---- tests
 
@@ -54,12 +51,12 @@ le_same a b c low =
 
 -- ---- the empty order
 
-step-none : (tree : FaultTree) → IsTree tree → (node : ℕ) → step tree [] node ≡ never
-step-none tree kept node =
+step-none : {tree : FaultTree} → IsTree tree → (node : ℕ) → step tree [] node ≡ never
+step-none {tree} kept node =
     none (step tree [] node)
     (false_from_ne_true (is_some (step tree [] node))
     (λ some. let fails = step-reads tree [] node some in
-    let lives = reads-empty tree kept (among []) (λ n. refl) node in absurd cc))
+    let lives = reads-empty kept (among []) (λ n. refl) node in absurd cc))
   where
     none : (at : Step) → is_some at ≡ false → at ≡ never
     none None h = refl
@@ -89,10 +86,10 @@ gate_free f none Seq inputs = falls_never f none inputs
 gate_free f none Csp inputs = spares_free f inputs
 gate_free f none _ inputs = refl
 
-pub admissible-none : (tree : FaultTree) → IsTree tree → is_admissible tree [] ≡ true
-admissible-none tree kept =
-    gates-from tree kept (gate_admits (step tree []) [])
-    (λ gate is_gate. gate_free (step tree []) (step-none tree kept) (kind_of tree gate) (inputs_of tree gate))
+pub admissible-none : {tree : FaultTree} → IsTree tree → is_admissible tree [] ≡ true
+admissible-none {tree} kept =
+    gates-from kept (gate_admits (step tree []) [])
+    (λ gate is_gate. gate_free (step tree []) (step-none kept) (kind_of tree gate) (inputs_of tree gate))
 
 no_step : (count node : ℕ) → step_in (replicate count None) node ≡ never
 no_step count node =
@@ -102,9 +99,9 @@ no_step count node =
           (omega (arith, past, length-replicate {A = Step} count never))
     ]
 
-pub holds_none : (tree : FaultTree) → IsTree tree → (rows : List (List ℕ)) → AreReaders tree rows → (nodes : ℕ)
+pub holds_none : {tree : FaultTree} → IsTree tree → {rows : List (List ℕ)} → AreReaders tree rows → {nodes : ℕ}
     → nodes ≡ node_count tree → HoldsReplay tree rows (replicate (suc nodes) None) [] [] [] 0
-holds_none tree kept rows readers nodes same = record {
+holds_none {tree} kept readers {nodes} same = record {
   kept = kept;
   readers = readers;
   failed = record {
@@ -121,17 +118,16 @@ holds_none tree kept rows readers nodes same = record {
   back = λ at within node is_node.
       let first : at ≡ 0 = omega arith in
       subst (λ (n : ℕ). step_without (drop (start_of [] [] n) []) (replicate (suc nodes) None) node
-      ≡ step tree (take n []) node) (sym first)
-      (no_step (suc nodes) node ∙ sym (step-none tree kept node));
+      ≡ step tree (take n []) node) (sym first) (no_step (suc nodes) node ∙ sym (step-none kept node));
   admitted = λ at within.
       let first : at ≡ 0 = omega arith in
-      subst (λ (n : ℕ). is_admissible tree (take n []) ≡ nat_le n 0) (sym first) (admissible-none tree kept);
+      subst (λ (n : ℕ). is_admissible tree (take n []) ≡ nat_le n 0) (sym first) (admissible-none kept);
   within = omega arith;
 }
 
 -- ---- a push
 
-module _ (tree : FaultTree) (rows : List (List ℕ)) (steps : List Step) (log order starts : List ℕ) (up_to : ℕ)
+module _ {tree : FaultTree} {rows : List (List ℕ)} {steps : List Step} {log order starts : List ℕ} {up_to : ℕ}
     (held : HoldsReplay tree rows steps log order starts up_to) where
   all_of : take (length order) order ≡ order
   all_of = take_all (length order) order (omega arith)
@@ -171,7 +167,7 @@ module _ (tree : FaultTree) (rows : List (List ℕ)) (steps : List Step) (log or
         (All-push (IsUnitOf tree) order unit held.units is_unit) in
         omega (arith, few, length_push order unit)
 
-    module _ (steps' : List Step) (log' : List ℕ) (fits : Bool) (failed' : AreFailed tree steps' log')
+    module _ {steps' : List Step} {log' : List ℕ} (fits : Bool) (failed' : AreFailed tree steps' log')
         (have : HaveFailed tree (order ++ unit ∷ []) steps steps' log log')
         (admits : is_admissible tree (order ++ unit ∷ []) ≡ (is_admissible tree order && fits)) where
       abbrev starts' : List ℕ
@@ -355,7 +351,7 @@ module _ (tree : FaultTree) (rows : List (List ℕ)) (steps : List Step) (log or
   log' = take s log
 
   s_within : s ≤ length log
-  s_within = start_within tree rows steps log order starts up_to held last (omega arith)
+  s_within = start_within held last (omega arith)
 
   log_length : length log' ≡ s
   log_length = length-take-le s log s_within
@@ -432,15 +428,15 @@ module _ (tree : FaultTree) (rows : List (List ℕ)) (steps : List Step) (log or
 -- ---- a whole order
 
 -- no order without units fails the top event
-pub failing-none : (tree : FaultTree) → IsTree tree → (order : List ℕ) → order ≡ [] → is_failing tree order ≡ false
-failing-none tree kept order empty =
-    ap (is_failing tree) empty ∙ ap (λ (at : Step). is_admissible tree [] && is_some at) (step-none tree kept tree.top)
+pub failing-none : {tree : FaultTree} → IsTree tree → {order : List ℕ} → order ≡ [] → is_failing tree order ≡ false
+failing-none {tree} kept empty =
+    ap (is_failing tree) empty ∙ ap (λ (at : Step). is_admissible tree [] && is_some at) (step-none kept tree.top)
     ∙ and_none (is_admissible tree [])
 
 -- the next unit of an order is none of those before it
-pub fresh_next : (units : List ℕ) (i unit : ℕ) → AreDistinct units → i < length units → unit ≡ get_or units i unit
+pub fresh_next : (units : List ℕ) (i : ℕ) {unit : ℕ} → AreDistinct units → i < length units → unit ≡ get_or units i unit
     → among (take i units) unit ≡ false
-fresh_next units i unit distinct short is =
+fresh_next units i {unit} distinct short is =
     false_from_ne_true (among (take i units) unit) (λ has.
     let there : Contains (take i units) unit = Contains-from_among (take i units) unit has in
     let low : there.0 < i = omega (arith, there.1, length-take i units) in

@@ -20,10 +20,10 @@ last_step-at f (node ∷ next ∷ nodes) zero d is = absurd (omega arith)
 last_step-at f (node ∷ next ∷ nodes) (suc last) d is = last_step-at f (next ∷ nodes) last d (omega arith)
 
 -- the steps of some nodes, from the first one on
-pub never_falls-first : (f : ℕ → Step) (nodes : List ℕ) (first : ℕ) → 1 ≤ length nodes → first ≡ get_or nodes 0 first
+pub never_falls-first : (f : ℕ → Step) (nodes : List ℕ) {first : ℕ} → 1 ≤ length nodes → first ≡ get_or nodes 0 first
     → never_falls f nodes ≡ falls_not_after f (f first) (drop 1 nodes)
-never_falls-first f [] first some is = absurd (omega arith)
-never_falls-first f (node ∷ nodes) first some is =
+never_falls-first f [] some is = absurd (omega arith)
+never_falls-first f (node ∷ nodes) some is =
     never_falls-after f node nodes ∙ ap (λ n. falls_not_after f (f n) nodes) (sym is)
 
 -- a unit fails by its triggers

@@ -4,13 +4,10 @@ use Rattle.std.proofs.Common.{Some, is_some, arith, ap, ◌∙◌, inl, inr, get
 use Rattle.std.proofs.Common.{length-append}
 use Rattle.std.specs.List.{list_any}
 use Rattle.std.proofs.lemmas.Bool.{or_cases, eqb-true, cases_eq, cases_lt}
-use Rattle.std.proofs.lemmas.Bool.Decides.{Decides-eqb}
-use Rattle.std.proofs.lemmas.List.{get_or_past}
+use Rattle.std.proofs.{lemmas.Bool.Decides.Decides-eqb, lemmas.List.get_or_past, lemmas.List.Kept.AllPairs-cons}
+use Rattle.std.proofs.{lemmas.List.Quantifiers.all_pairs_push, lemmas.Map.Made.IsDistinct-from_AllPairs}
+use Rattle.std.proofs.{lemmas.Map.Steps.length-le_from_distinct_below}
 use Rattle.std.proofs.lemmas.List.Elements.{All-head, All-tail, All-cons, All-push, All-weaker}
-use Rattle.std.proofs.lemmas.List.Kept.{AllPairs-cons}
-use Rattle.std.proofs.lemmas.List.Quantifiers.{all_pairs_push}
-use Rattle.std.proofs.lemmas.Map.Made.{IsDistinct-from_AllPairs}
-use Rattle.std.proofs.lemmas.Map.Steps.{length-le_from_distinct_below}
 use Rattle.fault_model.specs.Order.{AreDistinct}
 use Rattle.fault_definitions.specs.Tree.{FaultTree, IsNodeOf, node_count}
 use Rattle.fault_definitions.specs.Step.{Step, never}
@@ -48,9 +45,9 @@ pub step_in-set_same : (steps : List Step) (node : ℕ) (at : Step) → node < l
     → step_in (set steps node at) node ≡ at
 step_in-set_same steps node at short = get_or-set_same steps node at never short
 
-pub step_in-set_other : (steps : List Step) (node other : ℕ) (at : Step) → other ≢ node
+pub step_in-set_other : (steps : List Step) {node other : ℕ} (at : Step) → other ≢ node
     → step_in (set steps node at) other ≡ step_in steps other
-step_in-set_other steps node other at apart = get_or-set_other steps node other at never apart
+step_in-set_other steps {node} {other} at apart = get_or-set_other steps node other at never apart
 
 -- a number is a node's, or it has no step
 pub node_or_never : (tree : FaultTree) (steps : List Step) → IsTableFor tree steps → step_in steps 0 ≡ never
@@ -64,7 +61,7 @@ node_or_never tree steps table spare node =
       ]
     ]
 
-module _ (tree : FaultTree) (steps : List Step) (log : List ℕ) (kept : AreFailed tree steps log) (node : ℕ)
+module _ {tree : FaultTree} {steps : List Step} {log : List ℕ} (kept : AreFailed tree steps log) (node : ℕ)
     (is_node : IsNodeOf tree node) (fresh : has_step steps node ≡ false) where
   -- a node without a step is none of the failed ones
   pub apart_from_failed : All (λ failed. failed ≢ node) log
@@ -89,7 +86,7 @@ module _ (tree : FaultTree) (steps : List Step) (log : List ℕ) (kept : AreFail
   still_failed number failed has =
       elim (cases_eq failed node) [
         | inl same ↦ let e : has_step steps failed ≡ has_step steps node = ap (has_step steps) same in absurd cc
-        | inr apart ↦ ap is_some (step_in-set_other steps node failed (Some number) apart) ∙ has
+        | inr apart ↦ ap is_some (step_in-set_other steps (Some number) apart) ∙ has
       ]
 
   pub failed_more : (number : ℕ) → AreFailed tree (set steps node (Some number)) (log ++ node ∷ [])
@@ -98,7 +95,7 @@ module _ (tree : FaultTree) (steps : List Step) (log : List ℕ) (kept : AreFail
       let zero_apart : 0 ≢ node = λ e. absurd (omega (arith, e, is_node.0)) in
       record {
         table = length-set steps node (Some number) ∙ kept.table;
-        spare = step_in-set_other steps node 0 (Some number) zero_apart ∙ kept.spare;
+        spare = step_in-set_other steps (Some number) zero_apart ∙ kept.spare;
         nodes = All-push (IsNodeOf tree) log node kept.nodes is_node;
         distinct = distinct_more;
         failed = All-push (λ failed. has_step (set steps node (Some number)) failed ≡ true) log node

@@ -5,8 +5,7 @@ use Rattle.std.proofs.Common.{refl, ap, sym}
 use Rattle.std.proofs.lemmas.Bool.{ne_eqb, eq-eqb, cond-false, cond-true}
 use Rattle.unit_sets.specs.UnitList.{among}
 use Rattle.fault_definitions.specs.Step.{Step, never, place_from, place}
-use Rattle.replay_semantics.proofs.GrowthLemmas.{grows-new}
-use Rattle.replay_semantics.proofs.StepGrowth.{place-grows}
+use Rattle.replay_semantics.proofs.{GrowthLemmas.grows-new, StepGrowth.place-grows}
 
 -- ---- members
 
@@ -25,15 +24,15 @@ or_nothing false = refl
 
 -- ---- places
 
-place_from-other : (first : ℕ) (order : List ℕ) (unit node : ℕ) → node ≢ unit
+place_from-other : (first : ℕ) (order : List ℕ) {unit node : ℕ} → node ≢ unit
     → place_from first (order ++ unit ∷ []) node ≡ place_from first order node
-place_from-other first [] unit node apart =
+place_from-other first [] {unit} {node} apart =
     cond-false (unit == node) (Some first) never (ne_eqb unit node (λ e. apart (sym e)))
-place_from-other first (failed ∷ order) unit node apart =
-    ap (λ (at : Step). if failed == node then Some first else at) (place_from-other (suc first) order unit node apart)
+place_from-other first (failed ∷ order) {node} apart =
+    ap (λ (at : Step). if failed == node then Some first else at) (place_from-other (suc first) order apart)
 
-pub place-other : (order : List ℕ) (unit node : ℕ) → node ≢ unit → place (order ++ unit ∷ []) node ≡ place order node
-place-other order unit node apart = place_from-other 1 order unit node apart
+pub place-other : (order : List ℕ) {unit node : ℕ} → node ≢ unit → place (order ++ unit ∷ []) node ≡ place order node
+place-other order apart = place_from-other 1 order apart
 
 place_from-itself : (first : ℕ) (order : List ℕ) (unit : ℕ)
     → is_some (place_from first (order ++ unit ∷ []) unit) ≡ true

@@ -68,9 +68,9 @@ pub record HaveReaders (tree : FaultTree) (rows : List (List ℕ)) (count : ℕ)
   pub listed : (node reader : ℕ) → IsNodeOf tree reader → reader ≤ count → among (below tree reader) node ≡ true
       → among (readers_in rows node) reader ≡ true
 
-pub have_none : (tree : FaultTree) (count : ℕ) (rows : List (List ℕ)) → rows ≡ replicate count []
+pub have_none : {tree : FaultTree} {count : ℕ} {rows : List (List ℕ)} → rows ≡ replicate count []
     → count ≡ suc (node_count tree) → HaveReaders tree rows 0
-have_none tree count rows none all = record {
+have_none {count} none all = record {
   all = ap length none ∙ length-replicate count [] ∙ all;
   nodes = λ node reader h.
       let never : false ≡ true = subst (λ row. among row reader ≡ true) (ap (λ r. readers_in r node) none
@@ -79,10 +79,10 @@ have_none tree count rows none all = record {
   listed = λ node reader is_node low h. absurd (omega (arith, is_node.0));
 }
 
-pub have_more : (tree : FaultTree) (old new : List (List ℕ)) (count reader : ℕ) (nodes : List ℕ) → reader ≡ count + 1
+pub have_more : {tree : FaultTree} {old new : List (List ℕ)} {count reader : ℕ} {nodes : List ℕ} → reader ≡ count + 1
     → IsNodeOf tree reader → nodes ≡ below tree reader → HaveReaders tree old count → MoreReaders old new nodes reader
     → HaveReaders tree new (count + 1)
-have_more tree old new count reader nodes next is_node nodes_is have more = record {
+have_more {tree} {new} {reader} {nodes} next is_node nodes_is have more = record {
   all = more.all ∙ have.all;
   nodes = λ node other h. elim (more.only node other h) [
     | inl before ↦ have.nodes node other before
@@ -98,15 +98,15 @@ have_more tree old new count reader nodes next is_node nodes_is have more = reco
 }
 
 -- lists whose items were changed in place
-pub changed_all : (len : ℕ) (lists new : List (List ℕ)) → length new ≡ length lists → len ≡ length lists
+pub changed_all : {len : ℕ} (lists new : List (List ℕ)) → length new ≡ length lists → len ≡ length lists
     → take len (new ++ drop (length new) lists) ≡ new
-changed_all len lists new same all =
+changed_all {len} lists new same all =
     ap (λ rest. take len (new ++ rest)) (drop_all (length new) lists (omega arith)) ∙ ap (take len) (append-nil new)
     ∙ take_all len new (omega arith)
 
-pub all_readers : (tree : FaultTree) (rows : List (List ℕ)) (count : ℕ) → node_count tree ≤ count
+pub all_readers : {tree : FaultTree} {rows : List (List ℕ)} {count : ℕ} → node_count tree ≤ count
     → HaveReaders tree rows count → AreReaders tree rows
-all_readers tree rows count full have = record {
+all_readers {tree} {rows} full have = record {
   all = have.all;
   nodes = λ node. All-from_among (IsNodeOf tree) (readers_in rows node) (have.nodes node);
   listed = λ node reader is_node h. have.listed node reader is_node (omega (arith, is_node.1)) h;

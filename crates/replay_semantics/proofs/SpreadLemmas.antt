@@ -9,18 +9,15 @@ use Rattle.std.proofs.lemmas.List.{take-append-le, drop-append-le, drop_all, dro
 use Rattle.std.proofs.lemmas.List.{drop_more}
 use Rattle.unit_sets.specs.UnitList.{among}
 use Rattle.fault_definitions.specs.Tree.{FaultTree, IsNodeOf, IsUnitOf, is_above_units, unit_count, node_count}
-use Rattle.fault_definitions.specs.Trigger.{below}
-use Rattle.fault_definitions.specs.WellFormed.{IsTree}
+use Rattle.fault_definitions.specs.{Trigger.below, WellFormed.IsTree}
 use Rattle.fault_definitions.specs.Step.{Step, never, place, node_step}
-use Rattle.replay_semantics.specs.Failing.{node_fails}
-use Rattle.replay_semantics.specs.Growth.{Grows, AllGrow}
+use Rattle.replay_semantics.specs.{Failing.node_fails, Growth.Grows, Growth.AllGrow}
+use Rattle.replay_semantics.specs.{declared.failures.Failures.Failures, Readers.readers_in, Readers.AreReaders}
 use Rattle.replay_semantics.proofs.GrowthLemmas.{grows-stays, grows-at_most, grows-new, grows-never}
 use Rattle.replay_semantics.proofs.StepGrowth.{node_step-grows, place-grows, step-at_most}
 use Rattle.replay_semantics.specs.Table.{step_in, has_step, IsTableFor, HoldsSteps}
 use Rattle.replay_semantics.proofs.Places.{among-append, or_nothing, place-other, place-itself}
-use Rattle.replay_semantics.specs.declared.failures.Failures.{Failures}
 use Rattle.replay_semantics.specs.Spread.{AreFailed, HaveFailed, HaveMore, IsSpreading, Turn, step_without, reads_some}
-use Rattle.replay_semantics.specs.Readers.{readers_in, AreReaders}
 use Rattle.replay_semantics.proofs.FixedLemmas.{fixed-step, settled_table, node_step-place, node_step-some}
 use Rattle.replay_semantics.proofs.FixedLemmas.{node_step-placed, node_step-others}
 use Rattle.replay_semantics.proofs.LogLemmas.{step_in-set_same, step_in-set_other, node_or_never, few_distinct}
@@ -65,13 +62,13 @@ module _ (last : ℕ) (steps : List Step) (node : ℕ) (reach : node < length st
           (subst (λ (s : Step). Grows last s (step_in longer_steps node)) (sym fresh)
           (subst (λ (s : Step). Grows last never s) (sym (step_in-set_same steps node (Some last) reach)) refl))
       | inr apart ↦ subst (λ (s : Step). Grows last (step_in steps n) s)
-          (sym (step_in-set_other steps node n (Some last) apart)) (same_grows last (step_in steps n) (low n))
+          (sym (step_in-set_other steps (Some last) apart)) (same_grows last (step_in steps n) (low n))
     ];
   }
 
-  pub set_grows_from : (before : ℕ → Step) → AllGrow last before (step_in steps)
+  pub set_grows_from : {before : ℕ → Step} → AllGrow last before (step_in steps)
       → AllGrow last before (step_in (set steps node (Some last)))
-  set_grows_from before grown = record {
+  set_grows_from {before} grown = record {
     each = λ n. elim (cases_eq n node) [
       | inl same ↦
           let was : before node ≡ never = grows-never last (before node) (step_in steps node) (grown.each node) fresh in
@@ -79,14 +76,14 @@ module _ (last : ℕ) (steps : List Step) (node : ℕ) (reach : node < length st
           (subst (λ (s : Step). Grows last s (step_in longer_steps node)) (sym was)
           (subst (λ (s : Step). Grows last never s) (sym (step_in-set_same steps node (Some last) reach)) refl))
       | inr apart ↦ subst (λ (s : Step). Grows last (before n) s)
-          (sym (step_in-set_other steps node n (Some last) apart)) (grown.each n)
+          (sym (step_in-set_other steps (Some last) apart)) (grown.each n)
     ];
   }
 
 -- a step of the grown table is no later than the last place
-low_steps : (last : ℕ) (before now : ℕ → Step) → AllGrow last before now → (n number : ℕ) → now n ≡ Some number
+low_steps : {last : ℕ} {before now : ℕ → Step} → AllGrow last before now → (n number : ℕ) → now n ≡ Some number
     → number ≤ last
-low_steps last before now grown n number is = grows-at_most last number (before n) (now n) (grown.each n) is
+low_steps {last} {before} {now} grown n number is = grows-at_most last number (before n) (now n) (grown.each n) is
 
 -- steps that stay, with places that grow
 module _ (tree : FaultTree) (turn : Turn) (places : AllGrow turn.last (place turn.order) (place turn.longer)) where
@@ -98,25 +95,25 @@ module _ (tree : FaultTree) (turn : Turn) (places : AllGrow turn.last (place tur
   still = record { each = λ n. same_grows turn.last (place turn.longer n) (low_places n) }
 
   -- a node that has the step which its rule gives keeps it as others fail
-  pub keeps_right : (f g : ℕ → Step) → AllGrow turn.last f g → (node number : ℕ)
+  pub keeps_right : {f g : ℕ → Step} → AllGrow turn.last f g → (node number : ℕ)
       → node_step tree turn.longer f node ≡ Some number → node_step tree turn.longer g node ≡ Some number
-  keeps_right f g grow node number is =
+  keeps_right {f} {g} grow node number is =
       grows-stays turn.last number (node_step tree turn.longer f node) (node_step tree turn.longer g node)
-      (node_step-grows tree turn.last turn.longer turn.longer still f g grow node) is
+      (node_step-grows tree turn.longer turn.longer still grow node) is
 
   -- and so does one that had it under the shorter order
-  pub keeps_right_from : (f g : ℕ → Step) → AllGrow turn.last f g → (node number : ℕ)
+  pub keeps_right_from : {f g : ℕ → Step} → AllGrow turn.last f g → (node number : ℕ)
       → node_step tree turn.order f node ≡ Some number → node_step tree turn.longer g node ≡ Some number
-  keeps_right_from f g grow node number is =
+  keeps_right_from {f} {g} grow node number is =
       grows-stays turn.last number (node_step tree turn.order f node) (node_step tree turn.longer g node)
-      (node_step-grows tree turn.last turn.order turn.longer places f g grow node) is
+      (node_step-grows tree turn.order turn.longer places grow node) is
 
   -- a node that had no step and gets one gets this turn's
-  pub gets_last : (f g : ℕ → Step) → AllGrow turn.last f g → (node : ℕ) → node_step tree turn.order f node ≡ never
+  pub gets_last : {f g : ℕ → Step} → AllGrow turn.last f g → (node : ℕ) → node_step tree turn.order f node ≡ never
       → is_some (node_step tree turn.longer g node) ≡ true → node_step tree turn.longer g node ≡ Some turn.last
-  gets_last f g grow node was some =
+  gets_last {f} {g} grow node was some =
       grows-new turn.last (node_step tree turn.order f node) (node_step tree turn.longer g node)
-      (node_step-grows tree turn.last turn.order turn.longer places f g grow node) was some
+      (node_step-grows tree turn.order turn.longer places grow node) was some
 
 undone_more : (front log : List ℕ) (before steps : List Step) (node last : ℕ) → node < length steps
     → length front ≤ length log → step_in before node ≡ never
@@ -141,16 +138,16 @@ undone_more front log before steps node last reach low was undone n =
           ∙ or_nothing (among (drop (length front) log) n) in
           ap (λ (b : Bool). if b then never else step_in (set steps node (Some last)) n) same
           ∙ ap (λ (s : Step). if among (drop (length front) log) n then never else s)
-          (step_in-set_other steps node n (Some last) apart)
+          (step_in-set_other steps (Some last) apart)
           ∙ undone n
     ]
 
-module _ (tree : FaultTree) (turn : Turn) (steps : List Step) (log todo : List ℕ) (next : ℕ) (node : ℕ)
+module _ {tree : FaultTree} {turn : Turn} {steps : List Step} {log todo : List ℕ} {next : ℕ} {node : ℕ}
     (table : IsTableFor tree steps) (is_node : IsNodeOf tree node)
     (spreading : IsSpreading tree turn steps log (node ∷ todo) next) where
-  waits_apart : (n : ℕ) → n ≢ node → (among (node ∷ todo) n || reads_some tree (drop next log) n)
+  waits_apart : {n : ℕ} → n ≢ node → (among (node ∷ todo) n || reads_some tree (drop next log) n)
       ≡ (among todo n || reads_some tree (drop next log) n)
-  waits_apart n apart =
+  waits_apart {n} apart =
       ap (λ (b : Bool). (b || among todo n) || reads_some tree (drop next log) n) (ne_eqb node n (λ e. apart (sym e)))
 
   pub fails_more : has_step steps node ≡ false → node_fails tree (step_in steps) node ≡ true
@@ -158,11 +155,11 @@ module _ (tree : FaultTree) (turn : Turn) (steps : List Step) (log todo : List �
   fails_more has fails =
       let reach : node < length steps = omega (arith, table, is_node.1) in
       let fresh : step_in steps node ≡ never = never_from (step_in steps node) has in
-      let low = low_steps turn.last (step_in turn.before) (step_in steps) spreading.grown in
+      let low = low_steps spreading.grown in
       let grows : AllGrow turn.last (step_in steps) (step_in (set steps node (Some turn.last))) =
       set_grows turn.last steps node reach fresh low in
       let grown : AllGrow turn.last (step_in turn.before) (step_in (set steps node (Some turn.last))) =
-      set_grows_from turn.last steps node reach fresh (step_in turn.before) spreading.grown in
+      set_grows_from turn.last steps node reach fresh spreading.grown in
       let was : step_in turn.before node ≡ never =
       grows-never turn.last (step_in turn.before node) (step_in steps node) (spreading.grown.each node) fresh in
       let reaches : length turn.front ≤ length log = omega (arith, spreading.low, spreading.high) in
@@ -173,8 +170,7 @@ module _ (tree : FaultTree) (turn : Turn) (steps : List Step) (log todo : List �
       let rule_some : is_some (node_step tree turn.longer (step_in steps) node) ≡ true =
       node_step-some tree (step_in steps) node turn.longer fails in
       let rule_is : node_step tree turn.longer (step_in steps) node ≡ Some turn.last =
-      gets_last tree turn spreading.places (step_in turn.before) (step_in steps) spreading.grown node rule_was
-      rule_some in
+      gets_last tree turn spreading.places spreading.grown node rule_was rule_some in
       record {
         places = spreading.places;
         settled = spreading.settled;
@@ -185,15 +181,14 @@ module _ (tree : FaultTree) (turn : Turn) (steps : List Step) (log todo : List �
         undone = undone_more turn.front log turn.before steps node turn.last reach reaches was spreading.undone;
         placed = λ n in_tree unit placed. elim (cases_eq n node) [
           | inl same ↦ ap is_some (ap (step_in (set steps node (Some turn.last))) same ∙ at)
-          | inr apart ↦ ap is_some (step_in-set_other steps node n (Some turn.last) apart)
+          | inr apart ↦ ap is_some (step_in-set_other steps (Some turn.last) apart)
               ∙ spreading.placed n in_tree unit placed
         ];
         right = λ n in_tree. elim (cases_eq n node) [
           | inl same ↦
               inl (subst (λ (m : ℕ). step_in (set steps node (Some turn.last)) m
               ≡ node_step tree turn.longer (step_in (set steps node (Some turn.last))) m) (sym same)
-              (at ∙ sym (keeps_right tree turn spreading.places (step_in steps)
-              (step_in (set steps node (Some turn.last))) grows node turn.last rule_is)))
+              (at ∙ sym (keeps_right tree turn spreading.places grows node turn.last rule_is)))
           | inr apart ↦ right_apart n in_tree apart grows
         ];
       }
@@ -206,7 +201,7 @@ module _ (tree : FaultTree) (turn : Turn) (steps : List Step) (log todo : List �
           × ((among todo n || reads_some tree (drop next (log ++ node ∷ [])) n) ≡ true))
       right_apart n in_tree apart grows =
           let same : step_in (set steps node (Some turn.last)) n ≡ step_in steps n =
-          step_in-set_other steps node n (Some turn.last) apart in
+          step_in-set_other steps (Some turn.last) apart in
           let split : reads_some tree (drop next (log ++ node ∷ [])) n
           ≡ (reads_some tree (drop next log) n || reads_some tree (node ∷ []) n) =
           ap (λ xs. reads_some tree xs n) (drop-append-le next log (node ∷ []) spreading.high)
@@ -215,8 +210,7 @@ module _ (tree : FaultTree) (turn : Turn) (steps : List Step) (log todo : List �
             | inl fits ↦ elim (cases_Bool (among (below tree n) node)) [
               | inl reads_it ↦ elim (some_or_never (step_in steps n)) [
                 | inl (number, is) ↦
-                    inl (same ∙ is ∙ sym (keeps_right tree turn spreading.places (step_in steps)
-                    (step_in (set steps node (Some turn.last))) grows n number (sym fits ∙ is)))
+                    inl (same ∙ is ∙ sym (keeps_right tree turn spreading.places grows n number (sym fits ∙ is)))
                 | inr none ↦
                     inr (
                       same ∙ none,
@@ -227,13 +221,13 @@ module _ (tree : FaultTree) (turn : Turn) (steps : List Step) (log todo : List �
               | inr apart_from_it ↦
                   inl (same ∙ fits
                   ∙ sym (node_step-others tree turn.longer (step_in (set steps node (Some turn.last))) (step_in steps) n
-                  node (λ m other. step_in-set_other steps node m (Some turn.last) other) apart_from_it))
+                  node (λ m other. step_in-set_other steps (Some turn.last) other) apart_from_it))
             ]
             | inr waits ↦
                 inr (
                   same ∙ waits.0,
                   elim (or_cases (among todo n) (reads_some tree (drop next log) n)
-                      (sym (waits_apart n apart) ∙ waits.1)) [
+                      (sym (waits_apart apart) ∙ waits.1)) [
                         | inl listed ↦ or_left (among todo n) _ listed
                         | inr reads_it ↦ or_right (among todo n) _ (split
                             ∙ or_left (reads_some tree (drop next log) n) _ reads_it)
@@ -247,7 +241,7 @@ abbrev pub turn_of : List ℕ → ℕ → List Step → List ℕ → Turn
 turn_of order unit steps log =
     record { order = order; longer = order ++ unit ∷ []; last = suc (length order); before = steps; front = log }
 
-module _ (tree : FaultTree) (kept : IsTree tree) (order : List ℕ) (unit : ℕ) (steps : List Step) (log : List ℕ)
+module _ {tree : FaultTree} (kept : IsTree tree) (order : List ℕ) (unit : ℕ) {steps : List Step} {log : List ℕ}
     (failed : AreFailed tree steps log) (is_unit : IsUnitOf tree unit) (holds : HoldsSteps tree order steps) where
   abbrev this_turn : Turn
   this_turn = turn_of order unit steps log
@@ -259,7 +253,7 @@ module _ (tree : FaultTree) (kept : IsTree tree) (order : List ℕ) (unit : ℕ)
   is_low = le-ltb (unit_count tree) unit is_unit.1
 
   settled : (node : ℕ) → IsNodeOf tree node → step_in steps node ≡ node_step tree order (step_in steps) node
-  settled = settled_table tree kept order steps holds
+  settled = settled_table kept order steps holds
 
   low_table : (n number : ℕ) → step_in steps n ≡ Some number → number ≤ suc (length order)
   low_table n number is =
@@ -274,23 +268,22 @@ module _ (tree : FaultTree) (kept : IsTree tree) (order : List ℕ) (unit : ℕ)
   same_table : AllGrow (suc (length order)) (step_in steps) (step_in steps)
   same_table = record { each = λ n. same_grows (suc (length order)) (step_in steps n) (low_table n) }
 
-  rule_apart : (n : ℕ) → n ≢ unit → node_step tree (order ++ unit ∷ []) (step_in steps) n
+  rule_apart : {n : ℕ} → n ≢ unit → node_step tree (order ++ unit ∷ []) (step_in steps) n
       ≡ node_step tree order (step_in steps) n
-  rule_apart n apart =
-      node_step-place tree (step_in steps) n (order ++ unit ∷ []) order (place-other order unit n apart)
+  rule_apart {n} apart = node_step-place tree (step_in steps) n (order ++ unit ∷ []) order (place-other order apart)
 
   -- a unit that has a step already changes nothing
   pub failed_before : has_step steps unit ≡ true → HoldsSteps tree (order ++ unit ∷ []) steps
   failed_before has =
-      fixed-step tree kept (order ++ unit ∷ []) (step_in steps) (λ n is_node. elim (cases_eq n unit) [
+      fixed-step kept (order ++ unit ∷ []) (step_in steps) (λ n is_node. elim (cases_eq n unit) [
         | inl same ↦ elim (some_or_never (step_in steps n)) [
           | inl (number, is) ↦
-              is ∙ sym (keeps_right_from tree this_turn places_of_turn (step_in steps) (step_in steps) same_table n
+              is ∙ sym (keeps_right_from tree this_turn places_of_turn same_table n
               number (sym (settled n is_node) ∙ is))
           | inr none ↦ let e : has_step steps unit ≡ false =
               ap (has_step steps) (sym same) ∙ ap is_some none in absurd cc
         ]
-        | inr apart ↦ settled n is_node ∙ sym (rule_apart n apart)
+        | inr apart ↦ settled n is_node ∙ sym (rule_apart apart)
       ])
 
   pub first_fails : has_step steps unit ≡ false
@@ -317,17 +310,15 @@ module _ (tree : FaultTree) (kept : IsTree tree) (order : List ℕ) (unit : ℕ)
         placed = λ n is_node low placed. elim (cases_eq n unit) [
           | inl same ↦ ap is_some (ap (step_in (set steps unit (Some last))) same ∙ at)
           | inr apart ↦
-              ap is_some (step_in-set_other steps unit n (Some last) apart ∙ settled n is_node)
-              ∙ node_step-placed tree (step_in steps) n order low
-              (ap is_some (sym (place-other order unit n apart)) ∙ placed)
+              ap is_some (step_in-set_other steps (Some last) apart ∙ settled n is_node)
+              ∙ node_step-placed tree (step_in steps) n order low (ap is_some (sym (place-other order apart)) ∙ placed)
         ];
         right = λ n is_node. elim (cases_eq n unit) [
           | inl same ↦
               inl (subst (λ (m : ℕ). step_in (set steps unit (Some last)) m
               ≡ node_step tree (order ++ unit ∷ []) (step_in (set steps unit (Some last))) m) (sym same)
               (at
-              ∙ sym (gets_last tree this_turn places_of_turn (step_in steps) (step_in (set steps unit (Some last)))
-              grows unit (sym (settled unit unit_is_node) ∙ fresh)
+              ∙ sym (gets_last tree this_turn places_of_turn grows unit (sym (settled unit unit_is_node) ∙ fresh)
               (node_step-placed tree (step_in (set steps unit (Some last))) unit (order ++ unit ∷ []) is_low
               (place-itself order unit)))))
           | inr apart ↦ right_apart n is_node apart grows
@@ -343,12 +334,12 @@ module _ (tree : FaultTree) (kept : IsTree tree) (order : List ℕ) (unit : ℕ)
       right_apart n is_node apart grows =
           let last : ℕ = suc (length order) in
           let same : step_in (set steps unit (Some last)) n ≡ step_in steps n =
-          step_in-set_other steps unit n (Some last) apart in
+          step_in-set_other steps (Some last) apart in
           elim (cases_Bool (among (below tree n) unit)) [
             | inl reads_it ↦ elim (some_or_never (step_in steps n)) [
               | inl (number, is) ↦
-                  inl (same ∙ is ∙ sym (keeps_right_from tree this_turn places_of_turn (step_in steps)
-                  (step_in (set steps unit (Some last))) grows n number (sym (settled n is_node) ∙ is)))
+                  inl (same ∙ is ∙ sym (keeps_right_from tree this_turn places_of_turn grows n number
+                  (sym (settled n is_node) ∙ is)))
               | inr none ↦
                   inr (
                     same ∙ none,
@@ -357,18 +348,18 @@ module _ (tree : FaultTree) (kept : IsTree tree) (order : List ℕ) (unit : ℕ)
                   )
             ]
             | inr apart_from_it ↦
-                inl (same ∙ settled n is_node ∙ sym (rule_apart n apart)
+                inl (same ∙ settled n is_node ∙ sym (rule_apart apart)
                 ∙ sym (node_step-others tree (order ++ unit ∷ []) (step_in (set steps unit (Some last))) (step_in steps)
-                n unit (λ m other. step_in-set_other steps unit m (Some last) other) apart_from_it))
+                n unit (λ m other. step_in-set_other steps (Some last) other) apart_from_it))
           ]
 
 -- ---- the end
 
 -- nothing is left to be looked at: the table has the steps under the longer order
-pub spread_done : (tree : FaultTree) → IsTree tree → (turn : Turn) (steps : List Step) (log : List ℕ)
+pub spread_done : {tree : FaultTree} → IsTree tree → {turn : Turn} {steps : List Step} {log : List ℕ}
     → IsSpreading tree turn steps log [] (length log) → HoldsSteps tree turn.longer steps
-spread_done tree kept turn steps log spreading =
-    fixed-step tree kept turn.longer (step_in steps) (λ n is_node. elim (spreading.right n is_node) [
+spread_done {tree} kept {turn} {steps} {log} spreading =
+    fixed-step kept turn.longer (step_in steps) (λ n is_node. elim (spreading.right n is_node) [
       | inl fits ↦ fits
       | inr waits ↦ let none : reads_some tree (drop (length log) log) n ≡ false =
           ap (λ xs. reads_some tree xs n) (drop_all (length log) log (omega arith)) in absurd cc
@@ -376,10 +367,10 @@ spread_done tree kept turn steps log spreading =
 
 -- ---- what reads the next failed node is to be looked at
 
-pub enter : (tree : FaultTree) (rows : List (List ℕ)) → AreReaders tree rows
-    → (turn : Turn) (steps : List Step) (log : List ℕ) (next node : ℕ) → next < length log → node ≡ get_or log next node
+pub enter : {tree : FaultTree} {rows : List (List ℕ)} → AreReaders tree rows
+    → {turn : Turn} {steps : List Step} {log : List ℕ} {next node : ℕ} → next < length log → node ≡ get_or log next node
     → IsSpreading tree turn steps log [] next → IsSpreading tree turn steps log (readers_in rows node) (next + 1)
-enter tree rows readers turn steps log next node short is spreading =
+enter {tree} {rows} readers {log} {next} {node} short is spreading =
     let split : drop next log ≡ node ∷ drop (next + 1) log =
     drop_more log next node short ∙ ap (λ n. n ∷ drop (next + 1) log) (sym is) in
     record {
@@ -407,13 +398,13 @@ enter tree rows readers turn steps log next node short is spreading =
       ];
     }
 
-pub few_failed : (tree : FaultTree) (steps : List Step) (log : List ℕ) → AreFailed tree steps log
+pub few_failed : {tree : FaultTree} {steps : List Step} {log : List ℕ} → AreFailed tree steps log
     → length log ≤ node_count tree
-few_failed tree steps log kept = few_distinct (node_count tree) log kept.distinct kept.nodes
+few_failed {tree} {log} kept = few_distinct (node_count tree) log kept.distinct kept.nodes
 
-pub more_again : (tree : FaultTree) (before now after : Failures) → HaveMore tree before now → HaveMore tree now after
+pub more_again : {tree : FaultTree} {before now after : Failures} → HaveMore tree before now → HaveMore tree now after
     → HaveMore tree before after
-more_again tree before now after more again =
+more_again more again =
     record { can = again.can; longer = omega (arith, more.longer, again.longer) }
 
 -- ---- taking steps away again
@@ -433,27 +424,27 @@ without_more steps now nodes node reach before n =
           let none : (node == n || false) ≡ false = or_nothing (node == n) ∙ ne_eqb node n (λ e. apart (sym e)) in
           let same : among (nodes ++ node ∷ []) n ≡ among nodes n =
           among-append nodes (node ∷ []) n ∙ ap (λ b. among nodes n || b) none ∙ or_nothing (among nodes n) in
-          step_in-set_other now node n never apart ∙ before n
+          step_in-set_other now never apart ∙ before n
           ∙ ap (λ (b : Bool). if b then never else step_in steps n) (sym same)
     ]
 
 -- ---- the two ends of a push
 
-pub nothing_failed : (tree : FaultTree) → IsTree tree → (order : List ℕ) (unit : ℕ) (steps : List Step) (log : List ℕ)
+pub nothing_failed : {tree : FaultTree} → IsTree tree → (order : List ℕ) (unit : ℕ) {steps : List Step} {log : List ℕ}
     → AreFailed tree steps log → IsUnitOf tree unit → HoldsSteps tree order steps
     → has_step steps unit ≡ true → HaveFailed tree (order ++ unit ∷ []) steps steps log log
-nothing_failed tree kept order unit steps log failed is_unit holds has = record {
-  holds = failed_before tree kept order unit steps log failed is_unit holds has;
+nothing_failed kept order unit {steps} {log} failed is_unit holds has = record {
+  holds = failed_before kept order unit failed is_unit holds has;
   front = take_all (length log) log (omega arith);
   undone = λ n. ap (λ xs. step_without xs steps n) (drop_all (length log) log (omega arith));
 }
 
-pub all_failed : (tree : FaultTree) → IsTree tree
-    → (order : List ℕ) (unit : ℕ) (steps : List Step) (log : List ℕ) (steps' : List Step) (log' : List ℕ)
+pub all_failed : {tree : FaultTree} → IsTree tree
+    → (order : List ℕ) (unit : ℕ) {steps : List Step} {log : List ℕ} {steps' : List Step} {log' : List ℕ}
     → IsSpreading tree (turn_of order unit steps log) steps' log' [] (length log')
     → HaveFailed tree (order ++ unit ∷ []) steps steps' log log'
-all_failed tree kept order unit steps log steps' log' spreading = record {
-  holds = spread_done tree kept (turn_of order unit steps log) steps' log' spreading;
+all_failed kept order unit spreading = record {
+  holds = spread_done kept spreading;
   front = spreading.front;
   undone = spreading.undone;
 }

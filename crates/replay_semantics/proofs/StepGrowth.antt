@@ -4,8 +4,7 @@ use Rattle.std.specs.Prelude.{◌≡◌, ℕ, zero, suc, ◌+◌, ◌≤◌, Boo
 use Rattle.std.specs.Prelude.{None, if◌then◌else◌}
 use Rattle.std.proofs.Common.{arith}
 use Rattle.fault_definitions.specs.Tree.{FaultTree, kind_of, inputs_of, is_above_units}
-use Rattle.fault_definitions.specs.Trigger.{triggers_of}
-use Rattle.fault_definitions.specs.Rank.{within, by_rank}
+use Rattle.fault_definitions.specs.{Trigger.triggers_of, Rank.within, Rank.by_rank}
 use Rattle.fault_definitions.specs.Step.{Step, never, earlier, earliest, gate_step, place_from, place, node_step, step}
 use Rattle.replay_semantics.specs.Growth.{Grows, AllGrow}
 use Rattle.replay_semantics.proofs.GrowthLemmas.{grows-choice, grows-same, grows-at_most, earlier-grows}
@@ -45,24 +44,23 @@ place-stays order last long = record { each = place_from-stays 1 last order (ome
 
 -- ---- steps
 
-module _ (tree : FaultTree) (last : ℕ) (order order' : List ℕ)
+module _ (tree : FaultTree) {last : ℕ} (order order' : List ℕ)
     (places : AllGrow last (place order) (place order')) where
-  pub node_step-grows : (f g : ℕ → Step) → AllGrow last f g → (node : ℕ)
+  pub node_step-grows : {f g : ℕ → Step} → AllGrow last f g → (node : ℕ)
       → Grows last (node_step tree order f node) (node_step tree order' g node)
-  node_step-grows f g grow node =
+  node_step-grows {f} {g} grow node =
       grows-choice last (is_above_units tree node) (gate_step (kind_of tree node) f (inputs_of tree node))
       (earlier (place order node) (earliest f (triggers_of tree node)))
       (gate_step (kind_of tree node) g (inputs_of tree node))
       (earlier (place order' node) (earliest g (triggers_of tree node)))
-      (gate_step-grows last f g grow (kind_of tree node) (inputs_of tree node))
+      (gate_step-grows grow (kind_of tree node) (inputs_of tree node))
       (earlier-grows last (place order node) (place order' node) (earliest f (triggers_of tree node))
-      (earliest g (triggers_of tree node)) (places.each node)
-      (earliest-grows last f g grow (triggers_of tree node)))
+      (earliest g (triggers_of tree node)) (places.each node) (earliest-grows grow (triggers_of tree node)))
 
   within-grows : (depth : ℕ) → AllGrow last (within never (node_step tree order) depth)
       (within never (node_step tree order') depth)
   within-grows zero = record { each = λ node. tt }
-  within-grows (suc depth) = record { each = node_step-grows _ _ (within-grows depth) }
+  within-grows (suc depth) = record { each = node_step-grows (within-grows depth) }
 
   steps_grow : AllGrow last (step tree order) (step tree order')
   unfolding step by_rank
@@ -71,11 +69,11 @@ module _ (tree : FaultTree) (last : ℕ) (order order' : List ℕ)
 -- One unit more at the end of an order: each step stays, or the node fails now.
 pub step-grows : (tree : FaultTree) (order : List ℕ) (unit : ℕ)
     → AllGrow (suc (length order)) (step tree order) (step tree (order ++ unit ∷ []))
-step-grows tree order unit = steps_grow tree (suc (length order)) order (order ++ unit ∷ []) (place-grows order unit)
+step-grows tree order unit = steps_grow tree order (order ++ unit ∷ []) (place-grows order unit)
 
 -- no step is beyond the order's last place
 pub step-at_most : (tree : FaultTree) (order : List ℕ) (node number : ℕ) → step tree order node ≡ Some number
     → number ≤ length order
 step-at_most tree order node number is =
     grows-at_most (length order) number (step tree order node) (step tree order node)
-    ((steps_grow tree (length order) order order (place-stays order (length order) (omega arith))).each node) is
+    ((steps_grow tree order order (place-stays order (length order) (omega arith))).each node) is

@@ -5,8 +5,7 @@ use Rattle.fault_words.specs.declared.kind.GateKind.{GateKind}
 use Rattle.fault_words.specs.declared.kind.GateKind.TheVariants.{Seq, Csp}
 use Rattle.fault_definitions.specs.Tree.{FaultTree, kind_of, inputs_of, is_above_units}
 use Rattle.fault_definitions.specs.Step.{Step, never_falls}
-use Rattle.replay_semantics.specs.Readers.{readers_in}
-use Rattle.replay_semantics.specs.Table.{step_in}
+use Rattle.replay_semantics.specs.{Readers.readers_in, Table.step_in}
 
 -- wherever the unit stands, all inputs left of it have failed, and so has what came before the inputs
 abbrev pub is_awaited : (ℕ → Step) → ℕ → Bool → List ℕ → Bool

@@ -1,8 +1,7 @@
 -- Whether a node fails, by the steps of what it reads.
 use Rattle.std.specs.Prelude.{ℕ, ◌≤◌, Bool, true, ◌&&◌, List, [], ◌∷◌}
 use Rattle.std.specs.Prelude.{is_some, if◌then◌else◌}
-use Rattle.fault_words.specs.declared.kind.GateKind.{GateKind}
-use Rattle.fault_words.specs.declared.kind.GateKind.TheVariants.{Votes}
+use Rattle.fault_words.specs.{declared.kind.GateKind.GateKind, declared.kind.GateKind.TheVariants.Votes}
 use Rattle.fault_definitions.specs.Tree.{FaultTree, kind_of, inputs_of, is_above_units}
 use Rattle.fault_definitions.specs.Trigger.{triggers_of}
 use Rattle.fault_definitions.specs.Step.{Step, no_later, earliest}

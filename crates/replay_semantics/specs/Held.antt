@@ -1,13 +1,10 @@
 -- What a replay keeps: the steps under its order, and how to go back to each of the order's beginnings.
 use Rattle.std.specs.Prelude.{◌≡◌, ℕ, suc, ◌≤◌, Bool, ◌==◌, ◌&&◌, if◌then◌else◌, List, length, take, drop, All, nat_le}
 use Rattle.std.specs.Prelude.{slice_index_or}
-use Rattle.fault_definitions.specs.FailingOrder.{is_admissible}
+use Rattle.fault_definitions.specs.{FailingOrder.is_admissible, WellFormed.IsTree, Step.Step, Step.step}
 use Rattle.fault_model.specs.Order.{AreDistinct}
 use Rattle.fault_definitions.specs.Tree.{FaultTree, IsNodeOf, IsUnitOf}
-use Rattle.fault_definitions.specs.WellFormed.{IsTree}
-use Rattle.fault_definitions.specs.Step.{Step, step}
-use Rattle.replay_semantics.specs.Readers.{AreReaders}
-use Rattle.replay_semantics.specs.Spread.{AreFailed, step_without}
+use Rattle.replay_semantics.specs.{Readers.AreReaders, Spread.AreFailed, Spread.step_without}
 
 -- where the nodes begin that failed at the unit of a place, and after the last one where all end
 abbrev pub start_of : List ℕ → List ℕ → ℕ → ℕ

@@ -7,8 +7,7 @@ use Rattle.fault_model.specs.Order.{AreDistinct}
 use Rattle.fault_definitions.specs.Tree.{FaultTree, IsNodeOf, is_above_units, node_count}
 use Rattle.fault_definitions.specs.Trigger.{below}
 use Rattle.fault_definitions.specs.Step.{Step, never, place, node_step}
-use Rattle.replay_semantics.specs.declared.failures.Failures.{Failures}
-use Rattle.replay_semantics.specs.Growth.{AllGrow}
+use Rattle.replay_semantics.specs.{declared.failures.Failures.Failures, Growth.AllGrow}
 use Rattle.replay_semantics.specs.Table.{step_in, has_step, IsTableFor, HoldsSteps}
 
 -- the nodes that have failed, one after another: each is a node with a step, and stands once. The number 0 has no step.

@@ -2,12 +2,10 @@
 use Rattle.std.proofs.Common.{◌≡◌, ◌≢◌, ℕ, suc, ◌+◌, ◌-◌, ◌*◌, ◌/◌, ◌<◌, ◌≤◌, min, true, false, List, []}
 use Rattle.std.proofs.Common.{◌∷◌, ◌++◌, length, take, set, get_or, All, refl, sym, ◌∙◌, ap, subst, arith, inl, inr}
 use Rattle.std.proofs.Common.{Bool, ◌==◌, length-set, get_or-set_same, get_or-set_other}
-use Rattle.std.specs.Ordering.{nat_cmp}
-use Rattle.std.specs.declared.cmp.Ordering.TheVariants.{Less}
+use Rattle.std.specs.{Ordering.nat_cmp, declared.cmp.Ordering.TheVariants.Less}
 use Rattle.std.proofs.lemmas.Bool.{cases_eq, cases_lt, cases_Bool}
-use Rattle.std.proofs.lemmas.Bool.Decides.{nat_tests}
+use Rattle.std.proofs.{lemmas.Bool.Decides.nat_tests, lemmas.Map.Keys.Less-from_sorted}
 use Rattle.std.proofs.lemmas.List.{get_or_append_left, get_or_default, get_or_push, length_push}
-use Rattle.std.proofs.lemmas.Map.Keys.{Less-from_sorted}
 use Rattle.unit_sets.specs.UnitList.{among, IsRising}
 use Rattle.unit_sets.proofs.UnitListLemmas.{Contains-from_among}
 use Rattle.residual_ledger.specs.Kept.{block_size, blocks_for, HasLeast, IsLowest, HasLowest}
@@ -16,24 +14,24 @@ use Rattle.residual_ledger.specs.Kept.{IsFirstAtMost}
 use Rattle.residual_ledger.proofs.RowLemmas.{one_more-lower_at, one_more-later}
 
 -- the least numbers alone
-pub HasLeast-lowest : (counts least lowest : List ℕ) → HasLowest counts least lowest → HasLeast counts least
-HasLeast-lowest counts least lowest has = record {
+pub HasLeast-lowest : {counts least lowest : List ℕ} → HasLowest counts least lowest → HasLeast counts least
+HasLeast-lowest {counts} {least} {lowest} has = record {
   all = has.all;
   each = λ block inside.
       let own : IsLowest counts block (get_or least block 0) (get_or lowest block 0) = has.each block inside in
       record { stands = (get_or lowest block 0, own.inside, own.at, own.has); below = own.below };
 }
 
-pub block_below : (counts least lowest : List ℕ) (place : ℕ) → HasLowest counts least lowest → place < length counts
+pub block_below : {counts least lowest : List ℕ} (place : ℕ) → HasLowest counts least lowest → place < length counts
     → place / block_size < length least
-block_below counts least lowest place has short = omega (arith, has.all)
+block_below place has short = omega (arith, has.all)
 
 -- ---- a count falls by one
 
 -- the block of the count, where it falls below the least
-own_lower : (counts : List ℕ) (place left least low : ℕ) → place < length counts → left < least
+own_lower : {counts : List ℕ} (place left : ℕ) {least low : ℕ} → place < length counts → left < least
     → IsLowest counts (place / block_size) least low → IsLowest (set counts place left) (place / block_size) left place
-own_lower counts place left least low short less old = record {
+own_lower {counts} place left short less old = record {
   inside = omega (arith, length-set counts place left);
   at = refl;
   has = get_or-set_same counts place left 0 short;
@@ -49,10 +47,10 @@ own_lower counts place left least low short less old = record {
 }
 
 -- the block of the count, where it does not
-own_same : (counts : List ℕ) (place left least low : ℕ) → place < length counts → get_or counts place 0 ≡ suc left
+own_same : {counts : List ℕ} (place left : ℕ) {least low : ℕ} → place < length counts → get_or counts place 0 ≡ suc left
     → least ≤ left → IsLowest counts (place / block_size) least low
     → IsLowest (set counts place left) (place / block_size) least low
-own_same counts place left least low short is most old =
+own_same {counts} place left {low} short is most old =
     let apart : low ≢ place = λ e. absurd (omega (arith, is, old.has, ap (λ k. get_or counts k 0) e)) in
     record {
       inside = omega (arith, length-set counts place left, old.inside);
@@ -70,9 +68,9 @@ own_same counts place left least low short is most old =
     }
 
 -- another block
-other_block : (counts : List ℕ) (place value block least low : ℕ) → block ≢ place / block_size
+other_block : {counts : List ℕ} (place value : ℕ) {block least low : ℕ} → block ≢ place / block_size
     → IsLowest counts block least low → IsLowest (set counts place value) block least low
-other_block counts place value block least low apart old =
+other_block {counts} place value {block} {low} apart old =
     let far : (k : ℕ) → k / block_size ≡ block → k ≢ place =
     λ k at e. apart (sym at ∙ ap (λ q. q / block_size) e) in
     record {
@@ -84,12 +82,12 @@ other_block counts place value block least low apart old =
           omega (arith, get_or-set_other counts place k value 0 (far k at), old.below k shorter at);
     }
 
-pub lowered-low : (counts least lowest : List ℕ) (place left : ℕ) → HasLowest counts least lowest
+pub lowered-low : {counts least lowest : List ℕ} (place left : ℕ) → HasLowest counts least lowest
     → place < length counts → left < get_or least (place / block_size) 0
     → HasLowest (set counts place left) (set least (place / block_size) left) (set lowest (place / block_size) place)
-lowered-low counts least lowest place left has short less =
+lowered-low {counts} {least} {lowest} place left has short less =
     let own : ℕ = place / block_size in
-    let there : own < length least = block_below counts least lowest place has short in
+    let there : own < length least = block_below place has short in
     let there' : own < length lowest = omega (arith, has.long) in
     let counts' : List ℕ = set counts place left in
     record {
@@ -102,22 +100,21 @@ lowered-low counts least lowest place left has short less =
             (subst (λ (n : ℕ). IsLowest counts' own n (get_or (set lowest own place) own 0))
             (sym (get_or-set_same least own left 0 there))
             (subst (λ (n : ℕ). IsLowest counts' own left n) (sym (get_or-set_same lowest own place 0 there'))
-            (own_lower counts place left (get_or least own 0) (get_or lowest own 0) short less (has.each own there))))
+            (own_lower place left short less (has.each own there))))
         | inr apart ↦
             let inside' : block < length least = omega (arith, length-set least own left) in
             subst (λ (n : ℕ). IsLowest counts' block n (get_or (set lowest own place) block 0))
             (sym (get_or-set_other least own block left 0 apart))
             (subst (λ (n : ℕ). IsLowest counts' block (get_or least block 0) n)
-            (sym (get_or-set_other lowest own block place 0 apart))
-            (other_block counts place left block (get_or least block 0) (get_or lowest block 0) apart
+            (sym (get_or-set_other lowest own block place 0 apart)) (other_block place left apart
             (has.each block inside')))
       ];
     }
 
-pub lowered-high : (counts least lowest : List ℕ) (place left : ℕ) → HasLowest counts least lowest
+pub lowered-high : {counts least lowest : List ℕ} (place left : ℕ) → HasLowest counts least lowest
     → place < length counts → get_or counts place 0 ≡ suc left → get_or least (place / block_size) 0 ≤ left
     → HasLowest (set counts place left) least lowest
-lowered-high counts least lowest place left has short is most =
+lowered-high {counts} {least} {lowest} place left has short is most =
     let own : ℕ = place / block_size in
     let counts' : List ℕ = set counts place left in
     record {
@@ -127,10 +124,9 @@ lowered-high counts least lowest place left has short is most =
         | inl same ↦
             let there : own < length least = omega arith in
             subst (λ (b : ℕ). IsLowest counts' b (get_or least b 0) (get_or lowest b 0)) (sym same)
-            (own_same counts place left (get_or least own 0) (get_or lowest own 0) short is most (has.each own there))
+            (own_same place left short is most (has.each own there))
         | inr apart ↦
-            other_block counts place left block (get_or least block 0) (get_or lowest block 0) apart
-            (has.each block inside)
+            other_block place left apart (has.each block inside)
       ];
     }
 
@@ -149,82 +145,80 @@ pub record IsFalling (row counts : List ℕ) (i place left : ℕ) : Type 0 where
   pub there : place < length counts
   pub is : get_or counts place 0 ≡ suc left
 
-pub lowering-low : (row old counts least lowest : List ℕ) (i place left : ℕ) → IsFalling row counts i place left
+pub lowering-low : {row old counts least lowest : List ℕ} {i place left : ℕ} → IsFalling row counts i place left
     → left < get_or least (place / block_size) 0 → IsLowering row old counts least lowest i
     → IsLowering row old (set counts place left) (set least (place / block_size) left)
     (set lowest (place / block_size) place) (i + 1)
-lowering-low row old counts least lowest i place left falls less was = record {
-  fallen =
-      one_more-lower_at row counts old i place left falls.rising falls.short falls.at was.fallen falls.there falls.is;
-  blocks = lowered-low counts least lowest place left was.blocks falls.there less;
+lowering-low {row} {i} {place} {left} falls less was = record {
+  fallen = one_more-lower_at row i left falls.rising falls.short falls.at was.fallen falls.there falls.is;
+  blocks = lowered-low place left was.blocks falls.there less;
 }
 
-pub lowering-high : (row old counts least lowest : List ℕ) (i place left : ℕ) → IsFalling row counts i place left
+pub lowering-high : {row old counts least lowest : List ℕ} {i place left : ℕ} → IsFalling row counts i place left
     → get_or least (place / block_size) 0 ≤ left → IsLowering row old counts least lowest i
     → IsLowering row old (set counts place left) least lowest (i + 1)
-lowering-high row old counts least lowest i place left falls most was = record {
-  fallen =
-      one_more-lower_at row counts old i place left falls.rising falls.short falls.at was.fallen falls.there falls.is;
-  blocks = lowered-high counts least lowest place left was.blocks falls.there falls.is most;
+lowering-high {row} {i} {place} {left} falls most was = record {
+  fallen = one_more-lower_at row i left falls.rising falls.short falls.at was.fallen falls.there falls.is;
+  blocks = lowered-high place left was.blocks falls.there falls.is most;
 }
 
 -- a set of the row has still what it had
-pub lowering-positive : (row old counts least lowest : List ℕ) (i place : ℕ) → IsRising row → i < length row
+pub lowering-positive : {row old counts least lowest : List ℕ} {i : ℕ} (place : ℕ) → IsRising row → i < length row
     → place ≡ get_or row i 0 → All (λ p. 0 < get_or old p 0) row → IsLowering row old counts least lowest i
     → 0 < get_or counts place 0
-lowering-positive row old counts least lowest i place rising short at all was =
+lowering-positive {row} {counts} {i} place rising short at all was =
     subst (λ (p : ℕ). 0 < get_or counts p 0) (sym at)
-    (subst (λ (n : ℕ). 0 < n) (one_more-later row counts old i rising short was.fallen) (all i 0 short))
+    (subst (λ (n : ℕ). 0 < n) (one_more-later row i rising short was.fallen) (all i 0 short))
 
 -- ---- along a row, counts rise
 
 -- a count has risen by one at most
-risen_one : (row low high : List ℕ) (k : ℕ) → IsOneMore row low high
+risen_one : {row low high : List ℕ} (k : ℕ) → IsOneMore row low high
     → (get_or low k 0 ≤ get_or high k 0) × (get_or high k 0 ≤ suc (get_or low k 0))
-risen_one row low high k more = elim (cases_Bool (among row k)) [
+risen_one {row} k more = elim (cases_Bool (among row k)) [
   | inl has ↦ (omega (arith, more.more k has), omega (arith, more.more k has))
   | inr none ↦ (omega (arith, more.same k none), omega (arith, more.same k none))
 ]
 
-near_risen : (row low high : List ℕ) (block least place : ℕ) → IsOneMore row low high
+near_risen : {row low high : List ℕ} {block least place : ℕ} → IsOneMore row low high
     → IsLowest low block least place → IsNearLowest high block least place
-near_risen row low high block least place more old = record {
+near_risen {low} {place} more old = record {
   inside = omega (arith, more.long, old.inside);
   at = old.at;
-  near = omega (arith, (risen_one row low high place more).1, old.has);
+  near = omega (arith, (risen_one place more).1, old.has);
   below = λ k inside at.
       let shorter : k < length low = omega (arith, more.long) in
-      omega (arith, (risen_one row low high k more).0, old.below k shorter at);
+      omega (arith, (risen_one k more).0, old.below k shorter at);
 }
 
-not_among : (row : List ℕ) (block k : ℕ) → k / block_size ≡ block
+not_among : (row : List ℕ) {block : ℕ} (k : ℕ) → k / block_size ≡ block
     → ((place : ℕ) → among row place ≡ true → place / block_size ≡ block → ⊥) → among row k ≡ false
-not_among row block k at none = elim (cases_Bool (among row k)) [
+not_among row k at none = elim (cases_Bool (among row k)) [
   | inl has ↦ absurd (none k has at)
   | inr none' ↦ none'
 ]
 
-exact_risen : (row low high : List ℕ) (block least place : ℕ) → IsOneMore row low high
+exact_risen : {row low high : List ℕ} {block least place : ℕ} → IsOneMore row low high
     → ((k : ℕ) → among row k ≡ true → k / block_size ≡ block → ⊥) → IsLowest low block least place
     → IsLowest high block least place
-exact_risen row low high block least place more none old = record {
+exact_risen {row} {low} {place} more none old = record {
   inside = omega (arith, more.long, old.inside);
   at = old.at;
-  has = more.same place (not_among row block place old.at none) ∙ old.has;
+  has = more.same place (not_among row place old.at none) ∙ old.has;
   below = λ k inside at.
       let shorter : k < length low = omega (arith, more.long) in
-      omega (arith, more.same k (not_among row block k at none), old.below k shorter at);
+      omega (arith, more.same k (not_among row k at none), old.below k shorter at);
 }
 
-pub risen : (row low high least lowest : List ℕ) → IsOneMore row low high → HasLowest low least lowest
+pub risen : {row low high least lowest : List ℕ} → IsOneMore row low high → HasLowest low least lowest
     → HasLowestApart row high least lowest
-risen row low high least lowest more has = record {
+risen more has = record {
   all = has.all ∙ ap blocks_for more.long;
   long = has.long;
   near = λ block inside.
-      near_risen row low high block (get_or least block 0) (get_or lowest block 0) more (has.each block inside);
+      near_risen more (has.each block inside);
   exact = λ block inside none.
-      exact_risen row low high block (get_or least block 0) (get_or lowest block 0) more none (has.each block inside);
+      exact_risen more none (has.each block inside);
 }
 
 -- ---- which blocks a row has
@@ -255,10 +249,10 @@ between_ends row place rising has =
       omega (arith, at, in_order row k (length row - 1) rising (omega arith) (omega arith)),
     )
 
-pub outside_ends : (row counts least lowest : List ℕ) (from end : ℕ) → IsRising row
+pub outside_ends : {row counts least lowest : List ℕ} {from end : ℕ} → IsRising row
     → from ≡ get_or row 0 0 / block_size → end ≡ get_or row (length row - 1) 0 / block_size + 1
     → HasLowestApart row counts least lowest → HasLowestOutside from end counts least lowest
-outside_ends row counts least lowest from end rising first last has = record {
+outside_ends {row} rising first last has = record {
   all = has.all;
   long = has.long;
   near = has.near;
@@ -267,33 +261,33 @@ outside_ends row counts least lowest from end rising first last has = record {
       out (omega (arith, ends.0, first, at)) (omega (arith, ends.1, last, at)));
 }
 
-pub not_empty : (row : List ℕ) (none : Bool) → none ≡ (length row == 0) → none ≡ false → 0 < length row
-not_empty row none is some = grind (arith, nat_tests)
+pub not_empty : (row : List ℕ) {none : Bool} → none ≡ (length row == 0) → none ≡ false → 0 < length row
+not_empty row is some = grind (arith, nat_tests)
 
 -- ---- blocks are looked through anew
 
-near_lowest : (counts : List ℕ) (block least place : ℕ) → IsLowest counts block least place
+near_lowest : {counts : List ℕ} {block least place : ℕ} → IsLowest counts block least place
     → IsNearLowest counts block least place
-near_lowest counts block least place is = record {
+near_lowest is = record {
   inside = is.inside;
   at = is.at;
   near = omega (arith, is.has);
   below = is.below;
 }
 
-not_risen : (counts : List ℕ) (block least place : ℕ) → get_or counts place 0 ≤ least
+not_risen : {counts : List ℕ} {block least place : ℕ} → get_or counts place 0 ≤ least
     → IsNearLowest counts block least place → IsLowest counts block least place
-not_risen counts block least place low near = record {
+not_risen {place} low near = record {
   inside = near.inside;
   at = near.at;
   has = omega (arith, low, near.below place near.inside near.at);
   below = near.below;
 }
 
-pub refreshed-same : (end : ℕ) (counts least lowest : List ℕ) (block : ℕ)
+pub refreshed-same : {end : ℕ} {counts least lowest : List ℕ} {block : ℕ}
     → get_or counts (get_or lowest block 0) 0 ≤ get_or least block 0
     → HasLowestOutside block end counts least lowest → HasLowestOutside (block + 1) end counts least lowest
-refreshed-same end counts least lowest block low was = record {
+refreshed-same {counts} {least} {lowest} {block} low was = record {
   all = was.all;
   long = was.long;
   near = was.near;
@@ -301,15 +295,15 @@ refreshed-same end counts least lowest block low was = record {
     | inl same ↦
         let low' : get_or counts (get_or lowest b 0) 0 ≤ get_or least b 0 =
         subst (λ (n : ℕ). get_or counts (get_or lowest n 0) 0 ≤ get_or least n 0) (sym same) low in
-        not_risen counts b (get_or least b 0) (get_or lowest b 0) low' (was.near b inside)
+        not_risen low' (was.near b inside)
     | inr apart ↦ was.exact b inside (λ above below. out (omega arith) below)
   ];
 }
 
-pub refreshed-new : (end : ℕ) (counts least lowest : List ℕ) (block value place : ℕ) → block < length least
+pub refreshed-new : {end : ℕ} {counts least lowest : List ℕ} {block value place : ℕ} → block < length least
     → IsLowest counts block value place → HasLowestOutside block end counts least lowest
     → HasLowestOutside (block + 1) end counts (set least block value) (set lowest block place)
-refreshed-new end counts least lowest block value place there is was =
+refreshed-new {counts} {least} {lowest} {block} {value} {place} there is was =
     let there' : block < length lowest = omega (arith, was.long) in
     let least' : List ℕ = set least block value in
     let lowest' : List ℕ = set lowest block place in
@@ -324,7 +318,7 @@ refreshed-new end counts least lowest block value place there is was =
       near = λ b inside. elim (cases_eq b block) [
         | inl same ↦
             subst (λ (n : ℕ). IsNearLowest counts n (get_or least' n 0) (get_or lowest' n 0)) (sym same)
-            (near_lowest counts block (get_or least' block 0) (get_or lowest' block 0) own)
+            (near_lowest own)
         | inr apart ↦
             let inside' : b < length least = omega arith in
             subst (λ (n : ℕ). IsNearLowest counts b n (get_or lowest' b 0))
@@ -359,10 +353,10 @@ pub record HasFirstLowest (counts least lowest : List ℕ) (block : ℕ) : Type 
   pub long_lowest : length lowest ≡ block
   pub each : (b : ℕ) → b < block → IsLowest counts b (get_or least b 0) (get_or lowest b 0)
 
-pub first_lowest-more : (counts least lowest : List ℕ) (block value place : ℕ) → IsLowest counts block value place
+pub first_lowest-more : {counts least lowest : List ℕ} {block value place : ℕ} → IsLowest counts block value place
     → HasFirstLowest counts least lowest block
     → HasFirstLowest counts (least ++ value ∷ []) (lowest ++ place ∷ []) (block + 1)
-first_lowest-more counts least lowest block value place is was =
+first_lowest-more {counts} {least} {lowest} {block} {value} {place} is was =
     let P : ℕ → Type 0 =
     λ b. IsLowest counts b (get_or (least ++ value ∷ []) b 0) (get_or (lowest ++ place ∷ []) b 0) in
     record {
@@ -384,18 +378,18 @@ first_lowest-more counts least lowest block value place is was =
 
 -- ---- a search passes over blocks
 
-pub over_blocks : (counts least lowest : List ℕ) (most block place : ℕ) → HasLowest counts least lowest
+pub over_blocks : {counts least lowest : List ℕ} {most block place : ℕ} → HasLowest counts least lowest
     → IsFirstAtMost least most block
     → IsFirstBetween counts (min (length counts) (block * block_size)) (length counts) most place
     → IsFirstAtMost counts most place
-over_blocks counts least lowest most block place has blocks found = record {
+over_blocks {counts} {least} {block} has blocks found = record {
   low = omega arith;
   inside = found.inside;
   before = λ k above short. elim (cases_lt k (min (length counts) (block * block_size))) [
     | inl passed ↦
         let earlier : k / block_size < block = omega arith in
         let inside : k < length counts = omega arith in
-        let there : k / block_size < length least = block_below counts least lowest k has inside in
+        let there : k / block_size < length least = block_below k has inside in
         let low : get_or least (k / block_size) 0 ≤ get_or counts k 0 =
         (has.each (k / block_size) there).below k inside refl in
         omega (arith, low, blocks.before (k / block_size) (omega arith) earlier)

@@ -1,11 +1,9 @@
 -- The cut set at a place, and the residuals of the first cut sets.
 use Rattle.std.proofs.Common.{◌≡◌, ℕ, zero, suc, ◌+◌, ◌<◌, ◌≤◌, ◌^◌, List, [], ◌∷◌, ◌++◌, length, take, get_or}
 use Rattle.std.proofs.Common.{slice_get, Some, ◌∙◌, ap, arith}
-use Rattle.std.proofs.lemmas.List.{map_more}
-use Rattle.std.proofs.lemmas.List.Sums.{get_or-le-sum_by}
+use Rattle.std.proofs.{lemmas.List.map_more, lemmas.List.Sums.get_or-le-sum_by}
 use Rattle.unit_sets.specs.CutOrder.{IsOrderedCuts, weight}
-use Rattle.residual_ledger.specs.Residual.{residual, cut_at}
-use Rattle.residual_ledger.specs.Kept.{residuals}
+use Rattle.residual_ledger.specs.{Residual.residual, Residual.cut_at, Kept.residuals}
 use Rattle.residual_ledger.proofs.ResidualLemmas.{residual-nobody}
 
 pub cut_at-is : (cuts : List (List ℕ)) (place : ℕ) (cut : List ℕ) → slice_get cuts place ≡ Some cut

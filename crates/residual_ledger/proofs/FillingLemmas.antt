@@ -7,18 +7,15 @@ use Rattle.std.proofs.lemmas.Bool.{cases_eq, cases_order, cond-true, cond-false}
 use Rattle.std.proofs.lemmas.List.{take_more, take_all, get_or_append_left, get_or_push, get_or-take, get_or-drop}
 use Rattle.std.proofs.lemmas.List.{get_or-replicate, length-replicate, ext_get_or, get_or_default, get_or_read}
 use Rattle.std.proofs.lemmas.List.{length-take-le}
-use Rattle.unit_sets.specs.CutOrder.{IsCutSet, weight_limit}
-use Rattle.unit_sets.specs.Unit.{most_units}
-use Rattle.unit_sets.specs.UnitList.{among, IsRising}
-use Rattle.residual_ledger.specs.Residual.{cut_at, HasUnitsUpTo}
+use Rattle.unit_sets.specs.{CutOrder.IsCutSet, CutOrder.weight_limit, Unit.most_units, UnitList.among}
+use Rattle.unit_sets.specs.{UnitList.IsRising}
+use Rattle.residual_ledger.specs.{Residual.cut_at, Residual.HasUnitsUpTo, Kept.IsOneMore}
 use Rattle.residual_ledger.specs.Holding.{holding_below, holding, holders, start_of, between, IsFilling, HoldsFirst}
 use Rattle.residual_ledger.specs.Holding.{HasSizes, HasStarts, HasRows}
-use Rattle.residual_ledger.specs.Kept.{IsOneMore}
 use Rattle.residual_ledger.proofs.RowLemmas.{fresh_at, push-other, push-itself, among-at}
-use Rattle.residual_ledger.proofs.CutLemmas.{cut_at-is}
+use Rattle.residual_ledger.proofs.{CutLemmas.cut_at-is, HoldingLemmas.holds}
 use Rattle.residual_ledger.proofs.Passing.{passing-more, passing-none, length-passing-more, length-passing-le}
 use Rattle.residual_ledger.proofs.Passing.{length-passing-one}
-use Rattle.residual_ledger.proofs.HoldingLemmas.{holds}
 
 -- ---- where rows begin
 
@@ -67,16 +64,16 @@ pub record IsBeginning (old ends : List ℕ) (start number : ℕ) : Type 0 where
   pub started : (k : ℕ) → k < number → get_or ends k 0 ≡ start_of (λ n. get_or old n 0) k
   pub rest : (k : ℕ) → number ≤ k → get_or ends k 0 ≡ get_or old k 0
 
-pub beginning-first : (old : List ℕ) → IsBeginning old old 0 0
-beginning-first old = record {
+pub beginning-first : {old : List ℕ} → IsBeginning old old 0 0
+beginning-first {old} = record {
   so_far = sym (start_of-zero (λ k. get_or old k 0));
   started = λ k h. absurd (omega arith);
   rest = λ k h. refl;
 }
 
-pub beginning-more : (old ends : List ℕ) (start number : ℕ) → number < length ends → IsBeginning old ends start number
+pub beginning-more : {old ends : List ℕ} {start number : ℕ} → number < length ends → IsBeginning old ends start number
     → IsBeginning old (set ends number start) (start + get_or ends number 0) (number + 1)
-beginning-more old ends start number short was =
+beginning-more {old} {ends} {start} {number} short was =
     let next : start_of (λ k. get_or old k 0) (number + 1)
     ≡ start_of (λ k. get_or old k 0) number + get_or old number 0 =
     ap (start_of (λ k. get_or old k 0)) (add-one number) ∙ start_of-suc (λ k. get_or old k 0) number in
@@ -90,25 +87,25 @@ beginning-more old ends start number short was =
       rest = λ k h. get_or-set_other ends number k start 0 (λ e. absurd (omega arith)) ∙ was.rest k (omega arith);
     }
 
-pub beginning-room : (old ends : List ℕ) (start number : ℕ) → number < length old → length old ≤ most_units + 1
+pub beginning-room : {old ends : List ℕ} {start number : ℕ} → number < length old → length old ≤ most_units + 1
     → All (λ size. size ≤ weight_limit) old → IsBeginning old ends start number
     → start + get_or ends number 0 ≤ (most_units + 1) * weight_limit
-beginning-room old ends start number short few small was =
+beginning-room {old} {number} short few small was =
     let low : start_of (λ k. get_or old k 0) number ≤ number * weight_limit =
     start_of-le (λ k. get_or old k 0) weight_limit number (λ k h. small k 0 (omega arith)) in
     omega (arith, was.so_far, was.rest number (omega arith), small number 0 short)
 
 -- ---- one number more in a row
 
-pub slot_below : (size : ℕ → ℕ) (held : ℕ → List ℕ) (ends rows : List ℕ) (number : ℕ) → IsFilling size held ends rows
+pub slot_below : {size : ℕ → ℕ} {held : ℕ → List ℕ} {ends rows : List ℕ} (number : ℕ) → IsFilling size held ends rows
     → number < length ends → length (held number) < size number → get_or ends number 0 < length rows
-slot_below size held ends rows number was short room =
+slot_below {size} {ends} number was short room =
     omega (arith, was.room, was.placed number short, start_of-next size number (length ends) short)
 
 -- the slot of one row is not in the filled part of another
-slot_apart : (size : ℕ → ℕ) (number other k used : ℕ) → other ≢ number → used < size number → k < size other
+slot_apart : (size : ℕ → ℕ) {number other : ℕ} (k used : ℕ) → other ≢ number → used < size number → k < size other
     → start_of size other + k ≢ start_of size number + used
-slot_apart size number other k used apart room short = elim (cases_order other number) [
+slot_apart size {number} {other} k used apart room short = elim (cases_order other number) [
   | inl same ↦ absurd (apart same)
   | inr order ↦ elim order [
     | inl below ↦ λ e. absurd (omega (arith, e, start_of-next size other number below))
@@ -116,15 +113,15 @@ slot_apart size number other k used apart room short = elim (cases_order other n
   ]
 ]
 
-pub filled : (size : ℕ → ℕ) (held held' : ℕ → List ℕ) (ends rows : List ℕ) (number place : ℕ)
+pub filled : {size : ℕ → ℕ} {held held' : ℕ → List ℕ} {ends rows : List ℕ} (number place : ℕ)
     → IsFilling size held ends rows → number < length ends → length (held number) < size number
     → held' number ≡ held number ++ place ∷ [] → ((other : ℕ) → other ≢ number → held' other ≡ held other)
     → IsFilling size held' (set ends number (get_or ends number 0 + 1)) (set rows (get_or ends number 0) place)
-filled size held held' ends rows number place was short room new old =
+filled {size} {held} {held'} {ends} {rows} number place was short room new old =
     let slot : ℕ = get_or ends number 0 in
     let longer : length (held' number) ≡ length (held number) + 1 =
     ap length new ∙ length-append (held number) (place ∷ []) in
-    let inside : slot < length rows = slot_below size held ends rows number was short room in
+    let inside : slot < length rows = slot_below number was short room in
     let at : slot ≡ start_of size number + length (held number) = was.placed number short in
     let below : (k : ℕ) → k < length (set ends number (slot + 1)) → k < length ends =
     λ k h. omega (arith, h, length-set ends number (slot + 1)) in
@@ -172,15 +169,15 @@ filled size held held' ends rows number place was short room new old =
             let before : k < length (held other) = omega (arith, within, ap length (old other apart)) in
             let low : k < size other = omega (arith, was.fits other (below other h)) in
             let far : start_of size other + k ≢ slot =
-            λ e. slot_apart size number other k (length (held number)) apart room low (e ∙ at) in
+            λ e. slot_apart size k (length (held number)) apart room low (e ∙ at) in
             get_or-set_other rows slot (start_of size other + k) place 0 far ∙ was.has other k (below other h) before
             ∙ ap (λ xs. get_or xs k 0) (sym (old other apart))
       ];
     }
 
-pub filling-along : (size : ℕ → ℕ) (held held' : ℕ → List ℕ) (ends rows : List ℕ)
+pub filling-along : {size : ℕ → ℕ} {held held' : ℕ → List ℕ} {ends rows : List ℕ}
     → ((number : ℕ) → held' number ≡ held number) → IsFilling size held ends rows → IsFilling size held' ends rows
-filling-along size held held' ends rows same was = record {
+filling-along same was = record {
   room = was.room;
   fits = λ number h. omega (arith, ap length (same number), was.fits number h);
   placed = λ number h. omega (arith, ap length (same number), was.placed number h);
@@ -209,12 +206,10 @@ with_one : (cuts : List (List ℕ)) (place : ℕ) (some : List ℕ) (unit : ℕ)
 with_one cuts place some unit has =
     ap (λ xs. holding_below cuts unit place ++ xs) (cond-true (among some unit) (place ∷ []) [] has)
 
-pub putting-all : (cuts : List (List ℕ)) (place : ℕ) (ends rows : List ℕ)
+pub putting-all : (cuts : List (List ℕ)) (place : ℕ) {ends rows : List ℕ}
     → IsPutting cuts place (cut_at cuts place) ends rows → HoldsFirst cuts (place + 1) ends rows
-putting-all cuts place ends rows has =
-    filling-along (holders cuts) (held_with cuts place (cut_at cuts place))
-    (λ unit. holding_below cuts unit (place + 1)) ends rows
-    (λ unit. ap (holding_below cuts unit) (add-one place) ∙ passing-more (holds cuts unit) place) has
+putting-all cuts place has =
+    filling-along (λ unit. ap (holding_below cuts unit) (add-one place) ∙ passing-more (holds cuts unit) place) has
 
 -- a member of the cut set whose turn it is has room in its row
 putting_room : (cuts : List (List ℕ)) (place i : ℕ) → place < length cuts → IsRising (cut_at cuts place)
@@ -232,30 +227,28 @@ putting_room cuts place i short rising there =
           (among-at (cut_at cuts place) i 0 there),
     )
 
-pub putting-slot : (cuts : List (List ℕ)) (place i : ℕ) (ends rows : List ℕ) → place < length cuts
+pub putting-slot : (cuts : List (List ℕ)) (place i : ℕ) {ends rows : List ℕ} → place < length cuts
     → IsRising (cut_at cuts place) → i < length (cut_at cuts place) → get_or (cut_at cuts place) i 0 < length ends
     → IsPutting cuts place (take i (cut_at cuts place)) ends rows
     → get_or ends (get_or (cut_at cuts place) i 0) 0 < length rows
-putting-slot cuts place i ends rows short rising there inside was =
-    slot_below (holders cuts) (held_with cuts place (take i (cut_at cuts place))) ends rows
-    (get_or (cut_at cuts place) i 0) was inside (putting_room cuts place i short rising there)
+putting-slot cuts place i short rising there inside was =
+    slot_below (get_or (cut_at cuts place) i 0) was inside (putting_room cuts place i short rising there)
 
-pub putting-more : (cuts : List (List ℕ)) (place i : ℕ) (ends rows : List ℕ) → place < length cuts
+pub putting-more : (cuts : List (List ℕ)) (place i : ℕ) {ends rows : List ℕ} → place < length cuts
     → IsRising (cut_at cuts place) → i < length (cut_at cuts place) → get_or (cut_at cuts place) i 0 < length ends
     → IsPutting cuts place (take i (cut_at cuts place)) ends rows
     → IsPutting cuts place (take (i + 1) (cut_at cuts place))
     (set ends (get_or (cut_at cuts place) i 0) (get_or ends (get_or (cut_at cuts place) i 0) 0 + 1))
     (set rows (get_or ends (get_or (cut_at cuts place) i 0) 0) place)
-putting-more cuts place i ends rows short rising there inside was =
+putting-more cuts place i short rising there inside was =
     let cut : List ℕ = cut_at cuts place in
     let unit : ℕ = get_or cut i 0 in
     let more : take (i + 1) cut ≡ take i cut ++ unit ∷ [] = take_more cut i 0 there in
-    filled (holders cuts) (held_with cuts place (take i cut)) (held_with cuts place (take (i + 1) cut)) ends rows unit
-    place was inside (putting_room cuts place i short rising there)
+    filled unit place was inside (putting_room cuts place i short rising there)
     (with_one cuts place (take (i + 1) cut) unit (ap (λ xs. among xs unit) more ∙ push-itself (take i cut) unit)
     ∙ ap (λ xs. xs ++ place ∷ []) (sym (with_none cuts place (take i cut) unit (fresh_at cut i rising there))))
     (λ other apart. ap (λ (b : Bool). holding_below cuts other place ++ (if b then place ∷ [] else []))
-    (ap (λ xs. among xs other) more ∙ push-other (take i cut) unit other apart))
+    (ap (λ xs. among xs other) more ∙ push-other (take i cut) apart))
 
 -- ---- how many sets hold each number
 
@@ -269,45 +262,45 @@ counting-first cuts count = record {
       ∙ sym (ap length (passing-none (holds cuts unit)));
 }
 
-one_or_none : (has : Bool) (old new before after : ℕ) → after ≡ before + cond has 1 0 → (has ≡ true → new ≡ suc old)
+one_or_none : (has : Bool) {old new before after : ℕ} → after ≡ before + cond has 1 0 → (has ≡ true → new ≡ suc old)
     → (has ≡ false → new ≡ old) → old ≡ before → new ≡ after
-one_or_none true old new before after next more same is = let up : new ≡ suc old = more refl in omega arith
-one_or_none false old new before after next more same is = let kept : new ≡ old = same refl in omega arith
+one_or_none true {old} {new} next more same is = let up : new ≡ suc old = more refl in omega arith
+one_or_none false {old} {new} next more same is = let kept : new ≡ old = same refl in omega arith
 
-pub counting-more : (cuts : List (List ℕ)) (place : ℕ) (sizes sizes' : List ℕ)
+pub counting-more : (cuts : List (List ℕ)) {place : ℕ} {sizes sizes' : List ℕ}
     → IsOneMore (cut_at cuts place) sizes sizes' → IsCounting cuts place sizes → IsCounting cuts (place + 1) sizes'
-counting-more cuts place sizes sizes' more was = record {
+counting-more cuts {place} {sizes} more was = record {
   each = λ unit h.
       let inside : unit < length sizes = omega (arith, h, more.long) in
       let next : length (holding_below cuts unit (place + 1))
       ≡ length (holding_below cuts unit place) + cond (among (cut_at cuts place) unit) 1 0 =
       ap (λ n. length (holding_below cuts unit n)) (add-one place) ∙ length-passing-more (holds cuts unit) place in
-      one_or_none (among (cut_at cuts place) unit) (get_or sizes unit 0) (get_or sizes' unit 0)
-      (length (holding_below cuts unit place)) (length (holding_below cuts unit (place + 1)))
-      next (more.more unit) (more.same unit) (was.each unit inside);
+      one_or_none (among (cut_at cuts place) unit) next (more.more unit) (more.same unit) (was.each unit inside);
 }
 
 -- no number is held by more sets than there are so far
-pub counting-le : (cuts : List (List ℕ)) (count most : ℕ) (sizes : List ℕ) → count ≤ most → IsCounting cuts count sizes
+pub counting-le : (cuts : List (List ℕ)) {count : ℕ} (most : ℕ) {sizes : List ℕ} → count ≤ most
+    → IsCounting cuts count sizes
     → All (λ size. size ≤ most) sizes
-counting-le cuts count most sizes few was k d short =
+counting-le cuts {count} most {sizes} few was k d short =
     let at : get_or sizes k d ≡ get_or sizes k 0 = get_or_default sizes k d 0 short in
     omega (arith, at, was.each k short, length-passing-le (holds cuts k) count)
 
-pub sizes-le : (units most : ℕ) (cuts : List (List ℕ)) (sizes : List ℕ) → length cuts ≤ most → HasSizes units cuts sizes
+pub sizes-le : {units : ℕ} (most : ℕ) (cuts : List (List ℕ)) {sizes : List ℕ} → length cuts ≤ most
+    → HasSizes units cuts sizes
     → All (λ size. size ≤ most) sizes
-sizes-le units most cuts sizes few has =
+sizes-le most cuts {sizes} few has =
     let counting : IsCounting cuts (length cuts) sizes = record { each = has.each } in
-    counting-le cuts (length cuts) most sizes few counting
+    counting-le cuts most few counting
 
 -- ---- from first to last
 
 -- rows that have only begun
-pub begun : (units : ℕ) (cuts : List (List ℕ)) (sizes ends rows : List ℕ) → HasSizes units cuts sizes
+pub begun : {units : ℕ} (cuts : List (List ℕ)) {sizes : List ℕ} (ends rows : List ℕ) → HasSizes units cuts sizes
     → length ends ≡ length sizes → HasStarts (λ k. get_or sizes k 0) ends
     → length rows ≡ start_of (λ k. get_or sizes k 0) (length sizes)
     → HoldsFirst cuts 0 ends rows
-begun units cuts sizes ends rows has long starts room =
+begun cuts {sizes} ends rows has long starts room =
     let none : (unit : ℕ) → length (holding_below cuts unit 0) ≡ 0 =
     λ unit. ap length (passing-none (holds cuts unit)) in
     record {
@@ -322,10 +315,10 @@ begun units cuts sizes ends rows has long starts room =
       has = λ number k h within. absurd (omega (arith, within, none number));
     }
 
-row_is : (cuts : List (List ℕ)) (ends rows : List ℕ) (unit from to : ℕ) → unit < length ends
+row_is : (cuts : List (List ℕ)) {ends rows : List ℕ} (unit : ℕ) {from to : ℕ} → unit < length ends
     → from ≡ start_of (holders cuts) unit → to ≡ start_of (holders cuts) unit + holders cuts unit → to ≤ length rows
     → HoldsFirst cuts (length cuts) ends rows → between from to rows ≡ holding cuts unit
-row_is cuts ends rows unit from to short begins ends_at inside has =
+row_is cuts {rows} unit {from} {to} short begins ends_at inside has =
     let size : to - from ≡ holders cuts unit = omega arith in
     let long : length (between from to rows) ≡ to - from =
     length-take-le (to - from) (drop from rows) (omega (arith, length-drop from rows)) in
@@ -336,9 +329,9 @@ row_is cuts ends rows unit from to short begins ends_at inside has =
     ∙ ap (λ n. get_or rows (n + k) 0) begins ∙ has.has unit k short (omega arith))
 
 -- rows that are filled
-pub all_filled : (units : ℕ) (cuts : List (List ℕ)) (ends rows : List ℕ) → length ends ≡ units + 1
+pub all_filled : {units : ℕ} (cuts : List (List ℕ)) {ends rows : List ℕ} → length ends ≡ units + 1
     → HoldsFirst cuts (length cuts) ends rows → HasRows units cuts ends rows
-all_filled units cuts ends rows long has = record {
+all_filled cuts {ends} {rows} long has = record {
   all = long;
   row = λ unit some up_to.
       let there : unit < length ends = omega arith in
@@ -353,7 +346,7 @@ all_filled units cuts ends rows long has = record {
       record {
         order = omega (arith, from, to);
         inside = inside;
-        is = row_is cuts ends rows unit (get_or ends (unit - 1) 0) (get_or ends unit 0) there from to inside has;
+        is = row_is cuts unit there from to inside has;
       };
 }
 
@@ -370,19 +363,19 @@ all_counted units cuts count sizes full has = record {
 }
 
 -- some numbers of cut sets at the places of one more cut set
-pub counting_for-more : (units : ℕ) (cuts : List (List ℕ)) (place : ℕ) (cut sizes new : List ℕ)
+pub counting_for-more : {units : ℕ} (cuts : List (List ℕ)) {place : ℕ} {cut sizes new : List ℕ}
     → cut_at cuts place ≡ cut → IsOneMore cut sizes new → IsCountingFor units cuts place sizes
     → IsCountingFor units cuts (place + 1) new
-counting_for-more units cuts place cut sizes new at more was = record {
+counting_for-more cuts {sizes} {new} at more was = record {
   long = sym more.long ∙ was.long;
-  counted =
-      counting-more cuts place sizes new (subst (λ (c : List ℕ). IsOneMore c sizes new) (sym at) more) was.counted;
+  counted = counting-more cuts (subst (λ (c : List ℕ). IsOneMore c sizes new) (sym at) more) was.counted;
 }
 
 -- each member of a cut set has a row
-pub known_members : (units : ℕ) (cuts : List (List ℕ)) (place : ℕ) (cut sizes : List ℕ) → HasUnitsUpTo units cuts
+pub known_members : (units : ℕ) (cuts : List (List ℕ)) (place : ℕ) {cut : List ℕ} (sizes : List ℕ)
+    → HasUnitsUpTo units cuts
     → place < length cuts → cut_at cuts place ≡ cut → length sizes ≡ units + 1 → All (λ unit. unit < length sizes) cut
-known_members units cuts place cut sizes known short at long k d inside =
+known_members units cuts place sizes known short at long k d inside =
     let there : k < length (cut_at cuts place) = omega (arith, inside, ap length at) in
     omega (arith, known place [] short k d there, ap (λ xs. get_or xs k d) at)
 
@@ -393,10 +386,10 @@ pub record IsTurn (cuts : List (List ℕ)) (place i number : ℕ) : Type 0 where
   pub there : i < length (cut_at cuts place)
   pub at : number ≡ get_or (cut_at cuts place) i 0
 
-pub turn : (cuts : List (List ℕ)) (place : ℕ) (members : List ℕ) (i item number : ℕ) → place < length cuts
+pub turn : (cuts : List (List ℕ)) {place : ℕ} {members : List ℕ} {i item number : ℕ} → place < length cuts
     → IsCutSet members → slice_get cuts place ≡ Some members → i < length members → item ≡ get_or members i item
     → number ≡ item → IsTurn cuts place i number
-turn cuts place members i item number below cut at short is same =
+turn cuts {place} {members} {i} {item} below cut at short is same =
     let whole : cut_at cuts place ≡ members = cut_at-is cuts place members at in
     record {
       below = below;
@@ -405,30 +398,31 @@ turn cuts place members i item number below cut at short is same =
       at = same ∙ get_or_read members i item short is 0 ∙ ap (λ (xs : List ℕ). get_or xs i 0) (sym whole);
     }
 
-pub turn-known : (cuts : List (List ℕ)) (place i number size : ℕ) → IsTurn cuts place i number
+pub turn-known : (cuts : List (List ℕ)) {place i number : ℕ} (size : ℕ) → IsTurn cuts place i number
     → All (λ unit. unit < size) (cut_at cuts place) → number < size
-turn-known cuts place i number size t known = omega (arith, t.at, known i 0 t.there)
+turn-known cuts {i} size t known = omega (arith, t.at, known i 0 t.there)
 
-pub turn-slot : (cuts : List (List ℕ)) (place i number : ℕ) (ends rows : List ℕ) → IsTurn cuts place i number
+pub turn-slot : (cuts : List (List ℕ)) {place i number : ℕ} {ends rows : List ℕ} → IsTurn cuts place i number
     → All (λ unit. unit < length ends) (cut_at cuts place) → IsPutting cuts place (take i (cut_at cuts place)) ends rows
     → get_or ends number 0 < length rows
-turn-slot cuts place i number ends rows t known was =
+turn-slot cuts {place} {i} {ends} {rows} t known was =
     subst (λ (n : ℕ). get_or ends n 0 < length rows) (sym t.at)
-    (putting-slot cuts place i ends rows t.below t.rising t.there (known i 0 t.there) was)
+    (putting-slot cuts place i t.below t.rising t.there (known i 0 t.there) was)
 
-pub turn-more : (cuts : List (List ℕ)) (place i number : ℕ) (ends rows : List ℕ) → IsTurn cuts place i number
+pub turn-more : (cuts : List (List ℕ)) {place i number : ℕ} {ends rows : List ℕ} → IsTurn cuts place i number
     → All (λ unit. unit < length ends) (cut_at cuts place) → IsPutting cuts place (take i (cut_at cuts place)) ends rows
     → IsPutting cuts place (take (i + 1) (cut_at cuts place)) (set ends number (get_or ends number 0 + 1))
     (set rows (get_or ends number 0) place)
-turn-more cuts place i number ends rows t known was =
+turn-more cuts {place} {i} {ends} {rows} t known was =
     subst (λ (n : ℕ). IsPutting cuts place (take (i + 1) (cut_at cuts place)) (set ends n (get_or ends n 0 + 1))
     (set rows (get_or ends n 0) place)) (sym t.at)
-    (putting-more cuts place i ends rows t.below t.rising t.there (known i 0 t.there) was)
+    (putting-more cuts place i t.below t.rising t.there (known i 0 t.there) was)
 
-pub turn-last : (cuts : List (List ℕ)) (place i : ℕ) (members ends rows : List ℕ) → slice_get cuts place ≡ Some members
+pub turn-last : (cuts : List (List ℕ)) (place i : ℕ) (members : List ℕ) {ends rows : List ℕ}
+    → slice_get cuts place ≡ Some members
     → length members ≤ i → IsPutting cuts place (take i (cut_at cuts place)) ends rows
     → HoldsFirst cuts (place + 1) ends rows
-turn-last cuts place i members ends rows at past was =
+turn-last cuts place i members {ends} {rows} at past was =
     let all : take i (cut_at cuts place) ≡ cut_at cuts place =
     take_all i (cut_at cuts place) (omega (arith, ap length (cut_at-is cuts place members at))) in
-    putting-all cuts place ends rows (subst (λ (some : List ℕ). IsPutting cuts place some ends rows) all was)
+    putting-all cuts place (subst (λ (some : List ℕ). IsPutting cuts place some ends rows) all was)

@@ -1,8 +1,7 @@
 -- Which cut sets hold a unit.
 use Rattle.std.proofs.Common.{◌≡◌, ℕ, Bool, ◌&&◌, nat_lt, List, length}
 use Rattle.unit_sets.specs.UnitList.{among, IsRising}
-use Rattle.residual_ledger.specs.Residual.{cut_at}
-use Rattle.residual_ledger.specs.Holding.{holding}
+use Rattle.residual_ledger.specs.{Residual.cut_at, Holding.holding}
 use Rattle.residual_ledger.proofs.Passing.{among-passing, IsRising-passing}
 
 -- the test whether the cut set at a place holds a unit

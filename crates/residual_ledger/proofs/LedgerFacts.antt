@@ -1,7 +1,6 @@
 -- What follows from the definitions of `specs/Ledger`.
 use Rattle.std.specs.Prelude.{ℕ, ◌+◌, ◌≤◌, List, [], ◌∷◌, length}
-use Rattle.std.proofs.Common.{arith}
-use Rattle.std.proofs.lemmas.List.Sums.{sum_by-cons}
+use Rattle.std.proofs.{Common.arith, lemmas.List.Sums.sum_by-cons}
 use Rattle.unit_sets.specs.CutOrder.{weight}
 
 -- there are no more cut sets than the list may weigh

@@ -1,17 +1,13 @@
 -- The numbers below a bound that pass a test: how many there are, which they are, and that they rise.
 use Rattle.std.specs.Prelude.{◌≡◌, ℕ, zero, suc, ◌+◌, ◌<◌, ◌≤◌, Bool, true, false, ◌&&◌, ◌||◌, ◌==◌, nat_lt, cond, []}
 use Rattle.std.specs.Prelude.{◌∷◌, ◌++◌, length, if◌then◌else◌}
-use Rattle.std.specs.List.{AllByRecursion}
-use Rattle.std.specs.List.Sorted.{IsStrictlySortedBy}
-use Rattle.std.specs.Ordering.{nat_cmp}
-use Rattle.std.specs.declared.cmp.Ordering.TheVariants.{Less}
+use Rattle.std.specs.{List.AllByRecursion, List.Sorted.IsStrictlySortedBy, Ordering.nat_cmp}
+use Rattle.std.specs.{declared.cmp.Ordering.TheVariants.Less}
 use Rattle.std.proofs.Common.{refl, sym, ◌∙◌, ap, subst, arith, inl, inr, append-nil, length-append}
-use Rattle.std.proofs.lemmas.Bool.{cond_both, cases_eq}
-use Rattle.std.proofs.lemmas.Bool.Decides.{nat_tests}
-use Rattle.std.proofs.lemmas.List.Folds.{list_any-append}
+use Rattle.std.proofs.{lemmas.Bool.cond_both, lemmas.Bool.cases_eq, lemmas.Bool.Decides.nat_tests}
+use Rattle.std.proofs.{lemmas.List.Folds.list_any-append}
 use Rattle.unit_sets.proofs.Sorted.{sorted-push, all-push}
-use Rattle.unit_sets.specs.UnitList.{among, IsRising}
-use Rattle.unit_sets.specs.Words.{passing_below}
+use Rattle.unit_sets.specs.{UnitList.among, UnitList.IsRising, Words.passing_below}
 
 -- ---- how many
 
@@ -73,24 +69,25 @@ length-passing-one test n m low passes =
 none_below_zero : (k : ℕ) → nat_lt k 0 ≡ false
 none_below_zero k = grind (arith, nat_tests)
 
-last : (l l' e t tn : Bool) → l' ≡ (l || e) → (e ≡ true → tn ≡ t) → ((l && t) || (tn && e)) ≡ (l' && t)
-last true l' true t tn h k = let is : tn ≡ t = k refl in rw (h, is) (idempotent t)
+last : (l : Bool) {l' : Bool} (e t tn : Bool) → l' ≡ (l || e) → (e ≡ true → tn ≡ t)
+    → ((l && t) || (tn && e)) ≡ (l' && t)
+last true true t tn h k = let is : tn ≡ t = k refl in rw (h, is) (idempotent t)
   where
     idempotent : (b : Bool) → (b || (b && true)) ≡ b
     idempotent true = refl
     idempotent false = refl
-last false l' true t tn h k = let is : tn ≡ t = k refl in rw (h, is) (kept t)
+last false true t tn h k = let is : tn ≡ t = k refl in rw (h, is) (kept t)
   where
     kept : (b : Bool) → (b && true) ≡ b
     kept true = refl
     kept false = refl
-last true l' false t tn h k = rw h (dropped t tn)
+last true false t tn h k = rw h (dropped t tn)
   where
     dropped : (b c : Bool) → (b || (c && false)) ≡ b
     dropped true c = refl
     dropped false true = refl
     dropped false false = refl
-last false l' false t tn h k = rw h (gone tn)
+last false false t tn h k = rw h (gone tn)
   where
     gone : (c : Bool) → (c && false) ≡ false
     gone true = refl
@@ -117,8 +114,7 @@ among-passing test (suc n) k =
     ∙ list_any-append (λ member. member == k) (passing_below test n) (if test n then n ∷ [] else [])
     ∙ ap (λ b. b || among (if test n then n ∷ [] else []) k) (among-passing test n k)
     ∙ ap (λ b. (nat_lt k n && test k) || b) (among-one (test n) n k)
-    ∙ last (nat_lt k n) (nat_lt k (suc n)) (n == k) (test k) (test n) (below_one_more k n)
-    (λ e. ap test (same_by_test n k e))
+    ∙ last (nat_lt k n) (n == k) (test k) (test n) (below_one_more k n) (λ e. ap test (same_by_test n k e))
 
 less_from_lt : (a b : ℕ) → a < b → nat_cmp a b ≡ Less
 less_from_lt a b h = grind (arith, nat_tests)

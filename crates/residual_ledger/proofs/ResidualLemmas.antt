@@ -2,14 +2,10 @@
 use Rattle.std.proofs.Common.{◌≡◌, ℕ, suc, ◌+◌, ◌<◌, ◌≤◌, Bool, true, false, not, cond, ◌||◌, ◌==◌, List, [], ◌∷◌, ◌++◌}
 use Rattle.std.proofs.Common.{length, take, get_or, filter, refl, sym, ◌∙◌, ap, subst, arith, eqb-true, eq-eqb}
 use Rattle.std.proofs.Common.{zero-add, inl, inr, length-take}
-use Rattle.std.specs.List.{list_any, AllByRecursion}
-use Rattle.std.specs.declared.cmp.Ordering.TheVariants.{Less}
-use Rattle.std.specs.List.Sorted.{IsStrictlySortedBy}
-use Rattle.std.specs.Ordering.{nat_cmp}
+use Rattle.std.specs.{List.list_any, List.AllByRecursion, declared.cmp.Ordering.TheVariants.Less}
+use Rattle.std.specs.{List.Sorted.IsStrictlySortedBy, Ordering.nat_cmp}
 use Rattle.std.proofs.lemmas.Bool.{or_cases, or_parts, or_from, or_left, or_right, cases_Bool}
-use Rattle.std.proofs.lemmas.Bool.Decides.{nat_tests}
-use Rattle.std.proofs.lemmas.List.{get_or_read}
-use Rattle.std.proofs.lemmas.List.Filters.{length-filter_more}
+use Rattle.std.proofs.{lemmas.Bool.Decides.nat_tests, lemmas.List.get_or_read, lemmas.List.Filters.length-filter_more}
 use Rattle.unit_sets.specs.UnitList.{among, IsRising}
 use Rattle.residual_ledger.specs.Residual.{residual}
 use Rattle.residual_ledger.proofs.ResidualFacts.{length-filter-cons, residual-cons, residual-alike}
@@ -167,24 +163,26 @@ length-filter-le p (x ∷ xs) = omega (arith, length-filter-cons p x xs, length-
     at_most_one true = omega arith
     at_most_one false = omega arith
 
-pub asked_so_far-le : (asked members : List ℕ) (i count : ℕ) → count ≡ length (filter (among asked) (take i members))
+pub asked_so_far-le : (asked members : List ℕ) (i : ℕ) {count : ℕ}
+    → count ≡ length (filter (among asked) (take i members))
     → count ≤ i
-asked_so_far-le asked members i count is =
+asked_so_far-le asked members i is =
     omega (arith, is, length-filter-le (among asked) (take i members), length-take i members)
 
-pub asked-more : (asked members : List ℕ) (i item count more : ℕ) → i < length members → item ≡ get_or members i item
+pub asked-more : (asked members : List ℕ) (i : ℕ) {item count more : ℕ} → i < length members
+    → item ≡ get_or members i item
     → count ≡ length (filter (among asked) (take i members)) → more ≡ count + cond (among asked item) 1 0
     → more ≡ length (filter (among asked) (take (i + 1) members))
-asked-more asked members i item count more short at is next =
+asked-more asked members i {item} short at is next =
     let same : get_or members i 0 ≡ item = sym (get_or_read members i item short at 0) in
     let told : ℕ → ℕ = λ x. cond (among asked x) 1 0 in
     let one : told (get_or members i 0) ≡ told item = ap told same in
     omega (arith, next, is, length-filter_more (among asked) members i 0 short, one)
 
-pub found_one : (found : Bool) (count more : ℕ) → found ≡ true → more ≡ count + 1 → more ≡ count + cond found 1 0
-found_one true count more has is = is
-found_one false count more has is = absurd cc
+pub found_one : (found : Bool) (count : ℕ) {more : ℕ} → found ≡ true → more ≡ count + 1 → more ≡ count + cond found 1 0
+found_one true count has is = is
+found_one false count has is = absurd cc
 
-pub found_none : (found : Bool) (count more : ℕ) → found ≡ false → more ≡ count → more ≡ count + cond found 1 0
-found_none true count more none is = absurd cc
-found_none false count more none is = omega arith
+pub found_none : (found : Bool) {count more : ℕ} → found ≡ false → more ≡ count → more ≡ count + cond found 1 0
+found_none true none is = absurd cc
+found_none false none is = omega arith

@@ -2,15 +2,10 @@
 use Rattle.std.proofs.Common.{◌≡◌, ◌≢◌, ℕ, zero, suc, ◌+◌, ◌<◌, Bool, true, false, ◌||◌, ◌==◌, List, [], ◌∷◌, ◌++◌}
 use Rattle.std.proofs.Common.{length, take, set, get_or, All, refl, sym, ◌∙◌, ap, subst, arith, inl, inr, add-one}
 use Rattle.std.proofs.Common.{length-set, get_or-set_same, get_or-set_other, eq-eqb}
-use Rattle.std.specs.List.Sorted.{IsStrictlySortedBy}
-use Rattle.std.specs.Ordering.{nat_cmp}
-use Rattle.std.specs.declared.cmp.Ordering.TheVariants.{Less}
+use Rattle.std.specs.{List.Sorted.IsStrictlySortedBy, Ordering.nat_cmp, declared.cmp.Ordering.TheVariants.Less}
 use Rattle.std.proofs.lemmas.Bool.{or_from, or_left, or_right, cases_eq, ne_eqb}
-use Rattle.std.proofs.lemmas.Bool.Decides.{nat_tests}
-use Rattle.std.proofs.lemmas.List.{take_more}
-use Rattle.std.proofs.lemmas.List.Folds.{list_any-append}
-use Rattle.std.proofs.lemmas.List.Elements.{Contains-get_or}
-use Rattle.std.proofs.lemmas.Map.Keys.{Less-from_sorted}
+use Rattle.std.proofs.{lemmas.Bool.Decides.nat_tests, lemmas.List.take_more, lemmas.List.Folds.list_any-append}
+use Rattle.std.proofs.{lemmas.List.Elements.Contains-get_or, lemmas.Map.Keys.Less-from_sorted}
 use Rattle.unit_sets.specs.UnitList.{among, IsRising}
 use Rattle.unit_sets.proofs.UnitListLemmas.{among-from_Contains}
 use Rattle.residual_ledger.specs.Kept.{IsOneMore}
@@ -24,8 +19,8 @@ or-nothing false = refl
 pub among-append : (xs ys : List ℕ) (x : ℕ) → among (xs ++ ys) x ≡ (among xs x || among ys x)
 among-append xs ys x = list_any-append (λ member. member == x) xs ys
 
-pub push-other : (row : List ℕ) (place p : ℕ) → p ≢ place → among (row ++ place ∷ []) p ≡ among row p
-push-other row place p apart =
+pub push-other : (row : List ℕ) {place p : ℕ} → p ≢ place → among (row ++ place ∷ []) p ≡ among row p
+push-other row {place} {p} apart =
     among-append row (place ∷ []) p
     ∙ ap (λ b. among row p || (b || false)) (ne_eqb place p (λ e. apart (sym e)))
     ∙ or-nothing (among row p)
@@ -62,28 +57,28 @@ fresh_at (y ∷ ys) (suc i) rising short =
 
 -- ---- one more at the places of a row
 
-pub one_more-lower : (row low high : List ℕ) (place left : ℕ) → IsOneMore row low high → among row place ≡ false
+pub one_more-lower : {row low high : List ℕ} (place left : ℕ) → IsOneMore row low high → among row place ≡ false
     → place < length low → get_or low place 0 ≡ suc left → IsOneMore (row ++ place ∷ []) (set low place left) high
-one_more-lower row low high place left old fresh short is = record {
+one_more-lower {row} {low} {high} place left old fresh short is = record {
   long = length-set low place left ∙ old.long;
   more = λ p has. elim (cases_eq p place) [
     | inl same ↦ subst (λ (q : ℕ). get_or high q 0 ≡ suc (get_or (set low place left) q 0)) (sym same)
         (old.same place fresh ∙ is ∙ ap suc (sym (get_or-set_same low place left 0 short)))
-    | inr apart ↦ old.more p (sym (push-other row place p apart) ∙ has)
+    | inr apart ↦ old.more p (sym (push-other row apart) ∙ has)
         ∙ ap suc (sym (get_or-set_other low place p left 0 apart))
   ];
   same = λ p none. elim (cases_eq p place) [
     | inl same ↦ let has : among (row ++ place ∷ []) place ≡ false =
         subst (λ (q : ℕ). among (row ++ place ∷ []) q ≡ false) same none in
         absurd (cc (push-itself row place))
-    | inr apart ↦ old.same p (sym (push-other row place p apart) ∙ none)
+    | inr apart ↦ old.same p (sym (push-other row apart) ∙ none)
         ∙ sym (get_or-set_other low place p left 0 apart)
   ];
 }
 
-pub one_more-raise : (row low high : List ℕ) (place : ℕ) → IsOneMore row low high → among row place ≡ false
+pub one_more-raise : {row low high : List ℕ} (place : ℕ) → IsOneMore row low high → among row place ≡ false
     → place < length high → IsOneMore (row ++ place ∷ []) low (set high place (suc (get_or high place 0)))
-one_more-raise row low high place old fresh short =
+one_more-raise {row} {low} {high} place old fresh short =
     let new : List ℕ = set high place (suc (get_or high place 0)) in
     record {
       long = old.long ∙ sym (length-set high place (suc (get_or high place 0)));
@@ -91,34 +86,36 @@ one_more-raise row low high place old fresh short =
         | inl same ↦ subst (λ (q : ℕ). get_or new q 0 ≡ suc (get_or low q 0)) (sym same)
             (get_or-set_same high place (suc (get_or high place 0)) 0 short ∙ ap suc (old.same place fresh))
         | inr apart ↦ get_or-set_other high place p (suc (get_or high place 0)) 0 apart
-            ∙ old.more p (sym (push-other row place p apart) ∙ has)
+            ∙ old.more p (sym (push-other row apart) ∙ has)
       ];
       same = λ p none. elim (cases_eq p place) [
         | inl same ↦ let has : among (row ++ place ∷ []) place ≡ false =
             subst (λ (q : ℕ). among (row ++ place ∷ []) q ≡ false) same none in
             absurd (cc (push-itself row place))
         | inr apart ↦ get_or-set_other high place p (suc (get_or high place 0)) 0 apart
-            ∙ old.same p (sym (push-other row place p apart) ∙ none)
+            ∙ old.same p (sym (push-other row apart) ∙ none)
       ];
     }
 
 -- the same along a row that is gone through from its first place on
-pub one_more-lower_at : (row low high : List ℕ) (i place left : ℕ) → IsRising row → i < length row
+pub one_more-lower_at : (row : List ℕ) {low high : List ℕ} (i : ℕ) {place : ℕ} (left : ℕ) → IsRising row
+    → i < length row
     → place ≡ get_or row i 0 → IsOneMore (take i row) low high → place < length low → get_or low place 0 ≡ suc left
     → IsOneMore (take (i + 1) row) (set low place left) high
-one_more-lower_at row low high i place left rising short at old there is =
+one_more-lower_at row i {place} left rising short at old there is =
     rw (take_more row i 0 short, ← at)
-    (one_more-lower (take i row) low high place left old (ap (among (take i row)) at ∙ fresh_at row i rising short)
-    there is)
+    (one_more-lower place left old (ap (among (take i row)) at ∙ fresh_at row i rising short) there is)
 
-pub one_more-raise_at : (row low high : List ℕ) (i place : ℕ) → IsRising row → i < length row → place ≡ get_or row i 0
+pub one_more-raise_at : (row : List ℕ) {low high : List ℕ} (i place : ℕ) → IsRising row → i < length row
+    → place ≡ get_or row i 0
     → IsOneMore (take i row) low high → place < length high
     → IsOneMore (take (i + 1) row) low (set high place (get_or high place 0 + 1))
-one_more-raise_at row low high i place rising short at old there =
+one_more-raise_at row i place rising short at old there =
     rw (take_more row i 0 short, ← at, add-one)
-    (one_more-raise (take i row) low high place old (ap (among (take i row)) at ∙ fresh_at row i rising short) there)
+    (one_more-raise place old (ap (among (take i row)) at ∙ fresh_at row i rising short) there)
 
 -- a place that is gone through later is as it was
-pub one_more-later : (row low high : List ℕ) (i : ℕ) → IsRising row → i < length row → IsOneMore (take i row) low high
+pub one_more-later : (row : List ℕ) {low high : List ℕ} (i : ℕ) → IsRising row → i < length row
+    → IsOneMore (take i row) low high
     → get_or high (get_or row i 0) 0 ≡ get_or low (get_or row i 0) 0
-one_more-later row low high i rising short old = old.same (get_or row i 0) (fresh_at row i rising short)
+one_more-later row i rising short old = old.same (get_or row i 0) (fresh_at row i rising short)

@@ -1,22 +1,17 @@
 -- The first cut set that is tight: no block and no row that is passed over has an earlier one.
-use Rattle.std.proofs.Common.{◌≡◌, ℕ, suc, ◌+◌, ◌-◌, ◌<◌, ◌≤◌, Bool, true, false, nat_lt, nat_le, cond}
+use Rattle.std.proofs.Common.{◌≡◌, ℕ, suc, ◌-◌, ◌<◌, ◌≤◌, Bool, true, false, nat_lt, nat_le, cond}
 use Rattle.std.proofs.Common.{List, [], ◌++◌, length, take, get_or, filter, All, Some, None, sym, ◌∙◌, ap}
 use Rattle.std.proofs.Common.{subst, arith, inl, inr}
 use Rattle.std.specs.List.{list_any, position, position_or_len}
-use Rattle.std.specs.Ordering.{nat_cmp}
-use Rattle.std.specs.declared.cmp.Ordering.TheVariants.{Less}
+use Rattle.std.specs.{Ordering.nat_cmp, declared.cmp.Ordering.TheVariants.Less}
 use Rattle.std.proofs.lemmas.Bool.{cases_Bool, cases_lt, cases_eq, le-ltb, lt-ltb, cond-true, cond-false}
-use Rattle.std.proofs.lemmas.Bool.Decides.{nat_tests}
+use Rattle.std.proofs.{lemmas.Bool.Decides.nat_tests, lemmas.List.Sums.position_or_len_is}
+use Rattle.std.proofs.{lemmas.Map.Keys.Less-from_sorted}
 use Rattle.std.proofs.lemmas.List.{take_all, get_or_default, get_or_read}
-use Rattle.std.proofs.lemmas.List.Sums.{position_or_len_is}
-use Rattle.std.proofs.lemmas.Map.Keys.{Less-from_sorted}
 use Rattle.unit_sets.specs.UnitList.{among, IsRising}
 use Rattle.unit_sets.proofs.UnitListLemmas.{Contains-from_among}
-use Rattle.residual_ledger.specs.Residual.{residual, cut_at}
-use Rattle.residual_ledger.specs.Tight.{is_tight}
-use Rattle.residual_ledger.specs.Holding.{holding}
-use Rattle.residual_ledger.specs.Kept.{residuals, IsFirstAtMost}
-use Rattle.residual_ledger.specs.Ledger.{IsFirstHolding}
+use Rattle.residual_ledger.specs.{Residual.residual, Residual.cut_at, Tight.is_tight, Holding.holding, Kept.residuals}
+use Rattle.residual_ledger.specs.{Kept.IsFirstAtMost, Ledger.IsFirstHolding}
 use Rattle.residual_ledger.proofs.ResidualLemmas.{residual-asked, residual-asked-apart, residual-asked-le, met_unit}
 use Rattle.residual_ledger.proofs.LedgerLemmas.{count_at, as_many, place_held, row_rises}
 
@@ -39,11 +34,12 @@ all_free asked out free unit has =
     subst (λ (q : ℕ). among out q ≡ false) found.2 (free found.0 unit found.1)
 
 -- what is kept of a cut set
-pub left_is : (out : List ℕ) (cuts : List (List ℕ)) (counts : List ℕ) (place left : ℕ) → counts ≡ residuals out cuts
+pub left_is : (out : List ℕ) (cuts : List (List ℕ)) {counts : List ℕ} (place : ℕ) {left : ℕ}
+    → counts ≡ residuals out cuts
     → place < length cuts → left ≡ get_or counts place left → left ≡ residual out (cut_at cuts place)
-left_is out cuts counts place left counted short is =
-    get_or_read counts place left (omega (arith, as_many out cuts counts counted)) is 0
-    ∙ count_at out cuts counts place counted short
+left_is out cuts {counts} place {left} counted short is =
+    get_or_read counts place left (omega (arith, as_many out cuts counted)) is 0
+    ∙ count_at out cuts place counted short
 
 -- what a look at the members of a cut set tells, and what it need not tell
 pub record IsLookedAt (out asked cut : List ℕ) (left : ℕ) : Type 0 where
@@ -51,21 +47,21 @@ pub record IsLookedAt (out asked cut : List ℕ) (left : ℕ) : Type 0 where
   pub rising : IsRising cut
   pub free : All (λ unit. among out unit ≡ false) asked
 
-pub asked-le : (out asked cut : List ℕ) (left count : ℕ) → IsLookedAt out asked cut left
+pub asked-le : {out asked cut : List ℕ} {left count : ℕ} → IsLookedAt out asked cut left
     → count ≡ length (filter (among asked) cut) → count ≤ left
-asked-le out asked cut left count look is =
+asked-le {out} {asked} {cut} look is =
     omega (arith, look.counted, is, residual-asked asked out (all_free asked out look.free) cut)
 
-pub tight-counted : (out asked cut : List ℕ) (left count most : ℕ) → IsLookedAt out asked cut left
+pub tight-counted : {out asked cut : List ℕ} {left count : ℕ} (most : ℕ) → IsLookedAt out asked cut left
     → count ≡ length (filter (among asked) cut) → nat_le (left - count) most ≡ is_tight (asked ++ out) most cut
-tight-counted out asked cut left count most look is =
+tight-counted {out} {asked} {cut} {left} {count} most look is =
     let new : left - count ≡ residual (asked ++ out) cut =
     omega (arith, look.counted, is, residual-asked asked out (all_free asked out look.free) cut) in
     ap (λ n. nat_le n most) new
 
-pub not_tight-counted : (out asked cut : List ℕ) (left most : ℕ) → IsLookedAt out asked cut left
+pub not_tight-counted : {out asked cut : List ℕ} {left : ℕ} (most : ℕ) → IsLookedAt out asked cut left
     → length asked < left - most → is_tight (asked ++ out) most cut ≡ false
-not_tight-counted out asked cut left most look much =
+not_tight-counted {out} {asked} {cut} most look much =
     not_tight-from (residual (asked ++ out) cut) most
     (omega (arith, look.counted, residual-asked-le asked out cut look.rising))
 
@@ -80,11 +76,11 @@ less a b h = grind (arith, nat_tests)
 
 -- a place before a bound stands in the part of the row that has been gone through, where the rest is not below the
 -- bound
-pub passed : (row : List ℕ) (cuts : List (List ℕ)) (unit i bound : ℕ) (test : List ℕ → Bool) → row ≡ holding cuts unit
+pub passed : {row : List ℕ} (cuts : List (List ℕ)) (unit i bound : ℕ) (test : List ℕ → Bool) → row ≡ holding cuts unit
     → ((k : ℕ) → k < i → test (cut_at cuts (get_or row k 0)) ≡ false) → bound ≤ length cuts
     → (i < length row → bound ≤ get_or row i 0)
     → (place : ℕ) → place < bound → among (cut_at cuts place) unit ≡ true → test (cut_at cuts place) ≡ false
-passed row cuts unit i bound test is fails inside rest place before has =
+passed {row} cuts unit i bound test is fails inside rest place before has =
     let in_row : among row place ≡ true =
     ap (λ xs. among xs place) is ∙ place_held cuts unit place (omega arith) ∙ has in
     let found = Contains-from_among row place in_row in
@@ -92,7 +88,7 @@ passed row cuts unit i bound test is fails inside rest place before has =
     let at : get_or row k 0 ≡ place = get_or_default row k 0 place found.1 ∙ found.2 in
     elim (cases_lt k i) [
       | inl gone ↦ subst (λ (p : ℕ). test (cut_at cuts p) ≡ false) at (fails k gone)
-      | inr ahead ↦ absurd (too_late row i k bound place (row_rises cuts unit row is) found.1 ahead at rest before)
+      | inr ahead ↦ absurd (too_late row i k bound place (row_rises cuts unit is) found.1 ahead at rest before)
     ]
   where
     too_late : (row : List ℕ) (i k bound place : ℕ) → IsRising row → k < length row → i ≤ k → get_or row k 0 ≡ place
@@ -107,21 +103,21 @@ passed row cuts unit i bound test is fails inside rest place before has =
       )
     ]
 
-pub holding-stopped : (row : List ℕ) (cuts : List (List ℕ)) (unit i end : ℕ) (test : List ℕ → Bool)
+pub holding-stopped : {row : List ℕ} (cuts : List (List ℕ)) {unit i end : ℕ} {test : List ℕ → Bool}
     → row ≡ holding cuts unit → IsPassed row cuts test end i → end ≤ length cuts
     → (i < length row → end ≤ get_or row i 0) → IsFirstHolding unit test cuts end end
-holding-stopped row cuts unit i end test is was inside rest = record {
+holding-stopped cuts {unit} {i} {end} {test} is was inside rest = record {
   inside = omega arith;
-  before = passed row cuts unit i end test is was.fails inside rest;
+  before = passed cuts unit i end test is was.fails inside rest;
   here = λ h. absurd (omega arith);
 }
 
-pub holding-found : (row : List ℕ) (cuts : List (List ℕ)) (unit i end : ℕ) (test : List ℕ → Bool)
+pub holding-found : {row : List ℕ} (cuts : List (List ℕ)) {unit i end : ℕ} {test : List ℕ → Bool}
     → row ≡ holding cuts unit → IsPassed row cuts test end i → end ≤ length cuts → get_or row i 0 < end
     → test (cut_at cuts (get_or row i 0)) ≡ true → IsFirstHolding unit test cuts end (get_or row i 0)
-holding-found row cuts unit i end test is was inside below passes = record {
+holding-found {row} cuts {unit} {i} {test} is was inside below passes = record {
   inside = omega arith;
-  before = passed row cuts unit i (get_or row i 0) test is was.fails (omega arith) (λ _. omega arith);
+  before = passed cuts unit i (get_or row i 0) test is was.fails (omega arith) (λ _. omega arith);
   here = λ _. passes;
 }
 
@@ -135,16 +131,16 @@ pub record IsNarrowed (cuts : List (List ℕ)) (out asked : List ℕ) (most coun
       → among (cut_at cuts place) unit ≡ true → is_tight (asked ++ out) most (cut_at cuts place) ≡ false
   pub here : first < length cuts → is_tight (asked ++ out) most (cut_at cuts first) ≡ true
 
-pub narrowed-first : (cuts : List (List ℕ)) (out asked counts : List ℕ) (most first : ℕ) → counts ≡ residuals out cuts
+pub narrowed-first : (cuts : List (List ℕ)) {out asked counts : List ℕ} {most first : ℕ} → counts ≡ residuals out cuts
     → All (λ unit. among out unit ≡ false) asked → IsFirstAtMost counts most first
     → IsNarrowed cuts out asked most 0 first
-narrowed-first cuts out asked counts most first counted free found =
-    let many : length counts ≡ length cuts = as_many out cuts counts counted in
+narrowed-first cuts {out} {asked} {counts} {most} {first} counted free found =
+    let many : length counts ≡ length cuts = as_many out cuts counted in
     record {
       inside = omega (arith, found.inside);
       low =
           λ place h. let short : place < length cuts = omega (arith, found.inside) in
-          omega (arith, found.before place (omega arith) h, count_at out cuts counts place counted short);
+          omega (arith, found.before place (omega arith) h, count_at out cuts place counted short);
       held = λ place unit h has _. absurd cc;
       here = λ h.
           let cut : List ℕ = cut_at cuts first in
@@ -152,16 +148,16 @@ narrowed-first cuts out asked counts most first counted free found =
           (omega (
             arith,
             found.here (omega arith),
-            count_at out cuts counts first counted h,
+            count_at out cuts first counted h,
             residual-asked asked out (all_free asked out free) cut,
           ));
     }
 
 -- every cut set before the first one keeps enough
-none_before : (cuts : List (List ℕ)) (out asked : List ℕ) (most count first place : ℕ) → length asked ≤ count
+none_before : (cuts : List (List ℕ)) {out asked : List ℕ} {most count first : ℕ} (place : ℕ) → length asked ≤ count
     → IsNarrowed cuts out asked most count first → place < first
     → is_tight (asked ++ out) most (cut_at cuts place) ≡ false
-none_before cuts out asked most count first place full was before =
+none_before cuts {out} {asked} {most} {count} place full was before =
     let cut : List ℕ = cut_at cuts place in
     elim (cases_Bool (list_any (among cut) asked)) [
       | inl some ↦
@@ -172,22 +168,22 @@ none_before cuts out asked most count first place full was before =
           (omega (arith, was.low place before, residual-asked-apart asked out cut apart))
     ]
 
-pub narrowed-found : (cuts : List (List ℕ)) (out asked : List ℕ) (most count first : ℕ) → length asked ≤ count
+pub narrowed-found : (cuts : List (List ℕ)) {out asked : List ℕ} {most count first : ℕ} → length asked ≤ count
     → first < length cuts → IsNarrowed cuts out asked most count first
     → Some first ≡ position (is_tight (asked ++ out) most) cuts
-narrowed-found cuts out asked most count first full short was =
+narrowed-found cuts {out} {asked} {most} {first} full short was =
     let is : position_or_len (is_tight (asked ++ out) most) cuts ≡ first =
     position_or_len_is (is_tight (asked ++ out) most) cuts first [] was.inside
-    (λ k h. none_before cuts out asked most count first k full was h) was.here in
+    (λ k h. none_before cuts k full was h) was.here in
     sym (ap (λ n. cond (nat_lt n (length cuts)) (Some n) None) is
     ∙ cond-true (nat_lt first (length cuts)) (Some first) None (lt-ltb first (length cuts) short))
 
-pub narrowed-none : (cuts : List (List ℕ)) (out asked : List ℕ) (most count first : ℕ) → length asked ≤ count
+pub narrowed-none : (cuts : List (List ℕ)) {out asked : List ℕ} {most count first : ℕ} → length asked ≤ count
     → length cuts ≤ first → IsNarrowed cuts out asked most count first
     → None ≡ position (is_tight (asked ++ out) most) cuts
-narrowed-none cuts out asked most count first full past was =
+narrowed-none cuts {out} {asked} {most} {first} full past was =
     let is : position_or_len (is_tight (asked ++ out) most) cuts ≡ first =
     position_or_len_is (is_tight (asked ++ out) most) cuts first [] was.inside
-    (λ k h. none_before cuts out asked most count first k full was h) was.here in
+    (λ k h. none_before cuts k full was h) was.here in
     sym (ap (λ n. cond (nat_lt n (length cuts)) (Some n) None) is
     ∙ cond-false (nat_lt first (length cuts)) (Some first) None (le-ltb first (length cuts) past))

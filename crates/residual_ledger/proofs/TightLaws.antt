@@ -1,8 +1,7 @@
 -- The first number of the tight cut sets, and two ways to write the units that are out.
 use Rattle.std.specs.Prelude.{◌≡◌, ℕ, zero, suc, ◌+◌, ◌<◌, Bool, true, false, nat_lt, List, [], ◌∷◌, length, get_or}
 use Rattle.std.specs.Prelude.{slice_get, Some, None, if◌then◌else◌, nat_le}
-use Rattle.std.specs.List.{position, position_or_len}
-use Rattle.std.specs.Option.{option_map}
+use Rattle.std.specs.{List.position, List.position_or_len, Option.option_map}
 use Rattle.std.proofs.Common.{refl, sym, ◌∙◌, ap, inl, inr, arith}
 use Rattle.std.proofs.lemmas.Bool.{cases_lt, cond-true, cond-false, lt-ltb, le-ltb}
 use Rattle.std.proofs.lemmas.List.Sums.{fails_before_first, passes_at_first}

@@ -1,7 +1,6 @@
 -- Which cut sets hold a unit, and how rows of their numbers lie one after another in one buffer.
 use Rattle.std.specs.Prelude.{◌≡◌, ℕ, zero, suc, ◌+◌, ◌-◌, ◌<◌, ◌≤◌, List, length, take, drop, slice_index}
-use Rattle.unit_sets.specs.UnitList.{among}
-use Rattle.unit_sets.specs.Words.{passing_below}
+use Rattle.unit_sets.specs.{UnitList.among, Words.passing_below}
 use Rattle.residual_ledger.specs.Residual.{cut_at}
 
 -- the places, from 0 and rising, of those of the first cut sets that hold the unit

@@ -1,11 +1,8 @@
 -- A ledger as its callers see it, and what it keeps.
 use Rattle.std.specs.Prelude.{◌≡◌, ℕ, ◌≤◌, ◌<◌, Bool, true, false, List}
-use Rattle.unit_sets.specs.CutOrder.{IsOrderedCuts}
-use Rattle.unit_sets.specs.Unit.{most_units}
-use Rattle.unit_sets.specs.UnitList.{among}
-use Rattle.residual_ledger.specs.Residual.{cut_at, HasUnitsUpTo}
-use Rattle.residual_ledger.specs.Holding.{HasRows}
-use Rattle.residual_ledger.specs.Kept.{residuals, HasLowest}
+use Rattle.unit_sets.specs.{CutOrder.IsOrderedCuts, Unit.most_units, UnitList.among}
+use Rattle.residual_ledger.specs.{Residual.cut_at, Residual.HasUnitsUpTo, Holding.HasRows, Kept.residuals}
+use Rattle.residual_ledger.specs.{Kept.HasLowest}
 
 -- how many units there are, the cut sets, and the rising list of the units that are out
 pub record LedgerView : Type 0 where

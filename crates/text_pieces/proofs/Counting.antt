@@ -14,10 +14,10 @@ module _ (line : ℕ → List ℕ) (start count : ℕ) where
   no_number i all = let none : count - i ≡ 0 = omega (arith, all) in
       ap (λ n. flat_map line (range_with_len (start + i) n)) none
 
-  pub next_number : (i number : ℕ) → i < count → number ≡ start + i
+  pub next_number : (i : ℕ) {number : ℕ} → i < count → number ≡ start + i
       → flat_map line (range_with_len (start + i) (count - i)) ≡ line number
       ++ flat_map line (range_with_len (start + (i + 1)) (count - (i + 1)))
-  next_number i number short is =
+  next_number i short is =
       let more : count - i ≡ suc (count - (i + 1)) = omega (arith, short) in
       let later : start + i + 1 ≡ start + (i + 1) = omega arith in
       ap (λ n. flat_map line (range_with_len (start + i) n)) more

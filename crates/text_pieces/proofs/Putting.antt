@@ -15,32 +15,32 @@ pub record PutsFront {K : Type 0} (taken : K → Option (List ℕ)) (faults : K 
 
 module _ {K : Type 0} (taken : K → Option (List ℕ)) (faults : K → ℕ) where
   -- nothing is put
-  pub begun : (old : Output K) (whole : List ℕ) → PutsFront taken faults old old whole whole
-  begun old whole = record { front = []; puts = Puts-none taken faults old; split = refl }
+  pub begun : {old : Output K} {whole : List ℕ} → PutsFront taken faults old old whole whole
+  begun = record { front = []; puts = Puts-none; split = refl }
 
   -- everything is
-  pub whole_put : (old now : Output K) (whole : List ℕ) → PutsFront taken faults old now [] whole
+  pub whole_put : {old now : Output K} {whole : List ℕ} → PutsFront taken faults old now [] whole
       → Puts taken faults old now whole
-  whole_put old now whole so = subst (Puts taken faults old now) (sym (append-nil so.front) ∙ so.split) so.puts
+  whole_put {old} {now} so = subst (Puts taken faults old now) (sym (append-nil so.front) ∙ so.split) so.puts
 
   -- one piece more
-  pub one_more : (old mid now : Output K) (left piece rest whole : List ℕ) → PutsFront taken faults old mid left whole
+  pub one_more : {old mid now : Output K} {left piece rest whole : List ℕ} → PutsFront taken faults old mid left whole
       → Puts taken faults mid now piece
       → left ≡ piece ++ rest → PutsFront taken faults old now rest whole
-  one_more old mid now left piece rest whole so put is = record {
+  one_more {piece} {rest} so put is = record {
     front = so.front ++ piece;
-    puts = Puts-trans taken faults old mid now so.front piece so.puts put;
+    puts = Puts-trans so.puts put;
     split = append_assoc so.front piece rest ∙ ap (λ l. so.front ++ l) (sym is) ∙ so.split;
   }
 
   -- and then a write has failed
-  pub cut_short : (old mid now : Output K) (left piece rest whole : List ℕ) → PutsFront taken faults old mid left whole
+  pub cut_short : {old mid now : Output K} {left piece : List ℕ} (rest : List ℕ) {whole : List ℕ}
+      → PutsFront taken faults old mid left whole
       → Puts taken faults mid now piece
       → left ≡ piece ++ rest → has_failed now ≡ true → Puts taken faults old now whole
-  cut_short old mid now left piece rest whole so put is failed =
-      let more = one_more old mid now left piece rest whole so put is in
-      subst (Puts taken faults old now) more.split
-      (Puts-trans taken faults old now now more.front rest more.puts (Puts-failed taken faults now rest failed))
+  cut_short {old} {now} rest so put is failed =
+      let more = one_more {rest = rest} so put is in
+      subst (Puts taken faults old now) more.split (Puts-trans more.puts (Puts-failed failed))
 
 -- ---- lists of pieces
 
@@ -53,48 +53,42 @@ pub next_piece : {X : Type 0} (f : X → List ℕ) (pieces : List X) (i : ℕ) (
 next_piece f pieces i d short = ap (flat_map f) (drop_more pieces i d short)
 
 -- the same of a piece that has a name of its own
-pub piece_named : {X : Type 0} (f : X → List ℕ) (pieces : List X) (i : ℕ) (d piece : X) → i < length pieces
+pub piece_named : {X : Type 0} (f : X → List ℕ) (pieces : List X) (i : ℕ) (d : X) {piece : X} → i < length pieces
     → piece ≡ get_or pieces i d
     → left_of f pieces i ≡ f piece ++ left_of f pieces (i + 1)
-piece_named f pieces i d piece short is =
-    next_piece f pieces i d short ∙ ap (λ x. f x ++ left_of f pieces (i + 1)) (sym is)
+piece_named f pieces i d short is = next_piece f pieces i d short ∙ ap (λ x. f x ++ left_of f pieces (i + 1)) (sym is)
 
 -- ---- a few pieces in a row
 
 module _ {K : Type 0} (taken : K → Option (List ℕ)) (faults : K → ℕ) where
   -- the first piece failed
-  pub first_short : (old now : Output K) (piece rest : List ℕ) → Puts taken faults old now piece → has_failed now ≡ true
+  pub first_short : {old now : Output K} {piece : List ℕ} (rest : List ℕ) → Puts taken faults old now piece
+      → has_failed now ≡ true
       → Puts taken faults old now (piece ++ rest)
-  first_short old now piece rest put failed =
-      Puts-trans taken faults old now now piece rest put (Puts-failed taken faults now rest failed)
+  first_short rest put failed = Puts-trans put (Puts-failed failed)
 
   -- the second
-  pub second_short : (old mid now : Output K) (piece more rest : List ℕ) → Puts taken faults old mid piece
+  pub second_short : {old mid now : Output K} {piece more : List ℕ} (rest : List ℕ) → Puts taken faults old mid piece
       → Puts taken faults mid now more → has_failed now ≡ true
       → Puts taken faults old now (piece ++ (more ++ rest))
-  second_short old mid now piece more rest put then failed =
-      Puts-trans taken faults old mid now piece (more ++ rest) put (first_short mid now more rest then failed)
+  second_short {mid} {now} {more} rest put then failed =
+      Puts-trans put (first_short {old = mid} {now = now} {piece = more} rest then failed)
 
   -- none did
-  pub all_three : (old mid later now : Output K) (piece more rest : List ℕ) → Puts taken faults old mid piece
+  pub all_three : {old mid : Output K} (later : Output K) {now : Output K} {piece more rest : List ℕ}
+      → Puts taken faults old mid piece
       → Puts taken faults mid later more → Puts taken faults later now rest
       → Puts taken faults old now (piece ++ (more ++ rest))
-  all_three old mid later now piece more rest put then last =
-      Puts-trans taken faults old mid now piece (more ++ rest) put
-      (Puts-trans taken faults mid later now more rest then last)
-
-  -- the third of four
-  pub third_short : (old mid later now : Output K) (piece more next rest : List ℕ) → Puts taken faults old mid piece
-      → Puts taken faults mid later more → Puts taken faults later now next → has_failed now ≡ true
-      → Puts taken faults old now (piece ++ (more ++ (next ++ rest)))
-  third_short old mid later now piece more next rest put then last failed =
-      Puts-trans taken faults old mid now piece (more ++ (next ++ rest)) put
-      (second_short mid later now more next rest then last failed)
+  all_three {mid} later {now} {more} {rest} put then last =
+      Puts-trans put
+      (Puts-trans {taken = taken} {faults = faults} {old = mid} {mid = later} {new = now} {text = more} {more = rest}
+      then last)
 
   -- all four
-  pub all_four : (old mid later end now : Output K) (piece more next rest : List ℕ) → Puts taken faults old mid piece
+  pub all_four : {old mid : Output K} (later : Output K) {end now : Output K} {piece more next rest : List ℕ}
+      → Puts taken faults old mid piece
       → Puts taken faults mid later more → Puts taken faults later end next → Puts taken faults end now rest
       → Puts taken faults old now (piece ++ (more ++ (next ++ rest)))
-  all_four old mid later end now piece more next rest put then after last =
-      Puts-trans taken faults old mid now piece (more ++ (next ++ rest)) put
-      (all_three mid later end now more next rest then after last)
+  all_four {mid} later {end} {now} {more} {next} {rest} put then after last =
+      Puts-trans put
+      (all_three {old = mid} {mid = later} end {now = now} {piece = more} {more = next} {rest = rest} then after last)

@@ -5,17 +5,12 @@ use Rattle.std.specs.Prelude.{◌==◌, Some, None, if◌then◌else◌, slice_i
 use Rattle.std.proofs.lemmas.Bool.{cases_Bool, or_cases, or_left, or_right, eq-eqb, eqb-true}
 use Rattle.unit_sets.specs.UnitList.{among}
 use Rattle.fault_words.specs.declared.place.Place.{Place}
-use Rattle.fault_definitions.specs.Tree.{FaultTree, rank_of}
-use Rattle.fault_definitions.specs.Rank.{rank_over as tree_rank_over}
+use Rattle.fault_definitions.specs.{Tree.FaultTree, Tree.rank_of, Rank.rank_over as tree_rank_over}
 use Rattle.galileo_tree.specs.declared.raw.Placed.{Placed}
 use Rattle.graph_cycles.specs.Graph.{rank_over}
 use Rattle.fault_words.specs.Names.{same_name, has_name, number_in}
-use Rattle.tree_check.proofs.SaidLemmas.{names_in}
-use Rattle.tree_check.specs.Numbered.{numbered}
-use Rattle.tree_check.specs.TreeOf.{numbers}
-use Rattle.tree_check.specs.Classes.{first}
-use Rattle.tree_check.specs.Marked.{is_marked, marked_places}
-use Rattle.tree_check.proofs.Differ.{same_is}
+use Rattle.tree_check.proofs.{SaidLemmas.names_in, Differ.same_is}
+use Rattle.tree_check.specs.{Numbered.numbered, TreeOf.numbers, Classes.first, Marked.is_marked, Marked.marked_places}
 
 -- the numbers of definitions
 abbrev pub numbers_of : List (List ℕ) → List Placed → List ℕ
@@ -35,10 +30,10 @@ pub record FirstMarked (marks : List Bool) (names : List (List ℕ)) (definition
       ≡ false
 
 module _ (marks : List Bool) (names : List (List ℕ)) where
-  pub first_marked : (definitions : List Placed) (place : Place)
+  pub first_marked : (definitions : List Placed) {place : Place}
       → first (marked_places marks names definitions) ≡ Some place → FirstMarked marks names definitions place
-  first_marked [] place found = absurd cc
-  first_marked (d ∷ definitions) place found = elim (cases_Bool (is_marked marks names d)) [
+  first_marked [] found = absurd cc
+  first_marked (d ∷ definitions) {place} found = elim (cases_Bool (is_marked marks names d)) [
     | inl here ↦
         let is : marked_places marks names (d ∷ definitions) ≡ d.place ∷ marked_places marks names definitions =
         ap (λ b. map (λ (p : Placed). p.place) (if b then d ∷ filter (is_marked marks names) definitions
@@ -49,8 +44,7 @@ module _ (marks : List Bool) (names : List (List ℕ)) where
         let is : marked_places marks names (d ∷ definitions) ≡ marked_places marks names definitions =
         ap (λ b. map (λ (p : Placed). p.place) (if b then d ∷ filter (is_marked marks names) definitions
         else filter (is_marked marks names) definitions)) other in
-        let rest : FirstMarked marks names definitions place =
-        first_marked definitions place (sym (ap first is) ∙ found) in
+        let rest : FirstMarked marks names definitions place = first_marked definitions (sym (ap first is) ∙ found) in
         record {
           index = suc rest.index;
           within = omega (arith, rest.within);

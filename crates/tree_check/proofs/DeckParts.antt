@@ -3,40 +3,33 @@ use Rattle.std.proofs.Common.{◌≡◌, ℕ, ◌+◌, ◌≤◌, List, [], ◌�
 use Rattle.std.specs.Prelude.{All}
 use Rattle.unit_sets.specs.Unit.{most_units}
 use Rattle.fault_definitions.specs.declared.parts.TheConstants.{MOST_GATES}
-use Rattle.galileo_tree.specs.declared.raw.RawTop.{RawTop}
-use Rattle.galileo_tree.specs.declared.raw.RawBasic.{RawBasic}
-use Rattle.galileo_tree.specs.declared.raw.Statement.{Statement}
-use Rattle.tree_check.specs.Examined.{AreParts}
-use Rattle.tree_check.specs.declared.numbered.NumberedText.{NumberedText}
-use Rattle.tree_check.specs.declared.numbered.Parts.{Parts}
-use Rattle.tree_check.specs.declared.numbered.NumberedGate.{NumberedGate}
+use Rattle.galileo_tree.specs.{declared.raw.RawTop.RawTop, declared.raw.RawBasic.RawBasic}
+use Rattle.galileo_tree.specs.{declared.raw.Statement.Statement}
+use Rattle.tree_check.specs.{Examined.AreParts, declared.numbered.NumberedText.NumberedText}
+use Rattle.tree_check.specs.{declared.numbered.Parts.Parts, declared.numbered.NumberedGate.NumberedGate}
+use Rattle.tree_check.specs.{Numbering.IsDeckOf, SpareTable.AreWithin, TreeOf.first_number}
 use Rattle.tree_check.specs.Said.{basics, gates, tops, names, uses}
 use Rattle.tree_check.specs.Numbered.{numbered, numbered_gates, unit_total}
-use Rattle.tree_check.specs.Numbering.{IsDeckOf}
 use Rattle.tree_check.specs.Classes.{undefined, units_beyond, gates_beyond}
-use Rattle.tree_check.specs.SpareTable.{AreWithin}
-use Rattle.tree_check.specs.TreeOf.{first_number}
-use Rattle.tree_check.proofs.NonePass.{none_beyond}
-use Rattle.tree_check.proofs.GoodGates.{IsAmong}
-use Rattle.tree_check.proofs.LowNumbers.{gates_low}
-use Rattle.tree_check.proofs.StatementNames.{names_total, tops_known}
+use Rattle.tree_check.proofs.{NonePass.none_beyond, GoodGates.IsAmong, LowNumbers.gates_low, StatementNames.names_total}
+use Rattle.tree_check.proofs.{StatementNames.tops_known}
 
 -- the inputs have numbers of nodes
-within : (statements : List Statement) (units : ℕ) (all : List NumberedGate) → units ≡ unit_total statements
+within : (statements : List Statement) {units : ℕ} {all : List NumberedGate} → units ≡ unit_total statements
     → all ≡ numbered_gates statements → AreWithin (units + length all) all
-within statements units all units_are gates_are =
+within statements {units} {all} units_are gates_are =
     subst (λ nodes. AreWithin nodes all)
     (let total : length (names statements) ≡ units + length all =
     omega (arith, units_are, ap length gates_are, names_total statements) in total)
     (subst (λ gs. AreWithin (length (names statements)) gs) (sym gates_are)
     (gates_low (names statements) (gates statements)))
 
-pub parts_within : (parts : Parts) → AreParts parts → AreWithin (parts.units + length parts.gates.now) parts.gates.now
-parts_within parts are = within parts.statements.now parts.units parts.gates.now are.units are.gates
+pub parts_within : {parts : Parts} → AreParts parts → AreWithin (parts.units + length parts.gates.now) parts.gates.now
+parts_within {parts} are = within parts.statements.now are.units are.gates
 
-module _ (statements : List Statement) (deck : NumberedText) (is : IsDeckOf (names statements) statements deck) where
+module _ {statements : List Statement} {deck : NumberedText} (is : IsDeckOf (names statements) statements deck) where
   pub deck_within : AreWithin (deck.units + length deck.gates.items) deck.gates.items
-  deck_within = within statements deck.units deck.gates.items is.units is.gates_all
+  deck_within = within statements is.units is.gates_all
 
   -- and so does the top event, where each name that is used is defined
   pub deck_top : undefined (names statements) (uses statements) ≡ []

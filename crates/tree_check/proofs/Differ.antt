@@ -2,13 +2,12 @@
 use Rattle.std.proofs.Common.{◌≡◌, ◌≢◌, ℕ, Bool, true, false, not, List, [], ◌∷◌, ◌++◌, length, drop, get_or, ◌+◌, ◌<◌}
 use Rattle.std.proofs.Common.{refl, sym, ap, ◌∙◌, subst, inl, inr, arith, append_assoc}
 use Rattle.std.specs.Prelude.{◌||◌, ◌&&◌, if◌then◌else◌}
-use Rattle.std.proofs.lemmas.List.{append-nil, at_drop_more}
-use Rattle.std.proofs.lemmas.List.Folds.{list_any-append}
+use Rattle.std.proofs.{lemmas.List.append-nil, lemmas.List.at_drop_more, lemmas.List.Folds.list_any-append}
 use Rattle.std.proofs.lemmas.Bool.{cases_Bool, or_cases, or_left, or_right, or_parts, and_parts, false_from_ne_true}
 use Rattle.std.proofs.lemmas.Bool.{cond-true}
 use Rattle.std.specs.Borrow.{Bor}
 use Rattle.std.specs.Prelude.{Option, Some, None}
-use Rattle.galileo_tree.specs.declared.raw.Statement.{Statement}
+use Rattle.galileo_tree.specs.{declared.raw.Statement.Statement, declared.raw.Placed.Placed}
 use Rattle.galileo_tree.specs.declared.raw.Statement.TheVariants.{Top, Gate, Basic}
 use lib.Pointwise.{bytes_decides}
 use Rattle.fault_words.specs.Names.{same_name, has_name, all_differ}
@@ -16,7 +15,6 @@ use Rattle.tree_check.specs.Said.{basic_names, gate_names, names, definitions}
 use Rattle.tree_check.proofs.SaidLemmas.{names_in}
 use Rattle.tree_check.specs.Classes.{repeats, repeats_after, first}
 use Rattle.fault_words.specs.declared.place.Place.{Place}
-use Rattle.galileo_tree.specs.declared.raw.Placed.{Placed}
 use Rattle.tree_check.specs.Naming.{name_list, names_of, Adds}
 use Rattle.tree_check.specs.declared.naming.Named.{Named}
 use Rattle.tree_check.specs.declared.naming.Named.TheVariants.{BasicEvents, Gates}
@@ -68,53 +66,52 @@ pub record Comes (start whole so_far to_come : List (List ℕ)) : Type 0 where
   pub all : so_far ++ to_come ≡ start ++ whole
   pub fresh : all_differ so_far ≡ true
 
-pub Comes-more : (start whole so_far to_come : List (List ℕ)) (name : List ℕ) (rest : List (List ℕ))
+pub Comes-more : (start whole so_far : List (List ℕ)) {to_come : List (List ℕ)} {name : List ℕ} {rest : List (List ℕ)}
     → to_come ≡ name ∷ rest → has_name so_far name ≡ false → Comes start whole so_far to_come
     → Comes start whole (so_far ++ name ∷ []) rest
-Comes-more start whole so_far to_come name rest is new c = record {
+Comes-more start whole so_far {name} {rest} is new c = record {
   all = append_assoc so_far (name ∷ []) rest ∙ (ap (λ t. so_far ++ t) (sym is) ∙ c.all);
   fresh = differ-push so_far name c.fresh new;
 }
 
-pub Comes-found : (start whole so_far to_come : List (List ℕ)) (name : List ℕ) (rest : List (List ℕ))
+pub Comes-found : (start whole so_far : List (List ℕ)) {to_come : List (List ℕ)} {name : List ℕ} {rest : List (List ℕ)}
     → to_come ≡ name ∷ rest → has_name so_far name ≡ true → Comes start whole so_far to_come
     → all_differ (start ++ whole) ≡ false
-Comes-found start whole so_far to_come name rest is found c =
+Comes-found start whole so_far {name} {rest} is found c =
     ap all_differ (sym c.all) ∙ (ap (λ t. all_differ (so_far ++ t)) is ∙ differ-found so_far rest name found)
 
 -- the next of what is left, by a function of all that is left
-pub next : {X : Type 0} {Y : Type 0} (F : List X → Y) (xs : List X) (i : ℕ) (x : X) → i < length xs → x ≡ get_or xs i x
+pub next : {X : Type 0} {Y : Type 0} (F : List X → Y) (xs : List X) (i : ℕ) {x : X} → i < length xs → x ≡ get_or xs i x
     → F (drop i xs) ≡ F (x ∷ drop (i + 1) xs)
-next F xs i x l is = at_drop_more F xs i x l ∙ ap (λ y. F (y ∷ drop (i + 1) xs)) (sym is)
+next F xs i {x} l is = at_drop_more F xs i x l ∙ ap (λ y. F (y ∷ drop (i + 1) xs)) (sym is)
 
 -- one more statement, by the name that it adds
 pub Comes-adds : {start whole so_far to_come : List (List ℕ)} (name : Option (Bor (List ℕ)))
-    (rest new : List (List ℕ)) (fresh : Bool)
+    (rest : List (List ℕ)) {new : List (List ℕ)} {fresh : Bool}
     → to_come ≡ name_list name ++ rest → Adds name fresh so_far new → fresh ≡ true → Comes start whole so_far to_come
     → Comes start whole new rest
-Comes-adds {so_far = so_far} None rest new fresh is adds yes' c =
+Comes-adds {so_far = so_far} None rest {fresh} is adds yes' c =
     record {
       all = ap (λ n. n ++ rest) adds.1 ∙ (ap (λ t. so_far ++ t) (sym is) ∙ c.all);
       fresh = ap all_differ adds.1 ∙ c.fresh;
     }
-Comes-adds {start = start} {whole = whole} {so_far = so_far} {to_come = to_come} (Some name) rest new fresh is adds
+Comes-adds {start = start} {whole = whole} {so_far = so_far} {to_come = to_come} (Some name) rest {new} {fresh} is adds
     yes' c =
     let unknown : has_name so_far name.now ≡ false =
     elim (cases_Bool (has_name so_far name.now)) [ inl there ↦ absurd cc | inr none ↦ none ] in
     let pushed : new ≡ so_far ++ name.now ∷ [] = adds.1 ∙ cond-true fresh (so_far ++ name.now ∷ []) so_far yes' in
-    subst (λ n. Comes start whole n rest) (sym pushed)
-    (Comes-more start whole so_far to_come name.now rest is unknown c)
+    subst (λ n. Comes start whole n rest) (sym pushed) (Comes-more start whole so_far is unknown c)
 
 pub Comes-refused : {start whole so_far to_come : List (List ℕ)} (name : Option (Bor (List ℕ)))
-    (rest new : List (List ℕ)) (fresh : Bool)
+    (rest new : List (List ℕ)) {fresh : Bool}
     → to_come ≡ name_list name ++ rest → Adds name fresh so_far new → fresh ≡ false → Comes start whole so_far to_come
     → all_differ (start ++ whole) ≡ false
-Comes-refused None rest new fresh is adds none c = absurd (let never : true ≡ false = sym adds.0 ∙ none in cc)
-Comes-refused {start = start} {whole = whole} {so_far = so_far} {to_come = to_come} (Some name) rest new fresh is adds
+Comes-refused None rest new is adds none c = absurd (let never : true ≡ false = sym adds.0 ∙ none in cc)
+Comes-refused {start = start} {whole = whole} {so_far = so_far} {to_come = to_come} (Some name) rest new is adds
     none c =
     let found : has_name so_far name.now ≡ true =
     elim (cases_Bool (has_name so_far name.now)) [ inl there ↦ there | inr unknown ↦ absurd cc ] in
-    Comes-found start whole so_far to_come name.now rest is found c
+    Comes-found start whole so_far is found c
 
 names_of-cons : (named : Named) (statement : Statement) (rest : List Statement)
     → names_of named (statement ∷ rest) ≡ names_of named (statement ∷ []) ++ names_of named rest
@@ -125,11 +122,11 @@ names_of-cons Gates (Top top) rest = refl
 names_of-cons Gates (Gate gate) rest = refl
 names_of-cons Gates (Basic basic) rest = refl
 
-pub next_name : (named : Named) (xs : List Statement) (i : ℕ) (x : Statement) (name : Option (Bor (List ℕ)))
+pub next_name : (named : Named) (xs : List Statement) (i : ℕ) {x : Statement} (name : Option (Bor (List ℕ)))
     → i < length xs → x ≡ get_or xs i x → names_of named (x ∷ []) ≡ name_list name
     → names_of named (drop i xs) ≡ name_list name ++ names_of named (drop (i + 1) xs)
-next_name named xs i x name l is defines =
-    next (names_of named) xs i x l is ∙ (names_of-cons named x (drop (i + 1) xs)
+next_name named xs i {x} name l is defines =
+    next (names_of named) xs i l is ∙ (names_of-cons named x (drop (i + 1) xs)
     ∙ ap (λ n. n ++ names_of named (drop (i + 1) xs)) defines)
 
 -- names that differ still do so without those at the end

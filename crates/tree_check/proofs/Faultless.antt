@@ -2,27 +2,20 @@
 use Rattle.std.proofs.Common.{◌≡◌, ◌≢◌, ℕ, ◌≤◌, true, false, List, [], ◌∷◌, length, get_or, map, refl, sym, ◌∙◌, ap}
 use Rattle.std.proofs.Common.{subst, inl, inr, arith}
 use Rattle.std.specs.Prelude.{if◌then◌else◌, not, ◌&&◌, All, AllPairs, Contains, zip, codes, filter}
-use Rattle.std.specs.List.{flat_map}
-use Rattle.std.specs.Str.{str_eq_ignore_ascii_case, str_to_ascii_lowercase}
-use Rattle.std.proofs.lemmas.Bool.{and_cases, not-false}
-use Rattle.std.proofs.lemmas.List.{length-map}
-use Rattle.std.proofs.lemmas.List.Elements.{All-map}
+use Rattle.std.specs.{List.flat_map, Str.str_eq_ignore_ascii_case, Str.str_to_ascii_lowercase}
+use Rattle.std.proofs.{lemmas.Bool.and_cases, lemmas.Bool.not-false, lemmas.List.length-map}
+use Rattle.std.proofs.{lemmas.List.Elements.All-map}
 use lib.Pointwise.{bytes_decides}
 use Rattle.unit_sets.specs.Unit.{most_units}
-use Rattle.fault_definitions.specs.declared.parts.TheConstants.{MOST_GATES}
-use Rattle.fault_words.specs.declared.place.Place.{Place}
-use Rattle.fault_definitions.specs.Tree.{unit_count, gate_count, node_count, is_fdep, IsNodeOf}
+use Rattle.fault_definitions.specs.{declared.parts.TheConstants.MOST_GATES, Rank.IsRanked}
+use Rattle.fault_words.specs.{declared.place.Place.Place, Names.same_name, Names.all_differ}
+use Rattle.fault_definitions.specs.Tree.{unit_count, node_count, is_fdep, IsNodeOf}
 use Rattle.fault_definitions.specs.Tree as trees
-use Rattle.fault_definitions.specs.Rank.{IsRanked}
 use Rattle.fault_definitions.specs.WellFormed.{IsTree, IsSoundGate, IsSoundAttribute, primary_in, spares_in}
-use Rattle.galileo_tree.specs.declared.raw.RawTop.{RawTop}
-use Rattle.galileo_tree.specs.declared.raw.RawBasic.{RawBasic}
-use Rattle.galileo_tree.specs.declared.raw.RawAttribute.{RawAttribute}
-use Rattle.galileo_tree.specs.declared.raw.Statement.{Statement}
+use Rattle.galileo_tree.specs.{declared.raw.RawTop.RawTop, declared.raw.RawBasic.RawBasic}
+use Rattle.galileo_tree.specs.{declared.raw.RawAttribute.RawAttribute, declared.raw.Statement.Statement}
 use Rattle.galileo_tree.specs.ReadTree.{ReadTree, KeepsForm, HasBareWord, HasShortNumbers}
-use Rattle.tree_check.specs.declared.numbered.Numbered.{Numbered}
-use Rattle.tree_check.specs.declared.numbered.NumberedGate.{NumberedGate}
-use Rattle.fault_words.specs.Names.{same_name, all_differ}
+use Rattle.tree_check.specs.{declared.numbered.Numbered.Numbered, declared.numbered.NumberedGate.NumberedGate}
 use Rattle.tree_check.specs.Said.{basics, gates, tops, names}
 use Rattle.tree_check.specs.Numbered.{kinds, kept_inputs, numbered, numbered_gate, numbered_gates, numbered_tops}
 use Rattle.tree_check.specs.Numbered.{unit_total, is_fdep_in}
@@ -31,11 +24,9 @@ use Rattle.tree_check.specs.Classes.{reads_nothing, is_short_fdep, gates_after_f
 use Rattle.tree_check.specs.Numbered.{is_spare_kind}
 use Rattle.fault_definitions.specs.Tree.{is_fdep_kind}
 use Rattle.tree_check.specs.TreeOf.{numbers, tree_of, first_number}
-use Rattle.tree_check.proofs.Edges.{kept_gates}
+use Rattle.tree_check.proofs.{Edges.kept_gates, Differ.same_is, SpareParts.differing_spares, SpareParts.no_primary}
 use Rattle.tree_check.specs.Checked.{NoneOf, before_cycles, after_cycles}
-use Rattle.tree_check.proofs.Differ.{same_is}
 use Rattle.tree_check.proofs.NonePass.{none_pass, none_each, none_beyond}
-use Rattle.tree_check.proofs.SpareParts.{differing_spares, no_primary}
 use Rattle.tree_check.proofs.GoodGates.{IsGood, fdep_same, sound_gates}
 use Rattle.tree_check.proofs.StatementNames.{names_total, inputs_known, tops_known, gates_short}
 use Rattle.tree_check.proofs.StatementNames.{basics_bare, pairs_differ}
@@ -46,10 +37,10 @@ zip-maps f g (x ∷ xs) = ap (λ rest. (f x, g x) ∷ rest) (zip-maps f g xs)
 
 -- ---- attributes
 
-replicated_word : (word value : List ℕ) → (str_eq_ignore_ascii_case word (codes "repl")
+replicated_word : (word : List ℕ) {value : List ℕ} → (str_eq_ignore_ascii_case word (codes "repl")
     && not (same_name value (codes "1"))) ≡ false
     → str_to_ascii_lowercase word ≡ codes "repl" → value ≡ codes "1"
-replicated_word word value none is =
+replicated_word word {value} none is =
     elim (and_cases (str_eq_ignore_ascii_case word (codes "repl")) (not (same_name value (codes "1"))) none) [
       | inl other ↦ (let same : str_eq_ignore_ascii_case word (codes "repl") ≡ true =
           (bytes_decides (str_to_ascii_lowercase word) (codes "repl")).1 is in absurd cc)
@@ -58,7 +49,7 @@ replicated_word word value none is =
 
 sound_attribute : (raw : RawAttribute) → HasBareWord raw → is_replicated raw ≡ false → IsSoundAttribute raw.attribute
 sound_attribute raw bare none =
-    record { bare = bare; single = replicated_word raw.attribute.word raw.attribute.value none }
+    record { bare = bare; single = replicated_word raw.attribute.word none }
 
 sound_attributes : (statements : List Statement) → All KeepsForm statements → replicated (basics statements) ≡ []
     → All (All IsSoundAttribute) (map (λ basic. map (λ raw. raw.attribute) basic.attributes) (basics statements))
@@ -151,8 +142,7 @@ module _ (read : ReadTree) (ranks : List ℕ) where
 
     top_read : is_fdep (tree_of read.statements ranks) (tree_of read.statements ranks).top ≡ false
     top_read =
-        fdep_same (tree_of read.statements ranks) (unit_total read.statements) (length (names read.statements))
-        units_are (sym names_are) (tree_of read.statements ranks).top
+        fdep_same (tree_of read.statements ranks) units_are (sym names_are) (tree_of read.statements ranks).top
         ∙ first_passes (λ number. is_fdep_in (unit_total read.statements) (kinds (numbered_gates read.statements))
         number ≡ false) read.end read.statements before.0
         (none_pass (λ (top : Numbered). top.place) (λ (top : Numbered). is_fdep_in (unit_total read.statements)
@@ -162,7 +152,7 @@ module _ (read : ReadTree) (ranks : List ℕ) where
     gates_good : All (IsSoundGate (tree_of read.statements ranks)) (trees.gates (tree_of read.statements ranks))
     gates_good =
         subst (λ gs. All (IsSoundGate (tree_of read.statements ranks)) gs) (sym gates_are)
-        (sound_gates (tree_of read.statements ranks) (unit_total read.statements) (length (names read.statements))
+        (sound_gates (tree_of read.statements ranks)
         units_are (sym names_are) (numbered_gates read.statements) good_gates)
 
     spares_apart : AllPairs (λ earlier later. earlier ≢ later)

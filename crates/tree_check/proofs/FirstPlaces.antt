@@ -1,5 +1,5 @@
 -- The first place that the items of a list give, one item after another.
-use Rattle.std.proofs.Common.{◌≡◌, ℕ, suc, arith, ◌+◌, ◌-◌, ◌<◌, ◌≤◌, Bool, true, false, List, [], ◌∷◌, ◌++◌, length}
+use Rattle.std.proofs.Common.{◌≡◌, ℕ, suc, arith, ◌+◌, ◌-◌, ◌<◌, ◌≤◌, Bool, false, List, [], ◌∷◌, ◌++◌, length}
 use Rattle.std.proofs.Common.{drop, map, get_or, refl, sym, ◌∙◌, ap}
 use Rattle.std.specs.Prelude.{Option, Some, None, filter}
 use Rattle.std.specs.List.{flat_map}
@@ -39,10 +39,6 @@ module _ {X : Type 0} (xs : List X) (i : ℕ) (x : X) where
         → first (map place_of (filter test (drop (i + 1) xs))) ≡ first (map place_of (filter test (drop i xs)))
     none_at short is fails = sym (ap (λ ys. first (map place_of (filter test ys))) (drop_at short is) ∙ rw fails refl)
 
-    pub some_at : i < length xs → x ≡ get_or xs i x → test x ≡ true
-        → first (map place_of (filter test (drop i xs))) ≡ Some (place_of x)
-    some_at short is passes = ap (λ ys. first (map place_of (filter test ys))) (drop_at short is) ∙ rw passes refl
-
 pub none_behind : {X : Type 0} (place_of : X → Place) (xs : List X) (n : ℕ) → length xs ≤ n
     → first (map place_of (drop n xs)) ≡ None
 none_behind place_of xs n long = ap (λ ys. first (map place_of ys)) (drop_all n xs long)
@@ -53,18 +49,18 @@ some_behind place_of xs n x short = ap (λ ys. first (map place_of ys)) (at_drop
 
 -- where parts of the items are passed over: an item with one part, and an item with none
 module _ {X Y : Type 0} (parts : X → List Y) (place_of : Y → Place) (xs : List X) (i : ℕ) (x : X) (n : ℕ) where
-  pub passed_one : i < length xs → x ≡ get_or xs i x → (y : Y) → parts x ≡ y ∷ [] → (n ≡ 0 → ⊥) → (m : ℕ) → m ≡ n - 1
+  pub passed_one : i < length xs → x ≡ get_or xs i x → {y : Y} → parts x ≡ y ∷ [] → (n ≡ 0 → ⊥) → {m : ℕ} → m ≡ n - 1
       → first (map place_of (drop m (flat_map parts (drop (i + 1) xs))))
       ≡ first (map place_of (drop n (flat_map parts (drop i xs))))
-  passed_one short is y one more m less =
+  passed_one short is one more {m} less =
       let suc_m : n ≡ suc m = omega arith in
       sym (ap (λ ys. first (map place_of (drop n (flat_map parts ys)))) (drop_at xs i x short is)
       ∙ rw (one, suc_m) refl)
 
-  pub passed_none : i < length xs → x ≡ get_or xs i x → parts x ≡ [] → (m : ℕ) → m ≡ n
+  pub passed_none : i < length xs → x ≡ get_or xs i x → parts x ≡ [] → {m : ℕ} → m ≡ n
       → first (map place_of (drop m (flat_map parts (drop (i + 1) xs))))
       ≡ first (map place_of (drop n (flat_map parts (drop i xs))))
-  passed_none short is none m same =
+  passed_none short is none same =
       sym (ap (λ ys. first (map place_of (drop n (flat_map parts ys)))) (drop_at xs i x short is)
       ∙ rw (none, same) refl)
 

@@ -10,15 +10,12 @@ use Rattle.fault_words.specs.declared.kind.GateKind.TheVariants.{And, Or, Votes,
 use Rattle.fault_definitions.specs.Tree.{FaultTree, unit_count, node_count, is_fdep, is_fdep_kind, IsNodeOf, IsUnitOf}
 use Rattle.fault_definitions.specs.WellFormed.{IsSoundVote, HasUnitsAfterFirst, IsSoundKind, IsSoundGate}
 use Rattle.galileo_tree.specs.ReadTree.{HasShortNumbers}
-use Rattle.tree_check.specs.declared.numbered.Numbered.{Numbered}
-use Rattle.tree_check.specs.declared.numbered.NumberedGate.{NumberedGate}
+use Rattle.tree_check.specs.{declared.numbered.Numbered.Numbered, declared.numbered.NumberedGate.NumberedGate}
+use Rattle.tree_check.specs.{TreeOf.numbers, Triggers.HasUnitDependents, Triggers.dependents_by}
 use Rattle.tree_check.specs.Numbered.{is_gate, is_fdep_in, drops_fdeps, is_spare_kind, kept_by, kept_inputs}
 use Rattle.tree_check.specs.Classes.{is_empty, wrong_vote, places_where, dummies_in, reads_nothing, is_short_fdep}
 use Rattle.tree_check.specs.Classes.{gates_after_first, dependent_gates}
-use Rattle.tree_check.specs.TreeOf.{numbers}
-use Rattle.tree_check.proofs.Edges.{kept_gate, kept_gates}
-use Rattle.tree_check.specs.Triggers.{HasUnitDependents, dependents_by}
-use Rattle.tree_check.proofs.NonePass.{none_pass, none_each}
+use Rattle.tree_check.proofs.{Edges.kept_gate, Edges.kept_gates, NonePass.none_pass, NonePass.none_each}
 
 -- an input has the number of one of so many names
 abbrev pub IsAmong : ℕ → Numbered → Type 0
@@ -79,14 +76,14 @@ unit_dependents units gates none k d short =
     after_first (is_fdep_kind (get_or gates k d).kind) units (get_or gates k d).inputs
     (none_each (gates_after_first is_fdep_kind units) gates none k d short)
 
-module _ (tree : FaultTree) (units nodes : ℕ) (units_are : unit_count tree ≡ units)
+module _ (tree : FaultTree) {units nodes : ℕ} (units_are : unit_count tree ≡ units)
     (nodes_are : node_count tree ≡ nodes) where
   node : (input : Numbered) → IsAmong nodes input → IsNodeOf tree input.number
   node input known = (known.0, omega (arith, known.1, nodes_are))
 
-  has_units : (least : ℕ) (inputs : List Numbered) → least ≤ length inputs → All (IsAmong nodes) inputs
+  has_units : {least : ℕ} (inputs : List Numbered) → least ≤ length inputs → All (IsAmong nodes) inputs
       → All (IsUnitNumber units) (drop 1 inputs) → HasUnitsAfterFirst tree least (numbers inputs)
-  has_units least inputs enough known low = record {
+  has_units inputs enough known low = record {
     enough = omega (arith, enough, length-map inputs (λ (input : Numbered). input.number));
     units =
         All-same (IsUnitOf tree) (drop 1 (numbers inputs)) (numbers (drop 1 inputs))
@@ -98,9 +95,9 @@ module _ (tree : FaultTree) (units nodes : ℕ) (units_are : unit_count tree ≡
         )));
   }
 
-  sound_vote : (least of : ℕ) (inputs : List Numbered) → (least ≤ 999999999) × (of ≤ 999999999)
+  sound_vote : {least of : ℕ} (inputs : List Numbered) → (least ≤ 999999999) × (of ≤ 999999999)
       → (least == 0 || nat_lt of least || not (of == length inputs)) ≡ false → IsSoundVote least of (numbers inputs)
-  sound_vote least of inputs short right =
+  sound_vote {least} {of} inputs short right =
       let both = or_parts (least == 0 || nat_lt of least) (not (of == length inputs)) right in
       let front = or_parts (least == 0) (nat_lt of least) both.0 in
       let positive : least ≢ 0 = eqb-false least 0 front.0 in
@@ -128,18 +125,18 @@ module _ (tree : FaultTree) (units nodes : ℕ) (units_are : unit_count tree ≡
   sound_kind all_kinds Or inputs known short votes some two dependents spares =
       some_left (kept_by true (is_fdep_in units all_kinds) inputs) some
   sound_kind all_kinds (Votes least of) inputs known short votes some two dependents spares =
-      sound_vote least of inputs short votes
+      sound_vote inputs short votes
   sound_kind all_kinds Pand inputs known short votes some two dependents spares = some_left inputs some
   sound_kind all_kinds Por inputs known short votes some two dependents spares = some_left inputs some
   sound_kind all_kinds Seq inputs known short votes some two dependents spares = some_left inputs some
   sound_kind all_kinds Fdep inputs known short votes some two dependents spares =
-      has_units 2 inputs (ltb-false (length inputs) 2 two) known (after_first true units inputs dependents)
+      has_units inputs (ltb-false (length inputs) 2 two) known (after_first true units inputs dependents)
   sound_kind all_kinds Csp inputs known short votes some two dependents spares =
-      has_units 1 inputs (some_spares inputs some) known (after_first true units inputs spares)
+      has_units inputs (some_spares inputs some) known (after_first true units inputs spares)
   sound_kind all_kinds Wsp inputs known short votes some two dependents spares =
-      has_units 1 inputs (some_spares inputs some) known (after_first true units inputs spares)
+      has_units inputs (some_spares inputs some) known (after_first true units inputs spares)
   sound_kind all_kinds Hsp inputs known short votes some two dependents spares =
-      has_units 1 inputs (some_spares inputs some) known (after_first true units inputs spares)
+      has_units inputs (some_spares inputs some) known (after_first true units inputs spares)
 
   -- whether a node is an `fdep`
   pub fdep_same : (number : ℕ) → is_fdep tree number ≡ is_fdep_in units tree.kinds number

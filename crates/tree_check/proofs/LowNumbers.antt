@@ -1,14 +1,11 @@
 -- No number that naming gives is above the number of names.
 use Rattle.std.proofs.Common.{ℕ, ◌≤◌, List, length, map, get_or, inl, inr, arith}
-use Rattle.std.proofs.lemmas.Bool.{cases_Bool}
-use Rattle.std.proofs.lemmas.List.Elements.{All-map}
+use Rattle.std.proofs.{lemmas.Bool.cases_Bool, lemmas.List.Elements.All-map}
 use Rattle.std.specs.Prelude.{All}
 use Rattle.galileo_tree.specs.declared.raw.RawGate.{RawGate}
 use Rattle.fault_words.specs.Names.{has_name, number_in}
-use Rattle.tree_check.specs.Numbered.{numbered, numbered_gate}
-use Rattle.tree_check.specs.SpareTable.{AreWithin}
-use Rattle.tree_check.specs.declared.numbered.Numbered.{Numbered}
-use Rattle.tree_check.specs.declared.numbered.NumberedGate.{NumberedGate}
+use Rattle.tree_check.specs.{Numbered.numbered, Numbered.numbered_gate, SpareTable.AreWithin}
+use Rattle.tree_check.specs.{declared.numbered.Numbered.Numbered, declared.numbered.NumberedGate.NumberedGate}
 use Rattle.tree_check.proofs.Numbers.{number_none, number_within}
 
 number_low : (names : List (List ℕ)) (name : List ℕ) → number_in names name ≤ length names

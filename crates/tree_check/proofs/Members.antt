@@ -10,10 +10,9 @@ use Rattle.fault_words.specs.declared.kind.GateKind.{GateKind}
 use Rattle.fault_words.specs.declared.kind.GateKind.TheVariants.{And, Or, Votes, Pand, Por, Seq, Fdep, Csp, Wsp, Hsp}
 use Rattle.fault_definitions.specs.Trigger.{trigger_by}
 use Rattle.graph_cycles.specs.Graph.{successors}
-use Rattle.tree_check.specs.declared.numbered.Numbered.{Numbered}
-use Rattle.tree_check.specs.declared.numbered.NumberedGate.{NumberedGate}
+use Rattle.tree_check.specs.{declared.numbered.Numbered.Numbered, declared.numbered.NumberedGate.NumberedGate}
+use Rattle.tree_check.specs.{TreeOf.numbers, TreeOf.input_lists}
 use Rattle.tree_check.specs.Numbered.{kinds, kept_inputs, kept_by, drops_fdeps, is_fdep_in}
-use Rattle.tree_check.specs.TreeOf.{numbers, input_lists}
 use Rattle.tree_check.specs.Triggers.{row_at, written_gate, IsGraphOf}
 use Rattle.std.proofs.lemmas.List.{get_or_append_left, get_or-append_right}
 
@@ -117,10 +116,10 @@ module _ (P : ℕ → Type 0) where
       gates all) k y found
 
   -- a successor in the graph is the number of an input
-  pub successor_is : (units : ℕ) (gates : List NumberedGate) (graph : List (List ℕ)) → IsGraphOf units gates graph
+  pub successor_is : {units : ℕ} {gates : List NumberedGate} {graph : List (List ℕ)} → IsGraphOf units gates graph
       → Each P gates
       → (x y : ℕ) → among (successors graph x) y ≡ true → P y
-  successor_is units gates graph g all x y found = elim (cases_lt x (units + 1)) [
+  successor_is {units} {gates} {graph} g all x y found = elim (cases_lt x (units + 1)) [
     | inl unit ↦
         let row : successors graph x ≡ row_at g.rows x =
         ap (λ gr. slice_index_or gr x []) g.is ∙ get_or_append_left g.rows (input_lists units gates) [] x

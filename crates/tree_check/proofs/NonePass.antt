@@ -1,11 +1,9 @@
 -- What a class of faults that doesn't occur says of each item.
 use Rattle.std.proofs.Common.{◌≡◌, ℕ, ◌≤◌, Bool, false, cond, List, [], ◌∷◌, ◌++◌, length, drop, map, refl, sym, ◌∙◌}
 use Rattle.std.proofs.Common.{ap, inl, inr, arith, length-drop}
-use Rattle.std.specs.Prelude.{All, filter}
-use Rattle.std.specs.List.{flat_map}
-use Rattle.std.proofs.lemmas.Bool.{cases_Bool}
-use Rattle.std.proofs.lemmas.List.{length-map}
-use Rattle.std.proofs.lemmas.List.Elements.{All-nil, All-cons}
+use Rattle.std.specs.{Prelude.All, Prelude.filter, List.flat_map}
+use Rattle.std.proofs.{lemmas.Bool.cases_Bool, lemmas.List.length-map, lemmas.List.Elements.All-nil}
+use Rattle.std.proofs.{lemmas.List.Elements.All-cons}
 use Rattle.fault_words.specs.declared.place.Place.{Place}
 
 pub both_none : (xs ys : List Place) → xs ++ ys ≡ [] → (xs ≡ []) × (ys ≡ [])

@@ -4,14 +4,10 @@ use Rattle.std.proofs.Common.{sym, ap, subst, ◌∙◌, refl, arith}
 use Rattle.std.proofs.lemmas.List.{same_lists, get_or_default}
 use Rattle.std.proofs.lemmas.List.Elements.{All-head, All-tail}
 use Rattle.fault_definitions.specs.Tree.{FaultTree, IsNodeOf, rank_of}
-use Rattle.fault_definitions.specs.Trigger.{below}
-use Rattle.fault_definitions.specs.Rank.{rank_over}
+use Rattle.fault_definitions.specs.{Trigger.below, Rank.rank_over, WellFormed.IsTree}
 use Rattle.fault_definitions.proofs.RankLaws.{below_ranks, below_are_nodes}
-use Rattle.fault_definitions.specs.WellFormed.{IsTree}
-use Rattle.galileo_tree.specs.declared.raw.Statement.{Statement}
-use Rattle.galileo_tree.specs.ReadTree.{ReadTree}
-use Rattle.tree_check.specs.Checked.{Stands}
-use Rattle.tree_check.specs.TreeOf.{tree_of}
+use Rattle.galileo_tree.specs.{declared.raw.Statement.Statement, ReadTree.ReadTree}
+use Rattle.tree_check.specs.{Checked.Stands, TreeOf.tree_of}
 
 -- nodes that have the same ranks in two trees have the same one above them
 same_over : (tree other : FaultTree) (nodes : List ℕ) → All (λ node. rank_of tree node ≡ rank_of other node) nodes
@@ -34,9 +30,8 @@ module _ (statements : List Statement) (ranks others : List ℕ) (one : IsTree (
       one.ranked node is_node
       ∙ same_over (tree_of statements ranks) (tree_of statements others) (below (tree_of statements ranks) node)
       (λ k d short.
-      same_rank height (get_or (below (tree_of statements ranks) node) k d)
-      (below_are_nodes (tree_of statements ranks) one node k d short)
-      (let lower = below_ranks (tree_of statements ranks) one node is_node k d short in omega (arith, lower, low)))
+      same_rank height (get_or (below (tree_of statements ranks) node) k d) (below_are_nodes one node k d short)
+      (let lower = below_ranks one node is_node k d short in omega (arith, lower, low)))
       ∙ sym (two.ranked node is_node)
 
   pub same_ranks : ranks ≡ others

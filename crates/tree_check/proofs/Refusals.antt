@@ -1,22 +1,15 @@
 -- A fault of a class, where the classes before it don't occur, is the first fault; and what is known of the text once a
 -- group of classes is tried.
 use Rattle.std.proofs.Common.{◌≡◌, ℕ, ◌≤◌, true, length, List, [], ◌∷◌, ◌++◌, take, sym, ap, ◌∙◌, subst}
-use Rattle.fault_words.specs.declared.place.Place.{Place}
-use Rattle.galileo_tree.specs.ReadTree.{ReadTree}
-use Rattle.tree_check.specs.declared.fault.CheckCode.{CheckCode}
-use Rattle.tree_check.specs.declared.fault.CheckCode.TheVariants.{DuplicateName, Undefined}
-use Rattle.tree_check.specs.declared.fault.CheckFault.{CheckFault}
-use Rattle.tree_check.specs.declared.fault.CheckFault.TheVariants.{Fault, NoMemory}
-use Rattle.tree_check.specs.Classes.{undefined}
-use Rattle.tree_check.specs.Found.{IsFoundAs}
+use Rattle.fault_words.specs.{declared.place.Place.Place, Names.all_differ}
+use Rattle.galileo_tree.specs.{ReadTree.ReadTree, declared.raw.Statement.Statement}
+use Rattle.tree_check.specs.{declared.fault.CheckCode.CheckCode, declared.fault.CheckCode.TheVariants.DuplicateName}
+use Rattle.tree_check.specs.{declared.fault.CheckCode.TheVariants.Undefined, declared.fault.CheckFault.CheckFault}
+use Rattle.tree_check.specs.{declared.fault.CheckFault.TheVariants.Fault}
+use Rattle.tree_check.specs.{declared.fault.CheckFault.TheVariants.NoMemory, Classes.undefined, Found.IsFoundAs}
+use Rattle.tree_check.specs.{Examined.AreParts, Examined.read_of, Numbering.IsDeckOf, Said.names, Said.uses}
+use Rattle.tree_check.specs.{declared.numbered.NumberedText.NumberedText, declared.numbered.Parts.Parts}
 use Rattle.tree_check.specs.Checked.{places, NoneOf, FirstOf, IsFirstFault, IsRefusal, before_cycles}
-use Rattle.tree_check.specs.Examined.{AreParts, read_of}
-use Rattle.tree_check.specs.Numbering.{IsDeckOf}
-use Rattle.tree_check.specs.Said.{names, uses}
-use Rattle.tree_check.specs.declared.numbered.NumberedText.{NumberedText}
-use Rattle.tree_check.specs.declared.numbered.Parts.{Parts}
-use Rattle.galileo_tree.specs.declared.raw.Statement.{Statement}
-use Rattle.fault_words.specs.Names.{all_differ}
 use Rattle.tree_check.proofs.Differ.{no_repeat}
 
 refused_at : (read : ReadTree) (earlier : List CheckCode) (code : CheckCode)
@@ -46,21 +39,21 @@ module _ (read : ReadTree) where
       NoneOf-append read (take 2 before_cycles) (DuplicateName ∷ []) none (no_repeat read.statements once, tt)
 
   pub use_refused : NoneOf read (take 2 before_cycles) → all_differ (names read.statements) ≡ true → (e : CheckFault)
-      → (index : List (List ℕ)) (text : List Statement) → index ≡ names read.statements → text ≡ read.statements
+      → {index : List (List ℕ)} {text : List Statement} → index ≡ names read.statements → text ≡ read.statements
       → IsFoundAs Undefined (undefined index (uses text)) e → IsRefusal read e
-  use_refused none once e index text same same' found =
+  use_refused none once e {text} same same' found =
       refused_at read (take 3 before_cycles) Undefined (λ p q. q) (named none once) e
       (subst (λ t. IsFoundAs Undefined (undefined (names read.statements) (uses t)) e) same'
       (subst (λ n. IsFoundAs Undefined (undefined n (uses text)) e) same found))
 
   -- the parts of a text whose names are all defined
   pub are_parts : NoneOf read (take 2 before_cycles) → all_differ (names read.statements) ≡ true
-      → (index : List (List ℕ)) (deck : NumberedText) (parts : Parts) → index ≡ names read.statements
+      → {index : List (List ℕ)} (deck : NumberedText) {parts : Parts} → index ≡ names read.statements
       → parts.statements.now ≡ read.statements → parts.end ≡ read.end → IsDeckOf index parts.statements.now deck
       → undefined index (uses parts.statements.now) ≡ [] → deck.units ≤ length parts.statements.now
       → parts.units ≡ deck.units → parts.gates.now ≡ deck.gates.items → parts.tops.now ≡ deck.tops.items
       → AreParts parts
-  are_parts none once index deck parts same text end d known few units gates tops =
+  are_parts none once deck {parts} same text end d known few units gates tops =
       let is : read_of parts ≡ read =
       ap (λ t. record { statements = t; end = parts.end }) text
       ∙ ap (λ e. record { statements = read.statements; end = e }) end in

@@ -6,20 +6,17 @@ use Rattle.std.specs.List.{cons_option}
 use Rattle.std.proofs.lemmas.List.{get_or_append_left, get_or-append_right, length-map}
 use Rattle.std.proofs.lemmas.Bool.{cases_lt, cond-true, cond-false, lt-ltb, le-ltb}
 use Rattle.unit_sets.specs.UnitList.{among}
-use Rattle.fault_words.specs.declared.kind.GateKind.{GateKind}
-use Rattle.fault_words.specs.declared.kind.GateKind.TheVariants.{And}
+use Rattle.fault_words.specs.{declared.kind.GateKind.GateKind, declared.kind.GateKind.TheVariants.And}
 use Rattle.fault_definitions.specs.Tree.{FaultTree, is_above_units, inputs_of, unit_count}
 use Rattle.fault_definitions.specs.Trigger.{trigger_by, triggers_of, below}
 use Rattle.graph_cycles.specs.Graph.{successors, Leads}
 use Rattle.graph_cycles.specs.Graph.Leads.{edge as graph_edge, way as graph_way}
 use Rattle.galileo_tree.specs.declared.raw.Statement.{Statement}
-use Rattle.tree_check.specs.declared.numbered.Numbered.{Numbered}
-use Rattle.tree_check.specs.declared.numbered.NumberedGate.{NumberedGate}
-use Rattle.tree_check.specs.Said.{basics}
+use Rattle.tree_check.specs.{declared.numbered.Numbered.Numbered, declared.numbered.NumberedGate.NumberedGate}
+use Rattle.tree_check.specs.{Said.basics, TreeOf.LeadsTo.edge, TreeOf.LeadsTo.way}
 use Rattle.tree_check.specs.Numbered.{kinds, kept_inputs, kept_by, drops_fdeps, is_fdep_in, numbered_gates}
 use Rattle.tree_check.specs.Numbered.{unit_total}
 use Rattle.tree_check.specs.TreeOf.{numbers, input_lists, tree_of, LeadsTo}
-use Rattle.tree_check.specs.TreeOf.LeadsTo.{edge, way}
 use Rattle.tree_check.specs.Triggers.{row_at, written_gate, IsGraphOf}
 
 -- ---- triggers by the gates as written and as kept
@@ -44,7 +41,7 @@ triggers_kept units all unit (gate ∷ gates) =
     (map (λ (g : NumberedGate). numbers (kept_inputs units all g)) gates)))) here
     ∙ ap (λ ts. cons_option (trigger_by unit (written_gate gate)) ts) rest
 
-module _ (statements : List Statement) (ranks : List ℕ) (graph : List (List ℕ))
+module _ (statements : List Statement) (ranks : List ℕ) {graph : List (List ℕ)}
     (g : IsGraphOf (unit_total statements) (numbered_gates statements) graph) where
   abbrev tree : FaultTree
   tree = tree_of statements ranks

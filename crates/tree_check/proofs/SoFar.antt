@@ -1,10 +1,9 @@
 -- The statements by numbers, as far as they are numbered.
 use Rattle.std.proofs.Common.{◌≡◌, ℕ, ◌+◌, ◌≤◌, List, ◌++◌, length, map, drop}
 use Rattle.galileo_tree.specs.declared.raw.Statement.{Statement}
-use Rattle.tree_check.specs.declared.numbered.NumberedText.{NumberedText}
+use Rattle.tree_check.specs.{declared.numbered.NumberedText.NumberedText, Numbered.numbered, Numbered.numbered_gate}
+use Rattle.tree_check.specs.{Classes.undefined}
 use Rattle.tree_check.specs.Said.{basics, gates, tops, uses}
-use Rattle.tree_check.specs.Numbered.{numbered, numbered_gate}
-use Rattle.tree_check.specs.Classes.{undefined}
 
 pub record SoFar (names : List (List ℕ)) (statements : List Statement) (i : ℕ) (deck : NumberedText) : Type 0 where
   pub units : deck.units + length (basics (drop i statements)) ≡ length (basics statements)

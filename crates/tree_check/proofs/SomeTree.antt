@@ -8,31 +8,20 @@ use Rattle.std.proofs.lemmas.List.{get_or_past}
 use Rattle.std.proofs.lemmas.List.FromFn.{get_or-map-range_with_len, length-map-range_with_len}
 use Rattle.std.proofs.lemmas.List.Elements.{All-head, All-tail}
 use Rattle.unit_sets.specs.UnitList.{among}
-use Rattle.fault_words.specs.declared.kind.GateKind.{GateKind}
+use Rattle.fault_words.specs.{declared.kind.GateKind.GateKind, declared.place.Place.Place, Names.all_differ}
 use Rattle.fault_words.specs.declared.kind.GateKind.TheVariants.{And, Or, Votes, Pand, Por, Seq, Fdep, Csp, Wsp, Hsp}
-use Rattle.fault_words.specs.declared.place.Place.{Place}
-use Rattle.fault_definitions.specs.Tree.{FaultTree, is_fdep_kind}
-use Rattle.fault_definitions.specs.Trigger.{trigger_by}
-use Rattle.fault_definitions.specs.WellFormed.{IsTree}
+use Rattle.fault_definitions.specs.{Tree.FaultTree, Tree.is_fdep_kind, Trigger.trigger_by, WellFormed.IsTree}
 use Rattle.graph_cycles.proofs.Surveys.{survey_exists}
 use Rattle.galileo_tree.specs.ReadTree.{ReadTree, KeepsForm}
-use Rattle.tree_check.specs.declared.fault.CheckCode.{CheckCode}
-use Rattle.tree_check.specs.declared.fault.CheckCode.TheVariants.{Cycle}
-use Rattle.tree_check.specs.declared.numbered.Numbered.{Numbered}
-use Rattle.tree_check.specs.declared.numbered.NumberedGate.{NumberedGate}
+use Rattle.tree_check.specs.{declared.fault.CheckCode.CheckCode, declared.fault.CheckCode.TheVariants.Cycle}
+use Rattle.tree_check.specs.{declared.numbered.Numbered.Numbered, declared.numbered.NumberedGate.NumberedGate}
+use Rattle.tree_check.specs.{Classes.first, Marked.marked_places, Numbered.numbered_gates, Numbered.unit_total}
+use Rattle.tree_check.specs.{Said.definitions, Said.names}
 use Rattle.tree_check.specs.Checked.{IsFirstFault, NoneOf, Stands, after_cycles, before_cycles, places}
-use Rattle.tree_check.specs.Classes.{first}
-use Rattle.tree_check.specs.Marked.{marked_places}
-use Rattle.fault_words.specs.Names.{all_differ}
-use Rattle.tree_check.specs.Numbered.{numbered_gates, unit_total}
-use Rattle.tree_check.specs.Said.{definitions, names}
 use Rattle.tree_check.specs.TreeOf.{AreRanks, FirstOnCycle, HasNoCycle, IsSurveyed, input_lists, numbers, tree_of}
 use Rattle.tree_check.specs.Triggers.{HasUnitDependents, IsGraphOf, dependents_by, row_at, written_gate}
-use Rattle.tree_check.proofs.Differ.{differ-names, differ-repeats}
-use Rattle.tree_check.proofs.Faultless.{IsTree-faultless}
-use Rattle.tree_check.proofs.Refusals.{AreFirst, NoneOf-append}
-use Rattle.tree_check.proofs.GoodGates.{unit_dependents}
-use Rattle.tree_check.proofs.StatementNames.{inputs_known}
+use Rattle.tree_check.proofs.{Differ.differ-names, Differ.differ-repeats, Faultless.IsTree-faultless, Refusals.AreFirst}
+use Rattle.tree_check.proofs.{Refusals.NoneOf-append, GoodGates.unit_dependents, StatementNames.inputs_known}
 use Rattle.tree_check.proofs.Surveyed.{IsGraph-of, is_surveyed, are_ranks, cycle_found, no_cycle}
 
 -- ---- the graph of what each node reads
@@ -154,7 +143,7 @@ module _ (read : ReadTree) where
     surveyed =
         let is = is_graph_of (unit_total read.statements) (numbered_gates read.statements) low in
         let known = inputs_known read.statements none.1.1.1.0 in
-        let (marks, ranks, survey) = survey_exists read_graph (IsGraph-of read.statements read_graph is known) in (
+        let (marks, ranks, survey) = survey_exists read_graph (IsGraph-of read.statements is known) in (
           marks,
           ranks,
           is_surveyed read.statements read_graph marks ranks (record {
@@ -184,9 +173,9 @@ module _ (read : ReadTree) where
         ]
 
   tree_of_ranks : All KeepsForm read.statements → (none : NoneOf read before_cycles) → HasNoCycle read.statements
-      → (ranks : List ℕ) → AreRanks read.statements ranks
+      → {ranks : List ℕ} → AreRanks read.statements ranks
       → HasTree read ⊎ HasFault read
-  tree_of_ranks form none acyclic ranks are =
+  tree_of_ranks form none acyclic {ranks} are =
       elim (none_or_fault read [] after_cycles (λ p f. (none, acyclic, f), (λ p f. (none, acyclic, f), tt)) tt) [
         | inr fault ↦ inr fault
         | inl after ↦ inl (
@@ -201,7 +190,7 @@ tree_or_fault read form =
     elim (before read) [
       | inr fault ↦ inr fault
       | inl none ↦ elim (cycles read none) [
-        | inl (acyclic, ranks, are) ↦ tree_of_ranks read form none acyclic ranks are
+        | inl (acyclic, ranks, are) ↦ tree_of_ranks read form none acyclic are
         | inr (place, on_cycle) ↦ inr (Cycle, place, (none, on_cycle))
       ]
     ]

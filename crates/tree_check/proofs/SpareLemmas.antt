@@ -8,11 +8,9 @@ use Rattle.std.proofs.lemmas.Bool.{cases_eq, eq-eqb, ne_eqb}
 use Rattle.std.proofs.lemmas.List.{length-replicate, get_or-replicate}
 use Rattle.fault_words.specs.declared.place.Place.{Place}
 use Rattle.tree_check.proofs.FirstPlaces.{first_of_more, first_of_some, drop_at}
-use Rattle.tree_check.specs.declared.numbered.Numbered.{Numbered}
-use Rattle.tree_check.specs.declared.numbered.NumberedGate.{NumberedGate}
-use Rattle.tree_check.specs.declared.spares.EarlierUses.{EarlierUses}
+use Rattle.tree_check.specs.{declared.numbered.Numbered.Numbered, declared.numbered.NumberedGate.NumberedGate}
+use Rattle.tree_check.specs.{declared.spares.EarlierUses.EarlierUses, Numbered.is_spare_kind}
 use Rattle.tree_check.specs.declared.spares.EarlierUses.TheVariants.{Unused, FirstOnly, Otherwise}
-use Rattle.tree_check.specs.Numbered.{is_spare_kind}
 use Rattle.tree_check.specs.Classes.{first, SpareUse, later_uses, uses_of, spare_uses_in, spare_uses, clash}
 use Rattle.tree_check.specs.Classes.{shared_after, shared_spares}
 use Rattle.tree_check.specs.SpareTable.{AreWithin, noted, clashes_with, earlier_uses, table_with, table_after}
@@ -122,9 +120,9 @@ module _ (nodes : ℕ) where
       (low_all gates (λ k d short. within (suc k) d (omega arith)))
 
   -- a table of unused events tells the clashes
-  pub begun : (gates : List NumberedGate) (table : List EarlierUses) → AreWithin nodes gates
+  pub begun : (gates : List NumberedGate) {table : List EarlierUses} → AreWithin nodes gates
       → table ≡ replicate (nodes + 1) Unused → first (clashes_by table (spare_uses gates)) ≡ first (shared_spares gates)
-  begun gates table within fresh =
+  begun gates {table} within fresh =
       ap first (told nodes (spare_uses gates) [] table (low_all gates within) (record {
         all = ap length fresh ∙ length-replicate (nodes + 1) Unused ∙ omega arith;
         at =
@@ -142,7 +140,7 @@ clashes-append table (x ∷ xs) ys =
     (clashes_by (table_with table x) xs) (clashes_by (table_after (table_with table x) xs) ys))
 
 -- the clashes of the gates from one on, where that one has none and where it has one
-module _ (gates : List NumberedGate) (i : ℕ) (gate : NumberedGate) (short : i < length gates)
+module _ (gates : List NumberedGate) (i : ℕ) {gate : NumberedGate} (short : i < length gates)
     (is : gate ≡ get_or gates i gate) (table : List EarlierUses) where
   parts : clashes_by table (spare_uses (drop i gates))
       ≡ clashes_by table (spare_uses_in gate) ++ clashes_by (table_after table (spare_uses_in gate))
@@ -151,10 +149,10 @@ module _ (gates : List NumberedGate) (i : ℕ) (gate : NumberedGate) (short : i 
       ap (λ gs. clashes_by table (spare_uses gs)) (drop_at gates i gate short is)
       ∙ clashes-append table (spare_uses_in gate) (spare_uses (drop (i + 1) gates))
 
-  pub next_gate : (new : List EarlierUses) → first (clashes_by table (spare_uses_in gate)) ≡ None
+  pub next_gate : {new : List EarlierUses} → first (clashes_by table (spare_uses_in gate)) ≡ None
       → new ≡ table_after table (spare_uses_in gate)
       → first (clashes_by new (spare_uses (drop (i + 1) gates))) ≡ first (clashes_by table (spare_uses (drop i gates)))
-  next_gate new none after =
+  next_gate none after =
       ap (λ t. first (clashes_by t (spare_uses (drop (i + 1) gates)))) after
       ∙ sym (ap first parts ∙ first_of_more (clashes_by table (spare_uses_in gate))
       (clashes_by (table_after table (spare_uses_in gate)) (spare_uses (drop (i + 1) gates))) none)

@@ -8,15 +8,13 @@ use Rattle.std.proofs.lemmas.List.Elements.{All-nil, All-cons, All-head, All-tai
 use Rattle.fault_words.specs.declared.kind.GateKind.{GateKind}
 use Rattle.fault_words.specs.declared.kind.GateKind.TheVariants.{Csp, Wsp, Hsp}
 use Rattle.fault_definitions.specs.WellFormed.{primary_in, spares_in}
-use Rattle.tree_check.proofs.NonePass.{both_none}
-use Rattle.tree_check.specs.declared.numbered.Numbered.{Numbered}
-use Rattle.tree_check.specs.declared.numbered.NumberedGate.{NumberedGate}
+use Rattle.tree_check.proofs.{NonePass.both_none, Edges.kept_gates}
+use Rattle.tree_check.specs.{declared.numbered.Numbered.Numbered, declared.numbered.NumberedGate.NumberedGate}
+use Rattle.tree_check.specs.{TreeOf.numbers}
 use Rattle.tree_check.specs.Numbered.{is_spare_kind, is_fdep_in, kept_by, drops_fdeps}
 use Rattle.tree_check.specs.Classes.{SpareUse, later_uses, uses_of, spare_uses_in, spare_uses, clash}
 use Rattle.tree_check.specs.Classes.{shared_after}
 use Rattle.tree_check.specs.Classes.{shared_spares}
-use Rattle.tree_check.specs.TreeOf.{numbers}
-use Rattle.tree_check.proofs.Edges.{kept_gates}
 
 -- ---- pairs
 

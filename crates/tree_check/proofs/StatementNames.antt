@@ -4,23 +4,16 @@ use Rattle.std.proofs.lemmas.List.{length-map}
 use Rattle.std.specs.Prelude.{not, All, AllPairs}
 use Rattle.std.proofs.lemmas.Bool.{not-true, not-false, and_parts, or_parts}
 use Rattle.std.proofs.lemmas.List.Elements.{All-nil, All-cons, All-head, All-tail, All-map, All-weaker}
-use Rattle.galileo_tree.specs.declared.raw.Placed.{Placed}
-use Rattle.galileo_tree.specs.declared.raw.RawTop.{RawTop}
-use Rattle.galileo_tree.specs.declared.raw.RawGate.{RawGate}
-use Rattle.galileo_tree.specs.declared.raw.RawBasic.{RawBasic}
-use Rattle.galileo_tree.specs.declared.raw.Statement.{Statement}
+use Rattle.galileo_tree.specs.{declared.raw.Placed.Placed, declared.raw.RawTop.RawTop, declared.raw.RawGate.RawGate}
+use Rattle.galileo_tree.specs.{declared.raw.RawBasic.RawBasic, declared.raw.Statement.Statement}
 use Rattle.galileo_tree.specs.declared.raw.Statement.TheVariants.{Top, Gate, Basic}
 use Rattle.galileo_tree.specs.ReadTree.{KeepsForm, HasShortNumbers, HasBareWord}
-use Rattle.tree_check.specs.declared.numbered.NumberedGate.{NumberedGate}
+use Rattle.tree_check.specs.{declared.numbered.NumberedGate.NumberedGate, Classes.undefined}
 use Rattle.fault_words.specs.Names.{has_name, same_name, all_differ}
 use Rattle.tree_check.specs.Said.{tops, gates, basics, uses, names, basic_names, gate_names}
 use Rattle.tree_check.specs.Numbered.{numbered, numbered_gate, numbered_gates, numbered_tops, unit_total}
-use Rattle.tree_check.specs.Classes.{undefined}
-use Rattle.tree_check.proofs.Differ.{same_itself}
-use Rattle.tree_check.proofs.NonePass.{none_pass}
-use Rattle.tree_check.proofs.Numbers.{number_within}
-use Rattle.tree_check.proofs.GoodGates.{IsAmong}
-use Rattle.tree_check.proofs.SpareParts.{pairs-cons}
+use Rattle.tree_check.proofs.{Differ.same_itself, NonePass.none_pass, Numbers.number_within, GoodGates.IsAmong}
+use Rattle.tree_check.proofs.{SpareParts.pairs-cons}
 
 -- ---- the uses
 

@@ -1,8 +1,7 @@
 -- What a statement of another kind doesn't have.
 use Rattle.std.proofs.Common.{◌≡◌, [], refl}
-use Rattle.galileo_tree.specs.declared.raw.RawTop.{RawTop}
-use Rattle.galileo_tree.specs.declared.raw.RawBasic.{RawBasic}
-use Rattle.galileo_tree.specs.declared.raw.Statement.{Statement}
+use Rattle.galileo_tree.specs.{declared.raw.RawTop.RawTop, declared.raw.RawBasic.RawBasic}
+use Rattle.galileo_tree.specs.{declared.raw.Statement.Statement}
 use Rattle.galileo_tree.specs.declared.raw.Statement.TheVariants.{Top, Gate, Basic}
 use Rattle.tree_check.specs.Said.{top_in, basic_in}
 

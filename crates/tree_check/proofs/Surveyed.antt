@@ -2,8 +2,7 @@
 use Rattle.std.proofs.Common.{◌≡◌, ℕ, zero, suc, ◌+◌, ◌-◌, ◌<◌, ◌≤◌, ◌↔◌, Bool, true, false, not, List, [], ◌∷◌, length}
 use Rattle.std.proofs.Common.{map, drop, get_or, refl, sym, ap, ◌∙◌, subst, inl, inr, arith, length-append}
 use Rattle.std.specs.Prelude.{IfOk, IsTrue, Result, Ok, Err, Some, None, slice_index, slice_index_or}
-use Rattle.std.specs.List.{position_or_len}
-use Rattle.std.specs.Vec.{vec_len}
+use Rattle.std.specs.{List.position_or_len, Vec.vec_len}
 use Rattle.std.proofs.lemmas.List.{length-map, get_or-drop, length-drop}
 use Rattle.std.proofs.lemmas.List.Sums.{position_or_len_is}
 use Rattle.std.proofs.lemmas.Bool.{cases_Bool, or_left, or_right, or_parts, and_parts}
@@ -11,26 +10,20 @@ use Rattle.fault_words.specs.declared.place.Place.{Place}
 use Rattle.fault_definitions.specs.Trigger.{below}
 use Rattle.graph_cycles.specs.Graph.{successors, Leads, IsGraph, rank_over}
 use Rattle.graph_cycles.specs.declared.Survey.{Survey}
-use Rattle.galileo_tree.specs.declared.raw.Placed.{Placed}
-use Rattle.galileo_tree.specs.declared.raw.Statement.{Statement}
-use Rattle.tree_check.specs.declared.numbered.NumberedGate.{NumberedGate}
+use Rattle.galileo_tree.specs.{declared.raw.Placed.Placed, declared.raw.Statement.Statement}
+use Rattle.tree_check.specs.{declared.numbered.NumberedGate.NumberedGate, Classes.first, Classes.dependent_gates}
+use Rattle.tree_check.specs.{Examined.AreParts, declared.numbered.Parts.Parts, Marked.marked_places, Triggers.IsGraphOf}
+use Rattle.tree_check.specs.{Triggers.HasUnitDependents}
 use Rattle.fault_words.specs.Names.{has_name, same_name, all_differ, number_in}
 use Rattle.tree_check.specs.Said.{basics, gates, names, definitions}
-use Rattle.tree_check.proofs.SaidLemmas.{names_in}
+use Rattle.tree_check.proofs.{SaidLemmas.names_in, StatementNames.inputs_known, StatementNames.names_total}
+use Rattle.tree_check.proofs.{GoodGates.unit_dependents, Members.Each, Members.successor_is}
 use Rattle.tree_check.specs.Numbered.{numbered_gates, unit_total, kinds, kept_inputs}
 use Rattle.tree_check.specs.TreeOf.{tree_of, input_lists, numbers, IsCyclic, FirstOnCycle, HasNoCycle, AreRanks}
 use Rattle.tree_check.specs.TreeOf.{IsSurveyed}
-use Rattle.tree_check.specs.Classes.{first, dependent_gates}
-use Rattle.tree_check.specs.Examined.{AreParts}
-use Rattle.tree_check.specs.declared.numbered.Parts.{Parts}
-use Rattle.tree_check.proofs.StatementNames.{inputs_known, names_total}
-use Rattle.tree_check.proofs.GoodGates.{unit_dependents}
-use Rattle.tree_check.specs.Marked.{marked_places}
-use Rattle.tree_check.specs.Triggers.{IsGraphOf, HasUnitDependents}
 use Rattle.tree_check.proofs.Differ.{same_itself, same_other_way, has-names}
 use Rattle.tree_check.proofs.Numbers.{number_some, number_none, number_within}
 use Rattle.tree_check.proofs.SameEdges.{same_edges, to_graph, from_graph}
-use Rattle.tree_check.proofs.Members.{Each, successor_is}
 use Rattle.tree_check.proofs.Cyclic.{numbers_of, FirstMarked, first_marked, none_marked, defined_at}
 use Rattle.tree_check.proofs.Cyclic.{same_rank_over}
 
@@ -38,9 +31,9 @@ use Rattle.tree_check.proofs.Cyclic.{same_rank_over}
 abbrev pub IsNumber : ℕ → ℕ → Type 0
 IsNumber total n = (1 ≤ n) × (n ≤ total)
 
-graph_total : (units : ℕ) (gates : List NumberedGate) (graph : List (List ℕ)) → IsGraphOf units gates graph
+graph_total : {units : ℕ} {gates : List NumberedGate} {graph : List (List ℕ)} → IsGraphOf units gates graph
     → length graph ≡ units + 1 + length gates
-graph_total units gates graph g =
+graph_total {units} {gates} g =
     omega (
       arith,
       ap length g.is,
@@ -116,18 +109,17 @@ pub record Surveyed (statements : List Statement) (graph : List (List ℕ)) (mar
       → slice_index ranks x ≡ rank_over ranks (successors graph x)
   pub ranks_all : length ranks ≡ length graph
 
-pub IsGraph-of : (statements : List Statement) (graph : List (List ℕ))
+pub IsGraph-of : (statements : List Statement) {graph : List (List ℕ)}
     → IsGraphOf (unit_total statements) (numbered_gates statements) graph
     → Each (IsNumber (length (names statements))) (numbered_gates statements) → IsGraph graph
-IsGraph-of statements graph g each x y goes =
+IsGraph-of statements g each x y goes =
     let number : IsNumber (length (names statements)) y =
-    successor_is (IsNumber (length (names statements))) (unit_total statements) (numbered_gates statements) graph g
-    each x y goes in
+    successor_is (IsNumber (length (names statements))) g each x y goes in
     omega (
       arith,
       number.1,
       names_total statements,
-      graph_total (unit_total statements) (numbered_gates statements) graph g,
+      graph_total g,
     )
 
 module _ (statements : List Statement) (graph : List (List ℕ)) (marks : List Bool) (ranks : List ℕ)
@@ -137,8 +129,7 @@ module _ (statements : List Statement) (graph : List (List ℕ)) (marks : List B
       omega (
         arith,
         names_total statements,
-        graph_total (unit_total statements) (numbered_gates statements) graph
-            s.graph_is,
+        graph_total s.graph_is,
       )
 
   shifted : (x : ℕ) → 1 ≤ x → slice_index ranks x ≡ slice_index (0 ∷ drop 1 ranks) x
@@ -162,18 +153,16 @@ module _ (statements : List Statement) (graph : List (List ℕ)) (marks : List B
         sym (shifted node is_node.0)
         ∙ (s.ranked node (omega (arith, total)) (unmarked node is_node.0 nodes)
         ∙ same_rank_over (tree_of statements (drop 1 ranks)) ranks (successors graph node)
-        (below (tree_of statements (drop 1 ranks)) node)
-        (same_edges statements (drop 1 ranks) graph s.graph_is node)
-        (λ y found. shifted y (successor_is (IsNumber (length (names statements))) (unit_total statements)
-        (numbered_gates statements) graph s.graph_is s.each node y found).0));
+        (below (tree_of statements (drop 1 ranks)) node) (same_edges statements (drop 1 ranks) s.graph_is node)
+        (λ y found. shifted y (successor_is (IsNumber (length (names statements))) s.graph_is s.each node y found).0));
   }
 
   pub is_surveyed : IsSurveyed statements marks ranks
   is_surveyed = record {
     cyclic = λ x within.
         let exact = s.exact x (omega (arith, total)) in (
-          λ marked. from_graph statements [] graph s.graph_is (exact.0 marked),
-          λ leads. exact.1 (to_graph statements [] graph s.graph_is leads),
+          λ marked. from_graph statements [] s.graph_is (exact.0 marked),
+          λ leads. exact.1 (to_graph statements [] s.graph_is leads),
         );
     ranked = ranks_are;
   }
@@ -195,7 +184,7 @@ module _ (statements : List Statement) (marks : List Bool) (ranks : List ℕ) (s
         ≡ Some place → FirstOnCycle statements place
     cycle_found place found =
         let f : FirstMarked marks (names statements) (definitions statements) place =
-        first_marked marks (names statements) (definitions statements) place found in
+        first_marked marks (names statements) (definitions statements) found in
         record {
           index = f.index;
           at = f.at;
@@ -218,18 +207,18 @@ module _ (statements : List Statement) (marks : List Bool) (ranks : List ℕ) (s
 
 -- ---- from the parts of a text
 
-module _ (parts : Parts) (are : AreParts parts) where
-  pub graph_here : (graph : List (List ℕ)) → IsGraphOf parts.units parts.gates.now graph
+module _ {parts : Parts} (are : AreParts parts) where
+  pub graph_here : {graph : List (List ℕ)} → IsGraphOf parts.units parts.gates.now graph
       → IsGraphOf (unit_total parts.statements.now) (numbered_gates parts.statements.now) graph
-  graph_here graph g =
+  graph_here {graph} g =
       subst (λ u. IsGraphOf u (numbered_gates parts.statements.now) graph) are.units
       (subst (λ gs. IsGraphOf parts.units gs graph) are.gates g)
 
   known : Each (IsNumber (length (names parts.statements.now))) (numbered_gates parts.statements.now)
   known = inputs_known parts.statements.now are.none.1.1.1.0
 
-  pub graph_whole : (graph : List (List ℕ)) → IsGraphOf parts.units parts.gates.now graph → IsGraph graph
-  graph_whole graph g = IsGraph-of parts.statements.now graph (graph_here graph g) known
+  pub graph_whole : {graph : List (List ℕ)} → IsGraphOf parts.units parts.gates.now graph → IsGraph graph
+  graph_whole g = IsGraph-of parts.statements.now (graph_here g) known
 
   pub units_low : dependent_gates (unit_total parts.statements.now) (numbered_gates parts.statements.now) ≡ []
       → HasUnitDependents parts.units parts.gates.now
@@ -238,19 +227,19 @@ module _ (parts : Parts) (are : AreParts parts) where
       (subst (λ gs. HasUnitDependents (unit_total parts.statements.now) gs) (sym are.gates)
       (unit_dependents (unit_total parts.statements.now) (numbered_gates parts.statements.now) none))
 
-  pub surveyed : {E : Type 0} (graph : List (List ℕ)) → IsGraphOf parts.units parts.gates.now graph
+  pub surveyed : {E : Type 0} {graph : List (List ℕ)} → IsGraphOf parts.units parts.gates.now graph
       → (found : Result Survey E) → IfOk found (λ s. vec_len s.ranks ≡ length graph)
       → IfOk found (λ s. (x : ℕ) → x < length graph
       → IsTrue (slice_index_or s.on_cycle.items x false) ↔ Leads graph x x)
       → IfOk found (λ s. (x : ℕ) → x < length graph → slice_index_or s.on_cycle.items x false ≡ false
       → slice_index s.ranks.items x ≡ rank_over s.ranks.items (successors graph x))
       → IfOk found (λ s. IsSurveyed parts.statements.now s.on_cycle.items s.ranks.items)
-  surveyed graph g (Ok s) whole exact ranked =
+  surveyed {graph} g (Ok s) whole exact ranked =
       is_surveyed parts.statements.now graph s.on_cycle.items s.ranks.items (record {
-        graph_is = graph_here graph g;
+        graph_is = graph_here g;
         each = known;
         exact = exact;
         ranked = ranked;
         ranks_all = omega (arith, whole);
       })
-  surveyed graph g (Err e) whole exact ranked = tt
+  surveyed g (Err e) whole exact ranked = tt

@@ -1,9 +1,8 @@
 -- What is moved out of statements, as far as it is.
 use Rattle.std.proofs.Common.{◌≡◌, List, ◌++◌}
 use Rattle.galileo_tree.specs.declared.raw.Statement.{Statement}
-use Rattle.tree_check.specs.declared.assembly.Taken.{Taken}
-use Rattle.tree_check.specs.Said.{basic_names, gate_names}
-use Rattle.tree_check.specs.Assembling.{attribute_lists}
+use Rattle.tree_check.specs.{declared.assembly.Taken.Taken, Said.basic_names, Said.gate_names}
+use Rattle.tree_check.specs.{Assembling.attribute_lists}
 
 -- what is taken so far, and what the rest holds, are all
 pub record IsTaking (all rest : List Statement) (taken : Taken) : Type 0 where

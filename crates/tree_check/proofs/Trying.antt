@@ -7,15 +7,13 @@ use Rattle.fault_words.specs.declared.place.Place.{Place}
 use Rattle.galileo_tree.specs.ReadTree.{ReadTree}
 use Rattle.tree_check.specs.Classes.{wrong_vote, wrong_votes, dummies, reads_nothing, inputless, is_short_fdep}
 use Rattle.tree_check.specs.Classes.{short_fdeps, dependent_gates, spare_gates}
-use Rattle.tree_check.specs.Examined.{AreParts, read_of}
+use Rattle.tree_check.specs.{Examined.AreParts, Examined.read_of, declared.fault.CheckCode.CheckCode}
+use Rattle.tree_check.specs.{declared.fault.CheckFault.CheckFault, declared.numbered.NumberedGate.NumberedGate}
+use Rattle.tree_check.specs.{declared.numbered.Parts.Parts}
 use Rattle.tree_check.specs.Numbered.{kinds, numbered_gates, unit_total}
 use Rattle.tree_check.specs.Tried.{told, places_at, NoneTold, FirstTold}
-use Rattle.tree_check.specs.declared.fault.CheckCode.{CheckCode}
-use Rattle.tree_check.specs.declared.fault.CheckFault.{CheckFault}
 use Rattle.tree_check.specs.declared.fault.CheckCode.TheVariants.{Votes, DummyInput, NoInputs, FdepShape}
 use Rattle.tree_check.specs.declared.fault.CheckCode.TheVariants.{DependentGate, SpareNotBasic}
-use Rattle.tree_check.specs.declared.numbered.NumberedGate.{NumberedGate}
-use Rattle.tree_check.specs.declared.numbered.Parts.{Parts}
 
 -- what is told of the classes that are left is told of all
 pub record Comes (read : ReadTree) (all left : List CheckCode) : Type 0 where
@@ -37,7 +35,7 @@ passing place_of test (x ∷ xs) =
 
 -- ---- what a look at each gate tells
 
-module _ (parts : Parts) (are : AreParts parts) where
+module _ {parts : Parts} (are : AreParts parts) where
   -- what is said of the parts' units and gates, of those of the statements
   of_read : (f : ℕ → List NumberedGate → List Place) → f parts.units parts.gates.now
       ≡ f (unit_total parts.statements.now) (numbered_gates parts.statements.now)
@@ -60,11 +58,11 @@ module _ (parts : Parts) (are : AreParts parts) where
   short : IsTold FdepShape
   short = passing (λ gate. gate.word) is_short_fdep parts.gates.now ∙ of_read (λ u gs. short_fdeps gs)
 
-  pub told_at_gates : (code : CheckCode) → (code ≡ Votes) ⊎ (code ≡ DummyInput) ⊎ (code ≡ NoInputs)
+  pub told_at_gates : {code : CheckCode} → (code ≡ Votes) ⊎ (code ≡ DummyInput) ⊎ (code ≡ NoInputs)
       ⊎ (code ≡ FdepShape) ⊎ (code ≡ DependentGate) ⊎ (code ≡ SpareNotBasic) → IsTold code
-  told_at_gates code (inl is) = subst IsTold (sym is) votes
-  told_at_gates code (inr (inl is)) = subst IsTold (sym is) (of_read dummies)
-  told_at_gates code (inr (inr (inl is))) = subst IsTold (sym is) nothing_read
-  told_at_gates code (inr (inr (inr (inl is)))) = subst IsTold (sym is) short
-  told_at_gates code (inr (inr (inr (inr (inl is))))) = subst IsTold (sym is) (of_read dependent_gates)
-  told_at_gates code (inr (inr (inr (inr (inr is))))) = subst IsTold (sym is) (of_read spare_gates)
+  told_at_gates (inl is) = subst IsTold (sym is) votes
+  told_at_gates (inr (inl is)) = subst IsTold (sym is) (of_read dummies)
+  told_at_gates (inr (inr (inl is))) = subst IsTold (sym is) nothing_read
+  told_at_gates (inr (inr (inr (inl is)))) = subst IsTold (sym is) short
+  told_at_gates (inr (inr (inr (inr (inl is))))) = subst IsTold (sym is) (of_read dependent_gates)
+  told_at_gates (inr (inr (inr (inr (inr is))))) = subst IsTold (sym is) (of_read spare_gates)

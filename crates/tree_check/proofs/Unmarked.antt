@@ -1,7 +1,6 @@
 -- Where no number is marked, no definition is.
 use Rattle.std.proofs.Common.{◌≡◌, ℕ, zero, suc, Bool, true, false, cond, List, [], ◌∷◌, map, get_or, refl, ap, ◌∙◌}
-use Rattle.std.specs.Prelude.{filter}
-use Rattle.std.specs.List.{list_any}
+use Rattle.std.specs.{Prelude.filter, List.list_any}
 use mathlib.Core.Bool.{beq}
 use Rattle.fault_words.specs.Names.{number_in}
 use Rattle.galileo_tree.specs.declared.raw.Placed.{Placed}

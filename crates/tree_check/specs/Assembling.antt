@@ -1,8 +1,7 @@
 -- How the parts of a tree are taken out of statements.
 use Rattle.std.specs.Prelude.{◌≡◌, List, [], ◌∷◌, ◌++◌, map}
 use Rattle.fault_words.specs.declared.attribute.Attribute.{Attribute}
-use Rattle.galileo_tree.specs.declared.raw.RawAttribute.{RawAttribute}
-use Rattle.galileo_tree.specs.declared.raw.Statement.{Statement}
+use Rattle.galileo_tree.specs.{declared.raw.RawAttribute.RawAttribute, declared.raw.Statement.Statement}
 use Rattle.tree_check.specs.Said.{basics, basic_names, gate_names}
 use Rattle.tree_check.specs.declared.assembly.Taken.{Taken}
 

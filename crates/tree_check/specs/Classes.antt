@@ -1,23 +1,16 @@
 -- The classes of faults of a text whose statements are read. Each is the list of its places in the order of the text.
 use Rattle.std.specs.Prelude.{ℕ, Bool, true, false, nat_lt, ◌==◌, ◌&&◌, ◌||◌, not, List, [], ◌∷◌, ◌++◌, length, drop}
 use Rattle.std.specs.Prelude.{map, filter, Option, Some, None, if◌then◌else◌, codes}
-use Rattle.std.specs.List.{flat_map, list_any}
-use Rattle.std.specs.Str.{str_eq_ignore_ascii_case}
+use Rattle.std.specs.{List.flat_map, List.list_any, Str.str_eq_ignore_ascii_case}
 use Rattle.unit_sets.specs.Unit.{most_units}
-use Rattle.fault_definitions.specs.declared.parts.TheConstants.{MOST_GATES}
-use Rattle.fault_words.specs.declared.place.Place.{Place}
-use Rattle.fault_words.specs.declared.kind.GateKind.{GateKind}
-use Rattle.fault_words.specs.declared.kind.GateKind.TheVariants.{Votes}
-use Rattle.fault_definitions.specs.Tree.{is_fdep_kind}
-use Rattle.galileo_tree.specs.declared.raw.Placed.{Placed}
-use Rattle.galileo_tree.specs.declared.raw.RawAttribute.{RawAttribute}
-use Rattle.galileo_tree.specs.declared.raw.RawBasic.{RawBasic}
-use Rattle.galileo_tree.specs.declared.raw.Statement.{Statement}
-use Rattle.fault_words.specs.Names.{has_name, same_name}
+use Rattle.fault_definitions.specs.{declared.parts.TheConstants.MOST_GATES, Tree.is_fdep_kind}
+use Rattle.fault_words.specs.{declared.place.Place.Place, declared.kind.GateKind.GateKind}
+use Rattle.fault_words.specs.{declared.kind.GateKind.TheVariants.Votes, Names.has_name, Names.same_name}
+use Rattle.galileo_tree.specs.{declared.raw.Placed.Placed, declared.raw.RawAttribute.RawAttribute}
+use Rattle.galileo_tree.specs.{declared.raw.RawBasic.RawBasic, declared.raw.Statement.Statement}
 use Rattle.tree_check.specs.Said.{tops, definitions, uses, names}
 use Rattle.tree_check.specs.Numbered.{is_gate, is_fdep_in, kinds, drops_fdeps, is_spare_kind, kept_inputs}
-use Rattle.tree_check.specs.declared.numbered.Numbered.{Numbered}
-use Rattle.tree_check.specs.declared.numbered.NumberedGate.{NumberedGate}
+use Rattle.tree_check.specs.{declared.numbered.Numbered.Numbered, declared.numbered.NumberedGate.NumberedGate}
 
 -- the first of some places
 abbrev pub first : List Place → Option Place

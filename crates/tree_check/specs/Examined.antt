@@ -2,12 +2,9 @@
 use Rattle.std.specs.Prelude.{◌≡◌, ◌≤◌, true, length, take}
 use Rattle.galileo_tree.specs.ReadTree.{ReadTree}
 use Rattle.fault_words.specs.Names.{all_differ}
-use Rattle.tree_check.specs.declared.numbered.NumberedText.{NumberedText}
-use Rattle.tree_check.specs.declared.numbered.Parts.{Parts}
-use Rattle.tree_check.specs.Said.{names}
+use Rattle.tree_check.specs.{declared.numbered.NumberedText.NumberedText, declared.numbered.Parts.Parts, Said.names}
+use Rattle.tree_check.specs.{Numbering.IsDeckOf, TreeOf.HasRanks}
 use Rattle.tree_check.specs.Numbered.{numbered_gates, numbered_tops, unit_total}
-use Rattle.tree_check.specs.Numbering.{IsDeckOf}
-use Rattle.tree_check.specs.TreeOf.{HasRanks}
 use Rattle.tree_check.specs.Checked.{IsFaultless, NoneOf, before_cycles}
 
 -- the text of which these are the parts

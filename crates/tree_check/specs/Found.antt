@@ -1,13 +1,11 @@
 -- A fault that one class answers.
 use Rattle.std.specs.Prelude.{◌≡◌, List, Some}
 use Rattle.fault_words.specs.declared.place.Place.{Place}
-use Rattle.tree_check.specs.Classes.{first}
-use Rattle.tree_check.specs.TreeOf.{FirstOnCycle}
+use Rattle.tree_check.specs.{Classes.first, TreeOf.FirstOnCycle, declared.fault.CheckCode.TheVariants.Cycle}
+use Rattle.tree_check.specs.{declared.fault.CheckCode.CheckCode, declared.fault.CheckFault.CheckFault}
+use Rattle.tree_check.specs.{declared.fault.CheckFault.TheVariants.Fault}
+use Rattle.tree_check.specs.{declared.fault.CheckFault.TheVariants.NoMemory}
 use Rattle.galileo_tree.specs.declared.raw.Statement.{Statement}
-use Rattle.tree_check.specs.declared.fault.CheckCode.TheVariants.{Cycle}
-use Rattle.tree_check.specs.declared.fault.CheckCode.{CheckCode}
-use Rattle.tree_check.specs.declared.fault.CheckFault.{CheckFault}
-use Rattle.tree_check.specs.declared.fault.CheckFault.TheVariants.{Fault, NoMemory}
 
 -- the fault is of this class, at the first of its places; want of memory is free
 abbrev pub IsFoundAs : CheckCode → List Place → CheckFault → Type 0

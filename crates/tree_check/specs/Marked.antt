@@ -1,9 +1,8 @@
 -- Definitions whose numbers are marked.
 use Rattle.std.specs.Prelude.{ℕ, Bool, false, List, [], ◌∷◌, map, filter, Option, Some, None, slice_index_or}
 use Rattle.std.specs.Borrow.{Bor}
-use Rattle.fault_words.specs.declared.place.Place.{Place}
+use Rattle.fault_words.specs.{declared.place.Place.Place, Names.number_in}
 use Rattle.galileo_tree.specs.declared.raw.Placed.{Placed}
-use Rattle.fault_words.specs.Names.{number_in}
 
 -- what a reference leads to, if there is one
 abbrev pub placed_list : Option (Bor Placed) → List Placed

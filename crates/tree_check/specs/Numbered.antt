@@ -1,16 +1,13 @@
 -- A text by the numbers of its tree: the gates with the numbers of their inputs, and the places of all that a fault
 -- may be answered at.
 use Rattle.std.specs.Prelude.{ℕ, ◌-◌, Bool, true, false, nat_lt, ◌&&◌, not, List, length, map, filter, slice_index_or}
-use Rattle.fault_words.specs.declared.kind.GateKind.{GateKind}
+use Rattle.fault_words.specs.{declared.kind.GateKind.GateKind, Names.number_in}
 use Rattle.fault_words.specs.declared.kind.GateKind.TheVariants.{And, Or, Fdep, Csp, Wsp, Hsp}
 use Rattle.fault_definitions.specs.Tree.{is_fdep_kind}
-use Rattle.galileo_tree.specs.declared.raw.Placed.{Placed}
-use Rattle.galileo_tree.specs.declared.raw.RawGate.{RawGate}
-use Rattle.galileo_tree.specs.declared.raw.Statement.{Statement}
+use Rattle.galileo_tree.specs.{declared.raw.Placed.Placed, declared.raw.RawGate.RawGate}
+use Rattle.galileo_tree.specs.{declared.raw.Statement.Statement}
 use Rattle.tree_check.specs.Said.{gates, basics, definitions, tops, names}
-use Rattle.fault_words.specs.Names.{number_in}
-use Rattle.tree_check.specs.declared.numbered.Numbered.{Numbered}
-use Rattle.tree_check.specs.declared.numbered.NumberedGate.{NumberedGate}
+use Rattle.tree_check.specs.{declared.numbered.Numbered.Numbered, declared.numbered.NumberedGate.NumberedGate}
 
 -- a name that stands in the text, as its number and its place
 abbrev pub numbered : List (List ℕ) → Placed → Numbered

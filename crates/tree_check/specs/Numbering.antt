@@ -1,9 +1,8 @@
 -- What numbering a text gives.
 use Rattle.std.specs.Prelude.{◌≡◌, ℕ, ◌+◌, List, ◌++◌, length, map}
 use Rattle.galileo_tree.specs.declared.raw.Statement.{Statement}
-use Rattle.tree_check.specs.declared.numbered.NumberedText.{NumberedText}
+use Rattle.tree_check.specs.{declared.numbered.NumberedText.NumberedText, Numbered.numbered, Numbered.numbered_gate}
 use Rattle.tree_check.specs.Said.{basics, gates, tops, basic_in, gate_in, top_in}
-use Rattle.tree_check.specs.Numbered.{numbered, numbered_gate}
 
 -- the statements by the numbers of these names
 pub record IsDeckOf (names : List (List ℕ)) (statements : List Statement) (deck : NumberedText) : Type 0 where

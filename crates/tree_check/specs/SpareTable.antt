@@ -2,9 +2,8 @@
 use Rattle.std.specs.Prelude.{ℕ, ◌≤◌, Bool, true, false, not, List, [], ◌∷◌, ◌++◌, slice_index_or, slice_set}
 use Rattle.std.specs.Prelude.{if◌then◌else◌, All}
 use Rattle.fault_words.specs.declared.place.Place.{Place}
-use Rattle.tree_check.specs.Classes.{SpareUse}
-use Rattle.tree_check.specs.declared.numbered.NumberedGate.{NumberedGate}
-use Rattle.tree_check.specs.declared.spares.EarlierUses.{EarlierUses}
+use Rattle.tree_check.specs.{Classes.SpareUse, declared.numbered.NumberedGate.NumberedGate}
+use Rattle.tree_check.specs.{declared.spares.EarlierUses.EarlierUses}
 use Rattle.tree_check.specs.declared.spares.EarlierUses.TheVariants.{Unused, FirstOnly, Otherwise}
 
 -- every input has its place in a table that goes up to this number

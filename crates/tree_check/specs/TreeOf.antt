@@ -3,15 +3,12 @@ use Rattle.std.specs.Prelude.{◌≡◌, ◌↔◌, ℕ, ◌<◌, ◌≤◌, Boo
 use Rattle.std.specs.Prelude.{slice_index_or, slice_get, Some}
 use Rattle.unit_sets.specs.UnitList.{among}
 use Rattle.fault_words.specs.declared.place.Place.{Place}
-use Rattle.fault_definitions.specs.Tree.{FaultTree}
-use Rattle.fault_definitions.specs.Trigger.{below}
-use Rattle.fault_definitions.specs.Rank.{IsRanked}
+use Rattle.fault_definitions.specs.{Tree.FaultTree, Trigger.below, Rank.IsRanked}
 use Rattle.galileo_tree.specs.declared.raw.Statement.{Statement}
 use Rattle.tree_check.specs.Said.{basics, definitions, names}
 use Rattle.tree_check.specs.Numbered.{kinds, kept_inputs, numbered_gates, numbered_definitions, numbered_tops}
 use Rattle.tree_check.specs.Numbered.{unit_total}
-use Rattle.tree_check.specs.declared.numbered.Numbered.{Numbered}
-use Rattle.tree_check.specs.declared.numbered.NumberedGate.{NumberedGate}
+use Rattle.tree_check.specs.{declared.numbered.Numbered.Numbered, declared.numbered.NumberedGate.NumberedGate}
 
 -- the numbers of names, without their places
 abbrev pub numbers : List Numbered → List ℕ

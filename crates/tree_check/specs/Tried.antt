@@ -1,19 +1,15 @@
 -- Classes of faults that are tried one after another.
 use Rattle.std.specs.Prelude.{◌≡◌, ◌⊎◌, ℕ, List, [], ◌∷◌, length, if◌then◌else◌}
-use Rattle.fault_words.specs.declared.kind.GateKind.{GateKind}
-use Rattle.fault_words.specs.declared.place.Place.{Place}
+use Rattle.fault_words.specs.{declared.kind.GateKind.GateKind, declared.place.Place.Place}
 use Rattle.fault_definitions.specs.Tree.{is_fdep_kind}
 use Rattle.galileo_tree.specs.ReadTree.{ReadTree}
-use Rattle.tree_check.specs.Checked.{places}
+use Rattle.tree_check.specs.{Checked.places, Found.IsFoundAs, Numbered.is_fdep_in, Numbered.is_spare_kind}
+use Rattle.tree_check.specs.{declared.fault.CheckCode.CheckCode, declared.fault.CheckFault.CheckFault}
+use Rattle.tree_check.specs.{declared.numbered.NumberedGate.NumberedGate}
 use Rattle.tree_check.specs.Classes.{wrong_vote, dummies_in, reads_nothing, is_short_fdep, gates_after_first}
-use Rattle.tree_check.specs.Found.{IsFoundAs}
-use Rattle.tree_check.specs.Numbered.{is_fdep_in, is_spare_kind}
-use Rattle.tree_check.specs.declared.fault.CheckCode.{CheckCode}
 use Rattle.tree_check.specs.declared.fault.CheckCode.TheVariants.{Votes, DummyInput, NoInputs, FdepShape}
 use Rattle.tree_check.specs.declared.fault.CheckCode.TheVariants.{DependentGate, SpareNotBasic, Replicated}
 use Rattle.tree_check.specs.declared.fault.CheckCode.TheVariants.{TopIsFdep, TooManyUnits, TooManyGates}
-use Rattle.tree_check.specs.declared.fault.CheckFault.{CheckFault}
-use Rattle.tree_check.specs.declared.numbered.NumberedGate.{NumberedGate}
 
 -- the places of a class at one gate, by the number of units and the kinds of all gates
 abbrev pub places_at : CheckCode → ℕ → List GateKind → NumberedGate → List Place

@@ -2,11 +2,9 @@
 use Rattle.std.specs.Prelude.{◌≡◌, ℕ, ◌+◌, ◌≤◌, Bool, true, false, ◌||◌, ◌&&◌, ◌==◌, List, [], ◌++◌, length, map, drop}
 use Rattle.std.specs.Prelude.{All, filter_map, option_to_list, slice_index_or}
 use Rattle.fault_words.specs.declared.kind.GateKind.{GateKind}
-use Rattle.fault_definitions.specs.Tree.{is_fdep_kind}
-use Rattle.fault_definitions.specs.Trigger.{trigger_by}
-use Rattle.tree_check.specs.TreeOf.{numbers, input_lists}
-use Rattle.tree_check.specs.declared.numbered.Numbered.{Numbered}
-use Rattle.tree_check.specs.declared.numbered.NumberedGate.{NumberedGate}
+use Rattle.fault_definitions.specs.{Tree.is_fdep_kind, Trigger.trigger_by}
+use Rattle.tree_check.specs.{TreeOf.numbers, TreeOf.input_lists, declared.numbered.Numbered.Numbered}
+use Rattle.tree_check.specs.{declared.numbered.NumberedGate.NumberedGate}
 use Rattle.unit_sets.specs.UnitList.{among}
 
 -- the row of a number, which is empty where the table has none

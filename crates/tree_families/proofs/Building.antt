@@ -4,20 +4,17 @@ use Rattle.std.specs.Prelude.{◌≡◌, ℕ, false, List, [], ◌∷◌, All, m
 use Rattle.std.proofs.Common.{sym, subst, arith}
 use Rattle.std.proofs.lemmas.Bool.{and_left, and_right, cond-true, cond-false, lt-ltb, le-ltb}
 use Rattle.std.proofs.lemmas.List.Elements.{All-head, All-tail}
-use Rattle.fault_definitions.specs.CutFamily.{IsCutFamily}
+use Rattle.fault_definitions.specs.{CutFamily.IsCutFamily, Trigger.below, Trigger.triggers_of, WellFormed.IsTree}
 use Rattle.fault_definitions.proofs.RankLaws.{below_are_nodes}
 use Rattle.fault_definitions.specs.Tree.{FaultTree, IsGateOf, IsNodeOf, IsUnitOf, inputs_of, is_above_units, is_fdep}
 use Rattle.fault_definitions.specs.Tree.{is_fdep_kind, kind_of, unit_count}
-use Rattle.fault_definitions.specs.Trigger.{below, triggers_of}
-use Rattle.fault_definitions.specs.WellFormed.{IsTree}
 use Rattle.zdd_families.specs.Minimal.{IsMinimal}
 use Rattle.tree_families.specs.Generation.{IsFamilyFor}
 use Rattle.tree_families.specs.Due.{IsDueToRecipe, IsDueToTree, one_node}
 use Rattle.tree_families.specs.Recipe.{Recipe, unions, IsMadeBy, IsUnionOfAll, alone, gate_recipe, node_recipe}
 use Rattle.tree_families.specs.Recipe.{StandFor}
-use Rattle.tree_families.proofs.CutFamilies.{cut_family-minimal}
-use Rattle.tree_families.proofs.FailingSets.{IsFamilyFor-cut_family}
-use Rattle.tree_families.proofs.Steps.{IsFamilyFor-made}
+use Rattle.tree_families.proofs.{CutFamilies.cut_family-minimal, FailingSets.IsFamilyFor-cut_family}
+use Rattle.tree_families.proofs.{Steps.IsFamilyFor-made}
 
 -- a table that has a family for each of the nodes has the families in their order
 pub StandFor-table : (stands : ℕ → List (List ℕ) → Type 0) (table : ℕ → List (List ℕ)) (nodes : List ℕ)
@@ -28,15 +25,15 @@ StandFor-table stands table (node ∷ nodes) all = (
   StandFor-table stands table nodes (All-tail (λ n. stands n (table n)) node nodes all),
 )
 
-pub all_generate : (tree : FaultTree) → IsTree tree → (nodes : List ℕ) (families : List (List (List ℕ)))
+pub all_generate : {tree : FaultTree} → IsTree tree → (nodes : List ℕ) (families : List (List (List ℕ)))
     → All (IsNodeOf tree) nodes → StandFor (IsCutFamily tree) nodes families
     → StandFor (IsFamilyFor tree) nodes families
-all_generate tree kept [] [] are stand = tt
-all_generate tree kept [] (family ∷ families) are stand = stand
-all_generate tree kept (node ∷ nodes) [] are stand = stand
-all_generate tree kept (node ∷ nodes) (family ∷ families) are stand = (
+all_generate kept [] [] are stand = tt
+all_generate kept [] (family ∷ families) are stand = stand
+all_generate kept (node ∷ nodes) [] are stand = stand
+all_generate {tree} kept (node ∷ nodes) (family ∷ families) are stand = (
   IsFamilyFor-cut_family tree kept node (All-head (IsNodeOf tree) node nodes are) family stand.0,
-  all_generate tree kept nodes families (All-tail (IsNodeOf tree) node nodes are) stand.1,
+  all_generate kept nodes families (All-tail (IsNodeOf tree) node nodes are) stand.1,
 )
 
 -- what a node's recipe makes generates the node
@@ -45,14 +42,14 @@ pub recipe-generates : (tree : FaultTree) → IsTree tree → (node : ℕ) → I
     → IsMadeBy (node_recipe tree node families) made → IsFamilyFor tree node made
 recipe-generates tree kept node is_node families made stand is =
     IsFamilyFor-made tree kept node is_node families made
-    (all_generate tree kept (below tree node) families (below_are_nodes tree kept node) stand) is
+    (all_generate kept (below tree node) families (below_are_nodes kept node) stand) is
 
 -- and its minimal sets are the node's cut family
-pub recipe-cut_family : (tree : FaultTree) → IsTree tree → (node : ℕ) → IsNodeOf tree node
-    → (families : List (List (List ℕ))) (made least : List (List ℕ))
+pub recipe-cut_family : {tree : FaultTree} → IsTree tree → {node : ℕ} → IsNodeOf tree node
+    → (families : List (List (List ℕ))) {made least : List (List ℕ)}
     → StandFor (IsCutFamily tree) (below tree node) families → IsMadeBy (node_recipe tree node families) made
     → IsMinimal made least → IsCutFamily tree node least
-recipe-cut_family tree kept node is_node families made least stand is minimal =
+recipe-cut_family {tree} kept {node} is_node families {made} {least} stand is minimal =
     cut_family-minimal tree node made least (recipe-generates tree kept node is_node families made stand is) minimal
 
 -- ---- by the kind of the node
@@ -91,7 +88,7 @@ module _ (tree : FaultTree) (kept : IsTree tree) where
       → StandFor (IsCutFamily tree) (inputs_of tree gate) families
       → IsMadeBy (gate_recipe (kind_of tree gate) families) made → IsMinimal made least → IsCutFamily tree gate least
   gate-cut_family gate is_gate families made least stand is minimal =
-      recipe-cut_family tree kept gate (gate_is_node tree gate is_gate) families made least
+      recipe-cut_family kept (gate_is_node tree gate is_gate) families
       (subst (λ (q : List ℕ). StandFor (IsCutFamily tree) q families) (sym (gate_below tree gate is_gate)) stand)
       (subst (λ (q : Recipe). IsMadeBy q made) (sym (gate_recipe_is tree gate families is_gate)) is)
       minimal
@@ -100,7 +97,7 @@ module _ (tree : FaultTree) (kept : IsTree tree) where
       → StandFor (IsCutFamily tree) (triggers_of tree unit) families → IsUnionOfAll (alone unit) families made
       → IsMinimal made least → IsCutFamily tree unit least
   unit-cut_family unit is_unit families made least stand is minimal =
-      recipe-cut_family tree kept unit (unit_is_node tree unit is_unit) families made least
+      recipe-cut_family kept (unit_is_node tree unit is_unit) families
       (subst (λ (q : List ℕ). StandFor (IsCutFamily tree) q families) (sym (unit_below tree unit is_unit)) stand)
       (subst (λ (q : Recipe). IsMadeBy q made) (sym (unit_recipe_is tree unit families is_unit)) is)
       minimal

@@ -12,20 +12,13 @@ use Rattle.unit_sets.specs.UnitList.{among, without_unit, is_within, some_within
 use Rattle.unit_sets.proofs.UnitListLemmas.{among-without_unit, among-from_Contains}
 use Rattle.unit_sets.proofs.UnitListLemmas.{Contains-from_among, among-from_is_within, is_within-from_among}
 use Rattle.fault_definitions.specs.Cut.{IsMinimalFor, IsMinimalCut, IsCutList}
-use Rattle.fault_definitions.specs.CutFamily.{IsCutFamily}
-use Rattle.fault_definitions.proofs.MinimalCuts.{units_of_all}
-use Rattle.fault_definitions.specs.Reading.{reads}
-use Rattle.fault_definitions.proofs.ReadingLaws.{reads-empty}
-use Rattle.fault_definitions.specs.Tree.{FaultTree}
-use Rattle.fault_definitions.specs.WellFormed.{IsTree}
-use Rattle.zdd_families.specs.Family.{IsFamily}
-use Rattle.zdd_families.proofs.CutsLemmas.{set_rises}
+use Rattle.fault_definitions.specs.{CutFamily.IsCutFamily, Reading.reads, Tree.FaultTree, WellFormed.IsTree}
+use Rattle.fault_definitions.proofs.{MinimalCuts.units_of_all, ReadingLaws.reads-empty}
+use Rattle.zdd_families.specs.{Family.IsFamily, Inclusion.Includes, Minimal.IsMinimal}
+use Rattle.zdd_families.proofs.{CutsLemmas.set_rises, MinimalLemmas.minimal-covers}
 use Rattle.zdd_families.proofs.WithinLemmas.{HasWithin, HasWithin-from_test, some_within-from_set}
 use Rattle.zdd_families.proofs.WithinLemmas.{some_within-minimal}
-use Rattle.zdd_families.specs.Inclusion.{Includes}
 use Rattle.zdd_families.proofs.InclusionLemmas.{within_itself, within_trans, same_within}
-use Rattle.zdd_families.specs.Minimal.{IsMinimal}
-use Rattle.zdd_families.proofs.MinimalLemmas.{minimal-covers}
 use Rattle.tree_families.specs.Generation.{IsFamilyFor}
 
 -- a node has one cut family
@@ -88,8 +81,7 @@ module _ (tree : FaultTree) (node : ℕ) (f least : List (List ℕ)) (generates 
       let both = (is.sets set).0 has in
       sym (generates.some_within (among (without_unit unit set)))
       ∙ false_from_ne_true (some_within f (among (without_unit unit set))) (λ hit.
-      let found : HasWithin f (among (without_unit unit set)) =
-      HasWithin-from_test f (among (without_unit unit set)) hit in
+      let found : HasWithin f (among (without_unit unit set)) = HasWithin-from_test f hit in
       let same : found.set ≡ set = both.1 found.set found.has (within_whole set found.set unit found.passes) in
       lacks_unit set found.set unit found.passes (subst (λ (q : List ℕ). among q unit ≡ true) (sym same) member))
 
@@ -97,7 +89,7 @@ module _ (tree : FaultTree) (node : ℕ) (f least : List (List ℕ)) (generates 
   minimal_for set has =
       let of_f : Contains f set = ((is.sets set).0 has).0 in
       record {
-        rising = set_rises f set is_family of_f;
+        rising = set_rises set is_family of_f;
         units = units_of_all tree set (generates.of_tree.units set of_f);
         fails =
             sym (generates.some_within (among set)) ∙ some_within-from_set f (among set) set of_f (within_itself set);
@@ -107,9 +99,10 @@ module _ (tree : FaultTree) (node : ℕ) (f least : List (List ℕ)) (generates 
       }
 
   -- a set of the family within a minimal set of the node has all of its units
-  has_all : (set part : List ℕ) → IsMinimalFor tree node set → Contains f part → is_within set part ≡ true → (unit : ℕ)
+  has_all : {set : List ℕ} (part : List ℕ) → IsMinimalFor tree node set → Contains f part → is_within set part ≡ true
+      → (unit : ℕ)
       → among set unit ≡ true → among part unit ≡ true
-  has_all set part minimal of_f within unit member =
+  has_all {set} part minimal of_f within unit member =
       elim (cases_Bool (among part unit)) [
         | inl has ↦ has
         | inr lacks ↦
@@ -123,20 +116,20 @@ module _ (tree : FaultTree) (node : ℕ) (f least : List (List ℕ)) (generates 
             absurd (false≢true (sym lives ∙ fails))
       ]
 
-  same_part : (set part : List ℕ) → IsMinimalFor tree node set → Contains least part → is_within set part ≡ true
+  same_part : {set : List ℕ} (part : List ℕ) → IsMinimalFor tree node set → Contains least part
+      → is_within set part ≡ true
       → part ≡ set
-  same_part set part minimal has within =
+  same_part {set} part minimal has within =
       let of_f : Contains f part = ((is.sets part).0 has).0 in
-      same_within part set (set_rises f part is_family of_f) minimal.rising
-      (is_within-from_among part set (has_all set part minimal of_f within)) within
+      same_within (set_rises part is_family of_f) minimal.rising
+      (is_within-from_among part set (has_all part minimal of_f within)) within
 
   complete : (set : List ℕ) → IsMinimalFor tree node set → Contains least set
   complete set minimal =
-      let found : HasWithin f (among set) =
-      HasWithin-from_test f (among set) (generates.some_within (among set) ∙ minimal.fails) in
+      let found : HasWithin f (among set) = HasWithin-from_test f (generates.some_within (among set) ∙ minimal.fails) in
       let part : Includes least found.set = minimal-covers f least is_family is found.set found.has in
       let within : is_within set part.part ≡ true = within_trans set found.set part.part found.passes part.within in
-      subst (Contains least) (same_part set part.part minimal part.has within) part.has
+      subst (Contains least) (same_part part.part minimal part.has within) part.has
 
   -- they are the node's cut family
   pub cut_family-minimal : IsCutFamily tree node least
@@ -168,5 +161,5 @@ cut_list-from_family tree family cuts is ordered same = record {
 pub no_empty_set : (tree : FaultTree) (node : ℕ) (family : List (List ℕ)) → IsTree tree → IsCutFamily tree node family
     → Contains family [] → ⊥
 no_empty_set tree node family kept is has =
-    false≢true (sym (reads-empty tree kept (among []) (λ _. refl) node)
+    false≢true (sym (reads-empty kept (among []) (λ _. refl) node)
     ∙ (All-contains (IsMinimalFor tree node) family [] is.sound has).fails)

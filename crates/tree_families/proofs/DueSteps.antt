@@ -2,9 +2,7 @@
 -- on the way.
 use Rattle.std.specs.Prelude.{◌≡◌, ℕ, zero, suc, ◌+◌, ◌<◌, List, [], ◌∷◌, length, take, get_or}
 use Rattle.std.proofs.Common.{refl, sym, ap, subst, arith}
-use Rattle.zdd_families.specs.Union.{IsUnion}
-use Rattle.zdd_families.specs.Product.{IsProduct}
-use Rattle.zdd_families.specs.Minimal.{IsMinimal}
+use Rattle.zdd_families.specs.{Union.IsUnion, Product.IsProduct, Minimal.IsMinimal}
 use Rattle.zdd_families.specs.Due.{IsDueToUnion, IsDueToProduct, IsDueToMinimal}
 use Rattle.tree_families.specs.Recipe.{IsUnionOfAll, IsProductOfAll}
 use Rattle.tree_families.specs.Due.{IsDueToUnions, next_union, later_union, IsDueToProducts, next_product, next_minimal}

@@ -1,24 +1,16 @@
 -- What follows from the definitions of `specs/Examples`.
 use Rattle.std.specs.Prelude.{◌≡◌, ℕ, ◌+◌, Bool, true, false, not, ◌&&◌, ◌||◌, nat_le, List, [], ◌∷◌, Contains}
 use Rattle.std.specs.Prelude.{if◌then◌else◌}
-use Rattle.std.specs.List.{list_all}
-use Rattle.std.specs.List.Sorted.{IsStrictlySortedBy}
+use Rattle.std.specs.{List.list_all, List.Sorted.IsStrictlySortedBy}
 use Rattle.std.proofs.Common.{refl, sym, ◌∙◌, ap, inl, inr}
 use Rattle.std.proofs.lemmas.Bool.{and_parts, or_cases, not_from_true, leb-true, false≢true}
 use Rattle.unit_sets.proofs.Sorted.{Contains-nil, Contains-cons_cases}
 use Rattle.unit_sets.specs.UnitList.{is_within, some_within}
-use Rattle.fault_definitions.specs.CutFamily.{IsCutFamily}
-use Rattle.fault_definitions.specs.Rank.{by_rank}
-use Rattle.fault_definitions.specs.Reading.{reads}
-use Rattle.fault_definitions.specs.Tree.{FaultTree, unit_count}
-use Rattle.zdd_families.specs.Family.{IsFamily}
-use Rattle.zdd_families.proofs.CutsLemmas.{set_rises}
-use Rattle.zdd_families.proofs.WithinLemmas.{passes_at}
-use Rattle.zdd_families.proofs.InclusionLemmas.{same_within}
-use Rattle.zdd_families.specs.Minimal.{IsMinimal}
-use Rattle.tree_families.specs.Generation.{IsFamilyOf}
+use Rattle.fault_definitions.specs.{CutFamily.IsCutFamily, Rank.by_rank, Reading.reads, Tree.FaultTree, Tree.unit_count}
+use Rattle.zdd_families.specs.{Family.IsFamily, Minimal.IsMinimal}
+use Rattle.zdd_families.proofs.{CutsLemmas.set_rises, WithinLemmas.passes_at, InclusionLemmas.same_within}
+use Rattle.tree_families.specs.{Generation.IsFamilyOf, Examples.superset_absorbed, Examples.two_of_three}
 use Rattle.tree_families.proofs.CutFamilies.{cut_family-minimal}
-use Rattle.tree_families.specs.Examples.{superset_absorbed, two_of_three}
 
 abbrev pub pairs_of_three : List (List ℕ)
 pairs_of_three = (1 ∷ 2 ∷ []) ∷ (1 ∷ 3 ∷ []) ∷ (2 ∷ 3 ∷ []) ∷ []
@@ -45,8 +37,8 @@ passes_of test (first ∷ others) x all has =
 abbrev is_antichain : List (List ℕ) → Bool
 is_antichain f = list_all (λ set. list_all (λ other. not (is_within set other) || is_within other set) f) f
 
-minimal_itself : (f : List (List ℕ)) → IsFamily f → is_antichain f ≡ true → IsMinimal f f
-minimal_itself f is anti = record {
+minimal_itself : {f : List (List ℕ)} → IsFamily f → is_antichain f ≡ true → IsMinimal f f
+minimal_itself {f} is anti = record {
   is_family = is;
   sets = λ set. (
     λ has. (
@@ -56,7 +48,7 @@ minimal_itself f is anti = record {
           (passes_of (λ q. not (is_within set q) || is_within q set) f other
           (passes_of (λ s. list_all (λ q. not (is_within s q) || is_within q s) f) f set anti has) has')) [
             | inl outside ↦ absurd (false≢true (sym (not_from_true (is_within set other) within) ∙ outside))
-            | inr back ↦ same_within other set (set_rises f other is has') (set_rises f set is has) back within
+            | inr back ↦ same_within (set_rises other is has') (set_rises set is has) back within
           ],
     ),
     λ both. both.0,
@@ -66,9 +58,9 @@ minimal_itself f is anti = record {
 abbrev is_unit_of : FaultTree → ℕ → Bool
 is_unit_of tree unit = nat_le 1 unit && nat_le unit (unit_count tree)
 
-of_tree : (tree : FaultTree) (f : List (List ℕ)) → IsFamily f → list_all (list_all (is_unit_of tree)) f ≡ true
+of_tree : {tree : FaultTree} {f : List (List ℕ)} → IsFamily f → list_all (list_all (is_unit_of tree)) f ≡ true
     → IsFamilyOf tree f
-of_tree tree f is units = record {
+of_tree {tree} {f} is units = record {
   is_family = is;
   units = λ set has unit member.
       let both =
@@ -132,18 +124,17 @@ gate_within : (within : ℕ → Bool) → some_within one_and_two within ≡ rea
 unfolding reads by_rank
 gate_within within = both_fail (within 1) (within 2)
 
-family_by : (tree : FaultTree) (node : ℕ) (f : List (List ℕ)) → IsFamily f
+family_by : {tree : FaultTree} {node : ℕ} {f : List (List ℕ)} → IsFamily f
     → list_all (list_all (is_unit_of tree)) f ≡ true → is_antichain f ≡ true
     → ((within : ℕ → Bool) → some_within f within ≡ reads tree within node) → IsCutFamily tree node f
-family_by tree node f is units anti hit =
-    cut_family-minimal tree node f f (record { of_tree = of_tree tree f is units; some_within = hit })
-    (minimal_itself f is anti)
+family_by {tree} {node} {f} is units anti hit =
+    cut_family-minimal tree node f f (record { of_tree = of_tree is units; some_within = hit }) (minimal_itself is anti)
 
 pub two_of_three-top : IsCutFamily two_of_three 4 pairs_of_three
-two_of_three-top = family_by two_of_three 4 pairs_of_three pairs_family refl refl votes_hit
+two_of_three-top = family_by pairs_family refl refl votes_hit
 
 pub superset_absorbed-top : IsCutFamily superset_absorbed 3 one_alone
-superset_absorbed-top = family_by superset_absorbed 3 one_alone one_family refl refl top_hit
+superset_absorbed-top = family_by one_family refl refl top_hit
 
 pub superset_absorbed-gate : IsCutFamily superset_absorbed 4 one_and_two
-superset_absorbed-gate = family_by superset_absorbed 4 one_and_two both_family refl refl gate_within
+superset_absorbed-gate = family_by both_family refl refl gate_within

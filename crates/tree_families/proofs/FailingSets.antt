@@ -3,17 +3,12 @@ use Rattle.std.specs.Prelude.{◌≡◌, ℕ, Bool, true, List, Contains}
 use Rattle.std.proofs.lemmas.List.Elements.{All-contains}
 use Rattle.unit_sets.specs.UnitList.{among, IsRising, some_within}
 use Rattle.unit_sets.proofs.UnitListLemmas.{Contains-from_among}
-use Rattle.fault_definitions.specs.Cut.{IsMinimalFor}
-use Rattle.fault_definitions.specs.CutFamily.{IsCutFamily}
-use Rattle.fault_definitions.proofs.MinimalCuts.{part_of_failing}
-use Rattle.fault_definitions.specs.Reading.{reads}
-use Rattle.fault_definitions.proofs.ReadingLaws.{reads-rises}
+use Rattle.fault_definitions.specs.{Cut.IsMinimalFor, CutFamily.IsCutFamily, Reading.reads, WellFormed.IsTree}
+use Rattle.fault_definitions.proofs.{MinimalCuts.part_of_failing, ReadingLaws.reads-rises}
 use Rattle.fault_definitions.specs.Tree.{FaultTree, IsNodeOf, IsUnitOf}
-use Rattle.fault_definitions.specs.WellFormed.{IsTree}
-use Rattle.zdd_families.proofs.CutsLemmas.{each-from_contains}
+use Rattle.zdd_families.proofs.{CutsLemmas.each-from_contains, InclusionLemmas.same_Bool}
 use Rattle.zdd_families.proofs.WithinLemmas.{HasWithin, HasWithin-from_test, some_within-from_set, passes_at}
 use Rattle.zdd_families.proofs.WithinLemmas.{passes_from}
-use Rattle.zdd_families.proofs.InclusionLemmas.{same_Bool}
 use Rattle.tree_families.specs.Generation.{IsFamilyFor}
 
 module _ (tree : FaultTree) (kept : IsTree tree) (node : ℕ) (is_node : IsNodeOf tree node) (family : List (List ℕ))
@@ -23,7 +18,7 @@ module _ (tree : FaultTree) (kept : IsTree tree) (node : ℕ) (is_node : IsNodeO
 
   hit_to : (within : ℕ → Bool) → some_within family within ≡ true → reads tree within node ≡ true
   hit_to within hit =
-      let found : HasWithin family within = HasWithin-from_test family within hit in
+      let found : HasWithin family within = HasWithin-from_test family hit in
       reads-rises tree (among found.set) within (record {
         kept =
             λ n has. passes_at within found.set n found.passes has;
@@ -31,7 +26,7 @@ module _ (tree : FaultTree) (kept : IsTree tree) (node : ℕ) (is_node : IsNodeO
 
   hit_from : (within : ℕ → Bool) → reads tree within node ≡ true → some_within family within ≡ true
   hit_from within fails =
-      let found = part_of_failing tree kept node is_node within fails in
+      let found = part_of_failing kept node is_node within fails in
       some_within-from_set family within found.0.part (is.complete found.0.part found.0.minimal)
       (passes_from within found.0.part found.1)
 

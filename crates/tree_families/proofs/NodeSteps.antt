@@ -3,9 +3,8 @@ use Rattle.std.specs.Prelude.{◌≡◌, ℕ, ◌<◌, true, false, List, [], �
 use Rattle.std.proofs.Common.{refl, sym, ◌∙◌, ap, subst}
 use Rattle.fault_words.specs.declared.kind.GateKind.{GateKind}
 use Rattle.fault_words.specs.declared.kind.GateKind.TheVariants.{And, Or, Votes, Pand, Por, Seq, Fdep, Csp, Wsp, Hsp}
-use Rattle.fault_definitions.specs.CutFamily.{IsCutFamily}
+use Rattle.fault_definitions.specs.{CutFamily.IsCutFamily, Trigger.triggers_of}
 use Rattle.fault_definitions.specs.Tree.{FaultTree, IsGateOf, IsUnitOf, inputs_of, is_fdep_kind, kind_of}
-use Rattle.fault_definitions.specs.Trigger.{triggers_of}
 use Rattle.zdd_families.specs.Due.{IsDueToUnion, IsDueToProduct, IsDueToMinimal, IsDueToVotes}
 use Rattle.zdd_families.specs.Product.{IsProduct}
 use Rattle.tree_families.proofs.Building.{gate-due, unit-due}
@@ -48,17 +47,17 @@ module _ (tree : FaultTree) (unit : ℕ) (is_unit : IsUnitOf tree unit) (familie
 
 module _ (tree : FaultTree) (gate : ℕ) (is_gate : IsGateOf tree gate) where
   -- due to the recipe of the gate's kind
-  by_kind : (kind : GateKind) (families : List (List (List ℕ))) (due : List (List ℕ)) → kind_of tree gate ≡ kind
+  by_kind : {kind : GateKind} (families : List (List (List ℕ))) {due : List (List ℕ)} → kind_of tree gate ≡ kind
       → is_fdep_kind kind ≡ false → StandFor (IsCutFamily tree) (inputs_of tree gate) families
       → IsDueToRecipe (gate_recipe kind families) due → IsDueToTree tree due
-  by_kind kind families due same read stand h =
+  by_kind families {due} same read stand h =
       gate-due tree gate is_gate (ap is_fdep_kind same ∙ read) families due stand
       (subst (λ (q : GateKind). IsDueToRecipe (gate_recipe q families) due) (sym same) h)
 
-  by_products : (first : List (List ℕ)) (others : List (List (List ℕ))) (due : List (List ℕ))
+  by_products : (first : List (List ℕ)) (others : List (List (List ℕ))) {due : List (List ℕ)}
       → needs_all (kind_of tree gate) ≡ true → StandFor (IsCutFamily tree) (inputs_of tree gate) (first ∷ others)
       → IsDueToRecipe (products first others) due → IsDueToTree tree due
-  by_products first others due all stand h =
+  by_products first others {due} all stand h =
       gate-due tree gate is_gate (no_fdep (kind_of tree gate) all) (first ∷ others) due stand
       (subst (λ (q : Recipe). IsDueToRecipe q due) (sym (needs_all_recipe (kind_of tree gate) (first ∷ others) all)) h)
 
@@ -67,7 +66,7 @@ module _ (tree : FaultTree) (gate : ℕ) (is_gate : IsGateOf tree gate) where
       → place < length others → IsUnionOfAll first (take place others) made
       → IsDueToUnion made (get_or others place []) due → IsDueToTree tree due
   or_union-due first others same stand place made due short is h =
-      by_kind Or (first ∷ others) due same refl stand
+      by_kind (first ∷ others) same refl stand
       (due_to_unions (due-to_next_union place first others made due short is h))
 
   pub all_product-due : (first : List (List ℕ)) (others : List (List (List ℕ))) → needs_all (kind_of tree gate) ≡ true
@@ -75,8 +74,7 @@ module _ (tree : FaultTree) (gate : ℕ) (is_gate : IsGateOf tree gate) where
       → place < length others → IsProductOfAll first (take place others) made
       → IsDueToProduct made (get_or others place []) due → IsDueToTree tree due
   all_product-due first others all stand place made due short is h =
-      by_products first others due all stand (due_to_products
-      (due-to_next_product place first others made due short is h))
+      by_products first others all stand (due_to_products (due-to_next_product place first others made due short is h))
 
   pub all_minimal-due : (first : List (List ℕ)) (others : List (List (List ℕ))) → needs_all (kind_of tree gate) ≡ true
       → StandFor (IsCutFamily tree) (inputs_of tree gate) (first ∷ others)
@@ -84,13 +82,13 @@ module _ (tree : FaultTree) (gate : ℕ) (is_gate : IsGateOf tree gate) where
       → IsProductOfAll first (take place others) made → IsProduct made (get_or others place []) product
       → IsDueToMinimal product due → IsDueToTree tree due
   all_minimal-due first others all stand place made product due short is next h =
-      by_products first others due all stand (due_to_products
+      by_products first others all stand (due_to_products
       (due-to_next_minimal place first others made product due short is next h))
 
   pub votes-due : (least of : ℕ) (families : List (List (List ℕ))) (due : List (List ℕ))
       → kind_of tree gate ≡ Votes least of → StandFor (IsCutFamily tree) (inputs_of tree gate) families
       → IsDueToVotes least families due → IsDueToTree tree due
-  votes-due least of families due same stand h = by_kind (Votes least of) families due same refl stand (due_to_votes h)
+  votes-due least of families due same stand h = by_kind families same refl stand (due_to_votes h)
 
   pub gate_minimal-due : (families : List (List (List ℕ))) (made due : List (List ℕ))
       → is_fdep_kind (kind_of tree gate) ≡ false → StandFor (IsCutFamily tree) (inputs_of tree gate) families

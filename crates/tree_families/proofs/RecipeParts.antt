@@ -3,19 +3,16 @@
 use Rattle.std.specs.Prelude.{◌⊎◌, ℕ, List, [], ◌∷◌}
 use Rattle.std.proofs.Common.{refl, subst, inl, inr}
 use Rattle.unit_sets.proofs.Sorted.{Contains-cons_first, Contains-cons_other}
-use Rattle.zdd_families.specs.Due.{IsDueToUnion, IsDueToProduct}
-use Rattle.zdd_families.specs.Minimal.{IsMinimal}
-use Rattle.zdd_families.specs.Nodes.{IsReached}
+use Rattle.zdd_families.specs.{Due.IsDueToUnion, Due.IsDueToProduct, Minimal.IsMinimal, Nodes.IsReached, Spans.Spans}
+use Rattle.zdd_families.specs.{VotesParts.SpanEach, VotesParts.PartOfOne}
 use Rattle.tree_families.specs.Recipe.{Recipe, unions, products, votes, IsUnionOfAll, IsProductOfAll, IsMadeBy}
 use Rattle.tree_families.specs.Due.{IsDueToUnions, next_union, later_union, IsDueToProducts, next_product, next_minimal}
 use Rattle.tree_families.specs.Due.{later_product, IsDueToRecipe, due_to_unions, due_to_products, due_to_votes}
 use Rattle.tree_families.specs.Due.{due_to_end}
 use Rattle.zdd_families.proofs.Parts.{Origin, is_due, of_first, of_second}
-use Rattle.zdd_families.specs.Spans.{Spans}
 use Rattle.zdd_families.proofs.UnionParts.{HasUnion, Spans-union, union-exists, union-parts}
 use Rattle.zdd_families.proofs.ProductParts.{HasProduct, Spans-product, product-exists, product-parts}
 use Rattle.zdd_families.proofs.MinimalParts.{HasLeast, Spans-minimal, minimal-exists, minimal-parts}
-use Rattle.zdd_families.specs.VotesParts.{SpanEach, PartOfOne}
 use Rattle.zdd_families.proofs.VotesPartsLemmas.{HasVotes, votes-exist, votes-parts}
 
 -- the families that the recipe is given
@@ -32,27 +29,28 @@ pub record HasMade (low size : ℕ) (recipe : Recipe) : Type 0 where
   pub spans : Spans low size made
 
 module _ (low size : ℕ) where
-  all_united : (first : List (List ℕ)) (others : List (List (List ℕ))) → Spans low size first → SpanEach low size others
+  all_united : {first : List (List ℕ)} (others : List (List (List ℕ))) → Spans low size first → SpanEach low size others
       → HasMade low size (unions first others)
-  all_united first [] s each = record { made = first; is = refl; spans = s }
-  all_united first (family ∷ others) s each =
-      let next : HasUnion low size first family = union-exists size low first family s each.0 in
-      let rest : HasMade low size (unions next.union others) = all_united next.union others next.spans each.1 in
+  all_united {first} [] s each = record { made = first; is = refl; spans = s }
+  all_united {first} (family ∷ others) s each =
+      let next : HasUnion low size first family = union-exists size s each.0 in
+      let rest : HasMade low size (unions next.union others) = all_united {first = next.union} others next.spans
+      each.1 in
       record { made = rest.made; is = (next.union, next.is, rest.is); spans = rest.spans }
 
-  all_multiplied : (first : List (List ℕ)) (others : List (List (List ℕ))) → Spans low size first
+  all_multiplied : {first : List (List ℕ)} (others : List (List (List ℕ))) → Spans low size first
       → SpanEach low size others → HasMade low size (products first others)
-  all_multiplied first [] s each = record { made = first; is = refl; spans = s }
-  all_multiplied first (family ∷ others) s each =
-      let next : HasProduct low size first family = product-exists size low first family s each.0 in
-      let least : HasLeast low size next.product = minimal-exists size low next.product next.spans in
+  all_multiplied {first} [] s each = record { made = first; is = refl; spans = s }
+  all_multiplied {first} (family ∷ others) s each =
+      let next : HasProduct low size first family = product-exists size s each.0 in
+      let least : HasLeast low size next.product = minimal-exists size next.spans in
       let rest : HasMade low size (products least.least others) =
-      all_multiplied least.least others least.spans each.1 in
+      all_multiplied {first = least.least} others least.spans each.1 in
       record { made = rest.made; is = (next.product, least.least, next.is, least.is, rest.is); spans = rest.spans }
 
   pub recipe-makes : (recipe : Recipe) → SpanEach low size (given recipe) → HasMade low size recipe
-  recipe-makes (unions first others) each = all_united first others each.0 each.1
-  recipe-makes (products first others) each = all_multiplied first others each.0 each.1
+  recipe-makes (unions first others) each = all_united others each.0 each.1
+  recipe-makes (products first others) each = all_multiplied others each.0 each.1
   recipe-makes (votes least families) each =
       let found : HasVotes low size least families = votes-exist low size families each least in
       record { made = found.votes; is = found.is; spans = found.spans }
@@ -60,9 +58,9 @@ module _ (low size : ℕ) where
 -- ---- its parts
 
 module _ (low size : ℕ) (part : List (List ℕ)) where
-  later : (first : List (List ℕ)) (others : List (List (List ℕ))) → PartOfOne others part
+  later : (first : List (List ℕ)) {others : List (List (List ℕ))} → PartOfOne others part
       → PartOfOne (first ∷ others) part
-  later first others found =
+  later first {others} found =
       record {
         family = found.family;
         has = Contains-cons_other first found.family others found.has;
@@ -70,9 +68,9 @@ module _ (low size : ℕ) (part : List (List ℕ)) where
             found.reached;
       }
 
-  at_first : (first : List (List ℕ)) (others : List (List (List ℕ))) → IsReached first part
+  at_first : {first : List (List ℕ)} (others : List (List (List ℕ))) → IsReached first part
       → PartOfOne (first ∷ others) part
-  at_first first others reached = record { family = first; has = Contains-cons_first first others; reached = reached }
+  at_first {first} others reached = record { family = first; has = Contains-cons_first first others; reached = reached }
 
   -- of the first family or of a later one
   abbrev Comes : Type 0 → List (List ℕ) → List (List (List ℕ)) → Type 0
@@ -81,78 +79,74 @@ module _ (low size : ℕ) (part : List (List ℕ)) where
   joined_comes : (Due : Type 0) (first : List (List ℕ)) (others : List (List (List ℕ))) → Comes Due first others
       → Due ⊎ PartOfOne (first ∷ others) part
   joined_comes Due first others (inl due) = inl due
-  joined_comes Due first others (inr (inl reached)) = inr (at_first first others reached)
-  joined_comes Due first others (inr (inr found)) = inr (later first others found)
+  joined_comes Due first others (inr (inl reached)) = inr (at_first others reached)
+  joined_comes Due first others (inr (inr found)) = inr (later first found)
 
-  of_next_union : (first family : List (List ℕ)) (others : List (List (List ℕ)))
+  of_next_union : {first family : List (List ℕ)} (others : List (List (List ℕ)))
       → Origin (IsDueToUnion first family part) first family part
       → Comes (IsDueToUnions first (family ∷ others) part) first (family ∷ others)
-  of_next_union first family others (is_due due) = inl (next_union due)
-  of_next_union first family others (of_first reached) = inr (inl reached)
-  of_next_union first family others (of_second reached) = inr (inr (at_first family others reached))
+  of_next_union others (is_due due) = inl (next_union due)
+  of_next_union others (of_first reached) = inr (inl reached)
+  of_next_union others (of_second reached) = inr (inr (at_first others reached))
 
-  unions_parts : (first : List (List ℕ)) (others : List (List (List ℕ))) (made : List (List ℕ)) → Spans low size first
+  unions_parts : {first : List (List ℕ)} (others : List (List (List ℕ))) {made : List (List ℕ)} → Spans low size first
       → SpanEach low size others → IsUnionOfAll first others made → IsReached made part
       → Comes (IsDueToUnions first others part) first others
-  unions_parts first [] made s each same reached =
-      inr (inl (subst (λ (q : List (List ℕ)). IsReached q part) same reached))
-  unions_parts first (family ∷ others) made s each (union, is, rest) reached =
-      elim (unions_parts union others made (Spans-union low size first family union s each.0 is) each.1 rest reached) [
+  unions_parts [] s each same reached = inr (inl (subst (λ (q : List (List ℕ)). IsReached q part) same reached))
+  unions_parts (family ∷ others) s each (union, is, rest) reached =
+      elim (unions_parts others (Spans-union s each.0 is) each.1 rest reached) [
         | inl due ↦ inl (later_union is due)
-        | inr (inl of_union) ↦ of_next_union first family others
-            (union-parts size low first family union part s each.0 is of_union)
-        | inr (inr found) ↦ inr (inr (later family others found))
+        | inr (inl of_union) ↦ of_next_union others (union-parts size s each.0 is of_union)
+        | inr (inr found) ↦ inr (inr (later family found))
       ]
 
-  of_next_product : (first family : List (List ℕ)) (others : List (List (List ℕ)))
+  of_next_product : {first family : List (List ℕ)} (others : List (List (List ℕ)))
       → Origin (IsDueToProduct first family part) first family part
       → Comes (IsDueToProducts first (family ∷ others) part) first (family ∷ others)
-  of_next_product first family others (is_due due) = inl (next_product due)
-  of_next_product first family others (of_first reached) = inr (inl reached)
-  of_next_product first family others (of_second reached) = inr (inr (at_first family others reached))
+  of_next_product others (is_due due) = inl (next_product due)
+  of_next_product others (of_first reached) = inr (inl reached)
+  of_next_product others (of_second reached) = inr (inr (at_first others reached))
 
-  products_parts : (first : List (List ℕ)) (others : List (List (List ℕ))) (made : List (List ℕ)) → Spans low size first
+  products_parts : {first : List (List ℕ)} (others : List (List (List ℕ))) {made : List (List ℕ)} → Spans low size first
       → SpanEach low size others → IsProductOfAll first others made → IsReached made part
       → Comes (IsDueToProducts first others part) first others
-  products_parts first [] made s each same reached =
-      inr (inl (subst (λ (q : List (List ℕ)). IsReached q part) same reached))
-  products_parts first (family ∷ others) made s each (product, least, is, minimal, rest) reached =
-      let s' : Spans low size product = Spans-product low size first family product s each.0 is in
-      elim (products_parts least others made (Spans-minimal low size product least s' minimal) each.1 rest reached) [
+  products_parts [] s each same reached = inr (inl (subst (λ (q : List (List ℕ)). IsReached q part) same reached))
+  products_parts (family ∷ others) s each (product, least, is, minimal, rest) reached =
+      let s' : Spans low size product = Spans-product s each.0 is in
+      elim (products_parts others (Spans-minimal s' minimal) each.1 rest reached) [
         | inl due ↦ inl (later_product is minimal due)
-        | inr (inl of_least) ↦ elim (minimal-parts size low product least part s' minimal of_least) [
+        | inr (inl of_least) ↦ elim (minimal-parts size s' minimal of_least) [
           | inl due ↦ inl (next_minimal is due)
-          | inr of_product ↦ of_next_product first family others
-              (product-parts size low first family product part s each.0 is of_product)
+          | inr of_product ↦ of_next_product others (product-parts size s each.0 is of_product)
         ]
-        | inr (inr found) ↦ inr (inr (later family others found))
+        | inr (inr found) ↦ inr (inr (later family found))
       ]
 
-  pub made_parts : (recipe : Recipe) (made : List (List ℕ)) → SpanEach low size (given recipe) → IsMadeBy recipe made
+  pub made_parts : (recipe : Recipe) {made : List (List ℕ)} → SpanEach low size (given recipe) → IsMadeBy recipe made
       → IsReached made part → IsDueToRecipe recipe part ⊎ PartOfOne (given recipe) part
-  made_parts (unions first others) made each is reached =
+  made_parts (unions first others) each is reached =
       elim (joined_comes (IsDueToUnions first others part) first others
-      (unions_parts first others made each.0 each.1 is reached)) [
+      (unions_parts others each.0 each.1 is reached)) [
         | inl due ↦ inl (due_to_unions due)
         | inr found ↦ inr found
       ]
-  made_parts (products first others) made each is reached =
+  made_parts (products first others) each is reached =
       elim (joined_comes (IsDueToProducts first others part) first others
-      (products_parts first others made each.0 each.1 is reached)) [
+      (products_parts others each.0 each.1 is reached)) [
         | inl due ↦ inl (due_to_products due)
         | inr found ↦ inr found
       ]
-  made_parts (votes least families) made each is reached =
-      elim (votes-parts low size least families part made each is reached) [
+  made_parts (votes least families) each is reached =
+      elim (votes-parts low size least families part each is reached) [
         | inl due ↦ inl (due_to_votes due)
         | inr found ↦ inr found
       ]
 
-  pub recipe-parts : (recipe : Recipe) (made least : List (List ℕ)) → SpanEach low size (given recipe)
+  pub recipe-parts : (recipe : Recipe) {made least : List (List ℕ)} → SpanEach low size (given recipe)
       → Spans low size made → IsMadeBy recipe made → IsMinimal made least → IsReached least part
       → IsDueToRecipe recipe part ⊎ PartOfOne (given recipe) part
-  recipe-parts recipe made least each s is minimal reached =
-      elim (minimal-parts size low made least part s minimal reached) [
+  recipe-parts recipe each s is minimal reached =
+      elim (minimal-parts size s minimal reached) [
         | inl due ↦ inl (due_to_end is due)
-        | inr of_made ↦ made_parts recipe made each is of_made
+        | inr of_made ↦ made_parts recipe each is of_made
       ]

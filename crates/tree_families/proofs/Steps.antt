@@ -1,7 +1,6 @@
 -- What the recipe of a node makes from families that generate what the node reads: it generates the node.
 use Rattle.std.specs.Prelude.{◌≡◌, ℕ, zero, suc, Bool, true, false, ◌&&◌, ◌||◌, ◌==◌, nat_le, List, [], ◌∷◌, Contains}
-use Rattle.std.specs.List.{list_any, list_all}
-use Rattle.std.specs.List.Sorted.{IsStrictlySortedBy}
+use Rattle.std.specs.{List.list_any, List.list_all, List.Sorted.IsStrictlySortedBy}
 use Rattle.std.proofs.Common.{refl, sym, ◌∙◌, ap, subst, inl, inr}
 use Rattle.std.proofs.lemmas.Bool.{cases_Bool, or_cases, cond-true, cond-false, eqb-true, ltb-false}
 use Rattle.unit_sets.specs.UnitList.{among, some_within}
@@ -11,21 +10,14 @@ use Rattle.fault_words.specs.declared.kind.GateKind.TheVariants.{And, Or, Votes,
 use Rattle.fault_definitions.specs.Reading.{reads, true_count, first_reads, gate_reads}
 use Rattle.fault_definitions.proofs.ReadingLaws.{reads-node}
 use Rattle.fault_definitions.specs.Tree.{FaultTree, IsNodeOf, IsUnitOf, kind_of, inputs_of, is_above_units, unit_count}
-use Rattle.fault_definitions.specs.Trigger.{below, triggers_of}
-use Rattle.fault_definitions.specs.WellFormed.{IsTree}
-use Rattle.zdd_families.specs.Family.{IsFamily}
-use Rattle.zdd_families.proofs.FamilyLemmas.{IsFamily-nil, IsFamily-unit}
-use Rattle.zdd_families.specs.Within.{count_within}
+use Rattle.fault_definitions.specs.{Trigger.below, Trigger.triggers_of, WellFormed.IsTree}
+use Rattle.zdd_families.specs.{Family.IsFamily, Within.count_within, Minimal.IsMinimal, Product.IsProduct}
+use Rattle.zdd_families.specs.{Product.IsJoin, Sets.joined, Union.IsUnion, Votes.IsVotes, Votes.IsChoice}
+use Rattle.zdd_families.proofs.{FamilyLemmas.IsFamily-nil, FamilyLemmas.IsFamily-unit, SetsLemmas.among-joined}
+use Rattle.zdd_families.proofs.{Parts.empty_unit}
 use Rattle.zdd_families.proofs.WithinLemmas.{some_within-union, some_within-product, some_within-minimal}
 use Rattle.zdd_families.proofs.WithinLemmas.{some_within-votes}
-use Rattle.zdd_families.specs.Minimal.{IsMinimal}
-use Rattle.zdd_families.specs.Product.{IsProduct, IsJoin}
-use Rattle.zdd_families.specs.Sets.{joined}
-use Rattle.zdd_families.proofs.SetsLemmas.{among-joined}
-use Rattle.zdd_families.specs.Union.{IsUnion}
-use Rattle.zdd_families.specs.Votes.{IsVotes, IsChoice}
 use Rattle.tree_families.specs.Generation.{IsFamilyOf, AreFamiliesOf, IsFamilyFor}
-use Rattle.zdd_families.proofs.Parts.{empty_unit}
 use Rattle.tree_families.specs.Recipe.{Recipe, unions, IsUnionOfAll, IsProductOfAll, IsMadeBy, all_united}
 use Rattle.tree_families.specs.Recipe.{all_multiplied, first_alone, gate_recipe, alone, node_recipe, StandFor}
 
@@ -77,15 +69,15 @@ module _ (tree : FaultTree) where
   of_none : IsFamilyOf tree []
   of_none = record { is_family = IsFamily-nil; units = λ set has. Contains-nil set has }
 
-  no_unit : {G : Type 0} (set : List ℕ) (unit : ℕ) → set ≡ [] → among set unit ≡ true → G
-  no_unit set unit same has =
+  no_unit : {G : Type 0} {set : List ℕ} (unit : ℕ) → set ≡ [] → among set unit ≡ true → G
+  no_unit unit same has =
       let clash : among [] unit ≡ true = subst (λ (q : List ℕ). among q unit ≡ true) same has in absurd cc
 
   of_empty_set : IsFamilyOf tree ([] ∷ [])
   of_empty_set = record { is_family = IsFamily-unit; units = λ set has unit member. empty_unit set unit has member }
 
-  of_union : (f g h : List (List ℕ)) → IsFamilyOf tree f → IsFamilyOf tree g → IsUnion f g h → IsFamilyOf tree h
-  of_union f g h of of' is = record {
+  of_union : {f g h : List (List ℕ)} → IsFamilyOf tree f → IsFamilyOf tree g → IsUnion f g h → IsFamilyOf tree h
+  of_union of of' is = record {
     is_family = is.is_family;
     units = λ set has. elim ((is.sets set).0 has) [
       | inl of_f ↦ of.units set of_f
@@ -93,57 +85,54 @@ module _ (tree : FaultTree) where
     ];
   }
 
-  joined_units : (a b set : List ℕ) → set ≡ joined a b → ((unit : ℕ) → among a unit ≡ true → IsUnitOf tree unit)
+  joined_units : (a b : List ℕ) {set : List ℕ} → set ≡ joined a b
+      → ((unit : ℕ) → among a unit ≡ true → IsUnitOf tree unit)
       → ((unit : ℕ) → among b unit ≡ true → IsUnitOf tree unit) → (unit : ℕ) → among set unit ≡ true
       → IsUnitOf tree unit
-  joined_units a b set same of_a of_b unit has =
+  joined_units a b same of_a of_b unit has =
       elim (or_cases (among a unit) (among b unit) (sym (among-joined a b unit)
       ∙ subst (λ (q : List ℕ). among q unit ≡ true) same has)) [
         | inl here ↦ of_a unit here
         | inr there ↦ of_b unit there
       ]
 
-  of_product : (f g h : List (List ℕ)) → IsFamilyOf tree f → IsFamilyOf tree g → IsProduct f g h → IsFamilyOf tree h
-  of_product f g h of of' is = record {
+  of_product : {f g h : List (List ℕ)} → IsFamilyOf tree f → IsFamilyOf tree g → IsProduct f g h → IsFamilyOf tree h
+  of_product {f} {g} of of' is = record {
     is_family = is.is_family;
     units = λ set has.
         let join : IsJoin f g set = (is.sets set).0 has in
-        joined_units join.first join.second set join.is (of.units join.first join.of_f)
-        (of'.units join.second join.of_g);
+        joined_units join.first join.second join.is (of.units join.first join.of_f) (of'.units join.second join.of_g);
   }
 
-  of_minimal : (f least : List (List ℕ)) → IsFamilyOf tree f → IsMinimal f least → IsFamilyOf tree least
-  of_minimal f least of is =
+  of_minimal : {f least : List (List ℕ)} → IsFamilyOf tree f → IsMinimal f least → IsFamilyOf tree least
+  of_minimal of is =
       record { is_family = is.is_family; units = λ set has. of.units set ((is.sets set).0 has).0 }
 
   choice_units : (families : List (List (List ℕ))) → AreFamiliesOf tree families → (count : ℕ) (set : List ℕ)
       → IsChoice families count set → (unit : ℕ) → among set unit ≡ true → IsUnitOf tree unit
-  choice_units [] of zero set same unit has = no_unit set unit same has
+  choice_units [] of zero set same unit has = no_unit unit same has
   choice_units [] of (suc count) set chosen unit has = absurd chosen
   choice_units (family ∷ families) of zero set chosen unit has = choice_units families of.1 zero set chosen unit has
   choice_units (family ∷ families) of (suc count) set (inl skipped) unit has =
       choice_units families of.1 (suc count) set skipped unit has
   choice_units (family ∷ families) of (suc count) set (inr (first, rest, of_first, chosen, same)) unit has =
-      joined_units first rest set same (of.0.units first of_first) (choice_units families of.1 count rest chosen) unit
-      has
+      joined_units first rest same (of.0.units first of_first) (choice_units families of.1 count rest chosen) unit has
 
-  of_votes : (count : ℕ) (families : List (List (List ℕ))) (made : List (List ℕ)) → AreFamiliesOf tree families
+  of_votes : {count : ℕ} {families : List (List (List ℕ))} {made : List (List ℕ)} → AreFamiliesOf tree families
       → IsVotes count families made → IsFamilyOf tree made
-  of_votes count families made of is =
+  of_votes {count} {families} of is =
       record { is_family = is.is_family; units = λ set has. choice_units families of count set ((is.sets set).0 has) }
 
-  of_unions : (first : List (List ℕ)) (others : List (List (List ℕ))) (made : List (List ℕ)) → IsFamilyOf tree first
+  of_unions : {first : List (List ℕ)} (others : List (List (List ℕ))) {made : List (List ℕ)} → IsFamilyOf tree first
       → AreFamiliesOf tree others → IsUnionOfAll first others made → IsFamilyOf tree made
-  of_unions first [] made of all same = subst (IsFamilyOf tree) (sym same) of
-  of_unions first (family ∷ others) made of all (union, is, rest) =
-      of_unions union others made (of_union first family union of all.0 is) all.1 rest
+  of_unions [] of all same = subst (IsFamilyOf tree) (sym same) of
+  of_unions (family ∷ others) of all (union, is, rest) = of_unions others (of_union of all.0 is) all.1 rest
 
-  of_products : (first : List (List ℕ)) (others : List (List (List ℕ))) (made : List (List ℕ)) → IsFamilyOf tree first
+  of_products : {first : List (List ℕ)} (others : List (List (List ℕ))) {made : List (List ℕ)} → IsFamilyOf tree first
       → AreFamiliesOf tree others → IsProductOfAll first others made → IsFamilyOf tree made
-  of_products first [] made of all same = subst (IsFamilyOf tree) (sym same) of
-  of_products first (family ∷ others) made of all (product, least, is, minimal, rest) =
-      of_products least others made (of_minimal product least (of_product first family product of all.0 is) minimal)
-      all.1 rest
+  of_products [] of all same = subst (IsFamilyOf tree) (sym same) of
+  of_products (family ∷ others) of all (product, least, is, minimal, rest) =
+      of_products others (of_minimal (of_product of all.0 is) minimal) all.1 rest
 
 -- ---- families that generate the nodes that are read
 
@@ -188,68 +177,68 @@ record IsTrueWhere (tree : FaultTree) (test : (ℕ → Bool) → Bool) (made : L
   some_within : (within : ℕ → Bool) → some_within made within ≡ test within
 
 module _ (tree : FaultTree) where
-  united : (nodes : List ℕ) (families : List (List (List ℕ))) (made : List (List ℕ))
+  united : (nodes : List ℕ) (families : List (List (List ℕ))) {made : List (List ℕ)}
       → StandFor (IsFamilyFor tree) nodes families → IsMadeBy (all_united families) made
       → IsTrueWhere tree (λ within. list_any (reads tree within) nodes) made
-  united [] [] made stand same =
+  united [] [] stand same =
       record {
         of_tree = subst (IsFamilyOf tree) (sym same) (of_none tree);
         some_within = λ within. ap (hit_by within) same;
       }
-  united [] (family ∷ families) made stand is = absurd stand
-  united (node ∷ nodes) [] made stand is = absurd stand
-  united (node ∷ nodes) (family ∷ families) made stand is = record {
-    of_tree = of_unions tree family families made stand.0.of_tree (all_of_tree tree nodes families stand.1) is;
+  united [] (family ∷ families) stand is = absurd stand
+  united (node ∷ nodes) [] stand is = absurd stand
+  united (node ∷ nodes) (family ∷ families) {made} stand is = record {
+    of_tree = of_unions tree families stand.0.of_tree (all_of_tree tree nodes families stand.1) is;
     some_within =
         λ within. some_within-unions within family families made is
         ∙ some_hit tree within (node ∷ nodes) (family ∷ families) stand;
   }
 
-  multiplied : (nodes : List ℕ) (families : List (List (List ℕ))) (made : List (List ℕ))
+  multiplied : (nodes : List ℕ) (families : List (List (List ℕ))) {made : List (List ℕ)}
       → StandFor (IsFamilyFor tree) nodes families → IsMadeBy (all_multiplied families) made
       → IsTrueWhere tree (λ within. list_all (reads tree within) nodes) made
-  multiplied [] [] made stand same =
+  multiplied [] [] stand same =
       record {
         of_tree = subst (IsFamilyOf tree) (sym same) (of_empty_set tree);
         some_within =
             λ within. ap (hit_by within) same;
       }
-  multiplied [] (family ∷ families) made stand is = absurd stand
-  multiplied (node ∷ nodes) [] made stand is = absurd stand
-  multiplied (node ∷ nodes) (family ∷ families) made stand is = record {
-    of_tree = of_products tree family families made stand.0.of_tree (all_of_tree tree nodes families stand.1) is;
+  multiplied [] (family ∷ families) stand is = absurd stand
+  multiplied (node ∷ nodes) [] stand is = absurd stand
+  multiplied (node ∷ nodes) (family ∷ families) {made} stand is = record {
+    of_tree = of_products tree families stand.0.of_tree (all_of_tree tree nodes families stand.1) is;
     some_within =
         λ within. some_within-products within family families made is
         ∙ all_hit tree within (node ∷ nodes) (family ∷ families) stand;
   }
 
-  voted : (least : ℕ) (nodes : List ℕ) (families : List (List (List ℕ))) (made : List (List ℕ))
+  voted : {least : ℕ} (nodes : List ℕ) {families : List (List (List ℕ))} {made : List (List ℕ)}
       → StandFor (IsFamilyFor tree) nodes families → IsVotes least families made
       → IsTrueWhere tree (λ within. nat_le least (true_count (reads tree within) nodes)) made
-  voted least nodes families made stand is = record {
-    of_tree = of_votes tree least families made (all_of_tree tree nodes families stand) is;
+  voted {least} nodes {families} {made} stand is = record {
+    of_tree = of_votes tree (all_of_tree tree nodes families stand) is;
     some_within =
         λ within. some_within-votes least families made within is
         ∙ ap (nat_le least) (count_hit tree within nodes families stand);
   }
 
-  first : (nodes : List ℕ) (families : List (List (List ℕ))) (made : List (List ℕ))
+  first : (nodes : List ℕ) (families : List (List (List ℕ))) {made : List (List ℕ)}
       → StandFor (IsFamilyFor tree) nodes families → IsMadeBy (first_alone families) made
       → IsTrueWhere tree (λ within. first_reads (reads tree within) nodes) made
-  first [] [] made stand same =
+  first [] [] stand same =
       record {
         of_tree = subst (IsFamilyOf tree) (sym same) (of_none tree);
         some_within = λ within. ap (hit_by within) same;
       }
-  first [] (family ∷ families) made stand is = absurd stand
-  first (node ∷ nodes) [] made stand is = absurd stand
-  first (node ∷ nodes) (family ∷ families) made stand same = record {
+  first [] (family ∷ families) stand is = absurd stand
+  first (node ∷ nodes) [] stand is = absurd stand
+  first (node ∷ nodes) (family ∷ families) stand same = record {
     of_tree = subst (IsFamilyOf tree) (sym same) stand.0.of_tree;
     some_within = λ within. ap (hit_by within) same ∙ stand.0.some_within within;
   }
 
-  never : (made : List (List ℕ)) → made ≡ [] → IsTrueWhere tree (λ within. false) made
-  never made same =
+  never : {made : List (List ℕ)} → made ≡ [] → IsTrueWhere tree (λ within. false) made
+  never same =
       record {
         of_tree = subst (IsFamilyOf tree) (sym same) (of_none tree);
         some_within = λ within. ap (hit_by within) same;
@@ -258,16 +247,16 @@ module _ (tree : FaultTree) where
   gate : (kind : GateKind) (nodes : List ℕ) (families : List (List (List ℕ))) (made : List (List ℕ))
       → StandFor (IsFamilyFor tree) nodes families → IsMadeBy (gate_recipe kind families) made
       → IsTrueWhere tree (λ within. gate_reads kind (reads tree within) nodes) made
-  gate And nodes families made stand is = multiplied nodes families made stand is
-  gate Or nodes families made stand is = united nodes families made stand is
-  gate (Votes least of) nodes families made stand is = voted least nodes families made stand is
-  gate Pand nodes families made stand is = multiplied nodes families made stand is
-  gate Por nodes families made stand is = first nodes families made stand is
-  gate Seq nodes families made stand is = multiplied nodes families made stand is
-  gate Fdep nodes families made stand is = never made is
-  gate Csp nodes families made stand is = multiplied nodes families made stand is
-  gate Wsp nodes families made stand is = multiplied nodes families made stand is
-  gate Hsp nodes families made stand is = multiplied nodes families made stand is
+  gate And nodes families made stand is = multiplied nodes families stand is
+  gate Or nodes families made stand is = united nodes families stand is
+  gate (Votes least of) nodes families made stand is = voted nodes stand is
+  gate Pand nodes families made stand is = multiplied nodes families stand is
+  gate Por nodes families made stand is = first nodes families stand is
+  gate Seq nodes families made stand is = multiplied nodes families stand is
+  gate Fdep nodes families made stand is = never is
+  gate Csp nodes families made stand is = multiplied nodes families stand is
+  gate Wsp nodes families made stand is = multiplied nodes families stand is
+  gate Hsp nodes families made stand is = multiplied nodes families stand is
 
   -- ---- units
 
@@ -302,8 +291,7 @@ module _ (tree : FaultTree) where
       → StandFor (IsFamilyFor tree) nodes families → IsUnionOfAll (alone node) families made
       → IsTrueWhere tree (λ within. within node || list_any (reads tree within) nodes) made
   unit node nodes families made is_unit stand is = record {
-    of_tree =
-        of_unions tree (alone node) families made (of_alone node is_unit) (all_of_tree tree nodes families stand) is;
+    of_tree = of_unions tree families (of_alone node is_unit) (all_of_tree tree nodes families stand) is;
     some_within = λ within.
         some_within-unions within (alone node) families made is
         ∙ ap (λ b. some_within (alone node) within || b) (some_hit tree within nodes families stand)

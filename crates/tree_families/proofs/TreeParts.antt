@@ -6,38 +6,28 @@ use Rattle.std.proofs.lemmas.List.Elements.{All-contains}
 use Rattle.unit_sets.proofs.Sorted.{Contains-nil, Contains-cons_first, Contains-cons_other, Contains-cons_cases}
 use Rattle.fault_words.specs.declared.kind.GateKind.{GateKind}
 use Rattle.fault_words.specs.declared.kind.GateKind.TheVariants.{And, Or, Votes, Pand, Por, Seq, Fdep, Csp, Wsp, Hsp}
-use Rattle.fault_definitions.specs.CutFamily.{IsCutFamily}
+use Rattle.fault_definitions.specs.{CutFamily.IsCutFamily, Trigger.below, WellFormed.IsTree}
 use Rattle.fault_definitions.proofs.RankLaws.{below_are_nodes, below_ranks}
 use Rattle.fault_definitions.specs.Tree.{FaultTree, IsNodeOf, is_above_units, is_fdep, is_fdep_kind, kind_of, rank_of}
 use Rattle.fault_definitions.specs.Tree.{unit_count}
-use Rattle.fault_definitions.specs.Trigger.{below}
-use Rattle.fault_definitions.specs.WellFormed.{IsTree}
-use Rattle.zdd_families.specs.Family.{IsSetAbove}
-use Rattle.zdd_families.specs.Cuts.{Cuts}
-use Rattle.zdd_families.proofs.CutsLemmas.{each-from_contains}
-use Rattle.zdd_families.specs.Minimal.{IsMinimal}
-use Rattle.zdd_families.specs.Nodes.{IsReached}
-use Rattle.zdd_families.proofs.SetsLemmas.{above_from_among}
+use Rattle.zdd_families.specs.{Family.IsSetAbove, Cuts.Cuts, Minimal.IsMinimal, Nodes.IsReached, Spans.Spans}
+use Rattle.zdd_families.specs.{VotesParts.SpanEach, VotesParts.PartOfOne}
+use Rattle.zdd_families.proofs.{CutsLemmas.each-from_contains, SetsLemmas.above_from_among, MinimalParts.HasLeast}
+use Rattle.zdd_families.proofs.{MinimalParts.minimal-exists, VotesPartsLemmas.Spans-none, VotesPartsLemmas.Spans-unit}
 use Rattle.tree_families.specs.Recipe.{Recipe, unions, IsMadeBy, all_united, all_multiplied, first_alone, gate_recipe}
 use Rattle.tree_families.specs.Recipe.{alone, node_recipe, StandFor}
 use Rattle.tree_families.specs.Due.{IsDueToTree, one_unit, one_node}
 use Rattle.tree_families.specs.Generation.{IsFamilyOf}
-use Rattle.tree_families.proofs.CutFamilies.{cut_family-one}
-use Rattle.tree_families.proofs.FailingSets.{IsFamilyFor-cut_family}
-use Rattle.tree_families.proofs.Steps.{of_alone}
-use Rattle.tree_families.proofs.Building.{recipe-cut_family}
-use Rattle.zdd_families.specs.Spans.{Spans}
+use Rattle.tree_families.proofs.{CutFamilies.cut_family-one, FailingSets.IsFamilyFor-cut_family, Steps.of_alone}
+use Rattle.tree_families.proofs.{Building.recipe-cut_family}
 use Rattle.zdd_families.proofs.Parts.{reached-none, reached-unit, PartAt, itself, of_lo, of_hi, part_at}
-use Rattle.zdd_families.proofs.MinimalParts.{HasLeast, minimal-exists}
-use Rattle.zdd_families.specs.VotesParts.{SpanEach, PartOfOne}
-use Rattle.zdd_families.proofs.VotesPartsLemmas.{Spans-none, Spans-unit}
 use Rattle.tree_families.proofs.RecipeParts.{given, HasMade, recipe-makes, recipe-parts, made_parts}
 
 -- ---- the families of a tree span its units
 
-pub Spans-of_tree : (tree : FaultTree) (family : List (List ℕ)) → IsFamilyOf tree family
+pub Spans-of_tree : {tree : FaultTree} {family : List (List ℕ)} → IsFamilyOf tree family
     → Spans 0 (unit_count tree) family
-Spans-of_tree tree family of = record {
+Spans-of_tree {family} of = record {
   is_family = of.is_family;
   above =
       each-from_contains (IsSetAbove 0) family (λ set has.
@@ -45,16 +35,17 @@ Spans-of_tree tree family of = record {
   below = λ set has unit member. let high = (of.units set has unit member).1 in omega arith;
 }
 
-all_span : (tree : FaultTree) → IsTree tree → (nodes : List ℕ) (families : List (List (List ℕ)))
+all_span : {tree : FaultTree} → IsTree tree → (nodes : List ℕ) (families : List (List (List ℕ)))
     → ((node : ℕ) → Contains nodes node → IsNodeOf tree node) → StandFor (IsCutFamily tree) nodes families
     → SpanEach 0 (unit_count tree) families
-all_span tree kept [] [] are stand = tt
-all_span tree kept [] (family ∷ families) are stand = absurd stand
-all_span tree kept (node ∷ nodes) [] are stand = tt
-all_span tree kept (node ∷ nodes) (family ∷ families) are stand = (
-  Spans-of_tree tree family (IsFamilyFor-cut_family tree kept node (are node (Contains-cons_first node nodes)) family
+all_span kept [] [] are stand = tt
+all_span kept [] (family ∷ families) are stand = absurd stand
+all_span kept (node ∷ nodes) [] are stand = tt
+all_span {tree} kept (node ∷ nodes) (family ∷ families) are stand = (
+  Spans-of_tree {tree = tree} {family = family} (IsFamilyFor-cut_family tree kept node
+      (are node (Contains-cons_first node nodes)) family
       stand.0).of_tree,
-  all_span tree kept nodes families (λ n has. are n (Contains-cons_other node n nodes has)) stand.1,
+  all_span kept nodes families (λ n has. are n (Contains-cons_other node n nodes has)) stand.1,
 )
 
 -- ---- what the recipe of a node is given: the families of what it reads, and a unit's own
@@ -91,14 +82,14 @@ module _ (part : List (List ℕ)) where
   none_of : {G : Type 0} → PartOfOne ([] ∷ []) part → G
   none_of found =
       elim (Contains-cons_cases [] found.family [] found.has) [
-        | inl same ↦ reached-none part (subst (λ (q : List (List ℕ)). IsReached q part) (sym same) found.reached)
+        | inl same ↦ reached-none (subst (λ (q : List (List ℕ)). IsReached q part) (sym same) found.reached)
         | inr later ↦ Contains-nil found.family later
       ]
 
   none_of_unit : {G : Type 0} → PartOfOne (([] ∷ []) ∷ []) part → G
   none_of_unit found =
       elim (Contains-cons_cases ([] ∷ []) found.family [] found.has) [
-        | inl same ↦ reached-unit ([] ∷ []) part (λ set has. has)
+        | inl same ↦ reached-unit (λ set has. has)
             (subst (λ (q : List (List ℕ)). IsReached q part) (sym same) found.reached)
         | inr later ↦ Contains-nil found.family later
       ]
@@ -139,20 +130,20 @@ module _ (part : List (List ℕ)) where
   of_gate Hsp families found = of_multiplied families found
 
   -- the family of a unit alone has itself as its one part
-  alone_cut : (unit : ℕ) → Cuts unit (alone unit) [] ([] ∷ [])
-  alone_cut unit = record { is = refl; lo_above = tt; hi_above = (tt, tt) }
+  alone_cut : {unit : ℕ} → Cuts unit (alone unit) [] ([] ∷ [])
+  alone_cut = record { is = refl; lo_above = tt; hi_above = (tt, tt) }
 
   alone_at : (unit : ℕ) → PartAt (alone unit) [] ([] ∷ []) part → part ≡ alone unit
   alone_at unit (itself same) = same
-  alone_at unit (of_lo reached) = reached-none part reached
-  alone_at unit (of_hi reached) = reached-unit ([] ∷ []) part (λ set has. has) reached
+  alone_at unit (of_lo reached) = reached-none reached
+  alone_at unit (of_hi reached) = reached-unit (λ set has. has) reached
 
   alone_part : (unit : ℕ) → IsReached (alone unit) part → part ≡ alone unit
-  alone_part unit reached = alone_at unit (part_at unit (alone unit) [] ([] ∷ []) part (alone_cut unit) reached)
+  alone_part unit reached = alone_at unit (part_at ([] ∷ []) (alone_cut) reached)
 
-  of_unit : (unit : ℕ) (families : List (List (List ℕ))) → PartOfOne (alone unit ∷ families) part
+  of_unit : (unit : ℕ) {families : List (List (List ℕ))} → PartOfOne (alone unit ∷ families) part
       → (part ≡ alone unit) ⊎ PartOfOne families part
-  of_unit unit families found =
+  of_unit unit {families} found =
       elim (Contains-cons_cases (alone unit) found.family families found.has) [
         | inl same ↦ inl (alone_part unit (subst (λ (q : List (List ℕ)). IsReached q part) (sym same) found.reached))
         | inr later ↦ inr (record { family = found.family; has = later; reached = found.reached })
@@ -172,14 +163,14 @@ module _ (tree : FaultTree) (node : ℕ) (is_node : IsNodeOf tree node) (familie
             subst (λ (q : Recipe). SpanEach 0 (unit_count tree) (given q))
             (sym (cond-false (is_above_units tree node) (gate_recipe (kind_of tree node) families)
             (unions (alone node) families) low)) (
-              Spans-of_tree tree (alone node) (of_alone tree node (is_node.0, ltb-false (unit_count tree) node low)),
+              Spans-of_tree (of_alone tree node (is_node.0, ltb-false (unit_count tree) node low)),
               each,
             )
       ]
 
-  node_given : (part : List (List ℕ)) → PartOfOne (given (node_recipe tree node families)) part
+  node_given : {part : List (List ℕ)} → PartOfOne (given (node_recipe tree node families)) part
       → IsDueToTree tree part ⊎ PartOfOne families part
-  node_given part found =
+  node_given {part} found =
       elim (cases_Bool (is_above_units tree node)) [
         | inl above ↦
             inr (of_gate part (kind_of tree node) families
@@ -187,7 +178,7 @@ module _ (tree : FaultTree) (node : ℕ) (is_node : IsNodeOf tree node) (familie
             (cond-true (is_above_units tree node) (gate_recipe (kind_of tree node) families)
             (unions (alone node) families) above) found))
         | inr low ↦
-            elim (of_unit part node families (subst (λ (q : Recipe). PartOfOne (given q) part)
+            elim (of_unit part node (subst (λ (q : Recipe). PartOfOne (given q) part)
             (cond-false (is_above_units tree node) (gate_recipe (kind_of tree node) families)
             (unions (alone node) families) low) found)) [
               | inl same ↦ inl (subst (IsDueToTree tree) (sym same)
@@ -197,24 +188,24 @@ module _ (tree : FaultTree) (node : ℕ) (is_node : IsNodeOf tree node) (familie
       ]
 
   -- what is made for an `fdep` has no sets
-  fdep_makes : (kind : GateKind) (made : List (List ℕ)) → is_fdep_kind kind ≡ true
+  fdep_makes : (kind : GateKind) {made : List (List ℕ)} → is_fdep_kind kind ≡ true
       → IsMadeBy (gate_recipe kind families) made → made ≡ []
-  fdep_makes And made fdep is = absurd cc
-  fdep_makes Or made fdep is = absurd cc
-  fdep_makes (Votes least of) made fdep is = absurd cc
-  fdep_makes Pand made fdep is = absurd cc
-  fdep_makes Por made fdep is = absurd cc
-  fdep_makes Seq made fdep is = absurd cc
-  fdep_makes Fdep made fdep is = is
-  fdep_makes Csp made fdep is = absurd cc
-  fdep_makes Wsp made fdep is = absurd cc
-  fdep_makes Hsp made fdep is = absurd cc
+  fdep_makes And fdep is = absurd cc
+  fdep_makes Or fdep is = absurd cc
+  fdep_makes (Votes least of) fdep is = absurd cc
+  fdep_makes Pand fdep is = absurd cc
+  fdep_makes Por fdep is = absurd cc
+  fdep_makes Seq fdep is = absurd cc
+  fdep_makes Fdep fdep is = is
+  fdep_makes Csp fdep is = absurd cc
+  fdep_makes Wsp fdep is = absurd cc
+  fdep_makes Hsp fdep is = absurd cc
 
   fdep_none : (made : List (List ℕ)) → is_fdep tree node ≡ true → IsMadeBy (node_recipe tree node families) made
       → made ≡ []
   fdep_none made fdep is =
       let both = and_parts (is_above_units tree node) (is_fdep_kind (kind_of tree node)) fdep in
-      fdep_makes (kind_of tree node) made both.1
+      fdep_makes (kind_of tree node) both.1
       (subst (λ (q : Recipe). IsMadeBy q made) (cond-true (is_above_units tree node)
       (gate_recipe (kind_of tree node) families) (unions (alone node) families) both.0) is)
 
@@ -231,26 +222,26 @@ record HaveCutFamilies (tree : FaultTree) (nodes : List ℕ) : Type 0 where
   stand : StandFor (IsCutFamily tree) nodes families
   due : (part : List (List ℕ)) → PartOfOne families part → IsDueToTree tree part
 
-due_one : (tree : FaultTree) (family : List (List ℕ)) (families : List (List (List ℕ))) (part : List (List ℕ))
+due_one : {tree : FaultTree} {family : List (List ℕ)} {families : List (List (List ℕ))} {part : List (List ℕ)}
     → (IsReached family part → IsDueToTree tree part) → (PartOfOne families part → IsDueToTree tree part)
     → PartOfOne (family ∷ families) part → IsDueToTree tree part
-due_one tree family families part first others found =
+due_one {family} {families} {part} first others found =
     elim (Contains-cons_cases family found.family families found.has) [
       | inl same ↦ first (subst (λ (q : List (List ℕ)). IsReached q part) (sym same) found.reached)
       | inr later ↦ others (record { family = found.family; has = later; reached = found.reached })
     ]
 
-collected : (tree : FaultTree) (nodes : List ℕ) → ((node : ℕ) → Contains nodes node → HasCutFamily tree node)
+collected : {tree : FaultTree} (nodes : List ℕ) → ((node : ℕ) → Contains nodes node → HasCutFamily tree node)
     → HaveCutFamilies tree nodes
-collected tree [] each = record { families = []; stand = tt; due = λ part found. Contains-nil found.family found.has }
-collected tree (node ∷ nodes) each =
+collected [] each = record { families = []; stand = tt; due = λ part found. Contains-nil found.family found.has }
+collected {tree} (node ∷ nodes) each =
     let first : HasCutFamily tree node = each node (Contains-cons_first node nodes) in
     let others : HaveCutFamilies tree nodes =
-    collected tree nodes (λ n has. each n (Contains-cons_other node n nodes has)) in
+    collected nodes (λ n has. each n (Contains-cons_other node n nodes has)) in
     record {
       families = first.family ∷ others.families;
       stand = (first.is, others.stand);
-      due = λ part found. due_one tree first.family others.families part (first.due part) (others.due part) found;
+      due = λ part found. due_one (first.due part) (others.due part) found;
     }
 
 module _ (tree : FaultTree) (kept : IsTree tree) where
@@ -261,18 +252,18 @@ module _ (tree : FaultTree) (kept : IsTree tree) where
       → StandFor (IsCutFamily tree) (below tree node) families
       → SpanEach 0 (unit_count tree) (given (node_recipe tree node families))
   read_spans node is_node families stand =
-      node_span tree node is_node families (all_span tree kept (below tree node) families
-      (node_at (below tree node) (below_are_nodes tree kept node)) stand)
+      node_span tree node is_node families (all_span kept (below tree node) families
+      (node_at (below tree node) (below_are_nodes kept node)) stand)
 
   module _ (node : ℕ) (is_node : IsNodeOf tree node) (lower : HaveCutFamilies tree (below tree node)) where
     each_spans : SpanEach 0 (unit_count tree) (given (node_recipe tree node lower.families))
     each_spans = read_spans node is_node lower.families lower.stand
 
-    part_due : (made least part : List (List ℕ)) → Spans 0 (unit_count tree) made
+    part_due : {made least part : List (List ℕ)} → Spans 0 (unit_count tree) made
         → IsMadeBy (node_recipe tree node lower.families) made → IsMinimal made least → is_fdep tree node ≡ false
         → IsReached least part → IsDueToTree tree part
-    part_due made least part s is minimal read reached =
-        elim (recipe-parts 0 (unit_count tree) part (node_recipe tree node lower.families) made least each_spans s is
+    part_due {part} s is minimal read reached =
+        elim (recipe-parts 0 (unit_count tree) part (node_recipe tree node lower.families) each_spans s is
         minimal reached) [
           | inl due ↦ one_node (record {
             is_node = is_node;
@@ -282,16 +273,16 @@ module _ (tree : FaultTree) (kept : IsTree tree) where
                 lower.stand;
             is = due;
           })
-          | inr found ↦ elim (node_given tree node is_node lower.families part found) [
+          | inr found ↦ elim (node_given tree node is_node lower.families found) [
             | inl due ↦ due
             | inr of_one ↦ lower.due part of_one
           ]
         ]
 
-    fdep_part : {G : Type 0} (made least part : List (List ℕ)) → IsMadeBy (node_recipe tree node lower.families) made
+    fdep_part : {G : Type 0} {made least part : List (List ℕ)} → IsMadeBy (node_recipe tree node lower.families) made
         → IsMinimal made least → is_fdep tree node ≡ true → IsReached least part → G
-    fdep_part made least part is minimal fdep reached =
-        reached-unit least part (λ set has.
+    fdep_part {made} is minimal fdep reached =
+        reached-unit (λ set has.
         Contains-nil set (subst (λ (q : List (List ℕ)). Contains q set)
         (fdep_none tree node is_node lower.families made fdep is) ((minimal.sets set).0 has).0)) reached
 
@@ -299,27 +290,26 @@ module _ (tree : FaultTree) (kept : IsTree tree) where
     built =
         let m : HasMade 0 (unit_count tree) (node_recipe tree node lower.families) =
         recipe-makes 0 (unit_count tree) (node_recipe tree node lower.families) each_spans in
-        let l : HasLeast 0 (unit_count tree) m.made = minimal-exists (unit_count tree) 0 m.made m.spans in
+        let l : HasLeast 0 (unit_count tree) m.made = minimal-exists (unit_count tree) m.spans in
         record {
           family = l.least;
-          is = recipe-cut_family tree kept node is_node lower.families m.made l.least lower.stand m.is l.is;
+          is = recipe-cut_family kept is_node lower.families lower.stand m.is l.is;
           due = λ part reached. elim (cases_Bool (is_fdep tree node)) [
-            | inl fdep ↦ fdep_part m.made l.least part m.is l.is fdep reached
-            | inr read ↦ part_due m.made l.least part m.spans m.is l.is read reached
+            | inl fdep ↦ fdep_part m.is l.is fdep reached
+            | inr read ↦ part_due m.spans m.is l.is read reached
           ];
         }
 
-  within_rank : (bound node : ℕ) → IsNodeOf tree node → rank_of tree node < bound → HasCutFamily tree node
-  within_rank zero node is_node low = absurd (omega arith)
-  within_rank (suc bound) node is_node low =
-      built node is_node
-      (collected tree (below tree node) (λ n has.
-      within_rank bound n (node_at (below tree node) (below_are_nodes tree kept node) n has)
+  within_rank : (bound : ℕ) {node : ℕ} → IsNodeOf tree node → rank_of tree node < bound → HasCutFamily tree node
+  within_rank zero is_node low = absurd (omega arith)
+  within_rank (suc bound) {node} is_node low =
+      built node is_node (collected (below tree node) (λ n has.
+      within_rank bound (node_at (below tree node) (below_are_nodes kept node) n has)
       (let lower = All-contains (λ q. rank_of tree q < rank_of tree node) (below tree node) n
-      (below_ranks tree kept node is_node) has in omega arith)))
+      (below_ranks kept node is_node) has in omega arith)))
 
   pub has_cut_family : (node : ℕ) → IsNodeOf tree node → HasCutFamily tree node
-  has_cut_family node is_node = within_rank (suc (rank_of tree node)) node is_node (omega arith)
+  has_cut_family node is_node = within_rank (suc (rank_of tree node)) is_node (omega arith)
 
   -- whatever way a node's cut family was got, all its parts are due to the tree
   pub cut_family-parts : (node : ℕ) → IsNodeOf tree node → (family part : List (List ℕ)) → IsCutFamily tree node family
@@ -331,26 +321,24 @@ module _ (tree : FaultTree) (kept : IsTree tree) where
 
   -- ---- so are all parts of what a node's recipe makes
 
-  part_of_one : (nodes : List ℕ) (families : List (List (List ℕ))) (part : List (List ℕ))
+  part_of_one : (nodes : List ℕ) (families : List (List (List ℕ))) {part : List (List ℕ)}
       → ((node : ℕ) → Contains nodes node → IsNodeOf tree node) → StandFor (IsCutFamily tree) nodes families
       → PartOfOne families part → IsDueToTree tree part
-  part_of_one [] [] part are stand found = Contains-nil found.family found.has
-  part_of_one [] (family ∷ families) part are stand found = absurd stand
-  part_of_one (node ∷ nodes) [] part are stand found = absurd stand
-  part_of_one (node ∷ nodes) (family ∷ families) part are stand found =
-      due_one tree family families part
-      (λ reached. cut_family-parts node (are node (Contains-cons_first node nodes)) family part stand.0 reached)
-      (λ later. part_of_one nodes families part (λ n has. are n (Contains-cons_other node n nodes has)) stand.1 later)
-      found
+  part_of_one [] [] are stand found = Contains-nil found.family found.has
+  part_of_one [] (family ∷ families) are stand found = absurd stand
+  part_of_one (node ∷ nodes) [] are stand found = absurd stand
+  part_of_one (node ∷ nodes) (family ∷ families) {part} are stand found =
+      due_one (λ reached. cut_family-parts node (are node (Contains-cons_first node nodes)) family part stand.0 reached)
+      (λ later. part_of_one nodes families (λ n has. are n (Contains-cons_other node n nodes has)) stand.1 later) found
 
   pub recipe-made_parts : (node : ℕ) → IsNodeOf tree node → is_fdep tree node ≡ false
       → (families : List (List (List ℕ))) (made part : List (List ℕ))
       → StandFor (IsCutFamily tree) (below tree node) families → IsMadeBy (node_recipe tree node families) made
       → IsReached made part → IsDueToTree tree part
   recipe-made_parts node is_node read families made part stand is reached =
-      let are = node_at (below tree node) (below_are_nodes tree kept node) in
+      let are = node_at (below tree node) (below_are_nodes kept node) in
       let each = read_spans node is_node families stand in
-      elim (made_parts 0 (unit_count tree) part (node_recipe tree node families) made each is reached) [
+      elim (made_parts 0 (unit_count tree) part (node_recipe tree node families) each is reached) [
         | inl due ↦ one_node (record {
           is_node = is_node;
           has_family = read;
@@ -358,8 +346,8 @@ module _ (tree : FaultTree) (kept : IsTree tree) where
           cut_families = stand;
           is = due;
         })
-        | inr found ↦ elim (node_given tree node is_node families part found) [
+        | inr found ↦ elim (node_given tree node is_node families found) [
           | inl due ↦ due
-          | inr of_one ↦ part_of_one (below tree node) families part are stand of_one
+          | inr of_one ↦ part_of_one (below tree node) families are stand of_one
         ]
       ]

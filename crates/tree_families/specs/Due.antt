@@ -1,12 +1,9 @@
 -- Which families are due to a tree: that of each unit alone, and what is due to the operations by which
 -- the families of its nodes are built, each from the cut families of what the node reads.
 use Rattle.std.specs.Prelude.{◌≡◌, ℕ, false, List, ◌∷◌}
-use Rattle.fault_definitions.specs.CutFamily.{IsCutFamily}
+use Rattle.fault_definitions.specs.{CutFamily.IsCutFamily, Trigger.below}
 use Rattle.fault_definitions.specs.Tree.{FaultTree, IsNodeOf, IsUnitOf, is_fdep}
-use Rattle.fault_definitions.specs.Trigger.{below}
-use Rattle.zdd_families.specs.Union.{IsUnion}
-use Rattle.zdd_families.specs.Product.{IsProduct}
-use Rattle.zdd_families.specs.Minimal.{IsMinimal}
+use Rattle.zdd_families.specs.{Union.IsUnion, Product.IsProduct, Minimal.IsMinimal}
 use Rattle.zdd_families.specs.Due.{IsDueToUnion, IsDueToProduct, IsDueToMinimal, IsDueToVotes}
 use Rattle.tree_families.specs.Recipe.{Recipe, unions, products, votes, IsMadeBy, alone, node_recipe, StandFor}
 

@@ -1,8 +1,7 @@
 -- Families that stand for nodes: a set of units includes a set of the family exactly where the node fails.
 use Rattle.std.specs.Prelude.{◌≡◌, ℕ, Bool, true, List, [], ◌∷◌, Contains}
 use Rattle.unit_sets.specs.UnitList.{among, some_within}
-use Rattle.fault_definitions.specs.Reading.{reads}
-use Rattle.fault_definitions.specs.Tree.{FaultTree, IsUnitOf}
+use Rattle.fault_definitions.specs.{Reading.reads, Tree.FaultTree, Tree.IsUnitOf}
 use Rattle.zdd_families.specs.Family.{IsFamily}
 
 -- a family whose sets have units of the tree alone

@@ -3,10 +3,7 @@ use Rattle.std.specs.Prelude.{◌≡◌, ℕ, Bool, true, false, List, [], ◌�
 use Rattle.fault_words.specs.declared.kind.GateKind.{GateKind}
 use Rattle.fault_words.specs.declared.kind.GateKind.TheVariants.{And, Or, Votes, Pand, Por, Seq, Fdep, Csp, Wsp, Hsp}
 use Rattle.fault_definitions.specs.Tree.{FaultTree, kind_of, is_above_units}
-use Rattle.zdd_families.specs.Union.{IsUnion}
-use Rattle.zdd_families.specs.Product.{IsProduct}
-use Rattle.zdd_families.specs.Minimal.{IsMinimal}
-use Rattle.zdd_families.specs.Votes.{IsVotes}
+use Rattle.zdd_families.specs.{Union.IsUnion, Product.IsProduct, Minimal.IsMinimal, Votes.IsVotes}
 
 -- what is done with given families
 pub data Recipe : Type 0 where

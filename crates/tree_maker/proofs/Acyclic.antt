@@ -9,10 +9,8 @@ use Rattle.std.proofs.lemmas.Bool.{cases_Bool, cases_lt, eqb-true, le-ltb, lt-lt
 use Rattle.std.proofs.lemmas.List.{get_or_past}
 use Rattle.std.proofs.lemmas.List.Elements.{All-append, All-cons, All-filter, All-head, All-map, All-nil, All-tail}
 use Rattle.unit_sets.specs.UnitList.{among}
-use Rattle.fault_words.specs.declared.kind.GateKind.{GateKind}
-use Rattle.fault_words.specs.declared.kind.GateKind.TheVariants.{And}
-use Rattle.fault_definitions.specs.Tree.{FaultTree, unit_count}
-use Rattle.fault_definitions.specs.Trigger.{below, trigger_by}
+use Rattle.fault_words.specs.{declared.kind.GateKind.GateKind, declared.kind.GateKind.TheVariants.And}
+use Rattle.fault_definitions.specs.{Tree.FaultTree, Tree.unit_count, Trigger.below, Trigger.trigger_by}
 use Rattle.tree_check.specs.Numbered.{drops_fdeps, is_fdep_in, kept_by, kept_inputs, kinds}
 use Rattle.tree_check.specs.TreeOf.{LeadsTo, input_lists, numbers}
 use Rattle.tree_check.specs.TreeOf.LeadsTo.{edge, way}
@@ -198,21 +196,19 @@ module _ (count fdeps : ℕ) (place : ℕ → ℕ) (some : 1 ≤ count) (fits : 
   abbrev Triggers : ℕ → GateKind × List ℕ → Type 0
   Triggers unit gate = (z : ℕ) → trigger_by unit gate ≡ Some z → height z < height unit
 
-  none_given : {P : Type 0} (z : ℕ) (o : Option ℕ) → o ≡ None → o ≡ Some z → P
-  none_given z o none given = let clash : None ≡ Some z = sym none ∙ given in absurd cc
+  none_given : {P : Type 0} (z : ℕ) {o : Option ℕ} → o ≡ None → o ≡ Some z → P
+  none_given z none given = let clash : None ≡ Some z = sym none ∙ given in absurd cc
 
   units_triggered : (unit : ℕ) → All (Triggers unit) (map pair_of gates_here)
   units_triggered unit =
       All-map (Triggers unit) pair_of gates_here
       (All-cons (λ gate. Triggers unit (pair_of gate)) (top_numbered count fdeps kind_here) later_gates
-      (λ z given. none_given z None refl given)
-      (All-append (λ gate. Triggers unit (pair_of gate))
+      (λ z given. none_given z refl given) (All-append (λ gate. Triggers unit (pair_of gate))
       (map (group_numbered count fdeps kind_here) (range_with_len 0 count))
       (map (fdep_numbered count fdeps kind_here) (range_with_len 0 fdeps))
       (All-range (λ gate. Triggers unit (pair_of gate)) (group_numbered count fdeps kind_here) 0 count
       (λ group low high z given.
-      none_given z (trigger_by unit (pair_of (group_numbered count fdeps kind_here group)))
-      (no_trigger (place group) unit (numbers_left (group_numbered count fdeps kind_here group))) given))
+      none_given z (no_trigger (place group) unit (numbers_left (group_numbered count fdeps kind_here group))) given))
       (All-range (λ gate. Triggers unit (pair_of gate)) (fdep_numbered count fdeps kind_here) 0 fdeps
       (λ q low high z given.
       let within : 5 * q < count = fits q (omega arith) in
@@ -264,5 +260,5 @@ module _ (count fdeps : ℕ) (place : ℕ → ℕ) (some : 1 ≤ count) (fits : 
     descends {x} (way {y = y} e later) = let one = falls x y e in let two = descends later in omega arith
 
     -- no node leads to itself
-    pub none_cyclic : (x : ℕ) → ¬ LeadsTo tree x x
-    none_cyclic x leads = let lower = descends leads in omega arith
+    pub none_cyclic : {x : ℕ} → ¬ LeadsTo tree x x
+    none_cyclic leads = let lower = descends leads in omega arith

@@ -3,10 +3,8 @@ use Rattle.std.proofs.Common.{◌≡◌, ℕ, suc, ◌+◌, ◌*◌, ◌<◌, �
 use Rattle.std.proofs.Common.{arith, lit≤}
 use Rattle.std.specs.Prelude.{◌||◌, codes}
 use Rattle.std.specs.List.{flat_map, range_with_len}
-use Rattle.std.proofs.lemmas.Bool.{or_right}
-use Rattle.std.proofs.lemmas.List.{map-append}
-use Rattle.std.proofs.lemmas.List.Elements.{All-nil}
-use Rattle.std.proofs.lemmas.List.Folds.{list_any-append}
+use Rattle.std.proofs.{lemmas.Bool.or_right, lemmas.List.map-append, lemmas.List.Elements.All-nil}
+use Rattle.std.proofs.{lemmas.List.Folds.list_any-append}
 use lib.Pointwise.{bytes_decides}
 use Rattle.fault_words.specs.declared.kind.GateKind.{GateKind}
 use Rattle.fault_words.specs.Names.{has_name, same_name, number_in}
@@ -19,9 +17,9 @@ use Rattle.tree_maker.proofs.Numbering.{none_repeated, number_counted}
 use Rattle.tree_maker.proofs.Statements.{defined_names, gate_names_made, placed, unit_names}
 
 -- two lists that count on make one
-joined : (xs ys : List ℕ) (a n b m : ℕ) → xs ≡ range_with_len a n → ys ≡ range_with_len b m → b ≡ a + n
+joined : {xs ys : List ℕ} (a n b m : ℕ) → xs ≡ range_with_len a n → ys ≡ range_with_len b m → b ≡ a + n
     → xs ++ ys ≡ range_with_len a (n + m)
-joined xs ys a n b m one two next =
+joined {ys} a n b m one two next =
     ap (λ l. l ++ ys) one ∙ ap (λ l. range_with_len a n ++ l) (two ∙ ap (λ c. range_with_len c m) next)
     ∙ range-append a n m
 
@@ -40,8 +38,7 @@ module _ (count fdeps : ℕ) (kind : ℕ → GateKind) (few : count ≤ 200) (fe
   pub units_counted : map rule (unit_names count fdeps kind) ≡ range_with_len 1 (3 * count + 10)
   units_counted =
       map-append rule (flat_map units_in (range_with_len 0 count)) (map trigger_name (range_with_len 0 10))
-      ∙ joined (map rule (flat_map units_in (range_with_len 0 count)))
-      (map rule (map trigger_name (range_with_len 0 10))) 1 (3 * count) (3 * count + 1 + 0) 10
+      ∙ joined 1 (3 * count) (3 * count + 1 + 0) 10
       (units-counted (3 * count + 11) (3 * count + 12) (4 * count + 12) 1 (3 * count + 1) 0 count (omega arith))
       (triggers-counted (3 * count + 11) (3 * count + 12) (4 * count + 12) 1 (3 * count + 1) 10 (lit≤ tt))
       (omega arith)
@@ -49,9 +46,7 @@ module _ (count fdeps : ℕ) (kind : ℕ → GateKind) (few : count ≤ 200) (fe
   gates_counted : map rule (gate_names_made count fdeps kind) ≡ range_with_len (3 * count + 12 + 0) (count + fdeps)
   gates_counted =
       map-append rule (map gate_name (range_with_len 0 count)) (map (λ q. fdep_name (5 * q)) (range_with_len 0 fdeps))
-      ∙ joined (map rule (map gate_name (range_with_len 0 count)))
-      (map rule (map (λ q. fdep_name (5 * q)) (range_with_len 0 fdeps))) (3 * count + 12 + 0) count
-      (4 * count + 12 + 0) fdeps
+      ∙ joined (3 * count + 12 + 0) count (4 * count + 12 + 0) fdeps
       (gates-counted (3 * count + 11) (3 * count + 12) (4 * count + 12) 1 (3 * count + 1) count (omega arith))
       (fdeps-counted (3 * count + 11) (3 * count + 12) (4 * count + 12) 1 (3 * count + 1) fdeps (omega arith))
       (omega arith)
@@ -59,10 +54,7 @@ module _ (count fdeps : ℕ) (kind : ℕ → GateKind) (few : count ≤ 200) (fe
   pub names_counted : map rule tree_names ≡ range_with_len 1 (3 * count + 10 + suc (count + fdeps))
   names_counted =
       map-append rule (unit_names count fdeps kind) (top_name ∷ gate_names_made count fdeps kind)
-      ∙ joined (map rule (unit_names count fdeps kind)) (map rule (top_name ∷ gate_names_made count fdeps kind)) 1
-      (3 * count + 10) (3 * count + 11) (suc (count + fdeps))
-      units_counted
-      (ap (λ l. (3 * count + 11) ∷ l)
+      ∙ joined 1 (3 * count + 10) (3 * count + 11) (suc (count + fdeps)) units_counted (ap (λ l. (3 * count + 11) ∷ l)
       (gates_counted ∙ ap (λ s. range_with_len s (count + fdeps)) (let e : 3 * count + 12 + 0 ≡ 3 * count + 11 + 1 =
       omega arith in e)))
       (omega arith)
@@ -185,17 +177,14 @@ module _ (count fdeps : ℕ) (kind : ℕ → GateKind) (few : count ≤ 200) (fe
       let trigger_part : List (List ℕ) = map trigger_name (range_with_len 0 10) in
       ap (λ l. 0 ∷ l)
       (map-append text group_part (fdep_part ++ (unit_part ++ trigger_part))
-      ∙ joined (map text group_part) (map text (fdep_part ++ (unit_part ++ trigger_part))) 1 count (1 + count)
-      (fdeps + (3 * count + 10))
+      ∙ joined 1 count (1 + count) (fdeps + (3 * count + 10))
       (gates-counted 0 1 (1 + count) (1 + count + fdeps) (1 + count + fdeps + 3 * count) count (omega arith))
       (map-append text fdep_part (unit_part ++ trigger_part)
-      ∙ joined (map text fdep_part) (map text (unit_part ++ trigger_part)) (1 + count) fdeps (1 + count + fdeps)
-      (3 * count + 10)
+      ∙ joined (1 + count) fdeps (1 + count + fdeps) (3 * count + 10)
       (fdeps-counted 0 1 (1 + count) (1 + count + fdeps) (1 + count + fdeps + 3 * count) fdeps (omega arith)
       ∙ ap (λ s. range_with_len s fdeps) (let e : 1 + count + 0 ≡ 1 + count = omega arith in e))
       (map-append text unit_part trigger_part
-      ∙ joined (map text unit_part) (map text trigger_part) (1 + count + fdeps) (3 * count)
-      (1 + count + fdeps + 3 * count + 0) 10
+      ∙ joined (1 + count + fdeps) (3 * count) (1 + count + fdeps + 3 * count + 0) 10
       (units-counted 0 1 (1 + count) (1 + count + fdeps) (1 + count + fdeps + 3 * count) 0 count (omega arith)
       ∙ ap (λ s. range_with_len s (3 * count)) (let e : 1 + count + fdeps + 0 ≡ 1 + count + fdeps = omega arith in e))
       (triggers-counted 0 1 (1 + count) (1 + count + fdeps) (1 + count + fdeps + 3 * count) 10 (lit≤ tt))

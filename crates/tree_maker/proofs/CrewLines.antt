@@ -1,11 +1,10 @@
 -- What the lines of the made deck's crew part say.
 use Rattle.std.proofs.Common.{inl, inr, ◌≡◌, ◌≢◌, ℕ, zero, suc, ◌+◌, ◌*◌, ◌≤◌, Bool, true, false, not, List, [], ◌∷◌}
 use Rattle.std.proofs.Common.{◌++◌, map, refl, sym, ap, subst, ◌∙◌, arith, append_assoc, append-nil}
-use Rattle.std.specs.Prelude.{◌&&◌, ◌||◌, All, codes, decimal, Some, slice_index_or}
+use Rattle.std.specs.Prelude.{◌&&◌, ◌||◌, All, codes, Some, slice_index_or}
 use Rattle.std.specs.List.{flat_map, list_all, list_any, range_with_len}
-use Rattle.std.proofs.lemmas.Bool.{cases_Bool}
-use Rattle.std.proofs.lemmas.List.Elements.{All-cons, All-nil}
-use Rattle.std.proofs.lemmas.List.Splits.{slice_split_at}
+use Rattle.std.proofs.{lemmas.Bool.cases_Bool, lemmas.List.Elements.All-cons, lemmas.List.Elements.All-nil}
+use Rattle.std.proofs.{lemmas.List.Splits.slice_split_at}
 use Rattle.fault_words.specs.Name.{is_bare_byte}
 use Rattle.crew_script.specs.Words.{Spells, bare, bare_word, begins_bare, is_blank, no_word, word_on}
 use Rattle.crew_script.specs.Deck.{is_feed, lines_of}
@@ -14,8 +13,7 @@ use Rattle.crew_script.specs.Says.{Says, says_blank, says_crew, says_return, say
 use Rattle.crew_script.specs.CrewsOf.{Say, lines_for, say_next, say_none, say_nothing}
 use Rattle.crew_script.specs.declared.dockets.Ask.{Ask}
 use Rattle.crew_script.specs.declared.dockets.Ask.TheVariants.{Take, Return}
-use Rattle.tree_maker.specs.Names.{unit_name, units_in}
-use Rattle.tree_maker.specs.MadeDeck.{return_line, take_line}
+use Rattle.tree_maker.specs.{Names.unit_name, Names.units_in, MadeDeck.return_line, MadeDeck.take_line}
 use Rattle.tree_maker.proofs.Gates.{item_of}
 use Rattle.tree_maker.proofs.GoodNames.{IsRest, is_name-made, rest_a, rest_b, rest_c}
 
@@ -53,9 +51,10 @@ one_line : (line rest : List ℕ) → list_any is_feed line ≡ false → lines_
 one_line line rest inside = slice_split_at is_feed line 10 rest (none_each is_feed line inside) refl
 
 -- a line that says something, in front of others
-next_says : (text rest : List ℕ) (said : Line) (more : List Line) → list_any is_feed text ≡ false → Says text said
+next_says : {text : List ℕ} (rest : List ℕ) {said : Line} {more : List Line} → list_any is_feed text ≡ false
+    → Says text said
     → said ≢ nothing_said → Say (lines_of rest) more → Say (lines_of (text ++ 10 ∷ rest)) (said ∷ more)
-next_says text rest said more inside says some behind =
+next_says {text} rest {said} {more} inside says some behind =
     subst (λ ls. Say ls (said ∷ more)) (sym (one_line text rest inside))
     (say_next text said (lines_of rest) more says some behind)
 
@@ -82,12 +81,12 @@ solid_u : is_blank 117 ≡ false
 unfolding is_blank
 solid_u = refl
 
-unit_word : (rest : List ℕ) → IsRest rest → IsUnitWord (117 ∷ rest)
-unit_word rest good = record {
+unit_word : {rest : List ℕ} → IsRest rest → IsUnitWord (117 ∷ rest)
+unit_word {rest} good = record {
   begins = refl;
   solid = ap (λ b. b || list_any is_blank rest) solid_u ∙ none_any is_blank rest good.solid;
   inside = none_any is_feed rest good.inside;
-  named = ap (λ b. b && list_all is_bare_byte rest) (is_name-made 117 rest refl good) ∙ good.bare;
+  named = ap (λ b. b && list_all is_bare_byte rest) (is_name-made 117 refl good) ∙ good.bare;
 }
 
 -- ---- takes
@@ -103,19 +102,17 @@ return_solid = refl
 abbrev pub take_ask : List ℕ → Ask
 take_ask name = Take (name ∷ [])
 
-take_says : (name : List ℕ) → IsUnitWord name → Says (codes "take " ++ name) (request_of (take_ask name))
-take_says name word =
+take_says : {name : List ℕ} → IsUnitWord name → Says (codes "take " ++ name) (request_of (take_ask name))
+take_says {name} word =
     says_take (codes "take " ++ name) (bare (codes "take")) (bare name ∷ [])
     (two_words (codes "take") name refl take_solid word.begins word.solid) refl
     (ap (λ b. b && true) word.named) refl
 
-take_next : (name rest : List ℕ) (more : List Line) → IsUnitWord name → Say (lines_of rest) more
+take_next : {name : List ℕ} (rest : List ℕ) {more : List Line} → IsUnitWord name → Say (lines_of rest) more
     → Say (lines_of (take_line name ++ rest)) (request_of (take_ask name) ∷ more)
-take_next name rest more word behind =
+take_next {name} rest {more} word behind =
     subst (λ l. Say (lines_of (codes "take " ++ l)) (request_of (take_ask name) ∷ more))
-    (sym (append_assoc name (codes "\n") rest))
-    (next_says (codes "take " ++ name) rest (request_of (take_ask name)) more word.inside (take_says name word)
-    (λ same. cc) behind)
+    (sym (append_assoc name (codes "\n") rest)) (next_says rest word.inside (take_says word) (λ same. cc) behind)
 
 abbrev pub takes_of : ℕ → List ℕ
 takes_of group = flat_map take_line (units_in group)
@@ -127,11 +124,11 @@ three_lines : (a b c behind rest : List ℕ) → ((a ++ (b ++ (c ++ []))) ++ beh
     ≡ a ++ (b ++ (c ++ (behind ++ rest)))
 three_lines a b c behind rest = simp (append-nil, append_assoc)
 
-pub takes_say : (s n : ℕ) (rest : List ℕ) (more : List Line) → s + n ≤ 200 → Say (lines_of rest) more
+pub takes_say : (s n : ℕ) (rest : List ℕ) {more : List Line} → s + n ≤ 200 → Say (lines_of rest) more
     → Say (lines_of (flat_map takes_of (range_with_len s n) ++ rest))
     (map request_of (flat_map asks_of (range_with_len s n)) ++ more)
-takes_say s zero rest more within behind = behind
-takes_say s (suc n) rest more within behind =
+takes_say s zero rest within behind = behind
+takes_say s (suc n) rest {more} within behind =
     let later : List ℕ = flat_map takes_of (range_with_len (s + 1) n) ++ rest in
     let said : List Line = map request_of (flat_map asks_of (range_with_len (s + 1) n)) ++ more in
     let a : List ℕ = unit_name s (codes "a") in
@@ -139,20 +136,17 @@ takes_say s (suc n) rest more within behind =
     let c : List ℕ = unit_name s (codes "c") in
     subst (λ l. Say (lines_of l) (request_of (take_ask a) ∷ request_of (take_ask b) ∷ request_of (take_ask c) ∷ said))
     (sym (three_lines (take_line a) (take_line b) (take_line c) (flat_map takes_of (range_with_len (s + 1) n)) rest))
-    (take_next a (take_line b ++ (take_line c ++ later)) (request_of (take_ask b) ∷ request_of (take_ask c) ∷ said)
-    (unit_word (decimal s ++ codes "a") (rest_a s (omega arith)))
-    (take_next b (take_line c ++ later) (request_of (take_ask c) ∷ said)
-    (unit_word (decimal s ++ codes "b") (rest_b s (omega arith)))
-    (take_next c later said (unit_word (decimal s ++ codes "c") (rest_c s (omega arith)))
-    (takes_say (s + 1) n rest more (omega arith) behind))))
+    (take_next (take_line b ++ (take_line c ++ later)) (unit_word (rest_a s (omega arith)))
+    (take_next (take_line c ++ later) (unit_word (rest_b s (omega arith)))
+    (take_next later (unit_word (rest_c s (omega arith))) (takes_say (s + 1) n rest (omega arith) behind))))
 
 -- ---- returns
 
 abbrev pub return_ask : ℕ → Ask
 return_ask k = Return (unit_name (2 * k) (codes "a"))
 
-return_says : (name : List ℕ) → IsUnitWord name → Says (codes "return " ++ name) (request_of (Return name))
-return_says name word =
+return_says : {name : List ℕ} → IsUnitWord name → Says (codes "return " ++ name) (request_of (Return name))
+return_says {name} word =
     says_return (codes "return " ++ name) (bare (codes "return")) (bare name)
     (two_words (codes "return") name refl return_solid word.begins word.solid) refl word.named
 
@@ -163,10 +157,9 @@ returns_say s (suc n) within =
     let name : List ℕ = unit_name (2 * s) (codes "a") in
     let rest : List ℕ = flat_map return_line (range_with_len (s + 1) n) in
     let said : List Line = map request_of (map return_ask (range_with_len (s + 1) n)) in
-    let word : IsUnitWord name = unit_word (decimal (2 * s) ++ codes "a") (rest_a (2 * s) (omega arith)) in
+    let word : IsUnitWord name = unit_word (rest_a (2 * s) (omega arith)) in
     subst (λ l. Say (lines_of (codes "return " ++ l)) (request_of (return_ask s) ∷ said))
-    (sym (append_assoc name (codes "\n") rest))
-    (next_says (codes "return " ++ name) rest (request_of (return_ask s)) said word.inside (return_says name word)
+    (sym (append_assoc name (codes "\n") rest)) (next_says rest word.inside (return_says word)
     (λ same. cc) (returns_say (s + 1) n (omega arith)))
 
 -- ---- the crew
@@ -182,10 +175,9 @@ maker_solid = refl
 abbrev pub crew_said : Line
 crew_said = crew_line (Some (codes "maker"))
 
-pub crew_says : (rest : List ℕ) (more : List Line) → Say (lines_of rest) more
+pub crew_says : (rest : List ℕ) {more : List Line} → Say (lines_of rest) more
     → Say (lines_of (codes "crew maker\n" ++ rest)) (crew_said ∷ more)
-crew_says rest more behind =
-    next_says (codes "crew maker") rest crew_said more refl
-    (says_crew (codes "crew maker") (bare (codes "crew")) (bare (codes "maker"))
+crew_says rest behind =
+    next_says rest refl (says_crew (codes "crew maker") (bare (codes "crew")) (bare (codes "maker"))
     (two_words (codes "crew") (codes "maker") refl crew_solid refl maker_solid) refl refl)
     (λ same. cc) behind

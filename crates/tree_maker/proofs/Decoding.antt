@@ -1,13 +1,9 @@
 -- Numbers by names: what each name of the made deck says, by its letter and its number.
 use Rattle.std.proofs.Common.{◌≡◌, ℕ, zero, suc, ◌+◌, ◌-◌, ◌*◌, ◌/◌, ◌%◌, ◌^◌, ◌<◌, ◌≤◌, List, [], ◌∷◌, ◌++◌, map, refl}
 use Rattle.std.proofs.Common.{ap, ◌∙◌, arith, lit<}
-use Rattle.std.specs.Char.{digit_value}
+use Rattle.std.specs.{Char.digit_value, List.flat_map, List.range_with_len, Str.Parse.digits_value}
 use Rattle.std.specs.Prelude.{◌==◌, codes, decimal, if◌then◌else◌}
-use Rattle.std.specs.List.{flat_map, range_with_len}
-use Rattle.std.specs.Str.Parse.{digits_value}
-use Rattle.std.proofs.lemmas.Fmt.{decimal_is_IsNumeral}
-use Rattle.std.proofs.lemmas.Int.Digits.{digits_value_push}
-use Rattle.std.proofs.lemmas.Simd.{map-map}
+use Rattle.std.proofs.{lemmas.Fmt.decimal_is_IsNumeral, lemmas.Int.Digits.digits_value_push, lemmas.Simd.map-map}
 use Rattle.tree_maker.specs.Names.{gate_name, fdep_name, trigger_name, unit_name, units_in}
 use Rattle.tree_maker.proofs.Ranges.{map-counts}
 
@@ -44,17 +40,17 @@ module _ (top gate fdep unit trigger : ℕ) where
   pub decoded-fdep : (q : ℕ) → 5 * q < 2 ^ 64 → decoded (fdep_name (5 * q)) ≡ fdep + q
   decoded-fdep q small = ap (λ n. fdep + n / 5) (value-decimal (5 * q) small) ∙ (omega arith)
 
-  unit_of : (i p value : ℕ) → p < 3 → value ≡ i * 10 + (10 + p) → unit_decoded value ≡ unit + 3 * i + p
-  unit_of i p value part is = omega arith
+  unit_of : (i p : ℕ) {value : ℕ} → p < 3 → value ≡ i * 10 + (10 + p) → unit_decoded value ≡ unit + 3 * i + p
+  unit_of i p part is = omega arith
 
   pub decoded-a : (i : ℕ) → i < 2 ^ 64 → decoded (unit_name i (codes "a")) ≡ unit + 3 * i + 0
-  decoded-a i small = unit_of i 0 (digits_value 10 (decimal i ++ codes "a")) (lit< tt) (value-letter i 97 10 small refl)
+  decoded-a i small = unit_of i 0 (lit< tt) (value-letter i 97 10 small refl)
 
   pub decoded-b : (i : ℕ) → i < 2 ^ 64 → decoded (unit_name i (codes "b")) ≡ unit + 3 * i + 1
-  decoded-b i small = unit_of i 1 (digits_value 10 (decimal i ++ codes "b")) (lit< tt) (value-letter i 98 11 small refl)
+  decoded-b i small = unit_of i 1 (lit< tt) (value-letter i 98 11 small refl)
 
   pub decoded-c : (i : ℕ) → i < 2 ^ 64 → decoded (unit_name i (codes "c")) ≡ unit + 3 * i + 2
-  decoded-c i small = unit_of i 2 (digits_value 10 (decimal i ++ codes "c")) (lit< tt) (value-letter i 99 12 small refl)
+  decoded-c i small = unit_of i 2 (lit< tt) (value-letter i 99 12 small refl)
 
   -- ---- lists of names
 

@@ -3,20 +3,16 @@ use Rattle.std.proofs.Common.{◌≡◌, ℕ, suc, ◌+◌, ◌-◌, ◌*◌, �
 use Rattle.std.proofs.Common.{◌∷◌, ◌++◌, length, drop, map, refl, sym, ap, ◌∙◌, arith}
 use Rattle.std.specs.Prelude.{◌&&◌, All, codes, filter, slice_index_or}
 use Rattle.std.specs.List.{flat_map, range_with_len}
-use Rattle.std.proofs.lemmas.Bool.{and_right}
+use Rattle.std.proofs.{lemmas.Bool.and_right, lemmas.List.Folds.flat_map-map}
+use Rattle.std.proofs.{lemmas.List.FromFn.length-map-range_with_len, lemmas.List.FromFn.length-range_with_len}
 use Rattle.std.proofs.lemmas.List.{drop_all, length-append, length-map}
 use Rattle.std.proofs.lemmas.List.Elements.{All-append, All-cons, All-map, All-nil}
-use Rattle.std.proofs.lemmas.List.Folds.{flat_map-map}
-use Rattle.std.proofs.lemmas.List.FromFn.{length-map-range_with_len, length-range_with_len}
-use Rattle.fault_words.specs.declared.kind.GateKind.{GateKind}
-use Rattle.fault_words.specs.declared.kind.GateKind.TheVariants.{Fdep}
+use Rattle.fault_words.specs.{declared.kind.GateKind.GateKind, declared.kind.GateKind.TheVariants.Fdep}
+use Rattle.fault_words.specs.{declared.place.Place.Place, Names.has_name}
 use Rattle.unit_sets.specs.Unit.{most_units}
-use Rattle.fault_definitions.specs.declared.parts.TheConstants.{MOST_GATES}
-use Rattle.fault_words.specs.declared.place.Place.{Place}
-use Rattle.fault_definitions.specs.Tree.{is_fdep_kind}
-use Rattle.galileo_tree.specs.declared.raw.Placed.{Placed}
-use Rattle.galileo_tree.specs.declared.raw.RawBasic.{RawBasic}
-use Rattle.galileo_tree.specs.declared.raw.Statement.{Statement}
+use Rattle.fault_definitions.specs.{declared.parts.TheConstants.MOST_GATES, Tree.is_fdep_kind}
+use Rattle.galileo_tree.specs.{declared.raw.Placed.Placed, declared.raw.RawBasic.RawBasic}
+use Rattle.galileo_tree.specs.{declared.raw.Statement.Statement}
 use Rattle.tree_check.specs.Checked.{IsFaultless, NoneOf, before_cycles}
 use Rattle.tree_check.specs.Classes.{dependent_gates, dummies, fdep_tops, inputless, is_replicated, repeats}
 use Rattle.tree_check.specs.Classes.{repeats_after, replicated, shared_spares, short_fdeps, spare_gates}
@@ -24,20 +20,17 @@ use Rattle.tree_check.specs.Classes.{undefined}
 use Rattle.tree_check.specs.Classes.{wrong_votes}
 use Rattle.tree_check.specs.Numbered.{is_fdep_in, kinds, numbered, numbered_gate, numbered_gates, numbered_tops}
 use Rattle.tree_check.specs.Numbered.{unit_total}
-use Rattle.fault_words.specs.Names.{has_name}
 use Rattle.tree_check.specs.Said.{basics, gates, names, tops, uses}
 use Rattle.tree_check.specs.TreeOf.{HasNoCycle, input_lists, tree_of}
 use Rattle.deck_reading.specs.Unplaced.{said_tree}
 use Rattle.tree_maker.specs.Names.{gate_name, top_name, trigger_name, unit_name}
-use Rattle.tree_maker.proofs.Acyclic.{none_cyclic}
+use Rattle.tree_maker.proofs.{Acyclic.none_cyclic, Ranges.All-flat_range, Ranges.All-range, Spares.no_shared_spares}
 use Rattle.tree_maker.proofs.Counted.{has_a, has_b, has_c, has_gate, has_top, has_trigger, no_repeats, number-top, rule}
 use Rattle.tree_maker.proofs.Counted.{tree_names, units_counted}
 use Rattle.tree_maker.proofs.FineGates.{IsFine, all_fine, deck_gates, kind, no_dependent_gates, no_dummies}
 use Rattle.tree_maker.proofs.FineGates.{no_short_fdeps, no_spare_gates, no_wrong_votes, none_gives, none_inputless}
 use Rattle.tree_maker.proofs.FineGates.{none_passes}
 use Rattle.tree_maker.proofs.Gates.{Numbered, NumberedGate, fdep_numbered, gates_numbered, group_numbered, put}
-use Rattle.tree_maker.proofs.Ranges.{All-flat_range, All-range}
-use Rattle.tree_maker.proofs.Spares.{no_shared_spares}
 use Rattle.tree_maker.proofs.Statements.{basics_are, definitions_are, fdep_uses, gates_are, group_uses, lines}
 use Rattle.tree_maker.proofs.Statements.{names_are, placed, raw_basic, statements, tops_are, unit_names, uses_are}
 
@@ -174,7 +167,7 @@ module _ (count fdeps : ℕ) (place : ℕ → ℕ) (some : 1 ≤ count) (few : c
       (length-map (basics text) (λ basic. map (λ raw. raw.attribute) basic.attributes) ∙ count_of_units)
       (ap kinds gates_by_number)
       (ap (λ l. input_lists (unit_total text) l) gates_by_number ∙ ap (λ u. input_lists u gates_here) count_of_units)
-      _ leads
+      leads
 
   -- a class of faults of gates, by the gates with their numbers
   by_number : (class : ℕ → List NumberedGate → List Place) → class units gates_here ≡ []

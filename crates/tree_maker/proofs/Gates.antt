@@ -1,9 +1,7 @@
 -- The gates of the made deck by numbers, and that no class of faults of gates occurs in them.
 use Rattle.std.proofs.Common.{◌≡◌, ℕ, ◌+◌, ◌*◌, ◌%◌, ◌<◌, ◌≤◌, List, [], ◌∷◌, ◌++◌, map, sym, ap, ◌∙◌, arith}
-use Rattle.std.specs.Prelude.{codes}
-use Rattle.std.specs.List.{range_with_len}
-use Rattle.std.proofs.lemmas.List.{map-append}
-use Rattle.std.proofs.lemmas.Simd.{map-map}
+use Rattle.std.specs.{Prelude.codes, List.range_with_len}
+use Rattle.std.proofs.{lemmas.List.map-append, lemmas.Simd.map-map}
 use Rattle.fault_words.specs.declared.kind.GateKind.{GateKind}
 use Rattle.fault_words.specs.declared.kind.GateKind.TheVariants.{Or, Fdep}
 use Rattle.tree_check.specs.Numbered.{numbered, numbered_gate, numbered_gates, numbered_tops}

@@ -4,22 +4,18 @@ use Rattle.std.proofs.Common.{length, map, refl, sym, ap, ◌∙◌, arith, lit�
 use Rattle.std.specs.Prelude.{◌&&◌, All, codes, decimal, nat_le, slice_index_or}
 use Rattle.std.specs.List.{list_all, range_with_len}
 use Rattle.std.proofs.lemmas.Bool.{and_parts, cases_lt, le-leb}
-use Rattle.std.proofs.lemmas.Fmt.{decimal_by_steps, length-decimal-le}
-use Rattle.std.proofs.lemmas.List.{length-append}
+use Rattle.std.proofs.{lemmas.Fmt.decimal_by_steps, lemmas.Fmt.length-decimal-le, lemmas.List.length-append}
+use Rattle.std.proofs.{lemmas.List.Folds.list_all-append}
 use Rattle.std.proofs.lemmas.List.Elements.{All-append, All-cons, All-nil}
-use Rattle.std.proofs.lemmas.List.Folds.{list_all-append}
 use Rattle.fault_words.specs.Name.{is_bare_byte, is_name, is_name_byte}
-use Rattle.fault_words.specs.declared.kind.GateKind.{GateKind}
-use Rattle.fault_words.specs.declared.kind.GateKind.TheVariants.{And}
+use Rattle.fault_words.specs.{declared.kind.GateKind.GateKind, declared.kind.GateKind.TheVariants.And}
 use Rattle.galileo_tree.specs.ReadTree.{HasShortNumbers}
-use Rattle.crew_script.specs.Words.{is_blank}
-use Rattle.crew_script.specs.Deck.{is_feed}
+use Rattle.crew_script.specs.{Words.is_blank, Deck.is_feed}
 use Rattle.deck_reading.specs.Written.{Bare, Top, IsGood, WrittenStatement, is_good_definition, is_good_name}
 use Rattle.tree_maker.specs.Names.{top_name, gate_name, trigger_name, unit_name, units_in}
 use Rattle.tree_maker.specs.MadeDeck.{fdep_gate, unit_line}
 use Rattle.tree_maker.specs.MadeDeck as made
-use Rattle.tree_maker.proofs.FineGates.{seven_kinds}
-use Rattle.tree_maker.proofs.Ranges.{All-flat_range, All-range}
+use Rattle.tree_maker.proofs.{FineGates.seven_kinds, Ranges.All-flat_range, Ranges.All-range}
 use Rattle.tree_maker.proofs.Statements.{fdep_lines, group_line, group_lines, lines, lines_behind, top_line}
 use Rattle.tree_maker.proofs.Statements.{trigger_lines, unit_lines}
 
@@ -127,8 +123,8 @@ rest_c n few = with_letter n 99 few refl refl solid_c refl
 
 -- ---- names
 
-pub is_name-made : (first : ℕ) (rest : List ℕ) → is_name_byte first ≡ true → IsRest rest → is_name (first ∷ rest) ≡ true
-is_name-made first rest begins good =
+pub is_name-made : (first : ℕ) {rest : List ℕ} → is_name_byte first ≡ true → IsRest rest → is_name (first ∷ rest) ≡ true
+is_name-made first {rest} begins good =
     let some : nat_le 1 (suc (length rest)) ≡ true = le-leb 1 (suc (length rest)) (omega arith) in
     let few : nat_le (suc (length rest)) 255 ≡ true = le-leb (suc (length rest)) 255 (omega (arith, good.short)) in
     let named : list_all is_name_byte rest ≡ true = good.named in
@@ -137,30 +133,30 @@ is_name-made first rest begins good =
     ∙ ap (λ b. b && list_all is_name_byte rest) begins
     ∙ named
 
-pub good_gate : (rest : List ℕ) → IsRest rest → is_good_definition (Bare (103 ∷ rest)) ≡ true
-good_gate rest good = ap (λ b. b && list_all is_bare_byte rest && true) (is_name-made 103 rest refl good)
+pub good_gate : {rest : List ℕ} → IsRest rest → is_good_definition (Bare (103 ∷ rest)) ≡ true
+good_gate {rest} good = ap (λ b. b && list_all is_bare_byte rest && true) (is_name-made 103 refl good)
     ∙ ap (λ b. b && true) good.bare
 
-pub good_fdep : (rest : List ℕ) → IsRest rest → is_good_definition (Bare (102 ∷ rest)) ≡ true
-good_fdep rest good = ap (λ b. b && list_all is_bare_byte rest && true) (is_name-made 102 rest refl good)
+pub good_fdep : {rest : List ℕ} → IsRest rest → is_good_definition (Bare (102 ∷ rest)) ≡ true
+good_fdep {rest} good = ap (λ b. b && list_all is_bare_byte rest && true) (is_name-made 102 refl good)
     ∙ ap (λ b. b && true) good.bare
 
-pub good_unit : (rest : List ℕ) → IsRest rest → is_good_definition (Bare (117 ∷ rest)) ≡ true
-good_unit rest good = ap (λ b. b && list_all is_bare_byte rest && true) (is_name-made 117 rest refl good)
+pub good_unit : {rest : List ℕ} → IsRest rest → is_good_definition (Bare (117 ∷ rest)) ≡ true
+good_unit {rest} good = ap (λ b. b && list_all is_bare_byte rest && true) (is_name-made 117 refl good)
     ∙ ap (λ b. b && true) good.bare
 
-pub good_trigger : (rest : List ℕ) → IsRest rest → is_good_definition (Bare (120 ∷ rest)) ≡ true
-good_trigger rest good = ap (λ b. b && list_all is_bare_byte rest && true) (is_name-made 120 rest refl good)
+pub good_trigger : {rest : List ℕ} → IsRest rest → is_good_definition (Bare (120 ∷ rest)) ≡ true
+good_trigger {rest} good = ap (λ b. b && list_all is_bare_byte rest && true) (is_name-made 120 refl good)
     ∙ ap (λ b. b && true) good.bare
 
-named_gate : (rest : List ℕ) → IsRest rest → is_good_name (Bare (103 ∷ rest)) ≡ true
-named_gate rest good = ap (λ b. b && list_all is_bare_byte rest) (is_name-made 103 rest refl good) ∙ good.bare
+named_gate : {rest : List ℕ} → IsRest rest → is_good_name (Bare (103 ∷ rest)) ≡ true
+named_gate {rest} good = ap (λ b. b && list_all is_bare_byte rest) (is_name-made 103 refl good) ∙ good.bare
 
-pub named_unit : (rest : List ℕ) → IsRest rest → is_good_name (Bare (117 ∷ rest)) ≡ true
-named_unit rest good = ap (λ b. b && list_all is_bare_byte rest) (is_name-made 117 rest refl good) ∙ good.bare
+pub named_unit : {rest : List ℕ} → IsRest rest → is_good_name (Bare (117 ∷ rest)) ≡ true
+named_unit {rest} good = ap (λ b. b && list_all is_bare_byte rest) (is_name-made 117 refl good) ∙ good.bare
 
-named_trigger : (rest : List ℕ) → IsRest rest → is_good_name (Bare (120 ∷ rest)) ≡ true
-named_trigger rest good = ap (λ b. b && list_all is_bare_byte rest) (is_name-made 120 rest refl good) ∙ good.bare
+named_trigger : {rest : List ℕ} → IsRest rest → is_good_name (Bare (120 ∷ rest)) ≡ true
+named_trigger {rest} good = ap (λ b. b && list_all is_bare_byte rest) (is_name-made 120 refl good) ∙ good.bare
 
 -- ---- statements
 
@@ -173,7 +169,7 @@ module _ (count fdeps : ℕ) (place : ℕ → ℕ) (few : count ≤ 200) (fits :
   top_inputs_good s zero within = refl
   top_inputs_good s (suc n) within =
       ap (λ b. b && list_all is_good_name (map (λ group. Bare (gate_name group)) (range_with_len (s + 1) n)))
-      (named_gate (decimal s) (digits_are s (omega arith)))
+      (named_gate (digits_are s (omega arith)))
       ∙ top_inputs_good (s + 1) n (omega arith)
 
   short_numbers : (i : ℕ) → HasShortNumbers (slice_index_or made.kinds i And)
@@ -183,20 +179,20 @@ module _ (count fdeps : ℕ) (place : ℕ → ℕ) (few : count ≤ 200) (fits :
   three_good group within =
       ap (λ b. b && (is_good_name
       (Bare (unit_name group (codes "b"))) && (is_good_name (Bare (unit_name group (codes "c"))) && true)))
-      (named_unit (decimal group ++ codes "a") (rest_a group (omega arith)))
+      (named_unit (rest_a group (omega arith)))
       ∙ ap (λ b. b && (is_good_name (Bare (unit_name group (codes "c"))) && true))
-      (named_unit (decimal group ++ codes "b") (rest_b group (omega arith)))
-      ∙ ap (λ b. b && true) (named_unit (decimal group ++ codes "c") (rest_c group (omega arith)))
+      (named_unit (rest_b group (omega arith)))
+      ∙ ap (λ b. b && true) (named_unit (rest_c group (omega arith)))
 
   fdep_good : (q : ℕ) → q < fdeps → IsGood (fdep_gate q)
   fdep_good q within =
       let group : 5 * q < count = fits q within in
       let digit : q % 10 < 10 = omega arith in (
-        good_fdep (decimal (5 * q)) (digits_are (5 * q) (omega arith)),
+        good_fdep (digits_are (5 * q) (omega arith)),
         tt,
         ap (λ b. b && (is_good_name (Bare (unit_name (5 * q) (codes "b"))) && true))
-            (named_trigger (decimal (q % 10)) (digits_are (q % 10) (omega arith)))
-            ∙ ap (λ b. b && true) (named_unit (decimal (5 * q) ++ codes "b") (rest_b (5 * q) (omega arith))),
+            (named_trigger (digits_are (q % 10) (omega arith)))
+            ∙ ap (λ b. b && true) (named_unit (rest_b (5 * q) (omega arith))),
       )
 
   units_good : (group : ℕ) → group < 200 → All IsGood (map unit_line (units_in group))
@@ -204,10 +200,9 @@ module _ (count fdeps : ℕ) (place : ℕ → ℕ) (few : count ≤ 200) (fits :
       let a : WrittenStatement = unit_line (unit_name group (codes "a")) in
       let b : WrittenStatement = unit_line (unit_name group (codes "b")) in
       let c : WrittenStatement = unit_line (unit_name group (codes "c")) in
-      All-cons IsGood a (b ∷ c ∷ []) (good_unit (decimal group ++ codes "a") (rest_a group (omega arith)), refl)
-      (All-cons IsGood b (c ∷ []) (good_unit (decimal group ++ codes "b") (rest_b group (omega arith)), refl)
-      (All-cons IsGood c [] (good_unit (decimal group ++ codes "c") (rest_c group (omega arith)), refl)
-      (All-nil IsGood)))
+      All-cons IsGood a (b ∷ c ∷ []) (good_unit (rest_a group (omega arith)), refl)
+      (All-cons IsGood b (c ∷ []) (good_unit (rest_b group (omega arith)), refl)
+      (All-cons IsGood c [] (good_unit (rest_c group (omega arith)), refl) (All-nil IsGood)))
 
   -- each statement can be written
   pub all_good : All IsGood (lines count fdeps kind_here)
@@ -222,7 +217,7 @@ module _ (count fdeps : ℕ) (place : ℕ → ℕ) (few : count ≤ 200) (fits :
       (All-append IsGood groups_here (fdeps_here ++ (units_here ++ triggers_here))
       (All-range IsGood (group_line count fdeps kind_here) 0 count
       (λ group low high. (
-        good_gate (decimal group) (digits_are group (omega arith)),
+        good_gate (digits_are group (omega arith)),
         short_numbers (place group),
         three_good group (omega arith),
       )))
@@ -232,4 +227,4 @@ module _ (count fdeps : ℕ) (place : ℕ → ℕ) (few : count ≤ 200) (fits :
       (All-flat_range IsGood (λ group. map unit_line (units_in group)) 0 count
       (λ group low high. units_good group (omega arith)))
       (All-range IsGood (λ trigger. unit_line (trigger_name trigger)) 0 10
-      (λ trigger low high. (good_trigger (decimal trigger) (digits_are trigger (omega arith)), refl)))))))
+      (λ trigger low high. (good_trigger (digits_are trigger (omega arith)), refl)))))))

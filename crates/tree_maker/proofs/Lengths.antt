@@ -3,10 +3,9 @@ use Rattle.std.proofs.Common.{◌≡◌, ℕ, zero, suc, ◌+◌, ◌*◌, ◌%�
 use Rattle.std.proofs.Common.{subst, arith, lit≤, lit<, refl}
 use Rattle.std.specs.Prelude.{All, codes, decimal, slice_index_or}
 use Rattle.std.specs.List.{flat_map, range_with_len}
-use Rattle.std.proofs.lemmas.Fmt.{length-decimal-le}
-use Rattle.std.proofs.lemmas.List.{length-append}
+use Rattle.std.proofs.{lemmas.Fmt.length-decimal-le, lemmas.List.length-append}
+use Rattle.std.proofs.{lemmas.List.FromFn.length-map-range_with_len}
 use Rattle.std.proofs.lemmas.List.Elements.{All-append, All-cons, All-head, All-nil, All-tail}
-use Rattle.std.proofs.lemmas.List.FromFn.{length-map-range_with_len}
 use Rattle.fault_words.specs.declared.kind.GateKind.TheVariants.{And}
 use Rattle.edge_io.specs.declared.reading.TheConstants.{INPUT_LIMIT}
 use Rattle.deck_reading.specs.Written.{Bare, Top, WrittenStatement, input_text, statement_text, written}
@@ -16,9 +15,7 @@ use Rattle.tree_maker.specs.MadeDeck.{crew_lines, fdep_count, fdep_gate, group_c
 use Rattle.tree_maker.specs.MadeDeck.{kinds}
 use Rattle.tree_maker.specs.MadeDeck.{made_deck, made_statements, return_count, return_line, take_line, top_gate}
 use Rattle.tree_maker.specs.MadeDeck.{triggers, unit_line}
-use Rattle.tree_maker.proofs.FineGates.{seven_kinds}
-use Rattle.tree_maker.proofs.Ranges.{All-flat_range, All-range}
-use Rattle.tree_maker.proofs.Texts.{two_of_three}
+use Rattle.tree_maker.proofs.{FineGates.seven_kinds, Ranges.All-flat_range, Ranges.All-range, Texts.two_of_three}
 
 -- ---- texts that are joined
 

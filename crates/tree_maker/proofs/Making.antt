@@ -3,37 +3,29 @@ use Rattle.std.proofs.Common.{inl, inr, ◌≡◌, ℕ, zero, suc, ◌+◌, ◌*
 use Rattle.std.proofs.Common.{map, refl, sym, ap, subst, ◌∙◌, arith, lit≤, append-nil}
 use Rattle.std.specs.Prelude.{◌⊎◌, ◌&&◌, All, codes, Some, Ok, Result}
 use Rattle.std.specs.List.{flat_map, list_all, range_with_len}
-use Rattle.std.proofs.lemmas.Bool.{and_parts}
+use Rattle.std.proofs.{lemmas.Bool.and_parts, lemmas.List.FromFn.length-map-range_with_len}
 use Rattle.std.proofs.lemmas.List.{length-append, length-map, map-append}
 use Rattle.std.proofs.lemmas.List.Elements.{All-cons, All-map, All-nil, All-weaker}
-use Rattle.std.proofs.lemmas.List.FromFn.{length-map-range_with_len}
-use Rattle.fault_words.specs.Name.{is_bare_name, is_name}
+use Rattle.fault_words.specs.{Name.is_bare_name, Name.is_name, declared.attribute.Attribute.Attribute}
+use Rattle.fault_words.specs.{declared.place.Place.Place}
 use Rattle.fault_definitions.specs.Tree.{FaultTree, gate_count, unit_count}
 use Rattle.fault_definitions.specs.WellFormed.{IsTree}
-use Rattle.fault_words.specs.declared.attribute.Attribute.{Attribute}
-use Rattle.fault_words.specs.declared.place.Place.{Place}
 use Rattle.galileo_tree.specs.ReadTree.{HasBareWord, KeepsForm, ReadTree}
 use Rattle.tree_check.specs.Checked.{IsFaultless, IsFirstFault, Stands}
-use Rattle.tree_check.specs.Numbered.{numbered_gates}
+use Rattle.tree_check.specs.{Numbered.numbered_gates, Said.basics, declared.fault.CheckCode.CheckCode}
 use Rattle.tree_check.proofs.OneFault.{no_fault}
-use Rattle.tree_check.specs.Said.{basics}
-use Rattle.tree_check.specs.declared.fault.CheckCode.{CheckCode}
-use Rattle.crew_script.specs.Crews.{crews_of}
+use Rattle.crew_script.specs.{Crews.crews_of, Deck.lines_of, declared.dockets.Crew.Crew}
+use Rattle.crew_script.specs.{declared.fault.CrewFault.CrewFault}
 use Rattle.crew_script.specs.CrewsOf.{Answers, AreCrews, Say, lines_for}
-use Rattle.crew_script.specs.Deck.{lines_of}
-use Rattle.crew_script.specs.declared.dockets.Crew.{Crew}
-use Rattle.crew_script.specs.declared.fault.CrewFault.{CrewFault}
 use Rattle.deck_reading.specs.Deck.{StandsFor, crew_part}
 use Rattle.deck_reading.specs.Unplaced.{attributed, said, said_tree}
 use Rattle.deck_reading.specs.Written.{AreGood, Basic, Gate, IsGood, Top, WrittenStatement, is_good_attribute, written}
-use Rattle.tree_maker.specs.Names.{units_in}
+use Rattle.tree_maker.specs.{Names.units_in, WellMade.IsWellMade, WellMade.made_crew}
 use Rattle.tree_maker.specs.MadeDeck.{crew_lines, fdep_count, group_count, groups, made_deck, made_statements}
 use Rattle.tree_maker.specs.MadeDeck.{return_count, return_line, take_line}
-use Rattle.tree_maker.specs.WellMade.{IsWellMade, made_crew}
 use Rattle.tree_maker.proofs.CrewLines.{asks_of, crew_said, crew_says, request_of, return_ask, returns_say, takes_say}
 use Rattle.tree_maker.proofs.Faultless.{count_of_gates, count_of_units, faultless}
-use Rattle.tree_maker.proofs.GoodNames.{all_good}
-use Rattle.tree_maker.proofs.Lengths.{made_short}
+use Rattle.tree_maker.proofs.{GoodNames.all_good, Lengths.made_short}
 
 -- ---- what a good statement keeps
 
@@ -105,10 +97,8 @@ module _ (number : ℕ) where
             ∙ sym (append-nil (lines_for (made_crew number))))
             (crew_says (flat_map (λ group. flat_map take_line (units_in group)) (groups number) ++ flat_map return_line
             (range_with_len 0 (return_count number)))
-            (map request_of (flat_map asks_of (groups number)) ++ map request_of
-            (map return_ask (range_with_len 0 (return_count number))))
             (takes_say 0 (group_count number) (flat_map return_line (range_with_len 0 (return_count number)))
-            (map request_of (map return_ask (range_with_len 0 (return_count number)))) (omega arith)
+            (omega arith)
             (returns_say 0 (return_count number) (omega arith))));
         differ = refl;
         few_crews = lit≤ tt;
@@ -125,8 +115,8 @@ module _ (number : ℕ) where
       (with_crews : (statements : List WrittenStatement) (lines : List ℕ) (tree : FaultTree) → AreGood statements
       → Stands (said_tree statements) tree
       → IsTree tree → StandsFor (written statements ++ (codes "@crews\n" ++ lines)) tree) where
-    of_tree : (tree : FaultTree) → Stands read tree → IsTree tree → IsWellMade number (made_deck number) tree
-    of_tree tree stands kept = record {
+    of_tree : {tree : FaultTree} → Stands read tree → IsTree tree → IsWellMade number (made_deck number) tree
+    of_tree {tree} stands kept = record {
       stands = with_crews (made_statements number) (crew_lines number) tree good stands kept;
       units =
           ap unit_count stands.is
@@ -147,6 +137,6 @@ module _ (number : ℕ) where
 
     pub well_made : (tree : FaultTree) × IsWellMade number (made_deck number) tree
     well_made = elim (checks read (forms (made_statements number) good)) [
-      | inl found ↦ (found.0, of_tree found.0 found.1 found.2)
+      | inl found ↦ (found.0, of_tree found.1 found.2)
       | inr fault ↦ absurd (no_fault read fault.0 fault.1 no_faults fault.2)
     ]

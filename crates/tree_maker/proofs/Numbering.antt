@@ -12,15 +12,15 @@ use Rattle.std.specs.Prelude.{length, Some, None}
 use Rattle.tree_maker.proofs.Statements.{placed}
 
 -- the parts of a list that counts on
-head_counts : (x s : ℕ) (xs : List ℕ) (n : ℕ) → x ∷ xs ≡ range_with_len s n → x ≡ s
-head_counts x s xs zero is = absurd cc
-head_counts x s xs (suc n) is = cc
+head_counts : {x s : ℕ} {xs : List ℕ} (n : ℕ) → x ∷ xs ≡ range_with_len s n → x ≡ s
+head_counts zero is = absurd cc
+head_counts (suc n) is = cc
 
-tail_counts : (x s : ℕ) (xs : List ℕ) (n : ℕ) → x ∷ xs ≡ range_with_len s (suc n) → xs ≡ range_with_len (s + 1) n
-tail_counts x s xs n is = cc
+tail_counts : {x : ℕ} (s : ℕ) {xs : List ℕ} (n : ℕ) → x ∷ xs ≡ range_with_len s (suc n) → xs ≡ range_with_len (s + 1) n
+tail_counts s n is = cc
 
-some_counts : {P : Type 0} (x s : ℕ) (xs : List ℕ) → x ∷ xs ≡ range_with_len s zero → P
-some_counts x s xs is = absurd cc
+some_counts : {P : Type 0} {x : ℕ} (s : ℕ) {xs : List ℕ} → x ∷ xs ≡ range_with_len s zero → P
+some_counts s is = absurd cc
 
 module _ (rule : List ℕ → ℕ) where
   -- the first place of a name among names that are counted on
@@ -28,19 +28,19 @@ module _ (rule : List ℕ → ℕ) where
       → has_name names name ≡ true
       → s + position_or_len (same_name name) names ≡ rule name
   place_counted [] s n name counted found = absurd cc
-  place_counted (first ∷ names) s zero name counted found = some_counts (rule first) s (map rule names) counted
+  place_counted (first ∷ names) s zero name counted found = some_counts s counted
   place_counted (first ∷ names) s (suc n) name counted found = elim (cases_Bool (same_name name first)) [
     | inl here ↦
         let is : position_or_len (same_name name) (first ∷ names) ≡ 0 =
         ap (λ b. cond (not b) (1 + position_or_len (same_name name) names) 0) here in
         let same : rule name ≡ rule first = ap rule ((bytes_decides name first).0 here) in
-        let at : rule first ≡ s = head_counts (rule first) s (map rule names) (suc n) counted in
+        let at : rule first ≡ s = head_counts (suc n) counted in
         omega arith
     | inr later ↦
         let is : position_or_len (same_name name) (first ∷ names) ≡ 1 + position_or_len (same_name name) names =
         ap (λ b. cond (not b) (1 + position_or_len (same_name name) names) 0) later in
         let ih : s + 1 + position_or_len (same_name name) names ≡ rule name =
-        place_counted names (s + 1) n name (tail_counts (rule first) s (map rule names) n counted)
+        place_counted names (s + 1) n name (tail_counts s n counted)
         (sym (ap (λ b. b || has_name names name) later) ∙ found) in
         omega arith
   ]
@@ -69,29 +69,29 @@ module _ (rule : List ℕ → ℕ) where
       ∙ (let at = place_counted names 1 n name counted found in omega arith)
 
   -- a name that none of the earlier ones is counted as
-  new_name : (earlier : List (List ℕ)) (name : List ℕ) (s : ℕ) → rule name ≡ s → All (λ other. rule other < s) earlier
+  new_name : (earlier : List (List ℕ)) (name : List ℕ) {s : ℕ} → rule name ≡ s → All (λ other. rule other < s) earlier
       → has_name earlier name ≡ false
-  new_name [] name s is below = refl
-  new_name (other ∷ earlier) name s is below = elim (cases_Bool (same_name name other)) [
+  new_name [] name is below = refl
+  new_name (other ∷ earlier) name {s} is below = elim (cases_Bool (same_name name other)) [
     | inl here ↦
         let same : rule name ≡ rule other = ap rule ((bytes_decides name other).0 here) in
         let low : rule other < s = All-head (λ o. rule o < s) other earlier below in
         absurd (omega arith)
     | inr differs ↦
         ap (λ b. b || has_name earlier name) differs
-        ∙ new_name earlier name s is (All-tail (λ o. rule o < s) other earlier below)
+        ∙ new_name earlier name is (All-tail (λ o. rule o < s) other earlier below)
   ]
 
   -- names that are counted on are each defined once
   pub none_repeated : (earlier names : List (List ℕ)) (s n : ℕ) → map rule names ≡ range_with_len s n
       → All (λ other. rule other < s) earlier → repeats_after earlier (map placed names) ≡ []
   none_repeated earlier [] s n counted below = refl
-  none_repeated earlier (name ∷ names) s zero counted below = some_counts (rule name) s (map rule names) counted
+  none_repeated earlier (name ∷ names) s zero counted below = some_counts s counted
   none_repeated earlier (name ∷ names) s (suc n) counted below =
-      let at : rule name ≡ s = head_counts (rule name) s (map rule names) (suc n) counted in
+      let at : rule name ≡ s = head_counts (suc n) counted in
       ap (λ b. cond b ((placed name).place ∷ []) [] ++ repeats_after (earlier ++ name ∷ []) (map placed names))
-      (new_name earlier name s at below)
-      ∙ none_repeated (earlier ++ name ∷ []) names (s + 1) n (tail_counts (rule name) s (map rule names) n counted)
+      (new_name earlier name at below)
+      ∙ none_repeated (earlier ++ name ∷ []) names (s + 1) n (tail_counts s n counted)
       (All-append (λ other. rule other < s + 1) earlier (name ∷ [])
       (All-weaker (λ other. rule other < s) (λ other. rule other < s + 1) (λ other low. omega arith) earlier below)
       (All-cons (λ other. rule other < s + 1) name [] (omega arith) (All-nil (λ other. rule other < s + 1))))

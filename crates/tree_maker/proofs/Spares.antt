@@ -3,11 +3,9 @@ use Rattle.std.proofs.Common.{◌≡◌, ℕ, zero, suc, ◌+◌, ◌*◌, ◌<�
 use Rattle.std.proofs.Common.{refl, ap, ◌∙◌, arith}
 use Rattle.std.specs.Prelude.{◌&&◌, ◌||◌, All, slice_index_or}
 use Rattle.std.specs.List.{flat_map, list_any, range_with_len}
-use Rattle.std.proofs.lemmas.Bool.{eqb-true}
-use Rattle.std.proofs.lemmas.List.{append-nil}
-use Rattle.std.proofs.lemmas.List.Concat.{flat_map-append}
+use Rattle.std.proofs.{lemmas.Bool.eqb-true, lemmas.List.append-nil, lemmas.List.Concat.flat_map-append}
+use Rattle.std.proofs.{lemmas.List.Folds.flat_map-map}
 use Rattle.std.proofs.lemmas.List.Elements.{All-cons, All-head, All-nil, All-tail, All-weaker}
-use Rattle.std.proofs.lemmas.List.Folds.{flat_map-map}
 use Rattle.fault_words.specs.declared.kind.GateKind.TheVariants.{And}
 use Rattle.tree_check.specs.Classes.{SpareUse, clash, shared_after, shared_spares, spare_uses, spare_uses_in}
 use Rattle.tree_maker.specs.MadeDeck as made

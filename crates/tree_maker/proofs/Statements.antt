@@ -1,17 +1,13 @@
 -- What the statements of the made deck define and use, part by part.
 use Rattle.std.proofs.Common.{◌≡◌, ℕ, zero, suc, ◌+◌, ◌*◌, ◌%◌, List, [], ◌∷◌, ◌++◌, map, refl, sym, ap, ◌∙◌}
-use Rattle.std.specs.Prelude.{codes}
-use Rattle.std.specs.List.{flat_map, range_with_len}
+use Rattle.std.specs.{Prelude.codes, List.flat_map, List.range_with_len}
 use Rattle.std.proofs.lemmas.List.{append-nil, map-append, map-id}
 use Rattle.deck_reading.specs.Unplaced.{named}
-use Rattle.std.proofs.lemmas.List.Concat.{flat_map-append}
-use Rattle.std.proofs.lemmas.Simd.{map-map}
+use Rattle.std.proofs.{lemmas.List.Concat.flat_map-append, lemmas.Simd.map-map}
 use Rattle.fault_words.specs.declared.kind.GateKind.{GateKind}
 use Rattle.fault_words.specs.declared.kind.GateKind.TheVariants.{Or, Fdep}
-use Rattle.galileo_tree.specs.declared.raw.Placed.{Placed}
-use Rattle.galileo_tree.specs.declared.raw.RawBasic.{RawBasic}
-use Rattle.galileo_tree.specs.declared.raw.RawGate.{RawGate}
-use Rattle.galileo_tree.specs.declared.raw.Statement.{Statement}
+use Rattle.galileo_tree.specs.{declared.raw.Placed.Placed, declared.raw.RawBasic.RawBasic, declared.raw.RawGate.RawGate}
+use Rattle.galileo_tree.specs.{declared.raw.Statement.Statement}
 use Rattle.tree_check.specs.Said.{basics, basic_in, definition_in, definitions, gate_in, gates, names, top_in}
 use Rattle.tree_check.specs.Said.{tops}
 use Rattle.tree_check.specs.Said.{uses, uses_in}
@@ -124,10 +120,10 @@ module _ (count fdeps : ℕ) (kind : ℕ → GateKind) where
   abbrev pub unit_names : List (List ℕ)
   unit_names = flat_map units_in (range_with_len 0 count) ++ map trigger_name (range_with_len 0 10)
 
-  four : {X : Type 0} (of : Statement → List X) (a b c d : List X) → parts of group_lines ≡ a → parts of fdep_lines ≡ b
+  four : {X : Type 0} (of : Statement → List X) {a b c d : List X} → parts of group_lines ≡ a → parts of fdep_lines ≡ b
       → parts of unit_lines ≡ c → parts of trigger_lines ≡ d
       → parts of lines_behind ≡ a ++ (b ++ (c ++ d))
-  four of a b c d one two three fourth =
+  four of {a} {b} {c} one two three fourth =
       parts-append of group_lines (fdep_lines ++ (unit_lines ++ trigger_lines))
       ∙ ap (λ l. parts of group_lines ++ l) (parts-append of fdep_lines (unit_lines ++ trigger_lines)
       ∙ ap (λ l. parts of fdep_lines ++ l) (parts-append of unit_lines trigger_lines))
@@ -143,9 +139,7 @@ module _ (count fdeps : ℕ) (kind : ℕ → GateKind) where
   -- the units
   pub basics_are : basics statements ≡ map raw_basic unit_names
   basics_are =
-      four basic_in [] [] (map raw_basic (flat_map units_in (range_with_len 0 count)))
-      (map raw_basic (map trigger_name (range_with_len 0 10)))
-      (parts-none basic_in group_line 0 count (λ i. refl))
+      four basic_in (parts-none basic_in group_line 0 count (λ i. refl))
       (parts-none basic_in fdep_gate 0 fdeps (λ i. refl))
       (units-one basic_in raw_basic 0 count (λ name. refl))
       (parts-one basic_in (λ trigger. unit_line (trigger_name trigger))
@@ -175,9 +169,7 @@ module _ (count fdeps : ℕ) (kind : ℕ → GateKind) where
   gates_are =
       ap (λ l. (record { name = placed top_name; word = nowhere; kind = Or; inputs = l }) ∷ parts gate_in lines_behind)
       top_inputs
-      ∙ ap (λ l. top_raw ∷ l)
-      (four gate_in (map group_raw (range_with_len 0 count)) (map fdep_raw (range_with_len 0 fdeps)) [] []
-      (parts-one gate_in group_line group_raw 0 count (λ i. refl))
+      ∙ ap (λ l. top_raw ∷ l) (four gate_in (parts-one gate_in group_line group_raw 0 count (λ i. refl))
       (parts-one gate_in fdep_gate fdep_raw 0 fdeps (λ i. refl))
       (units-none gate_in 0 count (λ name. refl))
       (parts-none gate_in (λ trigger. unit_line (trigger_name trigger)) 0 10 (λ i. refl))
@@ -209,10 +201,7 @@ module _ (count fdeps : ℕ) (kind : ℕ → GateKind) where
 
   pub definitions_are : definitions statements ≡ map placed defined_names
   definitions_are =
-      ap (λ l. placed top_name ∷ l)
-      (four definition_in (map (λ i. placed (gate_name i)) (range_with_len 0 count))
-      (map (λ q. placed (fdep_name (5 * q))) (range_with_len 0 fdeps))
-      (map placed (flat_map units_in (range_with_len 0 count))) (map placed (map trigger_name (range_with_len 0 10)))
+      ap (λ l. placed top_name ∷ l) (four definition_in
       (parts-one definition_in group_line (λ i. placed (gate_name i)) 0 count (λ i. refl))
       (parts-one definition_in fdep_gate (λ q. placed (fdep_name (5 * q))) 0 fdeps (λ i. refl))
       (units-one definition_in placed 0 count (λ name. refl))
@@ -246,8 +235,7 @@ module _ (count fdeps : ℕ) (kind : ℕ → GateKind) where
       ++ (flat_map group_uses (range_with_len 0 count) ++ flat_map fdep_uses (range_with_len 0 fdeps)))
   uses_are =
       ap (λ l. placed top_name ∷ (l ++ parts uses_in lines_behind)) top_inputs
-      ∙ ap (λ l. placed top_name ∷ (map placed (map gate_name (range_with_len 0 count)) ++ l))
-      (four uses_in (flat_map group_uses (range_with_len 0 count)) (flat_map fdep_uses (range_with_len 0 fdeps)) [] []
+      ∙ ap (λ l. placed top_name ∷ (map placed (map gate_name (range_with_len 0 count)) ++ l)) (four uses_in
       (parts-more uses_in group_line group_uses 0 count (λ i. refl))
       (parts-more uses_in fdep_gate fdep_uses 0 fdeps (λ i. refl))
       (units-none uses_in 0 count (λ name. refl))
@@ -258,8 +246,7 @@ module _ (count fdeps : ℕ) (kind : ℕ → GateKind) where
   -- the top statement
   pub tops_are : tops statements ≡ record { word = nowhere; name = placed top_name } ∷ []
   tops_are =
-      ap (λ l. record { word = nowhere; name = placed top_name } ∷ l)
-      (four top_in [] [] [] []
+      ap (λ l. record { word = nowhere; name = placed top_name } ∷ l) (four top_in
       (parts-none top_in group_line 0 count (λ i. refl))
       (parts-none top_in fdep_gate 0 fdeps (λ i. refl))
       (units-none top_in 0 count (λ name. refl))

@@ -1,12 +1,9 @@
 -- Texts that grow by pieces.
 use Rattle.std.proofs.Common.{◌≡◌, ℕ, zero, suc, ◌+◌, ◌/◌, List, [], ◌++◌, refl, sym, ap, ◌∙◌, arith, append_assoc}
 use Rattle.std.proofs.Common.{append-nil, lit<}
-use Rattle.std.specs.Prelude.{codes, decimal}
-use Rattle.std.specs.List.{flat_map, range_with_len}
-use Rattle.std.proofs.lemmas.Fmt.{decimal_digit}
-use Rattle.std.proofs.lemmas.List.Concat.{flat_map-append}
+use Rattle.std.specs.{Prelude.codes, Prelude.decimal, List.flat_map, List.range_with_len}
+use Rattle.std.proofs.{lemmas.Fmt.decimal_digit, lemmas.List.Concat.flat_map-append, lemmas.List.Folds.flat_map-map}
 use Rattle.std.proofs.Common.{map}
-use Rattle.std.proofs.lemmas.List.Folds.{flat_map-map}
 use Rattle.deck_reading.specs.Written.{Bare, WrittenStatement, input_text, statement_text, written}
 use Rattle.tree_maker.specs.Names.{gate_name, trigger_name, units_in}
 use Rattle.tree_maker.specs.MadeDeck.{crew_lines, return_count, return_line, take_line, fdep_count, fdep_gate}
@@ -28,10 +25,11 @@ flat_range-more f i =
     ∙ ap (λ k. flat_map f (range_with_len 0 i) ++ (f k ++ [])) start
     ∙ ap (λ l. flat_map f (range_with_len 0 i) ++ l) (append-nil (f i))
 
-pub one_more : (f : ℕ → List ℕ) (before now next : List ℕ) (i : ℕ) → now ≡ before ++ flat_map f (range_with_len 0 i)
+pub one_more : (f : ℕ → List ℕ) (before : List ℕ) {now next : List ℕ} (i : ℕ)
+    → now ≡ before ++ flat_map f (range_with_len 0 i)
     → next ≡ now ++ f i
     → next ≡ before ++ flat_map f (range_with_len 0 (i + 1))
-one_more f before now next i here more =
+one_more f before i here more =
     more ∙ ap (λ l. l ++ f i) here ∙ append_assoc before (flat_map f (range_with_len 0 i)) (f i)
     ∙ ap (λ l. before ++ l) (sym (flat_range-more f i))
 
@@ -104,7 +102,7 @@ module _ (number : ℕ) where
       ∙ ap (λ l. inputs_text ++ (codes ";\n" ++ l)) behind_top)
 
   -- seven pieces one after another are the tree part
-  pub tree_put : (count : ℕ) (before one two three four five six seven : List ℕ) → count ≡ group_count number
+  pub tree_put : {count : ℕ} (before : List ℕ) {one two three four five six seven : List ℕ} → count ≡ group_count number
       → one ≡ before ++ codes "toplevel t;\nt or"
       → two ≡ one ++ flat_map (λ group. input_text (Bare (gate_name group))) (range_with_len 0 count)
       → three ≡ two ++ codes ";\n"
@@ -113,7 +111,7 @@ module _ (number : ℕ) where
       → six ≡ five ++ flat_map (λ group. flat_map (λ name. statement_text (unit_line name)) (units_in group))
       (range_with_len 0 count)
       → seven ≡ six ++ triggers_text → seven ≡ before ++ written (made_statements number)
-  tree_put count before one two three four five six seven is a b c d e f g =
+  tree_put before {one} {two} {three} {four} {five} {six} is a b c d e f g =
       let b2 : two ≡ one ++ inputs_text = b
       ∙ ap (λ n. one ++ flat_map (λ group. input_text (Bare (gate_name group))) (range_with_len 0 n)) is in
       let d2 : four ≡ three ++ groups_text = d
@@ -132,12 +130,12 @@ module _ (number : ℕ) where
       ∙ ap (λ l. before ++ l) (sym written_is)
 
   -- and three pieces are the crew part
-  pub crew_put : (count : ℕ) (before one two three : List ℕ) → count ≡ group_count number
+  pub crew_put : {count : ℕ} (before : List ℕ) {one two three : List ℕ} → count ≡ group_count number
       → one ≡ before ++ codes "@crews\ncrew maker\n"
       → two ≡ one ++ flat_map (λ group. flat_map take_line (units_in group)) (range_with_len 0 count)
       → three ≡ two ++ flat_map return_line (range_with_len 0 ((count + 1) / 2))
       → three ≡ before ++ (codes "@crews\n" ++ crew_lines number)
-  crew_put count before one two three is a b c =
+  crew_put before {one} {two} {three} is a b c =
       let takes : List ℕ = flat_map (λ group. flat_map take_line (units_in group)) (groups number) in
       let returns : List ℕ = flat_map return_line (range_with_len 0 (return_count number)) in
       let b2 : two ≡ one ++ takes = b

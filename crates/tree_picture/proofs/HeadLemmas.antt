@@ -3,10 +3,7 @@
 use Rattle.std.proofs.Common.{◌≡◌, ℕ, ◌<◌, ◌^◌, Bool, true, false, List, [], ◌∷◌, ◌++◌, length}
 use Rattle.std.proofs.Common.{refl, ap, ◌∙◌, arith, subst}
 use Rattle.std.specs.Prelude.{◌==◌, ◌&&◌, codes, decimal, nat_eq}
-use Rattle.std.specs.Char.{is_ascii_digit}
-use Rattle.std.specs.Cmp.Lexicographic.{pointwise}
-use Rattle.std.specs.List.{starts_with}
-use Rattle.std.specs.Str.{all_ascii_digits}
+use Rattle.std.specs.{Char.is_ascii_digit, Cmp.Lexicographic.pointwise, List.starts_with, Str.all_ascii_digits}
 use Rattle.std.proofs.lemmas.Bool.{and_parts, eqb-true, eq-eqb}
 use Rattle.std.proofs.lemmas.Fmt.{decimal_injective, decimal_nonempty, digits_decimal}
 use Rattle.std.proofs.lemmas.Str.Parse.{numerals_by_value, tells_all_ascii_digits}
@@ -25,9 +22,9 @@ other_apart : (other digit : ℕ) → is_ascii_digit other ≡ false → is_asci
     → nat_eq other digit ≡ false
 other_apart other digit no_digit is = grind arith
 
-one_more : (same all rest both : Bool) → both ≡ (all && rest) → (same && both) ≡ (same && all && rest)
-one_more true all rest both is = is
-one_more false all rest both is = refl
+one_more : (same all rest : Bool) {both : Bool} → both ≡ (all && rest) → (same && both) ≡ (same && all && rest)
+one_more true all rest is = is
+one_more false all rest is = refl
 
 -- the numbers are compared, and what stands behind them
 starts_by_digits : (own other : List ℕ) (mark ending : ℕ) (rest more : List ℕ) → all_ascii_digits own ≡ true
@@ -45,7 +42,6 @@ starts_by_digits (o ∷ own) (d ∷ other) mark ending rest more each all first 
     let digits = and_parts (is_ascii_digit o) (all_ascii_digits own) each in
     let others = and_parts (is_ascii_digit d) (all_ascii_digits other) all in
     one_more (nat_eq o d) (pointwise nat_eq own other) (starts_with nat_eq (ending ∷ more) (mark ∷ rest))
-    (starts_with nat_eq (other ++ ending ∷ more) (own ++ mark ∷ rest))
     (starts_by_digits own other mark ending rest more digits.1 others.1 first last)
 
 same_itself : (digits : List ℕ) → pointwise nat_eq digits digits ≡ true

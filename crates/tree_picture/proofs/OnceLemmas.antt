@@ -3,18 +3,15 @@ use Rattle.std.proofs.Common.{◌≡◌, ℕ, ◌+◌, ◌-◌, ◌<◌, ◌≤�
 use Rattle.std.proofs.Common.{length}
 use Rattle.std.proofs.Common.{refl, sym, ap, ◌∙◌, arith, append_assoc, append-nil, inl, inr, length-append}
 use Rattle.std.specs.Prelude.{◌==◌, ◌&&◌, not, codes, decimal, nat_eq, nat_le, if◌then◌else◌, All, filter}
-use Rattle.std.specs.Char.{is_ascii_digit}
+use Rattle.std.specs.{Char.is_ascii_digit, Str.all_ascii_digits}
 use Rattle.std.specs.List.{flat_map, list_all, starts_with, sum_by}
-use Rattle.std.specs.Str.{all_ascii_digits}
 use Rattle.std.proofs.lemmas.Bool.{and_parts, and_from, cases_lt, eqb-true, ne_eqb, lt-ltb, le-ltb}
-use Rattle.std.proofs.lemmas.List.Concat.{flat_map-append}
+use Rattle.std.proofs.{lemmas.List.Concat.flat_map-append, lemmas.List.Folds.flat_map-map}
 use Rattle.std.proofs.lemmas.List.Elements.{All-append, All-cons, All-get_or, All-head, All-nil, All-tail}
 use Rattle.std.proofs.lemmas.List.Elements.{filter-append}
-use Rattle.std.proofs.lemmas.List.Folds.{flat_map-map}
 use Rattle.unit_sets.specs.UnitList.{among}
-use Rattle.fault_words.specs.declared.kind.GateKind.{GateKind}
-use Rattle.fault_words.specs.declared.kind.GateKind.TheVariants.{And}
-use Rattle.fault_words.specs.Name.{is_name, is_name_byte}
+use Rattle.fault_words.specs.{declared.kind.GateKind.GateKind, declared.kind.GateKind.TheVariants.And, Name.is_name}
+use Rattle.fault_words.specs.{Name.is_name_byte}
 use Rattle.fault_definitions.specs.Tree.{FaultTree, IsGateOf, IsNodeOf, gate_count, inputs_of}
 use Rattle.fault_definitions.specs.Tree.{is_fdep_kind, kind_of, name_of, node_count, unit_count}
 use Rattle.fault_definitions.specs.WellFormed.{IsTree}
@@ -111,9 +108,9 @@ input_style_stays kind =
     elim (is_fdep_kind kind) as (λ b. IsOneLine (if b then codes " [style=dashed]" else codes ""))
     [ true ↦ refl | false ↦ refl ]
 
-module _ (tree : FaultTree) (kept : IsTree tree) (named : IsNamed tree) where
+module _ {tree : FaultTree} (kept : IsTree tree) (named : IsNamed tree) where
   number_stays : (node : ℕ) → IsNodeOf tree node → IsOneLine (decimal node)
-  number_stays node is = digits_stay (decimal node) (decimal_digits node (small_node tree node kept is))
+  number_stays node is = digits_stay (decimal node) (decimal_digits node (small_node node kept is))
 
   name_stays : (node : ℕ) → IsNodeOf tree node → IsOneLine (label_text (name_of tree node))
   name_stays node is =
@@ -145,7 +142,7 @@ module _ (tree : FaultTree) (kept : IsTree tree) (named : IsNamed tree) where
       (head_stays gate node)
       (one_line-append (gate_label tree gate) (codes "\", shape=" ++ shape)
       (one_line-append (label_text (name_of tree gate)) (codes "\\n" ++ word) (name_stays gate node)
-      (word_stays tree gate kept is))
+      (word_stays gate kept is))
       (one_line-append (gate_shape (kind_of tree gate)) (codes "];") (gate_shape_stays (kind_of tree gate)) refl))
 
   input_stays : (gate input : ℕ) → IsGateOf tree gate → IsNodeOf tree input → IsOneLine (input_line tree gate input)
@@ -177,7 +174,7 @@ module _ (tree : FaultTree) (kept : IsTree tree) (named : IsNamed tree) where
       all_of_numbers (gate_lines tree) (unit_count tree + 1) (gate_count tree) (λ gate low high.
       let is : IsGateOf tree gate = (omega arith, omega arith) in
       All-cons IsOneLine (gate_line tree gate) (map (input_line tree gate) (inputs_of tree gate)) (gate_stays gate is)
-      (inputs_stay gate (inputs_of tree gate) is (gate_sound tree kept gate is).nodes)) in
+      (inputs_stay gate (inputs_of tree gate) is (gate_sound kept gate is).nodes)) in
       All-cons IsOneLine (codes "digraph {")
       (codes "  ordering=out;" ∷ (units ++ (gates ++ codes "}" ∷ []))) refl
       (All-cons IsOneLine (codes "  ordering=out;") (units ++ (gates ++ codes "}" ∷ [])) refl
@@ -226,14 +223,14 @@ module _ (n m : ℕ) (rest : List ℕ) (small : n < 2 ^ 64) (few : m < 2 ^ 64) w
       ∙ starts_with-head n m 45 45 (62 ∷ 32 ∷ []) (62 ∷ 32 ∷ rest) small few ∙ and_true (n == m)
 
 -- the lines of a picture that pass a test which its first two lines, its last one and an empty one don't pass
-passing : (test : List ℕ → Bool) (tree : FaultTree) (marked : List ℕ) (units gates : List (List ℕ))
+passing : (test : List ℕ → Bool) (tree : FaultTree) (marked : List ℕ) {units gates : List (List ℕ)}
     → lines_of (picture_text tree marked) ≡ picture_lines tree marked ++ [] ∷ []
     → test (codes "digraph {") ≡ false → test (codes "  ordering=out;") ≡ false → test (codes "}") ≡ false
     → test [] ≡ false
     → filter test (flat_map (unit_lines tree marked) (unit_numbers tree)) ≡ units
     → filter test (flat_map (gate_lines tree) (gate_numbers tree)) ≡ gates
     → filter test (lines_of (picture_text tree marked)) ≡ units ++ gates
-passing test tree marked units gates lines first second last none of_units of_gates =
+passing test tree marked {units} {gates} lines first second last none of_units of_gates =
     let all_units = flat_map (unit_lines tree marked) (unit_numbers tree) in
     let all_gates = flat_map (gate_lines tree) (gate_numbers tree) in
     let behind : filter test (codes "}" ∷ []) ≡ [] = ap (λ b. cond b (codes "}" ∷ []) []) last in
@@ -262,14 +259,14 @@ picked test line number n false same is = ap (λ b. cond b (line n ∷ []) []) (
 
 module _ (tree : FaultTree) (marked : List ℕ) (kept : IsTree tree) (named : IsNamed tree) where
   small_gate : (gate : ℕ) → unit_count tree + 1 ≤ gate → gate < unit_count tree + 1 + gate_count tree → gate < 2 ^ 64
-  small_gate gate low high = small_node tree gate kept (omega arith, omega arith)
+  small_gate gate low high = small_node gate kept (omega arith, omega arith)
 
   small_unit : (unit : ℕ) → 1 ≤ unit → unit < 1 + unit_count tree → unit < 2 ^ 64
-  small_unit unit low high = small_node tree unit kept (low, omega arith)
+  small_unit unit low high = small_node unit kept (low, omega arith)
 
   module _ (node : ℕ) (is : IsNodeOf tree node) where
     small : node < 2 ^ 64
-    small = small_node tree node kept is
+    small = small_node node kept is
 
     unit_picked : PicksOne (has_head (node_head node)) (unit_lines tree marked) (unit_line tree marked node ∷ []) node
         1 (unit_count tree)
@@ -300,8 +297,7 @@ module _ (tree : FaultTree) (marked : List ℕ) (kept : IsTree tree) (named : Is
         starts_with-unnumbered node 111 (91 ∷ []) (codes "rdering=out;") small refl in
         elim (cases_lt (unit_count tree) node) [
           | inl above ↦
-              passing test tree marked [] (gate_line tree node ∷ []) (lines_of-picture tree kept named marked) refl
-              unnumbered refl refl
+              passing test tree marked (lines_of-picture kept named marked) refl unnumbered refl refl
               (picks_none test (unit_lines tree marked) (unit_line tree marked node ∷ []) node 1 (unit_count tree)
               unit_picked (inr (omega arith)))
               (picks_one test (gate_lines tree) (gate_line tree node ∷ []) node (unit_count tree + 1)
@@ -309,8 +305,7 @@ module _ (tree : FaultTree) (marked : List ℕ) (kept : IsTree tree) (named : Is
               ∙ ap (λ b. (if b then gate_line tree node else unit_line tree marked node) ∷ [])
               (sym (lt-ltb (unit_count tree) node above))
           | inr within ↦
-              passing test tree marked (unit_line tree marked node ∷ []) [] (lines_of-picture tree kept named marked)
-              refl unnumbered refl refl
+              passing test tree marked (lines_of-picture kept named marked) refl unnumbered refl refl
               (picks_one test (unit_lines tree marked) (unit_line tree marked node ∷ []) node 1 (unit_count tree)
               unit_picked is.0 (omega arith))
               (picks_none test (gate_lines tree) (gate_line tree node ∷ []) node (unit_count tree + 1)
@@ -321,7 +316,7 @@ module _ (tree : FaultTree) (marked : List ℕ) (kept : IsTree tree) (named : Is
 
   module _ (gate : ℕ) (is : IsGateOf tree gate) where
     small_own : gate < 2 ^ 64
-    small_own = small_node tree gate kept (omega (arith, is.0), is.1)
+    small_own = small_node gate kept (omega (arith, is.0), is.1)
 
     abbrev inputs_lines : List (List ℕ)
     inputs_lines = map (input_line tree gate) (inputs_of tree gate)
@@ -365,7 +360,7 @@ module _ (tree : FaultTree) (marked : List ℕ) (kept : IsTree tree) (named : Is
         let test = has_head (input_head gate) in
         let unnumbered : test (codes "  ordering=out;") ≡ false =
         starts_with-unnumbered gate 111 (45 ∷ 62 ∷ 32 ∷ []) (codes "rdering=out;") small_own refl in
-        passing test tree marked [] inputs_lines (lines_of-picture tree kept named marked) refl unnumbered refl refl
+        passing test tree marked (lines_of-picture kept named marked) refl unnumbered refl refl
         (picks_none test (unit_lines tree marked) inputs_lines gate 1 (unit_count tree) no_unit
         (inr (omega (arith, is.0))))
         (picks_one test (gate_lines tree) inputs_lines gate (unit_count tree + 1) (gate_count tree) inputs_picked
@@ -384,7 +379,7 @@ module _ (tree : FaultTree) (marked : List ℕ) (kept : IsTree tree) (named : Is
       ≡ gate_count tree + sum_by (λ gate. length (inputs_of tree gate)) (gate_numbers tree) =
       length-headed (gate_line tree) (input_line tree) (inputs_of tree) (unit_count tree + 1) (gate_count tree) in
       let lines : length (lines_of (picture_text tree marked)) ≡ length (picture_lines tree marked ++ [] ∷ []) =
-      ap length (lines_of-picture tree kept named marked) in
+      ap length (lines_of-picture kept named marked) in
       omega (
         arith,
         lines,

@@ -12,7 +12,7 @@ head_text node rest =
     ∙ sym (append_assoc (decimal node) (codes " [") (codes "label=\"" ++ rest)))
 
 module _ {K : Type 0} (taken : K → Option (List ℕ)) (faults : K → ℕ) where
-  pub headed : (old new : Output K) (node : ℕ) (rest : List ℕ)
+  pub headed : {old new : Output K} (node : ℕ) (rest : List ℕ)
       → Puts taken faults old new ((codes "  " ++ (decimal node ++ codes " [label=\"")) ++ rest)
       → Puts taken faults old new (node_head node ++ (codes "label=\"" ++ rest))
-  headed old new node rest put = subst (Puts taken faults old new) (head_text node rest) put
+  headed {old} {new} node rest put = subst (Puts taken faults old new) (head_text node rest) put

@@ -2,26 +2,21 @@
 use Rattle.std.proofs.Common.{◌≡◌, ℕ, ◌<◌, ◌^◌, Bool, true, false, List, [], ◌∷◌, ◌++◌, Some, refl}
 use Rattle.std.proofs.Common.{ap, ◌∙◌, arith, append_assoc, append-nil}
 use Rattle.std.specs.Prelude.{◌==◌, ◌&&◌, not, codes, decimal}
-use Rattle.std.specs.Char.{is_ascii_digit}
-use Rattle.std.specs.List.{list_all}
-use Rattle.std.specs.Str.{all_ascii_digits}
-use Rattle.std.proofs.lemmas.List.Folds.{list_all-append}
-use Rattle.std.proofs.lemmas.Bool.{and_from, and_parts}
-use Rattle.fault_words.specs.declared.kind.GateKind.{GateKind}
-use Rattle.fault_words.specs.declared.kind.GateKind.TheVariants.{Votes}
+use Rattle.std.specs.{Char.is_ascii_digit, List.list_all, Str.all_ascii_digits}
+use Rattle.std.proofs.{lemmas.List.Folds.list_all-append, lemmas.Bool.and_from, lemmas.Bool.and_parts}
+use Rattle.fault_words.specs.{declared.kind.GateKind.GateKind, declared.kind.GateKind.TheVariants.Votes}
 use Rattle.fault_definitions.specs.Tree.{FaultTree, IsGateOf, IsNodeOf, inputs_of, kind_of, name_of}
 use Rattle.fault_definitions.specs.WellFormed.{IsSoundKind, IsTree}
 use Rattle.fault_definitions.proofs.RankLaws.{gate_sound}
 use Rattle.text_pieces.specs.GateWords.{gate_word}
 use Rattle.tree_picture.specs.Labels.{InText, behind_quote, label_text, shown_before, shown_from, shown_in}
 use Rattle.tree_picture.specs.PictureText.{gate_label, gate_line, gate_shape, node_head, unit_line, unit_shape}
-use Rattle.tree_picture.proofs.HeadLemmas.{decimal_digits}
+use Rattle.tree_picture.proofs.{HeadLemmas.decimal_digits, LineLemmas.IsOneLine, LineLemmas.stays_on_line}
 use Rattle.tree_picture.proofs.LabelLemmas.{behind_digits, in_front_of_some, is_plain, label_text_shown, plain_shown}
 use Rattle.tree_picture.proofs.LabelLemmas.{shown_in_front}
-use Rattle.tree_picture.proofs.LineLemmas.{IsOneLine, stays_on_line}
 
-pub small_node : (tree : FaultTree) (node : ℕ) → IsTree tree → IsNodeOf tree node → node < 2 ^ 64
-small_node tree node kept is = let units = kept.few_units in let gates = kept.few_gates in omega arith
+pub small_node : {tree : FaultTree} (node : ℕ) → IsTree tree → IsNodeOf tree node → node < 2 ^ 64
+small_node node kept is = let units = kept.few_units in let gates = kept.few_gates in omega arith
 
 -- ---- the label of a line stands behind its head
 
@@ -87,34 +82,34 @@ all_weaker test other weaker (byte ∷ text) each =
     let parts = and_parts (test byte) (list_all test text) each in
     and_from (other byte) (list_all other text) (weaker byte parts.0) (all_weaker test other weaker text parts.1)
 
-word_simple : (tree : FaultTree) (gate : ℕ) → IsTree tree → IsGateOf tree gate
+word_simple : {tree : FaultTree} (gate : ℕ) → IsTree tree → IsGateOf tree gate
     → list_all is_simple (gate_word (kind_of tree gate)) ≡ true
-word_simple tree gate kept is =
-    kind_simple tree (kind_of tree gate) (inputs_of tree gate) (gate_sound tree kept gate is).kind
+word_simple {tree} gate kept is =
+    kind_simple tree (kind_of tree gate) (inputs_of tree gate) (gate_sound kept gate is).kind
 
-word_plain : (tree : FaultTree) (gate : ℕ) → IsTree tree → IsGateOf tree gate
+word_plain : {tree : FaultTree} (gate : ℕ) → IsTree tree → IsGateOf tree gate
     → list_all is_plain (gate_word (kind_of tree gate)) ≡ true
-word_plain tree gate kept is =
+word_plain {tree} gate kept is =
     all_weaker is_simple is_plain (λ byte simple. (and_parts (is_plain byte) (not (byte == 10)) simple).0)
-    (gate_word (kind_of tree gate)) (word_simple tree gate kept is)
+    (gate_word (kind_of tree gate)) (word_simple gate kept is)
 
-pub word_stays : (tree : FaultTree) (gate : ℕ) → IsTree tree → IsGateOf tree gate
+pub word_stays : {tree : FaultTree} (gate : ℕ) → IsTree tree → IsGateOf tree gate
     → IsOneLine (gate_word (kind_of tree gate))
-word_stays tree gate kept is =
+word_stays {tree} gate kept is =
     all_weaker is_simple stays_on_line (λ byte simple. (and_parts (is_plain byte) (not (byte == 10)) simple).1)
-    (gate_word (kind_of tree gate)) (word_simple tree gate kept is)
+    (gate_word (kind_of tree gate)) (word_simple gate kept is)
 
-pub gate_shown : (tree : FaultTree) (gate : ℕ) → IsTree tree → IsGateOf tree gate
+pub gate_shown : {tree : FaultTree} (gate : ℕ) → IsTree tree → IsGateOf tree gate
     → shown_in (gate_line tree gate) ≡ Some (name_of tree gate ++ (codes "\n" ++ gate_word (kind_of tree gate)))
-gate_shown tree gate kept is =
+gate_shown {tree} gate kept is =
     let name = name_of tree gate in
     let word = gate_word (kind_of tree gate) in
     let behind = codes "\", shape=" ++ (gate_shape (kind_of tree gate) ++ codes "];") in
     let below : shown_from InText (word ++ behind) ≡ Some word =
-    plain_shown word behind (word_plain tree gate kept is) ∙ in_front_of_some word []
+    plain_shown word behind (word_plain gate kept is) ∙ in_front_of_some word []
     ∙ ap (λ l. Some l) (append-nil word) in
     ap (shown_from InText) (behind_head gate (gate_label tree gate ++ behind)
-    (small_node tree gate kept (omega arith, is.1)))
+    (small_node gate kept (omega arith, is.1)))
     ∙ ap (shown_from InText) (append_assoc (label_text name) (codes "\\n" ++ word) behind)
     ∙ label_text_shown name ((codes "\\n" ++ word) ++ behind)
     ∙ ap (λ shown. shown_in_front name (shown_before 10 shown)) below

@@ -1,8 +1,7 @@
 -- Labels, which stand in double quotes, by the rules of the DOT language: how a text is written in one, and what one
 -- shows.
 use Rattle.std.specs.Prelude.{ℕ, ◌==◌, if◌then◌else◌, nat_eq, List, [], ◌∷◌, ◌++◌, codes, Option, Some, None}
-use Rattle.std.specs.List.{flat_map}
-use Rattle.std.specs.Cmp.Lexicographic.{pointwise}
+use Rattle.std.specs.{List.flat_map, Cmp.Lexicographic.pointwise}
 
 -- ---- writing
 

@@ -1,19 +1,15 @@
 -- What follows from the definitions of `specs/CutOrder`.
 use Rattle.std.specs.Prelude.{ℕ, suc, ◌+◌, ◌≡◌, ◌<◌, ◌≤◌, List, [], ◌∷◌, ◌++◌, length, slice_get, sum_by, Some, All}
-use Rattle.std.specs.List.{AllByRecursion, flat_map}
-use Rattle.std.specs.List.Sorted.{IsStrictlySortedBy}
-use Rattle.std.specs.Cmp.Lexicographic.{slice_cmp}
-use Rattle.std.specs.Ordering.{nat_cmp, ordering_then}
-use Rattle.std.specs.declared.cmp.Ordering.{Ordering}
+use Rattle.std.specs.{List.AllByRecursion, List.flat_map, List.Sorted.IsStrictlySortedBy, Cmp.Lexicographic.slice_cmp}
+use Rattle.std.specs.{Ordering.nat_cmp, Ordering.ordering_then, declared.cmp.Ordering.Ordering}
+use Rattle.std.specs.{FinMap.slice_cmp-IsAntisymmetric, FinMap.nat_cmp-IsAntisymmetric}
 use Rattle.std.specs.declared.cmp.Ordering.TheVariants.{Less, Equal, Greater}
 use Rattle.std.proofs.Common.{refl, arith}
 use Rattle.std.proofs.lemmas.List.Elements.{All-nil, All-append, All-from_recursion, recursion_from_All}
 use Rattle.std.proofs.lemmas.List.Sums.{sum_by-cons, sum_by-append}
-use Rattle.std.specs.FinMap.{slice_cmp-IsAntisymmetric, nat_cmp-IsAntisymmetric}
 use Rattle.unit_sets.proofs.Sorted.{All-slice_get}
 use Rattle.unit_sets.specs.CutOrder.{IsCutSet, IsInCutOrder, IsOrderedCuts, cut_cmp, weight, weight_limit}
-use Rattle.unit_sets.specs.Unit.{IsUnit}
-use Rattle.unit_sets.specs.UnitList.{IsRising}
+use Rattle.unit_sets.specs.{Unit.IsUnit, UnitList.IsRising}
 
 second_ties : (first second : Ordering) → ordering_then first second ≡ Equal → second ≡ Equal
 second_ties Less second h = absurd cc
@@ -28,16 +24,17 @@ cut_cmp-same x y h =
 
 -- ---- what a layer above needs of a list that it copies, or fills from a list in order
 
-one_more : (all part rest count items total : ℕ) → all ≡ (1 + part) + rest → total ≡ part + items → rest ≡ count + items
+one_more : {all : ℕ} (part : ℕ) {rest : ℕ} (count items : ℕ) {total : ℕ} → all ≡ (1 + part) + rest
+    → total ≡ part + items → rest ≡ count + items
     → all ≡ suc count + total
-one_more all part rest count items total a b c = omega arith
+one_more part count items a b c = omega arith
 
 -- a list weighs as much as it has sets and members
 pub weight-counts : (cuts : List (List ℕ)) → weight cuts ≡ length cuts + sum_by length cuts
 weight-counts [] = refl
 weight-counts (cut ∷ cuts) =
-    one_more (weight (cut ∷ cuts)) (length cut) (weight cuts) (length cuts) (sum_by length cuts)
-    (sum_by length (cut ∷ cuts)) (sum_by-cons (λ (c : List ℕ). 1 + length c) cut cuts) (sum_by-cons length cut cuts)
+    one_more (length cut) (length cuts) (sum_by length cuts) (sum_by-cons (λ (c : List ℕ). 1 + length c) cut cuts)
+    (sum_by-cons length cut cuts)
     (weight-counts cuts)
 
 -- no sets

@@ -2,18 +2,12 @@
 use Rattle.std.proofs.Common.{◌≡◌, ℕ, zero, suc, ◌+◌, ◌<◌, ◌≤◌, Bool, true, false, ◌&&◌, ◌||◌, ◌==◌, nat_lt, List, []}
 use Rattle.std.proofs.Common.{◌∷◌, ◌++◌, length, filter, if◌then◌else◌, refl, sym, ◌∙◌, ap, arith, add-suc, add-zero}
 use Rattle.std.proofs.Common.{add_assoc, append-nil}
-use Rattle.std.specs.List.{AllByRecursion}
-use Rattle.std.specs.List.Sorted.{IsStrictlySortedBy}
-use Rattle.std.specs.Ordering.{nat_cmp}
-use Rattle.std.specs.declared.cmp.Ordering.TheVariants.{Less}
-use Rattle.std.proofs.lemmas.Bool.{cond_both}
-use Rattle.std.proofs.lemmas.Bool.Decides.{nat_tests}
-use Rattle.std.proofs.lemmas.List.Folds.{list_any-append}
-use Rattle.std.proofs.lemmas.List.Elements.{filter-append}
-use Rattle.std.proofs.lemmas.List.{length-append}
+use Rattle.std.specs.{List.AllByRecursion, List.Sorted.IsStrictlySortedBy, Ordering.nat_cmp}
+use Rattle.std.specs.{declared.cmp.Ordering.TheVariants.Less}
+use Rattle.std.proofs.{lemmas.Bool.cond_both, lemmas.Bool.Decides.nat_tests, lemmas.List.Folds.list_any-append}
+use Rattle.std.proofs.{lemmas.List.Elements.filter-append, lemmas.List.length-append}
 use Rattle.unit_sets.proofs.Sorted.{sorted-push}
-use Rattle.unit_sets.specs.UnitList.{among, IsRising}
-use Rattle.unit_sets.specs.Words.{passing_below}
+use Rattle.unit_sets.specs.{UnitList.among, UnitList.IsRising, Words.passing_below}
 
 -- one number, where the test passes
 abbrev one_passing : (ℕ → Bool) → ℕ → List ℕ
@@ -32,9 +26,10 @@ last_apart true false false = refl
 last_apart false t true = refl
 last_apart false t false = refl
 
-one_step : (l l' e t tn : Bool) → l' ≡ (l || e) → (e ≡ true → tn ≡ t) → ((l && t) || (tn && e)) ≡ (l' && t)
-one_step l l' true t tn h k = ap (λ x. (l && t) || (x && true)) (k refl) ∙ last_counts l t ∙ ap (λ x. x && t) (sym h)
-one_step l l' false t tn h k = last_apart l t tn ∙ ap (λ x. x && t) (sym h)
+one_step : (l : Bool) {l' : Bool} (e t tn : Bool) → l' ≡ (l || e) → (e ≡ true → tn ≡ t)
+    → ((l && t) || (tn && e)) ≡ (l' && t)
+one_step l true t tn h k = ap (λ x. (l && t) || (x && true)) (k refl) ∙ last_counts l t ∙ ap (λ x. x && t) (sym h)
+one_step l false t tn h k = last_apart l t tn ∙ ap (λ x. x && t) (sym h)
 
 or-false : (a : Bool) → (a || false) ≡ a
 or-false true = refl
@@ -63,7 +58,7 @@ among-passing_below test (suc n) unit =
     list_any-append (λ member. member == unit) (passing_below test n) (one_passing test n)
     ∙ ap (λ b. b || among (one_passing test n) unit) (among-passing_below test n unit)
     ∙ ap (λ b. (nat_lt unit n && test unit) || b) (among-one_passing test n unit)
-    ∙ one_step (nat_lt unit n) (nat_lt unit (suc n)) (n == unit) (test unit) (test n) (below_one_more unit n)
+    ∙ one_step (nat_lt unit n) (n == unit) (test unit) (test n) (below_one_more unit n)
     (λ e. ap test (same_by_test n unit e))
 
 all_append : (P : ℕ → Type 0) (xs ys : List ℕ) → AllByRecursion P xs → AllByRecursion P ys → AllByRecursion P (xs ++ ys)

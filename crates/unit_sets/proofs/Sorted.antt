@@ -1,10 +1,7 @@
 -- Lists in strict order, by whatever order: the members decide the list.
-use Rattle.std.specs.Prelude.{◌≡◌, ℕ, ◌+◌, ◌⊎◌, List, [], ◌∷◌, ◌++◌, take, slice_get, All, Contains, Some, zero, suc}
-use Rattle.std.specs.Cmp.{IsTotalOrder}
-use Rattle.std.specs.List.{AllByRecursion}
-use Rattle.std.specs.List.Sorted.{IsStrictlySortedBy}
-use Rattle.std.specs.declared.cmp.Ordering.{Ordering}
-use Rattle.std.specs.declared.cmp.Ordering.TheVariants.{Less}
+use Rattle.std.specs.Prelude.{◌≡◌, ℕ, ◌⊎◌, List, [], ◌∷◌, ◌++◌, take, slice_get, All, Contains, Some, zero, suc}
+use Rattle.std.specs.{Cmp.IsTotalOrder, List.AllByRecursion, List.Sorted.IsStrictlySortedBy}
+use Rattle.std.specs.{declared.cmp.Ordering.Ordering, declared.cmp.Ordering.TheVariants.Less}
 use Rattle.std.proofs.Common.{refl, sym, ap, subst, inl, inr, arith}
 use Rattle.std.proofs.lemmas.Cmp.{tied_itself}
 use Rattle.std.proofs.lemmas.List.Elements.{All-from_recursion, All-contains, All-head, All-tail}
@@ -50,9 +47,9 @@ module _ {K : Type 0} {R : K → K → Ordering} (o : IsTotalOrder R) where
   unfolding IsStrictlySortedBy
   first_below x z xs s h = All-contains (λ y. R x y ≡ Less) xs z (All-from_recursion (λ y. R x y ≡ Less) xs s.0) h
 
-  same_first : (x y : K) (xs ys : List K) → IsStrictlySortedBy R (x ∷ xs) → IsStrictlySortedBy R (y ∷ ys)
+  same_first : {x y : K} (xs ys : List K) → IsStrictlySortedBy R (x ∷ xs) → IsStrictlySortedBy R (y ∷ ys)
       → Contains (x ∷ xs) y → Contains (y ∷ ys) x → x ≡ y
-  same_first x y xs ys s t in_xs in_ys =
+  same_first {x} {y} xs ys s t in_xs in_ys =
       elim (Contains-cons_cases x y xs in_xs) [
         | inl same ↦ same
         | inr later ↦ elim (Contains-cons_cases y x ys in_ys) [
@@ -78,8 +75,7 @@ module _ {K : Type 0} {R : K → K → Ordering} (o : IsTotalOrder R) where
   same_from_members [] (y ∷ ys) s t to from = Contains-nil y (from y (Contains-cons_first y ys))
   same_from_members (x ∷ xs) [] s t to from = Contains-nil x (to x (Contains-cons_first x xs))
   same_from_members (x ∷ xs) (y ∷ ys) s t to from =
-      let same : x ≡ y =
-      same_first x y xs ys s t (from y (Contains-cons_first y ys)) (to x (Contains-cons_first x xs)) in
+      let same : x ≡ y = same_first xs ys s t (from y (Contains-cons_first y ys)) (to x (Contains-cons_first x xs)) in
       let t' : IsStrictlySortedBy R (x ∷ ys) = subst (λ (q : K). IsStrictlySortedBy R (q ∷ ys)) (sym same) t in
       let to' : (z : K) → Contains (x ∷ xs) z → Contains (x ∷ ys) z =
       λ z h. subst (λ (q : K). Contains (q ∷ ys) z) (sym same) (to z h) in

@@ -1,15 +1,12 @@
 -- What follows from the definitions of `specs/UnitList`.
 use Rattle.std.specs.Prelude.{◌≡◌, ℕ, Bool, true, false, not, ◌&&◌, ◌||◌, ◌==◌, nat_lt, List, [], ◌∷◌, filter}
 use Rattle.std.specs.Prelude.{Contains, if◌then◌else◌}
-use Rattle.std.specs.List.{AllByRecursion}
-use Rattle.std.specs.List.Sorted.{IsStrictlySortedBy}
-use Rattle.std.specs.Ordering.{nat_cmp}
-use Rattle.std.specs.declared.cmp.Ordering.TheVariants.{Less}
+use Rattle.std.specs.{List.AllByRecursion, List.Sorted.IsStrictlySortedBy, Ordering.nat_cmp}
+use Rattle.std.specs.{declared.cmp.Ordering.TheVariants.Less}
 use Rattle.std.proofs.Common.{refl, sym, ◌∙◌, ap, subst, inl, inr, arith, eq-eqb}
 use Rattle.std.proofs.lemmas.Bool.{or_cases, or_left, or_right, and_parts, and_from, cond_both}
-use Rattle.std.proofs.lemmas.Bool.Decides.{nat_tests}
-use Rattle.std.proofs.lemmas.Cmp.{nat_cmp_total}
-use Rattle.std.proofs.lemmas.List.Kept.{IsStrictlySortedBy-filter}
+use Rattle.std.proofs.{lemmas.Bool.Decides.nat_tests, lemmas.Cmp.nat_cmp_total}
+use Rattle.std.proofs.{lemmas.List.Kept.IsStrictlySortedBy-filter}
 use Rattle.unit_sets.proofs.Sorted.{same_from_members, Contains-cons_first, Contains-cons_other, Contains-cons_cases}
 use Rattle.unit_sets.specs.UnitList.{IsRising, among, is_within, with_unit, without_unit}
 
@@ -46,24 +43,24 @@ same_set xs ys s t alike =
 same_by_test : (a b : ℕ) → (a == b) ≡ true → a ≡ b
 same_by_test a b h = grind (arith, nat_tests)
 
-test_of_same : (a b : ℕ) (p : ℕ → Bool) (r : Bool) → p a ≡ r → (a == b) ≡ true → p b ≡ r
-test_of_same a b p r at h = subst (λ (q : ℕ). p q ≡ r) (same_by_test a b h) at
+test_of_same : (a b : ℕ) (p : ℕ → Bool) {r : Bool} → p a ≡ r → (a == b) ≡ true → p b ≡ r
+test_of_same a b p {r} at h = subst (λ (q : ℕ). p q ≡ r) (same_by_test a b h) at
 
 and-false : (a : Bool) → (a && false) ≡ false
 and-false true = refl
 and-false false = refl
 
-kept_first : (f a k c : Bool) → c ≡ (a && k) → (f ≡ true → k ≡ true) → (f || c) ≡ ((f || a) && k)
-kept_first true a k c e h = sym (h refl)
-kept_first false a k c e h = e
+kept_first : (f a k : Bool) {c : Bool} → c ≡ (a && k) → (f ≡ true → k ≡ true) → (f || c) ≡ ((f || a) && k)
+kept_first true a k e h = sym (h refl)
+kept_first false a k e h = e
 
-dropped_first : (f a k c : Bool) → c ≡ (a && k) → (f ≡ true → k ≡ false) → c ≡ ((f || a) && k)
-dropped_first true a k c e h = e ∙ ap (λ b. a && b) (h refl) ∙ and-false a ∙ sym (h refl)
-dropped_first false a k c e h = e
+dropped_first : (f a k : Bool) {c : Bool} → c ≡ (a && k) → (f ≡ true → k ≡ false) → c ≡ ((f || a) && k)
+dropped_first true a k e h = e ∙ ap (λ b. a && b) (h refl) ∙ and-false a ∙ sym (h refl)
+dropped_first false a k e h = e
 
-already : (u f a : Bool) → u ≡ f → (f || a) ≡ (u || (f || a))
-already true f a e = ap (λ b. b || a) (sym e)
-already false f a e = refl
+already : (u : Bool) {f : Bool} (a : Bool) → u ≡ f → (f || a) ≡ (u || (f || a))
+already true a e = ap (λ b. b || a) (sym e)
+already false a e = refl
 
 or_swap : (f u a : Bool) → (f || (u || a)) ≡ (u || (f || a))
 or_swap true true a = refl
@@ -77,8 +74,8 @@ among-filter keep (first ∷ others) unit =
     let ih : among (filter keep others) unit ≡ (among others unit && keep unit) = among-filter keep others unit in
     cond_both (keep first) (first ∷ filter keep others) (filter keep others)
     (λ kept. among kept unit ≡ (among (first ∷ others) unit && keep unit))
-    (λ yes. kept_first (first == unit) (among others unit) (keep unit) _ ih (test_of_same first unit keep true yes))
-    (λ no. dropped_first (first == unit) (among others unit) (keep unit) _ ih (test_of_same first unit keep false no))
+    (λ yes. kept_first (first == unit) (among others unit) (keep unit) ih (test_of_same first unit keep yes))
+    (λ no. dropped_first (first == unit) (among others unit) (keep unit) ih (test_of_same first unit keep no))
 
 pub among-with_unit : (unit : ℕ) (set : List ℕ) (other : ℕ)
     → among (with_unit unit set) other ≡ ((unit == other) || among set other)
@@ -92,8 +89,7 @@ among-with_unit unit (first ∷ others) other =
     (λ below. refl)
     (λ _. cond_both (first == unit) (first ∷ others) (first ∷ with_unit unit others)
     (λ new. among new other ≡ ((unit == other) || among (first ∷ others) other))
-    (λ same. already (unit == other) (first == other) (among others other)
-    (ap (λ q. q == other) (sym (same_by_test first unit same))))
+    (λ same. already (unit == other) (among others other) (ap (λ q. q == other) (sym (same_by_test first unit same))))
     (λ _. ap (λ b. (first == other) || b) ih ∙ or_swap (first == other) (unit == other) (among others other)))
 
 pub among-without_unit : (unit : ℕ) (set : List ℕ) (other : ℕ)

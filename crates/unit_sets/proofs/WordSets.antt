@@ -10,14 +10,13 @@ use Rattle.std.proofs.lemmas.Nat.Bits.{bit_at_cat_low, bit_at_and, bit_at-lt, bi
 use Rattle.std.proofs.lemmas.Nat.Bits.{same_from_bits_below}
 use lib.Count.{ones, ones_in}
 use native.Mathlib.Nat.{lt_of_le_of_lt}
-use Rattle.std.proofs.lemmas.Bool.Decides.{nat_tests}
+use Rattle.std.proofs.{lemmas.Bool.Decides.nat_tests, lemmas.List.Elements.All-from_recursion}
 use Rattle.std.proofs.lemmas.List.{length-append, get_or-set_same, get_or-set_other}
 use Rattle.unit_sets.specs.UnitList.{IsUnitSet, among, with_unit, without_unit, outside, is_within}
 use Rattle.unit_sets.proofs.UnitListLemmas.{same_set}
 use Rattle.unit_sets.proofs.UnitListLemmas.{among-with_unit, among-without_unit, among-from_is_within}
 use Rattle.unit_sets.proofs.UnitListLemmas.{is_within-from_among}
 use Rattle.unit_sets.proofs.UnitListLemmas.{IsRising-with_unit, IsRising-without_unit}
-use Rattle.std.proofs.lemmas.List.Elements.{All-from_recursion}
 use Rattle.unit_sets.specs.Unit.{IsUnit}
 use Rattle.unit_sets.specs.Words.{passing_below, has_bit, units_of, HoldsUnits}
 use Rattle.unit_sets.proofs.Passing.{all_passing, among-passing_below, IsRising-passing_below, passing_below-same}
@@ -73,8 +72,9 @@ among-units_of words unit small =
     ∙ ap (λ b. b && has_bit words unit) (passes_below unit 4096 small)
 
 -- the words with one of them replaced
-has_bit-other_word : (words : List ℕ) (k word v : ℕ) → v / 64 ≢ k → has_bit (slice_set words k word) v ≡ has_bit words v
-has_bit-other_word words k word v other =
+has_bit-other_word : (words : List ℕ) {k : ℕ} (word v : ℕ) → v / 64 ≢ k
+    → has_bit (slice_set words k word) v ≡ has_bit words v
+has_bit-other_word words {k} word v other =
     ap (λ x. bit_at x (v % 64) == 1) (get_or-set_other words k (v / 64) word 0 other)
 
 has_bit-same_word : (words : List ℕ) (k word v : ℕ) → v / 64 ≡ k → k < length words
@@ -83,9 +83,9 @@ has_bit-same_word words k word v same within =
     ap (λ x. bit_at (slice_index (slice_set words k word) x) (v % 64) == 1) same
     ∙ ap (λ x. bit_at x (v % 64) == 1) (get_or-set_same words k word 0 within)
 
-has_bit-old_word : (words : List ℕ) (k v : ℕ) → v / 64 ≡ k
+has_bit-old_word : (words : List ℕ) {k : ℕ} (v : ℕ) → v / 64 ≡ k
     → has_bit words v ≡ (bit_at (slice_index words k) (v % 64) == 1)
-has_bit-old_word words k v same = ap (λ x. bit_at (slice_index words x) (v % 64) == 1) same
+has_bit-old_word words v same = ap (λ x. bit_at (slice_index words x) (v % 64) == 1) same
 
 apart : (u v : ℕ) → (u ≡ v → ⊥) → (u == v) ≡ false
 apart u v h = ne_eqb u v h
@@ -98,16 +98,16 @@ and-true : (a : Bool) → (a && true) ≡ a
 and-true true = refl
 and-true false = refl
 
-has_bit-kept : (words : List ℕ) (unit word v : ℕ) → unit / 64 < length words
+has_bit-kept : (words : List ℕ) {unit : ℕ} (word : ℕ) {v : ℕ} → unit / 64 < length words
     → ((i : ℕ) → i < 64 → i ≢ unit % 64 → bit_at word i ≡ bit_at (slice_index words (unit / 64)) i) → v ≢ unit
     → has_bit (slice_set words (unit / 64) word) v ≡ has_bit words v
-has_bit-kept words unit word v within others other =
+has_bit-kept words {unit} word {v} within others other =
     elim (cases_eq (v / 64) (unit / 64)) [
       | inl same ↦
           has_bit-same_word words (unit / 64) word v same within
           ∙ ap (λ x. x == 1) (others (v % 64) (mod_below v 64 (omega arith)) (λ e. other (omega arith)))
-          ∙ sym (has_bit-old_word words (unit / 64) v same)
-      | inr elsewhere ↦ has_bit-other_word words (unit / 64) word v elsewhere
+          ∙ sym (has_bit-old_word words v same)
+      | inr elsewhere ↦ has_bit-other_word words word v elsewhere
     ]
 
 -- a word whose bit of the unit is set, and whose other bits are as before
@@ -122,7 +122,7 @@ has_bit-set words unit word within set others v =
           ∙ ap (λ x. x == 1) set
           ∙ ap (λ b. b || has_bit words unit) (sym (eq-eqb unit unit refl)))
       | inr other ↦
-          has_bit-kept words unit word v within others other
+          has_bit-kept words word within others other
           ∙ ap (λ b. b || has_bit words v) (sym (apart unit v (λ e. other (sym e))))
     ]
 
@@ -140,7 +140,7 @@ has_bit-clear words unit word within clear others v =
           ∙ sym (and-false (has_bit words unit))
           ∙ ap (λ b. has_bit words unit && not b) (sym (eq-eqb unit unit refl)))
       | inr other ↦
-          has_bit-kept words unit word v within others other
+          has_bit-kept words word within others other
           ∙ sym (and-true (has_bit words v))
           ∙ ap (λ b. has_bit words v && not b) (sym (apart v unit other))
     ]
@@ -170,16 +170,15 @@ units_of-zeros n =
 true_is_not_false : true ≡ false → ⊥
 true_is_not_false e = cc
 
-unit_by_bit : (words : List ℕ) → HoldsUnits words → (k : ℕ) → k < 4096 → has_bit words k ≡ true → IsUnit k
-unit_by_bit words holds zero h set = absurd (true_is_not_false (sym set ∙ holds.not_zero))
-unit_by_bit words holds (suc k) h set = (omega arith, omega arith)
+unit_by_bit : {words : List ℕ} → HoldsUnits words → (k : ℕ) → k < 4096 → has_bit words k ≡ true → IsUnit k
+unit_by_bit holds zero h set = absurd (true_is_not_false (sym set ∙ holds.not_zero))
+unit_by_bit holds (suc k) h set = (omega arith, omega arith)
 
 -- the members are unit numbers: the number 0 has no bit set
-pub IsUnitSet-units_of : (words : List ℕ) → HoldsUnits words → IsUnitSet (units_of words)
-IsUnitSet-units_of words holds = record {
+pub IsUnitSet-units_of : {words : List ℕ} → HoldsUnits words → IsUnitSet (units_of words)
+IsUnitSet-units_of {words} holds = record {
   rising = IsRising-passing_below (has_bit words) 4096;
-  units =
-      All-from_recursion IsUnit (units_of words) (all_passing IsUnit (has_bit words) 4096 (unit_by_bit words holds));
+  units = All-from_recursion IsUnit (units_of words) (all_passing IsUnit (has_bit words) 4096 (unit_by_bit holds));
 }
 
 -- words with one bit more hold one unit more
@@ -197,9 +196,9 @@ units_of-with words words' unit small bits =
     ∙ sym (among-with_unit unit (units_of words) v))
 
 -- a unit's bit is its membership, where the words and the number are seen through what equals them
-pub member_by_bit : (items seen value : List ℕ) (number unit : ℕ) → seen ≡ items → number ≡ unit → IsUnit unit
+pub member_by_bit : {items seen value : List ℕ} {number unit : ℕ} → seen ≡ items → number ≡ unit → IsUnit unit
     → units_of items ≡ value → has_bit seen number ≡ among value unit
-member_by_bit items seen value number unit same_words same_number is_unit is_value =
+member_by_bit {items} {number} {unit} same_words same_number is_unit is_value =
     ap (λ words. has_bit words number) same_words
     ∙ ap (λ n. has_bit items n) same_number
     ∙ sym (among-units_of items unit (omega (arith, is_unit.1)))
@@ -227,13 +226,13 @@ least_bit (suc zero) b small h = let one : b ≡ 1 = h refl in omega arith
 least_bit (suc (suc a)) b small h = absurd (omega arith)
 
 -- a word whose ones are all ones of another
-covered_word : (a b : ℕ) → a < 2 ^ 64 → ((i : ℕ) → i < 64 → bit_at a i ≡ 1 → bit_at b i ≡ 1) → bit_and a b ≡ a
-covered_word a b small each =
+covered_word : {a : ℕ} (b : ℕ) → a < 2 ^ 64 → ((i : ℕ) → i < 64 → bit_at a i ≡ 1 → bit_at b i ≡ 1) → bit_and a b ≡ a
+covered_word {a} b small each =
     same_from_bits_below 64 (bit_and a b) a (lt_of_le_of_lt (and_le_l a b) small) small
     (λ i h. bit_at_and a b i ∙ least_bit (bit_at a i) (bit_at b i) (bit_at-lt a i) (each i h))
 
-one_in_cover : (a b i : ℕ) → bit_and a b ≡ a → bit_at a i ≡ 1 → bit_at b i ≡ 1
-one_in_cover a b i covered one =
+one_in_cover : {a : ℕ} (b i : ℕ) → bit_and a b ≡ a → bit_at a i ≡ 1 → bit_at b i ≡ 1
+one_in_cover {a} b i covered one =
     let both : min (bit_at a i) (bit_at b i) ≡ bit_at a i = sym (bit_at_and a b i) ∙ ap (λ x. bit_at x i) covered in
     let small : bit_at b i < 2 = bit_at-lt b i in
     omega arith
@@ -256,14 +255,14 @@ is_within-from_words words others covered =
     let small : unit < 4096 = below_from_test unit 4096 both.0 in
     let place : unit / 64 < 64 = omega arith in
     among-units_of others unit small
-    ∙ ap (λ b. b == 1) (one_in_cover _ _ (unit % 64) (covered (unit / 64) place) (one_from_has_bit words unit both.1)))
+    ∙ ap (λ b. b == 1) (one_in_cover _ (unit % 64) (covered (unit / 64) place) (one_from_has_bit words unit both.1)))
 
 -- where each unit is in the other, each word's ones are ones of the other's
 pub covered-from_is_within : (words others : List ℕ) (k : ℕ) → k < 64 → slice_index words k < 2 ^ 64
     → is_within (units_of others) (units_of words) ≡ true
     → bit_and (slice_index words k) (slice_index others k) ≡ slice_index words k
 covered-from_is_within words others k h small within =
-    covered_word (slice_index words k) (slice_index others k) small (λ i below one.
+    covered_word (slice_index others k) small (λ i below one.
     let unit_small : 64 * k + i < 4096 = omega arith in
     let here : among (units_of words) (64 * k + i) ≡ true =
     among-units_of words (64 * k + i) unit_small ∙ has_bit-at words k i below ∙ ap (λ b. b == 1) one in
@@ -315,10 +314,11 @@ count_more words others k small small' =
 
 -- ---- what a write of one bit leaves
 
-pub HoldsUnits-with : (items seen new : List ℕ) (number unit : ℕ) → seen ≡ items → number ≡ unit → IsUnit unit
+pub HoldsUnits-with : {items seen : List ℕ} (new : List ℕ) {number unit : ℕ} → seen ≡ items → number ≡ unit
+    → IsUnit unit
     → length new ≡ length seen → ((v : ℕ) → has_bit new v ≡ ((number == v) || has_bit seen v)) → HoldsUnits items
     → HoldsUnits new
-HoldsUnits-with items seen new number unit same_words same_number is_unit same_length bits holds = record {
+HoldsUnits-with {seen} new {unit} same_words same_number is_unit same_length bits holds = record {
   all_units = same_length ∙ ap length same_words ∙ holds.all_units;
   not_zero =
       bits 0 ∙ ap (λ n. (n == 0) || has_bit seen 0) same_number
@@ -326,28 +326,30 @@ HoldsUnits-with items seen new number unit same_words same_number is_unit same_l
       ∙ ap (λ b. b || false) (apart unit 0 (λ e. absurd (omega (arith, is_unit.0))));
 }
 
-pub units_of-inserted : (items seen new value : List ℕ) (number unit : ℕ) → seen ≡ items → number ≡ unit → IsUnit unit
+pub units_of-inserted : {items seen : List ℕ} (new : List ℕ) {value : List ℕ} {number unit : ℕ} → seen ≡ items
+    → number ≡ unit → IsUnit unit
     → ((v : ℕ) → has_bit new v ≡ ((number == v) || has_bit seen v)) → units_of items ≡ value
     → units_of new ≡ with_unit unit value
-units_of-inserted items seen new value number unit same_words same_number is_unit bits is_value =
+units_of-inserted {items} {seen} new {unit} same_words same_number is_unit bits is_value =
     units_of-with items new unit (omega (arith, is_unit.1))
     (λ v. bits v ∙ ap (λ n. (n == v) || has_bit seen v) same_number
     ∙ ap (λ words. (unit == v) || has_bit words v) same_words)
     ∙ ap (with_unit unit) is_value
 
-pub HoldsUnits-without : (items seen new : List ℕ) (number : ℕ) → seen ≡ items → length new ≡ length seen
+pub HoldsUnits-without : {items seen : List ℕ} (new : List ℕ) (number : ℕ) → seen ≡ items → length new ≡ length seen
     → ((v : ℕ) → has_bit new v ≡ (has_bit seen v && not (v == number))) → HoldsUnits items → HoldsUnits new
-HoldsUnits-without items seen new number same_words same_length bits holds = record {
+HoldsUnits-without new number same_words same_length bits holds = record {
   all_units = same_length ∙ ap length same_words ∙ holds.all_units;
   not_zero =
       bits 0 ∙ ap (λ words. has_bit words 0 && not (0 == number)) same_words
       ∙ ap (λ b. b && not (0 == number)) holds.not_zero;
 }
 
-pub units_of-removed : (items seen new value : List ℕ) (number unit : ℕ) → seen ≡ items → number ≡ unit
+pub units_of-removed : {items seen : List ℕ} (new : List ℕ) {value : List ℕ} {number unit : ℕ} → seen ≡ items
+    → number ≡ unit
     → ((v : ℕ) → has_bit new v ≡ (has_bit seen v && not (v == number))) → units_of items ≡ value
     → units_of new ≡ without_unit unit value
-units_of-removed items seen new value number unit same_words same_number bits is_value =
+units_of-removed {items} {seen} new {unit} same_words same_number bits is_value =
     units_of-without items new unit (λ v. bits v ∙ ap (λ n. has_bit seen v && not (v == n)) same_number
     ∙ ap (λ words. has_bit words v && not (v == unit)) same_words)
     ∙ ap (without_unit unit) is_value

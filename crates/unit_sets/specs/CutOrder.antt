@@ -1,14 +1,10 @@
 -- Lists of cut sets: by size, then lexicographically by unit numbers.
 use Rattle.std.specs.Prelude.{ℕ, ◌+◌, ◌<◌, ◌≤◌, List, length, All, sum_by}
-use Rattle.std.specs.Cmp.{IsTotalOrder}
-use Rattle.std.specs.Cmp.Lexicographic.{slice_cmp}
-use Rattle.std.specs.List.Sorted.{IsStrictlySortedBy}
+use Rattle.std.specs.{Cmp.IsTotalOrder, Cmp.Lexicographic.slice_cmp, List.Sorted.IsStrictlySortedBy}
+use Rattle.std.specs.{declared.cmp.Ordering.Ordering}
 use Rattle.std.specs.Ordering.{nat_cmp, on, then_cmp}
-use Rattle.std.specs.declared.cmp.Ordering.{Ordering}
 use Rattle.std.proofs.lemmas.Cmp.{nat_cmp_total, nat_list_cmp_total, on_total, then_total}
-use Rattle.unit_sets.specs.declared.cut_list.TheConstants.CutList.{WEIGHT_LIMIT}
-use Rattle.unit_sets.specs.Unit.{IsUnit}
-use Rattle.unit_sets.specs.UnitList.{IsRising}
+use Rattle.unit_sets.specs.{declared.cut_list.TheConstants.CutList.WEIGHT_LIMIT, Unit.IsUnit, UnitList.IsRising}
 
 -- the smaller set first, and of two sets of one size the lexicographically smaller
 abbrev pub cut_cmp : List ℕ → List ℕ → Ordering

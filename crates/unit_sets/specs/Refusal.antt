@@ -1,6 +1,5 @@
 -- Why a list of cut sets was not made, by what its last push answered.
-use Rattle.unit_sets.specs.declared.refusal.PushEnd.{PushEnd}
-use Rattle.unit_sets.specs.declared.refusal.ListEnd.{ListEnd}
+use Rattle.unit_sets.specs.{declared.refusal.PushEnd.PushEnd, declared.refusal.ListEnd.ListEnd}
 use Rattle.unit_sets.specs.declared.refusal.PushEnd.TheVariants as push
 use Rattle.unit_sets.specs.declared.refusal.ListEnd.TheVariants as list
 

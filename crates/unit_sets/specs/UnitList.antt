@@ -1,9 +1,7 @@
 -- Sets of units, each written as the rising list of its members.
 use Rattle.std.specs.Prelude.{ℕ, Bool, not, ◌==◌, nat_lt, List, [], ◌∷◌, filter, All}
 use Rattle.std.specs.Prelude.{if◌then◌else◌}
-use Rattle.std.specs.List.{list_any, list_all}
-use Rattle.std.specs.List.Sorted.{IsStrictlySortedBy}
-use Rattle.std.specs.Ordering.{nat_cmp}
+use Rattle.std.specs.{List.list_any, List.list_all, List.Sorted.IsStrictlySortedBy, Ordering.nat_cmp}
 use Rattle.unit_sets.specs.Unit.{IsUnit}
 
 -- whether the unit is a member of the set

@@ -7,9 +7,9 @@ use Rattle.std.specs.declared.cmp.Ordering.TheVariants.{Less}
 use Rattle.unit_sets.specs.UnitList.{IsRising}
 use Rattle.unit_sets.specs.CutOrder.{IsInCutOrder}
 
-pub one_rises : (a : ℕ) → IsRising (a ∷ [])
+pub one_rises : {a : ℕ} → IsRising (a ∷ [])
 unfolding IsStrictlySortedBy
-one_rises a = (tt, tt)
+one_rises = (tt, tt)
 
 less_from_below : (a b : ℕ) → a < b → nat_cmp a b ≡ Less
 less_from_below a b h = grind (arith, nat_tests)

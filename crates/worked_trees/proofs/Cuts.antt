@@ -4,8 +4,8 @@ use Rattle.std.proofs.lemmas.List.Elements.{All-weaker}
 use Rattle.fault_definitions.specs.Cut.{IsMinimalCut, IsCutList}
 use Rattle.fault_definitions.specs.Tree.{FaultTree, IsUnitOf, unit_count}
 
-pub are_of_units : (tree : FaultTree) (cuts : List (List ℕ)) → IsCutList tree cuts → All (All (IsUnitOf tree)) cuts
-are_of_units tree cuts list =
+pub are_of_units : {tree : FaultTree} (cuts : List (List ℕ)) → IsCutList tree cuts → All (All (IsUnitOf tree)) cuts
+are_of_units {tree} cuts list =
     All-weaker (IsMinimalCut tree) (All (IsUnitOf tree)) (λ set minimal. minimal.units) cuts list.sound
 
 pub are_known : (tree : FaultTree) (cuts : List (List ℕ)) → IsCutList tree cuts
@@ -13,5 +13,4 @@ pub are_known : (tree : FaultTree) (cuts : List (List ℕ)) → IsCutList tree c
 are_known tree cuts list =
     All-weaker (All (IsUnitOf tree)) (All (λ (unit : ℕ). unit < unit_count tree + 1))
     (λ set units. All-weaker (IsUnitOf tree) (λ (unit : ℕ). unit < unit_count tree + 1)
-    (λ unit known. let reach = known.1 in omega arith) set units)
-    cuts (are_of_units tree cuts list)
+    (λ unit known. let reach = known.1 in omega arith) set units) cuts (are_of_units cuts list)

@@ -4,42 +4,33 @@ use Rattle.std.proofs.Common.{true, false, List, [], ◌∷◌, length, take, ge
 use Rattle.std.proofs.Common.{IfOk, IfErr, refl, sym, ◌∙◌, subst, arith}
 use Rattle.std.specs.List.Sorted.{IsStrictlySortedBy}
 use Rattle.std.proofs.lemmas.Bool.{cases_eq, cond-true, and_parts}
-use Rattle.std.proofs.lemmas.List.{get_or_default, get_or-take}
-use Rattle.std.proofs.lemmas.List.Elements.{All-nil}
+use Rattle.std.proofs.{lemmas.List.get_or_default, lemmas.List.get_or-take, lemmas.List.Elements.All-nil}
 use Rattle.unit_sets.specs.UnitList.{among}
-use Rattle.fault_words.specs.declared.kind.GateKind.{GateKind}
-use Rattle.fault_words.specs.declared.kind.GateKind.TheVariants.{Fdep}
-use Rattle.fault_definitions.specs.Cut.{IsMinimalFor}
-use Rattle.fault_definitions.specs.CutFamily.{IsCutFamily}
-use Rattle.fault_definitions.specs.Reading.{reads, gate_reads}
+use Rattle.fault_words.specs.{declared.kind.GateKind.GateKind, declared.kind.GateKind.TheVariants.Fdep}
+use Rattle.fault_definitions.specs.{Cut.IsMinimalFor, CutFamily.IsCutFamily, Reading.reads, Reading.gate_reads}
+use Rattle.fault_definitions.specs.{Trigger.below, WellFormed.IsTree}
 use Rattle.fault_definitions.proofs.ReadingLaws.{reads-node}
 use Rattle.fault_definitions.specs.Tree.{FaultTree, IsNodeOf, inputs_of, is_above_units, is_fdep, is_fdep_kind, kind_of}
 use Rattle.fault_definitions.specs.Tree.{unit_count}
-use Rattle.fault_definitions.specs.Trigger.{below}
-use Rattle.fault_definitions.specs.WellFormed.{IsTree}
-use Rattle.zdd_families.specs.Minimal.{IsMinimal}
-use Rattle.zdd_families.specs.Antichains.{IsAntichain}
+use Rattle.zdd_families.specs.{Minimal.IsMinimal, Antichains.IsAntichain}
 use Rattle.zdd_families.proofs.MinimalParts.{HasLeast, minimal-exists}
 use Rattle.family_memory.specs.Memory.{Gave, Held, Has, RanOut, Went, IsSound, family_in}
 use Rattle.family_memory.proofs.After.{still, still_has}
 use Rattle.many_families.specs.Lists.{families}
-use Rattle.zdd_nodes.specs.Room.{HaveRoomFor}
-use Rattle.zdd_nodes.specs.declared.rooms.Rooms.{Rooms}
-use Rattle.tree_families.proofs.CutFamilies.{cut_family-minimal, cut_family-one}
-use Rattle.tree_families.proofs.FailingSets.{IsFamilyFor-cut_family}
-use Rattle.tree_families.specs.Generation.{IsFamilyFor}
-use Rattle.tree_families.specs.Recipe.{StandFor}
-use Rattle.tree_families.proofs.TreeParts.{Spans-of_tree}
+use Rattle.zdd_nodes.specs.{Room.HaveRoomFor, declared.rooms.Rooms.Rooms}
+use Rattle.tree_families.proofs.{CutFamilies.cut_family-minimal, CutFamilies.cut_family-one}
+use Rattle.tree_families.proofs.{FailingSets.IsFamilyFor-cut_family, TreeParts.Spans-of_tree}
+use Rattle.tree_families.specs.{Generation.IsFamilyFor, Recipe.StandFor}
 use Rattle.zdd_build.proofs.OwnReferences.{AreRead}
 
 -- ---- a cut family is an antichain
 
-pub cut_family_antichain : (tree : FaultTree) → IsTree tree → (node : ℕ) → IsNodeOf tree node → (family : List (List ℕ))
+pub cut_family_antichain : {tree : FaultTree} → IsTree tree → {node : ℕ} → IsNodeOf tree node → {family : List (List ℕ)}
     → IsCutFamily tree node family → IsAntichain family
-cut_family_antichain tree kept node is_node family is =
+cut_family_antichain {tree} kept {node} is_node {family} is =
     let generates : IsFamilyFor tree node family = IsFamilyFor-cut_family tree kept node is_node family is in
     let found : HasLeast 0 (unit_count tree) family =
-    minimal-exists (unit_count tree) 0 family (Spans-of_tree tree family generates.of_tree) in
+    minimal-exists (unit_count tree) (Spans-of_tree generates.of_tree) in
     let same : found.least ≡ family =
     cut_family-one tree node found.least family (cut_family-minimal tree node family found.least generates found.is)
     is in
@@ -52,7 +43,7 @@ fdep_reads : (kind : GateKind) (read : ℕ → Bool) (inputs : List ℕ) → is_
 fdep_reads Fdep read inputs fdep = refl
 fdep_reads _ read inputs fdep = absurd cc
 
-module _ (tree : FaultTree) (kept : IsTree tree) (node : ℕ) (is_node : IsNodeOf tree node)
+module _ {tree : FaultTree} (kept : IsTree tree) (node : ℕ) (is_node : IsNodeOf tree node)
     (fdep : is_fdep tree node ≡ true) where
   never : (set : ℕ → Bool) → reads tree set node ≡ false
   never set =
@@ -60,14 +51,14 @@ module _ (tree : FaultTree) (kept : IsTree tree) (node : ℕ) (is_node : IsNodeO
       reads-node tree kept set node is_node ∙ cond-true (is_above_units tree node) _ _ both.0
       ∙ fdep_reads (kind_of tree node) (reads tree set) (inputs_of tree node) both.1
 
-  none_fails : {G : Type 0} (set : List ℕ) → IsMinimalFor tree node set → G
-  none_fails set is = absurd (let e : false ≡ true = sym (never (among set)) ∙ is.fails in cc)
+  none_fails : {G : Type 0} {set : List ℕ} → IsMinimalFor tree node set → G
+  none_fails {set} is = absurd (let e : false ≡ true = sym (never (among set)) ∙ is.fails in cc)
 
   pub fdep_family : IsCutFamily tree node []
   unfolding IsStrictlySortedBy
   fdep_family = record {
     sound = All-nil (IsMinimalFor tree node);
-    complete = λ set is. none_fails set is;
+    complete = λ set is. none_fails is;
     ordered = tt;
   }
 
@@ -93,20 +84,20 @@ module _ (held : Held) (tree : FaultTree) where
   )
 
 -- the memory goes on
-pub read_still : (before after : Held) (tree : FaultTree) → IsSound before → Went before after
+pub read_still : {before after : Held} (tree : FaultTree) → IsSound before → Went before after
     → (nodes references : List ℕ) (count : ℕ) → AreRead before tree nodes references count
     → AreRead after tree nodes references count
-read_still before after tree sound went nodes references count read k within = (
-  still_has before after sound went (get_or references k 0) (read k within).0,
+read_still tree sound went nodes references count read k within = (
+  still_has sound went (get_or references k 0) (read k within).0,
   subst (IsCutFamily tree (get_or nodes k 0)) (sym
-      (still before after sound went (get_or references k 0) (read k within).0)) (read k within).1,
+      (still sound went (get_or references k 0) (read k within).0)) (read k within).1,
 )
 
 -- an operation went on, whatever its answer
-pub went_of : {E : Type 0} (Is : List (List ℕ) → Type 0) (before after : Held) (result : Result ℕ E)
+pub went_of : {E : Type 0} (Is : List (List ℕ) → Type 0) {before after : Held} (result : Result ℕ E)
     → IfOk result (Gave Is before after) → IfErr result (λ _. RanOut before after) → Went before after
-went_of Is before after (Ok r) gave out = gave.went
-went_of Is before after (Err e) gave out = out.went
+went_of Is (Ok r) gave out = gave.went
+went_of Is (Err e) gave out = out.went
 
 -- what is read, in a list's front
 read_front : (held : Held) (tree : FaultTree) (nodes references : List ℕ) (count : ℕ) → count ≤ length references
@@ -123,7 +114,7 @@ front_length (suc count) (x ∷ list) fits =
     let rest = front_length count list (omega (arith, fits)) in omega (arith, rest)
 
 -- all is read, and stands in the front of the list of the worker's rooms
-module _ (held : Held) (tree : FaultTree) (node : ℕ) (rooms : Rooms) (is_node : IsNodeOf tree node)
+module _ (held : Held) {tree : FaultTree} (node : ℕ) {rooms : Rooms} (is_node : IsNodeOf tree node)
     (fits : HaveRoomFor tree rooms) (count : ℕ) (done : length (below tree node) ≤ count)
     (read : AreRead held tree (below tree node) rooms.list.items count) where
   front : AreRead held tree (below tree node) (take (length (below tree node)) rooms.list.items)
@@ -143,11 +134,11 @@ module _ (held : Held) (tree : FaultTree) (node : ℕ) (rooms : Rooms) (is_node 
   all_stand = read_stand held tree (below tree node) (take (length (below tree node)) rooms.list.items) as_long front
 
 -- one more is read
-pub read_more : (before after : Held) (tree : FaultTree) → IsSound before → Went before after
+pub read_more : {before after : Held} {tree : FaultTree} → IsSound before → Went before after
     → (nodes references : List ℕ) (count r : ℕ) → count < length references → AreRead before tree nodes references count
     → Has after r → IsCutFamily tree (get_or nodes count 0) (family_in after r)
     → AreRead after tree nodes (set references count r) (count + 1)
-read_more before after tree sound went nodes references count r within read has is k below =
+read_more {after} {tree} sound went nodes references count r within read has is k below =
     elim (cases_eq k count) [
       | inl same ↦
           subst (λ (q : ℕ). Has after (get_or (set references count r) q 0)
@@ -157,13 +148,13 @@ read_more before after tree sound went nodes references count r within read has 
       | inr differs ↦
           subst (λ (s : ℕ). Has after s × IsCutFamily tree (get_or nodes k 0) (family_in after s))
           (sym (get_or-set_other references count k r 0 differs))
-          (read_still before after tree sound went nodes references count read k (omega (arith, below, differs)))
+          (read_still tree sound went nodes references count read k (omega (arith, below, differs)))
     ]
 
 -- what was brought into the memory is the cut family that it was
-pub gave_cut : (tree : FaultTree) (node : ℕ) (family : List (List ℕ)) → IsCutFamily tree node family
+pub gave_cut : {tree : FaultTree} {node : ℕ} {family : List (List ℕ)} → IsCutFamily tree node family
     → (before after : Held) → {E : Type 0} (result : Result ℕ E) → IfOk result (Gave (λ f. f ≡ family) before after)
     → IfOk result (Gave (IsCutFamily tree node) before after)
-gave_cut tree node family is before after (Ok r) gave =
+gave_cut {tree} {node} is before after (Ok r) gave =
     record { went = gave.went; has = gave.has; is = subst (IsCutFamily tree node) (sym gave.is) is }
-gave_cut tree node family is before after (Err e) gave = tt
+gave_cut is before after (Err e) gave = tt

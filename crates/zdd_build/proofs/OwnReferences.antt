@@ -1,7 +1,6 @@
 -- What a worker has read into its own memory.
 use Rattle.std.specs.Prelude.{ℕ, ◌<◌, List, slice_index}
-use Rattle.fault_definitions.specs.CutFamily.{IsCutFamily}
-use Rattle.fault_definitions.specs.Tree.{FaultTree}
+use Rattle.fault_definitions.specs.{CutFamily.IsCutFamily, Tree.FaultTree}
 use Rattle.family_memory.specs.Memory.{Held, Has, family_in}
 
 -- of the first nodes of a list, the memory has references to their cut families, in their order

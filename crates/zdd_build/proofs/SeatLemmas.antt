@@ -1,34 +1,29 @@
 -- Seats that learn, and what a worker is after its seat has learned.
 use Rattle.std.proofs.Common.{◌≡◌, ℕ, ◌≤◌, List, [], All, refl, sym, ◌∙◌, subst}
 use Rattle.std.proofs.Common.{add-zero}
-use Rattle.std.proofs.lemmas.List.{append-nil}
-use Rattle.std.proofs.lemmas.List.Elements.{All-weaker}
+use Rattle.std.proofs.{lemmas.List.append-nil, lemmas.List.Elements.All-weaker}
 use Rattle.unit_sets.proofs.Sorted.{Contains-nil}
 use Rattle.fault_definitions.specs.CutFamily.{IsCutFamily}
 use Rattle.tree_families.specs.Due.{IsDueToTree}
 use Rattle.zdd_families.specs.Map.{Grown, IsClosed}
-use Rattle.zdd_families.proofs.MapLemmas.{Knows-grown}
-use Rattle.zdd_families.proofs.Canonical.{family-grown}
+use Rattle.zdd_families.proofs.{MapLemmas.Knows-grown, Canonical.family-grown}
 use Rattle.zdd_shared_table.specs.Seats.{Seated, IsSoundSeat, map_of}
 use Rattle.zdd_product.specs.Seats.{KnowsOne, WentAll}
-use Rattle.zdd_product.proofs.Several.{CountsDue-went}
-use Rattle.zdd_product.proofs.After.{grown_then}
+use Rattle.zdd_product.proofs.{Several.CountsDue-went, After.grown_then}
 use Rattle.family_copies.proofs.CopiesLemmas.{copies-grown}
-use Rattle.zdd_build.specs.declared.task.Task.{Task}
-use Rattle.zdd_build.specs.declared.worker.Finding.{Finding}
-use Rattle.zdd_build.specs.declared.worker.Worker.{Worker}
-use Rattle.zdd_build.specs.Places.{node_at}
+use Rattle.zdd_build.specs.{declared.task.Task.Task, declared.worker.Finding.Finding, declared.worker.Worker.Worker}
+use Rattle.zdd_build.specs.{Places.node_at}
 use Rattle.zdd_build.specs.Workers.{CanPart, CanWork, CountsAsBefore, HasSplit, IsFound, Learned}
 
-pub counts_then : (a b c : Seated) → CountsAsBefore a b → CountsAsBefore b c → CountsAsBefore a c
-counts_then a b c first second = record {
+pub counts_then : {a b c : Seated} → CountsAsBefore a b → CountsAsBefore b c → CountsAsBefore a c
+counts_then first second = record {
   fulls = second.fulls ∙ first.fulls;
   missed = second.missed ∙ first.missed;
   fills = second.fills ∙ first.fills;
 }
 
-pub Learned-nothing : (seat : Seated) → IsSoundSeat seat → Learned seat seat
-Learned-nothing seat sound = record {
+pub Learned-nothing : {seat : Seated} → IsSoundSeat seat → Learned seat seat
+Learned-nothing sound = record {
   store = refl;
   share = refl;
   keeps = λ r has. refl;
@@ -36,19 +31,19 @@ Learned-nothing seat sound = record {
   counts = record { fulls = refl; missed = refl; fills = refl };
 }
 
-pub Learned-then : (a b c : Seated) → Learned a b → Learned b c → Learned a c
-Learned-then a b c first second = record {
+pub Learned-then : {a b c : Seated} → Learned a b → Learned b c → Learned a c
+Learned-then {a} {b} {c} first second = record {
   store = second.store ∙ first.store;
   share = second.share ∙ first.share;
   keeps = grown_then (map_of a) (map_of b) (map_of c) first.keeps second.keeps;
   sound = second.sound;
-  counts = counts_then a b c first.counts second.counts;
+  counts = counts_then first.counts second.counts;
 }
 
 -- nothing was filled and no search was refused
-WentAll-counted : (due : List (List ℕ) → Type 0) (before after : Seated) → after.store ≡ before.store
+WentAll-counted : {due : List (List ℕ) → Type 0} {before after : Seated} → after.store ≡ before.store
     → Grown (map_of before) (map_of after) → IsSoundSeat after → CountsAsBefore before after → WentAll due before after
-WentAll-counted due before after store keeps sound counts = record {
+WentAll-counted {before} store keeps sound counts = record {
   store = store;
   keeps = keeps;
   sound = sound;
@@ -67,16 +62,14 @@ WentAll-counted due before after store keeps sound counts = record {
   fulls = counts.fulls ∙ sym (add-zero before.fulls);
 }
 
-pub WentAll-learned : (due : List (List ℕ) → Type 0) (before after : Seated) → Learned before after
+pub WentAll-learned : {due : List (List ℕ) → Type 0} {before after : Seated} → Learned before after
     → WentAll due before after
-WentAll-learned due before after learned =
-    WentAll-counted due before after learned.store learned.keeps learned.sound learned.counts
+WentAll-learned learned = WentAll-counted learned.store learned.keeps learned.sound learned.counts
 
 -- workers that were split off have counted nothing with the seat
-pub split_went : (due : List (List ℕ) → Type 0) (count : ℕ) (before after : Seated) → HasSplit count before after
+pub split_went : {due : List (List ℕ) → Type 0} {count : ℕ} {before after : Seated} → HasSplit count before after
     → WentAll due before after
-split_went due count before after split =
-    WentAll-counted due before after split.store split.keeps split.sound split.counts
+split_went split = WentAll-counted split.store split.keeps split.sound split.counts
 
 -- a known reference stays so
 pub one_grown : (known known' : ℕ → ℕ) → IsClosed known → IsClosed known' → Grown known known'
@@ -87,14 +80,13 @@ one_grown known known' closed closed' grown is r one = (
 )
 
 -- a worker whose seat has learned
-pub can_learned : (task : Task) (worker : Worker) (after : Seated) → CanWork task worker → Learned worker.ops after
+pub can_learned : {task : Task} {worker : Worker} {after : Seated} → CanWork task worker → Learned worker.ops after
     → CanWork task (record worker { ops = after })
-can_learned task worker after can learned = record {
+can_learned {task} {worker} {after} can learned = record {
   own = learned.store ∙ can.own;
   share = learned.share ∙ can.share;
   counts =
-      CountsDue-went (IsDueToTree task.tree.now) worker.ops after can.counts
-      (WentAll-learned (IsDueToTree task.tree.now) worker.ops after learned);
+      CountsDue-went (IsDueToTree task.tree.now) can.counts (WentAll-learned learned);
   equipped =
       record {
         copies =
@@ -106,9 +98,9 @@ can_learned task worker after can learned = record {
 }
 
 -- a seat that can part its share and has learned still can
-pub part_learned : (task : Task) (before after : Seated) → CanPart task before → Learned before after
+pub part_learned : {task : Task} {before after : Seated} → CanPart task before → Learned before after
     → CanPart task after
-part_learned task before after part learned = record {
+part_learned part learned = record {
   own = learned.store ∙ part.own;
   share = subst (λ n. 2 ≤ n) (sym learned.share) part.share;
   sound = learned.sound;

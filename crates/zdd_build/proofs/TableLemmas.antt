@@ -5,25 +5,18 @@ use Rattle.std.proofs.Common.{length-set, get_or-set_same, get_or-set_other, ◌
 use Rattle.std.proofs.lemmas.Bool.{cases_Bool, cases_eq, cases_lt}
 use Rattle.std.proofs.lemmas.List.{get_or_default, get_or-replicate, length-replicate}
 use Rattle.std.proofs.lemmas.List.Elements.{All-push}
-use Rattle.fault_definitions.specs.CutFamily.{IsCutFamily}
+use Rattle.fault_definitions.specs.{CutFamily.IsCutFamily, Trigger.below, WellFormed.IsTree}
 use Rattle.fault_definitions.proofs.RankLaws.{below_are_nodes, below_ranks}
 use Rattle.fault_definitions.specs.Tree.{FaultTree, IsNodeOf, is_fdep, node_count, rank_of}
-use Rattle.fault_definitions.specs.Trigger.{below}
-use Rattle.fault_definitions.specs.WellFormed.{IsTree}
 use Rattle.zdd_families.specs.Map.{Grown, IsClosed}
 use Rattle.zdd_families.proofs.MapLemmas.{family-empty}
 use Rattle.zdd_product.specs.Seats.{KnowsOne}
 use Rattle.zdd_nodes.specs.Reading.{KnowsBelow, reference_of}
-use Rattle.zdd_build.specs.declared.places.Place.{Place}
-use Rattle.zdd_build.specs.declared.table.Table.{Table}
-use Rattle.zdd_build.specs.declared.task.Run.{Run}
-use Rattle.zdd_build.specs.declared.task.Task.{Task}
-use Rattle.zdd_build.specs.declared.worker.Finding.{Finding}
+use Rattle.zdd_build.specs.{declared.places.Place.Place, declared.table.Table.Table, declared.task.Run.Run}
+use Rattle.zdd_build.specs.{declared.task.Task.Task, declared.worker.Finding.Finding, Workers.IsFound}
 use Rattle.zdd_build.specs.Building.{CanMake, HasFamily, HasRoomFor, IsBuiltTo, is_made}
 use Rattle.zdd_build.specs.Places.{IsPlace, IsRun, IsRunTo, IsTask, node_at, place_at}
-use Rattle.zdd_build.specs.Workers.{IsFound}
-use Rattle.zdd_build.proofs.OwnLemmas.{fdep_family}
-use Rattle.zdd_build.proofs.SeatLemmas.{one_grown}
+use Rattle.zdd_build.proofs.{OwnLemmas.fdep_family, SeatLemmas.one_grown}
 
 -- ---- where the map grows
 
@@ -68,7 +61,7 @@ module _ (known known' : ℕ → ℕ) (closed : IsClosed known) (closed' : IsClo
 
 -- ---- what a node reads is made where all nodes of lower ranks are
 
-module _ (known : ℕ → ℕ) (task : Task) (are : IsTask task) (table : Table) (to : ℕ)
+module _ {known : ℕ → ℕ} {task : Task} (are : IsTask task) {table : Table} {to : ℕ}
     (is : IsBuiltTo known task table to) where
   place_is : (k : ℕ) → k < length task.places.now → IsPlace task.tree.now (place_at task.places.now k)
   place_is k within = are.has.sound k (record { rank = 0; node = 0 }) within
@@ -105,8 +98,8 @@ module _ (known : ℕ → ℕ) (task : Task) (are : IsTask task) (table : Table)
       let over : ℕ = node_at task.places.now k in
       let place : IsPlace tree (place_at task.places.now k) = place_is k (omega (arith, within, high)) in
       let node : ℕ = get_or (below tree over) i d in
-      let is_node : IsNodeOf tree node = below_are_nodes tree are.kept over i d inside in
-      let lower : rank_of tree node < rank_of tree over = below_ranks tree are.kept over place.is_node i d inside in
+      let is_node : IsNodeOf tree node = below_are_nodes are.kept over i d inside in
+      let lower : rank_of tree node < rank_of tree over = below_ranks are.kept over place.is_node i d inside in
       elim (cases_Bool (is_fdep tree node)) [
         | inl fdep ↦ is.built.fdeps node is_node fdep
         | inr read ↦ is_before (omega (arith, within, low, high)) node is_node read
@@ -129,34 +122,34 @@ module _ (known : ℕ → ℕ) (task : Task) (are : IsTask task) (table : Table)
   }
 
 -- where all places before a run are made, whatever it reads is known
-pub can_make : (known : ℕ → ℕ) (run : Run) → IsRun run → (table : Table) → IsBuiltTo known run.task table run.from
+pub can_make : {known : ℕ → ℕ} {run : Run} → IsRun run → {table : Table} → IsBuiltTo known run.task table run.from
     → CanMake known run table.references.items
-can_make known run is table to = record {
+can_make {run} is to = record {
   is_run = is;
   reads = λ k low high.
       let all = is.within in
       let place : IsPlace run.task.tree.now (place_at run.task.places.now k) =
-      place_is known run.task is.task table run.from to k (omega (arith, all, high)) in
+      place_is is.task to k (omega (arith, all, high)) in
       record {
         is_node = place.is_node;
         read = place.read;
         all = let e = to.built.all_nodes in omega (arith, e);
-        below = below_made known run.task is.task table run.from to run.to k is.within is.rank low high;
+        below = below_made is.task to run.to k is.within is.rank low high;
       };
 }
 
 -- what is made to a place is made to each before it
-pub built_less : (known : ℕ → ℕ) (task : Task) (table : Table) (from to : ℕ) → from ≤ to → IsBuiltTo known task table to
+pub built_less : {known : ℕ → ℕ} {task : Task} {table : Table} {from to : ℕ} → from ≤ to → IsBuiltTo known task table to
     → IsBuiltTo known task table from
-built_less known task table from to low is = record {
+built_less low is = record {
   built = is.built;
   made = λ k below. is.made k (omega (arith, low, below));
 }
 
 -- the next place is made, too
-pub built_next : (known : ℕ → ℕ) (task : Task) (table : Table) (place : ℕ) → IsBuiltTo known task table place
+pub built_next : {known : ℕ → ℕ} {task : Task} {table : Table} {place : ℕ} → IsBuiltTo known task table place
     → is_made table.made.items place ≡ true → IsBuiltTo known task table (place + 1)
-built_next known task table place is marked = record {
+built_next {table} {place} is marked = record {
   built = is.built;
   made = λ k below. elim (cases_lt k place) [
     | inl early ↦ is.made k early
@@ -167,7 +160,7 @@ built_next known task table place is marked = record {
 
 -- ---- one node more is made
 
-module _ (known : ℕ → ℕ) (task : Task) (are : IsTask task) (before after : Table) (place family to : ℕ)
+module _ {known : ℕ → ℕ} {task : Task} (are : IsTask task) {before : Table} (after : Table) (place family : ℕ) {to : ℕ}
     (is : IsBuiltTo known task before to) (within : place < length task.places.now)
     (one : KnowsOne known family (IsCutFamily task.tree.now (node_at task.places.now place)))
     (references : after.references.items ≡ set before.references.items (node_at task.places.now place - 1) family)
@@ -176,12 +169,12 @@ module _ (known : ℕ → ℕ) (task : Task) (are : IsTask task) (before after :
   here = node_at task.places.now place
 
   low : 1 ≤ here
-  low = (place_is known task are before to is place within).is_node.0
+  low = (place_is are is place within).is_node.0
 
   at_node : HasFamily known task.tree.now after.references.items here
   at_node =
       let fits : here - 1 < length before.references.items =
-      let u = (place_is known task are before to is place within).is_node.1 in let e = is.built.all_nodes in
+      let u = (place_is are is place within).is_node.1 in let e = is.built.all_nodes in
       omega (arith, low, u, e) in
       subst (λ (r : ℕ). KnowsOne known r (IsCutFamily task.tree.now here))
       (sym (ap (λ l. get_or l (here - 1) 0) references
@@ -203,9 +196,8 @@ module _ (known : ℕ → ℕ) (task : Task) (are : IsTask task) (before after :
       ap (λ m. is_made m place) made
       ∙ get_or-set_same before.made.items place true false (let e = is.built.all_places in omega (arith, e, within))
 
-  kept : (k : ℕ) → k ≢ place → is_made after.made.items k ≡ is_made before.made.items k
-  kept k differs =
-      ap (λ m. is_made m k) made ∙ get_or-set_other before.made.items place k true false differs
+  kept : {k : ℕ} → k ≢ place → is_made after.made.items k ≡ is_made before.made.items k
+  kept {k} differs = ap (λ m. is_made m k) made ∙ get_or-set_other before.made.items place k true false differs
 
   pub put_built : IsBuiltTo known task after to
   put_built = record {
@@ -219,23 +211,22 @@ module _ (known : ℕ → ℕ) (task : Task) (are : IsTask task) (before after :
           each = λ k inside marked. elim (cases_eq k place) [
             | inl same ↦ subst (λ (q : ℕ). HasFamily known task.tree.now after.references.items
                 (node_at task.places.now q)) (sym same) at_node
-            | inr differs ↦ other (node_at task.places.now k)
-                (place_is known task are before to is k inside).is_node.0
-                (is.built.each k inside (sym (kept k differs) ∙ marked))
+            | inr differs ↦ other (node_at task.places.now k) (place_is are is k inside).is_node.0
+                (is.built.each k inside (sym (kept differs) ∙ marked))
           ];
           fdeps = λ node is_node fdep. other node is_node.0 (is.built.fdeps node is_node fdep);
         };
     made = λ k below. elim (cases_eq k place) [
       | inl same ↦ subst (λ (q : ℕ). is_made after.made.items q ≡ true) (sym same) put_made
-      | inr differs ↦ kept k differs ∙ is.made k below
+      | inr differs ↦ kept differs ∙ is.made k below
     ];
   }
 
 -- nothing is made yet
-pub built_none : (known : ℕ → ℕ) (task : Task) → IsTree task.tree.now → (table : Table)
+pub built_none : {known : ℕ → ℕ} {task : Task} → IsTree task.tree.now → {table : Table}
     → table.references.items ≡ replicate (node_count task.tree.now) 0
     → table.made.items ≡ replicate (length task.places.now) false → IsBuiltTo known task table 0
-built_none known task kept table references made = record {
+built_none {known} {task} kept {table} references made = record {
   built =
       record {
         all_nodes =
@@ -253,8 +244,7 @@ built_none known task kept table references made = record {
             ∙ get_or-replicate (node_count task.tree.now) (node - 1) 0 0 (omega (arith, low, high)) in
             subst (λ (r : ℕ). KnowsOne known r (IsCutFamily task.tree.now node)) (sym none) (
               inl (omega arith),
-              subst (IsCutFamily task.tree.now node) (sym (family-empty known))
-                  (fdep_family task.tree.now kept node is_node fdep),
+              subst (IsCutFamily task.tree.now node) (sym (family-empty known)) (fdep_family kept node is_node fdep),
             );
       };
   made = λ k below. absurd (omega (arith, below));
@@ -262,9 +252,10 @@ built_none known task kept table references made = record {
 
 -- ---- what was found
 
-pub found_pushed : (known : ℕ → ℕ) (task : Task) (before after : List Finding) (finding : Finding) (pushed : Bool)
+pub found_pushed : (known : ℕ → ℕ) (task : Task) (before : List Finding) {after : List Finding} (finding : Finding)
+    (pushed : Bool)
     → All (IsFound known task) before → IsFound known task finding
     → after ≡ (if pushed then before ++ finding ∷ [] else before) → All (IsFound known task) after
-found_pushed known task before after finding true found is e =
+found_pushed known task before finding true found is e =
     subst (All (IsFound known task)) (sym e) (All-push (IsFound known task) before finding found is)
-found_pushed known task before after finding false found is e = subst (All (IsFound known task)) (sym e) found
+found_pushed known task before finding false found is e = subst (All (IsFound known task)) (sym e) found

@@ -5,10 +5,8 @@ use Rattle.std.proofs.lemmas.List.{append-nil, drop_all, take_all, get_or_append
 use Rattle.zdd_families.specs.Map.{Grown}
 use Rattle.zdd_shared_table.specs.Seats.{IsSoundSeat, Seated, map_of}
 use Rattle.zdd_product.specs.Seats.{CountsDue, Joined, WentAll}
-use Rattle.zdd_product.proofs.Several.{WentAll-joined, WentAll-then}
-use Rattle.zdd_build.specs.declared.task.Task.{Task}
-use Rattle.zdd_build.specs.declared.worker.Worker.{Worker}
-use Rattle.zdd_product.proofs.After.{grown_then}
+use Rattle.zdd_product.proofs.{Several.WentAll-joined, Several.WentAll-then, After.grown_then}
+use Rattle.zdd_build.specs.{declared.task.Task.Task, declared.worker.Worker.Worker}
 use Rattle.zdd_build.proofs.SeatLemmas.{counts_then}
 use Rattle.zdd_build.specs.Workers.{CanWork, CountsAsBefore, FindsFull, HasLed, HasSplit, Learned}
 
@@ -20,11 +18,10 @@ first_or_last (worker ∷ workers) last finds first alone = first finds
 
 -- ---- a worker's seat is joined, and then those of the others
 
-module _ (before other mid after : Seated) (joined : Joined before other mid) where
-  pub close_went : (due : List (List ℕ) → Type 0) → CountsDue due other → WentAll due mid after
+module _ {before other mid : Seated} (after : Seated) (joined : Joined before other mid) where
+  pub close_went : {due : List (List ℕ) → Type 0} → CountsDue due other → WentAll due mid after
       → WentAll due before after
-  close_went due counts later =
-      WentAll-then due before mid after (WentAll-joined due before other mid counts joined) later
+  close_went {due} counts later = WentAll-then due (WentAll-joined due counts joined) later
 
   pub close_new : other.fulls ≡ 0 → other.missed ≡ [] → other.fills ≡ [] → CountsAsBefore mid after
       → CountsAsBefore before after
@@ -35,35 +32,37 @@ module _ (before other mid after : Seated) (joined : Joined before other mid) wh
   }
 
   -- the first worker that found the store full has counted it
-  pub close_full : (task : Task) (due : List (List ℕ) → Type 0) (rest : List Worker)
-      (worker : Worker) → worker.ops ≡ other → CanWork task worker → WentAll due mid after
+  pub close_full : {task : Task} {due : List (List ℕ) → Type 0} (rest : List Worker)
+      {worker : Worker} → worker.ops ≡ other → CanWork task worker → WentAll due mid after
       → (FindsFull rest → mid.fulls < after.fulls) → FindsFull (rest ++ worker ∷ []) → before.fulls < after.fulls
-  close_full task due rest worker same can later first finds =
+  close_full rest {worker} same can later first finds =
       first_or_last rest worker finds
       (λ f. let more = first f in let j = joined.fulls in omega (arith, more, j))
       (λ full. let one : 1 ≤ other.fulls = subst (λ (s : Seated). 1 ≤ s.fulls) same (can.full full) in
       let j = joined.fulls in let l = later.fulls in omega (arith, one, j, l))
 
 -- the last of some workers, and those before it
-pub last_is : (P : Worker → Type 0) (workers rest : List Worker) (last : Worker) → workers ≡ rest ++ last ∷ []
+pub last_is : (P : Worker → Type 0) {workers : List Worker} (rest : List Worker) (last : Worker)
+    → workers ≡ rest ++ last ∷ []
     → All P workers → P last
-last_is P workers rest last e all =
+last_is P rest last e all =
     subst P (get_or_push rest last last (length rest) refl)
     (subst (All P) e all (length rest) last (omega (arith, length_push rest last)))
 
-pub others_are : (P : Worker → Type 0) (workers rest : List Worker) (last : Worker) → workers ≡ rest ++ last ∷ []
+pub others_are : (P : Worker → Type 0) {workers : List Worker} (rest : List Worker) (last : Worker)
+    → workers ≡ rest ++ last ∷ []
     → All P workers → All P rest
-others_are P workers rest last e all k d within =
+others_are P rest last e all k d within =
     subst P (get_or_append_left rest (last ∷ []) d k within)
     (subst (All P) e all k d (omega (arith, within, length_push rest last)))
 
 -- one worker more is split off
-pub split_then : (count : ℕ) (a b c : Seated) → HasSplit count a b → HasSplit 1 b c → HasSplit (count + 1) a c
-split_then count a b c first second = record {
+pub split_then : {count : ℕ} {a b c : Seated} → HasSplit count a b → HasSplit 1 b c → HasSplit (count + 1) a c
+split_then {a} {b} {c} first second = record {
   store = second.store ∙ first.store;
   keeps = grown_then (map_of a) (map_of b) (map_of c) first.keeps second.keeps;
   sound = second.sound;
-  counts = counts_then a b c first.counts second.counts;
+  counts = counts_then first.counts second.counts;
   share = let f = first.share in let s = second.share in omega (arith, f, s);
 }
 
@@ -81,7 +80,8 @@ joined_is store keeps gains sound fills missed fulls = record {
 }
 
 -- a seat takes in another that has counted nothing, and is left with the share of a third seat
-module _ (a b part c d : Seated) (count : ℕ) (fulls : (part.fulls ≡ 0) × (part.missed ≡ [])) (fills : part.fills ≡ [])
+module _ (a : Seated) {b part c : Seated} (d : Seated) (count : ℕ) (fulls : (part.fulls ≡ 0) × (part.missed ≡ []))
+    (fills : part.fills ≡ [])
     (joined : Joined b part c) where
   nothing_counted : CountsAsBefore b c
   nothing_counted = record {
@@ -123,8 +123,8 @@ module _ (a b part c d : Seated) (count : ℕ) (fulls : (part.fulls ≡ 0) × (p
   }
 
 -- a share is back, with nothing done
-pub split_none : (before after : Seated) → Learned before after → HasSplit 0 before after
-split_none before after learned = record {
+pub split_none : {before after : Seated} → Learned before after → HasSplit 0 before after
+split_none learned = record {
   store = learned.store;
   keeps = learned.keeps;
   sound = learned.sound;
@@ -143,7 +143,7 @@ written_is new old count same all =
     ap (λ (rest : List Worker). take count (new ++ rest)) (drop_all (length new) old (omega (arith, same)))
     ∙ ap (take count) (append-nil new) ∙ take_all count new (omega (arith, same, all))
 
-pub led_back : (task : Task) (seat : Seated) (old : List Worker) (count : ℕ) (seat' : Seated) (new : List Worker)
+pub led_back : {task : Task} {seat : Seated} {old : List Worker} (count : ℕ) {seat' : Seated} {new : List Worker}
     → count ≡ length old → HasLed task seat old seat' new → HasLed task seat old seat' (written new old count)
-led_back task seat old count seat' new all led =
+led_back {task} {seat} {old} count {seat'} {new} all led =
     subst (HasLed task seat old seat') (sym (written_is new old count led.size all)) led

@@ -2,11 +2,8 @@
 use Rattle.std.proofs.Common.{◌≡◌, ℕ, ◌+◌, ◌<◌, ◌≤◌, true, List, [], ◌∷◌, All, length, set, get_or, refl, sym, ◌∙◌}
 use Rattle.std.proofs.Common.{Vec, Global, ap, subst, inl, inr, arith, length-set}
 use Rattle.std.proofs.Common.{get_or-set_same, get_or-set_other, Result, Ok, Err, IfOk, IfErr}
-use Rattle.std.proofs.lemmas.Bool.{cases_eq}
-use Rattle.std.proofs.lemmas.List.Elements.{All-nil, All-set}
-use Rattle.fault_definitions.specs.CutFamily.{IsCutFamily}
-use Rattle.fault_definitions.specs.Tree.{FaultTree, IsNodeOf}
-use Rattle.fault_definitions.specs.WellFormed.{IsTree}
+use Rattle.std.proofs.{lemmas.Bool.cases_eq, lemmas.List.Elements.All-nil, lemmas.List.Elements.All-set}
+use Rattle.fault_definitions.specs.{CutFamily.IsCutFamily, Tree.FaultTree, Tree.IsNodeOf, WellFormed.IsTree}
 use Rattle.zdd_families.specs.Nodes.{IsReached}
 use Rattle.tree_families.proofs.TreeParts.{cut_family-parts}
 use Rattle.tree_families.specs.Due.{IsDueToTree}
@@ -14,10 +11,8 @@ use Rattle.zdd_shared_table.specs.Seats.{Seated, map_of}
 use Rattle.zdd_product.specs.Seats.{Gave, WasFull, Went, WentAll}
 use Rattle.zdd_product.proofs.After.{grown_then, WasFull-as, WentOn-as}
 use Rattle.zdd_product.proofs.Several.{CountsDue-went, WentAll-full, WentAll-on}
-use Rattle.zdd_build.specs.declared.task.Run.{Run}
-use Rattle.zdd_build.specs.declared.task.Task.{Task}
-use Rattle.zdd_build.specs.declared.worker.Finding.{Finding}
-use Rattle.zdd_build.specs.declared.worker.Worker.{Worker}
+use Rattle.zdd_build.specs.{declared.task.Run.Run, declared.task.Task.Task, declared.worker.Finding.Finding}
+use Rattle.zdd_build.specs.{declared.worker.Worker.Worker}
 use Rattle.zdd_build.specs.Workers.{CanWork, FindsFull, GoesOn, HasLed, IsAtRun, IsAtWork, IsEquipped, IsFound, IsReady}
 use Rattle.zdd_build.specs.Workers.{IsTeam, KeepsSeat, Learned}
 use Rattle.zdd_build.proofs.SeatLemmas.{Learned-then, found_grown, part_learned}
@@ -25,8 +20,8 @@ use Rattle.zdd_build.proofs.TableLemmas.{can_make_on}
 
 -- ---- only the memory has changed
 
-pub keeps_then : (a b c : Worker) → KeepsSeat a b → KeepsSeat b c → KeepsSeat a c
-keeps_then a b c first second = record {
+pub keeps_then : {a b c : Worker} → KeepsSeat a b → KeepsSeat b c → KeepsSeat a c
+keeps_then first second = record {
   ops = second.ops ∙ first.ops;
   found = second.found ∙ first.found;
   full = second.full ∙ first.full;
@@ -34,7 +29,7 @@ keeps_then a b c first second = record {
 
 -- ---- a worker goes on
 
-module _ (task : Task) (before mid after : Worker) (can : CanWork task before) (kept : KeepsSeat before mid)
+module _ {task : Task} {before mid : Worker} (after : Worker) (can : CanWork task before) (kept : KeepsSeat before mid)
     (equipped : IsEquipped task.tree.now after) (found : after.found ≡ mid.found) where
   went_on : Went (IsDueToTree task.tree.now) before.ops after.ops
       → WentAll (IsDueToTree task.tree.now) before.ops after.ops → (after.full ≡ true → 1 ≤ after.ops.fulls)
@@ -45,7 +40,7 @@ module _ (task : Task) (before mid after : Worker) (can : CanWork task before) (
         record {
           own = went.store ∙ can.own;
           share = went.share ∙ can.share;
-          counts = CountsDue-went (IsDueToTree task.tree.now) before.ops after.ops can.counts all;
+          counts = CountsDue-went (IsDueToTree task.tree.now) can.counts all;
           equipped = equipped;
           full = full;
         };
@@ -53,30 +48,29 @@ module _ (task : Task) (before mid after : Worker) (can : CanWork task before) (
   }
 
   -- it made a node
-  pub on_gave : (is : List (List ℕ) → Type 0) (r : ℕ) → Gave is (IsDueToTree task.tree.now) mid.ops after.ops r
+  pub on_gave : {is : List (List ℕ) → Type 0} {r : ℕ} → Gave is (IsDueToTree task.tree.now) mid.ops after.ops r
       → after.full ≡ mid.full → GoesOn task before after
-  on_gave is r later same =
+  on_gave {is} {r} later same =
       let on = (subst (λ (s : Seated). Gave is (IsDueToTree task.tree.now) s after.ops r) kept.ops later).on in
-      went_on on.went (WentAll-on (IsDueToTree task.tree.now) before.ops after.ops on)
+      went_on on.went (WentAll-on (IsDueToTree task.tree.now) on)
       (λ full. subst (λ n. 1 ≤ n) (sym on.fulls) (can.full (sym (same ∙ kept.full) ∙ full)))
 
   -- it found the store full
   pub on_full : WasFull (IsDueToTree task.tree.now) mid.ops after.ops → GoesOn task before after
   on_full later =
       let full = subst (λ (s : Seated). WasFull (IsDueToTree task.tree.now) s after.ops) kept.ops later in
-      went_on full.went (WentAll-full (IsDueToTree task.tree.now) before.ops after.ops full)
-      (λ _. let e = full.fulls in omega (arith, e))
+      went_on full.went (WentAll-full (IsDueToTree task.tree.now) full) (λ _. let e = full.fulls in omega (arith, e))
 
-pub goes_on_then : (task : Task) (a b c : Worker) → GoesOn task a b → GoesOn task b c → GoesOn task a c
-goes_on_then task a b c first second = record {
+pub goes_on_then : {task : Task} {a b c : Worker} → GoesOn task a b → GoesOn task b c → GoesOn task a c
+goes_on_then {a} {b} {c} first second = record {
   keeps = grown_then (map_of a.ops) (map_of b.ops) (map_of c.ops) first.keeps second.keeps;
   can = second.can;
   found = second.found ∙ first.found;
 }
 
 -- nothing is done
-pub goes_on_same : (task : Task) (worker : Worker) → CanWork task worker → GoesOn task worker worker
-goes_on_same task worker can = record { keeps = λ r has. refl; can = can; found = refl }
+pub goes_on_same : {task : Task} {worker : Worker} → CanWork task worker → GoesOn task worker worker
+goes_on_same can = record { keeps = λ r has. refl; can = can; found = refl }
 
 -- ---- workers up to a place, and from one on
 
@@ -98,7 +92,7 @@ module _ (P : Worker → Type 0) (workers : List Worker) (i : ℕ) (worker : Wor
 
 -- ---- a cut family that was copied into the store
 
-module _ (tree : FaultTree) (kept : IsTree tree) (node : ℕ) (is_node : IsNodeOf tree node) (family : List (List ℕ))
+module _ {tree : FaultTree} (kept : IsTree tree) {node : ℕ} (is_node : IsNodeOf tree node) {family : List (List ℕ)}
     (is : IsCutFamily tree node family) (before after : Seated) where
   to_tree : (part : List (List ℕ)) → IsReached family part → IsDueToTree tree part
   to_tree part reached = cut_family-parts tree kept node is_node family part is reached
@@ -120,17 +114,17 @@ module _ (tree : FaultTree) (kept : IsTree tree) (node : ℕ) (is_node : IsNodeO
 -- ---- what was found, and is taken
 
 -- nothing is found that is not taken yet: so all that was found is known
-pub ready_at_work : (task : Task) (worker : Worker) → IsReady task worker → IsAtWork task worker
-ready_at_work task worker ready = record {
+pub ready_at_work : {task : Task} {worker : Worker} → IsReady task worker → IsAtWork task worker
+ready_at_work {task} {worker} ready = record {
   can = ready.can;
   found =
       subst (All (IsFound (map_of worker.ops) task)) (sym ready.none) (All-nil (IsFound (map_of worker.ops) task));
 }
 
 -- a worker that goes on has found what it had
-pub at_work_on : (task : Task) (before after : Worker) → IsAtWork task before → GoesOn task before after
+pub at_work_on : {task : Task} {before after : Worker} → IsAtWork task before → GoesOn task before after
     → IsAtWork task after
-at_work_on task before after at_work on = record {
+at_work_on {task} {before} {after} at_work on = record {
   can = on.can;
   found =
       subst (λ (v : Vec Finding Global). All (IsFound (map_of after.ops) task) v.items) (sym on.found)
@@ -139,19 +133,19 @@ at_work_on task before after at_work on = record {
 }
 
 -- so it is at the run at which it was
-pub at_run_on : (run : Run) (references : List ℕ) (before after : Worker) → IsAtRun run references before
+pub at_run_on : {run : Run} {references : List ℕ} {before after : Worker} → IsAtRun run references before
     → GoesOn run.task before after → IsAtRun run references after
-at_run_on run references before after is on = record {
-  at_work = at_work_on run.task before after is.at_work on;
+at_run_on {run} {references} {before} {after} is on = record {
+  at_work = at_work_on is.at_work on;
   can_make =
       can_make_on (map_of before.ops) (map_of after.ops) is.at_work.can.counts.sound.closed on.can.counts.sound.closed
       on.keeps run references is.can_make;
 }
 
 -- a worker that is ready and goes on is ready
-pub ready_on : (task : Task) (before after : Worker) → IsReady task before → GoesOn task before after
+pub ready_on : {task : Task} {before after : Worker} → IsReady task before → GoesOn task before after
     → IsReady task after
-ready_on task before after ready on = record { can = on.can; none = ap (λ v. v.items) on.found ∙ ready.none }
+ready_on ready on = record { can = on.can; none = ap (λ v. v.items) on.found ∙ ready.none }
 
 -- the first of some workers found the store full
 pub finds_first : (workers : List Worker) (worker : Worker) → 1 ≤ length workers → worker.full ≡ true
@@ -160,24 +154,24 @@ finds_first [] worker some full = absurd (omega (arith, some))
 finds_first (first ∷ others) worker some full = full
 
 -- a worker of the team has gone on, and the seat has learned
-pub team_set : (task : Task) (seat : Seated) (workers : List Worker) (seat' : Seated) (i : ℕ) (worker : Worker)
+pub team_set : {task : Task} {seat : Seated} {workers : List Worker} {seat' : Seated} (i : ℕ) (worker : Worker)
     → IsTeam task seat workers → Learned seat seat' → IsReady task worker
     → HasLed task seat workers seat' (set workers i worker)
-team_set task seat workers seat' i worker team learned ready = record {
+team_set {task} {workers} i worker team learned ready = record {
   learned = learned;
   size = length-set workers i worker;
   team =
       record {
-        can_part = part_learned task seat seat' team.can_part learned;
+        can_part = part_learned team.can_part learned;
         some = let e = length-set workers i worker in let s = team.some in omega (arith, e, s);
         ready = All-set (IsReady task) workers i worker ready team.ready;
       };
 }
 
-pub led_then : (task : Task) (a : Seated) (x : List Worker) (b : Seated) (y : List Worker) (c : Seated)
-    (z : List Worker) → HasLed task a x b y → HasLed task b y c z → HasLed task a x c z
-led_then task a x b y c z first second = record {
-  learned = Learned-then a b c first.learned second.learned;
+pub led_then : {task : Task} {a : Seated} {x : List Worker} {b : Seated} {y : List Worker} {c : Seated}
+    {z : List Worker} → HasLed task a x b y → HasLed task b y c z → HasLed task a x c z
+led_then first second = record {
+  learned = Learned-then first.learned second.learned;
   size = second.size ∙ first.size;
   team = second.team;
 }

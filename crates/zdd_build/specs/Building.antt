@@ -4,11 +4,8 @@ use Rattle.fault_definitions.specs.CutFamily.{IsCutFamily}
 use Rattle.fault_definitions.specs.Tree.{FaultTree, IsNodeOf, is_fdep, node_count}
 use Rattle.zdd_product.specs.Seats.{KnowsOne}
 use Rattle.zdd_nodes.specs.Reading.{reference_of, KnowsBelow}
-use Rattle.zdd_build.specs.declared.places.Place.{Place}
-use Rattle.zdd_build.specs.declared.table.Table.{Table}
-use Rattle.zdd_build.specs.declared.task.Run.{Run}
-use Rattle.zdd_build.specs.declared.task.Task.{Task}
-use Rattle.zdd_build.specs.Places.{IsRun, node_at}
+use Rattle.zdd_build.specs.{declared.places.Place.Place, declared.table.Table.Table, declared.task.Run.Run}
+use Rattle.zdd_build.specs.{declared.task.Task.Task, Places.IsRun, Places.node_at}
 
 -- the map knows some reference as such a family
 pub record KnowsSome (known : ℕ → ℕ) (is : List (List ℕ) → Type 0) : Type 0 where

@@ -3,9 +3,7 @@ use Rattle.std.specs.Prelude.{◌≡◌, ℕ, ◌+◌, ◌<◌, ◌≤◌, false
 use Rattle.std.specs.List.Sorted.{IsNonDecreasingBy}
 use Rattle.fault_definitions.specs.Tree.{FaultTree, IsNodeOf, is_fdep, node_count, rank_of}
 use Rattle.fault_definitions.specs.WellFormed.{IsTree}
-use Rattle.zdd_build.specs.declared.places.Place.{Place}
-use Rattle.zdd_build.specs.declared.task.Task.{Task}
-use Rattle.zdd_build.specs.declared.task.Run.{Run}
+use Rattle.zdd_build.specs.{declared.places.Place.Place, declared.task.Task.Task, declared.task.Run.Run}
 
 -- the node at a place, where places count from 0
 abbrev pub place_at : List Place → ℕ → Place

@@ -1,19 +1,14 @@
 -- A worker, and the seat that all workers come from.
 use Rattle.std.specs.Prelude.{◌≡◌, ℕ, ◌+◌, ◌*◌, ◌<◌, ◌≤◌, true, List, [], ◌∷◌, All, length}
-use Rattle.fault_definitions.specs.CutFamily.{IsCutFamily}
-use Rattle.fault_definitions.specs.Tree.{FaultTree}
+use Rattle.fault_definitions.specs.{CutFamily.IsCutFamily, Tree.FaultTree}
 use Rattle.tree_families.specs.Due.{IsDueToTree}
 use Rattle.zdd_families.specs.Map.{Grown}
 use Rattle.zdd_shared_table.specs.Seats.{Seated, IsSoundSeat, map_of}
 use Rattle.zdd_product.specs.Seats.{CountsDue, KnowsOne}
 use Rattle.zdd_nodes.specs.Room.{HaveRoomFor}
 use Rattle.family_copies.specs.Copies.{AreCopies}
-use Rattle.zdd_build.specs.declared.task.Run.{Run}
-use Rattle.zdd_build.specs.declared.task.Task.{Task}
-use Rattle.zdd_build.specs.declared.worker.Finding.{Finding}
-use Rattle.zdd_build.specs.declared.worker.Worker.{Worker}
-use Rattle.zdd_build.specs.Building.{CanMake}
-use Rattle.zdd_build.specs.Places.{node_at}
+use Rattle.zdd_build.specs.{declared.task.Run.Run, declared.task.Task.Task, declared.worker.Finding.Finding}
+use Rattle.zdd_build.specs.{declared.worker.Worker.Worker, Building.CanMake, Places.node_at}
 
 -- the seat has counted as many searches and slots as before
 pub record CountsAsBefore (before after : Seated) : Type 0 where

@@ -4,21 +4,15 @@ use Rattle.std.proofs.Common.{sym, ◌∙◌, ap, subst, inl, inr}
 use Rattle.std.proofs.lemmas.Bool.{and_parts, and_from, or_cases, or_left, or_right, false_from_ne_true, false≢true}
 use Rattle.unit_sets.specs.UnitList.{among, is_within, some_within}
 use Rattle.unit_sets.proofs.UnitListLemmas.{among-from_is_within, is_within-from_among}
-use Rattle.zdd_families.specs.Family.{IsAbove, branch}
-use Rattle.zdd_families.specs.Cuts.{Cuts}
-use Rattle.zdd_families.specs.Inclusion.{includes_one, Includes}
+use Rattle.zdd_families.specs.{Family.IsAbove, Family.branch, Cuts.Cuts, Inclusion.includes_one, Inclusion.Includes}
+use Rattle.zdd_families.specs.{Product.IsProduct, Product.IsJoin, Sets.joined, Antichains.IsAntichain}
+use Rattle.zdd_families.specs.{Least.IsLeastProduct, LeastNodes.IncludesNoneOf, Units.LiesBelow, Units.ShareNoUnit}
 use Rattle.zdd_families.proofs.InclusionLemmas.{Includes-from_test, test-from_part, within_itself}
-use Rattle.zdd_families.specs.Product.{IsProduct, IsJoin}
-use Rattle.zdd_families.specs.Sets.{joined}
 use Rattle.zdd_families.proofs.SetsLemmas.{among-joined}
 use Rattle.zdd_families.proofs.WithinLemmas.{HasWithin, HasWithin-from_test, some_within-from_set, passes_at}
 use Rattle.zdd_families.proofs.WithinLemmas.{passes_from}
-use Rattle.zdd_families.specs.Antichains.{IsAntichain}
-use Rattle.zdd_families.specs.Least.{IsLeastProduct}
-use Rattle.zdd_families.specs.LeastNodes.{IncludesNoneOf}
 use Rattle.zdd_families.proofs.LeastNodesLemmas.{hi_includes_none, without-all}
 use Rattle.zdd_families.proofs.StepsLemmas.{least_product-first, least_product-rest}
-use Rattle.zdd_families.specs.Units.{LiesBelow, ShareNoUnit}
 use Rattle.zdd_families.proofs.UnitsLemmas.{below-apart, lo_unit}
 
 -- a set of each family, whose units are all that a set has
@@ -37,17 +31,17 @@ module _ (f g least : List (List ℕ)) (set : List ℕ) (is : IsLeastProduct f g
       (sym (is.some_within (among set)) ∙ some_within-from_set least (among set) set has (within_itself set))
 
   in_f : HasWithin f (among set)
-  in_f = HasWithin-from_test f (among set) both.0
+  in_f = HasWithin-from_test f both.0
 
   in_g : HasWithin g (among set)
-  in_g = HasWithin-from_test g (among set) both.1
+  in_g = HasWithin-from_test g both.1
 
   abbrev either : ℕ → Bool
   either unit = among in_f.set unit || among in_g.set unit
 
   part : HasWithin least either
   part =
-      HasWithin-from_test least either (is.some_within either
+      HasWithin-from_test least (is.some_within either
       ∙ and_from (some_within f either) (some_within g either)
       (some_within-from_set f either in_f.set in_f.has (passes_from either in_f.set (λ unit h.
       or_left (among in_f.set unit) (among in_g.set unit) h)))
@@ -77,7 +71,8 @@ module _ (f g least : List (List ℕ)) (set : List ℕ) (is : IsLeastProduct f g
   }
 
 -- a part that shares no unit with the one of both sets is within the other
-module _ (f g : List (List ℕ)) (set part : List ℕ) (is : IsCovered f g set) (within : is_within set part ≡ true) where
+module _ {f g : List (List ℕ)} {set : List ℕ} (part : List ℕ) (is : IsCovered f g set)
+    (within : is_within set part ≡ true) where
   pub within_first : ((unit : ℕ) → among part unit ≡ true → among is.second unit ≡ true → ⊥)
       → is_within is.first part ≡ true
   within_first apart =
@@ -98,25 +93,25 @@ module _ (f g : List (List ℕ)) (set part : List ℕ) (is : IsCovered f g set) 
 
 -- ---- a family that is cut, and one above all its units
 
-module _ (x : ℕ) (f f0 f1 g : List (List ℕ)) (cut : Cuts x f f0 f1) (is : IsAntichain f) (below : LiesBelow f g) where
-  pub product_includes_none : (all : List (List ℕ)) → IsLeastProduct f1 g all → IncludesNoneOf f0 all
-  product_includes_none all of_hi set has =
+module _ {x : ℕ} {f f0 f1 : List (List ℕ)} (g : List (List ℕ)) (cut : Cuts x f f0 f1) (is : IsAntichain f)
+    (below : LiesBelow f g) where
+  pub product_includes_none : {all : List (List ℕ)} → IsLeastProduct f1 g all → IncludesNoneOf f0 all
+  product_includes_none {all} of_hi set has =
       false_from_ne_true (includes_one f0 set) (λ t.
       let found : Includes f0 set = Includes-from_test f0 set t in
       let both : IsCovered f1 g set = covered f1 g all set of_hi has in
       let within : is_within both.first found.part ≡ true =
-      within_first f1 g set found.part both found.within (λ unit h k.
-      below-apart f g below unit (lo_unit x unit f f0 f1 cut (found.part, found.has, h)) (both.second, both.of_g, k)) in
-      false≢true (sym (hi_includes_none x f f0 f1 cut is both.first both.of_f)
+      within_first found.part both found.within (λ unit h k.
+      below-apart f g below unit (lo_unit unit cut (found.part, found.has, h)) (both.second, both.of_g, k)) in
+      false≢true (sym (hi_includes_none cut is both.first both.of_f)
       ∙ test-from_part f0 both.first found.part found.has within))
 
   -- nothing need be taken out of the products of the parts
   pub least_product-below : (lo hi : List (List ℕ)) → IsAbove x g → IsLeastProduct f0 g lo → IsLeastProduct f1 g hi
       → IsLeastProduct f g (branch x lo hi)
   least_product-below lo hi above of_lo of_hi =
-      least_product-first x f f0 f1 g lo cut hi above hi of_lo of_hi
-      (least_product-rest x f f0 f1 g lo cut hi of_lo of_hi hi
-      (without-all f0 hi of_hi.antichain.is_family (product_includes_none hi of_hi)))
+      least_product-first g lo cut hi above of_lo of_hi (least_product-rest g lo cut of_lo of_hi
+      (without-all of_hi.antichain.is_family (product_includes_none of_hi)))
 
 -- ---- all unions of a set of each
 
@@ -134,13 +129,13 @@ module _ (f g h : List (List ℕ)) (is : IsAntichain f) (is' : IsAntichain g) (a
   }
 
   -- the units of each side of a join are units of it
-  of_first : (set : List ℕ) (join : IsJoin f g set) (unit : ℕ) → among join.first unit ≡ true → among set unit ≡ true
-  of_first set join unit h =
+  of_first : {set : List ℕ} (join : IsJoin f g set) (unit : ℕ) → among join.first unit ≡ true → among set unit ≡ true
+  of_first join unit h =
       ap (λ (q : List ℕ). among q unit) join.is ∙ among-joined join.first join.second unit
       ∙ or_left (among join.first unit) (among join.second unit) h
 
-  of_second : (set : List ℕ) (join : IsJoin f g set) (unit : ℕ) → among join.second unit ≡ true → among set unit ≡ true
-  of_second set join unit h =
+  of_second : {set : List ℕ} (join : IsJoin f g set) (unit : ℕ) → among join.second unit ≡ true → among set unit ≡ true
+  of_second join unit h =
       ap (λ (q : List ℕ). among q unit) join.is ∙ among-joined join.first join.second unit
       ∙ or_right (among join.first unit) (among join.second unit) h
 
@@ -148,19 +143,15 @@ module _ (f g h : List (List ℕ)) (is : IsAntichain f) (is' : IsAntichain g) (a
       (within : is_within set other ≡ true) where
     same_first : join'.first ≡ join.first
     same_first =
-        ((is.sets join.first).0 join.of_f).1 join'.first join'.of_f
-        (within_first f g set join'.first (cover_of set join)
+        ((is.sets join.first).0 join.of_f).1 join'.first join'.of_f (within_first join'.first (cover_of set join)
         (is_within-from_among set join'.first (λ unit h. among-from_is_within set other unit within
-        (of_first other join' unit h)))
-        (λ unit h k. apart unit (join'.first, join'.of_f, h) (join.second, join.of_g, k)))
+        (of_first join' unit h))) (λ unit h k. apart unit (join'.first, join'.of_f, h) (join.second, join.of_g, k)))
 
     same_second : join'.second ≡ join.second
     same_second =
-        ((is'.sets join.second).0 join.of_g).1 join'.second join'.of_g
-        (within_second f g set join'.second (cover_of set join)
+        ((is'.sets join.second).0 join.of_g).1 join'.second join'.of_g (within_second join'.second (cover_of set join)
         (is_within-from_among set join'.second (λ unit h. among-from_is_within set other unit within
-        (of_second other join' unit h)))
-        (λ unit h k. apart unit (join.first, join.of_f, k) (join'.second, join'.of_g, h)))
+        (of_second join' unit h))) (λ unit h k. apart unit (join.first, join.of_f, k) (join'.second, join'.of_g, h)))
 
     same_join : other ≡ set
     same_join =

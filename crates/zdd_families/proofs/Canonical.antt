@@ -63,13 +63,12 @@ family-above known x r closed knows h =
 -- lo's and hi's units are above the level of their node
 pub lo_units : (known : ℕ → ℕ) (word : ℕ) → IsClosed known → IsNode known word
     → IsAbove (level_of word) (family known (lo_of word))
-lo_units known word closed node =
-    family-above known (level_of word) (lo_of word) closed (lo_known known word node) node.lo_above
+lo_units known word closed node = family-above known (level_of word) (lo_of word) closed (lo_known node) node.lo_above
 
-pub hi_units : (known : ℕ → ℕ) (word : ℕ) → IsClosed known → IsNode known word
+pub hi_units : {known : ℕ → ℕ} {word : ℕ} → IsClosed known → IsNode known word
     → IsAbove (level_of word) (family known (hi_of word))
-hi_units known word closed node =
-    family-above known (level_of word) (hi_of word) closed (hi_known known word node) node.hi_above
+hi_units {known} {word} closed node =
+    family-above known (level_of word) (hi_of word) closed (hi_known node) node.hi_above
 
 -- the family of a reference is one: rising sets in lexicographic order
 family_node : (known : ℕ → ℕ) (r : ℕ) → IsClosed known → known r ≢ 0 → IsFamily (family known (lo_of (known r)))
@@ -78,7 +77,7 @@ family_node known r closed has is is' =
     let node : IsNode known (known r) = (closed r has).1 in
     subst IsFamily (sym (family-node known r closed has))
     (IsFamily-branch (level_of (known r)) (family known (lo_of (known r))) (family known (hi_of (known r))) is is'
-    (lo_units known (known r) closed node) (hi_units known (known r) closed node))
+    (lo_units known (known r) closed node) (hi_units closed node))
 
 pub IsFamily-family : (known : ℕ → ℕ) (r : ℕ) → IsClosed known → Knows known r → IsFamily (family known r)
 IsFamily-family known r closed knows =
@@ -108,7 +107,7 @@ family-filled known r closed knows filled =
     r knows filled
 
 pub hi_filled : (known : ℕ → ℕ) (word : ℕ) → IsClosed known → IsNode known word → family known (hi_of word) ≢ []
-hi_filled known word closed node = family-filled known (hi_of word) closed (hi_known known word node) node.filled
+hi_filled known word closed node = family-filled known (hi_of word) closed (hi_known node) node.filled
 
 -- the level of a reference is the first unit of its family
 pub first_unit-family : (known : ℕ → ℕ) (r : ℕ) → IsClosed known → known r ≢ 0
@@ -132,7 +131,8 @@ pub sets_with-family : (known : ℕ → ℕ) (r : ℕ) → IsClosed known → kn
 sets_with-family known r closed has =
     ap (sets_with (level_of (known r))) (family-node known r closed has)
     ∙ sets_with-branch (level_of (known r)) (family known (lo_of (known r))) (family known (hi_of (known r)))
-    (lo_units known (known r) closed (closed r has).1) (hi_units known (known r) closed (closed r has).1)
+    (lo_units known (known r) closed (closed r has).1) (hi_units {known = known} {word = known r} closed
+    (closed r has).1)
 
 -- a reference whose family's units are all above x has a level above x
 pub level-above : (known : ℕ → ℕ) (x r : ℕ) → IsClosed known → Knows known r → x < 4096 → IsAbove x (family known r)
@@ -186,14 +186,16 @@ same_hi known r q closed has has' same =
 abbrev Tells : (ℕ → ℕ) → ℕ → Type 0
 Tells known r = (q : ℕ) → Knows known q → family known r ≡ family known q → r ≡ q
 
-tells_node : (known : ℕ → ℕ) (r q : ℕ) → IsClosed known → IsUnique known → known r ≢ 0 → known q ≢ 0
+tells_node : (known : ℕ → ℕ) {r q : ℕ} → IsClosed known → IsUnique known → known r ≢ 0 → known q ≢ 0
     → Tells known (lo_of (known r)) → Tells known (hi_of (known r)) → family known r ≡ family known q → r ≡ q
-tells_node known r q closed unique has has' lo_tells hi_tells same =
+tells_node known {r} {q} closed unique has has' lo_tells hi_tells same =
     unique r q has
     (same_word (known r) (known q)
     (same_level known r q closed has has' same)
-    (lo_tells (lo_of (known q)) (lo_known known (known q) (closed q has').1) (same_lo known r q closed has has' same))
-    (hi_tells (hi_of (known q)) (hi_known known (known q) (closed q has').1) (same_hi known r q closed has has' same)))
+    (lo_tells (lo_of (known q)) (lo_known {known = known} {word = known q} (closed q has').1)
+    (same_lo known r q closed has has' same))
+    (hi_tells (hi_of (known q)) (hi_known {known = known} {word = known q} (closed q has').1)
+    (same_hi known r q closed has has' same)))
 
 terminals : (known : ℕ → ℕ) (r q : ℕ) → r < 2 → q < 2 → family known r ≡ family known q → r ≡ q
 terminals known zero zero below below' same = refl
@@ -203,10 +205,10 @@ terminals known (suc zero) (suc zero) below below' same = refl
 terminals known (suc (suc r)) q below below' same = absurd (omega arith)
 terminals known r (suc (suc q)) below below' same = absurd (omega arith)
 
-tells_terminal : (known : ℕ → ℕ) (r q : ℕ) → IsClosed known → r < 2 → Knows known q → family known r ≡ family known q
+tells_terminal : (known : ℕ → ℕ) {r q : ℕ} → IsClosed known → r < 2 → Knows known q → family known r ≡ family known q
     → r ≡ q
-tells_terminal known r q closed below (inl below') same = terminals known r q below below' same
-tells_terminal known r q closed below (inr has) same =
+tells_terminal known {r} {q} closed below (inl below') same = terminals known r q below below' same
+tells_terminal known {r} {q} closed below (inr has) same =
     let above : 2 ≤ r = (closed r (node_known known q r closed has (inl below) (sym same))).0 in
     absurd (omega (arith, above, below))
 
@@ -214,9 +216,8 @@ tells_terminal known r q closed below (inr has) same =
 pub family-same : (known : ℕ → ℕ) (r q : ℕ) → IsClosed known → IsUnique known → Knows known r → Knows known q
     → family known r ≡ family known q → r ≡ q
 family-same known r q closed unique knows knows' same =
-    by_levels known closed (Tells known)
-    (λ p k e. tells_terminal known 0 p closed (omega arith) k e)
-    (λ p k e. tells_terminal known 1 p closed (omega arith) k e)
-    (λ p has lo_tells hi_tells p' k e. tells_node known p p' closed unique has (node_known known p p' closed has k e)
+    by_levels known closed (Tells known) (λ p k e. tells_terminal known closed (omega arith) k e)
+    (λ p k e. tells_terminal known closed (omega arith) k e)
+    (λ p has lo_tells hi_tells p' k e. tells_node known closed unique has (node_known known p p' closed has k e)
     lo_tells hi_tells e)
     r knows q knows' same

@@ -11,8 +11,8 @@ record Parted {K : Type 0} (xs : List K) (x : K) : Type 0 where
   fewer : length xs ≡ suc (length rest)
   others : (y : K) → x ≢ y → Contains xs y → Contains rest y
 
-parted_later : {K : Type 0} (first x : K) (xs : List K) → Parted xs x → Parted (first ∷ xs) x
-parted_later first x xs parted = record {
+parted_later : {K : Type 0} {first x : K} {xs : List K} → Parted xs x → Parted (first ∷ xs) x
+parted_later {first} {xs} parted = record {
   rest = first ∷ parted.rest;
   fewer = ap (λ n. suc n) parted.fewer;
   others = λ y differ has. elim (Contains-cons_cases first y xs has) [
@@ -21,8 +21,8 @@ parted_later first x xs parted = record {
   ];
 }
 
-parted_here : {K : Type 0} (first x : K) (xs : List K) → first ≡ x → Parted (first ∷ xs) x
-parted_here first x xs same = record {
+parted_here : {K : Type 0} {first x : K} {xs : List K} → first ≡ x → Parted (first ∷ xs) x
+parted_here {first} {xs} same = record {
   rest = xs;
   fewer = refl;
   others = λ y differ has. elim (Contains-cons_cases first y xs has) [
@@ -31,19 +31,19 @@ parted_here first x xs same = record {
   ];
 }
 
-parted_at : {K : Type 0} (xs : List K) (x : K) → Contains xs x → Parted xs x
-parted_at [] x has = Contains-nil x has
-parted_at (first ∷ xs) x has =
+parted_at : {K : Type 0} (xs : List K) {x : K} → Contains xs x → Parted xs x
+parted_at [] {x} has = Contains-nil x has
+parted_at (first ∷ xs) {x} has =
     elim (Contains-cons_cases first x xs has) [
-      | inl same ↦ parted_here first x xs same
-      | inr later ↦ parted_later first x xs (parted_at xs x later)
+      | inl same ↦ parted_here same
+      | inr later ↦ parted_later (parted_at xs later)
     ]
 
 pub each_once-length : {K : Type 0} (xs ys : List K) → EachOnce xs → ((x : K) → Contains xs x → Contains ys x)
     → length xs ≤ length ys
 each_once-length [] ys once within = omega arith
 each_once-length (x ∷ xs) ys once within =
-    let parted : Parted ys x = parted_at ys x (within x (Contains-cons_first x xs)) in
+    let parted : Parted ys x = parted_at ys (within x (Contains-cons_first x xs)) in
     let fewer : length xs ≤ length parted.rest =
     each_once-length xs parted.rest once.1
     (λ y has. parted.others y (each-contains (λ z. x ≢ z) xs y once.0 has)
@@ -74,13 +74,13 @@ pub record IsImage {K J : Type 0} (f : K → J) (xs : List K) (y : J) : Type 0 w
   pub has : Contains xs of
   pub is : f of ≡ y
 
-pub IsImage-from_map : {K J : Type 0} (f : K → J) (xs : List K) (y : J) → Contains (map f xs) y → IsImage f xs y
-IsImage-from_map f [] y has = Contains-nil y has
-IsImage-from_map f (first ∷ xs) y has =
+pub IsImage-from_map : {K J : Type 0} {f : K → J} (xs : List K) (y : J) → Contains (map f xs) y → IsImage f xs y
+IsImage-from_map [] y has = Contains-nil y has
+IsImage-from_map {f} (first ∷ xs) y has =
     elim (Contains-cons_cases (f first) y (map f xs) has) [
       | inl same ↦ record { of = first; has = Contains-cons_first first xs; is = same }
       | inr later ↦
-          let image : IsImage f xs y = IsImage-from_map f xs y later in
+          let image : IsImage f xs y = IsImage-from_map xs y later in
           record { of = image.of; has = Contains-cons_other first image.of xs image.has; is = image.is }
     ]
 
@@ -90,7 +90,7 @@ pub each_once-map : {K J : Type 0} (f : K → J) (xs : List K)
 each_once-map f [] apart once = tt
 each_once-map f (x ∷ xs) apart once = (
   each-from_contains (λ y. f x ≢ y) (map f xs) (λ y has same.
-      let image = IsImage-from_map f xs y has in
+      let image = IsImage-from_map {f = f} xs y has in
       each-contains (λ z. x ≢ z) xs image.of once.0 image.has
       (apart x image.of (Contains-cons_first x xs) (Contains-cons_other x image.of xs image.has)
       (same ∙ sym image.is))),

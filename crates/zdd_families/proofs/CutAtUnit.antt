@@ -3,20 +3,17 @@ use Rattle.std.specs.Prelude.{◌≡◌, ℕ, Bool, true, ◌&&◌, ◌||◌, na
 use Rattle.std.specs.List.{list_all}
 use Rattle.std.proofs.Common.{sym, ◌∙◌, ap, inl, inr}
 use Rattle.std.proofs.lemmas.Bool.{or_cases, or_left, or_right, and_parts, and_from, lt-ltb}
-use Rattle.zdd_families.specs.Family.{IsAbove, IsSetAbove}
-use Rattle.zdd_families.proofs.Members.{HasWith}
-use Rattle.zdd_families.specs.Cuts.{Cuts}
+use Rattle.zdd_families.specs.{Family.IsAbove, Family.IsSetAbove, Cuts.Cuts}
+use Rattle.zdd_families.proofs.{Members.HasWith, InclusionLemmas.same_Bool, SetsLemmas.unit_above}
 use Rattle.zdd_families.proofs.CutsLemmas.{cut_cases, cut_has_lo, cut_has_hi, set_above}
 use Rattle.unit_sets.specs.UnitList.{some_within}
 use Rattle.zdd_families.proofs.WithinLemmas.{HasWithin, HasWithin-from_test, some_within-from_set, passes_at}
 use Rattle.zdd_families.proofs.WithinLemmas.{passes_from}
-use Rattle.zdd_families.proofs.InclusionLemmas.{same_Bool}
-use Rattle.zdd_families.proofs.SetsLemmas.{unit_above}
 
-module _ (x : ℕ) (f lo hi : List (List ℕ)) (cut : Cuts x f lo hi) (within : ℕ → Bool) where
-  with_hit : (set : List ℕ) → HasWith x hi set → list_all within set ≡ true
+module _ {x : ℕ} {f lo hi : List (List ℕ)} (cut : Cuts x f lo hi) (within : ℕ → Bool) where
+  with_hit : {set : List ℕ} → HasWith x hi set → list_all within set ≡ true
       → (some_within lo within || (within x && some_within hi within)) ≡ true
-  with_hit set (rest, same, has) passes =
+  with_hit (rest, same, has) passes =
       let both : (within x ≡ true) × (list_all within rest ≡ true) =
       and_parts (within x) (list_all within rest) (ap (list_all within) (sym same) ∙ passes) in
       or_right (some_within lo within) (within x && some_within hi within)
@@ -24,25 +21,25 @@ module _ (x : ℕ) (f lo hi : List (List ℕ)) (cut : Cuts x f lo hi) (within : 
 
   cut_to : some_within f within ≡ true → (some_within lo within || (within x && some_within hi within)) ≡ true
   cut_to t =
-      let found : HasWithin f within = HasWithin-from_test f within t in
-      elim (cut_cases x f lo hi found.set cut found.has) [
+      let found : HasWithin f within = HasWithin-from_test f t in
+      elim (cut_cases found.set cut found.has) [
         | inl of_lo ↦ or_left (some_within lo within) (within x && some_within hi within)
             (some_within-from_set lo within found.set of_lo found.passes)
-        | inr with_x ↦ with_hit found.set with_x found.passes
+        | inr with_x ↦ with_hit with_x found.passes
       ]
 
   hi_from : within x ≡ true → some_within hi within ≡ true → some_within f within ≡ true
   hi_from passes t =
-      let found : HasWithin hi within = HasWithin-from_test hi within t in
-      some_within-from_set f within (x ∷ found.set) (cut_has_hi x f lo hi found.set cut found.has)
+      let found : HasWithin hi within = HasWithin-from_test hi t in
+      some_within-from_set f within (x ∷ found.set) (cut_has_hi found.set cut found.has)
       (and_from (within x) (list_all within found.set) passes found.passes)
 
   cut_from : (some_within lo within || (within x && some_within hi within)) ≡ true → some_within f within ≡ true
   cut_from t =
       elim (or_cases (some_within lo within) (within x && some_within hi within) t) [
         | inl of_lo ↦ let found : HasWithin lo within =
-            HasWithin-from_test lo within of_lo in some_within-from_set f within found.set
-            (cut_has_lo x f lo hi found.set cut found.has) found.passes
+            HasWithin-from_test lo of_lo in some_within-from_set f within found.set
+            (cut_has_lo found.set cut found.has) found.passes
         | inr of_hi ↦ let both : (within x ≡ true) × (some_within hi within ≡ true) =
             and_parts (within x) (some_within hi within) of_hi in hi_from both.0 both.1
       ]
@@ -74,8 +71,8 @@ pub some_within-above : (x : ℕ) (f : List (List ℕ)) (within : ℕ → Bool) 
     → some_within f (above_only x within) ≡ some_within f within
 some_within-above x f within above =
     same_Bool (some_within f (above_only x within)) (some_within f within)
-    (λ t. let found : HasWithin f (above_only x within) = HasWithin-from_test f (above_only x within) t in
+    (λ t. let found : HasWithin f (above_only x within) = HasWithin-from_test f t in
     some_within-from_set f within found.set found.has (passes_anyway x within found.set found.passes))
-    (λ t. let found : HasWithin f within = HasWithin-from_test f within t in
+    (λ t. let found : HasWithin f within = HasWithin-from_test f t in
     some_within-from_set f (above_only x within) found.set found.has
     (passes_above x within found.set (set_above x f found.set above found.has) found.passes))

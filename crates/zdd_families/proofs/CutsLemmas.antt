@@ -23,8 +23,8 @@ each-from_contains P (x ∷ xs) all =
 pub set_above : (x : ℕ) (f : List (List ℕ)) (set : List ℕ) → IsAbove x f → Contains f set → IsSetAbove x set
 set_above x f set above h = each-contains (IsSetAbove x) f set above h
 
-pub set_rises : (f : List (List ℕ)) (set : List ℕ) → IsFamily f → Contains f set → IsRising set
-set_rises f set is h = each-contains IsRising f set is.rising h
+pub set_rises : {f : List (List ℕ)} (set : List ℕ) → IsFamily f → Contains f set → IsRising set
+set_rises {f} set is h = each-contains IsRising f set is.rising h
 
 -- the one set of the family of the empty set alone
 pub only_empty : (set : List ℕ) → Contains ([] ∷ []) set → [] ≡ set
@@ -36,31 +36,31 @@ only_empty set h =
 
 -- ---- the sets of a family that is cut
 
-pub cut_cases : (x : ℕ) (f lo hi : List (List ℕ)) (set : List ℕ) → Cuts x f lo hi → Contains f set
+pub cut_cases : {x : ℕ} {f lo hi : List (List ℕ)} (set : List ℕ) → Cuts x f lo hi → Contains f set
     → Contains lo set ⊎ HasWith x hi set
-cut_cases x f lo hi set cut h = branch-cases x lo hi set (subst (λ (q : List (List ℕ)). Contains q set) cut.is h)
+cut_cases {x} {lo} {hi} set cut h = branch-cases x lo hi set (subst (λ (q : List (List ℕ)). Contains q set) cut.is h)
 
-pub cut_has_lo : (x : ℕ) (f lo hi : List (List ℕ)) (set : List ℕ) → Cuts x f lo hi → Contains lo set → Contains f set
-cut_has_lo x f lo hi set cut h =
+pub cut_has_lo : {x : ℕ} {f lo hi : List (List ℕ)} (set : List ℕ) → Cuts x f lo hi → Contains lo set → Contains f set
+cut_has_lo {x} {lo} {hi} set cut h =
     subst (λ (q : List (List ℕ)). Contains q set) (sym cut.is) (branch-has_lo x lo hi set h)
 
-pub cut_has_hi : (x : ℕ) (f lo hi : List (List ℕ)) (set : List ℕ) → Cuts x f lo hi → Contains hi set
+pub cut_has_hi : {x : ℕ} {f lo hi : List (List ℕ)} (set : List ℕ) → Cuts x f lo hi → Contains hi set
     → Contains f (x ∷ set)
-cut_has_hi x f lo hi set cut h =
+cut_has_hi {x} {lo} {hi} set cut h =
     subst (λ (q : List (List ℕ)). Contains q (x ∷ set)) (sym cut.is) (branch-has_hi x lo hi set h)
 
 -- a set above x does not begin with x
-pub not_with : {G : Type 0} (x : ℕ) (set rest : List ℕ) → IsSetAbove x set → set ≡ x ∷ rest → G
-not_with x [] rest above same = absurd cc
-not_with x (unit ∷ set) rest above same = let e : unit ≡ x = cc in absurd (let k = above.0 in omega (arith, e))
+pub not_with : {G : Type 0} {x : ℕ} (set : List ℕ) {rest : List ℕ} → IsSetAbove x set → set ≡ x ∷ rest → G
+not_with [] above same = absurd cc
+not_with {x} (unit ∷ set) above same = let e : unit ≡ x = cc in absurd (let k = above.0 in omega (arith, e))
 
 -- a set of the family that is above x is one of lo
-pub cut_lo : (x : ℕ) (f lo hi : List (List ℕ)) (set : List ℕ) → Cuts x f lo hi → IsSetAbove x set → Contains f set
+pub cut_lo : {x : ℕ} {f lo hi : List (List ℕ)} (set : List ℕ) → Cuts x f lo hi → IsSetAbove x set → Contains f set
     → Contains lo set
-cut_lo x f lo hi set cut above h =
-    elim (cut_cases x f lo hi set cut h) [
+cut_lo set cut above h =
+    elim (cut_cases set cut h) [
       | inl of_lo ↦ of_lo
-      | inr with_x ↦ not_with x set with_x.0 above with_x.1
+      | inr with_x ↦ not_with set above with_x.1
     ]
 
 same_rest : (x : ℕ) (a b : List ℕ) → x ∷ a ≡ x ∷ b → a ≡ b

@@ -4,18 +4,12 @@ use Rattle.std.proofs.Common.{refl, sym, ◌∙◌}
 use Rattle.std.proofs.lemmas.Bool.{false≢true, false_from_ne_true}
 use Rattle.unit_sets.proofs.Sorted.{Contains-cons_first, Contains-nil}
 use Rattle.unit_sets.specs.UnitList.{is_within, some_within}
-use Rattle.zdd_families.proofs.FamilyLemmas.{IsFamily-nil}
-use Rattle.zdd_families.specs.Cuts.{Cuts}
-use Rattle.zdd_families.proofs.CutsLemmas.{cut_lo}
-use Rattle.zdd_families.specs.Inclusion.{includes_one, Includes}
+use Rattle.zdd_families.proofs.{FamilyLemmas.IsFamily-nil, CutsLemmas.cut_lo, MinimalLemmas.minimal-none}
+use Rattle.zdd_families.proofs.{MinimalLemmas.minimal-unit, WithoutLemmas.unit-without_other}
+use Rattle.zdd_families.proofs.{LeastLemmas.IsLeastFor-same, LeastNodesLemmas.hi_includes_none}
+use Rattle.zdd_families.specs.{Cuts.Cuts, Inclusion.includes_one, Inclusion.Includes, Without.IsWithout}
+use Rattle.zdd_families.specs.{Antichains.IsAntichain, Least.IsLeastUnion, Least.IsLeastProduct}
 use Rattle.zdd_families.proofs.InclusionLemmas.{Includes-from_test, test-from_part, within_itself}
-use Rattle.zdd_families.proofs.MinimalLemmas.{minimal-none, minimal-unit}
-use Rattle.zdd_families.specs.Without.{IsWithout}
-use Rattle.zdd_families.proofs.WithoutLemmas.{unit-without_other}
-use Rattle.zdd_families.specs.Antichains.{IsAntichain}
-use Rattle.zdd_families.specs.Least.{IsLeastUnion, IsLeastProduct}
-use Rattle.zdd_families.proofs.LeastLemmas.{IsLeastFor-same}
-use Rattle.zdd_families.proofs.LeastNodesLemmas.{hi_includes_none}
 
 -- ---- order does not matter
 
@@ -33,13 +27,11 @@ and_swap false false = refl
 
 pub least_union-swap : (f g h : List (List ℕ)) → IsLeastUnion f g h → IsLeastUnion g f h
 least_union-swap f g h is =
-    IsLeastFor-same (λ within. some_within f within || some_within g within) _ h is
-    (λ within. or_swap (some_within f within) (some_within g within))
+    IsLeastFor-same is (λ within. or_swap (some_within f within) (some_within g within))
 
 pub least_product-swap : (f g h : List (List ℕ)) → IsLeastProduct f g h → IsLeastProduct g f h
 least_product-swap f g h is =
-    IsLeastFor-same (λ within. some_within f within && some_within g within) _ h is
-    (λ within. and_swap (some_within f within) (some_within g within))
+    IsLeastFor-same is (λ within. and_swap (some_within f within) (some_within g within))
 
 -- ---- unions
 
@@ -51,11 +43,11 @@ and_same : (a : Bool) → a ≡ (a && a)
 and_same true = refl
 and_same false = refl
 
-pub least_union-none : (g : List (List ℕ)) → IsAntichain g → IsLeastUnion [] g g
-least_union-none g is = record { antichain = is; some_within = λ within. refl }
+pub least_union-none : {g : List (List ℕ)} → IsAntichain g → IsLeastUnion [] g g
+least_union-none is = record { antichain = is; some_within = λ within. refl }
 
-pub least_union-itself : (f : List (List ℕ)) → IsAntichain f → IsLeastUnion f f f
-least_union-itself f is = record { antichain = is; some_within = λ within. or_same (some_within f within) }
+pub least_union-itself : {f : List (List ℕ)} → IsAntichain f → IsLeastUnion f f f
+least_union-itself {f} is = record { antichain = is; some_within = λ within. or_same (some_within f within) }
 
 -- every set includes the empty set
 pub least_union-unit : (g : List (List ℕ)) → IsLeastUnion ([] ∷ []) g ([] ∷ [])
@@ -66,11 +58,11 @@ least_union-unit g = record { antichain = minimal-unit; some_within = λ within.
 pub least_product-none : (g : List (List ℕ)) → IsLeastProduct [] g []
 least_product-none g = record { antichain = minimal-none; some_within = λ within. refl }
 
-pub least_product-itself : (f : List (List ℕ)) → IsAntichain f → IsLeastProduct f f f
-least_product-itself f is = record { antichain = is; some_within = λ within. and_same (some_within f within) }
+pub least_product-itself : {f : List (List ℕ)} → IsAntichain f → IsLeastProduct f f f
+least_product-itself {f} is = record { antichain = is; some_within = λ within. and_same (some_within f within) }
 
-pub least_product-unit : (g : List (List ℕ)) → IsAntichain g → IsLeastProduct ([] ∷ []) g g
-least_product-unit g is = record { antichain = is; some_within = λ within. refl }
+pub least_product-unit : {g : List (List ℕ)} → IsAntichain g → IsLeastProduct ([] ∷ []) g g
+least_product-unit is = record { antichain = is; some_within = λ within. refl }
 
 -- ---- rests
 
@@ -83,15 +75,17 @@ without-itself f = record {
   );
 }
 
-some_set : (x : ℕ) (f lo hi : List (List ℕ)) → Cuts x f lo hi → IsAntichain f → hi ≢ [] → Contains lo [] → ⊥
-some_set x f lo [] cut is filled has = filled refl
-some_set x f lo (set ∷ hi) cut is filled has =
-    false≢true (sym (hi_includes_none x f lo (set ∷ hi) cut is set (Contains-cons_first set hi))
+some_set : {x : ℕ} {f lo : List (List ℕ)} (hi : List (List ℕ)) → Cuts x f lo hi → IsAntichain f → hi ≢ []
+    → Contains lo [] → ⊥
+some_set [] cut is filled has = filled refl
+some_set {lo} (set ∷ hi) cut is filled has =
+    false≢true (sym (hi_includes_none cut is set (Contains-cons_first set hi))
     ∙ test-from_part lo set [] has refl)
 
 -- a minimal family with a unit lacks the empty set
-pub no_empty_set : (x : ℕ) (f lo hi : List (List ℕ)) → Cuts x f lo hi → IsAntichain f → hi ≢ [] → Contains f [] → ⊥
-no_empty_set x f lo hi cut is filled has = some_set x f lo hi cut is filled (cut_lo x f lo hi [] cut tt has)
+pub no_empty_set : (x : ℕ) {f : List (List ℕ)} (lo : List (List ℕ)) {hi : List (List ℕ)} → Cuts x f lo hi
+    → IsAntichain f → hi ≢ [] → Contains f [] → ⊥
+no_empty_set x lo {hi} cut is filled has = some_set hi cut is filled (cut_lo [] cut tt has)
 
 within_none : (part : List ℕ) (f : List (List ℕ)) → Contains f part → is_within [] part ≡ true → Contains f []
 within_none [] f has within = has

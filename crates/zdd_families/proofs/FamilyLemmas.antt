@@ -1,16 +1,12 @@
 -- What follows from the definitions of `specs/Family`.
 use Rattle.std.specs.Prelude.{◌≡◌, ◌≢◌, ◌↔◌, ℕ, ◌<◌, ◌≤◌, true, false, not, ◌==◌, List, [], ◌∷◌, ◌++◌, map, filter}
 use Rattle.std.specs.Prelude.{Contains}
-use Rattle.std.specs.List.{AllByRecursion}
-use Rattle.std.specs.List.Sorted.{IsStrictlySortedBy}
-use Rattle.std.specs.Ordering.{nat_cmp, ordering_then}
-use Rattle.std.specs.declared.cmp.Ordering.TheVariants.{Less}
+use Rattle.std.specs.{List.AllByRecursion, List.Sorted.IsStrictlySortedBy, Ordering.nat_cmp, Ordering.ordering_then}
+use Rattle.std.specs.{declared.cmp.Ordering.TheVariants.Less}
 use Rattle.std.proofs.Common.{refl, sym, ◌∙◌, ap, arith, eq-eqb}
 use Rattle.std.proofs.lemmas.Bool.{cond-false, or_left, or_from, ne_eqb, not_from_true, not_from_false}
-use Rattle.std.proofs.lemmas.Bool.Decides.{nat_tests}
+use Rattle.std.proofs.{lemmas.Bool.Decides.nat_tests, lemmas.List.append-nil, lemmas.List.Elements.filter-append}
 use Rattle.std.proofs.lemmas.Cmp.{nat_cmp_total, nat_list_cmp_total, tied_itself}
-use Rattle.std.proofs.lemmas.List.{append-nil}
-use Rattle.std.proofs.lemmas.List.Elements.{filter-append}
 use Rattle.unit_sets.specs.UnitList.{among, without_unit, IsRising}
 use Rattle.unit_sets.proofs.Sorted.{same_from_members}
 use Rattle.zdd_families.proofs.Lists.{each-append, each-weaker, sorted-append, sorted-map, filter-all, filter-none}
@@ -176,8 +172,9 @@ all_taken_out x [] above = refl
 all_taken_out x (set ∷ hi) above =
     ap (λ q. without_unit x (x ∷ set) ∷ q) (all_taken_out x hi above.1) ∙ ap (λ q. q ∷ hi) (taken_out x set above.0)
 
-joined_with : (x : ℕ) (hi lo : List (List ℕ)) → IsAbove x hi → IsAbove x lo → sets_with x (each_with x hi ++ lo) ≡ hi
-joined_with x hi lo above above' =
+joined_with : (x : ℕ) {hi : List (List ℕ)} (lo : List (List ℕ)) → IsAbove x hi → IsAbove x lo
+    → sets_with x (each_with x hi ++ lo) ≡ hi
+joined_with x {hi} lo above above' =
     ap (map (λ set. without_unit x set))
     (filter-append (λ set. among set x) (each_with x hi) lo
     ∙ ap (λ q. q ++ filter (λ set. among set x) lo) (filter-all (λ set. among set x) (each_with x hi) (have_each x hi))
@@ -188,9 +185,9 @@ joined_with x hi lo above above' =
 -- the sets of a branch with x, x taken out, are hi
 pub sets_with-branch : (x : ℕ) (lo hi : List (List ℕ)) → IsAbove x lo → IsAbove x hi → sets_with x (branch x lo hi) ≡ hi
 sets_with-branch x [] hi above above' =
-    ap (sets_with x) (sym (append-nil (each_with x hi))) ∙ joined_with x hi [] above' tt
-sets_with-branch x ([] ∷ others) hi above above' = joined_with x hi others above' above.1
-sets_with-branch x ((unit ∷ set) ∷ others) hi above above' = joined_with x hi ((unit ∷ set) ∷ others) above' above
+    ap (sets_with x) (sym (append-nil (each_with x hi))) ∙ joined_with x {hi = hi} [] above' tt
+sets_with-branch x ([] ∷ others) hi above above' = joined_with x others above' above.1
+sets_with-branch x ((unit ∷ set) ∷ others) hi above above' = joined_with x ((unit ∷ set) ∷ others) above' above
 
 -- x is the least unit of a branch whose hi has sets
 pub first_unit-branch : (x : ℕ) (lo hi : List (List ℕ)) → hi ≢ [] → first_unit (branch x lo hi) ≡ x

@@ -1,22 +1,17 @@
 -- What follows from the definitions of `specs/Inclusion`.
 use Rattle.std.specs.Prelude.{◌≡◌, ◌⊎◌, ℕ, ◌<◌, ◌≤◌, Bool, true, false, ◌==◌, ◌&&◌, ◌||◌, List, [], ◌∷◌, Contains}
 use Rattle.std.specs.Prelude.{length}
-use Rattle.std.specs.List.{AllByRecursion}
-use Rattle.std.specs.List.Sorted.{IsStrictlySortedBy}
-use Rattle.std.specs.Ordering.{nat_cmp}
-use Rattle.std.specs.declared.cmp.Ordering.TheVariants.{Less}
+use Rattle.std.specs.{List.AllByRecursion, List.Sorted.IsStrictlySortedBy, Ordering.nat_cmp}
+use Rattle.std.specs.{declared.cmp.Ordering.TheVariants.Less}
 use Rattle.std.proofs.Common.{refl, sym, ◌∙◌, ap, subst, inl, inr, arith, eq-eqb}
 use Rattle.std.proofs.lemmas.Bool.{or_cases, or_left, or_right, or_from, and_parts, ne_eqb, eqb-true, false≢true}
 use Rattle.std.proofs.lemmas.Bool.Decides.{nat_tests}
 use Rattle.unit_sets.specs.UnitList.{among, is_within, IsRising}
 use Rattle.unit_sets.proofs.UnitListLemmas.{among-from_is_within, is_within-from_among, same_set}
 use Rattle.unit_sets.proofs.Sorted.{Contains-cons_first, Contains-cons_other, Contains-cons_cases, Contains-nil}
-use Rattle.zdd_families.specs.Family.{IsSetAbove}
-use Rattle.zdd_families.proofs.FamilyLemmas.{IsSetAbove-lower}
-use Rattle.zdd_families.specs.Cuts.{Cuts}
+use Rattle.zdd_families.specs.{Family.IsSetAbove, Cuts.Cuts, Inclusion.Includes, Inclusion.includes_one}
+use Rattle.zdd_families.proofs.{FamilyLemmas.IsSetAbove-lower, SetsLemmas.unit_above, SetsLemmas.IsRising-rest}
 use Rattle.zdd_families.proofs.CutsLemmas.{cut_cases, cut_has_lo, cut_has_hi, set_above}
-use Rattle.zdd_families.proofs.SetsLemmas.{unit_above, IsRising-rest}
-use Rattle.zdd_families.specs.Inclusion.{Includes, includes_one}
 
 pub same_Bool : (a b : Bool) → (a ≡ true → b ≡ true) → (b ≡ true → a ≡ true) → a ≡ b
 same_Bool true b to from = sym (to refl)
@@ -58,23 +53,22 @@ within_trans a b c h k =
     is_within-from_among a c (λ unit has. among-from_is_within a b unit h (among-from_is_within b c unit k has))
 
 -- two rising sets that are within each other are equal
-pub same_within : (a b : List ℕ) → IsRising a → IsRising b → is_within a b ≡ true → is_within b a ≡ true → a ≡ b
-same_within a b s t h k =
+pub same_within : {a b : List ℕ} → IsRising a → IsRising b → is_within a b ≡ true → is_within b a ≡ true → a ≡ b
+same_within {a} {b} s t h k =
     same_set a b s t (λ unit. same_Bool (among a unit) (among b unit) (among-from_is_within b a unit k)
     (among-from_is_within a b unit h))
 
 other_first : (x unit : ℕ) (set : List ℕ) → x < unit → among (x ∷ set) unit ≡ among set unit
 other_first x unit set h = ap (λ q. q || among set unit) (ne_eqb x unit (λ e. omega arith))
 
-ands : (a b c d : Bool) → a ≡ b → c ≡ d → (a && c) ≡ (b && d)
-ands a b c d e f = ap (λ q. q && c) e ∙ ap (λ q. b && q) f
+ands : {a b c d : Bool} → a ≡ b → c ≡ d → (a && c) ≡ (b && d)
+ands {b} {c} e f = ap (λ q. q && c) e ∙ ap (λ q. b && q) f
 
 -- x, below all units of a part, does not help to include the part
 pub within-with_first : (x : ℕ) (set part : List ℕ) → IsSetAbove x part → is_within (x ∷ set) part ≡ is_within set part
 within-with_first x set [] above = refl
 within-with_first x set (unit ∷ part) above =
-    ands (among (x ∷ set) unit) (among set unit) (is_within (x ∷ set) part) (is_within set part)
-    (other_first x unit set above.0) (within-with_first x set part above.1)
+    ands (other_first x unit set above.0) (within-with_first x set part above.1)
 
 pub within-with_both : (x : ℕ) (set part : List ℕ) → IsSetAbove x part
     → is_within (x ∷ set) (x ∷ part) ≡ is_within set part
@@ -93,11 +87,11 @@ within-none x set part above = ap (λ q. q && is_within set part) (lacks x set a
 
 -- ---- what a set includes of a family that is cut
 
-module _ (x : ℕ) (g g0 g1 : List (List ℕ)) (cut : Cuts x g g0 g1) (set : List ℕ) (above : IsSetAbove x set) where
+module _ {x : ℕ} {g g0 g1 : List (List ℕ)} (cut : Cuts x g g0 g1) (set : List ℕ) (above : IsSetAbove x set) where
   lo_to : includes_one g set ≡ true → includes_one g0 set ≡ true
   lo_to h =
       let found : Includes g set = Includes-from_test g set h in
-      elim (cut_cases x g g0 g1 found.part cut found.has) [
+      elim (cut_cases found.part cut found.has) [
         | inl of_lo ↦ test-from_part g0 set found.part of_lo found.within
         | inr with_x ↦ absurd (false≢true (sym (within-none x set with_x.0 above) ∙ ap (is_within set) (sym with_x.1)
             ∙ found.within))
@@ -106,7 +100,7 @@ module _ (x : ℕ) (g g0 g1 : List (List ℕ)) (cut : Cuts x g g0 g1) (set : Lis
   lo_from : includes_one g0 set ≡ true → includes_one g set ≡ true
   lo_from h =
       let found : Includes g0 set = Includes-from_test g0 set h in
-      test-from_part g set found.part (cut_has_lo x g g0 g1 found.part cut found.has) found.within
+      test-from_part g set found.part (cut_has_lo found.part cut found.has) found.within
 
   -- a set above x includes of g what it includes of the sets without x
   pub includes_one-above : includes_one g set ≡ includes_one g0 set
@@ -115,7 +109,7 @@ module _ (x : ℕ) (g g0 g1 : List (List ℕ)) (cut : Cuts x g g0 g1) (set : Lis
   hi_to : includes_one g (x ∷ set) ≡ true → (includes_one g1 set || includes_one g0 set) ≡ true
   hi_to h =
       let found : Includes g (x ∷ set) = Includes-from_test g (x ∷ set) h in
-      elim (cut_cases x g g0 g1 found.part cut found.has) [
+      elim (cut_cases found.part cut found.has) [
         | inl of_lo ↦
             or_right (includes_one g1 set) (includes_one g0 set)
             (test-from_part g0 set found.part of_lo (sym (within-with_first x set found.part
@@ -130,13 +124,13 @@ module _ (x : ℕ) (g g0 g1 : List (List ℕ)) (cut : Cuts x g g0 g1) (set : Lis
   hi_from_lo : includes_one g0 set ≡ true → includes_one g (x ∷ set) ≡ true
   hi_from_lo h =
       let found : Includes g0 set = Includes-from_test g0 set h in
-      test-from_part g (x ∷ set) found.part (cut_has_lo x g g0 g1 found.part cut found.has)
+      test-from_part g (x ∷ set) found.part (cut_has_lo found.part cut found.has)
       (within-with_first x set found.part (set_above x g0 found.part cut.lo_above found.has) ∙ found.within)
 
   hi_from_hi : includes_one g1 set ≡ true → includes_one g (x ∷ set) ≡ true
   hi_from_hi h =
       let found : Includes g1 set = Includes-from_test g1 set h in
-      test-from_part g (x ∷ set) (x ∷ found.part) (cut_has_hi x g g0 g1 found.part cut found.has)
+      test-from_part g (x ∷ set) (x ∷ found.part) (cut_has_hi found.part cut found.has)
       (within-with_both x set found.part (set_above x g1 found.part cut.hi_above found.has) ∙ found.within)
 
   -- with x it includes also the sets with x whose rest it includes
@@ -189,9 +183,9 @@ within-length (b ∷ set) (a ∷ part) s t h =
       | inr later ↦ let k = within-length set (a ∷ part) (IsRising-rest b set s) t later in omega arith
     ]
 
-not_back : (b a : ℕ) (set part : List ℕ) → b ≡ a → IsSetAbove b set → is_within (a ∷ part) (b ∷ set) ≡ false
+not_back : {b a : ℕ} (set part : List ℕ) → b ≡ a → IsSetAbove b set → is_within (a ∷ part) (b ∷ set) ≡ false
     → is_within part set ≡ false
-not_back b a set part same above h =
+not_back {b} set part same above h =
     sym (within-with_both b part set above) ∙ ap (λ q. is_within (q ∷ part) (b ∷ set)) same ∙ h
 
 pub within-shorter : (set part : List ℕ) → IsRising set → IsRising part → is_within set part ≡ true
@@ -203,6 +197,6 @@ within-shorter (b ∷ set) (a ∷ part) s t h back =
     elim (starts b a set part s t h) [
       | inl both ↦ let k =
           within-shorter set part (IsRising-rest b set s) (IsRising-rest a part t) both.1
-          (not_back b a set part both.0 (above_first b set s) back) in omega arith
+          (not_back set part both.0 (above_first b set s) back) in omega arith
       | inr later ↦ let k = within-length set (a ∷ part) (IsRising-rest b set s) t later in omega arith
     ]

@@ -4,14 +4,11 @@ use Rattle.std.specs.Prelude.{if◌then◌else◌}
 use Rattle.std.specs.List.{list_any, list_all}
 use Rattle.std.proofs.Common.{refl, sym, ◌∙◌, ap, inl, inr, zero-add, arith}
 use Rattle.std.proofs.lemmas.Bool.{and_parts, or_right, and_from, or_cases, le-leb, leb-true}
-use Rattle.zdd_families.specs.Within.{count_within}
-use Rattle.zdd_families.proofs.InclusionLemmas.{same_Bool}
-use Rattle.zdd_families.proofs.MinimalLemmas.{minimal-none, minimal-unit}
-use Rattle.zdd_families.specs.Antichains.{IsAntichain}
+use Rattle.zdd_families.specs.{Within.count_within, Antichains.IsAntichain}
+use Rattle.zdd_families.proofs.{InclusionLemmas.same_Bool, MinimalLemmas.minimal-none, MinimalLemmas.minimal-unit}
+use Rattle.zdd_families.proofs.{LeastLemmas.IsLeastFor-same, StepsLemmas.and_of, StepsLemmas.or_of}
 use Rattle.zdd_families.specs.Least.{IsLeastUnion, IsLeastProduct, IsLeastOfAll}
-use Rattle.zdd_families.proofs.LeastLemmas.{IsLeastFor-same}
 use Rattle.zdd_families.specs.Least.{IsLeastProductOfAll, IsLeastVotes}
-use Rattle.zdd_families.proofs.StepsLemmas.{and_of, or_of}
 use Rattle.unit_sets.specs.UnitList.{some_within}
 
 -- ---- unions of two lists
@@ -36,14 +33,14 @@ or_none : (a : Bool) → a ≡ (a || false)
 or_none true = refl
 or_none false = refl
 
-pub least_of_one : (f : List (List ℕ)) → IsAntichain f → IsLeastOfAll (f ∷ []) f
-least_of_one f is = record { antichain = is; some_within = λ within. or_none (some_within f within) }
+pub least_of_one : {f : List (List ℕ)} → IsAntichain f → IsLeastOfAll (f ∷ []) f
+least_of_one {f} is = record { antichain = is; some_within = λ within. or_none (some_within f within) }
 
 pub least_of_both : (fs gs : List (List (List ℕ))) (f g h : List (List ℕ)) → IsLeastOfAll fs f → IsLeastOfAll gs g
     → IsLeastUnion f g h → IsLeastOfAll (fs ++ gs) h
 least_of_both fs gs f g h of_fs of_gs is =
-    IsLeastFor-same (λ within. some_within f within || some_within g within) _ h is
-    (λ within. or_of _ _ _ _ (of_fs.some_within within) (of_gs.some_within within) ∙ sym (any_append fs gs within))
+    IsLeastFor-same is
+    (λ within. or_of (of_fs.some_within within) (of_gs.some_within within) ∙ sym (any_append fs gs within))
 
 -- ---- products, one family more
 
@@ -70,8 +67,7 @@ all_append (f ∷ fs) gs within =
 pub product_of_more : (fs : List (List (List ℕ))) (f g h : List (List ℕ)) → IsLeastProductOfAll fs f
     → IsLeastProduct f g h → IsLeastProductOfAll (fs ++ g ∷ []) h
 product_of_more fs f g h of_fs is =
-    IsLeastFor-same (λ within. some_within f within && some_within g within) _ h is
-    (λ within. and_of _ _ _ _ (of_fs.some_within within) (sym (and_one (some_within g within)))
+    IsLeastFor-same is (λ within. and_of (of_fs.some_within within) (sym (and_one (some_within g within)))
     ∙ sym (all_append fs (g ∷ []) within))
 
 -- ---- votes, one family more in front
@@ -108,8 +104,6 @@ pub votes_of_more : (count : ℕ) (f : List (List ℕ)) (fs : List (List (List �
     → IsLeastVotes (suc count) fs same → IsLeastVotes count fs fewer → IsLeastProduct fewer f more
     → IsLeastUnion same more h → IsLeastVotes (suc count) (f ∷ fs) h
 votes_of_more count f fs same fewer more h same_is fewer_is more_is is =
-    IsLeastFor-same (λ within. some_within same within || some_within more within) _ h is
-    (λ within.
-    or_of _ _ _ _ (same_is.some_within within)
-    (more_is.some_within within ∙ and_of _ _ _ _ (fewer_is.some_within within) refl)
+    IsLeastFor-same is (λ within.
+    or_of (same_is.some_within within) (more_is.some_within within ∙ and_of (fewer_is.some_within within) refl)
     ∙ sym (one_vote count (count_within fs within) (some_within f within)))

@@ -62,14 +62,14 @@ IsNode-grown known known' word grown node =
       filled = node.filled;
     }
 
-pub lo_known : (known : ℕ → ℕ) (word : ℕ) → IsNode known word → Knows known (lo_of word)
-lo_known known word node = Knows-from_level known (level_of word) (lo_of word) node.lo_above
+pub lo_known : {known : ℕ → ℕ} {word : ℕ} → IsNode known word → Knows known (lo_of word)
+lo_known {known} {word} node = Knows-from_level known (level_of word) (lo_of word) node.lo_above
 
-pub hi_known : (known : ℕ → ℕ) (word : ℕ) → IsNode known word → Knows known (hi_of word)
-hi_known known word node = Knows-from_level known (level_of word) (hi_of word) node.hi_above
+pub hi_known : {known : ℕ → ℕ} {word : ℕ} → IsNode known word → Knows known (hi_of word)
+hi_known {known} {word} node = Knows-from_level known (level_of word) (hi_of word) node.hi_above
 
-pub IsInner-from_test : (known : ℕ → ℕ) (r : ℕ) → is_inner known r ≡ true → IsInner known r
-IsInner-from_test known r h =
+pub IsInner-from_test : {known : ℕ → ℕ} {r : ℕ} → is_inner known r ≡ true → IsInner known r
+IsInner-from_test {known} {r} h =
     let both =
     and_parts (not (nat_lt r 2) && not (known r == 0))
     (nat_lt (level_of (known r)) (level_in known (lo_of (known r)))
@@ -85,8 +85,8 @@ IsInner-from_test known r h =
       hi_above = ltb-true _ _ there.1;
     }
 
-pub test-from_IsInner : (known : ℕ → ℕ) (r : ℕ) → IsInner known r → is_inner known r ≡ true
-test-from_IsInner known r is =
+pub test-from_IsInner : {known : ℕ → ℕ} {r : ℕ} → IsInner known r → is_inner known r ≡ true
+test-from_IsInner {known} {r} is =
     and_from (not (nat_lt r 2) && not (known r == 0))
     (nat_lt (level_of (known r)) (level_in known (lo_of (known r)))
     && nat_lt (level_of (known r)) (level_in known (hi_of (known r))))
@@ -97,8 +97,8 @@ test-from_IsInner known r is =
     (lt-ltb _ _ is.hi_above))
 
 -- a reference of a closed map is an inner one
-IsInner-closed : (known : ℕ → ℕ) (r : ℕ) → IsClosed known → known r ≢ 0 → IsInner known r
-IsInner-closed known r closed has = record {
+IsInner-closed : {known : ℕ → ℕ} {r : ℕ} → IsClosed known → known r ≢ 0 → IsInner known r
+IsInner-closed {r} closed has = record {
   above = (closed r has).0;
   has = has;
   lo_above = (closed r has).1.lo_above;
@@ -125,40 +125,40 @@ IsBounded-closed known closed r =
       | inr has ↦ let unit = (closed r has).1.unit in omega (arith, unit.1)
     ]
 
-branches : (x : ℕ) (lo lo' hi hi' : List (List ℕ)) → lo ≡ lo' → hi ≡ hi' → branch x lo hi ≡ branch x lo' hi'
-branches x lo lo' hi hi' e f = ap (λ q. branch x q hi) e ∙ ap (λ q. branch x lo' q) f
+branches : (x : ℕ) {lo lo' hi hi' : List (List ℕ)} → lo ≡ lo' → hi ≡ hi' → branch x lo hi ≡ branch x lo' hi'
+branches x {lo'} {hi} e f = ap (λ q. branch x q hi) e ∙ ap (λ q. branch x lo' q) f
 
-none_left : {G : Type 0} (known : ℕ → ℕ) (r : ℕ) → IsBounded known → IsInner known r → 4096 ≤ level_in known r → G
-none_left known r bounded is h =
+none_left : {G : Type 0} {known : ℕ → ℕ} {r : ℕ} → IsBounded known → IsInner known r → 4096 ≤ level_in known r → G
+none_left {known} {r} bounded is h =
     absurd (let e = level_in-inner known r is.above in let b = bounded r in omega (arith, e, b, h))
 
-one_less : (known : ℕ → ℕ) (n r q : ℕ) → IsInner known r → level_of (known r) < level_in known q
+one_less : {known : ℕ → ℕ} (n : ℕ) {r : ℕ} (q : ℕ) → IsInner known r → level_of (known r) < level_in known q
     → 4096 ≤ suc n + level_in known r → 4096 ≤ n + level_in known q
-one_less known n r q is above h = let e = level_in-inner known r is.above in omega (arith, e)
+one_less {known} n {r} q is above h = let e = level_in-inner known r is.above in omega (arith, e)
 
 -- as many levels as are left suffice
 enough : (known : ℕ → ℕ) → IsBounded known → (n k r : ℕ) → 4096 ≤ n + level_in known r → 4096 ≤ k + level_in known r
     → family_within n known r ≡ family_within k known r
 enough known bounded zero k r h h' =
     elim (cases_Bool (is_inner known r)) [
-      | inl inner ↦ none_left known r bounded (IsInner-from_test known r inner) (omega arith)
+      | inl inner ↦ none_left bounded (IsInner-from_test inner) (omega arith)
       | inr other ↦ sym (within_other k known r other)
     ]
 enough known bounded (suc n) zero r h h' =
     elim (cases_Bool (is_inner known r)) [
-      | inl inner ↦ none_left known r bounded (IsInner-from_test known r inner) (omega arith)
+      | inl inner ↦ none_left bounded (IsInner-from_test inner) (omega arith)
       | inr other ↦ within_other (suc n) known r other
     ]
 enough known bounded (suc n) (suc k) r h h' =
     elim (cases_Bool (is_inner known r)) [
       | inl inner ↦
-          let is : IsInner known r = IsInner-from_test known r inner in
+          let is : IsInner known r = IsInner-from_test inner in
           within_inner n known r inner
-          ∙ branches (level_of (known r)) _ _ _ _
-          (enough known bounded n k (lo_of (known r)) (one_less known n r (lo_of (known r)) is is.lo_above h)
-          (one_less known k r (lo_of (known r)) is is.lo_above h'))
-          (enough known bounded n k (hi_of (known r)) (one_less known n r (hi_of (known r)) is is.hi_above h)
-          (one_less known k r (hi_of (known r)) is is.hi_above h'))
+          ∙ branches (level_of (known r))
+          (enough known bounded n k (lo_of (known r)) (one_less n (lo_of (known r)) is is.lo_above h)
+          (one_less k (lo_of (known r)) is is.lo_above h'))
+          (enough known bounded n k (hi_of (known r)) (one_less n (hi_of (known r)) is is.hi_above h)
+          (one_less k (hi_of (known r)) is is.hi_above h'))
           ∙ sym (within_inner k known r inner)
       | inr other ↦ within_other (suc n) known r other ∙ sym (within_other (suc k) known r other)
     ]
@@ -184,12 +184,12 @@ pub family-inner : (known : ℕ → ℕ) (r : ℕ) → IsBounded known → is_in
     → family known r ≡ branch (level_of (known r)) (family known (lo_of (known r))) (family known (hi_of (known r)))
 unfolding family
 family-inner known r bounded inner =
-    let is : IsInner known r = IsInner-from_test known r inner in
+    let is : IsInner known r = IsInner-from_test inner in
     let e : level_in known r ≡ level_of (known r) = level_in-inner known r is.above in
     let below : level_of (known r) < 4096 = bounded r in
     enough known bounded (4096 - level_in known r) (suc (4095 - level_in known r)) r (omega arith) (omega arith)
     ∙ within_inner (4095 - level_in known r) known r inner
-    ∙ branches (level_of (known r)) _ _ _ _
+    ∙ branches (level_of (known r))
     (enough known bounded (4095 - level_in known r) (4096 - level_in known (lo_of (known r))) (lo_of (known r))
     (let k = is.lo_above in omega (arith, e)) (omega arith))
     (enough known bounded (4095 - level_in known r) (4096 - level_in known (hi_of (known r))) (hi_of (known r))
@@ -199,7 +199,7 @@ family-inner known r bounded inner =
 pub family-node : (known : ℕ → ℕ) (r : ℕ) → IsClosed known → known r ≢ 0
     → family known r ≡ branch (level_of (known r)) (family known (lo_of (known r))) (family known (hi_of (known r)))
 family-node known r closed has =
-    family-inner known r (IsBounded-closed known closed) (test-from_IsInner known r (IsInner-closed known r closed has))
+    family-inner known r (IsBounded-closed known closed) (test-from_IsInner (IsInner-closed closed has))
 
 -- what holds of the terminals, and of a reference where it holds of its lo and hi, holds of each known reference
 by_levels_within : (known : ℕ → ℕ) → IsClosed known → (P : ℕ → Type 0) → P 0 → P 1
@@ -218,9 +218,9 @@ by_levels_within known closed P none one step (suc n) (suc (suc r)) h (inr has) 
     level_in-inner known (suc (suc r)) (omega arith) in
     step (suc (suc r)) has
     (by_levels_within known closed P none one step n (lo_of (known (suc (suc r))))
-    (let k = node.lo_above in omega (arith, e)) (lo_known known (known (suc (suc r))) node))
+    (let k = node.lo_above in omega (arith, e)) (lo_known node))
     (by_levels_within known closed P none one step n (hi_of (known (suc (suc r))))
-    (let k = node.hi_above in omega (arith, e)) (hi_known known (known (suc (suc r))) node))
+    (let k = node.hi_above in omega (arith, e)) (hi_known node))
 
 pub by_levels : (known : ℕ → ℕ) → IsClosed known → (P : ℕ → Type 0) → P 0 → P 1
     → ((r : ℕ) → known r ≢ 0 → P (lo_of (known r)) → P (hi_of (known r)) → P r) → (r : ℕ) → Knows known r → P r

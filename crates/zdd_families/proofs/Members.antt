@@ -77,8 +77,8 @@ branch-cases x ([] ∷ others) hi set h =
     ]
 branch-cases x ((unit ∷ first) ∷ others) hi set h = joined_cases x hi ((unit ∷ first) ∷ others) set h
 
-with_back : (x : ℕ) (lo hi : List (List ℕ)) (set : List ℕ) → HasWith x hi set → Contains (branch x lo hi) set
-with_back x lo hi set (rest, same, has) =
+with_back : {x : ℕ} (lo hi : List (List ℕ)) {set : List ℕ} → HasWith x hi set → Contains (branch x lo hi) set
+with_back {x} lo hi (rest, same, has) =
     subst (λ (q : List ℕ). Contains (branch x lo hi) q) (sym same) (branch-has_hi x lo hi rest has)
 
 pub branch-members : (x : ℕ) (lo hi : List (List ℕ)) (set : List ℕ)
@@ -87,6 +87,6 @@ branch-members x lo hi set = (
   λ h. branch-cases x lo hi set h,
   λ cases. elim cases [
     | inl of_lo ↦ branch-has_lo x lo hi set of_lo
-    | inr with_x ↦ with_back x lo hi set with_x
+    | inr with_x ↦ with_back lo hi with_x
   ],
 )

@@ -11,14 +11,12 @@ use Rattle.zdd_families.specs.Family.{IsFamily, IsAbove, IsSetAbove, branch}
 use Rattle.zdd_families.proofs.FamilyLemmas.{IsFamily-branch, IsFamily-nil}
 use Rattle.zdd_families.proofs.FamilyLemmas.{IsFamily-unit, same_family}
 use Rattle.zdd_families.proofs.Members.{branch-has_lo, branch-has_hi, branch-cases}
-use Rattle.zdd_families.specs.Cuts.{Cuts}
+use Rattle.zdd_families.specs.{Cuts.Cuts, Inclusion.includes_one, Inclusion.Includes, Without.IsWithout}
 use Rattle.zdd_families.proofs.CutsLemmas.{cut_cases, cut_has_lo, cut_has_hi, set_above, set_rises}
 use Rattle.zdd_families.proofs.CutsLemmas.{each-from_contains, not_with}
-use Rattle.zdd_families.specs.Inclusion.{includes_one, Includes}
 use Rattle.zdd_families.proofs.InclusionLemmas.{Includes-from_test, test-from_part, within_itself}
 use Rattle.zdd_families.proofs.InclusionLemmas.{within_trans, same_within, within-with_first, within-with_both}
 use Rattle.zdd_families.proofs.InclusionLemmas.{within-none, within-shorter}
-use Rattle.zdd_families.specs.Without.{IsWithout}
 use Rattle.zdd_families.proofs.WithoutLemmas.{without-above}
 use Rattle.zdd_families.specs.Minimal.{IncludesNoOther, IsMinimal, Smaller, is_smaller}
 
@@ -32,8 +30,8 @@ minimal-one f h h' is is' =
 pub minimal-none : IsMinimal [] []
 minimal-none = record { is_family = IsFamily-nil; sets = λ set. (λ has. Contains-nil set has, λ both. both.0) }
 
-only_ones : (set other : List ℕ) → Contains ([] ∷ []) set → Contains ([] ∷ []) other → other ≡ set
-only_ones set other h k =
+only_ones : {set other : List ℕ} → Contains ([] ∷ []) set → Contains ([] ∷ []) other → other ≡ set
+only_ones {set} {other} h k =
     elim (Contains-cons_cases [] set [] h) [
       | inl same ↦ elim (Contains-cons_cases [] other [] k) [
         | inl same' ↦ sym same' ∙ same
@@ -45,20 +43,20 @@ only_ones set other h k =
 pub minimal-unit : IsMinimal ([] ∷ []) ([] ∷ [])
 minimal-unit = record {
   is_family = IsFamily-unit;
-  sets = λ set. (λ has. (has, λ other has' _. only_ones set other has has'), λ both. both.0);
+  sets = λ set. (λ has. (has, λ other has' _. only_ones has has'), λ both. both.0);
 }
 
-pub minimal-above : (x : ℕ) (f h : List (List ℕ)) → IsMinimal f h → IsAbove x f → IsAbove x h
-minimal-above x f h is above =
+pub minimal-above : (x : ℕ) {f h : List (List ℕ)} → IsMinimal f h → IsAbove x f → IsAbove x h
+minimal-above x {f} {h} is above =
     each-from_contains (IsSetAbove x) h (λ set has. set_above x f set above ((is.sets set).0 has).0)
 
-smaller_found : (f : List (List ℕ)) (set : List ℕ) → list_any (is_smaller set) f ≡ true → Smaller f set
-smaller_found [] set h = absurd cc
-smaller_found (first ∷ others) set h =
+smaller_found : (f : List (List ℕ)) {set : List ℕ} → list_any (is_smaller set) f ≡ true → Smaller f set
+smaller_found [] h = absurd cc
+smaller_found (first ∷ others) {set} h =
     elim (or_cases (is_smaller set first) (list_any (is_smaller set) others) h) [
       | inl here ↦ record { other = first; has = Contains-cons_first first others; smaller = here }
       | inr later ↦
-          let found : Smaller others set = smaller_found others set later in
+          let found : Smaller others set = smaller_found others later in
           record {
             other = found.other;
             has = Contains-cons_other first found.other others found.has;
@@ -78,28 +76,29 @@ smaller_test (first ∷ others) set other has h =
     ]
 
 -- where no set is smaller, a set within this one is this one
-none_smaller : (f : List (List ℕ)) (set : List ℕ) → IsFamily f → Contains f set → list_any (is_smaller set) f ≡ false
+none_smaller : {f : List (List ℕ)} (set : List ℕ) → IsFamily f → Contains f set → list_any (is_smaller set) f ≡ false
     → IncludesNoOther f set
-none_smaller f set is has none other has' within =
+none_smaller {f} set is has none other has' within =
     elim (cases_Bool (is_within other set)) [
-      | inl back ↦ same_within other set (set_rises f other is has') (set_rises f set is has) back within
+      | inl back ↦ same_within (set_rises other is has') (set_rises set is has) back within
       | inr not_back ↦
           absurd (false≢true (sym none ∙ smaller_test f set other has'
           (and_from (is_within set other) (not (is_within other set)) within
           (not_from_false (is_within other set) not_back))))
     ]
 
-shorter : (f : List (List ℕ)) (set : List ℕ) → IsFamily f → Contains f set → (found : Smaller f set)
+shorter : {f : List (List ℕ)} {set : List ℕ} → IsFamily f → Contains f set → (found : Smaller f set)
     → length found.other < length set
-shorter f set is has found =
+shorter {set} is has found =
     let both : (is_within set found.other ≡ true) × (not (is_within found.other set) ≡ true) =
     and_parts (is_within set found.other) (not (is_within found.other set)) found.smaller in
-    within-shorter set found.other (set_rises f set is has) (set_rises f found.other is found.has) both.0
+    within-shorter set found.other (set_rises set is has) (set_rises found.other is found.has) both.0
     (not-true (is_within found.other set) both.1)
 
-within_smaller : (f least : List (List ℕ)) (set : List ℕ) → (found : Smaller f set) → Includes least found.other
+within_smaller : {f : List (List ℕ)} (least : List (List ℕ)) {set : List ℕ} → (found : Smaller f set)
+    → Includes least found.other
     → Includes least set
-within_smaller f least set found deeper = record {
+within_smaller least {set} found deeper = record {
   part = deeper.part;
   has = deeper.has;
   within =
@@ -111,22 +110,22 @@ module _ (f least : List (List ℕ)) (is_family : IsFamily f) (is : IsMinimal f 
   itself : (set : List ℕ) → Contains f set → list_any (is_smaller set) f ≡ false → Includes least set
   itself set has none = record {
     part = set;
-    has = (is.sets set).1 (has, none_smaller f set is_family has none);
+    has = (is.sets set).1 (has, none_smaller set is_family has none);
     within = within_itself set;
   }
 
   within_length : (n : ℕ) (set : List ℕ) → length set ≤ n → Contains f set → Includes least set
   within_length zero set short has =
       elim (cases_Bool (list_any (is_smaller set) f)) [
-        | inl some ↦ absurd (let k = shorter f set is_family has (smaller_found f set some) in omega (arith, k))
+        | inl some ↦ absurd (let k = shorter is_family has (smaller_found f some) in omega (arith, k))
         | inr none ↦ itself set has none
       ]
   within_length (suc n) set short has =
       elim (cases_Bool (list_any (is_smaller set) f)) [
         | inl some ↦
-            let found : Smaller f set = smaller_found f set some in
-            within_smaller f least set found
-            (within_length n found.other (let k = shorter f set is_family has found in omega (arith, k)) found.has)
+            let found : Smaller f set = smaller_found f some in
+            within_smaller least found
+            (within_length n found.other (let k = shorter is_family has found in omega (arith, k)) found.has)
         | inr none ↦ itself set has none
       ]
 
@@ -136,8 +135,8 @@ module _ (f least : List (List ℕ)) (is_family : IsFamily f) (is : IsMinimal f 
 
 -- ---- a step
 
-same_rest : (x : ℕ) (a b : List ℕ) → x ∷ a ≡ x ∷ b → a ≡ b
-same_rest x a b h = cc
+same_rest : {x : ℕ} {a b : List ℕ} → x ∷ a ≡ x ∷ b → a ≡ b
+same_rest h = cc
 
 module _ (x : ℕ) (f f0 f1 h0 w h1 : List (List ℕ)) (cut : Cuts x f f0 f1) (lo_family : IsFamily f0)
     (lo : IsMinimal f0 h0) (some : IsMinimal f1 w) (hi : IsWithout w h0 h1) where
@@ -145,7 +144,7 @@ module _ (x : ℕ) (f f0 f1 h0 w h1 : List (List ℕ)) (cut : Cuts x f f0 f1) (l
 
   no_other_lo : (set : List ℕ) → Contains f0 set → IncludesNoOther f0 set → IncludesNoOther f set
   no_other_lo set has least other has' within =
-      elim (cut_cases x f f0 f1 other cut has') [
+      elim (cut_cases other cut has') [
         | inl of_lo ↦ least other of_lo within
         | inr with_x ↦ absurd (false≢true (sym (within-none x set with_x.0 (set_above x f0 set cut.lo_above has))
             ∙ ap (is_within set) (sym with_x.1) ∙ within))
@@ -164,7 +163,7 @@ module _ (x : ℕ) (f f0 f1 h0 w h1 : List (List ℕ)) (cut : Cuts x f f0 f1) (l
   no_other_hi : (rest : List ℕ) → Contains f1 rest → IncludesNoOther f1 rest → includes_one h0 rest ≡ false
       → IncludesNoOther f (x ∷ rest)
   no_other_hi rest has least none other has' within =
-      elim (cut_cases x f f0 f1 other cut has') [
+      elim (cut_cases other cut has') [
         | inl of_lo ↦ not_of_lo rest other none of_lo within
         | inr with_x ↦
             with_x.1
@@ -178,12 +177,12 @@ module _ (x : ℕ) (f f0 f1 h0 w h1 : List (List ℕ)) (cut : Cuts x f f0 f1) (l
   hi_to rest has =
       let outer = (hi.sets rest).0 has in
       let inner = (some.sets rest).0 outer.0 in
-      (cut_has_hi x f f0 f1 rest cut inner.0, no_other_hi rest inner.0 inner.1 outer.1)
+      (cut_has_hi rest cut inner.0, no_other_hi rest inner.0 inner.1 outer.1)
 
   lo_to : (set : List ℕ) → Contains h0 set → Contains f set × IncludesNoOther f set
   lo_to set has =
       let both = (lo.sets set).0 has in
-      (cut_has_lo x f f0 f1 set cut both.0, no_other_lo set both.0 both.1)
+      (cut_has_lo set cut both.0, no_other_lo set both.0 both.1)
 
   to : (set : List ℕ) → Contains (branch x h0 h1) set → Contains f set × IncludesNoOther f set
   to set has =
@@ -197,8 +196,7 @@ module _ (x : ℕ) (f f0 f1 h0 w h1 : List (List ℕ)) (cut : Cuts x f f0 f1) (l
 
   rest_least : (rest : List ℕ) → IncludesNoOther f (x ∷ rest) → IncludesNoOther f1 rest
   rest_least rest least other has within =
-      same_rest x other rest
-      (least (x ∷ other) (cut_has_hi x f f0 f1 other cut has)
+      same_rest (least (x ∷ other) (cut_has_hi other cut has)
       (within-with_both x rest other (set_above x f1 other cut.hi_above has) ∙ within))
 
   rest_includes_none : (rest : List ℕ) → IncludesNoOther f (x ∷ rest) → includes_one h0 rest ≡ true → ⊥
@@ -206,8 +204,7 @@ module _ (x : ℕ) (f f0 f1 h0 w h1 : List (List ℕ)) (cut : Cuts x f f0 f1) (l
       let found : Includes h0 rest = Includes-from_test h0 rest h in
       let of_lo : Contains f0 found.part = ((lo.sets found.part).0 found.has).0 in
       let above : IsSetAbove x found.part = set_above x f0 found.part cut.lo_above of_lo in
-      not_with x found.part rest above
-      (least found.part (cut_has_lo x f f0 f1 found.part cut of_lo)
+      not_with found.part above (least found.part (cut_has_lo found.part cut of_lo)
       (within-with_first x rest found.part above ∙ found.within))
 
   hi_from : (rest : List ℕ) → Contains f1 rest → IncludesNoOther f (x ∷ rest) → Contains (branch x h0 h1) (x ∷ rest)
@@ -220,17 +217,16 @@ module _ (x : ℕ) (f f0 f1 h0 w h1 : List (List ℕ)) (cut : Cuts x f f0 f1) (l
 
   from : (set : List ℕ) → Contains f set → IncludesNoOther f set → Contains (branch x h0 h1) set
   from set has least =
-      elim (cut_cases x f f0 f1 set cut has) [
+      elim (cut_cases set cut has) [
         | inl of_lo ↦ branch-has_lo x h0 h1 set ((lo.sets set).1
-            (of_lo, λ other has' within. least other (cut_has_lo x f f0 f1 other cut has') within))
+            (of_lo, λ other has' within. least other (cut_has_lo other cut has') within))
         | inr with_x ↦ subst (Contains (branch x h0 h1)) (sym with_x.1)
             (hi_from with_x.0 with_x.2 (subst (IncludesNoOther f) with_x.1 least))
       ]
 
   pub minimal-step : IsMinimal f (branch x h0 h1)
   minimal-step = record {
-    is_family = IsFamily-branch x h0 h1 lo.is_family hi.is_family
-        (minimal-above x f0 h0 lo cut.lo_above)
-        (without-above x w h0 h1 hi (minimal-above x f1 w some cut.hi_above));
+    is_family = IsFamily-branch x h0 h1 lo.is_family hi.is_family (minimal-above x lo cut.lo_above)
+        (without-above x hi (minimal-above x some cut.hi_above));
     sets = λ set. (to set, λ both. from set both.0 both.1);
   }

@@ -8,12 +8,10 @@ use Rattle.zdd_families.proofs.FamilyLemmas.{first_unit-branch, sets_without-bra
 use Rattle.zdd_families.proofs.FamilyLemmas.{sets_with-branch, branch-filled}
 use Rattle.zdd_families.specs.Map.{Knows, IsClosed, IsUnique, family}
 use Rattle.zdd_families.proofs.MapLemmas.{family-empty, family-unit, lo_known, hi_known}
-use Rattle.zdd_families.proofs.Canonical.{family-same}
-use Rattle.zdd_families.specs.Counting.{EachOnce}
+use Rattle.zdd_families.proofs.{Canonical.family-same, References.Splits-node}
+use Rattle.zdd_families.specs.{Counting.EachOnce, Due.Splits}
 use Rattle.zdd_families.proofs.CountingLemmas.{IsImage, IsImage-from_map, each_once-map, map-contains}
 use Rattle.zdd_families.proofs.CountingLemmas.{same_length}
-use Rattle.zdd_families.specs.Due.{Splits}
-use Rattle.zdd_families.proofs.References.{Splits-node}
 use Rattle.zdd_families.specs.Nodes.{IsNodeCount, IsReached, Reaches, reached_hi, reached_itself, reached_lo}
 use Rattle.zdd_families.specs.Nodes.{reaches_hi, reaches_itself, reaches_lo}
 
@@ -66,46 +64,41 @@ pub record ReachesAs (known : ℕ → ℕ) (r : ℕ) (g : List (List ℕ)) : Typ
   pub is : family known reference ≡ g
 
 module _ (known : ℕ → ℕ) (closed : IsClosed known) where
-  from_lo : (r : ℕ) (g : List (List ℕ)) → known r ≢ 0 → ReachesAs known (lo_of (known r)) g → ReachesAs known r g
-  from_lo r g has found = record { reference = found.reference; reaches = reaches_lo has found.reaches; is = found.is }
+  from_lo : {r : ℕ} {g : List (List ℕ)} → known r ≢ 0 → ReachesAs known (lo_of (known r)) g → ReachesAs known r g
+  from_lo has found = record { reference = found.reference; reaches = reaches_lo has found.reaches; is = found.is }
 
-  from_hi : (r : ℕ) (g : List (List ℕ)) → known r ≢ 0 → ReachesAs known (hi_of (known r)) g → ReachesAs known r g
-  from_hi r g has found = record { reference = found.reference; reaches = reaches_hi has found.reaches; is = found.is }
+  from_hi : {r : ℕ} {g : List (List ℕ)} → known r ≢ 0 → ReachesAs known (hi_of (known r)) g → ReachesAs known r g
+  from_hi has found = record { reference = found.reference; reaches = reaches_hi has found.reaches; is = found.is }
 
-  split_of : (r x : ℕ) (f lo hi : List (List ℕ)) → f ≡ family known r → Splits x f lo hi
+  split_of : (r x : ℕ) {f : List (List ℕ)} (lo hi : List (List ℕ)) → f ≡ family known r → Splits x f lo hi
       → Splits x (family known r) lo hi
-  split_of r x f lo hi same split = subst (λ (q : List (List ℕ)). Splits x q lo hi) same split
+  split_of r x lo hi same split = subst (λ (q : List (List ℕ)). Splits x q lo hi) same split
 
-  reaches_as : (f g : List (List ℕ)) → IsReached f g → (r : ℕ) → Knows known r → f ≡ family known r
+  reaches_as : {f g : List (List ℕ)} → IsReached f g → {r : ℕ} → Knows known r → f ≡ family known r
       → ReachesAs known r g
-  reaches_as f g (reached_itself {x = x} {lo = lo} {hi = hi} split) r knows same =
+  reaches_as (reached_itself {x = x} {lo = lo} {hi = hi} split) {r} knows same =
       record {
         reference = r;
-        reaches = reaches_itself
-            (node_from_split known r x lo hi knows (split_of r x f lo hi same split));
+        reaches = reaches_itself (node_from_split known r x lo hi knows (split_of r x lo hi same split));
         is = sym same;
       }
-  reaches_as f g (reached_lo {x = x} {lo = lo} {hi = hi} split deeper) r knows same =
-      let here : Splits x (family known r) lo hi = split_of r x f lo hi same split in
+  reaches_as (reached_lo {x = x} {lo = lo} {hi = hi} split deeper) {r} knows same =
+      let here : Splits x (family known r) lo hi = split_of r x lo hi same split in
       let has : known r ≢ 0 = node_from_split known r x lo hi knows here in
-      from_lo r g has
-      (reaches_as lo g deeper (lo_of (known r)) (lo_known known (known r) (closed r has).1)
+      from_lo has (reaches_as deeper (lo_known {known = known} {word = known r} (closed r has).1)
       (split-lo x (level_of (known r)) (family known r) lo hi (family known (lo_of (known r)))
       (family known (hi_of (known r))) here (Splits-node known r closed has)))
-  reaches_as f g (reached_hi {x = x} {lo = lo} {hi = hi} split deeper) r knows same =
-      let here : Splits x (family known r) lo hi = split_of r x f lo hi same split in
+  reaches_as (reached_hi {x = x} {lo = lo} {hi = hi} split deeper) {r} knows same =
+      let here : Splits x (family known r) lo hi = split_of r x lo hi same split in
       let has : known r ≢ 0 = node_from_split known r x lo hi knows here in
-      from_hi r g has
-      (reaches_as hi g deeper (hi_of (known r)) (hi_known known (known r) (closed r has).1)
+      from_hi has (reaches_as deeper (hi_known {known = known} {word = known r} (closed r has).1)
       (split-hi x (level_of (known r)) (family known r) lo hi (family known (lo_of (known r)))
       (family known (hi_of (known r))) here (Splits-node known r closed has)))
 
-  pub reached-reference : (r q : ℕ) → Reaches known r q → IsReached (family known r) (family known q)
-  reached-reference r q (reaches_itself has) = reached_itself (Splits-node known r closed has)
-  reached-reference r q (reaches_lo has deeper) =
-      reached_lo (Splits-node known r closed has) (reached-reference (lo_of (known r)) q deeper)
-  reached-reference r q (reaches_hi has deeper) =
-      reached_hi (Splits-node known r closed has) (reached-reference (hi_of (known r)) q deeper)
+  pub reached-reference : {r q : ℕ} → Reaches known r q → IsReached (family known r) (family known q)
+  reached-reference {r} (reaches_itself has) = reached_itself (Splits-node known r closed has)
+  reached-reference {r} (reaches_lo has deeper) = reached_lo (Splits-node known r closed has) (reached-reference deeper)
+  reached-reference {r} (reaches_hi has deeper) = reached_hi (Splits-node known r closed has) (reached-reference deeper)
 
   pub reaches-known : (r q : ℕ) → Reaches known r q → Knows known q
   reaches-known r q (reaches_itself has) = inr has
@@ -114,8 +107,8 @@ module _ (known : ℕ → ℕ) (closed : IsClosed known) where
 
   pub reached-as : (r : ℕ) (g : List (List ℕ)) → Knows known r → IsReached (family known r) g ↔ ReachesAs known r g
   reached-as r g knows = (
-    λ reached. reaches_as (family known r) g reached r knows refl,
-    λ found. subst (IsReached (family known r)) found.is (reached-reference r found.reference found.reaches),
+    λ reached. reaches_as reached knows refl,
+    λ found. subst (IsReached (family known r)) found.is (reached-reference found.reaches),
   )
 
 -- ---- the count
@@ -140,8 +133,8 @@ module _ (known : ℕ → ℕ) (closed : IsClosed known) (unique : IsUnique know
 
   members_to : (g : List (List ℕ)) → Contains (map (family known) references) g → IsReached (family known r) g
   members_to g has =
-      let image : IsImage (family known) references g = IsImage-from_map (family known) references g has in
-      subst (IsReached (family known r)) image.is (reached-reference known closed r image.of
+      let image : IsImage (family known) references g = IsImage-from_map references g has in
+      subst (IsReached (family known r)) image.is (reached-reference known closed {r = r} {q = image.of}
       ((reaches image.of).0 image.has))
 
   members_from : (g : List (List ℕ)) → IsReached (family known r) g → Contains (map (family known) references) g

@@ -1,18 +1,16 @@
 -- The parts of a family: those with units that are got from it by splitting at least units. Here by
 -- cuts, whether or not there are sets with the unit.
 use Rattle.std.specs.Prelude.{◌≡◌, ◌≢◌, ◌⊎◌, ℕ, true, List, [], ◌∷◌, Contains}
-use Rattle.std.specs.declared.cmp.Ordering.{Ordering}
+use Rattle.std.specs.{declared.cmp.Ordering.Ordering, Cmp.Lexicographic.slice_cmp, FinMap.slice_cmp-IsAntisymmetric}
+use Rattle.std.specs.{FinMap.nat_cmp-IsAntisymmetric}
 use Rattle.std.specs.declared.cmp.Ordering.TheVariants.{Less, Equal, Greater}
-use Rattle.std.specs.Cmp.Lexicographic.{slice_cmp}
-use Rattle.std.specs.FinMap.{slice_cmp-IsAntisymmetric, nat_cmp-IsAntisymmetric}
 use Rattle.std.proofs.Common.{refl, sym, ◌∙◌, subst, inl, inr}
 use Rattle.std.proofs.lemmas.Cmp.{lists_total, nat_list_cmp_total, tied_itself}
 use Rattle.unit_sets.proofs.Sorted.{Contains-nil, Contains-cons_first, Contains-cons_cases}
 use Rattle.unit_sets.specs.UnitList.{among}
 use Rattle.zdd_families.specs.Family.{branch, set_cmp, IsAbove}
-use Rattle.zdd_families.specs.Cuts.{Cuts}
+use Rattle.zdd_families.specs.{Cuts.Cuts, Due.Splits, Due.IsInnerFamily}
 use Rattle.zdd_families.proofs.CutsLemmas.{branch-none, cut_has_hi}
-use Rattle.zdd_families.specs.Due.{Splits, IsInnerFamily}
 use Rattle.zdd_families.specs.Nodes.{IsReached, reached_itself, reached_lo, reached_hi}
 use Rattle.zdd_families.proofs.NodesLemmas.{split-lo, split-hi}
 
@@ -34,8 +32,8 @@ pub data Kind (f : List (List ℕ)) : Type 0 where
   is_unit : f ≡ [] ∷ [] → Kind f
   is_inner : IsInnerFamily f → Kind f
 
-pub kind_of_family : (f : List (List ℕ)) → Kind f
-kind_of_family f =
+pub kind_of_family : {f : List (List ℕ)} → Kind f
+kind_of_family {f} =
     elim (some_or_none f) [
       | inl e ↦ is_none e
       | inr some ↦ elim (unit_or_other f) [
@@ -47,35 +45,35 @@ kind_of_family f =
 tied : (f : List (List ℕ)) → slice_cmp set_cmp f f ≡ Equal
 tied f = tied_itself (lists_total nat_list_cmp_total) f
 
-same_by : (f g : List (List ℕ)) (o : Ordering) → slice_cmp set_cmp f g ≡ o → (f ≡ g) ⊎ (f ≢ g)
-same_by f g Less h =
+same_by : {f g : List (List ℕ)} (o : Ordering) → slice_cmp set_cmp f g ≡ o → (f ≡ g) ⊎ (f ≢ g)
+same_by {f} {g} Less h =
     inr (λ same. let e : slice_cmp set_cmp f g ≡ Equal =
     subst (λ (q : List (List ℕ)). slice_cmp set_cmp f q ≡ Equal) same (tied f) in absurd cc)
-same_by f g Equal h = inl (slice_cmp-IsAntisymmetric (slice_cmp-IsAntisymmetric nat_cmp-IsAntisymmetric) f g h)
-same_by f g Greater h =
+same_by {f} {g} Equal h = inl (slice_cmp-IsAntisymmetric (slice_cmp-IsAntisymmetric nat_cmp-IsAntisymmetric) f g h)
+same_by {f} {g} Greater h =
     inr (λ same. let e : slice_cmp set_cmp f g ≡ Equal =
     subst (λ (q : List (List ℕ)). slice_cmp set_cmp f q ≡ Equal) same (tied f) in absurd cc)
 
 pub same_or_other : (f g : List (List ℕ)) → (f ≡ g) ⊎ (f ≢ g)
-same_or_other f g = same_by f g (slice_cmp set_cmp f g) refl
+same_or_other f g = same_by (slice_cmp set_cmp f g) refl
 
 -- ---- parts
 
 -- a family without units has no parts
 split_set : (x : ℕ) (f lo hi : List (List ℕ)) → Splits x f lo hi → (unit : ℕ) × (set : List ℕ) × Contains f (unit ∷ set)
 split_set x f lo [] split = absurd (split.some_with refl)
-split_set x f lo (set ∷ hi) split = (x, set, cut_has_hi x f lo (set ∷ hi) set split.cut (Contains-cons_first set hi))
+split_set x f lo (set ∷ hi) split = (x, set, cut_has_hi set split.cut (Contains-cons_first set hi))
 
-pub reached-set : (f part : List (List ℕ)) → IsReached f part → (unit : ℕ) × (set : List ℕ) × Contains f (unit ∷ set)
-reached-set f part (reached_itself {x = x} {lo = lo} {hi = hi} split) = split_set x f lo hi split
-reached-set f part (reached_lo {x = x} {lo = lo} {hi = hi} split deeper) = split_set x f lo hi split
-reached-set f part (reached_hi {x = x} {lo = lo} {hi = hi} split deeper) = split_set x f lo hi split
+pub reached-set : {f part : List (List ℕ)} → IsReached f part → (unit : ℕ) × (set : List ℕ) × Contains f (unit ∷ set)
+reached-set {f} (reached_itself {x = x} {lo = lo} {hi = hi} split) = split_set x f lo hi split
+reached-set {f} (reached_lo {x = x} {lo = lo} {hi = hi} split deeper) = split_set x f lo hi split
+reached-set {f} (reached_hi {x = x} {lo = lo} {hi = hi} split deeper) = split_set x f lo hi split
 
-pub reached_same : (f g part : List (List ℕ)) → f ≡ g → IsReached f part → IsReached g part
-reached_same f g part same reached = subst (λ (q : List (List ℕ)). IsReached q part) same reached
+pub reached_same : {f g part : List (List ℕ)} → f ≡ g → IsReached f part → IsReached g part
+reached_same {part} same reached = subst (λ (q : List (List ℕ)). IsReached q part) same reached
 
-pub reached-none : {G : Type 0} (part : List (List ℕ)) → IsReached [] part → G
-reached-none part reached = let found = reached-set [] part reached in Contains-nil (found.0 ∷ found.1) found.2
+pub reached-none : {G : Type 0} {part : List (List ℕ)} → IsReached [] part → G
+reached-none reached = let found = reached-set reached in Contains-nil (found.0 ∷ found.1) found.2
 
 none_in_unit : {G : Type 0} (unit : ℕ) (set : List ℕ) → Contains ([] ∷ []) (unit ∷ set) → G
 none_in_unit unit set has =
@@ -107,28 +105,30 @@ inner-from_split x f lo hi split =
     }
 
 -- so a family within the empty set alone has no parts
-pub reached-unit : {G : Type 0} (f part : List (List ℕ)) → ((set : List ℕ) → Contains f set → Contains ([] ∷ []) set)
+pub reached-unit : {G : Type 0} {f part : List (List ℕ)} → ((set : List ℕ) → Contains f set → Contains ([] ∷ []) set)
     → IsReached f part → G
-reached-unit f part within reached =
-    let found = reached-set f part reached in none_in_unit found.0 found.1 (within (found.0 ∷ found.1) found.2)
+reached-unit within reached =
+    let found = reached-set reached in none_in_unit found.0 found.1 (within (found.0 ∷ found.1) found.2)
 
 -- ---- parts by cuts
 
-splits : (x : ℕ) (f lo : List (List ℕ)) (set : List ℕ) (hi : List (List ℕ)) → Cuts x f lo (set ∷ hi)
+splits : {x : ℕ} {f lo : List (List ℕ)} {set : List ℕ} {hi : List (List ℕ)} → Cuts x f lo (set ∷ hi)
     → Splits x f lo (set ∷ hi)
-splits x f lo set hi cut = record { cut = cut; some_with = λ e. cc }
+splits cut = record { cut = cut; some_with = λ e. cc }
 
 -- without sets with the unit a family is its own lo
-pub cut-none : (x : ℕ) (f lo : List (List ℕ)) → Cuts x f lo [] → f ≡ lo
-cut-none x f lo cut = cut.is ∙ branch-none x lo
+pub cut-none : {x : ℕ} {f lo : List (List ℕ)} → Cuts x f lo [] → f ≡ lo
+cut-none {x} {lo} cut = cut.is ∙ branch-none x lo
 
-pub part-lo : (x : ℕ) (f lo hi part : List (List ℕ)) → Cuts x f lo hi → IsReached lo part → IsReached f part
-part-lo x f lo [] part cut reached = subst (λ (q : List (List ℕ)). IsReached q part) (sym (cut-none x f lo cut)) reached
-part-lo x f lo (set ∷ hi) part cut reached = reached_lo (splits x f lo set hi cut) reached
+pub part-lo : {x : ℕ} {f lo : List (List ℕ)} (hi : List (List ℕ)) {part : List (List ℕ)} → Cuts x f lo hi
+    → IsReached lo part → IsReached f part
+part-lo [] {part} cut reached = subst (λ (q : List (List ℕ)). IsReached q part) (sym (cut-none cut)) reached
+part-lo (set ∷ hi) cut reached = reached_lo (splits cut) reached
 
-pub part-hi : (x : ℕ) (f lo hi part : List (List ℕ)) → Cuts x f lo hi → IsReached hi part → IsReached f part
-part-hi x f lo [] part cut reached = reached-none part reached
-part-hi x f lo (set ∷ hi) part cut reached = reached_hi (splits x f lo set hi cut) reached
+pub part-hi : {x : ℕ} {f lo : List (List ℕ)} (hi : List (List ℕ)) {part : List (List ℕ)} → Cuts x f lo hi
+    → IsReached hi part → IsReached f part
+part-hi [] cut reached = reached-none reached
+part-hi (set ∷ hi) cut reached = reached_hi (splits cut) reached
 
 -- a part is the family itself, or a part of lo or hi
 pub data PartAt (f lo hi part : List (List ℕ)) : Type 0 where
@@ -136,28 +136,28 @@ pub data PartAt (f lo hi part : List (List ℕ)) : Type 0 where
   of_lo : IsReached lo part → PartAt f lo hi part
   of_hi : IsReached hi part → PartAt f lo hi part
 
-at_split : (x : ℕ) (f lo hi part : List (List ℕ)) → Splits x f lo hi → IsReached f part → PartAt f lo hi part
-at_split x f lo hi part split (reached_itself split') = itself refl
-at_split x f lo hi part split (reached_lo {x = y} {lo = lo'} {hi = hi'} split' deeper) =
+at_split : (x : ℕ) {f lo hi part : List (List ℕ)} → Splits x f lo hi → IsReached f part → PartAt f lo hi part
+at_split x split (reached_itself split') = itself refl
+at_split x {f} {lo} {hi} {part} split (reached_lo {x = y} {lo = lo'} {hi = hi'} split' deeper) =
     of_lo (subst (λ (q : List (List ℕ)). IsReached q part) (split-lo y x f lo' hi' lo hi split' split) deeper)
-at_split x f lo hi part split (reached_hi {x = y} {lo = lo'} {hi = hi'} split' deeper) =
+at_split x {f} {lo} {hi} {part} split (reached_hi {x = y} {lo = lo'} {hi = hi'} split' deeper) =
     of_hi (subst (λ (q : List (List ℕ)). IsReached q part) (split-hi y x f lo' hi' lo hi split' split) deeper)
 
-pub part_at : (x : ℕ) (f lo hi part : List (List ℕ)) → Cuts x f lo hi → IsReached f part → PartAt f lo hi part
-part_at x f lo [] part cut reached =
-    of_lo (subst (λ (q : List (List ℕ)). IsReached q part) (cut-none x f lo cut) reached)
-part_at x f lo (set ∷ hi) part cut reached = at_split x f lo (set ∷ hi) part (splits x f lo set hi cut) reached
+pub part_at : {x : ℕ} {f lo : List (List ℕ)} (hi : List (List ℕ)) {part : List (List ℕ)} → Cuts x f lo hi
+    → IsReached f part → PartAt f lo hi part
+part_at [] {part} cut reached = of_lo (subst (λ (q : List (List ℕ)). IsReached q part) (cut-none cut) reached)
+part_at {x} (set ∷ hi) cut reached = at_split x (splits cut) reached
 
-pub cut-splits : (x : ℕ) (f lo hi : List (List ℕ)) → Cuts x f lo hi → hi ≢ [] → Splits x f lo hi
-cut-splits x f lo hi cut some = record { cut = cut; some_with = some }
+pub cut-splits : {x : ℕ} {f lo hi : List (List ℕ)} → Cuts x f lo hi → hi ≢ [] → Splits x f lo hi
+cut-splits cut some = record { cut = cut; some_with = some }
 
 -- a cut without sets with the unit is of a family above it
-pub cut-above : (x : ℕ) (f lo : List (List ℕ)) → Cuts x f lo [] → IsAbove x f
-cut-above x f lo cut = subst (IsAbove x) (sym (cut-none x f lo cut)) cut.lo_above
+pub cut-above : {x : ℕ} {f lo : List (List ℕ)} → Cuts x f lo [] → IsAbove x f
+cut-above {x} cut = subst (IsAbove x) (sym (cut-none cut)) cut.lo_above
 
 -- a branch of known parts is cut into them
-pub cut-branch : (x : ℕ) (f lo hi : List (List ℕ)) → f ≡ branch x lo hi → IsAbove x lo → IsAbove x hi → Cuts x f lo hi
-cut-branch x f lo hi is above above' = record { is = is; lo_above = above; hi_above = above' }
+pub cut-branch : {x : ℕ} {f lo hi : List (List ℕ)} → f ≡ branch x lo hi → IsAbove x lo → IsAbove x hi → Cuts x f lo hi
+cut-branch is above above' = record { is = is; lo_above = above; hi_above = above' }
 
 -- ---- where a part of a result comes from
 
@@ -167,15 +167,15 @@ pub data Origin (Due : Type 0) (f g part : List (List ℕ)) : Type 0 where
   of_first : IsReached f part → Origin Due f g part
   of_second : IsReached g part → Origin Due f g part
 
-pub origin-map : (Due Due' : Type 0) (f g f' g' part : List (List ℕ)) → (Due → Due')
+pub origin-map : (Due Due' : Type 0) {f g f' g' part : List (List ℕ)} → (Due → Due')
     → (IsReached f part → IsReached f' part) → (IsReached g part → IsReached g' part) → Origin Due f g part
     → Origin Due' f' g' part
-origin-map Due Due' f g f' g' part to first second (is_due h) = is_due (to h)
-origin-map Due Due' f g f' g' part to first second (of_first h) = of_first (first h)
-origin-map Due Due' f g f' g' part to first second (of_second h) = of_second (second h)
+origin-map Due Due' to first second (is_due h) = is_due (to h)
+origin-map Due Due' to first second (of_first h) = of_first (first h)
+origin-map Due Due' to first second (of_second h) = of_second (second h)
 
-pub origin-cases : (Due : Type 0) (f g part : List (List ℕ)) → Origin Due f g part
+pub origin-cases : (Due : Type 0) {f g part : List (List ℕ)} → Origin Due f g part
     → Due ⊎ (IsReached f part ⊎ IsReached g part)
-origin-cases Due f g part (is_due h) = inl h
-origin-cases Due f g part (of_first h) = inr (inl h)
-origin-cases Due f g part (of_second h) = inr (inr h)
+origin-cases Due (is_due h) = inl h
+origin-cases Due (of_first h) = inr (inl h)
+origin-cases Due (of_second h) = inr (inr h)

@@ -5,10 +5,9 @@ use Rattle.unit_sets.proofs.Sorted.{Contains-nil, Contains-cons_first}
 use Rattle.zdd_families.specs.Family.{IsFamily, IsAbove, IsSetAbove, branch}
 use Rattle.zdd_families.proofs.FamilyLemmas.{IsFamily-branch, IsFamily-nil, same_family}
 use Rattle.zdd_families.proofs.Members.{HasWith, branch-has_lo, branch-has_hi, branch-cases}
-use Rattle.zdd_families.specs.Cuts.{Cuts}
+use Rattle.zdd_families.specs.{Cuts.Cuts, Sets.joined}
 use Rattle.zdd_families.proofs.CutsLemmas.{cut_cases, cut_has_lo, cut_has_hi, set_above, set_rises}
 use Rattle.zdd_families.proofs.CutsLemmas.{each-from_contains, only_empty}
-use Rattle.zdd_families.specs.Sets.{joined}
 use Rattle.zdd_families.proofs.SetsLemmas.{joined-left, joined-right, joined-both, joined-nil, IsSetAbove-joined}
 use Rattle.zdd_families.proofs.UnionLemmas.{union-above}
 use Rattle.zdd_families.specs.Product.{IsJoin, IsProduct, IsProductOfParts}
@@ -57,12 +56,11 @@ product-unit g is = record {
       );
 }
 
-from_with_unit : (f : List (List ℕ)) (set : List ℕ) → IsFamily f → IsJoin f ([] ∷ []) set → Contains f set
-from_with_unit f set is join =
+from_with_unit : {f : List (List ℕ)} (set : List ℕ) → IsFamily f → IsJoin f ([] ∷ []) set → Contains f set
+from_with_unit {f} set is join =
     subst (Contains f)
     (sym (join.is ∙ ap (λ q. joined join.first q) (sym (only_empty join.second join.of_g))
-    ∙ joined-nil join.first (set_rises f join.first is join.of_f)))
-    join.of_f
+    ∙ joined-nil join.first (set_rises join.first is join.of_f))) join.of_f
 
 pub product-with_unit : (f : List (List ℕ)) → IsFamily f → IsProduct f ([] ∷ []) f
 product-with_unit f is = record {
@@ -74,17 +72,16 @@ product-with_unit f is = record {
           second = [];
           of_f = has;
           of_g = Contains-cons_first [] [];
-          is =
-              sym (joined-nil set (set_rises f set is has));
+          is = sym (joined-nil set (set_rises set is has));
         },
-        from_with_unit f set is,
+        from_with_unit set is,
       );
 }
 
 -- ---- the product of two families that are cut at one unit
 
-pub product-above : (x : ℕ) (f g h : List (List ℕ)) → IsProduct f g h → IsAbove x f → IsAbove x g → IsAbove x h
-product-above x f g h is above above' =
+pub product-above : (x : ℕ) {f g h : List (List ℕ)} → IsProduct f g h → IsAbove x f → IsAbove x g → IsAbove x h
+product-above x {f} {g} {h} is above above' =
     each-from_contains (IsSetAbove x) h (λ set has.
     let join : IsJoin f g set = (is.sets set).0 has in
     subst (IsSetAbove x) (sym join.is)
@@ -95,48 +92,48 @@ module _ (x : ℕ) (f f0 f1 g g0 g1 h0 h1 : List (List ℕ)) (cut : Cuts x f f0 
     (lo_family : IsFamily g0) (hi_family : IsFamily g1) (parts : IsProductOfParts f0 f1 g0 g1 h0 h1) where
   -- ---- each set of the branch is a union
 
-  both_to : (rest : List ℕ) → IsJoin f1 g1 rest → IsJoin f g (x ∷ rest)
-  both_to rest join = record {
+  both_to : {rest : List ℕ} → IsJoin f1 g1 rest → IsJoin f g (x ∷ rest)
+  both_to join = record {
     first = x ∷ join.first;
     second = x ∷ join.second;
-    of_f = cut_has_hi x f f0 f1 join.first cut join.of_f;
-    of_g = cut_has_hi x g g0 g1 join.second cut' join.of_g;
+    of_f = cut_has_hi join.first cut join.of_f;
+    of_g = cut_has_hi join.second cut' join.of_g;
     is =
         ap (λ q. x ∷ q) join.is ∙ sym (joined-both x join.first join.second
         (set_above x f1 join.first cut.hi_above join.of_f) (set_above x g1 join.second cut'.hi_above join.of_g)
-        (set_rises g1 join.second hi_family join.of_g));
+        (set_rises join.second hi_family join.of_g));
   }
 
-  first_to : (rest : List ℕ) → IsJoin f1 g0 rest → IsJoin f g (x ∷ rest)
-  first_to rest join = record {
+  first_to : {rest : List ℕ} → IsJoin f1 g0 rest → IsJoin f g (x ∷ rest)
+  first_to join = record {
     first = x ∷ join.first;
     second = join.second;
-    of_f = cut_has_hi x f f0 f1 join.first cut join.of_f;
-    of_g = cut_has_lo x g g0 g1 join.second cut' join.of_g;
+    of_f = cut_has_hi join.first cut join.of_f;
+    of_g = cut_has_lo join.second cut' join.of_g;
     is =
         ap (λ q. x ∷ q) join.is ∙ sym (joined-left x join.first join.second
         (set_above x f1 join.first cut.hi_above join.of_f) (set_above x g0 join.second cut'.lo_above join.of_g)
-        (set_rises g0 join.second lo_family join.of_g));
+        (set_rises join.second lo_family join.of_g));
   }
 
-  second_to : (rest : List ℕ) → IsJoin f0 g1 rest → IsJoin f g (x ∷ rest)
-  second_to rest join = record {
+  second_to : {rest : List ℕ} → IsJoin f0 g1 rest → IsJoin f g (x ∷ rest)
+  second_to join = record {
     first = join.first;
     second = x ∷ join.second;
-    of_f = cut_has_lo x f f0 f1 join.first cut join.of_f;
-    of_g = cut_has_hi x g g0 g1 join.second cut' join.of_g;
+    of_f = cut_has_lo join.first cut join.of_f;
+    of_g = cut_has_hi join.second cut' join.of_g;
     is =
         ap (λ q. x ∷ q) join.is ∙ sym (joined-right x join.first join.second
         (set_above x f0 join.first cut.lo_above join.of_f) (set_above x g1 join.second cut'.hi_above join.of_g)
-        (set_rises g1 join.second hi_family join.of_g));
+        (set_rises join.second hi_family join.of_g));
   }
 
-  none_to : (set : List ℕ) → IsJoin f0 g0 set → IsJoin f g set
-  none_to set join = record {
+  none_to : {set : List ℕ} → IsJoin f0 g0 set → IsJoin f g set
+  none_to join = record {
     first = join.first;
     second = join.second;
-    of_f = cut_has_lo x f f0 f1 join.first cut join.of_f;
-    of_g = cut_has_lo x g g0 g1 join.second cut' join.of_g;
+    of_f = cut_has_lo join.first cut join.of_f;
+    of_g = cut_has_lo join.second cut' join.of_g;
     is = join.is;
   }
 
@@ -144,16 +141,16 @@ module _ (x : ℕ) (f f0 f1 g g0 g1 h0 h1 : List (List ℕ)) (cut : Cuts x f f0 
   with_to rest has =
       elim ((parts.all_is.sets rest).0 has) [
         | inl some ↦ elim ((parts.some_is.sets rest).0 some) [
-          | inl both ↦ both_to rest ((parts.both_is.sets rest).0 both)
-          | inr first ↦ first_to rest ((parts.first_is.sets rest).0 first)
+          | inl both ↦ both_to ((parts.both_is.sets rest).0 both)
+          | inr first ↦ first_to ((parts.first_is.sets rest).0 first)
         ]
-        | inr second ↦ second_to rest ((parts.second_is.sets rest).0 second)
+        | inr second ↦ second_to ((parts.second_is.sets rest).0 second)
       ]
 
   to : (set : List ℕ) → Contains (branch x h0 h1) set → IsJoin f g set
   to set has =
       elim (branch-cases x h0 h1 set has) [
-        | inl of_lo ↦ none_to set ((parts.none_is.sets set).0 of_lo)
+        | inl of_lo ↦ none_to ((parts.none_is.sets set).0 of_lo)
         | inr with_x ↦ subst (IsJoin f g) (sym with_x.1) (with_to with_x.0 with_x.2)
       ]
 
@@ -166,57 +163,51 @@ module _ (x : ℕ) (f f0 f1 g g0 g1 h0 h1 : List (List ℕ)) (cut : Cuts x f f0 
   both_from a b of_f of_g =
       subst (Contains (branch x h0 h1))
       (sym (joined-both x a b (set_above x f1 a cut.hi_above of_f) (set_above x g1 b cut'.hi_above of_g)
-      (set_rises g1 b hi_family of_g)))
-      (some_into (joined a b) ((parts.some_is.sets (joined a b)).1
+      (set_rises b hi_family of_g))) (some_into (joined a b) ((parts.some_is.sets (joined a b)).1
       (inl (product-has parts.both_is a b of_f of_g))))
 
   first_from : (a b : List ℕ) → Contains f1 a → Contains g0 b → Contains (branch x h0 h1) (joined (x ∷ a) b)
   first_from a b of_f of_g =
       subst (Contains (branch x h0 h1))
       (sym (joined-left x a b (set_above x f1 a cut.hi_above of_f) (set_above x g0 b cut'.lo_above of_g)
-      (set_rises g0 b lo_family of_g)))
-      (some_into (joined a b) ((parts.some_is.sets (joined a b)).1
+      (set_rises b lo_family of_g))) (some_into (joined a b) ((parts.some_is.sets (joined a b)).1
       (inr (product-has parts.first_is a b of_f of_g))))
 
   second_from : (a b : List ℕ) → Contains f0 a → Contains g1 b → Contains (branch x h0 h1) (joined a (x ∷ b))
   second_from a b of_f of_g =
       subst (Contains (branch x h0 h1))
       (sym (joined-right x a b (set_above x f0 a cut.lo_above of_f) (set_above x g1 b cut'.hi_above of_g)
-      (set_rises g1 b hi_family of_g)))
-      (branch-has_hi x h0 h1 (joined a b) ((parts.all_is.sets (joined a b)).1
+      (set_rises b hi_family of_g))) (branch-has_hi x h0 h1 (joined a b) ((parts.all_is.sets (joined a b)).1
       (inr (product-has parts.second_is a b of_f of_g))))
 
   none_from : (a b : List ℕ) → Contains f0 a → Contains g0 b → Contains (branch x h0 h1) (joined a b)
   none_from a b of_f of_g =
       branch-has_lo x h0 h1 (joined a b) (product-has parts.none_is a b of_f of_g)
 
-  joins : (a b : List ℕ) → Contains f0 a ⊎ HasWith x f1 a → Contains g0 b ⊎ HasWith x g1 b
+  joins : {a b : List ℕ} → Contains f0 a ⊎ HasWith x f1 a → Contains g0 b ⊎ HasWith x g1 b
       → Contains (branch x h0 h1) (joined a b)
-  joins a b (inl of_f) (inl of_g) = none_from a b of_f of_g
-  joins a b (inl of_f) (inr (b', same, of_g)) =
+  joins {a} {b} (inl of_f) (inl of_g) = none_from a b of_f of_g
+  joins {a} (inl of_f) (inr (b', same, of_g)) =
       subst (λ (q : List ℕ). Contains (branch x h0 h1) (joined a q)) (sym same) (second_from a b' of_f of_g)
-  joins a b (inr (a', same, of_f)) (inl of_g) =
+  joins {b} (inr (a', same, of_f)) (inl of_g) =
       subst (λ (q : List ℕ). Contains (branch x h0 h1) (joined q b)) (sym same) (first_from a' b of_f of_g)
-  joins a b (inr (a', same, of_f)) (inr (b', same', of_g)) =
+  joins {b} (inr (a', same, of_f)) (inr (b', same', of_g)) =
       subst (λ (q : List ℕ). Contains (branch x h0 h1) (joined q b)) (sym same)
       (subst (λ (q : List ℕ). Contains (branch x h0 h1) (joined (x ∷ a') q)) (sym same') (both_from a' b' of_f of_g))
 
   from : (set : List ℕ) → IsJoin f g set → Contains (branch x h0 h1) set
   from set join =
-      subst (Contains (branch x h0 h1)) (sym join.is)
-      (joins join.first join.second (cut_cases x f f0 f1 join.first cut join.of_f)
-      (cut_cases x g g0 g1 join.second cut' join.of_g))
+      subst (Contains (branch x h0 h1)) (sym join.is) (joins (cut_cases join.first cut join.of_f)
+      (cut_cases join.second cut' join.of_g))
 
   lo_above : IsAbove x h0
-  lo_above = product-above x f0 g0 h0 parts.none_is cut.lo_above cut'.lo_above
+  lo_above = product-above x parts.none_is cut.lo_above cut'.lo_above
 
   hi_above : IsAbove x h1
   hi_above =
-      union-above x parts.some_with parts.second_with h1 parts.all_is
-      (union-above x parts.both_with parts.first_with parts.some_with parts.some_is
-      (product-above x f1 g1 parts.both_with parts.both_is cut.hi_above cut'.hi_above)
-      (product-above x f1 g0 parts.first_with parts.first_is cut.hi_above cut'.lo_above))
-      (product-above x f0 g1 parts.second_with parts.second_is cut.lo_above cut'.hi_above)
+      union-above x parts.all_is (union-above x parts.some_is (product-above x parts.both_is cut.hi_above cut'.hi_above)
+      (product-above x parts.first_is cut.hi_above cut'.lo_above))
+      (product-above x parts.second_is cut.lo_above cut'.hi_above)
 
   pub product-step : IsProduct f g (branch x h0 h1)
   product-step = record {

@@ -14,7 +14,7 @@ Splits-node known r closed has = record {
   cut = record {
     is = family-node known r closed has;
     lo_above = lo_units known (known r) closed (closed r has).1;
-    hi_above = hi_units known (known r) closed (closed r has).1;
+    hi_above = hi_units {known = known} {word = known r} closed (closed r has).1;
   };
   some_with = hi_filled known (known r) closed (closed r has).1;
 }
@@ -30,7 +30,7 @@ IsInnerFamily-reference known r closed unique knows above = record {
 }
 
 -- different references have different families
-pub different_families : (known : ℕ → ℕ) (r q : ℕ) → IsClosed known → IsUnique known → Knows known r → Knows known q
+pub different_families : (known : ℕ → ℕ) {r q : ℕ} → IsClosed known → IsUnique known → Knows known r → Knows known q
     → r ≢ q → family known r ≢ family known q
-different_families known r q closed unique knows knows' differ same =
+different_families known {r} {q} closed unique knows knows' differ same =
     differ (family-same known r q closed unique knows knows' same)

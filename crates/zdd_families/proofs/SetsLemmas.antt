@@ -1,16 +1,13 @@
 -- What follows from the definitions of `specs/Sets`.
 use Rattle.std.specs.Prelude.{◌≡◌, ℕ, ◌<◌, Bool, true, false, ◌==◌, ◌||◌, List, [], ◌∷◌}
-use Rattle.std.specs.List.{AllByRecursion}
-use Rattle.std.specs.List.Sorted.{IsStrictlySortedBy}
-use Rattle.std.specs.Ordering.{nat_cmp}
-use Rattle.std.specs.declared.cmp.Ordering.TheVariants.{Less}
+use Rattle.std.specs.{List.AllByRecursion, List.Sorted.IsStrictlySortedBy, Ordering.nat_cmp}
+use Rattle.std.specs.{declared.cmp.Ordering.TheVariants.Less}
 use Rattle.std.proofs.Common.{refl, sym, ◌∙◌, ap, subst, inl, inr, arith, eq-eqb}
 use Rattle.std.proofs.lemmas.Bool.{or_cases, or_left, or_right, eqb-true}
 use Rattle.std.proofs.lemmas.Bool.Decides.{nat_tests}
 use Rattle.unit_sets.specs.UnitList.{among, IsRising}
 use Rattle.unit_sets.proofs.UnitListLemmas.{among-with_unit, IsRising-with_unit, same_set}
-use Rattle.zdd_families.specs.Family.{IsSetAbove}
-use Rattle.zdd_families.specs.Sets.{joined}
+use Rattle.zdd_families.specs.{Family.IsSetAbove, Sets.joined}
 
 or_assoc : (a b c : Bool) → (a || (b || c)) ≡ ((a || b) || c)
 or_assoc true b c = refl

@@ -1,24 +1,17 @@
 -- What follows from the definitions of `specs/Spans`.
 use Rattle.std.specs.Prelude.{◌≡◌, ◌⊎◌, ℕ, zero, suc, ◌+◌, ◌<◌, ◌≤◌, ◌==◌, List, [], ◌∷◌, ◌++◌, Contains}
-use Rattle.std.specs.List.{AllByRecursion}
-use Rattle.std.specs.List.Sorted.{IsStrictlySortedBy}
-use Rattle.std.specs.Ordering.{nat_cmp, ordering_then}
-use Rattle.std.specs.declared.cmp.Ordering.TheVariants.{Less}
+use Rattle.std.specs.{List.AllByRecursion, List.Sorted.IsStrictlySortedBy, Ordering.nat_cmp, Ordering.ordering_then}
+use Rattle.std.specs.{declared.cmp.Ordering.TheVariants.Less}
 use Rattle.std.proofs.Common.{refl, sym, ◌∙◌, ap, subst, inl, inr, arith, eq-eqb}
 use Rattle.std.proofs.lemmas.Bool.{cases_eq, or_left, or_right}
-use Rattle.std.proofs.lemmas.Bool.Decides.{nat_tests}
-use Rattle.std.proofs.lemmas.Cmp.{nat_cmp_total, tied_itself}
-use Rattle.std.proofs.lemmas.List.{append-nil}
+use Rattle.std.proofs.{lemmas.Bool.Decides.nat_tests, lemmas.Cmp.nat_cmp_total, lemmas.Cmp.tied_itself}
+use Rattle.std.proofs.{lemmas.List.append-nil}
 use Rattle.unit_sets.proofs.Sorted.{Contains-cons_first, Contains-cons_other}
 use Rattle.unit_sets.specs.UnitList.{among, IsRising}
 use Rattle.zdd_families.specs.Family.{IsFamily, IsAbove, IsSetAbove, branch, each_with, set_cmp}
-use Rattle.zdd_families.proofs.FamilyLemmas.{IsFamily-nil}
-use Rattle.zdd_families.proofs.Lists.{each-weaker}
-use Rattle.zdd_families.specs.Cuts.{Cuts}
-use Rattle.zdd_families.proofs.CutsLemmas.{cut_has_lo, cut_has_hi}
-use Rattle.zdd_families.proofs.InclusionLemmas.{above_first}
-use Rattle.zdd_families.proofs.SetsLemmas.{IsRising-rest}
-use Rattle.zdd_families.specs.Spans.{Spans}
+use Rattle.zdd_families.proofs.{FamilyLemmas.IsFamily-nil, Lists.each-weaker, CutsLemmas.cut_has_lo}
+use Rattle.zdd_families.proofs.{CutsLemmas.cut_has_hi, InclusionLemmas.above_first, SetsLemmas.IsRising-rest}
+use Rattle.zdd_families.specs.{Cuts.Cuts, Spans.Spans}
 
 -- ---- a family without the empty set, cut at its first number
 
@@ -38,19 +31,19 @@ record Divided (x : ℕ) (family : List (List ℕ)) : Type 0 where
 abbrev AreFilled : List (List ℕ) → Type 0
 AreFilled family = AllByRecursion (λ set. set_cmp [] set ≡ Less) family
 
-family_rest : (first : List ℕ) (others : List (List ℕ)) → IsFamily (first ∷ others) → IsFamily others
+family_rest : {first : List ℕ} {others : List (List ℕ)} → IsFamily (first ∷ others) → IsFamily others
 unfolding IsStrictlySortedBy
-family_rest first others is = record { ordered = is.ordered.1; rising = is.rising.1 }
+family_rest is = record { ordered = is.ordered.1; rising = is.rising.1 }
 
-family_first : (first : List ℕ) (others : List (List ℕ)) → IsFamily (first ∷ others)
+family_first : {first : List ℕ} {others : List (List ℕ)} → IsFamily (first ∷ others)
     → AllByRecursion (λ set. set_cmp first set ≡ Less) others
 unfolding IsStrictlySortedBy
-family_first first others is = is.ordered.0
+family_first is = is.ordered.0
 
-family_with : (first : List ℕ) (others : List (List ℕ)) → AllByRecursion (λ set. set_cmp first set ≡ Less) others
+family_with : {first : List ℕ} {others : List (List ℕ)} → AllByRecursion (λ set. set_cmp first set ≡ Less) others
     → IsRising first → IsFamily others → IsFamily (first ∷ others)
 unfolding IsStrictlySortedBy
-family_with first others before rises is = record { ordered = (before, is.ordered); rising = (rises, is.rising) }
+family_with before rises is = record { ordered = (before, is.ordered); rising = (rises, is.rising) }
 
 -- a set after one that begins above x is above x
 after_above : (x unit : ℕ) (set other : List ℕ) → x < unit → IsRising other → set_cmp (unit ∷ set) other ≡ Less
@@ -86,16 +79,16 @@ filled_after unit set ([] ∷ others) after = absurd (let e = after.0 in cc)
 filled_after unit set ((first ∷ other) ∷ others) after = (refl, filled_after unit set others after.1)
 
 module _ (low : ℕ) where
-  with_first : (unit : ℕ) (set : List ℕ) (others : List (List ℕ)) → suc low ≡ unit → IsFamily ((unit ∷ set) ∷ others)
+  with_first : {unit : ℕ} {set : List ℕ} {others : List (List ℕ)} → suc low ≡ unit → IsFamily ((unit ∷ set) ∷ others)
       → Divided (suc low) others → Divided (suc low) ((unit ∷ set) ∷ others)
-  with_first unit set others same is rest =
+  with_first {set} {others} same is rest =
       let x : ℕ = suc low in
       let rises : IsRising (suc low ∷ set) = subst (λ (q : ℕ). IsRising (q ∷ set)) (sym same) is.rising.0 in
       let after : AllByRecursion (λ other. set_cmp (suc low ∷ set) other ≡ Less)
       (each_with (suc low) rest.hi ++ rest.lo) =
       subst (λ (q : List (List ℕ)). AllByRecursion (λ other. set_cmp (suc low ∷ set) other ≡ Less) q) rest.divides.is
       (subst (λ (q : ℕ). AllByRecursion (λ other. set_cmp (q ∷ set) other ≡ Less) others) (sym same)
-      (family_first (unit ∷ set) others is)) in
+      (family_first is)) in
       record {
         lo = rest.lo;
         hi = set ∷ rest.hi;
@@ -103,7 +96,7 @@ module _ (low : ℕ) where
           is = ap (λ q. (q ∷ set) ∷ others) (sym same) ∙ ap (λ q. (suc low ∷ set) ∷ q) rest.divides.is;
           lo_is = rest.divides.lo_is;
           hi_is =
-              family_with set rest.hi (each_after (suc low) set rest.hi rest.lo after)
+              family_with (each_after (suc low) set rest.hi rest.lo after)
               (IsRising-rest (suc low) set rises) rest.divides.hi_is;
           lo_above = rest.divides.lo_above;
           hi_above = (above_first (suc low) set rises, rest.divides.hi_above);
@@ -128,8 +121,7 @@ module _ (low : ℕ) where
   divided ([] ∷ others) is filled above = absurd (let e = filled.0 in cc)
   divided ((unit ∷ set) ∷ others) is filled above =
       elim (cases_eq (suc low) unit) [
-        | inl same ↦ with_first unit set others same is
-            (divided others (family_rest (unit ∷ set) others is) filled.1 above.1)
+        | inl same ↦ with_first same is (divided others (family_rest is) filled.1 above.1)
         | inr other ↦
             let high : suc low < unit = (let k = above.0.0 in omega (arith, other)) in
             record {
@@ -145,7 +137,7 @@ module _ (low : ℕ) where
                     each-weaker (λ u. unit < u) (λ u. suc low < u) set (λ u k. omega (arith, high))
                         (above_first unit set is.rising.0),
                   ),
-                  all_after (suc low) unit set others high is.rising.1 (family_first (unit ∷ set) others is),
+                  all_after (suc low) unit set others high is.rising.1 (family_first is),
                 );
                 hi_above = tt;
               };
@@ -172,9 +164,9 @@ filled_lo : (x : ℕ) (hi lo : List (List ℕ)) → AreFilled (each_with x hi ++
 filled_lo x [] lo filled = filled
 filled_lo x (set ∷ hi) lo filled = filled_lo x hi lo filled.1
 
-cut_filled : (low : ℕ) (family : List (List ℕ)) → IsFamily family → AreFilled family → IsAbove low family
+cut_filled : (low : ℕ) {family : List (List ℕ)} → IsFamily family → AreFilled family → IsAbove low family
     → CutAt (suc low) family
-cut_filled low family is filled above =
+cut_filled low {family} is filled above =
     let parts : Divided (suc low) family = divided low family is filled above in
     let rest : AreFilled parts.lo = filled_lo (suc low) parts.hi parts.lo (subst AreFilled parts.divides.is filled) in
     record {
@@ -189,11 +181,11 @@ cut_filled low family is filled above =
       hi_is = parts.divides.hi_is;
     }
 
-cut_empty : (low : ℕ) (others : List (List ℕ)) → IsFamily ([] ∷ others) → IsAbove low others
+cut_empty : (low : ℕ) {others : List (List ℕ)} → IsFamily ([] ∷ others) → IsAbove low others
     → CutAt (suc low) ([] ∷ others)
-cut_empty low others is above =
-    let filled : AreFilled others = family_first [] others is in
-    let parts : Divided (suc low) others = divided low others (family_rest [] others is) filled above in
+cut_empty low {others} is above =
+    let filled : AreFilled others = family_first is in
+    let parts : Divided (suc low) others = divided low others (family_rest is) filled above in
     let rest : AreFilled parts.lo = filled_lo (suc low) parts.hi parts.lo (subst AreFilled parts.divides.is filled) in
     record {
       lo = [] ∷ parts.lo;
@@ -203,59 +195,59 @@ cut_empty low others is above =
         lo_above = (tt, parts.divides.lo_above);
         hi_above = parts.divides.hi_above;
       };
-      lo_is = family_with [] parts.lo rest is.rising.0 parts.divides.lo_is;
+      lo_is = family_with rest is.rising.0 parts.divides.lo_is;
       hi_is = parts.divides.hi_is;
     }
 
 pub cut_at : (low : ℕ) (family : List (List ℕ)) → IsFamily family → IsAbove low family → CutAt (suc low) family
-cut_at low [] is above = cut_filled low [] is tt above
-cut_at low ([] ∷ others) is above = cut_empty low others is above.1
+cut_at low [] is above = cut_filled low is tt above
+cut_at low ([] ∷ others) is above = cut_empty low is above.1
 cut_at low ((unit ∷ set) ∷ others) is above =
-    cut_filled low ((unit ∷ set) ∷ others) is (refl, filled_after unit set others (family_first (unit ∷ set) others is))
-    above
+    cut_filled low is (refl, filled_after unit set others (family_first is)) above
 
 -- ---- the parts span one number less
 
-module _ (low size : ℕ) (f lo hi : List (List ℕ)) (cut : Cuts (suc low) f lo hi) (spans : Spans low (suc size) f) where
-  pub Spans-lo : IsFamily lo → Spans (suc low) size lo
-  Spans-lo is = record {
-    is_family = is;
-    above = cut.lo_above;
-    below =
-        λ set has unit member. let k = spans.below set (cut_has_lo (suc low) f lo hi set cut has) unit member in
-        omega (arith, k);
-  }
+module _ {low : ℕ} (size : ℕ) {f lo hi : List (List ℕ)} (cut : Cuts (suc low) f lo hi) (spans : Spans low (suc size) f)
+  where
+    pub Spans-lo : IsFamily lo → Spans (suc low) size lo
+    Spans-lo is = record {
+      is_family = is;
+      above = cut.lo_above;
+      below =
+          λ set has unit member. let k = spans.below set (cut_has_lo set cut has) unit member in
+          omega (arith, k);
+    }
 
-  pub Spans-hi : IsFamily hi → Spans (suc low) size hi
-  Spans-hi is = record {
-    is_family = is;
-    above = cut.hi_above;
-    below = λ set has unit member.
-        let k =
-        spans.below (suc low ∷ set) (cut_has_hi (suc low) f lo hi set cut has) unit
-        (or_right (suc low == unit) (among set unit) member) in
-        omega (arith, k);
-  }
+    pub Spans-hi : IsFamily hi → Spans (suc low) size hi
+    Spans-hi is = record {
+      is_family = is;
+      above = cut.hi_above;
+      below = λ set has unit member.
+          let k =
+          spans.below (suc low ∷ set) (cut_has_hi set cut has) unit
+          (or_right (suc low == unit) (among set unit) member) in
+          omega (arith, k);
+    }
 
 -- a family that spans no numbers has no units
-no_units : (low unit : ℕ) (set : List ℕ) (f : List (List ℕ)) → Spans low zero f → Contains f (unit ∷ set)
+no_units : {low : ℕ} (unit : ℕ) (set : List ℕ) {f : List (List ℕ)} → Spans low zero f → Contains f (unit ∷ set)
     → IsSetAbove low (unit ∷ set) → ⊥
-no_units low unit set f spans has above =
+no_units {low} unit set spans has above =
     let k : unit ≤ low + zero =
     spans.below (unit ∷ set) has unit (or_left (unit == unit) (among set unit) (eq-eqb unit unit refl)) in
     let h : low < unit = above.0 in
     omega (arith, k, h)
 
-pub no_span : (low : ℕ) (f : List (List ℕ)) → Spans low zero f → (f ≡ []) ⊎ (f ≡ [] ∷ [])
-no_span low [] spans = inl refl
-no_span low ([] ∷ []) spans = inr refl
-no_span low ([] ∷ [] ∷ others) spans = absurd (let e = (family_first [] ([] ∷ others) spans.is_family).0 in cc)
-no_span low ([] ∷ (unit ∷ set) ∷ others) spans =
-    absurd (no_units low unit set ([] ∷ (unit ∷ set) ∷ others) spans
+pub no_span : {low : ℕ} (f : List (List ℕ)) → Spans low zero f → (f ≡ []) ⊎ (f ≡ [] ∷ [])
+no_span [] spans = inl refl
+no_span ([] ∷ []) spans = inr refl
+no_span ([] ∷ [] ∷ others) spans = absurd (let e = (family_first spans.is_family).0 in cc)
+no_span ([] ∷ (unit ∷ set) ∷ others) spans =
+    absurd (no_units unit set spans
     (Contains-cons_other [] (unit ∷ set) ((unit ∷ set) ∷ others) (Contains-cons_first (unit ∷ set) others))
     spans.above.1.0)
-no_span low ((unit ∷ set) ∷ others) spans =
-    absurd (no_units low unit set ((unit ∷ set) ∷ others) spans (Contains-cons_first (unit ∷ set) others) spans.above.0)
+no_span ((unit ∷ set) ∷ others) spans =
+    absurd (no_units unit set spans (Contains-cons_first (unit ∷ set) others) spans.above.0)
 
 -- both parts of a family that is cut at its first number
 pub record Halves (low size : ℕ) (f : List (List ℕ)) : Type 0 where
@@ -265,15 +257,15 @@ pub record Halves (low size : ℕ) (f : List (List ℕ)) : Type 0 where
   pub lo_spans : Spans (suc low) size lo
   pub hi_spans : Spans (suc low) size hi
 
-pub halves : (low size : ℕ) (f : List (List ℕ)) → Spans low (suc size) f → Halves low size f
-halves low size f spans =
+pub halves : {low size : ℕ} {f : List (List ℕ)} → Spans low (suc size) f → Halves low size f
+halves {low} {size} {f} spans =
     let c : CutAt (suc low) f = cut_at low f spans.is_family spans.above in
     record {
       lo = c.lo;
       hi = c.hi;
       cut = c.cut;
-      lo_spans = Spans-lo low size f c.lo c.hi c.cut spans c.lo_is;
-      hi_spans = Spans-hi low size f c.lo c.hi c.cut spans c.hi_is;
+      lo_spans = Spans-lo size c.cut spans c.lo_is;
+      hi_spans = Spans-hi size c.cut spans c.hi_is;
     }
 
 -- ---- the parts of a family that is split

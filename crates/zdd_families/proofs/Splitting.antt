@@ -4,28 +4,26 @@ use Rattle.std.proofs.Common.{refl, sym, ◌∙◌, inl, inr}
 use Rattle.std.proofs.lemmas.Bool.{cases_Bool, false≢true}
 use Rattle.unit_sets.specs.UnitList.{some_within}
 use Rattle.zdd_families.proofs.WithinLemmas.{HasWithin, HasWithin-from_test, some_within-from_set, passes_within}
-use Rattle.zdd_families.specs.Inclusion.{includes_one, Includes}
+use Rattle.zdd_families.specs.{Inclusion.includes_one, Inclusion.Includes, Without.IsWithout, Least.IsLeastUnion}
+use Rattle.zdd_families.specs.{Least.IsLeastProduct}
 use Rattle.zdd_families.proofs.InclusionLemmas.{Includes-from_test, test-from_part, within_itself}
-use Rattle.zdd_families.specs.Without.{IsWithout}
-use Rattle.zdd_families.specs.Least.{IsLeastUnion, IsLeastProduct}
-use Rattle.zdd_families.proofs.LeastLemmas.{IsLeastFor-same}
-use Rattle.zdd_families.proofs.LeastNodesLemmas.{some_within-left}
-use Rattle.zdd_families.proofs.StepsLemmas.{and_of, or_of}
+use Rattle.zdd_families.proofs.{LeastLemmas.IsLeastFor-same, LeastNodesLemmas.some_within-left, StepsLemmas.and_of}
+use Rattle.zdd_families.proofs.{StepsLemmas.or_of}
 
 or_first : (a b : Bool) → (a ≡ true → b ≡ true) → (a || b) ≡ b
 or_first true b h = sym (h refl)
 or_first false b h = refl
 
 -- A family is what is left of it without the other, and the common part: its sets that include one of the other.
-module _ (f g rest common : List (List ℕ)) (left : IsWithout f g rest) (split : IsWithout f rest common)
+module _ {f g rest common : List (List ℕ)} (left : IsWithout f g rest) (split : IsWithout f rest common)
     (within : ℕ → Bool) where
   rest_hits : some_within rest within ≡ true → some_within f within ≡ true
   rest_hits t =
-      let found : HasWithin rest within = HasWithin-from_test rest within t in
+      let found : HasWithin rest within = HasWithin-from_test rest t in
       some_within-from_set f within found.set ((left.sets found.set).0 found.has).0 found.passes
 
   pub some_within-split : some_within f within ≡ (some_within rest within || some_within common within)
-  some_within-split = sym (some_within-left f rest common split within
+  some_within-split = sym (some_within-left split within
       ∙ or_first (some_within rest within) (some_within f within) rest_hits)
 
   includes_other : (found : HasWithin common within) → includes_one g found.set ≡ true
@@ -40,7 +38,7 @@ module _ (f g rest common : List (List ℕ)) (left : IsWithout f g rest) (split 
 
   pub common_hits_other : some_within common within ≡ true → some_within g within ≡ true
   common_hits_other t =
-      let found : HasWithin common within = HasWithin-from_test common within t in
+      let found : HasWithin common within = HasWithin-from_test common t in
       let part : Includes g found.set = Includes-from_test g found.set (includes_other found) in
       some_within-from_set g within part.part part.has
       (passes_within within found.set part.part part.within found.passes)
@@ -68,18 +66,13 @@ pub least_product-split : (f g rest rest' common common' alone joined least : Li
     → IsLeastUnion common common' alone → IsLeastProduct rest rest' joined → IsLeastUnion alone joined least
     → IsLeastProduct f g least
 least_product-split f g rest rest' common common' alone joined least left left' split split' alone_is joined_is is =
-    IsLeastFor-same _ (λ within. some_within f within && some_within g within) least is (λ within.
+    IsLeastFor-same is (λ within.
     let of_f : some_within f within ≡ (some_within rest within || some_within common within) =
-    some_within-split f g rest common left split within in
+    some_within-split left split within in
     let of_g : some_within g within ≡ (some_within rest' within || some_within common' within) =
-    some_within-split g f rest' common' left' split' within in
-    or_of (some_within alone within) (some_within common within || some_within common' within)
-    (some_within joined within)
-    (some_within rest within && some_within rest' within) (alone_is.some_within within) (joined_is.some_within within)
+    some_within-split left' split' within in
+    or_of (alone_is.some_within within) (joined_is.some_within within)
     ∙ split_cases (some_within rest within) (some_within common within) (some_within rest' within)
-    (some_within common' within)
-    (λ t. sym of_g ∙ common_hits_other f g rest common left split within t)
-    (λ t. sym of_f ∙ common_hits_other g f rest' common' left' split' within t)
-    ∙ and_of (some_within rest within || some_within common within) (some_within f within)
-    (some_within rest' within || some_within common' within)
-    (some_within g within) (sym of_f) (sym of_g))
+    (some_within common' within) (λ t. sym of_g ∙ common_hits_other left split within t)
+    (λ t. sym of_f ∙ common_hits_other left' split' within t)
+    ∙ and_of (sym of_f) (sym of_g))

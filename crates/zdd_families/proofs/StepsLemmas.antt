@@ -4,23 +4,19 @@ use Rattle.std.proofs.Common.{refl, sym, ◌∙◌, ap}
 use Rattle.std.proofs.lemmas.Bool.{and_parts}
 use Rattle.unit_sets.specs.UnitList.{among, some_within}
 use Rattle.zdd_families.specs.Family.{IsFamily, IsAbove, branch}
-use Rattle.zdd_families.specs.Cuts.{Cuts}
-use Rattle.zdd_families.proofs.WithinLemmas.{some_within-from_set}
-use Rattle.zdd_families.proofs.InclusionLemmas.{within_itself}
-use Rattle.zdd_families.specs.Without.{IsWithout}
-use Rattle.zdd_families.specs.Antichains.{IsAntichain}
-use Rattle.zdd_families.proofs.CutAtUnit.{above_only, some_within-above, some_within-cut}
-use Rattle.zdd_families.specs.Least.{IsLeastUnion, IsLeastProduct}
+use Rattle.zdd_families.specs.{Cuts.Cuts, Without.IsWithout, Antichains.IsAntichain, Least.IsLeastUnion}
+use Rattle.zdd_families.specs.{Least.IsLeastProduct, Steps.IsLeastSides}
+use Rattle.zdd_families.proofs.{WithinLemmas.some_within-from_set, InclusionLemmas.within_itself}
+use Rattle.zdd_families.proofs.{CutAtUnit.some_within-above, CutAtUnit.some_within-cut}
 use Rattle.zdd_families.proofs.LeastLemmas.{IsLeastFor-itself, IsLeastFor-same}
 use Rattle.zdd_families.proofs.LeastLemmas.{least-above}
 use Rattle.zdd_families.proofs.LeastNodesLemmas.{antichain-hi, hi_includes_none, least-node, without-same}
-use Rattle.zdd_families.specs.Steps.{IsLeastSides}
 
-pub or_of : (a a' b b' : Bool) → a ≡ a' → b ≡ b' → (a || b) ≡ (a' || b')
-or_of a a' b b' e e' = ap (λ q. q || b) e ∙ ap (λ q. a' || q) e'
+pub or_of : {a a' b b' : Bool} → a ≡ a' → b ≡ b' → (a || b) ≡ (a' || b')
+or_of {a'} {b} e e' = ap (λ q. q || b) e ∙ ap (λ q. a' || q) e'
 
-pub and_of : (a a' b b' : Bool) → a ≡ a' → b ≡ b' → (a && b) ≡ (a' && b')
-and_of a a' b b' e e' = ap (λ q. q && b) e ∙ ap (λ q. a' && q) e'
+pub and_of : {a a' b b' : Bool} → a ≡ a' → b ≡ b' → (a && b) ≡ (a' && b')
+and_of {a'} {b} e e' = ap (λ q. q && b) e ∙ ap (λ q. a' && q) e'
 
 or_parts_of : (w a b c d : Bool) → ((a || c) || (w && (b || d))) ≡ ((a || (w && b)) || (c || (w && d)))
 or_parts_of true true b c d = refl
@@ -66,41 +62,29 @@ and_higher false false b c = refl
 
 -- ---- results are above what their operands are above
 
-pub least_union-above : (x : ℕ) (f g least : List (List ℕ)) → IsAbove x f → IsAbove x g → IsLeastUnion f g least
+pub least_union-above : (x : ℕ) (f g : List (List ℕ)) {least : List (List ℕ)} → IsAbove x f → IsAbove x g
+    → IsLeastUnion f g least
     → IsAbove x least
-least_union-above x f g least above above' is =
-    least-above (λ within. some_within f within || some_within g within) x least is
-    (λ within. or_of (some_within f (above_only x within)) (some_within f within)
-    (some_within g (above_only x within)) (some_within g within)
-    (some_within-above x f within above) (some_within-above x g within above'))
+least_union-above x f g above above' is =
+    least-above x is (λ within. or_of (some_within-above x f within above) (some_within-above x g within above'))
 
-pub least_product-above : (x : ℕ) (f g least : List (List ℕ)) → IsAbove x f → IsAbove x g → IsLeastProduct f g least
+pub least_product-above : (x : ℕ) (f g : List (List ℕ)) {least : List (List ℕ)} → IsAbove x f → IsAbove x g
+    → IsLeastProduct f g least
     → IsAbove x least
-least_product-above x f g least above above' is =
-    least-above (λ within. some_within f within && some_within g within) x least is
-    (λ within. and_of (some_within f (above_only x within)) (some_within f within)
-    (some_within g (above_only x within)) (some_within g within)
-    (some_within-above x f within above) (some_within-above x g within above'))
+least_product-above x f g above above' is =
+    least-above x is (λ within. and_of (some_within-above x f within above) (some_within-above x g within above'))
 
-pub least_sides : (f0 f1 g0 g1 c d all : List (List ℕ)) → IsLeastUnion f0 f1 c → IsLeastUnion g0 g1 d
+pub least_sides : (f0 f1 g0 g1 : List (List ℕ)) {c d all : List (List ℕ)} → IsLeastUnion f0 f1 c → IsLeastUnion g0 g1 d
     → IsLeastProduct c d all → IsLeastSides f0 f1 g0 g1 all
-least_sides f0 f1 g0 g1 c d all of_f of_g is =
-    IsLeastFor-same (λ within. some_within c within && some_within d within) _ all is
-    (λ within. and_of (some_within c within) (some_within f0 within || some_within f1 within) (some_within d within)
-    (some_within g0 within || some_within g1 within) (of_f.some_within within) (of_g.some_within within))
+least_sides f0 f1 g0 g1 of_f of_g is =
+    IsLeastFor-same is (λ within. and_of (of_f.some_within within) (of_g.some_within within))
 
-pub least_sides-above : (x : ℕ) (f0 f1 g0 g1 all : List (List ℕ)) → IsAbove x f0 → IsAbove x f1 → IsAbove x g0
+pub least_sides-above : (x : ℕ) (f0 f1 g0 g1 : List (List ℕ)) {all : List (List ℕ)} → IsAbove x f0 → IsAbove x f1
+    → IsAbove x g0
     → IsAbove x g1 → IsLeastSides f0 f1 g0 g1 all → IsAbove x all
-least_sides-above x f0 f1 g0 g1 all a b c d is =
-    least-above (λ within. (some_within f0 within || some_within f1 within)
-    && (some_within g0 within || some_within g1 within)) x all is
-    (λ within.
-    and_of _ _ _ _
-    (or_of (some_within f0 (above_only x within)) (some_within f0 within) (some_within f1 (above_only x within))
-    (some_within f1 within)
-    (some_within-above x f0 within a) (some_within-above x f1 within b))
-    (or_of (some_within g0 (above_only x within)) (some_within g0 within) (some_within g1 (above_only x within))
-    (some_within g1 within)
+least_sides-above x f0 f1 g0 g1 a b c d is =
+    least-above x is (λ within.
+    and_of (or_of (some_within-above x f0 within a) (some_within-above x f1 within b)) (or_of
     (some_within-above x g0 within c) (some_within-above x g1 within d)))
 
 -- ---- two families at one unit
@@ -109,85 +93,65 @@ module _ (x : ℕ) (f f0 f1 g g0 g1 lo all hi : List (List ℕ)) (cut : Cuts x f
     (left : IsWithout all lo hi) where
   pub least_union-both : IsLeastUnion f0 g0 lo → IsLeastUnion f1 g1 all → IsLeastUnion f g (branch x lo hi)
   least_union-both is is' =
-      IsLeastFor-same _ (λ within. some_within f within || some_within g within) (branch x lo hi)
-      (least-node x lo all hi (λ within. some_within f0 within || some_within g0 within)
-      (λ within. some_within f1 within || some_within g1 within)
-      (least_union-above x f0 g0 lo cut.lo_above cut'.lo_above is)
-      (least_union-above x f1 g1 all cut.hi_above cut'.hi_above is') is is' left)
-      (λ within.
+      IsLeastFor-same (least-node x (least_union-above x f0 g0 cut.lo_above cut'.lo_above is)
+      (least_union-above x f1 g1 cut.hi_above cut'.hi_above is') is is' left) (λ within.
       or_parts_of (within x) (some_within f0 within) (some_within f1 within) (some_within g0 within)
       (some_within g1 within)
-      ∙ or_of (some_within f0 within || (within x && some_within f1 within)) (some_within f within)
-      (some_within g0 within || (within x && some_within g1 within)) (some_within g within)
-      (sym (some_within-cut x f f0 f1 cut within)) (sym (some_within-cut x g g0 g1 cut' within)))
+      ∙ or_of (sym (some_within-cut cut within)) (sym (some_within-cut cut' within)))
 
   -- the sets with x are joined from those without x too, of which each may do
   pub least_product-both : IsLeastProduct f0 g0 lo → IsLeastSides f0 f1 g0 g1 all → IsLeastProduct f g (branch x lo hi)
   least_product-both is is' =
-      IsLeastFor-same _ (λ within. some_within f within && some_within g within) (branch x lo hi)
-      (least-node x lo all hi (λ within. some_within f0 within && some_within g0 within)
-      (λ within. (some_within f0 within || some_within f1 within) && (some_within g0 within || some_within g1 within))
-      (least_product-above x f0 g0 lo cut.lo_above cut'.lo_above is)
-      (least_sides-above x f0 f1 g0 g1 all cut.lo_above cut.hi_above cut'.lo_above cut'.hi_above is')
-      is is' left)
+      IsLeastFor-same (least-node x (least_product-above x f0 g0 cut.lo_above cut'.lo_above is)
+      (least_sides-above x f0 f1 g0 g1 cut.lo_above cut.hi_above cut'.lo_above cut'.hi_above is') is is' left)
       (λ within.
       and_parts_of (within x) (some_within f0 within) (some_within f1 within) (some_within g0 within)
       (some_within g1 within)
-      ∙ and_of (some_within f0 within || (within x && some_within f1 within)) (some_within f within)
-      (some_within g0 within || (within x && some_within g1 within)) (some_within g within)
-      (sym (some_within-cut x f f0 f1 cut within)) (sym (some_within-cut x g g0 g1 cut' within)))
+      ∙ and_of (sym (some_within-cut cut within)) (sym (some_within-cut cut' within)))
 
 -- ---- a family at its least unit, and one above that unit
 
-with_second : (a b : Bool) → b ≡ true → (a && b) ≡ a
-with_second true b e = e
-with_second false b e = refl
+with_second : (a : Bool) {b : Bool} → b ≡ true → (a && b) ≡ a
+with_second true e = e
+with_second false e = refl
 
 -- each set of a product includes one of the second family
-includes_second : (f g all : List (List ℕ)) (set : List ℕ) → IsLeastProduct f g all → Contains all set
+includes_second : (f g : List (List ℕ)) {all : List (List ℕ)} (set : List ℕ) → IsLeastProduct f g all → Contains all set
     → some_within g (among set) ≡ true
-includes_second f g all set is has =
+includes_second f g {all} set is has =
     (and_parts (some_within f (among set)) (some_within g (among set))
     (sym (is.some_within (among set)) ∙ some_within-from_set all (among set) set has (within_itself set))).1
 
-module _ (x : ℕ) (f f0 f1 g lo : List (List ℕ)) (cut : Cuts x f f0 f1) where
+module _ {x : ℕ} {f f0 f1 : List (List ℕ)} (g lo : List (List ℕ)) (cut : Cuts x f f0 f1) where
   -- a set of hi includes one of lo exactly where it includes one of the other family
-  pub least_union-rest : IsAntichain f → IsLeastUnion f0 g lo → (hi : List (List ℕ)) → IsWithout f1 g hi
+  pub least_union-rest : IsAntichain f → IsLeastUnion f0 g lo → {hi : List (List ℕ)} → IsWithout f1 g hi
       → IsWithout f1 lo hi
-  least_union-rest antichain is hi left =
-      without-same f1 g lo hi (λ set has. sym (is.some_within (among set)
-      ∙ ap (λ q. q || some_within g (among set)) (hi_includes_none x f f0 f1 cut antichain set has))) left
+  least_union-rest antichain is left =
+      without-same (λ set has. sym (is.some_within (among set)
+      ∙ ap (λ q. q || some_within g (among set)) (hi_includes_none cut antichain set has))) left
 
   -- each set of the product with x includes one of the other family, so lo says no more than f's sets without x
-  pub least_product-rest : (all : List (List ℕ)) → IsLeastProduct f0 g lo → IsLeastProduct f1 g all
-      → (hi : List (List ℕ)) → IsWithout all f0 hi → IsWithout all lo hi
-  least_product-rest all is is' hi left =
-      without-same all f0 lo hi (λ set has. sym (is.some_within (among set)
-      ∙ with_second (some_within f0 (among set)) (some_within g (among set))
-      (includes_second f1 g all set is' has))) left
+  pub least_product-rest : {all : List (List ℕ)} → IsLeastProduct f0 g lo → IsLeastProduct f1 g all
+      → {hi : List (List ℕ)} → IsWithout all f0 hi → IsWithout all lo hi
+  least_product-rest is is' left =
+      without-same (λ set has. sym (is.some_within (among set)
+      ∙ with_second (some_within f0 (among set)) (includes_second f1 g set is' has))) left
 
   module _ (hi : List (List ℕ)) (above : IsAbove x g) where
     pub least_union-first : IsAntichain f → IsFamily f1 → IsLeastUnion f0 g lo → IsWithout f1 lo hi
         → IsLeastUnion f g (branch x lo hi)
     least_union-first antichain is_family is left =
-        IsLeastFor-same _ (λ within. some_within f within || some_within g within) (branch x lo hi)
-        (least-node x lo f1 hi (λ within. some_within f0 within || some_within g within) (some_within f1)
-        (least_union-above x f0 g lo cut.lo_above above is) cut.hi_above is
-        (IsLeastFor-itself f1 (antichain-hi x f f0 f1 cut antichain is_family))
-        left)
-        (λ within.
+        IsLeastFor-same (least-node x (least_union-above x f0 g cut.lo_above above is) cut.hi_above is
+        (IsLeastFor-itself (antichain-hi cut antichain is_family)) left) (λ within.
         or_higher (within x) (some_within f0 within) (some_within f1 within) (some_within g within)
-        ∙ ap (λ q. q || some_within g within) (sym (some_within-cut x f f0 f1 cut within)))
+        ∙ ap (λ q. q || some_within g within) (sym (some_within-cut cut within)))
 
-    pub least_product-first : (all : List (List ℕ)) → IsLeastProduct f0 g lo → IsLeastProduct f1 g all
+    pub least_product-first : {all : List (List ℕ)} → IsLeastProduct f0 g lo → IsLeastProduct f1 g all
         → IsWithout all lo hi → IsLeastProduct f g (branch x lo hi)
-    least_product-first all is is' left =
-        IsLeastFor-same _ (λ within. some_within f within && some_within g within) (branch x lo hi)
-        (least-node x lo all hi (λ within. some_within f0 within && some_within g within)
-        (λ within. some_within f1 within && some_within g within)
-        (least_product-above x f0 g lo cut.lo_above above is) (least_product-above x f1 g all cut.hi_above above is') is
-        is'
+    least_product-first is is' left =
+        IsLeastFor-same (least-node x
+        (least_product-above x f0 g cut.lo_above above is) (least_product-above x f1 g cut.hi_above above is') is is'
         left)
         (λ within.
         and_higher (within x) (some_within f0 within) (some_within f1 within) (some_within g within)
-        ∙ ap (λ q. q && some_within g within) (sym (some_within-cut x f f0 f1 cut within)))
+        ∙ ap (λ q. q && some_within g within) (sym (some_within-cut cut within)))

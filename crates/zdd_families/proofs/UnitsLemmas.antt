@@ -4,30 +4,28 @@ use Rattle.std.proofs.Common.{refl, sym, ◌∙◌, ap, subst, inl, inr, arith, 
 use Rattle.std.proofs.lemmas.Bool.{cases_lt, or_cases, or_left, or_right, eqb-true, false≢true}
 use Rattle.unit_sets.specs.UnitList.{among}
 use Rattle.unit_sets.proofs.Sorted.{Contains-cons_first, Contains-cons_cases, Contains-nil}
-use Rattle.zdd_families.specs.Family.{branch}
+use Rattle.zdd_families.specs.{Family.branch, Cuts.Cuts}
 use Rattle.zdd_families.proofs.Members.{branch-cases, branch-has_lo, branch-has_hi}
-use Rattle.zdd_families.specs.Cuts.{Cuts}
 use Rattle.zdd_families.proofs.CutsLemmas.{cut_has_lo, cut_has_hi, set_above}
 use Rattle.zdd_families.proofs.SetsLemmas.{unit_above}
 use Rattle.zdd_families.specs.Units.{HasUnit, IsLastUnit, LiesBelow, ShareNoUnit}
 
 -- ---- the units of a family that is cut
 
-pub lo_unit : (x unit : ℕ) (f lo hi : List (List ℕ)) → Cuts x f lo hi → HasUnit lo unit → HasUnit f unit
-lo_unit x unit f lo hi cut has = (has.0, cut_has_lo x f lo hi has.0 cut has.1, has.2)
+pub lo_unit : {x : ℕ} (unit : ℕ) {f lo hi : List (List ℕ)} → Cuts x f lo hi → HasUnit lo unit → HasUnit f unit
+lo_unit unit cut has = (has.0, cut_has_lo has.0 cut has.1, has.2)
 
-pub hi_unit : (x unit : ℕ) (f lo hi : List (List ℕ)) → Cuts x f lo hi → HasUnit hi unit → HasUnit f unit
-hi_unit x unit f lo hi cut has =
-    (x ∷ has.0, cut_has_hi x f lo hi has.0 cut has.1, or_right (x == unit) (among has.0 unit) has.2)
+pub hi_unit : {x : ℕ} (unit : ℕ) {f lo hi : List (List ℕ)} → Cuts x f lo hi → HasUnit hi unit → HasUnit f unit
+hi_unit {x} unit cut has = (x ∷ has.0, cut_has_hi has.0 cut has.1, or_right (x == unit) (among has.0 unit) has.2)
 
 some_set : (f : List (List ℕ)) → f ≢ [] → (set : List ℕ) × Contains f set
 some_set [] filled = absurd (filled refl)
 some_set (set ∷ f) filled = (set, Contains-cons_first set f)
 
-pub cut_unit : (x : ℕ) (f lo hi : List (List ℕ)) → Cuts x f lo hi → hi ≢ [] → HasUnit f x
-cut_unit x f lo hi cut filled =
+pub cut_unit : {x : ℕ} {f lo hi : List (List ℕ)} → Cuts x f lo hi → hi ≢ [] → HasUnit f x
+cut_unit {x} {hi} cut filled =
     let first = some_set hi filled in
-    (x ∷ first.0, cut_has_hi x f lo hi first.0 cut first.1, or_left (x == x) (among first.0 x) (eq-eqb x x refl))
+    (x ∷ first.0, cut_has_hi first.0 cut first.1, or_left (x == x) (among first.0 x) (eq-eqb x x refl))
 
 -- ---- the last unit
 
@@ -44,9 +42,9 @@ nil_lacks set unit has h =
 pub last-unit : IsLastUnit ([] ∷ []) 0
 last-unit = record { most = λ unit has. absurd (nil_lacks has.0 unit has.1 has.2); reached = inl refl }
 
-units_of_branch : (x unit : ℕ) (lo hi : List (List ℕ)) → HasUnit (branch x lo hi) unit
+units_of_branch : {x unit : ℕ} (lo hi : List (List ℕ)) → HasUnit (branch x lo hi) unit
     → (unit ≡ x) ⊎ (HasUnit lo unit ⊎ HasUnit hi unit)
-units_of_branch x unit lo hi has =
+units_of_branch {x} {unit} lo hi has =
     elim (branch-cases x lo hi has.0 has.1) [
       | inl of_lo ↦ inr (inl (has.0, of_lo, has.2))
       | inr with_x ↦
@@ -57,8 +55,8 @@ units_of_branch x unit lo hi has =
           ]
     ]
 
-max_cases : (x a b : ℕ) → (max (max x a) b ≡ x) ⊎ ((max (max x a) b ≡ a) ⊎ (max (max x a) b ≡ b))
-max_cases x a b =
+max_cases : {x a b : ℕ} → (max (max x a) b ≡ x) ⊎ ((max (max x a) b ≡ a) ⊎ (max (max x a) b ≡ b))
+max_cases {x} {a} {b} =
     elim (cases_lt (max x a) b) [
       | inl h ↦ inr (inr (omega arith))
       | inr h ↦
@@ -69,12 +67,12 @@ max_cases x a b =
     ]
 
 -- the last unit of a branch whose hi has sets
-module _ (x : ℕ) (lo hi : List (List ℕ)) (a b last : ℕ) (filled : hi ≢ []) (of_lo : IsLastUnit lo a)
+module _ (x : ℕ) {lo hi : List (List ℕ)} {a b last : ℕ} (filled : hi ≢ []) (of_lo : IsLastUnit lo a)
     (of_hi : IsLastUnit hi b) (is : last ≡ max (max x a) b) where
-  no_more : (unit : ℕ) → (unit ≡ x) ⊎ (HasUnit lo unit ⊎ HasUnit hi unit) → unit ≤ last
-  no_more unit (inl here) = omega (arith, here, is)
-  no_more unit (inr (inl has)) = let h = of_lo.most unit has in omega (arith, h, is)
-  no_more unit (inr (inr has)) = let h = of_hi.most unit has in omega (arith, h, is)
+  no_more : {unit : ℕ} → (unit ≡ x) ⊎ (HasUnit lo unit ⊎ HasUnit hi unit) → unit ≤ last
+  no_more (inl here) = omega (arith, here, is)
+  no_more {unit} (inr (inl has)) = let h = of_lo.most unit has in omega (arith, h, is)
+  no_more {unit} (inr (inr has)) = let h = of_hi.most unit has in omega (arith, h, is)
 
   the_cut : HasUnit (branch x lo hi) x
   the_cut =
@@ -100,8 +98,8 @@ module _ (x : ℕ) (lo hi : List (List ℕ)) (a b last : ℕ) (filled : hi ≢ [
 
   pub last-branch : IsLastUnit (branch x lo hi) last
   last-branch = record {
-    most = λ unit has. no_more unit (units_of_branch x unit lo hi has);
-    reached = one_of (max_cases x a b);
+    most = λ unit has. no_more (units_of_branch lo hi has);
+    reached = one_of (max_cases);
   }
 
 -- ---- families that share no unit
@@ -111,8 +109,8 @@ pub below-apart : (f g : List (List ℕ)) → LiesBelow f g → ShareNoUnit f g
 below-apart f g below unit has has' =
     let h = unit_above unit unit has'.0 (set_above unit g has'.0 (below unit has) has'.1) has'.2 in omega (arith, h)
 
-pub below-lo : (x : ℕ) (f lo hi g : List (List ℕ)) → Cuts x f lo hi → LiesBelow f g → LiesBelow lo g
-below-lo x f lo hi g cut below unit has = below unit (lo_unit x unit f lo hi cut has)
+pub below-lo : {x : ℕ} {f lo hi : List (List ℕ)} (g : List (List ℕ)) → Cuts x f lo hi → LiesBelow f g → LiesBelow lo g
+below-lo g cut below unit has = below unit (lo_unit unit cut has)
 
-pub below-hi : (x : ℕ) (f lo hi g : List (List ℕ)) → Cuts x f lo hi → LiesBelow f g → LiesBelow hi g
-below-hi x f lo hi g cut below unit has = below unit (hi_unit x unit f lo hi cut has)
+pub below-hi : {x : ℕ} {f lo hi : List (List ℕ)} (g : List (List ℕ)) → Cuts x f lo hi → LiesBelow f g → LiesBelow hi g
+below-hi g cut below unit has = below unit (hi_unit unit cut has)

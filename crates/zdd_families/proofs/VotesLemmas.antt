@@ -2,16 +2,12 @@
 use Rattle.std.specs.Prelude.{◌≡◌, ◌⊎◌, ℕ, zero, suc, Bool, true, false, ◌||◌, List, [], ◌∷◌, ◌++◌, Contains}
 use Rattle.std.proofs.Common.{refl, sym, ◌∙◌, ap, subst, inl, inr}
 use Rattle.unit_sets.specs.UnitList.{among, IsRising}
-use Rattle.unit_sets.proofs.UnitListLemmas.{same_set}
-use Rattle.unit_sets.proofs.Sorted.{Contains-nil, Contains-cons_first}
-use Rattle.zdd_families.specs.Family.{IsFamily}
+use Rattle.unit_sets.proofs.{UnitListLemmas.same_set, Sorted.Contains-nil, Sorted.Contains-cons_first}
+use Rattle.zdd_families.specs.{Family.IsFamily, Sets.joined, Union.IsUnion, Product.IsProduct, Product.IsJoin}
+use Rattle.zdd_families.specs.{Votes.IsChoice, Votes.IsVotes}
 use Rattle.zdd_families.proofs.FamilyLemmas.{IsFamily-nil, IsFamily-unit, same_family}
 use Rattle.zdd_families.proofs.CutsLemmas.{set_rises, only_empty}
-use Rattle.zdd_families.specs.Sets.{joined}
 use Rattle.zdd_families.proofs.SetsLemmas.{among-joined, IsRising-joined, joined-nil}
-use Rattle.zdd_families.specs.Union.{IsUnion}
-use Rattle.zdd_families.specs.Product.{IsProduct, IsJoin}
-use Rattle.zdd_families.specs.Votes.{IsChoice, IsVotes}
 
 pub votes-one : (count : ℕ) (families : List (List (List ℕ))) (h h' : List (List ℕ)) → IsVotes count families h
     → IsVotes count families h' → h ≡ h'
@@ -63,9 +59,9 @@ skip : (family : List (List ℕ)) (families : List (List (List ℕ))) (count : �
 skip family families zero set h = h
 skip family families (suc count) set h = inl h
 
-skipping : (family : List (List ℕ)) (families : List (List (List ℕ))) (last : List (List ℕ)) (count : ℕ) (set : List ℕ)
+skipping : (family : List (List ℕ)) {families : List (List (List ℕ))} {last : List (List ℕ)} {count : ℕ} {set : List ℕ}
     → AddsLast families last count set → AddsLast (family ∷ families) last count set
-skipping family families last count set adds = record {
+skipping family {families} {count} adds = record {
   before = adds.before;
   added = adds.added;
   chosen = skip family families count adds.before adds.chosen;
@@ -90,19 +86,20 @@ choice_more (family ∷ families) last (suc count) set (inr (first, rest, has, c
 
 module _ (last : List (List ℕ)) (is_family : IsFamily last) where
   last_alone : (first rest : List ℕ) → Contains last first → rest ≡ [] → joined first rest ≡ first
-  last_alone first rest has none = ap (joined first) none ∙ joined-nil first (set_rises last first is_family has)
+  last_alone first rest has none = ap (joined first) none ∙ joined-nil first (set_rises first is_family has)
 
-  taking : (family : List (List ℕ)) (families : List (List (List ℕ))) (count : ℕ) (set first rest : List ℕ)
+  taking : (family : List (List ℕ)) {families : List (List (List ℕ))} {count : ℕ} {set : List ℕ} (first : List ℕ)
+      {rest : List ℕ}
       → Contains family first → set ≡ joined first rest → AddsLast families last count rest
       → AddsLast (family ∷ families) last (suc count) set
-  taking family families count set first rest has same adds = record {
+  taking family first has same adds = record {
     before = joined first adds.before;
     added = adds.added;
     chosen = inr (first, adds.before, has, adds.chosen, refl);
     of_last = adds.of_last;
     is =
         same ∙ ap (joined first) adds.is ∙ joined-assoc first adds.before adds.added
-        (set_rises last adds.added is_family adds.of_last);
+        (set_rises adds.added is_family adds.of_last);
   }
 
   choice_cases : (families : List (List (List ℕ))) (count : ℕ) (set : List ℕ)
@@ -123,34 +120,33 @@ module _ (last : List (List ℕ)) (is_family : IsFamily last) where
   choice_cases (family ∷ families) count set (inl skipped) =
       elim (choice_cases families count set skipped) [
         | inl before ↦ inl (inl before)
-        | inr adds ↦ inr (skipping family families last count set adds)
+        | inr adds ↦ inr (skipping family adds)
       ]
   choice_cases (family ∷ families) zero set (inr (first, rest, has, chosen, same)) =
       inl (inr (first, rest, has, none_push families last rest chosen, same))
   choice_cases (family ∷ families) (suc count) set (inr (first, rest, has, chosen, same)) =
       elim (choice_cases families count rest chosen) [
         | inl before ↦ inl (inr (first, rest, has, before, same))
-        | inr adds ↦ inr (taking family families count set first rest has same adds)
+        | inr adds ↦ inr (taking family first has same adds)
       ]
 
-  last_chosen : (families : List (List (List ℕ))) (count : ℕ) (set before added : List ℕ)
+  last_chosen : (families : List (List (List ℕ))) (count : ℕ) {set : List ℕ} (before added : List ℕ)
       → IsChoice families count before → Contains last added → set ≡ joined before added
       → IsChoice (families ++ last ∷ []) (suc count) set
-  last_chosen [] zero set before added chosen of_last same =
+  last_chosen [] zero before added chosen of_last same =
       inr (added, [], of_last, refl, same ∙ ap (λ q. joined q added) chosen ∙ sym (last_alone added [] of_last refl))
-  last_chosen [] (suc count) set before added chosen of_last same = absurd chosen
-  last_chosen (family ∷ families) zero set before added chosen of_last same =
-      inl (last_chosen families zero set before added chosen of_last same)
-  last_chosen (family ∷ families) (suc count) set before added (inl skipped) of_last same =
-      inl (last_chosen families (suc count) set before added skipped of_last same)
-  last_chosen (family ∷ families) (suc count) set before added (inr (first, rest, has, chosen, is)) of_last same =
+  last_chosen [] (suc count) before added chosen of_last same = absurd chosen
+  last_chosen (family ∷ families) zero before added chosen of_last same =
+      inl (last_chosen families zero before added chosen of_last same)
+  last_chosen (family ∷ families) (suc count) before added (inl skipped) of_last same =
+      inl (last_chosen families (suc count) before added skipped of_last same)
+  last_chosen (family ∷ families) (suc count) before added (inr (first, rest, has, chosen, is)) of_last same =
       inr (
         first,
         joined rest added,
         has,
-        last_chosen families count (joined rest added) rest added chosen of_last refl,
-        same ∙ ap (λ q. joined q added) is ∙ sym (joined-assoc first rest added
-            (set_rises last added is_family of_last)),
+        last_chosen families count {set = joined rest added} rest added chosen of_last refl,
+        same ∙ ap (λ q. joined q added) is ∙ sym (joined-assoc first rest added (set_rises added is_family of_last)),
       )
 
   -- ---- the votes with one family more
@@ -162,7 +158,7 @@ module _ (last : List (List ℕ)) (is_family : IsFamily last) where
     to set (inl of_a) = choice_more families last (suc count) set ((more.sets set).0 of_a)
     to set (inr of_p) =
         let join : IsJoin b last set = (times.sets set).0 of_p in
-        last_chosen families count set join.first join.second ((fewer.sets join.first).0 join.of_f) join.of_g join.is
+        last_chosen families count join.first join.second ((fewer.sets join.first).0 join.of_f) join.of_g join.is
 
     from : (set : List ℕ) → IsChoice (families ++ last ∷ []) (suc count) set → Contains a set ⊎ Contains p set
     from set chosen =

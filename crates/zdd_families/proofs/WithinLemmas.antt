@@ -8,17 +8,9 @@ use Rattle.std.proofs.lemmas.Bool.{cond-false, le-leb, leb-true}
 use Rattle.unit_sets.specs.UnitList.{among, is_within, some_within}
 use Rattle.unit_sets.proofs.UnitListLemmas.{among-from_is_within}
 use Rattle.unit_sets.proofs.Sorted.{Contains-cons_first, Contains-cons_other, Contains-cons_cases, Contains-nil}
-use Rattle.zdd_families.specs.Family.{IsFamily}
-use Rattle.zdd_families.specs.Sets.{joined}
-use Rattle.zdd_families.proofs.SetsLemmas.{among-joined}
-use Rattle.zdd_families.specs.Inclusion.{Includes}
-use Rattle.zdd_families.proofs.InclusionLemmas.{same_Bool}
-use Rattle.zdd_families.specs.Union.{IsUnion}
-use Rattle.zdd_families.specs.Product.{IsProduct, IsJoin}
-use Rattle.zdd_families.specs.Minimal.{IsMinimal}
-use Rattle.zdd_families.proofs.MinimalLemmas.{minimal-covers}
-use Rattle.zdd_families.specs.Votes.{IsVotes, IsChoice}
-use Rattle.zdd_families.specs.Within.{count_within}
+use Rattle.zdd_families.specs.{Family.IsFamily, Sets.joined, Inclusion.Includes, Union.IsUnion, Product.IsProduct}
+use Rattle.zdd_families.specs.{Product.IsJoin, Minimal.IsMinimal, Votes.IsVotes, Votes.IsChoice, Within.count_within}
+use Rattle.zdd_families.proofs.{SetsLemmas.among-joined, InclusionLemmas.same_Bool, MinimalLemmas.minimal-covers}
 
 -- a set of the family whose units all pass
 pub record HasWithin (family : List (List ℕ)) (within : ℕ → Bool) : Type 0 where
@@ -26,14 +18,14 @@ pub record HasWithin (family : List (List ℕ)) (within : ℕ → Bool) : Type 0
   pub has : Contains family set
   pub passes : list_all within set ≡ true
 
-pub HasWithin-from_test : (family : List (List ℕ)) (within : ℕ → Bool) → some_within family within ≡ true
+pub HasWithin-from_test : (family : List (List ℕ)) {within : ℕ → Bool} → some_within family within ≡ true
     → HasWithin family within
-HasWithin-from_test [] within h = absurd cc
-HasWithin-from_test (first ∷ others) within h =
+HasWithin-from_test [] h = absurd cc
+HasWithin-from_test (first ∷ others) {within} h =
     elim (or_cases (list_all within first) (some_within others within) h) [
       | inl here ↦ record { set = first; has = Contains-cons_first first others; passes = here }
       | inr later ↦
-          let found : HasWithin others within = HasWithin-from_test others within later in
+          let found : HasWithin others within = HasWithin-from_test others later in
           record { set = found.set; has = Contains-cons_other first found.set others found.has; passes = found.passes }
     ]
 
@@ -100,7 +92,7 @@ pub some_within-union : (f g h : List (List ℕ)) (within : ℕ → Bool) → Is
 some_within-union f g h within is =
     same_Bool (some_within h within) (some_within f within || some_within g within)
     (λ t.
-    let found : HasWithin h within = HasWithin-from_test h within t in
+    let found : HasWithin h within = HasWithin-from_test h t in
     elim ((is.sets found.set).0 found.has) [
       | inl of_f ↦ or_left (some_within f within) (some_within g within)
           (some_within-from_set f within found.set of_f found.passes)
@@ -110,12 +102,10 @@ some_within-union f g h within is =
     (λ t.
     elim (or_cases (some_within f within) (some_within g within) t) [
       | inl of_f ↦ let found : HasWithin f within =
-          HasWithin-from_test f within of_f in some_within-from_set h within found.set
-          ((is.sets found.set).1 (inl found.has))
+          HasWithin-from_test f of_f in some_within-from_set h within found.set ((is.sets found.set).1 (inl found.has))
           found.passes
       | inr of_g ↦ let found : HasWithin g within =
-          HasWithin-from_test g within of_g in some_within-from_set h within found.set
-          ((is.sets found.set).1 (inr found.has))
+          HasWithin-from_test g of_g in some_within-from_set h within found.set ((is.sets found.set).1 (inr found.has))
           found.passes
     ])
 
@@ -129,9 +119,9 @@ join_hit f g within set join passes =
     (some_within-from_set f within join.first join.of_f (passes-left within join.first join.second both))
     (some_within-from_set g within join.second join.of_g (passes-right within join.first join.second both))
 
-hit_join : (f g h : List (List ℕ)) (within : ℕ → Bool) → IsProduct f g h → HasWithin f within → HasWithin g within
+hit_join : {f g h : List (List ℕ)} {within : ℕ → Bool} → IsProduct f g h → HasWithin f within → HasWithin g within
     → some_within h within ≡ true
-hit_join f g h within is first second =
+hit_join {h} {within} is first second =
     some_within-from_set h within (joined first.set second.set)
     ((is.sets (joined first.set second.set)).1 (record {
       first = first.set;
@@ -146,12 +136,12 @@ pub some_within-product : (f g h : List (List ℕ)) (within : ℕ → Bool) → 
     → some_within h within ≡ (some_within f within && some_within g within)
 some_within-product f g h within is =
     same_Bool (some_within h within) (some_within f within && some_within g within)
-    (λ t. let found : HasWithin h within = HasWithin-from_test h within t in
+    (λ t. let found : HasWithin h within = HasWithin-from_test h t in
     join_hit f g within found.set ((is.sets found.set).0 found.has) found.passes)
     (λ t.
     let both : (some_within f within ≡ true)
     × (some_within g within ≡ true) = and_parts (some_within f within) (some_within g within) t in
-    hit_join f g h within is (HasWithin-from_test f within both.0) (HasWithin-from_test g within both.1))
+    hit_join is (HasWithin-from_test f both.0) (HasWithin-from_test g both.1))
 
 -- ---- the minimal sets are true where the family is
 
@@ -164,9 +154,9 @@ pub some_within-minimal : (f least : List (List ℕ)) (within : ℕ → Bool) �
     → some_within least within ≡ some_within f within
 some_within-minimal f least within is_family is =
     same_Bool (some_within least within) (some_within f within)
-    (λ t. let found : HasWithin least within = HasWithin-from_test least within t in
+    (λ t. let found : HasWithin least within = HasWithin-from_test least t in
     some_within-from_set f within found.set ((is.sets found.set).0 found.has).0 found.passes)
-    (λ t. let found : HasWithin f within = HasWithin-from_test f within t in
+    (λ t. let found : HasWithin f within = HasWithin-from_test f t in
     covered_hit least within found.set (minimal-covers f least is_family is found.set found.has) found.passes)
 
 -- ---- votes are true where that many families are
@@ -205,15 +195,15 @@ pub record HasChoice (families : List (List (List ℕ))) (within : ℕ → Bool)
   pub chosen : IsChoice families count set
   pub passes : list_all within set ≡ true
 
-skip_one : (family : List (List ℕ)) (families : List (List (List ℕ))) (within : ℕ → Bool) (count : ℕ)
+skip_one : {family : List (List ℕ)} {families : List (List (List ℕ))} {within : ℕ → Bool} (count : ℕ)
     → HasChoice families within count → HasChoice (family ∷ families) within count
-skip_one family families within zero found = record { set = found.set; chosen = found.chosen; passes = found.passes }
-skip_one family families within (suc count) found =
+skip_one zero found = record { set = found.set; chosen = found.chosen; passes = found.passes }
+skip_one (suc count) found =
     record { set = found.set; chosen = inl found.chosen; passes = found.passes }
 
-take_one : (family : List (List ℕ)) (families : List (List (List ℕ))) (within : ℕ → Bool) (count : ℕ)
+take_one : {family : List (List ℕ)} {families : List (List (List ℕ))} {within : ℕ → Bool} {count : ℕ}
     → HasWithin family within → HasChoice families within count → HasChoice (family ∷ families) within (suc count)
-take_one family families within count first rest = record {
+take_one {within} first rest = record {
   set = joined first.set rest.set;
   chosen = inr (first.set, rest.set, first.has, rest.chosen, refl);
   passes = passes-joined within first.set rest.set first.passes rest.passes;
@@ -225,20 +215,18 @@ uncounted : (family : List (List ℕ)) (families : List (List (List ℕ))) (with
 uncounted family families within h =
     ap (λ n. n + count_within families within) (cond-false (some_within family within) 1 0 h) ∙ (omega arith)
 
-pub counted_choice : (families : List (List (List ℕ))) (within : ℕ → Bool) (count : ℕ)
+pub counted_choice : (families : List (List (List ℕ))) {within : ℕ → Bool} (count : ℕ)
     → count ≤ count_within families within → HasChoice families within count
-counted_choice [] within zero h = record { set = []; chosen = refl; passes = refl }
-counted_choice [] within (suc count) h = absurd (omega arith)
-counted_choice (family ∷ families) within zero h =
-    skip_one family families within zero (counted_choice families within zero (omega arith))
-counted_choice (family ∷ families) within (suc count) h =
+counted_choice [] zero h = record { set = []; chosen = refl; passes = refl }
+counted_choice [] (suc count) h = absurd (omega arith)
+counted_choice (family ∷ families) zero h = skip_one zero (counted_choice families zero (omega arith))
+counted_choice (family ∷ families) {within} (suc count) h =
     elim (cases_Bool (some_within family within)) [
       | inl hit ↦
-          take_one family families within count (HasWithin-from_test family within hit)
-          (counted_choice families within count (let e = counted family families within hit in omega (arith, e, h)))
+          take_one (HasWithin-from_test family hit)
+          (counted_choice families count (let e = counted family families within hit in omega (arith, e, h)))
       | inr missed ↦
-          skip_one family families within (suc count)
-          (counted_choice families within (suc count) (let e = uncounted family families within missed in
+          skip_one (suc count) (counted_choice families (suc count) (let e = uncounted family families within missed in
           omega (arith, e, h)))
     ]
 
@@ -247,10 +235,10 @@ pub some_within-votes : (count : ℕ) (families : List (List (List ℕ))) (h : L
 some_within-votes count families h within is =
     same_Bool (some_within h within) (nat_le count (count_within families within))
     (λ t.
-    let found : HasWithin h within = HasWithin-from_test h within t in
+    let found : HasWithin h within = HasWithin-from_test h t in
     le-leb count (count_within families within) (choice_counted families within count found.set
     ((is.sets found.set).0 found.has) found.passes))
     (λ t.
     let found : HasChoice families within count =
-    counted_choice families within count (leb-true count (count_within families within) t) in
+    counted_choice families count (leb-true count (count_within families within) t) in
     some_within-from_set h within found.set ((is.sets found.set).1 found.chosen) found.passes)

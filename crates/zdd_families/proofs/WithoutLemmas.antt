@@ -7,12 +7,10 @@ use Rattle.zdd_families.specs.Family.{IsFamily, IsAbove, IsSetAbove, branch}
 use Rattle.zdd_families.proofs.FamilyLemmas.{IsFamily-branch, IsFamily-nil}
 use Rattle.zdd_families.proofs.FamilyLemmas.{IsFamily-unit, same_family}
 use Rattle.zdd_families.proofs.Members.{branch-has_lo, branch-has_hi, branch-cases}
-use Rattle.zdd_families.specs.Cuts.{Cuts}
+use Rattle.zdd_families.specs.{Cuts.Cuts, Inclusion.includes_one, Without.IsWithout}
 use Rattle.zdd_families.proofs.CutsLemmas.{cut_cases, cut_has_lo, cut_has_hi, set_above, each-from_contains}
 use Rattle.zdd_families.proofs.CutsLemmas.{only_empty}
-use Rattle.zdd_families.specs.Inclusion.{includes_one}
 use Rattle.zdd_families.proofs.InclusionLemmas.{includes_one-above, includes_one-with, test-from_part}
-use Rattle.zdd_families.specs.Without.{IsWithout}
 
 pub without-one : (f g h h' : List (List ℕ)) → IsWithout f g h → IsWithout f g h' → h ≡ h'
 without-one f g h h' is is' =
@@ -54,8 +52,8 @@ unit-without_other g none = record {
 
 -- ---- steps
 
-pub without-above : (x : ℕ) (f g h : List (List ℕ)) → IsWithout f g h → IsAbove x f → IsAbove x h
-without-above x f g h is above =
+pub without-above : (x : ℕ) {f g h : List (List ℕ)} → IsWithout f g h → IsAbove x f → IsAbove x h
+without-above x {f} {h} is above =
     each-from_contains (IsSetAbove x) h (λ set has. set_above x f set above ((is.sets set).0 has).0)
 
 -- where f is above x, only the sets of g without x matter
@@ -65,10 +63,10 @@ without-lower x f g g0 g1 h cut above is = record {
   is_family = is.is_family;
   sets = λ set. (
     λ has. let both =
-        (is.sets set).0 has in (both.0, includes_one-above x g g0 g1 cut set (set_above x f set above both.0) ∙ both.1),
+        (is.sets set).0 has in (both.0, includes_one-above cut set (set_above x f set above both.0) ∙ both.1),
     λ both. (is.sets set).1 (
       both.0,
-      sym (includes_one-above x g g0 g1 cut set (set_above x f set above both.0))
+      sym (includes_one-above cut set (set_above x f set above both.0))
           ∙ both.1,
     ),
   );
@@ -79,17 +77,16 @@ module _ (x : ℕ) (f f0 f1 g g0 g1 h0 w h1 : List (List ℕ)) (cut : Cuts x f f
   lo_to : (set : List ℕ) → Contains h0 set → Contains f set × (includes_one g set ≡ false)
   lo_to set has =
       let both = (lo.sets set).0 has in (
-        cut_has_lo x f f0 f1 set cut both.0,
-        includes_one-above x g g0 g1 cut' set
-            (set_above x f0 set cut.lo_above both.0) ∙ both.1,
+        cut_has_lo set cut both.0,
+        includes_one-above cut' set (set_above x f0 set cut.lo_above both.0) ∙ both.1,
       )
 
   hi_to : (rest : List ℕ) → Contains h1 rest → Contains f (x ∷ rest) × (includes_one g (x ∷ rest) ≡ false)
   hi_to rest has =
       let outer = (hi.sets rest).0 has in
       let inner = (some.sets rest).0 outer.0 in (
-        cut_has_hi x f f0 f1 rest cut inner.0,
-        includes_one-with x g g0 g1 cut' rest (set_above x f1 rest cut.hi_above inner.0)
+        cut_has_hi rest cut inner.0,
+        includes_one-with cut' rest (set_above x f1 rest cut.hi_above inner.0)
             ∙ or_from (includes_one g1 rest) (includes_one g0 rest) inner.1 outer.1,
       )
 
@@ -106,22 +103,21 @@ module _ (x : ℕ) (f f0 f1 g g0 g1 h0 w h1 : List (List ℕ)) (cut : Cuts x f f
   hi_from rest has none =
       let parts =
       or_parts (includes_one g1 rest) (includes_one g0 rest)
-      (sym (includes_one-with x g g0 g1 cut' rest (set_above x f1 rest cut.hi_above has)) ∙ none) in
+      (sym (includes_one-with cut' rest (set_above x f1 rest cut.hi_above has)) ∙ none) in
       branch-has_hi x h0 h1 rest ((hi.sets rest).1 ((some.sets rest).1 (has, parts.0), parts.1))
 
   from : (set : List ℕ) → Contains f set → includes_one g set ≡ false → Contains (branch x h0 h1) set
   from set has none =
-      elim (cut_cases x f f0 f1 set cut has) [
+      elim (cut_cases set cut has) [
         | inl of_lo ↦ branch-has_lo x h0 h1 set ((lo.sets set).1
-            (of_lo, sym (includes_one-above x g g0 g1 cut' set (set_above x f0 set cut.lo_above of_lo)) ∙ none))
+            (of_lo, sym (includes_one-above cut' set (set_above x f0 set cut.lo_above of_lo)) ∙ none))
         | inr with_x ↦ subst (Contains (branch x h0 h1)) (sym with_x.1)
             (hi_from with_x.0 with_x.2 (ap (includes_one g) (sym with_x.1) ∙ none))
       ]
 
   pub without-step : IsWithout f g (branch x h0 h1)
   without-step = record {
-    is_family = IsFamily-branch x h0 h1 lo.is_family hi.is_family
-        (without-above x f0 g0 h0 lo cut.lo_above)
-        (without-above x w g0 h1 hi (without-above x f1 g1 w some cut.hi_above));
+    is_family = IsFamily-branch x h0 h1 lo.is_family hi.is_family (without-above x lo cut.lo_above)
+        (without-above x hi (without-above x some cut.hi_above));
     sets = λ set. (to set, λ both. from set both.0 both.1);
   }

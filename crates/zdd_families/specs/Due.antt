@@ -2,13 +2,8 @@
 -- recursion over the least units of the operands gives that result. An end of a recursion, where the
 -- result is given at once, has no inner operations.
 use Rattle.std.specs.Prelude.{◌≡◌, ◌≢◌, ℕ, suc, ◌<◌, List, [], ◌∷◌, ◌++◌}
-use Rattle.zdd_families.specs.Family.{IsAbove}
-use Rattle.zdd_families.specs.Cuts.{Cuts}
-use Rattle.zdd_families.specs.Union.{IsUnion}
-use Rattle.zdd_families.specs.Product.{IsProduct}
-use Rattle.zdd_families.specs.Without.{IsWithout}
-use Rattle.zdd_families.specs.Minimal.{IsMinimal}
-use Rattle.zdd_families.specs.Votes.{IsVotes}
+use Rattle.zdd_families.specs.{Family.IsAbove, Cuts.Cuts, Union.IsUnion, Product.IsProduct, Without.IsWithout}
+use Rattle.zdd_families.specs.{Minimal.IsMinimal, Votes.IsVotes}
 
 -- x is the least unit of f: lo has the sets without it, and hi the sets with it, x taken out
 pub record Splits (x : ℕ) (f lo hi : List (List ℕ)) : Type 0 where

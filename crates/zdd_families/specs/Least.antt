@@ -1,8 +1,7 @@
 -- Minimal families: no set includes another, so that which sets of units include a set of one determines it.
 use Rattle.std.specs.Prelude.{◌≡◌, ℕ, Bool, ◌&&◌, ◌||◌, nat_le, List}
 use Rattle.std.specs.List.{list_all, list_any}
-use Rattle.zdd_families.specs.Within.{count_within}
-use Rattle.zdd_families.specs.Antichains.{IsAntichain}
+use Rattle.zdd_families.specs.{Within.count_within, Antichains.IsAntichain}
 use Rattle.unit_sets.specs.UnitList.{some_within}
 
 -- no set of the family includes another, and a set of units includes one of them exactly where the test says

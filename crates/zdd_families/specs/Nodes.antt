@@ -1,8 +1,7 @@
 -- The nodes of a family: the families that splitting at least units reaches, each counted once.
 use Rattle.std.specs.Prelude.{◌≡◌, ◌≢◌, ◌↔◌, ℕ, List, length, Contains}
 use Rattle.zdd_words.specs.Word.{lo_of, hi_of}
-use Rattle.zdd_families.specs.Counting.{EachOnce}
-use Rattle.zdd_families.specs.Due.{Splits}
+use Rattle.zdd_families.specs.{Counting.EachOnce, Due.Splits}
 
 -- a family that splitting reaches: the family itself where its sets have units, and what its parts reach
 pub data IsReached : List (List ℕ) → List (List ℕ) → Type 0 where

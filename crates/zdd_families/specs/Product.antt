@@ -1,8 +1,6 @@
 -- The product of two families: each union of a set of the one and a set of the other.
 use Rattle.std.specs.Prelude.{◌≡◌, ◌↔◌, ℕ, List, Contains}
-use Rattle.zdd_families.specs.Family.{IsFamily}
-use Rattle.zdd_families.specs.Sets.{joined}
-use Rattle.zdd_families.specs.Union.{IsUnion}
+use Rattle.zdd_families.specs.{Family.IsFamily, Sets.joined, Union.IsUnion}
 
 -- the set is the union of a set of f and a set of g
 pub record IsJoin (f g : List (List ℕ)) (set : List ℕ) : Type 0 where

@@ -1,7 +1,6 @@
 -- Votes over a list of families: each union of sets chosen one from each of some number of positions.
 use Rattle.std.specs.Prelude.{◌≡◌, ◌↔◌, ◌⊎◌, ℕ, zero, suc, List, [], ◌∷◌, Contains}
-use Rattle.zdd_families.specs.Family.{IsFamily}
-use Rattle.zdd_families.specs.Sets.{joined}
+use Rattle.zdd_families.specs.{Family.IsFamily, Sets.joined}
 
 -- the set is a union of sets chosen one from each of so many positions of the list: at each position
 -- there is a set chosen, or none

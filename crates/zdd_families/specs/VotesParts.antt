@@ -1,7 +1,6 @@
 -- A list of families has votes, and each of their parts is due to them or a part of one of the families.
 use Rattle.std.specs.Prelude.{ℕ, List, [], ◌∷◌, Contains}
-use Rattle.zdd_families.specs.Nodes.{IsReached}
-use Rattle.zdd_families.specs.Spans.{Spans}
+use Rattle.zdd_families.specs.{Nodes.IsReached, Spans.Spans}
 
 -- each family of the list has units from above the one number to the other alone
 abbrev pub SpanEach : ℕ → ℕ → List (List (List ℕ)) → Type 0

@@ -1,7 +1,6 @@
 -- What is left of a family without the sets that include a set of another.
 use Rattle.std.specs.Prelude.{◌≡◌, ◌↔◌, ℕ, false, List, Contains}
-use Rattle.zdd_families.specs.Family.{IsFamily}
-use Rattle.zdd_families.specs.Inclusion.{includes_one}
+use Rattle.zdd_families.specs.{Family.IsFamily, Inclusion.includes_one}
 
 -- the family has the sets of f that include no set of g
 pub record IsWithout (f g rest : List (List ℕ)) : Type 0 where

@@ -21,8 +21,9 @@ answer_as is due is' due' to_is to_due before after result m =
     (λ _ full. WasFull-as due due' to_due before after full)
 
 -- after what was done before
-pub answer_then : {E : Type 0} (is due : List (List ℕ) → Type 0) (a b c : Seated) → WentOn due a b
+pub answer_then : {E : Type 0} (is : List (List ℕ) → Type 0) {due : List (List ℕ) → Type 0} {a b : Seated} (c : Seated)
+    → WentOn due a b
     → (result : Result ℕ E) → MatchResult result (Gave is due b c) (λ _. WasFull due b c)
     → MatchResult result (Gave is due a c) (λ _. WasFull due a c)
-answer_then is due a b c on result m =
-    MatchResult-weaker result m (λ r gave. Gave-then due a b c on is r gave) (λ _ full. WasFull-then due a b c on full)
+answer_then is c on result m =
+    MatchResult-weaker result m (λ r gave. Gave-then c on gave) (λ _ full. WasFull-then c on full)

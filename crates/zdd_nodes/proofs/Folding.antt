@@ -3,8 +3,7 @@ use Rattle.std.proofs.Common.{◌≡◌, ℕ, ◌+◌, ◌<◌, List, [], All, g
 use Rattle.std.proofs.lemmas.List.{get_or-map, length-map}
 use Rattle.zdd_families.specs.Map.{Knows, KnowsAs, family}
 use Rattle.zdd_shared_table.specs.Seats.{Seated, IsSoundSeat, map_of}
-use Rattle.zdd_product.specs.Seats.{Gave, WasFull}
-use Rattle.zdd_product.specs.Voting.{families}
+use Rattle.zdd_product.specs.{Seats.Gave, Seats.WasFull, Voting.families}
 use Rattle.zdd_product.proofs.After.{stays, WentOn-next, WasFull-next}
 
 module _ (IsStep DueStep : List (List ℕ) → List (List ℕ) → List (List ℕ) → Type 0)
@@ -44,10 +43,10 @@ module _ (IsStep DueStep : List (List ℕ) → List (List ℕ) → List (List �
   step_due h due =
       due_next place first all had h within so_far.known.1 (subst (λ (q : List (List ℕ)). DueStep had q h) next_is due)
 
-  pub step_on : {after : Seated} (r : ℕ) → Gave (IsStep had next) (DueStep had next) mid after r
+  pub step_on : {after : Seated} {r : ℕ} → Gave (IsStep had next) (DueStep had next) mid after r
       → Gave (IsAll first (take (place + 1) all)) (DueAll first all) start after r
-  step_on {after = after} r gave = record {
-    on = WentOn-next (DueAll first all) (DueStep had next) start mid after so_far.on step_due gave.on;
+  step_on {after = after} {r} gave = record {
+    on = WentOn-next (DueStep had next) after so_far.on step_due gave.on;
     known = (
       gave.known.0,
       more place first all had (family (map_of after) r) within so_far.known.1
@@ -57,4 +56,4 @@ module _ (IsStep DueStep : List (List ℕ) → List (List ℕ) → List (List �
 
   pub step_full : {after : Seated} → WasFull (DueStep had next) mid after → WasFull (DueAll first all) start after
   step_full {after = after} full =
-      WasFull-next (DueAll first all) (DueStep had next) start mid after so_far.on step_due full
+      WasFull-next (DueStep had next) after so_far.on step_due full

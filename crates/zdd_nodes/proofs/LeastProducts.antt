@@ -1,8 +1,7 @@
 -- Products one after another, each with its minimal sets alone.
 use Rattle.std.proofs.Common.{ℕ, ◌+◌, ◌<◌, List, [], get_or, take, length}
-use Rattle.tree_families.specs.Due.{IsDueToProducts}
+use Rattle.tree_families.specs.{Due.IsDueToProducts, Recipe.IsProductOfAll}
 use Rattle.tree_families.proofs.DueSteps.{products-more, due-to_next_product, due-to_next_minimal}
-use Rattle.tree_families.specs.Recipe.{IsProductOfAll}
 use Rattle.zdd_nodes.specs.Steps.{IsLeastProduct, IsDueToLeastProduct, due_to_product, due_to_least}
 
 pub least_products-more : (place : ℕ) (first : List (List ℕ)) (others : List (List (List ℕ)))

@@ -1,23 +1,16 @@
 -- The answers of recipes as answers of a node.
 use Rattle.std.proofs.Common.{MatchResult, Result, ◌≡◌, ℕ, false, List, All, sym, subst, inl, inr}
-use Rattle.fault_definitions.specs.CutFamily.{IsCutFamily}
+use Rattle.fault_definitions.specs.{CutFamily.IsCutFamily, Trigger.below, WellFormed.IsTree}
 use Rattle.fault_definitions.specs.Tree.{FaultTree, IsNodeOf, IsUnitOf, is_fdep}
-use Rattle.fault_definitions.specs.Trigger.{below}
-use Rattle.fault_definitions.specs.WellFormed.{IsTree}
-use Rattle.zdd_families.specs.Due.{IsDueToMinimal}
-use Rattle.zdd_families.specs.Minimal.{IsMinimal}
+use Rattle.zdd_families.specs.{Due.IsDueToMinimal, Minimal.IsMinimal, Map.Knows, Map.family}
 use Rattle.tree_families.proofs.Building.{recipe-cut_family, unit_recipe_is}
 use Rattle.tree_families.specs.Due.{IsDueToRecipe, IsDueToTree, IsDueToUnions, due_to_unions, due_to_end, one_unit}
 use Rattle.tree_families.specs.Recipe.{IsMadeBy, IsUnionOfAll, Recipe, StandFor, alone, node_recipe}
-use Rattle.zdd_families.specs.Map.{Knows, family}
 use Rattle.zdd_shared_table.specs.Seats.{Seated, IsSoundSeat, map_of}
-use Rattle.zdd_product.specs.Seats.{Gave, WasFull}
-use Rattle.zdd_product.specs.Voting.{families}
+use Rattle.zdd_product.specs.{Seats.Gave, Seats.WasFull, Voting.families}
 use Rattle.zdd_product.proofs.After.{WentOn-as}
 use Rattle.zdd_nodes.specs.Steps.{IsDueToUnit}
-use Rattle.zdd_nodes.proofs.Answers.{answer_as, answer_then}
-use Rattle.zdd_nodes.proofs.NodeParts.{node_due}
-use Rattle.zdd_nodes.proofs.Staying.{families_stay}
+use Rattle.zdd_nodes.proofs.{Answers.answer_as, Answers.answer_then, NodeParts.node_due, Staying.families_stay}
 
 -- an answer, by what was made and what is due
 abbrev pub Answer : {E : Type 0} → (List (List ℕ) → Type 0) → (List (List ℕ) → Type 0) → Seated → Seated → Result ℕ E
@@ -28,21 +21,21 @@ abbrev pub FollowsRecipe : {E : Type 0} → Recipe → Seated → Seated → Res
 FollowsRecipe recipe before after result = Answer (IsMadeBy recipe) (IsDueToRecipe recipe) before after result
 
 -- an equal recipe
-pub at_recipe : {E : Type 0} (recipe recipe' : Recipe) → recipe ≡ recipe'
+pub at_recipe : {E : Type 0} {recipe recipe' : Recipe} → recipe ≡ recipe'
     → (before after : Seated) (result : Result ℕ E) → FollowsRecipe recipe' before after result
     → FollowsRecipe recipe before after result
-at_recipe recipe recipe' same before after result m =
-    subst (λ (q : Recipe). FollowsRecipe q before after result) (sym same) m
+at_recipe same before after result m = subst (λ (q : Recipe). FollowsRecipe q before after result) (sym same) m
 
 -- the family of a unit alone, and then the unions with others
-pub unit_made : {E : Type 0} (start mid after : Seated) (unit own : ℕ) (triggers : List ℕ) → IsSoundSeat start
+pub unit_made : {E : Type 0} {start mid : Seated} (after : Seated) (unit : ℕ) {own : ℕ} (triggers : List ℕ)
+    → IsSoundSeat start
     → All (Knows (map_of start)) triggers
     → Gave (λ h. h ≡ alone unit) (λ h. h ≡ alone unit) start mid own
     → (result : Result ℕ E) → Answer (IsUnionOfAll (family (map_of mid) own) (families (map_of mid) triggers))
     (IsDueToUnions (family (map_of mid) own) (families (map_of mid) triggers)) mid after result
     → Answer (IsUnionOfAll (alone unit) (families (map_of start) triggers))
     (IsDueToUnit unit (families (map_of start) triggers)) start after result
-unit_made start mid after unit own triggers sound knows gave result m =
+unit_made {start} {mid} after unit triggers sound knows gave result m =
     let fs = families (map_of start) triggers in
     let stay : families (map_of mid) triggers ≡ fs =
     families_stay start mid sound gave.on.went.sound gave.on.went.keeps triggers knows in
@@ -51,7 +44,7 @@ unit_made start mid after unit own triggers sound knows gave result m =
     result) stay
     (subst (λ (q : List (List ℕ)). Answer (IsUnionOfAll q (families (map_of mid) triggers))
     (IsDueToUnions q (families (map_of mid) triggers)) mid after result) gave.known.1 m) in
-    answer_then (IsUnionOfAll (alone unit) fs) (IsDueToUnit unit fs) start mid after
+    answer_then (IsUnionOfAll (alone unit) fs) after
     (WentOn-as (λ h. h ≡ alone unit) (IsDueToUnit unit fs) (λ h same. inl same) start mid gave.on) result
     (answer_as (IsUnionOfAll (alone unit) fs) (IsDueToUnions (alone unit) fs) (IsUnionOfAll (alone unit) fs)
     (IsDueToUnit unit fs) (λ h is. is) (λ h due. inr due) mid after result m')
@@ -59,19 +52,18 @@ unit_made start mid after unit own triggers sound knows gave result m =
 module _ (tree : FaultTree) (node : ℕ) (is_node : IsNodeOf tree node) (read : is_fdep tree node ≡ false)
     (fs : List (List (List ℕ))) (stand : StandFor (IsCutFamily tree) (below tree node) fs) where
   -- what the recipe of a node makes
-  pub node_made : {E : Type 0} (recipe : Recipe) → node_recipe tree node fs ≡ recipe
+  pub node_made : {E : Type 0} {recipe : Recipe} → node_recipe tree node fs ≡ recipe
       → (before after : Seated) (result : Result ℕ E) → FollowsRecipe recipe before after result
       → Answer (IsMadeBy (node_recipe tree node fs)) (IsDueToTree tree) before after result
-  node_made recipe same before after result m =
+  node_made same before after result m =
       answer_as (IsMadeBy (node_recipe tree node fs)) (IsDueToRecipe (node_recipe tree node fs))
       (IsMadeBy (node_recipe tree node fs)) (IsDueToTree tree) (λ h is. is)
-      (λ h due. node_due tree node is_node read fs stand h due) before after result
-      (at_recipe (node_recipe tree node fs) recipe same before after result m)
+      (λ h due. node_due node is_node read fs stand due) before after result (at_recipe same before after result m)
 
   unit_due : IsUnitOf tree node → (h : List (List ℕ)) → IsDueToUnit node fs h → IsDueToTree tree h
   unit_due is_unit h (inl same) = subst (IsDueToTree tree) (sym same) (one_unit is_unit)
   unit_due is_unit h (inr due) =
-      node_due tree node is_node read fs stand h (subst (λ (q : Recipe). IsDueToRecipe q h)
+      node_due node is_node read fs stand (subst (λ (q : Recipe). IsDueToRecipe q h)
       (sym (unit_recipe_is tree node fs is_unit)) (due_to_unions due))
 
   -- and of a unit
@@ -85,13 +77,13 @@ module _ (tree : FaultTree) (node : ℕ) (is_node : IsNodeOf tree node) (read : 
       (unit_due is_unit) before after result m
 
   -- its minimal sets are the cut family of the node
-  pub node_ends : {E : Type 0} → IsTree tree → (start mid after : Seated) (made : ℕ)
+  pub node_ends : {E : Type 0} → IsTree tree → {start mid : Seated} (after : Seated) {made : ℕ}
       → Gave (IsMadeBy (node_recipe tree node fs)) (IsDueToTree tree) start mid made → (result : Result ℕ E)
       → Answer (IsMinimal (family (map_of mid) made)) (IsDueToMinimal (family (map_of mid) made)) mid after result
       → Answer (IsCutFamily tree node) (IsDueToTree tree) start after result
-  node_ends kept start mid after made gave result m =
+  node_ends kept {mid} after {made} gave result m =
       let had = family (map_of mid) made in
-      answer_then (IsCutFamily tree node) (IsDueToTree tree) start mid after gave.on result
+      answer_then (IsCutFamily tree node) after gave.on result
       (answer_as (IsMinimal had) (IsDueToMinimal had) (IsCutFamily tree node) (IsDueToTree tree)
-      (λ h least. recipe-cut_family tree kept node is_node fs had h stand gave.known.1 least)
-      (λ h due. node_due tree node is_node read fs stand h (due_to_end gave.known.1 due)) mid after result m)
+      (λ h least. recipe-cut_family kept is_node fs stand gave.known.1 least)
+      (λ h due. node_due node is_node read fs stand (due_to_end gave.known.1 due)) mid after result m)

@@ -5,15 +5,12 @@ use Rattle.std.proofs.Math.Seq.{take-length}
 use Rattle.std.proofs.lemmas.List.Elements.{All-head, All-tail, All-nil, All-cons}
 use Rattle.fault_words.specs.declared.kind.GateKind.{GateKind}
 use Rattle.fault_words.specs.declared.kind.GateKind.TheVariants.{And, Or, Votes, Pand, Por, Seq, Fdep, Csp, Wsp, Hsp}
-use Rattle.fault_definitions.specs.CutFamily.{IsCutFamily}
+use Rattle.fault_definitions.specs.{CutFamily.IsCutFamily, Trigger.below, WellFormed.IsSoundKind}
 use Rattle.fault_definitions.specs.Tree.{FaultTree, IsNodeOf, is_fdep}
-use Rattle.fault_definitions.specs.Trigger.{below}
-use Rattle.fault_definitions.specs.WellFormed.{IsSoundKind}
 use Rattle.tree_families.specs.Due.{IsDueToRecipe, IsDueToTree, one_node}
 use Rattle.tree_families.specs.Recipe.{StandFor, needs_all, node_recipe}
 use Rattle.zdd_families.specs.Map.{Knows, family}
-use Rattle.zdd_product.specs.Seats.{KnowsOne}
-use Rattle.zdd_product.specs.Voting.{families}
+use Rattle.zdd_product.specs.{Seats.KnowsOne, Voting.families}
 use Rattle.zdd_nodes.specs.Reading.{reference_of, CanVote}
 
 pub stand_of : (known : ℕ → ℕ) (tree : FaultTree) (references nodes : List ℕ)
@@ -83,18 +80,18 @@ first_and_others known (r ∷ list) some =
     ap (λ q. family known r ∷ families known q) (sym (ap (λ n. take n list) e ∙ take-length list))
 
 -- the kinds that need all of their inputs
-pub needs_from : (kind : GateKind) → (kind ≡ And)
+pub needs_from : {kind : GateKind} → (kind ≡ And)
     ⊎ ((kind ≡ Pand) ⊎ ((kind ≡ Seq) ⊎ ((kind ≡ Csp) ⊎ ((kind ≡ Wsp) ⊎ (kind ≡ Hsp))))) → needs_all kind ≡ true
-needs_from kind (inl same) = ap needs_all same
-needs_from kind (inr (inl same)) = ap needs_all same
-needs_from kind (inr (inr (inl same))) = ap needs_all same
-needs_from kind (inr (inr (inr (inl same)))) = ap needs_all same
-needs_from kind (inr (inr (inr (inr (inl same))))) = ap needs_all same
-needs_from kind (inr (inr (inr (inr (inr same))))) = ap needs_all same
+needs_from (inl same) = ap needs_all same
+needs_from (inr (inl same)) = ap needs_all same
+needs_from (inr (inr (inl same))) = ap needs_all same
+needs_from (inr (inr (inr (inl same)))) = ap needs_all same
+needs_from (inr (inr (inr (inr (inl same))))) = ap needs_all same
+needs_from (inr (inr (inr (inr (inr same))))) = ap needs_all same
 
 -- what is due to the recipe of a node is due to the tree
-pub node_due : (tree : FaultTree) (node : ℕ) → IsNodeOf tree node → is_fdep tree node ≡ false
-    → (fs : List (List (List ℕ))) → StandFor (IsCutFamily tree) (below tree node) fs → (due : List (List ℕ))
+pub node_due : {tree : FaultTree} (node : ℕ) → IsNodeOf tree node → is_fdep tree node ≡ false
+    → (fs : List (List (List ℕ))) → StandFor (IsCutFamily tree) (below tree node) fs → {due : List (List ℕ)}
     → IsDueToRecipe (node_recipe tree node fs) due → IsDueToTree tree due
-node_due tree node is_node read fs stand due is =
+node_due node is_node read fs stand is =
     one_node (record { is_node = is_node; has_family = read; families = fs; cut_families = stand; is = is })

@@ -1,12 +1,8 @@
 -- The references of what a node reads.
 use Rattle.std.specs.Prelude.{ℕ, ◌-◌, ◌≤◌, List, All, map, slice_index}
-use Rattle.fault_words.specs.declared.kind.GateKind.{GateKind}
-use Rattle.fault_words.specs.declared.kind.GateKind.TheVariants.{Votes}
-use Rattle.fault_definitions.specs.CutFamily.{IsCutFamily}
-use Rattle.fault_definitions.specs.Tree.{FaultTree}
-use Rattle.fault_definitions.specs.Trigger.{below}
-use Rattle.zdd_product.specs.Seats.{KnowsOne}
-use Rattle.zdd_product.specs.Voting.{families}
+use Rattle.fault_words.specs.{declared.kind.GateKind.GateKind, declared.kind.GateKind.TheVariants.Votes}
+use Rattle.fault_definitions.specs.{CutFamily.IsCutFamily, Tree.FaultTree, Trigger.below}
+use Rattle.zdd_product.specs.{Seats.KnowsOne, Voting.families}
 
 -- of a list with a reference for each node, that of one node
 abbrev pub reference_of : List ℕ → ℕ → ℕ

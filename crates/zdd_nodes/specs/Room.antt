@@ -1,7 +1,6 @@
 -- The room that the nodes of a tree need.
 use Rattle.std.specs.Prelude.{ℕ, ◌≤◌, length}
-use Rattle.fault_definitions.specs.Tree.{FaultTree, IsNodeOf}
-use Rattle.fault_definitions.specs.Trigger.{below}
+use Rattle.fault_definitions.specs.{Tree.FaultTree, Tree.IsNodeOf, Trigger.below}
 use Rattle.zdd_nodes.specs.declared.rooms.Rooms.{Rooms}
 
 -- there is room for a reference of each node that any node of the tree reads, twice

@@ -1,10 +1,7 @@
 -- Steps of a node's recipe that are more than one operation.
 use Rattle.std.specs.Prelude.{◌≡◌, ◌⊎◌, ℕ, List}
-use Rattle.zdd_families.specs.Product.{IsProduct}
-use Rattle.zdd_families.specs.Minimal.{IsMinimal}
-use Rattle.zdd_families.specs.Due.{IsDueToProduct, IsDueToMinimal}
-use Rattle.tree_families.specs.Due.{IsDueToUnions}
-use Rattle.tree_families.specs.Recipe.{alone}
+use Rattle.zdd_families.specs.{Product.IsProduct, Minimal.IsMinimal, Due.IsDueToProduct, Due.IsDueToMinimal}
+use Rattle.tree_families.specs.{Due.IsDueToUnions, Recipe.alone}
 
 -- the minimal sets of the product of two families
 pub record IsLeastProduct (f g least : List (List ℕ)) : Type 0 where

@@ -1,18 +1,16 @@
 -- Operations one after another on one seat: for the proofs of this crate and of those above.
 use Rattle.std.proofs.Common.{MatchResult, Result, IfOk, IfErr, Ok, Err, ◌≡◌, ℕ, ◌+◌, ◌⊎◌, List, [], ◌∷◌, ◌++◌}
 use Rattle.std.proofs.Common.{Contains, refl, sym, ◌∙◌, ap, subst, inl, inr, append_assoc}
-use Rattle.std.proofs.lemmas.List.{append-nil}
-use Rattle.std.proofs.lemmas.Result.{MatchResult-weaker}
-use Rattle.std.proofs.lemmas.List.Elements.{Contains-append_cases, Contains-append_right}
+use Rattle.std.proofs.{lemmas.List.append-nil, lemmas.Result.MatchResult-weaker}
+use Rattle.std.proofs.{lemmas.List.Elements.Contains-append_cases, lemmas.List.Elements.Contains-append_right}
 use Rattle.unit_sets.proofs.Sorted.{Contains-nil, Contains-cons_cases}
 use Rattle.zdd_words.specs.Reference.{IsReference}
 use Rattle.zdd_words.specs.Word.{packed, lo_of, hi_of}
 use Rattle.zdd_words.proofs.WordLemmas.{level_of-packed, lo_of-packed, hi_of-packed}
 use Rattle.zdd_families.specs.Family.{branch}
 use Rattle.zdd_families.specs.Map.{Knows, KnowsAs, Grown, family}
-use Rattle.zdd_families.proofs.MapLemmas.{family-empty, Knows-grown}
-use Rattle.zdd_families.proofs.Canonical.{family-grown}
-use Rattle.zdd_families.proofs.CutsLemmas.{branch-none}
+use Rattle.zdd_families.proofs.{MapLemmas.family-empty, MapLemmas.Knows-grown, Canonical.family-grown}
+use Rattle.zdd_families.proofs.{CutsLemmas.branch-none}
 use Rattle.zdd_shared_table.specs.Seats.{Seated, IsSoundSeat, map_of}
 use Rattle.zdd_product.specs.Seats.{word_family, KnowsOne, FillsDue, MissesDue, Went, WentOn, Gave, WasFull}
 
@@ -46,8 +44,8 @@ module _ (due : List (List ℕ) → Type 0) (seat : Seated) (sound : IsSoundSeat
     missed = refl;
   }
 
-  pub Gave-known : (is : List (List ℕ) → Type 0) (r : ℕ) → KnowsOne (map_of seat) r is → Gave is due seat seat r
-  Gave-known is r known = record { on = WentOn-nowhere; known = known }
+  pub Gave-known : {is : List (List ℕ) → Type 0} {r : ℕ} → KnowsOne (map_of seat) r is → Gave is due seat seat r
+  Gave-known known = record { on = WentOn-nowhere; known = known }
 
 -- ---- what is due to an inner operation is due to the outer one
 
@@ -87,7 +85,7 @@ module _ (due due' : List (List ℕ) → Type 0) (outer : (f : List (List ℕ)) 
 
 -- ---- one after another
 
-module _ (due : List (List ℕ) → Type 0) (a b c : Seated) (on : WentOn due a b) where
+module _ {due : List (List ℕ) → Type 0} {a b : Seated} (c : Seated) (on : WentOn due a b) where
   then_each : Went due b c → (r : ℕ) → Contains on.went.fills.gained r → due (family (map_of c) r)
   then_each later r has =
       let filled : Contains b.fills r =
@@ -120,8 +118,8 @@ module _ (due : List (List ℕ) → Type 0) (a b c : Seated) (on : WentOn due a 
   WentOn-then later =
       record { went = Went-then later.went; fulls = later.fulls ∙ on.fulls; missed = later.missed ∙ on.missed }
 
-  pub Gave-then : (is : List (List ℕ) → Type 0) (r : ℕ) → Gave is due b c r → Gave is due a c r
-  Gave-then is r gave = record { on = WentOn-then gave.on; known = gave.known }
+  pub Gave-then : {is : List (List ℕ) → Type 0} {r : ℕ} → Gave is due b c r → Gave is due a c r
+  Gave-then gave = record { on = WentOn-then gave.on; known = gave.known }
 
   pub WasFull-then : WasFull due b c → WasFull due a c
   WasFull-then full = record {
@@ -136,13 +134,14 @@ module _ (due : List (List ℕ) → Type 0) (a b c : Seated) (on : WentOn due a 
 
 -- ---- an inner operation after what was done
 
-module _ (due inner : List (List ℕ) → Type 0) (a b c : Seated) (on : WentOn due a b)
+module _ {due : List (List ℕ) → Type 0} (inner : List (List ℕ) → Type 0) {a b : Seated} (c : Seated)
+    (on : WentOn due a b)
     (to_due : (h : List (List ℕ)) → inner h → due h) where
   pub WentOn-next : WentOn inner b c → WentOn due a c
-  WentOn-next later = WentOn-then due a b c on (WentOn-as inner due to_due b c later)
+  WentOn-next later = WentOn-then c on (WentOn-as inner due to_due b c later)
 
   pub WasFull-next : WasFull inner b c → WasFull due a c
-  WasFull-next full = WasFull-then due a b c on (WasFull-as inner due to_due b c full)
+  WasFull-next full = WasFull-then c on (WasFull-as inner due to_due b c full)
 
 -- what is known of a reference stays true of it afterwards
 pub known_stays : {due : List (List ℕ) → Type 0} {before after : Seated} (is : List (List ℕ) → Type 0) (r : ℕ)
@@ -153,9 +152,9 @@ known_stays {before = before} {after = after} is r sound on known =
     (at.0, subst is (sym at.1) known.1)
 
 -- a fact of two families, at families that are equal to them
-pub at_both : (R : List (List ℕ) → List (List ℕ) → Type 0) (f f' g g' : List (List ℕ)) → f ≡ f' → g ≡ g' → R f g
+pub at_both : (R : List (List ℕ) → List (List ℕ) → Type 0) {f f' g g' : List (List ℕ)} → f ≡ f' → g ≡ g' → R f g
     → R f' g'
-at_both R f f' g g' same same' fact = subst (λ q. R f' q) same' (subst (λ q. R q g) same fact)
+at_both R {f'} {g} same same' fact = subst (λ q. R f' q) same' (subst (λ q. R q g) same fact)
 
 -- ---- one node
 
@@ -180,10 +179,10 @@ module _ (before after : Seated) (f : List (List ℕ)) (store : after.store ≡ 
     each = λ q has. ap (family (map_of after)) (sym (only_one r q has)) ∙ known.1;
   }
 
-  pub Gave-node : (r : ℕ) → KnowsAs (map_of after) r f
+  pub Gave-node : {r : ℕ} → KnowsAs (map_of after) r f
       → (after.fills ≡ before.fills) ⊎ (after.fills ≡ before.fills ++ r ∷ []) → after.fulls ≡ before.fulls
       → after.missed ≡ before.missed → Gave (λ h. h ≡ f) (λ h. h ≡ f) before after r
-  Gave-node r known fills fulls missed = record {
+  Gave-node {r} known fills fulls missed = record {
     on = record {
       went = record { store = store; share = share; keeps = keeps; sound = sound; fills = node_fills r known fills };
       fulls = fulls;
@@ -208,7 +207,7 @@ module _ (before after : Seated) (f : List (List ℕ)) (store : after.store ≡ 
   }
 
 -- what holds of both answers of the store's call on one node
-pub node_made : {E : Type 0} (before after : Seated) (f : List (List ℕ)) (word : ℕ) → after.store ≡ before.store
+pub node_made : {E : Type 0} (before after : Seated) {f : List (List ℕ)} (word : ℕ) → after.store ≡ before.store
     → after.share ≡ before.share → Grown (map_of before) (map_of after) → IsSoundSeat after
     → (word_family (map_of after) word ≡ f)
     → (result : Result ℕ E) → IfOk result (λ r. KnowsAs (map_of after) r f)
@@ -217,9 +216,9 @@ pub node_made : {E : Type 0} (before after : Seated) (f : List (List ℕ)) (word
     → MatchResult result (λ _. after.fulls ≡ before.fulls) (λ _. after.fulls ≡ before.fulls + 1)
     → MatchResult result (λ _. after.missed ≡ before.missed) (λ _. after.missed ≡ before.missed ++ word ∷ [])
     → MatchResult result (Gave (λ h. h ≡ f) (λ h. h ≡ f) before after) (λ _. WasFull (λ h. h ≡ f) before after)
-node_made before after f word store share keeps sound is (Ok r) known fills fulls missed =
-    Gave-node before after f store share keeps sound r known fills fulls missed
-node_made before after f word store share keeps sound is (Err e) known fills fulls missed =
+node_made before after {f} word store share keeps sound is (Ok r) known fills fulls missed =
+    Gave-node before after f store share keeps sound known fills fulls missed
+node_made before after {f} word store share keeps sound is (Err e) known fills fulls missed =
     WasFull-node before after f store share keeps sound word is fills fulls missed
 
 -- the family of a word that is packed
@@ -233,19 +232,19 @@ word_family-packed known level lo hi small small' =
     ∙ ap (λ r. branch level (family known lo) (family known r)) (hi_of-packed level lo hi small')
 
 -- a node with no sets with its level is its lo
-pub lo_alone : (known : ℕ → ℕ) (level lo hi : ℕ) → hi ≡ 0
+pub lo_alone : (known : ℕ → ℕ) (level lo : ℕ) {hi : ℕ} → hi ≡ 0
     → family known lo ≡ branch level (family known lo) (family known hi)
-lo_alone known level lo hi none =
+lo_alone known level lo none =
     sym (ap (λ r. branch level (family known lo) (family known r)) none
     ∙ ap (branch level (family known lo)) (family-empty known) ∙ branch-none level (family known lo))
 
 -- ---- a node is made at the end
 
-module _ (made is due : List (List ℕ) → Type 0) (to_is : (h : List (List ℕ)) → made h → is h)
-    (to_due : (h : List (List ℕ)) → made h → due h) (a b c : Seated) (on : WentOn due a b) where
-  Gave-made : (r : ℕ) → Gave made made b c r → Gave is due a c r
-  Gave-made r gave =
-      Gave-then due a b c on is r (record {
+module _ (made is : List (List ℕ) → Type 0) {due : List (List ℕ) → Type 0} (to_is : (h : List (List ℕ)) → made h → is h)
+    (to_due : (h : List (List ℕ)) → made h → due h) {a b : Seated} (c : Seated) (on : WentOn due a b) where
+  Gave-made : {r : ℕ} → Gave made made b c r → Gave is due a c r
+  Gave-made {r} gave =
+      Gave-then c on (record {
         on = WentOn-as made due to_due b c gave.on;
         known = (gave.known.0, to_is (family (map_of c) r) gave.known.1);
       })
@@ -253,8 +252,8 @@ module _ (made is due : List (List ℕ) → Type 0) (to_is : (h : List (List ℕ
   pub made_after : {E : Type 0} (result : Result ℕ E) → MatchResult result (Gave made made b c) (λ _. WasFull made b c)
       → MatchResult result (Gave is due a c) (λ _. WasFull due a c)
   made_after result m =
-      MatchResult-weaker result m (λ r gave. Gave-made r gave)
-      (λ _ full. WasFull-then due a b c on (WasFull-as made due to_due b c full))
+      MatchResult-weaker result m (λ r gave. Gave-made gave)
+      (λ _ full. WasFull-then c on (WasFull-as made due to_due b c full))
 
 -- ---- the two answers of an operation, taken from one fact of both
 

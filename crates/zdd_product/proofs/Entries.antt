@@ -2,17 +2,14 @@
 use Rattle.std.proofs.Common.{◌≡◌, ℕ, List, [], ◌∷◌, inl, arith, sym, subst, All}
 use Rattle.std.proofs.lemmas.List.Elements.{All-cons, All-weaker}
 use Rattle.zdd_families.specs.Map.{Knows, IsClosed, Grown, family}
-use Rattle.zdd_families.proofs.MapLemmas.{family-empty, Knows-grown}
-use Rattle.zdd_families.proofs.Canonical.{family-grown}
+use Rattle.zdd_families.proofs.{MapLemmas.family-empty, MapLemmas.Knows-grown, Canonical.family-grown}
+use Rattle.zdd_families.proofs.{WithoutLemmas.without-none}
 use Rattle.zdd_families.specs.Without.{IsWithout}
-use Rattle.zdd_families.proofs.WithoutLemmas.{without-none}
-use Rattle.kept_answers.specs.Kept.{AreKept, first_entry}
+use Rattle.kept_answers.specs.{Kept.AreKept, Kept.first_entry, declared.answers.Entry.Entry}
+use Rattle.kept_answers.specs.{declared.answers.Operation.Operation}
 use Rattle.kept_answers.proofs.Keeping.{all_kept}
-use Rattle.zdd_product.specs.Told.{IsTold, IsResult}
-use Rattle.kept_answers.specs.declared.answers.Entry.{Entry}
-use Rattle.kept_answers.specs.declared.answers.Operation.{Operation}
+use Rattle.zdd_product.specs.{Told.IsTold, Told.IsResult, Seats.Gave}
 use Rattle.zdd_shared_table.specs.Seats.{Seated, IsSoundSeat, map_of}
-use Rattle.zdd_product.specs.Seats.{Gave}
 use Rattle.zdd_product.proofs.After.{stays, at_both}
 
 told_grown : (known known' : ℕ → ℕ) → IsClosed known → IsClosed known' → Grown known known' → (entry : Entry)
@@ -60,11 +57,11 @@ told_more known entry before after told all kept =
     kept
 
 -- what an operation on two references gave is true as an entry
-pub told_made : (operation : Operation) (due : List (List ℕ) → Type 0) (before after : Seated) (a b r : ℕ)
+pub told_made : (operation : Operation) {due : List (List ℕ) → Type 0} {before after : Seated} (a b : ℕ) {r : ℕ}
     → IsSoundSeat before → Knows (map_of before) a → Knows (map_of before) b
     → Gave (IsResult operation (family (map_of before) a) (family (map_of before) b)) due before after r
     → IsTold (map_of after) (record { question = record { operation = operation; first = a; second = b }; answer = r })
-told_made operation due before after a b r sound knows_a knows_b gave =
+told_made operation {before} {after} a b {r} sound knows_a knows_b gave =
     let went = gave.on.went in
     let first = stays before after a sound went.sound went.keeps knows_a in
     let second = stays before after b sound went.sound went.keeps knows_b in
@@ -73,6 +70,5 @@ told_made operation due before after a b r sound knows_a knows_b gave =
       second = second.0;
       answer = gave.known.0;
       is =
-          at_both (λ f g. IsResult operation f g (family (map_of after) r)) _ _ _ _ (sym first.1) (sym second.1)
-          gave.known.1;
+          at_both (λ f g. IsResult operation f g (family (map_of after) r)) (sym first.1) (sym second.1) gave.known.1;
     }

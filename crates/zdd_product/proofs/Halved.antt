@@ -1,14 +1,10 @@
 -- What is known once an operation has cut both its references at their least unit.
 use Rattle.std.proofs.Common.{◌≡◌, ◌≢◌, ◌⊎◌, ℕ, ◌<◌, ◌≤◌, List, [], sym, ap, subst}
 use Rattle.zdd_families.specs.Map.{Knows, KnowsAs, family, level_in}
-use Rattle.zdd_families.proofs.MapLemmas.{level_in-grown}
-use Rattle.zdd_families.specs.Cuts.{Cuts}
-use Rattle.zdd_families.specs.Due.{IsInnerFamily}
-use Rattle.zdd_families.proofs.References.{IsInnerFamily-reference}
+use Rattle.zdd_families.proofs.{MapLemmas.level_in-grown, References.IsInnerFamily-reference}
+use Rattle.zdd_families.specs.{Cuts.Cuts, Due.IsInnerFamily}
 use Rattle.zdd_shared_table.specs.Seats.{Seated, IsSoundSeat, map_of}
-use Rattle.zdd_product.specs.declared.halves.Halves.{Halves}
-use Rattle.zdd_product.specs.Halves.{AreHalves}
-use Rattle.zdd_product.specs.Seats.{KnowsBoth, WentOn}
+use Rattle.zdd_product.specs.{declared.halves.Halves.Halves, Halves.AreHalves, Seats.KnowsBoth, Seats.WentOn}
 use Rattle.zdd_product.proofs.Halving.{Cuts-halved, one_split, levels_left, fewer_left, lo_fewer}
 use Rattle.zdd_product.proofs.After.{stays, at_both}
 
@@ -43,19 +39,19 @@ module _ {GoOn : List (List ℕ) → List (List ℕ) → Type 0} {q s : Seated} 
     (cut : Halved GoOn q s a b halves) where
   pub first_cut : Cuts halves.level (family (map_of s) a) (family (map_of s) halves.first.lo)
       (family (map_of s) halves.first.hi)
-  first_cut = Cuts-halved _ _ _ _ cut.are.first.halved
+  first_cut = Cuts-halved cut.are.first.halved
 
   pub second_cut : Cuts halves.level (family (map_of s) b) (family (map_of s) halves.second.lo)
       (family (map_of s) halves.second.hi)
-  second_cut = Cuts-halved _ _ _ _ cut.are.second.halved
+  second_cut = Cuts-halved cut.are.second.halved
 
   pub one_cut : (family (map_of s) halves.first.hi ≢ []) ⊎ (family (map_of s) halves.second.hi ≢ [])
-  one_cut = one_split (map_of s) a b halves cut.are
+  one_cut = one_split cut.are
 
   pub los_next : (levels_left (map_of q) halves.first.lo halves.second.lo < levels_left (map_of s) a b)
       × KnowsBoth q halves.first.lo halves.second.lo
   los_next =
-      let next = lo_fewer (map_of s) (map_of q) a b halves (ap map_of cut.same) cut.are in
+      let next = lo_fewer (ap map_of cut.same) cut.are in
       (next.0, record { sound = subst IsSoundSeat (sym cut.same) cut.sound; first = next.1.0; second = next.1.1 })
 
   -- ---- after what was done since
@@ -72,7 +68,7 @@ module _ {GoOn : List (List ℕ) → List (List ℕ) → Type 0} {q s : Seated} 
     pub his_next : (levels_left (map_of s1) halves.first.hi halves.second.hi < levels_left (map_of s) a b)
         × KnowsBoth s1 halves.first.hi halves.second.hi
     his_next = (
-      fewer_left (map_of s) (map_of s1) a b halves.first.hi halves.second.hi halves cut.are
+      fewer_left (map_of s1) halves.first.hi halves.second.hi cut.are
           (still_above halves.first.hi cut.are.first.knows_hi cut.are.first.hi_above)
           (still_above halves.second.hi cut.are.second.knows_hi cut.are.second.hi_above),
       record {
@@ -87,5 +83,5 @@ module _ {GoOn : List (List ℕ) → List (List ℕ) → Type 0} {q s : Seated} 
         → R (family (map_of s1) halves.first.hi) (family (map_of s1) halves.second.hi)
         → R (family (map_of s) halves.first.hi) (family (map_of s) halves.second.hi)
     at_his R fact =
-        at_both R _ _ _ _ (still halves.first.hi cut.are.first.knows_hi).1
+        at_both R (still halves.first.hi cut.are.first.knows_hi).1
         (still halves.second.hi cut.are.second.knows_hi).1 fact

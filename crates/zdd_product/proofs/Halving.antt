@@ -7,12 +7,9 @@ use Rattle.zdd_families.specs.Map.{Knows, IsClosed, Grown, family, level_in}
 use Rattle.zdd_families.proofs.MapLemmas.{family-empty, level_in-terminal}
 use Rattle.zdd_families.proofs.MapLemmas.{level_in-inner, level_in-grown}
 use Rattle.zdd_families.proofs.Canonical.{family-above, family-filled, level-above, first_unit-family}
-use Rattle.zdd_families.specs.Cuts.{Cuts}
+use Rattle.zdd_families.specs.{Cuts.Cuts, Due.Splits}
 use Rattle.zdd_families.proofs.CutsLemmas.{cut_above}
-use Rattle.zdd_families.specs.Due.{Splits}
-use Rattle.zdd_product.specs.declared.halves.Half.{Half}
-use Rattle.zdd_product.specs.declared.halves.Halves.{Halves}
-use Rattle.zdd_product.specs.declared.halves.Split.{Split}
+use Rattle.zdd_product.specs.{declared.halves.Half.Half, declared.halves.Halves.Halves, declared.halves.Split.Split}
 use Rattle.zdd_product.specs.Halves.{IsHalved, IsHalf, IsSplit, AreHalves}
 
 pub inner_known : (known : ℕ → ℕ) (r : ℕ) → Knows known r → 2 ≤ r → known r ≢ 0
@@ -51,13 +48,14 @@ module _ (known : ℕ → ℕ) (x r : ℕ) (half : Half) (closed : IsClosed know
   }
 
 -- the same, where the map is the same before and after
-pub node_halves : (known known' : ℕ → ℕ) (x r : ℕ) (half : Half) → known' ≡ known → IsClosed known' → Knows known r
+pub node_halves : {known known' : ℕ → ℕ} {x : ℕ} (r : ℕ) (half : Half) → known' ≡ known → IsClosed known'
+    → Knows known r
     → 2 ≤ r → IsUnit x → x ≡ first_unit (family known r)
     → family known' r ≡ branch x (family known' half.lo) (family known' half.hi) → half.hi ≢ 0 → Knows known' half.lo
     → Knows known' half.hi
     → IsAbove x (family known' half.lo) → IsAbove x (family known' half.hi)
     → IsHalf known x r half × IsSplit known x r half
-node_halves known known' x r half same closed knows inner unit least is filled knows_lo knows_hi lo_above hi_above =
+node_halves {known'} {x} r half same closed knows inner unit least is filled knows_lo knows_hi lo_above hi_above =
     let splits : Splits x (family known' r) (family known' half.lo) (family known' half.hi) =
     splits_parts known' x r half closed is filled knows_hi lo_above hi_above in
     subst (λ m. IsHalf m x r half × IsSplit m x r half) same (
@@ -67,9 +65,9 @@ node_halves known known' x r half same closed knows inner unit least is filled k
     )
 
 -- a reference of a greater level is its own lo
-pub IsHalf-whole : (known : ℕ → ℕ) (x r : ℕ) (half : Half) → IsClosed known → IsUnit x → Knows known r
+pub IsHalf-whole : {known : ℕ → ℕ} {x r : ℕ} {half : Half} → IsClosed known → IsUnit x → Knows known r
     → x < level_in known r → half ≡ record { lo = r; hi = 0 } → IsHalf known x r half
-IsHalf-whole known x r half closed unit knows above is =
+IsHalf-whole {known} {x} {r} closed unit knows above is =
     subst (IsHalf known x r) (sym is)
     record {
       knows_lo = knows;
@@ -101,24 +99,22 @@ pub record AreSplit (known : ℕ → ℕ) (a b : ℕ) (one other : Split) : Type
   pub other_split : IsSplit known other.level b other.half
 
 module _ {known : ℕ → ℕ} {a b : ℕ} {one other : Split} (are : AreSplit known a b one other) where
-  pub first_lower : (whole : Half) → whole ≡ record { lo = b; hi = 0 } → one.level < other.level
+  pub first_lower : {whole : Half} → whole ≡ record { lo = b; hi = 0 } → one.level < other.level
       → AreHalves known a b (record { level = one.level; first = one.half; second = whole })
-  first_lower whole is lower = record {
+  first_lower is lower = record {
     unit = are.one_unit;
     first = are.one_half;
     second =
-        IsHalf-whole known one.level b whole are.closed are.one_unit are.knows_b
-        (let e = are.other_split.level in omega (arith, e)) is;
+        IsHalf-whole are.closed are.one_unit are.knows_b (let e = are.other_split.level in omega (arith, e)) is;
     least = inl are.one_split;
   }
 
-  pub second_lower : (whole : Half) → whole ≡ record { lo = a; hi = 0 } → other.level < one.level
+  pub second_lower : {whole : Half} → whole ≡ record { lo = a; hi = 0 } → other.level < one.level
       → AreHalves known a b (record { level = other.level; first = whole; second = other.half })
-  second_lower whole is lower = record {
+  second_lower is lower = record {
     unit = are.other_unit;
     first =
-        IsHalf-whole known other.level a whole are.closed are.other_unit are.knows_a
-        (let e = are.one_split.level in omega (arith, e)) is;
+        IsHalf-whole are.closed are.other_unit are.knows_a (let e = are.one_split.level in omega (arith, e)) is;
     second = are.other_half;
     least = inr are.other_split;
   }
@@ -134,15 +130,15 @@ module _ {known : ℕ → ℕ} {a b : ℕ} {one other : Split} (are : AreSplit k
 
 -- ---- cuts
 
-pub Cuts-halved : (x : ℕ) (f lo hi : List (List ℕ)) → IsHalved x f lo hi → Cuts x f lo hi
-Cuts-halved x f lo hi (inl splits) = splits.cut
-Cuts-halved x f lo hi (inr higher) =
+pub Cuts-halved : {x : ℕ} {f lo hi : List (List ℕ)} → IsHalved x f lo hi → Cuts x f lo hi
+Cuts-halved (inl splits) = splits.cut
+Cuts-halved {x} {f} {lo} (inr higher) =
     subst (λ h. Cuts x f lo h) (sym higher.hi_is)
     (subst (λ l. Cuts x f l []) (sym higher.lo_is) (cut_above x f higher.above))
 
-pub one_split : (known : ℕ → ℕ) (a b : ℕ) (halves : Halves) → AreHalves known a b halves
+pub one_split : {known : ℕ → ℕ} {a b : ℕ} {halves : Halves} → AreHalves known a b halves
     → (family known halves.first.hi ≢ []) ⊎ (family known halves.second.hi ≢ [])
-one_split known a b halves are = elim are.least [
+one_split are = elim are.least [
   | inl first ↦ inl first.splits.some_with
   | inr second ↦ inr second.splits.some_with
 ]
@@ -161,10 +157,10 @@ fewer_above : (x a b lo lo' : ℕ) → x < 4096 → x < lo → x < lo' → (a �
 fewer_above x a b lo lo' unit above above' (inl here) = omega arith
 fewer_above x a b lo lo' unit above above' (inr here) = omega arith
 
-pub fewer_left : (known known' : ℕ → ℕ) (a b r q : ℕ) (halves : Halves) → AreHalves known a b halves
+pub fewer_left : {known : ℕ → ℕ} (known' : ℕ → ℕ) {a b : ℕ} (r q : ℕ) {halves : Halves} → AreHalves known a b halves
     → halves.level < level_in known' r → halves.level < level_in known' q
     → levels_left known' r q < levels_left known a b
-fewer_left known known' a b r q halves are above above' =
+fewer_left {known} known' {a} {b} r q {halves} are above above' =
     fewer_above halves.level (level_in known a) (level_in known b) (level_in known' r) (level_in known' q)
     (let u = are.unit.1 in omega arith) above above'
     (elim are.least [
@@ -173,13 +169,13 @@ fewer_left known known' a b r q halves are above above' =
     ])
 
 -- the lower halves of both references, over the same map
-pub lo_fewer : (known known' : ℕ → ℕ) (a b : ℕ) (halves : Halves) → known' ≡ known → AreHalves known a b halves
+pub lo_fewer : {known known' : ℕ → ℕ} {a b : ℕ} {halves : Halves} → known' ≡ known → AreHalves known a b halves
     → (levels_left known' halves.first.lo halves.second.lo < levels_left known a b)
     × (Knows known' halves.first.lo × Knows known' halves.second.lo)
-lo_fewer known known' a b halves same are =
+lo_fewer {known} {a} {b} {halves} same are =
     subst (λ m. (levels_left m halves.first.lo halves.second.lo < levels_left known a b)
     × (Knows m halves.first.lo × Knows m halves.second.lo)) (sym same) (
-      fewer_left known known a b halves.first.lo halves.second.lo halves are are.first.lo_above are.second.lo_above,
+      fewer_left known halves.first.lo halves.second.lo are are.first.lo_above are.second.lo_above,
       (are.first.knows_lo, are.second.knows_lo),
     )
 
@@ -194,9 +190,10 @@ fewer_four : (x a b f0 f1 g0 g1 : ℕ) → x < 4096 → x < f0 → x < f1 → x 
 fewer_four x a b f0 f1 g0 g1 unit h0 h1 k0 k1 (inl here) = omega arith
 fewer_four x a b f0 f1 g0 g1 unit h0 h1 k0 k1 (inr here) = omega arith
 
-pub fewer_with : (known known' : ℕ → ℕ) (a b : ℕ) (halves : Halves) → AreHalves known a b halves → Grown known known'
+pub fewer_with : {known : ℕ → ℕ} (known' : ℕ → ℕ) {a b : ℕ} {halves : Halves} → AreHalves known a b halves
+    → Grown known known'
     → levels_with known' halves.first halves.second < levels_left known a b
-fewer_with known known' a b halves are grown =
+fewer_with {known} known' {a} {b} {halves} are grown =
     let later : (r : ℕ) → Knows known r → halves.level < level_in known r → halves.level < level_in known' r =
     λ r knows above. subst (λ n. halves.level < n) (sym (level_in-grown known known' r grown knows)) above in
     fewer_four halves.level (level_in known a) (level_in known b) (level_in known' halves.first.lo)

@@ -4,23 +4,18 @@ use Rattle.std.proofs.Common.{Contains, refl, sym, ◌∙◌, subst, inl, inr, a
 use Rattle.std.proofs.lemmas.Bool.{cases_Bool}
 use Rattle.unit_sets.specs.Unit.{IsUnit}
 use Rattle.unit_sets.proofs.Sorted.{Contains-nil, Contains-cons_first, Contains-cons_cases}
-use Rattle.zdd_families.specs.Family.{IsAbove, branch}
-use Rattle.zdd_families.proofs.FamilyLemmas.{IsFamily-unit, same_family}
+use Rattle.zdd_families.specs.{Family.IsAbove, Family.branch, Inclusion.includes_one, Without.IsWithout}
+use Rattle.zdd_families.specs.{Minimal.IsMinimal}
+use Rattle.zdd_families.proofs.{FamilyLemmas.IsFamily-unit, FamilyLemmas.same_family, Canonical.IsFamily-family}
+use Rattle.zdd_families.proofs.{Canonical.family-same, WithoutLemmas.without-above, References.IsInnerFamily-reference}
 use Rattle.zdd_families.specs.Map.{Knows, KnowsAs, IsClosed, IsUnique, family, level_in}
 use Rattle.zdd_families.proofs.MapLemmas.{family-empty, family-unit}
 use Rattle.zdd_families.proofs.MapLemmas.{level_in-grown}
-use Rattle.zdd_families.proofs.Canonical.{IsFamily-family, family-same}
-use Rattle.zdd_families.specs.Inclusion.{includes_one}
-use Rattle.zdd_families.specs.Without.{IsWithout}
-use Rattle.zdd_families.proofs.WithoutLemmas.{without-above}
-use Rattle.zdd_families.specs.Minimal.{IsMinimal}
 use Rattle.zdd_families.proofs.MinimalLemmas.{minimal-none, minimal-unit, minimal-above, minimal-step}
 use Rattle.zdd_families.specs.Due.{IsInnerFamily, minimal_itself, minimal_lo, minimal_hi, minimal_rest}
-use Rattle.zdd_families.proofs.References.{IsInnerFamily-reference}
 use Rattle.zdd_shared_table.specs.Seats.{Seated, IsSoundSeat, map_of}
-use Rattle.zdd_product.specs.declared.halves.Half.{Half}
-use Rattle.zdd_product.specs.Due.{IsMadeByMinimal, IsMadeByWithout}
-use Rattle.zdd_product.specs.Halves.{IsHalf, IsSplit}
+use Rattle.zdd_product.specs.{declared.halves.Half.Half, Due.IsMadeByMinimal, Due.IsMadeByWithout, Halves.IsHalf}
+use Rattle.zdd_product.specs.{Halves.IsSplit}
 use Rattle.zdd_product.specs.Seats.{IsBranch, KnowsOne, WentOn, Gave, WasFull}
 use Rattle.zdd_product.proofs.After.{stays, known_stays, WentOn-as, WasFull-as, WentOn-next, WasFull-next, made_after}
 use Rattle.zdd_product.proofs.WithoutParts.{has_empty, unit_stays}
@@ -33,7 +28,7 @@ minimal_ends known (suc zero) small = (inl small, subst (λ f. IsMinimal f f) (s
 minimal_ends known (suc (suc a)) small = absurd (omega arith)
 
 -- minimal sets with the empty set among them are the empty set alone
-module _ (f least : List (List ℕ)) (is : IsMinimal f least) (empty : Contains least []) where
+module _ {f least : List (List ℕ)} (is : IsMinimal f least) (empty : Contains least []) where
   to_empty : (set : List ℕ) → Contains least set → Contains ([] ∷ []) set
   to_empty set has =
       subst (Contains ([] ∷ [])) (((is.sets set).0 has).1 [] ((is.sets []).0 empty).0 refl) (Contains-cons_first [] [])
@@ -47,14 +42,14 @@ module _ (f least : List (List ℕ)) (is : IsMinimal f least) (empty : Contains 
   least_empty : least ≡ [] ∷ []
   least_empty = same_family least ([] ∷ []) is.is_family IsFamily-unit (λ set. (to_empty set, from_empty set))
 
-pub unit_of_least : (known : ℕ → ℕ) (high low : ℕ) (f : List (List ℕ)) → IsClosed known → IsUnique known
+pub unit_of_least : (known : ℕ → ℕ) {high low : ℕ} {f : List (List ℕ)} → IsClosed known → IsUnique known
     → Knows known low → IsMinimal f (family known low) → high ≡ 1 → low ≢ 1
     → KnowsOne known high (IsWithout (family known high) (family known low))
-unit_of_least known high low f closed unique knows is unit other =
+unit_of_least known {low} closed unique knows is unit other =
     elim (cases_Bool (includes_one (family known low) [])) [
       | inl test ↦ absurd (other (family-same known low 1 closed unique knows (inl (omega arith))
-          (least_empty f (family known low) is (has_empty (family known low) test) ∙ sym (family-unit known))))
-      | inr test ↦ unit_stays known high low high unit unit test
+          (least_empty is (has_empty (family known low) test) ∙ sym (family-unit known))))
+      | inr test ↦ unit_stays known low unit unit test
     ]
 
 -- ---- the levels above a reference
@@ -62,9 +57,9 @@ unit_of_least known high low f closed unique knows is unit other =
 abbrev pub levels_above : (ℕ → ℕ) → ℕ → ℕ
 levels_above known a = 4096 - level_in known a
 
-pub fewer_alone : (known known' : ℕ → ℕ) (x a r : ℕ) → x < 4096 → level_in known a ≡ x → x < level_in known' r
+pub fewer_alone : (known known' : ℕ → ℕ) {x : ℕ} (a r : ℕ) → x < 4096 → level_in known a ≡ x → x < level_in known' r
     → levels_above known' r < levels_above known a
-fewer_alone known known' x a r unit here above = omega arith
+fewer_alone known known' a r unit here above = omega arith
 
 -- ---- the steps
 
@@ -104,8 +99,7 @@ module _ {q s : Seated} {a x : ℕ} {half : Half} (cut : IsParted q s a x half) 
   to_lo h made = (cut.inner, minimal_lo cut.split.splits made.1)
 
   fewer : (p : Seated) (r : ℕ) → x < level_in (map_of p) r → levels_above (map_of p) r < levels_above (map_of s) a
-  fewer p r above =
-      fewer_alone (map_of s) (map_of p) x a r (let u = cut.unit.1 in omega arith) cut.split.level above
+  fewer p r above = fewer_alone (map_of s) (map_of p) a r (let u = cut.unit.1 in omega arith) cut.split.level above
 
   pub minimal_lo_next : (levels_above (map_of q) half.lo < levels_above (map_of s) a) × Knows (map_of q) half.lo
   minimal_lo_next =
@@ -140,11 +134,11 @@ module _ {q s : Seated} {a x : ℕ} {half : Half} (cut : IsParted q s a x half) 
         (cut.inner, minimal_hi cut.split.splits at.1)
 
     pub minimal_hi_full : {s2 : Seated} → WasFull hi_due s1 s2 → WasFull all s s2
-    minimal_hi_full {s2 = s2} full = WasFull-next all hi_due s s1 s2 on1 to_hi full
+    minimal_hi_full {s2 = s2} full = WasFull-next hi_due s2 on1 to_hi full
 
     module _ {s2 : Seated} {high : ℕ} (gave2 : Gave (IsMinimal (family (map_of s1) half.hi)) hi_due s1 s2 high) where
       on2 : WentOn all s s2
-      on2 = WentOn-next all hi_due s s1 s2 on1 to_hi gave2.on
+      on2 = WentOn-next hi_due s2 on1 to_hi gave2.on
 
       lo_known : KnowsOne (map_of s2) lo (lo_least s)
       lo_known = known_stays (lo_least s) lo gave.on.went.sound gave2.on gave.known
@@ -162,7 +156,7 @@ module _ {q s : Seated} {a x : ℕ} {half : Half} (cut : IsParted q s a x half) 
       to_rest h made = (cut.inner, minimal_rest cut.split.splits lo_known.1 high_is made.2)
 
       pub minimal_rest_full : {s3 : Seated} → WasFull rest_due s2 s3 → WasFull all s s3
-      minimal_rest_full {s3 = s3} full = WasFull-next all rest_due s s2 s3 on2 to_rest full
+      minimal_rest_full {s3 = s3} full = WasFull-next rest_due s3 on2 to_rest full
 
       module _ {s3 : Seated} {hi : ℕ} (gave3 : Gave (IsWithout (family (map_of s2) high) (family (map_of s2) lo))
           rest_due s2 s3 hi) where
@@ -174,15 +168,11 @@ module _ {q s : Seated} {a x : ℕ} {half : Half} (cut : IsParted q s a x half) 
 
         pub minimal_lo_above : IsAbove x (family (map_of s3) lo)
         minimal_lo_above =
-            subst (IsAbove x) (sym lo_at3.1)
-            (minimal-above x (family (map_of s) half.lo) (family (map_of s2) lo) lo_known.1
-            cut.split.splits.cut.lo_above)
+            subst (IsAbove x) (sym lo_at3.1) (minimal-above x lo_known.1 cut.split.splits.cut.lo_above)
 
         pub minimal_hi_above : IsAbove x (family (map_of s3) hi)
         minimal_hi_above =
-            without-above x (family (map_of s2) high) (family (map_of s2) lo) (family (map_of s3) hi) gave3.known.1
-            (minimal-above x (family (map_of s) half.hi) (family (map_of s2) high) high_is
-            cut.split.splits.cut.hi_above)
+            without-above x gave3.known.1 (minimal-above x high_is cut.split.splits.cut.hi_above)
 
         abbrev made : List (List ℕ) → Type 0
         made = IsBranch x (family (map_of s3) lo) (family (map_of s3) hi)
@@ -200,6 +190,6 @@ module _ {q s : Seated} {a x : ℕ} {half : Half} (cut : IsParted q s a x half) 
             → MatchResult result (Gave made made s3 s4) (λ _. WasFull made s3 s4)
             → MatchResult result (Gave (IsMinimal (family (map_of s) a)) all s s4) (λ _. WasFull all s s4)
         minimal_made s4 result m =
-            made_after made (IsMinimal (family (map_of s) a)) all to_is
-            (λ h is. (cut.inner, minimal_itself (to_is h is))) s s3 s4
-            (WentOn-next all rest_due s s2 s3 on2 to_rest gave3.on) result m
+            made_after made (IsMinimal (family (map_of s) a)) to_is
+            (λ h is. (cut.inner, minimal_itself (to_is h is))) s4
+            (WentOn-next rest_due s3 on2 to_rest gave3.on) result m

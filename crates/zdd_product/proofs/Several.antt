@@ -7,24 +7,23 @@ use Rattle.unit_sets.proofs.Sorted.{Contains-nil}
 use Rattle.zdd_words.specs.Word.{level_of, lo_of, hi_of}
 use Rattle.zdd_families.specs.Family.{branch}
 use Rattle.zdd_families.specs.Map.{Grown, IsNode, family}
-use Rattle.zdd_families.proofs.MapLemmas.{lo_known, hi_known}
-use Rattle.zdd_families.proofs.Canonical.{family-grown}
+use Rattle.zdd_families.proofs.{MapLemmas.lo_known, MapLemmas.hi_known, Canonical.family-grown}
 use Rattle.zdd_shared_table.specs.Seats.{Seated, IsSoundSeat, map_of}
 use Rattle.zdd_product.specs.Seats.{word_family, WentOn, WasFull, WentAll, CountsDue, Joined}
 use Rattle.zdd_product.proofs.After.{grown_then, only_one, stays}
 
 -- the family of a word that the seat knows stays
-pub word_stays : (before after : Seated) (word : ℕ) → IsSoundSeat before → IsSoundSeat after
+pub word_stays : (before after : Seated) {word : ℕ} → IsSoundSeat before → IsSoundSeat after
     → Grown (map_of before) (map_of after) → IsNode (map_of before) word
     → word_family (map_of after) word ≡ word_family (map_of before) word
-word_stays before after word sound sound' keeps node =
-    let lo = (stays before after (lo_of word) sound sound' keeps (lo_known (map_of before) word node)).1 in
-    let hi = (stays before after (hi_of word) sound sound' keeps (hi_known (map_of before) word node)).1 in
+word_stays before after {word} sound sound' keeps node =
+    let lo = (stays before after (lo_of word) sound sound' keeps (lo_known node)).1 in
+    let hi = (stays before after (hi_of word) sound sound' keeps (hi_known node)).1 in
     (λ i. branch (level_of word) (lo i) (hi i))
 
 module _ (due : List (List ℕ) → Type 0) where
-  pub WentAll-nowhere : (seat : Seated) → IsSoundSeat seat → WentAll due seat seat
-  WentAll-nowhere seat sound = record {
+  pub WentAll-nowhere : {seat : Seated} → IsSoundSeat seat → WentAll due seat seat
+  WentAll-nowhere {seat} sound = record {
     store = refl;
     keeps = λ r has. refl;
     sound = sound;
@@ -33,8 +32,8 @@ module _ (due : List (List ℕ) → Type 0) where
     fulls = sym (add-zero seat.fulls);
   }
 
-  pub WentAll-on : (before after : Seated) → WentOn due before after → WentAll due before after
-  WentAll-on before after on = record {
+  pub WentAll-on : {before after : Seated} → WentOn due before after → WentAll due before after
+  WentAll-on {before} on = record {
     store = on.went.store;
     keeps = on.went.keeps;
     sound = on.went.sound;
@@ -48,8 +47,8 @@ module _ (due : List (List ℕ) → Type 0) where
     fulls = on.fulls ∙ sym (add-zero before.fulls);
   }
 
-  pub WentAll-full : (before after : Seated) → WasFull due before after → WentAll due before after
-  WentAll-full before after full = record {
+  pub WentAll-full : {before after : Seated} → WasFull due before after → WentAll due before after
+  WentAll-full {after} full = record {
     store = full.went.store;
     keeps = full.went.keeps;
     sound = full.went.sound;
@@ -66,7 +65,7 @@ module _ (due : List (List ℕ) → Type 0) where
 
   -- ---- one after another
 
-  module _ (a b c : Seated) (first : WentAll due a b) (later : WentAll due b c) where
+  module _ {a b c : Seated} (first : WentAll due a b) (later : WentAll due b c) where
     earlier_fill : (r : ℕ) → Contains first.fills.gained r → due (family (map_of c) r)
     earlier_fill r has =
         let filled : Contains b.fills r =
@@ -82,7 +81,7 @@ module _ (due : List (List ℕ) → Type 0) where
         let asked : Contains b.missed word =
         subst (λ l. Contains l word) (sym first.missed.missed)
         (Contains-append_right a.missed first.missed.gained word has) in
-        subst due (sym (word_stays b c word first.sound later.sound later.keeps (first.sound.missed word asked)))
+        subst due (sym (word_stays b c first.sound later.sound later.keeps (first.sound.missed word asked)))
         (first.missed.each word has)
 
     pub WentAll-then : WentAll due a c
@@ -120,8 +119,8 @@ module _ (due : List (List ℕ) → Type 0) where
   -- ---- seats that are split off and joined
 
   -- a seat goes on counting
-  pub CountsDue-went : (before after : Seated) → CountsDue due before → WentAll due before after → CountsDue due after
-  CountsDue-went before after counts went = record {
+  pub CountsDue-went : {before after : Seated} → CountsDue due before → WentAll due before after → CountsDue due after
+  CountsDue-went {before} {after} counts went = record {
     sound = went.sound;
     fills =
         λ r has. elim (Contains-append_cases before.fills went.fills.gained r
@@ -137,7 +136,7 @@ module _ (due : List (List ℕ) → Type 0) where
         λ word has. elim (Contains-append_cases before.missed went.missed.gained word
         (subst (λ l. Contains l word) went.missed.missed has)) [
           | inl early ↦
-              subst due (sym (word_stays before after word counts.sound went.sound went.keeps
+              subst due (sym (word_stays before after counts.sound went.sound went.keeps
               (counts.sound.missed word early))) (counts.missed word early)
           | inr late ↦ went.missed.each word late
         ];
@@ -151,9 +150,9 @@ module _ (due : List (List ℕ) → Type 0) where
   }
 
   -- a seat takes in what another one counted
-  pub WentAll-joined : (before other after : Seated) → CountsDue due other → Joined before other after
+  pub WentAll-joined : {before other after : Seated} → CountsDue due other → Joined before other after
       → WentAll due before after
-  WentAll-joined before other after counts joined = record {
+  WentAll-joined {before} {other} {after} counts joined = record {
     store = joined.store;
     keeps = joined.keeps;
     sound = joined.sound;
@@ -170,7 +169,7 @@ module _ (due : List (List ℕ) → Type 0) where
       gained = other.missed;
       missed = joined.missed;
       each = λ word has.
-          subst due (sym (word_stays other after word counts.sound joined.sound joined.gains
+          subst due (sym (word_stays other after counts.sound joined.sound joined.gains
           (counts.sound.missed word has))) (counts.missed word has);
     };
     fulls = joined.fulls ∙ ap (λ n. before.fulls + n) counts.fulls;

@@ -1,23 +1,18 @@
 -- The votes at one place, when one member more votes.
 use Rattle.std.proofs.Common.{◌≡◌, ◌≢◌, ℕ, suc, ◌+◌, ◌-◌, ◌==◌, ◌<◌, ◌≤◌, if◌then◌else◌, List, [], ◌∷◌, ◌++◌, All, take}
 use Rattle.std.proofs.Common.{drop, get_or, set, length, refl, sym, ◌∙◌, ap, subst, inl, inr, arith}
-use Rattle.std.proofs.Math.Seq.{drop-cons}
+use Rattle.std.proofs.{Math.Seq.drop-cons, lemmas.List.Elements.All-head, lemmas.List.Elements.All-tail}
 use Rattle.std.proofs.lemmas.Bool.{cases_eq, cond-true, cond-false, ne_eqb}
 use Rattle.std.proofs.lemmas.List.{take_more, take-append-drop, get_or-map, length-map, get_or-set_same}
 use Rattle.std.proofs.lemmas.List.{get_or-set_other}
-use Rattle.std.proofs.lemmas.List.Elements.{All-head, All-tail}
 use Rattle.zdd_families.specs.Map.{Knows, KnowsAs, Grown, family}
-use Rattle.zdd_families.proofs.MapLemmas.{family-unit}
-use Rattle.zdd_families.proofs.Canonical.{IsFamily-family}
-use Rattle.zdd_families.specs.Union.{IsUnion}
-use Rattle.zdd_families.specs.Product.{IsProduct}
-use Rattle.zdd_families.specs.Votes.{IsVotes}
-use Rattle.zdd_families.proofs.VotesLemmas.{no_votes, votes-step}
+use Rattle.zdd_families.proofs.{MapLemmas.family-unit, Canonical.IsFamily-family, VotesLemmas.no_votes}
+use Rattle.zdd_families.proofs.{VotesLemmas.votes-step}
+use Rattle.zdd_families.specs.{Union.IsUnion, Product.IsProduct, Votes.IsVotes}
 use Rattle.zdd_families.specs.Due.{IsDueToVotes, votes_product, votes_union}
 use Rattle.zdd_shared_table.specs.Seats.{Seated, IsSoundSeat, map_of}
-use Rattle.zdd_product.specs.Due.{IsMadeByUnion, IsMadeByProduct}
+use Rattle.zdd_product.specs.{Due.IsMadeByUnion, Due.IsMadeByProduct, Voting.families, Voting.IsVoting}
 use Rattle.zdd_product.specs.Seats.{KnowsOne, WentOn, Gave, WasFull}
-use Rattle.zdd_product.specs.Voting.{families, IsVoting}
 use Rattle.zdd_product.proofs.After.{stays, WentOn-as, WasFull-as, WentOn-next, WasFull-next}
 
 -- ---- the families of a list stay
@@ -59,15 +54,15 @@ votes_none (f ∷ fs) =
 
 -- ---- one member more
 
-parts_of_list : (fs : List (List (List ℕ))) (i : ℕ) (f : List (List ℕ)) → i < length fs → get_or fs i [] ≡ f
+parts_of_list : (fs : List (List (List ℕ))) (i : ℕ) {f : List (List ℕ)} → i < length fs → get_or fs i [] ≡ f
     → fs ≡ take i fs ++ f ∷ drop (suc i) fs
-parts_of_list fs i f inside here =
+parts_of_list fs i inside here =
     sym (take-append-drop i fs) ∙ ap (λ q. take i fs ++ q) (drop-cons fs i [] inside)
     ∙ ap (λ q. take i fs ++ q ∷ drop (suc i) fs) here
 
-one_more : (fs : List (List (List ℕ))) (i : ℕ) (f : List (List ℕ)) → i < length fs → get_or fs i [] ≡ f
+one_more : (fs : List (List (List ℕ))) (i : ℕ) {f : List (List ℕ)} → i < length fs → get_or fs i [] ≡ f
     → take (i + 1) fs ≡ take i fs ++ f ∷ []
-one_more fs i f inside here = take_more fs i [] inside ∙ ap (λ q. take i fs ++ q ∷ []) here
+one_more fs i inside here = take_more fs i [] inside ∙ ap (λ q. take i fs ++ q ∷ []) here
 
 -- The member at i is to vote at a place, after it has at all higher ones: the votes one fewer, the member and the votes
 -- at the place were read.
@@ -130,7 +125,7 @@ module _ {s0 : Seated} {list room : List ℕ} {k i place fewer member same : ℕ
   to_product : (h : List (List ℕ)) → product_due h → due h
   to_product h made =
       votes_product (take i fams) (drop (suc i) fams) place turn.here
-      (parts_of_list fams i (family (map_of s0) member) in_fams member_here) vote_fewer.1 made.2
+      (parts_of_list fams i in_fams member_here) vote_fewer.1 made.2
 
   pub vote_product_full : {s1 : Seated} → WasFull product_due s0 s1 → WasFull due s0 s1
   vote_product_full {s1 = s1} full = WasFull-as product_due due to_product s0 s1 full
@@ -154,21 +149,19 @@ module _ {s0 : Seated} {list room : List ℕ} {k i place fewer member same : ℕ
         let at : IsMadeByUnion (family (map_of s0) same) (family (map_of s1) more) h =
         subst (λ f. IsMadeByUnion f (family (map_of s1) more) h) same_at.1 made in
         votes_union (take i fams) (drop (suc i) fams) place turn.here
-        (parts_of_list fams i (family (map_of s0) member) in_fams member_here) vote_same.1 vote_fewer.1 gave.known.1
-        at.1
+        (parts_of_list fams i in_fams member_here) vote_same.1 vote_fewer.1 gave.known.1 at.1
 
     pub vote_union_full : {s2 : Seated} → WasFull union_due s1 s2 → WasFull due s0 s2
-    vote_union_full {s2 = s2} full = WasFull-next due union_due s0 s1 s2 on1 to_union full
+    vote_union_full {s2 = s2} full = WasFull-next union_due s2 on1 to_union full
 
     module _ {s2 : Seated} {made : ℕ} (gave2 : Gave (IsUnion (family (map_of s1) same) (family (map_of s1) more))
         union_due s1 s2 made) where
       pub vote_on : WentOn due s0 s2
-      vote_on = WentOn-next due union_due s0 s1 s2 on1 to_union gave2.on
+      vote_on = WentOn-next union_due s2 on1 to_union gave2.on
 
       made_is : IsVotes (suc place) (take (i + 1) fams) (family (map_of s2) made)
       made_is =
-          subst (λ fs. IsVotes (suc place) fs (family (map_of s2) made))
-          (sym (one_more fams i (family (map_of s0) member) in_fams member_here))
+          subst (λ fs. IsVotes (suc place) fs (family (map_of s2) made)) (sym (one_more fams i in_fams member_here))
           (votes-step (family (map_of s0) member) (IsFamily-family (map_of s0) member turn.sound.closed vote_member)
           (take i fams) place (family (map_of s0) same) (family (map_of s0) fewer) (family (map_of s1) more)
           (family (map_of s2) made)
@@ -191,9 +184,9 @@ module _ {s0 : Seated} {list room : List ℕ} {k i place fewer member same : ℕ
           (votes_stay s0 s2 list turn.sound vote_on.went.sound vote_on.went.keeps turn.knows members (suc q)
           (get_or room q 0) known)
 
-      here_known : (q : ℕ) → q ≡ place → KnowsOne (map_of s2) (get_or (set room place made) q 0)
+      here_known : {q : ℕ} → q ≡ place → KnowsOne (map_of s2) (get_or (set room place made) q 0)
           (IsVotes (suc q) (take (i + 1) (families (map_of s2) list)))
-      here_known q at =
+      here_known at =
           subst (λ n. KnowsOne (map_of s2) (get_or (set room place made) n 0)
           (IsVotes (suc n) (take (i + 1) (families (map_of s2) list)))) (sym at)
           (subst (λ r. KnowsOne (map_of s2) r (IsVotes (suc place) (take (i + 1) (families (map_of s2) list))))
@@ -203,14 +196,14 @@ module _ {s0 : Seated} {list room : List ℕ} {k i place fewer member same : ℕ
       vote_held = record {
         before = λ q low high. other_known i q (λ e. omega arith) (turn.held.before q low (omega arith));
         after = λ q low high. elim (cases_eq q place) [
-          | inl at ↦ here_known q at
+          | inl at ↦ here_known at
           | inr other ↦ other_known (i + 1) q other (turn.held.after q (omega arith) high)
         ];
       }
 
 -- ---- a later step
 
-module _ (start before after : Seated) (list : List ℕ) (k : ℕ) (sound : IsSoundSeat start)
+module _ {start before : Seated} (after : Seated) (list : List ℕ) (k : ℕ) (sound : IsSoundSeat start)
     (knows : All (Knows (map_of start)) list) (on : WentOn (IsDueToVotes k (families (map_of start) list)) start
     before) where
   due_same : (h : List (List ℕ)) → IsDueToVotes k (families (map_of before) list) h
@@ -220,12 +213,9 @@ module _ (start before after : Seated) (list : List ℕ) (k : ℕ) (sound : IsSo
 
   pub votes_on : WentOn (IsDueToVotes k (families (map_of before) list)) before after
       → WentOn (IsDueToVotes k (families (map_of start) list)) start after
-  votes_on later =
-      WentOn-next (IsDueToVotes k (families (map_of start) list)) (IsDueToVotes k (families (map_of before) list)) start
-      before after on due_same later
+  votes_on later = WentOn-next (IsDueToVotes k (families (map_of before) list)) after on due_same later
 
   pub votes_full : WasFull (IsDueToVotes k (families (map_of before) list)) before after
       → WasFull (IsDueToVotes k (families (map_of start) list)) start after
   votes_full full =
-      WasFull-next (IsDueToVotes k (families (map_of start) list)) (IsDueToVotes k (families (map_of before) list))
-      start before after on due_same full
+      WasFull-next (IsDueToVotes k (families (map_of before) list)) after on due_same full

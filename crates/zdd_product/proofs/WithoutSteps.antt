@@ -1,15 +1,11 @@
 -- What is left by the halves of both references: of both lo, and of both hi without the sets that include one of the
 -- other lo.
 use Rattle.std.proofs.Common.{Result, MatchResult, ℕ, ◌<◌, List, sym, subst, arith}
-use Rattle.zdd_families.specs.Family.{IsAbove}
-use Rattle.zdd_families.specs.Map.{Knows, family}
+use Rattle.zdd_families.specs.{Family.IsAbove, Map.Knows, Map.family, Without.IsWithout, Due.without_itself}
 use Rattle.zdd_families.proofs.Canonical.{IsFamily-family, level-above}
-use Rattle.zdd_families.specs.Without.{IsWithout}
 use Rattle.zdd_families.proofs.WithoutLemmas.{without-above, without-step}
-use Rattle.zdd_families.specs.Due.{without_itself}
 use Rattle.zdd_shared_table.specs.Seats.{Seated, map_of}
-use Rattle.zdd_product.specs.declared.halves.Halves.{Halves}
-use Rattle.zdd_product.specs.Due.{IsMadeByWithout}
+use Rattle.zdd_product.specs.{declared.halves.Halves.Halves, Due.IsMadeByWithout}
 use Rattle.zdd_product.specs.Seats.{IsBranch, KnowsBoth, KnowsOne, WentOn, Gave, WasFull}
 use Rattle.zdd_product.proofs.Halving.{levels_left, fewer_left}
 use Rattle.zdd_product.proofs.Halved.{Halved, AreInner, first_cut, second_cut, one_cut, still, still_above, at_his}
@@ -28,7 +24,7 @@ module _ {q s : Seated} {a b : ℕ} {halves : Halves} (cut : Halved AreInner q s
 
   to_lo : (h : List (List ℕ)) → lo_due s h → all h
   to_lo =
-      without_makes_lo halves.level _ _ _ _ _ _ cut.go_on.0 cut.go_on.1 (one_cut cut)
+      without_makes_lo halves.level _ _ cut.go_on.0 cut.go_on.1 (one_cut cut)
       (IsFamily-family (map_of s) halves.first.hi cut.sound.closed cut.are.first.knows_hi) cut.are.first.halved
       cut.are.second.halved
 
@@ -48,28 +44,28 @@ module _ {q s : Seated} {a b : ℕ} {halves : Halves} (cut : Halved AreInner q s
 
     to_hi : (h : List (List ℕ)) → hi_due h → all h
     to_hi h made =
-        without_makes_hi halves.level _ _ _ _ _ _ cut.go_on.0 cut.go_on.1 (one_cut cut)
+        without_makes_hi halves.level _ _ cut.go_on.0 cut.go_on.1 (one_cut cut)
         (IsFamily-family (map_of s) halves.first.hi cut.sound.closed cut.are.first.knows_hi) cut.are.first.halved
-        cut.are.second.halved h (at_his cut without_lo_on (λ f g. IsMadeByWithout f g h) made)
+        cut.are.second.halved (at_his cut without_lo_on (λ f g. IsMadeByWithout f g h) made)
 
     pub without_hi_full : {s2 : Seated} → WasFull hi_due s1 s2 → WasFull all s s2
-    without_hi_full {s2 = s2} full = WasFull-next all hi_due s s1 s2 without_lo_on to_hi full
+    without_hi_full {s2 = s2} full = WasFull-next hi_due s2 without_lo_on to_hi full
 
     module _ {s2 : Seated} {w : ℕ} (gave2 : Gave (IsWithout (family (map_of s1) halves.first.hi)
         (family (map_of s1) halves.second.hi)) hi_due s1 s2 w) where
       on2 : WentOn all s s2
-      on2 = WentOn-next all hi_due s s1 s2 without_lo_on to_hi gave2.on
+      on2 = WentOn-next hi_due s2 without_lo_on to_hi gave2.on
 
       w_is : IsWithout (family (map_of s) halves.first.hi) (family (map_of s) halves.second.hi) (family (map_of s2) w)
       w_is = at_his cut without_lo_on (λ f g. IsWithout f g (family (map_of s2) w)) gave2.known.1
 
       w_above : IsAbove halves.level (family (map_of s2) w)
-      w_above = without-above halves.level _ _ (family (map_of s2) w) w_is (first_cut cut).hi_above
+      w_above = without-above halves.level w_is (first_cut cut).hi_above
 
       pub without_rest_next : (levels_left (map_of s2) w halves.second.lo < levels_left (map_of s) a b)
           × KnowsBoth s2 w halves.second.lo
       without_rest_next = (
-        fewer_left (map_of s) (map_of s2) a b w halves.second.lo halves cut.are
+        fewer_left (map_of s2) w halves.second.lo cut.are
             (level-above (map_of s2) halves.level w on2.went.sound.closed gave2.known.0
             (let u = cut.are.unit.1 in omega arith) w_above)
             (still_above cut on2 halves.second.lo cut.are.second.knows_lo cut.are.second.lo_above),
@@ -85,14 +81,13 @@ module _ {q s : Seated} {a b : ℕ} {halves : Halves} (cut : Halved AreInner q s
 
       to_rest : (h : List (List ℕ)) → rest_due h → all h
       to_rest h made =
-          without_makes_rest halves.level _ _ _ _ _ _ cut.go_on.0 cut.go_on.1 (one_cut cut)
+          without_makes_rest halves.level _ _ cut.go_on.0 cut.go_on.1 (one_cut cut)
           (IsFamily-family (map_of s) halves.first.hi cut.sound.closed cut.are.first.knows_hi) cut.are.first.halved
-          cut.are.second.halved (family (map_of s2) w) w_is h
-          (subst (λ g. IsMadeByWithout (family (map_of s2) w) g h)
+          cut.are.second.halved w_is (subst (λ g. IsMadeByWithout (family (map_of s2) w) g h)
           (still cut on2 halves.second.lo cut.are.second.knows_lo).1 made)
 
       pub without_rest_full : {s3 : Seated} → WasFull rest_due s2 s3 → WasFull all s s3
-      without_rest_full {s3 = s3} full = WasFull-next all rest_due s s2 s3 on2 to_rest full
+      without_rest_full {s3 = s3} full = WasFull-next rest_due s3 on2 to_rest full
 
       module _ {s3 : Seated} {hi : ℕ} (gave3 : Gave
           (IsWithout (family (map_of s2) w) (family (map_of s2) halves.second.lo)) rest_due s2 s3 hi) where
@@ -110,11 +105,10 @@ module _ {q s : Seated} {a b : ℕ} {halves : Halves} (cut : Halved AreInner q s
         without_lo_knows = lo_known.0
 
         pub without_lo_above : IsAbove halves.level (family (map_of s3) lo)
-        without_lo_above =
-            without-above halves.level _ _ (family (map_of s3) lo) lo_known.1 (first_cut cut).lo_above
+        without_lo_above = without-above halves.level lo_known.1 (first_cut cut).lo_above
 
         pub without_hi_above : IsAbove halves.level (family (map_of s3) hi)
-        without_hi_above = without-above halves.level _ _ (family (map_of s3) hi) hi_is w_above
+        without_hi_above = without-above halves.level hi_is w_above
 
         abbrev made : List (List ℕ) → Type 0
         made = IsBranch halves.level (family (map_of s3) lo) (family (map_of s3) hi)
@@ -130,6 +124,6 @@ module _ {q s : Seated} {a b : ℕ} {halves : Halves} (cut : Halved AreInner q s
             → MatchResult result (Gave (IsWithout (family (map_of s) a) (family (map_of s) b)) all s s4)
             (λ _. WasFull all s s4)
         without_made s4 result m =
-            made_after made (IsWithout (family (map_of s) a) (family (map_of s) b)) all to_is
-            (λ h is. (cut.go_on.0, cut.go_on.1, without_itself (to_is h is))) s s3 s4
-            (WentOn-next all rest_due s s2 s3 on2 to_rest gave3.on) result m
+            made_after made (IsWithout (family (map_of s) a) (family (map_of s) b)) to_is
+            (λ h is. (cut.go_on.0, cut.go_on.1, without_itself (to_is h is))) s4
+            (WentOn-next rest_due s3 on2 to_rest gave3.on) result m

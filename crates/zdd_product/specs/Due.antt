@@ -1,7 +1,6 @@
 -- What an operation makes that is no end of its recursion. An end makes nothing, since its result was given.
 use Rattle.std.specs.Prelude.{ℕ, List}
-use Rattle.zdd_families.specs.Union.{IsUnion}
-use Rattle.zdd_families.specs.Product.{IsProduct}
+use Rattle.zdd_families.specs.{Union.IsUnion, Product.IsProduct}
 use Rattle.zdd_families.specs.Due.{GoesOn, IsInnerFamily, IsDueToUnion, IsDueToProduct, IsDueToWithout}
 use Rattle.zdd_families.specs.Due.{IsDueToMinimal}
 

@@ -1,12 +1,9 @@
 -- Two references cut at the least unit of both.
 use Rattle.std.specs.Prelude.{◌≡◌, ◌⊎◌, ℕ, ◌<◌, List, []}
 use Rattle.unit_sets.specs.Unit.{IsUnit}
-use Rattle.zdd_families.specs.Family.{IsAbove}
+use Rattle.zdd_families.specs.{Family.IsAbove, Due.Splits}
 use Rattle.zdd_families.specs.Map.{Knows, family, level_in}
-use Rattle.zdd_families.specs.Due.{Splits}
-use Rattle.zdd_product.specs.declared.halves.Half.{Half}
-use Rattle.zdd_product.specs.declared.halves.Halves.{Halves}
-use Rattle.zdd_product.specs.declared.halves.Split.{Split}
+use Rattle.zdd_product.specs.{declared.halves.Half.Half, declared.halves.Halves.Halves, declared.halves.Split.Split}
 use Rattle.zdd_shared_table.specs.Seats.{Seated, IsSoundSeat, map_of}
 
 -- a family of units above x is its own lo, and its hi has no sets

@@ -1,13 +1,9 @@
 -- What the kept entries say, over a map of references.
 use Rattle.std.specs.Prelude.{ℕ, List}
-use Rattle.zdd_families.specs.Map.{Knows, family}
-use Rattle.zdd_families.specs.Union.{IsUnion}
-use Rattle.zdd_families.specs.Product.{IsProduct}
-use Rattle.zdd_families.specs.Without.{IsWithout}
-use Rattle.zdd_families.specs.Minimal.{IsMinimal}
-use Rattle.kept_answers.specs.declared.answers.Operation.{Operation}
+use Rattle.zdd_families.specs.{Map.Knows, Map.family, Union.IsUnion, Product.IsProduct, Without.IsWithout}
+use Rattle.zdd_families.specs.{Minimal.IsMinimal}
+use Rattle.kept_answers.specs.{declared.answers.Operation.Operation, declared.answers.Entry.Entry}
 use Rattle.kept_answers.specs.declared.answers.Operation.TheVariants.{Union, Product, Without, Minimal}
-use Rattle.kept_answers.specs.declared.answers.Entry.{Entry}
 
 -- the family is the operation's of two families; the minimal sets are those of the first
 abbrev pub IsResult : Operation → List (List ℕ) → List (List ℕ) → List (List ℕ) → Type 0

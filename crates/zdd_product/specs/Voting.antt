@@ -1,7 +1,6 @@
 -- Votes over a list of references, member by member.
 use Rattle.std.specs.Prelude.{ℕ, suc, ◌+◌, ◌<◌, ◌≤◌, List, All, length, map, take, slice_index}
-use Rattle.zdd_families.specs.Map.{Knows, family}
-use Rattle.zdd_families.specs.Votes.{IsVotes}
+use Rattle.zdd_families.specs.{Map.Knows, Map.family, Votes.IsVotes}
 use Rattle.zdd_shared_table.specs.Seats.{Seated, IsSoundSeat, map_of}
 use Rattle.zdd_product.specs.Seats.{KnowsOne}
 

@@ -7,11 +7,10 @@ use Rattle.zdd_words.specs.Word.{level_of}
 use Rattle.zdd_words.proofs.WordLemmas.{level_of-zero}
 use Rattle.zdd_families.specs.Map.{IsNode, Grown}
 use Rattle.zdd_families.proofs.MapLemmas.{IsNode-grown}
-use Rattle.zdd_shared_table.specs.Known.{find, placed}
+use Rattle.zdd_shared_table.specs.{Known.find, Known.placed, declared.view.View.View}
 use Rattle.zdd_shared_table.specs.Rule.{round, HoldsNodes, Fits}
 use Rattle.zdd_shared_table.proofs.Rounds.{round-below, round-same, round-onto}
 use Rattle.zdd_shared_table.proofs.Maps.{IsOf, find-says, inside-slot, filled-stays, placed-grown}
-use Rattle.zdd_shared_table.specs.declared.view.View.{View}
 
 -- a node's word isn't 0
 pub IsNode-filled : (known : ℕ → ℕ) (word : ℕ) → IsNode known word → word ≢ 0
@@ -50,7 +49,7 @@ module _ (home : ℕ → ℕ) (size : ℕ) where
   }
 
   pub IsGrown-placed : (words : List ℕ) (v : View) → Fits home size words v → Grown (find v.known) (placed words)
-  IsGrown-placed words v fits reference some = find-says (placed words) v.known reference (IsOf-known words v fits) some
+  IsGrown-placed words v fits reference some = find-says reference (IsOf-known words v fits) some
 
   -- the slots before a place of a search are filled with other words
   abbrev pub HasPassed : List ℕ → ℕ → ℕ → Type 0
@@ -58,7 +57,8 @@ module _ (home : ℕ → ℕ) (size : ℕ) where
       (place : ℕ) → place < before → (get_or words (round size (home word + place)) 0 ≢ 0)
       × (get_or words (round size (home word + place)) 0 ≢ word)
 
-  module _ (words : List ℕ) (word before slot : ℕ) (home_below : home word < size) (rule : HoldsNodes home size words)
+  module _ {words : List ℕ} {word : ℕ} (before : ℕ) {slot : ℕ} (home_below : home word < size)
+      (rule : HoldsNodes home size words)
       (node : IsNode (placed words) word)
       (inside : before < size) (here : slot ≡ round size (home word + before)) (passed : HasPassed words word before)
       (empty : get_or words slot 0 ≡ 0) where

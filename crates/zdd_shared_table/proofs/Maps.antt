@@ -13,57 +13,54 @@ pub record IsOf (known : ℕ → ℕ) (pairs : List (ℕ × ℕ)) : Type 0 where
   pub says : (reference word : ℕ) → Contains pairs (reference, word) → known reference ≡ word
   pub filled : (reference word : ℕ) → Contains pairs (reference, word) → word ≢ 0
 
-pub find-first : (pair : ℕ × ℕ) (pairs : List (ℕ × ℕ)) (reference : ℕ) → pair.0 ≡ reference
+pub find-first : (pair : ℕ × ℕ) (pairs : List (ℕ × ℕ)) {reference : ℕ} → pair.0 ≡ reference
     → find (pair ∷ pairs) reference ≡ pair.1
-find-first pair pairs reference is = rw (eq-eqb pair.0 reference is) refl
+find-first pair pairs {reference} is = rw (eq-eqb pair.0 reference is) refl
 
-pub find-later : (pair : ℕ × ℕ) (pairs : List (ℕ × ℕ)) (reference : ℕ) → pair.0 ≢ reference
+pub find-later : (pair : ℕ × ℕ) (pairs : List (ℕ × ℕ)) {reference : ℕ} → pair.0 ≢ reference
     → find (pair ∷ pairs) reference ≡ find pairs reference
-find-later pair pairs reference other = rw (ne_eqb pair.0 reference other) refl
+find-later pair pairs {reference} other = rw (ne_eqb pair.0 reference other) refl
 
 -- what is found stands in the list
 pub find-stands : (pairs : List (ℕ × ℕ)) (reference : ℕ) → find pairs reference ≢ 0
     → Contains pairs (reference, find pairs reference)
 find-stands [] reference some = absurd (some refl)
 find-stands (pair ∷ pairs) reference some =
-    dite (ℕ_discrete pair.0 reference)
-    (λ is. let e = find-first pair pairs reference is in
+    dite (ℕ_discrete pair.0 reference) (λ is. let e = find-first pair pairs is in
     subst (λ (p : ℕ × ℕ). Contains (pair ∷ pairs) p) (λ i. (is i, sym e i)) (Contains-cons_first pair pairs))
-    (λ other. let e = find-later pair pairs reference other in
+    (λ other. let e = find-later pair pairs other in
     subst (λ (w : ℕ). Contains (pair ∷ pairs) (reference, w)) (sym e)
     (Contains-cons_other pair (reference, find pairs reference) pairs
     (find-stands pairs reference (λ none. some (e ∙ none)))))
 
-IsOf-tail : (known : ℕ → ℕ) (pair : ℕ × ℕ) (pairs : List (ℕ × ℕ)) → IsOf known (pair ∷ pairs) → IsOf known pairs
-IsOf-tail known pair pairs of = record {
+IsOf-tail : {known : ℕ → ℕ} {pair : ℕ × ℕ} {pairs : List (ℕ × ℕ)} → IsOf known (pair ∷ pairs) → IsOf known pairs
+IsOf-tail {pair} {pairs} of = record {
   says = λ reference word h. of.says reference word (Contains-cons_other pair (reference, word) pairs h);
   filled = λ reference word h. of.filled reference word (Contains-cons_other pair (reference, word) pairs h);
 }
 
 -- what stands in the list of a map is found
-pub find-standing : (known : ℕ → ℕ) (pairs : List (ℕ × ℕ)) (reference word : ℕ) → IsOf known pairs
+pub find-standing : {known : ℕ → ℕ} (pairs : List (ℕ × ℕ)) (reference : ℕ) {word : ℕ} → IsOf known pairs
     → Contains pairs (reference, word) → find pairs reference ≡ word
-find-standing known [] reference word of in_list = Contains-nil (reference, word) in_list
-find-standing known (pair ∷ pairs) reference word of in_list =
-    dite (ℕ_discrete pair.0 reference)
-    (λ is. find-first pair pairs reference is
+find-standing [] reference {word} of in_list = Contains-nil (reference, word) in_list
+find-standing {known} (pair ∷ pairs) reference {word} of in_list =
+    dite (ℕ_discrete pair.0 reference) (λ is. find-first pair pairs is
     ∙ (sym (of.says pair.0 pair.1 (Contains-cons_first pair pairs)) ∙ (ap known is ∙ of.says reference word in_list)))
-    (λ other. find-later pair pairs reference other
-    ∙ find-standing known pairs reference word (IsOf-tail known pair pairs of)
+    (λ other. find-later pair pairs other
+    ∙ find-standing pairs reference {word = word} (IsOf-tail of)
     (⊎_elim (λ (same : pair ≡ (reference, word)). absurd (other (ap (λ (p : ℕ × ℕ). p.0) same))) (λ later. later)
     (Contains-cons_cases pair (reference, word) pairs in_list)))
 
 -- a map whose pairs the list has
-pub find-says : (known : ℕ → ℕ) (pairs : List (ℕ × ℕ)) (reference : ℕ) → IsOf known pairs → find pairs reference ≢ 0
+pub find-says : {known : ℕ → ℕ} {pairs : List (ℕ × ℕ)} (reference : ℕ) → IsOf known pairs → find pairs reference ≢ 0
     → known reference ≡ find pairs reference
-find-says known pairs reference of some = of.says reference (find pairs reference) (find-stands pairs reference some)
+find-says {pairs} reference of some = of.says reference (find pairs reference) (find-stands pairs reference some)
 
 -- A list of a map's pairs that another such list has too is a smaller map.
-pub find-grown : (known : ℕ → ℕ) (pairs more : List (ℕ × ℕ)) → IsOf known more
+pub find-grown : {known : ℕ → ℕ} (pairs : List (ℕ × ℕ)) {more : List (ℕ × ℕ)} → IsOf known more
     → ((pair : ℕ × ℕ) → Contains pairs pair → Contains more pair) → Grown (find pairs) (find more)
-find-grown known pairs more of within reference some =
-    find-standing known more reference (find pairs reference) of
-    (within (reference, find pairs reference) (find-stands pairs reference some))
+find-grown pairs {more} of within reference some =
+    find-standing more reference of (within (reference, find pairs reference) (find-stands pairs reference some))
 
 pub placed-slot : (words : List ℕ) (slot : ℕ) → placed words (slot + 2) ≡ get_or words slot 0
 unfolding placed

@@ -9,12 +9,9 @@ use Rattle.zdd_families.specs.Map.{Knows, KnowsAs, IsNode, IsClosed, Grown, fami
 use Rattle.zdd_families.proofs.MapLemmas.{family-node, lo_known, hi_known}
 use Rattle.zdd_families.proofs.Canonical.{family-grown, level-above, first_unit-family, sets_without-family}
 use Rattle.zdd_families.proofs.Canonical.{sets_with-family, lo_units, hi_units}
-use Rattle.zdd_shared_table.specs.Known.{find}
+use Rattle.zdd_shared_table.specs.{Known.find, Search.HasEnded, Views.searched_all, declared.view.View.View}
 use Rattle.zdd_shared_table.specs.Making.{LearnsWord, CountsRefused, NotesRefused, PassesSlots, FillsAtMostOne}
 use Rattle.zdd_shared_table.specs.Seats.{TableId, Seated, IsSound, IsSoundView, seated}
-use Rattle.zdd_shared_table.specs.Search.{HasEnded}
-use Rattle.zdd_shared_table.specs.Views.{searched_all}
-use Rattle.zdd_shared_table.specs.declared.view.View.{View}
 use Rattle.zdd_shared_table.proofs.Maps.{find-stands}
 
 -- a reference that is known and no terminal has a word
@@ -23,11 +20,11 @@ inner_known known r (inl small) inner = absurd (omega arith)
 inner_known known r (inr has) inner = has
 
 -- the word of a node whose parts a closed map knows, above its level
-pub asked_node : (known : ℕ → ℕ) (word level lo hi : ℕ) → IsClosed known → level_of word ≡ level → lo_of word ≡ lo
+pub asked_node : {known : ℕ → ℕ} {word level lo hi : ℕ} → IsClosed known → level_of word ≡ level → lo_of word ≡ lo
     → hi_of word ≡ hi → IsUnit level
     → Knows known lo → Knows known hi → hi ≢ 0 → IsAbove level (family known lo) → IsAbove level (family known hi)
     → IsNode known word
-asked_node known word level lo hi closed level_is lo_is hi_is unit knows_lo knows_hi filled lo_above hi_above =
+asked_node {known} {level} {lo} {hi} closed level_is lo_is hi_is unit knows_lo knows_hi filled lo_above hi_above =
     let P : ℕ → ℕ → Type 0 = λ x r. x < Rattle.zdd_families.specs.Map.level_in known r in
     let below : level < 4096 = let u = unit.1 in omega arith in
     let lo' : P level lo = level-above known level lo closed knows_lo below lo_above in
@@ -40,17 +37,18 @@ asked_node known word level lo hi closed level_is lo_is hi_is unit knows_lo know
     }
 
 -- a sound list has each shorter list's map
-pub grown_sound : (size : ℕ) (pairs more : List (ℕ × ℕ)) (asked gained : List ℕ) → IsSound size more asked gained
+pub grown_sound : {size : ℕ} (pairs : List (ℕ × ℕ)) {more : List (ℕ × ℕ)} {asked gained : List ℕ}
+    → IsSound size more asked gained
     → ((pair : ℕ × ℕ) → Contains pairs pair → Contains more pair) → Grown (find pairs) (find more)
-grown_sound size pairs more asked gained sound within reference known =
+grown_sound pairs sound within reference known =
     sound.agree reference (find pairs reference) (within (reference, find pairs reference)
     (find-stands pairs reference known))
 
 -- a larger closed map knows the new reference as the branch of the parts' families
-pub node_family : (old new : ℕ → ℕ) (r word level lo hi : ℕ) → IsClosed old → IsClosed new → Grown old new
+pub node_family : (old new : ℕ → ℕ) (r : ℕ) {word level lo hi : ℕ} → IsClosed old → IsClosed new → Grown old new
     → new r ≡ word → word ≢ 0 → level_of word ≡ level → lo_of word ≡ lo → hi_of word ≡ hi
     → Knows old lo → Knows old hi → KnowsAs new r (branch level (family old lo) (family old hi))
-node_family old new r word level lo hi closed closed' grown stands some level_is lo_is hi_is knows_lo knows_hi =
+node_family old new r {level} {lo} {hi} closed closed' grown stands some level_is lo_is hi_is knows_lo knows_hi =
     let has : new r ≢ 0 = λ none. some (sym stands ∙ none) in
     let at : level_of (new r) ≡ level = ap level_of stands ∙ level_is in
     let l : family new (lo_of (new r)) ≡ family old lo =
@@ -79,18 +77,19 @@ own_parts : (known : ℕ → ℕ) (r : ℕ) → IsClosed known → known r ≢ 0
 own_parts known r closed has =
     let node = (closed r has).1 in record {
       least = sym (first_unit-family known r closed has);
-      without = (lo_known known (known r) node, sym (sets_without-family known r closed has));
-      with_it = (hi_known known (known r) node, sym (sets_with-family known r closed has));
+      without = (lo_known node, sym (sets_without-family known r closed has));
+      with_it = (hi_known node, sym (sets_with-family known r closed has));
       branches = family-node known r closed has;
       filled = node.filled;
       lo_above = lo_units known (known r) closed node;
-      hi_above = hi_units known (known r) closed node;
+      hi_above = hi_units closed node;
     }
 
-pub has_parts : (known before after : ℕ → ℕ) (r word level lo hi : ℕ) → IsClosed known → known r ≢ 0 → known ≡ before
+pub has_parts : {known before after : ℕ → ℕ} (r : ℕ) {word level lo hi : ℕ} → IsClosed known → known r ≢ 0
+    → known ≡ before
     → known ≡ after → word ≡ known r → level ≡ level_of word → lo ≡ lo_of word → hi ≡ hi_of word
     → HasParts before after r level lo hi
-has_parts known before after r word level lo hi closed has is is' at level_is lo_is hi_is =
+has_parts {known} {after} r {level} {lo} {hi} closed has is is' at level_is lo_is hi_is =
     let own = own_parts known r closed has in
     let one : HasParts known known r level lo hi =
     subst (λ (p : ℕ × ℕ × ℕ). HasParts known known r p.0 p.1 p.2)
@@ -98,27 +97,28 @@ has_parts known before after r word level lo hi closed has is is' at level_is lo
     subst (λ b. HasParts b after r level lo hi) is (subst (λ a. HasParts known a r level lo hi) is' one)
 
 -- a search that ended knows the slot's reference beside what was known
-pub known_ended : (word slot : ℕ) (v w : View) → HasEnded word slot v w → w.known ≡ v.known ++ (slot + 2, word) ∷ []
-known_ended word slot v w (inl is) = ap (λ u. u.known) is
-known_ended word slot v w (inr is) = ap (λ u. u.known) is
+pub known_ended : (word slot : ℕ) (v : View) {w : View} → HasEnded word slot v w
+    → w.known ≡ v.known ++ (slot + 2, word) ∷ []
+known_ended word slot v (inl is) = ap (λ u. u.known) is
+known_ended word slot v (inr is) = ap (λ u. u.known) is
 
-pub grown_ended : (word slot : ℕ) (v w : View) → HasEnded word slot v w → IsSoundView w
+pub grown_ended : (word slot : ℕ) (v : View) {w : View} → HasEnded word slot v w → IsSoundView w
     → Grown (find v.known) (find w.known)
-grown_ended word slot v w end sound =
-    grown_sound w.size v.known w.known w.missed w.fills sound
-    (λ pair h. subst (λ l. Contains l pair) (sym (known_ended word slot v w end))
+grown_ended word slot v end sound =
+    grown_sound v.known sound (λ pair h. subst (λ l. Contains l pair) (sym (known_ended word slot v end))
     (Contains-append_left v.known ((slot + 2, word) ∷ []) pair h))
 
-pub node_ended : (word slot level lo hi : ℕ) (v w : View) → HasEnded word slot v w → IsSoundView v → IsSoundView w
+pub node_ended : {word : ℕ} (slot : ℕ) {level lo hi : ℕ} (v : View) {w : View} → HasEnded word slot v w → IsSoundView v
+    → IsSoundView w
     → word ≢ 0
     → level_of word ≡ level → lo_of word ≡ lo → hi_of word ≡ hi → Knows (find v.known) lo → Knows (find v.known) hi
     → KnowsAs (find w.known) (slot + 2) (branch level (family (find v.known) lo) (family (find v.known) hi))
-node_ended word slot level lo hi v w end sound sound' some level_is lo_is hi_is knows_lo knows_hi =
+node_ended {word} slot v {w} end sound sound' some level_is lo_is hi_is knows_lo knows_hi =
     let at : find w.known (slot + 2) ≡ word = sound'.agree (slot + 2) word
-    (subst (λ (l : List (ℕ × ℕ)). Contains l (slot + 2, word)) (sym (known_ended word slot v w end))
+    (subst (λ (l : List (ℕ × ℕ)). Contains l (slot + 2, word)) (sym (known_ended word slot v end))
     (Contains-push v.known (slot + 2, word))) in
-    node_family (find v.known) (find w.known) (slot + 2) word level lo hi sound.closed sound'.closed
-    (grown_ended word slot v w end sound') at some level_is lo_is hi_is knows_lo knows_hi
+    node_family (find v.known) (find w.known) (slot + 2) sound.closed sound'.closed
+    (grown_ended word slot v end sound') at some level_is lo_is hi_is knows_lo knows_hi
 
 -- what the seat knows and counts after a search that has this answer
 pub record HasSearched {E : Type 0} (slots word : ℕ) (answer : Result ℕ E) (old new : Seated) : Type 0 where
@@ -129,9 +129,10 @@ pub record HasSearched {E : Type 0} (slots word : ℕ) (answer : Result ℕ E) (
   pub fills : FillsAtMostOne answer old new
   pub share : new.share ≡ old.share
 
-pub searched-found : {E : Type 0} (slots word slot : ℕ) (id id' : TableId) (v w : View) → HasEnded word slot v w
+pub searched-found : {E : Type 0} (slots word slot : ℕ) (id id' : TableId) (v : View) {w : View}
+    → HasEnded word slot v w
     → HasSearched {E = E} slots word (Ok (slot + 2)) (seated id v) (seated id' w)
-searched-found slots word slot id id' v w (inl is) = record {
+searched-found slots word slot id id' v (inl is) = record {
   known = ap (λ u. u.known) is;
   fulls = ap (λ u. u.fulls) is;
   missed = ap (λ u. u.missed) is;
@@ -139,7 +140,7 @@ searched-found slots word slot id id' v w (inl is) = record {
   fills = inl (ap (λ u. u.fills) is);
   share = ap (λ u. u.share) is;
 }
-searched-found slots word slot id id' v w (inr is) = record {
+searched-found slots word slot id id' v (inr is) = record {
   known = ap (λ u. u.known) is;
   fulls = ap (λ u. u.fulls) is;
   missed = ap (λ u. u.missed) is;
@@ -148,9 +149,10 @@ searched-found slots word slot id id' v w (inr is) = record {
   share = ap (λ u. u.share) is;
 }
 
-pub searched-none : {E : Type 0} (slots word : ℕ) (e : E) (id id' : TableId) (v w : View) → v.size ≡ slots
+pub searched-none : {E : Type 0} {slots : ℕ} (word : ℕ) (e : E) (id id' : TableId) (v : View) {w : View}
+    → v.size ≡ slots
     → w ≡ searched_all word v → HasSearched {E = E} slots word (Err e) (seated id v) (seated id' w)
-searched-none slots word e id id' v w sized is = record {
+searched-none word e id id' v sized is = record {
   known = ap (λ u. u.known) is;
   fulls = ap (λ u. u.fulls) is;
   missed = ap (λ u. u.missed) is;

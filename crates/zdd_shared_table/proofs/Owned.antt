@@ -8,13 +8,11 @@ use lib.ListN.{get_elem?}
 use Rattle.atomic_table.specs.Table.{State}
 use Rattle.atomic_table.proofs.Lists.{set_else}
 use Rattle.zdd_words.specs.Word.{home_of}
-use Rattle.zdd_shared_table.specs.Known.{find}
+use Rattle.zdd_shared_table.specs.{Known.find, declared.view.View.View}
 use Rattle.zdd_shared_table.specs.Views.{learned, filled, searching, searched_all, passed_on, loaded, exchanged, joined}
 use Rattle.zdd_shared_table.specs.Rule.{ForgetsNothing, IsKnownBySome, IsStore}
-use Rattle.zdd_shared_table.proofs.Filling.{IsGrown-placed}
+use Rattle.zdd_shared_table.proofs.{Filling.IsGrown-placed, Views.by_test}
 use Rattle.zdd_shared_table.proofs.Maps.{find-first, find-later, placed-slot}
-use Rattle.zdd_shared_table.proofs.Views.{by_test}
-use Rattle.zdd_shared_table.specs.declared.view.View.{View}
 
 -- all that a view knows another knows too
 abbrev pub Keeps : View → View → Type 0
@@ -27,19 +25,18 @@ stands [] seat v w at = absurd (some-ne-none v (sym at))
 stands (x ∷ views) zero v w at = refl
 stands (x ∷ views) (suc seat) v w at = stands views seat v w at
 
-same_view : (views : List View) (seat other : ℕ) (v w : View) → get_elem? views seat ≡ some v
+same_view : (views : List View) {seat other : ℕ} (v w : View) → get_elem? views seat ≡ some v
     → get_elem? views other ≡ some w → other ≡ seat → w ≡ v
-same_view views seat other v w at there same = some-injective w v (sym there ∙ (ap (get_elem? views) same ∙ at))
+same_view views v w at there same = some-injective w v (sym there ∙ (ap (get_elem? views) same ∙ at))
 
 -- a pair more at the end forgets nothing
 find-front : (pairs more : List (ℕ × ℕ)) (reference : ℕ) → find pairs reference ≢ 0
     → find (pairs ++ more) reference ≡ find pairs reference
 find-front [] more reference known = absurd (known refl)
 find-front (pair ∷ pairs) more reference known =
-    dite (ℕ_discrete pair.0 reference)
-    (λ is. find-first pair (pairs ++ more) reference is ∙ sym (find-first pair pairs reference is))
-    (λ other. let later = find-later pair pairs reference other in
-    find-later pair (pairs ++ more) reference other
+    dite (ℕ_discrete pair.0 reference) (λ is. find-first pair (pairs ++ more) is ∙ sym (find-first pair pairs is))
+    (λ other. let later = find-later pair pairs other in
+    find-later pair (pairs ++ more) other
     ∙ (find-front pairs more reference (λ none. known (later ∙ none)) ∙ sym later))
 
 keeps_front : (pairs more : List (ℕ × ℕ)) (reference : ℕ) → find pairs reference ≢ 0
@@ -75,9 +72,9 @@ pub keeps_joined : (v w : View) → Keeps v (joined v w)
 keeps_joined v w reference known = keeps_front v.known w.known reference known
 
 -- a seat's view becomes one that keeps what it knew
-pub still_known : (views : List View) (seat : ℕ) (v w : View) → get_elem? views seat ≡ some v → Keeps v w → (slot : ℕ)
+pub still_known : {views : List View} (seat : ℕ) (v w : View) → get_elem? views seat ≡ some v → Keeps v w → {slot : ℕ}
     → IsKnownBySome views slot → IsKnownBySome (set views seat w) slot
-still_known views seat v w mine keeps slot by =
+still_known {views} seat v w mine keeps {slot} by =
     dite (ℕ_discrete by.seat seat)
     (λ same. record {
       seat = seat;
@@ -85,7 +82,7 @@ still_known views seat v w mine keeps slot by =
       at = stands views seat v w mine;
       knows =
           keeps (slot + 2) (subst (λ (u : View). find u.known (slot + 2) ≢ 0)
-          (same_view views seat by.seat v by.view mine by.at same) by.knows);
+          (same_view views v by.view mine by.at same) by.knows);
     })
     (λ other. record {
       seat = by.seat;
@@ -95,9 +92,9 @@ still_known views seat v w mine keeps slot by =
     })
 
 -- one view more at the end
-pub known_among_more : (views : List View) (more : View) (slot : ℕ) → IsKnownBySome views slot
+pub known_among_more : {views : List View} (more : View) {slot : ℕ} → IsKnownBySome views slot
     → IsKnownBySome (views ++ more ∷ []) slot
-known_among_more views more slot by =
+known_among_more {views} more by =
     record { seat = by.seat; view = by.view; at = front views by.seat by.at; knows = by.knows }
   where
     front : (vs : List View) (k : ℕ) → get_elem? vs k ≡ some by.view → get_elem? (vs ++ more ∷ []) k ≡ some by.view
@@ -106,11 +103,11 @@ known_among_more views more slot by =
     front (x ∷ vs) (suc k) at = front vs k at
 
 -- what a spent seat knew, the one that took it in knows
-pub known_after_join : (views : List View) (seat other : ℕ) (w both left : View) → other ≢ seat
+pub known_after_join : {views : List View} {seat other : ℕ} (w both left : View) → other ≢ seat
     → get_elem? views seat ≡ some both → get_elem? views other ≡ some w
-    → ((reference : ℕ) → find w.known reference ≢ 0 → find both.known reference ≢ 0) → (slot : ℕ)
+    → ((reference : ℕ) → find w.known reference ≢ 0 → find both.known reference ≢ 0) → {slot : ℕ}
     → IsKnownBySome views slot → IsKnownBySome (set views other left) slot
-known_after_join views seat other w both left differ mine theirs takes slot by =
+known_after_join {views} {seat} {other} w both left differ mine theirs takes {slot} by =
     dite (ℕ_discrete by.seat other)
     (λ same. record {
       seat = seat;
@@ -118,7 +115,7 @@ known_after_join views seat other w both left differ mine theirs takes slot by =
       at = set_else views other seat left (λ e. differ (sym e)) ∙ mine;
       knows =
           takes (slot + 2) (subst (λ (u : View). find u.known (slot + 2) ≢ 0)
-          (same_view views other by.seat w by.view theirs by.at same) by.knows);
+          (same_view views w by.view theirs by.at same) by.knows);
     })
     (λ different. record {
       seat = by.seat;

@@ -1,7 +1,6 @@
 -- What follows from the definitions of `specs/Search`.
 use Rattle.std.specs.Prelude.{ℕ, ◌==◌, if◌then◌else◌}
-use Rattle.zdd_shared_table.specs.Views.{searching, searched_all}
-use Rattle.zdd_shared_table.specs.declared.view.View.{View}
+use Rattle.zdd_shared_table.specs.{Views.searching, Views.searched_all, declared.view.View.View}
 
 -- the view of a seat whose search has passed some slots
 abbrev pub after_passing : ℕ → ℕ → View → View

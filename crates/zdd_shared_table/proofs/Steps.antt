@@ -1,7 +1,7 @@
 -- Each kind of step keeps the rule, whatever the other seats did before.
 use Rattle.std.proofs.Common.{◌≡◌, ◌≢◌, ℕ, ◌+◌, ◌<◌, ◌^◌, ◌==◌, List, ◌++◌, get_or, set, get_or-set_other, sym, ◌∙◌, ap}
 use Rattle.std.proofs.Common.{subst, refl, arith, ⊎_elim, if◌then◌else◌}
-use Rattle.zdd_shared_table.proofs.Maps.{placed-slot}
+use Rattle.zdd_shared_table.proofs.{Maps.placed-slot, Told.told}
 use mathlib.Core.Logic.{dite}
 use native.Mathlib.Decide.{ℕ_discrete}
 use mathlib.Core.Option.{Option, some}
@@ -14,31 +14,28 @@ use Rattle.zdd_words.specs.Word.{home_of}
 use Rattle.zdd_words.proofs.WordLemmas.{home_of-below}
 use Rattle.zdd_families.specs.Map.{IsNode, Grown}
 use Rattle.zdd_families.proofs.MapLemmas.{IsNode-grown}
-use Rattle.zdd_shared_table.specs.Known.{find, placed}
+use Rattle.zdd_shared_table.specs.{Known.find, Known.placed, Search.IsSearch, Seats.IsSoundView}
+use Rattle.zdd_shared_table.specs.{declared.view.View.View}
 use Rattle.zdd_shared_table.specs.Views.{spent, learned, filled, searching, searched_all, passed_on, loaded, exchanged}
 use Rattle.zdd_shared_table.specs.Views.{kept_back, split_off, joined}
 use Rattle.zdd_shared_table.specs.Rule.{round, HoldsNodes, Fits, IsKnownBySome, IsStore}
-use Rattle.zdd_shared_table.specs.Search.{IsSearch}
-use Rattle.zdd_shared_table.specs.Seats.{IsSoundView}
-use Rattle.zdd_shared_table.proofs.Told.{told}
 use Rattle.zdd_shared_table.proofs.Filling.{HasAll, HasPassed, IsNode-filled, Fits-filled, IsGrown-placed, filled_holds}
 use Rattle.zdd_shared_table.proofs.Filling.{filled_stay, filled_there}
 use Rattle.zdd_shared_table.proofs.Owned.{Keeps, stands, still_known, keeps_loaded, keeps_exchanged, keeps_filled}
 use Rattle.zdd_shared_table.proofs.Owned.{keeps_joined, known_among_more, known_after_join}
 use Rattle.zdd_shared_table.proofs.Views.{by_test, found, right, Fits-learned, Fits-filling, Fits-passed, Fits-kept}
 use Rattle.zdd_shared_table.proofs.Views.{Fits-split, Fits-joined, Fits-spent}
-use Rattle.zdd_shared_table.specs.declared.view.View.{View}
 
 abbrev Seats : Type 0
 Seats = State (Unit {0}) View
 
 -- where the words become others with all that stood there, and one seat's view fits them, the rule holds
-replaced : (bits : ℕ) (s : Seats) (more : List ℕ) (homes : List (Option (Unit {0}))) (seat : ℕ) (v : View)
+replaced : {bits : ℕ} {s : Seats} {more : List ℕ} (homes : List (Option (Unit {0}))) (seat : ℕ) (v : View)
     → IsStore bits s → HoldsNodes (λ word. home_of word bits) (2 ^ bits) more → HasAll s.words more
     → Fits (λ word. home_of word bits) (2 ^ bits) more v
     → ((slot : ℕ) → get_or more slot 0 ≢ 0 → IsKnownBySome (set s.views seat v) slot)
     → IsStore bits record { words = more; homes = homes; views = set s.views seat v }
-replaced bits s more homes seat v rule nodes all fits owned = record {
+replaced {bits} {s} {more} homes seat v rule nodes all fits owned = record {
   owned = owned;
   nodes = nodes;
   views = λ other w at. ⊎_elim
@@ -49,14 +46,13 @@ replaced bits s more homes seat v rule nodes all fits owned = record {
 }
 
 -- a load changes no word
-same_words : (bits : ℕ) (s : Seats) (slot seat : ℕ) (u v : View) (cs : List (ℕ × Unit {0})) → IsStore bits s
+same_words : {bits : ℕ} {s : Seats} (slot seat : ℕ) (u v : View) (cs : List (ℕ × Unit {0})) → IsStore bits s
     → get_elem? s.views seat ≡ some u → Keeps u v → Fits (λ word. home_of word bits) (2 ^ bits) s.words v
     → IsStore bits (stepped s slot (get_or s.words slot 0) seat cs v keeps)
-same_words bits s slot seat u v cs rule mine kept fits =
+same_words {bits} {s} slot seat u v cs rule mine kept fits =
     subst (λ (ws : List ℕ). IsStore bits record { words = ws; homes = s.homes; views = set s.views seat v })
-    (sym (set-get_or s.words slot 0))
-    (replaced bits s s.words s.homes seat v rule rule.nodes (λ at full. refl) fits
-    (λ at full. still_known s.views seat u v mine kept at (rule.owned at full)))
+    (sym (set-get_or s.words slot 0)) (replaced s.homes seat v rule rule.nodes (λ at full. refl) fits
+    (λ at full. still_known seat u v mine kept (rule.owned at full)))
 
 module _ (bits seat : ℕ) (v : View) (word before slot : ℕ) (search : IsSearch bits v word before slot) (s : Seats)
     (rule : IsStore bits s) (mine : get_elem? s.views seat ≡ some v) where
@@ -91,7 +87,7 @@ module _ (bits seat : ℕ) (v : View) (word before slot : ℕ) (search : IsSearc
       (λ is. Fits-learned home size s.words v fits word slot is search.node)
       (λ differs. let P : ℕ → Type 0 = λ k. (get_or s.words k 0 ≢ 0) × (get_or s.words k 0 ≢ word) in
       let at = subst P search.here (full, differs) in
-      Fits-passed home size s.words v fits word before in_home search.sized search.node passed at.0 at.1)
+      Fits-passed home size s.words v fits before in_home search.sized search.node passed at.0 at.1)
 
   pub Fits-loaded : Fits home size s.words (loaded word before slot (get_or s.words slot 0) v)
   Fits-loaded =
@@ -103,9 +99,9 @@ module _ (bits seat : ℕ) (v : View) (word before slot : ℕ) (search : IsSearc
   node' = IsNode-grown (find v.known) (placed s.words) word (IsGrown-placed home size s.words v fits) search.node
 
   -- the slot that the seat fills is known to it, and the others are known as before
-  owned-filled : Fits home size (set s.words slot word) v → get_or (set s.words slot word) slot 0 ≡ word → (at : ℕ)
+  owned-filled : Fits home size (set s.words slot word) v → get_or (set s.words slot word) slot 0 ≡ word → {at : ℕ}
       → get_or (set s.words slot word) at 0 ≢ 0 → IsKnownBySome (set s.views seat (filled word slot v)) at
-  owned-filled fits' there at full =
+  owned-filled fits' there {at} full =
       dite (ℕ_discrete at slot)
       (λ same. record {
         seat = seat;
@@ -115,8 +111,7 @@ module _ (bits seat : ℕ) (v : View) (word before slot : ℕ) (search : IsSearc
             λ none. IsNode-filled (find v.known) word search.node
             (sym (found home size (set s.words slot word) v fits' word slot there search.node)
             ∙ (ap (λ k. find (filled word slot v).known (k + 2)) (sym same) ∙ none));
-      })
-      (λ other. still_known s.views seat v (filled word slot v) mine (keeps_filled word slot v) at
+      }) (λ other. still_known seat v (filled word slot v) mine (keeps_filled word slot v)
       (rule.owned at (λ none. full (get_or-set_other s.words slot at word 0 other ∙ none))))
 
   -- where the slot was empty, the seat fills it
@@ -124,24 +119,19 @@ module _ (bits seat : ℕ) (v : View) (word before slot : ℕ) (search : IsSearc
       record { words = set s.words slot word; homes = s.homes; views = set s.views seat (filled word slot v) }
   store-filled empty =
       let all =
-      filled_stay home size s.words word before slot in_home rule.nodes node' search.inside search.here passed
-      empty in
+      filled_stay home size before in_home rule.nodes node' search.inside search.here passed empty in
       let there =
-      filled_there home size s.words word before slot in_home rule.nodes node' search.inside search.here passed
-      empty in
+      filled_there home size before in_home rule.nodes node' search.inside search.here passed empty in
       let nodes =
-      filled_holds home size s.words word before slot in_home rule.nodes node' search.inside search.here passed
-      empty in
-      replaced bits s (set s.words slot word) s.homes seat (filled word slot v) rule nodes all
-      (Fits-filling home size (set s.words slot word) v
+      filled_holds home size before in_home rule.nodes node' search.inside search.here passed empty in
+      replaced s.homes seat (filled word slot v) rule nodes all (Fits-filling home size (set s.words slot word) v
       (Fits-filled home size s.words (set s.words slot word) v all fits) word slot there search.node)
-      (λ at full. owned-filled (Fits-filled home size s.words (set s.words slot word) v all fits) there at full)
+      (λ at full. owned-filled (Fits-filled home size s.words (set s.words slot word) v all fits) there full)
 
 -- a view of the right size that fits the rule is sound
-sound_after : (bits seat : ℕ) (s : Seats) (w : View) → IsStore bits s → get_elem? s.views seat ≡ some w
+sound_after : {bits : ℕ} (seat : ℕ) {s : Seats} (w : View) → IsStore bits s → get_elem? s.views seat ≡ some w
     → w.size ≡ 2 ^ bits → IsSoundView w
-sound_after bits seat s w rule at sized =
-    told (λ word. home_of word bits) (2 ^ bits) s.words w rule.nodes (rule.views seat w at) sized
+sound_after seat w rule at sized = told w rule.nodes (rule.views seat w at) sized
 
 sized_loaded : (bits word before slot found : ℕ) (v : View) → v.size ≡ 2 ^ bits
     → (loaded word before slot found v).size ≡ 2 ^ bits
@@ -163,26 +153,26 @@ sized_exchanged bits word before slot found v sized =
     (λ _. sized)))
 
 -- a load in a search
-pub allows_load : (bits slots seat : ℕ) (v : View) (cs : List (ℕ × Unit {0})) (word before slot : ℕ)
+pub allows_load : {bits : ℕ} (slots seat : ℕ) {v : View} (cs : List (ℕ × Unit {0})) {word before slot : ℕ}
     → IsSearch bits v word before slot
     → Allows (IsStore bits) slots seat (v, cs) slot (λ n. n)
     (λ found after. (after.0 ≡ loaded word before slot found v) × (after.1 ≡ cs) × IsSoundView after.0)
-allows_load bits slots seat v cs word before slot search s rule homes mine in_range =
+allows_load {bits} slots seat {v} cs {word} {before} {slot} search s rule homes mine in_range =
     let w = loaded word before slot (get_or s.words slot 0) v in
     let kept : IsStore bits (stepped s slot (get_or s.words slot 0) seat cs w keeps) =
-    same_words bits s slot seat v w cs rule mine (keeps_loaded word before slot (get_or s.words slot 0) v)
+    same_words slot seat v w cs rule mine (keeps_loaded word before slot (get_or s.words slot 0) v)
     (Fits-loaded bits seat v word before slot search s rule mine) in
     let sound =
-    sound_after bits seat (stepped s slot (get_or s.words slot 0) seat cs w keeps) w kept (stands s.views seat v w mine)
+    sound_after seat w kept (stands s.views seat v w mine)
     (sized_loaded bits word before slot (get_or s.words slot 0) v search.sized) in
     (w, keeps, tt, kept, (refl, refl, sound))
 
 -- an exchange in a search, of an empty slot for the word
-pub allows_exchange : (bits slots seat : ℕ) (v : View) (cs : List (ℕ × Unit {0})) (word before slot : ℕ)
+pub allows_exchange : {bits : ℕ} (slots seat : ℕ) {v : View} (cs : List (ℕ × Unit {0})) {word before slot : ℕ}
     → IsSearch bits v word before slot
     → Allows (IsStore bits) slots seat (v, cs) slot (λ n. either (n == 0) word n)
     (λ found after. (after.0 ≡ exchanged word before slot found v) × (after.1 ≡ cs) × IsSoundView after.0)
-allows_exchange bits slots seat v cs word before slot search s rule homes mine in_range =
+allows_exchange {bits} slots seat {v} cs {word} {before} {slot} search s rule homes mine in_range =
     let found : ℕ = get_or s.words slot 0 in
     let w = exchanged word before slot found v in
     let kept : IsStore bits (stepped s slot (either (found == 0) word found) seat cs w keeps) =
@@ -193,13 +183,13 @@ allows_exchange bits slots seat v cs word before slot search s rule homes mine i
     (filled word slot v) (if found == word then learned word slot v else passed_on word before v)
     (λ _. store-filled bits seat v word before slot search s rule mine empty)
     (λ full. absurd (full empty)))
-    (λ full. same_words bits s slot seat v w cs rule mine (keeps_exchanged word before slot found v)
+    (λ full. same_words slot seat v w cs rule mine (keeps_exchanged word before slot found v)
     (by_test (Fits (λ w. home_of w bits) (2 ^ bits) s.words) found 0 (filled word slot v)
     (if found == word then learned word slot v else passed_on word before v)
     (λ empty. absurd (full empty))
     (λ _. Fits-met bits seat v word before slot search s rule mine full))) in
     let sound =
-    sound_after bits seat (stepped s slot (either (found == 0) word found) seat cs w keeps) w kept
+    sound_after seat w kept
     (stands s.views seat v w mine) (sized_exchanged bits word before slot found v search.sized) in
     (w, keeps, tt, kept, (refl, refl, sound))
 
@@ -211,8 +201,8 @@ allows_look bits slots seat v cs slot sized s rule homes mine in_range = (
   v,
   keeps,
   tt,
-  same_words bits s slot seat v v cs rule mine (λ reference known. known) (rule.views seat v mine),
-  (refl, refl, sound_after bits seat s v rule mine sized),
+  same_words slot seat v v cs rule mine (λ reference known. known) (rule.views seat v mine),
+  (refl, refl, sound_after seat v rule mine sized),
 )
 
 -- a load of a known reference's slot
@@ -225,7 +215,7 @@ allows_read bits slots seat v cs slot s rule homes mine in_range =
       v,
       keeps,
       tt,
-      same_words bits s slot seat v v cs rule mine (λ reference known. known) fits,
+      same_words slot seat v v cs rule mine (λ reference known. known) fits,
       (
         refl,
         refl,
@@ -240,14 +230,12 @@ pub allows_split : (bits seat : ℕ) (v : View) (share : ℕ)
 allows_split bits seat v share s rule mine =
     let home = λ (w : ℕ). home_of w bits in
     let left =
-    replaced bits s s.words s.homes seat (kept_back share v) rule rule.nodes (λ at full. refl)
+    replaced s.homes seat (kept_back share v) rule rule.nodes (λ at full. refl)
     (Fits-kept home (2 ^ bits) s.words v (rule.views seat v mine) share)
-    (λ at full. still_known s.views seat v (kept_back share v) mine (λ reference known. known) at
-    (rule.owned at full)) in
+    (λ at full. still_known seat v (kept_back share v) mine (λ reference known. known) (rule.owned at full)) in
     record {
       owned =
-          λ at full. known_among_more (set s.views seat (kept_back share v)) (split_off share v) at
-          (left.owned at full);
+          λ at full. known_among_more (split_off share v) (left.owned at full);
       nodes = rule.nodes;
       views = λ other w at. ⊎_elim (left.views other w)
           (λ (same : split_off share v ≡ w). subst (Fits home (2 ^ bits) s.words) same
@@ -256,22 +244,20 @@ allows_split bits seat v share s rule mine =
     }
 
 -- a seat takes in another, which is spent
-pub allows_join : (bits seat : ℕ) (v : View) (other : ℕ) (w : View)
+pub allows_join : (bits : ℕ) {seat : ℕ} {v : View} {other : ℕ} {w : View}
     → Joins (IsStore bits) seat v other w (joined v w) spent
-allows_join bits seat v other w s rule mine differ theirs =
+allows_join bits {seat} {v} {other} {w} s rule mine differ theirs =
     let home = λ (k : ℕ). home_of k bits in
     let fits : Fits home (2 ^ bits) s.words v = rule.views seat v mine in
     let at : get_elem? s.views other ≡ some w = sym (set_else s.views seat other (joined v w) differ) ∙ theirs in
     let one =
-    replaced bits s s.words s.homes seat (joined v w) rule rule.nodes (λ slot full. refl)
+    replaced s.homes seat (joined v w) rule rule.nodes (λ slot full. refl)
     (Fits-joined home (2 ^ bits) s.words v fits w (rule.views other w at))
-    (λ slot full. still_known s.views seat v (joined v w) mine (keeps_joined v w) slot (rule.owned slot full)) in
+    (λ slot full. still_known seat v (joined v w) mine (keeps_joined v w) (rule.owned slot full)) in
     let both : State (Unit {0}) View =
     record { words = s.words; homes = s.homes; views = set s.views seat (joined v w) } in
     let takes : Grown (find w.known) (find (v.known ++ w.known)) =
     right home (2 ^ bits) s.words v fits w (rule.views other w at) in
-    replaced bits both s.words s.homes other spent one rule.nodes (λ slot full. refl)
-    (Fits-spent home (2 ^ bits) s.words)
-    (λ slot full. known_after_join (set s.views seat (joined v w)) seat other w (joined v w) spent differ
-    (stands s.views seat v (joined v w) mine) theirs
-    (λ reference known none. known (sym (takes reference known) ∙ none)) slot (one.owned slot full))
+    replaced s.homes other spent one rule.nodes (λ slot full. refl) (Fits-spent home (2 ^ bits) s.words)
+    (λ slot full. known_after_join w (joined v w) spent differ (stands s.views seat v (joined v w) mine) theirs
+    (λ reference known none. known (sym (takes reference known) ∙ none)) (one.owned slot full))

@@ -8,14 +8,11 @@ use mathlib.Core.Logic.{dite}
 use native.Mathlib.Decide.{dec_lt, ℕ_discrete}
 use Rattle.zdd_families.specs.Map.{IsNode, Grown}
 use Rattle.zdd_families.proofs.MapLemmas.{IsNode-grown}
-use Rattle.zdd_shared_table.specs.Known.{find, placed}
+use Rattle.zdd_shared_table.specs.{Known.find, Known.placed, Rule.round, Rule.Fits, declared.view.View.View}
 use Rattle.zdd_shared_table.specs.Views.{spent, learned, filled, searching, searched_all, passed_on, kept_back}
 use Rattle.zdd_shared_table.specs.Views.{split_off, joined}
-use Rattle.zdd_shared_table.specs.Rule.{round, Fits}
-use Rattle.zdd_shared_table.proofs.Rounds.{round-onto}
+use Rattle.zdd_shared_table.proofs.{Rounds.round-onto, Filling.IsNode-filled, Filling.HasPassed}
 use Rattle.zdd_shared_table.proofs.Maps.{IsOf, find-standing, find-grown, placed-slot}
-use Rattle.zdd_shared_table.proofs.Filling.{IsNode-filled, HasPassed}
-use Rattle.zdd_shared_table.specs.declared.view.View.{View}
 
 -- one of two by a test of two numbers
 pub by_test : {X : Type 0} (P : X → Type 0) (a b : ℕ) (x y : X) → (a ≡ b → P x) → (a ≢ b → P y)
@@ -40,17 +37,18 @@ placed_over : (words : List ℕ) (known larger : ℕ → ℕ) (pairs : List (ℕ
 placed_over words known larger pairs grown is reference word h =
     ((is reference word h).0, IsNode-grown known larger word grown (is reference word h).1)
 
-placed_of : (words : List ℕ) (known : ℕ → ℕ) (pairs : List (ℕ × ℕ)) → IsPlaced words known pairs
+placed_of : (words : List ℕ) (known : ℕ → ℕ) {pairs : List (ℕ × ℕ)} → IsPlaced words known pairs
     → IsOf (placed words) pairs
-placed_of words known pairs is = record {
+placed_of words known is = record {
   says = λ reference word h. (is reference word h).0;
   filled = λ reference word h. IsNode-filled known word (is reference word h).1;
 }
 
 -- one more pair
-placed_one : (words : List ℕ) (known : ℕ → ℕ) (reference word : ℕ) → placed words reference ≡ word → IsNode known word
+placed_one : (words : List ℕ) {known : ℕ → ℕ} (reference : ℕ) {word : ℕ} → placed words reference ≡ word
+    → IsNode known word
     → IsPlaced words known ((reference, word) ∷ [])
-placed_one words known reference word at node r w h =
+placed_one words {known} reference {word} at node r w h =
     ⊎_elim (λ (none : Contains [] (r, w)). Contains-nil (r, w) none)
     (λ (same : (reference, word) ≡ (r, w)). (
       ap (λ (p : ℕ × ℕ). placed words p.0) (sym same)
@@ -76,14 +74,12 @@ of_both words one two pairs more first second = record {
 pub grown_left : (words : List ℕ) (one two : ℕ → ℕ) (pairs more : List (ℕ × ℕ)) → IsPlaced words one pairs
     → IsPlaced words two more → Grown (find pairs) (find (pairs ++ more))
 grown_left words one two pairs more first second =
-    find-grown (placed words) pairs (pairs ++ more) (of_both words one two pairs more first second)
-    (λ pair h. Contains-append_left pairs more pair h)
+    find-grown pairs (of_both words one two pairs more first second) (λ pair h. Contains-append_left pairs more pair h)
 
 pub grown_right : (words : List ℕ) (one two : ℕ → ℕ) (pairs more : List (ℕ × ℕ)) → IsPlaced words one pairs
     → IsPlaced words two more → Grown (find more) (find (pairs ++ more))
 grown_right words one two pairs more first second =
-    find-grown (placed words) more (pairs ++ more) (of_both words one two pairs more first second)
-    (λ pair h. Contains-append_right pairs more pair h)
+    find-grown more (of_both words one two pairs more first second) (λ pair h. Contains-append_right pairs more pair h)
 
 grown_filled : (known more : ℕ → ℕ) (reference : ℕ) → Grown known more → known reference ≢ 0 → more reference ≢ 0
 grown_filled known more reference grown some none = some (sym (grown reference some) ∙ none)
@@ -98,7 +94,7 @@ module _ (home : ℕ → ℕ) (size : ℕ) (words : List ℕ) (v : View) (fits :
     at' = placed-slot words slot ∙ at
 
     one : IsPlaced words (find v.known) ((slot + 2, word) ∷ [])
-    one = placed_one words (find v.known) (slot + 2) word at' node
+    one = placed_one words (slot + 2) at' node
 
     grown : Grown (find v.known) (find more)
     grown = grown_left words (find v.known) (find v.known) v.known ((slot + 2, word) ∷ []) fits.known one
@@ -110,8 +106,7 @@ module _ (home : ℕ → ℕ) (size : ℕ) (words : List ℕ) (v : View) (fits :
 
     pub found : find more (slot + 2) ≡ word
     found =
-        find-standing (placed words) more (slot + 2) word (placed_of words (find more) more known')
-        (Contains-push v.known (slot + 2, word))
+        find-standing more (slot + 2) (placed_of words (find more) known') (Contains-push v.known (slot + 2, word))
 
     pub Fits-learned : Fits home size words (learned word slot v)
     Fits-learned = record {
@@ -137,7 +132,8 @@ module _ (home : ℕ → ℕ) (size : ℕ) (words : List ℕ) (v : View) (fits :
     }
 
   -- a view whose search has passed one more slot
-  module _ (word before : ℕ) (home_below : home word < size) (sized : v.size ≡ size) (node : IsNode (find v.known) word)
+  module _ {word : ℕ} (before : ℕ) (home_below : home word < size) (sized : v.size ≡ size)
+      (node : IsNode (find v.known) word)
       (passed : HasPassed home size words word before)
       (some : get_or words (round size (home word + before)) 0 ≢ 0)
       (other : get_or words (round size (home word + before)) 0 ≢ word) where

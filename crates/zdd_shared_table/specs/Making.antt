@@ -1,7 +1,6 @@
 -- What a call that makes a node answers, and what the seat knows and counts after it.
 use Rattle.std.specs.Prelude.{◌≡◌, ℕ, ◌+◌, ◌⊎◌, [], ◌∷◌, ◌++◌, Result, IfOk, IfErr, MatchResult}
-use Rattle.zdd_families.specs.Family.{branch}
-use Rattle.zdd_families.specs.Map.{KnowsAs, family}
+use Rattle.zdd_families.specs.{Family.branch, Map.KnowsAs, Map.family}
 use Rattle.zdd_shared_table.specs.Seats.{Seated, map_of}
 
 -- the answer is known as the sets of lo, and those of hi each with the level added

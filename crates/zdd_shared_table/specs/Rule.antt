@@ -5,9 +5,8 @@ use mathlib.Core.Option.{some}
 use lib.ListN.{get_elem?}
 use Rattle.atomic_table.specs.Table.{State}
 use Rattle.zdd_words.specs.Word.{home_of}
-use Rattle.zdd_shared_table.specs.declared.view.View.{View}
+use Rattle.zdd_shared_table.specs.{declared.view.View.View, Known.find, Known.placed}
 use Rattle.zdd_families.specs.Map.{IsNode}
-use Rattle.zdd_shared_table.specs.Known.{find, placed}
 
 -- a place counted from a slot of a table of this size, which goes on at slot 0 behind the last slot
 unfoldable pub round : ℕ → ℕ → ℕ

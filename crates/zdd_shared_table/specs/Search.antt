@@ -3,10 +3,7 @@ use Rattle.std.specs.Prelude.{◌≡◌, ℕ, ◌+◌, ◌<◌, ◌≤◌, ◌^�
 use Rattle.atomic_table.specs.declared.shared.Seat.{Seat}
 use Rattle.zdd_words.specs.Word.{home_of}
 use Rattle.zdd_families.specs.Map.{IsNode}
-use Rattle.zdd_shared_table.specs.Known.{find}
-use Rattle.zdd_shared_table.specs.Views.{learned, filled}
-use Rattle.zdd_shared_table.specs.Rule.{round}
-use Rattle.zdd_shared_table.specs.declared.view.View.{View}
+use Rattle.zdd_shared_table.specs.{Known.find, Views.learned, Views.filled, Rule.round, declared.view.View.View}
 
 -- a seat that searches for a word has passed some slots and stands at the next one
 pub record IsSearch (bits : ℕ) (v : View) (word before slot : ℕ) : Type 0 where

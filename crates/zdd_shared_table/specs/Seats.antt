@@ -3,9 +3,7 @@ use Rattle.std.specs.Prelude.{◌≡◌, ℕ, ◌+◌, ◌<◌, ◌≤◌, ◌�
 use Rattle.atomic_table.specs.Table.{Me}
 pub use Rattle.atomic_table.specs.Seated.{TableId}
 use Rattle.zdd_families.specs.Map.{IsClosed, IsUnique, IsNode}
-use Rattle.zdd_shared_table.specs.Known.{find}
-use Rattle.zdd_shared_table.specs.declared.view.View.{View}
-use Rattle.zdd_shared_table.specs.declared.view.Probe.{Probe}
+use Rattle.zdd_shared_table.specs.{Known.find, declared.view.View.View, declared.view.Probe.Probe}
 
 -- What is known is closed and says one word of each reference, different references have different words,
 -- and what was filled and missed is of it.

@@ -1,7 +1,6 @@
 -- What a seat's view becomes by each kind of step.
 use Rattle.std.specs.Prelude.{ℕ, ◌+◌, ◌-◌, ◌==◌, [], ◌∷◌, ◌++◌, if◌then◌else◌}
-use Rattle.zdd_shared_table.specs.declared.view.View.{View}
-use Rattle.zdd_shared_table.specs.declared.view.Probe.{Probe}
+use Rattle.zdd_shared_table.specs.{declared.view.View.View, declared.view.Probe.Probe}
 
 -- no search goes on
 abbrev pub no_probe : Probe

@@ -37,13 +37,13 @@ unfolding level_of
 top_bits word = refl
 
 -- the same where the parts are known by other names
-pub joined_bits_of : (level lo hi l a b : ℕ) → l ≡ level → a ≡ lo → b ≡ hi → IsUnit level → IsReference lo
+pub joined_bits_of : {level lo hi l a b : ℕ} → l ≡ level → a ≡ lo → b ≡ hi → IsUnit level → IsReference lo
     → IsReference hi → bit_or (bit_or (l * 2 ^ 52 % 2 ^ 64) (a * 2 ^ 26 % 2 ^ 64)) b ≡ packed level lo hi
-joined_bits_of level lo hi l a b e f g unit small small' =
+joined_bits_of {level} {lo} {hi} {a} {b} e f g unit small small' =
     ap (λ n. bit_or (bit_or (n * 2 ^ 52 % 2 ^ 64) (a * 2 ^ 26 % 2 ^ 64)) b) e
     ∙ ap (λ n. bit_or (bit_or (level * 2 ^ 52 % 2 ^ 64) (n * 2 ^ 26 % 2 ^ 64)) b) f
     ∙ ap (λ n. bit_or (bit_or (level * 2 ^ 52 % 2 ^ 64) (lo * 2 ^ 26 % 2 ^ 64)) n) g
     ∙ joined_bits level lo hi unit small small'
 
-pub same_packed : (level lo hi l a b : ℕ) → l ≡ level → a ≡ lo → b ≡ hi → packed l a b ≡ packed level lo hi
-same_packed level lo hi l a b e f g = cc
+pub same_packed : {level lo hi l a b : ℕ} → l ≡ level → a ≡ lo → b ≡ hi → packed l a b ≡ packed level lo hi
+same_packed e f g = cc

@@ -4,14 +4,12 @@ use Rattle.graph_cycles.proofs.find_cycles.Goals as goal
 
 pub returns-clause-exact : goal.returns-clause-exact
 returns-clause-exact c = λ x l.
-    c.loop-node.invariant.stands.sound.marked x (all_closed c.args.graph.now c.loop-node.walk c.loop-node.node
-    c.loop-node.invariant x (omega arith))
+    c.loop-node.invariant.stands.sound.marked x (all_closed c.loop-node.invariant x (omega arith))
 
 pub returns-clause-ranked : goal.returns-clause-ranked
 returns-clause-ranked c = λ x l.
-    c.loop-node.invariant.stands.ranks.ranked x (all_closed c.args.graph.now c.loop-node.walk c.loop-node.node
-    c.loop-node.invariant x (omega arith))
+    c.loop-node.invariant.stands.ranks.ranked x (all_closed c.loop-node.invariant x (omega arith))
 
 pub returns-clause-order : goal.returns-clause-order
 returns-clause-order c =
-    all_in_order c.args.graph.now c.loop-node.walk c.loop-node.node c.loop-node.invariant (omega arith)
+    all_in_order c.loop-node.invariant (omega arith)

@@ -1,6 +1,5 @@
 use Rattle.std.proofs.Common.{◌≡◌, true, false, length, arith}
-use Rattle.std.specs.Prelude.{nat_lt}
-use Rattle.std.specs.List.{list_all}
+use Rattle.std.specs.{Prelude.nat_lt, List.list_all}
 use Rattle.std.proofs.lemmas.Grind.{common_steps}
 use Rattle.graph_cycles.specs.Graph.{successors}
 use Rattle.graph_cycles.proofs.Below.{AreNodesBefore-more, all_below}

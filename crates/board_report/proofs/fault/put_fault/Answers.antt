@@ -1,5 +1,4 @@
-use Rattle.std.proofs.Common.{arith}
-use Rattle.std.proofs.lemmas.Grind.{common_steps}
+use Rattle.std.proofs.{Common.arith, lemmas.Grind.common_steps}
 use Rattle.board_report.proofs.fault.put_fault.Goals as goal
 
 pub returns-clause-puts : goal.returns-clause-puts

@@ -1,23 +1,18 @@
-use Rattle.std.proofs.Common.{subst}
-use Rattle.std.specs.List.{flat_map}
-use Rattle.std.specs.Prelude.{All}
-use Rattle.std.proofs.lemmas.List.{take_all}
-use Rattle.std.proofs.lemmas.List.Elements.{All-more, All-nil}
+use Rattle.std.proofs.{Common.subst, lemmas.List.take_all, lemmas.List.Elements.All-more, lemmas.List.Elements.All-nil}
+use Rattle.std.specs.{List.flat_map, Prelude.All}
 use Rattle.edge_io.specs.Out.{Puts}
 use Rattle.edge_io.proofs.OutLemmas.{Puts-none}
-use Rattle.deck_reading.specs.TreeStatements.{HasNames}
-use Rattle.deck_reading.specs.Written.{attribute_text}
+use Rattle.deck_reading.specs.{TreeStatements.HasNames, Written.attribute_text}
 use Rattle.board_texts.proofs.Pieces.{one_more_put}
 use Rattle.board_report.proofs.print.put_attributes.Goals as goal
 
 pub loop-attribute-init : goal.loop-attribute-init
 loop-attribute-init g c =
-    record { so = Puts-none g.K.Sink.taken g.K.Sink.faults c.args.out.now; named = All-nil HasNames }
+    record { so = Puts-none; named = All-nil HasNames }
 
 pub loop-attribute-preserved : goal.loop-attribute-preserved
 loop-attribute-preserved g c = record {
-  so = one_more_put g.K.Sink.taken g.K.Sink.faults c.args.out.now c.loop-attribute.out c.put_attribute.new.out
-      attribute_text c.args.attributes.now c.loop-attribute.attribute-index c.attribute-item.result
+  so = one_more_put attribute_text c.args.attributes.now c.loop-attribute.attribute-index
       c.loop-attribute-test.true c.attribute-item.is c.loop-attribute.invariant.so c.put_attribute.ensures.puts;
   named =
       All-more HasNames c.args.attributes.now c.loop-attribute.attribute-index c.attribute-item.result

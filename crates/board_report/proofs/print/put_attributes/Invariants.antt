@@ -1,9 +1,7 @@
 use Rattle.std.proofs.Common.{take}
-use Rattle.std.specs.Prelude.{All}
-use Rattle.std.specs.List.{flat_map}
+use Rattle.std.specs.{Prelude.All, List.flat_map}
 use Rattle.edge_io.specs.Out.{Puts}
-use Rattle.deck_reading.specs.TreeStatements.{HasNames}
-use Rattle.deck_reading.specs.Written.{attribute_text}
+use Rattle.deck_reading.specs.{TreeStatements.HasNames, Written.attribute_text}
 use Rattle.board_report.proofs.print.put_attributes.Given as goal
 
 abbrev pub invariant-loop-attribute : goal.invariant-loop-attribute

@@ -15,28 +15,26 @@ loop-i-init g c = record {
       (flat_map (gate_line c.args.tree.now) (range_with_len (unit_count c.args.tree.now + 1)
       (gate_count c.args.tree.now))))
       (all_numbers (gate_line c.args.tree.now) (unit_count c.args.tree.now + 1) (gate_count c.args.tree.now))
-      (begun g.K.Sink.taken g.K.Sink.faults c.args.out.now
-      (flat_map (gate_line c.args.tree.now) (range_with_len (unit_count c.args.tree.now + 1)
-      (gate_count c.args.tree.now))));
+      (begun g.K.Sink.taken g.K.Sink.faults {old = c.args.out.now}
+      {whole = flat_map (gate_line c.args.tree.now) (range_with_len (unit_count c.args.tree.now + 1)
+      (gate_count c.args.tree.now))});
   going = c.requires.fine;
   named = none_named (λ gate. is_name (name_of c.args.tree.now gate) ≡ true) (unit_count c.args.tree.now);
 }
 
 pub returns-in_err-put_gate_line-clause-puts : goal.returns-in_err-put_gate_line-clause-puts
 returns-in_err-put_gate_line-clause-puts g c =
-    cut_short g.K.Sink.taken g.K.Sink.faults c.args.out.now c.loop-i.out c.put_gate_line.new.out _ _ _ _
-    c.loop-i.invariant.so c.put_gate_line.ensures.puts
-    (next_number (gate_line c.args.tree.now) (unit_count c.args.tree.now + 1) (gate_count c.args.tree.now) c.loop-i.i _
+    cut_short g.K.Sink.taken g.K.Sink.faults _ c.loop-i.invariant.so c.put_gate_line.ensures.puts
+    (next_number (gate_line c.args.tree.now) (unit_count c.args.tree.now + 1) (gate_count c.args.tree.now) c.loop-i.i
     (subst (λ n. c.loop-i.i < n) c.gates-i-end.ensures.count c.loop-i-test.true)
     (ap (λ n. n + 1 + c.loop-i.i) c.units-units.ensures.count))
     (sym c.put_gate_line.ensures.answer ∙ ap is_err c.in_err-put_gate_line.was)
 
 pub loop-i-preserved : goal.loop-i-preserved
 loop-i-preserved g c = record {
-  so = one_more g.K.Sink.taken g.K.Sink.faults c.args.out.now c.loop-i.out c.put_gate_line.new.out _ _ _ _
-      c.loop-i.invariant.so c.put_gate_line.ensures.puts
+  so = one_more g.K.Sink.taken g.K.Sink.faults c.loop-i.invariant.so c.put_gate_line.ensures.puts
       (next_number (gate_line c.args.tree.now) (unit_count c.args.tree.now + 1) (gate_count c.args.tree.now) c.loop-i.i
-      _ (subst (λ n. c.loop-i.i < n) c.gates-i-end.ensures.count c.loop-i-test.true)
+      (subst (λ n. c.loop-i.i < n) c.gates-i-end.ensures.count c.loop-i-test.true)
       (ap (λ n. n + 1 + c.loop-i.i) c.units-units.ensures.count));
   going = sym c.put_gate_line.ensures.answer ∙ ap is_err c.in_ok-put_gate_line.was;
   named = one_more_named (λ gate. is_name (name_of c.args.tree.now gate) ≡ true)
@@ -46,9 +44,7 @@ loop-i-preserved g c = record {
 
 pub returns-clause-puts : goal.returns-clause-puts
 returns-clause-puts g c =
-    whole_put g.K.Sink.taken g.K.Sink.faults c.args.out.now c.loop-i.out
-    (flat_map (gate_line c.args.tree.now) (range_with_len (unit_count c.args.tree.now + 1)
-    (gate_count c.args.tree.now)))
+    whole_put g.K.Sink.taken g.K.Sink.faults
     (subst (λ rest. PutsFront g.K.Sink.taken g.K.Sink.faults c.args.out.now c.loop-i.out rest
     (flat_map (gate_line c.args.tree.now) (range_with_len (unit_count c.args.tree.now + 1)
     (gate_count c.args.tree.now))))

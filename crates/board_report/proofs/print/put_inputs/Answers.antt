@@ -1,6 +1,5 @@
-use Rattle.std.proofs.Common.{subst}
+use Rattle.std.proofs.{Common.subst, lemmas.List.take_all}
 use Rattle.std.specs.List.{flat_map}
-use Rattle.std.proofs.lemmas.List.{take_all}
 use Rattle.edge_io.specs.Out.{Puts}
 use Rattle.edge_io.proofs.OutLemmas.{Puts-none}
 use Rattle.board_report.specs.PrintText.{input_text}
@@ -8,12 +7,11 @@ use Rattle.board_texts.proofs.Pieces.{one_more_put}
 use Rattle.board_report.proofs.print.put_inputs.Goals as goal
 
 pub loop-input-init : goal.loop-input-init
-loop-input-init g c = Puts-none g.K.Sink.taken g.K.Sink.faults c.args.out.now
+loop-input-init g c = Puts-none
 
 pub loop-input-preserved : goal.loop-input-preserved
 loop-input-preserved g c =
-    one_more_put g.K.Sink.taken g.K.Sink.faults c.args.out.now c.loop-input.out c.put_input.new.out
-    (input_text c.args.tree.now) c.args.inputs.now c.loop-input.input-index c.input-item.result c.loop-input-test.true
+    one_more_put (input_text c.args.tree.now) c.args.inputs.now c.loop-input.input-index c.loop-input-test.true
     c.input-item.is c.loop-input.invariant c.put_input.ensures
 
 pub returns : goal.returns

@@ -1,16 +1,13 @@
-use Rattle.std.proofs.Common.{subst, codes}
+use Rattle.std.proofs.Common.{subst}
 use Rattle.edge_io.specs.Out.{Puts}
 use Rattle.deck_reading.specs.Written.{attribute_text, quoted}
-use Rattle.fault_definitions.specs.Tree.{name_of, attributes_of}
 use Rattle.std.specs.List.{flat_map}
 use Rattle.text_pieces.proofs.Putting.{all_three}
 use Rattle.board_report.proofs.print.put_unit_line.Goals as goal
 
 pub returns-clause-puts : goal.returns-clause-puts
 returns-clause-puts g c =
-    all_three g.K.Sink.taken g.K.Sink.faults c.args.out.now c.put_quoted.new.out c.put_attributes.new.out c.put.new.self
-    (quoted (name_of c.args.tree.now c.args.unit))
-    (flat_map attribute_text (attributes_of c.args.tree.now c.args.unit)) (codes ";\n")
+    all_three g.K.Sink.taken g.K.Sink.faults c.put_attributes.new.out
     (subst (λ name. Puts g.K.Sink.taken g.K.Sink.faults c.args.out.now c.put_quoted.new.out (quoted name))
     c.node_name.ensures c.put_quoted.ensures.puts)
     (subst (λ attributes. Puts g.K.Sink.taken g.K.Sink.faults c.put_quoted.new.out c.put_attributes.new.out

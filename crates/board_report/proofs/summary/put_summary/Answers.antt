@@ -1,9 +1,8 @@
-use Rattle.std.proofs.Common.{◌∙◌, subst, length}
+use Rattle.std.proofs.Common.{◌∙◌, subst}
 use Rattle.edge_io.specs.Out.{Puts}
 use Rattle.cut_sequences.specs.Orders.{order_total}
-use Rattle.fault_definitions.specs.Tree.{gate_count, unit_count}
+use Rattle.fault_definitions.specs.Tree.{gate_count}
 use Rattle.margin_policy.specs.Held.{units_out}
-use Rattle.outage_board.specs.Boards.{standing_of}
 use Rattle.board_texts.specs.BoardText.{out_head}
 use Rattle.cut_texts.specs.CutsText.{count_line}
 use Rattle.board_report.specs.SummaryText.{decided_line, made_line}
@@ -14,11 +13,7 @@ pub returns-clause-puts : goal.returns-clause-puts
 returns-clause-puts g c =
     let tree = c.args.tree.now in
     let board = c.args.state.now in
-    all_four g.K.Sink.taken g.K.Sink.faults c.args.out.now c.put_made_line.new.out c.put_count_line.new.out
-    c.put_decided.new.out c.put_out_head.new.out
-    (made_line c.args.number (unit_count tree) (gate_count tree))
-    (count_line (length board.deck.opening.cuts) (order_total c.args.orders.now)) (decided_line board.history)
-    (out_head (length (units_out (standing_of board).held)))
+    all_four g.K.Sink.taken g.K.Sink.faults c.put_count_line.new.out
     (subst (λ u. Puts g.K.Sink.taken g.K.Sink.faults c.args.out.now c.put_made_line.new.out (made_line c.args.number
     u (gate_count tree))) c.units.ensures.count
     (subst (λ n. Puts g.K.Sink.taken g.K.Sink.faults c.args.out.now c.put_made_line.new.out (made_line c.args.number

@@ -1,14 +1,12 @@
 use Rattle.std.proofs.Common.{sym, ◌∙◌, ap, subst, is_err}
 use Rattle.edge_io.specs.Out.{Puts}
 use Rattle.edge_io.proofs.OutLemmas.{Puts-trans}
-use Rattle.margin_policy.specs.Held.{units_out}
-use Rattle.margin_policy.specs.Standing.{StandingView}
+use Rattle.margin_policy.specs.{Held.units_out, Standing.StandingView}
 use Rattle.outage_board.specs.Boards.{standing_of}
 use Rattle.board_texts.specs.LogText.{log_text}
 use Rattle.board_texts.specs.BoardText.{left_lines, margin_line, margin_now, out_text}
-use Rattle.board_texts.proofs.BoardLemmas.{units_at_end}
+use Rattle.board_texts.proofs.{BoardLemmas.units_at_end, board.put_board.Goals.After-put_out}
 use Rattle.text_pieces.proofs.Putting.{all_four, first_short}
-use Rattle.board_texts.proofs.board.put_board.Goals.{After-put_out}
 use Rattle.board_texts.proofs.board.put_board.Goals as goal
 
 -- the pieces by the board
@@ -51,16 +49,14 @@ out_put g c =
 pub returns-in_err-put_out-clause-puts : goal.returns-in_err-put_out-clause-puts
 returns-in_err-put_out-clause-puts g c =
     let at = (goal.at.returns-in_err-put_out-clause-puts g c).After-put_out in
-    all_four _ _ _ _ _ _ _ _ _ _ _ (margin_put g at) (log_put g at) (now_put g at)
-    (first_short _ _ _ _ _
+    all_four _ _ _ (margin_put g at) (log_put g at) (now_put g at) (first_short _ _
     (left_lines (units_out (standing_of c.args.state.now).held) 1 (standing_of c.args.state.now).cuts) (out_put g at)
     (sym c.put_out.ensures.answer ∙ ap is_err c.in_err-put_out.was))
 
 pub returns-clause-puts : goal.returns-clause-puts
 returns-clause-puts g c =
     let at = (goal.at.returns-clause-puts g c).After-put_out in
-    all_four _ _ _ _ _ _ _ _ _ _ _ (margin_put g at) (log_put g at) (now_put g at)
-    (Puts-trans _ _ _ _ _ _ _ (out_put g at)
+    all_four _ _ _ (margin_put g at) (log_put g at) (now_put g at) (Puts-trans (out_put g at)
     (subst (λ (s : StandingView). Puts g.K.Sink.taken g.K.Sink.faults c.put_out.new.out c.put_left.new.out
     (left_lines (units_out s.held) 1 s.cuts)) c.standing-standing.ensures
     (subst (λ ledger. Puts g.K.Sink.taken g.K.Sink.faults c.put_out.new.out c.put_left.new.out
@@ -69,4 +65,4 @@ returns-clause-puts g c =
 pub put_out-requires-clause-units : goal.put_out-requires-clause-units
 put_out-requires-clause-units g c =
     ap (λ (standing : StandingView). standing.units) c.standing-standing.ensures
-    ∙ units_at_end c.args.tree.now c.args.state.now c.requires.opened
+    ∙ units_at_end c.args.state.now c.requires.opened

@@ -11,8 +11,7 @@ loop-number-init c = none_counted c.args.standing.now.held c.holds_units_alone.e
 
 pub loop-number-preserved : goal.loop-number-preserved
 loop-number-preserved c =
-    counted_more c.args.standing.now.held c.loop-number.number c.loop-number.count c.count_at-count.result
-    c.loop-number.invariant c.count_at-count.ensures
+    counted_more c.args.standing.now.held c.loop-number.number c.loop-number.invariant c.count_at-count.ensures
 
 pub overflow_add-count : goal.overflow_add-count
 overflow_add-count c =

@@ -1,10 +1,8 @@
-use Rattle.std.proofs.Common.{sym, ◌∙◌, subst, codes, length, Some}
+use Rattle.std.proofs.Common.{sym, ◌∙◌, subst, length}
 use Rattle.edge_io.specs.Out.{Puts}
-use Rattle.fault_definitions.specs.Tree.{name_of}
 use Rattle.margin_policy.specs.Holders.{HolderBelow}
 use Rattle.text_pieces.specs.Shown.{show}
 use Rattle.text_pieces.proofs.Putting.{all_three}
-use Rattle.board_texts.specs.BoardText.{holder_text}
 use Rattle.board_texts.proofs.BoardLemmas.{out_line_is}
 use Rattle.board_texts.proofs.holders.put_if_out.Goals as goal
 
@@ -18,9 +16,7 @@ returns-in-Some-clause-puts g c =
     let end = c.args.end.now in
     subst (Puts g.K.Sink.taken g.K.Sink.faults c.args.out.now c.put.new.self)
     (sym (out_line_is end.tree.now end.dockets.now end.standing.now.held c.args.number _
-    (sym c.holder_at.ensures ∙ c.in-Some.is)))
-    (all_three g.K.Sink.taken g.K.Sink.faults c.args.out.now c.put_shown.new.out c.put_with_crew.new.out c.put.new.self
-    (show (name_of end.tree.now c.args.number)) (holder_text end.dockets.now (Some _)) (codes "\n")
+    (sym c.holder_at.ensures ∙ c.in-Some.is))) (all_three g.K.Sink.taken g.K.Sink.faults c.put_with_crew.new.out
     (subst (λ name. Puts g.K.Sink.taken g.K.Sink.faults c.args.out.now c.put_shown.new.out (show name)) c.name.ensures
     c.put_shown.ensures.puts)
     c.put_with_crew.ensures c.put.ensures.puts)

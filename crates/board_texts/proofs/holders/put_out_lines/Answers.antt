@@ -8,8 +8,7 @@ pub loop-number-init : goal.loop-number-init
 loop-number-init g c = record {
   so =
       no_line g.K.Sink.taken g.K.Sink.faults (out_line c.args.end.now.tree.now c.args.end.now.dockets.now
-      c.args.end.now.standing.now.held)
-      (is_held c.args.end.now.standing.now.held) c.args.out.now
+      c.args.end.now.standing.now.held) (is_held c.args.end.now.standing.now.held)
       (none_first c.args.end.now.standing.now.held c.holds_units_alone.ensures.none);
   going = c.requires.fine;
 }
@@ -18,9 +17,7 @@ pub returns-in_err-put_if_out-clause-puts : goal.returns-in_err-put_if_out-claus
 returns-in_err-put_if_out-clause-puts g c =
     line_short g.K.Sink.taken g.K.Sink.faults (out_line c.args.end.now.tree.now c.args.end.now.dockets.now
     c.args.end.now.standing.now.held)
-    (is_held c.args.end.now.standing.now.held)
-    c.args.out.now c.loop-number.out c.put_if_out.new.out c.loop-number.number (length c.args.end.now.standing.now.held)
-    (omega (
+    (is_held c.args.end.now.standing.now.held) c.loop-number.number (length c.args.end.now.standing.now.held) (omega (
       arith,
       c.loop-number-test.true,
       c.last_unit-number-end.ensures.last,
@@ -35,8 +32,7 @@ loop-number-preserved g c = record {
   so =
       line_put g.K.Sink.taken g.K.Sink.faults (out_line c.args.end.now.tree.now c.args.end.now.dockets.now
       c.args.end.now.standing.now.held)
-      (is_held c.args.end.now.standing.now.held)
-      c.args.out.now c.loop-number.out c.put_if_out.new.out c.loop-number.number c.loop-number.invariant.so
+      (is_held c.args.end.now.standing.now.held) c.loop-number.number c.loop-number.invariant.so
       c.put_if_out.ensures.puts;
   going = sym c.put_if_out.ensures.answer ∙ ap is_err c.in_ok-put_if_out.was;
 }

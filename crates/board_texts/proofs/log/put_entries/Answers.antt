@@ -5,17 +5,13 @@ use Rattle.board_texts.proofs.log.put_entries.Goals as goal
 
 pub returns-in_err-put_entry-clause-puts : goal.returns-in_err-put_entry-clause-puts
 returns-in_err-put_entry-clause-puts g c =
-    cut_short g.K.Sink.taken g.K.Sink.faults c.args.out.now c.loop-i.out c.put_entry.new.out _ _ _ _
-    c.loop-i.invariant.so c.put_entry.ensures.puts
-    (next_entry c.args.dockets.now c.args.history.now c.loop-i.i c.index-history-i.result c.loop-i-test.true
-    c.index-history-i.is)
+    cut_short g.K.Sink.taken g.K.Sink.faults _ c.loop-i.invariant.so c.put_entry.ensures.puts
+    (next_entry c.args.dockets.now c.args.history.now c.loop-i.i c.loop-i-test.true c.index-history-i.is)
     (sym c.put_entry.ensures.answer ∙ ap is_err c.in_err-put_entry.was)
 
 pub loop-i-preserved : goal.loop-i-preserved
 loop-i-preserved g c = record {
-  so = one_more g.K.Sink.taken g.K.Sink.faults c.args.out.now c.loop-i.out c.put_entry.new.out _ _ _ _
-      c.loop-i.invariant.so c.put_entry.ensures.puts
-      (next_entry c.args.dockets.now c.args.history.now c.loop-i.i c.index-history-i.result c.loop-i-test.true
-      c.index-history-i.is);
+  so = one_more g.K.Sink.taken g.K.Sink.faults c.loop-i.invariant.so c.put_entry.ensures.puts
+      (next_entry c.args.dockets.now c.args.history.now c.loop-i.i c.loop-i-test.true c.index-history-i.is);
   going = sym c.put_entry.ensures.answer ∙ ap is_err c.in_ok-put_entry.was;
 }

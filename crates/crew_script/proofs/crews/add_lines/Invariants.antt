@@ -1,6 +1,5 @@
 use Rattle.std.proofs.Common.{◌≡◌, ◌≤◌, ◌+◌, length}
-use Rattle.crew_script.specs.Crews.{crews_from}
-use Rattle.crew_script.specs.Deck.{lines_of}
+use Rattle.crew_script.specs.{Crews.crews_from, Deck.lines_of}
 use Rattle.crew_script.proofs.crews.add_lines.Given as goal
 
 abbrev pub invariant-loop-row : goal.invariant-loop-row

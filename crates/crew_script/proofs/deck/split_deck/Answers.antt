@@ -1,7 +1,6 @@
 use Rattle.std.proofs.Common.{length, sym, ap, arith}
 use Rattle.std.specs.List.{list_any}
-use Rattle.crew_script.specs.Deck.{is_crews, split_by}
-use Rattle.crew_script.specs.Divides.{size_of}
+use Rattle.crew_script.specs.{Deck.is_crews, Deck.split_by, Divides.size_of}
 use Rattle.crew_script.proofs.LineLemmas.{lines_sized}
 use Rattle.crew_script.proofs.deck.split_deck.Goals as goal
 

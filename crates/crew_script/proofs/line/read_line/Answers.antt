@@ -10,5 +10,5 @@ returns-else-says c =
     let behind = c.next.ensures.rest in
     let comment = sym c.is_comment.ensures ∙ c.if-is_comment.false in
     let crew = sym c.says.ensures ∙ c.if-says.false in
-    IfOk-weaker c.request.result _ _ (λ line is. is ∙ request_step _ _ _ first behind comment crew
+    IfOk-weaker c.request.result _ _ (λ line is. is ∙ request_step _ _ first behind comment crew
     ∙ ap line_of c.new-words.ensures) c.request.ensures

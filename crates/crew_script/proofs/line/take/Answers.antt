@@ -17,7 +17,7 @@ loop-word-preserved c =
     let new : has_name names name ≡ false =
     grind (arith, common_steps, c.is_among.ensures, c.if-is_among.false, c.deref.ensures.value) in
     record {
-      same = take_step _ names _ _ _ name c.loop-word.invariant.same first c.next.ensures.rest named few new
+      same = take_step names _ _ name c.loop-word.invariant.same first c.next.ensures.rest named few new
           ∙ ap (λ l. take_line l c.next.new.self) (sym items);
       few = grind (arith, common_steps, items, few);
       differ =

@@ -1,5 +1,4 @@
-use Rattle.std.proofs.Common.{arith}
-use Rattle.std.proofs.lemmas.Grind.{common_steps}
+use Rattle.std.proofs.{Common.arith, lemmas.Grind.common_steps}
 use Rattle.crew_script.proofs.WordLemmas.{blanks_skipped, blanks_gone}
 use Rattle.crew_script.proofs.word.skip_blanks.Goals as goal
 

@@ -1,5 +1,4 @@
-use Rattle.std.proofs.Common.{arith}
-use Rattle.std.proofs.lemmas.Grind.{common_steps}
+use Rattle.std.proofs.{Common.arith, lemmas.Grind.common_steps}
 use Rattle.crew_workers.proofs.serving.+fn-serve_each-join+arg2+serve_each.Goals as goal
 
 pub returns-clause-own : goal.returns-clause-own

@@ -1,6 +1,5 @@
 use Rattle.std.proofs.Common.{◌+◌, ◌-◌, ◌/◌, ◌<◌, List, ℕ, [], get_or, length, arith, subst, sym}
-use Rattle.cut_sequences.proofs.ShareLemmas.{get_or_from_get}
-use Rattle.cut_sequences.proofs.SizeLemmas.{larger_from}
+use Rattle.cut_sequences.proofs.{ShareLemmas.get_or_from_get, SizeLemmas.larger_from}
 use Rattle.cut_sequences.proofs.listing.end_of_listed.Goals as goal
 
 pub loop-low-preserved : goal.loop-low-preserved

@@ -1,6 +1,5 @@
 use Rattle.std.proofs.Common.{◌≡◌, ◌<◌, ◌∙◌, List, length, sym, subst}
-use Rattle.std.proofs.lemmas.List.{length-map}
-use Rattle.std.proofs.lemmas.Result.{IfOk-weaker}
+use Rattle.std.proofs.{lemmas.List.length-map, lemmas.Result.IfOk-weaker}
 use Rattle.cut_sequences.specs.Dealing.{Share, AreShares, gathered}
 use Rattle.cut_sequences.specs.Orders.{order_lists, order_limit, order_total, orders_of}
 use Rattle.cut_sequences.proofs.DealLemmas.{gathered-is}
@@ -13,7 +12,7 @@ gather-requires-clause-shares g c =
     let all : c.len.result ≡ length lists =
     c.len.ensures.value ∙ sym (length-map c.args.cuts.now (orders_of c.args.tree.now c.args.most)) in
     subst (λ (l : Share). AreShares l shares) (sym
-    (gathered-is lists shares c.len.result c.in_ok-shares.ensures.shares all)) c.in_ok-shares.ensures.shares
+    (gathered-is c.in_ok-shares.ensures.shares all)) c.in_ok-shares.ensures.shares
 
 pub returns-clause-listed : goal.returns-clause-listed
 returns-clause-listed g c =
@@ -21,8 +20,7 @@ returns-clause-listed g c =
     let shares : List Share = c.in_ok-shares.shares.items in
     let all : c.len.result ≡ length lists =
     c.len.ensures.value ∙ sym (length-map c.args.cuts.now (orders_of c.args.tree.now c.args.most)) in
-    let same : gathered c.len.result shares ≡ lists =
-    gathered-is lists shares c.len.result c.in_ok-shares.ensures.shares all in
+    let same : gathered c.len.result shares ≡ lists = gathered-is c.in_ok-shares.ensures.shares all in
     IfOk-weaker c.gather.result _ _ (λ made is. is ∙ same) c.gather.ensures.lists
 
 pub returns-clause-limit : goal.returns-clause-limit
@@ -31,6 +29,5 @@ returns-clause-limit g c =
     let shares : List Share = c.in_ok-shares.shares.items in
     let all : c.len.result ≡ length lists =
     c.len.ensures.value ∙ sym (length-map c.args.cuts.now (orders_of c.args.tree.now c.args.most)) in
-    let same : gathered c.len.result shares ≡ lists =
-    gathered-is lists shares c.len.result c.in_ok-shares.ensures.shares all in
+    let same : gathered c.len.result shares ≡ lists = gathered-is c.in_ok-shares.ensures.shares all in
     λ over. subst (λ (l : Share). order_limit < order_total l) same (c.gather.ensures.limit over)

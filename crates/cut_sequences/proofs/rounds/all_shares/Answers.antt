@@ -1,6 +1,5 @@
 use Rattle.std.proofs.Common.{◌∙◌, ap, length}
-use Rattle.std.proofs.lemmas.List.{length-map}
-use Rattle.std.proofs.lemmas.Result.{IfOk-weaker}
+use Rattle.std.proofs.{lemmas.List.length-map, lemmas.Result.IfOk-weaker}
 use Rattle.cut_sequences.specs.declared.share.Work.{Work}
 use Rattle.cut_sequences.proofs.RoundLemmas.{shares_at_end}
 use Rattle.cut_sequences.proofs.rounds.all_shares.Goals as goal
@@ -11,8 +10,7 @@ all_rounds-requires-clause-at_work g c κs within = c.in_ok-works.ensures.at_wor
 pub returns-clause-shares : goal.returns-clause-shares
 returns-clause-shares g c =
     IfOk-weaker c.shares_of.result _ _ (λ shares is.
-    shares_at_end c.args.sets c.args.end c.in_ok-all_rounds.field-0.items shares.items
-    c.in_ok-all_rounds.ensures.worked.at_work c.requires.end c.in_ok-all_rounds.ensures.worked.done is)
+    shares_at_end c.in_ok-all_rounds.ensures.worked.at_work c.requires.end c.in_ok-all_rounds.ensures.worked.done is)
     c.shares_of.ensures.shares
 
 pub returns-clause-workers : goal.returns-clause-workers

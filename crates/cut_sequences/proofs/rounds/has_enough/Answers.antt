@@ -9,11 +9,10 @@ use Rattle.cut_sequences.proofs.rounds.has_enough.Goals.{else-work-stop-via-else
 pub loop-work-preserved : goal.loop-work-preserved
 loop-work-preserved c =
     let short : c.loop-work.work-index < length c.args.works.now = omega arith in
-    one_more c.args.stop.place c.loop-work.work-index c.args.works.now c.work-item.result short c.work-item.is
-    c.loop-work.invariant
+    one_more c.args.stop.place c.loop-work.work-index c.args.works.now short c.work-item.is c.loop-work.invariant
     (elim c.else-work-stop.branch [
       | else-work-stop-via-then-work-stop+else-total-stop w ↦
-          stopped_there c.args.stop c.loop-work.work-index c.args.works.now c.work-item.result short c.work-item.is
+          stopped_there c.args.stop c.loop-work.work-index c.args.works.now short c.work-item.is
           c.requires (omega (arith, w.total.ensures.value, w.if-total-stop.false))
       | else-work-stop-via-else-work-stop w ↦ omega (arith, w.if-work-stop.false)
     ])

@@ -6,7 +6,7 @@ use Rattle.cut_sequences.proofs.rounds.starts.Goals as goal
 pub returns-clause-at_work : goal.returns-clause-at_work
 returns-clause-at_work c =
     let works = c.loop-next.works.items in
-    λ sets units. all_start sets works units (omega (arith, c.requires.some, c.loop-next.invariant.many))
+    λ sets units. all_start units (omega (arith, c.requires.some, c.loop-next.invariant.many))
     (omega (arith, c.requires.few, c.loop-next.invariant.many)) c.loop-next.invariant.each
 
 pub loop-next-preserved : goal.loop-next-preserved
@@ -14,5 +14,5 @@ loop-next-preserved c =
     let works = c.loop-next.works.items in
     rw (c.in_ok-push.ensures.items, c.new.ensures) record {
       many = omega (arith, length_push works (record { share = []; next = c.loop-next.next }));
-      each = one_start_more works c.loop-next.next c.loop-next.invariant.many c.loop-next.invariant.each;
+      each = one_start_more works c.loop-next.invariant.many c.loop-next.invariant.each;
     }

@@ -2,8 +2,7 @@ use Rattle.std.proofs.Common.{◌≡◌, false, codes}
 use Rattle.std.specs.List.{flat_map}
 use Rattle.cut_sequences.specs.Orders.{orders_at}
 use Rattle.edge_io.specs.Out.{has_failed}
-use Rattle.cut_texts.specs.Lines.{IsLine}
-use Rattle.cut_texts.specs.CutsText.{order_line}
+use Rattle.cut_texts.specs.{Lines.IsLine, CutsText.order_line}
 use Rattle.text_pieces.proofs.Putting.{PutsFront, left_of}
 use Rattle.cut_texts.proofs.lines.put_orders.Given as goal
 

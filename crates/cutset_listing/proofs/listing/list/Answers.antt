@@ -4,8 +4,7 @@ use Rattle.unit_sets.specs.CutOrder.{weight, weight_limit}
 use Rattle.zdd_families.specs.Map.{family}
 use Rattle.zdd_families.proofs.Canonical.{IsFamily-family}
 use Rattle.zdd_shared_table.specs.Seats.{map_of}
-use Rattle.cutset_listing.specs.BySize.{joined}
-use Rattle.cutset_listing.specs.Listing.{HasSetsOf}
+use Rattle.cutset_listing.specs.{BySize.joined, Listing.HasSetsOf}
 use Rattle.cutset_listing.proofs.HeavyLists.{heavy_list}
 use Rattle.cutset_listing.proofs.Sizes.{joined-sets, joined-in_order, joined-rising, joined-filled, weight-joined}
 use Rattle.cutset_listing.proofs.listing.list.Goals as goal
@@ -15,12 +14,12 @@ cut_list-requires-clause-filled c = joined-filled c.in_ok-found.found _ c.in_ok-
 
 pub cut_list-requires-clause-rising : goal.cut_list-requires-clause-rising
 cut_list-requires-clause-rising c =
-    joined-rising c.in_ok-found.found _ c.in_ok-found.ensures.sets
+    joined-rising c.in_ok-found.found c.in_ok-found.ensures.sets
     (IsFamily-family _ c.args.root c.is_sound.ensures.sound.closed c.requires.knows)
 
 pub cut_list-requires-clause-ordered : goal.cut_list-requires-clause-ordered
 cut_list-requires-clause-ordered c =
-    joined-in_order c.in_ok-found.found _ c.in_ok-found.ensures.sets
+    joined-in_order c.in_ok-found.found c.in_ok-found.ensures.sets
     (IsFamily-family _ c.args.root c.is_sound.ensures.sound.closed c.requires.knows)
 
 -- the sets of all sizes are those of the family

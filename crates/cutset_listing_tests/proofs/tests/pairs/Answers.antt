@@ -4,18 +4,17 @@ use Rattle.cutset_listing_tests.proofs.tests.pairs.Goals as goal
 
 pub loop-left-init : goal.loop-left-init
 loop-left-init c =
-    record { own = refl; made = made_empty _ (2 * c.args.count); lacks = lacks_none _; few = c.requires.few }
+    record { own = refl; made = made_empty; lacks = lacks_none _; few = c.requires.few }
 
 pub put-requires-clause-lo : goal.put-requires-clause-lo
-put-requires-clause-lo c = made_empty _ (2 * c.loop-left.left)
+put-requires-clause-lo c = made_empty
 
 pub put-requires-clause-hi : goal.put-requires-clause-hi
-put-requires-clause-hi c = made_unit _ (2 * c.loop-left.left)
+put-requires-clause-hi c = made_unit
 
 pub put-requires-in-loop-left-clause-lo : goal.put-requires-in-loop-left-clause-lo
 put-requires-in-loop-left-clause-lo c =
-    made_before _ _ (2 * c.loop-left.left - 1) (2 * c.loop-left.left) c.loop-left.all c.in_ok-second.ensures.keeps
-    (omega arith) c.loop-left.invariant.made
+    made_before c.in_ok-second.ensures.keeps (omega arith) c.loop-left.invariant.made
 
 pub loop-left-preserved : goal.loop-left-preserved
 loop-left-preserved c =
@@ -24,7 +23,7 @@ loop-left-preserved c =
       own = c.in_ok-all.ensures.store ∙ c.in_ok-second.ensures.store ∙ c.loop-left.invariant.own;
       made = c.in_ok-all.ensures.made (2 * (c.loop-left.left - 1)) (omega (arith, more));
       lacks =
-          c.in_ok-all.ensures.lacks (lacks_kept _ _ c.loop-left.all c.in_ok-second.ensures.keeps
+          c.in_ok-all.ensures.lacks (lacks_kept c.loop-left.all c.in_ok-second.ensures.keeps
           c.loop-left.invariant.made.knows c.loop-left.invariant.lacks);
       few = let few = c.loop-left.invariant.few in omega (arith, few);
     }

@@ -6,7 +6,7 @@ pub loop-left-init : goal.loop-left-init
 loop-left-init c =
     record {
       own = refl;
-      made = made_unit _ (2 * c.args.count);
+      made = made_unit;
       filled = λ none. absurd cc;
       lacks =
           λ less. absurd (omega (arith, less));
@@ -14,12 +14,11 @@ loop-left-init c =
     }
 
 pub put-requires-clause-lo : goal.put-requires-clause-lo
-put-requires-clause-lo c = made_empty _ (2 * c.loop-left.left)
+put-requires-clause-lo c = made_empty
 
 pub put-requires-in-loop-left-clause-hi : goal.put-requires-in-loop-left-clause-hi
 put-requires-in-loop-left-clause-hi c =
-    made_before _ _ (2 * c.loop-left.left - 1) (2 * c.loop-left.left) c.loop-left.all c.in_ok-second.ensures.keeps
-    (omega arith) c.loop-left.invariant.made
+    made_before c.in_ok-second.ensures.keeps (omega arith) c.loop-left.invariant.made
 
 pub loop-left-preserved : goal.loop-left-preserved
 loop-left-preserved c =

@@ -8,9 +8,7 @@ pub loop-node-preserved : goal.loop-node-preserved
 loop-node-preserved c =
     elim c.if-until-place.branch [
       | then-until-place w ↦
-          Releases-step c.args.until.now c.args.nodes.now c.args.end c.loop-node.node-index c.node-item.result
-          c.index-place.result w.no_sets.result c.args.lists.now.items c.loop-node.lists.items
-          c.if-until-place.lists.items
+          Releases-step c.args.nodes.now c.loop-node.node-index
           (omega arith) c.node-item.is c.requires.nodes c.index-place.ensures (omega arith) w.no_sets.ensures
           (ap (λ v. v.items) w.lists-is) c.loop-node.invariant
       | else-until-place w ↦ subst (Releases c.args.until.now c.args.end c.args.lists.now.items)

@@ -12,27 +12,22 @@ loop-place-preserved c =
     let until : List ℕ = c.in_ok-until.until.items in
     let node : ℕ = c.index-order-place.result in
     let is : node ≡ get_or order c.loop-place.place 0 =
-    node_read order c.loop-place.place node (omega arith) c.index-order-place.is in
+    node_read order c.loop-place.place (omega arith) c.index-order-place.is in
     let end : c.index-in-loop-place.result.now ≡ until_of until node =
-    end_read c.args.tree.now order until c.loop-place.place node c.index.result c.index-in-loop-place.result.now
-    c.bottom_up-order.ensures.order c.in_ok-until.ensures (omega arith) is c.index.ensures
+    end_read c.loop-place.place c.bottom_up-order.ensures.order c.in_ok-until.ensures (omega arith) is c.index.ensures
     c.index-in-loop-place.ensures in
     elim c.if-index-place.branch [
       | then-index-place+in_ok-node_list w ↦
           subst (IsBuiltTo c.args.tree.now order until (c.loop-place.place + 1)) (ap (λ v. v.items) (sym w.lists-is))
-          (IsBuiltTo-step c.args.tree.now c.bottom_up-order.ensures.kept order until c.bottom_up-order.ensures.order
-          c.in_ok-until.ensures c.loop-place.place node (omega arith) is c.loop-place.lists.items
-          c.loop-place.invariant
-          w.node_list.new.sets w.deref.result.now (set c.loop-place.lists.items w.index-then-index-place.result
-          w.node_list.new.sets) w.release.new.lists.items w.deref-then-index-place.result.now
+          (IsBuiltTo-step c.bottom_up-order.ensures.kept c.bottom_up-order.ensures.order
+          c.in_ok-until.ensures (omega arith) is c.loop-place.invariant
           (let low = w.if-index-place.true in omega arith) w.deref.ensures.value w.deref-then-index-place.ensures.value
           (ap (λ k. set c.loop-place.lists.items k w.node_list.new.sets) w.index-then-index-place.ensures)
           w.in_ok-node_list.ensures w.release.ensures)
       | else-index-place w ↦
           subst (IsBuiltTo c.args.tree.now order until (c.loop-place.place + 1)) (ap (λ v. v.items) (sym w.lists-is))
-          (IsBuiltTo-skips c.args.tree.now c.bottom_up-order.ensures.kept order until c.bottom_up-order.ensures.order
-          c.in_ok-until.ensures c.loop-place.place node (omega arith) is c.loop-place.lists.items
-          c.loop-place.invariant
+          (IsBuiltTo-skips c.bottom_up-order.ensures.kept c.bottom_up-order.ensures.order
+          c.in_ok-until.ensures (omega arith) is c.loop-place.invariant
           (let high = w.if-index-place.false in omega arith))
     ]
 
@@ -41,10 +36,8 @@ returns-clause-list c =
     let top_is : IsNodeOf c.args.tree.now c.args.tree.now.top =
     subst (IsNodeOf c.args.tree.now) c.top.ensures.top c.top.ensures.node in
     let all = c.loop-place.invariant.all in
-    Generates-top c.args.tree.now c.bottom_up-order.result.now c.in_ok-until.until.items c.loop-place.place
-    c.loop-place.lists.items c.replace.result c.bottom_up-order.ensures.order c.in_ok-until.ensures top_is
-    (omega arith) (omega arith)
-    (c.replace.ensures.value ∙ list_read c.loop-place.lists.items c.index_mut-2.result.now c.args.tree.now.top
-    c.index-2.result (top_is.0, let high = top_is.1 in omega arith)
+    Generates-top c.bottom_up-order.ensures.order c.in_ok-until.ensures top_is (omega arith) (omega arith)
+    (c.replace.ensures.value ∙ list_read c.loop-place.lists.items c.args.tree.now.top
+    {place = c.index-2.result} (top_is.0, let high = top_is.1 in omega arith)
     (let t = c.top.ensures.top in let e = c.index-2.ensures in omega arith) c.index_mut-2.ensures.value)
     c.loop-place.invariant

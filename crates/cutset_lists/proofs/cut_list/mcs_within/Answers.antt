@@ -6,26 +6,22 @@ use Rattle.cutset_lists.proofs.cut_list.mcs_within.Goals as goal
 
 pub cut_list-requires-clause-filled : goal.cut_list-requires-clause-filled
 cut_list-requires-clause-filled c =
-    all_filled c.args.tree.now c.top_list.ensures.kept c.in_ok-sets.sets c.minimize.new.sets
-    c.in_ok-sets.ensures.list c.in_ok-minimize.ensures
+    all_filled c.top_list.ensures.kept c.in_ok-sets.ensures.list c.in_ok-minimize.ensures
 
 pub cut_list-requires-clause-rising : goal.cut_list-requires-clause-rising
 cut_list-requires-clause-rising c =
-    all_rising c.args.tree.now c.top_list.ensures.kept c.in_ok-sets.sets c.minimize.new.sets
-    c.in_ok-sets.ensures.list c.in_ok-minimize.ensures
+    all_rising c.top_list.ensures.kept c.in_ok-sets.ensures.list c.in_ok-minimize.ensures
 
 pub returns-clause-cut_list : goal.returns-clause-cut_list
 returns-clause-cut_list c =
     IfOk-weaker c.cut_list.result (λ cuts. cuts ≡ c.minimize.new.sets) (IsCutList c.args.tree.now)
-    (λ cuts same. subst (IsCutList c.args.tree.now) (sym same)
-    (IsCutList-minimal c.args.tree.now c.top_list.ensures.kept c.in_ok-sets.sets c.minimize.new.sets
+    (λ cuts same. subst (IsCutList c.args.tree.now) (sym same) (IsCutList-minimal c.top_list.ensures.kept
     c.in_ok-sets.ensures.list c.in_ok-minimize.ensures)) c.cut_list.ensures.cuts
 
 pub returns-clause-limit : goal.returns-clause-limit
 returns-clause-limit c =
     λ refused. (
       c.minimize.new.sets,
-      IsCutList-minimal c.args.tree.now c.top_list.ensures.kept c.in_ok-sets.sets
-          c.minimize.new.sets c.in_ok-sets.ensures.list c.in_ok-minimize.ensures,
+      IsCutList-minimal c.top_list.ensures.kept c.in_ok-sets.ensures.list c.in_ok-minimize.ensures,
       c.cut_list.ensures.limit refused,
     )

@@ -4,11 +4,10 @@ use Rattle.cutset_lists.proofs.gate.each_of.Goals as goal
 
 pub each_in_turn-requires : goal.each_in_turn-requires
 each_in_turn-requires c =
-    StartsFrom-order c.args.lists.now c.args.nodes.now c.as_slice.result.now c.in_ok-order.order.items
-    c.in_ok-order.ensures c.as_slice.ensures.value c.args.sets.now c.requires
+    StartsFrom-order c.args.lists.now c.in_ok-order.ensures c.as_slice.ensures.value c.requires
 
 pub returns : goal.returns
 returns c =
-    on_ok_weaker c.each_in_turn.result (each-order c.args.lists.now c.args.nodes.now c.as_slice.result.now
-    c.in_ok-order.order.items c.in_ok-order.ensures c.as_slice.ensures.value c.each_in_turn.new.sets)
+    on_ok_weaker c.each_in_turn.result (each-order c.args.lists.now c.in_ok-order.ensures c.as_slice.ensures.value
+    c.each_in_turn.new.sets)
     c.each_in_turn.ensures

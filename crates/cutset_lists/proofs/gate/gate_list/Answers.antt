@@ -1,5 +1,4 @@
-use Rattle.std.proofs.Common.{subst, sym}
-use Rattle.std.proofs.lemmas.Result.{on_ok_weaker}
+use Rattle.std.proofs.{Common.subst, Common.sym, lemmas.Result.on_ok_weaker}
 use Rattle.fault_words.specs.declared.kind.GateKind.{GateKind}
 use Rattle.cutset_lists.specs.Generation.{Follows, gate_rule}
 use Rattle.cutset_lists.proofs.GateLemmas.{or_list, por_list}
@@ -9,12 +8,10 @@ pub returns-in-Or : goal.returns-in-Or
 returns-in-Or c =
     on_ok_weaker c.some_of.result (λ adds. subst (λ (k : GateKind).
     Follows c.args.lists.now (gate_rule k c.args.inputs.now) c.some_of.new.sets) (sym c.in-Or.is)
-    (or_list c.args.lists.now c.args.inputs.now c.args.sets.now c.some_of.new.sets c.requires.none adds))
-    c.some_of.ensures
+    (or_list c.requires.none adds)) c.some_of.ensures
 
 pub returns-in-Por : goal.returns-in-Por
 returns-in-Por c =
     on_ok_weaker c.some_of-in-Por.result (λ adds. subst (λ (k : GateKind).
     Follows c.args.lists.now (gate_rule k c.args.inputs.now) c.some_of-in-Por.new.sets) (sym c.in-Por.is)
-    (por_list c.args.lists.now c.args.inputs.now c.first_of.result.now c.args.sets.now c.some_of-in-Por.new.sets
-    c.requires.none c.first_of.ensures adds)) c.some_of-in-Por.ensures
+    (por_list c.args.inputs.now c.requires.none c.first_of.ensures adds)) c.some_of-in-Por.ensures

@@ -8,8 +8,8 @@ pub returns-then-node-units : goal.returns-then-node-units
 returns-then-node-units c =
     let above : unit_count c.args.tree.now < c.args.node =
     omega (arith, c.node.view_is, c.if-node-units.true, c.units.ensures.count) in
-    on_ok_weaker c.gate_list.result (gate_node c.args.tree.now c.args.lists.now c.args.node c.below-below.result.now
-    c.below-below.ensures.below c.gate_list.new.sets c.kind.result above c.kind.ensures) c.gate_list.ensures
+    on_ok_weaker c.gate_list.result (gate_node c.args.tree.now c.args.lists.now c.args.node
+    c.below-below.ensures.below c.gate_list.new.sets above c.kind.ensures) c.gate_list.ensures
 
 pub returns : goal.returns
 returns c =
@@ -18,5 +18,5 @@ returns c =
     let old_is : c.push.new.self ≡ (c.args.node ∷ []) ∷ [] =
     c.in_ok-push.ensures.ok ∙ ap (λ (s : List (List ℕ)). s ++ (c.unit.result ∷ []) ∷ []) c.requires.none
     ∙ ap (λ (n : ℕ). (n ∷ []) ∷ []) c.unit.ensures in
-    on_ok_weaker c.some_of.result (unit_node c.args.tree.now c.args.lists.now c.args.node c.below-below.result.now
-    c.below-below.ensures.below c.some_of.new.sets c.push.new.self c.requires.node.0 low old_is) c.some_of.ensures
+    on_ok_weaker c.some_of.result (unit_node c.args.tree.now c.args.lists.now c.args.node
+    c.below-below.ensures.below c.some_of.new.sets c.requires.node.0 low old_is) c.some_of.ensures

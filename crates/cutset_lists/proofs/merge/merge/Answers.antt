@@ -11,8 +11,8 @@ loop-i-preserved-then-number c =
       left_short = omega arith;
       right_short = omega arith;
       merging =
-          left_next c.args.left.now c.args.right.now c.loop-i.i c.loop-i.j c.loop-i.union.items c.push.new.self.items x
-          y (omega arith) (omega arith) c.index-left-i.is c.index-right-j.is c.loop-i.invariant.merging
+          left_next c.push.new.self.items (omega arith) (omega arith) c.index-left-i.is c.index-right-j.is
+          c.loop-i.invariant.merging
           c.in_ok-push.ensures.items below;
     }
 
@@ -32,7 +32,6 @@ loop-i-preserved c =
       left_short = omega arith;
       right_short = omega arith;
       merging =
-          right_next c.args.left.now c.args.right.now c.loop-i.i c.loop-i.j c.loop-i.union.items
-          c.push-else-number.new.self.items x y (omega arith) (omega arith) c.index-left-i.is c.index-right-j.is
+          right_next c.push-else-number.new.self.items (omega arith) (omega arith) c.index-left-i.is c.index-right-j.is
           c.loop-i.invariant.merging c.in_ok-push-2.ensures.items below;
     }

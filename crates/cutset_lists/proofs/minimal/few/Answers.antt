@@ -1,6 +1,5 @@
 use Rattle.std.proofs.Common.{map, subst, sym, ◌∙◌}
-use Rattle.cutset_lists.specs.Cuts.{units_of}
-use Rattle.cutset_lists.specs.Sets.{IsMinimalFrom}
+use Rattle.cutset_lists.specs.{Cuts.units_of, Sets.IsMinimalFrom}
 use Rattle.cutset_lists.proofs.MinimalLemmas.{IsMinimalFrom-none, keeps_out-step, keeps-step}
 use Rattle.cutset_lists.proofs.minimal.few.Goals.{then-not-has_smaller_within+in_ok-push, else-not-has_smaller_within}
 use Rattle.cutset_lists.proofs.minimal.few.Goals as goal
@@ -12,11 +11,11 @@ pub loop-cut-preserved : goal.loop-cut-preserved
 loop-cut-preserved c =
     elim c.if-not-has_smaller_within.branch [
       | then-not-has_smaller_within+in_ok-push w ↦
-          keeps-step units_of c.args.cuts.now c.loop-cut.kept c.if-not-has_smaller_within.kept c.cut-item.result
+          keeps-step units_of c.args.cuts.now c.if-not-has_smaller_within.kept
           c.loop-cut.cut-index c.loop-cut-test.true c.cut-item.is c.requires.order c.loop-cut.invariant
           (sym w.if-not-has_smaller_within.ensures) (w.kept-is ∙ w.in_ok-push.ensures.ok)
       | else-not-has_smaller_within w ↦
-          keeps_out-step units_of c.args.cuts.now c.loop-cut.kept c.if-not-has_smaller_within.kept c.cut-item.result
+          keeps_out-step units_of c.args.cuts.now c.if-not-has_smaller_within.kept
           c.loop-cut.cut-index c.loop-cut-test.true c.cut-item.is c.requires.order c.loop-cut.invariant
           (sym w.if-not-has_smaller_within.ensures) w.kept-is
     ]

@@ -1,12 +1,8 @@
 use Rattle.std.proofs.Common.{arith, ◌≡◌, ◌∙◌, sym, subst, map, List}
-use Rattle.std.specs.List.{dedup}
-use Rattle.std.specs.Ordering.{on, eq_by_cmp}
-use Rattle.std.proofs.lemmas.List.{take_all}
-use Rattle.std.proofs.lemmas.List.Filters.{dedup_is}
+use Rattle.std.specs.{List.dedup, Ordering.on, Ordering.eq_by_cmp}
+use Rattle.std.proofs.{lemmas.List.take_all, lemmas.List.Filters.dedup_is}
 use Rattle.unit_sets.specs.CutOrder.{cut_cmp}
-use Rattle.cutset_lists.specs.declared.sort.Cut.{Cut}
-use Rattle.cutset_lists.specs.Cuts.{units_of}
-use Rattle.cutset_lists.specs.Sets.{IsSortedFrom}
+use Rattle.cutset_lists.specs.{declared.sort.Cut.Cut, Cuts.units_of, Sets.IsSortedFrom}
 use Rattle.cutset_lists.proofs.SortLemmas.{IsSortedFrom-dedup}
 use Rattle.cutset_lists.proofs.minimal.sorted.Goals as goal
 
@@ -17,6 +13,5 @@ returns c =
     let left : c.dedup.new.self.items ≡ dedup (eq_by_cmp (on units_of cut_cmp)) c.sort.new.self.items =
     dedup_is (eq_by_cmp (on units_of cut_cmp)) c.sort.new.self.items c.dedup.new.self.items
     c.dedup.ensures.filtered in
-    subst (λ (l : List Cut). IsSortedFrom c.args.sets.now (map units_of l)) (sym left)
-    (IsSortedFrom-dedup units_of c.args.sets.now c.loop-i.cuts.items c.sort.new.self.items all
+    subst (λ (l : List Cut). IsSortedFrom c.args.sets.now (map units_of l)) (sym left) (IsSortedFrom-dedup units_of all
     c.in_ok-sort.ensures.permutation c.in_ok-sort.ensures.sorted)

@@ -1,7 +1,5 @@
 use Rattle.std.proofs.Common.{◌+◌, map, take, subst, sym, ◌∙◌, List, ℕ}
-use Rattle.cutset_lists.specs.Cuts.{units_of}
-use Rattle.cutset_lists.specs.Sets.{IsMinimalFrom}
-use Rattle.cutset_lists.specs.Waiting.{AreReady}
+use Rattle.cutset_lists.specs.{Cuts.units_of, Sets.IsMinimalFrom, Waiting.AreReady}
 use Rattle.cutset_lists.proofs.MinimalLemmas.{IsMinimalFrom-none, keeps_out-step, keeps-step}
 use Rattle.cutset_lists.proofs.WaitingLemmas.{all_decided, kept_filled, ready_on}
 use Rattle.cutset_lists.proofs.sifting.sift.Goals.{then-not-finds+in_ok-push, else-not-finds}
@@ -13,7 +11,7 @@ loop-cut-init c =
     subst (IsMinimalFrom _) (sym c.requires.none) (IsMinimalFrom-none (map units_of c.args.cuts.now)) in
     record {
       minimal = minimal;
-      filled = kept_filled (map units_of c.args.cuts.now) c.args.kept.now 0 c.requires.filled minimal;
+      filled = kept_filled (map units_of c.args.cuts.now) 0 c.requires.filled minimal;
       ready = c.requires.waiting;
     }
 
@@ -25,24 +23,22 @@ loop-cut-preserved c =
     let minimal : IsMinimalFrom (take (c.loop-cut.cut-index + 1) (map units_of c.args.cuts.now)) c.if-not-finds.kept =
     elim c.if-not-finds.branch [
       | then-not-finds+in_ok-push w ↦
-          keeps-step units_of c.args.cuts.now c.loop-cut.kept c.if-not-finds.kept c.cut-item.result
+          keeps-step units_of c.args.cuts.now c.if-not-finds.kept
           c.loop-cut.cut-index c.loop-cut-test.true c.cut-item.is c.requires.order c.loop-cut.invariant.minimal
           (sym decided ∙ w.if-not-finds.true) (w.kept-is ∙ w.in_ok-push.ensures.ok)
       | else-not-finds w ↦
-          keeps_out-step units_of c.args.cuts.now c.loop-cut.kept c.if-not-finds.kept c.cut-item.result
+          keeps_out-step units_of c.args.cuts.now c.if-not-finds.kept
           c.loop-cut.cut-index c.loop-cut-test.true c.cut-item.is c.requires.order c.loop-cut.invariant.minimal
           (sym decided ∙ w.if-not-finds.false) w.kept-is
     ] in
     record {
       minimal = minimal;
       filled =
-          kept_filled (map units_of c.args.cuts.now) c.if-not-finds.kept (c.loop-cut.cut-index + 1)
-          c.requires.filled minimal;
+          kept_filled (map units_of c.args.cuts.now) (c.loop-cut.cut-index + 1) c.requires.filled minimal;
       ready =
           elim c.if-not-finds.branch [
             | then-not-finds+in_ok-push w ↦
-                ready_on c.loop-cut.kept c.if-not-finds.kept c.finds.new.self c.cut-item.result.units.now
-                c.finds.ensures.waiting (w.kept-is ∙ w.in_ok-push.ensures.ok)
+                ready_on c.cut-item.result.units.now c.finds.ensures.waiting (w.kept-is ∙ w.in_ok-push.ensures.ok)
             | else-not-finds w ↦
                 subst (λ (l : List (List ℕ)). AreReady l c.finds.new.self) (sym w.kept-is) c.finds.ensures.waiting
           ];

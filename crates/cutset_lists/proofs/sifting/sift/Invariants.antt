@@ -1,7 +1,5 @@
 use Rattle.std.proofs.Common.{map, take}
-use Rattle.cutset_lists.specs.Cuts.{units_of}
-use Rattle.cutset_lists.specs.Sets.{IsMinimalFrom}
-use Rattle.cutset_lists.specs.Waiting.{AreFilled, AreReady}
+use Rattle.cutset_lists.specs.{Cuts.units_of, Sets.IsMinimalFrom, Waiting.AreFilled, Waiting.AreReady}
 use Rattle.cutset_lists.proofs.sifting.sift.Given as goal
 
 abbrev pub invariant-loop-cut : goal.invariant-loop-cut

@@ -5,8 +5,7 @@ use Rattle.cutset_lists.proofs.split.spread.Goals as goal
 
 pub loop-i-init : goal.loop-i-init
 loop-i-init c = record {
-  splits =
-      Splits-none c.args.list.now c.args.other.now c.args.including.now c.args.rest.now c.requires.rest;
+  splits = Splits-none c.args.list.now c.args.other.now c.args.including.now c.requires.rest;
   ready = c.requires.waiting;
 }
 
@@ -16,14 +15,14 @@ loop-i-preserved c = record {
       elim c.if-finds.branch [
         | then-finds+in_ok-push w ↦
             Splits-including c.args.list.now c.args.other.now c.args.including.now c.loop-i.including c.loop-i.rest
-            c.row-set.result.now c.loop-i.i (omega arith) c.row-set.ensures c.loop-i.invariant.splits
-            c.if-finds.including c.if-finds.rest (w.including-is ∙ w.in_ok-push.ensures.ok) w.rest-is
-            (included_if_found c.args.other.now c.row-set.result.now c.loop-i.waiting.count _ c.finds.result
+            c.loop-i.i (omega arith) c.row-set.ensures c.loop-i.invariant.splits
+            (w.including-is ∙ w.in_ok-push.ensures.ok) w.rest-is
+            (included_if_found c.args.other.now c.row-set.result.now c.loop-i.waiting.count _
             c.loop-i.invariant.ready.wait.inside c.finds.ensures.found w.if-finds.true)
         | else-finds+in_ok-push-2 w ↦
             Splits-rest c.args.list.now c.args.other.now c.args.including.now c.loop-i.including c.loop-i.rest
-            c.row-set.result.now c.loop-i.i (omega arith) c.row-set.ensures c.loop-i.invariant.splits
-            c.if-finds.including c.if-finds.rest w.including-is (w.rest-is ∙ w.in_ok-push-2.ensures.ok)
+            c.loop-i.i (omega arith) c.row-set.ensures c.loop-i.invariant.splits w.including-is
+            (w.rest-is ∙ w.in_ok-push-2.ensures.ok)
       ];
   ready = c.finds.ensures.waiting;
 }

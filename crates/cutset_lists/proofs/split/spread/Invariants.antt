@@ -1,6 +1,5 @@
 use Rattle.std.proofs.Common.{take}
-use Rattle.cutset_lists.specs.Sets.{Splits}
-use Rattle.cutset_lists.specs.Waiting.{AreReady}
+use Rattle.cutset_lists.specs.{Sets.Splits, Waiting.AreReady}
 use Rattle.cutset_lists.proofs.split.spread.Given as goal
 
 abbrev pub invariant-loop-i : goal.invariant-loop-i

@@ -4,11 +4,10 @@ use Rattle.cutset_lists.proofs.votes.at_least.Goals as goal
 
 pub at_least_in_turn-requires : goal.at_least_in_turn-requires
 at_least_in_turn-requires c =
-    StartsFrom-order c.args.lists.now c.args.nodes.now c.as_slice.result.now c.in_ok-order.order.items
-    c.in_ok-order.ensures c.as_slice.ensures.value c.args.sets.now c.requires
+    StartsFrom-order c.args.lists.now c.in_ok-order.ensures c.as_slice.ensures.value c.requires
 
 pub returns : goal.returns
 returns c =
-    on_ok_weaker c.at_least_in_turn.result (at_least-order c.args.lists.now c.args.nodes.now c.as_slice.result.now
-    c.in_ok-order.order.items c.in_ok-order.ensures c.as_slice.ensures.value c.args.least c.at_least_in_turn.new.sets)
+    on_ok_weaker c.at_least_in_turn.result (at_least-order c.args.lists.now c.in_ok-order.ensures
+    c.as_slice.ensures.value c.args.least c.at_least_in_turn.new.sets)
     c.at_least_in_turn.ensures

@@ -7,7 +7,5 @@ loop-at-preserved c = record {
   above = omega arith;
   within = omega arith;
   counted =
-      CountsList-step c.args.list.now c.args.counts.now.items c.loop-at.counts.items c.count_more.new.counts.items
-      c.loop-at.at _ (omega arith) (omega arith) (omega arith) c.loop-at.invariant.counted
-      c.in_ok-count_more.ensures;
+      CountsList-step (omega arith) (omega arith) (omega arith) c.loop-at.invariant.counted c.in_ok-count_more.ensures;
 }

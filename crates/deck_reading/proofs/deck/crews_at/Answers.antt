@@ -2,9 +2,7 @@ use Rattle.std.specs.Prelude.{Some, drop}
 use Rattle.std.proofs.Common.{sym, ap, ◌∙◌, subst}
 use Rattle.std.proofs.lemmas.Result.{err_from_is_err_and}
 use Rattle.crew_script.specs.Crews.{crews_of}
-use Rattle.deck_reading.specs.Ends.{IsCrewEnd}
-use Rattle.deck_reading.specs.Deck.{crews_behind}
-use Rattle.deck_reading.specs.Faults.{crews_said}
+use Rattle.deck_reading.specs.{Ends.IsCrewEnd, Deck.crews_behind, Faults.crews_said}
 use Rattle.deck_reading.proofs.Parts.{crew_end}
 use Rattle.deck_reading.proofs.deck.crews_at.Goals as goal
 

@@ -17,14 +17,14 @@ returns-in-Unread-clause-end c =
 pub returns-in-IfAny-clause-deck : goal.returns-in-IfAny-clause-deck
 returns-in-IfAny-clause-deck c =
     deck_of_parts c.args.part c.args.bytes.now c.split_deck-split.result.crews
-    (at_any c.args.part c.args.bytes.now c.in-IfAny.is c.split_deck-split.result.crews
+    (at_any c.args.part c.args.bytes.now c.in-IfAny.is
     (ap (λ (s : Split). s.crews) (sym c.split_deck-split.ensures.split)))
     c.read_parts-in-IfAny.result c.read_parts-in-IfAny.ensures.tree c.read_parts-in-IfAny.ensures.crews
 
 pub returns-in-IfAny-clause-end : goal.returns-in-IfAny-clause-end
 returns-in-IfAny-clause-end c =
     end_of_parts c.args.part c.args.bytes.now c.split_deck-split.result.crews
-    (at_any c.args.part c.args.bytes.now c.in-IfAny.is c.split_deck-split.result.crews
+    (at_any c.args.part c.args.bytes.now c.in-IfAny.is
     (ap (λ (s : Split). s.crews) (sym c.split_deck-split.ensures.split)))
     c.read_parts-in-IfAny.result c.read_parts-in-IfAny.ensures.end
 

@@ -1,6 +1,5 @@
 use Rattle.std.proofs.lemmas.Result.{err_from_is_err_and}
-use Rattle.deck_reading.specs.Deck.{crews_behind}
-use Rattle.deck_reading.specs.Faults.{crews_said}
+use Rattle.deck_reading.specs.{Deck.crews_behind, Faults.crews_said}
 use Rattle.deck_reading.proofs.Parts.{crews_end, tree_end}
 use Rattle.deck_reading.proofs.deck.read_parts.Goals as goal
 
@@ -12,5 +11,4 @@ returns-in_err-tree-clause-end c =
 
 pub returns-in-Err-clause-end : goal.returns-in-Err-clause-end
 returns-in-Err-clause-end c =
-    crews_end c.args.bytes.now c.in_ok-tree.tree (crews_said (crews_behind c.args.bytes.now c.args.at)) _
-    c.in_ok-tree.ensures.tree c.in-Err.ensures.end
+    crews_end (crews_said (crews_behind c.args.bytes.now c.args.at)) _ c.in_ok-tree.ensures.tree c.in-Err.ensures.end

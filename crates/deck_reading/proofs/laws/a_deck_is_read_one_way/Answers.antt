@@ -9,7 +9,7 @@ returns-clause-some c =
 
 pub returns-clause-one_deck : goal.returns-clause-one_deck
 returns-clause-one_deck c = λ part bytes one two crews others deck deck'.
-    (same_deck_tree bytes one two deck.stands deck'.stands, same_crews part bytes crews others deck.said deck'.said)
+    (same_deck_tree deck.stands deck'.stands, same_crews part bytes deck.said deck'.said)
 
 pub returns-clause-one_fault : goal.returns-clause-one_fault
 returns-clause-one_fault c = one_fault

@@ -1,6 +1,5 @@
 use Rattle.std.proofs.Common.{◌≡◌, ◌+◌, ◌≤◌, length, take, ◌++◌, length-append, length-take, arith}
-use Rattle.std.proofs.lemmas.Grind.{common_steps}
-use Rattle.std.proofs.lemmas.Result.{err_from_is_err_and}
+use Rattle.std.proofs.{lemmas.Grind.common_steps, lemmas.Result.err_from_is_err_and}
 use Rattle.edge_io.specs.declared.reading.TheConstants.{INPUT_LIMIT}
 use Rattle.edge_io.proofs.ReadingLemmas.{HasRead-none, HasRead-more, Reads-more}
 use Rattle.edge_io.proofs.reading.read_by.Goals as goal
@@ -8,8 +7,7 @@ use Rattle.edge_io.proofs.reading.read_by.Goals as goal
 pub reading-init : goal.reading-init
 reading-init g c = (
   c.requires,
-  HasRead-none g.S.Source.held g.S.Source.faults g.S.Source.reads _ _ INPUT_LIMIT
-      c.new-bytes.ensures.items,
+  HasRead-none g.S.Source.held g.S.Source.faults g.S.Source.reads _ INPUT_LIMIT c.new-bytes.ensures.items,
 )
 
 pub returns-then-len-count-clause-reads : goal.returns-then-len-count-clause-reads
@@ -41,7 +39,6 @@ reading-preserved g c =
     let room : length c.reading.bytes.items + c.in-Ok.count ≤ INPUT_LIMIT = grind arith in (
       omega arith,
       HasRead-more g.S.Source.held g.S.Source.faults g.S.Source.reads _ c.reading.source _
-          c.reading.bytes.items c.read.new.into _ INPUT_LIMIT c.in-Ok.count c.reading.invariant.1 grown room
-          (omega arith)
+          c.reading.bytes.items c.read.new.into INPUT_LIMIT c.in-Ok.count c.reading.invariant.1 grown room (omega arith)
           c.in-Ok.ensures.bound c.in-Ok.ensures.next c.in-Ok.ensures.never_falls c.in-Ok.ensures.step,
     )

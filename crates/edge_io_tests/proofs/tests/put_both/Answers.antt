@@ -8,11 +8,9 @@ returns g c =
     let mid = c.put.new.self in
     let out = c.put-2.new.self in
     let puts =
-    Puts-trans g.K.Sink.taken g.K.Sink.faults old mid out c.args.first.now c.args.second.now c.put.ensures.puts
-    c.put-2.ensures.puts in
+    Puts-trans c.put.ensures.puts c.put-2.ensures.puts in
     let end =
-    Puts-finished g.K.Sink.taken g.K.Sink.faults old out _ _ _ c.finish.result c.over-out.ensures.nothing_waits
-    c.over-out.ensures.fine puts
+    Puts-finished c.over-out.ensures.nothing_waits c.over-out.ensures.fine puts
     c.finish.ensures.all c.finish.ensures.front.1 c.finish.ensures.rose c.finish.ensures.stopped
     c.finish.ensures.never_falls in
     let same : out.sink.ghost_name ≡ old.sink.ghost_name = puts.same_sink in

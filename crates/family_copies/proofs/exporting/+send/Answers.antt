@@ -1,7 +1,6 @@
 use Rattle.std.proofs.Common.{◌<◌, arith}
 use Rattle.std.proofs.lemmas.Result.{err_from_is_err_and}
-use Rattle.zdd_families.specs.Nodes.{IsReached}
-use Rattle.family_memory.specs.Memory.{family_in, map_of as own_map}
+use Rattle.family_memory.specs.Memory.{map_of as own_map}
 use Rattle.zdd_shared_table.specs.Seats.{map_of}
 use Rattle.family_copies.proofs.Parting.{levels_above}
 use Rattle.family_copies.proofs.Sending.{terminal_known, copy_known, copy_sent, hi_fewer, lo_full, hi_full}
@@ -15,21 +14,20 @@ send-returns-then-number-lt2-clause-answer t c =
 
 pub send-returns-then-ne-clause-answer : goal.send-returns-then-ne-clause-answer
 send-returns-then-ne-clause-answer t c =
-    copy_known c.args.memory.now c.args.r c.args.ops.now c.is_sound-2.ensures.sound c.args.copies.now
-    c.shared_of-noted.result c.requires.copies c.shared_of-noted.ensures
+    copy_known c.args.memory.now c.args.r c.args.ops.now c.is_sound-2.ensures.sound c.args.copies.now c.requires.copies
+    c.shared_of-noted.ensures
     (λ none. let e = c.ne.ensures in let h = c.if-ne.true in grind (arith, e, h, none))
 
 pub send-returns-clause-copies : goal.send-returns-clause-copies
 send-returns-clause-copies t c =
-    c.note.ensures c.args.memory.now (map_of c.send_node.new.ops)
-    (copy_sent c.args.memory.now (IsReached (family_in c.args.memory.now c.args.r)) c.args.ops.now c.send_node.new.ops
-    c.args.r c.in_ok-shared.shared c.requires.has c.in_ok-shared.ensures.answer) c.in_ok-shared.ensures.copies
+    c.note.ensures c.args.memory.now (map_of c.send_node.new.ops) (copy_sent c.args.memory.now
+    c.args.r c.requires.has c.in_ok-shared.ensures.answer) c.in_ok-shared.ensures.copies
 
 pub send_node-returns-in_err-lo-clause-answer : goal.send_node-returns-in_err-lo-clause-answer
 send_node-returns-in_err-lo-clause-answer t c =
     let p = err_from_is_err_and c.from_residual.result c.from_residual.ensures.1 in
     rw p.1 (lo_full c.args.memory.now c.args.r c.parts-parts.result c.is_sound.ensures c.parts-parts.ensures
-    c.args.ops.now c.send.new.ops c.in_err-lo.ensures.answer)
+    c.in_err-lo.ensures.answer)
 
 pub send_node-send-requires-2 : goal.send_node-send-requires-2
 send_node-send-requires-2 t c =
@@ -42,22 +40,22 @@ pub send_node-returns-in_err-hi-clause-answer : goal.send_node-returns-in_err-hi
 send_node-returns-in_err-hi-clause-answer t c =
     let p = err_from_is_err_and c.from_residual-in_err-hi.result c.from_residual-in_err-hi.ensures.1 in
     rw p.1 (hi_full c.args.memory.now c.args.r c.parts-parts.result c.is_sound.ensures c.parts-parts.ensures
-    c.args.ops.now c.send.new.ops c.in_ok-lo.lo c.in_ok-lo.ensures.answer c.send-2.new.ops
+    c.in_ok-lo.ensures.answer
     c.in_err-hi.ensures.answer)
 
 pub send_node-shared_node-requires : goal.send_node-shared_node-requires
 send_node-shared_node-requires t c =
-    can_make c.args.memory.now c.args.r c.parts-parts.result c.is_sound.ensures c.parts-parts.ensures c.args.ops.now
-    c.send.new.ops c.in_ok-lo.lo c.in_ok-lo.ensures.answer c.send-2.new.ops c.in_ok-hi.hi c.in_ok-hi.ensures.answer
+    can_make c.args.memory.now c.args.r c.parts-parts.result c.is_sound.ensures c.parts-parts.ensures
+    c.in_ok-lo.ensures.answer c.in_ok-hi.ensures.answer
 
 pub send_node-returns-clause-answer : goal.send_node-returns-clause-answer
 send_node-returns-clause-answer t c =
-    sent c.args.memory.now c.args.r c.parts-parts.result c.is_sound.ensures c.parts-parts.ensures c.args.ops.now
-    c.send.new.ops c.in_ok-lo.lo c.in_ok-lo.ensures.answer c.send-2.new.ops c.in_ok-hi.hi c.in_ok-hi.ensures.answer
+    sent c.args.memory.now c.args.r c.parts-parts.result c.is_sound.ensures c.parts-parts.ensures
+    c.in_ok-lo.ensures.answer c.in_ok-hi.ensures.answer
     c.shared_node.new.ops c.shared_node.result c.shared_node.ensures
 
 pub send_node-returns-clause-copies : goal.send_node-returns-clause-copies
 send_node-returns-clause-copies t c =
-    copies_kept c.args.memory.now c.args.r c.parts-parts.result c.is_sound.ensures c.parts-parts.ensures c.args.ops.now
-    c.send.new.ops c.in_ok-lo.lo c.in_ok-lo.ensures.answer c.send-2.new.ops c.in_ok-hi.hi c.in_ok-hi.ensures.answer
+    copies_kept c.args.memory.now c.args.r c.parts-parts.result c.is_sound.ensures c.parts-parts.ensures
+    c.in_ok-lo.ensures.answer c.in_ok-hi.ensures.answer
     c.shared_node.new.ops c.shared_node.result c.shared_node.ensures c.send-2.new.copies c.in_ok-hi.ensures.copies

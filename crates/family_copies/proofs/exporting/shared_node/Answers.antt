@@ -1,7 +1,6 @@
 use Rattle.std.proofs.Common.{ℕ, ◌≡◌, ◌∙◌}
 use Rattle.zdd_words.specs.Word.{packed}
-use Rattle.zdd_families.specs.Family.{branch}
-use Rattle.zdd_families.specs.Map.{Knows, family}
+use Rattle.zdd_families.specs.{Family.branch, Map.Knows, Map.family}
 use Rattle.zdd_shared_table.specs.Seats.{map_of}
 use Rattle.zdd_product.specs.Seats.{word_family}
 use Rattle.zdd_product.proofs.After.{stays, node_made, word_family-packed}
@@ -18,7 +17,6 @@ returns c =
     ≡ branch c.args.level (family old c.args.lo) (family old c.args.hi) =
     word_family-packed new c.args.level c.args.lo c.args.hi c.number.ensures.small c.number-2.ensures.small
     ∙ (λ i. branch c.args.level (at c.args.lo c.requires.has_lo i) (at c.args.hi c.requires.has_hi i)) in
-    node_made c.args.ops.now c.node.new.self (branch c.args.level (family old c.args.lo) (family old c.args.hi))
-    (packed c.args.level c.args.lo c.args.hi)
+    node_made c.args.ops.now c.node.new.self (packed c.args.level c.args.lo c.args.hi)
     c.node.ensures.store c.node.ensures.share c.node.ensures.keeps c.node.ensures.sound packed_is c.node.result
     c.node.ensures.family c.node.ensures.fills c.node.ensures.fulls c.node.ensures.missed

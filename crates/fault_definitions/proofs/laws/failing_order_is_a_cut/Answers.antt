@@ -1,7 +1,6 @@
 use Rattle.std.specs.Prelude.{is_some}
 use Rattle.std.proofs.lemmas.Bool.{and_parts}
-use Rattle.fault_definitions.specs.FailingOrder.{is_admissible}
-use Rattle.fault_definitions.specs.Step.{step}
+use Rattle.fault_definitions.specs.{FailingOrder.is_admissible, Step.step}
 use Rattle.fault_definitions.proofs.StepLaws.{step-reads}
 use Rattle.fault_definitions.proofs.laws.failing_order_is_a_cut.Goals as goal
 

@@ -6,8 +6,7 @@ use Rattle.fault_model.proofs.ranking.add_rows.Goals as goal
 
 pub loop-list-preserved : goal.loop-list-preserved
 loop-list-preserved c =
-    row_more c.args.graph.now c.args.below.now c.loop-list.list-index c.list-item.result c.deref.result.now
-    c.loop-list.graph c.push.new.self c.loop-list-test.true c.list-item.is
+    row_more c.args.graph.now c.args.below.now c.loop-list.list-index c.loop-list-test.true c.list-item.is
     (c.deref.ensures.value ∙ c.in_ok-set_places.ensures ∙ ap places c.as_slice.ensures.items)
     c.loop-list.invariant c.in_ok-push.ensures.ok
 

@@ -1,6 +1,5 @@
 use Rattle.std.proofs.Common.{arith, ◌∙◌, ◌+◌, ◌<◌, ◌^◌, ◌++◌, ◌∷◌, [], ℕ, ap, get_or, map, suc, sym, take}
-use Rattle.std.proofs.lemmas.List.{map_more, take_all}
-use Rattle.std.proofs.lemmas.List.Elements.{All-get_or}
+use Rattle.std.proofs.{lemmas.List.map_more, lemmas.List.take_all, lemmas.List.Elements.All-get_or}
 use Rattle.fault_model.proofs.ranking.nodes_at.Goals as goal
 
 pub overflow_cast-place : goal.overflow_cast-place

@@ -1,6 +1,5 @@
 use Rattle.std.proofs.Common.{arith, ◌<◌, ◌^◌, [], ◌∷◌, ◌++◌, ◌∙◌, ap, get_or, sym}
-use Rattle.std.proofs.lemmas.List.{take_all, take_more}
-use Rattle.std.proofs.lemmas.List.Elements.{All-get_or}
+use Rattle.std.proofs.{lemmas.List.take_all, lemmas.List.take_more, lemmas.List.Elements.All-get_or}
 use Rattle.fault_model.proofs.ranking.ranks_of.Goals as goal
 
 pub overflow_cast-rank : goal.overflow_cast-rank

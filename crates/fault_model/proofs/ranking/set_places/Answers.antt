@@ -1,6 +1,5 @@
 use Rattle.std.proofs.Common.{arith, ◌-◌, ◌∙◌, ◌≤◌, ap, subst, sym}
-use Rattle.std.proofs.lemmas.List.{take_all}
-use Rattle.std.proofs.lemmas.List.Elements.{All-get_or}
+use Rattle.std.proofs.{lemmas.List.take_all, lemmas.List.Elements.All-get_or}
 use Rattle.fault_model.specs.Ranking.{places}
 use Rattle.fault_model.proofs.RankingLemmas.{map_step}
 use Rattle.fault_model.proofs.ranking.set_places.Goals as goal
@@ -16,8 +15,8 @@ loop-node-init c = c.clear.ensures.items
 
 pub loop-node-preserved : goal.loop-node-preserved
 loop-node-preserved c =
-    map_step (λ node. node - 1) c.args.nodes.now c.loop-node.node-index c.node-item.result c.index.result
-    c.loop-node.row.items c.push.new.self.items c.loop-node-test.true c.node-item.is c.index.ensures
+    map_step (λ node. node - 1) c.args.nodes.now c.loop-node.node-index c.loop-node-test.true c.node-item.is
+    c.index.ensures
     c.loop-node.invariant c.in_ok-push.ensures.items
 
 pub returns : goal.returns

@@ -1,10 +1,8 @@
 -- The table is held against the definition at each of the 256 bytes, by computing.
 use Rattle.std.proofs.Common.{◌≡◌, ℕ, ◌<◌, Bool, true, map, get_or, not, nat_eq, sym, refl, ap, ◌∙◌, arith}
-use Rattle.std.proofs.Math.ListN.{get_or-map}
-use Rattle.std.proofs.lemmas.List.FromFn.{get_or-map-range_with_len}
+use Rattle.std.proofs.{Math.ListN.get_or-map, lemmas.List.FromFn.get_or-map-range_with_len}
 use Rattle.std.specs.List.{range_with_len}
-use Rattle.fault_words.specs.Name.{is_bare_byte}
-use Rattle.fault_words.specs.declared.name.TheConstants.{BARE_BYTES}
+use Rattle.fault_words.specs.{Name.is_bare_byte, declared.name.TheConstants.BARE_BYTES}
 use Rattle.fault_words.proofs.name.is_bare_byte.Goals as goal
 
 -- a place of the table shows something else than a comma

@@ -1,5 +1,4 @@
-use Rattle.std.proofs.Common.{arith, length}
-use Rattle.std.proofs.lemmas.Grind.{common_steps}
+use Rattle.std.proofs.{Common.arith, Common.length, lemmas.Grind.common_steps}
 use Rattle.flat_rows.proofs.RowsLemmas.{Rise-push, rows_from-push}
 use Rattle.flat_rows.proofs.Rows.push.Goals as goal
 

@@ -1,10 +1,8 @@
 -- The table is held against the definition at each of the 256 bytes, by computing.
 use Rattle.std.proofs.Common.{◌≡◌, ℕ, ◌<◌, Bool, true, map, get_or, not, nat_eq, sym, refl, ap, ◌∙◌, arith}
-use Rattle.std.proofs.Math.ListN.{get_or-map}
-use Rattle.std.proofs.lemmas.List.FromFn.{get_or-map-range_with_len}
+use Rattle.std.proofs.{Math.ListN.get_or-map, lemmas.List.FromFn.get_or-map-range_with_len}
 use Rattle.std.specs.List.{range_with_len}
-use Rattle.galileo_lexer.specs.Bytes.{is_word_byte}
-use Rattle.galileo_lexer.specs.declared.bytes.TheConstants.{WORD_BYTES}
+use Rattle.galileo_lexer.specs.{Bytes.is_word_byte, declared.bytes.TheConstants.WORD_BYTES}
 use Rattle.galileo_lexer.proofs.bytes.is_word_byte.Goals as goal
 
 -- a place of the table shows something else than a comma

@@ -1,6 +1,5 @@
 use Rattle.std.proofs.Common.{length, ◌-◌, ◌≡◌, ◌<◌, drop, false}
-use Rattle.galileo_lexer.specs.Spot.{IsSpot}
-use Rattle.galileo_lexer.specs.Lexed.{InBlock, lexed}
+use Rattle.galileo_lexer.specs.{Spot.IsSpot, Lexed.InBlock, Lexed.lexed}
 use Rattle.galileo_lexer.proofs.constructs.block_end.Given as goal
 
 abbrev pub invariant-loop-spot : goal.invariant-loop-spot

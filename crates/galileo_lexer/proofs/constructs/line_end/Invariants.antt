@@ -1,6 +1,5 @@
 use Rattle.std.proofs.Common.{length, ◌-◌, ◌≡◌, ◌≤◌, drop}
-use Rattle.galileo_lexer.specs.Spot.{along}
-use Rattle.galileo_lexer.specs.Lexed.{InLine, lexed}
+use Rattle.galileo_lexer.specs.{Spot.along, Lexed.InLine, Lexed.lexed}
 use Rattle.galileo_lexer.proofs.constructs.line_end.Given as goal
 
 abbrev pub invariant-loop-end : goal.invariant-loop-end

@@ -1,6 +1,5 @@
-use Rattle.galileo_lexer.specs.Spot.{origin}
 use Rattle.galileo_lexer.proofs.Runs.{only}
 use Rattle.galileo_lexer.proofs.laws.reads_one_way.Goals as goal
 
 pub returns : goal.returns
-returns c = λ text read reads. only origin text reads.0 reads.1 read reads.2
+returns c = λ text read reads. only reads.2

@@ -1,5 +1,4 @@
-use Rattle.galileo_lexer.specs.Spelling.{IsSpelled}
-use Rattle.galileo_lexer.specs.Lexed.{tokens_of}
+use Rattle.galileo_lexer.specs.{Spelling.IsSpelled, Lexed.tokens_of}
 use Rattle.std.proofs.lemmas.List.Elements.{All-from_recursion}
 use Rattle.galileo_lexer.proofs.Spelled.{spelled}
 use Rattle.galileo_lexer.proofs.laws.tokens_are_spelled.Goals as goal

@@ -1,6 +1,5 @@
 use Rattle.std.proofs.Common.{length, ◌-◌, ◌≡◌, drop}
-use Rattle.galileo_lexer.specs.Lexed.{Between, lexed}
-use Rattle.galileo_lexer.specs.Spot.{IsSpot}
+use Rattle.galileo_lexer.specs.{Lexed.Between, Lexed.lexed, Spot.IsSpot}
 use Rattle.galileo_lexer.proofs.lexer.find.Given as goal
 
 abbrev pub invariant-loop-spot : goal.invariant-loop-spot

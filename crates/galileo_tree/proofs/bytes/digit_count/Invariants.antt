@@ -1,6 +1,5 @@
 use Rattle.std.proofs.Common.{length, ◌-◌, ◌≡◌, ◌+◌, ◌≤◌, drop}
-use Rattle.std.specs.List.{prefix_len}
-use Rattle.std.specs.Char.{is_ascii_digit}
+use Rattle.std.specs.{List.prefix_len, Char.is_ascii_digit}
 use Rattle.galileo_tree.proofs.bytes.digit_count.Given as goal
 
 abbrev pub invariant-loop-count : goal.invariant-loop-count

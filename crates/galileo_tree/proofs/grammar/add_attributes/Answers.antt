@@ -11,8 +11,7 @@ returns-in-None-clause-read c =
     let value = c.in_ok-read.ensures name before in
     let next = rw c.in-None.is at (c.in_ok-next.ensures name (before ++ read ∷ [])) in
     rw c.in_ok-push.ensures.added
-    (closes_basic _ _ c.attribute.new.reader _ (record { name = name; attributes = before ++ read ∷ [] })
-    (record {
+    (closes_basic c.attribute.new.reader (record { name = name; attributes = before ++ read ∷ [] }) (record {
       same = c.loop-read.invariant.same ∙ value.same;
       fewer = omega (arith, value.fewer, c.loop-read.invariant.fewer);
     })

@@ -1,6 +1,5 @@
 use Rattle.std.proofs.Common.{◌≡◌, ◌≤◌, length}
-use Rattle.galileo_tree.specs.Parsed.{Inputs, parsed_from}
-use Rattle.galileo_tree.specs.Reads.{before}
+use Rattle.galileo_tree.specs.{Parsed.Inputs, Parsed.parsed_from, Reads.before}
 use Rattle.galileo_tree.proofs.grammar.add_inputs.Given as goal
 
 abbrev pub invariant-loop-lexeme : goal.invariant-loop-lexeme

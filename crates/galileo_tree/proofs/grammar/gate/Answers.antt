@@ -1,8 +1,7 @@
 use Rattle.std.proofs.Common.{◌≡◌, false, [], length, refl, sym, ap, ◌∙◌, arith}
 use Rattle.std.specs.Prelude.{◌&&◌}
-use Rattle.galileo_tree.specs.Lexeme.{is_equals, is_bare}
+use Rattle.galileo_tree.specs.{Lexeme.is_equals, Lexeme.is_bare, Reads.before}
 use Rattle.galileo_tree.specs.Parsed.{GateWord, Inputs, AttributeEquals, parsed_from}
-use Rattle.galileo_tree.specs.Reads.{before}
 use Rattle.galileo_tree.proofs.LexemeKinds.{equals_alone}
 use Rattle.galileo_tree.proofs.Parses.{fails_after, goes_by, inputs_begin, reads_after}
 use Rattle.galileo_tree.proofs.grammar.gate.Goals as goal
@@ -15,9 +14,9 @@ returns-then-is_bare c =
     let word = c.args.word.now in
     let first = GateWord c.args.name word c.args.kind in
     let alone = equals_alone c.in_ok-lexeme.lexeme (sym c.if-is_equals.ensures) in
-    let goes = goes_by first (AttributeEquals c.args.name [] word.text) _ _ c.in_ok-lexeme.lexeme c.in_ok-lexeme.ensures
+    let goes = goes_by {state = first} (AttributeEquals c.args.name [] word.text) c.in_ok-lexeme.ensures
     (rw (alone.0, alone.1, sym c.if-is_equals.ensures, sym c.if-is_bare.ensures.bare) refl) in
-    reads_after first (AttributeEquals c.args.name [] word.text) _ _ _ goes _ c.values.ensures
+    reads_after _ goes _ c.values.ensures
 
 -- it was the word of a gate, whose inputs begin
 begins : (c : After-new) → parsed_from (GateWord c.args.name c.args.word.now c.args.kind) c.args.reader.now
@@ -32,8 +31,7 @@ begins c =
           rw (sym w.if-is_equals.ensures, sym w.if-is_bare.ensures.bare) refl
       | else-is_equals-via-else-is_equals w ↦ rw (sym w.if-is_equals.ensures) refl
     ] in
-    rw (c.place.ensures, c.new.ensures)
-    (inputs_begin c.args.name word c.args.kind c.args.reader.now c.want.new.self lexeme c.in_ok-lexeme.ensures none)
+    rw (c.place.ensures, c.new.ensures) (inputs_begin c.args.name word c.args.kind c.in_ok-lexeme.ensures none)
 
 pub returns-in-Ok : goal.returns-in-Ok
 returns-in-Ok c =
@@ -44,4 +42,4 @@ returns-in-Ok c =
     }
 
 pub returns-in-Err : goal.returns-in-Err
-returns-in-Err c = fails_after _ _ (begins (goal.at.returns-in-Err c).After-new) c.in-Err.fault c.in-Err.ensures
+returns-in-Err c = fails_after (begins (goal.at.returns-in-Err c).After-new) c.in-Err.fault c.in-Err.ensures

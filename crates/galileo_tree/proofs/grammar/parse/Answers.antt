@@ -1,14 +1,11 @@
-use Rattle.galileo_tree.specs.Parsed.{parsed_text}
-use Rattle.galileo_tree.proofs.Forms.{whole_form}
-use Rattle.galileo_tree.proofs.Parses.{front_grows}
+use Rattle.galileo_tree.proofs.{Forms.whole_form, Parses.front_grows}
 use Rattle.galileo_tree.proofs.grammar.parse.Goals as goal
 
 -- the statement that was read stands behind those before it
 pub loop-statements-preserved : goal.loop-statements-preserved
 loop-statements-preserved c =
     let takes = rw c.in-Some.is at c.in_ok-first.ensures in
-    rw c.in_ok-push.ensures.added
-    (front_grows (parsed_text c.args.text.now) c.loop-statements.statements _ _ _ c.in-Some.first c.in_ok-read.read
+    rw c.in_ok-push.ensures.added (front_grows c.loop-statements.statements
     c.loop-statements.invariant takes c.in_ok-read.ensures)
 
 -- the text has ended

@@ -1,6 +1,5 @@
 use Rattle.galileo_tree.specs.Parsed.{lexemes_of}
-use Rattle.galileo_tree.proofs.Forms.{read_form}
-use Rattle.galileo_tree.proofs.Sound.{sound}
+use Rattle.galileo_tree.proofs.{Forms.read_form, Sound.sound}
 use Rattle.galileo_tree.proofs.laws.parses_its_text.Goals as goal
 
 pub returns-clause-reading : goal.returns-clause-reading

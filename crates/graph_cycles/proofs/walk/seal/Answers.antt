@@ -4,9 +4,7 @@ use Rattle.graph_cycles.proofs.walk.seal.Goals as goal
 
 pub loop-node-preserved : goal.loop-node-preserved
 loop-node-preserved c =
-    Closes-more c.args.nodes.now c.loop-node.node-index c.args.mark c.args.stages.now c.loop-node.stages
-    c.args.marks.now c.loop-node.marks
-    c.loop-node-test.true
+    Closes-more c.args.nodes.now c.loop-node.node-index c.loop-node-test.true
     (omega (arith, c.requires.stages c.loop-node.node-index c.loop-node-test.true, c.loop-node.auto.stages))
     (omega (arith, c.requires.marks c.loop-node.node-index c.loop-node-test.true, c.loop-node.auto.marks))
     c.loop-node.invariant

@@ -1,6 +1,5 @@
 use Rattle.std.proofs.Common.{◌++◌, ◌∙◌, arith, drop, subst}
-use Rattle.std.proofs.lemmas.List.{length-take-le}
-use Rattle.std.proofs.lemmas.Slice.{drop-append-drop}
+use Rattle.std.proofs.{lemmas.List.length-take-le, lemmas.Slice.drop-append-drop}
 use Rattle.zdd_families.specs.Least.{IsLeastOfAll, IsLeastUnion}
 use Rattle.family_memory.specs.Memory.{Gave, family_in}
 use Rattle.family_memory.proofs.After.{answers_of}
@@ -10,9 +9,7 @@ use Rattle.many_families.proofs.chains.+unite_places.Goals as goal
 
 pub returns : goal.returns
 returns t c =
-    halves_united c.args.memory.now c.unite_places.new.memory c.unite_places-2.new.memory c.args.places.now
-    c.end_of_first-end.result c.is_sound.ensures c.requires c.in_ok-first.first c.in_ok-second.second
-    c.in_ok-first.ensures
+    halves_united c.args.places.now c.end_of_first-end.result c.is_sound.ensures c.requires c.in_ok-first.ensures
     (subst (λ l. Gave (IsLeastOfAll (families c.unite_places.new.memory l)) c.unite_places.new.memory
     c.unite_places-2.new.memory c.in_ok-second.second)
     (rest_from (c.unite_places.new.places ++ drop c.end_of_first-end.result c.args.places.now)

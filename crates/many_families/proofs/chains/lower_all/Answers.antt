@@ -16,7 +16,7 @@ loop-place-preserved c =
     subst (λ r. IsHalf held c.args.level r c.half_at.result) at c.half_at.ensures in
     record {
       size = length-set list place c.half_at.result.lo ∙ inv.size;
-      lowered = lowered_more held c.args.level place c.args.list.now list c.half_at.result (omega arith)
+      lowered = lowered_more place c.args.list.now list (omega arith)
           (inv.waiting place (omega arith)) inv.lowered half;
       waiting =
           λ more past. waits_on c.args.list.now list place c.half_at.result.lo more past

@@ -2,17 +2,14 @@ use Rattle.std.proofs.Common.{◌/◌, length, subst}
 use Rattle.std.proofs.lemmas.Result.{MatchResult-from_both}
 use Rattle.zdd_families.specs.Least.{IsLeastOfAll}
 use Rattle.family_memory.specs.Memory.{Gave}
-use Rattle.minimal_operations.proofs.Answering.{gives_of, spent_of}
-use Rattle.minimal_operations.proofs.Steps.{failed}
+use Rattle.minimal_operations.proofs.{Answering.gives_of, Answering.spent_of, Steps.failed}
 use Rattle.many_families.specs.Lists.{families}
-use Rattle.many_families.proofs.Lists.{few_united}
-use Rattle.many_families.proofs.ManySteps.{halves_united, rest_from}
+use Rattle.many_families.proofs.{Lists.few_united, ManySteps.halves_united, ManySteps.rest_from}
 use Rattle.many_families.proofs.many.+union_of_all.Goals as goal
 
 pub returns-then-list-lt2-clause-gives : goal.returns-then-list-lt2-clause-gives
 returns-then-list-lt2-clause-gives t c =
-    few_united c.args.memory.now c.args.list.now c.first_of.result c.is_sound.ensures c.requires c.if-list-lt2.true
-    c.first_of.ensures
+    few_united c.args.list.now c.is_sound.ensures c.requires c.if-list-lt2.true c.first_of.ensures
 
 pub returns-in_err-second-clause-spent : goal.returns-in_err-second-clause-spent
 returns-in_err-second-clause-spent t c =
@@ -28,8 +25,7 @@ returns t c =
     let middle = length list / 2 in
     let second = c.in_ok-second.second in
     let both =
-    halves_united s0 c.union_of_all.new.memory c.union_of_all-2.new.memory list middle c.is_sound.ensures c.requires
-    c.in_ok-first.first second c.in_ok-first.ensures.gives
+    halves_united list middle c.is_sound.ensures c.requires c.in_ok-first.ensures.gives
     (subst (λ l. Gave (IsLeastOfAll (families c.union_of_all.new.memory l)) c.union_of_all.new.memory
     c.union_of_all-2.new.memory second) (rest_from list middle) c.in_ok-second.ensures.gives) c.union.new.memory
     c.union.result

@@ -10,5 +10,5 @@ product_of_all-requires c =
 
 pub returns-clause-gives : goal.returns-clause-gives
 returns-clause-gives c =
-    product_reordered c.args.memory.now c.product_of_all.new.memory c.args.list.now c.put_for_product.new.places
+    product_reordered c.args.memory.now c.product_of_all.new.memory
     c.put_for_product.ensures c.product_of_all.result c.product_of_all.ensures.gives

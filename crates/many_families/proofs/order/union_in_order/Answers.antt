@@ -13,8 +13,7 @@ unite_places-requires c =
 
 pub returns-clause-gives : goal.returns-clause-gives
 returns-clause-gives c =
-    union_reordered c.args.memory.now c.unite_places.new.memory c.args.list.now c.put_in_order.new.places
-    c.put_in_order.ensures c.unite_places.result
+    union_reordered c.args.memory.now c.unite_places.new.memory c.put_in_order.ensures c.unite_places.result
     (gives_of (IsLeastOfAll (families c.args.memory.now c.put_in_order.new.places)) c.args.memory.now
     c.unite_places.new.memory c.unite_places.result c.unite_places.ensures)
 

@@ -4,7 +4,7 @@ use Rattle.many_families.proofs.votes.+join_below.Goals as goal
 
 pub returns-then-number-lt2 : goal.returns-then-number-lt2
 returns-then-number-lt2 t c =
-    joined_end c.args.memory.now c.args.voter c.args.same c.args.fewer c.requires.has.sound c.requires.has.has_same
+    joined_end c.args.voter c.args.fewer c.requires.has.sound c.requires.has.has_same
     (let e = c.number.ensures.value in let h = c.if-number-lt2.true in omega (arith, e, h)) c.requires.below
 
 pub join_below-requires : goal.join_below-requires

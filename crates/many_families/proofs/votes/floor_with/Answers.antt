@@ -5,6 +5,6 @@ use Rattle.many_families.proofs.votes.floor_with.Goals as goal
 
 pub returns-then-last-floor : goal.returns-then-last-floor
 returns-then-last-floor c = λ some.
-    between c.args.memory.now c.args.r c.last.result c.args.floor c.min.result c.is_sound.ensures c.requires
+    between c.is_sound.ensures c.requires
     (eqb-false c.args.r 1 (not-true (c.args.r == 1) (sym c.ne.ensures ∙ c.if-ne.true))) c.last.ensures
     c.if-last-floor.true (c.min.ensures ∙ ap (λ n. min n c.args.floor) c.level.ensures) some

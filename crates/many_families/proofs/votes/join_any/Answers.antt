@@ -3,6 +3,6 @@ use Rattle.many_families.proofs.votes.join_any.Goals as goal
 
 pub returns : goal.returns
 returns c =
-    joined_any c.args.memory.now c.product_by_splitting.new.memory c.union.new.memory c.args.voter c.args.same
-    c.args.fewer c.in_ok-more.more c.requires.sound c.requires.has_same c.in_ok-more.ensures.gives c.union.result
+    joined_any c.union.new.memory c.args.voter c.args.same
+    c.args.fewer c.requires.sound c.requires.has_same c.in_ok-more.ensures.gives c.union.result
     c.union.ensures.gives c.union.ensures.spent

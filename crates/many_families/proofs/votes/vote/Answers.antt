@@ -12,12 +12,12 @@ loop-place-init g c =
     let voter_is : voter ≡ get_or members c.args.member 0 =
     get_or_read members c.args.member voter c.requires.inside c.index-members-member.is 0 in
     record {
-      went = Went-nowhere held c.requires.sound;
+      went = Went-nowhere c.requires.sound;
       inside = c.requires.inside;
-      voter = voter_begins c.requires voter voter_is c.floor_with-lower.result c.floor_with-lower.ensures;
+      voter = voter_begins c.requires voter_is c.floor_with-lower.result c.floor_with-lower.ensures;
       voting =
-          voting_begins c.requires voter voter_is c.floor_with-lower.result c.floor_with-lower.ensures
-          c.max-first.result (λ at low enough. let e = c.max-first.ensures in omega (arith, e, low, enough));
+          voting_begins c.requires voter_is c.floor_with-lower.result c.floor_with-lower.ensures
+          (λ at low enough. let e = c.max-first.ensures in omega (arith, e, low, enough));
     }
 
 pub loop-place-preserved : goal.loop-place-preserved
@@ -25,13 +25,11 @@ loop-place-preserved g c =
     let inv = c.loop-place.invariant in
     let done = c.in_ok-vote_at.ensures in
     record {
-      went = Went-then c.args.memory.now c.loop-place.memory c.vote_at.new.memory inv.went done.0;
+      went = Went-then inv.went done.0;
       inside =
           let h = inv.inside in let before = inv.voting.count in let after = done.1.count in
           omega (arith, h, before, after);
-      voter =
-          voter_stays c.loop-place.memory c.vote_at.new.memory g.fs inv.went.sound done.0 c.args.member
-          c.floor_with-lower.result c.index-members-member.result inv.voter;
+      voter = voter_stays g.fs inv.went.sound done.0 inv.voter;
       voting = done.1;
     }
 
@@ -39,9 +37,7 @@ pub returns : goal.returns
 returns g c =
     let inv = c.loop-place.invariant in (
       inv.went,
-      member_voted c.loop-place.memory g.fs c.args.votes c.args.member c.loop-place.place c.floor_with-lower.result
-          c.loop-place.members c.index-members-member.result inv.inside inv.voter inv.voting
-          (λ at most within.
+      member_voted c.args.votes inv.inside inv.voter inv.voting (λ at most within.
           let end = c.min-end.ensures in let sum = c.saturating_add.ensures in let past = c.loop-place-test.false in
           let count = inv.voting.count in let before = c.requires.voted.count in
           omega (arith, end, sum, past, count, before, most, within)),

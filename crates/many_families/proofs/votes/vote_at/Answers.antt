@@ -11,17 +11,15 @@ join-requires g c =
       has = record {
         sound = turn.sound;
         has_voter = turn.is_voter.has;
-        has_same = (same_vote turn fewer c.fewer_votes-fewer.ensures same c.same_votes-same.ensures).has;
-        has_fewer = (fewer_vote turn fewer c.fewer_votes-fewer.ensures same c.same_votes-same.ensures).has;
+        has_same = (same_vote turn c.fewer_votes-fewer.ensures c.same_votes-same.ensures).has;
+        has_fewer = (fewer_vote turn c.fewer_votes-fewer.ensures c.same_votes-same.ensures).has;
       };
       below =
-          λ t. voter_below turn fewer c.fewer_votes-fewer.ensures same c.same_votes-same.ensures
-          (leb-true 1 c.args.lower t);
+          λ t. voter_below turn c.fewer_votes-fewer.ensures c.same_votes-same.ensures (leb-true 1 c.args.lower t);
     }
 
 pub returns : goal.returns
 returns g c = (
   c.in_ok-made.ensures.went,
-  voted_at c.requires c.fewer_votes-fewer.result c.fewer_votes-fewer.ensures c.same_votes-same.result
-      c.same_votes-same.ensures c.in_ok-made.ensures,
+  voted_at c.requires c.fewer_votes-fewer.ensures c.same_votes-same.ensures c.in_ok-made.ensures,
 )

@@ -3,4 +3,4 @@ use Rattle.margin_policy.proofs.TestLemmas.{rises-all}
 use Rattle.margin_policy_tests.proofs.tests.rises.Goals as goal
 
 pub returns : goal.returns
-returns c = λ _. rises-all c.args.units.now c.loop-i.i (omega arith) c.loop-i.invariant
+returns c = λ _. rises-all (omega arith) c.loop-i.invariant

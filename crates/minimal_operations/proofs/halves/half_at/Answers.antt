@@ -4,6 +4,5 @@ use Rattle.minimal_operations.proofs.halves.half_at.Goals as goal
 
 pub returns : goal.returns
 returns c =
-    half_whole c.args.memory.now c.args.unit c.args.r c.is_sound.ensures c.number.ensures.unit c.requires.has
-    c.requires.level
+    half_whole c.is_sound.ensures c.number.ensures.unit c.requires.has c.requires.level
     (λ same. c.if-level-number.false (c.level.ensures ∙ same ∙ sym c.number.ensures.value))

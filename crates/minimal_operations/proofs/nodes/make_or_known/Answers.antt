@@ -14,8 +14,7 @@ returns-then-eq-3 c =
     let level : one.level ≡ c.args.level = eqb-true one.level c.args.level (sym c.eq.ensures ∙ c.if-eq.true) in
     let lo : one.lo ≡ c.args.lo = eqb-true one.lo c.args.lo (sym c.eq-then-eq.ensures ∙ c.if-eq-2.true) in
     let hi : one.hi ≡ c.args.hi = eqb-true one.hi c.args.hi (sym c.eq-then-eq-2.ensures ∙ c.if-eq-3.true) in
-    Gave-there (λ f. f ≡ branch c.args.level (family_in held c.args.lo) (family_in held c.args.hi)) held c.args.known
-    c.requires.node.sound c.requires.has_known
+    Gave-there c.requires.node.sound c.requires.has_known
     (is ∙ ap (λ n. branch n (family_in held one.lo) (family_in held one.hi)) level
     ∙ ap (λ r. branch c.args.level (family_in held r) (family_in held one.hi)) lo
     ∙ ap (λ r. branch c.args.level (family_in held c.args.lo) (family_in held r)) hi)

@@ -1,5 +1,4 @@
-use Rattle.std.proofs.Common.{arith}
-use Rattle.std.proofs.lemmas.Result.{MatchResult-from_both}
+use Rattle.std.proofs.{Common.arith, lemmas.Result.MatchResult-from_both}
 use Rattle.zdd_families.specs.Least.{IsLeastProduct}
 use Rattle.zdd_families.proofs.Ends.{least_product-swap}
 use Rattle.kept_answers.specs.declared.answers.Operation.TheVariants.{Product}
@@ -18,12 +17,11 @@ product-returns-in-Some-clause-gives t c =
 
 pub product-returns-in-Some-recall-clause-gives : goal.product-returns-in-Some-recall-clause-gives
 product-returns-in-Some-recall-clause-gives t c =
-    recalled Product c.args.memory.now c.args.a c.args.b c.in-Some-recall.answer c.is_sound.ensures
-    c.in-Some-recall.ensures
+    recalled Product c.args.a c.args.b c.is_sound.ensures c.in-Some-recall.ensures
 
 pub product-remember-requires : goal.product-remember-requires
 product-remember-requires t c =
-    told_made Product c.args.memory.now c.multiply_levels.new.memory c.args.a c.args.b c.in_ok-made.made
+    told_made Product c.args.a c.args.b
     (record { sound = c.is_sound.ensures; first = c.requires.has_a; second = c.requires.has_b }) c.in_ok-made.ensures
 
 pub product-returns-clause-gives : goal.product-returns-clause-gives

@@ -12,12 +12,11 @@ product_below-returns-in-Some-clause-gives t c =
 
 pub product_below-returns-in-Some-recall-clause-gives : goal.product_below-returns-in-Some-recall-clause-gives
 product_below-returns-in-Some-recall-clause-gives t c =
-    recalled Product c.args.memory.now c.args.a c.args.b c.in-Some-recall.answer c.is_sound.ensures
-    c.in-Some-recall.ensures
+    recalled Product c.args.a c.args.b c.is_sound.ensures c.in-Some-recall.ensures
 
 pub product_below-remember-requires : goal.product_below-remember-requires
 product_below-remember-requires t c =
-    told_made Product c.args.memory.now c.multiply_parts-2.new.memory c.args.a c.args.b c.in_ok-made.made
+    told_made Product c.args.a c.args.b
     (record { sound = c.is_sound.ensures; first = c.requires.has_a; second = c.requires.has_b }) c.in_ok-made.ensures
 
 pub product_below-returns-clause-gives : goal.product_below-returns-clause-gives

@@ -15,12 +15,11 @@ union-returns-in-Some-clause-gives t c =
 
 pub union-returns-in-Some-recall-clause-gives : goal.union-returns-in-Some-recall-clause-gives
 union-returns-in-Some-recall-clause-gives t c =
-    recalled Union c.args.memory.now c.args.a c.args.b c.in-Some-recall.answer c.is_sound.ensures
-    c.in-Some-recall.ensures
+    recalled Union c.args.a c.args.b c.is_sound.ensures c.in-Some-recall.ensures
 
 pub union-remember-requires : goal.union-remember-requires
 union-remember-requires t c =
-    told_made Union c.args.memory.now c.unite_levels-2.new.memory c.args.a c.args.b c.in_ok-made.made
+    told_made Union c.args.a c.args.b
     (record { sound = c.is_sound.ensures; first = c.requires.has_a; second = c.requires.has_b }) c.in_ok-made.ensures
 
 pub union-returns-clause-gives : goal.union-returns-clause-gives

@@ -3,8 +3,7 @@ use Rattle.zdd_families.specs.Without.{IsWithout}
 use Rattle.family_memory.specs.Memory.{family_in}
 use Rattle.family_memory.proofs.After.{Gave-there, Went-nowhere, ended}
 use Rattle.kept_answers.specs.declared.answers.Operation.TheVariants.{Without}
-use Rattle.minimal_operations.proofs.NothingLost.{stays}
-use Rattle.minimal_operations.proofs.Steps.{failed}
+use Rattle.minimal_operations.proofs.{NothingLost.stays, Steps.failed}
 use Rattle.minimal_operations.proofs.Telling.{kept, recalled, told_made}
 use Rattle.minimal_operations.proofs.WithoutSteps.{lo_fewer, some_fewer, went_some, went_hi, hi_fewer, halves_can}
 use Rattle.minimal_operations.proofs.WithoutSteps.{left_made}
@@ -29,8 +28,7 @@ strip_lowered-returns-in-Some t c =
       first = c.requires.has.first;
       second = serves.has;
     }) in
-    Gave-there (IsWithout (family_in held c.args.a) (family_in held c.args.b)) held c.in-Some.end gave.went.sound
-    gave.has (serves.same (family_in held c.in-Some.end) gave.is)
+    Gave-there gave.went.sound gave.has (serves.same (family_in held c.in-Some.end) gave.is)
 
 pub strip_lowered-returns : goal.strip_lowered-returns
 strip_lowered-returns t c =
@@ -43,7 +41,7 @@ strip_lowered-returns t c =
           w.lowered-part.ensures.serves.same left (subst (λ r. IsWithout all (family_in held r) left) w.part-is is)
       | strip_lowered-else-level w ↦ λ left is. subst (λ r. IsWithout all (family_in held r) left) w.part-is is
     ] in
-    ended held held c.strip_nodes.new.memory (Went-nowhere held c.requires.has.sound)
+    ended c.strip_nodes.new.memory (Went-nowhere c.requires.has.sound)
     (IsWithout all (family_in held c.if-level.part)) (IsWithout all (family_in held c.args.b)) c.strip_nodes.result
     serves c.strip_nodes.ensures
 
@@ -53,13 +51,11 @@ strip_nodes-returns-then-includes_none t c =
 
 pub strip_nodes-returns-in-Some-recall : goal.strip_nodes-returns-in-Some-recall
 strip_nodes-returns-in-Some-recall t c =
-    recalled Without c.args.memory.now c.args.a c.args.b c.in-Some-recall.answer c.requires.nodes.has.sound
-    c.in-Some-recall.ensures
+    recalled Without c.args.a c.args.b c.requires.nodes.has.sound c.in-Some-recall.ensures
 
 pub strip_nodes-remember-requires : goal.strip_nodes-remember-requires
 strip_nodes-remember-requires t c =
-    told_made Without c.args.memory.now c.strip_halves.new.memory c.args.a c.args.b c.in_ok-left.left
-    c.requires.nodes.has c.in_ok-left.ensures
+    told_made Without c.args.a c.args.b c.requires.nodes.has c.in_ok-left.ensures
 
 pub strip_nodes-returns : goal.strip_nodes-returns
 strip_nodes-returns t c = kept c.remember.ensures c.in_ok-left.ensures

@@ -1,8 +1,7 @@
 use Rattle.std.proofs.Common.{◌≤◌, arith}
 use Rattle.zdd_families.specs.Map.{level_in}
 use Rattle.family_memory.specs.Memory.{map_of}
-use Rattle.minimal_operations.proofs.Halving.{part_serves}
-use Rattle.minimal_operations.proofs.Nearing.{rest_serves}
+use Rattle.minimal_operations.proofs.{Halving.part_serves, Nearing.rest_serves}
 use Rattle.minimal_operations.proofs.withouts.nearer.Goals as goal
 
 pub returns-then-level-clause-serves : goal.returns-then-level-clause-serves

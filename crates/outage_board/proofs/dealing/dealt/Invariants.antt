@@ -1,7 +1,6 @@
 use Rattle.std.proofs.Common.{◌≡◌, ◌-◌, ◌≤◌, []}
 use Rattle.std.specs.Prelude.{vec_capacity}
-use Rattle.outage_board.specs.Passes.{new_passes}
-use Rattle.outage_board.specs.Dealing.{board_of, undealt}
+use Rattle.outage_board.specs.{Passes.new_passes, Dealing.board_of, Dealing.undealt}
 use Rattle.outage_board.proofs.dealing.dealt.Given as goal
 
 abbrev pub invariant-loop-number : goal.invariant-loop-number

@@ -10,6 +10,5 @@ join_seat-requires c =
       ap (λ p. p.board.table) c.pass.view_is ∙ ap (λ b. b.table) c.requires.pass,
       c.pass.invariant.0.holds_none,
       c.requires.word,
-      allows_join c.args.words.now.key place.id place.me.0 other.id other.me.0 c.requires.place.opened
-          c.requires.place.turn c.pass.invariant.0.turn,
+      allows_join c.args.words.now.key c.requires.place.opened c.requires.place.turn c.pass.invariant.0.turn,
     )

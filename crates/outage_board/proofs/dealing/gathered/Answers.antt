@@ -12,7 +12,7 @@ loop-pass-preserved c =
     record {
       own = c.gather.ensures.own;
       place = c.gather.ensures.place;
-      left = (pop_of board c.loop-pass.passes.passes left pass c.in-Some.ensures.last c.loop-pass.invariant.left).0;
+      left = (pop_of board left pass c.in-Some.ensures.last c.loop-pass.invariant.left).0;
       crews = c.loop-pass.invariant.crews
           ∙ ap (λ ps. crews ++ made_back ps) c.in-Some.ensures.last
           ∙ ap (λ l. crews ++ l) (made_back-last left pass)

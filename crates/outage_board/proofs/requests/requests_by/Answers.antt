@@ -6,5 +6,5 @@ use Rattle.outage_board.proofs.requests.requests_by.Goals as goal
 pub loop-crew-preserved : goal.loop-crew-preserved
 loop-crew-preserved c =
     map_take_more (requests_of c.args.tree.now) c.args.dockets.now c.loop-crew.crew (record { name = []; docket = [] })
-    c.loop-crew.all.items c.push.new.self.items c.in_ok-requests_of.field-0 (omega arith) c.loop-crew.invariant
+    (omega arith) c.loop-crew.invariant
     c.in_ok-requests_of.ensures c.in_ok-push.ensures.items

@@ -5,14 +5,12 @@ use Rattle.outage_board.proofs.requests.take.Goals as goal
 
 pub unreachable-requires : goal.unreachable-requires
 unreachable-requires c =
-    not_refused _ c.in-None.ensures.valid
-    (parts_may_be_asked c.args.tree.now c.args.names.now c.as_slice-names.result.now c.as_slice.result.now c.len.result
+    not_refused c.in-None.ensures.valid (parts_may_be_asked c.args.tree.now
     c.as_slice-names.ensures.names (c.as_slice.ensures.value ∙ c.in_ok-gather.ensures)
     (c.len.ensures ∙ sym c.as_slice.ensures.len) c.as_slice-names.ensures.form)
 
 pub returns : goal.returns
 returns c =
-    ap Take
-    (parts_are c.args.tree.now c.args.names.now c.as_slice-names.result.now c.as_slice.result.now c.len.result
+    ap Take (parts_are c.args.tree.now
     c.as_slice-names.ensures.names (c.as_slice.ensures.value ∙ c.in_ok-gather.ensures)
     (c.len.ensures ∙ sym c.as_slice.ensures.len) c.in-Some.ensures.value)

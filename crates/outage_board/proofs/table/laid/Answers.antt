@@ -1,8 +1,6 @@
 use Rattle.std.proofs.Common.{List, [], ◌∷◌, ◌++◌, sym, ◌∙◌, ap, subst}
 use Rattle.atomic_table.specs.Table.{opening}
-use Rattle.outage_board.specs.Boards.{BoardView}
-use Rattle.outage_board.specs.Rule.{KeepsTurns}
-use Rattle.outage_board.specs.Views.{first_view}
+use Rattle.outage_board.specs.{Boards.BoardView, Rule.KeepsTurns, Views.first_view}
 use Rattle.outage_board.proofs.TableLemmas.{opens_table}
 use Rattle.outage_board.proofs.table.laid.Goals as goal
 

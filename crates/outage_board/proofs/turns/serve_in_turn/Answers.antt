@@ -1,7 +1,5 @@
 use Rattle.std.proofs.Common.{◌≡◌, ◌<◌, length, sym, subst}
-use Rattle.outage_board.specs.Boards.{BoardView}
-use Rattle.outage_board.specs.declared.entry.Entry.{Entry}
-use Rattle.outage_board.specs.Passes.{entries_made}
+use Rattle.outage_board.specs.{Boards.BoardView, declared.entry.Entry.Entry, Passes.entries_made}
 use Rattle.outage_board.proofs.ServingLemmas as serving
 use Rattle.outage_board.proofs.turns.serve_in_turn.Goals as goal
 

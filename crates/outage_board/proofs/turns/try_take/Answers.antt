@@ -6,6 +6,5 @@ compare_exchange-requires c =
     let place = c.args.place.now in (
       c.requires.own,
       c.requires.word,
-      allows_take c.args.words.now.key c.args.words.now.table_id.slots place.id place.me
-          c.requires.may,
+      allows_take c.args.words.now.key c.args.words.now.table_id.slots place.id c.requires.may,
     )

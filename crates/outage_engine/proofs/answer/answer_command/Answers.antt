@@ -1,5 +1,4 @@
 use Rattle.std.proofs.Common.{inl, inr, refl}
-use Rattle.board_words.specs.declared.command.Command.TheVariants.{Check, Print}
 use Rattle.outage_engine.specs.Texts.{for_check, for_cuts, for_diagram, for_print}
 use Rattle.outage_engine.proofs.Coming.{checked_came, helped_came, made_came, printed_came, sum_refused, summed_came}
 use Rattle.outage_engine.proofs.Coming.{unread_came}
@@ -32,7 +31,7 @@ returns-in-Ok g c = rw c.in-Check.is record {
 
 pub returns-in-Err : goal.returns-in-Err
 returns-in-Err g c = rw c.in-Check.is record {
-  came = unread_came Check for_check c.in-Err.end refl refl c.in-Err.ensures.refused;
+  came = unread_came for_check c.in-Err.end refl refl c.in-Err.ensures.refused;
   unread = inl (for_check, refl, refl);
 }
 
@@ -46,7 +45,7 @@ returns-in-Ok-read_tree g c = rw c.in-Print.is record {
 
 pub returns-in-Err-read_tree : goal.returns-in-Err-read_tree
 returns-in-Err-read_tree g c = rw c.in-Print.is record {
-  came = unread_came Print for_print c.in-Err-read_tree.end refl refl c.in-Err-read_tree.ensures.refused;
+  came = unread_came for_print c.in-Err-read_tree.end refl refl c.in-Err-read_tree.ensures.refused;
   unread = inl (for_print, refl, refl);
 }
 

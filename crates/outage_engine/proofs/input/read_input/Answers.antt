@@ -1,9 +1,7 @@
-use Rattle.std.proofs.Common.{subst}
-use Rattle.std.proofs.lemmas.Result.{IfErr-weaker, IfOk-weaker}
+use Rattle.std.proofs.{Common.subst, lemmas.Result.IfErr-weaker, lemmas.Result.IfOk-weaker}
 use Rattle.event_counts.specs.Count.{Rose}
 use Rattle.deck_reading.specs.Faults.{IsWellFormed}
-use Rattle.outage_engine.proofs.Answering.{of_whole}
-use Rattle.outage_engine.proofs.Reading.{crews_are_there, refused_reading}
+use Rattle.outage_engine.proofs.{Answering.of_whole, Reading.crews_are_there, Reading.refused_reading}
 use Rattle.outage_engine.proofs.input.read_input.Goals as goal
 
 pub returns-in-Ok : goal.returns-in-Ok
@@ -20,8 +18,7 @@ returns-in-Ok g c =
       crews =
           IfOk-weaker c.deck_of.result _ _
           (λ deck well is.
-          crews_are_there c.in-Ok.bytes deck.tree deck.crews
-          (subst (λ part. IsWellFormed part c.in-Ok.bytes deck.tree deck.crews) is well))
+          crews_are_there (subst (λ part. IsWellFormed part c.in-Ok.bytes deck.tree deck.crews) is well))
           c.deck_of.ensures.deck;
       refused =
           IfErr-weaker c.deck_of.result _ _

@@ -1,8 +1,6 @@
 use Rattle.std.specs.Prelude.{None}
-use Rattle.deck_reading.specs.declared.deck.CrewPart.TheVariants.{Unread}
-use Rattle.deck_reading.specs.Faults.{IsWellFormed}
-use Rattle.outage_engine.proofs.Clauses.{of_input}
-use Rattle.outage_engine.proofs.Reading.{without_crews}
+use Rattle.deck_reading.specs.{declared.deck.CrewPart.TheVariants.Unread, Faults.IsWellFormed}
+use Rattle.outage_engine.proofs.{Clauses.of_input, Reading.without_crews}
 use Rattle.outage_engine.proofs.input.read_tree.Goals as goal
 
 pub returns-in-Ok : goal.returns-in-Ok
@@ -11,6 +9,6 @@ returns-in-Ok g c = record {
       of_input (g.S.Source.held c.args.source.now) (g.S.Source.held c.read_input.new.source)
       (λ bytes. IsWellFormed Unread bytes c.in-Ok.deck.tree c.in-Ok.deck.crews)
       (λ bytes. IsWellFormed Unread bytes c.in-Ok.deck.tree None)
-      (λ bytes. without_crews bytes c.in-Ok.deck.tree c.in-Ok.deck.crews) c.in-Ok.ensures.deck;
+      (λ bytes. without_crews c.in-Ok.deck.crews) c.in-Ok.ensures.deck;
   refused = tt;
 }

@@ -1,5 +1,4 @@
-use Rattle.outage_engine.proofs.OneFinding.{one_finding}
-use Rattle.outage_engine.proofs.SomeFinding.{some_finding}
+use Rattle.outage_engine.proofs.{OneFinding.one_finding, SomeFinding.some_finding}
 use Rattle.outage_engine.proofs.laws.a_deck_has_one_finding.Goals as goal
 
 pub returns-clause-some : goal.returns-clause-some

@@ -4,4 +4,4 @@ use Rattle.outage_engine.proofs.laws.made_decks_have_no_fault.Goals as goal
 pub returns : goal.returns
 returns c number fault =
     let made = c.made_decks_are_well_made.ensures number in
-    never_faulty number made.0 made.1 fault
+    never_faulty made.1 fault

@@ -10,7 +10,7 @@ returns-in-Ok-orders_of g c = record {
     orders = c.in-Ok-orders_of.ensures.orders;
     few = c.in-Ok-orders_of.ensures.few;
     units =
-        listed_of_units c.args.tree c.args.found.cuts c.args.asked.most c.in-Ok-orders_of.orders c.in-Ok.texts
+        listed_of_units c.args.found.cuts c.args.asked.most
         c.requires.list.all c.in-Ok-orders_of.ensures.orders c.in-Ok.ensures;
   };
   root = refl;

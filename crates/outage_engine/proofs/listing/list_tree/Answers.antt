@@ -1,8 +1,6 @@
 use Rattle.std.specs.Prelude.{ℕ, Option}
-use Rattle.std.proofs.Common.{sym, subst}
-use Rattle.std.proofs.lemmas.Result.{IfOk-weaker}
-use Rattle.outage_engine.specs.Answers.{IsLimitOf}
-use Rattle.outage_engine.specs.Store.{IsFoundBy, method_by}
+use Rattle.std.proofs.{Common.sym, Common.subst, lemmas.Result.IfOk-weaker}
+use Rattle.outage_engine.specs.{Answers.IsLimitOf, Store.IsFoundBy, Store.method_by}
 use Rattle.outage_engine.proofs.ByDiagram.{found_by, limit_without}
 use Rattle.outage_engine.proofs.listing.list_tree.Goals as goal
 

@@ -1,10 +1,7 @@
 use Rattle.std.specs.Prelude.{Some}
-use Rattle.std.proofs.Common.{sym, subst}
-use Rattle.std.proofs.lemmas.Result.{IfErr-weaker, IfOk-weaker}
-use Rattle.outage_engine.specs.declared.listing.Listing.{Listing}
-use Rattle.outage_engine.specs.Answers.{IfRefused, IsLimitOf}
-use Rattle.outage_engine.specs.Openings.{IsOpenedFor}
-use Rattle.outage_engine.specs.Store.{IsFoundBy, method_by}
+use Rattle.std.proofs.{Common.sym, Common.subst, lemmas.Result.IfErr-weaker, lemmas.Result.IfOk-weaker}
+use Rattle.outage_engine.specs.{declared.listing.Listing.Listing, Answers.IfRefused, Answers.IsLimitOf}
+use Rattle.outage_engine.specs.{Openings.IsOpenedFor, Store.IsFoundBy, Store.method_by}
 use Rattle.outage_engine.proofs.Serving.{opened_for, ready}
 use Rattle.outage_engine.proofs.opening.open_deck.Goals as goal
 
@@ -18,11 +15,10 @@ returns-in-Ok g c =
           IfOk-weaker c.open_listing.result _ _
           (λ opened with.
           subst (λ crews. IsOpenedFor board.margin board.asked.most c.args.tree crews opened) (sym c.in-Some.is)
-          (opened_for board.margin board.asked.most c.args.tree listing crews opened c.in-Ok.ensures.listed with))
-          c.open_listing.ensures.opened;
+          (opened_for board.margin crews opened c.in-Ok.ensures.listed with)) c.open_listing.ensures.opened;
       ready =
           IfOk-weaker c.open_listing.result _ _
-          (λ opened with. ready board.margin listing crews opened c.in-Ok.ensures.listed.units with)
+          (λ opened with. ready board.margin crews opened c.in-Ok.ensures.listed.units with)
           c.open_listing.ensures.opened;
       found =
           IfOk-weaker c.open_listing.result _ _

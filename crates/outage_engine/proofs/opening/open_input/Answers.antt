@@ -1,13 +1,10 @@
 use Rattle.std.specs.Prelude.{None}
-use Rattle.std.proofs.Common.{inl, refl}
-use Rattle.std.proofs.lemmas.Result.{IfErr-weaker, IfOk-weaker}
+use Rattle.std.proofs.{Common.inl, Common.refl, lemmas.Result.IfErr-weaker, lemmas.Result.IfOk-weaker}
 use Rattle.event_counts.specs.Count.{Rose}
 use Rattle.deck_reading.specs.declared.deck.CrewPart.TheVariants.{Needed}
-use Rattle.outage_engine.specs.Store.{method_by}
-use Rattle.outage_engine.specs.Texts.{for_board}
-use Rattle.outage_engine.proofs.Answering.{limit_for, refused_for}
-use Rattle.outage_engine.proofs.SeatLemmas.{bears_out, left_by}
-use Rattle.outage_engine.proofs.Serving.{opened_of_input}
+use Rattle.outage_engine.specs.{Store.method_by, Texts.for_board}
+use Rattle.outage_engine.proofs.{Answering.limit_for, Answering.refused_for, SeatLemmas.bears_out, SeatLemmas.left_by}
+use Rattle.outage_engine.proofs.{Serving.opened_of_input}
 use Rattle.outage_engine.proofs.opening.open_input.Goals as goal
 
 pub returns-in-Ok : goal.returns-in-Ok
@@ -20,8 +17,7 @@ returns-in-Ok g c =
       opened =
           IfOk-weaker c.open_deck-opened.result _ _
           (λ opened is.
-          opened_of_input held left c.args.board.margin c.args.board.asked.most deck.tree deck.crews opened read is)
-          c.open_deck-opened.ensures.opened;
+          opened_of_input held left c.args.board.margin deck.crews opened read is) c.open_deck-opened.ensures.opened;
       ready = c.open_deck-opened.ensures.ready;
       bears =
           IfOk-weaker c.open_deck-opened.result _ _

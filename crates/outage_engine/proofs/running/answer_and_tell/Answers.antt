@@ -16,6 +16,4 @@ pub returns-in-Err-NoMemory-clause-run : goal.returns-in-Err-NoMemory-clause-run
 returns-in-Err-NoMemory-clause-run g c =
     idle_run
     (left_by_words c.args.words.now (g.S.Source.held c.args.source.now) (g.S.Source.held c.answer_command.new.source)
-    c.in-Some.command (sym c.in-Some.ensures) c.args.seat.now c.answer_command.new.seat
-    c.answer_command.ensures.came.seat)
-    refl
+    c.in-Some.command (sym c.in-Some.ensures) c.answer_command.ensures.came.seat) refl

@@ -1,7 +1,6 @@
 use Rattle.std.specs.Prelude.{Option, Some}
 use Rattle.std.proofs.Common.{refl, subst, sym, ◌∙◌}
-use Rattle.board_words.specs.declared.command.Command.{Command}
-use Rattle.board_words.specs.declared.command.Command.TheVariants.{Board}
+use Rattle.board_words.specs.{declared.command.Command.Command, declared.command.Command.TheVariants.Board}
 use Rattle.outage_engine.proofs.running.run.Goals as goal
 
 -- a command is `board`, so that words of `board` are those of no other command

@@ -1,6 +1,5 @@
 use Rattle.std.proofs.Common.{ap, inl}
-use Rattle.outage_engine.specs.Gives.{own_deck, wants_of}
-use Rattle.outage_engine.specs.Texts.{for_board}
+use Rattle.outage_engine.specs.{Gives.own_deck, Gives.wants_of, Texts.for_board}
 use Rattle.outage_engine.proofs.Clauses.{answers_deck, answers_length, answers_words, fails_to_read, front_of}
 use Rattle.outage_engine.proofs.Clauses.{of_command, prints_board, prints_safely, refuses_deck, refuses_length}
 use Rattle.outage_engine.proofs.Clauses.{refuses_orders, refuses_weight, refuses_words, unwritten}
@@ -26,8 +25,7 @@ returns g c = record {
   due_words = answers_words c.serve_and_tell.ensures.run.runs;
   due_length = answers_length c.serve_and_tell.ensures.run.runs;
   due = answers_deck c.serve_and_tell.ensures.run.runs;
-  known =
-      leaves_diagram _ _ _ c.args.seat.now c.serve_and_tell.new.seat _ c.serve_and_tell.ensures.run.bears;
+  known = leaves_diagram _ _ _ c.args.seat.now c.serve_and_tell.new.seat c.serve_and_tell.ensures.run.bears;
   full =
       finds_full _ _ _ c.args.seat.now c.serve_and_tell.new.seat _ c.serve_and_tell.ensures.run.bears;
   went = c.serve_and_tell.ensures.run.seat.0;

@@ -29,8 +29,7 @@ returns g c = record {
   due_words = answers_words c.answer_and_tell.ensures.run.runs;
   due_length = answers_length c.answer_and_tell.ensures.run.runs;
   due = answers_deck c.answer_and_tell.ensures.run.runs;
-  known =
-      leaves_diagram _ _ _ c.args.seat.now c.answer_and_tell.new.seat _ c.answer_and_tell.ensures.run.bears;
+  known = leaves_diagram _ _ _ c.args.seat.now c.answer_and_tell.new.seat c.answer_and_tell.ensures.run.bears;
   full =
       finds_full _ _ _ c.args.seat.now c.answer_and_tell.new.seat _ c.answer_and_tell.ensures.run.bears;
   went = c.answer_and_tell.ensures.run.seat.0;

@@ -1,12 +1,7 @@
-use Rattle.std.specs.Prelude.{◌++◌}
 use Rattle.std.proofs.Common.{inl, refl}
 use Rattle.event_counts.specs.Count.{Rose}
-use Rattle.board_texts.specs.BoardText.{board_text}
 use Rattle.board_words.specs.declared.command.Command.TheVariants.{Board}
-use Rattle.outage_engine.specs.declared.status.Status.TheVariants.{Done}
-use Rattle.outage_engine.specs.Answers.{listing_text}
-use Rattle.outage_engine.specs.Store.{method_by}
-use Rattle.outage_engine.specs.Texts.{for_board}
+use Rattle.outage_engine.specs.{declared.status.Status.TheVariants.Done, Store.method_by, Texts.for_board}
 use Rattle.outage_engine.proofs.Coming.{bears_by_words, idle_run, left_by_words, refused_by, refused_run, told_run}
 use Rattle.outage_engine.proofs.Serving.{gives_board}
 use Rattle.outage_engine.proofs.running.serve_and_tell.Goals as goal
@@ -26,8 +21,7 @@ returns-in-Ok-open_input g c =
     let told = c.serve.ensures.told in
     record {
       run =
-          told_run (left_by_words c.args.words.now held left command says before after c.open_input.ensures.left)
-          (Done (method_by listing.root)) (listing_text listing ++ board_text listing.tree told.0)
+          told_run (left_by_words c.args.words.now held left command says c.open_input.ensures.left)
           (gives_board c.args.words.now held left rose board.margin board.asked.most board.asked.workers says opened
           c.in-Ok-open_input.ensures.opened told.0 told.1)
           (bears_by_words c.args.words.now held left command says before after (Done (method_by listing.root))
@@ -45,9 +39,7 @@ returns-in-Err-Refused g c =
     let says = c.asked_by.ensures.said in
     record {
       run =
-          refused_run
-          (left_by_words c.args.words.now held left command says c.args.seat.now c.open_input.new.seat
-          c.open_input.ensures.left)
+          refused_run (left_by_words c.args.words.now held left command says c.open_input.ensures.left)
           c.in-Err-Refused.refusal
           (refused_by c.args.words.now held left command says rose c.in-Err-Refused.refusal
           (for_board board.asked.most, refl, rw c.in-Err-Refused.field-0-is at c.in-Err-Refused.ensures.refused))
@@ -62,8 +54,7 @@ returns-in-Err-NoMemory g c =
           idle_run
           (left_by_words c.args.words.now (g.S.Source.held c.args.source.now)
           (g.S.Source.held c.open_input.new.source) (Board board.margin board.asked.most board.asked.workers)
-          c.asked_by.ensures.said c.args.seat.now c.open_input.new.seat c.open_input.ensures.left)
-          refl;
+          c.asked_by.ensures.said c.open_input.ensures.left) refl;
     }
 
 pub returns-in_default : goal.returns-in_default

@@ -1,7 +1,6 @@
 use Rattle.std.proofs.Common.{◌≡◌, sym, subst}
 use Rattle.std.proofs.lemmas.Result.{IfOk-weaker}
-use Rattle.outage_engine.specs.Store.{IsFoundBy, method_by}
-use Rattle.outage_engine.specs.declared.status.Method.TheVariants.{Diagram}
+use Rattle.outage_engine.specs.{Store.IsFoundBy, Store.method_by, declared.status.Method.TheVariants.Diagram}
 use Rattle.outage_engine.proofs.sizes.count_cuts.Goals as goal
 
 pub returns-in-Ok-clause-found : goal.returns-in-Ok-clause-found

@@ -4,13 +4,12 @@ use Rattle.outage_engine.proofs.sizes.count_family.Goals as goal
 
 pub overflow_sub-result : goal.overflow_sub-result
 overflow_sub-result c =
-    few_counted c.args.tree.now c.args.seat.now c.args.root c.requires.root c.in-Ok.field-0.sets c.in-Ok.field-0.weight
-    c.in-Ok.ensures.sets c.in-Ok.ensures.weight
+    few_counted c.args.tree.now c.args.seat.now c.args.root c.requires.root c.in-Ok.ensures.sets c.in-Ok.ensures.weight
 
 pub returns-in_ok-nodes-in-Ok-clause-counts : goal.returns-in_ok-nodes-in-Ok-clause-counts
 returns-in_ok-nodes-in-Ok-clause-counts c =
-    counts_of_root c.args.tree.now c.args.seat.now c.args.root c.requires.root c.in-Ok.field-0.sets
-    c.in-Ok.field-0.weight _ c.in-Ok.ensures.sets c.in-Ok.ensures.weight c.in-Ok.ensures.within
+    counts_of_root c.args.tree.now c.args.seat.now c.args.root c.requires.root c.in-Ok.ensures.sets
+    c.in-Ok.ensures.weight c.in-Ok.ensures.within
     (rw c.size.ensures.seat at c.in_ok-nodes-in-Ok.ensures.count)
 
 pub returns-in-Err-clause-limit : goal.returns-in-Err-clause-limit

@@ -3,11 +3,8 @@ use Rattle.std.proofs.Common.{sym, ap, subst, ◌∙◌}
 use Rattle.std.proofs.lemmas.Result.{IfErr-weaker, IfOk-weaker}
 use Rattle.crew_script.specs.declared.dockets.Crew.{Crew}
 use Rattle.tree_maker.specs.WellMade.{made_crew}
-use Rattle.outage_engine.specs.declared.listing.Listing.{Listing}
-use Rattle.outage_engine.specs.Answers.{IfRefused, IsLimitOf}
-use Rattle.outage_engine.specs.Store.{IsFoundBy, method_by}
-use Rattle.outage_engine.specs.Summaries.{IsServedFor}
-use Rattle.outage_engine.specs.Texts.{summed_most}
+use Rattle.outage_engine.specs.{declared.listing.Listing.Listing, Answers.IfRefused, Answers.IsLimitOf, Store.IsFoundBy}
+use Rattle.outage_engine.specs.{Store.method_by, Summaries.IsServedFor, Texts.summed_most}
 use Rattle.outage_engine.proofs.Summing.{summary_of}
 use Rattle.outage_engine.proofs.summary.sum_deck.Goals as goal
 
@@ -26,7 +23,7 @@ returns-in-Ok g c =
       summed =
           IfOk-weaker c.serve_listing.result _ _
           (λ summary served.
-          summary_of c.args.number c.args.tree crews summary listing c.in-Ok.ensures.listed
+          summary_of c.args.number c.args.tree crews summary c.in-Ok.ensures.listed
           (subst (λ crews. IsServedFor c.args.number listing crews summary)
           (some_is c.in-Some.dockets crews (sym c.in-Some.is ∙ c.requires.crew)) served))
           c.serve_listing.ensures.summed;

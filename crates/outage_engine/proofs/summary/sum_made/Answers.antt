@@ -1,15 +1,11 @@
 use Rattle.std.specs.Prelude.{◌∷◌, [], None, Some}
 use Rattle.std.proofs.Common.{subst, inl, refl}
 use Rattle.std.proofs.lemmas.Result.{IfErr-weaker, IfOk-weaker}
-use Rattle.tree_maker.specs.MadeDeck.{made_deck}
-use Rattle.tree_maker.specs.WellMade.{made_crew}
-use Rattle.deck_reading.specs.declared.deck.CrewPart.TheVariants.{Needed}
-use Rattle.deck_reading.specs.Faults.{IsWellFormed}
-use Rattle.outage_engine.specs.Store.{method_by}
-use Rattle.outage_engine.specs.Texts.{for_summary, summed_most}
-use Rattle.outage_engine.proofs.Answering.{fault_for, limit_for}
-use Rattle.outage_engine.proofs.SeatLemmas.{bears_out, left_by}
-use Rattle.outage_engine.proofs.Summing.{summary_is_text}
+use Rattle.tree_maker.specs.{MadeDeck.made_deck, WellMade.made_crew}
+use Rattle.deck_reading.specs.{declared.deck.CrewPart.TheVariants.Needed, Faults.IsWellFormed}
+use Rattle.outage_engine.specs.{Store.method_by, Texts.for_summary, Texts.summed_most}
+use Rattle.outage_engine.proofs.{Answering.fault_for, Answering.limit_for, SeatLemmas.bears_out, SeatLemmas.left_by}
+use Rattle.outage_engine.proofs.{Summing.summary_is_text}
 use Rattle.outage_engine.proofs.summary.sum_made.Goals as goal
 
 pub returns-in-Ok : goal.returns-in-Ok

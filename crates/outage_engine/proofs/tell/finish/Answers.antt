@@ -6,8 +6,7 @@ use Rattle.outage_engine.proofs.tell.finish.Goals as goal
 pub returns-in-Ok : goal.returns-in-Ok
 returns-in-Ok g c = record {
   told = λ new text none fine puts.
-      told_whole g.K.Sink.taken g.K.Sink.faults _ _ _ c.finish.result _ c.args.status _ c.in-Ok.is
-      (Puts-finished g.K.Sink.taken g.K.Sink.faults new c.args.out _ text _ c.finish.result none fine puts
+      told_whole _ c.args.status c.in-Ok.is (Puts-finished c.finish.result none fine puts
       c.finish.ensures.all c.finish.ensures.front.1 c.finish.ensures.rose c.finish.ensures.stopped
       c.finish.ensures.never_falls)
       refl;
@@ -16,8 +15,7 @@ returns-in-Ok g c = record {
 pub returns-in-Err : goal.returns-in-Err
 returns-in-Err g c = record {
   told = λ new text none fine puts.
-      told_front g.K.Sink.taken g.K.Sink.faults _ _ _ c.finish.result _ c.args.status c.in-Err.is
-      (Puts-finished g.K.Sink.taken g.K.Sink.faults new c.args.out _ text _ c.finish.result none fine puts
+      told_front _ c.args.status c.in-Err.is (Puts-finished c.finish.result none fine puts
       c.finish.ensures.all c.finish.ensures.front.1 c.finish.ensures.rose c.finish.ensures.stopped
       c.finish.ensures.never_falls);
 }

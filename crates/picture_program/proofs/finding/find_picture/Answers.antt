@@ -9,8 +9,7 @@ returns-clause-picture g c =
     IfOk-weaker c.mark_tree.result _ _
     (λ picture is.
     picture_of c.args.words.now (g.S.Source.held c.args.source.now) (g.S.Source.held c.read_tree.new.source)
-    c.in-Some.mark c.in_ok-tree.tree (sym c.read_words.ensures.mark ∙ c.in-Some.is) c.in_ok-tree.ensures.tree picture
-    is)
+    c.in-Some.mark c.in_ok-tree.tree (sym c.read_words.ensures.mark ∙ c.in-Some.is) c.in_ok-tree.ensures.tree is)
     c.mark_tree.ensures.picture
 
 pub returns-clause-refused : goal.returns-clause-refused

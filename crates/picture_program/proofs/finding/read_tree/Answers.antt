@@ -1,6 +1,5 @@
 use Rattle.std.proofs.Common.{subst, length, ◌≤◌}
-use Rattle.std.specs.Result.{IfOk, OnOk}
-use Rattle.std.specs.Io.KnownBytes.{Consumes, IsAtEnd}
+use Rattle.std.specs.{Result.IfOk, Result.OnOk, Io.KnownBytes.Consumes, Io.KnownBytes.IsAtEnd}
 use Rattle.std.proofs.lemmas.Result.{err_from_is_err_and}
 use Rattle.event_counts.specs.Count.{Rose}
 use Rattle.edge_io.specs.declared.reading.TheConstants.{INPUT_LIMIT}
@@ -13,8 +12,7 @@ returns-in_err-read_deck-in-Ok-clause-refused g c =
     let p = err_from_is_err_and c.from_residual.result c.from_residual.ensures.1 in
     rw (p.1, p.2)
     (read_refused (g.S.Source.held c.args.source.now) (g.S.Source.held c.read_all.new.source)
-    (Rose (g.S.Source.faults c.args.source.now) (g.S.Source.faults c.read_all.new.source)) c.in-Ok.bytes
-    c.as_slice.result.now _ c.as_slice.ensures.value
+    (Rose (g.S.Source.faults c.args.source.now) (g.S.Source.faults c.read_all.new.source)) _ c.as_slice.ensures.value
     (subst (λ r. IfOk r (λ bytes. Consumes (g.S.Source.held c.args.source.now) (g.S.Source.held c.read_all.new.source)
     bytes)) c.in-Ok.is c.read_all.ensures.whole)
     (subst (λ r. OnOk r (IsAtEnd (g.S.Source.held c.read_all.new.source))) c.in-Ok.is c.read_all.ensures.at_end)
@@ -23,8 +21,8 @@ returns-in_err-read_deck-in-Ok-clause-refused g c =
 
 pub returns-in_ok-read_deck-in-Ok-clause-tree : goal.returns-in_ok-read_deck-in-Ok-clause-tree
 returns-in_ok-read_deck-in-Ok-clause-tree g c =
-    of_whole (g.S.Source.held c.args.source.now) (g.S.Source.held c.read_all.new.source) c.in-Ok.bytes
-    c.as_slice.result.now (λ bytes. StandsFor bytes c.in_ok-read_deck-in-Ok.field-0.tree)
+    of_whole (g.S.Source.held c.args.source.now) (g.S.Source.held c.read_all.new.source)
+    (λ bytes. StandsFor bytes c.in_ok-read_deck-in-Ok.field-0.tree)
     c.as_slice.ensures.value
     (subst (λ r. IfOk r (λ bytes. Consumes (g.S.Source.held c.args.source.now) (g.S.Source.held c.read_all.new.source)
     bytes)) c.in-Ok.is c.read_all.ensures.whole)

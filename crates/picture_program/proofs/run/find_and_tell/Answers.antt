@@ -1,16 +1,13 @@
 use Rattle.std.specs.Result.{IfOk}
 use Rattle.std.proofs.Common.{refl, subst}
-use Rattle.picture_program.specs.Finding.{IsPictureOf, text_of}
-use Rattle.picture_program.specs.Runs.{refused, told}
+use Rattle.picture_program.specs.{Finding.IsPictureOf, Finding.text_of, Runs.refused, Runs.told}
 use Rattle.picture_program.proofs.Causes.{picture_for}
 use Rattle.picture_program.proofs.run.find_and_tell.Goals as goal
 
 pub returns-in-Ok-find_picture : goal.returns-in-Ok-find_picture
 returns-in-Ok-find_picture g c = record {
   runs =
-      told (text_of c.in-Ok-find_picture.picture)
-      (picture_for c.args.words.now (g.S.Source.held c.args.source.now) (g.S.Source.held c.find_picture.new.source)
-      c.in-Ok-find_picture.picture
+      told (text_of c.in-Ok-find_picture.picture) (picture_for
       (subst (λ r. IfOk r (IsPictureOf c.args.words.now (g.S.Source.held c.args.source.now)
       (g.S.Source.held c.find_picture.new.source))) c.in-Ok-find_picture.is c.find_picture.ensures.picture))
       c.tell_picture.ensures.told refl;

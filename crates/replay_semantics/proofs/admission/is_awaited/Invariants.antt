@@ -1,6 +1,5 @@
 use Rattle.std.proofs.Common.{◌≡◌, true, drop}
-use Rattle.replay_semantics.specs.Admission.{is_awaited}
-use Rattle.replay_semantics.specs.Table.{step_in}
+use Rattle.replay_semantics.specs.{Admission.is_awaited, Table.step_in}
 use Rattle.replay_semantics.proofs.admission.is_awaited.Given as goal
 
 abbrev pub invariant-loop-input : goal.invariant-loop-input

@@ -1,6 +1,5 @@
 use Rattle.std.proofs.Common.{◌≡◌, ℕ, take}
-use Rattle.replay_semantics.specs.Spread.{step_without}
-use Rattle.replay_semantics.specs.Table.{step_in}
+use Rattle.replay_semantics.specs.{Spread.step_without, Table.step_in}
 use Rattle.replay_semantics.proofs.failures.clear.Given as goal
 
 abbrev pub invariant-loop-node : goal.invariant-loop-node

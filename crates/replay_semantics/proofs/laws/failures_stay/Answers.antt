@@ -1,7 +1,6 @@
 use Rattle.std.proofs.Common.{suc, length, [], ◌∷◌, ◌++◌}
 use Rattle.fault_definitions.specs.Step.{step}
-use Rattle.replay_semantics.proofs.GrowthLemmas.{grows-stays}
-use Rattle.replay_semantics.proofs.StepGrowth.{step-grows}
+use Rattle.replay_semantics.proofs.{GrowthLemmas.grows-stays, StepGrowth.step-grows}
 use Rattle.replay_semantics.proofs.laws.failures_stay.Goals as goal
 
 pub returns : goal.returns

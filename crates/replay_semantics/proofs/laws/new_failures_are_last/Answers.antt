@@ -1,7 +1,6 @@
 use Rattle.std.proofs.Common.{suc, length, [], ◌∷◌, ◌++◌}
 use Rattle.fault_definitions.specs.Step.{step}
-use Rattle.replay_semantics.proofs.GrowthLemmas.{grows-new}
-use Rattle.replay_semantics.proofs.StepGrowth.{step-grows}
+use Rattle.replay_semantics.proofs.{GrowthLemmas.grows-new, StepGrowth.step-grows}
 use Rattle.replay_semantics.proofs.laws.new_failures_are_last.Goals as goal
 
 pub returns : goal.returns

@@ -1,6 +1,5 @@
 use Rattle.std.proofs.Common.{◌≡◌, ◌∙◌, ◌++◌, ◌∷◌, [], List, ℕ, ap, arith, get_or, length, ◌<◌}
-use Rattle.std.proofs.lemmas.List.{get_or_default}
-use Rattle.std.proofs.lemmas.Result.{on_ok_weaker}
+use Rattle.std.proofs.{lemmas.List.get_or_default, lemmas.Result.on_ok_weaker}
 use Rattle.replay_semantics.specs.Readers.{readers_in}
 use Rattle.replay_semantics.proofs.ReaderLemmas.{one_more}
 use Rattle.replay_semantics.proofs.readers.add.Goals as goal

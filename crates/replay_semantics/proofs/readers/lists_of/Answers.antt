@@ -4,8 +4,7 @@ use Rattle.std.proofs.Common.{arith, ◌+◌, refl, subst, sym}
 use Rattle.replay_semantics.proofs.readers.lists_of.Goals as goal
 
 pub loop-index-init : goal.loop-index-init
-loop-index-init c =
-    have_none c.args.tree.now _ c.in_ok-lists.lists.items c.in_ok-lists.ensures (omega arith)
+loop-index-init c = have_none c.in_ok-lists.ensures (omega arith)
 
 pub loop-index-preserved : goal.loop-index-preserved
 loop-index-preserved c =
@@ -15,9 +14,8 @@ loop-index-preserved c =
     subst (λ old. MoreReaders old new c.below.result.now (c.loop-index.index + 1)) c.as_mut_slice.ensures.value
     c.in_ok-add_each.ensures in
     subst (λ l. HaveReaders c.args.tree.now l (c.loop-index.index + 1))
-    (sym (changed_all c.loop-index.lists.len lists new more.all c.loop-index.lists.ok.0))
-    (have_more c.args.tree.now lists new c.loop-index.index (c.loop-index.index + 1) c.below.result.now refl
+    (sym (changed_all lists new more.all c.loop-index.lists.ok.0)) (have_more refl
     (omega arith, omega arith) c.below.ensures.below c.loop-index.invariant more)
 
 pub returns : goal.returns
-returns c = all_readers c.args.tree.now c.loop-index.lists.items c.loop-index.index (omega arith) c.loop-index.invariant
+returns c = all_readers (omega arith) c.loop-index.invariant

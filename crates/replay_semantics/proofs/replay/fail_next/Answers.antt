@@ -1,13 +1,9 @@
 use Rattle.std.proofs.Common.{◌≡◌, ◌∙◌, ◌++◌, ◌∷◌, ◌&&◌, [], false, suc, List, ℕ, length, drop, ap, sym, subst, arith}
 use Rattle.std.specs.List.{list_all}
-use Rattle.fault_definitions.specs.FailingOrder.{is_admissible}
-use Rattle.fault_definitions.specs.Step.{Step}
-use Rattle.fault_definitions.specs.Tree.{IsUnitOf}
+use Rattle.fault_definitions.specs.{FailingOrder.is_admissible, Step.Step, Tree.IsUnitOf}
 use Rattle.unit_sets.specs.UnitList.{among}
-use Rattle.replay_semantics.specs.Admission.{node_awaits, all_in_turn}
-use Rattle.replay_semantics.specs.Readers.{readers_in}
-use Rattle.replay_semantics.specs.Spread.{HaveFailed}
-use Rattle.replay_semantics.specs.Table.{step_in, HoldsSteps}
+use Rattle.replay_semantics.specs.{Admission.node_awaits, Admission.all_in_turn, Readers.readers_in, Spread.HaveFailed}
+use Rattle.replay_semantics.specs.{Table.step_in, Table.HoldsSteps}
 use Rattle.replay_semantics.proofs.AdmissionLemmas.{admissible_next, fits_awaited, fits_not}
 use Rattle.replay_semantics.proofs.replay.fail_next.Goals.{After-push}
 use Rattle.replay_semantics.proofs.replay.fail_next.Goals as goal
@@ -52,7 +48,7 @@ returns-then-awaited-clause-fits c = λ order last fresh holds.
     let at = (goal.at.returns-then-awaited-clause-fits c).After-push in
     let start : c.len-start.result ≡ length c.args.failures.now.log.items = omega arith in
     next at order last fresh holds
-    ∙ fits_awaited (is_admissible c.args.tree.now order) _ _ c.keep_turns.result (sym (awaited at) ∙ c.if-awaited.true)
+    ∙ fits_awaited (is_admissible c.args.tree.now order) (sym (awaited at) ∙ c.if-awaited.true)
     (sym (c.keep_turns.ensures ∙ ap (λ (n : ℕ). all_in_turn c.args.tree.now c.args.readers.now
     c.push.new.self.steps.items (drop n c.push.new.self.log.items)) start))
 
@@ -60,5 +56,4 @@ pub returns-else-awaited-clause-fits : goal.returns-else-awaited-clause-fits
 returns-else-awaited-clause-fits c = λ order last fresh holds.
     let at = (goal.at.returns-else-awaited-clause-fits c).After-push in
     next at order last fresh holds
-    ∙ fits_not (is_admissible c.args.tree.now order) _ _ c.all_await-awaited.result (sym (awaited at))
-    c.if-awaited.false
+    ∙ fits_not (is_admissible c.args.tree.now order) _ (sym (awaited at)) c.if-awaited.false

@@ -1,6 +1,5 @@
 use Rattle.std.proofs.Common.{◌≡◌, drop}
-use Rattle.replay_semantics.specs.Failing.{falls_not_after}
-use Rattle.replay_semantics.specs.Table.{step_in}
+use Rattle.replay_semantics.specs.{Failing.falls_not_after, Table.step_in}
 use Rattle.replay_semantics.proofs.steps.fall_not_after.Given as goal
 
 abbrev pub invariant-loop-node : goal.invariant-loop-node

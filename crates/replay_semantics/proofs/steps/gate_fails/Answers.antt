@@ -1,9 +1,8 @@
 use Rattle.std.proofs.Common.{◌∙◌, sym, ap, subst, inl, inr}
 use Rattle.std.specs.Prelude.{nat_le}
 use Rattle.fault_words.specs.declared.kind.GateKind.{GateKind}
-use Rattle.replay_semantics.specs.Failing.{gate_fails, AsksSome}
+use Rattle.replay_semantics.specs.{Failing.gate_fails, Failing.AsksSome, Table.step_in}
 use Rattle.replay_semantics.proofs.FailingLemmas.{latest-some, earliest-some, votes-some}
-use Rattle.replay_semantics.specs.Table.{step_in}
 use Rattle.replay_semantics.proofs.steps.gate_fails.Goals as goal
 
 pub returns-in-And : goal.returns-in-And

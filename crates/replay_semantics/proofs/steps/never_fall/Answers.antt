@@ -1,9 +1,7 @@
 use Rattle.std.proofs.Common.{ℕ, ◌<◌, ◌-◌, ◌∙◌, length, sym, ap, drop}
-use Rattle.std.proofs.lemmas.List.{take_rest}
-use Rattle.std.proofs.lemmas.List.Elements.{All-take, All-drop}
+use Rattle.std.proofs.{lemmas.List.take_rest, lemmas.List.Elements.All-take, lemmas.List.Elements.All-drop}
 use Rattle.fault_definitions.specs.Step.{Step}
-use Rattle.replay_semantics.specs.Failing.{falls_not_after}
-use Rattle.replay_semantics.specs.Table.{step_in}
+use Rattle.replay_semantics.specs.{Failing.falls_not_after, Table.step_in}
 use Rattle.replay_semantics.proofs.ListLemmas.{never_falls-first}
 use Rattle.replay_semantics.proofs.steps.never_fall.Goals as goal
 
@@ -13,8 +11,7 @@ returns-in-len1-up c =
     ∙ ap (falls_not_after (step_in c.args.steps.now) c.step_of.result) (take_rest c.args.nodes.now 1)
     ∙ ap (λ (before : Step). falls_not_after (step_in c.args.steps.now) before (drop 1 c.args.nodes.now))
     c.step_of.ensures
-    ∙ sym (never_falls-first (step_in c.args.steps.now) c.args.nodes.now c.first-item.result c.in-len1-up.len_at_least
-    c.first-item.is)
+    ∙ sym (never_falls-first (step_in c.args.steps.now) c.args.nodes.now c.in-len1-up.len_at_least c.first-item.is)
 
 pub fall_not_after-requires : goal.fall_not_after-requires
 fall_not_after-requires c =

@@ -10,8 +10,7 @@ overflow_sub-left c =
     let row = c.args.row.now in
     let blocks = c.loop-place.blocks in
     let i = c.loop-place.place-index in
-    lowering-positive row c.args.counts.now c.loop-place.counts blocks.least.items blocks.lowest.items i
-    (get_or row i 0) c.requires.rising (omega arith) refl c.requires.positive c.loop-place.invariant
+    lowering-positive (get_or row i 0) c.requires.rising (omega arith) refl c.requires.positive c.loop-place.invariant
 
 pub loop-place-preserved : goal.loop-place-preserved
 loop-place-preserved c =
@@ -23,8 +22,7 @@ loop-place-preserved c =
     let place : ℕ = get_or row i 0 in
     let left : ℕ = get_or counts place 0 - 1 in
     let positive : 0 < get_or counts place 0 =
-    lowering-positive row c.args.counts.now counts least lowest i place c.requires.rising (omega arith) refl
-    c.requires.positive c.loop-place.invariant in
+    lowering-positive place c.requires.rising (omega arith) refl c.requires.positive c.loop-place.invariant in
     let falls : IsFalling row counts i place left = record {
       rising = c.requires.rising;
       short = omega arith;
@@ -32,15 +30,10 @@ loop-place-preserved c =
       there = omega (arith, c.requires.within i 0);
       is = omega arith;
     } in
-    let there : place / block_size < length least =
-    block_below counts least lowest place c.loop-place.invariant.blocks falls.there in
+    let there : place / block_size < length least = block_below place c.loop-place.invariant.blocks falls.there in
     let value : c.index.result.now ≡ get_or least (place / block_size) 0 =
     get_or_read least (place / block_size) c.index.result.now there c.index.ensures 0 in
     elim c.if-left-index.branch [
-      | then-left-index w ↦ rw w.blocks-is
-          (lowering-low row c.args.counts.now counts least lowest i place left falls (omega (arith, value))
-          c.loop-place.invariant)
-      | else-left-index w ↦ rw w.blocks-is
-          (lowering-high row c.args.counts.now counts least lowest i place left falls (omega (arith, value))
-          c.loop-place.invariant)
+      | then-left-index w ↦ rw w.blocks-is (lowering-low falls (omega (arith, value)) c.loop-place.invariant)
+      | else-left-index w ↦ rw w.blocks-is (lowering-high falls (omega (arith, value)) c.loop-place.invariant)
     ]

@@ -6,5 +6,5 @@ pub loop-place-preserved : goal.loop-place-preserved
 loop-place-preserved c =
     let row = c.args.row.now in
     let i = c.loop-place.place-index in
-    one_more-raise_at row c.args.counts.now c.loop-place.counts i (get_or row i 0) c.requires.rising (omega arith) refl
+    one_more-raise_at row i (get_or row i 0) c.requires.rising (omega arith) refl
     c.loop-place.invariant (omega (arith, c.requires.within i 0))

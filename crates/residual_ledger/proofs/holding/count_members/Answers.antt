@@ -10,5 +10,5 @@ loop-unit-preserved c =
     let i = c.loop-unit.unit-index in
     let at : c.number.result ≡ get_or members i 0 =
     c.number.ensures.value ∙ get_or_read members i c.unit-item.result (omega arith) c.unit-item.is 0 in
-    one_more-raise_at members c.args.sizes.now sizes i c.number.result c.requires.rising (omega arith) at
+    one_more-raise_at members i c.number.result c.requires.rising (omega arith) at
     c.loop-unit.invariant (omega (arith, at, c.requires.known i 0))

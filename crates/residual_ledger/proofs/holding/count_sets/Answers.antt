@@ -3,8 +3,7 @@ use Rattle.std.proofs.lemmas.List.{length-replicate}
 use Rattle.unit_sets.specs.CutOrder.{weight_limit}
 use Rattle.unit_sets.proofs.CutOrderLemmas.{cut_at as set_at}
 use Rattle.residual_ledger.specs.Kept.{IsOneMore}
-use Rattle.residual_ledger.proofs.CutLemmas.{cut_at-is}
-use Rattle.residual_ledger.proofs.LedgerFacts.{few_cuts}
+use Rattle.residual_ledger.proofs.{CutLemmas.cut_at-is, LedgerFacts.few_cuts}
 use Rattle.residual_ledger.proofs.FillingLemmas.{IsCountingFor, counting-first, counting-le, counting_for-more}
 use Rattle.residual_ledger.proofs.FillingLemmas.{known_members}
 use Rattle.residual_ledger.proofs.holding.count_sets.Goals as goal
@@ -27,15 +26,13 @@ pub count_members-requires-clause-known : goal.count_members-requires-clause-kno
 count_members-requires-clause-known c =
     let cuts = c.args.cuts.now in
     let long : length c.as_mut_slice.result.now ≡ c.args.units + 1 = omega (arith, c.loop-place.invariant.long) in
-    known_members c.args.units cuts c.loop-place.place c.members.result.now c.as_mut_slice.result.now c.requires.known
-    (omega arith)
+    known_members c.args.units cuts c.loop-place.place c.as_mut_slice.result.now c.requires.known (omega arith)
     (cut_at-is cuts c.loop-place.place c.members.result.now c.members.ensures.value) long
 
 pub count_members-requires-clause-room : goal.count_members-requires-clause-room
 count_members-requires-clause-room c =
     let cuts = c.args.cuts.now in
-    rw c.as_mut_slice.ensures.value
-    (counting-le cuts c.loop-place.place weight_limit c.loop-place.sizes.items
+    rw c.as_mut_slice.ensures.value (counting-le cuts weight_limit
     (omega (arith, few_cuts cuts, c.requires.ordered.within)) c.loop-place.invariant.counted)
 
 pub loop-place-preserved : goal.loop-place-preserved
@@ -50,6 +47,5 @@ loop-place-preserved c =
     c.count_members.ensures in
     let long : length new ≡ size = omega (arith, more.long) in
     let whole : take size (new ++ drop (length new) old) ≡ new = take_at new (drop (length new) old) size long in
-    subst (IsCountingFor c.args.units cuts (place + 1)) (sym whole)
-    (counting_for-more c.args.units cuts place c.members.result.now old new
+    subst (IsCountingFor c.args.units cuts (place + 1)) (sym whole) (counting_for-more cuts
     (cut_at-is cuts place c.members.result.now c.members.ensures.value) more c.loop-place.invariant)

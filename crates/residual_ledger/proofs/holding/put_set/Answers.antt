@@ -10,8 +10,7 @@ own : (c : goal.After-slice_known-in-loop-unit-1)
 own c =
     let cuts = c.args.cuts.now in
     let members = c.members-unit-items in
-    turn cuts c.args.place members.result.now c.loop-unit.unit-index c.unit-item.result c.number-number.result
-    c.requires.there
+    turn cuts c.requires.there
     (set_at cuts c.args.place members.result.now members.ensures.ordered members.ensures.value) members.ensures.value
     (omega arith) c.unit-item.is c.number-number.ensures.value
 
@@ -24,14 +23,11 @@ known c =
 -- its row has a free slot
 slot : (c : goal.After-slice_known-in-loop-unit-1)
     → get_or c.loop-unit.ends c.number-number.result 0 < length c.loop-unit.rows
-slot c =
-    turn-slot c.args.cuts.now c.args.place c.loop-unit.unit-index c.number-number.result c.loop-unit.ends
-    c.loop-unit.rows (own c) (known c) c.loop-unit.invariant
+slot c = turn-slot c.args.cuts.now (own c) (known c) c.loop-unit.invariant
 
 pub bounds-ends-number-in-loop-unit : goal.bounds-ends-number-in-loop-unit
 bounds-ends-number-in-loop-unit c =
-    turn-known c.args.cuts.now c.args.place c.loop-unit.unit-index c.number-number.result (length c.loop-unit.ends)
-    (own c) (known c)
+    turn-known c.args.cuts.now (length c.loop-unit.ends) (own c) (known c)
 
 pub bounds-rows-end : goal.bounds-rows-end
 bounds-rows-end c = omega (arith, slot c)
@@ -43,11 +39,9 @@ pub overflow_add-ends : goal.overflow_add-ends
 overflow_add-ends c = omega (arith, slot c)
 
 pub loop-unit-preserved : goal.loop-unit-preserved
-loop-unit-preserved c =
-    turn-more c.args.cuts.now c.args.place c.loop-unit.unit-index c.number-number.result c.loop-unit.ends
-    c.loop-unit.rows (own c) (known c) c.loop-unit.invariant
+loop-unit-preserved c = turn-more c.args.cuts.now (own c) (known c) c.loop-unit.invariant
 
 pub returns : goal.returns
 returns c =
-    turn-last c.args.cuts.now c.args.place c.loop-unit.unit-index c.members-unit-items.result.now c.loop-unit.ends
-    c.loop-unit.rows c.members-unit-items.ensures.value (omega arith) c.loop-unit.invariant
+    turn-last c.args.cuts.now c.args.place c.loop-unit.unit-index c.members-unit-items.result.now
+    c.members-unit-items.ensures.value (omega arith) c.loop-unit.invariant

@@ -1,5 +1,4 @@
-use Rattle.residual_ledger.proofs.HoldingLemmas.{IsRising-holding}
-use Rattle.residual_ledger.proofs.LedgerLemmas.{held_place, place_held}
+use Rattle.residual_ledger.proofs.{HoldingLemmas.IsRising-holding, LedgerLemmas.held_place, LedgerLemmas.place_held}
 use Rattle.residual_ledger.proofs.laws.holding_has_the_holders.Goals as goal
 
 pub returns : goal.returns

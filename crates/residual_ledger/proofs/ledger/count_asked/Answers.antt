@@ -7,8 +7,7 @@ use Rattle.residual_ledger.proofs.ledger.count_asked.Goals.{then-contains, else-
 pub overflow_add-count : goal.overflow_add-count
 overflow_add-count c =
     let low : c.loop-unit.count ≤ c.loop-unit.unit-index =
-    asked_so_far-le c.args.asked.now c.args.members.now c.loop-unit.unit-index c.loop-unit.count
-    c.loop-unit.invariant in
+    asked_so_far-le c.args.asked.now c.args.members.now c.loop-unit.unit-index c.loop-unit.invariant in
     omega (arith, c.requires.few)
 
 pub loop-unit-preserved : goal.loop-unit-preserved
@@ -16,11 +15,8 @@ loop-unit-preserved c =
     let asked = c.args.asked.now in
     let item : ℕ = c.unit-item.result in
     let found : c.contains.result ≡ among asked item = c.contains.ensures.value in
-    asked-more asked c.args.members.now c.loop-unit.unit-index item c.loop-unit.count c.if-contains.count (omega arith)
-    c.unit-item.is c.loop-unit.invariant
+    asked-more asked c.args.members.now c.loop-unit.unit-index (omega arith) c.unit-item.is c.loop-unit.invariant
     (elim c.if-contains.branch [
-      | then-contains w ↦ found_one (among asked item) c.loop-unit.count c.if-contains.count
-          (sym found ∙ w.if-contains.true) w.count-is
-      | else-contains w ↦ found_none (among asked item) c.loop-unit.count c.if-contains.count
-          (sym found ∙ w.if-contains.false) w.count-is
+      | then-contains w ↦ found_one (among asked item) c.loop-unit.count (sym found ∙ w.if-contains.true) w.count-is
+      | else-contains w ↦ found_none (among asked item) (sym found ∙ w.if-contains.false) w.count-is
     ])

@@ -1,6 +1,5 @@
 use Rattle.std.proofs.Common.{◌≡◌, take, map}
-use Rattle.tree_check.specs.Numbered.{kinds, kept_inputs}
-use Rattle.tree_check.specs.TreeOf.{numbers}
+use Rattle.tree_check.specs.{Numbered.kinds, Numbered.kept_inputs, TreeOf.numbers}
 use Rattle.tree_check.proofs.assembly.input_lists.Given as goal
 
 abbrev pub invariant-loop-gate : goal.invariant-loop-gate

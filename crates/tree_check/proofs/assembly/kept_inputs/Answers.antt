@@ -1,5 +1,4 @@
-use Rattle.std.proofs.Common.{arith}
-use Rattle.std.proofs.lemmas.Grind.{common_steps}
+use Rattle.std.proofs.{Common.arith, lemmas.Grind.common_steps}
 use Rattle.tree_check.specs.Numbered.{is_fdep_in, kinds}
 use Rattle.tree_check.proofs.Edges.{kept_as}
 use Rattle.tree_check.proofs.assembly.kept_inputs.Goals as goal

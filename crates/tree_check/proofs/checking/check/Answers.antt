@@ -11,23 +11,19 @@ pub assemble-requires-clause-deck : goal.assemble-requires-clause-deck
 assemble-requires-clause-deck c = rw c.into_statements.ensures.statements c.in_ok-deck.ensures.examined.numbered
 
 pub assemble-requires-clause-inputs : goal.assemble-requires-clause-inputs
-assemble-requires-clause-inputs c =
-    deck_within c.args.raw.statements c.in_ok-deck.deck c.in_ok-deck.ensures.examined.numbered
+assemble-requires-clause-inputs c = deck_within c.in_ok-deck.ensures.examined.numbered
 
 pub assemble-requires-clause-top : goal.assemble-requires-clause-top
 assemble-requires-clause-top c =
-    deck_top c.args.raw.statements c.in_ok-deck.deck c.in_ok-deck.ensures.examined.numbered
-    c.in_ok-deck.ensures.examined.faultless.before.1.1.1.0
+    deck_top c.in_ok-deck.ensures.examined.numbered c.in_ok-deck.ensures.examined.faultless.before.1.1.1.0
 
 pub assemble-requires-clause-few_units : goal.assemble-requires-clause-few_units
 assemble-requires-clause-few_units c =
-    deck_few_units c.args.raw.statements c.in_ok-deck.deck c.in_ok-deck.ensures.examined.numbered
-    c.in_ok-deck.ensures.examined.faultless.after.0
+    deck_few_units c.in_ok-deck.ensures.examined.numbered c.in_ok-deck.ensures.examined.faultless.after.0
 
 pub assemble-requires-clause-few_gates : goal.assemble-requires-clause-few_gates
 assemble-requires-clause-few_gates c =
-    deck_few_gates c.args.raw.statements c.in_ok-deck.deck c.in_ok-deck.ensures.examined.numbered
-    c.in_ok-deck.ensures.examined.faultless.after.1.0
+    deck_few_gates c.in_ok-deck.ensures.examined.numbered c.in_ok-deck.ensures.examined.faultless.after.1.0
 
 pub new-requires : goal.new-requires
 new-requires c =

@@ -5,4 +5,4 @@ use Rattle.tree_check.proofs.classes.first_place.Goals as goal
 
 pub returns-in-Votes : goal.returns-in-Votes
 returns-in-Votes c =
-    c.first_at_gates.ensures ∙ ap first (told_at_gates c.args.parts c.requires c.args.code c.in-Votes.is)
+    c.first_at_gates.ensures ∙ ap first (told_at_gates c.requires c.in-Votes.is)

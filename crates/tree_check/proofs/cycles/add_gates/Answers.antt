@@ -1,13 +1,12 @@
 use Rattle.std.proofs.Common.{◌∙◌}
-use Rattle.tree_check.specs.Numbered.{kept_inputs, kinds}
-use Rattle.tree_check.specs.TreeOf.{numbers}
-use Rattle.tree_check.specs.declared.numbered.NumberedGate.{NumberedGate}
+use Rattle.tree_check.specs.{Numbered.kept_inputs, Numbered.kinds, TreeOf.numbers}
+use Rattle.tree_check.specs.{declared.numbered.NumberedGate.NumberedGate}
 use Rattle.tree_check.proofs.Edges.{row_more}
 use Rattle.tree_check.proofs.cycles.add_gates.Goals as goal
 
 pub loop-gate-preserved : goal.loop-gate-preserved
 loop-gate-preserved c =
     row_more (λ (gate : NumberedGate). numbers (kept_inputs c.args.units (kinds c.args.gates.now) gate))
-    c.args.graph.now c.args.gates.now c.loop-gate.gate-index c.gate-item.result c.deref.result.now c.loop-gate.graph
-    c.push.new.self c.loop-gate-test.true c.gate-item.is (c.deref.ensures.value ∙ c.in_ok-keep_inputs.ensures)
+    c.args.graph.now c.args.gates.now c.loop-gate.gate-index c.loop-gate-test.true c.gate-item.is
+    (c.deref.ensures.value ∙ c.in_ok-keep_inputs.ensures)
     c.loop-gate.invariant c.in_ok-push.ensures.ok

@@ -1,6 +1,5 @@
 use Rattle.std.proofs.Common.{◌≡◌, ◌++◌, map, take}
-use Rattle.tree_check.specs.TreeOf.{numbers}
-use Rattle.tree_check.specs.Numbered.{kept_inputs, kinds}
+use Rattle.tree_check.specs.{TreeOf.numbers, Numbered.kept_inputs, Numbered.kinds}
 use Rattle.tree_check.proofs.cycles.add_gates.Given as goal
 
 abbrev pub invariant-loop-gate : goal.invariant-loop-gate

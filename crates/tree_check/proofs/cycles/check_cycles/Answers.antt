@@ -1,7 +1,5 @@
 use Rattle.std.proofs.Common.{◌≡◌, refl, sym, ap, ◌∙◌, drop}
-use Rattle.tree_check.specs.Said.{definitions, names}
-use Rattle.tree_check.specs.Classes.{first}
-use Rattle.tree_check.specs.Marked.{marked_places}
+use Rattle.tree_check.specs.{Said.definitions, Said.names, Classes.first, Marked.marked_places}
 use Rattle.tree_check.proofs.Surveyed.{cycle_found, no_cycle, are_ranks}
 use Rattle.tree_check.proofs.cycles.check_cycles.Goals.{After-first_marked-marked}
 use Rattle.tree_check.proofs.cycles.check_cycles.Goals as goal

@@ -1,6 +1,5 @@
 use Rattle.std.proofs.Common.{ap, sym, ◌∙◌}
-use Rattle.tree_check.specs.Said.{definitions}
-use Rattle.tree_check.specs.Classes.{first}
+use Rattle.tree_check.specs.{Said.definitions, Classes.first}
 use Rattle.tree_check.proofs.Unmarked.{none_marked}
 use Rattle.tree_check.proofs.cycles.first_marked.Goals as goal
 

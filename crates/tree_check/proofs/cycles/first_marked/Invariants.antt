@@ -1,7 +1,5 @@
 use Rattle.std.proofs.Common.{◌≡◌, drop}
-use Rattle.tree_check.specs.Said.{definitions}
-use Rattle.tree_check.specs.Classes.{first}
-use Rattle.tree_check.specs.Marked.{marked_places}
+use Rattle.tree_check.specs.{Said.definitions, Classes.first, Marked.marked_places}
 use Rattle.tree_check.proofs.cycles.first_marked.Given as goal
 
 abbrev pub invariant-loop-statement : goal.invariant-loop-statement

@@ -1,7 +1,6 @@
 use Rattle.std.proofs.Common.{◌≡◌, take}
 use Rattle.std.specs.Prelude.{filter, not, ◌&&◌}
-use Rattle.tree_check.specs.Numbered.{is_fdep_in, kinds}
-use Rattle.tree_check.specs.TreeOf.{numbers}
+use Rattle.tree_check.specs.{Numbered.is_fdep_in, Numbered.kinds, TreeOf.numbers}
 use Rattle.tree_check.proofs.cycles.keep_inputs.Given as goal
 
 abbrev pub invariant-loop-input : goal.invariant-loop-input

@@ -1,6 +1,5 @@
 use Rattle.std.proofs.Common.{take}
-use Rattle.tree_check.specs.TreeOf.{numbers}
-use Rattle.tree_check.specs.Triggers.{Notes}
+use Rattle.tree_check.specs.{TreeOf.numbers, Triggers.Notes}
 use Rattle.tree_check.proofs.cycles.note.Given as goal
 
 abbrev pub invariant-loop-dependent : goal.invariant-loop-dependent

@@ -3,5 +3,5 @@ use Rattle.tree_check.proofs.cycles.note_gate.Goals as goal
 
 pub note-requires : goal.note-requires
 note-requires c =
-    dependents_low _ c.args.gate.now c.as_slice.result.now c.in-Fdep-len1-up.is-0 c.as_slice.ensures.items
+    dependents_low _ c.args.gate.now c.in-Fdep-len1-up.is-0 c.as_slice.ensures.items
     c.in-Fdep-len1-up.len_at_least c.requires

@@ -1,8 +1,6 @@
 use Rattle.std.proofs.Common.{◌≡◌, drop}
 use Rattle.std.specs.List.{flat_map}
-use Rattle.tree_check.specs.Numbered.{kinds}
-use Rattle.tree_check.specs.Classes.{first}
-use Rattle.tree_check.specs.Tried.{places_at}
+use Rattle.tree_check.specs.{Numbered.kinds, Classes.first, Tried.places_at}
 use Rattle.tree_check.proofs.gates.first_at_gates.Given as goal
 
 abbrev pub invariant-loop-gate : goal.invariant-loop-gate

@@ -1,6 +1,5 @@
 use Rattle.std.proofs.Common.{◌≡◌, drop}
-use Rattle.tree_check.specs.Numbered.{is_gate}
-use Rattle.tree_check.specs.Classes.{first, places_where}
+use Rattle.tree_check.specs.{Numbered.is_gate, Classes.first, Classes.places_where}
 use Rattle.tree_check.proofs.gates.gate_among.Given as goal
 
 abbrev pub invariant-loop-input : goal.invariant-loop-input

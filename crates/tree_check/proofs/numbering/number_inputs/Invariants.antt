@@ -1,6 +1,5 @@
 use Rattle.std.proofs.Common.{◌≡◌, ◌++◌, map, take, drop}
-use Rattle.tree_check.specs.Numbered.{numbered}
-use Rattle.tree_check.specs.Classes.{undefined}
+use Rattle.tree_check.specs.{Numbered.numbered, Classes.undefined}
 use Rattle.tree_check.proofs.numbering.number_inputs.Given as goal
 
 abbrev pub invariant-loop-input : goal.invariant-loop-input

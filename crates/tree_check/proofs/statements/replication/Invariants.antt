@@ -1,6 +1,5 @@
 use Rattle.std.proofs.Common.{◌≡◌, drop}
-use Rattle.tree_check.specs.Said.{basics}
-use Rattle.tree_check.specs.Classes.{first, replicated}
+use Rattle.tree_check.specs.{Said.basics, Classes.first, Classes.replicated}
 use Rattle.tree_check.proofs.statements.replication.Given as goal
 
 abbrev pub invariant-loop-statement : goal.invariant-loop-statement

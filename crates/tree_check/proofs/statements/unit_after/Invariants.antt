@@ -1,6 +1,5 @@
 use Rattle.std.proofs.Common.{◌≡◌, drop, map}
-use Rattle.tree_check.specs.Said.{basics}
-use Rattle.tree_check.specs.Classes.{first}
+use Rattle.tree_check.specs.{Said.basics, Classes.first}
 use Rattle.tree_check.proofs.statements.unit_after.Given as goal
 
 abbrev pub invariant-loop-statement : goal.invariant-loop-statement

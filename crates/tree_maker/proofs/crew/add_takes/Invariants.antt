@@ -1,7 +1,6 @@
 use Rattle.std.proofs.Common.{◌≡◌, ◌++◌}
 use Rattle.std.specs.List.{flat_map, range_with_len}
-use Rattle.tree_maker.specs.Names.{units_in}
-use Rattle.tree_maker.specs.MadeDeck.{take_line}
+use Rattle.tree_maker.specs.{Names.units_in, MadeDeck.take_line}
 use Rattle.tree_maker.proofs.crew.add_takes.Given as goal
 
 abbrev pub invariant-loop-group : goal.invariant-loop-group

@@ -5,5 +5,5 @@ use Rattle.tree_maker.proofs.tree.add_groups.Goals as goal
 
 pub loop-group-preserved : goal.loop-group-preserved
 loop-group-preserved c =
-    one_more (λ group. statement_text (group_gate c.args.number group)) _ _ _ _ c.loop-group.invariant
+    one_more (λ group. statement_text (group_gate c.args.number group)) _ _ c.loop-group.invariant
     (c.in_ok-add_group.ensures)

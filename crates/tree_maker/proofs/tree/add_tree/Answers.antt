@@ -6,6 +6,6 @@ pub returns : goal.returns
 returns c =
     on_ok_weaker c.add_triggers.result
     (λ last.
-    tree_put c.args.number c.args.count _ _ _ _ _ _ _ _ c.requires.count c.in_ok-add.ensures c.in_ok-add_inputs.ensures
+    tree_put c.args.number _ c.requires.count c.in_ok-add.ensures c.in_ok-add_inputs.ensures
     c.in_ok-add-2.ensures c.in_ok-add_groups.ensures c.in_ok-add_fdeps.ensures c.in_ok-add_units.ensures last)
     c.add_triggers.ensures

@@ -1,18 +1,14 @@
 use Rattle.std.proofs.Common.{sym, ◌∙◌, ap, is_err}
 use Rattle.std.specs.Prelude.{codes}
-use Rattle.tree_picture.specs.PictureText.{input_line}
 use Rattle.edge_io.proofs.OutLemmas.{Puts-trans}
 use Rattle.text_pieces.proofs.Putting.{first_short}
 use Rattle.tree_picture.proofs.picture.put_input.Goals as goal
 
 pub returns-in_err-put_input_line-clause-puts : goal.returns-in_err-put_input_line-clause-puts
 returns-in_err-put_input_line-clause-puts g c =
-    first_short g.K.Sink.taken g.K.Sink.faults c.args.out.now c.put_input_line.new.out
-    (input_line c.args.tree.now c.args.gate c.args.input) (codes "\n")
+    first_short g.K.Sink.taken g.K.Sink.faults (codes "\n")
     c.put_input_line.ensures.puts (sym c.put_input_line.ensures.answer ∙ ap is_err c.in_err-put_input_line.was)
 
 pub returns-clause-puts : goal.returns-clause-puts
 returns-clause-puts g c =
-    Puts-trans g.K.Sink.taken g.K.Sink.faults c.args.out.now c.put_input_line.new.out c.put.new.self
-    (input_line c.args.tree.now c.args.gate c.args.input) (codes "\n")
-    c.put_input_line.ensures.puts c.put.ensures.puts
+    Puts-trans c.put_input_line.ensures.puts c.put.ensures.puts

@@ -1,7 +1,6 @@
 use Rattle.std.proofs.Common.{◌/◌, ◌%◌, slice_index, w64, arith}
 use Rattle.unit_sets.proofs.unit_set.clear_bit.Goals as goal
-use Rattle.std.proofs.lemmas.Nat.{mod_below}
-use Rattle.std.proofs.lemmas.Nat.Bits.{bit_at_clear_same, bit_at_clear_other}
+use Rattle.std.proofs.{lemmas.Nat.mod_below, lemmas.Nat.Bits.bit_at_clear_same, lemmas.Nat.Bits.bit_at_clear_other}
 use Rattle.unit_sets.proofs.WordSets.{has_bit-clear}
 
 pub returns : goal.returns

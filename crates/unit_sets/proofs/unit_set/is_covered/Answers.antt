@@ -1,7 +1,6 @@
 use Rattle.std.proofs.Common.{w64, arith, sym}
 use Rattle.unit_sets.proofs.unit_set.is_covered.Goals as goal
-use Rattle.std.proofs.lemmas.Bool.{false_from_ne_true}
-use Rattle.std.proofs.Math.Facts.{Fits-lt-pow}
+use Rattle.std.proofs.{lemmas.Bool.false_from_ne_true, Math.Facts.Fits-lt-pow}
 use Rattle.unit_sets.proofs.WordSets.{is_within-from_words, covered-from_is_within}
 
 pub returns-then-word-others : goal.returns-then-word-others

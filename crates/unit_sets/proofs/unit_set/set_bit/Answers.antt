@@ -1,7 +1,6 @@
 use Rattle.std.proofs.Common.{◌/◌, ◌%◌, slice_index, w64, arith}
 use Rattle.unit_sets.proofs.unit_set.set_bit.Goals as goal
-use Rattle.std.proofs.lemmas.Nat.{mod_below}
-use Rattle.std.proofs.lemmas.Nat.Bits.{bit_at_set_same, bit_at_set_other}
+use Rattle.std.proofs.{lemmas.Nat.mod_below, lemmas.Nat.Bits.bit_at_set_same, lemmas.Nat.Bits.bit_at_set_other}
 use Rattle.unit_sets.proofs.WordSets.{has_bit-set}
 
 pub returns : goal.returns

@@ -13,15 +13,12 @@ use Rattle.zdd_build.proofs.building.build_by_team.Goals.{After-close-2, After-m
 use Rattle.zdd_build.proofs.building.build_by_team.Given as given
 
 pub returns-in_err-team-clause-went : goal.returns-in_err-team-clause-went
-returns-in_err-team-clause-went g c =
-    WentAll-nowhere (IsDueToTree c.args.task.tree.now) c.args.seat.now c.is_sound.ensures.sound
+returns-in_err-team-clause-went g c = WentAll-nowhere (IsDueToTree c.args.task.tree.now) c.is_sound.ensures.sound
 
 pub returns-in-Err-clause-went : goal.returns-in-Err-clause-went
 returns-in-Err-clause-went g c =
     let due = IsDueToTree c.args.task.tree.now in
-    WentAll-then due c.args.seat.now c.open.new.seat c.close.new.seat
-    (split_went due (length c.open.new.team.items) c.args.seat.now c.open.new.seat c.open.ensures.split)
-    c.close.ensures.went
+    WentAll-then due (split_went c.open.ensures.split) c.close.ensures.went
 
 pub returns-in-Err-clause-share : goal.returns-in-Err-clause-share
 returns-in-Err-clause-share g c =
@@ -31,8 +28,7 @@ returns-in-Err-clause-share g c =
 
 pub returns-in-Err-clause-no_memory : goal.returns-in-Err-clause-no_memory
 returns-in-Err-clause-no_memory g c is =
-    counts_then c.args.seat.now c.open.new.seat c.close.new.seat c.open.ensures.split.counts
-    (c.close.ensures.new c.open.ensures.new)
+    counts_then c.open.ensures.split.counts (c.close.ensures.new c.open.ensures.new)
 
 pub make_ranks-ended-requires-clause-team : goal.make_ranks-ended-requires-clause-team
 make_ranks-ended-requires-clause-team g c κs within =
@@ -58,8 +54,7 @@ led : (g : given.Over) (c : After-make_ranks-ended g)
     → HasLed c.args.task c.open.new.seat c.open.new.team.items c.make_ranks-ended.new.seat
     (written c.make_ranks-ended.new.team c.open.new.team.items c.open.new.team.len)
 led g c =
-    led_back c.args.task c.open.new.seat c.open.new.team.items c.open.new.team.len c.make_ranks-ended.new.seat
-    c.make_ranks-ended.new.team (let e = c.open.new.team.ok.0 in omega (arith, e))
+    led_back c.open.new.team.len (let e = c.open.new.team.ok.0 in omega (arith, e))
     (subst (λ (l : List Worker). HasLed c.args.task c.open.new.seat l c.make_ranks-ended.new.seat
     c.make_ranks-ended.new.team) c.as_mut_slice.ensures.value c.make_ranks-ended.ensures.led)
 
@@ -72,11 +67,8 @@ went : (g : given.Over) (c : After-close-2 g) → WentAll (IsDueToTree c.args.ta
     c.close-2.new.seat
 went g c =
     let due = IsDueToTree c.args.task.tree.now in
-    WentAll-then due c.args.seat.now c.open.new.seat c.close-2.new.seat
-    (split_went due (length c.open.new.team.items) c.args.seat.now c.open.new.seat c.open.ensures.split)
-    (WentAll-then due c.open.new.seat c.make_ranks-ended.new.seat c.close-2.new.seat
-    (WentAll-learned due c.open.new.seat c.make_ranks-ended.new.seat c.make_ranks-ended.ensures.led.learned)
-    c.close-2.ensures.went)
+    WentAll-then due (split_went c.open.ensures.split) (WentAll-then due
+    (WentAll-learned c.make_ranks-ended.ensures.led.learned) c.close-2.ensures.went)
 
 -- the workers' shares are all back
 share_back : (g : given.Over) (c : After-close-2 g)

@@ -1,24 +1,20 @@
 use Rattle.std.proofs.Common.{◌≡◌, ◌∙◌, ◌-◌, ◌<◌, false, ℕ, get_or, length, refl, subst, sym, ap, arith}
 use Rattle.std.proofs.lemmas.List.{get_or_read}
-use Rattle.fault_definitions.specs.CutFamily.{IsCutFamily}
-use Rattle.fault_definitions.specs.Tree.{IsNodeOf, is_fdep}
+use Rattle.fault_definitions.specs.{CutFamily.IsCutFamily, Tree.IsNodeOf, Tree.is_fdep}
 use Rattle.tree_families.specs.Due.{IsDueToTree}
 use Rattle.zdd_shared_table.specs.Seats.{map_of}
 use Rattle.zdd_product.specs.Seats.{KnowsOne}
 use Rattle.zdd_product.proofs.Several.{WentAll-nowhere}
 use Rattle.zdd_build.specs.Places.{ArePlaces}
-use Rattle.zdd_build.proofs.TableLemmas.{all_made}
+use Rattle.zdd_build.proofs.{TableLemmas.all_made, building.build_within.Goals.In_ok-build_by_team}
 use Rattle.zdd_build.proofs.building.build_within.Goals as goal
-use Rattle.zdd_build.proofs.building.build_within.Goals.{In_ok-build_by_team}
 use Rattle.zdd_build.proofs.building.build_within.Given as given
 
 pub returns-in_err-places-clause-went : goal.returns-in_err-places-clause-went
-returns-in_err-places-clause-went g c =
-    WentAll-nowhere (IsDueToTree c.args.tree.now) c.args.seat.now c.is_sound.ensures.sound
+returns-in_err-places-clause-went g c = WentAll-nowhere (IsDueToTree c.args.tree.now) c.is_sound.ensures.sound
 
 pub returns-in_err-table-clause-went : goal.returns-in_err-table-clause-went
-returns-in_err-table-clause-went g c =
-    WentAll-nowhere (IsDueToTree c.args.tree.now) c.args.seat.now c.is_sound.ensures.sound
+returns-in_err-table-clause-went g c = WentAll-nowhere (IsDueToTree c.args.tree.now) c.is_sound.ensures.sound
 
 -- each node that is read has its family at its place
 made : (g : given.Over) (c : In_ok-build_by_team g) (node : ℕ) → IsNodeOf c.args.tree.now node
@@ -30,9 +26,7 @@ made g c node is_node read =
     let are : ArePlaces tree c.as_slice.result.now =
     subst (ArePlaces tree) (sym c.as_slice.ensures.value) c.in_ok-places.ensures in
     let is = c.in_ok-build_by_team.ensures.built in
-    all_made (map_of c.build_by_team.new.seat)
-    (record { store = c.args.store; tree = c.args.tree; places = c.as_slice.result }) are table
-    (length c.as_slice.result.now) is refl node is_node read
+    all_made are is refl node is_node read
 
 pub returns-clause-top : goal.returns-clause-top
 returns-clause-top g c =

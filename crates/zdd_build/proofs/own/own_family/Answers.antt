@@ -1,5 +1,4 @@
-use Rattle.std.proofs.Common.{arith}
-use Rattle.std.proofs.lemmas.Grind.{common_steps}
+use Rattle.std.proofs.{Common.arith, lemmas.Grind.common_steps}
 use Rattle.fault_definitions.specs.CutFamily.{IsCutFamily}
 use Rattle.zdd_shared_table.specs.Seats.{map_of}
 use Rattle.family_copies.proofs.CopiesLemmas.{copies-went}
@@ -12,8 +11,8 @@ returns-clause-equipped c =
     let after = c.cut_family.new.memory in
     record {
       copies =
-          copies-went before after (map_of c.read_below.new.worker.ops) c.read_below.ensures.went.sound
-          (went_of (IsCutFamily c.args.tree.now c.args.node) before after c.cut_family.result
+          copies-went (map_of c.read_below.new.worker.ops) c.read_below.ensures.went.sound
+          (went_of (IsCutFamily c.args.tree.now c.args.node) c.cut_family.result
           c.cut_family.ensures.gives c.cut_family.ensures.spent)
           c.read_below.new.worker.copies c.read_below.ensures.equipped.copies;
       rooms = record {

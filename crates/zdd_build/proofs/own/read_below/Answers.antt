@@ -1,12 +1,10 @@
 use Rattle.std.proofs.Common.{◌≡◌, ◌∙◌, ◌<◌, ◌≤◌, ℕ, List, length, get_or, subst, sym, ap, arith}
 use Rattle.std.proofs.Common.{length-set}
 use Rattle.std.proofs.lemmas.List.{get_or_read}
-use Rattle.fault_definitions.specs.Trigger.{below}
-use Rattle.fault_definitions.specs.CutFamily.{IsCutFamily}
+use Rattle.fault_definitions.specs.{Trigger.below, CutFamily.IsCutFamily}
 use Rattle.family_memory.specs.Memory.{family_in}
 use Rattle.family_memory.proofs.After.{Went-then}
-use Rattle.zdd_nodes.specs.Room.{HaveRoomFor}
-use Rattle.zdd_nodes.specs.declared.rooms.Rooms.{Rooms}
+use Rattle.zdd_nodes.specs.{Room.HaveRoomFor, declared.rooms.Rooms.Rooms}
 use Rattle.zdd_shared_table.specs.Seats.{Seated, map_of}
 use Rattle.zdd_build.specs.Building.{HasFamily}
 use Rattle.zdd_build.proofs.OwnReferences.{AreRead}
@@ -33,9 +31,9 @@ loop-i-preserved c =
     get_or_read c.below-nodes.result.now i c.index-nodes-i.result c.loop-i-test.true c.index-nodes-i.is 0
     ∙ ap (λ (l : List ℕ). get_or l i 0) c.below-nodes.ensures.below in
     record {
-      went = Went-then c.args.worker.now.memory before after inv.went c.in_ok-own.ensures.gives.went;
+      went = Went-then inv.went c.in_ok-own.ensures.gives.went;
       read =
-          read_more before after tree inv.went.sound c.in_ok-own.ensures.gives.went nodes list i r within
+          read_more inv.went.sound c.in_ok-own.ensures.gives.went nodes list i r within
           (subst (λ (q : Rooms). AreRead before tree nodes q.list.items i) (sym c.read_one.ensures.rooms) inv.read)
           c.in_ok-own.ensures.gives.has (subst (λ (n : ℕ). IsCutFamily tree n (family_in after r)) same
           c.in_ok-own.ensures.gives.is);
@@ -71,12 +69,12 @@ read_one-requires-clause-knows c =
 
 pub returns-clause-has : goal.returns-clause-has
 returns-clause-has c =
-    all_has c.loop-i.worker.memory c.args.tree.now c.args.node c.loop-i.worker.rooms c.requires.reads.is_node
+    all_has c.loop-i.worker.memory c.args.node c.requires.reads.is_node
     c.loop-i.invariant.equipped.rooms c.loop-i.i (let t = c.loop-i-test.false in
     let e = ap (λ (l : List ℕ). length l) c.below-nodes.ensures.below in omega (arith, t, e)) c.loop-i.invariant.read
 
 pub returns-clause-stand : goal.returns-clause-stand
 returns-clause-stand c =
-    all_stand c.loop-i.worker.memory c.args.tree.now c.args.node c.loop-i.worker.rooms c.requires.reads.is_node
+    all_stand c.loop-i.worker.memory c.args.node c.requires.reads.is_node
     c.loop-i.invariant.equipped.rooms c.loop-i.i (let t = c.loop-i-test.false in
     let e = ap (λ (l : List ℕ). length l) c.below-nodes.ensures.below in omega (arith, t, e)) c.loop-i.invariant.read

@@ -23,12 +23,10 @@ is_cut c =
 
 pub import-requires-clause-antichain : goal.import-requires-clause-antichain
 import-requires-clause-antichain c =
-    cut_family_antichain c.args.tree.now c.units.ensures.kept c.args.node c.requires.node
-    (family (map_of c.args.worker.now.ops) c.index-references-index.result)
+    cut_family_antichain c.units.ensures.kept c.requires.node
     (is_cut (goal.at.import-requires-clause-antichain c).After-index-references-index)
 
 pub returns-clause-gives : goal.returns-clause-gives
 returns-clause-gives c =
-    gave_cut c.args.tree.now c.args.node (family (map_of c.args.worker.now.ops) c.index-references-index.result)
-    (is_cut (goal.at.returns-clause-gives c).After-index-references-index)
+    gave_cut (is_cut (goal.at.returns-clause-gives c).After-index-references-index)
     c.args.worker.now.memory c.import.new.memory c.import.result c.import.ensures.gives

@@ -1,9 +1,7 @@
-use Rattle.std.proofs.Common.{get_or, arith}
-use Rattle.std.proofs.lemmas.Result.{err_from_is_err_and}
+use Rattle.std.proofs.{Common.get_or, Common.arith, lemmas.Result.err_from_is_err_and}
 use Rattle.zdd_shared_table.specs.Seats.{map_of}
 use Rattle.zdd_product.proofs.After.{grown_then}
-use Rattle.zdd_build.specs.declared.worker.Worker.{Worker}
-use Rattle.zdd_build.specs.Workers.{IsReady}
+use Rattle.zdd_build.specs.{declared.worker.Worker.Worker, Workers.IsReady}
 use Rattle.zdd_build.proofs.SeatLemmas.{Learned-then, part_learned}
 use Rattle.zdd_build.proofs.TableLemmas.{built_on}
 use Rattle.zdd_build.proofs.WorkerLemmas.{finds_first, goes_on_then, ready_on, team_set}
@@ -22,9 +20,7 @@ made : (g : given.Over) (c : After-make_rest g)
     → IsReady c.args.run.task c.make_rest.new.worker
 made g c first_ready =
     let first : Worker = get_or c.args.team.now 0 c.index-team-0.result in
-    ready_on c.args.run.task first c.make_rest.new.worker first_ready
-    (goes_on_then c.args.run.task first c.meet.new.worker c.make_rest.new.worker c.meet.ensures.goes_on
-    c.make_rest.ensures.goes_on)
+    ready_on first_ready (goes_on_then c.meet.ensures.goes_on c.make_rest.ensures.goes_on)
 
 pub meet-requires-clause-worker : goal.meet-requires-clause-worker
 meet-requires-clause-worker g c = (ready g (goal.at.meet-requires-clause-worker g c).After-index-team-0).can
@@ -38,7 +34,7 @@ make_rest-requires-clause-built g c κs within =
 pub returns-in_err-place-clause-led : goal.returns-in_err-place-clause-led
 returns-in_err-place-clause-led g c =
     let to = goal.at.returns-in_err-place-clause-led g c in
-    team_set c.args.run.task c.args.seat.now c.args.team.now c.meet.new.seat 0 c.make_rest.new.worker c.requires.team
+    team_set 0 c.make_rest.new.worker c.requires.team
     c.meet.ensures.learned (made g to.After-make_rest (ready g to.After-index-team-0))
 
 pub returns-in_err-place-clause-full : goal.returns-in_err-place-clause-full
@@ -47,16 +43,13 @@ returns-in_err-place-clause-full g c =
     rw p.1 (finds_first c.args.team.now c.make_rest.new.worker c.requires.team.some c.in_err-place.ensures.full)
 
 pub meet-requires-2-clause-seat : goal.meet-requires-2-clause-seat
-meet-requires-2-clause-seat g c =
-    part_learned c.args.run.task c.args.seat.now c.meet.new.seat c.requires.team.can_part c.meet.ensures.learned
+meet-requires-2-clause-seat g c = part_learned c.requires.team.can_part c.meet.ensures.learned
 
 pub returns-clause-led : goal.returns-clause-led
 returns-clause-led g c =
     let to = goal.at.returns-clause-led g c in
-    team_set c.args.run.task c.args.seat.now c.args.team.now c.meet-2.new.seat 0 c.meet-2.new.worker c.requires.team
-    (Learned-then c.args.seat.now c.meet.new.seat c.meet-2.new.seat c.meet.ensures.learned c.meet-2.ensures.learned)
-    (ready_on c.args.run.task c.make_rest.new.worker c.meet-2.new.worker
-    (made g to.After-make_rest (ready g to.After-index-team-0)) c.meet-2.ensures.goes_on)
+    team_set 0 c.meet-2.new.worker c.requires.team (Learned-then c.meet.ensures.learned c.meet-2.ensures.learned)
+    (ready_on (made g to.After-make_rest (ready g to.After-index-team-0)) c.meet-2.ensures.goes_on)
 
 pub returns-clause-built : goal.returns-clause-built
 returns-clause-built g c =

@@ -1,29 +1,19 @@
-use Rattle.std.proofs.Common.{refl, subst}
-use Rattle.std.proofs.lemmas.Result.{err_from_is_err_and}
+use Rattle.std.proofs.{Common.refl, Common.subst, lemmas.Result.err_from_is_err_and}
 use Rattle.zdd_shared_table.specs.Seats.{map_of}
-use Rattle.zdd_build.specs.Building.{IsBuiltTo}
-use Rattle.zdd_build.specs.Workers.{HasLed}
-use Rattle.zdd_build.proofs.TableLemmas.{built_less}
-use Rattle.zdd_build.proofs.WorkerLemmas.{led_then}
+use Rattle.zdd_build.specs.{Building.IsBuiltTo, Workers.HasLed}
+use Rattle.zdd_build.proofs.{TableLemmas.built_less, WorkerLemmas.led_then, ranks.make_rank.Goals.After-make_first-2}
 use Rattle.zdd_build.proofs.ranks.make_rank.Goals as goal
-use Rattle.zdd_build.proofs.ranks.make_rank.Goals.{After-make_first-2}
 use Rattle.zdd_build.proofs.ranks.make_rank.Given as given
 
 pub spread-requires-clause-built : goal.spread-requires-clause-built
-spread-requires-clause-built g c κs within =
-    built_less (map_of c.make_first.new.seat) c.args.run.task c.make_first.new.table c.args.run.from
-    c.in_ok-place.place c.in_ok-place.ensures.stop.low c.in_ok-place.ensures.built
+spread-requires-clause-built g c κs within = built_less c.in_ok-place.ensures.stop.low c.in_ok-place.ensures.built
 
 -- the first worker, all, and the first again
 led : (g : given.Over) (c : After-make_first-2 g) → HasLed c.args.run.task c.args.seat.now c.args.team.now
     c.make_first-2.new.seat c.make_first-2.new.team
 led g c =
     let task = c.args.run.task in
-    led_then task c.args.seat.now c.args.team.now c.spread.new.seat c.spread.new.team c.make_first-2.new.seat
-    c.make_first-2.new.team
-    (led_then task c.args.seat.now c.args.team.now c.make_first.new.seat c.make_first.new.team c.spread.new.seat
-    c.spread.new.team c.make_first.ensures.led c.spread.ensures.led)
-    c.make_first-2.ensures.led
+    led_then (led_then c.make_first.ensures.led c.spread.ensures.led) c.make_first-2.ensures.led
 
 pub returns-clause-led : goal.returns-clause-led
 returns-clause-led g c = led g (goal.at.returns-clause-led g c).After-make_first-2

@@ -1,6 +1,5 @@
 use Rattle.std.proofs.Common.{refl, arith}
-use Rattle.zdd_build.proofs.SeatLemmas.{Learned-nothing}
-use Rattle.zdd_build.proofs.WorkerLemmas.{led_then}
+use Rattle.zdd_build.proofs.{SeatLemmas.Learned-nothing, WorkerLemmas.led_then}
 use Rattle.zdd_build.proofs.ranks.make_ranks.Goals as goal
 
 pub loop-from-init : goal.loop-from-init
@@ -8,7 +7,7 @@ loop-from-init g c = record {
   within = omega arith;
   led =
       record {
-        learned = Learned-nothing c.args.seat.now c.requires.team.can_part.sound;
+        learned = Learned-nothing c.requires.team.can_part.sound;
         size = refl;
         team = c.requires.team;
       };
@@ -18,13 +17,10 @@ loop-from-init g c = record {
 pub loop-from-preserved : goal.loop-from-preserved
 loop-from-preserved g c = record {
   within = c.end_of_rank-to.ensures.within;
-  led =
-      led_then c.args.task c.args.seat.now c.args.team.now c.loop-from.seat c.loop-from.team c.make_rank.new.seat
-      c.make_rank.new.team c.loop-from.invariant.led c.make_rank.ensures.led;
+  led = led_then c.loop-from.invariant.led c.make_rank.ensures.led;
   built = c.in_ok-make_rank.ensures.built;
 }
 
 pub returns-in_err-make_rank-clause-led : goal.returns-in_err-make_rank-clause-led
 returns-in_err-make_rank-clause-led g c =
-    led_then c.args.task c.args.seat.now c.args.team.now c.loop-from.seat c.loop-from.team c.make_rank.new.seat
-    c.make_rank.new.team c.loop-from.invariant.led c.make_rank.ensures.led
+    led_then c.loop-from.invariant.led c.make_rank.ensures.led

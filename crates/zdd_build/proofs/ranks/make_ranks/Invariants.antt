@@ -1,7 +1,6 @@
 use Rattle.std.proofs.Common.{◌-◌, ◌≤◌, length}
 use Rattle.zdd_shared_table.specs.Seats.{map_of}
-use Rattle.zdd_build.specs.Building.{IsBuiltTo}
-use Rattle.zdd_build.specs.Workers.{HasLed}
+use Rattle.zdd_build.specs.{Building.IsBuiltTo, Workers.HasLed}
 use Rattle.zdd_build.proofs.ranks.make_ranks.Given as goal
 
 abbrev pub invariant-loop-from : goal.invariant-loop-from

@@ -9,14 +9,13 @@ use Rattle.zdd_build.proofs.ranks.make_rest.Goals as goal
 pub loop-place-init : goal.loop-place-init
 loop-place-init g c = record {
   built = c.requires.built;
-  goes_on = goes_on_same c.args.run.task c.args.worker.now c.requires.can;
+  goes_on = goes_on_same c.requires.can;
 }
 
 pub loop-place-preserved-then-index : goal.loop-place-preserved-then-index
 loop-place-preserved-then-index g c = record {
   built =
-      built_next (map_of c.loop-place.worker.ops) c.args.run.task c.loop-place.table c.loop-place.place
-      c.loop-place.invariant.built
+      built_next c.loop-place.invariant.built
       (sym (get_or_read c.loop-place.table.made.items c.loop-place.place c.index.result.now
       (let e = c.loop-place.invariant.built.built.all_places in let t = c.loop-place-test.true in
       let all = c.requires.run.within in omega (arith, e, t, all)) c.index.ensures false) ∙ c.if-index.true);
@@ -26,15 +25,11 @@ loop-place-preserved-then-index g c = record {
 pub make_at-requires-clause-can_make : goal.make_at-requires-clause-can_make
 make_at-requires-clause-can_make g c κs within =
     subst (λ (references : List ℕ). CanMake (map_of c.loop-place.worker.ops) c.args.run references)
-    (sym c.as_slice.ensures.value)
-    (can_make (map_of c.loop-place.worker.ops) c.args.run c.requires.run c.loop-place.table
-    (built_less (map_of c.loop-place.worker.ops) c.args.run.task c.loop-place.table c.args.run.from
-    c.loop-place.place c.loop-place.auto.place c.loop-place.invariant.built))
+    (sym c.as_slice.ensures.value) (can_make c.requires.run
+    (built_less c.loop-place.auto.place c.loop-place.invariant.built))
 
 pub put-requires-clause-room : goal.put-requires-clause-room
-put-requires-clause-room g c =
-    table_room (map_of c.loop-place.worker.ops) c.args.run.task c.requires.run.task c.loop-place.table
-    c.loop-place.place c.loop-place.invariant.built
+put-requires-clause-room g c = table_room c.requires.run.task c.loop-place.invariant.built
 
 pub loop-place-preserved : goal.loop-place-preserved
 loop-place-preserved g c =
@@ -50,21 +45,16 @@ loop-place-preserved g c =
     inv.built in
     record {
       built =
-          built_next (map_of worker.ops) task c.put.new.self place
-          (put_built (map_of worker.ops) task c.requires.run.task c.loop-place.table c.put.new.self place
-          c.in_ok-family.family place before within c.in_ok-family.ensures.gives c.put.ensures.references
-          c.put.ensures.made)
-          (put_made (map_of worker.ops) task c.requires.run.task c.loop-place.table c.put.new.self place
-          c.in_ok-family.family place before within c.in_ok-family.ensures.gives c.put.ensures.references
-          c.put.ensures.made);
-      goes_on =
-          goes_on_then task c.args.worker.now c.loop-place.worker worker inv.goes_on c.make_at.ensures.goes_on;
+          built_next (put_built c.requires.run.task c.put.new.self place
+          c.in_ok-family.family before within c.in_ok-family.ensures.gives c.put.ensures.references c.put.ensures.made)
+          (put_made c.requires.run.task c.put.new.self place
+          c.in_ok-family.family before within c.in_ok-family.ensures.gives c.put.ensures.references c.put.ensures.made);
+      goes_on = goes_on_then inv.goes_on c.make_at.ensures.goes_on;
     }
 
 pub returns-in_err-family-clause-goes_on : goal.returns-in_err-family-clause-goes_on
 returns-in_err-family-clause-goes_on g c =
-    goes_on_then c.args.run.task c.args.worker.now c.loop-place.worker c.make_at.new.worker
-    c.loop-place.invariant.goes_on c.make_at.ensures.goes_on
+    goes_on_then c.loop-place.invariant.goes_on c.make_at.ensures.goes_on
 
 pub returns-then-place-run-clause-stop : goal.returns-then-place-run-clause-stop
 returns-then-place-run-clause-stop g c = record {

@@ -1,6 +1,5 @@
 use Rattle.zdd_shared_table.specs.Seats.{map_of}
-use Rattle.zdd_build.specs.Building.{IsBuiltTo}
-use Rattle.zdd_build.specs.Workers.{GoesOn}
+use Rattle.zdd_build.specs.{Building.IsBuiltTo, Workers.GoesOn}
 use Rattle.zdd_build.proofs.ranks.make_rest.Given as goal
 
 abbrev pub invariant-loop-place : goal.invariant-loop-place

@@ -2,8 +2,7 @@ use Rattle.std.proofs.Common.{◌<◌, refl, get_or, length, arith}
 use Rattle.zdd_families.specs.Map.{Grown}
 use Rattle.zdd_shared_table.specs.Seats.{map_of}
 use Rattle.zdd_product.proofs.After.{grown_then}
-use Rattle.zdd_build.specs.declared.worker.Worker.{Worker}
-use Rattle.zdd_build.specs.Workers.{IsReady}
+use Rattle.zdd_build.specs.{declared.worker.Worker.Worker, Workers.IsReady}
 use Rattle.zdd_build.proofs.SeatLemmas.{Learned-nothing}
 use Rattle.zdd_build.proofs.WorkerLemmas.{below_set, led_then, ready_on, team_set}
 use Rattle.zdd_build.proofs.rounds.brief.Goals as goal
@@ -12,7 +11,7 @@ pub loop-i-init : goal.loop-i-init
 loop-i-init c = record {
   led =
       record {
-        learned = Learned-nothing c.args.seat.now c.requires.team.can_part.sound;
+        learned = Learned-nothing c.requires.team.can_part.sound;
         size = refl;
         team = c.requires.team;
       };
@@ -35,9 +34,7 @@ loop-i-preserved c =
     let ready : IsReady c.args.task old = led.team.ready i c.index-team-i.result inside in
     record {
       led =
-          led_then c.args.task c.args.seat.now c.args.team.now c.loop-i.seat team c.meet.new.seat _ led
-          (team_set c.args.task c.loop-i.seat team c.meet.new.seat i met led.team c.meet.ensures.learned
-          (ready_on c.args.task old met ready c.meet.ensures.goes_on));
+          led_then led (team_set i met led.team c.meet.ensures.learned (ready_on ready c.meet.ensures.goes_on));
       learns =
           below_set (λ (w : Worker). Grown (map_of c.args.seat.now) (map_of w.ops)) team i met inside
           c.loop-i.invariant.learns

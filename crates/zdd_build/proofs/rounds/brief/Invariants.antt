@@ -1,8 +1,7 @@
 use Rattle.std.proofs.Common.{ℕ, ◌<◌, get_or}
 use Rattle.zdd_families.specs.Map.{Grown}
 use Rattle.zdd_shared_table.specs.Seats.{map_of}
-use Rattle.zdd_build.specs.declared.worker.Worker.{Worker}
-use Rattle.zdd_build.specs.Workers.{HasLed}
+use Rattle.zdd_build.specs.{declared.worker.Worker.Worker, Workers.HasLed}
 use Rattle.zdd_build.proofs.rounds.brief.Given as goal
 
 abbrev pub invariant-loop-i : goal.invariant-loop-i

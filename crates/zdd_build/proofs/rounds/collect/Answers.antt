@@ -1,16 +1,14 @@
 use Rattle.std.proofs.Common.{refl, ◌∙◌, ◌<◌, get_or, length, length-set, subst, arith}
 use Rattle.zdd_shared_table.specs.Seats.{Seated, map_of}
-use Rattle.zdd_build.specs.Building.{IsBuiltTo}
-use Rattle.zdd_build.specs.Workers.{IsAtWork, IsReady}
+use Rattle.zdd_build.specs.{Building.IsBuiltTo, Workers.IsAtWork, Workers.IsReady}
 use Rattle.zdd_build.proofs.SeatLemmas.{Learned-nothing, Learned-then, part_learned}
-use Rattle.zdd_build.proofs.TableLemmas.{built_on}
+use Rattle.zdd_build.proofs.{TableLemmas.built_on, rounds.collect.Goals.After-index-team-i}
 use Rattle.zdd_build.proofs.WorkerLemmas.{above_set, at_work_on, below_set}
 use Rattle.zdd_build.proofs.rounds.collect.Goals as goal
-use Rattle.zdd_build.proofs.rounds.collect.Goals.{After-index-team-i}
 
 pub loop-i-init : goal.loop-i-init
 loop-i-init c = record {
-  learned = Learned-nothing c.args.seat.now c.requires.seat.sound;
+  learned = Learned-nothing c.requires.seat.sound;
   size = refl;
   ready = λ k d below. absurd (omega (arith, below));
   left = λ k d high within. c.requires.at_work k d within;
@@ -24,16 +22,14 @@ at_work c =
     (let t = c.loop-i-test.true in let e = c.loop-i.invariant.size in omega (arith, t, e))
 
 pub meet-requires-clause-seat : goal.meet-requires-clause-seat
-meet-requires-clause-seat c =
-    part_learned c.args.run.task c.args.seat.now c.loop-i.seat c.requires.seat c.loop-i.invariant.learned
+meet-requires-clause-seat c = part_learned c.requires.seat c.loop-i.invariant.learned
 
 pub meet-requires-clause-worker : goal.meet-requires-clause-worker
 meet-requires-clause-worker c = (at_work (goal.at.meet-requires-clause-worker c).After-index-team-i).can
 
 pub take_found-requires-clause-at_work : goal.take_found-requires-clause-at_work
 take_found-requires-clause-at_work c =
-    at_work_on c.args.run.task (get_or c.loop-i.team c.loop-i.i c.index-team-i.result) c.meet.new.worker
-    (at_work (goal.at.take_found-requires-clause-at_work c).After-index-team-i) c.meet.ensures.goes_on
+    at_work_on (at_work (goal.at.take_found-requires-clause-at_work c).After-index-team-i) c.meet.ensures.goes_on
 
 pub take_found-requires-clause-built : goal.take_found-requires-clause-built
 take_found-requires-clause-built c =
@@ -50,7 +46,7 @@ loop-i-preserved c =
     let taken = c.take_found.new.worker in
     let inside : i < length team = (let t = c.loop-i-test.true in let e = inv.size in omega (arith, t, e)) in
     record {
-      learned = Learned-then c.args.seat.now c.loop-i.seat c.meet.new.seat inv.learned c.meet.ensures.learned;
+      learned = Learned-then inv.learned c.meet.ensures.learned;
       size = length-set team i taken ∙ inv.size;
       ready = below_set (IsReady c.args.run.task) team i taken inside inv.ready c.take_found.ensures.ready;
       left =
@@ -72,7 +68,7 @@ returns-clause-led c =
       size = inv.size;
       team =
           record {
-            can_part = part_learned c.args.run.task c.args.seat.now c.loop-i.seat c.requires.seat inv.learned;
+            can_part = part_learned c.requires.seat inv.learned;
             some = let s = c.requires.some in let e = inv.size in omega (arith, s, e);
             ready =
                 λ k d within. inv.ready k d

@@ -1,7 +1,6 @@
 use Rattle.std.proofs.Common.{◌≡◌, ℕ, ◌≤◌, ◌<◌, length, get_or}
 use Rattle.zdd_shared_table.specs.Seats.{map_of}
-use Rattle.zdd_build.specs.declared.worker.Worker.{Worker}
-use Rattle.zdd_build.specs.Building.{IsBuiltTo}
+use Rattle.zdd_build.specs.{declared.worker.Worker.Worker, Building.IsBuiltTo}
 use Rattle.zdd_build.specs.Workers.{IsAtWork, IsReady, Learned}
 use Rattle.zdd_build.proofs.rounds.collect.Given as goal
 

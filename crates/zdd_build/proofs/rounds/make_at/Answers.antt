@@ -2,20 +2,19 @@ use Rattle.std.proofs.Common.{IfOk, subst, sym}
 use Rattle.fault_definitions.specs.CutFamily.{IsCutFamily}
 use Rattle.zdd_shared_table.specs.Seats.{map_of}
 use Rattle.zdd_product.specs.Seats.{KnowsOne}
-use Rattle.zdd_build.specs.declared.places.Place.{Place}
-use Rattle.zdd_build.specs.Building.{CanRead}
+use Rattle.zdd_build.specs.{declared.places.Place.Place, Building.CanRead}
 use Rattle.zdd_build.proofs.PlaceLemmas.{place_read}
 use Rattle.zdd_build.proofs.rounds.make_at.Goals as goal
 
 pub make-made-requires-clause-reads : goal.make-made-requires-clause-reads
 make-made-requires-clause-reads g c =
     subst (λ (p : Place). CanRead (map_of c.args.worker.now.ops) c.args.run.task.tree.now c.args.references.now p.node)
-    (place_read c.args.run c.requires.can_make.is_run c.args.place c.requires.within c.index-run-place-2.result)
+    (place_read c.requires.can_make.is_run c.args.place c.requires.within c.index-run-place-2.result)
     (c.requires.can_make.reads c.args.place c.requires.from c.requires.within)
 
 pub returns-clause-gives : goal.returns-clause-gives
 returns-clause-gives g c =
     subst (λ (p : Place). IfOk c.make-made.result
     (λ r. KnowsOne (map_of c.make-made.new.worker.ops) r (IsCutFamily c.args.run.task.tree.now p.node)))
-    (sym (place_read c.args.run c.requires.can_make.is_run c.args.place c.requires.within c.index-run-place-2.result))
+    (sym (place_read c.requires.can_make.is_run c.args.place c.requires.within c.index-run-place-2.result))
     c.make-made.ensures.gives

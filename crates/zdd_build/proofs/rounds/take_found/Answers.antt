@@ -1,10 +1,8 @@
 use Rattle.std.proofs.Common.{refl, subst, sym, arith}
 use Rattle.zdd_shared_table.specs.Seats.{map_of}
-use Rattle.zdd_build.specs.declared.worker.Finding.{Finding}
-use Rattle.zdd_build.specs.Workers.{IsFound}
-use Rattle.zdd_build.proofs.TableLemmas.{put_built, table_room}
+use Rattle.zdd_build.specs.{declared.worker.Finding.Finding, Workers.IsFound}
+use Rattle.zdd_build.proofs.{TableLemmas.put_built, TableLemmas.table_room, rounds.take_found.Goals.After-index}
 use Rattle.zdd_build.proofs.rounds.take_found.Goals as goal
-use Rattle.zdd_build.proofs.rounds.take_found.Goals.{After-index}
 
 -- what was found there
 found : (c : After-index) → IsFound (map_of c.args.worker.now.ops) c.args.run.task c.index.result.now
@@ -18,8 +16,7 @@ put-requires-clause-place c = (found (goal.at.put-requires-clause-place c).After
 
 pub put-requires-clause-room : goal.put-requires-clause-room
 put-requires-clause-room c =
-    table_room (map_of c.args.worker.now.ops) c.args.run.task c.requires.run.task c.loop-i.table c.args.run.from
-    c.loop-i.invariant.built
+    table_room c.requires.run.task c.loop-i.invariant.built
 
 pub loop-i-preserved : goal.loop-i-preserved
 loop-i-preserved c =
@@ -27,8 +24,7 @@ loop-i-preserved c =
     let is = found (goal.at.loop-i-preserved c).After-index in
     record {
       built =
-          put_built (map_of c.args.worker.now.ops) c.args.run.task c.requires.run.task c.loop-i.table c.put.new.self
-          finding.place finding.family c.args.run.from c.loop-i.invariant.built is.0 is.1 c.put.ensures.references
-          c.put.ensures.made;
+          put_built c.requires.run.task c.put.new.self
+          finding.place finding.family c.loop-i.invariant.built is.0 is.1 c.put.ensures.references c.put.ensures.made;
       worker = refl;
     }

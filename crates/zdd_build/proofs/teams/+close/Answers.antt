@@ -11,14 +11,12 @@ use Rattle.zdd_build.proofs.teams.+close.Goals as goal
 use Rattle.zdd_build.proofs.teams.+close.Goals.{After-into_seat, After-join}
 
 pub returns-in_default-clause-went : goal.returns-in_default-clause-went
-returns-in_default-clause-went t c =
-    WentAll-nowhere (IsDueToTree c.args.task.tree.now) c.args.seat.now c.is_sound.ensures.sound
+returns-in_default-clause-went t c = WentAll-nowhere (IsDueToTree c.args.task.tree.now) c.is_sound.ensures.sound
 
 -- the last worker of the team
 can : (t : ℕ) (c : After-into_seat t) → CanWork c.args.task c.in-Some.worker
 can t c =
-    (last_is (IsReady c.args.task) c.args.team.items c.pop.new.self.items c.in-Some.worker c.in-Some.ensures.items
-    c.requires.ready).can
+    (last_is (IsReady c.args.task) c.pop.new.self.items c.in-Some.worker c.in-Some.ensures.items c.requires.ready).can
 
 -- the seat has taken in what the last worker had
 joined : (t : ℕ) (c : After-join t) → Joined c.args.seat.now c.into_seat.result c.join.new.seat
@@ -35,7 +33,7 @@ pub returns-clause-went : goal.returns-clause-went
 returns-clause-went t c =
     let to = goal.at.returns-clause-went t c in
     let due = IsDueToTree c.args.task.tree.now in
-    close_went c.args.seat.now c.into_seat.result c.join.new.seat c.close.new.seat (joined t to.After-join) due
+    close_went c.close.new.seat (joined t to.After-join)
     (subst (CountsDue due) (sym c.into_seat.ensures) (can t to.After-into_seat).counts) c.close.ensures.went
 
 pub returns-clause-share : goal.returns-clause-share
@@ -51,19 +49,16 @@ returns-clause-share t c =
 pub returns-clause-full : goal.returns-clause-full
 returns-clause-full t c finds =
     let to = goal.at.returns-clause-full t c in
-    close_full c.args.seat.now c.into_seat.result c.join.new.seat c.close.new.seat (joined t to.After-join)
-    c.args.task (IsDueToTree c.args.task.tree.now) c.pop.new.self.items c.in-Some.worker
+    close_full c.close.new.seat (joined t to.After-join) c.pop.new.self.items
     (sym c.into_seat.ensures) (can t to.After-into_seat) c.close.ensures.went c.close.ensures.full
     (subst FindsFull c.in-Some.ensures.items finds)
 
 pub returns-clause-new : goal.returns-clause-new
 returns-clause-new t c new =
     let last : IsNew c.in-Some.worker =
-    last_is IsNew c.args.team.items c.pop.new.self.items c.in-Some.worker c.in-Some.ensures.items new in
-    close_new c.args.seat.now c.into_seat.result c.join.new.seat c.close.new.seat
-    (joined t (goal.at.returns-clause-new t c).After-join)
+    last_is IsNew c.pop.new.self.items c.in-Some.worker c.in-Some.ensures.items new in
+    close_new c.close.new.seat (joined t (goal.at.returns-clause-new t c).After-join)
     (ap (λ (s : Seated). s.fulls) c.into_seat.ensures ∙ last.fulls)
     (ap (λ (s : Seated). s.missed) c.into_seat.ensures ∙ last.missed)
     (ap (λ (s : Seated). s.fills) c.into_seat.ensures ∙ last.fills)
-    (c.close.ensures.new (others_are IsNew c.args.team.items c.pop.new.self.items c.in-Some.worker
-    c.in-Some.ensures.items new))
+    (c.close.ensures.new (others_are IsNew c.pop.new.self.items c.in-Some.worker c.in-Some.ensures.items new))

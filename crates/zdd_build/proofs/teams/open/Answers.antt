@@ -1,8 +1,6 @@
 use Rattle.std.proofs.Common.{◌∙◌, ◌+◌, List, length, All, subst, sym, ap, arith}
-use Rattle.std.proofs.lemmas.List.{length_push}
-use Rattle.std.proofs.lemmas.List.Elements.{All-push}
-use Rattle.zdd_build.specs.declared.worker.Worker.{Worker}
-use Rattle.zdd_build.specs.Workers.{IsNew, IsReady}
+use Rattle.std.proofs.{lemmas.List.length_push, lemmas.List.Elements.All-push}
+use Rattle.zdd_build.specs.{declared.worker.Worker.Worker, Workers.IsNew, Workers.IsReady}
 use Rattle.zdd_build.proofs.TeamLemmas.{split_then}
 use Rattle.zdd_build.proofs.teams.open.Goals as goal
 
@@ -16,8 +14,7 @@ loop-number-preserved c =
           ∙ ap (λ n. n + 1) inv.count;
       room = let e = c.push_reserved.ensures.capacity in let h = inv.room in omega (arith, e, h);
       split =
-          split_then c.loop-number._number c.args.seat.now c.loop-number.seat c.open_one.new.seat inv.split
-          c.in_ok-worker.ensures.split;
+          split_then inv.split c.in_ok-worker.ensures.split;
       ready =
           subst (All (IsReady c.args.task)) (sym pushed)
           (All-push (IsReady c.args.task) c.loop-number.team.items c.in_ok-worker.worker inv.ready

@@ -8,9 +8,7 @@ pub returns-in-Err-clause-refused : goal.returns-in-Err-clause-refused
 returns-in-Err-clause-refused c =
     let split = c.split.ensures in
     let is = c.join.ensures in
-    split_none c.args.seat.now c.join.new.seat
-    (split_join c.args.seat.now c.split.new.seat c.split.result c.join.new.seat c.join.new.seat 2 split.fulls
-    split.fills
+    split_none (split_join c.args.seat.now c.join.new.seat 2 split.fulls split.fills
     (subst (λ (s : Seated). Joined c.split.new.seat s c.join.new.seat) c.in-Err.ensures.seat
     (joined_is is.store is.keeps is.gains is.sound is.fills is.missed is.fulls)) split.seat
     (let some = c.requires.share in omega (arith, some))
@@ -21,9 +19,7 @@ returns-in-Err-new-clause-refused c =
     let split = c.split.ensures in
     let is = c.join-in-Err-new.ensures in
     let back : c.into_seat-back.result ≡ c.split.result = c.into_seat-back.ensures ∙ c.in-Ok.ensures.seat in
-    split_none c.args.seat.now c.join-in-Err-new.new.seat
-    (split_join c.args.seat.now c.split.new.seat c.split.result c.join-in-Err-new.new.seat c.join-in-Err-new.new.seat 2
-    split.fulls split.fills
+    split_none (split_join c.args.seat.now c.join-in-Err-new.new.seat 2 split.fulls split.fills
     (subst (λ (s : Seated). Joined c.split.new.seat s c.join-in-Err-new.new.seat) back
     (joined_is is.store is.keeps is.gains is.sound is.fills is.missed is.fulls)) split.seat
     (let some = c.requires.share in omega (arith, some))

@@ -1,5 +1,4 @@
 use Rattle.std.proofs.Common.{true, subst, sym}
-use Rattle.fault_definitions.specs.CutFamily.{IsCutFamily}
 use Rattle.zdd_shared_table.specs.Seats.{Seated, map_of}
 use Rattle.zdd_build.specs.Building.{CanRead}
 use Rattle.zdd_build.proofs.WorkerLemmas.{on_full, on_gave}
@@ -15,18 +14,15 @@ shared_family-requires-clause-equipped c = c.keep_few.ensures.equipped c.args.ta
 
 pub returns-in-Err-clause-goes_on : goal.returns-in-Err-clause-goes_on
 returns-in-Err-clause-goes_on c =
-    on_full c.args.task c.args.worker.now c.keep_few.new.worker (record c.shared_family.new.worker { full = true })
-    c.requires.can c.keep_few.ensures.keeps (record {
+    on_full (record c.shared_family.new.worker { full = true }) c.requires.can c.keep_few.ensures.keeps (record {
       copies = c.shared_family.ensures.equipped.copies;
       rooms = c.shared_family.ensures.equipped.rooms;
     }) c.shared_family.ensures.found c.in-Err.ensures.full
 
 pub returns-clause-goes_on : goal.returns-clause-goes_on
 returns-clause-goes_on c =
-    on_gave c.args.task c.args.worker.now c.keep_few.new.worker
-    (record c.shared_family.new.worker { work = c.saturating_add-worker.result }) c.requires.can
+    on_gave (record c.shared_family.new.worker { work = c.saturating_add-worker.result }) c.requires.can
     c.keep_few.ensures.keeps (record {
       copies = c.shared_family.ensures.equipped.copies;
       rooms = c.shared_family.ensures.equipped.rooms;
-    }) c.shared_family.ensures.found (IsCutFamily c.args.task.tree.now c.args.node) c.in-Ok.family
-    c.in-Ok.ensures.gives c.shared_family.ensures.same
+    }) c.shared_family.ensures.found c.in-Ok.ensures.gives c.shared_family.ensures.same

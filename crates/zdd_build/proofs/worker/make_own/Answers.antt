@@ -1,6 +1,4 @@
 use Rattle.std.proofs.Common.{ℕ, Ok, Err, true, refl, subst, sym}
-use Rattle.fault_definitions.specs.CutFamily.{IsCutFamily}
-use Rattle.family_memory.specs.Memory.{family_in}
 use Rattle.zdd_shared_table.specs.Seats.{Seated, map_of}
 use Rattle.zdd_build.specs.Building.{CanRead}
 use Rattle.zdd_build.proofs.WorkerLemmas.{copied_full, copied_gives, keeps_then, on_full, on_gave}
@@ -18,24 +16,16 @@ pub returns-in-Ok-export-clause-goes_on : goal.returns-in-Ok-export-clause-goes_
 returns-in-Ok-export-clause-goes_on c =
     let tree = c.args.task.tree.now in
     let node = c.args.node in
-    on_gave c.args.task c.args.worker.now c.own_or_anew.new.worker
-    (record c.own_or_anew.new.worker { ops = c.export.new.ops; copies = c.export.new.copies }) c.requires.can
-    (keeps_then c.args.worker.now c.keep_few.new.worker c.own_or_anew.new.worker c.keep_few.ensures.keeps
-    c.own_or_anew.ensures.keeps)
+    on_gave (record c.own_or_anew.new.worker { ops = c.export.new.ops; copies = c.export.new.copies }) c.requires.can
+    (keeps_then c.keep_few.ensures.keeps c.own_or_anew.ensures.keeps)
     (record { copies = c.export.ensures.copies; rooms = c.own_or_anew.ensures.equipped.rooms }) refl
-    (IsCutFamily tree node) c.in-Ok-export.family
-    (copied_gives tree c.units.ensures.kept node c.requires.reads.is_node
-    (family_in c.own_or_anew.new.worker.memory c.in-Ok.own) c.in-Ok.ensures.family c.own_or_anew.new.worker.ops
+    (copied_gives c.units.ensures.kept c.requires.reads.is_node c.in-Ok.ensures.family c.own_or_anew.new.worker.ops
     c.export.new.ops {E = ℕ} (Ok c.in-Ok-export.family) c.in-Ok-export.ensures.gives) refl
 
 pub returns-in-Err-clause-goes_on : goal.returns-in-Err-clause-goes_on
 returns-in-Err-clause-goes_on c =
-    on_full c.args.task c.args.worker.now c.own_or_anew.new.worker
-    (record c.own_or_anew.new.worker { ops = c.export.new.ops; copies = c.export.new.copies; full = true })
-    c.requires.can
-    (keeps_then c.args.worker.now c.keep_few.new.worker c.own_or_anew.new.worker c.keep_few.ensures.keeps
-    c.own_or_anew.ensures.keeps)
+    on_full (record c.own_or_anew.new.worker { ops = c.export.new.ops; copies = c.export.new.copies; full = true })
+    c.requires.can (keeps_then c.keep_few.ensures.keeps c.own_or_anew.ensures.keeps)
     (record { copies = c.export.ensures.copies; rooms = c.own_or_anew.ensures.equipped.rooms }) refl
-    (copied_full c.args.task.tree.now c.units.ensures.kept c.args.node c.requires.reads.is_node
-    (family_in c.own_or_anew.new.worker.memory c.in-Ok.own) c.in-Ok.ensures.family c.own_or_anew.new.worker.ops
+    (copied_full c.units.ensures.kept c.requires.reads.is_node c.in-Ok.ensures.family c.own_or_anew.new.worker.ops
     c.export.new.ops {E = ℕ} (Err 0) c.in-Err.ensures.full)

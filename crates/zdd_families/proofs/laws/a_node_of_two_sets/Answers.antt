@@ -3,8 +3,7 @@ use Rattle.zdd_words.specs.Reference.{IsReference}
 use Rattle.zdd_words.specs.Word.{level_of, lo_of, hi_of, packed}
 use Rattle.zdd_words.proofs.WordLemmas.{packed-filled, level_of-packed, lo_of-packed}
 use Rattle.zdd_words.proofs.WordLemmas.{hi_of-packed}
-use Rattle.zdd_families.specs.Family.{branch}
-use Rattle.zdd_families.specs.Map.{IsClosed, family}
+use Rattle.zdd_families.specs.{Family.branch, Map.IsClosed, Map.family}
 use Rattle.zdd_families.proofs.MapLemmas.{family-node, family-empty, family-unit}
 use Rattle.zdd_families.proofs.laws.a_node_of_two_sets.Goals as goal
 

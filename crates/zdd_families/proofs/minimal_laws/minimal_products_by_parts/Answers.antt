@@ -5,12 +5,11 @@ use Rattle.zdd_families.proofs.minimal_laws.minimal_products_by_parts.Goals as g
 
 pub returns-clause-both : goal.returns-clause-both
 returns-clause-both c = λ x f f0 f1 g g0 g1 lo all hi a b cut cut' left is of_f of_g is'.
-    least_product-both x f f0 f1 g g0 g1 lo all hi cut cut' left is (least_sides f0 f1 g0 g1 a b all of_f of_g is')
+    least_product-both x f f0 f1 g g0 g1 lo all hi cut cut' left is (least_sides f0 f1 g0 g1 of_f of_g is')
 
 pub returns-clause-first : goal.returns-clause-first
 returns-clause-first c = λ x f f0 f1 g lo all hi cut above is is' left.
-    least_product-first x f f0 f1 g lo cut hi above all is is'
-    (least_product-rest x f f0 f1 g lo cut all is is' hi left)
+    least_product-first g lo cut hi above is is' (least_product-rest g lo cut is is' left)
 
 pub returns-clause-below : goal.returns-clause-below
-returns-clause-below c = λ x f f0 f1 g lo hi cut is below. least_product-below x f f0 f1 g cut is below lo hi
+returns-clause-below c = λ x f f0 f1 g lo hi cut is below. least_product-below g cut is below lo hi

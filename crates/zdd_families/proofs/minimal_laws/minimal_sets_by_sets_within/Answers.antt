@@ -2,4 +2,4 @@ use Rattle.zdd_families.proofs.LeastLemmas.{minimal-from_within, IsLeastFor-mini
 use Rattle.zdd_families.proofs.minimal_laws.minimal_sets_by_sets_within.Goals as goal
 
 pub returns : goal.returns
-returns c = λ f least is_family. (minimal-from_within f least is_family, IsLeastFor-minimal f least is_family)
+returns c = λ f least is_family. (minimal-from_within least is_family, IsLeastFor-minimal is_family)

@@ -6,5 +6,4 @@ returns-clause-both c = least_union-both
 
 pub returns-clause-first : goal.returns-clause-first
 returns-clause-first c = λ x f f0 f1 g lo hi cut above antichain is_family is left.
-    least_union-first x f f0 f1 g lo cut hi above antichain is_family is
-    (least_union-rest x f f0 f1 g lo cut antichain is hi left)
+    least_union-first g lo cut hi above antichain is_family is (least_union-rest g lo cut antichain is left)

@@ -1,8 +1,5 @@
-use Rattle.zdd_families.proofs.UnionLemmas.{union-one}
-use Rattle.zdd_families.proofs.ProductLemmas.{product-one}
-use Rattle.zdd_families.proofs.WithoutLemmas.{without-one}
-use Rattle.zdd_families.proofs.MinimalLemmas.{minimal-one}
-use Rattle.zdd_families.proofs.VotesLemmas.{votes-one}
+use Rattle.zdd_families.proofs.{UnionLemmas.union-one, ProductLemmas.product-one, WithoutLemmas.without-one}
+use Rattle.zdd_families.proofs.{MinimalLemmas.minimal-one, VotesLemmas.votes-one}
 use Rattle.zdd_families.proofs.operation_laws.one_result.Goals as goal
 
 pub returns-clause-union : goal.returns-clause-union

@@ -1,21 +1,18 @@
-use Rattle.zdd_families.proofs.UnionParts.{union-exists}
-use Rattle.zdd_families.proofs.ProductParts.{product-exists}
-use Rattle.zdd_families.proofs.WithoutParts.{without-exists}
-use Rattle.zdd_families.proofs.MinimalParts.{minimal-exists}
-use Rattle.zdd_families.proofs.VotesPartsLemmas.{votes-exist}
+use Rattle.zdd_families.proofs.{UnionParts.union-exists, ProductParts.product-exists, WithoutParts.without-exists}
+use Rattle.zdd_families.proofs.{MinimalParts.minimal-exists, VotesPartsLemmas.votes-exist}
 use Rattle.zdd_families.proofs.part_laws.results_exist.Goals as goal
 
 pub returns-clause-union : goal.returns-clause-union
-returns-clause-union c = λ low size f g s t. let found = union-exists size low f g s t in (found.union, found.is)
+returns-clause-union c = λ low size f g s t. let found = union-exists size s t in (found.union, found.is)
 
 pub returns-clause-product : goal.returns-clause-product
-returns-clause-product c = λ low size f g s t. let found = product-exists size low f g s t in (found.product, found.is)
+returns-clause-product c = λ low size f g s t. let found = product-exists size s t in (found.product, found.is)
 
 pub returns-clause-without : goal.returns-clause-without
-returns-clause-without c = λ low size f g s t. let found = without-exists size low f g s t in (found.rest, found.is)
+returns-clause-without c = λ low size f g s t. let found = without-exists size s t in (found.rest, found.is)
 
 pub returns-clause-minimal : goal.returns-clause-minimal
-returns-clause-minimal c = λ low size f s. let found = minimal-exists size low f s in (found.least, found.is)
+returns-clause-minimal c = λ low size f s. let found = minimal-exists size s in (found.least, found.is)
 
 pub returns-clause-votes : goal.returns-clause-votes
 returns-clause-votes c =

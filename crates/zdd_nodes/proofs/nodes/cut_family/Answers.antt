@@ -1,18 +1,14 @@
 use Rattle.std.proofs.lemmas.Result.{MatchResult-from_both}
-use Rattle.zdd_families.specs.Due.{IsDueToMinimal}
-use Rattle.zdd_families.specs.Minimal.{IsMinimal}
-use Rattle.fault_definitions.specs.CutFamily.{IsCutFamily}
-use Rattle.fault_definitions.specs.Trigger.{below}
+use Rattle.zdd_families.specs.{Due.IsDueToMinimal, Minimal.IsMinimal, Map.family}
+use Rattle.fault_definitions.specs.{CutFamily.IsCutFamily, Trigger.below}
 use Rattle.tree_families.specs.Due.{IsDueToTree}
-use Rattle.zdd_families.specs.Map.{family}
 use Rattle.zdd_shared_table.specs.Seats.{map_of}
 use Rattle.zdd_product.specs.Seats.{Gave, WasFull}
 use Rattle.zdd_product.proofs.After.{gave_of, full_of}
 use Rattle.zdd_nodes.specs.Reading.{families_below}
-use Rattle.zdd_nodes.proofs.NodeAnswers.{Answer, node_ends}
-use Rattle.zdd_nodes.proofs.NodeParts.{stand_of}
+use Rattle.zdd_nodes.proofs.{NodeAnswers.Answer, NodeAnswers.node_ends, NodeParts.stand_of}
+use Rattle.zdd_nodes.proofs.{nodes.cut_family.Goals.After-minimal}
 use Rattle.zdd_nodes.proofs.nodes.cut_family.Goals as goal
-use Rattle.zdd_nodes.proofs.nodes.cut_family.Goals.{After-minimal}
 
 -- what the recipe made, then cut down to its minimal sets, answers for both clauses
 ends : (c : After-minimal) → Answer (IsCutFamily c.args.tree.now c.args.node) (IsDueToTree c.args.tree.now)
@@ -26,8 +22,8 @@ ends c =
     let after = c.minimal.new.self in
     let made = family (map_of mid) c.in_ok-made.made in
     node_ends tree node c.requires.node c.requires.read (families_below known tree references node)
-    (stand_of known tree references (below tree node) c.requires.below) c.units.ensures.kept
-    c.args.ops.now mid after c.in_ok-made.made c.in_ok-made.ensures.made c.minimal.result
+    (stand_of known tree references (below tree node) c.requires.below) c.units.ensures.kept after
+    c.in_ok-made.ensures.made c.minimal.result
     (MatchResult-from_both c.minimal.result (Gave (IsMinimal made) (IsDueToMinimal made) mid after)
     (λ _. WasFull (IsDueToMinimal made) mid after) c.minimal.ensures.gives c.minimal.ensures.full)
 

@@ -1,6 +1,5 @@
 use Rattle.std.proofs.Common.{◌≡◌, All, map, take, drop, length, sym, ◌∙◌, ap, subst, arith}
-use Rattle.fault_definitions.specs.CutFamily.{IsCutFamily}
-use Rattle.fault_definitions.specs.Trigger.{below}
+use Rattle.fault_definitions.specs.{CutFamily.IsCutFamily, Trigger.below}
 use Rattle.tree_families.specs.Recipe.{StandFor}
 use Rattle.zdd_families.specs.Map.{Knows}
 use Rattle.zdd_shared_table.specs.Seats.{map_of}

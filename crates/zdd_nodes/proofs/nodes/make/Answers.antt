@@ -1,16 +1,14 @@
 use Rattle.std.proofs.Common.{◌≡◌, ◌≤◌, length, sym, ◌∙◌, ap, subst, arith}
 use Rattle.std.proofs.lemmas.List.{length-map}
-use Rattle.fault_definitions.specs.CutFamily.{IsCutFamily}
+use Rattle.fault_definitions.specs.{CutFamily.IsCutFamily, Trigger.below}
 use Rattle.fault_definitions.proofs.RankLaws.{gate_sound}
 use Rattle.fault_definitions.specs.Tree.{IsGateOf, IsUnitOf, inputs_of, kind_of}
-use Rattle.fault_definitions.specs.Trigger.{below}
 use Rattle.tree_families.proofs.Building.{gate_below, gate_recipe_is}
 use Rattle.tree_families.specs.Recipe.{IsUnionOfAll, alone, gate_recipe}
 use Rattle.zdd_families.specs.Map.{family}
 use Rattle.zdd_shared_table.specs.Seats.{map_of}
 use Rattle.zdd_product.specs.Voting.{families}
-use Rattle.zdd_nodes.specs.Reading.{CanVote}
-use Rattle.zdd_nodes.specs.Steps.{IsDueToUnit}
+use Rattle.zdd_nodes.specs.{Reading.CanVote, Steps.IsDueToUnit}
 use Rattle.zdd_nodes.proofs.NodeAnswers.{Answer, node_made, unit_node_made}
 use Rattle.zdd_nodes.proofs.NodeParts.{StandFor-length, sound_some, sound_votes}
 use Rattle.zdd_nodes.proofs.nodes.make.Goals as goal
@@ -21,8 +19,7 @@ make_gate-requires-clause-some c =
     let gate = c.args.node in
     let is_gate : IsGateOf tree gate = (omega arith, c.requires.node.1) in
     let some : 1 ≤ length (inputs_of tree gate) =
-    sound_some tree (kind_of tree gate) (inputs_of tree gate)
-    (gate_sound tree c.units.ensures.kept gate is_gate).kind in
+    sound_some tree (kind_of tree gate) (inputs_of tree gate) (gate_sound c.units.ensures.kept gate is_gate).kind in
     let as_many : length (families (map_of c.args.ops.now) c.args.list.now) ≡ length (below tree gate) =
     StandFor-length (IsCutFamily tree) (below tree gate) (families (map_of c.args.ops.now) c.args.list.now)
     c.requires.stand in
@@ -43,7 +40,7 @@ make_gate-requires-clause-votes c =
     let some = c.requires.room in omega (arith, reads, some) in
     subst (λ kind. CanVote kind (length c.args.room.now)) (sym c.kind.ensures)
     (sound_votes tree (kind_of tree gate) (inputs_of tree gate) (length c.args.room.now)
-    (gate_sound tree c.units.ensures.kept gate is_gate).kind room)
+    (gate_sound c.units.ensures.kept gate is_gate).kind room)
 
 pub returns-then-number-units-clause-made : goal.returns-then-number-units-clause-made
 returns-then-number-units-clause-made c =
@@ -51,7 +48,7 @@ returns-then-number-units-clause-made c =
     let gate = c.args.node in
     let fs = families (map_of c.args.ops.now) c.args.list.now in
     let is_gate : IsGateOf tree gate = (omega arith, c.requires.node.1) in
-    node_made tree gate c.requires.node c.requires.read fs c.requires.stand (gate_recipe c.kind.result fs)
+    node_made tree gate c.requires.node c.requires.read fs c.requires.stand
     (gate_recipe_is tree gate fs is_gate ∙ ap (λ kind. gate_recipe kind fs) (sym c.kind.ensures))
     c.args.ops.now c.make_gate.new.ops c.make_gate.result c.make_gate.ensures
 

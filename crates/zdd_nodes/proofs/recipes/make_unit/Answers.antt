@@ -18,5 +18,5 @@ returns-in_err-own c =
 
 pub returns : goal.returns
 returns c =
-    unit_made c.args.ops.now c.single.new.ops c.unite_all.new.ops c.args.unit c.in_ok-own.own c.args.triggers.now
+    unit_made c.unite_all.new.ops c.args.unit c.args.triggers.now
     c.is_sound.ensures.sound c.requires c.in_ok-own.ensures c.unite_all.result c.unite_all.ensures

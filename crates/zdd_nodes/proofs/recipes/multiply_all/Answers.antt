@@ -1,13 +1,10 @@
 use Rattle.std.proofs.Common.{◌≡◌, get_or, arith}
-use Rattle.std.proofs.lemmas.List.{get_or_read}
-use Rattle.std.proofs.lemmas.Result.{err_from_is_err_and}
-use Rattle.tree_families.specs.Due.{IsDueToProducts}
-use Rattle.tree_families.specs.Recipe.{IsProductOfAll}
+use Rattle.std.proofs.{lemmas.List.get_or_read, lemmas.Result.err_from_is_err_and}
+use Rattle.tree_families.specs.{Due.IsDueToProducts, Recipe.IsProductOfAll}
 use Rattle.zdd_nodes.specs.Steps.{IsLeastProduct, IsDueToLeastProduct}
-use Rattle.zdd_nodes.proofs.LeastProducts.{least_products-more, due-to_next_least_product}
-use Rattle.zdd_nodes.proofs.Folding.{step_on, step_full}
+use Rattle.zdd_nodes.proofs.{LeastProducts.least_products-more, LeastProducts.due-to_next_least_product}
+use Rattle.zdd_nodes.proofs.{Folding.step_on, Folding.step_full, recipes.multiply_all.Goals.After-index-others-i}
 use Rattle.zdd_nodes.proofs.recipes.multiply_all.Goals as goal
-use Rattle.zdd_nodes.proofs.recipes.multiply_all.Goals.{After-index-others-i}
 
 -- the other that is next
 read : (c : After-index-others-i) → c.index-others-i.result ≡ get_or c.args.others.now c.loop-i.i 0
@@ -28,5 +25,5 @@ loop-i-preserved c =
       so_far =
           step_on IsLeastProduct IsDueToLeastProduct IsProductOfAll IsDueToProducts least_products-more
           due-to_next_least_product c.args.others.now c.is_sound.ensures.sound c.requires.others c.loop-i.i (omega
-          arith) at c.loop-i.invariant.so_far c.in_ok-made.made c.in_ok-made.ensures;
+          arith) at c.loop-i.invariant.so_far c.in_ok-made.ensures;
     }

@@ -1,10 +1,8 @@
 use Rattle.std.proofs.Common.{take}
-use Rattle.tree_families.specs.Due.{IsDueToProducts}
-use Rattle.tree_families.specs.Recipe.{IsProductOfAll}
+use Rattle.tree_families.specs.{Due.IsDueToProducts, Recipe.IsProductOfAll}
 use Rattle.zdd_families.specs.Map.{family}
 use Rattle.zdd_shared_table.specs.Seats.{map_of}
-use Rattle.zdd_product.specs.Seats.{Gave}
-use Rattle.zdd_product.specs.Voting.{families}
+use Rattle.zdd_product.specs.{Seats.Gave, Voting.families}
 use Rattle.zdd_nodes.proofs.recipes.multiply_all.Given as goal
 
 abbrev pub invariant-loop-i : goal.invariant-loop-i

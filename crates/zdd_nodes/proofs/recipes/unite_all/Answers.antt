@@ -1,14 +1,10 @@
 use Rattle.std.proofs.Common.{◌≡◌, get_or, arith}
-use Rattle.std.proofs.lemmas.List.{get_or_read}
-use Rattle.std.proofs.lemmas.Result.{err_from_is_err_and}
-use Rattle.zdd_families.specs.Due.{IsDueToUnion}
-use Rattle.zdd_families.specs.Union.{IsUnion}
-use Rattle.tree_families.specs.Due.{IsDueToUnions}
+use Rattle.std.proofs.{lemmas.List.get_or_read, lemmas.Result.err_from_is_err_and}
+use Rattle.zdd_families.specs.{Due.IsDueToUnion, Union.IsUnion}
+use Rattle.tree_families.specs.{Due.IsDueToUnions, Recipe.IsUnionOfAll}
 use Rattle.tree_families.proofs.DueSteps.{unions-more, due-to_next_union}
-use Rattle.tree_families.specs.Recipe.{IsUnionOfAll}
-use Rattle.zdd_nodes.proofs.Folding.{step_on, step_full}
+use Rattle.zdd_nodes.proofs.{Folding.step_on, Folding.step_full, recipes.unite_all.Goals.After-index-others-i}
 use Rattle.zdd_nodes.proofs.recipes.unite_all.Goals as goal
-use Rattle.zdd_nodes.proofs.recipes.unite_all.Goals.{After-index-others-i}
 
 -- the other that is next
 read : (c : After-index-others-i) → c.index-others-i.result ≡ get_or c.args.others.now c.loop-i.i 0
@@ -29,5 +25,5 @@ loop-i-preserved c =
       so_far =
           step_on IsUnion IsDueToUnion IsUnionOfAll IsDueToUnions unions-more due-to_next_union c.args.others.now
           c.is_sound.ensures.sound c.requires.others c.loop-i.i (omega arith) at c.loop-i.invariant.so_far
-          c.in_ok-made.made c.in_ok-made.ensures.gives;
+          c.in_ok-made.ensures.gives;
     }

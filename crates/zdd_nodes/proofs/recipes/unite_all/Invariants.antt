@@ -1,10 +1,8 @@
 use Rattle.std.proofs.Common.{take}
-use Rattle.tree_families.specs.Due.{IsDueToUnions}
-use Rattle.tree_families.specs.Recipe.{IsUnionOfAll}
+use Rattle.tree_families.specs.{Due.IsDueToUnions, Recipe.IsUnionOfAll}
 use Rattle.zdd_families.specs.Map.{family}
 use Rattle.zdd_shared_table.specs.Seats.{map_of}
-use Rattle.zdd_product.specs.Seats.{Gave}
-use Rattle.zdd_product.specs.Voting.{families}
+use Rattle.zdd_product.specs.{Seats.Gave, Voting.families}
 use Rattle.zdd_nodes.proofs.recipes.unite_all.Given as goal
 
 abbrev pub invariant-loop-i : goal.invariant-loop-i

@@ -1,7 +1,5 @@
 use Rattle.std.proofs.lemmas.Result.{MatchResult-from_both, err_from_is_err_and}
-use Rattle.zdd_families.specs.Due.{IsDueToMinimal, IsDueToProduct}
-use Rattle.zdd_families.specs.Minimal.{IsMinimal}
-use Rattle.zdd_families.specs.Map.{family}
+use Rattle.zdd_families.specs.{Due.IsDueToMinimal, Due.IsDueToProduct, Minimal.IsMinimal, Map.family}
 use Rattle.zdd_shared_table.specs.Seats.{map_of}
 use Rattle.zdd_product.specs.Seats.{Gave, WasFull}
 use Rattle.zdd_product.proofs.After.{WentOn-as, WasFull-as}
@@ -24,7 +22,7 @@ returns c =
     let mid = c.product.new.self in
     let product = family (map_of mid) c.in_ok-product.product in
     let gave = c.in_ok-product.ensures.gives in
-    answer_then (IsLeastProduct f g) (IsDueToLeastProduct f g) c.args.ops.now mid c.minimal.new.self
+    answer_then (IsLeastProduct f g) c.minimal.new.self
     (WentOn-as (IsDueToProduct f g) (IsDueToLeastProduct f g) (λ h due. due_to_product due) c.args.ops.now mid gave.on)
     c.minimal.result
     (answer_as (IsMinimal product) (IsDueToMinimal product) (IsLeastProduct f g) (IsDueToLeastProduct f g)

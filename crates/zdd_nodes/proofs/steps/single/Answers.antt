@@ -1,10 +1,8 @@
 use Rattle.std.proofs.Common.{◌≡◌, sym, ◌∙◌, subst, arith}
 use Rattle.std.proofs.lemmas.Result.{IfOk-weaker}
 use Rattle.tree_families.specs.Recipe.{alone}
-use Rattle.zdd_words.specs.Reference.{IsReference}
-use Rattle.zdd_words.specs.Word.{packed}
-use Rattle.zdd_families.specs.Family.{IsAbove, branch}
-use Rattle.zdd_families.specs.Map.{KnowsAs, family}
+use Rattle.zdd_words.specs.{Reference.IsReference, Word.packed}
+use Rattle.zdd_families.specs.{Family.IsAbove, Family.branch, Map.KnowsAs, Map.family}
 use Rattle.zdd_families.proofs.MapLemmas.{family-empty, family-unit}
 use Rattle.zdd_shared_table.specs.Seats.{map_of}
 use Rattle.zdd_product.specs.Seats.{word_family}
@@ -26,7 +24,7 @@ returns c =
     let empty : IsReference 1 = omega arith in
     let word : word_family new (packed unit 0 1) ≡ alone unit =
     word_family-packed new unit 0 1 none empty ∙ (λ i. branch unit (family-empty new i) (family-unit new i)) in
-    node_made c.args.ops.now c.node.new.self (alone unit) (packed unit 0 1) c.node.ensures.store c.node.ensures.share
+    node_made c.args.ops.now c.node.new.self (packed unit 0 1) c.node.ensures.store c.node.ensures.share
     c.node.ensures.keeps c.node.ensures.sound word c.node.result
     (IfOk-weaker c.node.result (λ r. KnowsAs new r (branch unit (family old 0) (family old 1)))
     (λ r. KnowsAs new r (alone unit)) (λ r h. (

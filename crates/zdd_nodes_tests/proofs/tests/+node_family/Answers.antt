@@ -34,7 +34,7 @@ loop-i-preserved t c =
     (let node = all i 0 more in let low = node.0 in let high = node.1 in let e = inv.count in
     omega (arith, low, high, e, at)) in
     let known : KnowsOne (map_of after) one (IsCutFamily tree c.index-nodes-i.result) =
-    some_of c.in_ok-one.field-0 (λ (r : ℕ). KnowsOne (map_of after) r (IsCutFamily tree c.index-nodes-i.result)) one
+    some_of (λ (r : ℕ). KnowsOne (map_of after) r (IsCutFamily tree c.index-nodes-i.result))
     c.in-Some.is c.in_ok-one.ensures.gives in
     record {
       keeps = λ r has.
@@ -43,8 +43,7 @@ loop-i-preserved t c =
       room = c.in_ok-one.ensures.room;
       count = length-set list c.index.result one ∙ inv.count;
       read =
-          read_more before after inv.sound c.in_ok-one.ensures.sound c.in_ok-one.ensures.keeps tree nodes list all i
-          c.index.result one more at within inv.read
+          read_more inv.sound c.in_ok-one.ensures.sound c.in_ok-one.ensures.keeps all more at within inv.read
           (subst (λ (n : ℕ). KnowsOne (map_of after) one (IsCutFamily tree n)) same known);
     }
 
@@ -53,5 +52,4 @@ cut_family-requires-clause-below t c =
     let tree = c.args.tree.now in
     let e = ap (λ (l : List ℕ). length l) c.below-nodes.ensures.below in
     subst (λ (l : List ℕ). KnowsBelow (map_of c.loop-i.ops) tree l c.args.node) (sym c.as_slice.ensures.value)
-    (read_below c.loop-i.ops tree c.args.node c.loop-i.list.items c.loop-i.i
-    (let h = c.loop-i-test.false in omega (arith, h, e)) c.loop-i.invariant.read)
+    (read_below c.args.node (let h = c.loop-i-test.false in omega (arith, h, e)) c.loop-i.invariant.read)

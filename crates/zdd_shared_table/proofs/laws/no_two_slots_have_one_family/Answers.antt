@@ -6,5 +6,4 @@ use Rattle.zdd_shared_table.proofs.laws.no_two_slots_have_one_family.Goals as go
 
 pub returns : goal.returns
 returns c = λ home size words rule r q some other same.
-    family-same (placed words) r q (closed_words home size words rule) (unique_words home size words rule) (inr some)
-    (inr other) same
+    family-same (placed words) r q (closed_words rule) (unique_words rule) (inr some) (inr other) same

@@ -1,9 +1,7 @@
 use Rattle.std.proofs.Common.{◌≡◌, ℕ, ◌==◌, subst}
 use prog.Atomic.{either}
 use Rattle.atomic_table.specs.Table.{Allows}
-use Rattle.zdd_shared_table.specs.Rule.{IsStore}
-use Rattle.zdd_shared_table.specs.Seats.{IsSoundView}
-use Rattle.zdd_shared_table.specs.Views.{exchanged}
+use Rattle.zdd_shared_table.specs.{Rule.IsStore, Seats.IsSoundView, Views.exchanged}
 use Rattle.zdd_shared_table.proofs.Steps.{allows_exchange}
 use Rattle.zdd_shared_table.proofs.search.exchange.Goals as goal
 
@@ -18,6 +16,5 @@ compare_exchange-requires g c =
       subst (λ (p : ℕ × ℕ). Allows (IsStore bits) c.args.words.now.table_id.slots seat.id seat.me slot
           (λ n. either (n == 0) c.args.word n) (λ found after. (after.0 ≡ exchanged p.0 p.1 slot found seat.me.0)
           × (after.1 ≡ seat.me.1) × IsSoundView after.0)) (λ i. (asked.0 i, asked.1 i))
-          (allows_exchange bits c.args.words.now.table_id.slots seat.id seat.me.0 seat.me.1 c.args.word c.args.passed
-          slot c.requires.search),
+          (allows_exchange c.args.words.now.table_id.slots seat.id seat.me.1 c.requires.search),
     )

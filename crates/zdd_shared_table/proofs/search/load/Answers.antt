@@ -9,8 +9,7 @@ load-requires g c =
     let seat = c.args.seat.now in (
       c.requires.own,
       c.requires.inside,
-      allows_load c.args.words.now.key c.args.words.now.table_id.slots seat.id seat.me.0 seat.me.1 g.A.Asked.word
-          g.A.Asked.passed c.args.slot
+      allows_load c.args.words.now.table_id.slots seat.id seat.me.1
           (subst (λ (p : ℕ × ℕ). IsSearch c.args.words.now.key seat.me.0 p.0 p.1 c.args.slot)
           (λ i. (asked.0 i, asked.1 i)) c.requires.search),
     )

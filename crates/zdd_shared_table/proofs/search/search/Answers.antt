@@ -24,8 +24,7 @@ loop-passed-init c =
 
 pub ends_at-requires-clause-search : goal.ends_at-requires-clause-search
 ends_at-requires-clause-search c =
-    search_here c.args.words.now.key c.args.bits c.args.size c.args.word c.loop-passed.passed c.loop-passed.slot
-    c.args.seat.now.me.0 c.loop-passed.seat.me.0
+    search_here c.args.seat.now.me.0
     c.requires.few c.requires.many c.requires.key c.requires.size.0 c.requires.sized c.requires.node
     c.loop-passed-test.true
     (c.loop-passed.invariant.here c.loop-passed-test.true) c.loop-passed.invariant.view
@@ -41,8 +40,8 @@ loop-passed-preserved c =
     record {
       inside = subst P (sym c.next-slot.ensures) (round-step c.args.size c.loop-passed.slot inv.inside);
       here =
-          λ more. next_here (home_of c.args.word c.args.bits) c.args.size c.loop-passed.passed c.loop-passed.slot
-          c.next-slot.result in_home short (inv.here short) c.next-slot.ensures more;
+          λ more. next_here (home_of c.args.word c.args.bits) c.args.size c.loop-passed.passed in_home short
+          (inv.here short) c.next-slot.ensures more;
       view =
           (rw c.if-ends_at.false at c.ends_at.ensures.view)
           ∙ (ap (λ v. passed_on c.args.word c.loop-passed.passed v) inv.view

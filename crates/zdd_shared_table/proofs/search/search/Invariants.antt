@@ -1,8 +1,6 @@
 use Rattle.std.proofs.Common.{◌≡◌, ◌+◌, ◌<◌}
 use Rattle.zdd_words.specs.Word.{home_of}
-use Rattle.zdd_shared_table.specs.Rule.{round}
-use Rattle.zdd_shared_table.specs.Seats.{IsSoundView}
-use Rattle.zdd_shared_table.specs.Search.{StaysSeat}
+use Rattle.zdd_shared_table.specs.{Rule.round, Seats.IsSoundView, Search.StaysSeat}
 use Rattle.zdd_shared_table.proofs.SearchLemmas.{after_passing}
 use Rattle.zdd_shared_table.proofs.search.search.Given as goal
 

@@ -1,8 +1,7 @@
 use Rattle.std.proofs.Common.{◌≡◌, subst, sym}
 use Rattle.std.specs.Option.{IfSome}
 use Rattle.zdd_words.specs.Word.{level_of}
-use Rattle.zdd_words.proofs.WordLemmas.{IsUnit-level_of}
-use Rattle.zdd_words.proofs.Bits.{top_bits}
+use Rattle.zdd_words.proofs.{WordLemmas.IsUnit-level_of, Bits.top_bits}
 use Rattle.unit_sets.specs.Unit.{IsUnit}
 use Rattle.zdd_words.proofs.word.level_in.Goals as goal
 

@@ -6,8 +6,7 @@ use Rattle.zdd_words.proofs.word.pack.Goals as goal
 
 pub returns-clause-value : goal.returns-clause-value
 returns-clause-value c =
-    joined_bits_of c.args.level c.args.lo c.args.hi _ _ _
-    (c.from-level.ensures ∙ c.number.ensures.value) (c.from-lo.ensures ∙ c.number-2.ensures.value)
+    joined_bits_of (c.from-level.ensures ∙ c.number.ensures.value) (c.from-lo.ensures ∙ c.number-2.ensures.value)
     (c.from-hi.ensures ∙ c.number-3.ensures.value)
     c.number.ensures.unit c.number-2.ensures.small c.number-3.ensures.small
 

@@ -9,8 +9,7 @@ invariant_of-self-2 c =
     let crews = c.self.inside.crews.items in
     let count : c.len-last.result ≡ length crews = omega arith in
     let none = subst (λ l. request_fault l ≡ None) (sym c.self.view_is) c.requires.faultless in
-    subst (λ l. Keeps l (c.self.inside.total + 1))
-    (sym (ask_placed crews c.len-last.result c.index_mut.result.now c.args.ask c.push.new.self none count
+    subst (λ l. Keeps l (c.self.inside.total + 1)) (sym (ask_placed crews c.args.ask none count
     c.index_mut.ensures.value c.in_ok-push.ensures.added))
     (dockets_request crews c.self.inside.total c.args.ask c.self.invariant none c.requires.margin)
 
@@ -19,6 +18,5 @@ returns c =
     let crews = c.self.inside.crews.items in
     let count : c.len-last.result ≡ length crews = omega arith in
     let none = subst (λ l. request_fault l ≡ None) (sym c.self.view_is) c.requires.faultless in
-    ask_placed crews c.len-last.result c.index_mut.result.now c.args.ask c.push.new.self none count
-    c.index_mut.ensures.value c.in_ok-push.ensures.added
+    ask_placed crews c.args.ask none count c.index_mut.ensures.value c.in_ok-push.ensures.added
     ∙ ap (with_ask c.args.ask) c.self.view_is

@@ -1,5 +1,4 @@
-use Rattle.std.proofs.Common.{arith}
-use Rattle.std.proofs.lemmas.Grind.{common_steps}
+use Rattle.std.proofs.{Common.arith, lemmas.Grind.common_steps}
 use Rattle.crew_script.proofs.DocketLemmas.{docket_within}
 use Rattle.crew_script.proofs.dockets.Dockets.crew.Goals as goal
 

@@ -1,7 +1,6 @@
 use Rattle.std.proofs.Common.{◌<◌, ◌≤◌, length, arith}
 use Rattle.std.specs.List.{position_or_len}
-use Rattle.std.proofs.lemmas.Grind.{common_steps}
-use Rattle.std.proofs.lemmas.List.Splits.{slice_split_first}
+use Rattle.std.proofs.{lemmas.Grind.common_steps, lemmas.List.Splits.slice_split_first}
 use Rattle.crew_script.specs.Deck.{is_feed}
 use Rattle.crew_script.proofs.LineLemmas.{line_whole}
 use Rattle.crew_script.proofs.text_lines.TextLines.next.Goals as goal

@@ -4,6 +4,5 @@ use Rattle.cut_sequences.proofs.lists.OrderLists.share_of.Goals as goal
 
 pub returns : goal.returns
 returns c =
-    share_at c.args.self.now c.self.inside.sets c.self.inside.shares.items c.args.i c.len-workers.result
-    c.index.result.now c.self.invariant.0 c.self.view_is
+    share_at c.self.inside.sets c.args.i c.len-workers.result c.self.invariant.0 c.self.view_is
     (omega (arith, c.len-workers.ensures, c.self.inside.shares.ok.0)) c.index.ensures

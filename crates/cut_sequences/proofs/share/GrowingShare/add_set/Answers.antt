@@ -1,7 +1,6 @@
 use Rattle.std.proofs.Common.{◌≡◌, ◌≤◌, ◌++◌, ◌∷◌, [], length, nat_le, ap, arith, ◌∙◌}
 use Rattle.std.proofs.lemmas.Result.{err_from_is_err_and}
-use Rattle.cut_sequences.specs.declared.share.GrowingShare.{GrowingShare}
-use Rattle.cut_sequences.specs.Orders.{order_limit}
+use Rattle.cut_sequences.specs.{declared.share.GrowingShare.GrowingShare, Orders.order_limit}
 use Rattle.cut_sequences.proofs.HoldingLemmas.{adds_listed, adds_unlisted, over_listed}
 use Rattle.cut_sequences.proofs.share.GrowingShare.add_set.Goals as goal
 use Rattle.cut_sequences.proofs.share.GrowingShare.add_set.Goals.{then-small+in_ok-list_set, else-small}
@@ -9,7 +8,7 @@ use Rattle.cut_sequences.proofs.share.GrowingShare.add_set.Goals.{then-small+in_
 pub returns-in_err-list_set : goal.returns-in_err-list_set
 returns-in_err-list_set c =
     let p = err_from_is_err_and c.from_residual.result c.from_residual.ensures.1 in
-    rw (p.1, p.2) (over_listed c.args.sets c.args.set.now c.args.self.now c.in_err-list_set.field-0.0 c.requires.grows
+    rw (p.1, p.2) (over_listed c.args.set.now c.in_err-list_set.field-0.0 c.requires.grows
     c.if-small.true c.in_err-list_set.ensures.1)
 
 pub returns : goal.returns
@@ -23,16 +22,14 @@ returns c =
       | then-small+in_ok-list_set w ↦
           let few : length joined.search.orders ≤ order_limit =
           omega (arith, ap (λ (s : GrowingShare). length s.search.orders) w.self-is, w.in_ok-list_set.ensures.1.1) in
-          adds_listed c.args.sets c.args.set.now before after c.requires.grows
-          (c.in_ok-push-2.ensures.items
+          adds_listed c.args.set.now after c.requires.grows (c.in_ok-push-2.ensures.items
           ∙ ap (λ (s : GrowingShare). s.listed.items ++ nat_le (length c.args.set.now) c.args.sets.most ∷ []) w.self-is)
           (ends ∙ ap (λ (s : GrowingShare). s.ends.items ++ length joined.search.orders ∷ []) w.self-is)
           w.if-small.true
           (ap (λ (s : GrowingShare). s.search.replay) w.self-is ∙ w.in_ok-list_set.ensures.0.replay)
           (ap (λ (s : GrowingShare). s.search.orders) w.self-is ∙ w.in_ok-list_set.ensures.1.0) few
       | else-small w ↦
-          adds_unlisted c.args.sets c.args.set.now before after c.requires.grows
-          (c.in_ok-push-2.ensures.items
+          adds_unlisted c.args.set.now after c.requires.grows (c.in_ok-push-2.ensures.items
           ∙ ap (λ (s : GrowingShare). s.listed.items ++ nat_le (length c.args.set.now) c.args.sets.most ∷ []) w.self-is)
           (ends ∙ ap (λ (s : GrowingShare). s.ends.items ++ length joined.search.orders ∷ []) w.self-is)
           w.if-small.false (ap (λ (s : GrowingShare). s.search) w.self-is)

@@ -8,7 +8,7 @@ use Rattle.cut_sequences.proofs.share.GrowingShare.add_sets.Goals as goal
 
 pub add_set-requires-clause-set : goal.add_set-requires-clause-set
 add_set-requires-clause-set c =
-    can_start_cut c.args.sets.tree.now c.args.sets.cuts.now c.loop-next.next c.members.result.now
+    can_start_cut c.args.sets.cuts.now c.loop-next.next
     c.requires.grows.kept c.members.ensures.ordered c.requires.can.units c.members.ensures.value
 
 pub add_set-requires-clause-some : goal.add_set-requires-clause-some

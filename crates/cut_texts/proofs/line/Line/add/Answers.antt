@@ -12,7 +12,5 @@ returns-clause-line c =
       text,
       c.reserve.ensures.items,
       c.reserve-2.ensures.items,
-    )
-    (added c.args.names.now.tree.now line.head line.units.items line.ends.items line.text.items c.requires.line
-    c.args.unit c.text.result.now c.requires.unit
+    ) (added c.args.names.now.tree.now c.requires.line c.args.unit c.requires.unit
     (c.text.ensures ∙ c.requires.texts.each c.args.unit c.requires.unit) c.len.result (omega (arith, ap length text)))

@@ -21,12 +21,9 @@ returns-clause-head c n within starts done =
     let head = c.args.self.now.head in
     let is = starts (omega (arith, some c)) in
     let digits =
-    digits_are items shown new len head c.deref_mut.ensures.value (all c) (some c) c.requires.within (same c)
-    n is in
-    ap (take head)
-    (written items shown new len head c.deref_mut.ensures.value (all c) (some c) c.requires.within (same c))
-    ∙ head_is items shown new len head c.deref_mut.ensures.value (all c) (some c) c.requires.within (same c) n is
-    (n + 1)
+    digits_are new head c.deref_mut.ensures.value (all c) (some c) c.requires.within (same c) n is in
+    ap (take head) (written new head c.deref_mut.ensures.value (all c) (some c) c.requires.within (same c))
+    ∙ head_is new head c.deref_mut.ensures.value (all c) (some c) c.requires.within (same c) n is (n + 1)
     (c.count_up.ensures.counted n within digits done)
 
 pub returns-clause-names : goal.returns-clause-names
@@ -37,9 +34,7 @@ returns-clause-names c tree tail spells =
     let new = c.count_up.new.digits in
     let len = c.args.self.now.text.len in
     let head = c.args.self.now.head in
-    let is = written items shown new len head c.deref_mut.ensures.value (all c) (some c) c.requires.within (same c) in
-    counted tree line.head line.units.items line.ends.items line.text.items tail spells _
-    (ap (drop head) is
-    ∙ behind_head items shown new len head c.deref_mut.ensures.value (all c) (some c) c.requires.within (same c))
-    (ap length is
-    ∙ part_long items shown new len head c.deref_mut.ensures.value (all c) (some c) c.requires.within (same c))
+    let is = written new head c.deref_mut.ensures.value (all c) (some c) c.requires.within (same c) in
+    counted tree spells (ap (drop head) is
+    ∙ behind_head new head c.deref_mut.ensures.value (all c) (some c) c.requires.within (same c)) (ap length is
+    ∙ part_long new head c.deref_mut.ensures.value (all c) (some c) c.requires.within (same c))

@@ -6,31 +6,27 @@ use Rattle.cut_texts.proofs.LineLemmas.{start_is, whole}
 use Rattle.cut_texts.proofs.line.Line.turn_to.Goals as goal
 
 pub add_all-requires-clause-spelled : goal.add_all-requires-clause-spelled
-add_all-requires-clause-spelled c =
-    spelled_behind c.args.names.now c.args.units.now c.common-common.result c.requires.spelled
+add_all-requires-clause-spelled c = spelled_behind c.common-common.result c.requires.spelled
 
 pub returns-then-is_err-clause-head : goal.returns-then-is_err-clause-head
 returns-then-is_err-clause-head c =
-    SameHead-trans c.args.self.now c.keep.new.self c.add_all.new.self (c.keep.ensures.head c.args.names.now.tree.now
-    c.requires.line) c.add_all.ensures.head
+    SameHead-trans (c.keep.ensures.head c.args.names.now.tree.now c.requires.line) c.add_all.ensures.head
 
 pub returns-clause-line : goal.returns-clause-line
 returns-clause-line c =
     let line = c.add_all.new.self in
-    ended_or_not c.args.names.now.tree.now line.head line.units.items line.ends.items line.text.items
-    c.add_all.ensures.line (is_ok c.extend_from_slice.result) c.args.tail.now c.extend_from_slice.new.self.items
+    ended_or_not c.args.names.now.tree.now c.add_all.ensures.line (is_ok c.extend_from_slice.result) c.args.tail.now
     c.extend_from_slice.ensures.items
 
 pub returns-clause-head : goal.returns-clause-head
 returns-clause-head c =
     let line = c.add_all.new.self in
-    SameHead-trans c.args.self.now line _
-    (SameHead-trans c.args.self.now c.keep.new.self line (c.keep.ensures.head c.args.names.now.tree.now
+    SameHead-trans (SameHead-trans (c.keep.ensures.head c.args.names.now.tree.now
     c.requires.line) c.add_all.ensures.head)
     (record {
       head = refl;
       start =
-          start_ended line.head line.text.items c.args.tail.now c.extend_from_slice.new.self.items
+          start_ended line.head line.text.items c.args.tail.now
           (is_ok c.extend_from_slice.result) c.extend_from_slice.ensures.items c.add_all.ensures.line.headed;
     })
 
@@ -42,12 +38,9 @@ returns-clause-text c done =
     let start = take old.head old.text.items in
     let added : is_err c.add_all.result ≡ false = grind arith in
     let units =
-    all_there c.add_all.result c.args.units.now line.units.items c.keep.new.self.units.items old.units.items
+    all_there c.add_all.result c.args.units.now line.units.items old.units.items
     c.common-common.result added c.add_all.ensures.units c.keep.ensures.units c.common-common.ensures.same in
     let text : c.extend_from_slice.new.self.items ≡ line.text.items ++ c.args.tail.now = grind arith in
-    whole tree line.head line.units.items line.ends.items line.text.items c.add_all.ensures.line start c.args.tail.now
-    c.extend_from_slice.new.self.items
-    (start_is start old line (SameHead-trans old c.keep.new.self line (c.keep.ensures.head tree c.requires.line)
-    c.add_all.ensures.head) refl)
-    text
+    whole tree c.add_all.ensures.line c.args.tail.now
+    (start_is (SameHead-trans (c.keep.ensures.head tree c.requires.line) c.add_all.ensures.head) refl) text
     ∙ ap (λ units. start ++ (spaced tree units ++ c.args.tail.now)) units

@@ -1,7 +1,6 @@
 use Rattle.std.proofs.Common.{◌≢◌, ◌∙◌, ℕ, [], subst, arith}
 use Rattle.std.specs.Prelude.{Err, IsErrOf}
-use Rattle.std.proofs.lemmas.Grind.{common_steps}
-use Rattle.std.proofs.lemmas.Result.{err_from_is_err_and}
+use Rattle.std.proofs.{lemmas.Grind.common_steps, lemmas.Result.err_from_is_err_and}
 use Rattle.unit_sets.specs.declared.refusal.ListEnd.{ListEnd}
 use Rattle.zdd_families.specs.Map.{family}
 use Rattle.zdd_families.proofs.Canonical.{family-filled}
@@ -37,7 +36,7 @@ parted t c =
 pub of_parts-of-requires : goal.of_parts-of-requires
 of_parts-of-requires t c =
     let seat = c.parts-parts.ensures.seat in
-    let less = lo_less _ _ _ _ _ (parted t (goal.at.of_parts-of-requires t c).After-parts-parts) in
+    let less = lo_less (parted t (goal.at.of_parts-of-requires t c).After-parts-parts) in
     rw seat (
       omega (arith, less),
       (record { own = c.requires.node.own; knows = rw seat at c.parts-parts.ensures.lo.0 }, c.requires.found),
@@ -47,7 +46,7 @@ pub of_parts-of-requires-2 : goal.of_parts-of-requires-2
 of_parts-of-requires-2 t c =
     let seat = c.parts-parts.ensures.seat in
     let same = c.in_ok-lo.ensures.seat ∙ seat in
-    let less = hi_less _ _ _ _ _ (parted t (goal.at.of_parts-of-requires-2 t c).After-parts-parts) in
+    let less = hi_less (parted t (goal.at.of_parts-of-requires-2 t c).After-parts-parts) in
     rw same (
       omega (arith, less),
       (
@@ -61,7 +60,7 @@ of_parts-returns-in_err-hi-clause-limit t c =
     let seat = c.parts-parts.ensures.seat in
     let same = c.in_ok-lo.ensures.seat ∙ seat in
     let p = err_from_is_err_and c.from_residual-in_err-hi.result c.from_residual-in_err-hi.ensures.1 in
-    rw (p.1, p.2) (λ refused. hi_heavy _ _ _ _ _ (parted t
+    rw (p.1, p.2) (λ refused. hi_heavy (parted t
     (goal.at.of_parts-returns-in_err-hi-clause-limit t c).After-parts-parts)
     (rw same at c.in_err-hi.ensures.limit (same_end _ _ refused)))
 
@@ -69,14 +68,14 @@ pub of_parts-branch_size-requires-clause-sets : goal.of_parts-branch_size-requir
 of_parts-branch_size-requires-clause-sets t c =
     let seat = c.parts-parts.ensures.seat in
     let same = c.in_ok-lo.ensures.seat ∙ seat in
-    few_sets _ _ _ _ _ (parted t (goal.at.of_parts-branch_size-requires-clause-sets t c).After-parts-parts)
+    few_sets (parted t (goal.at.of_parts-branch_size-requires-clause-sets t c).After-parts-parts)
     c.in_ok-lo.lo c.in_ok-hi.hi (rw seat at c.in_ok-lo.ensures.size) (rw same at c.in_ok-hi.ensures.size)
 
 pub of_parts-returns-clause-size : goal.of_parts-returns-clause-size
 of_parts-returns-clause-size t c =
     let seat = c.parts-parts.ensures.seat in
     let same = c.in_ok-lo.ensures.seat ∙ seat in
-    sized_of_parts _ _ _ _ _ (parted t (goal.at.of_parts-returns-clause-size t c).After-parts-parts)
+    sized_of_parts (parted t (goal.at.of_parts-returns-clause-size t c).After-parts-parts)
     c.in_ok-lo.lo c.in_ok-hi.hi (rw seat at c.in_ok-lo.ensures.size)
     (rw same at c.in_ok-hi.ensures.size) c.branch_size.result c.branch_size.ensures.sets c.branch_size.ensures.weight
     c.branch_size.ensures.within
@@ -85,6 +84,6 @@ pub of_parts-returns-clause-limit : goal.of_parts-returns-clause-limit
 of_parts-returns-clause-limit t c =
     let seat = c.parts-parts.ensures.seat in
     let same = c.in_ok-lo.ensures.seat ∙ seat in
-    λ refused. both_heavy _ _ _ _ _ (parted t (goal.at.of_parts-returns-clause-limit t c).After-parts-parts)
+    λ refused. both_heavy (parted t (goal.at.of_parts-returns-clause-limit t c).After-parts-parts)
     c.in_ok-lo.lo c.in_ok-hi.hi (rw seat at c.in_ok-lo.ensures.size)
     (rw same at c.in_ok-hi.ensures.size) (c.branch_size.ensures.limit refused)

@@ -7,8 +7,7 @@ loop-at-preserved c =
     let seat = c.loop-at.invariant.seat in
     record {
       on =
-          Descends-then _ c.args.self.now c.loop-at.self c.open.new.self c.args.node c.loop-at.at c.in_ok-at.at
-          c.loop-at.invariant.on (rw seat at c.in_ok-at.ensures.on);
+          Descends-then c.loop-at.invariant.on (rw seat at c.in_ok-at.ensures.on);
       knows = rw seat at c.in_ok-at.ensures.knows;
       filled = c.in_ok-at.ensures.filled;
       seat = c.open.ensures.seat ∙ seat;

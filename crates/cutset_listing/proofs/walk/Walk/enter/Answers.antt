@@ -1,13 +1,11 @@
-use Rattle.std.proofs.Common.{sym}
-use Rattle.std.proofs.lemmas.Bool.{eqb-true}
-use Rattle.std.proofs.lemmas.Result.{on_ok_weaker}
+use Rattle.std.proofs.{Common.sym, lemmas.Bool.eqb-true, lemmas.Result.on_ok_weaker}
 use Rattle.cutset_listing.proofs.Walks.{skips, fewer_left, finds_on, finds_fewer, finds_heavy}
 use Rattle.cutset_listing.proofs.walk.Walk.enter.Goals as goal
 
 -- the family without sets
 pub returns-then-eq-clause-on : goal.returns-then-eq-clause-on
 returns-then-eq-clause-on c =
-    λ sets on. skips _ sets _ _ c.args.at _ _ on (eqb-true c.args.at.node 0 (sym c.if-eq.ensures))
+    λ sets on. skips _ _ _ c.args.at _ _ on (eqb-true c.args.at.node 0 (sym c.if-eq.ensures))
 
 pub returns-then-eq-clause-fewer : goal.returns-then-eq-clause-fewer
 returns-then-eq-clause-fewer c = fewer_left _ _ c.args.at

@@ -1,8 +1,7 @@
 use Rattle.std.proofs.Common.{rules, ◌≡◌, ◌∙◌, ap, length, refl}
 use Rattle.zdd_families.proofs.Canonical.{family-filled}
 use Rattle.zdd_shared_table.specs.Seats.{map_of}
-use Rattle.cutset_listing.specs.declared.walk.Walk.{Walk}
-use Rattle.cutset_listing.specs.Visits.{with_later}
+use Rattle.cutset_listing.specs.{declared.walk.Walk.Walk, Visits.with_later}
 use Rattle.cutset_listing.proofs.Walks.{Opens, opens_fewer, opens_to}
 use Rattle.cutset_listing.proofs.walk.Walk.open.Goals.{In_ok-push}
 use Rattle.cutset_listing.proofs.walk.Walk.open.Goals as goal

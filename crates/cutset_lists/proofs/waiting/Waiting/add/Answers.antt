@@ -8,8 +8,7 @@ returns-clause-waiting c =
     let units = c.args.self.now.all_units in
     record {
       wait =
-          one_more-step c.args.sets.now c.args.self.now.count c.args.self.now.at.items c.least_crowded-home.result
-          c.number-2.result _ c.row-set.result.now c.index_mut.result.now c.push.new.self
+          one_more-step _
           c.requires.inside (search rules) c.number-2.ensures.value c.row-set.ensures c.least_crowded-home.ensures
           c.least_crowded-sign.ensures refl c.index_mut.ensures.value c.in_ok-push.ensures.added ready.wait;
       none_marked = ready.none_marked;

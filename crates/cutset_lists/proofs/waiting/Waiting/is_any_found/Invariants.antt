@@ -1,8 +1,6 @@
 use Rattle.std.proofs.Common.{◌≡◌, take, false}
 use Rattle.std.specs.List.{list_any}
-use Rattle.cutset_lists.specs.declared.waiting.Waiter.{Waiter}
-use Rattle.cutset_lists.specs.Sets.{is_short_within}
-use Rattle.cutset_lists.specs.Waiting.{set_at}
+use Rattle.cutset_lists.specs.{declared.waiting.Waiter.Waiter, Sets.is_short_within, Waiting.set_at}
 use Rattle.cutset_lists.proofs.waiting.Waiting.is_any_found.Given as goal
 
 abbrev pub invariant-loop-waiter : goal.invariant-loop-waiter

@@ -4,6 +4,6 @@ use Rattle.cutset_lists.proofs.waiting.Waiting.new.Goals as goal
 
 pub returns : goal.returns
 returns c = λ sets. record {
-  wait = none_wait UNITS c.in_ok-empty_lists.field-0.items c.in_ok-empty_lists.ensures sets;
+  wait = none_wait UNITS c.in_ok-empty_lists.ensures;
   none_marked = c.in_ok-new.ensures;
 }

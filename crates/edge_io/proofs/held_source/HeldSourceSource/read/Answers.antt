@@ -9,5 +9,4 @@ returns-clause-next c =
     let copied : c.copy_from_slice.new.self ≡ take n (drop c.self.inside.at c.self.inside.bytes) =
     grind (arith, common_steps) in
     let count : length c.copy_from_slice.new.self ≡ n = grind (arith, common_steps) in
-    rw (← c.self.view_is) (filled-front c.self.inside.bytes c.args.into.now c.copy_from_slice.new.self c.self.inside.at
-    n copied count)
+    rw (← c.self.view_is) (filled-front c.self.inside.bytes c.args.into.now c.self.inside.at copied count)

@@ -5,20 +5,15 @@ use Rattle.edge_io.proofs.out.Out+K.put_long.Goals as goal
 pub returns-in_err-write_waiting-clause-puts : goal.returns-in_err-write_waiting-clause-puts
 returns-in_err-write_waiting-clause-puts g c =
     let mid = c.write_waiting.new.self in
-    Puts-trans g.K.Sink.taken g.K.Sink.faults c.args.self.now mid mid [] c.args.bytes.now
-    c.in_err-write_waiting.ensures.puts (Puts-failed g.K.Sink.taken g.K.Sink.faults mid c.args.bytes.now
-    (sym c.in_err-write_waiting.ensures.answer))
+    Puts-trans c.in_err-write_waiting.ensures.puts (Puts-failed (sym c.in_err-write_waiting.ensures.answer))
 
 pub returns-then-bytes-lt-BUFFER_ROOM-clause-puts :
     goal.returns-then-bytes-lt-BUFFER_ROOM-clause-puts
 returns-then-bytes-lt-BUFFER_ROOM-clause-puts g c =
     let mid = c.write_waiting.new.self in
-    Puts-trans g.K.Sink.taken g.K.Sink.faults c.args.self.now mid _ [] c.args.bytes.now
-    c.in_ok-write_waiting.ensures.puts (Puts-held g.K.Sink.taken g.K.Sink.faults mid _ c.args.bytes.now refl
-    c.add.ensures refl)
+    Puts-trans c.in_ok-write_waiting.ensures.puts (Puts-held refl c.add.ensures refl)
 
 pub returns-clause-puts : goal.returns-clause-puts
 returns-clause-puts g c =
     let mid = c.write_waiting.new.self in
-    Puts-trans g.K.Sink.taken g.K.Sink.faults c.args.self.now mid _ [] c.args.bytes.now
-    c.in_ok-write_waiting.ensures.puts c.write_now.ensures.puts
+    Puts-trans c.in_ok-write_waiting.ensures.puts c.write_now.ensures.puts

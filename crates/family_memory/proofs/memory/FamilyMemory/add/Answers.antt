@@ -1,9 +1,6 @@
-use Rattle.std.proofs.Common.{◌<◌, ◌+◌, length, vec_capacity, refl, sym, ap, subst, arith}
-use Rattle.family_memory.specs.Extents.{IsExtent}
-use Rattle.family_memory.specs.Kept.{AreExtents}
+use Rattle.std.proofs.Common.{◌<◌, ◌+◌, length, refl, sym, ap, subst, arith}
+use Rattle.family_memory.specs.{Extents.IsExtent, Kept.AreExtents, Memory.Held, Memory.word_family, Rests.IsRest}
 use Rattle.zdd_words.specs.Word.{level_of}
-use Rattle.family_memory.specs.Memory.{Held, word_family}
-use Rattle.family_memory.specs.Rests.{IsRest}
 use Rattle.family_memory.proofs.ExtentLemmas.{extent_added}
 use Rattle.family_memory.proofs.Adding.{added_to, kept_added, kept_refusing}
 use Rattle.family_memory.proofs.memory.FamilyMemory.add.Goals as goal
@@ -14,8 +11,7 @@ invariant_of-self c =
     record { words = c.self.inside.words.items; room = c.self.inside.room; refused = c.self.inside.refused } in
     let after : Held =
     record { words = c.self.inside.words.items; room = c.self.inside.room; refused = c.add_one.new.self } in
-    kept_refusing inside after (vec_capacity c.self.inside.words) c.self.inside.answers
-    c.self.inside.extents.items (vec_capacity c.self.inside.extents)
+    kept_refusing
     (ap (λ n. let h : Held = record { words = c.self.inside.words.items; room = c.self.inside.room; refused = n } in h)
     c.add_one.ensures) c.self.invariant
 
@@ -28,14 +24,9 @@ invariant_of-self-2 c =
     let room : length inside.words < inside.room + 2 =
     let e = c.len-at.ensures in let h = c.if-at-self.false in let few = c.self.invariant.sound.terminals in
     omega arith in
-    kept_added inside c.args.self.now c.args.word c.self.view_is c.self.invariant.sound c.requires.node
-    c.requires.antichain room
-    after (vec_capacity c.self.inside.words) (vec_capacity c.push.new.self) c.self.inside.answers
-    c.self.inside.extents.items c.push-2.new.self.items
-    (vec_capacity c.self.inside.extents) (vec_capacity c.push-2.new.self)
+    kept_added c.self.view_is c.self.invariant.sound c.requires.node c.requires.antichain room
     c.in-Ok.ensures.items refl refl c.self.invariant c.push.ensures.capacity
-    (λ is. subst (AreExtents after) (sym c.in-Ok-push.ensures.items)
-    (extent_added inside after c.args.word (length inside.words) c.extent_of-extent.result c.self.inside.extents.items
+    (λ is. subst (AreExtents after) (sym c.in-Ok-push.ensures.items) (extent_added
     c.self.invariant.sound is refl c.self.invariant.reach
     (subst (λ (h : Held). IsExtent (word_family h c.args.word) c.extent_of-extent.result) (sym c.self.view_is)
     c.extent_of-extent.ensures.extent)
@@ -52,8 +43,7 @@ returns c =
     let room : length inside.words < inside.room + 2 =
     let e = c.len-at.ensures in let h = c.if-at-self.false in let few = c.self.invariant.sound.terminals in
     omega arith in
-    added_to inside c.args.self.now c.args.word c.self.view_is c.self.invariant.sound c.requires.node
-    c.requires.antichain room
-    after c.at_slot-r.result c.in-Ok.ensures.items refl refl
+    added_to c.self.view_is c.self.invariant.sound c.requires.node
+    c.requires.antichain room c.in-Ok.ensures.items refl refl
     (let e = c.at_slot-r.ensures in let f = c.len-at.ensures in let few = c.self.invariant.sound.terminals in
     omega arith)

@@ -1,6 +1,5 @@
-use Rattle.std.proofs.Common.{◌≡◌, [], ◌∷◌, ◌∙◌, sym, ap, subst, vec_capacity, arith}
-use Rattle.family_memory.specs.Kept.{AreExtents}
-use Rattle.family_memory.specs.Memory.{Held}
+use Rattle.std.proofs.Common.{◌≡◌, [], ◌∷◌, ◌∙◌, sym, ap, subst, arith}
+use Rattle.family_memory.specs.{Kept.AreExtents, Memory.Held}
 use Rattle.family_memory.proofs.Empty.{kept_empty, first_two, no_nodes}
 use Rattle.family_memory.proofs.ExtentLemmas.{first_two_extents}
 use Rattle.family_memory.proofs.memory.FamilyMemory.clear.Goals as goal
@@ -11,13 +10,11 @@ invariant_of-self c =
     record { words = c.self.inside.words.items; room = c.self.inside.room; refused = c.self.inside.refused } in
     let after : Held =
     record { words = c.truncate.new.self.items; room = c.self.inside.room; refused = c.self.inside.refused } in
-    let words : c.truncate.new.self.items ≡ 0 ∷ 0 ∷ [] =
-    c.truncate.ensures.items ∙ first_two inside c.self.invariant.sound in
+    let words : c.truncate.new.self.items ≡ 0 ∷ 0 ∷ [] = c.truncate.ensures.items ∙ first_two c.self.invariant.sound in
     let both : AreExtents after c.truncate-2.new.self.items =
     subst (AreExtents after) (sym c.truncate-2.ensures.items)
-    (first_two_extents inside after c.self.inside.extents.items c.self.invariant.sound c.self.invariant.reach words) in
-    kept_empty after (vec_capacity c.truncate.new.self) c.clear-2.new.self c.truncate-2.new.self.items
-    (vec_capacity c.truncate-2.new.self) words c.self.invariant.sound.counted c.self.invariant.few
+    (first_two_extents after c.self.inside.extents.items c.self.invariant.sound c.self.invariant.reach words) in
+    kept_empty words c.self.invariant.sound.counted c.self.invariant.few
     (let h = c.self.invariant.taken in let k = c.truncate.ensures.capacity in omega arith)
     c.clear-2.ensures
     both
@@ -28,6 +25,5 @@ returns c =
     let inside : Held =
     record { words = c.self.inside.words.items; room = c.self.inside.room; refused = c.self.inside.refused } in
     ap (λ l. let held : Held = record { words = l; room = c.self.inside.room; refused = c.self.inside.refused } in
-    held)
-    (c.truncate.ensures.items ∙ first_two inside c.self.invariant.sound)
+    held) (c.truncate.ensures.items ∙ first_two c.self.invariant.sound)
     ∙ ap (λ (held : Held). no_nodes held.room held.refused) c.self.view_is

@@ -6,5 +6,4 @@ pub returns : goal.returns
 returns c =
     let inside : Held =
     record { words = c.self.inside.words.items; room = c.self.inside.room; refused = c.self.inside.refused } in
-    extent_read inside c.args.self.now c.self.inside.extents.items c.number.result c.args.r c.index.result.now
-    c.self.view_is c.number.ensures.value c.requires c.self.invariant.reach c.index.ensures
+    extent_read c.self.view_is c.number.ensures.value c.requires c.self.invariant.reach c.index.ensures

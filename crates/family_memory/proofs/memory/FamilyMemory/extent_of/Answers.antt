@@ -3,26 +3,22 @@ use Rattle.family_memory.proofs.RestLemmas.{rest_of_word}
 use Rattle.family_memory.proofs.memory.FamilyMemory.extent_of.Goals as goal
 
 pub extent-lo-requires : goal.extent-lo-requires
-extent-lo-requires c =
-    has_lo c.args.self.now c.args.word c.unpack-parts.result.lo c.is_sound.ensures c.requires c.unpack-parts.ensures.lo
+extent-lo-requires c = has_lo c.is_sound.ensures c.requires c.unpack-parts.ensures.lo
 
 pub extent-hi-requires : goal.extent-hi-requires
-extent-hi-requires c =
-    has_hi c.args.self.now c.args.word c.unpack-parts.result.hi c.is_sound.ensures c.requires c.unpack-parts.ensures.hi
+extent-hi-requires c = has_hi c.is_sound.ensures c.requires c.unpack-parts.ensures.hi
 
 pub returns-clause-extent : goal.returns-clause-extent
 returns-clause-extent c =
     let parts = c.unpack-parts.result in
-    extent_of_word c.args.self.now c.args.word parts.level parts.lo parts.hi c.extent-lo.result c.extent-hi.result
-    c.of_node.result c.is_sound.ensures c.requires c.unpack-parts.ensures.level c.unpack-parts.ensures.lo
+    extent_of_word c.is_sound.ensures c.requires c.unpack-parts.ensures.level c.unpack-parts.ensures.lo
     c.unpack-parts.ensures.hi c.extent-lo.ensures c.extent-hi.ensures c.of_node.ensures.extent
 
 pub rest_of-rest-requires-clause-has : goal.rest_of-rest-requires-clause-has
-rest_of-rest-requires-clause-has c =
-    has_lo c.args.self.now c.args.word c.unpack-parts.result.lo c.is_sound.ensures c.requires c.unpack-parts.ensures.lo
+rest_of-rest-requires-clause-has c = has_lo c.is_sound.ensures c.requires c.unpack-parts.ensures.lo
 
 pub returns-clause-rest : goal.returns-clause-rest
 returns-clause-rest c =
     let parts = c.unpack-parts.result in
-    rest_of_word c.args.self.now c.args.word parts.level parts.lo c.rest_of-rest.result c.of_node.result.rest
+    rest_of_word c.args.word
     c.unpack-parts.ensures.level c.unpack-parts.ensures.lo c.of_node.ensures.rest c.rest_of-rest.ensures

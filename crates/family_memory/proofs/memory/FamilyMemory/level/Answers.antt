@@ -9,6 +9,5 @@ returns c =
     let inside : Held =
     record { words = c.self.inside.words.items; room = c.self.inside.room; refused = c.self.inside.refused } in
     let word : c.index.result.now ≡ map_of held c.args.r =
-    read_word inside held c.number-2.result c.args.r c.index.result.now c.self.view_is c.number-2.ensures.value
-    c.requires c.index.ensures in
-    level_read held c.args.r c.index.result.now word (let e = c.number.ensures.value in omega arith)
+    read_word c.self.view_is c.number-2.ensures.value c.requires c.index.ensures in
+    level_read held c.args.r word (let e = c.number.ensures.value in omega arith)

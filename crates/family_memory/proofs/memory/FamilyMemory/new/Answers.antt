@@ -1,7 +1,6 @@
-use Rattle.std.proofs.Common.{◌≡◌, [], ◌∷◌, ◌++◌, ◌∙◌, ap, vec_capacity, arith}
+use Rattle.std.proofs.Common.{◌≡◌, [], ◌∷◌, ◌++◌, ◌∙◌, ap, arith}
 use Rattle.family_memory.specs.Memory.{Held}
-use Rattle.family_memory.proofs.Empty.{kept_empty}
-use Rattle.family_memory.proofs.ExtentLemmas.{extents_empty}
+use Rattle.family_memory.proofs.{Empty.kept_empty, ExtentLemmas.extents_empty}
 use Rattle.family_memory.proofs.memory.FamilyMemory.new.Goals as goal
 
 pub invariant_of-result : goal.invariant_of-result
@@ -14,12 +13,9 @@ invariant_of-result c =
     let both : c.push_reserved-4.new.self.items ≡ c.of_none.result ∷ c.of_unit.result ∷ [] =
     c.push_reserved-4.ensures.items ∙ ap (λ l. l ++ c.of_unit.result ∷ [])
     (c.push_reserved-3.ensures.items ∙ ap (λ l. l ++ c.of_none.result ∷ []) c.in_ok-extents.ensures.items) in
-    kept_empty held (vec_capacity c.push_reserved-2.new.self) c.in_ok-new-2.field-0 c.push_reserved-4.new.self.items
-    (vec_capacity c.push_reserved-4.new.self) words (let e = c.new.ensures in omega (arith, e)) c.requires
+    kept_empty words (let e = c.new.ensures in omega (arith, e)) c.requires
     (let e = c.in_ok-words.ensures.exact in let h = c.push_reserved.ensures.capacity in
     let k = c.push_reserved-2.ensures.capacity in omega arith)
-    c.in_ok-new-2.ensures
-    (extents_empty c.of_none.result c.of_unit.result c.of_none.ensures c.of_unit.ensures held
-    c.push_reserved-4.new.self.items words both)
+    c.in_ok-new-2.ensures (extents_empty c.of_none.ensures c.of_unit.ensures words both)
     (let e = c.in_ok-extents.ensures.exact in let h = c.push_reserved-3.ensures.capacity in
     let k = c.push_reserved-4.ensures.capacity in omega arith)

@@ -11,8 +11,7 @@ returns c =
     record { words = c.self.inside.words.items; room = c.self.inside.room; refused = c.self.inside.refused } in
     let sound : IsSound held = subst IsSound c.self.view_is c.self.invariant.sound in
     let word : c.index.result.now ≡ map_of held c.args.r =
-    read_word inside held c.number.result c.args.r c.index.result.now c.self.view_is c.number.ensures.value
-    c.requires.has c.index.ensures in
-    parts_of held c.args.r sound c.requires.has c.requires.inner c.unpack.result
+    read_word c.self.view_is c.number.ensures.value c.requires.has c.index.ensures in
+    parts_of c.args.r sound c.requires.has c.requires.inner c.unpack.result
     (c.unpack.ensures.level ∙ ap level_of word) (c.unpack.ensures.lo ∙ ap lo_of word)
     (c.unpack.ensures.hi ∙ ap hi_of word)

@@ -1,6 +1,5 @@
 use Rattle.std.proofs.Common.{sym, subst}
-use Rattle.family_memory.specs.Memory.{Held}
-use Rattle.family_memory.specs.Answers.{IsTold}
+use Rattle.family_memory.specs.{Memory.Held, Answers.IsTold}
 use Rattle.family_memory.proofs.Entries.{told_more}
 use Rattle.family_memory.proofs.memory.FamilyMemory.remember.Goals as goal
 
@@ -13,7 +12,7 @@ invariant_of-self c =
       few = c.self.invariant.few;
       taken = c.self.invariant.taken;
       told =
-          told_more held c.args.entry c.self.inside.answers c.keep.new.self c.self.invariant.sound
+          told_more c.args.entry c.self.inside.answers c.keep.new.self c.self.invariant.sound
           (subst (λ (m : Held). IsTold m c.args.entry) (sym c.self.view_is) c.requires) c.self.invariant.told
           c.keep.ensures;
       reach = c.self.invariant.reach;

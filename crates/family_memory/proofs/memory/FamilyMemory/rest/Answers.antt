@@ -6,5 +6,5 @@ pub returns : goal.returns
 returns c =
     let inside : Held =
     record { words = c.self.inside.words.items; room = c.self.inside.room; refused = c.self.inside.refused } in
-    rest_read inside c.args.self.now c.self.inside.extents.items c.number.result c.args.r c.index.result.now
+    rest_read
     c.self.view_is c.number.ensures.value c.requires.inner c.requires.has c.self.invariant.reach c.index.ensures

@@ -7,4 +7,4 @@ returns-then-number-lt2 c hi =
 
 pub returns : goal.returns
 returns c hi =
-    rest_beyond c.args.self.now c.args.level c.args.lo hi c.requires.above c.rest.result c.rest.ensures
+    rest_beyond c.args.self.now c.args.level c.args.lo hi c.requires.above c.rest.ensures

@@ -8,30 +8,25 @@ pub over-requires-2 : goal.over-requires-2
 over-requires-2 c = (
   ranked c.args.parts c.requires.0,
   c.requires.1,
-  rw c.as_slice-3.ensures.value
-      (parts_lists c.args.parts c.requires.0 c.requires.1 c.in_ok-table.table c.in_ok-below.below.items
-      (table_for c.args.parts c.requires.0 _ _ _ _ c.in_ok-table.table refl c.as_slice-units.ensures.items
+  rw c.as_slice-3.ensures.value (parts_lists c.args.parts c.requires.0 c.requires.1
+      (table_for c.args.parts c.requires.0 refl c.as_slice-units.ensures.items
       c.as_slice.ensures.items c.as_slice-2.ensures.items c.in_ok-table.ensures) c.in_ok-below.ensures),
 )
 
 pub invariant_of-result : goal.invariant_of-result
 invariant_of-result c =
     let table =
-    table_for c.args.parts c.requires.0 _ _ _ _ c.in_ok-table.table refl c.as_slice-units.ensures.items
+    table_for c.args.parts c.requires.0 refl c.as_slice-units.ensures.items
     c.as_slice.ensures.items c.as_slice-2.ensures.items c.in_ok-table.ensures in
     let lists : HoldsLists (ranked c.args.parts c.requires.0) c.as_slice-3.result.now =
-    rw c.as_slice-3.ensures.value
-    (parts_lists c.args.parts c.requires.0 c.requires.1 c.in_ok-table.table c.in_ok-below.below.items table
-    c.in_ok-below.ensures) in
-    made_holds c.args.parts c.requires.0 c.requires.1 c.in_ok-table.table c.in_ok-below.below.items table
-    c.in_ok-below.ensures c.in_ok-ranking.ranking.ranks.items c.in_ok-ranking.ranking.order.items
+    rw c.as_slice-3.ensures.value (parts_lists c.args.parts c.requires.0 c.requires.1 table c.in_ok-below.ensures) in
+    made_holds c.args.parts c.requires.0 c.requires.1 table c.in_ok-below.ensures
     (c.in_ok-ranking.ensures.ranks (ranked c.args.parts c.requires.0) c.requires.1 lists)
-    (c.in_ok-ranking.ensures.order (ranked c.args.parts c.requires.0) c.requires.1 lists)
-    _ refl
+    (c.in_ok-ranking.ensures.order (ranked c.args.parts c.requires.0) c.requires.1 lists) refl
 
 pub over-requires-clause-dependents : goal.over-requires-clause-dependents
 over-requires-clause-dependents c =
-    dependents_below c.args.parts c.requires.0 _ _ _ _ refl c.as_slice-units.ensures.items c.as_slice.ensures.items
+    dependents_below c.args.parts c.requires.0 refl c.as_slice-units.ensures.items c.as_slice.ensures.items
     c.as_slice-2.ensures.items c.requires.1
 
 pub over-requires-clause-inputs : goal.over-requires-clause-inputs
@@ -40,7 +35,7 @@ over-requires-clause-inputs c =
 
 pub returns : goal.returns
 returns c =
-    made_is c.args.parts c.requires.0 c.requires.1 c.in_ok-table.table c.in_ok-below.below.items
-    (table_for c.args.parts c.requires.0 _ _ _ _ c.in_ok-table.table refl c.as_slice-units.ensures.items
+    made_is c.args.parts c.requires.0 c.requires.1
+    (table_for c.args.parts c.requires.0 refl c.as_slice-units.ensures.items
     c.as_slice.ensures.items c.as_slice-2.ensures.items c.in_ok-table.ensures) c.in_ok-below.ensures
     c.in_ok-ranking.ranking.ranks.items

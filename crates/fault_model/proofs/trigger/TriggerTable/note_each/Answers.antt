@@ -1,7 +1,6 @@
 use Rattle.std.proofs.Common.{ap, subst, sym}
-use Rattle.fault_model.specs.TriggerTable.{IsUnitBelow}
+use Rattle.fault_model.specs.{TriggerTable.IsUnitBelow, declared.trigger.TriggerTable.TriggerTable}
 use Rattle.std.proofs.lemmas.List.{take_more}
-use Rattle.fault_model.specs.declared.trigger.TriggerTable.{TriggerTable}
 use Rattle.fault_model.proofs.TriggerLemmas.{noted_one}
 use Rattle.fault_model.proofs.trigger.TriggerTable.note_each.Goals as goal
 
@@ -11,10 +10,8 @@ loop-unit-preserved c =
       take_more c.args.dependents.now c.loop-unit.unit-index c.unit-item.result c.loop-unit-test.true,
       ←
           c.unit-item.is,
-    )
-    (noted_one c.args.units c.args.mark c.args.trigger _ _ c.requires.marks.low _ _ _ c.unit-item.result
-    (subst (IsUnitBelow c.args.units) (sym c.unit-item.is)
-    (c.requires.units c.loop-unit.unit-index c.unit-item.result c.loop-unit-test.true)) c.loop-unit.invariant _ _
+    ) (noted_one c.requires.marks.low c.unit-item.result (subst (IsUnitBelow c.args.units) (sym c.unit-item.is)
+    (c.requires.units c.loop-unit.unit-index c.unit-item.result c.loop-unit-test.true)) c.loop-unit.invariant
     (λ known. ap (λ (t : TriggerTable). t.lists.items) (c.in_ok-note_one.ensures.known known))
     (λ known. ap (λ (t : TriggerTable). t.marks.items) (c.in_ok-note_one.ensures.known known))
     c.in_ok-note_one.ensures.lists c.in_ok-note_one.ensures.marks)

@@ -1,16 +1,11 @@
-use Rattle.std.proofs.Common.{arith, sym}
-use Rattle.std.proofs.lemmas.Grind.{common_steps}
-use Rattle.std.proofs.lemmas.List.{with_items_is}
+use Rattle.std.proofs.{Common.arith, Common.sym, lemmas.Grind.common_steps, lemmas.List.with_items_is}
 use Rattle.graph_cycles.proofs.Seal.{Closes-as}
 use Rattle.graph_cycles.proofs.walk.Walk.close.Goals as goal
 
 pub returns : goal.returns
 returns c = record {
   sealed =
-      Closes-as _ _ _ _ _ _ _ _ _ _ _ _
-      (grind (arith, common_steps))
-      (sym c.piece_cycles-cycles.ensures)
-      (grind (arith, common_steps))
+      Closes-as (grind (arith, common_steps)) (sym c.piece_cycles-cycles.ensures) (grind (arith, common_steps))
       (with_items_is c.rank.new.self.stages c.seal.new.stages (grind (arith, common_steps)))
       (grind (arith, common_steps))
       (with_items_is c.rank.new.self.on_cycle c.seal.new.marks (grind (arith, common_steps)))

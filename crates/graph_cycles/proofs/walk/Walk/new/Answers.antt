@@ -1,5 +1,4 @@
-use Rattle.std.proofs.Common.{arith}
-use Rattle.std.proofs.lemmas.Grind.{common_steps}
+use Rattle.std.proofs.{Common.arith, lemmas.Grind.common_steps}
 use Rattle.graph_cycles.proofs.walk.Walk.new.Goals as goal
 
 pub returns-clause-stands : goal.returns-clause-stands

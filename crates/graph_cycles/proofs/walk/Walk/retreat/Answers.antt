@@ -7,5 +7,4 @@ pub returns : goal.returns
 returns c =
     let shorter : c.pop.new.self.items ≡ take (length c.args.self.now.path.items - 1) c.args.self.now.path.items =
     grind (arith, common_steps) in
-    Steps-left c.args._graph.now c.args.self.now (record c.args.self.now { path = c.pop.new.self }) c.args.at
-    c.requires.stands c.requires.top c.requires.full c.requires.no_root refl shorter
+    Steps-left c.requires.stands c.requires.top c.requires.full c.requires.no_root refl shorter

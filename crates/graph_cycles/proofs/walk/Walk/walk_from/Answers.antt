@@ -3,5 +3,4 @@ use Rattle.graph_cycles.proofs.walk.Walk.walk_from.Goals as goal
 
 pub loop-at-init : goal.loop-at-init
 loop-at-init c =
-    Walking-meets c.args.graph.now c.args.self.now c.meet.new.self c.args.root
-    c.requires.stands c.requires.rests c.requires.within c.requires.fresh c.in_ok-meet.ensures
+    Walking-meets c.requires.stands c.requires.rests c.requires.within c.requires.fresh c.in_ok-meet.ensures

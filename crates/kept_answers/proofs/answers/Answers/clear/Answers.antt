@@ -5,5 +5,5 @@ use Rattle.kept_answers.proofs.answers.Answers.clear.Goals as goal
 pub returns : goal.returns
 returns c =
     let entries = c.clear.new.self in
-    kept_from_none (is_ok c.resize.result) c.min-few.result (c.min-few.result - vec_len entries) entries.items
-    c.resize.new.self.items c.clear.ensures.items c.resize.ensures.items
+    kept_from_none (is_ok c.resize.result) c.min-few.result (c.min-few.result - vec_len entries) c.clear.ensures.items
+    c.resize.ensures.items

@@ -8,5 +8,5 @@ returns c =
     let entries = c.self.inside.entries in
     let grown = c.resize.new.self.items in
     subst (λ l. AreKept l grown) c.self.view_is
-    (kept_resized (is_ok c.resize.result) c.min-more.result (c.min-more.result - vec_len entries) entries.items grown
+    (kept_resized (is_ok c.resize.result) c.min-more.result (c.min-more.result - vec_len entries) entries.items
     c.resize.ensures.items)

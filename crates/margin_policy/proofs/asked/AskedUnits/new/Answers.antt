@@ -11,7 +11,7 @@ loop-i-preserved c =
     let i = c.loop-i.i in
     let asked : can_be_asked units c.args.unknown ≡ true = sym c.may_be_asked.ensures ∙ c.if-not-may_be_asked.false in
     let few : length units ≤ 16 = few_asked units c.args.unknown asked in
-    filling-more units c.loop-i.places i c.index-units-i.result (omega arith) (omega arith)
+    filling-more (omega arith) (omega arith)
     (get_or_read units i c.index-units-i.result (omega arith) c.index-units-i.is 0) c.loop-i.invariant
 
 pub invariant_of-result : goal.invariant_of-result
@@ -20,5 +20,4 @@ invariant_of-result c =
     let asked : can_be_asked units c.args.unknown ≡ true = sym c.may_be_asked.ensures ∙ c.if-not-may_be_asked.false in
     let few : length units ≤ 16 = few_asked units c.args.unknown asked in
     let end : c.loop-i.i ≡ length units = omega arith in
-    filled units c.loop-i.places (length units) c.args.unknown refl few asked
-    (subst (λ (i : ℕ). IsFillingPlaces units c.loop-i.places i) end c.loop-i.invariant)
+    filled refl few asked (subst (λ (i : ℕ). IsFillingPlaces units c.loop-i.places i) end c.loop-i.invariant)

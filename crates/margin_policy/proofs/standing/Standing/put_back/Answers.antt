@@ -1,9 +1,7 @@
 use Rattle.std.proofs.Common.{◌≡◌, Option, Some, None, true, false, ap, ◌∙◌, refl, is_some, is_none, arith}
-use Rattle.unit_sets.specs.UnitList.{among}
-use Rattle.unit_sets.specs.declared.request.CrewNo.{CrewNo}
+use Rattle.unit_sets.specs.{UnitList.among, declared.request.CrewNo.CrewNo}
 use Rattle.margin_policy.specs.Held.{holder_of}
-use Rattle.margin_policy.proofs.HeldLaws.{among-units_out}
-use Rattle.margin_policy.proofs.StandingLemmas.{keeps-returned}
+use Rattle.margin_policy.proofs.{HeldLaws.among-units_out, StandingLemmas.keeps-returned}
 use Rattle.margin_policy.proofs.standing.Standing.put_back.Goals as goal
 
 some_holder : (holder : Option CrewNo) → is_none holder ≡ false → is_some holder ≡ true
@@ -21,5 +19,5 @@ back-requires-clause-out c =
 pub invariant_of-self : goal.invariant_of-self
 invariant_of-self c =
     let units : c.self.inside.ledger.units ≡ c.args.self.now.units = ap (λ v. v.units) c.self.view_is in
-    rw (c.back.ensures, c.number.ensures.value) (keeps-returned c.self.inside.ledger c.self.inside.margin
-    c.self.inside.held.items c.args.unit (omega (arith, c.requires.known)) c.self.invariant)
+    rw (c.back.ensures, c.number.ensures.value) (keeps-returned c.args.unit (omega (arith, c.requires.known))
+    c.self.invariant)

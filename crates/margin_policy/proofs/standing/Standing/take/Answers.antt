@@ -1,8 +1,7 @@
 use Rattle.std.proofs.Common.{◌≡◌, ap, ◌∙◌, is_some, None, arith}
 use Rattle.unit_sets.specs.UnitList.{among}
 use Rattle.margin_policy.specs.Held.{holder_of}
-use Rattle.margin_policy.proofs.HeldLaws.{among-units_out}
-use Rattle.margin_policy.proofs.StandingLemmas.{keeps-taken}
+use Rattle.margin_policy.proofs.{HeldLaws.among-units_out, StandingLemmas.keeps-taken}
 use Rattle.margin_policy.proofs.standing.Standing.take.Goals as goal
 
 pub out-requires-clause-in_service : goal.out-requires-clause-in_service
@@ -15,5 +14,5 @@ out-requires-clause-in_service c =
 pub invariant_of-self : goal.invariant_of-self
 invariant_of-self c =
     let units : c.self.inside.ledger.units ≡ c.args.self.now.units = ap (λ v. v.units) c.self.view_is in
-    rw (c.out.ensures, c.number.ensures.value) (keeps-taken c.self.inside.ledger c.self.inside.margin
-    c.self.inside.held.items c.args.crew c.args.unit (omega (arith, c.requires.known)) c.self.invariant)
+    rw (c.out.ensures, c.number.ensures.value) (keeps-taken c.args.crew c.args.unit (omega (arith, c.requires.known))
+    c.self.invariant)

@@ -13,7 +13,7 @@ take-requires-clause-in_service c =
     let short : i < length units = omega arith in
     let at : unit ≡ get_or units i 0 = get_or_read units i unit short c.unit-item.is 0 in
     ap (λ (v : StandingView). holder_of v.held unit) c.loop-unit.invariant
-    ∙ still_free c.args.crew units c.args.self.now.held i unit c.requires.once c.requires.in_service short at
+    ∙ still_free c.args.crew units c.args.self.now.held i c.requires.once c.requires.in_service short at
 
 pub loop-unit-preserved : goal.loop-unit-preserved
 loop-unit-preserved c =
@@ -25,4 +25,4 @@ loop-unit-preserved c =
     let now : StandingView = c.args.self.now in
     c.take.ensures
     ∙ ap (λ (v : StandingView). record v { held = with_held c.args.crew unit v.held }) c.loop-unit.invariant
-    ∙ ap (λ (h : Held). record now { held = h }) (with_all_held-more c.args.crew units now.held i unit short at)
+    ∙ ap (λ (h : Held). record now { held = h }) (with_all_held-more c.args.crew units now.held i short at)

@@ -10,7 +10,7 @@ overflow_cast-result c =
     let asked = c.args.asked.now in
     let ledger = c.self.inside.ledger in
     let low : c.in-Some.place < 2 ^ 31 =
-    few_places ledger.cuts (is_tight (asked ++ ledger.out) c.args.most) c.first_tight_after_all.result
+    few_places ledger.cuts (is_tight (asked ++ ledger.out) c.args.most)
     c.in-Some.place c.self.invariant.whole.ordered c.first_tight_after_all.ensures c.in-Some.is in
     omega arith
 
@@ -19,7 +19,7 @@ overflow_add-result c =
     let asked = c.args.asked.now in
     let ledger = c.self.inside.ledger in
     let low : c.in-Some.place < 2 ^ 31 =
-    few_places ledger.cuts (is_tight (asked ++ ledger.out) c.args.most) c.first_tight_after_all.result
+    few_places ledger.cuts (is_tight (asked ++ ledger.out) c.args.most)
     c.in-Some.place c.self.invariant.whole.ordered c.first_tight_after_all.ensures c.in-Some.is in
     omega arith
 
@@ -34,8 +34,7 @@ returns-in-Some c =
     let is : c.first_tight_after_all.result ≡ position (is_tight (asked ++ units_out now.held) c.args.most) now.cuts =
     c.first_tight_after_all.ensures ∙ ap (λ o. position (is_tight o c.args.most) ledger.cuts) out
     ∙ ap (position (is_tight (asked ++ units_out now.held) c.args.most)) cuts in
-    denied_at (asked ++ units_out now.held) c.args.most now.cuts c.first_tight_after_all.result c.in-Some.place is
-    c.in-Some.is
+    denied_at (asked ++ units_out now.held) c.args.most now.cuts c.in-Some.place is c.in-Some.is
 
 pub returns-in-None : goal.returns-in-None
 returns-in-None c =
@@ -48,4 +47,4 @@ returns-in-None c =
     let is : c.first_tight_after_all.result ≡ position (is_tight (asked ++ units_out now.held) c.args.most) now.cuts =
     c.first_tight_after_all.ensures ∙ ap (λ o. position (is_tight o c.args.most) ledger.cuts) out
     ∙ ap (position (is_tight (asked ++ units_out now.held) c.args.most)) cuts in
-    granted_where_none (asked ++ units_out now.held) c.args.most now.cuts c.first_tight_after_all.result is c.in-None.is
+    granted_where_none (asked ++ units_out now.held) c.args.most now.cuts is c.in-None.is

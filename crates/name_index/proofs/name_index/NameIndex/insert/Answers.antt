@@ -1,5 +1,4 @@
-use Rattle.std.proofs.Common.{arith}
-use Rattle.std.proofs.lemmas.Grind.{common_steps}
+use Rattle.std.proofs.{Common.arith, lemmas.Grind.common_steps}
 use Rattle.name_index.proofs.Names.{has-behind}
 use Rattle.name_index.proofs.name_index.NameIndex.insert.Goals as goal
 

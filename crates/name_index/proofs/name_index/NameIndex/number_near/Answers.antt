@@ -19,5 +19,5 @@ pub returns-then-is_at : goal.returns-then-is_at
 returns-then-is_at c =
     subst (λ (names : List (List ℕ)). c.args.place < length names → get_or names c.args.place [] ≡ c.args.name.now
     → c.args.place + 1 ≡ number_in names c.args.name.now) c.self.view_is
-    (λ short is. sym (number_there c.self.inside.names.keys c.args.name.now c.args.place c.len-length.ensures.unique
+    (λ short is. sym (number_there c.self.inside.names.keys c.args.place c.len-length.ensures.unique
     short is)) (c.is_at.ensures.within c.if-is_at.true) (c.is_at.ensures.there c.if-is_at.true)

@@ -7,8 +7,7 @@ pub loop-name-preserved : goal.loop-name-preserved
 loop-name-preserved c =
     let rest = drop (c.loop-name.name-index + 1) c.args.names.now in
     let name = c.name-item.result in
-    insert_next c.args.names.now c.loop-name.index _ c.insert.new.self rest name c.in_ok-insert.field-0
-    c.requires c.loop-name.invariant
+    insert_next c.loop-name.index c.requires c.loop-name.invariant
     (at_drop_more (λ r. r) c.args.names.now c.loop-name.name-index name c.loop-name-test.true
     ∙ ap (λ n. n ∷ rest) (sym c.name-item.is))
     c.in_ok-insert.ensures.new c.in_ok-insert.ensures.names

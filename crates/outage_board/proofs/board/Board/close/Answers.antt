@@ -1,10 +1,8 @@
 use Rattle.std.proofs.Common.{◌≡◌, ℕ, ◌<◌, length, sym, ◌∙◌, ap, subst}
 use Rattle.outage_board.specs.Rule.{times_of}
-use Rattle.outage_board.proofs.TimesLemmas.{AreMade}
-use Rattle.outage_board.proofs.TableLemmas.{IsClosed, closes_table}
-use Rattle.outage_board.proofs.PassLemmas.{made_all, times_back}
+use Rattle.outage_board.proofs.{TimesLemmas.AreMade, TableLemmas.IsClosed, TableLemmas.closes_table}
+use Rattle.outage_board.proofs.{PassLemmas.made_all, PassLemmas.times_back, board.Board.close.Goals.After-emptied}
 use Rattle.outage_board.proofs.board.Board.close.Goals as goal
-use Rattle.outage_board.proofs.board.Board.close.Goals.{After-emptied}
 
 closed : (c : After-emptied) → IsClosed c.self.inside.table.shared.key.value.deck c.gathered-place.result.me.0
     c.emptied.result

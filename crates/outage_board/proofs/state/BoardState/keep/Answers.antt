@@ -10,7 +10,7 @@ push_reserved-requires c =
     let entry = c.args.entry.now in
     let within = subst (λ (b : BoardView). entry.crew.0 < length b.deck.crews) (sym c.self.view_is) c.requires.crew in
     let is = subst (λ (b : BoardView). next_entry b entry.crew ≡ Some entry) (sym c.self.view_is) c.requires.next in
-    let room = has_room _ _ _ _ entry c.self.invariant within is in
+    let room = has_room entry c.self.invariant within is in
     omega arith
 
 pub invariant_of-self : goal.invariant_of-self
@@ -24,4 +24,4 @@ invariant_of-self c =
     let at : c.index_mut.result.now ≡ get_or places entry.crew.0 0 =
     get_or_read places entry.crew.0 c.index_mut.result.now low c.index_mut.ensures.value 0 in
     rw (c.apply.ensures, c.push_reserved.ensures.items, c.push_reserved.ensures.capacity, at)
-    (keeps_next _ _ _ _ entry kept within is)
+    (keeps_next entry kept within is)

@@ -1,5 +1,4 @@
-use Rattle.std.proofs.Common.{arith}
-use Rattle.std.proofs.lemmas.Grind.{common_steps}
+use Rattle.std.proofs.{Common.arith, lemmas.Grind.common_steps}
 use Rattle.outage_board.proofs.state.BoardState.next_entry.Goals as goal
 
 pub returns-clause-kept : goal.returns-clause-kept

@@ -7,5 +7,5 @@ use Rattle.outage_board.proofs.unit_names.UnitNames.unit.Goals as goal
 pub returns : goal.returns
 returns c =
     subst (λ (tree : FaultTree). c.new.result ≡ unit_of tree c.args.name.now) c.self.view_is
-    (number_is c.self.inside.tree.now c.units.ensures.kept c.self.inside.index c.self.invariant c.args.name.now
-    c.number.result c.number.ensures c.new.result c.new.ensures.valid c.new.ensures.value)
+    (number_is c.units.ensures.kept c.self.invariant c.args.name.now c.number.ensures c.new.result c.new.ensures.valid
+    c.new.ensures.value)

@@ -10,8 +10,7 @@ returns-then-has_failed-clause-failed c = λ order is_unit last holds.
     let has : has_step steps c.args.unit ≡ true =
     ap (λ (s : List Step). has_step s c.args.unit) (sym c.deref.ensures.value) ∙ sym c.has_failed.ensures
     ∙ c.if-has_failed.true in
-    nothing_failed c.args.tree.now c.requires.tree order c.args.unit steps c.args.self.now.log.items c.requires.can.kept
-    is_unit holds has
+    nothing_failed c.requires.tree order c.args.unit c.requires.can.kept is_unit holds has
 
 pub returns-clause-failed : goal.returns-clause-failed
 returns-clause-failed c = λ order is_unit last holds.
@@ -19,10 +18,8 @@ returns-clause-failed c = λ order is_unit last holds.
     let has : has_step steps c.args.unit ≡ false =
     ap (λ (s : List Step). has_step s c.args.unit) (sym c.deref.ensures.value) ∙ sym c.has_failed.ensures
     ∙ c.if-has_failed.false in
-    all_failed c.args.tree.now c.requires.tree order c.args.unit steps c.args.self.now.log.items
-    c.spread.new.self.steps.items c.spread.new.self.log.items
+    all_failed c.requires.tree order c.args.unit
     (c.spread.ensures.spreads (turn_of order c.args.unit steps c.args.self.now.log.items) last
     (let start : c.len-start.result ≡ length c.args.self.now.log.items = omega arith in
     rw (c.fail_first.ensures.steps, c.fail_first.ensures.log, start, ← last)
-    (first_fails c.args.tree.now c.requires.tree order c.args.unit steps c.args.self.now.log.items c.requires.can.kept
-    is_unit holds has)))
+    (first_fails c.requires.tree order c.args.unit c.requires.can.kept is_unit holds has)))

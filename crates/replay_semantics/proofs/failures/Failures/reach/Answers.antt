@@ -1,7 +1,6 @@
 use Rattle.std.proofs.Common.{◌≡◌, ◌∙◌, ap, sym, true, false, List}
 use Rattle.fault_definitions.specs.Step.{Step}
-use Rattle.replay_semantics.specs.Failing.{node_fails}
-use Rattle.replay_semantics.specs.Table.{step_in, has_step}
+use Rattle.replay_semantics.specs.{Failing.node_fails, Table.step_in, Table.has_step}
 use Rattle.replay_semantics.proofs.SpreadLemmas.{fails_more}
 use Rattle.replay_semantics.proofs.failures.Failures.reach.Goals as goal
 
@@ -14,6 +13,5 @@ returns-then-node_fails-clause-spreads c = λ turn todo next last spreading.
     let fails : node_fails c.args.tree.now (step_in steps) c.args.node ≡ true =
     ap (λ (s : List Step). node_fails c.args.tree.now (step_in s) c.args.node) (sym c.deref-2.ensures.value)
     ∙ sym c.node_fails.ensures ∙ c.if-node_fails.true in
-    rw (c.fail_first.ensures.steps, c.fail_first.ensures.log, ← last)
-    (fails_more c.args.tree.now turn steps c.args.self.now.log.items todo next c.args.node c.requires.can.kept.table
+    rw (c.fail_first.ensures.steps, c.fail_first.ensures.log, ← last) (fails_more c.requires.can.kept.table
     c.requires.node spreading has fails)

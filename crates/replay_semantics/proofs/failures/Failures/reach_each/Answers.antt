@@ -6,7 +6,7 @@ use Rattle.replay_semantics.proofs.failures.Failures.reach_each.Goals as goal
 
 pub loop-node-preserved : goal.loop-node-preserved
 loop-node-preserved c = record {
-  more = more_again _ _ _ _ c.loop-node.invariant.more c.reach.ensures.more;
+  more = more_again c.loop-node.invariant.more c.reach.ensures.more;
   spreads = λ turn next last spreading.
       c.reach.ensures.spreads turn (drop (c.loop-node.node-index + 1) c.args.nodes.now) next last
       (subst (λ (todo : List ℕ). Spread c.args.tree.now turn c.loop-node.self todo next)

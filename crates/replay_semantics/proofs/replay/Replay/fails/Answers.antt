@@ -2,9 +2,7 @@ use Rattle.std.proofs.Common.{◌≡◌, ◌∙◌, ◌++◌, ◌∷◌, ◌&&�
 use Rattle.std.proofs.lemmas.List.{take_all, take_more}
 use Rattle.unit_sets.specs.UnitList.{among}
 use Rattle.fault_model.specs.Order.{AreDistinct}
-use Rattle.fault_definitions.specs.FailingOrder.{is_failing}
-use Rattle.fault_definitions.specs.Step.{step}
-use Rattle.fault_definitions.specs.Tree.{FaultTree, IsUnitOf}
+use Rattle.fault_definitions.specs.{FailingOrder.is_failing, Step.step, Tree.FaultTree, Tree.IsUnitOf}
 use Rattle.fault_definitions.proofs.StepLaws.{step-reads}
 use Rattle.replay_semantics.specs.Replayed.{Replayed}
 use Rattle.replay_semantics.proofs.HeldLemmas.{failing-none, fresh_next}
@@ -19,13 +17,13 @@ loop-unit-init c =
       order = c.requires.empty;
       failing =
           sym (ap (λ t. is_failing t c.args.self.now.order) (sym tree)
-          ∙ failing-none c.self.inside.tree.now c.self.invariant.0.kept c.args.self.now.order c.requires.empty);
+          ∙ failing-none c.self.invariant.0.kept c.requires.empty);
     }
 
 pub push-pushed-requires-clause-fresh : goal.push-pushed-requires-clause-fresh
 push-pushed-requires-clause-fresh c =
     ap (λ (units : List ℕ). among units c.unit-item.result) c.loop-unit.invariant.order
-    ∙ fresh_next c.as_slice-unit-items.result.now c.loop-unit.unit-index c.unit-item.result
+    ∙ fresh_next c.as_slice-unit-items.result.now c.loop-unit.unit-index
     (subst AreDistinct (sym c.as_slice-unit-items.ensures.units) c.as_slice-unit-items.ensures.distinct)
     c.loop-unit-test.true c.unit-item.is
 

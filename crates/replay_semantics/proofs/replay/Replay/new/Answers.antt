@@ -9,9 +9,7 @@ invariant_of-result c = (
     c.in_ok-new.ensures.log,
     c.in_ok-with_capacity.ensures.items,
     c.in_ok-with_capacity-2.ensures.items,
-  )
-      (holds_none c.args.tree.now c.units-units.ensures.kept c.in_ok-readers_of.field-0 c.in_ok-readers_of.ensures _
-      (omega arith)),
+  ) (holds_none c.units-units.ensures.kept c.in_ok-readers_of.ensures (omega arith)),
   omega (arith, c.in_ok-new.ensures.room),
   omega (arith, c.in_ok-with_capacity.ensures.exact),
   omega (arith, c.in_ok-with_capacity-2.ensures.exact),

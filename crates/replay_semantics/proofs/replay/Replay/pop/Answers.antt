@@ -1,9 +1,7 @@
 use Rattle.std.proofs.Common.{◌≡◌, ◌∙◌, ◌<◌, ◌-◌, suc, ℕ, List, length, drop, ap, sym, subst, arith}
 use Rattle.std.proofs.lemmas.List.{get_or_default}
 use Rattle.fault_definitions.specs.Step.{Step}
-use Rattle.replay_semantics.specs.Held.{HoldsReplay, start_of}
-use Rattle.replay_semantics.specs.Replayed.{Replayed}
-use Rattle.replay_semantics.specs.Spread.{step_without}
+use Rattle.replay_semantics.specs.{Held.HoldsReplay, Held.start_of, Replayed.Replayed, Spread.step_without}
 use Rattle.replay_semantics.proofs.HeldLemmas.{start_within, holds_less}
 use Rattle.replay_semantics.proofs.replay.Replay.pop.Goals as goal
 
@@ -22,8 +20,7 @@ undo-requires-clause-start c =
     omega (
       arith,
       start,
-      start_within c.self.inside.tree.now c.self.inside.readers c.self.inside.failures.steps.items
-          log order starts c.self.inside.admitted held last (omega arith),
+      start_within held last (omega arith),
     )
 
 pub invariant_of-self : goal.invariant_of-self

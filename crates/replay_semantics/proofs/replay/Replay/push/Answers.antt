@@ -1,11 +1,8 @@
 use Rattle.std.proofs.Common.{◌≡◌, ◌<◌, ◌≤◌, ◌∙◌, ◌+◌, suc, false, ℕ, List, length, eqb, is_some, ap, sym, subst, arith}
 use Rattle.unit_sets.specs.UnitList.{among}
-use Rattle.fault_definitions.specs.Step.{Step, step}
+use Rattle.fault_definitions.specs.{Step.Step, Step.step, Tree.IsUnitOf, Tree.unit_count}
 use Rattle.fault_definitions.proofs.StepLaws.{step-reads}
-use Rattle.fault_definitions.specs.Tree.{IsUnitOf, unit_count}
-use Rattle.replay_semantics.specs.Held.{HoldsReplay}
-use Rattle.replay_semantics.specs.Replayed.{Replayed}
-use Rattle.replay_semantics.specs.Table.{has_step, HoldsSteps}
+use Rattle.replay_semantics.specs.{Held.HoldsReplay, Replayed.Replayed, Table.has_step, Table.HoldsSteps}
 use Rattle.replay_semantics.proofs.HeldLemmas.{holds_more, few_units, room_for_unit, holds_now, admitted-all}
 use Rattle.replay_semantics.proofs.replay.Replay.push.Goals.{After-len}
 use Rattle.replay_semantics.proofs.replay.Replay.push.Goals as goal
@@ -16,7 +13,7 @@ held : (c : After-len) → HoldsReplay c.self.inside.tree.now c.self.inside.read
 held c = c.self.invariant.0
 
 few : (c : After-len) → length c.self.inside.order.items ≤ unit_count c.self.inside.tree.now
-few c = few_units _ _ _ _ _ _ _ (held c)
+few c = few_units (held c)
 
 is_unit : (c : After-len) → IsUnitOf c.self.inside.tree.now c.args.unit
 is_unit c = subst (λ (v : Replayed). IsUnitOf v.tree c.args.unit) (sym c.self.view_is) c.requires.unit
@@ -25,7 +22,7 @@ fresh : (c : After-len) → among c.self.inside.order.items c.args.unit ≡ fals
 fresh c = subst (λ (v : Replayed). among v.order c.args.unit ≡ false) (sym c.self.view_is) c.requires.fresh
 
 room : (c : After-len) → length c.self.inside.order.items < unit_count c.self.inside.tree.now
-room c = room_for_unit _ _ _ _ _ _ _ (held c) c.args.unit (is_unit c) (fresh c)
+room c = room_for_unit (held c) c.args.unit (is_unit c) (fresh c)
 
 pub overflow_cast-at : goal.overflow_cast-at
 overflow_cast-at c =
@@ -56,7 +53,7 @@ invariant_of-self c =
     let log : List ℕ = c.self.inside.failures.log.items in
     let order : List ℕ = c.self.inside.order.items in
     let starts : List ℕ = c.self.inside.starts.items in
-    let holds : HoldsSteps tree order steps = holds_now _ _ _ _ _ _ _ (held at) in
+    let holds : HoldsSteps tree order steps = holds_now (held at) in
     let last : suc (length order) ≡ c.len.result + 1 = omega arith in
     let start : c.len-start.result ≡ length log = omega arith in
     let units : c.len-2.result ≡ length order = omega arith in (
@@ -66,9 +63,7 @@ invariant_of-self c =
         c.admitted_after-self-inside.ensures,
         start,
         units,
-      )
-          (holds_more tree c.self.inside.readers steps log order starts c.self.inside.admitted (held at) c.args.unit
-          (is_unit at) (fresh at) c.fail_next-fits.new.failures.steps.items c.fail_next-fits.new.failures.log.items
+      ) (holds_more (held at) c.args.unit (is_unit at) (fresh at)
           c.fail_next-fits.result c.fail_next-fits.ensures.can.kept (c.fail_next-fits.ensures.failed order last holds)
           (c.fail_next-fits.ensures.fits order last (fresh at) holds)),
       c.fail_next-fits.ensures.can.room,
@@ -80,18 +75,21 @@ pub returns-clause-admissible : goal.returns-clause-admissible
 returns-clause-admissible c =
     let units : c.len-3.result ≡ length c.push_reserved.new.self.items = omega arith in
     ap (eqb c.admitted_after-self-inside.result) units
-    ∙ admitted-all c.self.inside.tree.now c.self.inside.readers c.fail_next-fits.new.failures.steps.items
-    c.fail_next-fits.new.failures.log.items c.push_reserved.new.self.items c.push_reserved-2.new.self.items
-    c.admitted_after-self-inside.result (invariant_of-self c).0
+    ∙ admitted-all {tree = c.self.inside.tree.now} {rows = c.self.inside.readers}
+    {steps = c.fail_next-fits.new.failures.steps.items}
+    {log = c.fail_next-fits.new.failures.log.items} {order = c.push_reserved.new.self.items}
+    {starts = c.push_reserved-2.new.self.items}
+    {up_to = c.admitted_after-self-inside.result} (invariant_of-self c).0
 
 pub returns-clause-top_failed : goal.returns-clause-top_failed
 returns-clause-top_failed c =
     let steps : List Step = c.fail_next-fits.new.failures.steps.items in
     c.has_failed.ensures
     ∙ ap (λ (s : List Step). has_step s c.top.result) c.as_slice.ensures.value
-    ∙ ap is_some (holds_now c.self.inside.tree.now c.self.inside.readers steps c.fail_next-fits.new.failures.log.items
-    c.push_reserved.new.self.items c.push_reserved-2.new.self.items
-    c.admitted_after-self-inside.result (invariant_of-self c).0 c.top.result c.top.ensures.node)
+    ∙ ap is_some (holds_now {tree = c.self.inside.tree.now} {rows = c.self.inside.readers} {steps = steps}
+    {log = c.fail_next-fits.new.failures.log.items}
+    {order = c.push_reserved.new.self.items} {starts = c.push_reserved-2.new.self.items}
+    {up_to = c.admitted_after-self-inside.result} (invariant_of-self c).0 c.top.result c.top.ensures.node)
     ∙ ap (λ (n : ℕ). is_some (step c.self.inside.tree.now c.push_reserved.new.self.items n)) c.top.ensures.top
 
 pub returns-clause-bound : goal.returns-clause-bound

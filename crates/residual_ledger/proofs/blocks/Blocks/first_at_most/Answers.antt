@@ -12,6 +12,6 @@ returns c =
     let blocks : IsFirstAtMost least c.args.most block =
     subst (λ (l : List _). IsFirstAtMost l c.args.most block) c.as_slice-least.ensures.value
     c.first_between-block.ensures in
-    over_blocks counts least c.args.self.now.lowest.items c.args.most block c.first_between.result c.requires blocks
+    over_blocks c.requires blocks
     (subst (λ (place : ℕ). IsFirstBetween counts place (length counts) c.args.most c.first_between.result) from
     c.first_between.ensures)

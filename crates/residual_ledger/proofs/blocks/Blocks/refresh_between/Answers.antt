@@ -19,11 +19,7 @@ loop-block-preserved c =
     get_or_read least block c.index-least.result.now there c.index-least.ensures 0 in
     let near = c.loop-block.invariant.near block there in
     elim c.if-counts-place.branch [
-      | then-counts-place w ↦ rw w.self-is
-          (refreshed-new end counts least lowest block (get_or counts w.lowest_again-place.result 0)
-          w.lowest_again-place.result
-          there w.lowest_again-place.ensures c.loop-block.invariant)
-      | else-counts-place w ↦ rw w.self-is
-          (refreshed-same end counts least lowest block
+      | then-counts-place w ↦ rw w.self-is (refreshed-new there w.lowest_again-place.ensures c.loop-block.invariant)
+      | else-counts-place w ↦ rw w.self-is (refreshed-same
           (omega (arith, value, ap (λ p. get_or counts p 0) place, w.if-counts-place.false)) c.loop-block.invariant)
     ]

@@ -9,8 +9,7 @@ use Rattle.residual_ledger.proofs.holding.Holding.new.Goals as goal
 pub begin_rows-total-requires-clause-small : goal.begin_rows-total-requires-clause-small
 begin_rows-total-requires-clause-small c =
     let cuts = c.args.cuts.now in
-    rw c.as_mut_slice.ensures.value
-    (sizes-le c.args.units weight_limit cuts c.in_ok-ends.ends.items
+    rw c.as_mut_slice.ensures.value (sizes-le weight_limit cuts
     (omega (arith, few_cuts cuts, c.requires.ordered.within)) c.in_ok-ends.ensures)
 
 pub put_sets-requires-clause-first : goal.put_sets-requires-clause-first
@@ -27,13 +26,12 @@ put_sets-requires-clause-first c =
     let starts : HasStarts (λ k. get_or sizes k 0) begins = c.begin_rows-total.ensures.begins in
     let room : length rows ≡ start_of (λ k. get_or sizes k 0) (length sizes) =
     c.as_mut_slice-2.ensures.len ∙ c.in_ok-rows.ensures.len ∙ c.begin_rows-total.ensures.total in
-    subst (λ (e : List ℕ). HoldsFirst cuts 0 e rows) (sym same)
-    (begun c.args.units cuts sizes begins rows has long starts room)
+    subst (λ (e : List ℕ). HoldsFirst cuts 0 e rows) (sym same) (begun cuts begins rows has long starts room)
 
 -- the two vectors as they are read again
-written : (units : ℕ) (cuts : List (List ℕ)) (ends rows ends' rows' : List ℕ) → ends' ≡ ends → rows' ≡ rows
+written : {units : ℕ} (cuts : List (List ℕ)) {ends rows ends' rows' : List ℕ} → ends' ≡ ends → rows' ≡ rows
     → HasRows units cuts ends rows → HasRows units cuts ends' rows'
-written units cuts ends rows ends' rows' same_ends same_rows has = rw (same_ends, same_rows) has
+written cuts same_ends same_rows has = rw (same_ends, same_rows) has
 
 pub returns : goal.returns
 returns c =
@@ -44,5 +42,5 @@ returns c =
     let long_rows : length rows ≡ c.in_ok-rows.rows.len =
     omega (arith, c.put_sets.auto.rows, c.as_mut_slice-2.ensures.len) in
     let all : length ends ≡ c.args.units + 1 = omega (arith, c.in_ok-ends.ensures.all) in
-    written c.args.units c.args.cuts.now ends rows _ _ (take_at ends _ _ long_ends) (take_at rows _ _ long_rows)
-    (all_filled c.args.units c.args.cuts.now ends rows all c.put_sets.ensures)
+    written c.args.cuts.now (take_at ends _ _ long_ends) (take_at rows _ _ long_rows)
+    (all_filled c.args.cuts.now all c.put_sets.ensures)

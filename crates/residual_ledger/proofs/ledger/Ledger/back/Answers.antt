@@ -11,15 +11,13 @@ use Rattle.residual_ledger.proofs.ledger.Ledger.back.Goals as goal
 held : (c : After-row-row) → c.row-row.result.now ≡ holding c.self.inside.cuts c.args.unit
 held c =
     let inside = c.self.inside in
-    c.row-row.ensures ∙ row_is inside.units inside.cuts inside.holding.ends.items inside.holding.rows.items
-    c.args.unit c.self.invariant.rows_of_units c.number.ensures.unit.0
+    c.row-row.ensures ∙ row_is inside.cuts c.args.unit c.self.invariant.rows_of_units c.number.ensures.unit.0
     (omega (arith, ap (λ v. v.units) c.self.view_is))
 
 within : (c : After-row-row) → All (λ place. place < length c.self.inside.counts.items) c.row-row.result.now
 within c =
     let inside = c.self.inside in
-    row_within inside.out inside.cuts inside.counts.items c.args.unit c.row-row.result.now (held c)
-    c.self.invariant.counted
+    row_within inside.out inside.cuts c.args.unit (held c) c.self.invariant.counted
 
 -- each count of the row is one more
 more : (c : After-raise) → IsOneMore c.row-row.result.now c.self.inside.counts.items c.raise.new.counts
@@ -35,7 +33,7 @@ whole c =
 pub raise-requires-clause-rising : goal.raise-requires-clause-rising
 raise-requires-clause-rising c =
     let at = goal.at.raise-requires-clause-rising c in
-    row_rises c.self.inside.cuts c.args.unit c.row-row.result.now (held at.After-row-row)
+    row_rises c.self.inside.cuts c.args.unit (held at.After-row-row)
 
 pub raise-requires-clause-within : goal.raise-requires-clause-within
 raise-requires-clause-within c =
@@ -46,13 +44,13 @@ pub raise-requires-clause-room : goal.raise-requires-clause-room
 raise-requires-clause-room c =
     let at = goal.at.raise-requires-clause-room c in
     let inside = c.self.inside in
-    rw c.as_mut_slice.ensures.value (row_room inside.out inside.cuts inside.counts.items c.args.unit
-    c.row-row.result.now (held at.After-row-row) c.self.invariant.counted c.self.invariant.whole.ordered)
+    rw c.as_mut_slice.ensures.value (row_room inside.out inside.cuts c.args.unit (held at.After-row-row)
+    c.self.invariant.counted c.self.invariant.whole.ordered)
 
 pub refresh-requires-clause-rising : goal.refresh-requires-clause-rising
 refresh-requires-clause-rising c =
     let at = goal.at.refresh-requires-clause-rising c in
-    row_rises c.self.inside.cuts c.args.unit c.row-row.result.now (held at.After-row-row)
+    row_rises c.self.inside.cuts c.args.unit (held at.After-row-row)
 
 pub refresh-requires-clause-within : goal.refresh-requires-clause-within
 refresh-requires-clause-within c =
@@ -64,21 +62,18 @@ pub refresh-requires-clause-least : goal.refresh-requires-clause-least
 refresh-requires-clause-least c =
     let at = goal.at.refresh-requires-clause-least c in
     let inside = c.self.inside in
-    rw (whole at.After-as_slice)
-    (risen c.row-row.result.now inside.counts.items c.raise.new.counts inside.blocks.least.items
-    inside.blocks.lowest.items (more at.After-raise) c.self.invariant.blocks)
+    rw (whole at.After-as_slice) (risen (more at.After-raise) c.self.invariant.blocks)
 
 pub invariant_of-self : goal.invariant_of-self
 invariant_of-self c =
     let at = goal.at.invariant_of-self c in
     let inside = c.self.inside in
     let counts : c.raise.new.counts ≡ residuals (without_unit c.args.unit inside.out) inside.cuts =
-    raised_counts inside.out inside.cuts inside.counts.items c.raise.new.counts c.args.unit c.row-row.result.now
+    raised_counts inside.out inside.cuts c.args.unit
     (held at.After-row-row) c.self.invariant.counted c.self.invariant.whole.ordered (search rules)
     (more at.After-raise) in
-    rw (c.remove.ensures.after)
-    (written inside.units inside.cuts (without_unit c.args.unit inside.out) c.raise.new.counts
-    c.refresh.new.self.least.items c.refresh.new.self.lowest.items inside.holding.ends.items inside.holding.rows.items _
+    rw (c.remove.ensures.after) (written inside.units inside.cuts (without_unit c.args.unit inside.out)
+    c.refresh.new.self.least.items c.refresh.new.self.lowest.items inside.holding.ends.items inside.holding.rows.items
     (take_at c.raise.new.counts _ _ (omega (arith, c.raise.auto.counts, c.as_mut_slice.ensures.len)))
     (record {
       whole = c.self.invariant.whole;

@@ -1,6 +1,5 @@
 use Rattle.std.proofs.Common.{◌≡◌, ◌++◌, ℕ, Bool, List, get_or, true, sym, ◌∙◌, arith}
-use Rattle.residual_ledger.specs.Residual.{cut_at}
-use Rattle.residual_ledger.specs.Tight.{is_tight}
+use Rattle.residual_ledger.specs.{Residual.cut_at, Tight.is_tight}
 use Rattle.residual_ledger.proofs.SearchLemmas.{holding-stopped, holding-found}
 use Rattle.residual_ledger.proofs.ledger.Ledger.first_holding.Goals as goal
 
@@ -8,8 +7,7 @@ pub returns-then-place-before : goal.returns-then-place-before
 returns-then-place-before c =
     let self = c.args.self.now in
     let test : List ℕ → Bool = is_tight (c.args.asked.now ++ self.out) c.args.most in
-    holding-stopped c.holding-place-items.result.now self.cuts c.args.unit c.loop-place.place-index c.args.before test
-    c.holding-place-items.ensures c.loop-place.invariant c.requires.inside (λ _. omega arith)
+    holding-stopped self.cuts c.holding-place-items.ensures c.loop-place.invariant c.requires.inside (λ _. omega arith)
 
 pub returns-then-would_be_tight : goal.returns-then-would_be_tight
 returns-then-would_be_tight c =
@@ -18,12 +16,11 @@ returns-then-would_be_tight c =
     let row = c.holding-place-items.result.now in
     let passes : test (cut_at self.cuts (get_or row c.loop-place.place-index 0)) ≡ true =
     sym c.would_be_tight.ensures ∙ c.if-would_be_tight.true in
-    holding-found row self.cuts c.args.unit c.loop-place.place-index c.args.before test c.holding-place-items.ensures
-    c.loop-place.invariant c.requires.inside (omega arith) passes
+    holding-found self.cuts c.holding-place-items.ensures c.loop-place.invariant c.requires.inside (omega arith) passes
 
 pub returns : goal.returns
 returns c =
     let self = c.args.self.now in
     let test : List ℕ → Bool = is_tight (c.args.asked.now ++ self.out) c.args.most in
-    holding-stopped c.holding-place-items.result.now self.cuts c.args.unit c.loop-place.place-index c.args.before test
+    holding-stopped self.cuts
     c.holding-place-items.ensures c.loop-place.invariant c.requires.inside (λ h. absurd (omega arith))

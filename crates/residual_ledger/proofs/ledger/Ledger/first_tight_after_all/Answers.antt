@@ -10,23 +10,20 @@ loop-unit-init c =
     let cuts = c.args.self.now.cuts in
     let counted : c.as_slice.result.now ≡ residuals out cuts =
     c.as_slice.ensures.value ∙ c.self.invariant.counted ∙ ap (λ v. residuals v.out v.cuts) c.self.view_is in
-    narrowed-first cuts out c.args.asked.now c.as_slice.result.now c.args.most c.first_at_most-first.result counted
-    c.requires.in_service c.first_at_most-first.ensures
+    narrowed-first cuts counted c.requires.in_service c.first_at_most-first.ensures
 
 pub returns-then-first-len : goal.returns-then-first-len
 returns-then-first-len c =
     let cuts = c.args.self.now.cuts in
     let many : length c.self.inside.counts.items ≡ length cuts =
-    as_many c.self.inside.out c.self.inside.cuts c.self.inside.counts.items c.self.invariant.counted
+    as_many c.self.inside.out c.self.inside.cuts c.self.invariant.counted
     ∙ ap (λ v. length v.cuts) c.self.view_is in
-    narrowed-found cuts c.args.self.now.out c.args.asked.now c.args.most c.loop-unit.unit-index c.loop-unit.first
-    (omega arith) (omega (arith, c.len.ensures)) c.loop-unit.invariant
+    narrowed-found cuts (omega arith) (omega (arith, c.len.ensures)) c.loop-unit.invariant
 
 pub returns-else-first-len : goal.returns-else-first-len
 returns-else-first-len c =
     let cuts = c.args.self.now.cuts in
     let many : length c.self.inside.counts.items ≡ length cuts =
-    as_many c.self.inside.out c.self.inside.cuts c.self.inside.counts.items c.self.invariant.counted
+    as_many c.self.inside.out c.self.inside.cuts c.self.invariant.counted
     ∙ ap (λ v. length v.cuts) c.self.view_is in
-    narrowed-none cuts c.args.self.now.out c.args.asked.now c.args.most c.loop-unit.unit-index c.loop-unit.first
-    (omega arith) (omega (arith, c.len.ensures)) c.loop-unit.invariant
+    narrowed-none cuts (omega arith) (omega (arith, c.len.ensures)) c.loop-unit.invariant

@@ -10,4 +10,4 @@ returns c =
     c.self.invariant.counted ∙ ap (λ v. residuals v.out v.cuts) c.self.view_is in
     subst (λ (n : List _). HasLeast n c.as_slice.result.now) counted
     (subst (λ (n : List _). HasLeast inside.counts.items n) (sym c.as_slice.ensures.value)
-    (HasLeast-lowest inside.counts.items inside.blocks.least.items inside.blocks.lowest.items c.self.invariant.blocks))
+    (HasLeast-lowest c.self.invariant.blocks))

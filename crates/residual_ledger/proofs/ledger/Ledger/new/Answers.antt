@@ -1,6 +1,5 @@
 use Rattle.std.proofs.Common.{◌≡◌, [], List, subst, refl}
-use Rattle.residual_ledger.specs.Kept.{HasLowest}
-use Rattle.residual_ledger.specs.Ledger.{IsLedgerFor}
+use Rattle.residual_ledger.specs.{Kept.HasLowest, Ledger.IsLedgerFor}
 use Rattle.residual_ledger.proofs.ledger.Ledger.new.Goals as goal
 
 pub invariant_of-result : goal.invariant_of-result

@@ -1,13 +1,10 @@
 use Rattle.std.proofs.Common.{◌≡◌, ◌<◌, ◌^◌, ◌-◌, ℕ, List, length, filter, slice_get, Some, ap, subst, sym, ◌∙◌, arith}
-use Rattle.unit_sets.specs.CutOrder.{IsOrderedCuts}
-use Rattle.unit_sets.specs.UnitList.{among}
-use Rattle.residual_ledger.specs.Residual.{cut_at}
-use Rattle.residual_ledger.specs.Kept.{residuals}
-use Rattle.residual_ledger.proofs.CutLemmas.{cut_at-is, cut_fits}
-use Rattle.residual_ledger.proofs.LedgerLemmas.{cut_rises}
+use Rattle.unit_sets.specs.{CutOrder.IsOrderedCuts, UnitList.among}
+use Rattle.residual_ledger.specs.{Residual.cut_at, Kept.residuals}
+use Rattle.residual_ledger.proofs.{CutLemmas.cut_at-is, CutLemmas.cut_fits, LedgerLemmas.cut_rises}
+use Rattle.residual_ledger.proofs.{ledger.Ledger.would_be_tight.Goals.After-index-left}
 use Rattle.residual_ledger.proofs.SearchLemmas.{IsLookedAt, left_is, asked-le, tight-counted, not_tight-counted}
 use Rattle.residual_ledger.proofs.SearchLemmas.{leb-not}
-use Rattle.residual_ledger.proofs.ledger.Ledger.would_be_tight.Goals.{After-index-left}
 use Rattle.residual_ledger.proofs.ledger.Ledger.would_be_tight.Goals as goal
 
 pub count_asked-requires : goal.count_asked-requires
@@ -28,7 +25,7 @@ looked_at c =
     let ordered : IsOrderedCuts cuts =
     subst IsOrderedCuts (ap (λ v. v.cuts) c.self.view_is) c.self.invariant.whole.ordered in
     record {
-      counted = left_is out cuts c.self.inside.counts.items c.args.place c.index-left.result.now
+      counted = left_is out cuts c.args.place
           (c.self.invariant.counted ∙ ap (λ v. residuals v.out v.cuts) c.self.view_is) c.requires.there
           c.index-left.ensures;
       rising = cut_rises cuts c.args.place ordered c.requires.there;
@@ -46,19 +43,16 @@ count_is c =
 pub overflow_sub-result : goal.overflow_sub-result
 overflow_sub-result c =
     let at = goal.at.overflow_sub-result c in
-    asked-le c.args.self.now.out c.args.asked.now (cut_at c.args.self.now.cuts c.args.place) c.index-left.result.now
-    c.count_asked.result (looked_at at.After-index-left) (count_is c)
+    asked-le (looked_at at.After-index-left) (count_is c)
 
 pub returns-then-saturating_sub-asked : goal.returns-then-saturating_sub-asked
 returns-then-saturating_sub-asked c =
     let at = goal.at.returns-then-saturating_sub-asked c in
-    tight-counted c.args.self.now.out c.args.asked.now (cut_at c.args.self.now.cuts c.args.place)
-    c.index-left.result.now c.count_asked.result c.args.most (looked_at at.After-index-left) (count_is c)
+    tight-counted c.args.most (looked_at at.After-index-left) (count_is c)
 
 pub returns-else-saturating_sub-asked : goal.returns-else-saturating_sub-asked
 returns-else-saturating_sub-asked c =
     let at = goal.at.returns-else-saturating_sub-asked c in
     let much : length c.args.asked.now < c.index-left.result.now - c.args.most = omega arith in
     leb-not c.saturating_sub.result (length c.args.asked.now) (omega arith)
-    ∙ sym (not_tight-counted c.args.self.now.out c.args.asked.now (cut_at c.args.self.now.cuts c.args.place)
-    c.index-left.result.now c.args.most (looked_at at.After-index-left) much)
+    ∙ sym (not_tight-counted c.args.most (looked_at at.After-index-left) much)

@@ -1,6 +1,5 @@
 use Rattle.std.proofs.Common.{◌≡◌, drop, length}
-use Rattle.tree_check.specs.Classes.{first, uses_of}
-use Rattle.tree_check.specs.SpareTable.{clashes_by, table_after}
+use Rattle.tree_check.specs.{Classes.first, Classes.uses_of, SpareTable.clashes_by, SpareTable.table_after}
 use Rattle.tree_check.proofs.SpareLemmas.{uses_from}
 use Rattle.tree_check.proofs.spares.SpareTable.clash_among.Given as goal
 

@@ -8,12 +8,12 @@ use Rattle.tree_check.proofs.spares.SpareTable.shared.Goals as goal
 pub loop-gate-init : goal.loop-gate-init
 loop-gate-init c = record {
   room = ap length c.requires.fresh ∙ length-replicate (c.args.nodes + 1) Unused;
-  rest = begun c.args.nodes c.args.gates.now c.args.self.now.uses.items c.requires.numbers c.requires.fresh;
+  rest = begun c.args.nodes c.args.gates.now c.requires.numbers c.requires.fresh;
 }
 
 pub returns-in-Some : goal.returns-in-Some
 returns-in-Some c =
-    sym (clash_here c.args.gates.now c.loop-gate.gate-index c.gate-item.result c.loop-gate-test.true c.gate-item.is
+    sym (clash_here c.args.gates.now c.loop-gate.gate-index c.loop-gate-test.true c.gate-item.is
     c.loop-gate.self.uses.items c.in-Some.place (sym c.in-Some.ensures.clash))
     ∙ c.loop-gate.invariant.rest
 
@@ -23,7 +23,7 @@ loop-gate-preserved c =
     record {
       room = c.clash_at.ensures.room ∙ c.loop-gate.invariant.room;
       rest =
-          next_gate c.args.gates.now c.loop-gate.gate-index c.gate-item.result c.loop-gate-test.true c.gate-item.is
-          c.loop-gate.self.uses.items c.clash_at.new.self.uses.items (sym c.clash_at.ensures.clash ∙ none)
+          next_gate c.args.gates.now c.loop-gate.gate-index c.loop-gate-test.true c.gate-item.is
+          c.loop-gate.self.uses.items (sym c.clash_at.ensures.clash ∙ none)
           (c.clash_at.ensures.table none) ∙ c.loop-gate.invariant.rest;
     }

@@ -1,8 +1,6 @@
-use Rattle.std.proofs.Common.{subst, All}
+use Rattle.std.proofs.{Common.subst, Common.All, lemmas.List.take_all, lemmas.List.Elements.All-more}
 use Rattle.unit_sets.specs.Unit.{IsUnit}
 use Rattle.unit_sets.proofs.unit_no.UnitNo.are_units.Goals as goal
-use Rattle.std.proofs.lemmas.List.{take_all}
-use Rattle.std.proofs.lemmas.List.Elements.{All-more}
 
 pub loop-unit-preserved : goal.loop-unit-preserved
 loop-unit-preserved c =

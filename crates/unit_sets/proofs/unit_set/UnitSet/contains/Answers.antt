@@ -7,8 +7,7 @@ use Rattle.unit_sets.proofs.WordSets.{member_by_bit, IsUnitSet-units_of}
 pub returns-clause-value : goal.returns-clause-value
 returns-clause-value c =
     c.bit.ensures
-    ∙ member_by_bit c.self.inside.words.items c.deref.result.now c.args.self.now c.number.result c.args.unit
-    c.deref.ensures.value c.number.ensures.value c.number.ensures.unit c.self.view_is
+    ∙ member_by_bit c.deref.ensures.value c.number.ensures.value c.number.ensures.unit c.self.view_is
 
 pub returns-clause-set : goal.returns-clause-set
-returns-clause-set c = subst IsUnitSet c.self.view_is (IsUnitSet-units_of c.self.inside.words.items c.self.invariant)
+returns-clause-set c = subst IsUnitSet c.self.view_is (IsUnitSet-units_of c.self.invariant)

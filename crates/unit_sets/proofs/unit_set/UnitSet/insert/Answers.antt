@@ -8,19 +8,18 @@ pub invariant_of-self : goal.invariant_of-self
 invariant_of-self c =
     let whole : length c.set_bit.new.words ≡ c.self.inside.words.len = c.set_bit.auto.words ∙ c.deref_mut.ensures.len in
     subst HoldsUnits (sym (with_items_is c.self.inside.words c.set_bit.new.words whole))
-    (HoldsUnits-with c.self.inside.words.items c.deref_mut.result.now c.set_bit.new.words c.number-2.result c.args.unit
+    (HoldsUnits-with c.set_bit.new.words
     c.deref_mut.ensures.value c.number-2.ensures.value c.number-2.ensures.unit c.set_bit.auto.words
     c.set_bit.ensures c.self.invariant)
 
 pub returns-clause-changed : goal.returns-clause-changed
 returns-clause-changed c =
-    ap not (c.bit-fresh.ensures ∙ member_by_bit c.self.inside.words.items c.deref.result.now c.args.self.now
-    c.number.result c.args.unit c.deref.ensures.value c.number.ensures.value c.number.ensures.unit c.self.view_is)
+    ap not (c.bit-fresh.ensures ∙ member_by_bit c.deref.ensures.value c.number.ensures.value c.number.ensures.unit
+    c.self.view_is)
 
 pub returns-clause-after : goal.returns-clause-after
 returns-clause-after c =
     let whole : length c.set_bit.new.words ≡ c.self.inside.words.len = c.set_bit.auto.words ∙ c.deref_mut.ensures.len in
     ap units_of (with_items_is c.self.inside.words c.set_bit.new.words whole)
-    ∙ units_of-inserted c.self.inside.words.items c.deref_mut.result.now c.set_bit.new.words c.args.self.now
-    c.number-2.result c.args.unit c.deref_mut.ensures.value c.number-2.ensures.value c.number-2.ensures.unit
+    ∙ units_of-inserted c.set_bit.new.words c.deref_mut.ensures.value c.number-2.ensures.value c.number-2.ensures.unit
     c.set_bit.ensures c.self.view_is

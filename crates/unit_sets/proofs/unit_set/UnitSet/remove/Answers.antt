@@ -9,19 +9,18 @@ invariant_of-self c =
     let whole : length c.clear_bit.new.words ≡ c.self.inside.words.len =
     c.clear_bit.auto.words ∙ c.deref_mut.ensures.len in
     subst HoldsUnits (sym (with_items_is c.self.inside.words c.clear_bit.new.words whole))
-    (HoldsUnits-without c.self.inside.words.items c.deref_mut.result.now c.clear_bit.new.words c.number-2.result
+    (HoldsUnits-without c.clear_bit.new.words c.number-2.result
     c.deref_mut.ensures.value c.clear_bit.auto.words c.clear_bit.ensures c.self.invariant)
 
 pub returns-clause-changed : goal.returns-clause-changed
 returns-clause-changed c =
-    c.bit-there.ensures ∙ member_by_bit c.self.inside.words.items c.deref.result.now c.args.self.now c.number.result
-    c.args.unit c.deref.ensures.value c.number.ensures.value c.number.ensures.unit c.self.view_is
+    c.bit-there.ensures ∙ member_by_bit c.deref.ensures.value c.number.ensures.value c.number.ensures.unit
+    c.self.view_is
 
 pub returns-clause-after : goal.returns-clause-after
 returns-clause-after c =
     let whole : length c.clear_bit.new.words ≡ c.self.inside.words.len =
     c.clear_bit.auto.words ∙ c.deref_mut.ensures.len in
     ap units_of (with_items_is c.self.inside.words c.clear_bit.new.words whole)
-    ∙ units_of-removed c.self.inside.words.items c.deref_mut.result.now c.clear_bit.new.words c.args.self.now
-    c.number-2.result c.args.unit c.deref_mut.ensures.value c.number-2.ensures.value c.clear_bit.ensures
+    ∙ units_of-removed c.clear_bit.new.words c.deref_mut.ensures.value c.number-2.ensures.value c.clear_bit.ensures
     c.self.view_is

@@ -7,7 +7,6 @@ pub returns : goal.returns
 returns c known =
     let nodes : c.units.result + c.gates.result ≡ node_count c.args.task.tree.now =
     (let u = c.units.ensures.count in let g = c.gates.ensures.count in omega (arith, u, g)) in
-    built_none known c.args.task c.units.ensures.kept
-    (record { references = c.in_ok-vec.field-0; made = c.in_ok-vec-2.field-0 })
+    built_none c.units.ensures.kept
     (c.in_ok-vec.ensures.items_if_clones_equal (λ y h. h) ∙ ap (λ n. replicate n 0) nodes)
     (c.in_ok-vec-2.ensures.items_if_clones_equal (λ y h. h))

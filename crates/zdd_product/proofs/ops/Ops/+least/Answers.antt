@@ -1,39 +1,33 @@
 use Rattle.std.proofs.Common.{ℕ, ◌<◌, inl, arith}
 use Rattle.std.proofs.lemmas.Result.{err_from_is_err_and}
-use Rattle.zdd_families.specs.Minimal.{IsMinimal}
 use Rattle.zdd_families.specs.Map.{family}
 use Rattle.zdd_shared_table.specs.Seats.{map_of}
 use Rattle.kept_answers.specs.declared.answers.Operation.TheVariants.{Minimal}
 use Rattle.zdd_product.specs.Due.{IsMadeByMinimal}
-use Rattle.zdd_product.proofs.Entries.{told_made}
-use Rattle.zdd_product.proofs.After.{Gave-known}
+use Rattle.zdd_product.proofs.{Entries.told_made, After.Gave-known}
+use Rattle.zdd_product.proofs.{ops.Ops.+least.Goals.least_halves-After-split_node-level}
 use Rattle.zdd_product.proofs.MinimalSteps.{minimal_ends, IsParted, parted, minimal_lo_next, minimal_lo_full}
 use Rattle.zdd_product.proofs.MinimalSteps.{minimal_hi_next, minimal_hi_full, minimal_lo_known, minimal_rest_full}
 use Rattle.zdd_product.proofs.MinimalSteps.{minimal_lo_knows, minimal_lo_above, minimal_hi_above, minimal_made}
 use Rattle.zdd_product.proofs.ops.Ops.+least.Goals as goal
-use Rattle.zdd_product.proofs.ops.Ops.+least.Goals.{least_halves-After-split_node-level}
 
 pub least-returns-then-number-lt2 : goal.least-returns-then-number-lt2
 least-returns-then-number-lt2 t c =
     let known = map_of c.args.self.now in
     let small : c.args.a < 2 = let e = c.number.ensures.value in let h = c.if-number-lt2.true in omega (arith, e, h) in
     Gave-known (IsMadeByMinimal (family known c.args.a)) c.args.self.now c.is_sound.ensures.sound
-    (IsMinimal (family known c.args.a)) c.args.a
     (minimal_ends known c.args.a small)
 
 pub least-returns-in-Some : goal.least-returns-in-Some
 least-returns-in-Some t c =
     let known = map_of c.args.self.now in
     Gave-known (IsMadeByMinimal (family known c.args.a)) c.args.self.now c.is_sound.ensures.sound
-    (IsMinimal (family known c.args.a)) c.in-Some.answer
     (c.in-Some.ensures.answer, c.in-Some.ensures.is)
 
 pub least-remember-requires : goal.least-remember-requires
 least-remember-requires t c =
     let known = map_of c.args.self.now in
-    told_made Minimal (IsMadeByMinimal (family known c.args.a)) c.args.self.now c.least_halves.new.self c.args.a 0
-    c.in_ok-made.made
-    c.is_sound.ensures.sound c.requires (inl (omega arith)) c.in_ok-made.ensures
+    told_made Minimal c.args.a 0 c.is_sound.ensures.sound c.requires (inl (omega arith)) c.in_ok-made.ensures
 
 -- the reference was split
 split : (t : ℕ) (c : least_halves-After-split_node-level t) → IsParted c.split_node-level.new.self c.args.self.now

@@ -1,43 +1,35 @@
 use Rattle.std.proofs.Common.{ℕ, arith, inr, refl}
 use Rattle.std.proofs.lemmas.Result.{err_from_is_err_and}
-use Rattle.zdd_families.specs.Product.{IsProduct}
 use Rattle.zdd_families.specs.Map.{family}
 use Rattle.zdd_shared_table.specs.Seats.{map_of}
 use Rattle.kept_answers.specs.declared.answers.Operation.TheVariants.{Product}
 use Rattle.zdd_product.specs.Due.{IsMadeByProduct}
-use Rattle.zdd_product.proofs.Entries.{told_made}
-use Rattle.zdd_product.proofs.After.{Gave-known}
-use Rattle.zdd_product.proofs.ProductParts.{product_ends}
-use Rattle.zdd_product.proofs.Halving.{fewer_of_halves}
+use Rattle.zdd_product.proofs.{Entries.told_made, After.Gave-known, ProductParts.product_ends, Halving.fewer_of_halves}
+use Rattle.zdd_product.proofs.{ops.Ops.+multiply.Goals.multiply_halves-After-halves}
 use Rattle.zdd_product.proofs.Halved.{Halved, AreInner, inner_halved, los_next}
 use Rattle.zdd_product.proofs.ProductSteps.{both_full, first_next, first_full, both_known, some_full}
 use Rattle.zdd_product.proofs.ProductSteps.{second_next, second_full, some_known, product_with, product_lo_full}
 use Rattle.zdd_product.proofs.ProductSteps.{product_with_next, product_hi_full, product_lo_known, product_lo_above}
 use Rattle.zdd_product.proofs.ProductSteps.{product_hi_above, product_made}
 use Rattle.zdd_product.proofs.ops.Ops.+multiply.Goals as goal
-use Rattle.zdd_product.proofs.ops.Ops.+multiply.Goals.{multiply_halves-After-halves}
 
 pub multiply-returns-in-Some : goal.multiply-returns-in-Some
 multiply-returns-in-Some t c =
     let known = map_of c.args.self.now in
-    Gave-known (IsMadeByProduct (family known c.args.a) (family known c.args.b)) c.args.self.now
-    c.requires.sound (IsProduct (family known c.args.a) (family known c.args.b)) c.in-Some.end
+    Gave-known (IsMadeByProduct (family known c.args.a) (family known c.args.b)) c.args.self.now c.requires.sound
     (product_ends known c.args.a c.args.b c.in-Some.end c.requires.sound.closed c.requires.first
     c.requires.second c.in-Some.ensures)
 
 pub multiply-returns-in-Some-recall : goal.multiply-returns-in-Some-recall
 multiply-returns-in-Some-recall t c =
     let known = map_of c.args.self.now in
-    Gave-known (IsMadeByProduct (family known c.args.a) (family known c.args.b)) c.args.self.now
-    c.requires.sound (IsProduct (family known c.args.a) (family known c.args.b)) c.in-Some-recall.answer
+    Gave-known (IsMadeByProduct (family known c.args.a) (family known c.args.b)) c.args.self.now c.requires.sound
     (c.in-Some-recall.ensures.answer, c.in-Some-recall.ensures.is)
 
 pub multiply-remember-requires : goal.multiply-remember-requires
 multiply-remember-requires t c =
     let known = map_of c.args.self.now in
-    told_made Product (IsMadeByProduct (family known c.args.a) (family known c.args.b)) c.args.self.now
-    c.multiply_halves.new.self c.args.a c.args.b c.in_ok-made.made
-    c.requires.sound c.requires.first c.requires.second c.in_ok-made.ensures
+    told_made Product c.args.a c.args.b c.requires.sound c.requires.first c.requires.second c.in_ok-made.ensures
 
 -- both references were cut
 halved : (t : ℕ) (c : multiply_halves-After-halves t) → Halved AreInner c.halves.new.self c.args.self.now c.args.a

@@ -1,42 +1,34 @@
 use Rattle.std.proofs.Common.{ℕ, ◌≢◌, sym, ◌∙◌, subst, inl, arith}
 use Rattle.std.proofs.lemmas.Result.{err_from_is_err_and}
-use Rattle.zdd_families.specs.Without.{IsWithout}
-use Rattle.zdd_families.specs.Map.{family}
+use Rattle.zdd_families.specs.{Without.IsWithout, Map.family}
 use Rattle.zdd_shared_table.specs.Seats.{Seated, map_of}
 use Rattle.kept_answers.specs.declared.answers.Operation.TheVariants.{Without}
-use Rattle.zdd_product.specs.Due.{IsMadeByWithout}
-use Rattle.zdd_product.specs.Seats.{Gave}
-use Rattle.zdd_product.proofs.Entries.{told_made}
-use Rattle.zdd_product.proofs.After.{Gave-known}
-use Rattle.zdd_product.proofs.WithoutParts.{without_ends}
+use Rattle.zdd_product.specs.{Due.IsMadeByWithout, Seats.Gave}
+use Rattle.zdd_product.proofs.{Entries.told_made, After.Gave-known, WithoutParts.without_ends}
+use Rattle.zdd_product.proofs.{ops.Ops.+strip.Goals.strip_halves-After-halves}
 use Rattle.zdd_product.proofs.Halved.{Halved, AreInner, inner_halved, los_next, his_next}
 use Rattle.zdd_product.proofs.WithoutSteps.{without_lo_full, without_lo_on, without_hi_full, without_rest_next}
 use Rattle.zdd_product.proofs.WithoutSteps.{without_rest_full, without_lo_knows, without_lo_above, without_hi_above}
 use Rattle.zdd_product.proofs.WithoutSteps.{without_made}
 use Rattle.zdd_product.proofs.ops.Ops.+strip.Goals as goal
-use Rattle.zdd_product.proofs.ops.Ops.+strip.Goals.{strip_halves-After-halves}
 
 pub strip-returns-in-Some : goal.strip-returns-in-Some
 strip-returns-in-Some t c =
     let known = map_of c.args.self.now in
-    Gave-known (IsMadeByWithout (family known c.args.a) (family known c.args.b)) c.args.self.now
-    c.requires.sound (IsWithout (family known c.args.a) (family known c.args.b)) c.in-Some.end
+    Gave-known (IsMadeByWithout (family known c.args.a) (family known c.args.b)) c.args.self.now c.requires.sound
     (without_ends known c.args.a c.args.b c.in-Some.end c.requires.sound.closed c.requires.first
     c.in-Some.ensures)
 
 pub strip-returns-in-Some-recall : goal.strip-returns-in-Some-recall
 strip-returns-in-Some-recall t c =
     let known = map_of c.args.self.now in
-    Gave-known (IsMadeByWithout (family known c.args.a) (family known c.args.b)) c.args.self.now
-    c.requires.sound (IsWithout (family known c.args.a) (family known c.args.b)) c.in-Some-recall.answer
+    Gave-known (IsMadeByWithout (family known c.args.a) (family known c.args.b)) c.args.self.now c.requires.sound
     (c.in-Some-recall.ensures.answer, c.in-Some-recall.ensures.is)
 
 pub strip-remember-requires : goal.strip-remember-requires
 strip-remember-requires t c =
     let known = map_of c.args.self.now in
-    told_made Without (IsMadeByWithout (family known c.args.a) (family known c.args.b)) c.args.self.now
-    c.strip_halves.new.self c.args.a c.args.b c.in_ok-made.made
-    c.requires.sound c.requires.first c.requires.second c.in_ok-made.ensures
+    told_made Without c.args.a c.args.b c.requires.sound c.requires.first c.requires.second c.in_ok-made.ensures
 
 -- both references were cut
 halved : (t : ℕ) (c : strip_halves-After-halves t) → Halved AreInner c.halves.new.self c.args.self.now c.args.a
@@ -98,7 +90,7 @@ strip-returns-then-number-eq1 t c =
     let is = IsWithout (family known c.args.a) (family known c.args.b) in
     let due = IsMadeByWithout (family known c.args.a) (family known c.args.b) in
     subst (λ (q : Seated). Gave is due c.args.self.now q c.strip_unit.result) (sym c.strip_unit.ensures.seat)
-    (Gave-known due c.args.self.now c.requires.sound is c.strip_unit.result c.strip_unit.ensures.known)
+    (Gave-known due c.args.self.now c.requires.sound {is = is} {r = c.strip_unit.result} c.strip_unit.ensures.known)
 
 pub strip_halves-halves-requires-clause-some : goal.strip_halves-halves-requires-clause-some
 strip_halves-halves-requires-clause-some t c = inl c.requires.inner.0

@@ -1,28 +1,23 @@
 use Rattle.std.proofs.Common.{ℕ, ◌≢◌, ◌⊎◌, ◌≤◌, arith}
 use Rattle.std.proofs.lemmas.Result.{err_from_is_err_and}
-use Rattle.zdd_families.specs.Due.{GoesOn}
-use Rattle.zdd_families.specs.Union.{IsUnion}
-use Rattle.zdd_families.specs.Map.{family}
+use Rattle.zdd_families.specs.{Due.GoesOn, Map.family}
 use Rattle.zdd_shared_table.specs.Seats.{map_of}
 use Rattle.kept_answers.specs.declared.answers.Operation.TheVariants.{Union}
 use Rattle.zdd_product.specs.Due.{IsMadeByUnion}
-use Rattle.zdd_product.proofs.Entries.{told_made}
-use Rattle.zdd_product.proofs.After.{Gave-known}
-use Rattle.zdd_product.proofs.UnionParts.{union_ends}
+use Rattle.zdd_product.proofs.{Entries.told_made, After.Gave-known, UnionParts.union_ends}
+use Rattle.zdd_product.proofs.{ops.Ops.+unite.Goals.unite_halves-After-halves-level}
 use Rattle.zdd_product.proofs.Halved.{Halved, los_next, his_next}
 use Rattle.zdd_product.proofs.UnionSteps.{union_halved, union_lo_full, union_lo_on, union_hi_full, union_lo_known}
 use Rattle.zdd_product.proofs.UnionSteps.{union_lo_above, union_hi_above, union_made}
 use Rattle.zdd_product.proofs.ops.Ops.+unite.Goals as goal
-use Rattle.zdd_product.proofs.ops.Ops.+unite.Goals.{unite_halves-After-halves-level}
 
-inner_one : (a b : ℕ) → a ≢ 0 → b ≢ 0 → a ≢ b → (2 ≤ a) ⊎ (2 ≤ b)
-inner_one a b some some' differ = grind arith
+inner_one : {a b : ℕ} → a ≢ 0 → b ≢ 0 → a ≢ b → (2 ≤ a) ⊎ (2 ≤ b)
+inner_one some some' differ = grind arith
 
 pub unite-returns-in-Some : goal.unite-returns-in-Some
 unite-returns-in-Some t c =
     let known = map_of c.args.self.now in
     Gave-known (IsMadeByUnion (family known c.args.a) (family known c.args.b)) c.args.self.now c.requires.sound
-    (IsUnion (family known c.args.a) (family known c.args.b)) c.in-Some.end
     (union_ends known c.args.a c.args.b c.in-Some.end c.requires.sound.closed c.requires.first
     c.requires.second c.in-Some.ensures)
 
@@ -30,15 +25,12 @@ pub unite-returns-in-Some-recall : goal.unite-returns-in-Some-recall
 unite-returns-in-Some-recall t c =
     let known = map_of c.args.self.now in
     Gave-known (IsMadeByUnion (family known c.args.a) (family known c.args.b)) c.args.self.now c.requires.sound
-    (IsUnion (family known c.args.a) (family known c.args.b)) c.in-Some-recall.answer
     (c.in-Some-recall.ensures.answer, c.in-Some-recall.ensures.is)
 
 pub unite-remember-requires : goal.unite-remember-requires
 unite-remember-requires t c =
     let known = map_of c.args.self.now in
-    told_made Union (IsMadeByUnion (family known c.args.a) (family known c.args.b)) c.args.self.now
-    c.unite_halves.new.self c.args.a c.args.b c.in_ok-made.made
-    c.requires.sound c.requires.first c.requires.second c.in_ok-made.ensures
+    told_made Union c.args.a c.args.b c.requires.sound c.requires.first c.requires.second c.in_ok-made.ensures
 
 -- both references were cut
 halved : (t : ℕ) (c : unite_halves-After-halves-level t) → Halved GoesOn c.halves-level.new.self c.args.self.now
@@ -83,7 +75,7 @@ unite_halves-returns t c =
 
 pub unite_halves-halves-level-requires-clause-some : goal.unite_halves-halves-level-requires-clause-some
 unite_halves-halves-level-requires-clause-some t c =
-    inner_one c.args.a c.args.b c.requires.goes_on.0 c.requires.goes_on.1 c.requires.goes_on.2
+    inner_one c.requires.goes_on.0 c.requires.goes_on.1 c.requires.goes_on.2
 
 pub unite_halves-unite-requires : goal.unite_halves-unite-requires
 unite_halves-unite-requires t c =

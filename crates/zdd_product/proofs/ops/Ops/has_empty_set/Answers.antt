@@ -17,7 +17,7 @@ loop-self-preserved c =
       knows = subst (λ (q : Seated). Knows (map_of q) split.half.lo) same cut.half.knows_lo;
       empty =
           c.loop-self.invariant.empty
-          ∙ empty_in_lo split.level (family known lowest) (family known split.half.lo) (family known split.half.hi)
+          ∙ empty_in_lo
           (subst (λ (q : Seated). IsHalved split.level (family (map_of q) lowest) (family (map_of q) split.half.lo)
           (family (map_of q) split.half.hi)) same cut.half.halved);
     }

@@ -1,7 +1,6 @@
 use Rattle.std.proofs.Common.{ℕ, ◌≡◌, sym, ◌∙◌}
 use Rattle.zdd_words.specs.Word.{packed}
-use Rattle.zdd_families.specs.Family.{branch}
-use Rattle.zdd_families.specs.Map.{Knows, family}
+use Rattle.zdd_families.specs.{Family.branch, Map.Knows, Map.family}
 use Rattle.zdd_shared_table.specs.Seats.{map_of}
 use Rattle.zdd_product.specs.Seats.{IsBranch, word_family}
 use Rattle.zdd_product.proofs.After.{Gave-known, lo_alone, stays, node_made, word_family-packed}
@@ -12,8 +11,7 @@ returns-then-number-eq0 c =
     let known = map_of c.args.self.now in
     let made = IsBranch c.args.level (family known c.args.lo) (family known c.args.hi) in
     let none : c.args.hi ≡ 0 = sym c.number-2.ensures.value ∙ c.if-number-eq0.true in
-    Gave-known made c.args.self.now c.requires.sound made c.args.lo
-    (c.requires.knows_lo, lo_alone known c.args.level c.args.lo c.args.hi none)
+    Gave-known made c.args.self.now c.requires.sound (c.requires.knows_lo, lo_alone known c.args.level c.args.lo none)
 
 pub returns : goal.returns
 returns c =
@@ -26,7 +24,6 @@ returns c =
     ≡ branch c.args.level (family old c.args.lo) (family old c.args.hi) =
     word_family-packed new c.args.level c.args.lo c.args.hi c.number.ensures.small c.number-2.ensures.small
     ∙ (λ i. branch c.args.level (at c.args.lo c.requires.knows_lo i) (at c.args.hi c.requires.knows_hi i)) in
-    node_made c.args.self.now c.node.new.self (branch c.args.level (family old c.args.lo) (family old c.args.hi))
-    (packed c.args.level c.args.lo c.args.hi)
+    node_made c.args.self.now c.node.new.self (packed c.args.level c.args.lo c.args.hi)
     c.node.ensures.store c.node.ensures.share c.node.ensures.keeps c.node.ensures.sound packed_is c.node.result
     c.node.ensures.family c.node.ensures.fills c.node.ensures.fulls c.node.ensures.missed

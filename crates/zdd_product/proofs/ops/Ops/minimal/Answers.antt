@@ -1,6 +1,4 @@
-use Rattle.zdd_families.specs.Due.{IsDueToMinimal}
-use Rattle.zdd_families.specs.Minimal.{IsMinimal}
-use Rattle.zdd_families.specs.Map.{family}
+use Rattle.zdd_families.specs.{Due.IsDueToMinimal, Minimal.IsMinimal, Map.family}
 use Rattle.zdd_shared_table.specs.Seats.{map_of}
 use Rattle.zdd_product.specs.Due.{IsMadeByMinimal}
 use Rattle.zdd_product.proofs.After.{gave_of, full_of}

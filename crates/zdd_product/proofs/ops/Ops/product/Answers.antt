@@ -1,6 +1,4 @@
-use Rattle.zdd_families.specs.Due.{IsDueToProduct}
-use Rattle.zdd_families.specs.Product.{IsProduct}
-use Rattle.zdd_families.specs.Map.{family}
+use Rattle.zdd_families.specs.{Due.IsDueToProduct, Product.IsProduct, Map.family}
 use Rattle.zdd_shared_table.specs.Seats.{map_of}
 use Rattle.zdd_product.specs.Due.{IsMadeByProduct}
 use Rattle.zdd_product.proofs.After.{gave_of, full_of}

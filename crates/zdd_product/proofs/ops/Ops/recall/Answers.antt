@@ -1,6 +1,4 @@
-use Rattle.std.proofs.Common.{ap, subst}
-use Rattle.std.proofs.lemmas.List.Elements.{All-contains}
-use Rattle.std.proofs.lemmas.Option.{IfSome_then}
+use Rattle.std.proofs.{Common.ap, Common.subst, lemmas.List.Elements.All-contains, lemmas.Option.IfSome_then}
 use Rattle.zdd_shared_table.specs.Seats.{map_of}
 use Rattle.zdd_product.specs.Told.{IsTold, Tells}
 use Rattle.zdd_product.proofs.ops.Ops.recall.Goals as goal

@@ -5,10 +5,10 @@ use Rattle.zdd_product.proofs.ops.Ops.strip_unit.Goals as goal
 
 pub returns-then-has_empty_set-clause-known : goal.returns-then-has_empty_set-clause-known
 returns-then-has_empty_set-clause-known c =
-    unit_empty (map_of c.args.self.now) c.args.a c.args.b 0 c.requires.unit refl
+    unit_empty (map_of c.args.self.now) c.args.b 0 c.requires.unit refl
     (sym c.has_empty_set.ensures.empty ∙ c.if-has_empty_set.true)
 
 pub returns-else-has_empty_set-clause-known : goal.returns-else-has_empty_set-clause-known
 returns-else-has_empty_set-clause-known c =
-    unit_stays (map_of c.args.self.now) c.args.a c.args.b c.args.a c.requires.unit c.requires.unit
+    unit_stays (map_of c.args.self.now) c.args.b c.requires.unit c.requires.unit
     (sym c.has_empty_set.ensures.empty ∙ c.if-has_empty_set.false)

@@ -1,6 +1,4 @@
-use Rattle.zdd_families.specs.Due.{IsDueToUnion}
-use Rattle.zdd_families.specs.Union.{IsUnion}
-use Rattle.zdd_families.specs.Map.{family}
+use Rattle.zdd_families.specs.{Due.IsDueToUnion, Union.IsUnion, Map.family}
 use Rattle.zdd_shared_table.specs.Seats.{map_of}
 use Rattle.zdd_product.specs.Due.{IsMadeByUnion}
 use Rattle.zdd_product.proofs.After.{gave_of, full_of}

@@ -13,8 +13,7 @@ loop-i-preserved c =
     let done = c.in_ok-vote.ensures in
     record {
       on =
-          votes_on start c.loop-i.self c.vote.new.self list c.args.k c.requires.can.sound c.requires.can.knows inv.on
-          done.0;
+          votes_on c.vote.new.self list c.args.k c.requires.can.sound c.requires.can.knows inv.on done.0;
       knows =
           known_stay c.loop-i.self c.vote.new.self list inv.on.went.sound done.0.went.sound done.0.went.keeps inv.knows;
       space = omega arith;
@@ -27,7 +26,7 @@ returns-in_err-vote c =
     let list = c.args.list.now in
     let inv = c.loop-i.invariant in
     let p = err_from_is_err_and c.from_residual.result c.from_residual.ensures.1 in
-    rw p.1 (votes_full start c.loop-i.self c.vote.new.self list c.args.k c.requires.can.sound c.requires.can.knows
+    rw p.1 (votes_full c.vote.new.self list c.args.k c.requires.can.sound c.requires.can.knows
     inv.on c.in_err-vote.ensures)
 
 pub returns : goal.returns

@@ -1,9 +1,7 @@
 use Rattle.std.proofs.Common.{All, ◌≤◌, length}
-use Rattle.zdd_families.specs.Due.{IsDueToVotes}
-use Rattle.zdd_families.specs.Map.{Knows}
+use Rattle.zdd_families.specs.{Due.IsDueToVotes, Map.Knows}
 use Rattle.zdd_shared_table.specs.Seats.{map_of}
-use Rattle.zdd_product.specs.Seats.{WentOn}
-use Rattle.zdd_product.specs.Voting.{families, HoldsVotes}
+use Rattle.zdd_product.specs.{Seats.WentOn, Voting.families, Voting.HoldsVotes}
 use Rattle.zdd_product.proofs.ops.Ops.vote_all.Given as goal
 
 abbrev pub invariant-loop-i : goal.invariant-loop-i

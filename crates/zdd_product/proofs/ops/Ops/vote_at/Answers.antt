@@ -1,16 +1,15 @@
 use Rattle.std.proofs.Common.{◌≡◌, ℕ, get_or, refl, arith}
-use Rattle.std.proofs.lemmas.List.{get_or_read}
-use Rattle.std.proofs.lemmas.Result.{err_from_is_err_and}
+use Rattle.std.proofs.{lemmas.List.get_or_read, lemmas.Result.err_from_is_err_and}
 use Rattle.zdd_product.proofs.VoteSteps.{IsVotingAt, vote_product_full, vote_same_known, vote_union_full, vote_on}
 use Rattle.zdd_product.proofs.VoteSteps.{vote_held}
 use Rattle.zdd_product.proofs.ops.Ops.vote_at.Goals as goal
 use Rattle.zdd_product.proofs.ops.Ops.vote_at.Goals.{After-multiply, After-index-room-place}
 
 -- what is known once the votes one fewer and the member were read
-turn : (c : After-multiply) (same : ℕ) → same ≡ get_or c.args.room.now c.args.place 0
+turn : (c : After-multiply) {same : ℕ} → same ≡ get_or c.args.room.now c.args.place 0
     → IsVotingAt c.args.self.now c.args.list.now c.args.room.now c.args.k c.args.i c.args.place
     c.fewer_votes-fewer.result c.index-list-i.result same
-turn c same same_is = record {
+turn c same_is = record {
   sound = c.requires.can.sound;
   knows = c.requires.can.knows;
   within = c.requires.within;
@@ -31,14 +30,14 @@ same_read c =
 
 pub returns-in_err-more : goal.returns-in_err-more
 returns-in_err-more c =
-    let at = turn (goal.at.returns-in_err-more c).After-multiply _ refl in
+    let at = turn (goal.at.returns-in_err-more c).After-multiply refl in
     let p = err_from_is_err_and c.from_residual.result c.from_residual.ensures.1 in
     rw p.1 (vote_product_full at c.in_err-more.ensures)
 
 pub unite-requires : goal.unite-requires
 unite-requires c =
     let to = goal.at.unite-requires c in
-    let at = turn to.After-multiply _ (same_read to.After-index-room-place) in
+    let at = turn to.After-multiply (same_read to.After-index-room-place) in
     record {
       sound = c.in_ok-more.ensures.on.went.sound;
       first = vote_same_known at c.in_ok-more.ensures;
@@ -48,12 +47,12 @@ unite-requires c =
 pub returns-in_err-made : goal.returns-in_err-made
 returns-in_err-made c =
     let to = goal.at.returns-in_err-made c in
-    let at = turn to.After-multiply _ (same_read to.After-index-room-place) in
+    let at = turn to.After-multiply (same_read to.After-index-room-place) in
     let p = err_from_is_err_and c.from_residual-in_err-made.result c.from_residual-in_err-made.ensures.1 in
     rw p.1 (vote_union_full at c.in_ok-more.ensures c.in_err-made.ensures)
 
 pub returns : goal.returns
 returns c =
     let to = goal.at.returns c in
-    let at = turn to.After-multiply _ (same_read to.After-index-room-place) in
+    let at = turn to.After-multiply (same_read to.After-index-room-place) in
     (vote_on at c.in_ok-more.ensures c.in_ok-made.ensures, vote_held at c.in_ok-more.ensures c.in_ok-made.ensures)

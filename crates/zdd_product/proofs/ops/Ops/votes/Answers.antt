@@ -1,13 +1,9 @@
 use Rattle.std.proofs.Common.{◌≡◌, suc, ◌-◌, ◌≤◌, [], get_or, take, length, sym, ◌∙◌, ap, subst, inl, arith}
-use Rattle.std.proofs.Math.Seq.{take-length}
-use Rattle.std.proofs.lemmas.List.{get_or_read, length-map}
-use Rattle.zdd_families.specs.Map.{Knows, family}
-use Rattle.zdd_families.proofs.MapLemmas.{family-empty}
-use Rattle.zdd_families.specs.Votes.{IsVotes}
-use Rattle.zdd_families.proofs.VotesLemmas.{no_more_votes}
+use Rattle.std.proofs.{Math.Seq.take-length, lemmas.List.get_or_read, lemmas.List.length-map}
+use Rattle.zdd_families.specs.{Map.Knows, Map.family, Votes.IsVotes}
+use Rattle.zdd_families.proofs.{MapLemmas.family-empty, VotesLemmas.no_more_votes}
 use Rattle.zdd_shared_table.specs.Seats.{map_of}
-use Rattle.zdd_product.specs.Seats.{KnowsOne}
-use Rattle.zdd_product.specs.Voting.{families}
+use Rattle.zdd_product.specs.{Seats.KnowsOne, Voting.families}
 use Rattle.zdd_product.proofs.VoteSteps.{families_stay}
 use Rattle.zdd_product.proofs.ops.Ops.votes.Goals as goal
 

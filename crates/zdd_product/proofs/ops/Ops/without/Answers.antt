@@ -1,6 +1,4 @@
-use Rattle.zdd_families.specs.Due.{IsDueToWithout}
-use Rattle.zdd_families.specs.Without.{IsWithout}
-use Rattle.zdd_families.specs.Map.{family}
+use Rattle.zdd_families.specs.{Due.IsDueToWithout, Without.IsWithout, Map.family}
 use Rattle.zdd_shared_table.specs.Seats.{map_of}
 use Rattle.zdd_product.specs.Due.{IsMadeByWithout}
 use Rattle.zdd_product.proofs.After.{gave_of, full_of}

@@ -2,12 +2,10 @@ use Rattle.std.proofs.Common.{◌≡◌, ◌<◌, ◌^◌, ◌++◌, sym, ◌∙
 use Rattle.std.proofs.lemmas.List.Elements.{Contains-append_left, Contains-append_right}
 use Rattle.std.proofs.lemmas.Nat.{pow_pos}
 use Rattle.zdd_families.specs.Map.{Grown}
-use Rattle.zdd_shared_table.specs.Known.{find}
-use Rattle.zdd_shared_table.specs.Seats.{map_of}
-use Rattle.zdd_shared_table.proofs.Nodes.{grown_sound}
-use Rattle.zdd_shared_table.proofs.Steps.{allows_join, allows_look}
+use Rattle.zdd_shared_table.specs.{Known.find, Seats.map_of}
+use Rattle.zdd_shared_table.proofs.{Nodes.grown_sound, Steps.allows_join, Steps.allows_look}
+use Rattle.zdd_shared_table.proofs.{store.NodeStore.join.Goals.After-load}
 use Rattle.zdd_shared_table.proofs.store.NodeStore.join.Goals as goal
-use Rattle.zdd_shared_table.proofs.store.NodeStore.join.Goals.{After-load}
 
 pub join_seat-requires : goal.join_seat-requires
 join_seat-requires c =
@@ -19,7 +17,7 @@ join_seat-requires c =
     let others : other.table_id ≡ shared.table_id =
     ap (λ s. s.store) c.other.view_is ∙ (c.requires.others ∙ sym c.self.view_is) in
     let some : 0 < shared.table_id.words = omega (arith, pow_pos c.self.inside.bits, c.self.invariant.3) in
-    (own, others, c.other.invariant.holds_none, some, allows_join shared.key seat.id seat.me.0 other.id other.me.0)
+    (own, others, c.other.invariant.holds_none, some, allows_join shared.key)
 
 pub load-requires : goal.load-requires
 load-requires c =
@@ -45,8 +43,7 @@ returns-clause-keeps c =
     let after = c.load.new.seat.me.0 in
     let mine = c.seat.inside.place.me.0.known in
     let theirs = c.other.inside.place.me.0.known in
-    subst (λ m. Grown m (find after.known)) (ap map_of c.seat.view_is)
-    (grown_sound after.size mine after.known after.missed after.fills c.load.ensures.2.2
+    subst (λ m. Grown m (find after.known)) (ap map_of c.seat.view_is) (grown_sound mine c.load.ensures.2.2
     (λ pair h. subst (λ l. Contains l pair) (sym (known_after c)) (Contains-append_left mine theirs pair h)))
 
 pub returns-clause-gains : goal.returns-clause-gains
@@ -54,6 +51,5 @@ returns-clause-gains c =
     let after = c.load.new.seat.me.0 in
     let mine = c.seat.inside.place.me.0.known in
     let theirs = c.other.inside.place.me.0.known in
-    subst (λ m. Grown m (find after.known)) (ap map_of c.other.view_is)
-    (grown_sound after.size theirs after.known after.missed after.fills c.load.ensures.2.2
+    subst (λ m. Grown m (find after.known)) (ap map_of c.other.view_is) (grown_sound theirs c.load.ensures.2.2
     (λ pair h. subst (λ l. Contains l pair) (sym (known_after c)) (Contains-append_right mine theirs pair h)))

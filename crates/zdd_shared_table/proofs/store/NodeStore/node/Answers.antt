@@ -15,7 +15,7 @@ search-found-requires-clause-node c =
     let known = find c.seat.inside.place.me.0.known in
     let is : known ≡ map_of c.args.seat.now = ap map_of c.seat.view_is in
     let packs = c.pack-word.ensures in
-    asked_node known c.pack-word.result c.args.level c.args.lo c.args.hi c.seat.invariant.sound.closed
+    asked_node c.seat.invariant.sound.closed
     packs.level_comes_back packs.lo_comes_back packs.hi_comes_back c.number.ensures.unit
     (subst (λ m. Knows m c.args.lo) (sym is) c.requires.knows_lo)
     (subst (λ m. Knows m c.args.hi) (sym is) c.requires.knows_hi) c.requires.filled
@@ -45,8 +45,7 @@ returns-clause-family c =
       | in-Some w ↦
           rw w.result-is
           (subst (λ r. of (map_of c.args.seat.now) r) (sym w.at_slot.ensures)
-          (subst (λ m. of m (w.in-Some.slot + 2)) is
-          (node_ended c.pack-word.result w.in-Some.slot c.args.level c.args.lo c.args.hi old new
+          (subst (λ m. of m (w.in-Some.slot + 2)) is (node_ended w.in-Some.slot old
           w.in-Some.ensures.found.1 c.seat.invariant.sound c.search-found.ensures.sound some
           packs.level_comes_back packs.lo_comes_back packs.hi_comes_back
           (subst (λ m. Knows m c.args.lo) (sym is) c.requires.knows_lo)
@@ -61,7 +60,7 @@ returns-clause-keeps c =
     let is : find old.known ≡ map_of c.args.seat.now = ap map_of c.seat.view_is in
     subst (λ m. Grown m (find new.known)) is
     (elim c.match-found.branch [
-      | in-Some w ↦ grown_ended c.pack-word.result w.in-Some.slot old new w.in-Some.ensures.found.1
+      | in-Some w ↦ grown_ended c.pack-word.result w.in-Some.slot old w.in-Some.ensures.found.1
           c.search-found.ensures.sound
       | in-None w ↦ λ r has. ap (λ v. find v.known r) w.in-None.ensures.passed_all
     ])
@@ -80,9 +79,9 @@ searched c =
     c.seat.view_is
     (elim c.match-found.branch [
       | in-Some w ↦ rw (w.result-is, w.at_slot.ensures) (searched-found slots c.pack-word.result w.in-Some.slot
-          seat.table_id seat'.table_id seat.me.0 seat'.me.0 w.in-Some.ensures.found.1)
-      | in-None w ↦ rw w.result-is (searched-none slots c.pack-word.result _ seat.table_id seat'.table_id
-          seat.me.0 seat'.me.0 (c.seat.invariant.sized ∙ ap (λ t. t.words) own) w.in-None.ensures.passed_all)
+          seat.table_id seat'.table_id seat.me.0 w.in-Some.ensures.found.1)
+      | in-None w ↦ rw w.result-is (searched-none c.pack-word.result _ seat.table_id seat'.table_id
+          seat.me.0 (c.seat.invariant.sized ∙ ap (λ t. t.words) own) w.in-None.ensures.passed_all)
     ]))
 
 seat_of : (c : Joined-found) → IsSeat c.search-found.new.seat.table_id c.search-found.new.seat.me

@@ -1,11 +1,9 @@
 use Rattle.std.proofs.Common.{◌≡◌, ◌≢◌, ◌+◌, ◌-◌, ◌<◌, sym, ◌∙◌, ap, subst, arith}
 use Rattle.zdd_families.specs.Map.{Knows}
-use Rattle.zdd_shared_table.specs.Known.{find}
-use Rattle.zdd_shared_table.specs.Seats.{map_of}
+use Rattle.zdd_shared_table.specs.{Known.find, Seats.map_of}
 use Rattle.zdd_shared_table.proofs.Nodes.{inner_known, HasParts, has_parts}
-use Rattle.zdd_shared_table.proofs.Steps.{allows_read}
+use Rattle.zdd_shared_table.proofs.{Steps.allows_read, store.NodeStore.parts.Goals.After-unpack}
 use Rattle.zdd_shared_table.proofs.store.NodeStore.parts.Goals as goal
-use Rattle.zdd_shared_table.proofs.store.NodeStore.parts.Goals.{After-unpack}
 
 pub load-word-requires : goal.load-word-requires
 load-word-requires c =
@@ -35,8 +33,7 @@ parts_of c =
     let n = c.number.ensures.value in let large = c.requires.inner in omega arith in
     let word : c.load-word.result ≡ find seat.me.0.known c.args.r =
     c.load-word.ensures.2.2 (λ none. has (ap (find seat.me.0.known) (sym at) ∙ none)) ∙ ap (find seat.me.0.known) at in
-    has_parts (find seat.me.0.known) (map_of c.args.seat.now) (find c.load-word.new.seat.me.0.known) c.args.r
-    c.load-word.result c.unpack.result.level c.unpack.result.lo c.unpack.result.hi
+    has_parts c.args.r
     c.seat.invariant.sound.closed has is after word c.unpack.ensures.level c.unpack.ensures.lo c.unpack.ensures.hi
 
 pub returns-clause-level : goal.returns-clause-level

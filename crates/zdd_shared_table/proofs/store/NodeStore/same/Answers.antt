@@ -1,10 +1,8 @@
 use Rattle.std.proofs.Common.{◌≡◌, ℕ, ◌^◌, ◌<◌, arith, eq-eqb, sym, ◌∙◌, ap, subst}
-use Rattle.std.proofs.lemmas.Bool.{eqb-true}
-use Rattle.std.proofs.lemmas.Nat.{pow_pos}
+use Rattle.std.proofs.{lemmas.Bool.eqb-true, lemmas.Nat.pow_pos}
 use Rattle.zdd_families.specs.Map.{Knows, family}
 use Rattle.zdd_families.proofs.Canonical.{family-same}
-use Rattle.zdd_shared_table.specs.Known.{find}
-use Rattle.zdd_shared_table.specs.Seats.{map_of}
+use Rattle.zdd_shared_table.specs.{Known.find, Seats.map_of}
 use Rattle.zdd_shared_table.proofs.Steps.{allows_look}
 use Rattle.zdd_shared_table.proofs.store.NodeStore.same.Goals as goal
 

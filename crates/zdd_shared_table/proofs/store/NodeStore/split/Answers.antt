@@ -1,16 +1,13 @@
 use Rattle.std.proofs.Common.{◌≡◌, ℕ, ◌-◌, ◌≤◌, List, [], sym, subst, ap, arith}
 use Rattle.unit_sets.proofs.Sorted.{Contains-nil}
-use Rattle.atomic_table.specs.Table.{Me}
-use Rattle.atomic_table.specs.Seated.{TableId}
-use Rattle.zdd_shared_table.specs.Seats.{IsSound, IsSeat}
-use Rattle.zdd_shared_table.specs.Views.{split_off}
-use Rattle.zdd_shared_table.specs.declared.view.View.{View}
+use Rattle.atomic_table.specs.{Table.Me, Seated.TableId}
+use Rattle.zdd_shared_table.specs.{Seats.IsSound, Seats.IsSeat, Views.split_off, declared.view.View.View}
 use Rattle.zdd_shared_table.proofs.store.NodeStore.split.Goals as goal
 use Rattle.zdd_shared_table.proofs.store.NodeStore.split.Goals.{After-cut}
 
-sound_split : (size : ℕ) (pairs : List (ℕ × ℕ)) (asked gained : List ℕ) → IsSound size pairs asked gained
+sound_split : {size : ℕ} {pairs : List (ℕ × ℕ)} {asked gained : List ℕ} → IsSound size pairs asked gained
     → IsSound size pairs [] []
-sound_split size pairs asked gained sound = record {
+sound_split sound = record {
   closed = sound.closed;
   unique = sound.unique;
   agree = sound.agree;
@@ -26,7 +23,7 @@ split_seat id v share sized some sound =
       holds_none = λ i. [];
       sized = sized;
       shares = some;
-      sound = sound_split v.size v.known v.missed v.fills sound;
+      sound = sound_split sound;
     }
 
 new_seat : (c : After-cut) → IsSeat c.cut.result.table_id c.cut.result.me
@@ -47,14 +44,14 @@ old_seat c =
     subst P (λ i. (sym c.cut.ensures.stays.0 i, sym c.cut.ensures.left i))
     record { holds_none = own.holds_none; sized = own.sized; shares = left; sound = own.sound }
 
-sound_of : (id : TableId) (me : Me (Unit {0}) View) → IsSeat id me → IsSound id.words me.0.known me.0.missed me.0.fills
-sound_of id me seat = subst (λ n. IsSound n me.0.known me.0.missed me.0.fills) seat.sized seat.sound
+sound_of : {id : TableId} {me : Me (Unit {0}) View} → IsSeat id me → IsSound id.words me.0.known me.0.missed me.0.fills
+sound_of {me} seat = subst (λ n. IsSound n me.0.known me.0.missed me.0.fills) seat.sized seat.sound
 
 pub invariant_of-result : goal.invariant_of-result
 invariant_of-result c = new_seat c
 
 pub returns-clause-sound : goal.returns-clause-sound
 returns-clause-sound c = (
-  sound_of c.cut.result.table_id c.cut.result.me (new_seat c),
-  sound_of c.cut.new.seat.table_id c.cut.new.seat.me (old_seat c),
+  sound_of (new_seat c),
+  sound_of (old_seat c),
 )
