@@ -1,3 +1,9 @@
+mod ShownNames
+mod CrewNames
+mod LogLemmas
+mod BoardLemmas
+mod UnitsOut
+mod Pieces
 mod PrintLemmas
 mod PrintedTrees
 mod SummaryLemmas

@@ -6,7 +6,7 @@ use Rattle.cut_sequences.specs.Orders.{order_total}
 use Rattle.margin_policy.specs.{Decide.is_granted, Held.units_out, declared.request.Reply.Reply}
 use Rattle.margin_policy.specs.{declared.request.Reply.TheVariants.Granted, declared.request.Reply.TheVariants.Denied}
 use Rattle.outage_board.specs.{Boards.BoardView, Boards.standing_of, declared.entry.Entry.Entry}
-use Rattle.board_texts.specs.BoardText.{out_head}
+use Rattle.board_report.specs.BoardText.{out_head}
 use Rattle.cut_texts.specs.CutsText.{count_line}
 
 -- `made NUMBER: U units, G gates`

@@ -8,7 +8,7 @@ ghost use Rattle.cut_texts.specs.OrdersOfUnits.{AreOrdersOf};
 ghost use Rattle.board_report.specs.SummaryText.{decided_line, is_denied, is_error, made_line};
 ghost use Rattle.board_report.specs.SummaryText.{reply_count, summary_text};
 
-use board_texts::{count_out, put_out_head};
+use crate::holders::{count_out, put_out_head};
 use cut_sequences::OrderLists;
 use cut_texts::put_count_line;
 use edge_io::{Out, Sink, WriteFault};

@@ -1,7 +1,7 @@
 //! What an order puts: a line of words, and the deck behind it, if they want one.
 ghost use Rattle.std.specs.Prelude.{All};
 ghost use Rattle.fault_definitions.specs.Tree.{IsUnitOf};
-ghost use Rattle.board_texts.specs.BoardText.{IsDeckOf};
+ghost use Rattle.board_report.specs.BoardText.{IsDeckOf};
 
 use board_report::{
     DeckFault, FaultCode, Notice, UnitTexts, put_board, put_check, put_cuts, put_diagram,

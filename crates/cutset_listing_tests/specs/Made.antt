@@ -1,7 +1,6 @@
 -- Diagrams that are made node by node.
 use Rattle.std.specs.Prelude.{◌≡◌, ℕ}
-use Rattle.zdd_families.specs.Family.{IsAbove}
-use Rattle.zdd_families.specs.Map.{Knows, family}
+use Rattle.zdd_families.specs.{Family.IsAbove, Map.Knows, Map.family}
 
 -- a known reference whose units lie above a number
 pub record IsMade (known : ℕ → ℕ) (below r : ℕ) : Type 0 where

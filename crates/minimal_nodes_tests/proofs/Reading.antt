@@ -3,8 +3,7 @@ use Rattle.std.proofs.Common.{◌≡◌, ℕ, suc, ◌<◌, inl, inr, List, [], 
 use Rattle.std.proofs.Common.{All, sym, subst, arith}
 use Rattle.std.proofs.lemmas.Bool.{cases_eq}
 use Rattle.std.proofs.lemmas.List.{get_or_append_left, get_or_default, get_or_push, length_push}
-use Rattle.fault_definitions.specs.CutFamily.{IsCutFamily}
-use Rattle.fault_definitions.specs.Tree.{FaultTree}
+use Rattle.fault_definitions.specs.{CutFamily.IsCutFamily, Tree.FaultTree}
 use Rattle.family_memory.specs.Memory.{Held, Has, IsSound, Went, family_in}
 use Rattle.family_memory.proofs.After.{still, still_has}
 use Rattle.many_families.specs.Lists.{families}
@@ -16,9 +15,9 @@ AreRead held tree nodes references =
     (k : ℕ) → k < length references → Has held (get_or references k 0)
     × IsCutFamily tree (get_or nodes k 0) (family_in held (get_or references k 0))
 
-pub read_has : {held : Held} {tree : FaultTree} {nodes references : List ℕ} → AreRead held tree nodes references
+pub read_has : (held : Held) (tree : FaultTree) (nodes references : List ℕ) → AreRead held tree nodes references
     → All (Has held) references
-read_has {held} {references} read k d within =
+read_has held tree nodes references read k d within =
     subst (Has held) (get_or_default references k 0 d within) (read k within).0
 
 pub read_stand : (held : Held) (tree : FaultTree) (nodes references : List ℕ) → length references ≡ length nodes
@@ -32,10 +31,10 @@ read_stand held tree (node ∷ nodes) (r ∷ references) same read = (
 )
 
 pub read_more : {before after : Held} {tree : FaultTree} → IsSound before → Went before after
-    → {nodes references : List ℕ} {count r : ℕ} → length references ≡ count → AreRead before tree nodes references
+    → (nodes references : List ℕ) {count : ℕ} (r : ℕ) → length references ≡ count → AreRead before tree nodes references
     → Has after r → IsCutFamily tree (get_or nodes count 0) (family_in after r)
     → AreRead after tree nodes (references ++ r ∷ [])
-read_more {after} {tree} sound went {nodes} {references} {count} {r} same read has is k within =
+read_more {after} {tree} sound went nodes references {count} r same read has is k within =
     elim (cases_eq k count) [
       | inl here ↦
           subst (λ (q : ℕ). Has after (get_or (references ++ r ∷ []) q 0)
@@ -47,11 +46,11 @@ read_more {after} {tree} sound went {nodes} {references} {count} {r} same read h
           let inside : k < length references = omega (arith, within, more, same, before_it) in
           subst (λ (s : ℕ). Has after s × IsCutFamily tree (get_or nodes k 0) (family_in after s))
           (sym (get_or_append_left references (r ∷ []) 0 k inside)) (
-            still_has sound went {r = get_or references k 0} (read k inside).0,
+            still_has sound went (get_or references k 0) (read k inside).0,
             subst (IsCutFamily tree (get_or nodes k 0)) (sym
-                (still sound went {r = get_or references k 0} (read k inside).0)) (read k inside).1,
+                (still sound went (get_or references k 0) (read k inside).0)) (read k inside).1,
           )
     ]
 
-pub some_of : {X : Type 0} {found : Option X} (P : X → Type 0) {x : X} → found ≡ Some x → IfSome found P → P x
-some_of P is fact = subst (λ q. IfSome q P) is fact
+pub some_of : {X : Type 0} {found : Option X} (P : X → Type 0) (x : X) → found ≡ Some x → IfSome found P → P x
+some_of P x is fact = subst (λ q. IfSome q P) is fact

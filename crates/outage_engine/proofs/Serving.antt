@@ -4,7 +4,7 @@ use Rattle.std.proofs.Common.{sym, ap, subst, ◌∙◌, refl}
 use Rattle.fault_definitions.specs.{Tree.FaultTree, Cut.IsCutList, WellFormed.IsTree}
 use Rattle.crew_script.specs.declared.dockets.Crew.{Crew}
 use Rattle.board_words.specs.{Command.command_of, declared.command.Command.TheVariants.Board}
-use Rattle.board_texts.specs.BoardText.{IsDeckOf, board_text}
+use Rattle.board_report.specs.BoardText.{IsDeckOf, board_text}
 use Rattle.outage_board.specs.{Boards.BoardView, Boards.Deck, Histories.IsLegal, Histories.IsWhole}
 use Rattle.outage_board.proofs.SafetyLemmas.{board_is_safe}
 use Rattle.deck_reading.specs.{declared.deck.CrewPart.TheVariants.Needed, Faults.IsWellFormed}

@@ -7,7 +7,7 @@ use Rattle.board_words.specs.Command.{command_of}
 use Rattle.outage_board.specs.{Boards.BoardView, Boards.IsBoard, Histories.IsWhole, Passes.AreOf, Passes.HaveAll}
 use Rattle.outage_board.specs.{declared.board.BoardStart.BoardStart}
 use Rattle.zdd_shared_table.specs.Seats.{Seated}
-use Rattle.board_texts.specs.BoardText.{IsDeckOf, board_text}
+use Rattle.board_report.specs.BoardText.{IsDeckOf, board_text}
 use Rattle.outage_engine.specs.{declared.status.Status.Status, declared.listing.Listing.Listing}
 use Rattle.outage_engine.specs.{declared.opening.Opened.Opened, Finding.Finds, Finding.Ready, Gives.own_deck, Runs.Runs}
 use Rattle.outage_engine.specs.{Runs.Tells, Store.method_by, StoreAfter.BearsOut, StoreAfter.IsLeftBy, Texts.board_deck}

@@ -4,7 +4,7 @@ use Rattle.cut_sequences.specs.Orders.{order_lists}
 use Rattle.crew_script.specs.declared.dockets.Crew.{Crew}
 use Rattle.outage_board.specs.{Boards.Deck, Boards.deck_of, Histories.IsLegal, Histories.IsWhole}
 use Rattle.outage_board.specs.{declared.entry.Entry.Entry}
-use Rattle.board_texts.specs.BoardText.{board_text}
+use Rattle.board_report.specs.BoardText.{board_text}
 use Rattle.board_report.specs.{CheckText.check_text, PrintText.print_text, SummaryText.summary_text}
 use Rattle.cut_texts.specs.{CutsText.cuts_text, CutsText.listed_with, DiagramText.diagram_text}
 use Rattle.tree_maker.specs.MadeDeck.{made_deck}

@@ -1,7 +1,7 @@
 //! The run of the program.
 ghost use Rattle.std.specs.Prelude.{◌≡◌, ◌⊎◌, ◌≤◌, true, false, []};
 ghost use Rattle.event_counts.specs.Count.{Rose};
-ghost use Rattle.board_texts.specs.BoardText.{IsDeckOf};
+ghost use Rattle.board_report.specs.BoardText.{IsDeckOf};
 ghost use Rattle.outage_engine.specs.Answers.{IsOfUnits};
 ghost use Rattle.outage_engine.specs.Openings.{HasPasses, HasRun, TellsBoard};
 ghost use Rattle.outage_engine.specs.Gives.{AreReading};

@@ -1,7 +1,7 @@
 //! Writing an answer.
 ghost use Rattle.std.specs.Prelude.{◌≡◌, ℕ, List, ◌++◌, [], false, is_err};
 ghost use Rattle.edge_io.specs.Out.{has_failed, sink_of, waiting, Output, Puts};
-ghost use Rattle.board_texts.specs.BoardText.{IsDeckOf, board_text};
+ghost use Rattle.board_report.specs.BoardText.{IsDeckOf, board_text};
 ghost use Rattle.board_report.specs.CheckText.{check_text};
 ghost use Rattle.outage_engine.specs.Answers.{HasOrders, IsOfUnits, IsWritable, listing_text, refusal_line};
 ghost use Rattle.outage_engine.specs.Answers.{refusal_status, status_of, summed_text, text_of};

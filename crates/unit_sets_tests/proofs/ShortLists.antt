@@ -1,15 +1,12 @@
 -- Sets of one and of two units, and a list of both.
 use Rattle.std.proofs.Common.{◌≡◌, ℕ, ◌<◌, List, [], ◌∷◌, refl, arith}
 use Rattle.std.proofs.lemmas.Bool.Decides.{nat_tests}
-use Rattle.std.specs.List.Sorted.{IsStrictlySortedBy}
-use Rattle.std.specs.Ordering.{nat_cmp}
-use Rattle.std.specs.declared.cmp.Ordering.TheVariants.{Less}
-use Rattle.unit_sets.specs.UnitList.{IsRising}
-use Rattle.unit_sets.specs.CutOrder.{IsInCutOrder}
+use Rattle.std.specs.{List.Sorted.IsStrictlySortedBy, Ordering.nat_cmp, declared.cmp.Ordering.TheVariants.Less}
+use Rattle.unit_sets.specs.{UnitList.IsRising, CutOrder.IsInCutOrder}
 
-pub one_rises : {a : ℕ} → IsRising (a ∷ [])
+pub one_rises : (a : ℕ) → IsRising (a ∷ [])
 unfolding IsStrictlySortedBy
-one_rises = (tt, tt)
+one_rises a = (tt, tt)
 
 less_from_below : (a b : ℕ) → a < b → nat_cmp a b ≡ Less
 less_from_below a b h = grind (arith, nat_tests)

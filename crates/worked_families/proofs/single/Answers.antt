@@ -1,7 +1,6 @@
 use Rattle.std.proofs.Common.{[], ◌∷◌, sym, ◌∙◌, subst}
 use Rattle.std.proofs.lemmas.Result.{IfOk-weaker}
-use Rattle.zdd_families.specs.Family.{IsAbove, branch}
-use Rattle.zdd_families.specs.Map.{KnowsAs, family}
+use Rattle.zdd_families.specs.{Family.IsAbove, Family.branch, Map.KnowsAs, Map.family}
 use Rattle.zdd_families.proofs.MapLemmas.{family-empty, family-unit}
 use Rattle.zdd_shared_table.specs.Seats.{map_of}
 use Rattle.worked_families.proofs.single.Goals as goal

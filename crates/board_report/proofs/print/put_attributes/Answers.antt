@@ -3,7 +3,7 @@ use Rattle.std.specs.{List.flat_map, Prelude.All}
 use Rattle.edge_io.specs.Out.{Puts}
 use Rattle.edge_io.proofs.OutLemmas.{Puts-none}
 use Rattle.deck_reading.specs.{TreeStatements.HasNames, Written.attribute_text}
-use Rattle.board_texts.proofs.Pieces.{one_more_put}
+use Rattle.board_report.proofs.Pieces.{one_more_put}
 use Rattle.board_report.proofs.print.put_attributes.Goals as goal
 
 pub loop-attribute-init : goal.loop-attribute-init

@@ -3,7 +3,7 @@ use Rattle.std.specs.List.{flat_map}
 use Rattle.edge_io.specs.Out.{Puts}
 use Rattle.edge_io.proofs.OutLemmas.{Puts-none}
 use Rattle.board_report.specs.PrintText.{input_text}
-use Rattle.board_texts.proofs.Pieces.{one_more_put}
+use Rattle.board_report.proofs.Pieces.{one_more_put}
 use Rattle.board_report.proofs.print.put_inputs.Goals as goal
 
 pub loop-input-init : goal.loop-input-init

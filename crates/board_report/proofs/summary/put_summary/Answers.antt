@@ -3,7 +3,7 @@ use Rattle.edge_io.specs.Out.{Puts}
 use Rattle.cut_sequences.specs.Orders.{order_total}
 use Rattle.fault_definitions.specs.Tree.{gate_count}
 use Rattle.margin_policy.specs.Held.{units_out}
-use Rattle.board_texts.specs.BoardText.{out_head}
+use Rattle.board_report.specs.BoardText.{out_head}
 use Rattle.cut_texts.specs.CutsText.{count_line}
 use Rattle.board_report.specs.SummaryText.{decided_line, made_line}
 use Rattle.text_pieces.proofs.Putting.{all_four}

@@ -23,7 +23,7 @@ loop-left-preserved c =
       own = c.in_ok-all.ensures.store ∙ c.in_ok-second.ensures.store ∙ c.loop-left.invariant.own;
       made = c.in_ok-all.ensures.made (2 * (c.loop-left.left - 1)) (omega (arith, more));
       lacks =
-          c.in_ok-all.ensures.lacks (lacks_kept c.loop-left.all c.in_ok-second.ensures.keeps
+          c.in_ok-all.ensures.lacks (lacks_kept _ _ c.loop-left.all c.in_ok-second.ensures.keeps
           c.loop-left.invariant.made.knows c.loop-left.invariant.lacks);
       few = let few = c.loop-left.invariant.few in omega (arith, few);
     }

@@ -1,5 +1,4 @@
-use Rattle.std.proofs.Common.{arith}
-use Rattle.std.proofs.lemmas.Result.{IfOk-weaker}
+use Rattle.std.proofs.{Common.arith, lemmas.Result.IfOk-weaker}
 use Rattle.cutset_listing_tests.proofs.Mades.{made_empty, made_unit, made_before, lacks_kept, lacks_none}
 use Rattle.cutset_listing_tests.proofs.tests.two_and_one.Goals as goal
 
@@ -24,6 +23,7 @@ returns-clause-made c = IfOk-weaker c.put-3.result _ _ (λ r made. made 0 (omega
 
 pub returns-clause-lacks : goal.returns-clause-lacks
 returns-clause-lacks c =
-    IfOk-weaker c.put-3.result _ _ (λ r lacks. lacks (lacks_kept c.in_ok-three.three c.in_ok-two.ensures.keeps
+    IfOk-weaker c.put-3.result _ _
+    (λ r lacks. lacks (lacks_kept _ _ c.in_ok-three.three c.in_ok-two.ensures.keeps
     (c.in_ok-three.ensures.made 0 (omega arith)).knows (c.in_ok-three.ensures.lacks (lacks_none _))))
     c.put-3.ensures.lacks

@@ -1,5 +1,4 @@
-use Rattle.std.proofs.Common.{arith}
-use Rattle.std.proofs.lemmas.Result.{IfOk-weaker}
+use Rattle.std.proofs.{Common.arith, lemmas.Result.IfOk-weaker}
 use Rattle.cutset_listing_tests.proofs.Mades.{made_empty, made_unit, made_before, lacks_kept, lacks_none}
 use Rattle.cutset_listing_tests.proofs.tests.two_of_three.Goals as goal
 
@@ -28,6 +27,7 @@ returns-clause-made c = IfOk-weaker c.put-4.result _ _ (λ r made. made 0 (omega
 
 pub returns-clause-lacks : goal.returns-clause-lacks
 returns-clause-lacks c =
-    IfOk-weaker c.put-4.result _ _ (λ r lacks. lacks (lacks_kept c.in_ok-both.both c.in_ok-either.ensures.keeps
+    IfOk-weaker c.put-4.result _ _
+    (λ r lacks. lacks (lacks_kept _ _ c.in_ok-both.both c.in_ok-either.ensures.keeps
     (c.in_ok-both.ensures.made 0 (omega arith)).knows (c.in_ok-both.ensures.lacks (lacks_none _))))
     c.put-4.ensures.lacks

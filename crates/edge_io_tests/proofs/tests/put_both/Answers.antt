@@ -10,7 +10,7 @@ returns g c =
     let puts =
     Puts-trans c.put.ensures.puts c.put-2.ensures.puts in
     let end =
-    Puts-finished c.over-out.ensures.nothing_waits c.over-out.ensures.fine puts
+    Puts-finished c.finish.result c.over-out.ensures.nothing_waits c.over-out.ensures.fine puts
     c.finish.ensures.all c.finish.ensures.front.1 c.finish.ensures.rose c.finish.ensures.stopped
     c.finish.ensures.never_falls in
     let same : out.sink.ghost_name ≡ old.sink.ghost_name = puts.same_sink in

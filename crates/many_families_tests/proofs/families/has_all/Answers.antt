@@ -1,6 +1,5 @@
 use Rattle.std.proofs.Common.{rules, subst, All}
-use Rattle.std.proofs.lemmas.List.{take_all}
-use Rattle.std.proofs.lemmas.List.Elements.{All-more}
+use Rattle.std.proofs.{lemmas.List.take_all, lemmas.List.Elements.All-more}
 use Rattle.family_memory.specs.Memory.{Has}
 use Rattle.many_families_tests.proofs.families.has_all.Goals as goal
 

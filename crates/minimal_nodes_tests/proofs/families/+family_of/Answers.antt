@@ -1,7 +1,6 @@
 use Rattle.std.proofs.Common.{◌≡◌, ◌++◌, List, ℕ, [], ◌∷◌, length, get_or, All, ap, sym, ◌∙◌, subst, arith}
 use Rattle.std.proofs.lemmas.List.{get_or_read, length_push}
-use Rattle.fault_definitions.specs.CutFamily.{IsCutFamily}
-use Rattle.fault_definitions.specs.Trigger.{below}
+use Rattle.fault_definitions.specs.{CutFamily.IsCutFamily, Trigger.below}
 use Rattle.family_memory.specs.Memory.{Has, Gave, family_in}
 use Rattle.family_memory.proofs.After.{Went-then}
 use Rattle.many_families.specs.Lists.{families}
@@ -22,7 +21,7 @@ loop-i-preserved t c =
     get_or_read c.below-nodes.result.now c.loop-i.i c.index-nodes-i.result c.loop-i-test.true c.index-nodes-i.is 0
     ∙ ap (λ (l : List ℕ). get_or l c.loop-i.i 0) c.below-nodes.ensures.below in
     let gave : Gave (IsCutFamily tree c.index-nodes-i.result) before after one =
-    some_of (Gave (IsCutFamily tree c.index-nodes-i.result) before after) c.in-Some.is c.in_ok-one.ensures.gives in
+    some_of (Gave (IsCutFamily tree c.index-nodes-i.result) before after) one c.in-Some.is c.in_ok-one.ensures.gives in
     let items : c.push.new.self.items ≡ list ++ one ∷ [] = c.in_ok-push.ensures.items in
     let more = length_push list one in
     let longer = ap (λ (l : List ℕ). length l) items in
@@ -30,13 +29,15 @@ loop-i-preserved t c =
       went = Went-then inv.went gave.went;
       count = let e = inv.count in omega (arith, e, more, longer);
       read = subst (AreRead after tree nodes) (sym items)
-          (read_more inv.went.sound gave.went inv.count inv.read gave.has
+          (read_more inv.went.sound gave.went nodes list one inv.count inv.read gave.has
           (subst (λ (n : ℕ). IsCutFamily tree n (family_in after one)) same gave.is));
     }
 
 pub cut_family-requires-clause-has : goal.cut_family-requires-clause-has
 cut_family-requires-clause-has t c =
-    subst (All (Has c.loop-i.memory)) (sym c.as_slice.ensures.value) (read_has c.loop-i.invariant.read)
+    subst (All (Has c.loop-i.memory)) (sym c.as_slice.ensures.value)
+    (read_has c.loop-i.memory c.args.tree.now (below c.args.tree.now c.args.node) c.loop-i.list.items
+    c.loop-i.invariant.read)
 
 pub cut_family-requires-clause-stand : goal.cut_family-requires-clause-stand
 cut_family-requires-clause-stand t c =

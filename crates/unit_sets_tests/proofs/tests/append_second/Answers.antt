@@ -1,7 +1,6 @@
 use Rattle.std.proofs.Common.{◌≡◌, ℕ, List, [], ◌∷◌, ◌++◌, sym, ◌∙◌, ap, subst, All}
 use Rattle.std.proofs.lemmas.List.Elements.{All-from_recursion}
-use Rattle.unit_sets.specs.CutOrder.{IsInCutOrder}
-use Rattle.unit_sets.specs.UnitList.{IsRising}
+use Rattle.unit_sets.specs.{CutOrder.IsInCutOrder, UnitList.IsRising}
 use Rattle.unit_sets_tests.proofs.ShortLists.{one_rises, two_rise, first_in_order, one_before_two}
 use Rattle.unit_sets_tests.proofs.tests.append_second.Goals as goal
 
@@ -10,7 +9,7 @@ alone : {rows none : List (List ℕ)} {set : List ℕ} → rows ≡ none ++ set 
 alone {set} pushed empty = pushed ∙ ap (λ (sets : List (List ℕ)). sets ++ set ∷ []) empty
 
 pub push-requires-2-clause-rising : goal.push-requires-2-clause-rising
-push-requires-2-clause-rising c = one_rises
+push-requires-2-clause-rising c = one_rises c.args.a
 
 pub push-requires-2-clause-after_last : goal.push-requires-2-clause-after_last
 push-requires-2-clause-after_last c =

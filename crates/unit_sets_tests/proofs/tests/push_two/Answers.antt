@@ -4,7 +4,7 @@ use Rattle.unit_sets_tests.proofs.ShortLists.{one_rises, two_rise, first_in_orde
 use Rattle.unit_sets_tests.proofs.tests.push_two.Goals as goal
 
 pub push-requires-clause-rising : goal.push-requires-clause-rising
-push-requires-clause-rising c = one_rises
+push-requires-clause-rising c = one_rises c.args.a
 
 pub push-requires-clause-after_last : goal.push-requires-clause-after_last
 push-requires-clause-after_last c =

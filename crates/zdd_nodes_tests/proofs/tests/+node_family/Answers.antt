@@ -1,8 +1,6 @@
 use Rattle.std.proofs.Common.{◌≡◌, ◌≢◌, ◌∙◌, ◌<◌, ◌-◌, ℕ, List, All, length, length-set, get_or, subst, sym, ap, arith}
 use Rattle.std.proofs.lemmas.List.{get_or_read}
-use Rattle.fault_definitions.specs.CutFamily.{IsCutFamily}
-use Rattle.fault_definitions.specs.Tree.{IsNodeOf}
-use Rattle.fault_definitions.specs.Trigger.{below}
+use Rattle.fault_definitions.specs.{CutFamily.IsCutFamily, Tree.IsNodeOf, Trigger.below}
 use Rattle.zdd_shared_table.specs.Seats.{map_of}
 use Rattle.zdd_product.specs.Seats.{KnowsOne}
 use Rattle.zdd_nodes.specs.Reading.{KnowsBelow}
@@ -34,7 +32,7 @@ loop-i-preserved t c =
     (let node = all i 0 more in let low = node.0 in let high = node.1 in let e = inv.count in
     omega (arith, low, high, e, at)) in
     let known : KnowsOne (map_of after) one (IsCutFamily tree c.index-nodes-i.result) =
-    some_of (λ (r : ℕ). KnowsOne (map_of after) r (IsCutFamily tree c.index-nodes-i.result))
+    some_of (λ (r : ℕ). KnowsOne (map_of after) r (IsCutFamily tree c.index-nodes-i.result)) one
     c.in-Some.is c.in_ok-one.ensures.gives in
     record {
       keeps = λ r has.
@@ -43,7 +41,8 @@ loop-i-preserved t c =
       room = c.in_ok-one.ensures.room;
       count = length-set list c.index.result one ∙ inv.count;
       read =
-          read_more inv.sound c.in_ok-one.ensures.sound c.in_ok-one.ensures.keeps all more at within inv.read
+          read_more before after inv.sound c.in_ok-one.ensures.sound c.in_ok-one.ensures.keeps tree nodes list all i one
+          more at within inv.read
           (subst (λ (n : ℕ). KnowsOne (map_of after) one (IsCutFamily tree n)) same known);
     }
 
@@ -52,4 +51,5 @@ cut_family-requires-clause-below t c =
     let tree = c.args.tree.now in
     let e = ap (λ (l : List ℕ). length l) c.below-nodes.ensures.below in
     subst (λ (l : List ℕ). KnowsBelow (map_of c.loop-i.ops) tree l c.args.node) (sym c.as_slice.ensures.value)
-    (read_below c.args.node (let h = c.loop-i-test.false in omega (arith, h, e)) c.loop-i.invariant.read)
+    (read_below c.loop-i.ops tree c.args.node c.loop-i.list.items c.loop-i.i
+    (let h = c.loop-i-test.false in omega (arith, h, e)) c.loop-i.invariant.read)

@@ -1,6 +1,5 @@
 use Rattle.std.proofs.Common.{◌≡◌, length}
-use Rattle.fault_definitions.specs.Tree.{node_count}
-use Rattle.fault_definitions.specs.Trigger.{below}
+use Rattle.fault_definitions.specs.{Tree.node_count, Trigger.below}
 use Rattle.zdd_families.specs.Map.{Grown}
 use Rattle.zdd_shared_table.specs.Seats.{IsSoundSeat, map_of}
 use Rattle.zdd_nodes.specs.Room.{HaveRoomFor}

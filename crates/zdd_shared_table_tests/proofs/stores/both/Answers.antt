@@ -1,7 +1,5 @@
-use Rattle.std.proofs.Common.{sym, subst}
-use Rattle.std.proofs.lemmas.Result.{IfOk-weaker}
-use Rattle.zdd_families.specs.Family.{IsAbove}
-use Rattle.zdd_families.specs.Map.{Knows}
+use Rattle.std.proofs.{Common.sym, Common.subst, lemmas.Result.IfOk-weaker}
+use Rattle.zdd_families.specs.{Family.IsAbove, Map.Knows}
 use Rattle.zdd_families.proofs.MapLemmas.{family-unit}
 use Rattle.zdd_shared_table.specs.Seats.{map_of}
 use Rattle.zdd_shared_table_tests.proofs.stores.both.Goals as goal

@@ -1,6 +1,0 @@
-mod ShownNames
-mod CrewNames
-mod LogLemmas
-mod BoardLemmas
-mod UnitsOut
-pub mod Pieces

@@ -1,9 +1,0 @@
-use Rattle.board_texts.proofs.{CrewNames.each_named, LogLemmas.same_log}
-use Rattle.board_texts.proofs.laws.logs_determine_histories.Goals as goal
-
-pub returns : goal.returns
-returns c = record {
-  same = λ deck history other kept all legal whole also too e.
-      same_log deck.crews (each_named deck.crews kept.named.names) kept.named.differ deck.opening all legal whole also
-      too e;
-}
