@@ -3,10 +3,12 @@ use Rattle.std.specs.Prelude.{◌≡◌, ◌≢◌, ℕ, zero, suc, ◌<◌, ◌
 use Rattle.std.proofs.Common.{refl, sym, ◌∙◌, ap, subst, inl, inr, arith}
 use Rattle.zdd_words.specs.Word.{level_of, lo_of, hi_of}
 use Rattle.zdd_words.proofs.WordLemmas.{same_word}
-use Rattle.zdd_families.specs.Family.{IsFamily, IsAbove, branch, first_unit, sets_with, sets_without}
+use Rattle.zdd_families.specs.Family.{IsFamily, IsAbove, first_unit, sets_with, sets_without}
 use Rattle.zdd_families.proofs.FamilyLemmas.{IsFamily-nil}
-use Rattle.zdd_families.proofs.FamilyLemmas.{IsFamily-unit, IsFamily-branch, IsAbove-branch, sets_without-branch}
-use Rattle.zdd_families.proofs.FamilyLemmas.{sets_with-branch, first_unit-branch, branch-filled, unit_of_branch}
+use Rattle.zdd_families.proofs.FamilyLemmas.{IsFamily-unit, IsFamily-branch, IsAbove-branch}
+use Rattle.zdd_families.proofs.FamilyLemmas.{branch-filled, unit_of_branch}
+use Rattle.zdd_families.specs.Due.{Splits}
+use Rattle.zdd_families.proofs.CutsLemmas.{cut_without, cut_with, split_first, split-unit, split-lo, split-hi}
 use Rattle.zdd_families.specs.Map.{level_in, Knows, IsNode, IsClosed, IsUnique, Grown, family}
 use Rattle.zdd_families.proofs.MapLemmas.{family-empty}
 use Rattle.zdd_families.proofs.MapLemmas.{family-unit, family-node, by_levels, level_in-inner, level_in-terminal}
@@ -19,13 +21,13 @@ node_grown : (known known' : ℕ → ℕ) (r : ℕ) → IsClosed known → IsClo
     → family known' (lo_of (known r)) ≡ family known (lo_of (known r))
     → family known' (hi_of (known r)) ≡ family known (hi_of (known r)) → family known' r ≡ family known r
 node_grown known known' r closed closed' grown has e f =
-    let same : known' r ≡ known r = grown r has in
-    let has' : known' r ≢ 0 = λ absent. has (sym same ∙ absent) in
-    family-node known' r closed' has'
-    ∙ ap (λ w. branch (level_of w) (family known' (lo_of w)) (family known' (hi_of w))) same
-    ∙ ap (λ q. branch (level_of (known r)) q (family known' (hi_of (known r)))) e
-    ∙ ap (λ q. branch (level_of (known r)) (family known (lo_of (known r))) q) f
-    ∙ sym (family-node known r closed has)
+    rw (
+      family-node known' r closed' (λ absent. has (sym (grown r has) ∙ absent)),
+      family-node known r closed has,
+      grown r has,
+      e,
+      f,
+    )
 
 pub family-grown : (known known' : ℕ → ℕ) (r : ℕ) → IsClosed known → IsClosed known' → Grown known known'
     → Knows known r → family known' r ≡ family known r
@@ -44,12 +46,10 @@ above_node : (known : ℕ → ℕ) (x r : ℕ) → IsClosed known → known r �
     → ((y : ℕ) → y < level_in known (hi_of (known r)) → IsAbove y (family known (hi_of (known r))))
     → IsAbove x (family known r)
 above_node known x r closed has h lo_is hi_is =
-    let node : IsNode known (known r) = (closed r has).1 in
-    let e : level_in known r ≡ level_of (known r) = level_in-inner known r (closed r has).0 in
-    subst (IsAbove x) (sym (family-node known r closed has))
-    (IsAbove-branch x (level_of (known r)) (family known (lo_of (known r))) (family known (hi_of (known r)))
-    (omega (arith, e))
-    (lo_is (level_of (known r)) node.lo_above) (hi_is (level_of (known r)) node.hi_above))
+    let node = closed r has in
+    let e = level_in-inner known r node.0 in
+    rw (family-node known r closed has) (IsAbove-branch _ _ _ _ (omega (arith, e)) (lo_is _ node.1.lo_above)
+    (hi_is _ node.1.hi_above))
 
 pub family-above : (known : ℕ → ℕ) (x r : ℕ) → IsClosed known → Knows known r → x < level_in known r
     → IsAbove x (family known r)
@@ -74,10 +74,9 @@ hi_units {known} {word} closed node =
 family_node : (known : ℕ → ℕ) (r : ℕ) → IsClosed known → known r ≢ 0 → IsFamily (family known (lo_of (known r)))
     → IsFamily (family known (hi_of (known r))) → IsFamily (family known r)
 family_node known r closed has is is' =
-    let node : IsNode known (known r) = (closed r has).1 in
-    subst IsFamily (sym (family-node known r closed has))
-    (IsFamily-branch (level_of (known r)) (family known (lo_of (known r))) (family known (hi_of (known r))) is is'
-    (lo_units known (known r) closed node) (hi_units closed node))
+    let node = (closed r has).1 in
+    rw (family-node known r closed has) (IsFamily-branch _ _ _ is is' (lo_units known (known r) closed node)
+    (hi_units closed node))
 
 pub IsFamily-family : (known : ℕ → ℕ) (r : ℕ) → IsClosed known → Knows known r → IsFamily (family known r)
 IsFamily-family known r closed knows =
@@ -91,9 +90,7 @@ IsFamily-family known r closed knows =
 filled_node : (known : ℕ → ℕ) (r : ℕ) → IsClosed known → known r ≢ 0
     → (hi_of (known r) ≢ 0 → family known (hi_of (known r)) ≢ []) → family known r ≢ []
 filled_node known r closed has hi_filled e =
-    branch-filled (level_of (known r)) (family known (lo_of (known r))) (family known (hi_of (known r)))
-    (hi_filled (closed r has).1.filled)
-    (sym (family-node known r closed has) ∙ e)
+    branch-filled _ _ _ (hi_filled (closed r has).1.filled) (sym (family-node known r closed has) ∙ e)
 
 unit_filled : {G : Type 0} (known : ℕ → ℕ) → family known 1 ≡ [] → G
 unit_filled known e = let u = family-unit known in absurd cc
@@ -109,40 +106,41 @@ family-filled known r closed knows filled =
 pub hi_filled : (known : ℕ → ℕ) (word : ℕ) → IsClosed known → IsNode known word → family known (hi_of word) ≢ []
 hi_filled known word closed node = family-filled known (hi_of word) closed (hi_known node) node.filled
 
--- the level of a reference is the first unit of its family
-pub first_unit-family : (known : ℕ → ℕ) (r : ℕ) → IsClosed known → known r ≢ 0
-    → first_unit (family known r) ≡ level_of (known r)
-first_unit-family known r closed has =
-    ap first_unit (family-node known r closed has)
-    ∙ first_unit-branch (level_of (known r)) (family known (lo_of (known r))) (family known (hi_of (known r)))
-    (hi_filled known (known r) closed (closed r has).1)
+module _ (known : ℕ → ℕ) (r : ℕ) (closed : IsClosed known) (has : known r ≢ 0) where
+  -- a known node splits its family at its level into those of lo and hi
+  pub Splits-node : Splits (level_of (known r)) (family known r) (family known (lo_of (known r)))
+      (family known (hi_of (known r)))
+  Splits-node =
+      let node = (closed r has).1 in
+      record {
+        cut = record {
+          is = family-node known r closed has;
+          lo_above = lo_units known (known r) closed node;
+          hi_above = hi_units closed node;
+        };
+        some_with = hi_filled known (known r) closed node;
+      }
 
--- lo has the sets without the level
-pub sets_without-family : (known : ℕ → ℕ) (r : ℕ) → IsClosed known → known r ≢ 0
-    → sets_without (level_of (known r)) (family known r) ≡ family known (lo_of (known r))
-sets_without-family known r closed has =
-    ap (sets_without (level_of (known r))) (family-node known r closed has)
-    ∙ sets_without-branch (level_of (known r)) (family known (lo_of (known r))) (family known (hi_of (known r)))
-    (lo_units known (known r) closed (closed r has).1)
+  -- the level of a reference is the first unit of its family
+  pub first_unit-family : first_unit (family known r) ≡ level_of (known r)
+  first_unit-family = split_first Splits-node
 
--- hi has the sets with the level, each without it
-pub sets_with-family : (known : ℕ → ℕ) (r : ℕ) → IsClosed known → known r ≢ 0
-    → sets_with (level_of (known r)) (family known r) ≡ family known (hi_of (known r))
-sets_with-family known r closed has =
-    ap (sets_with (level_of (known r))) (family-node known r closed has)
-    ∙ sets_with-branch (level_of (known r)) (family known (lo_of (known r))) (family known (hi_of (known r)))
-    (lo_units known (known r) closed (closed r has).1) (hi_units {known = known} {word = known r} closed
-    (closed r has).1)
+  -- lo has the sets without the level
+  pub sets_without-family : sets_without (level_of (known r)) (family known r) ≡ family known (lo_of (known r))
+  sets_without-family = cut_without Splits-node.cut
+
+  -- hi has the sets with the level, each without it
+  pub sets_with-family : sets_with (level_of (known r)) (family known r) ≡ family known (hi_of (known r))
+  sets_with-family = cut_with Splits-node.cut
 
 -- a reference whose family's units are all above x has a level above x
 pub level-above : (known : ℕ → ℕ) (x r : ℕ) → IsClosed known → Knows known r → x < 4096 → IsAbove x (family known r)
     → x < level_in known r
 level-above known x r closed (inl below) h above = let e = level_in-terminal known r below in omega (arith, e)
 level-above known x r closed (inr has) h above =
-    let e : level_in known r ≡ level_of (known r) = level_in-inner known r (closed r has).0 in
+    let e = level_in-inner known r (closed r has).0 in
     let k : x < level_of (known r) =
-    unit_of_branch x (level_of (known r)) (family known (lo_of (known r))) (family known (hi_of (known r)))
-    (hi_filled known (known r) closed (closed r has).1)
+    unit_of_branch _ _ _ _ (Splits-node known r closed has).some_with
     (subst (IsAbove x) (family-node known r closed has) above) in
     omega (arith, e)
 
@@ -153,8 +151,7 @@ node_known : (known : ℕ → ℕ) (r q : ℕ) → IsClosed known → known r �
     → known q ≢ 0
 node_known known r q closed has (inr has') same = has'
 node_known known r zero closed has (inl below) same =
-    absurd (branch-filled (level_of (known r)) (family known (lo_of (known r))) (family known (hi_of (known r)))
-    (hi_filled known (known r) closed (closed r has).1)
+    absurd (branch-filled _ _ _ (hi_filled known (known r) closed (closed r has).1)
     (sym (family-node known r closed has) ∙ same ∙ family-empty known))
 node_known known r (suc zero) closed has (inl below) same =
     let e : level_of (known r) ≡ 0 =
@@ -162,40 +159,19 @@ node_known known r (suc zero) closed has (inl below) same =
     absurd (let unit = (closed r has).1.unit in omega (arith, e, unit.0))
 node_known known r (suc (suc q)) closed has (inl below) same = absurd (omega arith)
 
-same_level : (known : ℕ → ℕ) (r q : ℕ) → IsClosed known → known r ≢ 0 → known q ≢ 0 → family known r ≡ family known q
-    → level_of (known r) ≡ level_of (known q)
-same_level known r q closed has has' same =
-    sym (first_unit-family known r closed has) ∙ ap first_unit same ∙ first_unit-family known q closed has'
-
-same_lo : (known : ℕ → ℕ) (r q : ℕ) → IsClosed known → known r ≢ 0 → known q ≢ 0 → family known r ≡ family known q
-    → family known (lo_of (known r)) ≡ family known (lo_of (known q))
-same_lo known r q closed has has' same =
-    sym (sets_without-family known r closed has)
-    ∙ ap (sets_without (level_of (known r))) same
-    ∙ ap (λ x. sets_without x (family known q)) (same_level known r q closed has has' same)
-    ∙ sets_without-family known q closed has'
-
-same_hi : (known : ℕ → ℕ) (r q : ℕ) → IsClosed known → known r ≢ 0 → known q ≢ 0 → family known r ≡ family known q
-    → family known (hi_of (known r)) ≡ family known (hi_of (known q))
-same_hi known r q closed has has' same =
-    sym (sets_with-family known r closed has)
-    ∙ ap (sets_with (level_of (known r))) same
-    ∙ ap (λ x. sets_with x (family known q)) (same_level known r q closed has has' same)
-    ∙ sets_with-family known q closed has'
-
 abbrev Tells : (ℕ → ℕ) → ℕ → Type 0
 Tells known r = (q : ℕ) → Knows known q → family known r ≡ family known q → r ≡ q
 
 tells_node : (known : ℕ → ℕ) {r q : ℕ} → IsClosed known → IsUnique known → known r ≢ 0 → known q ≢ 0
     → Tells known (lo_of (known r)) → Tells known (hi_of (known r)) → family known r ≡ family known q → r ≡ q
 tells_node known {r} {q} closed unique has has' lo_tells hi_tells same =
-    unique r q has
-    (same_word (known r) (known q)
-    (same_level known r q closed has has' same)
-    (lo_tells (lo_of (known q)) (lo_known {known = known} {word = known q} (closed q has').1)
-    (same_lo known r q closed has has' same))
-    (hi_tells (hi_of (known q)) (hi_known {known = known} {word = known q} (closed q has').1)
-    (same_hi known r q closed has has' same)))
+    let s = Splits-node known r closed has in
+    let s' =
+    subst (λ f. Splits (level_of (known q)) f (family known (lo_of (known q))) (family known (hi_of (known q))))
+    (sym same) (Splits-node known q closed has') in
+    let node = (closed q has').1 in
+    unique r q has (same_word _ _ (split-unit s s') (lo_tells _ (lo_known node) (split-lo s s'))
+    (hi_tells _ (hi_known node) (split-hi s s')))
 
 terminals : (known : ℕ → ℕ) (r q : ℕ) → r < 2 → q < 2 → family known r ≡ family known q → r ≡ q
 terminals known zero zero below below' same = refl

@@ -15,9 +15,9 @@ parted_later : {K : Type 0} {first x : K} {xs : List K} → Parted xs x → Part
 parted_later {first} {xs} parted = record {
   rest = first ∷ parted.rest;
   fewer = ap (λ n. suc n) parted.fewer;
-  others = λ y differ has. elim (Contains-cons_cases first y xs has) [
-    | inl same ↦ subst (Contains (first ∷ parted.rest)) same (Contains-cons_first first parted.rest)
-    | inr later ↦ Contains-cons_other first y parted.rest (parted.others y differ later)
+  others = λ y differ has. elim (Contains-cons_cases _ _ _ has) [
+    | inl same ↦ subst (Contains (first ∷ parted.rest)) same (Contains-cons_first _ _)
+    | inr later ↦ Contains-cons_other _ _ _ (parted.others y differ later)
   ];
 }
 
@@ -25,16 +25,16 @@ parted_here : {K : Type 0} {first x : K} {xs : List K} → first ≡ x → Parte
 parted_here {first} {xs} same = record {
   rest = xs;
   fewer = refl;
-  others = λ y differ has. elim (Contains-cons_cases first y xs has) [
+  others = λ y differ has. elim (Contains-cons_cases _ _ _ has) [
     | inl same' ↦ absurd (differ (sym same ∙ same'))
     | inr later ↦ later
   ];
 }
 
 parted_at : {K : Type 0} (xs : List K) {x : K} → Contains xs x → Parted xs x
-parted_at [] {x} has = Contains-nil x has
+parted_at [] {x} has = Contains-nil _ has
 parted_at (first ∷ xs) {x} has =
-    elim (Contains-cons_cases first x xs has) [
+    elim (Contains-cons_cases _ _ _ has) [
       | inl same ↦ parted_here same
       | inr later ↦ parted_later (parted_at xs later)
     ]
@@ -43,11 +43,11 @@ pub each_once-length : {K : Type 0} (xs ys : List K) → EachOnce xs → ((x : K
     → length xs ≤ length ys
 each_once-length [] ys once within = omega arith
 each_once-length (x ∷ xs) ys once within =
-    let parted : Parted ys x = parted_at ys (within x (Contains-cons_first x xs)) in
+    let parted : Parted ys x = parted_at ys (within x (Contains-cons_first _ _)) in
     let fewer : length xs ≤ length parted.rest =
     each_once-length xs parted.rest once.1
-    (λ y has. parted.others y (each-contains (λ z. x ≢ z) xs y once.0 has)
-    (within y (Contains-cons_other x y xs has))) in
+    (λ y has. parted.others y (each-contains _ _ _ once.0 has)
+    (within y (Contains-cons_other _ _ _ has))) in
     let e : length ys ≡ suc (length parted.rest) = parted.fewer in
     omega (arith, e, fewer)
 
@@ -75,13 +75,13 @@ pub record IsImage {K J : Type 0} (f : K → J) (xs : List K) (y : J) : Type 0 w
   pub is : f of ≡ y
 
 pub IsImage-from_map : {K J : Type 0} {f : K → J} (xs : List K) (y : J) → Contains (map f xs) y → IsImage f xs y
-IsImage-from_map [] y has = Contains-nil y has
+IsImage-from_map [] y has = Contains-nil _ has
 IsImage-from_map {f} (first ∷ xs) y has =
-    elim (Contains-cons_cases (f first) y (map f xs) has) [
-      | inl same ↦ record { of = first; has = Contains-cons_first first xs; is = same }
+    elim (Contains-cons_cases _ _ _ has) [
+      | inl same ↦ record { of = first; has = Contains-cons_first _ _; is = same }
       | inr later ↦
           let image : IsImage f xs y = IsImage-from_map xs y later in
-          record { of = image.of; has = Contains-cons_other first image.of xs image.has; is = image.is }
+          record { of = image.of; has = Contains-cons_other _ _ _ image.has; is = image.is }
     ]
 
 -- a function that tells the members apart leaves each once
@@ -89,11 +89,11 @@ pub each_once-map : {K J : Type 0} (f : K → J) (xs : List K)
     → ((a b : K) → Contains xs a → Contains xs b → f a ≡ f b → a ≡ b) → EachOnce xs → EachOnce (map f xs)
 each_once-map f [] apart once = tt
 each_once-map f (x ∷ xs) apart once = (
-  each-from_contains (λ y. f x ≢ y) (map f xs) (λ y has same.
+  each-from_contains _ _ (λ y has same.
       let image = IsImage-from_map {f = f} xs y has in
-      each-contains (λ z. x ≢ z) xs image.of once.0 image.has
-      (apart x image.of (Contains-cons_first x xs) (Contains-cons_other x image.of xs image.has)
+      each-contains _ _ _ once.0 image.has
+      (apart x image.of (Contains-cons_first _ _) (Contains-cons_other _ _ _ image.has)
       (same ∙ sym image.is))),
-  each_once-map f xs (λ a b in_a in_b. apart a b (Contains-cons_other x a xs in_a) (Contains-cons_other x b xs in_b))
+  each_once-map f xs (λ a b in_a in_b. apart a b (Contains-cons_other _ _ _ in_a) (Contains-cons_other _ _ _ in_b))
       once.1,
 )

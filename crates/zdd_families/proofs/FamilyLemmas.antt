@@ -9,6 +9,7 @@ use Rattle.std.proofs.{lemmas.Bool.Decides.nat_tests, lemmas.List.append-nil, le
 use Rattle.std.proofs.lemmas.Cmp.{nat_cmp_total, nat_list_cmp_total, tied_itself}
 use Rattle.unit_sets.specs.UnitList.{among, without_unit, IsRising}
 use Rattle.unit_sets.proofs.Sorted.{same_from_members}
+use Rattle.zdd_families.proofs.SetsLemmas.{IsRising-with_first}
 use Rattle.zdd_families.proofs.Lists.{each-append, each-weaker, sorted-append, sorted-map, filter-all, filter-none}
 use Rattle.zdd_families.specs.Family.{IsAbove, IsFamily, IsSetAbove, branch, each_with, first_unit, set_cmp, sets_with}
 use Rattle.zdd_families.specs.Family.{sets_without}
@@ -19,6 +20,12 @@ pub same_family : (f g : List (List ℕ)) → IsFamily f → IsFamily g → ((se
     → f ≡ g
 same_family f g is is' same =
     same_from_members nat_list_cmp_total f g is.ordered is'.ordered (λ set h. (same set).0 h) (λ set h. (same set).1 h)
+
+pub one_family : {P : List ℕ → Type 0} {f g : List (List ℕ)} → IsFamily f → IsFamily g
+    → ((set : List ℕ) → Contains f set ↔ P set) → ((set : List ℕ) → Contains g set ↔ P set) → f ≡ g
+one_family {f} {g} is is' same same' =
+    same_family f g is is'
+    (λ set. (λ has. (same' set).1 ((same set).0 has), λ has. (same set).1 ((same' set).0 has)))
 
 pub IsFamily-nil : IsFamily []
 unfolding IsStrictlySortedBy
@@ -52,7 +59,7 @@ each_before_each : (x : ℕ) (hi lo : List (List ℕ)) → IsAbove x lo → AllB
 each_before_each x [] lo above filled = tt
 each_before_each x (a ∷ hi) lo above filled = (before_each x a lo above filled, each_before_each x hi lo above filled)
 
-filled_after : (unit : ℕ) (set : List ℕ) (others : List (List ℕ))
+pub filled_after : (unit : ℕ) (set : List ℕ) (others : List (List ℕ))
     → AllByRecursion (λ b. set_cmp (unit ∷ set) b ≡ Less) others → AllByRecursion (λ b. set_cmp [] b ≡ Less) others
 filled_after unit set [] after = tt
 filled_after unit set ([] ∷ others) after = absurd (let e = after.0 in cc)
@@ -63,18 +70,18 @@ filled_with x [] = tt
 filled_with x (a ∷ hi) = (refl, filled_with x hi)
 
 sorted_with : (x : ℕ) (hi : List (List ℕ)) → IsStrictlySortedBy set_cmp hi → IsStrictlySortedBy set_cmp (each_with x hi)
-sorted_with x hi s = sorted-map set_cmp (λ set. x ∷ set) hi (λ a b h. less_than_itself x a b h) s
+sorted_with x hi s = sorted-map _ _ _ (λ a b h. less_than_itself x a b h) s
 
 sorted-branch : (x : ℕ) (lo hi : List (List ℕ)) → IsStrictlySortedBy set_cmp lo → IsStrictlySortedBy set_cmp hi
     → IsAbove x lo → IsStrictlySortedBy set_cmp (branch x lo hi)
 unfolding IsStrictlySortedBy
 sorted-branch x [] hi s t above = sorted_with x hi t
 sorted-branch x ([] ∷ others) hi s t above = (
-  each-append (λ b. set_cmp [] b ≡ Less) (each_with x hi) others (filled_with x hi) s.0,
-  sorted-append set_cmp (each_with x hi) others (sorted_with x hi t) s.1 (each_before_each x hi others above.1 s.0),
+  each-append _ _ _ (filled_with x hi) s.0,
+  sorted-append _ _ _ (sorted_with x hi t) s.1 (each_before_each x hi others above.1 s.0),
 )
 sorted-branch x ((unit ∷ set) ∷ others) hi s t above =
-    sorted-append set_cmp (each_with x hi) ((unit ∷ set) ∷ others) (sorted_with x hi t) s
+    sorted-append _ _ _ (sorted_with x hi t) s
     (each_before_each x hi ((unit ∷ set) ∷ others) above (refl, filled_after unit set others s.0))
 
 -- what holds of each set of lo, and of each set of hi with x, holds of each set of the branch
@@ -82,17 +89,12 @@ pub each-branch : (P : List ℕ → Type 0) (x : ℕ) (lo hi : List (List ℕ)) 
     → AllByRecursion P (each_with x hi) → AllByRecursion P (branch x lo hi)
 each-branch P x [] hi all all' = all'
 each-branch P x ([] ∷ others) hi all all' = (all.0, each-append P (each_with x hi) others all' all.1)
-each-branch P x ((unit ∷ set) ∷ others) hi all all' = each-append P (each_with x hi) ((unit ∷ set) ∷ others) all' all
-
-rising_with_one : (x : ℕ) (set : List ℕ) → IsSetAbove x set → IsRising set → IsRising (x ∷ set)
-unfolding IsStrictlySortedBy
-rising_with_one x set above s =
-    (each-weaker (λ unit. x < unit) (λ unit. nat_cmp x unit ≡ Less) set (λ unit h. grind (arith, nat_tests)) above, s)
+each-branch P x ((unit ∷ set) ∷ others) hi all all' = each-append _ _ _ all' all
 
 rising_with : (x : ℕ) (hi : List (List ℕ)) → IsAbove x hi → AllByRecursion IsRising hi
     → AllByRecursion IsRising (each_with x hi)
 rising_with x [] above all = tt
-rising_with x (set ∷ hi) above all = (rising_with_one x set above.0 all.0, rising_with x hi above.1 all.1)
+rising_with x (set ∷ hi) above all = (IsRising-with_first x set above.0 all.0, rising_with x hi above.1 all.1)
 
 pub IsFamily-branch : (x : ℕ) (lo hi : List (List ℕ)) → IsFamily lo → IsFamily hi → IsAbove x lo → IsAbove x hi
     → IsFamily (branch x lo hi)
@@ -104,11 +106,11 @@ IsFamily-branch x lo hi is is' above above' = record {
 -- ---- what is below x is below what is above x
 
 pub IsSetAbove-lower : (y x : ℕ) (set : List ℕ) → y ≤ x → IsSetAbove x set → IsSetAbove y set
-IsSetAbove-lower y x set h above = each-weaker (λ unit. x < unit) (λ unit. y < unit) set (λ unit k. omega arith) above
+IsSetAbove-lower y x set h above = each-weaker _ _ _ (λ unit k. omega arith) above
 
 pub IsAbove-lower : (y x : ℕ) (family : List (List ℕ)) → y ≤ x → IsAbove x family → IsAbove y family
 IsAbove-lower y x family h above =
-    each-weaker (IsSetAbove x) (IsSetAbove y) family (λ set k. IsSetAbove-lower y x set h k) above
+    each-weaker _ _ _ (λ set k. IsSetAbove-lower y x set h k) above
 
 above_with : (y x : ℕ) (hi : List (List ℕ)) → y < x → IsAbove x hi → IsAbove y (each_with x hi)
 above_with y x [] h above = tt
@@ -117,20 +119,20 @@ above_with y x (set ∷ hi) h above = ((h, IsSetAbove-lower y x set (omega arith
 pub IsAbove-branch : (y x : ℕ) (lo hi : List (List ℕ)) → y < x → IsAbove x lo → IsAbove x hi
     → IsAbove y (branch x lo hi)
 IsAbove-branch y x lo hi h above above' =
-    each-branch (IsSetAbove y) x lo hi (IsAbove-lower y x lo (omega arith) above) (above_with y x hi h above')
+    each-branch (IsSetAbove y) x lo hi (IsAbove-lower _ _ _ (omega arith) above) (above_with y x hi h above')
 
 -- ---- the parts of a branch
 
-lacks : (x : ℕ) (set : List ℕ) → IsSetAbove x set → among set x ≡ false
+pub lacks : (x : ℕ) (set : List ℕ) → IsSetAbove x set → among set x ≡ false
 lacks x [] above = refl
 lacks x (unit ∷ set) above =
-    or_from (unit == x) (among set x) (ne_eqb unit x (λ e. let below = above.0 in omega arith)) (lacks x set above.1)
+    or_from (unit == x) (among set x) (ne_eqb _ _ (λ e. let below = above.0 in omega arith)) (lacks x set above.1)
 
 has_first : (x : ℕ) (set : List ℕ) → among (x ∷ set) x ≡ true
-has_first x set = or_left (x == x) (among set x) (eq-eqb x x refl)
+has_first x set = or_left _ _ (eq-eqb x x refl)
 
 lack_each : (x : ℕ) (lo : List (List ℕ)) → IsAbove x lo → AllByRecursion (λ set. among set x ≡ false) lo
-lack_each x lo above = each-weaker (IsSetAbove x) (λ set. among set x ≡ false) lo (λ set h. lacks x set h) above
+lack_each x lo above = each-weaker _ _ _ (λ set h. lacks x set h) above
 
 have_each : (x : ℕ) (hi : List (List ℕ)) → AllByRecursion (λ set. among set x ≡ true) (each_with x hi)
 have_each x [] = tt
@@ -138,15 +140,11 @@ have_each x (set ∷ hi) = (has_first x set, have_each x hi)
 
 none_without : (x : ℕ) (hi : List (List ℕ)) → sets_without x (each_with x hi) ≡ []
 none_without x hi =
-    filter-none (λ set. not (among set x)) (each_with x hi)
-    (each-weaker (λ set. among set x ≡ true) (λ set. not (among set x) ≡ false) (each_with x hi)
-    (λ set h. not_from_true (among set x) h) (have_each x hi))
+    filter-none _ _ (each-weaker _ _ _ (λ set h. not_from_true (among set x) h) (have_each x hi))
 
 all_without : (x : ℕ) (lo : List (List ℕ)) → IsAbove x lo → sets_without x lo ≡ lo
 all_without x lo above =
-    filter-all (λ set. not (among set x)) lo
-    (each-weaker (λ set. among set x ≡ false) (λ set. not (among set x) ≡ true) lo
-    (λ set h. not_from_false (among set x) h) (lack_each x lo above))
+    filter-all _ _ (each-weaker _ _ _ (λ set h. not_from_false (among set x) h) (lack_each x lo above))
 
 joined_without : (x : ℕ) (hi lo : List (List ℕ)) → IsAbove x lo → sets_without x (each_with x hi ++ lo) ≡ lo
 joined_without x hi lo above =
@@ -162,10 +160,9 @@ sets_without-branch x ((unit ∷ set) ∷ others) hi above = joined_without x hi
 
 taken_out : (x : ℕ) (set : List ℕ) → IsSetAbove x set → without_unit x (x ∷ set) ≡ set
 taken_out x set above =
-    cond-false (not (x == x)) (x ∷ without_unit x set) (without_unit x set) (not_from_true (x == x) (eq-eqb x x refl))
-    ∙ filter-all (λ member. not (member == x)) set
-    (each-weaker (λ unit. x < unit) (λ unit. not (unit == x) ≡ true) set
-    (λ unit h. not_from_false (unit == x) (ne_eqb unit x (λ e. omega arith))) above)
+    cond-false _ _ _ (not_from_true _ (eq-eqb x x refl))
+    ∙ filter-all _ _ (each-weaker _ _ _
+    (λ unit h. not_from_false (unit == x) (ne_eqb _ _ (λ e. omega arith))) above)
 
 all_taken_out : (x : ℕ) (hi : List (List ℕ)) → IsAbove x hi → map (λ set. without_unit x set) (each_with x hi) ≡ hi
 all_taken_out x [] above = refl

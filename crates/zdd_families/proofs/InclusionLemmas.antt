@@ -1,17 +1,17 @@
 -- What follows from the definitions of `specs/Inclusion`.
-use Rattle.std.specs.Prelude.{◌≡◌, ◌⊎◌, ℕ, ◌<◌, ◌≤◌, Bool, true, false, ◌==◌, ◌&&◌, ◌||◌, List, [], ◌∷◌, Contains}
+use Rattle.std.specs.Prelude.{◌≡◌, ◌⊎◌, ℕ, ◌<◌, ◌≤◌, Bool, true, false, ◌&&◌, ◌||◌, List, [], ◌∷◌, Contains}
 use Rattle.std.specs.Prelude.{length}
 use Rattle.std.specs.{List.AllByRecursion, List.Sorted.IsStrictlySortedBy, Ordering.nat_cmp}
 use Rattle.std.specs.{declared.cmp.Ordering.TheVariants.Less}
 use Rattle.std.proofs.Common.{refl, sym, ◌∙◌, ap, subst, inl, inr, arith, eq-eqb}
-use Rattle.std.proofs.lemmas.Bool.{or_cases, or_left, or_right, or_from, and_parts, ne_eqb, eqb-true, false≢true}
+use Rattle.std.proofs.lemmas.Bool.{or_cases, or_left, or_right, and_parts, ne_eqb, eqb-true, false≢true}
 use Rattle.std.proofs.lemmas.Bool.Decides.{nat_tests}
 use Rattle.unit_sets.specs.UnitList.{among, is_within, IsRising}
 use Rattle.unit_sets.proofs.UnitListLemmas.{among-from_is_within, is_within-from_among, same_set}
-use Rattle.unit_sets.proofs.Sorted.{Contains-cons_first, Contains-cons_other, Contains-cons_cases, Contains-nil}
 use Rattle.zdd_families.specs.{Family.IsSetAbove, Cuts.Cuts, Inclusion.Includes, Inclusion.includes_one}
-use Rattle.zdd_families.proofs.{FamilyLemmas.IsSetAbove-lower, SetsLemmas.unit_above, SetsLemmas.IsRising-rest}
-use Rattle.zdd_families.proofs.CutsLemmas.{cut_cases, cut_has_lo, cut_has_hi, set_above}
+use Rattle.zdd_families.proofs.{FamilyLemmas.IsSetAbove-lower, FamilyLemmas.lacks, SetsLemmas.unit_above}
+use Rattle.zdd_families.proofs.{SetsLemmas.IsRising-rest}
+use Rattle.zdd_families.proofs.CutsLemmas.{cut_each, cut_has_lo, cut_has_hi, set_above, found_in, test_from}
 
 pub same_Bool : (a b : Bool) → (a ≡ true → b ≡ true) → (b ≡ true → a ≡ true) → a ≡ b
 same_Bool true b to from = sym (to refl)
@@ -19,29 +19,13 @@ same_Bool false true to from = from refl
 same_Bool false false to from = refl
 
 pub Includes-from_test : (family : List (List ℕ)) (set : List ℕ) → includes_one family set ≡ true → Includes family set
-Includes-from_test [] set h = absurd cc
-Includes-from_test (first ∷ others) set h =
-    elim (or_cases (is_within set first) (includes_one others set) h) [
-      | inl here ↦ record { part = first; has = Contains-cons_first first others; within = here }
-      | inr later ↦
-          let found : Includes others set = Includes-from_test others set later in
-          record {
-            part = found.part;
-            has = Contains-cons_other first found.part others found.has;
-            within =
-                found.within;
-          }
-    ]
+Includes-from_test family set h =
+    let found = found_in (is_within set) family h in
+    record { part = found.of; has = found.has; within = found.passes }
 
 pub test-from_part : (family : List (List ℕ)) (set part : List ℕ) → Contains family part → is_within set part ≡ true
     → includes_one family set ≡ true
-test-from_part [] set part has within = Contains-nil part has
-test-from_part (first ∷ others) set part has within =
-    elim (Contains-cons_cases first part others has) [
-      | inl same ↦ or_left (is_within set first) (includes_one others set) (ap (is_within set) same ∙ within)
-      | inr later ↦ or_right (is_within set first) (includes_one others set)
-          (test-from_part others set part later within)
-    ]
+test-from_part family set part has within = test_from (is_within set) family part has within
 
 -- ---- inclusion of sets
 
@@ -59,27 +43,19 @@ same_within {a} {b} s t h k =
     (among-from_is_within a b unit h))
 
 other_first : (x unit : ℕ) (set : List ℕ) → x < unit → among (x ∷ set) unit ≡ among set unit
-other_first x unit set h = ap (λ q. q || among set unit) (ne_eqb x unit (λ e. omega arith))
-
-ands : {a b c d : Bool} → a ≡ b → c ≡ d → (a && c) ≡ (b && d)
-ands {b} {c} e f = ap (λ q. q && c) e ∙ ap (λ q. b && q) f
+other_first x unit set h = ap (λ q. q || among set unit) (ne_eqb _ _ (λ e. omega arith))
 
 -- x, below all units of a part, does not help to include the part
 pub within-with_first : (x : ℕ) (set part : List ℕ) → IsSetAbove x part → is_within (x ∷ set) part ≡ is_within set part
 within-with_first x set [] above = refl
 within-with_first x set (unit ∷ part) above =
-    ands (other_first x unit set above.0) (within-with_first x set part above.1)
+    cc (other_first x unit set above.0, within-with_first x set part above.1)
 
 pub within-with_both : (x : ℕ) (set part : List ℕ) → IsSetAbove x part
     → is_within (x ∷ set) (x ∷ part) ≡ is_within set part
 within-with_both x set part above =
-    ap (λ q. q && is_within (x ∷ set) part) (or_left (x == x) (among set x) (eq-eqb x x refl))
-    ∙ within-with_first x set part above
-
-lacks : (x : ℕ) (set : List ℕ) → IsSetAbove x set → among set x ≡ false
-lacks x [] above = refl
-lacks x (unit ∷ set) above =
-    or_from (unit == x) (among set x) (ne_eqb unit x (λ e. let below = above.0 in omega arith)) (lacks x set above.1)
+    ap (λ q. q && is_within (x ∷ set) part) (or_left _ _ (eq-eqb x x refl))
+    ∙ within-with_first _ _ _ above
 
 -- a set above x includes no set with x
 pub within-none : (x : ℕ) (set part : List ℕ) → IsSetAbove x set → is_within set (x ∷ part) ≡ false
@@ -91,56 +67,46 @@ module _ {x : ℕ} {g g0 g1 : List (List ℕ)} (cut : Cuts x g g0 g1) (set : Lis
   lo_to : includes_one g set ≡ true → includes_one g0 set ≡ true
   lo_to h =
       let found : Includes g set = Includes-from_test g set h in
-      elim (cut_cases found.part cut found.has) [
-        | inl of_lo ↦ test-from_part g0 set found.part of_lo found.within
-        | inr with_x ↦ absurd (false≢true (sym (within-none x set with_x.0 above) ∙ ap (is_within set) (sym with_x.1)
-            ∙ found.within))
-      ]
+      cut_each (λ q. is_within set q ≡ true → includes_one g0 set ≡ true) cut
+      (λ part has within. test-from_part g0 set part has within)
+      (λ rest has within. absurd (false≢true (sym (within-none x set rest above) ∙ within))) found.part found.has
+      found.within
 
   lo_from : includes_one g0 set ≡ true → includes_one g set ≡ true
   lo_from h =
       let found : Includes g0 set = Includes-from_test g0 set h in
-      test-from_part g set found.part (cut_has_lo found.part cut found.has) found.within
+      test-from_part g set found.part (cut_has_lo _ cut found.has) found.within
 
   -- a set above x includes of g what it includes of the sets without x
   pub includes_one-above : includes_one g set ≡ includes_one g0 set
-  includes_one-above = same_Bool (includes_one g set) (includes_one g0 set) lo_to lo_from
+  includes_one-above = same_Bool _ _ lo_to lo_from
 
   hi_to : includes_one g (x ∷ set) ≡ true → (includes_one g1 set || includes_one g0 set) ≡ true
   hi_to h =
       let found : Includes g (x ∷ set) = Includes-from_test g (x ∷ set) h in
-      elim (cut_cases found.part cut found.has) [
-        | inl of_lo ↦
-            or_right (includes_one g1 set) (includes_one g0 set)
-            (test-from_part g0 set found.part of_lo (sym (within-with_first x set found.part
-            (set_above x g0 found.part cut.lo_above of_lo)) ∙ found.within))
-        | inr with_x ↦
-            or_left (includes_one g1 set) (includes_one g0 set)
-            (test-from_part g1 set with_x.0 with_x.2
-            (sym (within-with_both x set with_x.0 (set_above x g1 with_x.0 cut.hi_above with_x.2))
-            ∙ ap (is_within (x ∷ set)) (sym with_x.1) ∙ found.within))
+      cut_each (λ q. is_within (x ∷ set) q ≡ true → (includes_one g1 set || includes_one g0 set) ≡ true) cut
+      (λ part has within. or_right _ _ (test-from_part g0 set part has
+      (sym (within-with_first x set part (set_above _ _ _ cut.lo_above has)) ∙ within)))
+      (λ rest has within. or_left _ _ (test-from_part g1 set rest has
+      (sym (within-with_both x set rest (set_above _ _ _ cut.hi_above has)) ∙ within))) found.part found.has
+      found.within
+
+  hi_from : (includes_one g1 set || includes_one g0 set) ≡ true → includes_one g (x ∷ set) ≡ true
+  hi_from h =
+      elim (or_cases _ _ h) [
+        | inl of_hi ↦
+            let found : Includes g1 set = Includes-from_test g1 set of_hi in
+            test-from_part g (x ∷ set) (x ∷ found.part) (cut_has_hi _ cut found.has)
+            (within-with_both x set found.part (set_above _ _ _ cut.hi_above found.has) ∙ found.within)
+        | inr of_lo ↦
+            let found : Includes g0 set = Includes-from_test g0 set of_lo in
+            test-from_part g (x ∷ set) found.part (cut_has_lo _ cut found.has)
+            (within-with_first x set found.part (set_above _ _ _ cut.lo_above found.has) ∙ found.within)
       ]
-
-  hi_from_lo : includes_one g0 set ≡ true → includes_one g (x ∷ set) ≡ true
-  hi_from_lo h =
-      let found : Includes g0 set = Includes-from_test g0 set h in
-      test-from_part g (x ∷ set) found.part (cut_has_lo found.part cut found.has)
-      (within-with_first x set found.part (set_above x g0 found.part cut.lo_above found.has) ∙ found.within)
-
-  hi_from_hi : includes_one g1 set ≡ true → includes_one g (x ∷ set) ≡ true
-  hi_from_hi h =
-      let found : Includes g1 set = Includes-from_test g1 set h in
-      test-from_part g (x ∷ set) (x ∷ found.part) (cut_has_hi found.part cut found.has)
-      (within-with_both x set found.part (set_above x g1 found.part cut.hi_above found.has) ∙ found.within)
 
   -- with x it includes also the sets with x whose rest it includes
   pub includes_one-with : includes_one g (x ∷ set) ≡ (includes_one g1 set || includes_one g0 set)
-  includes_one-with =
-      same_Bool (includes_one g (x ∷ set)) (includes_one g1 set || includes_one g0 set) hi_to
-      (λ h. elim (or_cases (includes_one g1 set) (includes_one g0 set) h) [
-        | inl of_hi ↦ hi_from_hi of_hi
-        | inr of_lo ↦ hi_from_lo of_lo
-      ])
+  includes_one-with = same_Bool _ _ hi_to hi_from
 
 -- ---- a set that includes another and is not included has more units
 
@@ -153,20 +119,20 @@ unfolding IsStrictlySortedBy
 above_first x set s = rising_above x set s.0
 
 higher : (b a : ℕ) (part : List ℕ) → b < a → IsSetAbove a part → IsSetAbove b part
-higher b a part h above = IsSetAbove-lower b a part (omega arith) above
+higher b a part h above = IsSetAbove-lower _ _ _ (omega arith) above
 
 -- the part's first unit is the set's, and the rest within the rest; or all of the part is within the rest
 starts : (b a : ℕ) (set part : List ℕ) → IsRising (b ∷ set) → IsRising (a ∷ part)
     → is_within (b ∷ set) (a ∷ part) ≡ true → ((b ≡ a) × (is_within set part ≡ true))
     ⊎ (is_within set (a ∷ part) ≡ true)
 starts b a set part s t h =
-    elim (or_cases (b == a) (among set a) (and_parts (among (b ∷ set) a) (is_within (b ∷ set) part) h).0) [
+    elim (or_cases _ _ (and_parts _ _ h).0) [
       | inl here ↦
-          let same : b ≡ a = eqb-true b a here in
+          let same : b ≡ a = eqb-true _ _ here in
           inl (
             same,
-            sym (within-with_first b set part (subst (λ (q : ℕ). IsSetAbove q part) (sym same) (above_first a part t)))
-                ∙ (and_parts (among (b ∷ set) a) (is_within (b ∷ set) part) h).1,
+            sym (within-with_first b set part (subst (λ q. IsSetAbove q part) (sym same) (above_first a part t)))
+                ∙ (and_parts _ _ h).1,
           )
       | inr later ↦
           let below : b < a = unit_above b a set (above_first b set s) later in
@@ -179,14 +145,14 @@ within-length set [] s t h = omega arith
 within-length [] (a ∷ part) s t h = absurd cc
 within-length (b ∷ set) (a ∷ part) s t h =
     elim (starts b a set part s t h) [
-      | inl both ↦ let k = within-length set part (IsRising-rest b set s) (IsRising-rest a part t) both.1 in omega arith
-      | inr later ↦ let k = within-length set (a ∷ part) (IsRising-rest b set s) t later in omega arith
+      | inl both ↦ let k = within-length _ _ (IsRising-rest b set s) (IsRising-rest a part t) both.1 in omega arith
+      | inr later ↦ let k = within-length _ _ (IsRising-rest b set s) t later in omega arith
     ]
 
 not_back : {b a : ℕ} (set part : List ℕ) → b ≡ a → IsSetAbove b set → is_within (a ∷ part) (b ∷ set) ≡ false
     → is_within part set ≡ false
 not_back {b} set part same above h =
-    sym (within-with_both b part set above) ∙ ap (λ q. is_within (q ∷ part) (b ∷ set)) same ∙ h
+    sym (within-with_both _ _ _ above) ∙ ap (λ q. is_within (q ∷ part) (b ∷ set)) same ∙ h
 
 pub within-shorter : (set part : List ℕ) → IsRising set → IsRising part → is_within set part ≡ true
     → is_within part set ≡ false → length part < length set
@@ -196,7 +162,7 @@ within-shorter [] (a ∷ part) s t h back = absurd cc
 within-shorter (b ∷ set) (a ∷ part) s t h back =
     elim (starts b a set part s t h) [
       | inl both ↦ let k =
-          within-shorter set part (IsRising-rest b set s) (IsRising-rest a part t) both.1
+          within-shorter _ _ (IsRising-rest b set s) (IsRising-rest a part t) both.1
           (not_back set part both.0 (above_first b set s) back) in omega arith
-      | inr later ↦ let k = within-length set (a ∷ part) (IsRising-rest b set s) t later in omega arith
+      | inr later ↦ let k = within-length _ _ (IsRising-rest b set s) t later in omega arith
     ]

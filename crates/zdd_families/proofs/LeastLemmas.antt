@@ -1,12 +1,13 @@
 -- What follows from the definitions of `specs/Least`.
-use Rattle.std.specs.Prelude.{◌≡◌, ◌↔◌, ℕ, Bool, true, nat_lt, List, Contains}
+use Rattle.std.specs.Prelude.{◌≡◌, ◌↔◌, ℕ, Bool, true, List, Contains}
 use Rattle.std.specs.List.{list_all}
 use Rattle.std.proofs.Common.{refl, sym, ◌∙◌, subst}
 use Rattle.std.proofs.lemmas.Bool.{and_parts, ltb-true}
 use Rattle.unit_sets.specs.UnitList.{among, is_within, some_within}
 use Rattle.unit_sets.proofs.UnitListLemmas.{is_within-from_among}
-use Rattle.zdd_families.specs.Family.{IsFamily, IsAbove, IsSetAbove}
+use Rattle.zdd_families.specs.Family.{IsFamily, IsAbove}
 use Rattle.zdd_families.proofs.{CutsLemmas.set_rises, CutsLemmas.each-from_contains, MinimalLemmas.minimal-one}
+use Rattle.zdd_families.proofs.MinimalLemmas.{minimal-itself}
 use Rattle.zdd_families.proofs.{SetsLemmas.above_from_among, CutAtUnit.above_only}
 use Rattle.zdd_families.proofs.WithinLemmas.{HasWithin, HasWithin-from_test, some_within-from_set}
 use Rattle.zdd_families.proofs.WithinLemmas.{some_within-minimal}
@@ -35,12 +36,12 @@ module _ {f : List (List ℕ)} (least : List (List ℕ)) (is_family : IsFamily f
     below : (set : List ℕ) → Contains least set → HasWithin f (among set)
     below set has =
         HasWithin-from_test f (sym (is.some_within (among set))
-        ∙ some_within-from_set least (among set) set has (within_itself set))
+        ∙ some_within-from_set _ _ _ has (within_itself set))
 
     under : (set : List ℕ) → Contains f set → HasWithin least (among set)
     under set has =
         HasWithin-from_test least (is.some_within (among set)
-        ∙ some_within-from_set f (among set) set has (within_itself set))
+        ∙ some_within-from_set _ _ _ has (within_itself set))
 
     -- a set of the family within one of the antichain is the same set
     same_below : {set other : List ℕ} → Contains least set → Contains f other → is_within set other ≡ true → other ≡ set
@@ -49,7 +50,7 @@ module _ {f : List (List ℕ)} (least : List (List ℕ)) (is_family : IsFamily f
         let same : found.set ≡ set =
         (least_rises set has).1 found.set found.has (within_trans set other found.set within found.passes) in
         same_within (set_rises other is_family has') (set_rises set is.antichain.is_family has)
-        (subst (λ (q : List ℕ). is_within other q ≡ true) same found.passes) within
+        (subst (λ q. is_within other q ≡ true) same found.passes) within
 
     to : (set : List ℕ) → Contains least set → Contains f set × IncludesNoOther f set
     to set has =
@@ -73,13 +74,9 @@ module _ {f : List (List ℕ)} (least : List (List ℕ)) (is_family : IsFamily f
 
 -- and the minimal sets of a family are such an antichain
 pub antichain-minimal : {f least : List (List ℕ)} → IsMinimal f least → IsAntichain least
-antichain-minimal is = record {
-  is_family = is.is_family;
-  sets = λ set. (
-    λ has. (has, λ other has' within. ((is.sets set).0 has).1 other ((is.sets other).0 has').0 within),
-    λ both. both.0,
-  );
-}
+antichain-minimal is =
+    minimal-itself is.is_family
+    (λ set other has has' within. ((is.sets set).0 has).1 other ((is.sets other).0 has').0 within)
 
 pub IsLeastFor-minimal : {f least : List (List ℕ)} → IsFamily f → IsMinimal f least → IsLeastFor (some_within f) least
 IsLeastFor-minimal {f} {least} is_family is =
@@ -129,17 +126,17 @@ within_from set part within of_set passes =
 pub least-above : {test : (ℕ → Bool) → Bool} (x : ℕ) {least : List (List ℕ)} → IsLeastFor test least
     → ((within : ℕ → Bool) → test (above_only x within) ≡ test within) → IsAbove x least
 least-above x {least} is asks =
-    each-from_contains (IsSetAbove x) least (λ set has.
+    each-from_contains _ _ (λ set has.
     let within : ℕ → Bool = above_only x (among set) in
     let found : HasWithin least within =
     HasWithin-from_test least (is.some_within within ∙ asks (among set) ∙ sym (is.some_within (among set))
-    ∙ some_within-from_set least (among set) set has (within_itself set)) in
+    ∙ some_within-from_set _ _ _ has (within_itself set)) in
     let passes : (unit : ℕ) → among found.set unit ≡ true → within unit ≡ true =
     λ unit h. passes_at within found.set unit found.passes h in
     let same : found.set ≡ set =
     ((is.antichain.sets set).0 has).1 found.set found.has
-    (within_from set found.set within (λ unit h. (and_parts (among set unit) (nat_lt x unit) h).0)
+    (within_from set found.set within (λ unit h. (and_parts _ _ h).0)
     found.passes) in
-    above_from_among x set (λ unit h. ltb-true x unit
-    (and_parts (among set unit) (nat_lt x unit) (passes unit
-    (subst (λ (q : List ℕ). among q unit ≡ true) (sym same) h))).1))
+    above_from_among _ _ (λ unit h. ltb-true x unit
+    (and_parts _ _ (passes unit
+    (subst (λ q. among q unit ≡ true) (sym same) h))).1))

@@ -27,7 +27,7 @@ pub sorted-append : {K : Type 0} (R : K → K → Ordering) (xs ys : List K) →
 unfolding IsStrictlySortedBy
 sorted-append R [] ys s t below = t
 sorted-append R (x ∷ xs) ys s t below =
-    (each-append (λ y. R x y ≡ Less) xs ys s.0 below.0, sorted-append R xs ys s.1 t below.1)
+    (each-append _ _ _ s.0 below.0, sorted-append R xs ys s.1 t below.1)
 
 -- A list in strict order stays so under a function that keeps the order.
 pub sorted-map : {K : Type 0} (R : K → K → Ordering) (f : K → K) (xs : List K)
@@ -42,10 +42,10 @@ pub filter-all : {K : Type 0} (test : K → Bool) (xs : List K) → AllByRecursi
     → filter test xs ≡ xs
 filter-all test [] all = refl
 filter-all test (x ∷ xs) all =
-    cond-true (test x) (x ∷ filter test xs) (filter test xs) all.0 ∙ ap (λ q. x ∷ q) (filter-all test xs all.1)
+    cond-true _ _ _ all.0 ∙ ap (λ q. x ∷ q) (filter-all _ _ all.1)
 
 pub filter-none : {K : Type 0} (test : K → Bool) (xs : List K) → AllByRecursion (λ x. test x ≡ false) xs
     → filter test xs ≡ []
 filter-none test [] all = refl
 filter-none test (x ∷ xs) all =
-    cond-false (test x) (x ∷ filter test xs) (filter test xs) all.0 ∙ filter-none test xs all.1
+    cond-false _ _ _ all.0 ∙ filter-none test xs all.1

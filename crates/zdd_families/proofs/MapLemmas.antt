@@ -1,5 +1,5 @@
 -- What follows from the definitions of `specs/Map`.
-use Rattle.std.specs.Prelude.{◌≡◌, ◌≢◌, ℕ, zero, suc, ◌+◌, ◌-◌, ◌<◌, ◌≤◌, true, false, not, ◌&&◌, ◌==◌}
+use Rattle.std.specs.Prelude.{◌≡◌, ◌≢◌, ℕ, zero, suc, ◌+◌, ◌-◌, ◌<◌, ◌≤◌, true, false, not, ◌==◌}
 use Rattle.std.specs.Prelude.{nat_lt, List, [], ◌∷◌}
 use Rattle.std.proofs.Common.{refl, sym, ◌∙◌, ap, subst, inl, inr, arith}
 use Rattle.std.proofs.lemmas.Bool.{cases_lt, cases_eq, cases_Bool, and_parts, and_from, cond-true}
@@ -14,10 +14,10 @@ use Rattle.zdd_families.specs.Map.{terminal}
 -- ---- levels
 
 pub level_in-terminal : (known : ℕ → ℕ) (r : ℕ) → r < 2 → level_in known r ≡ 4096
-level_in-terminal known r h = cond-true (nat_lt r 2) 4096 (level_of (known r)) (lt-ltb r 2 h)
+level_in-terminal known r h = cond-true _ _ _ (lt-ltb _ _ h)
 
 pub level_in-inner : (known : ℕ → ℕ) (r : ℕ) → 2 ≤ r → level_in known r ≡ level_of (known r)
-level_in-inner known r h = cond-false (nat_lt r 2) 4096 (level_of (known r)) (le-ltb r 2 h)
+level_in-inner known r h = cond-false _ _ _ (le-ltb _ _ h)
 
 -- a reference above some level is known
 pub Knows-from_level : (known : ℕ → ℕ) (x r : ℕ) → x < level_in known r → Knows known r
@@ -70,30 +70,21 @@ hi_known {known} {word} node = Knows-from_level known (level_of word) (hi_of wor
 
 pub IsInner-from_test : {known : ℕ → ℕ} {r : ℕ} → is_inner known r ≡ true → IsInner known r
 IsInner-from_test {known} {r} h =
-    let both =
-    and_parts (not (nat_lt r 2) && not (known r == 0))
-    (nat_lt (level_of (known r)) (level_in known (lo_of (known r)))
-    && nat_lt (level_of (known r)) (level_in known (hi_of (known r)))) h in
+    let both = and_parts _ _ h in
     let here = and_parts (not (nat_lt r 2)) (not (known r == 0)) both.0 in
-    let there =
-    and_parts (nat_lt (level_of (known r)) (level_in known (lo_of (known r))))
-    (nat_lt (level_of (known r)) (level_in known (hi_of (known r)))) both.1 in
+    let there = and_parts _ _ both.1 in
     record {
       above = grind (arith, nat_tests, here.0);
-      has = eqb-false (known r) 0 (not-true (known r == 0) here.1);
+      has = eqb-false _ _ (not-true _ here.1);
       lo_above = ltb-true _ _ there.0;
       hi_above = ltb-true _ _ there.1;
     }
 
 pub test-from_IsInner : {known : ℕ → ℕ} {r : ℕ} → IsInner known r → is_inner known r ≡ true
 test-from_IsInner {known} {r} is =
-    and_from (not (nat_lt r 2) && not (known r == 0))
-    (nat_lt (level_of (known r)) (level_in known (lo_of (known r)))
-    && nat_lt (level_of (known r)) (level_in known (hi_of (known r))))
-    (and_from (not (nat_lt r 2)) (not (known r == 0)) (not_from_false (nat_lt r 2) (le-ltb r 2 is.above))
-    (not_from_false (known r == 0) (ne_eqb (known r) 0 is.has)))
-    (and_from (nat_lt (level_of (known r)) (level_in known (lo_of (known r))))
-    (nat_lt (level_of (known r)) (level_in known (hi_of (known r)))) (lt-ltb _ _ is.lo_above)
+    and_from _ _ (and_from _ _ (not_from_false _ (le-ltb _ _ is.above))
+    (not_from_false _ (ne_eqb _ _ is.has)))
+    (and_from _ _ (lt-ltb _ _ is.lo_above)
     (lt-ltb _ _ is.hi_above))
 
 -- a reference of a closed map is an inner one
@@ -108,11 +99,11 @@ IsInner-closed {r} closed has = record {
 within_inner : (n : ℕ) (known : ℕ → ℕ) (r : ℕ) → is_inner known r ≡ true
     → family_within (suc n) known r ≡ branch (level_of (known r)) (family_within n known (lo_of (known r)))
     (family_within n known (hi_of (known r)))
-within_inner n known r h = cond-true (is_inner known r) _ (terminal r) h
+within_inner n known r h = cond-true _ _ _ h
 
 within_other : (n : ℕ) (known : ℕ → ℕ) (r : ℕ) → is_inner known r ≡ false → family_within n known r ≡ terminal r
 within_other zero known r h = refl
-within_other (suc n) known r h = cond-false (is_inner known r) _ (terminal r) h
+within_other (suc n) known r h = cond-false _ _ _ h
 
 -- each word's level is a unit's number or 0
 abbrev pub IsBounded : (ℕ → ℕ) → Type 0
@@ -178,7 +169,7 @@ pub family-improper : (known : ℕ → ℕ) (r : ℕ) → 2 ≤ r → is_inner k
 unfolding family
 family-improper known r above other =
     within_other (4096 - level_in known r) known r other
-    ∙ cond-false (r == 1) ([] ∷ []) [] (ne_eqb r 1 (λ e. omega arith))
+    ∙ cond-false (r == 1) ([] ∷ []) [] (ne_eqb _ _ (λ e. omega arith))
 
 pub family-inner : (known : ℕ → ℕ) (r : ℕ) → IsBounded known → is_inner known r ≡ true
     → family known r ≡ branch (level_of (known r)) (family known (lo_of (known r))) (family known (hi_of (known r)))

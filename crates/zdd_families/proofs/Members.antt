@@ -11,13 +11,12 @@ HasWith x family set = (rest : List ℕ) × (set ≡ x ∷ rest) × Contains fam
 
 pub each_with-contains : (x : ℕ) (family : List (List ℕ)) (set : List ℕ) → Contains family set
     → Contains (each_with x family) (x ∷ set)
-each_with-contains x [] set h = Contains-nil set h
+each_with-contains x [] set h = Contains-nil _ h
 each_with-contains x (first ∷ others) set h =
-    elim (Contains-cons_cases first set others h) [
-      | inl same ↦ subst (λ (q : List ℕ). Contains (each_with x (first ∷ others)) (x ∷ q)) same
-          (Contains-cons_first (x ∷ first) (each_with x others))
-      | inr later ↦ Contains-cons_other (x ∷ first) (x ∷ set) (each_with x others)
-          (each_with-contains x others set later)
+    elim (Contains-cons_cases _ _ _ h) [
+      | inl same ↦ subst (λ q. Contains (each_with x (first ∷ others)) (x ∷ q)) same
+          (Contains-cons_first _ _)
+      | inr later ↦ Contains-cons_other _ _ _ (each_with-contains x others set later)
     ]
 
 pub HasWith-from_each : (x : ℕ) (family : List (List ℕ)) (set : List ℕ) → Contains (each_with x family) set
@@ -37,7 +36,7 @@ pub branch-has_lo : (x : ℕ) (lo hi : List (List ℕ)) (set : List ℕ) → Con
 branch-has_lo x [] hi set h = Contains-nil set h
 branch-has_lo x ([] ∷ others) hi set h =
     elim (Contains-cons_cases [] set others h) [
-      | inl same ↦ subst (λ (q : List ℕ). Contains (branch x ([] ∷ others) hi) q) same
+      | inl same ↦ subst (λ q. Contains (branch x ([] ∷ others) hi) q) same
           (Contains-cons_first [] (each_with x hi ++ others))
       | inr later ↦ Contains-cons_other [] set (each_with x hi ++ others)
           (Contains-append_right (each_with x hi) others set later)
@@ -50,26 +49,26 @@ pub branch-has_hi : (x : ℕ) (lo hi : List (List ℕ)) (set : List ℕ) → Con
 branch-has_hi x [] hi set h = each_with-contains x hi set h
 branch-has_hi x ([] ∷ others) hi set h =
     Contains-cons_other [] (x ∷ set) (each_with x hi ++ others)
-    (Contains-append_left (each_with x hi) others (x ∷ set) (each_with-contains x hi set h))
+    (Contains-append_left _ _ _ (each_with-contains x hi set h))
 branch-has_hi x ((unit ∷ first) ∷ others) hi set h =
-    Contains-append_left (each_with x hi) ((unit ∷ first) ∷ others) (x ∷ set) (each_with-contains x hi set h)
+    Contains-append_left _ _ _ (each_with-contains x hi set h)
 
 -- ---- and no others
 
 joined_cases : (x : ℕ) (hi lo : List (List ℕ)) (set : List ℕ) → Contains (each_with x hi ++ lo) set
     → Contains lo set ⊎ HasWith x hi set
 joined_cases x hi lo set h =
-    elim (Contains-append_cases (each_with x hi) lo set h) [
-      | inl with_x ↦ inr (HasWith-from_each x hi set with_x)
+    elim (Contains-append_cases _ _ _ h) [
+      | inl with_x ↦ inr (HasWith-from_each _ _ _ with_x)
       | inr of_lo ↦ inl of_lo
     ]
 
 pub branch-cases : (x : ℕ) (lo hi : List (List ℕ)) (set : List ℕ) → Contains (branch x lo hi) set
     → Contains lo set ⊎ HasWith x hi set
-branch-cases x [] hi set h = inr (HasWith-from_each x hi set h)
+branch-cases x [] hi set h = inr (HasWith-from_each _ _ _ h)
 branch-cases x ([] ∷ others) hi set h =
     elim (Contains-cons_cases [] set (each_with x hi ++ others) h) [
-      | inl same ↦ inl (subst (λ (q : List ℕ). Contains ([] ∷ others) q) same (Contains-cons_first [] others))
+      | inl same ↦ inl (subst (λ q. Contains ([] ∷ others) q) same (Contains-cons_first [] others))
       | inr later ↦ elim (joined_cases x hi others set later) [
         | inl of_lo ↦ inl (Contains-cons_other [] set others of_lo)
         | inr with_x ↦ inr with_x
@@ -77,16 +76,21 @@ branch-cases x ([] ∷ others) hi set h =
     ]
 branch-cases x ((unit ∷ first) ∷ others) hi set h = joined_cases x hi ((unit ∷ first) ∷ others) set h
 
-with_back : {x : ℕ} (lo hi : List (List ℕ)) {set : List ℕ} → HasWith x hi set → Contains (branch x lo hi) set
-with_back {x} lo hi (rest, same, has) =
-    subst (λ (q : List ℕ). Contains (branch x lo hi) q) (sym same) (branch-has_hi x lo hi rest has)
+-- what holds of lo's sets, and of hi's with x, holds of each set of the branch
+pub branch_each : (P : List ℕ → Type 0) (x : ℕ) (lo hi : List (List ℕ)) → ((set : List ℕ) → Contains lo set → P set)
+    → ((rest : List ℕ) → Contains hi rest → P (x ∷ rest)) → (set : List ℕ) → Contains (branch x lo hi) set → P set
+branch_each P x lo hi of_lo of_hi set h =
+    elim (branch-cases x lo hi set h) [
+      | inl has ↦ of_lo set has
+      | inr (rest, same, has) ↦ subst P (sym same) (of_hi rest has)
+    ]
 
 pub branch-members : (x : ℕ) (lo hi : List (List ℕ)) (set : List ℕ)
     → Contains (branch x lo hi) set ↔ (Contains lo set ⊎ HasWith x hi set)
 branch-members x lo hi set = (
   λ h. branch-cases x lo hi set h,
   λ cases. elim cases [
-    | inl of_lo ↦ branch-has_lo x lo hi set of_lo
-    | inr with_x ↦ with_back lo hi with_x
+    | inl of_lo ↦ branch-has_lo _ _ _ _ of_lo
+    | inr with_x ↦ subst (Contains (branch x lo hi)) (sym with_x.1) (branch-has_hi x lo hi with_x.0 with_x.2)
   ],
 )

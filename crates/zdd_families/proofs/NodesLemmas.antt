@@ -1,61 +1,27 @@
 -- What follows from the definitions of `specs/Nodes`.
-use Rattle.std.specs.Prelude.{◌≡◌, ◌≢◌, ◌↔◌, ℕ, zero, suc, List, [], ◌∷◌, map, length, Contains}
-use Rattle.std.proofs.Common.{refl, sym, ◌∙◌, ap, subst, inl, inr, arith}
+use Rattle.std.specs.Prelude.{◌≡◌, ◌≢◌, ◌↔◌, ℕ, zero, suc, List, map, length, Contains}
+use Rattle.std.proofs.Common.{refl, sym, ◌∙◌, subst, inl, inr, arith}
 use Rattle.std.proofs.lemmas.List.{length-map}
-use Rattle.zdd_words.specs.Word.{level_of, lo_of, hi_of}
-use Rattle.zdd_families.specs.Family.{first_unit, sets_with, sets_without}
-use Rattle.zdd_families.proofs.FamilyLemmas.{first_unit-branch, sets_without-branch}
-use Rattle.zdd_families.proofs.FamilyLemmas.{sets_with-branch, branch-filled}
+use Rattle.zdd_words.specs.Word.{lo_of, hi_of}
 use Rattle.zdd_families.specs.Map.{Knows, IsClosed, IsUnique, family}
 use Rattle.zdd_families.proofs.MapLemmas.{family-empty, family-unit, lo_known, hi_known}
-use Rattle.zdd_families.proofs.{Canonical.family-same, References.Splits-node}
+use Rattle.zdd_families.proofs.Canonical.{family-same, Splits-node}
+use Rattle.zdd_families.proofs.{CutsLemmas.split-lo, CutsLemmas.split-hi, Parts.inner-from_split}
 use Rattle.zdd_families.specs.{Counting.EachOnce, Due.Splits}
 use Rattle.zdd_families.proofs.CountingLemmas.{IsImage, IsImage-from_map, each_once-map, map-contains}
 use Rattle.zdd_families.proofs.CountingLemmas.{same_length}
 use Rattle.zdd_families.specs.Nodes.{IsNodeCount, IsReached, Reaches, reached_hi, reached_itself, reached_lo}
 use Rattle.zdd_families.specs.Nodes.{reaches_hi, reaches_itself, reaches_lo}
 
--- ---- the split of a family is one
-
-module _ (x y : ℕ) (f lo hi lo' hi' : List (List ℕ)) (split : Splits x f lo hi) (split' : Splits y f lo' hi') where
-  least_of : (z : ℕ) (l h : List (List ℕ)) → Splits z f l h → first_unit f ≡ z
-  least_of z l h s = ap first_unit s.cut.is ∙ first_unit-branch z l h s.some_with
-
-  lo_of_split : (z : ℕ) (l h : List (List ℕ)) → Splits z f l h → sets_without z f ≡ l
-  lo_of_split z l h s = ap (sets_without z) s.cut.is ∙ sets_without-branch z l h s.cut.lo_above
-
-  hi_of_split : (z : ℕ) (l h : List (List ℕ)) → Splits z f l h → sets_with z f ≡ h
-  hi_of_split z l h s = ap (sets_with z) s.cut.is ∙ sets_with-branch z l h s.cut.lo_above s.cut.hi_above
-
-  same_least : x ≡ y
-  same_least = sym (least_of x lo hi split) ∙ least_of y lo' hi' split'
-
-  pub split-lo : lo ≡ lo'
-  split-lo = sym (lo_of_split x lo hi split) ∙ ap (λ z. sets_without z f) same_least ∙ lo_of_split y lo' hi' split'
-
-  pub split-hi : hi ≡ hi'
-  split-hi = sym (hi_of_split x lo hi split) ∙ ap (λ z. sets_with z f) same_least ∙ hi_of_split y lo' hi' split'
-
 -- ---- references reach what their families reach
 
 -- the family of a terminal has no units
-none_split : {G : Type 0} (x : ℕ) (lo hi : List (List ℕ)) → Splits x [] lo hi → G
-none_split x lo hi split = absurd (branch-filled x lo hi split.some_with (sym split.cut.is))
-
-unit_split : {G : Type 0} (x : ℕ) (lo hi : List (List ℕ)) → Splits x ([] ∷ []) lo hi → G
-unit_split x lo [] split = absurd (split.some_with refl)
-unit_split x [] (set ∷ hi) split = let e = split.cut.is in absurd cc
-unit_split x ([] ∷ others) (set ∷ hi) split = let e = split.cut.is in absurd cc
-unit_split x ((unit ∷ set') ∷ others) (set ∷ hi) split = let e = split.cut.is in absurd cc
-
-node_from_split : (known : ℕ → ℕ) (r x : ℕ) (lo hi : List (List ℕ)) → Knows known r → Splits x (family known r) lo hi
-    → known r ≢ 0
-node_from_split known r x lo hi (inr has) split = has
-node_from_split known zero x lo hi (inl below) split =
-    none_split x lo hi (subst (λ (q : List (List ℕ)). Splits x q lo hi) (family-empty known) split)
-node_from_split known (suc zero) x lo hi (inl below) split =
-    unit_split x lo hi (subst (λ (q : List (List ℕ)). Splits x q lo hi) (family-unit known) split)
-node_from_split known (suc (suc r)) x lo hi (inl below) split = absurd (omega arith)
+node_from_split : (known : ℕ → ℕ) (r : ℕ) {x : ℕ} {lo hi : List (List ℕ)} → Knows known r
+    → Splits x (family known r) lo hi → known r ≢ 0
+node_from_split known r (inr has) s = has
+node_from_split known zero (inl below) s = absurd ((inner-from_split _ _ _ _ s).not_none (family-empty known))
+node_from_split known (suc zero) (inl below) s = absurd ((inner-from_split _ _ _ _ s).not_unit (family-unit known))
+node_from_split known (suc (suc r)) (inl below) s = absurd (omega arith)
 
 -- a reference that another reaches, as a family
 pub record ReachesAs (known : ℕ → ℕ) (r : ℕ) (g : List (List ℕ)) : Type 0 where
@@ -70,30 +36,19 @@ module _ (known : ℕ → ℕ) (closed : IsClosed known) where
   from_hi : {r : ℕ} {g : List (List ℕ)} → known r ≢ 0 → ReachesAs known (hi_of (known r)) g → ReachesAs known r g
   from_hi has found = record { reference = found.reference; reaches = reaches_hi has found.reaches; is = found.is }
 
-  split_of : (r x : ℕ) {f : List (List ℕ)} (lo hi : List (List ℕ)) → f ≡ family known r → Splits x f lo hi
-      → Splits x (family known r) lo hi
-  split_of r x lo hi same split = subst (λ (q : List (List ℕ)). Splits x q lo hi) same split
-
   reaches_as : {f g : List (List ℕ)} → IsReached f g → {r : ℕ} → Knows known r → f ≡ family known r
       → ReachesAs known r g
-  reaches_as (reached_itself {x = x} {lo = lo} {hi = hi} split) {r} knows same =
-      record {
-        reference = r;
-        reaches = reaches_itself (node_from_split known r x lo hi knows (split_of r x lo hi same split));
-        is = sym same;
-      }
-  reaches_as (reached_lo {x = x} {lo = lo} {hi = hi} split deeper) {r} knows same =
-      let here : Splits x (family known r) lo hi = split_of r x lo hi same split in
-      let has : known r ≢ 0 = node_from_split known r x lo hi knows here in
-      from_lo has (reaches_as deeper (lo_known {known = known} {word = known r} (closed r has).1)
-      (split-lo x (level_of (known r)) (family known r) lo hi (family known (lo_of (known r)))
-      (family known (hi_of (known r))) here (Splits-node known r closed has)))
-  reaches_as (reached_hi {x = x} {lo = lo} {hi = hi} split deeper) {r} knows same =
-      let here : Splits x (family known r) lo hi = split_of r x lo hi same split in
-      let has : known r ≢ 0 = node_from_split known r x lo hi knows here in
-      from_hi has (reaches_as deeper (hi_known {known = known} {word = known r} (closed r has).1)
-      (split-hi x (level_of (known r)) (family known r) lo hi (family known (lo_of (known r)))
-      (family known (hi_of (known r))) here (Splits-node known r closed has)))
+  reaches_as (reached_itself {x = x} {lo = lo} {hi = hi} s) {r} knows same =
+      let here = subst (λ q. Splits x q lo hi) same s in
+      record { reference = r; reaches = reaches_itself (node_from_split known r knows here); is = sym same }
+  reaches_as (reached_lo {x = x} {lo = lo} {hi = hi} s deeper) {r} knows same =
+      let here = subst (λ q. Splits x q lo hi) same s in
+      let has = node_from_split known r knows here in
+      from_lo has (reaches_as deeper (lo_known (closed r has).1) (split-lo here (Splits-node known r closed has)))
+  reaches_as (reached_hi {x = x} {lo = lo} {hi = hi} s deeper) {r} knows same =
+      let here = subst (λ q. Splits x q lo hi) same s in
+      let has = node_from_split known r knows here in
+      from_hi has (reaches_as deeper (hi_known (closed r has).1) (split-hi here (Splits-node known r closed has)))
 
   pub reached-reference : {r q : ℕ} → Reaches known r q → IsReached (family known r) (family known q)
   reached-reference {r} (reaches_itself has) = reached_itself (Splits-node known r closed has)
@@ -117,7 +72,7 @@ module _ (known : ℕ → ℕ) (closed : IsClosed known) where
 pub node_count-one : (f : List (List ℕ)) (n m : ℕ) → IsNodeCount f n → IsNodeCount f m → n ≡ m
 node_count-one f n m is is' =
     is.counted
-    ∙ same_length is.members is'.members is.each_once is'.each_once
+    ∙ same_length _ _ is.each_once is'.each_once
     (λ g. (λ has. (is'.reached g).1 ((is.reached g).0 has), λ has. (is.reached g).1 ((is'.reached g).0 has)))
     ∙ sym is'.counted
 
@@ -141,7 +96,7 @@ module _ (known : ℕ → ℕ) (closed : IsClosed known) (unique : IsUnique know
   members_from g reached =
       let found : ReachesAs known r g = (reached-as known closed r g knows).0 reached in
       subst (Contains (map (family known) references)) found.is
-      (map-contains (family known) references found.reference ((reaches found.reference).1 found.reaches))
+      (map-contains _ _ _ ((reaches found.reference).1 found.reaches))
 
   pub node_count-references : IsNodeCount (family known r) (length references)
   node_count-references = record {

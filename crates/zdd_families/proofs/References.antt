@@ -1,23 +1,10 @@
 -- The families of known references, as the operations cut them.
 use Rattle.std.specs.Prelude.{◌≡◌, ◌≢◌, ℕ, ◌≤◌}
 use Rattle.std.proofs.Common.{sym, ◌∙◌, inl, arith}
-use Rattle.zdd_words.specs.Word.{level_of, lo_of, hi_of}
 use Rattle.zdd_families.specs.Map.{Knows, IsClosed, IsUnique, family}
-use Rattle.zdd_families.proofs.MapLemmas.{family-unit, family-node}
-use Rattle.zdd_families.proofs.Canonical.{lo_units, hi_units, hi_filled, family-filled, family-same}
-use Rattle.zdd_families.specs.Due.{Splits, IsInnerFamily}
-
--- a known node splits its family at its level into those of lo and hi
-pub Splits-node : (known : ℕ → ℕ) (r : ℕ) → IsClosed known → known r ≢ 0
-    → Splits (level_of (known r)) (family known r) (family known (lo_of (known r))) (family known (hi_of (known r)))
-Splits-node known r closed has = record {
-  cut = record {
-    is = family-node known r closed has;
-    lo_above = lo_units known (known r) closed (closed r has).1;
-    hi_above = hi_units {known = known} {word = known r} closed (closed r has).1;
-  };
-  some_with = hi_filled known (known r) closed (closed r has).1;
-}
+use Rattle.zdd_families.proofs.MapLemmas.{family-unit}
+use Rattle.zdd_families.proofs.Canonical.{family-filled, family-same}
+use Rattle.zdd_families.specs.Due.{IsInnerFamily}
 
 -- a known reference but EMPTY and UNIT has an inner family, where different references have different words
 pub IsInnerFamily-reference : (known : ℕ → ℕ) (r : ℕ) → IsClosed known → IsUnique known → Knows known r → 2 ≤ r

@@ -1,5 +1,5 @@
 -- What follows from the definitions of `specs/Spans`.
-use Rattle.std.specs.Prelude.{◌≡◌, ◌⊎◌, ℕ, zero, suc, ◌+◌, ◌<◌, ◌≤◌, ◌==◌, List, [], ◌∷◌, ◌++◌, Contains}
+use Rattle.std.specs.Prelude.{◌≡◌, ◌⊎◌, ℕ, zero, suc, ◌+◌, ◌<◌, ◌≤◌, List, [], ◌∷◌, ◌++◌, Contains}
 use Rattle.std.specs.{List.AllByRecursion, List.Sorted.IsStrictlySortedBy, Ordering.nat_cmp, Ordering.ordering_then}
 use Rattle.std.specs.{declared.cmp.Ordering.TheVariants.Less}
 use Rattle.std.proofs.Common.{refl, sym, ◌∙◌, ap, subst, inl, inr, arith, eq-eqb}
@@ -7,29 +7,30 @@ use Rattle.std.proofs.lemmas.Bool.{cases_eq, or_left, or_right}
 use Rattle.std.proofs.{lemmas.Bool.Decides.nat_tests, lemmas.Cmp.nat_cmp_total, lemmas.Cmp.tied_itself}
 use Rattle.std.proofs.{lemmas.List.append-nil}
 use Rattle.unit_sets.proofs.Sorted.{Contains-cons_first, Contains-cons_other}
-use Rattle.unit_sets.specs.UnitList.{among, IsRising}
+use Rattle.unit_sets.specs.UnitList.{IsRising}
 use Rattle.zdd_families.specs.Family.{IsFamily, IsAbove, IsSetAbove, branch, each_with, set_cmp}
-use Rattle.zdd_families.proofs.{FamilyLemmas.IsFamily-nil, Lists.each-weaker, CutsLemmas.cut_has_lo}
-use Rattle.zdd_families.proofs.{CutsLemmas.cut_has_hi, InclusionLemmas.above_first, SetsLemmas.IsRising-rest}
+use Rattle.zdd_families.proofs.{FamilyLemmas.IsFamily-nil, FamilyLemmas.filled_after, Lists.each-weaker}
+use Rattle.zdd_families.proofs.{CutsLemmas.cut_has_lo}
+use Rattle.zdd_families.proofs.{CutsLemmas.cut_has_hi, CutsLemmas.each-from_contains, CutsLemmas.set_above}
+use Rattle.zdd_families.proofs.{InclusionLemmas.above_first, SetsLemmas.IsRising-rest}
 use Rattle.zdd_families.specs.{Cuts.Cuts, Spans.Spans}
 
 -- ---- a family without the empty set, cut at its first number
 
-record Divides (x : ℕ) (family lo hi : List (List ℕ)) : Type 0 where
+-- each set is not empty
+abbrev AreFilled : List (List ℕ) → Type 0
+AreFilled family = AllByRecursion (λ set. set_cmp [] set ≡ Less) family
+
+-- so are those of lo
+record Divided (x : ℕ) (family : List (List ℕ)) : Type 0 where
+  lo : List (List ℕ)
+  hi : List (List ℕ)
   is : family ≡ each_with x hi ++ lo
   lo_is : IsFamily lo
   hi_is : IsFamily hi
   lo_above : IsAbove x lo
   hi_above : IsAbove x hi
-
-record Divided (x : ℕ) (family : List (List ℕ)) : Type 0 where
-  lo : List (List ℕ)
-  hi : List (List ℕ)
-  divides : Divides x family lo hi
-
--- each set is not empty
-abbrev AreFilled : List (List ℕ) → Type 0
-AreFilled family = AllByRecursion (λ set. set_cmp [] set ≡ Less) family
+  lo_filled : AreFilled lo
 
 family_rest : {first : List ℕ} {others : List (List ℕ)} → IsFamily (first ∷ others) → IsFamily others
 unfolding IsStrictlySortedBy
@@ -72,76 +73,52 @@ each_after : (x : ℕ) (set : List ℕ) (hi lo : List (List ℕ))
 each_after x set [] lo after = tt
 each_after x set (other ∷ hi) lo after = (same_first x set other after.0, each_after x set hi lo after.1)
 
-filled_after : (unit : ℕ) (set : List ℕ) (others : List (List ℕ))
-    → AllByRecursion (λ other. set_cmp (unit ∷ set) other ≡ Less) others → AreFilled others
-filled_after unit set [] after = tt
-filled_after unit set ([] ∷ others) after = absurd (let e = after.0 in cc)
-filled_after unit set ((first ∷ other) ∷ others) after = (refl, filled_after unit set others after.1)
-
 module _ (low : ℕ) where
   with_first : {unit : ℕ} {set : List ℕ} {others : List (List ℕ)} → suc low ≡ unit → IsFamily ((unit ∷ set) ∷ others)
       → Divided (suc low) others → Divided (suc low) ((unit ∷ set) ∷ others)
   with_first {set} {others} same is rest =
-      let x : ℕ = suc low in
-      let rises : IsRising (suc low ∷ set) = subst (λ (q : ℕ). IsRising (q ∷ set)) (sym same) is.rising.0 in
-      let after : AllByRecursion (λ other. set_cmp (suc low ∷ set) other ≡ Less)
-      (each_with (suc low) rest.hi ++ rest.lo) =
-      subst (λ (q : List (List ℕ)). AllByRecursion (λ other. set_cmp (suc low ∷ set) other ≡ Less) q) rest.divides.is
-      (subst (λ (q : ℕ). AllByRecursion (λ other. set_cmp (q ∷ set) other ≡ Less) others) (sym same)
-      (family_first is)) in
+      let rises : IsRising (suc low ∷ set) = rw same is.rising.0 in
+      let after = subst (λ q. AllByRecursion (λ other. set_cmp (suc low ∷ set) other ≡ Less) q) rest.is
+      (subst (λ q. AllByRecursion (λ other. set_cmp (q ∷ set) other ≡ Less) others) (sym same) (family_first is)) in
       record {
         lo = rest.lo;
         hi = set ∷ rest.hi;
-        divides = record {
-          is = ap (λ q. (q ∷ set) ∷ others) (sym same) ∙ ap (λ q. (suc low ∷ set) ∷ q) rest.divides.is;
-          lo_is = rest.divides.lo_is;
-          hi_is =
-              family_with (each_after (suc low) set rest.hi rest.lo after)
-              (IsRising-rest (suc low) set rises) rest.divides.hi_is;
-          lo_above = rest.divides.lo_above;
-          hi_above = (above_first (suc low) set rises, rest.divides.hi_above);
-        };
+        is = rw (← same) (ap (λ q. (suc low ∷ set) ∷ q) rest.is);
+        lo_is = rest.lo_is;
+        hi_is =
+            family_with (each_after (suc low) set rest.hi rest.lo after) (IsRising-rest (suc low) set rises) rest.hi_is;
+        lo_above = rest.lo_above;
+        hi_above = (above_first (suc low) set rises, rest.hi_above);
+        lo_filled = rest.lo_filled;
       }
+
+  -- where no set has the number
+  all_lo : {family : List (List ℕ)} → IsFamily family → AreFilled family → IsAbove (suc low) family
+      → Divided (suc low) family
+  all_lo {family} is filled above = record {
+    lo = family;
+    hi = [];
+    is = refl;
+    lo_is = is;
+    hi_is = IsFamily-nil;
+    lo_above = above;
+    hi_above = tt;
+    lo_filled = filled;
+  }
 
   divided : (family : List (List ℕ)) → IsFamily family → AreFilled family → IsAbove low family
       → Divided (suc low) family
-  divided [] is filled above =
-      record {
-        lo = [];
-        hi = [];
-        divides = record {
-          is = refl;
-          lo_is = IsFamily-nil;
-          hi_is = IsFamily-nil;
-          lo_above =
-              tt;
-          hi_above = tt;
-        };
-      }
+  divided [] is filled above = all_lo is tt tt
   divided ([] ∷ others) is filled above = absurd (let e = filled.0 in cc)
   divided ((unit ∷ set) ∷ others) is filled above =
       elim (cases_eq (suc low) unit) [
         | inl same ↦ with_first same is (divided others (family_rest is) filled.1 above.1)
         | inr other ↦
             let high : suc low < unit = (let k = above.0.0 in omega (arith, other)) in
-            record {
-              lo = (unit ∷ set) ∷ others;
-              hi = [];
-              divides = record {
-                is = refl;
-                lo_is = is;
-                hi_is = IsFamily-nil;
-                lo_above = (
-                  (
-                    high,
-                    each-weaker (λ u. unit < u) (λ u. suc low < u) set (λ u k. omega (arith, high))
-                        (above_first unit set is.rising.0),
-                  ),
-                  all_after (suc low) unit set others high is.rising.1 (family_first is),
-                );
-                hi_above = tt;
-              };
-            }
+            all_lo is filled (
+              (high, each-weaker _ _ _ (λ u k. omega (arith, high)) (above_first unit set is.rising.0)),
+              all_after (suc low) unit set others high is.rising.1 (family_first is),
+            )
       ]
 
 -- ---- any family, cut at its first number
@@ -160,43 +137,36 @@ branch_filled x [] hi filled = sym (append-nil (each_with x hi))
 branch_filled x ([] ∷ others) hi filled = absurd (let e = filled.0 in cc)
 branch_filled x ((unit ∷ set) ∷ others) hi filled = refl
 
-filled_lo : (x : ℕ) (hi lo : List (List ℕ)) → AreFilled (each_with x hi ++ lo) → AreFilled lo
-filled_lo x [] lo filled = filled
-filled_lo x (set ∷ hi) lo filled = filled_lo x hi lo filled.1
-
 cut_filled : (low : ℕ) {family : List (List ℕ)} → IsFamily family → AreFilled family → IsAbove low family
     → CutAt (suc low) family
 cut_filled low {family} is filled above =
     let parts : Divided (suc low) family = divided low family is filled above in
-    let rest : AreFilled parts.lo = filled_lo (suc low) parts.hi parts.lo (subst AreFilled parts.divides.is filled) in
     record {
       lo = parts.lo;
       hi = parts.hi;
       cut = record {
-        is = parts.divides.is ∙ sym (branch_filled (suc low) parts.lo parts.hi rest);
-        lo_above = parts.divides.lo_above;
-        hi_above = parts.divides.hi_above;
+        is = parts.is ∙ sym (branch_filled _ _ _ parts.lo_filled);
+        lo_above = parts.lo_above;
+        hi_above = parts.hi_above;
       };
-      lo_is = parts.divides.lo_is;
-      hi_is = parts.divides.hi_is;
+      lo_is = parts.lo_is;
+      hi_is = parts.hi_is;
     }
 
 cut_empty : (low : ℕ) {others : List (List ℕ)} → IsFamily ([] ∷ others) → IsAbove low others
     → CutAt (suc low) ([] ∷ others)
 cut_empty low {others} is above =
-    let filled : AreFilled others = family_first is in
-    let parts : Divided (suc low) others = divided low others (family_rest is) filled above in
-    let rest : AreFilled parts.lo = filled_lo (suc low) parts.hi parts.lo (subst AreFilled parts.divides.is filled) in
+    let parts : Divided (suc low) others = divided low others (family_rest is) (family_first is) above in
     record {
       lo = [] ∷ parts.lo;
       hi = parts.hi;
       cut = record {
-        is = ap (λ q. [] ∷ q) parts.divides.is;
-        lo_above = (tt, parts.divides.lo_above);
-        hi_above = parts.divides.hi_above;
+        is = ap (λ q. [] ∷ q) parts.is;
+        lo_above = (tt, parts.lo_above);
+        hi_above = parts.hi_above;
       };
-      lo_is = family_with rest is.rising.0 parts.divides.lo_is;
-      hi_is = parts.divides.hi_is;
+      lo_is = family_with parts.lo_filled is.rising.0 parts.lo_is;
+      hi_is = parts.hi_is;
     }
 
 pub cut_at : (low : ℕ) (family : List (List ℕ)) → IsFamily family → IsAbove low family → CutAt (suc low) family
@@ -214,7 +184,7 @@ module _ {low : ℕ} (size : ℕ) {f lo hi : List (List ℕ)} (cut : Cuts (suc l
       is_family = is;
       above = cut.lo_above;
       below =
-          λ set has unit member. let k = spans.below set (cut_has_lo set cut has) unit member in
+          λ set has unit member. let k = spans.below set (cut_has_lo _ cut has) unit member in
           omega (arith, k);
     }
 
@@ -224,8 +194,8 @@ module _ {low : ℕ} (size : ℕ) {f lo hi : List (List ℕ)} (cut : Cuts (suc l
       above = cut.hi_above;
       below = λ set has unit member.
           let k =
-          spans.below (suc low ∷ set) (cut_has_hi set cut has) unit
-          (or_right (suc low == unit) (among set unit) member) in
+          spans.below (suc low ∷ set) (cut_has_hi _ cut has) unit
+          (or_right _ _ member) in
           omega (arith, k);
     }
 
@@ -233,8 +203,7 @@ module _ {low : ℕ} (size : ℕ) {f lo hi : List (List ℕ)} (cut : Cuts (suc l
 no_units : {low : ℕ} (unit : ℕ) (set : List ℕ) {f : List (List ℕ)} → Spans low zero f → Contains f (unit ∷ set)
     → IsSetAbove low (unit ∷ set) → ⊥
 no_units {low} unit set spans has above =
-    let k : unit ≤ low + zero =
-    spans.below (unit ∷ set) has unit (or_left (unit == unit) (among set unit) (eq-eqb unit unit refl)) in
+    let k : unit ≤ low + zero = spans.below (unit ∷ set) has unit (or_left _ _ (eq-eqb unit unit refl)) in
     let h : low < unit = above.0 in
     omega (arith, k, h)
 
@@ -244,10 +213,10 @@ no_span ([] ∷ []) spans = inr refl
 no_span ([] ∷ [] ∷ others) spans = absurd (let e = (family_first spans.is_family).0 in cc)
 no_span ([] ∷ (unit ∷ set) ∷ others) spans =
     absurd (no_units unit set spans
-    (Contains-cons_other [] (unit ∷ set) ((unit ∷ set) ∷ others) (Contains-cons_first (unit ∷ set) others))
+    (Contains-cons_other [] (unit ∷ set) ((unit ∷ set) ∷ others) (Contains-cons_first _ _))
     spans.above.1.0)
 no_span ((unit ∷ set) ∷ others) spans =
-    absurd (no_units unit set spans (Contains-cons_first (unit ∷ set) others) spans.above.0)
+    absurd (no_units unit set spans (Contains-cons_first _ _) spans.above.0)
 
 -- both parts of a family that is cut at its first number
 pub record Halves (low size : ℕ) (f : List (List ℕ)) : Type 0 where
@@ -268,4 +237,16 @@ halves {low} {size} {f} spans =
       hi_spans = Spans-hi size c.cut spans c.hi_is;
     }
 
--- ---- the parts of a family that is split
+-- a family of some of the sets spans as much
+pub Spans-some : {low size : ℕ} {f h : List (List ℕ)} → Spans low size f → IsFamily h
+    → ((set : List ℕ) → Contains h set → Contains f set) → Spans low size h
+Spans-some s is within = record {
+  is_family = is;
+  above = each-from_contains _ _ (λ set has. set_above _ _ _ s.above (within set has));
+  below = λ set has. s.below set (within set has);
+}
+
+-- a branch of parts that span alike is cut into them
+pub spans-cut : {low size : ℕ} {lo hi : List (List ℕ)} → Spans low size lo → Spans low size hi
+    → Cuts low (branch low lo hi) lo hi
+spans-cut s t = record { is = refl; lo_above = s.above; hi_above = t.above }

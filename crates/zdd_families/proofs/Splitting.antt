@@ -1,30 +1,24 @@
 -- A product by splitting: the sets of either family that include one of the other stand alone.
-use Rattle.std.specs.Prelude.{◌≡◌, ℕ, Bool, true, false, ◌&&◌, ◌||◌, List}
-use Rattle.std.proofs.Common.{refl, sym, ◌∙◌, inl, inr}
+use Rattle.std.specs.Prelude.{◌≡◌, ℕ, Bool, true, ◌&&◌, ◌||◌, List}
+use Rattle.std.proofs.Common.{sym, ◌∙◌, inl, inr, arith}
 use Rattle.std.proofs.lemmas.Bool.{cases_Bool, false≢true}
 use Rattle.unit_sets.specs.UnitList.{some_within}
-use Rattle.zdd_families.proofs.WithinLemmas.{HasWithin, HasWithin-from_test, some_within-from_set, passes_within}
+use Rattle.zdd_families.proofs.WithinLemmas.{HasWithin, HasWithin-from_test, some_within-from_set, some_within-more}
+use Rattle.zdd_families.proofs.WithinLemmas.{passes_within}
 use Rattle.zdd_families.specs.{Inclusion.includes_one, Inclusion.Includes, Without.IsWithout, Least.IsLeastUnion}
 use Rattle.zdd_families.specs.{Least.IsLeastProduct}
 use Rattle.zdd_families.proofs.InclusionLemmas.{Includes-from_test, test-from_part, within_itself}
 use Rattle.zdd_families.proofs.{LeastLemmas.IsLeastFor-same, LeastNodesLemmas.some_within-left, StepsLemmas.and_of}
 use Rattle.zdd_families.proofs.{StepsLemmas.or_of}
 
-or_first : (a b : Bool) → (a ≡ true → b ≡ true) → (a || b) ≡ b
-or_first true b h = sym (h refl)
-or_first false b h = refl
-
 -- A family is what is left of it without the other, and the common part: its sets that include one of the other.
 module _ {f g rest common : List (List ℕ)} (left : IsWithout f g rest) (split : IsWithout f rest common)
     (within : ℕ → Bool) where
   rest_hits : some_within rest within ≡ true → some_within f within ≡ true
-  rest_hits t =
-      let found : HasWithin rest within = HasWithin-from_test rest t in
-      some_within-from_set f within found.set ((left.sets found.set).0 found.has).0 found.passes
+  rest_hits = some_within-more rest f within (λ set has. ((left.sets set).0 has).0)
 
   pub some_within-split : some_within f within ≡ (some_within rest within || some_within common within)
-  some_within-split = sym (some_within-left split within
-      ∙ or_first (some_within rest within) (some_within f within) rest_hits)
+  some_within-split = let e = some_within-left split within in grind (arith, e, rest_hits)
 
   includes_other : (found : HasWithin common within) → includes_one g found.set ≡ true
   includes_other found =
@@ -32,7 +26,7 @@ module _ {f g rest common : List (List ℕ)} (left : IsWithout f g rest) (split 
         | inl t ↦ t
         | inr none ↦
             let both = (split.sets found.set).0 found.has in
-            absurd (false≢true (sym both.1 ∙ test-from_part rest found.set found.set
+            absurd (false≢true (sym both.1 ∙ test-from_part _ _ _
             ((left.sets found.set).1 (both.0, none)) (within_itself found.set)))
       ]
 
@@ -45,20 +39,7 @@ module _ {f g rest common : List (List ℕ)} (left : IsWithout f g rest) (split 
 
 split_cases : (r s r' s' : Bool) → (s ≡ true → (r' || s') ≡ true) → (s' ≡ true → (r || s) ≡ true)
     → ((s || s') || (r && r')) ≡ ((r || s) && (r' || s'))
-split_cases true true true s' h k = refl
-split_cases true true false true h k = refl
-split_cases true true false false h k = absurd (false≢true (h refl))
-split_cases true false true true h k = refl
-split_cases true false true false h k = refl
-split_cases true false false true h k = refl
-split_cases true false false false h k = refl
-split_cases false true true s' h k = refl
-split_cases false true false true h k = refl
-split_cases false true false false h k = absurd (false≢true (h refl))
-split_cases false false true true h k = absurd (false≢true (k refl))
-split_cases false false true false h k = refl
-split_cases false false false true h k = absurd (false≢true (k refl))
-split_cases false false false false h k = refl
+split_cases r s r' s' h k = grind (arith, h, k)
 
 -- the common parts, and the product of the rests
 pub least_product-split : (f g rest rest' common common' alone joined least : List (List ℕ))

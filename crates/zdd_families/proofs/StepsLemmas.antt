@@ -1,6 +1,6 @@
 -- What follows from the definitions of `specs/Steps`.
-use Rattle.std.specs.Prelude.{◌≡◌, ℕ, Bool, true, false, ◌&&◌, ◌||◌, List, Contains}
-use Rattle.std.proofs.Common.{refl, sym, ◌∙◌, ap}
+use Rattle.std.specs.Prelude.{◌≡◌, ℕ, Bool, true, ◌&&◌, ◌||◌, List, Contains}
+use Rattle.std.proofs.Common.{sym, ◌∙◌, ap, arith}
 use Rattle.std.proofs.lemmas.Bool.{and_parts}
 use Rattle.unit_sets.specs.UnitList.{among, some_within}
 use Rattle.zdd_families.specs.Family.{IsFamily, IsAbove, branch}
@@ -13,64 +13,20 @@ use Rattle.zdd_families.proofs.LeastLemmas.{least-above}
 use Rattle.zdd_families.proofs.LeastNodesLemmas.{antichain-hi, hi_includes_none, least-node, without-same}
 
 pub or_of : {a a' b b' : Bool} → a ≡ a' → b ≡ b' → (a || b) ≡ (a' || b')
-or_of {a'} {b} e e' = ap (λ q. q || b) e ∙ ap (λ q. a' || q) e'
+or_of e e' = grind (arith, e, e')
 
 pub and_of : {a a' b b' : Bool} → a ≡ a' → b ≡ b' → (a && b) ≡ (a' && b')
-and_of {a'} {b} e e' = ap (λ q. q && b) e ∙ ap (λ q. a' && q) e'
-
-or_parts_of : (w a b c d : Bool) → ((a || c) || (w && (b || d))) ≡ ((a || (w && b)) || (c || (w && d)))
-or_parts_of true true b c d = refl
-or_parts_of true false true true d = refl
-or_parts_of true false true false d = refl
-or_parts_of true false false true d = refl
-or_parts_of true false false false d = refl
-or_parts_of false true b c d = refl
-or_parts_of false false b true d = refl
-or_parts_of false false b false d = refl
-
-and_parts_of : (w a b c d : Bool) → ((a && c) || (w && ((a || b) && (c || d)))) ≡ ((a || (w && b)) && (c || (w && d)))
-and_parts_of true true b true d = refl
-and_parts_of true true b false true = refl
-and_parts_of true true b false false = refl
-and_parts_of true false true true d = refl
-and_parts_of true false true false true = refl
-and_parts_of true false true false false = refl
-and_parts_of true false false c d = refl
-and_parts_of false true b true d = refl
-and_parts_of false true b false d = refl
-and_parts_of false false b c d = refl
-
-or_higher : (w a b c : Bool) → ((a || c) || (w && b)) ≡ ((a || (w && b)) || c)
-or_higher true true b c = refl
-or_higher true false true true = refl
-or_higher true false true false = refl
-or_higher true false false true = refl
-or_higher true false false false = refl
-or_higher false true b c = refl
-or_higher false false b true = refl
-or_higher false false b false = refl
-
-and_higher : (w a b c : Bool) → ((a && c) || (w && (b && c))) ≡ ((a || (w && b)) && c)
-and_higher true true true true = refl
-and_higher true true true false = refl
-and_higher true true false true = refl
-and_higher true true false false = refl
-and_higher true false b c = refl
-and_higher false true b true = refl
-and_higher false true b false = refl
-and_higher false false b c = refl
+and_of e e' = grind (arith, e, e')
 
 -- ---- results are above what their operands are above
 
 pub least_union-above : (x : ℕ) (f g : List (List ℕ)) {least : List (List ℕ)} → IsAbove x f → IsAbove x g
-    → IsLeastUnion f g least
-    → IsAbove x least
+    → IsLeastUnion f g least → IsAbove x least
 least_union-above x f g above above' is =
     least-above x is (λ within. or_of (some_within-above x f within above) (some_within-above x g within above'))
 
 pub least_product-above : (x : ℕ) (f g : List (List ℕ)) {least : List (List ℕ)} → IsAbove x f → IsAbove x g
-    → IsLeastProduct f g least
-    → IsAbove x least
+    → IsLeastProduct f g least → IsAbove x least
 least_product-above x f g above above' is =
     least-above x is (λ within. and_of (some_within-above x f within above) (some_within-above x g within above'))
 
@@ -84,8 +40,8 @@ pub least_sides-above : (x : ℕ) (f0 f1 g0 g1 : List (List ℕ)) {all : List (L
     → IsAbove x g1 → IsLeastSides f0 f1 g0 g1 all → IsAbove x all
 least_sides-above x f0 f1 g0 g1 a b c d is =
     least-above x is (λ within.
-    and_of (or_of (some_within-above x f0 within a) (some_within-above x f1 within b)) (or_of
-    (some_within-above x g0 within c) (some_within-above x g1 within d)))
+    and_of (or_of (some_within-above x f0 within a) (some_within-above x f1 within b))
+    (or_of (some_within-above x g0 within c) (some_within-above x g1 within d)))
 
 -- ---- two families at one unit
 
@@ -95,9 +51,8 @@ module _ (x : ℕ) (f f0 f1 g g0 g1 lo all hi : List (List ℕ)) (cut : Cuts x f
   least_union-both is is' =
       IsLeastFor-same (least-node x (least_union-above x f0 g0 cut.lo_above cut'.lo_above is)
       (least_union-above x f1 g1 cut.hi_above cut'.hi_above is') is is' left) (λ within.
-      or_parts_of (within x) (some_within f0 within) (some_within f1 within) (some_within g0 within)
-      (some_within g1 within)
-      ∙ or_of (sym (some_within-cut cut within)) (sym (some_within-cut cut' within)))
+      let e = some_within-cut cut within in
+      let e' = some_within-cut cut' within in grind (arith, e, e'))
 
   -- the sets with x are joined from those without x too, of which each may do
   pub least_product-both : IsLeastProduct f0 g0 lo → IsLeastSides f0 f1 g0 g1 all → IsLeastProduct f g (branch x lo hi)
@@ -105,22 +60,16 @@ module _ (x : ℕ) (f f0 f1 g g0 g1 lo all hi : List (List ℕ)) (cut : Cuts x f
       IsLeastFor-same (least-node x (least_product-above x f0 g0 cut.lo_above cut'.lo_above is)
       (least_sides-above x f0 f1 g0 g1 cut.lo_above cut.hi_above cut'.lo_above cut'.hi_above is') is is' left)
       (λ within.
-      and_parts_of (within x) (some_within f0 within) (some_within f1 within) (some_within g0 within)
-      (some_within g1 within)
-      ∙ and_of (sym (some_within-cut cut within)) (sym (some_within-cut cut' within)))
+      let e = some_within-cut cut within in
+      let e' = some_within-cut cut' within in grind (arith, e, e'))
 
 -- ---- a family at its least unit, and one above that unit
-
-with_second : (a : Bool) {b : Bool} → b ≡ true → (a && b) ≡ a
-with_second true e = e
-with_second false e = refl
 
 -- each set of a product includes one of the second family
 includes_second : (f g : List (List ℕ)) {all : List (List ℕ)} (set : List ℕ) → IsLeastProduct f g all → Contains all set
     → some_within g (among set) ≡ true
 includes_second f g {all} set is has =
-    (and_parts (some_within f (among set)) (some_within g (among set))
-    (sym (is.some_within (among set)) ∙ some_within-from_set all (among set) set has (within_itself set))).1
+    (and_parts _ _ (sym (is.some_within (among set)) ∙ some_within-from_set _ _ _ has (within_itself set))).1
 
 module _ {x : ℕ} {f f0 f1 : List (List ℕ)} (g lo : List (List ℕ)) (cut : Cuts x f f0 f1) where
   -- a set of hi includes one of lo exactly where it includes one of the other family
@@ -135,7 +84,7 @@ module _ {x : ℕ} {f f0 f1 : List (List ℕ)} (g lo : List (List ℕ)) (cut : C
       → {hi : List (List ℕ)} → IsWithout all f0 hi → IsWithout all lo hi
   least_product-rest is is' left =
       without-same (λ set has. sym (is.some_within (among set)
-      ∙ with_second (some_within f0 (among set)) (includes_second f1 g set is' has))) left
+      ∙ (let e = includes_second f1 g set is' has in grind (arith, e)))) left
 
   module _ (hi : List (List ℕ)) (above : IsAbove x g) where
     pub least_union-first : IsAntichain f → IsFamily f1 → IsLeastUnion f0 g lo → IsWithout f1 lo hi
@@ -143,8 +92,7 @@ module _ {x : ℕ} {f f0 f1 : List (List ℕ)} (g lo : List (List ℕ)) (cut : C
     least_union-first antichain is_family is left =
         IsLeastFor-same (least-node x (least_union-above x f0 g cut.lo_above above is) cut.hi_above is
         (IsLeastFor-itself (antichain-hi cut antichain is_family)) left) (λ within.
-        or_higher (within x) (some_within f0 within) (some_within f1 within) (some_within g within)
-        ∙ ap (λ q. q || some_within g within) (sym (some_within-cut cut within)))
+        let e = some_within-cut cut within in grind (arith, e))
 
     pub least_product-first : {all : List (List ℕ)} → IsLeastProduct f0 g lo → IsLeastProduct f1 g all
         → IsWithout all lo hi → IsLeastProduct f g (branch x lo hi)
@@ -153,5 +101,4 @@ module _ {x : ℕ} {f f0 f1 : List (List ℕ)} (g lo : List (List ℕ)) (cut : C
         (least_product-above x f0 g cut.lo_above above is) (least_product-above x f1 g cut.hi_above above is') is is'
         left)
         (λ within.
-        and_higher (within x) (some_within f0 within) (some_within f1 within) (some_within g within)
-        ∙ ap (λ q. q && some_within g within) (sym (some_within-cut cut within)))
+        let e = some_within-cut cut within in grind (arith, e))

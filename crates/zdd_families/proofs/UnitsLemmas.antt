@@ -1,13 +1,13 @@
 -- What follows from the definitions of `specs/Units`.
-use Rattle.std.specs.Prelude.{◌≡◌, ◌≢◌, ◌⊎◌, ℕ, ◌≤◌, true, ◌==◌, List, [], ◌∷◌, Contains}
+use Rattle.std.specs.Prelude.{◌≡◌, ◌≢◌, ◌⊎◌, ℕ, ◌≤◌, ◌==◌, List, [], ◌∷◌, Contains}
 use Rattle.std.proofs.Common.{refl, sym, ◌∙◌, ap, subst, inl, inr, arith, max, eq-eqb}
-use Rattle.std.proofs.lemmas.Bool.{cases_lt, or_cases, or_left, or_right, eqb-true, false≢true}
+use Rattle.std.proofs.lemmas.Bool.{cases_lt, or_cases, or_left, or_right, eqb-true}
 use Rattle.unit_sets.specs.UnitList.{among}
-use Rattle.unit_sets.proofs.Sorted.{Contains-cons_first, Contains-cons_cases, Contains-nil}
+use Rattle.unit_sets.proofs.Sorted.{Contains-cons_first, Contains-nil}
 use Rattle.zdd_families.specs.{Family.branch, Cuts.Cuts}
 use Rattle.zdd_families.proofs.Members.{branch-cases, branch-has_lo, branch-has_hi}
 use Rattle.zdd_families.proofs.CutsLemmas.{cut_has_lo, cut_has_hi, set_above}
-use Rattle.zdd_families.proofs.SetsLemmas.{unit_above}
+use Rattle.zdd_families.proofs.{SetsLemmas.unit_above, Parts.empty_unit}
 use Rattle.zdd_families.specs.Units.{HasUnit, IsLastUnit, LiesBelow, ShareNoUnit}
 
 -- ---- the units of a family that is cut
@@ -32,25 +32,17 @@ cut_unit {x} {hi} cut filled =
 pub last-none : IsLastUnit [] 0
 last-none = record { most = λ unit has. Contains-nil has.0 has.1; reached = inl refl }
 
-nil_lacks : (set : List ℕ) (unit : ℕ) → Contains ([] ∷ []) set → among set unit ≡ true → ⊥
-nil_lacks set unit has h =
-    elim (Contains-cons_cases [] set [] has) [
-      | inl same ↦ false≢true (ap (λ (q : List ℕ). among q unit) same ∙ h)
-      | inr none ↦ Contains-nil set none
-    ]
-
 pub last-unit : IsLastUnit ([] ∷ []) 0
-last-unit = record { most = λ unit has. absurd (nil_lacks has.0 unit has.1 has.2); reached = inl refl }
+last-unit = record { most = λ unit has. empty_unit has.0 unit has.1 has.2; reached = inl refl }
 
 units_of_branch : {x unit : ℕ} (lo hi : List (List ℕ)) → HasUnit (branch x lo hi) unit
     → (unit ≡ x) ⊎ (HasUnit lo unit ⊎ HasUnit hi unit)
 units_of_branch {x} {unit} lo hi has =
-    elim (branch-cases x lo hi has.0 has.1) [
+    elim (branch-cases _ _ _ _ has.1) [
       | inl of_lo ↦ inr (inl (has.0, of_lo, has.2))
       | inr with_x ↦
-          elim (or_cases (x == unit) (among with_x.0 unit)
-          (sym (ap (λ (q : List ℕ). among q unit) with_x.1) ∙ has.2)) [
-            | inl here ↦ inl (sym (eqb-true x unit here))
+          elim (or_cases _ _ (sym (ap (λ q. among q unit) with_x.1) ∙ has.2)) [
+            | inl here ↦ inl (sym (eqb-true _ _ here))
             | inr later ↦ inr (inr (with_x.0, with_x.2, later))
           ]
     ]
@@ -107,7 +99,7 @@ module _ (x : ℕ) {lo hi : List (List ℕ)} {a b last : ℕ} (filled : hi ≢ [
 -- a unit of a family that lies below another is in no set of the other
 pub below-apart : (f g : List (List ℕ)) → LiesBelow f g → ShareNoUnit f g
 below-apart f g below unit has has' =
-    let h = unit_above unit unit has'.0 (set_above unit g has'.0 (below unit has) has'.1) has'.2 in omega (arith, h)
+    let h = unit_above _ _ _ (set_above _ _ _ (below unit has) has'.1) has'.2 in omega (arith, h)
 
 pub below-lo : {x : ℕ} {f lo hi : List (List ℕ)} (g : List (List ℕ)) → Cuts x f lo hi → LiesBelow f g → LiesBelow lo g
 below-lo g cut below unit has = below unit (lo_unit unit cut has)

@@ -1,19 +1,17 @@
 -- What follows from the definitions of `specs/Votes`.
-use Rattle.std.specs.Prelude.{◌≡◌, ◌⊎◌, ℕ, zero, suc, Bool, true, false, ◌||◌, List, [], ◌∷◌, ◌++◌, Contains}
-use Rattle.std.proofs.Common.{refl, sym, ◌∙◌, ap, subst, inl, inr}
-use Rattle.unit_sets.specs.UnitList.{among, IsRising}
+use Rattle.std.specs.Prelude.{◌≡◌, ◌⊎◌, ℕ, zero, suc, List, [], ◌∷◌, ◌++◌, Contains}
+use Rattle.std.proofs.Common.{refl, sym, ◌∙◌, ap, subst, inl, inr, arith}
+use Rattle.unit_sets.specs.UnitList.{IsRising}
 use Rattle.unit_sets.proofs.{UnitListLemmas.same_set, Sorted.Contains-nil, Sorted.Contains-cons_first}
 use Rattle.zdd_families.specs.{Family.IsFamily, Sets.joined, Union.IsUnion, Product.IsProduct, Product.IsJoin}
 use Rattle.zdd_families.specs.{Votes.IsChoice, Votes.IsVotes}
-use Rattle.zdd_families.proofs.FamilyLemmas.{IsFamily-nil, IsFamily-unit, same_family}
+use Rattle.zdd_families.proofs.FamilyLemmas.{IsFamily-nil, IsFamily-unit, one_family}
 use Rattle.zdd_families.proofs.CutsLemmas.{set_rises, only_empty}
 use Rattle.zdd_families.proofs.SetsLemmas.{among-joined, IsRising-joined, joined-nil}
 
 pub votes-one : (count : ℕ) (families : List (List (List ℕ))) (h h' : List (List ℕ)) → IsVotes count families h
     → IsVotes count families h' → h ≡ h'
-votes-one count families h h' is is' =
-    same_family h h' is.is_family is'.is_family
-    (λ set. (λ has. (is'.sets set).1 ((is.sets set).0 has), λ has. (is.sets set).1 ((is'.sets set).0 has)))
+votes-one count families h h' is is' = one_family is.is_family is'.is_family is.sets is'.sets
 
 -- ---- before the first family
 
@@ -39,20 +37,15 @@ pub record AddsLast (families : List (List (List ℕ))) (last : List (List ℕ))
   pub of_last : Contains last added
   pub is : set ≡ joined before added
 
-or_swap : (a b c : Bool) → (a || (b || c)) ≡ ((a || b) || c)
-or_swap true b c = refl
-or_swap false b c = refl
-
 pub joined-assoc : (a b c : List ℕ) → IsRising c → joined a (joined b c) ≡ joined (joined a b) c
 joined-assoc a b c s =
     same_set (joined a (joined b c)) (joined (joined a b) c) (IsRising-joined a (joined b c) (IsRising-joined b c s))
     (IsRising-joined (joined a b) c s)
     (λ unit.
-    among-joined a (joined b c) unit
-    ∙ ap (λ q. among a unit || q) (among-joined b c unit)
-    ∙ or_swap (among a unit) (among b unit) (among c unit)
-    ∙ ap (λ q. q || among c unit) (sym (among-joined a b unit))
-    ∙ sym (among-joined (joined a b) c unit))
+    let e = among-joined a (joined b c) unit in
+    let e' = among-joined b c unit in
+    let k = among-joined (joined a b) c unit in
+    let k' = among-joined a b unit in grind (arith, e, e', k, k'))
 
 skip : (family : List (List ℕ)) (families : List (List (List ℕ))) (count : ℕ) (set : List ℕ)
     → IsChoice families count set → IsChoice (family ∷ families) count set
@@ -86,7 +79,7 @@ choice_more (family ∷ families) last (suc count) set (inr (first, rest, has, c
 
 module _ (last : List (List ℕ)) (is_family : IsFamily last) where
   last_alone : (first rest : List ℕ) → Contains last first → rest ≡ [] → joined first rest ≡ first
-  last_alone first rest has none = ap (joined first) none ∙ joined-nil first (set_rises first is_family has)
+  last_alone first rest has none = ap (joined first) none ∙ joined-nil _ (set_rises _ is_family has)
 
   taking : (family : List (List ℕ)) {families : List (List (List ℕ))} {count : ℕ} {set : List ℕ} (first : List ℕ)
       {rest : List ℕ}
@@ -99,7 +92,7 @@ module _ (last : List (List ℕ)) (is_family : IsFamily last) where
     of_last = adds.of_last;
     is =
         same ∙ ap (joined first) adds.is ∙ joined-assoc first adds.before adds.added
-        (set_rises adds.added is_family adds.of_last);
+        (set_rises _ is_family adds.of_last);
   }
 
   choice_cases : (families : List (List (List ℕ))) (count : ℕ) (set : List ℕ)
@@ -112,8 +105,7 @@ module _ (last : List (List ℕ)) (is_family : IsFamily last) where
         added = first;
         chosen = refl;
         of_last = has;
-        is =
-            same ∙ last_alone first rest has none;
+        is = same ∙ last_alone first rest has none;
       })
   choice_cases [] (suc count) set (inl skipped) = absurd skipped
   choice_cases [] (suc count) set (inr (first, rest, has, none, same)) = absurd none
@@ -146,7 +138,7 @@ module _ (last : List (List ℕ)) (is_family : IsFamily last) where
         joined rest added,
         has,
         last_chosen families count {set = joined rest added} rest added chosen of_last refl,
-        same ∙ ap (λ q. joined q added) is ∙ sym (joined-assoc first rest added (set_rises added is_family of_last)),
+        same ∙ ap (λ q. joined q added) is ∙ sym (joined-assoc first rest added (set_rises _ is_family of_last)),
       )
 
   -- ---- the votes with one family more
@@ -168,8 +160,7 @@ module _ (last : List (List ℕ)) (is_family : IsFamily last) where
               inr ((times.sets set).1 (record {
                 first = adds.before;
                 second = adds.added;
-                of_f =
-                    (fewer.sets adds.before).1 adds.chosen;
+                of_f = (fewer.sets adds.before).1 adds.chosen;
                 of_g = adds.of_last;
                 is = adds.is;
               }))

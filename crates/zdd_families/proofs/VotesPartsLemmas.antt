@@ -5,11 +5,12 @@ use Rattle.std.proofs.{lemmas.List.append-nil, lemmas.List.Elements.Contains-app
 use Rattle.unit_sets.proofs.Sorted.{Contains-nil, Contains-cons_first}
 use Rattle.zdd_families.proofs.FamilyLemmas.{IsFamily-nil, IsFamily-unit}
 use Rattle.zdd_families.specs.Due.{IsDueToUnion, IsDueToProduct, IsDueToVotes, votes_product, votes_union}
-use Rattle.zdd_families.specs.{Nodes.IsReached, Votes.IsVotes, Votes.IsChoice, Spans.Spans, VotesParts.PartOfOne}
+use Rattle.zdd_families.specs.{Nodes.IsReached, Votes.IsVotes, Spans.Spans, VotesParts.PartOfOne}
 use Rattle.zdd_families.specs.{VotesParts.SpanEach}
 use Rattle.zdd_families.proofs.VotesLemmas.{votes-one, no_votes, no_more_votes, votes-none_step}
 use Rattle.zdd_families.proofs.VotesLemmas.{votes-step}
-use Rattle.zdd_families.proofs.Parts.{empty_unit, reached-set, Origin, is_due, of_first, of_second}
+use Rattle.zdd_families.proofs.Parts.{empty_unit, reached-none, reached-unit, reached_same, Origin, is_due, of_first}
+use Rattle.zdd_families.proofs.Parts.{of_second}
 use Rattle.zdd_families.proofs.UnionParts.{HasUnion, union-exists, union-parts}
 use Rattle.zdd_families.proofs.ProductParts.{HasProduct, product-exists, product-parts}
 
@@ -32,121 +33,94 @@ pub record HasVotes (low size count : ℕ) (families : List (List (List ℕ))) :
   pub is : IsVotes count families votes
   pub spans : Spans low size votes
 
-module _ (low size : ℕ) where
-  abbrev HaveVotes : List (List (List ℕ)) → Type 0
-  HaveVotes families = (count : ℕ) → HasVotes low size count families
+-- those over the first families, and where their parts come from
+record Made (low size most : ℕ) (families before : List (List (List ℕ))) (count : ℕ) : Type 0 where
+  has : HasVotes low size count before
+  parts : (part : List (List ℕ)) → IsReached has.votes part → IsDueToVotes most families part ⊎ PartOfOne families part
 
-  before_all : HaveVotes []
-  before_all zero = record { votes = [] ∷ []; is = no_votes; spans = Spans-unit low size }
-  before_all (suc count) = record { votes = []; is = no_more_votes count; spans = Spans-none low size }
+module _ (low size most : ℕ) (families : List (List (List ℕ))) where
+  abbrev AllMade : List (List (List ℕ)) → Type 0
+  AllMade before = (count : ℕ) → count ≤ most → Made low size most families before count
 
-  one_more : (before : List (List (List ℕ))) {member : List (List ℕ)} → HaveVotes before → Spans low size member
-      → HaveVotes (before ++ member ∷ [])
-  one_more before {member} have s zero =
-      record {
-        votes = (have zero).votes;
-        is = votes-none_step before member (have zero).votes (have zero).is;
-        spans =
-            (have zero).spans;
-      }
-  one_more before {member} have s (suc count) =
-      let same : HasVotes low size (suc count) before = have (suc count) in
-      let fewer : HasVotes low size count before = have count in
-      let more : HasProduct low size fewer.votes member = product-exists size fewer.spans s in
-      let all : HasUnion low size same.votes more.product = union-exists size same.spans more.spans in
-      record {
-        votes = all.union;
-        is =
-            votes-step member s.is_family before count same.votes fewer.votes more.product all.union same.is fewer.is
-            more.is all.is;
-        spans = all.spans;
-      }
+  before_all : AllMade []
+  before_all zero few = record {
+    has = record { votes = [] ∷ []; is = no_votes; spans = Spans-unit low size };
+    parts = λ part reached. reached-unit (λ set has. has) reached;
+  }
+  before_all (suc count) few = record {
+    has = record { votes = []; is = no_more_votes count; spans = Spans-none low size };
+    parts = λ part reached. reached-none reached;
+  }
 
-  rest : (before after : List (List (List ℕ))) → HaveVotes before → SpanEach low size after
-      → HaveVotes (before ++ after)
-  rest before [] have each = subst HaveVotes (sym (append-nil before)) have
-  rest before (member ∷ after) have each =
-      subst HaveVotes (append_assoc before (member ∷ []) after)
-      (rest (before ++ member ∷ []) after (one_more before have each.0) each.1)
-
-  pub votes-exist : (families : List (List (List ℕ))) → SpanEach low size families → HaveVotes families
-  votes-exist families each = rest [] families before_all each
-
--- ---- their parts
-
--- no position gives the empty set alone
-none_chosen : (families : List (List (List ℕ))) {set : List ℕ} → IsChoice families zero set → set ≡ []
-none_chosen [] same = same
-none_chosen (family ∷ families) chosen = none_chosen families chosen
-
-no_votes_no_parts : {G : Type 0} {families : List (List (List ℕ))} {h part : List (List ℕ)} → IsVotes zero families h
-    → IsReached h part → G
-no_votes_no_parts {families} is reached =
-    let found = reached-set reached in
-    let e : found.0 ∷ found.1 ≡ [] = none_chosen families ((is.sets (found.0 ∷ found.1)).0 found.2) in
-    absurd cc
-
-module _ (low size : ℕ) (most : ℕ) (families : List (List (List ℕ))) (part : List (List ℕ)) where
-  abbrev Comes : Type 0
-  Comes = IsDueToVotes most families part ⊎ PartOfOne families part
-
-  abbrev AllCome : List (List (List ℕ)) → Type 0
-  AllCome before = (count : ℕ) → count ≤ most → (h : List (List ℕ)) → IsVotes count before h → IsReached h part → Comes
-
-  none_come : AllCome []
-  none_come zero few h is reached = no_votes_no_parts is reached
-  none_come (suc count) few h is reached =
-      let found = reached-set reached in
-      absurd ((is.sets (found.0 ∷ found.1)).0 found.2)
-
-  module _ (before after : List (List (List ℕ))) {member : List (List ℕ)} (is : families ≡ before ++ member ∷ after)
-      (have : HaveVotes low size before) (come : AllCome before) (s : Spans low size member) where
+  module _ (before after : List (List (List ℕ))) (member : List (List ℕ)) (is : families ≡ before ++ member ∷ after)
+      (s : Spans low size member) where
     is_member : Contains families member
     is_member =
-        subst (λ (q : List (List (List ℕ))). Contains q member) (sym is)
+        subst (λ q. Contains q member) (sym is)
         (Contains-append_right before (member ∷ after) member (Contains-cons_first member after))
 
-    module _ (count : ℕ) (few : suc count ≤ most) where
-      of_more : (more : HasProduct low size (have count).votes member)
-          → Origin (IsDueToProduct (have count).votes member part) (have count).votes member part → Comes
-      of_more more (is_due due) = inl (votes_product before after count (omega arith) is (have count).is due)
-      of_more more (of_first reached) = come count (omega arith) (have count).votes (have count).is reached
-      of_more more (of_second reached) = inr (record { family = member; has = is_member; reached = reached })
+    module _ (count : ℕ) (few : suc count ≤ most) (same : Made low size most families before (suc count))
+        (fewer : Made low size most families before count) (more : HasProduct low size fewer.has.votes member)
+        (all : HasUnion low size same.has.votes more.product) (part : List (List ℕ)) where
+      of_more : Origin (IsDueToProduct fewer.has.votes member part) fewer.has.votes member part
+          → IsDueToVotes most families part ⊎ PartOfOne families part
+      of_more (is_due due) = inl (votes_product before after count (omega arith) is fewer.has.is due)
+      of_more (of_first reached) = fewer.parts part reached
+      of_more (of_second reached) = inr (record { family = member; has = is_member; reached = reached })
 
-      of_all : (more : HasProduct low size (have count).votes member)
-          → Origin (IsDueToUnion (have (suc count)).votes more.product part) (have (suc count)).votes more.product part
-          → Comes
-      of_all more (is_due due) =
-          inl (votes_union before after count (omega arith) is (have (suc count)).is (have count).is more.is due)
-      of_all more (of_first reached) = come (suc count) few (have (suc count)).votes (have (suc count)).is reached
-      of_all more (of_second reached) =
-          of_more more (product-parts size (have count).spans s more.is reached)
+      of_all : Origin (IsDueToUnion same.has.votes more.product part) same.has.votes more.product part
+          → IsDueToVotes most families part ⊎ PartOfOne families part
+      of_all (is_due due) =
+          inl (votes_union before after count (omega arith) is same.has.is fewer.has.is more.is due)
+      of_all (of_first reached) = same.parts part reached
+      of_all (of_second reached) = of_more (product-parts size fewer.has.spans s more.is reached)
 
-      come_more : {h : List (List ℕ)} → IsVotes (suc count) (before ++ member ∷ []) h → IsReached h part → Comes
-      come_more {h} votes reached =
-          let more : HasProduct low size (have count).votes member = product-exists size (have count).spans s in
-          let all : HasUnion low size (have (suc count)).votes more.product =
-          union-exists size (have (suc count)).spans more.spans in
-          let all_votes : IsVotes (suc count) (before ++ member ∷ []) all.union =
-          votes-step member s.is_family before count (have (suc count)).votes (have count).votes more.product all.union
-          (have (suc count)).is (have count).is more.is all.is in
-          of_all more (union-parts size (have (suc count)).spans more.spans all.is
-          (subst (λ (q : List (List ℕ)). IsReached q part)
-          (votes-one (suc count) (before ++ member ∷ []) h all.union votes all_votes) reached))
+    one_more : AllMade before → AllMade (before ++ member ∷ [])
+    one_more have zero few =
+        let none : Made low size most families before zero = have zero few in
+        record {
+          has = record {
+            votes = none.has.votes;
+            is = votes-none_step before member none.has.votes none.has.is;
+            spans = none.has.spans;
+          };
+          parts = none.parts;
+        }
+    one_more have (suc count) few =
+        let same : Made low size most families before (suc count) = have (suc count) few in
+        let fewer : Made low size most families before count = have count (omega arith) in
+        let more : HasProduct low size fewer.has.votes member = product-exists size fewer.has.spans s in
+        let all : HasUnion low size same.has.votes more.product = union-exists size same.has.spans more.spans in
+        record {
+          has = record {
+            votes = all.union;
+            is =
+                votes-step member s.is_family before count same.has.votes fewer.has.votes more.product all.union
+                same.has.is fewer.has.is more.is all.is;
+            spans = all.spans;
+          };
+          parts = λ part reached. of_all count few same fewer more all part
+              (union-parts size same.has.spans more.spans all.is reached);
+        }
 
-    all_come : AllCome (before ++ member ∷ [])
-    all_come zero few h votes reached = no_votes_no_parts votes reached
-    all_come (suc count) few h votes reached = come_more count few votes reached
-
-  go_on : (before after : List (List (List ℕ))) → families ≡ before ++ after → HaveVotes low size before
-      → AllCome before → SpanEach low size after → AllCome (before ++ after)
-  go_on before [] is have come each = subst AllCome (sym (append-nil before)) come
-  go_on before (member ∷ after) is have come each =
-      subst AllCome (append_assoc before (member ∷ []) after)
+  go_on : (before after : List (List (List ℕ))) → families ≡ before ++ after → AllMade before
+      → SpanEach low size after → AllMade (before ++ after)
+  go_on before [] is have each = subst AllMade (sym (append-nil before)) have
+  go_on before (member ∷ after) is have each =
+      subst AllMade (append_assoc before (member ∷ []) after)
       (go_on (before ++ member ∷ []) after (is ∙ sym (append_assoc before (member ∷ []) after))
-      (one_more low size before have each.0) (all_come before after is have come each.0) each.1)
+      (one_more before after member is each.0 have) each.1)
 
-  pub votes-parts : {h : List (List ℕ)} → SpanEach low size families → IsVotes most families h → IsReached h part
-      → Comes
-  votes-parts {h} each is reached =
-      go_on [] families refl (before_all low size) none_come each most (omega arith) h is reached
+  made : SpanEach low size families → Made low size most families families most
+  made each = go_on [] families refl before_all each most (omega arith)
+
+pub votes-exist : (low size : ℕ) (families : List (List (List ℕ))) → SpanEach low size families → (count : ℕ)
+    → HasVotes low size count families
+votes-exist low size families each count = (made low size count families each).has
+
+pub votes-parts : (low size most : ℕ) (families : List (List (List ℕ))) (part : List (List ℕ)) {h : List (List ℕ)}
+    → SpanEach low size families → IsVotes most families h → IsReached h part
+    → IsDueToVotes most families part ⊎ PartOfOne families part
+votes-parts low size most families part {h} each is reached =
+    let m : Made low size most families families most = made low size most families each in
+    m.parts part (reached_same (votes-one most families h m.has.votes is m.has.is) reached)

@@ -1,4 +1,3 @@
-use Rattle.unit_sets.specs.UnitList.{some_within}
 use Rattle.zdd_families.proofs.LeastLemmas.{least-one, IsLeastFor-itself}
 use Rattle.zdd_families.proofs.minimal_laws.sets_within_tell_a_minimal_family.Goals as goal
 

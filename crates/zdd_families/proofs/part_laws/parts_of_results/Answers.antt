@@ -1,15 +1,14 @@
-use Rattle.zdd_families.specs.Due.{IsDueToUnion, IsDueToProduct}
 use Rattle.zdd_families.proofs.{Parts.origin-cases, UnionParts.union-parts, ProductParts.product-parts}
 use Rattle.zdd_families.proofs.{WithoutParts.without-parts, MinimalParts.minimal-parts, VotesPartsLemmas.votes-parts}
 use Rattle.zdd_families.proofs.part_laws.parts_of_results.Goals as goal
 
 pub returns-clause-union : goal.returns-clause-union
 returns-clause-union c =
-    λ low size f g h part s t is reached. origin-cases (IsDueToUnion f g part) (union-parts size s t is reached)
+    λ low size f g h part s t is reached. origin-cases (union-parts size s t is reached)
 
 pub returns-clause-product : goal.returns-clause-product
 returns-clause-product c =
-    λ low size f g h part s t is reached. origin-cases (IsDueToProduct f g part) (product-parts size s t is reached)
+    λ low size f g h part s t is reached. origin-cases (product-parts size s t is reached)
 
 pub returns-clause-without : goal.returns-clause-without
 returns-clause-without c = λ low size f g h part s t is reached. without-parts size s t is reached
