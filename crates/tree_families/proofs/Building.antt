@@ -29,12 +29,11 @@ pub all_generate : {tree : FaultTree} → IsTree tree → (nodes : List ℕ) (fa
     → All (IsNodeOf tree) nodes → StandFor (IsCutFamily tree) nodes families
     → StandFor (IsFamilyFor tree) nodes families
 all_generate kept [] [] are stand = tt
-all_generate kept [] (family ∷ families) are stand = stand
-all_generate kept (node ∷ nodes) [] are stand = stand
 all_generate {tree} kept (node ∷ nodes) (family ∷ families) are stand = (
   IsFamilyFor-cut_family tree kept node (All-head (IsNodeOf tree) node nodes are) family stand.0,
   all_generate kept nodes families (All-tail (IsNodeOf tree) node nodes are) stand.1,
 )
+all_generate kept nodes families are stand = absurd stand
 
 -- what a node's recipe makes generates the node
 pub recipe-generates : (tree : FaultTree) → IsTree tree → (node : ℕ) → IsNodeOf tree node
@@ -50,32 +49,28 @@ pub recipe-cut_family : {tree : FaultTree} → IsTree tree → {node : ℕ} → 
     → StandFor (IsCutFamily tree) (below tree node) families → IsMadeBy (node_recipe tree node families) made
     → IsMinimal made least → IsCutFamily tree node least
 recipe-cut_family {tree} kept {node} is_node families {made} {least} stand is minimal =
-    cut_family-minimal tree node made least (recipe-generates tree kept node is_node families made stand is) minimal
+    cut_family-minimal _ _ _ _ (recipe-generates tree kept node is_node families made stand is) minimal
 
 -- ---- by the kind of the node
 
 -- what a gate reads are its inputs, and a unit its triggers
 pub gate_below : (tree : FaultTree) (gate : ℕ) → IsGateOf tree gate → below tree gate ≡ inputs_of tree gate
 gate_below tree gate is_gate =
-    cond-true (is_above_units tree gate) (inputs_of tree gate) (triggers_of tree gate)
-    (lt-ltb (unit_count tree) gate is_gate.0)
+    cond-true _ _ _ (lt-ltb _ _ is_gate.0)
 
 pub unit_below : (tree : FaultTree) (unit : ℕ) → IsUnitOf tree unit → below tree unit ≡ triggers_of tree unit
 unit_below tree unit is_unit =
-    cond-false (is_above_units tree unit) (inputs_of tree unit) (triggers_of tree unit)
-    (le-ltb (unit_count tree) unit is_unit.1)
+    cond-false _ _ _ (le-ltb _ _ is_unit.1)
 
 pub gate_recipe_is : (tree : FaultTree) (gate : ℕ) (families : List (List (List ℕ))) → IsGateOf tree gate
     → node_recipe tree gate families ≡ gate_recipe (kind_of tree gate) families
 gate_recipe_is tree gate families is_gate =
-    cond-true (is_above_units tree gate) (gate_recipe (kind_of tree gate) families) (unions (alone gate) families)
-    (lt-ltb (unit_count tree) gate is_gate.0)
+    cond-true _ _ _ (lt-ltb _ _ is_gate.0)
 
 pub unit_recipe_is : (tree : FaultTree) (unit : ℕ) (families : List (List (List ℕ))) → IsUnitOf tree unit
     → node_recipe tree unit families ≡ unions (alone unit) families
 unit_recipe_is tree unit families is_unit =
-    cond-false (is_above_units tree unit) (gate_recipe (kind_of tree unit) families) (unions (alone unit) families)
-    (le-ltb (unit_count tree) unit is_unit.1)
+    cond-false _ _ _ (le-ltb _ _ is_unit.1)
 
 pub gate_is_node : (tree : FaultTree) (gate : ℕ) → IsGateOf tree gate → IsNodeOf tree gate
 gate_is_node tree gate is_gate = (let above = is_gate.0 in omega arith, is_gate.1)
@@ -106,7 +101,7 @@ module _ (tree : FaultTree) (kept : IsTree tree) where
 
 module _ (tree : FaultTree) where
   no_fdep : (gate : ℕ) → is_fdep_kind (kind_of tree gate) ≡ false → is_fdep tree gate ≡ false
-  no_fdep gate read = and_right (is_above_units tree gate) (is_fdep_kind (kind_of tree gate)) read
+  no_fdep gate read = and_right _ _ read
 
   pub gate-due : (gate : ℕ) → IsGateOf tree gate → is_fdep_kind (kind_of tree gate) ≡ false
       → (families : List (List (List ℕ))) (due : List (List ℕ))

@@ -8,7 +8,7 @@ use Rattle.std.proofs.lemmas.Cmp.{nat_list_cmp_total}
 use Rattle.std.proofs.lemmas.List.Elements.{All-contains, All-weaker, All-contains_itself}
 use Rattle.unit_sets.specs.CutOrder.{IsInCutOrder}
 use Rattle.unit_sets.proofs.Sorted.{same_from_members}
-use Rattle.unit_sets.specs.UnitList.{among, without_unit, is_within, some_within}
+use Rattle.unit_sets.specs.UnitList.{among, without_unit, is_within}
 use Rattle.unit_sets.proofs.UnitListLemmas.{among-without_unit, among-from_Contains}
 use Rattle.unit_sets.proofs.UnitListLemmas.{Contains-from_among, among-from_is_within, is_within-from_among}
 use Rattle.fault_definitions.specs.Cut.{IsMinimalFor, IsMinimalCut, IsCutList}
@@ -80,19 +80,19 @@ module _ (tree : FaultTree) (node : ℕ) (f least : List (List ℕ)) (generates 
   needs set has unit member =
       let both = (is.sets set).0 has in
       sym (generates.some_within (among (without_unit unit set)))
-      ∙ false_from_ne_true (some_within f (among (without_unit unit set))) (λ hit.
+      ∙ false_from_ne_true _ (λ hit.
       let found : HasWithin f (among (without_unit unit set)) = HasWithin-from_test f hit in
       let same : found.set ≡ set = both.1 found.set found.has (within_whole set found.set unit found.passes) in
-      lacks_unit set found.set unit found.passes (subst (λ (q : List ℕ). among q unit ≡ true) (sym same) member))
+      lacks_unit set found.set unit found.passes (subst (λ q. among q unit ≡ true) (sym same) member))
 
   minimal_for : (set : List ℕ) → Contains least set → IsMinimalFor tree node set
   minimal_for set has =
       let of_f : Contains f set = ((is.sets set).0 has).0 in
       record {
-        rising = set_rises set is_family of_f;
+        rising = set_rises _ is_family of_f;
         units = units_of_all tree set (generates.of_tree.units set of_f);
         fails =
-            sym (generates.some_within (among set)) ∙ some_within-from_set f (among set) set of_f (within_itself set);
+            sym (generates.some_within (among set)) ∙ some_within-from_set _ _ _ of_f (within_itself set);
         needed =
             All-weaker (Contains set) (λ unit. reads tree (among (without_unit unit set)) node ≡ false)
             (λ unit member. needs set has unit (among-from_Contains set unit member)) set (All-contains_itself set);
@@ -117,12 +117,11 @@ module _ (tree : FaultTree) (node : ℕ) (f least : List (List ℕ)) (generates 
       ]
 
   same_part : {set : List ℕ} (part : List ℕ) → IsMinimalFor tree node set → Contains least part
-      → is_within set part ≡ true
-      → part ≡ set
+      → is_within set part ≡ true → part ≡ set
   same_part {set} part minimal has within =
       let of_f : Contains f part = ((is.sets part).0 has).0 in
-      same_within (set_rises part is_family of_f) minimal.rising
-      (is_within-from_among part set (has_all part minimal of_f within)) within
+      same_within (set_rises _ is_family of_f) minimal.rising
+      (is_within-from_among _ _ (has_all part minimal of_f within)) within
 
   complete : (set : List ℕ) → IsMinimalFor tree node set → Contains least set
   complete set minimal =

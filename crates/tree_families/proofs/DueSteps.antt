@@ -18,9 +18,9 @@ pub unions-more : (place : ℕ) (first : List (List ℕ)) (others : List (List (
     → IsUnionOfAll first (take (place + 1) others) next
 unions-more place first [] made next short is more_is = absurd (omega arith)
 unions-more zero first (family ∷ others) made next short same more_is =
-    (next, subst (λ (q : List (List ℕ)). IsUnion q family next) same more_is, refl)
+    (next, subst (λ q. IsUnion q family next) same more_is, refl)
 unions-more (suc place) first (family ∷ others) made next short (union, is, rest) more_is =
-    subst (λ (q : List (List (List ℕ))). IsUnionOfAll first q next) (sym (take_after place family others))
+    subst (λ q. IsUnionOfAll first q next) (sym (take_after place family others))
     (union, is, unions-more place union others made next (omega arith) rest more_is)
 
 pub products-more : (place : ℕ) (first : List (List ℕ)) (others : List (List (List ℕ)))
@@ -29,10 +29,10 @@ pub products-more : (place : ℕ) (first : List (List ℕ)) (others : List (List
     → IsProductOfAll first (take (place + 1) others) next
 products-more place first [] made product next short is more_is least_is = absurd (omega arith)
 products-more zero first (family ∷ others) made product next short same more_is least_is =
-    (product, next, subst (λ (q : List (List ℕ)). IsProduct q family product) same more_is, least_is, refl)
+    (product, next, subst (λ q. IsProduct q family product) same more_is, least_is, refl)
 products-more (suc place) first (family ∷ others) made product next short (made', least, is, minimal, rest) more_is
     least_is =
-    subst (λ (q : List (List (List ℕ))). IsProductOfAll first q next) (sym (take_after place family others))
+    subst (λ q. IsProductOfAll first q next) (sym (take_after place family others))
     (made', least, is, minimal, products-more place least others made product next (omega arith) rest more_is least_is)
 
 -- ---- what the step is due to
@@ -42,7 +42,7 @@ pub due-to_next_union : (place : ℕ) (first : List (List ℕ)) (others : List (
     → IsDueToUnion made (get_or others place []) due → IsDueToUnions first others due
 due-to_next_union place first [] made due short is h = absurd (omega arith)
 due-to_next_union zero first (family ∷ others) made due short same h =
-    next_union (subst (λ (q : List (List ℕ)). IsDueToUnion q family due) same h)
+    next_union (subst (λ q. IsDueToUnion q family due) same h)
 due-to_next_union (suc place) first (family ∷ others) made due short (union, is, rest) h =
     later_union is (due-to_next_union place union others made due (omega arith) rest h)
 
@@ -51,7 +51,7 @@ pub due-to_next_product : (place : ℕ) (first : List (List ℕ)) (others : List
     → IsDueToProduct made (get_or others place []) due → IsDueToProducts first others due
 due-to_next_product place first [] made due short is h = absurd (omega arith)
 due-to_next_product zero first (family ∷ others) made due short same h =
-    next_product (subst (λ (q : List (List ℕ)). IsDueToProduct q family due) same h)
+    next_product (subst (λ q. IsDueToProduct q family due) same h)
 due-to_next_product (suc place) first (family ∷ others) made due short (product, least, is, minimal, rest) h =
     later_product is minimal (due-to_next_product place least others made due (omega arith) rest h)
 
@@ -60,7 +60,7 @@ pub due-to_next_minimal : (place : ℕ) (first : List (List ℕ)) (others : List
     → IsProduct made (get_or others place []) product → IsDueToMinimal product due → IsDueToProducts first others due
 due-to_next_minimal place first [] made product due short is more_is h = absurd (omega arith)
 due-to_next_minimal zero first (family ∷ others) made product due short same more_is h =
-    next_minimal (subst (λ (q : List (List ℕ)). IsProduct q family product) same more_is) h
+    next_minimal (subst (λ q. IsProduct q family product) same more_is) h
 due-to_next_minimal (suc place) first (family ∷ others) made product due short (made', least, is, minimal, rest) more_is
     h =
     later_product is minimal (due-to_next_minimal place least others made product due (omega arith) rest more_is h)

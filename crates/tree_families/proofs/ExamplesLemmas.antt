@@ -2,13 +2,14 @@
 use Rattle.std.specs.Prelude.{◌≡◌, ℕ, ◌+◌, Bool, true, false, not, ◌&&◌, ◌||◌, nat_le, List, [], ◌∷◌, Contains}
 use Rattle.std.specs.Prelude.{if◌then◌else◌}
 use Rattle.std.specs.{List.list_all, List.Sorted.IsStrictlySortedBy}
-use Rattle.std.proofs.Common.{refl, sym, ◌∙◌, ap, inl, inr}
+use Rattle.std.proofs.Common.{refl, sym, ◌∙◌, ap, inl, inr, arith}
 use Rattle.std.proofs.lemmas.Bool.{and_parts, or_cases, not_from_true, leb-true, false≢true}
 use Rattle.unit_sets.proofs.Sorted.{Contains-nil, Contains-cons_cases}
 use Rattle.unit_sets.specs.UnitList.{is_within, some_within}
 use Rattle.fault_definitions.specs.{CutFamily.IsCutFamily, Rank.by_rank, Reading.reads, Tree.FaultTree, Tree.unit_count}
 use Rattle.zdd_families.specs.{Family.IsFamily, Minimal.IsMinimal}
 use Rattle.zdd_families.proofs.{CutsLemmas.set_rises, WithinLemmas.passes_at, InclusionLemmas.same_within}
+use Rattle.zdd_families.proofs.MinimalLemmas.{minimal-itself}
 use Rattle.tree_families.specs.{Generation.IsFamilyOf, Examples.superset_absorbed, Examples.two_of_three}
 use Rattle.tree_families.proofs.CutFamilies.{cut_family-minimal}
 
@@ -25,10 +26,10 @@ one_and_two = (1 ∷ 2 ∷ []) ∷ []
 
 passes_of : {K : Type 0} (test : K → Bool) (xs : List K) (x : K) → list_all test xs ≡ true → Contains xs x
     → test x ≡ true
-passes_of test [] x all has = Contains-nil x has
+passes_of test [] x all has = Contains-nil _ has
 passes_of test (first ∷ others) x all has =
-    let both = and_parts (test first) (list_all test others) all in
-    elim (Contains-cons_cases first x others has) [
+    let both = and_parts _ _ all in
+    elim (Contains-cons_cases _ _ _ has) [
       | inl same ↦ ap test (sym same) ∙ both.0
       | inr later ↦ passes_of test others x both.1 later
     ]
@@ -38,22 +39,13 @@ abbrev is_antichain : List (List ℕ) → Bool
 is_antichain f = list_all (λ set. list_all (λ other. not (is_within set other) || is_within other set) f) f
 
 minimal_itself : {f : List (List ℕ)} → IsFamily f → is_antichain f ≡ true → IsMinimal f f
-minimal_itself {f} is anti = record {
-  is_family = is;
-  sets = λ set. (
-    λ has. (
-      has,
-      λ other has' within.
-          elim (or_cases (not (is_within set other)) (is_within other set)
-          (passes_of (λ q. not (is_within set q) || is_within q set) f other
-          (passes_of (λ s. list_all (λ q. not (is_within s q) || is_within q s) f) f set anti has) has')) [
-            | inl outside ↦ absurd (false≢true (sym (not_from_true (is_within set other) within) ∙ outside))
-            | inr back ↦ same_within (set_rises other is has') (set_rises set is has) back within
-          ],
-    ),
-    λ both. both.0,
-  );
-}
+minimal_itself {f} is anti =
+    minimal-itself is (λ set other has has' within.
+    elim (or_cases _ _ (passes_of (λ q. not (is_within set q) || is_within q set) f other
+    (passes_of (λ s. list_all (λ q. not (is_within s q) || is_within q s) f) f set anti has) has')) [
+      | inl outside ↦ absurd (false≢true (sym (not_from_true _ within) ∙ outside))
+      | inr back ↦ same_within (set_rises _ is has') (set_rises _ is has) back within
+    ])
 
 abbrev is_unit_of : FaultTree → ℕ → Bool
 is_unit_of tree unit = nat_le 1 unit && nat_le unit (unit_count tree)
@@ -90,27 +82,14 @@ both_family = record { ordered = (tt, tt); rising = (((refl, tt), (tt, tt)), tt)
 
 two_fail : (a b c : Bool) → ((a && (b && true)) || ((a && (c && true)) || ((b && (c && true)) || false)))
     ≡ nat_le 2 ((if a || false then 1 else 0) + ((if b || false then 1 else 0) + ((if c || false then 1 else 0) + 0)))
-two_fail true true true = refl
-two_fail true true false = refl
-two_fail true false true = refl
-two_fail true false false = refl
-two_fail false true true = refl
-two_fail false true false = refl
-two_fail false false true = refl
-two_fail false false false = refl
+two_fail a b c = grind arith
 
 one_fails : (a b : Bool) → ((a && true) || false)
     ≡ ((a || false) || (((a || false) && ((b || false) && true)) || false))
-one_fails true true = refl
-one_fails true false = refl
-one_fails false true = refl
-one_fails false false = refl
+one_fails a b = grind arith
 
 both_fail : (a b : Bool) → ((a && (b && true)) || false) ≡ ((a || false) && ((b || false) && true))
-both_fail true true = refl
-both_fail true false = refl
-both_fail false true = refl
-both_fail false false = refl
+both_fail a b = grind arith
 
 votes_hit : (within : ℕ → Bool) → some_within pairs_of_three within ≡ reads two_of_three within 4
 unfolding reads by_rank

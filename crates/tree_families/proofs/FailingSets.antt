@@ -1,7 +1,7 @@
 -- Each set of units that fails a node includes a minimal one, so the cut family of a node generates it.
 use Rattle.std.specs.Prelude.{◌≡◌, ℕ, Bool, true, List, Contains}
 use Rattle.std.proofs.lemmas.List.Elements.{All-contains}
-use Rattle.unit_sets.specs.UnitList.{among, IsRising, some_within}
+use Rattle.unit_sets.specs.UnitList.{among, some_within}
 use Rattle.unit_sets.proofs.UnitListLemmas.{Contains-from_among}
 use Rattle.fault_definitions.specs.{Cut.IsMinimalFor, CutFamily.IsCutFamily, Reading.reads, WellFormed.IsTree}
 use Rattle.fault_definitions.proofs.{MinimalCuts.part_of_failing, ReadingLaws.reads-rises}
@@ -27,7 +27,7 @@ module _ (tree : FaultTree) (kept : IsTree tree) (node : ℕ) (is_node : IsNodeO
   hit_from : (within : ℕ → Bool) → reads tree within node ≡ true → some_within family within ≡ true
   hit_from within fails =
       let found = part_of_failing kept node is_node within fails in
-      some_within-from_set family within found.0.part (is.complete found.0.part found.0.minimal)
+      some_within-from_set _ _ _ (is.complete found.0.part found.0.minimal)
       (passes_from within found.0.part found.1)
 
   pub IsFamilyFor-cut_family : IsFamilyFor tree node family
@@ -36,8 +36,7 @@ module _ (tree : FaultTree) (kept : IsTree tree) (node : ℕ) (is_node : IsNodeO
       is_family =
           record {
             ordered = is.ordered;
-            rising = each-from_contains IsRising family
-                (λ set has. (minimal_at set has).rising);
+            rising = each-from_contains _ _ (λ set has. (minimal_at set has).rising);
           };
       units =
           λ set has unit member. All-contains (IsUnitOf tree) set unit (minimal_at set has).units

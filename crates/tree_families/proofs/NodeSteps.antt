@@ -2,7 +2,7 @@
 use Rattle.std.specs.Prelude.{◌≡◌, ℕ, ◌<◌, true, false, List, [], ◌∷◌, get_or, length, take}
 use Rattle.std.proofs.Common.{refl, sym, ◌∙◌, ap, subst}
 use Rattle.fault_words.specs.declared.kind.GateKind.{GateKind}
-use Rattle.fault_words.specs.declared.kind.GateKind.TheVariants.{And, Or, Votes, Pand, Por, Seq, Fdep, Csp, Wsp, Hsp}
+use Rattle.fault_words.specs.declared.kind.GateKind.TheVariants.{Or, Votes, Por, Fdep}
 use Rattle.fault_definitions.specs.{CutFamily.IsCutFamily, Trigger.triggers_of}
 use Rattle.fault_definitions.specs.Tree.{FaultTree, IsGateOf, IsUnitOf, inputs_of, is_fdep_kind, kind_of}
 use Rattle.zdd_families.specs.Due.{IsDueToUnion, IsDueToProduct, IsDueToMinimal, IsDueToVotes}
@@ -17,16 +17,11 @@ use Rattle.tree_families.specs.Recipe.{all_multiplied, gate_recipe, alone, Stand
 -- a gate that needs all of its inputs multiplies their families
 pub needs_all_recipe : (kind : GateKind) (families : List (List (List ℕ))) → needs_all kind ≡ true
     → gate_recipe kind families ≡ all_multiplied families
-needs_all_recipe And families all = refl
 needs_all_recipe Or families all = absurd cc
 needs_all_recipe (Votes least of) families all = absurd cc
-needs_all_recipe Pand families all = refl
 needs_all_recipe Por families all = absurd cc
-needs_all_recipe Seq families all = refl
 needs_all_recipe Fdep families all = absurd cc
-needs_all_recipe Csp families all = refl
-needs_all_recipe Wsp families all = refl
-needs_all_recipe Hsp families all = refl
+needs_all_recipe _ families all = refl
 
 no_fdep : (kind : GateKind) → needs_all kind ≡ true → is_fdep_kind kind ≡ false
 no_fdep Fdep all = absurd cc

@@ -3,7 +3,7 @@
 use Rattle.std.specs.Prelude.{◌⊎◌, ℕ, List, [], ◌∷◌}
 use Rattle.std.proofs.Common.{refl, subst, inl, inr}
 use Rattle.unit_sets.proofs.Sorted.{Contains-cons_first, Contains-cons_other}
-use Rattle.zdd_families.specs.{Due.IsDueToUnion, Due.IsDueToProduct, Minimal.IsMinimal, Nodes.IsReached, Spans.Spans}
+use Rattle.zdd_families.specs.{Minimal.IsMinimal, Nodes.IsReached, Spans.Spans}
 use Rattle.zdd_families.specs.{VotesParts.SpanEach, VotesParts.PartOfOne}
 use Rattle.tree_families.specs.Recipe.{Recipe, unions, products, votes, IsUnionOfAll, IsProductOfAll, IsMadeBy}
 use Rattle.tree_families.specs.Due.{IsDueToUnions, next_union, later_union, IsDueToProducts, next_product, next_minimal}
@@ -63,61 +63,54 @@ module _ (low size : ℕ) (part : List (List ℕ)) where
   later first {others} found =
       record {
         family = found.family;
-        has = Contains-cons_other first found.family others found.has;
+        has = Contains-cons_other _ _ _ found.has;
         reached =
             found.reached;
       }
 
   at_first : {first : List (List ℕ)} (others : List (List (List ℕ))) → IsReached first part
       → PartOfOne (first ∷ others) part
-  at_first {first} others reached = record { family = first; has = Contains-cons_first first others; reached = reached }
+  at_first {first} others reached = record { family = first; has = Contains-cons_first _ _; reached = reached }
 
   -- of the first family or of a later one
   abbrev Comes : Type 0 → List (List ℕ) → List (List (List ℕ)) → Type 0
   Comes Due first others = Due ⊎ (IsReached first part ⊎ PartOfOne others part)
 
-  joined_comes : (Due : Type 0) (first : List (List ℕ)) (others : List (List (List ℕ))) → Comes Due first others
-      → Due ⊎ PartOfOne (first ∷ others) part
-  joined_comes Due first others (inl due) = inl due
-  joined_comes Due first others (inr (inl reached)) = inr (at_first others reached)
-  joined_comes Due first others (inr (inr found)) = inr (later first found)
+  joined_comes : {Due G : Type 0} {first : List (List ℕ)} {others : List (List (List ℕ))} → Comes Due first others
+      → (Due → G) → G ⊎ PartOfOne (first ∷ others) part
+  joined_comes (inl due) to = inl (to due)
+  joined_comes {others} (inr (inl reached)) to = inr (at_first others reached)
+  joined_comes {first} (inr (inr found)) to = inr (later first found)
 
-  of_next_union : {first family : List (List ℕ)} (others : List (List (List ℕ)))
-      → Origin (IsDueToUnion first family part) first family part
-      → Comes (IsDueToUnions first (family ∷ others) part) first (family ∷ others)
-  of_next_union others (is_due due) = inl (next_union due)
-  of_next_union others (of_first reached) = inr (inl reached)
-  of_next_union others (of_second reached) = inr (inr (at_first others reached))
+  of_next : {Due Next : Type 0} {first family : List (List ℕ)} (others : List (List (List ℕ)))
+      → Origin Due first family part → (Due → Next) → Comes Next first (family ∷ others)
+  of_next others (is_due due) to = inl (to due)
+  of_next others (of_first reached) to = inr (inl reached)
+  of_next others (of_second reached) to = inr (inr (at_first others reached))
 
   unions_parts : {first : List (List ℕ)} (others : List (List (List ℕ))) {made : List (List ℕ)} → Spans low size first
       → SpanEach low size others → IsUnionOfAll first others made → IsReached made part
       → Comes (IsDueToUnions first others part) first others
-  unions_parts [] s each same reached = inr (inl (subst (λ (q : List (List ℕ)). IsReached q part) same reached))
+  unions_parts [] s each same reached = inr (inl (subst (λ q. IsReached q part) same reached))
   unions_parts (family ∷ others) s each (union, is, rest) reached =
       elim (unions_parts others (Spans-union s each.0 is) each.1 rest reached) [
         | inl due ↦ inl (later_union is due)
-        | inr (inl of_union) ↦ of_next_union others (union-parts size s each.0 is of_union)
+        | inr (inl of_union) ↦ of_next others (union-parts size s each.0 is of_union) (λ due. next_union due)
         | inr (inr found) ↦ inr (inr (later family found))
       ]
-
-  of_next_product : {first family : List (List ℕ)} (others : List (List (List ℕ)))
-      → Origin (IsDueToProduct first family part) first family part
-      → Comes (IsDueToProducts first (family ∷ others) part) first (family ∷ others)
-  of_next_product others (is_due due) = inl (next_product due)
-  of_next_product others (of_first reached) = inr (inl reached)
-  of_next_product others (of_second reached) = inr (inr (at_first others reached))
 
   products_parts : {first : List (List ℕ)} (others : List (List (List ℕ))) {made : List (List ℕ)} → Spans low size first
       → SpanEach low size others → IsProductOfAll first others made → IsReached made part
       → Comes (IsDueToProducts first others part) first others
-  products_parts [] s each same reached = inr (inl (subst (λ (q : List (List ℕ)). IsReached q part) same reached))
+  products_parts [] s each same reached = inr (inl (subst (λ q. IsReached q part) same reached))
   products_parts (family ∷ others) s each (product, least, is, minimal, rest) reached =
       let s' : Spans low size product = Spans-product s each.0 is in
       elim (products_parts others (Spans-minimal s' minimal) each.1 rest reached) [
         | inl due ↦ inl (later_product is minimal due)
         | inr (inl of_least) ↦ elim (minimal-parts size s' minimal of_least) [
           | inl due ↦ inl (next_minimal is due)
-          | inr of_product ↦ of_next_product others (product-parts size s each.0 is of_product)
+          | inr of_product ↦ of_next others (product-parts size s each.0 is of_product)
+              (λ due. next_product due)
         ]
         | inr (inr found) ↦ inr (inr (later family found))
       ]
@@ -125,17 +118,9 @@ module _ (low size : ℕ) (part : List (List ℕ)) where
   pub made_parts : (recipe : Recipe) {made : List (List ℕ)} → SpanEach low size (given recipe) → IsMadeBy recipe made
       → IsReached made part → IsDueToRecipe recipe part ⊎ PartOfOne (given recipe) part
   made_parts (unions first others) each is reached =
-      elim (joined_comes (IsDueToUnions first others part) first others
-      (unions_parts others each.0 each.1 is reached)) [
-        | inl due ↦ inl (due_to_unions due)
-        | inr found ↦ inr found
-      ]
+      joined_comes (unions_parts others each.0 each.1 is reached) (λ due. due_to_unions due)
   made_parts (products first others) each is reached =
-      elim (joined_comes (IsDueToProducts first others part) first others
-      (products_parts others each.0 each.1 is reached)) [
-        | inl due ↦ inl (due_to_products due)
-        | inr found ↦ inr found
-      ]
+      joined_comes (products_parts others each.0 each.1 is reached) (λ due. due_to_products due)
   made_parts (votes least families) each is reached =
       elim (votes-parts low size least families part each is reached) [
         | inl due ↦ inl (due_to_votes due)

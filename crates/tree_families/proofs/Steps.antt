@@ -1,12 +1,12 @@
 -- What the recipe of a node makes from families that generate what the node reads: it generates the node.
 use Rattle.std.specs.Prelude.{◌≡◌, ℕ, zero, suc, Bool, true, false, ◌&&◌, ◌||◌, ◌==◌, nat_le, List, [], ◌∷◌, Contains}
 use Rattle.std.specs.{List.list_any, List.list_all, List.Sorted.IsStrictlySortedBy}
-use Rattle.std.proofs.Common.{refl, sym, ◌∙◌, ap, subst, inl, inr}
+use Rattle.std.proofs.Common.{refl, sym, ◌∙◌, ap, subst, inl, inr, arith}
 use Rattle.std.proofs.lemmas.Bool.{cases_Bool, or_cases, cond-true, cond-false, eqb-true, ltb-false}
 use Rattle.unit_sets.specs.UnitList.{among, some_within}
 use Rattle.unit_sets.proofs.Sorted.{Contains-nil, Contains-cons_cases}
 use Rattle.fault_words.specs.declared.kind.GateKind.{GateKind}
-use Rattle.fault_words.specs.declared.kind.GateKind.TheVariants.{And, Or, Votes, Pand, Por, Seq, Fdep, Csp, Wsp, Hsp}
+use Rattle.fault_words.specs.declared.kind.GateKind.TheVariants.{Or, Votes, Por, Fdep}
 use Rattle.fault_definitions.specs.Reading.{reads, true_count, first_reads, gate_reads}
 use Rattle.fault_definitions.proofs.ReadingLaws.{reads-node}
 use Rattle.fault_definitions.specs.Tree.{FaultTree, IsNodeOf, IsUnitOf, kind_of, inputs_of, is_above_units, unit_count}
@@ -18,26 +18,10 @@ use Rattle.zdd_families.proofs.{Parts.empty_unit}
 use Rattle.zdd_families.proofs.WithinLemmas.{some_within-union, some_within-product, some_within-minimal}
 use Rattle.zdd_families.proofs.WithinLemmas.{some_within-votes}
 use Rattle.tree_families.specs.Generation.{IsFamilyOf, AreFamiliesOf, IsFamilyFor}
-use Rattle.tree_families.specs.Recipe.{Recipe, unions, IsUnionOfAll, IsProductOfAll, IsMadeBy, all_united}
+use Rattle.tree_families.specs.Recipe.{Recipe, IsUnionOfAll, IsProductOfAll, IsMadeBy, all_united}
 use Rattle.tree_families.specs.Recipe.{all_multiplied, first_alone, gate_recipe, alone, node_recipe, StandFor}
 
 -- ---- what results are true by
-
-or_three : (a b c : Bool) → ((a || b) || c) ≡ (a || (b || c))
-or_three true b c = refl
-or_three false b c = refl
-
-and_three : (a b c : Bool) → ((a && b) && c) ≡ (a && (b && c))
-and_three true b c = refl
-and_three false b c = refl
-
-or_none : (a : Bool) → (a || false) ≡ a
-or_none true = refl
-or_none false = refl
-
-and_all : (a : Bool) → (a && true) ≡ a
-and_all true = refl
-and_all false = refl
 
 -- whether all units of some set of the family pass a test
 abbrev hit_by : (ℕ → Bool) → List (List ℕ) → Bool
@@ -46,22 +30,20 @@ hit_by within family = some_within family within
 some_within-unions : (within : ℕ → Bool) (first : List (List ℕ)) (others : List (List (List ℕ))) (made : List (List ℕ))
     → IsUnionOfAll first others made → some_within made within
     ≡ (some_within first within || list_any (hit_by within) others)
-some_within-unions within first [] made same = ap (hit_by within) same ∙ sym (or_none (some_within first within))
+some_within-unions within first [] made same = let e = ap (hit_by within) same in grind (arith, e)
 some_within-unions within first (family ∷ others) made (union, is, rest) =
-    some_within-unions within union others made rest
-    ∙ ap (λ b. b || list_any (hit_by within) others) (some_within-union first family union within is)
-    ∙ or_three (some_within first within) (some_within family within) (list_any (hit_by within) others)
+    let e = some_within-unions within union others made rest in
+    let e' = some_within-union first family union within is in grind (arith, e, e')
 
 some_within-products : (within : ℕ → Bool) (first : List (List ℕ)) (others : List (List (List ℕ)))
     (made : List (List ℕ))
     → IsProductOfAll first others made → some_within made within
     ≡ (some_within first within && list_all (hit_by within) others)
-some_within-products within first [] made same = ap (hit_by within) same ∙ sym (and_all (some_within first within))
+some_within-products within first [] made same = let e = ap (hit_by within) same in grind (arith, e)
 some_within-products within first (family ∷ others) made (product, least, is, minimal, rest) =
-    some_within-products within least others made rest
-    ∙ ap (λ b. b && list_all (hit_by within) others)
-    (some_within-minimal product least within is.is_family minimal ∙ some_within-product first family product within is)
-    ∙ and_three (some_within first within) (some_within family within) (list_all (hit_by within) others)
+    let e = some_within-products within least others made rest in
+    let e' = some_within-minimal product least within is.is_family minimal in
+    let k = some_within-product first family product within is in grind (arith, e, e', k)
 
 -- ---- families of units of the tree
 
@@ -71,7 +53,7 @@ module _ (tree : FaultTree) where
 
   no_unit : {G : Type 0} {set : List ℕ} (unit : ℕ) → set ≡ [] → among set unit ≡ true → G
   no_unit unit same has =
-      let clash : among [] unit ≡ true = subst (λ (q : List ℕ). among q unit ≡ true) same has in absurd cc
+      let clash : among [] unit ≡ true = subst (λ q. among q unit ≡ true) same has in absurd cc
 
   of_empty_set : IsFamilyOf tree ([] ∷ [])
   of_empty_set = record { is_family = IsFamily-unit; units = λ set has unit member. empty_unit set unit has member }
@@ -101,7 +83,7 @@ module _ (tree : FaultTree) where
     is_family = is.is_family;
     units = λ set has.
         let join : IsJoin f g set = (is.sets set).0 has in
-        joined_units join.first join.second join.is (of.units join.first join.of_f) (of'.units join.second join.of_g);
+        joined_units _ _ join.is (of.units join.first join.of_f) (of'.units join.second join.of_g);
   }
 
   of_minimal : {f least : List (List ℕ)} → IsFamilyOf tree f → IsMinimal f least → IsFamilyOf tree least
@@ -116,7 +98,7 @@ module _ (tree : FaultTree) where
   choice_units (family ∷ families) of (suc count) set (inl skipped) unit has =
       choice_units families of.1 (suc count) set skipped unit has
   choice_units (family ∷ families) of (suc count) set (inr (first, rest, of_first, chosen, same)) unit has =
-      joined_units first rest same (of.0.units first of_first) (choice_units families of.1 count rest chosen) unit has
+      joined_units _ _ same (of.0.units first of_first) (choice_units families of.1 count rest chosen) unit has
 
   of_votes : {count : ℕ} {families : List (List (List ℕ))} {made : List (List ℕ)} → AreFamiliesOf tree families
       → IsVotes count families made → IsFamilyOf tree made
@@ -140,34 +122,30 @@ module _ (tree : FaultTree) where
   all_of_tree : (nodes : List ℕ) (families : List (List (List ℕ))) → StandFor (IsFamilyFor tree) nodes families
       → AreFamiliesOf tree families
   all_of_tree [] [] stand = tt
-  all_of_tree [] (family ∷ families) stand = absurd stand
-  all_of_tree (node ∷ nodes) [] stand = tt
   all_of_tree (node ∷ nodes) (family ∷ families) stand = (stand.0.of_tree, all_of_tree nodes families stand.1)
+  all_of_tree nodes families stand = absurd stand
 
   module _ (within : ℕ → Bool) where
     some_hit : (nodes : List ℕ) (families : List (List (List ℕ))) → StandFor (IsFamilyFor tree) nodes families
         → list_any (hit_by within) families ≡ list_any (reads tree within) nodes
     some_hit [] [] stand = refl
-    some_hit [] (family ∷ families) stand = absurd stand
-    some_hit (node ∷ nodes) [] stand = absurd stand
     some_hit (node ∷ nodes) (family ∷ families) stand =
         let e = stand.0.some_within within in let rest = some_hit nodes families stand.1 in cc
+    some_hit nodes families stand = absurd stand
 
     pub all_hit : (nodes : List ℕ) (families : List (List (List ℕ))) → StandFor (IsFamilyFor tree) nodes families
         → list_all (hit_by within) families ≡ list_all (reads tree within) nodes
     all_hit [] [] stand = refl
-    all_hit [] (family ∷ families) stand = absurd stand
-    all_hit (node ∷ nodes) [] stand = absurd stand
     all_hit (node ∷ nodes) (family ∷ families) stand =
         let e = stand.0.some_within within in let rest = all_hit nodes families stand.1 in cc
+    all_hit nodes families stand = absurd stand
 
     count_hit : (nodes : List ℕ) (families : List (List (List ℕ))) → StandFor (IsFamilyFor tree) nodes families
         → count_within families within ≡ true_count (reads tree within) nodes
     count_hit [] [] stand = refl
-    count_hit [] (family ∷ families) stand = absurd stand
-    count_hit (node ∷ nodes) [] stand = absurd stand
     count_hit (node ∷ nodes) (family ∷ families) stand =
         let e = stand.0.some_within within in let rest = count_hit nodes families stand.1 in cc
+    count_hit nodes families stand = absurd stand
 
 -- ---- gates
 
@@ -177,22 +155,25 @@ record IsTrueWhere (tree : FaultTree) (test : (ℕ → Bool) → Bool) (made : L
   some_within : (within : ℕ → Bool) → some_within made within ≡ test within
 
 module _ (tree : FaultTree) where
-  united : (nodes : List ℕ) (families : List (List (List ℕ))) {made : List (List ℕ)}
-      → StandFor (IsFamilyFor tree) nodes families → IsMadeBy (all_united families) made
-      → IsTrueWhere tree (λ within. list_any (reads tree within) nodes) made
-  united [] [] stand same =
+  -- a family without sets is never true
+  never : {made : List (List ℕ)} → made ≡ [] → IsTrueWhere tree (λ within. false) made
+  never same =
       record {
         of_tree = subst (IsFamilyOf tree) (sym same) (of_none tree);
         some_within = λ within. ap (hit_by within) same;
       }
-  united [] (family ∷ families) stand is = absurd stand
-  united (node ∷ nodes) [] stand is = absurd stand
+
+  united : (nodes : List ℕ) (families : List (List (List ℕ))) {made : List (List ℕ)}
+      → StandFor (IsFamilyFor tree) nodes families → IsMadeBy (all_united families) made
+      → IsTrueWhere tree (λ within. list_any (reads tree within) nodes) made
+  united [] [] stand same = never same
   united (node ∷ nodes) (family ∷ families) {made} stand is = record {
     of_tree = of_unions tree families stand.0.of_tree (all_of_tree tree nodes families stand.1) is;
     some_within =
         λ within. some_within-unions within family families made is
         ∙ some_hit tree within (node ∷ nodes) (family ∷ families) stand;
   }
+  united nodes families stand is = absurd stand
 
   multiplied : (nodes : List ℕ) (families : List (List (List ℕ))) {made : List (List ℕ)}
       → StandFor (IsFamilyFor tree) nodes families → IsMadeBy (all_multiplied families) made
@@ -203,14 +184,13 @@ module _ (tree : FaultTree) where
         some_within =
             λ within. ap (hit_by within) same;
       }
-  multiplied [] (family ∷ families) stand is = absurd stand
-  multiplied (node ∷ nodes) [] stand is = absurd stand
   multiplied (node ∷ nodes) (family ∷ families) {made} stand is = record {
     of_tree = of_products tree families stand.0.of_tree (all_of_tree tree nodes families stand.1) is;
     some_within =
         λ within. some_within-products within family families made is
         ∙ all_hit tree within (node ∷ nodes) (family ∷ families) stand;
   }
+  multiplied nodes families stand is = absurd stand
 
   voted : {least : ℕ} (nodes : List ℕ) {families : List (List (List ℕ))} {made : List (List ℕ)}
       → StandFor (IsFamilyFor tree) nodes families → IsVotes least families made
@@ -219,44 +199,27 @@ module _ (tree : FaultTree) where
     of_tree = of_votes tree (all_of_tree tree nodes families stand) is;
     some_within =
         λ within. some_within-votes least families made within is
-        ∙ ap (nat_le least) (count_hit tree within nodes families stand);
+        ∙ ap (nat_le least) (count_hit _ _ _ _ stand);
   }
 
   first : (nodes : List ℕ) (families : List (List (List ℕ))) {made : List (List ℕ)}
       → StandFor (IsFamilyFor tree) nodes families → IsMadeBy (first_alone families) made
       → IsTrueWhere tree (λ within. first_reads (reads tree within) nodes) made
-  first [] [] stand same =
-      record {
-        of_tree = subst (IsFamilyOf tree) (sym same) (of_none tree);
-        some_within = λ within. ap (hit_by within) same;
-      }
-  first [] (family ∷ families) stand is = absurd stand
-  first (node ∷ nodes) [] stand is = absurd stand
+  first [] [] stand same = never same
   first (node ∷ nodes) (family ∷ families) stand same = record {
     of_tree = subst (IsFamilyOf tree) (sym same) stand.0.of_tree;
     some_within = λ within. ap (hit_by within) same ∙ stand.0.some_within within;
   }
-
-  never : {made : List (List ℕ)} → made ≡ [] → IsTrueWhere tree (λ within. false) made
-  never same =
-      record {
-        of_tree = subst (IsFamilyOf tree) (sym same) (of_none tree);
-        some_within = λ within. ap (hit_by within) same;
-      }
+  first nodes families stand is = absurd stand
 
   gate : (kind : GateKind) (nodes : List ℕ) (families : List (List (List ℕ))) (made : List (List ℕ))
       → StandFor (IsFamilyFor tree) nodes families → IsMadeBy (gate_recipe kind families) made
       → IsTrueWhere tree (λ within. gate_reads kind (reads tree within) nodes) made
-  gate And nodes families made stand is = multiplied nodes families stand is
   gate Or nodes families made stand is = united nodes families stand is
   gate (Votes least of) nodes families made stand is = voted nodes stand is
-  gate Pand nodes families made stand is = multiplied nodes families stand is
   gate Por nodes families made stand is = first nodes families stand is
-  gate Seq nodes families made stand is = multiplied nodes families stand is
   gate Fdep nodes families made stand is = never is
-  gate Csp nodes families made stand is = multiplied nodes families stand is
-  gate Wsp nodes families made stand is = multiplied nodes families stand is
-  gate Hsp nodes families made stand is = multiplied nodes families stand is
+  gate _ nodes families made stand is = multiplied nodes families stand is
 
   -- ---- units
 
@@ -268,24 +231,20 @@ module _ (tree : FaultTree) where
   alone_set unit set has =
       elim (Contains-cons_cases (unit ∷ []) set [] has) [
         | inl same ↦ sym same
-        | inr later ↦ Contains-nil set later
+        | inr later ↦ Contains-nil _ later
       ]
 
   pub alone_member : (unit other : ℕ) → among (unit ∷ []) other ≡ true → unit ≡ other
-  alone_member unit other has = eqb-true unit other (sym (or_none (unit == other)) ∙ has)
+  alone_member unit other has = eqb-true unit other (let e : (unit == other) ≡ true = grind (arith, has) in e)
 
   pub of_alone : (unit : ℕ) → IsUnitOf tree unit → IsFamilyOf tree (alone unit)
   of_alone unit is_unit = record {
     is_family = alone_rises unit;
     units =
         λ set has other member. subst (IsUnitOf tree)
-        (alone_member unit other (subst (λ (q : List ℕ). among q other ≡ true) (alone_set unit set has) member))
+        (alone_member unit other (subst (λ q. among q other ≡ true) (alone_set unit set has) member))
         is_unit;
   }
-
-  alone_hit : (u l : Bool) → (((u && true) || false) || l) ≡ (u || l)
-  alone_hit true l = refl
-  alone_hit false l = refl
 
   unit : (node : ℕ) (nodes : List ℕ) (families : List (List (List ℕ))) (made : List (List ℕ)) → IsUnitOf tree node
       → StandFor (IsFamilyFor tree) nodes families → IsUnionOfAll (alone node) families made
@@ -293,9 +252,8 @@ module _ (tree : FaultTree) where
   unit node nodes families made is_unit stand is = record {
     of_tree = of_unions tree families (of_alone node is_unit) (all_of_tree tree nodes families stand) is;
     some_within = λ within.
-        some_within-unions within (alone node) families made is
-        ∙ ap (λ b. some_within (alone node) within || b) (some_hit tree within nodes families stand)
-        ∙ alone_hit (within node) (list_any (reads tree within) nodes);
+        let e = some_within-unions within (alone node) families made is in
+        let e' = some_hit tree within nodes families stand in grind (arith, e, e');
   }
 
   -- ---- nodes
@@ -306,27 +264,25 @@ module _ (tree : FaultTree) where
     gate_made : is_above_units tree node ≡ true → IsFamilyFor tree node made
     gate_made above =
         let stand' : StandFor (IsFamilyFor tree) (inputs_of tree node) families =
-        subst (λ (q : List ℕ). StandFor (IsFamilyFor tree) q families)
-        (cond-true (is_above_units tree node) (inputs_of tree node) (triggers_of tree node) above) stand in
+        subst (λ q. StandFor (IsFamilyFor tree) q families)
+        (cond-true _ _ _ above) stand in
         let is' : IsMadeBy (gate_recipe (kind_of tree node) families) made =
-        subst (λ (q : Recipe). IsMadeBy q made) (cond-true (is_above_units tree node)
-        (gate_recipe (kind_of tree node) families) (unions (alone node) families) above) is in
+        subst (λ (q : Recipe). IsMadeBy q made) (cond-true _ _ _ above) is in
         let here = gate (kind_of tree node) (inputs_of tree node) families made stand' is' in
         record {
           of_tree = here.of_tree;
           some_within =
               λ within. here.some_within within ∙ sym (reads-node tree kept within node is_node
-              ∙ cond-true (is_above_units tree node) _ _ above);
+              ∙ cond-true _ _ _ above);
         }
 
     unit_made : is_above_units tree node ≡ false → IsFamilyFor tree node made
     unit_made low =
         let stand' : StandFor (IsFamilyFor tree) (triggers_of tree node) families =
-        subst (λ (q : List ℕ). StandFor (IsFamilyFor tree) q families)
-        (cond-false (is_above_units tree node) (inputs_of tree node) (triggers_of tree node) low) stand in
+        subst (λ q. StandFor (IsFamilyFor tree) q families)
+        (cond-false _ _ _ low) stand in
         let is' : IsUnionOfAll (alone node) families made =
-        subst (λ (q : Recipe). IsMadeBy q made) (cond-false (is_above_units tree node)
-        (gate_recipe (kind_of tree node) families) (unions (alone node) families) low) is in
+        subst (λ (q : Recipe). IsMadeBy q made) (cond-false _ _ _ low) is in
         let here =
         unit node (triggers_of tree node) families made (is_node.0, ltb-false (unit_count tree) node low) stand'
         is' in
@@ -334,7 +290,7 @@ module _ (tree : FaultTree) where
           of_tree = here.of_tree;
           some_within =
               λ within. here.some_within within ∙ sym (reads-node tree kept within node is_node
-              ∙ cond-false (is_above_units tree node) _ _ low);
+              ∙ cond-false _ _ _ low);
         }
 
     -- what a node's recipe makes generates the node, where the families of what it reads do

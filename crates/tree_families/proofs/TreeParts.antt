@@ -5,18 +5,18 @@ use Rattle.std.proofs.lemmas.Bool.{cases_Bool, and_parts, cond-true, cond-false,
 use Rattle.std.proofs.lemmas.List.Elements.{All-contains}
 use Rattle.unit_sets.proofs.Sorted.{Contains-nil, Contains-cons_first, Contains-cons_other, Contains-cons_cases}
 use Rattle.fault_words.specs.declared.kind.GateKind.{GateKind}
-use Rattle.fault_words.specs.declared.kind.GateKind.TheVariants.{And, Or, Votes, Pand, Por, Seq, Fdep, Csp, Wsp, Hsp}
+use Rattle.fault_words.specs.declared.kind.GateKind.TheVariants.{Or, Votes, Por, Fdep}
 use Rattle.fault_definitions.specs.{CutFamily.IsCutFamily, Trigger.below, WellFormed.IsTree}
 use Rattle.fault_definitions.proofs.RankLaws.{below_are_nodes, below_ranks}
 use Rattle.fault_definitions.specs.Tree.{FaultTree, IsNodeOf, is_above_units, is_fdep, is_fdep_kind, kind_of, rank_of}
 use Rattle.fault_definitions.specs.Tree.{unit_count}
-use Rattle.zdd_families.specs.{Family.IsSetAbove, Cuts.Cuts, Minimal.IsMinimal, Nodes.IsReached, Spans.Spans}
+use Rattle.zdd_families.specs.{Cuts.Cuts, Minimal.IsMinimal, Nodes.IsReached, Spans.Spans}
 use Rattle.zdd_families.specs.{VotesParts.SpanEach, VotesParts.PartOfOne}
 use Rattle.zdd_families.proofs.{CutsLemmas.each-from_contains, SetsLemmas.above_from_among, MinimalParts.HasLeast}
 use Rattle.zdd_families.proofs.{MinimalParts.minimal-exists, VotesPartsLemmas.Spans-none, VotesPartsLemmas.Spans-unit}
-use Rattle.tree_families.specs.Recipe.{Recipe, unions, IsMadeBy, all_united, all_multiplied, first_alone, gate_recipe}
-use Rattle.tree_families.specs.Recipe.{alone, node_recipe, StandFor}
-use Rattle.tree_families.specs.Due.{IsDueToTree, one_unit, one_node}
+use Rattle.tree_families.specs.Recipe.{Recipe, unions, votes, IsMadeBy, all_united, all_multiplied, first_alone}
+use Rattle.tree_families.specs.Recipe.{gate_recipe, alone, node_recipe, StandFor}
+use Rattle.tree_families.specs.Due.{IsDueToTree, IsDueToRecipe, one_unit, one_node}
 use Rattle.tree_families.specs.Generation.{IsFamilyOf}
 use Rattle.tree_families.proofs.{CutFamilies.cut_family-one, FailingSets.IsFamilyFor-cut_family, Steps.of_alone}
 use Rattle.tree_families.proofs.{Building.recipe-cut_family}
@@ -30,7 +30,7 @@ pub Spans-of_tree : {tree : FaultTree} {family : List (List ℕ)} → IsFamilyOf
 Spans-of_tree {family} of = record {
   is_family = of.is_family;
   above =
-      each-from_contains (IsSetAbove 0) family (λ set has.
+      each-from_contains _ _ (λ set has.
       above_from_among 0 set (λ unit member. let low = (of.units set has unit member).0 in omega arith));
   below = λ set has unit member. let high = (of.units set has unit member).1 in omega arith;
 }
@@ -39,95 +39,68 @@ all_span : {tree : FaultTree} → IsTree tree → (nodes : List ℕ) (families :
     → ((node : ℕ) → Contains nodes node → IsNodeOf tree node) → StandFor (IsCutFamily tree) nodes families
     → SpanEach 0 (unit_count tree) families
 all_span kept [] [] are stand = tt
-all_span kept [] (family ∷ families) are stand = absurd stand
-all_span kept (node ∷ nodes) [] are stand = tt
 all_span {tree} kept (node ∷ nodes) (family ∷ families) are stand = (
   Spans-of_tree {tree = tree} {family = family} (IsFamilyFor-cut_family tree kept node
-      (are node (Contains-cons_first node nodes)) family
+      (are node (Contains-cons_first _ _)) family
       stand.0).of_tree,
-  all_span kept nodes families (λ n has. are n (Contains-cons_other node n nodes has)) stand.1,
+  all_span kept nodes families (λ n has. are n (Contains-cons_other _ _ _ has)) stand.1,
 )
+all_span kept nodes families are stand = absurd stand
 
 -- ---- what the recipe of a node is given: the families of what it reads, and a unit's own
 
-multiplied_span : (low size : ℕ) (families : List (List (List ℕ))) → SpanEach low size families
-    → SpanEach low size (given (all_multiplied families))
-multiplied_span low size [] each = (Spans-unit low size, tt)
-multiplied_span low size (first ∷ others) each = each
-
-united_span : (low size : ℕ) (families : List (List (List ℕ))) → SpanEach low size families
-    → SpanEach low size (given (all_united families))
-united_span low size [] each = (Spans-none low size, tt)
-united_span low size (first ∷ others) each = each
-
-first_span : (low size : ℕ) (families : List (List (List ℕ))) → SpanEach low size families
-    → SpanEach low size (given (first_alone families))
-first_span low size [] each = (Spans-none low size, tt)
-first_span low size (first ∷ others) each = (each.0, tt)
+-- what holds of the recipes of all kinds of gates
+gate_cases : (P : Recipe → Type 0) (families : List (List (List ℕ))) → P (all_multiplied families)
+    → P (all_united families) → ((least : ℕ) → P (votes least families)) → P (first_alone families) → P (unions [] [])
+    → (kind : GateKind) → P (gate_recipe kind families)
+gate_cases P families all some voted one none Or = some
+gate_cases P families all some voted one none (Votes least of) = voted least
+gate_cases P families all some voted one none Por = one
+gate_cases P families all some voted one none Fdep = none
+gate_cases P families all some voted one none _ = all
 
 pub gate_span : (low size : ℕ) (kind : GateKind) (families : List (List (List ℕ))) → SpanEach low size families
     → SpanEach low size (given (gate_recipe kind families))
-gate_span low size And families each = multiplied_span low size families each
-gate_span low size Or families each = united_span low size families each
-gate_span low size (Votes least of) families each = each
-gate_span low size Pand families each = multiplied_span low size families each
-gate_span low size Por families each = first_span low size families each
-gate_span low size Seq families each = multiplied_span low size families each
-gate_span low size Fdep families each = (Spans-none low size, tt)
-gate_span low size Csp families each = multiplied_span low size families each
-gate_span low size Wsp families each = multiplied_span low size families each
-gate_span low size Hsp families each = multiplied_span low size families each
+gate_span low size kind [] each =
+    let none : SpanEach low size ([] ∷ []) = (Spans-none low size, tt) in
+    gate_cases (λ r. SpanEach low size (given r)) [] (Spans-unit low size, tt) none (λ least. tt) none none kind
+gate_span low size kind (first ∷ others) each =
+    gate_cases (λ r. SpanEach low size (given r)) (first ∷ others) each each (λ least. each) (each.0, tt)
+    (Spans-none low size, tt) kind
+
+-- a part of the first family or of another
+part_cases : {first : List (List ℕ)} {others : List (List (List ℕ))} {part : List (List ℕ)}
+    → PartOfOne (first ∷ others) part → IsReached first part ⊎ PartOfOne others part
+part_cases {first} {others} {part} found =
+    elim (Contains-cons_cases first found.family others found.has) [
+      | inl same ↦ inl (subst (λ q. IsReached q part) (sym same) found.reached)
+      | inr later ↦ inr (record { family = found.family; has = later; reached = found.reached })
+    ]
+
+no_part : {G : Type 0} {part : List (List ℕ)} → PartOfOne [] part → G
+no_part found = Contains-nil found.family found.has
 
 module _ (part : List (List ℕ)) where
   none_of : {G : Type 0} → PartOfOne ([] ∷ []) part → G
-  none_of found =
-      elim (Contains-cons_cases [] found.family [] found.has) [
-        | inl same ↦ reached-none (subst (λ (q : List (List ℕ)). IsReached q part) (sym same) found.reached)
-        | inr later ↦ Contains-nil found.family later
-      ]
+  none_of found = elim (part_cases found) [ inl reached ↦ reached-none reached | inr later ↦ no_part later ]
 
   none_of_unit : {G : Type 0} → PartOfOne (([] ∷ []) ∷ []) part → G
   none_of_unit found =
-      elim (Contains-cons_cases ([] ∷ []) found.family [] found.has) [
-        | inl same ↦ reached-unit (λ set has. has)
-            (subst (λ (q : List (List ℕ)). IsReached q part) (sym same) found.reached)
-        | inr later ↦ Contains-nil found.family later
-      ]
-
-  of_multiplied : (families : List (List (List ℕ))) → PartOfOne (given (all_multiplied families)) part
-      → PartOfOne families part
-  of_multiplied [] found = none_of_unit found
-  of_multiplied (first ∷ others) found = found
-
-  of_united : (families : List (List (List ℕ))) → PartOfOne (given (all_united families)) part → PartOfOne families part
-  of_united [] found = none_of found
-  of_united (first ∷ others) found = found
-
-  of_first : (families : List (List (List ℕ))) → PartOfOne (given (first_alone families)) part → PartOfOne families part
-  of_first [] found = none_of found
-  of_first (first ∷ others) found =
-      elim (Contains-cons_cases first found.family [] found.has) [
-        | inl same ↦ record {
-          family = first;
-          has = Contains-cons_first first others;
-          reached =
-              subst (λ (q : List (List ℕ)). IsReached q part) (sym same) found.reached;
-        }
-        | inr later ↦ Contains-nil found.family later
-      ]
+      elim (part_cases found) [ inl reached ↦ reached-unit (λ set has. has) reached | inr later ↦ no_part later ]
 
   of_gate : (kind : GateKind) (families : List (List (List ℕ))) → PartOfOne (given (gate_recipe kind families)) part
       → PartOfOne families part
-  of_gate And families found = of_multiplied families found
-  of_gate Or families found = of_united families found
-  of_gate (Votes least of) families found = found
-  of_gate Pand families found = of_multiplied families found
-  of_gate Por families found = of_first families found
-  of_gate Seq families found = of_multiplied families found
-  of_gate Fdep families found = none_of found
-  of_gate Csp families found = of_multiplied families found
-  of_gate Wsp families found = of_multiplied families found
-  of_gate Hsp families found = of_multiplied families found
+  of_gate kind [] =
+      gate_cases (λ r. PartOfOne (given r) part → PartOfOne [] part) [] (λ found. none_of_unit found)
+      (λ found. none_of found) (λ least found. found) (λ found. none_of found) (λ found. none_of found) kind
+  of_gate kind (first ∷ others) =
+      gate_cases (λ r. PartOfOne (given r) part → PartOfOne (first ∷ others) part) (first ∷ others) (λ found. found)
+      (λ found. found) (λ least found. found)
+      (λ found. elim (part_cases found) [
+        | inl reached ↦ record { family = first; has = Contains-cons_first first others; reached = reached }
+        | inr later ↦ no_part later
+      ])
+      (λ found. none_of found) kind
 
   -- the family of a unit alone has itself as its one part
   alone_cut : {unit : ℕ} → Cuts unit (alone unit) [] ([] ∷ [])
@@ -143,11 +116,8 @@ module _ (part : List (List ℕ)) where
 
   of_unit : (unit : ℕ) {families : List (List (List ℕ))} → PartOfOne (alone unit ∷ families) part
       → (part ≡ alone unit) ⊎ PartOfOne families part
-  of_unit unit {families} found =
-      elim (Contains-cons_cases (alone unit) found.family families found.has) [
-        | inl same ↦ inl (alone_part unit (subst (λ (q : List (List ℕ)). IsReached q part) (sym same) found.reached))
-        | inr later ↦ inr (record { family = found.family; has = later; reached = found.reached })
-      ]
+  of_unit unit found =
+      elim (part_cases found) [ inl reached ↦ inl (alone_part unit reached) | inr later ↦ inr later ]
 
 module _ (tree : FaultTree) (node : ℕ) (is_node : IsNodeOf tree node) (families : List (List (List ℕ))) where
   node_span : SpanEach 0 (unit_count tree) families
@@ -156,13 +126,11 @@ module _ (tree : FaultTree) (node : ℕ) (is_node : IsNodeOf tree node) (familie
       elim (cases_Bool (is_above_units tree node)) [
         | inl above ↦
             subst (λ (q : Recipe). SpanEach 0 (unit_count tree) (given q))
-            (sym (cond-true (is_above_units tree node) (gate_recipe (kind_of tree node) families)
-            (unions (alone node) families) above))
+            (sym (cond-true _ _ _ above))
             (gate_span 0 (unit_count tree) (kind_of tree node) families each)
         | inr low ↦
             subst (λ (q : Recipe). SpanEach 0 (unit_count tree) (given q))
-            (sym (cond-false (is_above_units tree node) (gate_recipe (kind_of tree node) families)
-            (unions (alone node) families) low)) (
+            (sym (cond-false _ _ _ low)) (
               Spans-of_tree (of_alone tree node (is_node.0, ltb-false (unit_count tree) node low)),
               each,
             )
@@ -175,12 +143,10 @@ module _ (tree : FaultTree) (node : ℕ) (is_node : IsNodeOf tree node) (familie
         | inl above ↦
             inr (of_gate part (kind_of tree node) families
             (subst (λ (q : Recipe). PartOfOne (given q) part)
-            (cond-true (is_above_units tree node) (gate_recipe (kind_of tree node) families)
-            (unions (alone node) families) above) found))
+            (cond-true _ _ _ above) found))
         | inr low ↦
             elim (of_unit part node (subst (λ (q : Recipe). PartOfOne (given q) part)
-            (cond-false (is_above_units tree node) (gate_recipe (kind_of tree node) families)
-            (unions (alone node) families) low) found)) [
+            (cond-false _ _ _ low) found)) [
               | inl same ↦ inl (subst (IsDueToTree tree) (sym same)
                   (one_unit (is_node.0, ltb-false (unit_count tree) node low)))
               | inr of_one ↦ inr of_one
@@ -190,24 +156,15 @@ module _ (tree : FaultTree) (node : ℕ) (is_node : IsNodeOf tree node) (familie
   -- what is made for an `fdep` has no sets
   fdep_makes : (kind : GateKind) {made : List (List ℕ)} → is_fdep_kind kind ≡ true
       → IsMadeBy (gate_recipe kind families) made → made ≡ []
-  fdep_makes And fdep is = absurd cc
-  fdep_makes Or fdep is = absurd cc
-  fdep_makes (Votes least of) fdep is = absurd cc
-  fdep_makes Pand fdep is = absurd cc
-  fdep_makes Por fdep is = absurd cc
-  fdep_makes Seq fdep is = absurd cc
   fdep_makes Fdep fdep is = is
-  fdep_makes Csp fdep is = absurd cc
-  fdep_makes Wsp fdep is = absurd cc
-  fdep_makes Hsp fdep is = absurd cc
+  fdep_makes _ fdep is = absurd cc
 
   fdep_none : (made : List (List ℕ)) → is_fdep tree node ≡ true → IsMadeBy (node_recipe tree node families) made
       → made ≡ []
   fdep_none made fdep is =
-      let both = and_parts (is_above_units tree node) (is_fdep_kind (kind_of tree node)) fdep in
+      let both = and_parts _ _ fdep in
       fdep_makes (kind_of tree node) both.1
-      (subst (λ (q : Recipe). IsMadeBy q made) (cond-true (is_above_units tree node)
-      (gate_recipe (kind_of tree node) families) (unions (alone node) families) both.0) is)
+      (subst (λ (q : Recipe). IsMadeBy q made) (cond-true _ _ _ both.0) is)
 
 -- ---- rank by rank
 
@@ -225,19 +182,15 @@ record HaveCutFamilies (tree : FaultTree) (nodes : List ℕ) : Type 0 where
 due_one : {tree : FaultTree} {family : List (List ℕ)} {families : List (List (List ℕ))} {part : List (List ℕ)}
     → (IsReached family part → IsDueToTree tree part) → (PartOfOne families part → IsDueToTree tree part)
     → PartOfOne (family ∷ families) part → IsDueToTree tree part
-due_one {family} {families} {part} first others found =
-    elim (Contains-cons_cases family found.family families found.has) [
-      | inl same ↦ first (subst (λ (q : List (List ℕ)). IsReached q part) (sym same) found.reached)
-      | inr later ↦ others (record { family = found.family; has = later; reached = found.reached })
-    ]
+due_one first others found =
+    elim (part_cases found) [ inl reached ↦ first reached | inr later ↦ others later ]
 
 collected : {tree : FaultTree} (nodes : List ℕ) → ((node : ℕ) → Contains nodes node → HasCutFamily tree node)
     → HaveCutFamilies tree nodes
 collected [] each = record { families = []; stand = tt; due = λ part found. Contains-nil found.family found.has }
 collected {tree} (node ∷ nodes) each =
-    let first : HasCutFamily tree node = each node (Contains-cons_first node nodes) in
-    let others : HaveCutFamilies tree nodes =
-    collected nodes (λ n has. each n (Contains-cons_other node n nodes has)) in
+    let first : HasCutFamily tree node = each node (Contains-cons_first _ _) in
+    let others : HaveCutFamilies tree nodes = collected nodes (λ n has. each n (Contains-cons_other _ _ _ has)) in
     record {
       families = first.family ∷ others.families;
       stand = (first.is, others.stand);
@@ -255,6 +208,23 @@ module _ (tree : FaultTree) (kept : IsTree tree) where
       node_span tree node is_node families (all_span kept (below tree node) families
       (node_at (below tree node) (below_are_nodes kept node)) stand)
 
+  -- what is due to a node's recipe or a part of what that is given is due to the tree
+  due_at : (node : ℕ) → IsNodeOf tree node → (families : List (List (List ℕ))) {part : List (List ℕ)}
+      → StandFor (IsCutFamily tree) (below tree node) families → is_fdep tree node ≡ false
+      → (PartOfOne families part → IsDueToTree tree part)
+      → IsDueToRecipe (node_recipe tree node families) part ⊎ PartOfOne (given (node_recipe tree node families)) part
+      → IsDueToTree tree part
+  due_at node is_node families stand read lower (inl due) =
+      one_node (record {
+        is_node = is_node;
+        has_family = read;
+        families = families;
+        cut_families = stand;
+        is = due;
+      })
+  due_at node is_node families stand read lower (inr found) =
+      elim (node_given tree node is_node families found) [ inl due ↦ due | inr of_one ↦ lower of_one ]
+
   module _ (node : ℕ) (is_node : IsNodeOf tree node) (lower : HaveCutFamilies tree (below tree node)) where
     each_spans : SpanEach 0 (unit_count tree) (given (node_recipe tree node lower.families))
     each_spans = read_spans node is_node lower.families lower.stand
@@ -263,27 +233,14 @@ module _ (tree : FaultTree) (kept : IsTree tree) where
         → IsMadeBy (node_recipe tree node lower.families) made → IsMinimal made least → is_fdep tree node ≡ false
         → IsReached least part → IsDueToTree tree part
     part_due {part} s is minimal read reached =
-        elim (recipe-parts 0 (unit_count tree) part (node_recipe tree node lower.families) each_spans s is
-        minimal reached) [
-          | inl due ↦ one_node (record {
-            is_node = is_node;
-            has_family = read;
-            families = lower.families;
-            cut_families =
-                lower.stand;
-            is = due;
-          })
-          | inr found ↦ elim (node_given tree node is_node lower.families found) [
-            | inl due ↦ due
-            | inr of_one ↦ lower.due part of_one
-          ]
-        ]
+        due_at node is_node lower.families lower.stand read (λ found. lower.due part found)
+        (recipe-parts 0 (unit_count tree) part (node_recipe tree node lower.families) each_spans s is minimal reached)
 
     fdep_part : {G : Type 0} {made least part : List (List ℕ)} → IsMadeBy (node_recipe tree node lower.families) made
         → IsMinimal made least → is_fdep tree node ≡ true → IsReached least part → G
     fdep_part {made} is minimal fdep reached =
         reached-unit (λ set has.
-        Contains-nil set (subst (λ (q : List (List ℕ)). Contains q set)
+        Contains-nil _ (subst (λ q. Contains q set)
         (fdep_none tree node is_node lower.families made fdep is) ((minimal.sets set).0 has).0)) reached
 
     built : HasCutFamily tree node
@@ -316,38 +273,27 @@ module _ (tree : FaultTree) (kept : IsTree tree) where
       → IsReached family part → IsDueToTree tree part
   cut_family-parts node is_node family part is reached =
       let found : HasCutFamily tree node = has_cut_family node is_node in
-      found.due part (subst (λ (q : List (List ℕ)). IsReached q part)
-      (cut_family-one tree node family found.family is found.is) reached)
+      found.due part (subst (λ q. IsReached q part)
+      (cut_family-one _ _ _ _ is found.is) reached)
 
   -- ---- so are all parts of what a node's recipe makes
 
   part_of_one : (nodes : List ℕ) (families : List (List (List ℕ))) {part : List (List ℕ)}
       → ((node : ℕ) → Contains nodes node → IsNodeOf tree node) → StandFor (IsCutFamily tree) nodes families
       → PartOfOne families part → IsDueToTree tree part
-  part_of_one [] [] are stand found = Contains-nil found.family found.has
-  part_of_one [] (family ∷ families) are stand found = absurd stand
-  part_of_one (node ∷ nodes) [] are stand found = absurd stand
+  part_of_one [] [] are stand found = Contains-nil _ found.has
   part_of_one (node ∷ nodes) (family ∷ families) {part} are stand found =
-      due_one (λ reached. cut_family-parts node (are node (Contains-cons_first node nodes)) family part stand.0 reached)
-      (λ later. part_of_one nodes families (λ n has. are n (Contains-cons_other node n nodes has)) stand.1 later) found
+      due_one (λ reached. cut_family-parts node (are node (Contains-cons_first _ _)) family part stand.0 reached)
+      (λ later. part_of_one nodes families (λ n has. are n (Contains-cons_other _ _ _ has)) stand.1 later) found
+  part_of_one nodes families are stand found = absurd stand
 
   pub recipe-made_parts : (node : ℕ) → IsNodeOf tree node → is_fdep tree node ≡ false
       → (families : List (List (List ℕ))) (made part : List (List ℕ))
       → StandFor (IsCutFamily tree) (below tree node) families → IsMadeBy (node_recipe tree node families) made
       → IsReached made part → IsDueToTree tree part
   recipe-made_parts node is_node read families made part stand is reached =
-      let are = node_at (below tree node) (below_are_nodes kept node) in
-      let each = read_spans node is_node families stand in
-      elim (made_parts 0 (unit_count tree) part (node_recipe tree node families) each is reached) [
-        | inl due ↦ one_node (record {
-          is_node = is_node;
-          has_family = read;
-          families = families;
-          cut_families = stand;
-          is = due;
-        })
-        | inr found ↦ elim (node_given tree node is_node families found) [
-          | inl due ↦ due
-          | inr of_one ↦ part_of_one (below tree node) families are stand of_one
-        ]
-      ]
+      due_at node is_node families stand read
+      (λ found. part_of_one (below tree node) families (node_at (below tree node) (below_are_nodes kept node)) stand
+      found)
+      (made_parts 0 (unit_count tree) part (node_recipe tree node families) (read_spans node is_node families stand) is
+      reached)
