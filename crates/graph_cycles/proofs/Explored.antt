@@ -1,6 +1,6 @@
 -- One more edge of a node on the path is accounted for.
-use Rattle.std.proofs.Common.{◌≡◌, ◌≢◌, ℕ, ◌+◌, ◌<◌, ◌⊎◌, Bool, false, List, [], ◌∷◌, length, take, get_or, IsTrue, sym}
-use Rattle.std.proofs.Common.{ap, ◌∙◌, subst, inl, inr, arith}
+use Rattle.std.proofs.Common.{◌≡◌, ◌≢◌, ℕ, ◌+◌, ◌<◌, ◌⊎◌, Bool, false, List, [], ◌∷◌, length, take, get_or, IsTrue}
+use Rattle.std.proofs.Common.{ap, ◌∙◌, inl, inr, arith}
 use Rattle.std.specs.Prelude.{slice_index, slice_set, ◌==◌, ◌||◌}
 use Rattle.std.proofs.lemmas.List.{take_more, length-set, get_or-set_same, get_or-set_other}
 use Rattle.std.proofs.{lemmas.List.Folds.list_any-append, lemmas.Bool.cases_eq}
@@ -34,7 +34,7 @@ IsSound-explored {graph} {stages} {explored} {unclosed} {pieces} {path} {t} s on
   stages_all = s.stages_all;
   explored_all = length-set explored node (e + 1) ∙ s.explored_all;
   marks_all = s.marks_all;
-  fresh = λ x new. other_fresh x new;
+  fresh = other_fresh;
   nodes = s.nodes;
   opened = s.opened;
   placed = s.placed;
@@ -42,14 +42,11 @@ IsSound-explored {graph} {stages} {explored} {unclosed} {pieces} {path} {t} s on
   marked = s.marked;
   together = s.together;
   known = λ i y l seen. elim (cases_eq i t) [
-    | inl same ↦ subst (λ k. IsKnown stages pieces k y) (sym same)
-        (at_top y (subst (λ k. IsTrue (has (take (slice_index after (slice_index unclosed k))
-        (successors graph (slice_index unclosed k))) y)) same seen))
-    | inr other ↦ s.known i y l (subst (λ k. IsTrue (has (take k (successors graph (slice_index unclosed i))) y))
-        (unchanged i l other) seen)
+    | inl same ↦ rw same (at_top y (rw same at seen))
+    | inr other ↦ s.known i y l (rw (unchanged i l other) at seen)
   ];
   left_done = λ i l. elim (cases_eq i t) [
-    | inl same ↦ inl (subst (IsOn path) (sym same) on)
+    | inl same ↦ inl (rw same on)
     | inr other ↦ elim (s.left_done i l) [ inl on ↦ inl on | inr full ↦ inr (omega (arith, full, unchanged i l other)) ]
   ];
   roots = s.roots;
@@ -74,13 +71,12 @@ IsSound-explored {graph} {stages} {explored} {unclosed} {pieces} {path} {t} s on
     node_in : node < length explored
     node_in = omega (arith, s.nodes t open_top, s.explored_all)
 
+    at_t : stage_at stages node ≡ Open t
+    at_t = s.opened t open_top
+
     apart : (i : ℕ) → i < length unclosed → i ≢ t → slice_index unclosed i ≢ node
     apart i l other same =
-        let at_i : stage_at stages (slice_index unclosed i) ≡ Open i = s.opened i l in
-        let at_t : stage_at stages node ≡ Open t = s.opened t open_top in
-        let moved : stage_at stages (slice_index unclosed i) ≡ stage_at stages node = ap (stage_at stages) same in
-        let both : Open i ≡ Open t = cc in
-        other (cc)
+        other (cc (s.opened i l, at_t))
 
     unchanged : (i : ℕ) → i < length unclosed → i ≢ t
         → slice_index after (slice_index unclosed i) ≡ slice_index explored (slice_index unclosed i)
@@ -88,19 +84,15 @@ IsSound-explored {graph} {stages} {explored} {unclosed} {pieces} {path} {t} s on
 
     other_fresh : (x : ℕ) → stage_at stages x ≡ New → slice_index after x ≡ 0
     other_fresh x new = elim (cases_eq x node) [
-      | inl same ↦
-          let at_t : stage_at stages node ≡ Open t = s.opened t open_top in
-          let moved : stage_at stages x ≡ stage_at stages node = ap (stage_at stages) same in
-          cc
+      | inl same ↦ cc at_t
       | inr apart_x ↦ get_or-set_other explored node x (e + 1) 0 apart_x ∙ s.fresh x new
     ]
 
     at_top : (y : ℕ) → IsTrue (has (take (slice_index after node) (successors graph node)) y)
         → IsKnown stages pieces t y
     at_top y seen =
-        let is_after : slice_index after node ≡ e + 1 = get_or-set_same explored node (e + 1) 0 node_in in
         elim (has-take_more (successors graph node) e y more
-        (subst (λ k. IsTrue (has (take k (successors graph node)) y)) is_after seen)) [
+        (rw (get_or-set_same explored node (e + 1) 0 node_in) at seen)) [
           | inl before ↦ s.known t y open_top before
-          | inr same ↦ subst (IsKnown stages pieces t) same next
+          | inr same ↦ rw same at next
         ]

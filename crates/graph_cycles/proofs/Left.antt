@@ -1,5 +1,5 @@
 -- The walk leaves the node at the end of the path, all of whose edges are explored.
-use Rattle.std.proofs.Common.{◌≡◌, ◌≢◌, ℕ, ◌-◌, ◌<◌, ◌≤◌, Bool, List, length, take, sym, ap, ◌∙◌, subst, inl, inr}
+use Rattle.std.proofs.Common.{◌≡◌, ◌≢◌, ℕ, ◌-◌, ◌<◌, ◌≤◌, Bool, List, length, take, sym, ap, ◌∙◌, inl, inr}
 use Rattle.std.proofs.Common.{arith}
 use Rattle.std.specs.Prelude.{slice_index}
 use Rattle.std.proofs.lemmas.List.{get_or-take, length-take-le}
@@ -38,7 +38,7 @@ pub IsSound-left : {graph : List (List ℕ)} {stages : List Stage} {explored unc
     → length (successors graph (slice_index unclosed t)) ≤ slice_index explored (slice_index unclosed t)
     → ((c : ℕ) → c < length pieces → slice_index pieces c ≢ t)
     → IsSound graph stages explored unclosed pieces (take (length path - 1) path) marks
-IsSound-left {graph} {explored} {unclosed} {path} {t} s top full no_root = record {
+IsSound-left {path} {t} s top full no_root = record {
   stages_all = s.stages_all;
   explored_all = s.explored_all;
   marks_all = s.marks_all;
@@ -51,8 +51,7 @@ IsSound-left {graph} {explored} {unclosed} {path} {t} s top full no_root = recor
   together = s.together;
   known = s.known;
   left_done = λ i l. elim (cases_eq i t) [
-    | inl same ↦ inr (subst (λ k. length (successors graph (slice_index unclosed k))
-        ≤ slice_index explored (slice_index unclosed k)) (sym same) full)
+    | inl same ↦ inr (rw same full)
     | inr other ↦ elim (s.left_done i l) [ inl on ↦ inl (IsOn-less path top other on) | inr done ↦ inr done ]
   ];
   roots = λ c l. IsOn-less path top (no_root c l) (s.roots c l);

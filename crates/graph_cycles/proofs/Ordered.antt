@@ -1,6 +1,6 @@
 -- The order in which the walk closes nodes.
-use Rattle.std.proofs.Common.{◌≡◌, ℕ, ◌-◌, ◌<◌, ◌⊎◌, List, ◌++◌, length, take, All, Contains}
-use Rattle.std.proofs.Common.{refl, sym, ap, ◌∙◌, subst, inl, inr, arith, length-append}
+use Rattle.std.proofs.Common.{◌≡◌, ℕ, ◌-◌, ◌<◌, ◌≤◌, ◌⊎◌, List, ◌++◌, length, take, All, Contains}
+use Rattle.std.proofs.Common.{refl, inl, inr, arith, length-append}
 use Rattle.std.specs.Prelude.{slice_index}
 use Rattle.std.proofs.lemmas.Bool.{cases_lt}
 use Rattle.std.proofs.lemmas.List.{get_or_append_left, get_or-append_right, get_or_past, take-append-le, take_all}
@@ -34,29 +34,20 @@ module _ {graph : List (List ℕ)} {stages : List Stage} (stages' : List Stage) 
   at_order : (k : ℕ) → k < length order → slice_index (order ++ piece) k ≡ slice_index order k
   at_order k l = get_or_append_left order piece 0 k l
 
-  at_piece : (k : ℕ) → ¬ (k < length order) → slice_index (order ++ piece) k ≡ slice_index piece (k - length order)
+  at_piece : (k : ℕ) → length order ≤ k → slice_index (order ++ piece) k ≡ slice_index piece (k - length order)
   at_piece k past = get_or-append_right order piece (length order) k 0 refl (omega arith)
 
-  in_piece : (k : ℕ) → k < length (order ++ piece) → ¬ (k < length order) → k - length order < length piece
+  in_piece : (k : ℕ) → k < length (order ++ piece) → length order ≤ k → k - length order < length piece
   in_piece k l past = omega (arith, length-append order piece)
 
   all_closed : (k : ℕ) → k < length (order ++ piece) → stage_at stages' (slice_index (order ++ piece) k) ≡ Closed
   all_closed k l = elim (cases_lt k (length order)) [
-    | inl before ↦ ap (stage_at stages') (at_order k before) ∙ stays (slice_index order k) (h.closed k before)
-    | inr from ↦
-        let past : ¬ (k < length order) = λ e. absurd (omega arith) in
-        ap (stage_at stages') (at_piece k past) ∙ closes (k - length order) (in_piece k l past)
+    | inl before ↦ rw (at_order k before) (stays (slice_index order k) (h.closed k before))
+    | inr from ↦ rw (at_piece k from) (closes (k - length order) (in_piece k l from))
   ]
 
   abbrev IsAfter : ℕ → Type 0
   IsAfter k = All (Contains (take k (order ++ piece))) (successors graph (slice_index (order ++ piece) k))
-
-  after_before : (k : ℕ) → k < length order → ¬ Leads graph (slice_index order k) (slice_index order k) → IsAfter k
-  after_before k l no_cycle =
-      subst (λ front. All (Contains front) (successors graph (slice_index (order ++ piece) k)))
-      (sym (take-append-le k order piece (omega arith)))
-      (subst (λ n. All (Contains (take k order)) (successors graph n)) (sym (at_order k l))
-      (h.after_successors k l no_cycle))
 
   after_all : (node : ℕ) → ((y : ℕ) → Goes graph node y → stage_at stages y ≡ Closed)
       → All (Contains order) (successors graph node)
@@ -68,20 +59,18 @@ module _ {graph : List (List ℕ)} {stages : List Stage} (stages' : List Stage) 
   after_last : (k : ℕ) → k ≡ length order
       → ((y : ℕ) → Goes graph (slice_index (order ++ piece) k) y → stage_at stages y ≡ Closed) → IsAfter k
   after_last k last done =
-      subst (λ front. All (Contains front) (successors graph (slice_index (order ++ piece) k)))
-      (sym (take-append-le k order piece (omega arith) ∙ take_all k order (omega arith)))
+      rw (take-append-le k order piece (omega arith), take_all k order (omega arith))
       (after_all (slice_index (order ++ piece) k) done)
 
   after : (k : ℕ) → k < length (order ++ piece)
       → ¬ Leads graph (slice_index (order ++ piece) k) (slice_index (order ++ piece) k) → IsAfter k
   after k l no_cycle = elim (cases_lt k (length order)) [
-    | inl before ↦ after_before k before (subst (λ n. ¬ Leads graph n n) (at_order k before) no_cycle)
+    | inl before ↦
+        rw (take-append-le k order piece (omega arith), at_order k before)
+        (h.after_successors k before (rw (at_order k before) at no_cycle))
     | inr from ↦
-        let past : ¬ (k < length order) = λ e. absurd (omega arith) in
-        let found = alone (k - length order) (in_piece k l past)
-        (subst (λ n. ¬ Leads graph n n) (at_piece k past) no_cycle) in
-        after_last k (omega (arith, found.0))
-        (λ y goes. found.1 y (subst (λ n. Goes graph n y) (at_piece k past) goes))
+        let found = alone (k - length order) (in_piece k l from) (rw (at_piece k from) at no_cycle) in
+        after_last k (omega (arith, found.0)) (λ y goes. found.1 y (rw (at_piece k from) at goes))
   ]
 
   pub AreOrdered-more : AreOrdered graph stages' (order ++ piece)

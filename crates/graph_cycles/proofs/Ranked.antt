@@ -1,24 +1,15 @@
 -- The ranks of closed nodes.
-use Rattle.std.proofs.Common.{◌≡◌, ◌≢◌, ℕ, suc, ◌<◌, ◌≤◌, Bool, false, List, [], ◌∷◌, length, IsTrue, refl, sym, ap}
-use Rattle.std.proofs.Common.{◌∙◌, subst, inl, inr, arith}
-use Rattle.std.specs.Prelude.{slice_index, slice_set, ◌==◌}
+use Rattle.std.proofs.Common.{◌≡◌, ◌≢◌, ℕ, suc, ◌<◌, ◌≤◌, Bool, false, List, [], ◌∷◌, length, sym, ◌∙◌, inl, inr}
+use Rattle.std.proofs.Common.{arith}
+use Rattle.std.specs.Prelude.{slice_index, slice_set}
 use Rattle.std.proofs.lemmas.List.{length-set, get_or-set_same, get_or-set_other}
-use Rattle.std.proofs.lemmas.Bool.{cases_eq, or_left, or_right, eq-eqb}
-use Rattle.graph_cycles.specs.Graph.{Goes, has, successors, rank_over}
+use Rattle.std.proofs.lemmas.Bool.{cases_eq}
+use Rattle.graph_cycles.specs.Graph.{Goes, successors, rank_over}
 use Rattle.graph_cycles.specs.{declared.walk.Stage.Stage, declared.walk.Stage.TheVariants.Closed}
 use Rattle.graph_cycles.specs.Walk.{HasRanks, stage_at, mark_at}
+use Rattle.graph_cycles.proofs.Surveys.{rank_over-agree}
 
--- ranks that agree on these nodes give one rank above them
-pub rank_over-agree : (r r' nodes : List ℕ) → ((y : ℕ) → IsTrue (has nodes y) → slice_index r y ≡ slice_index r' y)
-    → rank_over r nodes ≡ rank_over r' nodes
-rank_over-agree r r' [] same = refl
-rank_over-agree r r' (node ∷ nodes) same =
-    let first : slice_index r node ≡ slice_index r' node =
-    same node (or_left (node == node) (has nodes node) (eq-eqb node node refl)) in
-    let rest : rank_over r nodes ≡ rank_over r' nodes =
-    rank_over-agree r r' nodes (λ y h. same y (or_right (node == y) (has nodes y) h)) in
-    cc
-
+-- ranks up to a number give a rank above them of one more at most
 pub rank_over-bounded : (ranks nodes : List ℕ) (count : ℕ) → ((x : ℕ) → slice_index ranks x ≤ count)
     → rank_over ranks nodes ≤ suc count
 rank_over-bounded ranks [] count h = omega arith
@@ -68,24 +59,17 @@ HasRanks-one {graph} {stages} stages' {ranks} {marks} marks' {count} count' v in
     record {
       ranks_all = length-set ranks v (rank_over ranks (successors graph v)) ∙ h.ranks_all;
       ranked = λ x now unmarked. elim (cases_eq x v) [
-        | inl same ↦ subst (λ k. slice_index after k ≡ rank_over after (successors graph k)) (sym same)
-            (at_v ∙ rank_over-agree ranks after (successors graph v)
-            (λ y goes. sym (elsewhere y (λ e. loopless (subst (λ k. Goes graph v k) e goes)))))
+        | inl same ↦ rw same (at_v ∙ rank_over-agree ranks after (successors graph v)
+            (λ y goes. sym (elsewhere y (λ e. loopless (rw e at goes)))))
         | inr other ↦
             let before : (stage_at stages x ≡ Closed) × (mark_at marks' x ≡ mark_at marks x) = was x now other in
             let unmarked_before : mark_at marks x ≡ false = sym before.1 ∙ unmarked in
             elsewhere x other ∙ (h.ranked x before.0 unmarked_before
             ∙ rank_over-agree ranks after (successors graph x)
-            (λ y goes. sym (elsewhere y (λ e. opened (subst (λ k. stage_at stages k ≡ Closed) e
-            (closed x y before.0 goes))))))
+            (λ y goes. sym (elsewhere y (λ e. opened (rw e at (closed x y before.0 goes))))))
       ];
       bounded = λ x. elim (cases_eq x v) [
-        | inl same ↦ omega (
-          arith,
-          ap (slice_index after) same,
-          at_v,
-          rank_over-bounded ranks (successors graph v) count h.bounded,
-        )
+        | inl same ↦ rw (same, at_v) (omega (arith, rank_over-bounded ranks (successors graph v) count h.bounded))
         | inr other ↦ omega (arith, elsewhere x other, h.bounded x)
       ];
     }

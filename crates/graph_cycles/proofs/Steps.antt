@@ -1,5 +1,5 @@
 -- One step of the walk leaves it sound, with less to do.
-use Rattle.std.proofs.Common.{◌≡◌, ◌≢◌, ℕ, ◌+◌, ◌-◌, ◌<◌, ◌≤◌, List, length, refl, sym, ap, ◌∙◌, subst, inl, inr, arith}
+use Rattle.std.proofs.Common.{◌≡◌, ◌≢◌, ℕ, ◌+◌, ◌-◌, ◌<◌, ◌≤◌, List, length, refl, sym, ap, ◌∙◌, inl, inr, arith}
 use Rattle.std.specs.Prelude.{slice_index, slice_set}
 use Rattle.std.proofs.lemmas.List.{length_push, get_or-set_same, get_or-set_other}
 use Rattle.std.proofs.lemmas.Bool.{cases_eq}
@@ -7,7 +7,7 @@ use Rattle.graph_cycles.specs.{Graph.IsGraph, Graph.Goes, declared.walk.Stage.St
 use Rattle.graph_cycles.specs.declared.walk.Stage.TheVariants.{New, Open, Closed}
 use Rattle.graph_cycles.specs.Walk.{IsKnown, IsOn, IsTop, stage_at, work_left}
 use Rattle.graph_cycles.specs.State.{Stands, StaysMet, Meets, Joins, Follows, steps_left}
-use Rattle.graph_cycles.proofs.{Ways.top_most, Merged.IsSound-merged, Merged.Keeps as KeepsPieces}
+use Rattle.graph_cycles.proofs.{Merged.IsSound-merged}
 use Rattle.graph_cycles.proofs.{Ranked.HasRanks-fewer, Ordered.AreOrdered-same, Work.work-visited}
 use Rattle.graph_cycles.proofs.Visited.{IsSound-visited, IsOn-more, at_old}
 
@@ -32,10 +32,7 @@ IsOn-top path top = (length path - 1, omega (arith, top.0), top.1)
 not_given : (stages : List Stage) (x n y : ℕ) {stage : Stage} → Open n ≢ stage → x < length stages
     → stage_at (slice_set stages x (Open n)) y ≡ stage → stage_at stages y ≡ stage
 not_given stages x n y differs l is = elim (cases_eq y x) [
-  | inl same ↦
-      let at_x : stage_at (slice_set stages x (Open n)) y ≡ Open n =
-      ap (stage_at (slice_set stages x (Open n))) same ∙ get_or-set_same stages x (Open n) New l in
-      absurd (differs (sym at_x ∙ is))
+  | inl same ↦ absurd (differs (cc (get_or-set_same stages x (Open n) New l)))
   | inr other ↦ sym (get_or-set_other stages x y (Open n) New other) ∙ is
 ]
 
@@ -50,23 +47,22 @@ pub Met-Meets : (graph : List (List ℕ)) {old new : Walk} {x : ℕ}
     → Stands graph old → x < length graph → stage_at old.stages.items x ≡ New
     → ((t : ℕ) → IsTop old.path.items t → Goes graph (slice_index old.unclosed.items t) x)
     → Meets old new x → Met graph old new x
-Met-Meets graph {old} {new} {x} s in_graph is_new ahead m = record {
-  stands = record {
-    sound = rw (m.stages, m.keeps.explored, m.unclosed, m.pieces, m.path, m.keeps.on_cycle)
-        (IsSound-visited x s.sound is_new in_graph ahead);
-    ranks = rw (m.keeps.ranks, m.keeps.on_cycle, m.keeps.closed) (HasRanks-fewer new.stages.items was_closed s.ranks);
-    order = rw m.keeps.closed (AreOrdered-same new.stages.items stays_closed was_closed s.order);
-  };
-  is_open = ap (λ ss. stage_at ss x) m.stages ∙ get_or-set_same old.stages.items x (Open n) New x_in;
-  met = λ y is. not_given old.stages.items x n y (λ e. cc) x_in (subst (λ ss. stage_at ss y ≡ New) m.stages is);
-  steps =
-      let paths : length new.path.items ≡ length old.path.items + 1 = ap length m.path ∙ length_push old.path.items n in
-      let works : work_left graph new.explored.items new.stages.items + 2
-      ≡ work_left graph old.explored.items old.stages.items =
-      rw (m.stages, m.keeps.explored) (work-visited graph old.explored.items old.stages.items x n s.sound.explored_all
-      s.sound.stages_all in_graph is_new) in
-      omega arith;
-}
+Met-Meets graph {old} {new} {x} s in_graph is_new ahead m =
+    rw m.rest (record {
+      stands = record {
+        sound = rw (m.stages, m.unclosed, m.pieces, m.path) (IsSound-visited x s.sound is_new in_graph ahead);
+        ranks = HasRanks-fewer new.stages.items was_closed s.ranks;
+        order = AreOrdered-same new.stages.items stays_closed was_closed s.order;
+      };
+      is_open = rw m.stages (get_or-set_same old.stages.items x (Open n) New x_in);
+      met = λ y is. not_given old.stages.items x n y (λ e. cc) x_in (rw m.stages at is);
+      steps =
+          let works : work_left graph old.explored.items new.stages.items + 2
+          ≡ work_left graph old.explored.items old.stages.items =
+          rw m.stages (work-visited graph old.explored.items old.stages.items x n s.sound.explored_all
+          s.sound.stages_all in_graph is_new) in
+          omega (arith, ap length m.path, length_push old.path.items n);
+    })
   where
     n : ℕ
     n = length old.unclosed.items
@@ -75,13 +71,11 @@ Met-Meets graph {old} {new} {x} s in_graph is_new ahead m = record {
     x_in = omega (arith, s.sound.stages_all, in_graph)
 
     was_closed : (y : ℕ) → stage_at new.stages.items y ≡ Closed → stage_at old.stages.items y ≡ Closed
-    was_closed y is = not_given old.stages.items x n y (λ e. cc) x_in (subst (λ ss. stage_at ss y ≡ Closed) m.stages is)
+    was_closed y is = not_given old.stages.items x n y (λ e. cc) x_in (rw m.stages at is)
 
     stays_closed : (y : ℕ) → stage_at old.stages.items y ≡ Closed → stage_at new.stages.items y ≡ Closed
-    stays_closed y is = subst (λ ss. stage_at ss y ≡ Closed) (sym m.stages) (elim (cases_eq y x) [
-      | inl same ↦
-          let both : stage_at old.stages.items x ≡ Closed = subst (λ k. stage_at old.stages.items k ≡ Closed) same is in
-          absurd cc
+    stays_closed y is = rw m.stages (elim (cases_eq y x) [
+      | inl same ↦ absurd cc
       | inr other ↦ get_or-set_other old.stages.items x y (Open n) New other ∙ is
     ])
 
@@ -93,18 +87,14 @@ module _ (graph : List (List ℕ)) {old new : Walk} {t x : ℕ}
   followed_new is =
       let m : Meets old new x = f.to_new is in
       let l : t < length old.unclosed.items = open_top graph s top in
-      let below : (c : ℕ) → c < length old.pieces.items → slice_index old.pieces.items c ≤ t =
-      λ c lc. top_most old.path.items s.sound.path_rises top.0 top.1 (s.sound.roots c lc) in
       let done : Met graph old new x = Met-Meets graph s (whole (slice_index old.unclosed.items t) x goes) is
-      (λ t' top'. subst (λ k. Goes graph (slice_index old.unclosed.items k) x) (sym top.1 ∙ top'.1) goes) m in
+      (λ t' top'. rw (sym top.1 ∙ top'.1) at goes) m in
       record {
         stands = done.stands;
         known = inr (length old.unclosed.items, done.is_open, λ c lc le. omega (arith, l));
-        on =
-            subst (λ p. IsOn p t) (sym m.path) (IsOn-more old.path.items (length old.unclosed.items)
-            (IsOn-top old.path.items top));
+        on = rw m.path (IsOn-more old.path.items (length old.unclosed.items) (IsOn-top old.path.items top));
         node = ap (λ us. slice_index us t) m.unclosed ∙ at_old old.unclosed.items x t l;
-        explored = m.keeps.explored;
+        explored = ap (λ w. w.explored.items) m.rest;
         met = done.met;
         steps = omega (arith, done.steps);
       }
@@ -113,33 +103,23 @@ module _ (graph : List (List ℕ)) {old new : Walk} {t x : ℕ}
   followed_open i is =
       let j : Joins old new i = f.to_open i is in
       let at_i : (i < length old.unclosed.items) × (slice_index old.unclosed.items i ≡ x) = s.sound.placed x i is in
-      let keeps : KeepsPieces old.pieces.items new.pieces.items i =
-      record { front = j.front; shorter = j.shorter; kept = j.kept; dropped = j.dropped } in
-      record {
+      rw j.rest (record {
         stands = record {
-          sound = rw (j.stages, j.keeps.explored, j.unclosed, j.path, j.keeps.on_cycle)
-              (IsSound-merged i new.pieces.items
-              s.sound top at_i.0 (subst (λ y. Goes graph (slice_index old.unclosed.items t) y) (sym at_i.1) goes)
-              keeps);
-          ranks = rw (j.stages, j.keeps.ranks, j.keeps.on_cycle, j.keeps.closed) s.ranks;
-          order = rw (j.stages, j.keeps.closed) s.order;
+          sound = IsSound-merged j.pieces s.sound top at_i.0 (rw at_i.1 goes);
+          ranks = s.ranks;
+          order = s.order;
         };
-        known = inr (i, ap (λ ss. stage_at ss x) j.stages ∙ is, λ c lc le. j.kept c lc);
-        on = subst (λ p. IsOn p t) (sym j.path) (IsOn-top old.path.items top);
-        node = ap (λ us. slice_index us t) j.unclosed;
-        explored = j.keeps.explored;
-        met = λ y is'. subst (λ ss. stage_at ss y ≡ New) j.stages is';
-        steps =
-            let paths : length new.path.items ≡ length old.path.items = ap length j.path in
-            let works : work_left graph new.explored.items new.stages.items
-            ≡ work_left graph old.explored.items old.stages.items = rw (j.stages, j.keeps.explored) refl in
-            omega arith;
-      }
+        known = inr (i, is, λ c lc le. j.pieces.kept c lc);
+        on = IsOn-top old.path.items top;
+        node = refl;
+        explored = refl;
+        met = λ y is'. is';
+        steps = omega arith;
+      })
 
   followed_closed : stage_at old.stages.items x ≡ Closed → Followed graph old new t x
   followed_closed is =
-      subst (λ w. Followed graph old w t x) (sym (f.to_closed is))
-      (record {
+      rw (f.to_closed is) (record {
         stands = s;
         known = inl is;
         on = IsOn-top old.path.items top;

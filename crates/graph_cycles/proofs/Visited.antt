@@ -1,21 +1,18 @@
 -- A new node is met: it is open, a piece of its own, and the end of the path.
-use Rattle.std.proofs.Common.{◌≡◌, ◌≢◌, ℕ, ◌-◌, ◌<◌, ◌≤◌, ◌⊎◌, Bool, true, false, List, [], ◌∷◌, ◌++◌, length, take}
-use Rattle.std.proofs.Common.{IsTrue, refl, sym, ap, ◌∙◌, subst, inl, inr, arith}
+use Rattle.std.proofs.Common.{◌≡◌, ◌≢◌, ℕ, ◌-◌, ◌<◌, ◌⊎◌, Bool, true, false, List, [], ◌∷◌, ◌++◌, length}
+use Rattle.std.proofs.Common.{refl, sym, ap, ◌∙◌, inl, inr, arith}
 use Rattle.std.specs.Prelude.{slice_index, slice_set}
 use Rattle.std.proofs.lemmas.List.{length-set, get_or-set_same, get_or-set_other, get_or_append_left, get_or_push}
 use Rattle.std.proofs.lemmas.List.{length_push}
 use Rattle.std.proofs.lemmas.Bool.{cases_lt, cases_eq}
-use Rattle.graph_cycles.specs.Graph.{Goes, has, successors}
+use Rattle.graph_cycles.specs.Graph.{Goes}
 use Rattle.graph_cycles.specs.declared.walk.Stage.{Stage}
 use Rattle.graph_cycles.specs.declared.walk.Stage.TheVariants.{New, Open, Closed}
-use Rattle.graph_cycles.specs.Walk.{IsSound, IsKnown, IsOn, IsTop, Within, Reaches, Rises, seen_of, stage_at}
+use Rattle.graph_cycles.specs.Walk.{IsSound, IsKnown, IsOn, IsTop, Within, Reaches, Rises, stage_at}
 use Rattle.graph_cycles.proofs.Ways.{Reaches-edge, top_most}
 
 -- one more number at the end
 module _ (xs : List ℕ) (y : ℕ) where
-  pub more : List ℕ
-  more = xs ++ y ∷ []
-
   pub at_old : (i : ℕ) → i < length xs → slice_index (xs ++ y ∷ []) i ≡ slice_index xs i
   at_old i l = get_or_append_left xs (y ∷ []) 0 i l
 
@@ -62,15 +59,13 @@ IsSound-visited {graph} {stages} {explored} {unclosed} {pieces} {path} x s new i
     | inr last ↦ omega (arith, last_is i last, in_graph)
   ];
   opened = λ i l. elim (old_or_new unclosed x i l) [
-    | inl old ↦ ap (stage_at after) (at_old unclosed x i old)
-        ∙ (elsewhere (slice_index unclosed i) (open_is_other i old) ∙ s.opened i old)
-    | inr last ↦ ap (stage_at after) (last_is i last) ∙ (here ∙ ap Open (sym last))
+    | inl old ↦
+        rw (at_old unclosed x i old) (elsewhere (slice_index unclosed i) (open_is_other i old) ∙ s.opened i old)
+    | inr last ↦ rw (last_is i last) (here ∙ ap Open (sym last))
   ];
   placed = λ y i is_open. elim (cases_eq y x) [
     | inl same ↦
-        let moved : stage_at after y ≡ Open n = here_is y same in
-        let both : Open n ≡ Open i = sym moved ∙ is_open in
-        let place : n ≡ i = cc in
+        let place : n ≡ i = cc (here_is y same) in
         (omega (arith, length_push unclosed x, place), last_is i (sym place) ∙ sym same)
     | inr other ↦
         let before : (i < length unclosed) × (slice_index unclosed i ≡ y) =
@@ -83,33 +78,24 @@ IsSound-visited {graph} {stages} {explored} {unclosed} {pieces} {path} x s new i
   marked = λ y is_closed. s.marked y (was_closed y is_closed);
   together = λ i j li lj w. together_more i j (old_or_new unclosed x i li) (old_or_new unclosed x j lj) w;
   known = λ i y l seen. elim (old_or_new unclosed x i l) [
-    | inl old ↦ known_more i y old (s.known i y old
-        (subst (λ k. IsTrue (has (seen_of graph explored k) y)) (at_old unclosed x i old) seen))
-    | inr last ↦
-        let unseen : slice_index explored (slice_index (unclosed ++ x ∷ []) i) ≡ 0 =
-        ap (slice_index explored) (last_is i last) ∙ s.fresh x new in
-        absurd (nothing (slice_index explored (slice_index (unclosed ++ x ∷ []) i))
-        (successors graph (slice_index (unclosed ++ x ∷ []) i)) y unseen seen)
+    | inl old ↦ known_more i y old (s.known i y old (rw (at_old unclosed x i old) at seen))
+    | inr last ↦ let never : false ≡ true = rw (last_is i last, s.fresh x new) at seen in absurd cc
   ];
   left_done = λ i l. elim (old_or_new unclosed x i l) [
     | inl old ↦ elim (s.left_done i old) [
       | inl on ↦ inl (IsOn-more path n on)
-      | inr full ↦ inr (subst (λ k. length (successors graph k) ≤ slice_index explored k)
-          (sym (at_old unclosed x i old)) full)
+      | inr full ↦ inr (rw (at_old unclosed x i old) full)
     ]
-    | inr last ↦ inl (subst (IsOn (path ++ n ∷ [])) (sym last) (IsOn-new path n))
+    | inr last ↦ inl (rw last (IsOn-new path n))
   ];
   roots = λ c l. elim (old_or_new pieces n c l) [
-    | inl old ↦ subst (IsOn (path ++ n ∷ [])) (sym (at_old pieces n c old)) (IsOn-more path n (s.roots c old))
-    | inr last ↦ subst (IsOn (path ++ n ∷ [])) (sym (ap (slice_index (pieces ++ n ∷ [])) last ∙ at_new pieces n))
-        (IsOn-new path n)
+    | inl old ↦ rw (at_old pieces n c old) (IsOn-more path n (s.roots c old))
+    | inr last ↦ rw (last, at_new pieces n) (IsOn-new path n)
   ];
   first = λ _. first_more;
   path_open = λ p l. elim (old_or_new path n p l) [
     | inl old ↦ omega (arith, at_old path n p old, s.path_open p old, length_push unclosed x)
-    | inr last ↦
-        let is : slice_index (path ++ n ∷ []) p ≡ n = ap (slice_index (path ++ n ∷ [])) last ∙ at_new path n in
-        omega (arith, is, length_push unclosed x)
+    | inr last ↦ rw (last, at_new path n) (omega (arith, length_push unclosed x))
   ];
   path_rises = Rises-more path n s.path_rises s.path_open;
   pieces_rise = Rises-more pieces n s.pieces_rise piece_below;
@@ -137,24 +123,16 @@ IsSound-visited {graph} {stages} {explored} {unclosed} {pieces} {path} x s new i
     last_is i last = ap (slice_index (unclosed ++ x ∷ [])) last ∙ at_new unclosed x
 
     open_is_other : (i : ℕ) → i < length unclosed → slice_index unclosed i ≢ x
-    open_is_other i l same =
-        let is_open : stage_at stages (slice_index unclosed i) ≡ Open i = s.opened i l in
-        let moved : stage_at stages (slice_index unclosed i) ≡ stage_at stages x = ap (stage_at stages) same in
-        cc
+    open_is_other i l same = cc (s.opened i l)
 
     closed_is_other : (y : ℕ) → stage_at stages y ≡ Closed → y ≢ x
-    closed_is_other y is_closed same =
-        let moved : stage_at stages y ≡ stage_at stages x = ap (stage_at stages) same in
-        cc
+    closed_is_other y is_closed same = cc
 
     was_closed : (y : ℕ) → stage_at after y ≡ Closed → stage_at stages y ≡ Closed
     was_closed y is_closed = elim (cases_eq y x) [
       | inl same ↦ let moved : stage_at after y ≡ Open n = here_is y same in absurd cc
       | inr other ↦ sym (elsewhere y other) ∙ is_closed
     ]
-
-    nothing : (k : ℕ) (xs : List ℕ) (y : ℕ) → k ≡ 0 → IsTrue (has (take k xs) y) → ⊥
-    nothing k xs y none h = let never : false ≡ true = subst (λ k. IsTrue (has (take k xs) y)) none h in absurd cc
 
     within_before : (i j : ℕ) → Within (pieces ++ n ∷ []) i j → Within pieces i j
     within_before i j w c l le =
@@ -168,17 +146,14 @@ IsSound-visited {graph} {stages} {explored} {unclosed} {pieces} {path} x s new i
     within_more : (i j : ℕ) → i < n → Within pieces i j → Within (pieces ++ n ∷ []) i j
     within_more i j below w c l le = elim (old_or_new pieces n c l) [
       | inl old ↦ omega (arith, at_old pieces n c old, w c old (omega (arith, at_old pieces n c old)))
-      | inr last ↦
-          let is : slice_index (pieces ++ n ∷ []) c ≡ n = ap (slice_index (pieces ++ n ∷ [])) last ∙ at_new pieces n in
-          absurd (omega arith)
+      | inr last ↦ absurd (omega (arith, rw (last, at_new pieces n) at le))
     ]
 
     known_more : (i y : ℕ) → i < n → IsKnown stages pieces i y → IsKnown after (pieces ++ n ∷ []) i y
     known_more i y below k = elim k [
       | inl done ↦ inl (elsewhere y (closed_is_other y done) ∙ done)
       | inr (j, is_open, w) ↦
-          let other : y ≢ x =
-          λ same. (let moved : stage_at stages y ≡ stage_at stages x = ap (stage_at stages) same in cc) in
+          let other : y ≢ x = λ same. cc in
           inr (j, elsewhere y other ∙ is_open, within_more i j below w)
     ]
 
@@ -202,12 +177,9 @@ IsSound-visited {graph} {stages} {explored} {unclosed} {pieces} {path} x s new i
     together_more : (i j : ℕ) → (i < n) ⊎ (i ≡ n) → (j < n) ⊎ (j ≡ n) → Within (pieces ++ n ∷ []) i j
         → Reaches graph (slice_index (unclosed ++ x ∷ []) i) (slice_index (unclosed ++ x ∷ []) j)
     together_more i j (inl old) (inl old') w =
-        subst (λ a. Reaches graph a (slice_index (unclosed ++ x ∷ []) j)) (sym (at_old unclosed x i old))
-        (subst (λ b. Reaches graph (slice_index unclosed i) b) (sym (at_old unclosed x j old'))
-        (s.together i j old old' (within_before i j w)))
+        rw (at_old unclosed x i old, at_old unclosed x j old') (s.together i j old old' (within_before i j w))
     together_more i j (inl old) (inr last) w =
-        subst (λ a. Reaches graph a (slice_index (unclosed ++ x ∷ []) j)) (sym (at_old unclosed x i old))
-        (subst (λ b. Reaches graph (slice_index unclosed i) b) (sym (last_is j last)) (reaches_new i old))
+        rw (at_old unclosed x i old, last_is j last) (reaches_new i old)
     together_more i j (inr last) (inl old) w =
         absurd (omega (
           arith,

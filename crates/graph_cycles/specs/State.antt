@@ -1,9 +1,9 @@
 -- The walk as it stands between two steps.
-use Rattle.std.specs.Prelude.{◌≡◌, ◌≢◌, ℕ, ◌+◌, ◌-◌, ◌<◌, ◌≤◌, true, false, List, [], ◌∷◌, ◌++◌, length, take, drop}
+use Rattle.std.specs.Prelude.{◌≡◌, ◌≢◌, ℕ, ◌+◌, ◌-◌, ◌<◌, true, false, List, [], ◌∷◌, ◌++◌, length, take, drop}
 use Rattle.std.specs.Prelude.{slice_index, slice_set}
 use Rattle.graph_cycles.specs.{declared.walk.Walk.Walk, Graph.successors, Graph.rank_over}
 use Rattle.graph_cycles.specs.declared.walk.Stage.TheVariants.{New, Open, Closed}
-use Rattle.graph_cycles.specs.Walk.{IsSound, HasRanks, AreOrdered, Closes, piece_cycles, stage_at, work_left}
+use Rattle.graph_cycles.specs.Walk.{IsSound, HasRanks, AreOrdered, Keeps, Closes, piece_cycles, stage_at, work_left}
 
 -- the walk keeps what it is for: it is sound, its closed nodes have their ranks, and they stand in order
 pub record Stands (graph : List (List ℕ)) (w : Walk) : Type 0 where
@@ -20,32 +20,18 @@ StaysMet old new = (x : ℕ) → stage_at new.stages.items x ≡ New → stage_a
 abbrev pub steps_left : List (List ℕ) → Walk → ℕ
 steps_left graph w = work_left graph w.explored.items w.stages.items + length w.path.items
 
--- what is left alone
-pub record Keeps (old new : Walk) : Type 0 where
-  pub explored : new.explored.items ≡ old.explored.items
-  pub closed : new.closed.items ≡ old.closed.items
-  pub on_cycle : new.on_cycle.items ≡ old.on_cycle.items
-  pub ranks : new.ranks.items ≡ old.ranks.items
-
--- a node is met: it is open, a piece of its own, and the end of the path
+-- a node is met: it is open, a piece of its own, and the end of the path, and nothing else is changed
 pub record Meets (old new : Walk) (x : ℕ) : Type 0 where
-  pub keeps : Keeps old new
+  pub rest : new ≡ record old { stages = new.stages; unclosed = new.unclosed; pieces = new.pieces; path = new.path }
   pub stages : new.stages.items ≡ slice_set old.stages.items x (Open (length old.unclosed.items))
   pub unclosed : new.unclosed.items ≡ old.unclosed.items ++ x ∷ []
   pub pieces : new.pieces.items ≡ old.pieces.items ++ length old.unclosed.items ∷ []
   pub path : new.path.items ≡ old.path.items ++ length old.unclosed.items ∷ []
 
--- the pieces from that of a position on are one
+-- the pieces from that of a position on are one, and nothing else is changed
 pub record Joins (old new : Walk) (at : ℕ) : Type 0 where
-  pub keeps : Keeps old new
-  pub stages : new.stages.items ≡ old.stages.items
-  pub unclosed : new.unclosed.items ≡ old.unclosed.items
-  pub path : new.path.items ≡ old.path.items
-  pub front : new.pieces.items ≡ take (length new.pieces.items) old.pieces.items
-  pub shorter : length new.pieces.items ≤ length old.pieces.items
-  pub kept : (c : ℕ) → c < length new.pieces.items → slice_index new.pieces.items c ≤ at
-  pub dropped : (c : ℕ) → length new.pieces.items ≤ c → c < length old.pieces.items
-      → at < slice_index old.pieces.items c
+  pub rest : new ≡ record old { pieces = new.pieces }
+  pub pieces : Keeps old.pieces.items new.pieces.items at
 
 -- an edge to a node is followed: a new node is met, an open one joins pieces, and a closed one changes nothing
 pub record Follows (old new : Walk) (x : ℕ) : Type 0 where
@@ -67,17 +53,11 @@ explored_at w at = slice_index w.explored.items (slice_index w.unclosed.items at
 abbrev pub edges_at : List (List ℕ) → Walk → ℕ → List ℕ
 edges_at graph w at = successors graph (slice_index w.unclosed.items at)
 
--- one more edge of the node at a position counts as explored
+-- one more edge of the node at a position counts as explored, and nothing else is changed
 pub record Counts (old new : Walk) (at : ℕ) : Type 0 where
-  pub stages : new.stages ≡ old.stages
+  pub rest : new ≡ record old { explored = new.explored }
   pub explored : new.explored.items ≡ slice_set old.explored.items (slice_index old.unclosed.items at)
       (explored_at old at + 1)
-  pub unclosed : new.unclosed ≡ old.unclosed
-  pub pieces : new.pieces ≡ old.pieces
-  pub path : new.path ≡ old.path
-  pub closed : new.closed ≡ old.closed
-  pub on_cycle : new.on_cycle ≡ old.on_cycle
-  pub ranks : new.ranks ≡ old.ranks
 
 -- nothing but ranks is changed
 pub record IsRankedAlone (old new : Walk) : Type 0 where

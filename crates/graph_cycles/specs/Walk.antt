@@ -29,6 +29,13 @@ IsOn path i = (p : ℕ) × (p < length path) × (slice_index path p ≡ i)
 abbrev pub Rises : List ℕ → Type 0
 Rises places = (p q : ℕ) → p < q → q < length places → slice_index places p < slice_index places q
 
+-- the pieces that begin at or before a position, of those that there were
+pub record Keeps (old new : List ℕ) (at : ℕ) : Type 0 where
+  pub front : new ≡ take (length new) old
+  pub shorter : length new ≤ length old
+  pub kept : (c : ℕ) → c < length new → slice_index new c ≤ at
+  pub dropped : (c : ℕ) → length new ≤ c → c < length old → at < slice_index old c
+
 -- an edge from the node at a position to y is accounted for: y is closed, or open in the same piece or a later one
 abbrev pub IsKnown : List Stage → List ℕ → ℕ → ℕ → Type 0
 IsKnown stages pieces i y = (stage_at stages y ≡ Closed) ⊎ ((j : ℕ) × (stage_at stages y ≡ Open j) × Within pieces i j)
@@ -66,16 +73,17 @@ pub record IsSound (graph : List (List ℕ)) (stages : List Stage) (explored unc
 abbrev pub IsTop : List ℕ → ℕ → Type 0
 IsTop path t = (0 < length path) × (slice_index path (length path - 1) ≡ t)
 
+-- these places of a list have the value, and nothing else is changed
+pub record AreSet {A : Type 0} (places : List ℕ) (value default : A) (old new : List A) : Type 0 where
+  pub same : length new ≡ length old
+  pub inside : (k : ℕ) → k < length places → slice_index_or new (slice_index places k) default ≡ value
+  pub outside : (x : ℕ) → ((k : ℕ) → k < length places → slice_index places k ≢ x)
+      → slice_index_or new x default ≡ slice_index_or old x default
+
 -- these nodes are closed and marked alike, and nothing else is changed
 pub record Closes (nodes : List ℕ) (mark : Bool) (stages stages' : List Stage) (marks marks' : List Bool) : Type 0 where
-  pub stages_same : length stages' ≡ length stages
-  pub marks_same : length marks' ≡ length marks
-  pub inside_stage : (k : ℕ) → k < length nodes → stage_at stages' (slice_index nodes k) ≡ Closed
-  pub inside_mark : (k : ℕ) → k < length nodes → mark_at marks' (slice_index nodes k) ≡ mark
-  pub outside_stage : (x : ℕ) → ((k : ℕ) → k < length nodes → slice_index nodes k ≢ x)
-      → stage_at stages' x ≡ stage_at stages x
-  pub outside_mark : (x : ℕ) → ((k : ℕ) → k < length nodes → slice_index nodes k ≢ x)
-      → mark_at marks' x ≡ mark_at marks x
+  pub closed : AreSet nodes Closed New stages stages'
+  pub marked : AreSet nodes mark false marks marks'
 
 -- the closed nodes that lie on no cycle have their ranks, none of which exceeds the number of closed nodes
 pub record HasRanks (graph : List (List ℕ)) (stages : List Stage) (ranks : List ℕ) (marks : List Bool)
