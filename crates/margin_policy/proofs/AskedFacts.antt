@@ -1,5 +1,5 @@
 -- What follows from the definitions of `specs/Asked`.
-use Rattle.std.specs.Prelude.{◌≡◌, ℕ, ◌-◌, ◌≤◌, Bool, true, not, ◌&&◌, ◌||◌, nat_le, List}
+use Rattle.std.specs.Prelude.{◌≡◌, ℕ, ◌≤◌, Bool, true, not, ◌&&◌, ◌||◌, nat_le, List}
 use Rattle.std.specs.Prelude.{length}
 use Rattle.std.proofs.lemmas.Bool.{and_parts, leb-true}
 use Rattle.margin_policy.specs.Asked.{asked_limit, can_be_asked, has_repeat, is_none_asked}

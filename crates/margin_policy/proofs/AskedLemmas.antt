@@ -3,13 +3,9 @@ use Rattle.std.proofs.Common.{◌≡◌, ℕ, zero, suc, ◌+◌, ◌-◌, ◌<�
 use Rattle.std.proofs.Common.{length, take, drop, set, replicate, get_or, refl, sym, ◌∙◌, ap, arith, inl, inr, eq-eqb}
 use Rattle.std.proofs.Common.{eqb-true, length-set, get_or-set_same, drop-drop, drop-set-lt}
 use Rattle.std.proofs.lemmas.Bool.{or_parts, or_from, or_left, or_right, cases_Bool}
-use Rattle.std.proofs.lemmas.Bool.Decides.{nat_tests}
 use Rattle.std.proofs.lemmas.List.{take_more, take_all, take-set, drop-replicate}
 use Rattle.unit_sets.specs.UnitList.{among}
 use Rattle.margin_policy.specs.Asked.{has_repeat, can_be_asked, asked_limit, HoldsAsked}
-
-swapped : (a b : ℕ) → (a == b) ≡ false → (b == a) ≡ false
-swapped a b h = grind (arith, nat_tests)
 
 among-at : (xs : List ℕ) (i : ℕ) → i < length xs → among xs (get_or xs i 0) ≡ true
 among-at [] i short = absurd (omega arith)
@@ -18,13 +14,9 @@ among-at (x ∷ xs) (suc i) short = or_right (x == get_or xs i 0) (among xs (get
 
 apart-at : (xs : List ℕ) (x i : ℕ) → among xs x ≡ false → i < length xs → (x == get_or xs i 0) ≡ false
 apart-at xs x i none short = elim (cases_Bool (x == get_or xs i 0)) [
-  | inl same ↦ absurd (clash (among xs x) none (ap (among xs) (eqb-true x (get_or xs i 0) same) ∙ among-at xs i short))
+  | inl same ↦ absurd (cc (rw (← eqb-true x (get_or xs i 0) same) at (among-at xs i short)))
   | inr other ↦ other
 ]
-  where
-    clash : (b : Bool) → b ≡ false → b ≡ true → ⊥
-    clash true h k = absurd cc
-    clash false h k = absurd cc
 
 -- a unit of a list without repeats doesn't stand before itself
 pub once_at : (units : List ℕ) (i : ℕ) → has_repeat units ≡ false → i < length units

@@ -1,14 +1,13 @@
 -- What a reply tells, and the first tight cut set by number and by place.
-use Rattle.std.proofs.Common.{◌≡◌, ℕ, suc, ◌+◌, ◌<◌, ◌^◌, Bool, List, [], ◌∷◌, slice_get, Option}
-use Rattle.std.proofs.Common.{Some, None, refl, sym, ◌∙◌, ap, arith, add-one}
+use Rattle.std.proofs.Common.{◌≡◌, ℕ, suc, ◌<◌, ◌^◌, List, [], ◌∷◌, ◌++◌, slice_get, Option, Some, None, refl, sym}
+use Rattle.std.proofs.Common.{◌∙◌, ap, arith}
 use Rattle.std.specs.{List.position, Option.option_map}
 use Rattle.std.proofs.lemmas.List.Quantifiers.{position-Some}
-use Rattle.unit_sets.specs.CutOrder.{IsOrderedCuts}
-use Rattle.residual_ledger.specs.Tight.{is_tight, tight}
+use Rattle.residual_ledger.specs.{Ledger.LedgerView, Tight.is_tight, Tight.tight}
 use Rattle.residual_ledger.proofs.{TightLaws.tight-first, LedgerFacts.few_cuts}
 use Rattle.margin_policy.specs.declared.request.Reply.{Reply}
 use Rattle.margin_policy.specs.declared.request.Reply.TheVariants.{Granted, Denied}
-use Rattle.margin_policy.specs.Decide.{granted_unless}
+use Rattle.margin_policy.specs.{Decide.granted_unless, Held.Held, Held.units_out, Standing.KeepsStanding}
 
 -- the reply by the place of the first tight cut set, from 0
 abbrev pub granted_at : Option ℕ → Reply
@@ -22,26 +21,21 @@ by_first [] (Some place) h = absurd cc
 by_first (number ∷ numbers) None h = absurd cc
 by_first (number ∷ numbers) (Some place) h = let same : number ≡ suc place = cc in ap Denied (sym same)
 
--- the first tight cut set decides, told by its place or by its number
-pub granted_at-first : (out : List ℕ) (most : ℕ) (cuts : List (List ℕ))
-    → granted_at (position (is_tight out most) cuts) ≡ granted_unless (tight out most cuts)
-granted_at-first out most cuts =
-    by_first (tight out most cuts) (position (is_tight out most) cuts) (tight-first out most cuts)
-
--- the reply at a first tight cut set, and where there is none
-pub denied_at : (out : List ℕ) (most : ℕ) (cuts : List (List ℕ)) {first : Option ℕ} (place : ℕ)
-    → first ≡ position (is_tight out most) cuts → first ≡ Some place
-    → Denied (place + 1) ≡ granted_unless (tight out most cuts)
-denied_at out most cuts place is some =
-    ap Denied (add-one place) ∙ ap granted_at (sym some ∙ is) ∙ granted_at-first out most cuts
-
-pub granted_where_none : (out : List ℕ) (most : ℕ) (cuts : List (List ℕ)) {first : Option ℕ}
-    → first ≡ position (is_tight out most) cuts → first ≡ None → Granted ≡ granted_unless (tight out most cuts)
-granted_where_none out most cuts is none = ap granted_at (sym none ∙ is) ∙ granted_at-first out most cuts
+-- what the ledger finds first decides, told by its place or by its number
+pub granted_at-first : (asked : List ℕ) (most : ℕ) {ledger : LedgerView} {margin : ℕ} {held now : Held}
+    {cuts : List (List ℕ)} {first : Option ℕ}
+    → KeepsStanding ledger margin held → ledger.cuts ≡ cuts → held ≡ now
+    → first ≡ position (is_tight (asked ++ ledger.out) most) ledger.cuts
+    → granted_at first ≡ granted_unless (tight (asked ++ units_out now) most cuts)
+granted_at-first asked most {ledger} was same_cuts same_held is =
+    rw (← same_held, ← same_cuts, ← was.same, is) (by_first (tight (asked ++ ledger.out) most ledger.cuts)
+    (position (is_tight (asked ++ ledger.out) most) ledger.cuts) (tight-first (asked ++ ledger.out) most ledger.cuts))
 
 -- a place of a cut set is no large number
-pub few_places : (cuts : List (List ℕ)) (test : List ℕ → Bool) {first : Option ℕ} (place : ℕ) → IsOrderedCuts cuts
-    → first ≡ position test cuts → first ≡ Some place → place < 2 ^ 31
-few_places cuts test place ordered is some =
-    let found = position-Some test cuts place [] (sym is ∙ some) in
-    omega (arith, found.0, few_cuts cuts, ordered.within)
+pub few_places : (asked : List ℕ) (most : ℕ) {ledger : LedgerView} {margin : ℕ} {held : Held} {first : Option ℕ}
+    {place : ℕ}
+    → KeepsStanding ledger margin held → first ≡ position (is_tight (asked ++ ledger.out) most) ledger.cuts
+    → first ≡ Some place → place < 2 ^ 31
+few_places asked most {ledger} {place} was is some =
+    let found = position-Some (is_tight (asked ++ ledger.out) most) ledger.cuts place [] (sym is ∙ some) in
+    omega (arith, found.0, few_cuts ledger.cuts, was.whole.ordered.within)

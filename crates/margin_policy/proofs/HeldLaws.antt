@@ -1,10 +1,10 @@
 -- Which units are out, by who holds what.
 use Rattle.std.specs.Prelude.{◌≡◌, ℕ, ◌<◌, Bool, true, false, ◌&&◌, ◌||◌, ◌==◌, List, [], ◌∷◌, length, Some, None}
-use Rattle.std.specs.Prelude.{is_some}
+use Rattle.std.specs.Prelude.{◌⊎◌, Option, is_some, slice_set}
 use Rattle.std.proofs.Common.{refl, sym, ◌∙◌, ap, arith, inl, inr, eq-eqb, length-set, get_or-set_same}
 use Rattle.std.proofs.Common.{get_or-set_other}
 use Rattle.std.proofs.lemmas.Bool.{cases_eq, cases_lt, lt-ltb, le-ltb, ne_eqb, or_left, or_right}
-use Rattle.std.proofs.lemmas.List.{get_or_past}
+use Rattle.std.proofs.lemmas.List.{get_or_past, set_past}
 use Rattle.unit_sets.specs.{UnitList.among, UnitList.IsRising, declared.request.CrewNo.CrewNo}
 use Rattle.residual_ledger.proofs.Passing.{among-passing, IsRising-passing}
 use Rattle.margin_policy.specs.Held.{Held, holder_of, units_out, with_held, with_all_held}
@@ -25,17 +25,25 @@ among-units_out held unit =
           ∙ ap is_some (sym (get_or_past held unit None past))
     ]
 
+-- where the place of one unit is set, each unit has its holder as before, or the one that was set
+pub as_before_or_set : (held : Held) (unit : ℕ) (holder : Option CrewNo) (other : ℕ)
+    → (holder_of (slice_set held unit holder) other ≡ holder_of held other)
+    ⊎ (holder_of (slice_set held unit holder) other ≡ holder)
+as_before_or_set held unit holder other = elim (cases_eq other unit) [
+  | inl same ↦ elim (cases_lt unit (length held)) [
+    | inl inside ↦ inr (rw same (get_or-set_same held unit holder None inside))
+    | inr past ↦ inl (rw (set_past held unit holder past))
+  ]
+  | inr apart ↦ inl (get_or-set_other held unit other holder None apart)
+]
+
 -- ---- a unit is taken, or some units are
 
 pub is_held-with_held : (held : Held) (crew : CrewNo) (unit : ℕ) → unit < length held → (other : ℕ)
     → is_held (with_held crew unit held) other ≡ ((unit == other) || is_held held other)
-is_held-with_held held crew unit short other = elim (cases_eq other unit) [
-  | inl same ↦
-      ap (is_held (with_held crew unit held)) same ∙ ap is_some (get_or-set_same held unit (Some crew) None short)
-      ∙ ap (λ b. b || is_held held other) (sym (eq-eqb unit other (sym same)))
-  | inr apart ↦
-      ap is_some (get_or-set_other held unit other (Some crew) None apart)
-      ∙ ap (λ b. b || is_held held other) (sym (ne_eqb unit other (λ e. apart (sym e))))
+is_held-with_held held crew unit short other = elim (cases_eq unit other) [
+  | inl same ↦ rw (← same, get_or-set_same held unit (Some crew) None short, eq-eqb unit unit refl)
+  | inr apart ↦ rw (get_or-set_other held unit other (Some crew) None (λ e. apart (sym e)), ne_eqb unit other apart)
 ]
 
 pub length-with_all_held : (crew : CrewNo) (units : List ℕ) (held : Held)

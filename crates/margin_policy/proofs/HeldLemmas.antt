@@ -1,11 +1,12 @@
 -- Which units are out when holders change.
-use Rattle.std.proofs.Common.{◌≡◌, ℕ, zero, suc, ◌+◌, ◌<◌, Bool, true, false, not, ◌&&◌, ◌||◌, ◌==◌, List, [], ◌∷◌}
+use Rattle.std.proofs.Common.{◌≡◌, ℕ, zero, suc, ◌+◌, ◌<◌, false, not, ◌&&◌, ◌||◌, ◌==◌, List, [], ◌∷◌}
 use Rattle.std.proofs.Common.{◌++◌, length, take, replicate, get_or, All, Option, Some, None, is_some, refl, sym}
 use Rattle.std.proofs.Common.{◌∙◌, ap, arith, inl, inr, eq-eqb, get_or-set_same, get_or-set_other}
 use Rattle.std.specs.List.Sorted.{IsStrictlySortedBy}
 use Rattle.std.proofs.lemmas.Bool.{cases_eq, cases_lt, ne_eqb, or_parts}
 use Rattle.std.proofs.lemmas.List.{get_or_past, get_or-replicate, length-replicate, take_more}
 use Rattle.std.proofs.lemmas.List.{get_or_default}
+use Rattle.std.proofs.Math.Bool.{and-false, and-true}
 use Rattle.unit_sets.specs.UnitList.{among, IsRising, with_unit, without_unit}
 use Rattle.unit_sets.proofs.UnitListLemmas.{same_set, IsRising-with_unit}
 use Rattle.unit_sets.proofs.UnitListLemmas.{IsRising-without_unit, among-with_unit, among-without_unit}
@@ -18,7 +19,7 @@ use Rattle.margin_policy.proofs.AskedLemmas.{once_at}
 
 -- ---- nothing is out
 
-no_holder : (count unit : ℕ) → holder_of (replicate count None) unit ≡ None
+pub no_holder : (count unit : ℕ) → holder_of (replicate count None) unit ≡ None
 no_holder count unit = elim (cases_lt unit count) [
   | inl short ↦ get_or-replicate count unit None None short
   | inr past ↦ get_or_past (replicate count None) unit None
@@ -56,42 +57,29 @@ returned held unit short =
     ∙ sym (among-without_unit unit (units_out held) other
     ∙ ap (λ b. b && not (other == unit)) (among-units_out held other)))
   where
-    gone : (a b : Bool) → b ≡ true → false ≡ (a && not b)
-    gone true true h = refl
-    gone false true h = refl
-    gone a false h = absurd cc
-
-    kept : (a b : Bool) → b ≡ false → a ≡ (a && not b)
-    kept true false h = refl
-    kept false false h = refl
-    kept a true h = absurd cc
-
     each : (other : ℕ) → is_held (without_held unit held) other ≡ (is_held held other && not (other == unit))
     each other = elim (cases_eq other unit) [
       | inl same ↦
-          ap (is_held (without_held unit held)) same ∙ ap is_some (get_or-set_same held unit None None short)
-          ∙ gone (is_held held other) (other == unit) (eq-eqb other unit same)
+          rw (same, get_or-set_same held unit None None short, eq-eqb unit unit refl)
+          (sym (and-false (is_held held unit)))
       | inr apart ↦
-          ap is_some (get_or-set_other held unit other None None apart)
-          ∙ kept (is_held held other) (other == unit) (ne_eqb other unit apart)
+          rw (get_or-set_other held unit other None None apart, ne_eqb other unit apart)
+          (sym (and-true (is_held held other)))
     ]
 
 -- ---- some units, one after another
 
+both_none : (first later : Option CrewNo) → or_else first later ≡ None → (first ≡ None) × (later ≡ None)
+both_none None later h = (refl, h)
+both_none (Some holder) later h = absurd cc
+
 pub first_holder-none : (held : Held) (units : List ℕ) → first_holder held units ≡ None → (i : ℕ) → i < length units
     → holder_of held (get_or units i 0) ≡ None
 first_holder-none held [] none i short = absurd (omega arith)
-first_holder-none held (unit ∷ units) none zero short = first_of (holder_of held unit) (first_holder held units) none
-  where
-    first_of : (first later : Option CrewNo) → or_else first later ≡ None → first ≡ None
-    first_of None later h = refl
-    first_of (Some holder) later h = absurd cc
+first_holder-none held (unit ∷ units) none zero short =
+    (both_none (holder_of held unit) (first_holder held units) none).0
 first_holder-none held (unit ∷ units) none (suc i) short =
-    first_holder-none held units (later_of (holder_of held unit) (first_holder held units) none) i (omega arith)
-  where
-    later_of : (first later : Option CrewNo) → or_else first later ≡ None → later ≡ None
-    later_of None later h = h
-    later_of (Some holder) later h = absurd cc
+    first_holder-none held units (both_none (holder_of held unit) (first_holder held units) none).1 i (omega arith)
 
 pub all_in_service : (held : Held) (units : List ℕ) → first_holder held units ≡ None
     → All (λ unit. among (units_out held) unit ≡ false) units
@@ -121,11 +109,7 @@ held_as_before crew (first ∷ units) held unit none =
     let parts : ((first == unit) ≡ false) × (among units unit ≡ false) =
     or_parts (first == unit) (among units unit) none in
     held_as_before crew units (with_held crew first held) unit parts.1
-    ∙ get_or-set_other held first unit (Some crew) None (λ e. clash (first == unit) parts.0 (eq-eqb first unit (sym e)))
-  where
-    clash : (b : Bool) → b ≡ false → b ≡ true → ⊥
-    clash true h k = absurd cc
-    clash false h k = absurd cc
+    ∙ get_or-set_other held first unit (Some crew) None (λ e. cc (eq-eqb first unit (sym e)))
 
 -- the unit whose turn it is is still in service
 pub still_free : (crew : CrewNo) (units : List ℕ) (held : Held) (i : ℕ) {unit : ℕ} → has_repeat units ≡ false

@@ -1,14 +1,12 @@
 -- What the tests need of lists that they make.
-use Rattle.std.proofs.Common.{◌≡◌, ℕ, zero, suc, ◌+◌, ◌<◌, ◌≤◌, true, List, [], ◌∷◌, ◌++◌, length, get_or}
-use Rattle.std.proofs.Common.{slice_get, Some, refl, sym, ◌∙◌, ap, arith, inl, inr, length-append}
+use Rattle.std.proofs.Common.{◌≡◌, ℕ, suc, ◌+◌, ◌<◌, ◌≤◌, true, List, [], ◌∷◌, ◌++◌, length, get_or}
+use Rattle.std.proofs.Common.{slice_get, Some, refl, sym, arith, inl, inr, length-append}
 use Rattle.std.specs.{Ordering.nat_cmp, Ordering.is_lt, List.Sorted.IsStrictlySortedBy, declared.cmp.Ordering.Ordering}
 use Rattle.std.specs.declared.cmp.Ordering.TheVariants.{Less, Equal, Greater}
 use Rattle.std.proofs.{lemmas.Bool.cases_eq, lemmas.Bool.Decides.nat_tests, lemmas.Cmp.nat_cmp_total}
 use Rattle.std.proofs.{lemmas.List.get_or_append_left, lemmas.List.get_or_push, lemmas.Map.Keys.Less-from_sorted}
-use Rattle.std.proofs.{lemmas.Map.Keys.sorted_from_all_adjacent}
-use Rattle.unit_sets.specs.CutOrder.{cut_cmp, cut_cmp_total, IsInCutOrder, IsOrderedCuts, IsCutSet}
-use Rattle.unit_sets.specs.{Unit.IsUnit, Unit.most_units, UnitList.IsRising}
-use Rattle.residual_ledger.specs.Residual.{HasUnitsUpTo}
+use Rattle.std.proofs.{lemmas.Map.Keys.sorted_from_all_adjacent, lemmas.Option.get_or_from_slice_get}
+use Rattle.unit_sets.specs.{CutOrder.cut_cmp, CutOrder.cut_cmp_total, CutOrder.IsInCutOrder, UnitList.IsRising}
 
 -- the units before a place rise
 pub record RisesSoFar (units : List ℕ) (i : ℕ) : Type 0 where
@@ -21,12 +19,6 @@ pub rises-all : {units : List ℕ} {i : ℕ} → length units ≤ i → RisesSoF
 rises-all {units} full was =
     sorted_from_all_adjacent nat_cmp_total units 0
     (λ k h. less_from (get_or units k 0) (get_or units (k + 1) 0) (was.below k (omega arith)))
-
-set_at : (cuts : List (List ℕ)) (place : ℕ) (set : List ℕ) → slice_get cuts place ≡ Some set
-    → get_or cuts place [] ≡ set
-set_at [] place set at = absurd cc
-set_at (first ∷ cuts) zero set at = cc
-set_at (first ∷ cuts) (suc place) set at = set_at cuts place set at
 
 -- the first set of all, and one after the last
 pub first_set : (set : List ℕ) → IsInCutOrder (set ∷ [])
@@ -44,24 +36,12 @@ next_set cuts last set place long at ordered less =
     elim (cases_eq (k + 1) (length cuts)) [
       | inl end ↦
           let is_place : k ≡ place = omega arith in
-          let here : get_or cuts k [] ≡ last = ap (λ n. get_or cuts n []) is_place ∙ set_at cuts place last at in
-          let new : get_or (cuts ++ set ∷ []) (k + 1) [] ≡ set = get_or_push cuts set [] (k + 1) (sym end) in
-          ap (λ (x : List ℕ). cut_cmp x (get_or (cuts ++ set ∷ []) (k + 1) [])) (front ∙ here) ∙ ap (cut_cmp last) new
-          ∙ less
+          let here : get_or cuts k [] ≡ last = rw is_place (get_or_from_slice_get cuts place last [] at) in
+          rw (front, here, get_or_push cuts set [] (k + 1) (sym end)) less
       | inr earlier ↦
-          let next : get_or (cuts ++ set ∷ []) (k + 1) [] ≡ get_or cuts (k + 1) [] =
-          get_or_append_left cuts (set ∷ []) [] (k + 1) (omega arith) in
-          ap (λ (x : List ℕ). cut_cmp x (get_or (cuts ++ set ∷ []) (k + 1) [])) front
-          ∙ ap (cut_cmp (get_or cuts k [])) next ∙ Less-from_sorted cut_cmp cuts k (k + 1) [] ordered (omega arith)
-          (omega arith)
+          rw (front, get_or_append_left cuts (set ∷ []) [] (k + 1) (omega arith))
+          (Less-from_sorted cut_cmp cuts k (k + 1) [] ordered (omega arith) (omega arith))
     ])
-
--- no unit of a cut set is above the greatest number that a unit can have
-pub all_known : (cuts : List (List ℕ)) → IsOrderedCuts cuts → HasUnitsUpTo most_units cuts
-all_known cuts ordered place d short k e inside =
-    let cut : IsCutSet (get_or cuts place d) = ordered.sets place d short in
-    let unit : IsUnit (get_or (get_or cuts place d) k e) = cut.units k e inside in
-    omega (arith, unit)
 
 pub is_empty : (cuts : List (List ℕ)) → length cuts ≡ 0 → cuts ≡ []
 is_empty [] none = refl

@@ -1,8 +1,8 @@
-use Rattle.std.proofs.Common.{◌≡◌, ◌≤◌, ℕ, true, length, refl, subst, sym, ◌∙◌, arith}
+use Rattle.std.proofs.Common.{◌≡◌, ◌≤◌, true, length, refl, sym, ◌∙◌, arith}
 use Rattle.std.proofs.lemmas.List.{get_or_read}
 use Rattle.margin_policy.specs.Asked.{can_be_asked}
 use Rattle.margin_policy.proofs.AskedFacts.{few_asked}
-use Rattle.margin_policy.proofs.AskedLemmas.{IsFillingPlaces, filling-more, filled}
+use Rattle.margin_policy.proofs.AskedLemmas.{filling-more, filled}
 use Rattle.margin_policy.proofs.asked.AskedUnits.new.Goals as goal
 
 pub loop-i-preserved : goal.loop-i-preserved
@@ -20,4 +20,4 @@ invariant_of-result c =
     let asked : can_be_asked units c.args.unknown ≡ true = sym c.may_be_asked.ensures ∙ c.if-not-may_be_asked.false in
     let few : length units ≤ 16 = few_asked units c.args.unknown asked in
     let end : c.loop-i.i ≡ length units = omega arith in
-    filled refl few asked (subst (λ (i : ℕ). IsFillingPlaces units c.loop-i.places i) end c.loop-i.invariant)
+    filled refl few asked (rw end at c.loop-i.invariant)
