@@ -1,17 +1,16 @@
 -- The least count of each block, and a place where it stands.
 use Rattle.std.proofs.Common.{◌≡◌, ◌≢◌, ℕ, suc, ◌+◌, ◌-◌, ◌*◌, ◌/◌, ◌<◌, ◌≤◌, min, true, false, List, []}
-use Rattle.std.proofs.Common.{◌∷◌, ◌++◌, length, take, set, get_or, All, refl, sym, ◌∙◌, ap, subst, arith, inl, inr}
+use Rattle.std.proofs.Common.{◌∷◌, ◌++◌, length, take, set, get_or, All, refl, sym, ◌∙◌, ap, arith, inl, inr}
 use Rattle.std.proofs.Common.{Bool, ◌==◌, length-set, get_or-set_same, get_or-set_other}
-use Rattle.std.specs.{Ordering.nat_cmp, declared.cmp.Ordering.TheVariants.Less}
 use Rattle.std.proofs.lemmas.Bool.{cases_eq, cases_lt, cases_Bool}
-use Rattle.std.proofs.{lemmas.Bool.Decides.nat_tests, lemmas.Map.Keys.Less-from_sorted}
+use Rattle.std.proofs.{lemmas.Bool.Decides.nat_tests}
 use Rattle.std.proofs.lemmas.List.{get_or_append_left, get_or_default, get_or_push, length_push}
 use Rattle.unit_sets.specs.UnitList.{among, IsRising}
 use Rattle.unit_sets.proofs.UnitListLemmas.{Contains-from_among}
 use Rattle.residual_ledger.specs.Kept.{block_size, blocks_for, HasLeast, IsLowest, HasLowest}
 use Rattle.residual_ledger.specs.Kept.{IsNearLowest, HasLowestOutside, HasLowestApart, IsOneMore, IsFirstBetween}
 use Rattle.residual_ledger.specs.Kept.{IsFirstAtMost}
-use Rattle.residual_ledger.proofs.RowLemmas.{one_more-lower_at, one_more-later}
+use Rattle.residual_ledger.proofs.RowLemmas.{in_order, one_more-lower_at, one_more-later}
 
 -- the least numbers alone
 pub HasLeast-lowest : {counts least lowest : List ℕ} → HasLowest counts least lowest → HasLeast counts least
@@ -36,10 +35,7 @@ own_lower {counts} place left short less old = record {
   at = refl;
   has = get_or-set_same counts place left 0 short;
   below = λ k inside block. elim (cases_eq k place) [
-    | inl same ↦
-        let value : get_or (set counts place left) k 0 ≡ left =
-        ap (λ (q : ℕ). get_or (set counts place left) q 0) same ∙ get_or-set_same counts place left 0 short in
-        omega arith
+    | inl same ↦ rw (same, get_or-set_same counts place left 0 short) (omega arith)
     | inr apart ↦
         let shorter : k < length counts = omega (arith, length-set counts place left) in
         omega (arith, get_or-set_other counts place k left 0 apart, old.below k shorter block)
@@ -57,10 +53,7 @@ own_same {counts} place left {low} short is most old =
       at = old.at;
       has = get_or-set_other counts place low left 0 apart ∙ old.has;
       below = λ k inside block. elim (cases_eq k place) [
-        | inl same ↦
-            let value : get_or (set counts place left) k 0 ≡ left =
-            ap (λ (q : ℕ). get_or (set counts place left) q 0) same ∙ get_or-set_same counts place left 0 short in
-            omega arith
+        | inl same ↦ rw (same, get_or-set_same counts place left 0 short) (omega arith)
         | inr other ↦
             let shorter : k < length counts = omega (arith, length-set counts place left) in
             omega (arith, get_or-set_other counts place k left 0 other, old.below k shorter block)
@@ -89,44 +82,29 @@ lowered-low {counts} {least} {lowest} place left has short less =
     let own : ℕ = place / block_size in
     let there : own < length least = block_below place has short in
     let there' : own < length lowest = omega (arith, has.long) in
-    let counts' : List ℕ = set counts place left in
     record {
       all = length-set least own left ∙ has.all ∙ ap blocks_for (sym (length-set counts place left));
       long = length-set lowest own place ∙ has.long ∙ sym (length-set least own left);
       each = λ block inside. elim (cases_eq block own) [
         | inl same ↦
-            subst (λ (b : ℕ). IsLowest counts' b (get_or (set least own left) b 0) (get_or (set lowest own place) b 0))
-            (sym same)
-            (subst (λ (n : ℕ). IsLowest counts' own n (get_or (set lowest own place) own 0))
-            (sym (get_or-set_same least own left 0 there))
-            (subst (λ (n : ℕ). IsLowest counts' own left n) (sym (get_or-set_same lowest own place 0 there'))
-            (own_lower place left short less (has.each own there))))
+            rw (same, get_or-set_same least own left 0 there, get_or-set_same lowest own place 0 there')
+            (own_lower place left short less (has.each own there))
         | inr apart ↦
-            let inside' : block < length least = omega (arith, length-set least own left) in
-            subst (λ (n : ℕ). IsLowest counts' block n (get_or (set lowest own place) block 0))
-            (sym (get_or-set_other least own block left 0 apart))
-            (subst (λ (n : ℕ). IsLowest counts' block (get_or least block 0) n)
-            (sym (get_or-set_other lowest own block place 0 apart)) (other_block place left apart
-            (has.each block inside')))
+            rw (get_or-set_other least own block left 0 apart, get_or-set_other lowest own block place 0 apart)
+            (other_block place left apart (has.each block (omega (arith, length-set least own left))))
       ];
     }
 
 pub lowered-high : {counts least lowest : List ℕ} (place left : ℕ) → HasLowest counts least lowest
     → place < length counts → get_or counts place 0 ≡ suc left → get_or least (place / block_size) 0 ≤ left
     → HasLowest (set counts place left) least lowest
-lowered-high {counts} {least} {lowest} place left has short is most =
-    let own : ℕ = place / block_size in
-    let counts' : List ℕ = set counts place left in
+lowered-high {counts} {least} place left has short is most =
     record {
       all = has.all ∙ ap blocks_for (sym (length-set counts place left));
       long = has.long;
-      each = λ block inside. elim (cases_eq block own) [
-        | inl same ↦
-            let there : own < length least = omega arith in
-            subst (λ (b : ℕ). IsLowest counts' b (get_or least b 0) (get_or lowest b 0)) (sym same)
-            (own_same place left short is most (has.each own there))
-        | inr apart ↦
-            other_block place left apart (has.each block inside)
+      each = λ block inside. elim (cases_eq block (place / block_size)) [
+        | inl same ↦ rw same (own_same place left short is most (has.each (place / block_size) (omega arith)))
+        | inr apart ↦ other_block place left apart (has.each block inside)
       ];
     }
 
@@ -167,8 +145,7 @@ pub lowering-positive : {row old counts least lowest : List ℕ} {i : ℕ} (plac
     → place ≡ get_or row i 0 → All (λ p. 0 < get_or old p 0) row → IsLowering row old counts least lowest i
     → 0 < get_or counts place 0
 lowering-positive {row} {counts} {i} place rising short at all was =
-    subst (λ (p : ℕ). 0 < get_or counts p 0) (sym at)
-    (subst (λ (n : ℕ). 0 < n) (one_more-later row i rising short was.fallen) (all i 0 short))
+    rw (at, ← one_more-later row i rising short was.fallen) (all i 0 short)
 
 -- ---- along a row, counts rise
 
@@ -222,21 +199,6 @@ risen more has = record {
 }
 
 -- ---- which blocks a row has
-
-less : (a b : ℕ) → nat_cmp a b ≡ Less → a < b
-less a b h = grind (arith, nat_tests)
-
--- a rising row's numbers stand in order
-pub in_order : (row : List ℕ) (i k : ℕ) → IsRising row → i ≤ k → k < length row → get_or row i 0 ≤ get_or row k 0
-in_order row i k rising order short = elim (cases_eq i k) [
-  | inl same ↦ omega (arith, ap (λ n. get_or row n 0) same)
-  | inr apart ↦
-      omega (
-        arith,
-        less (get_or row i 0) (get_or row k 0)
-            (Less-from_sorted nat_cmp row i k 0 rising (omega arith) short),
-      )
-]
 
 pub between_ends : (row : List ℕ) (place : ℕ) → IsRising row → among row place ≡ true
     → (get_or row 0 0 ≤ place) × (place ≤ get_or row (length row - 1) 0)
@@ -293,9 +255,7 @@ refreshed-same {counts} {least} {lowest} {block} low was = record {
   near = was.near;
   exact = λ b inside out. elim (cases_eq b block) [
     | inl same ↦
-        let low' : get_or counts (get_or lowest b 0) 0 ≤ get_or least b 0 =
-        subst (λ (n : ℕ). get_or counts (get_or lowest n 0) 0 ≤ get_or least n 0) (sym same) low in
-        not_risen low' (was.near b inside)
+        not_risen (rw same low) (was.near b inside)
     | inr apart ↦ was.exact b inside (λ above below. out (omega arith) below)
   ];
 }
@@ -308,34 +268,22 @@ refreshed-new {counts} {least} {lowest} {block} {value} {place} there is was =
     let least' : List ℕ = set least block value in
     let lowest' : List ℕ = set lowest block place in
     let own : IsLowest counts block (get_or least' block 0) (get_or lowest' block 0) =
-    subst (λ (n : ℕ). IsLowest counts block n (get_or lowest' block 0))
-    (sym (get_or-set_same least block value 0 there))
-    (subst (λ (n : ℕ). IsLowest counts block value n) (sym (get_or-set_same lowest block place 0 there')) is) in
+    rw (get_or-set_same least block value 0 there, get_or-set_same lowest block place 0 there') is in
     let long_least : length least' ≡ length least = length-set least block value in
     record {
       all = long_least ∙ was.all;
       long = length-set lowest block place ∙ was.long ∙ sym long_least;
       near = λ b inside. elim (cases_eq b block) [
-        | inl same ↦
-            subst (λ (n : ℕ). IsNearLowest counts n (get_or least' n 0) (get_or lowest' n 0)) (sym same)
-            (near_lowest own)
+        | inl same ↦ rw same (near_lowest own)
         | inr apart ↦
-            let inside' : b < length least = omega arith in
-            subst (λ (n : ℕ). IsNearLowest counts b n (get_or lowest' b 0))
-            (sym (get_or-set_other least block b value 0 apart))
-            (subst (λ (n : ℕ). IsNearLowest counts b (get_or least b 0) n)
-            (sym (get_or-set_other lowest block b place 0 apart)) (was.near b inside'))
+            rw (get_or-set_other least block b value 0 apart, get_or-set_other lowest block b place 0 apart)
+            (was.near b (omega arith))
       ];
       exact = λ b inside out. elim (cases_eq b block) [
-        | inl same ↦
-            subst (λ (n : ℕ). IsLowest counts n (get_or least' n 0) (get_or lowest' n 0)) (sym same) own
+        | inl same ↦ rw same own
         | inr apart ↦
-            let inside' : b < length least = omega arith in
-            subst (λ (n : ℕ). IsLowest counts b n (get_or lowest' b 0))
-            (sym (get_or-set_other least block b value 0 apart))
-            (subst (λ (n : ℕ). IsLowest counts b (get_or least b 0) n)
-            (sym (get_or-set_other lowest block b place 0 apart))
-            (was.exact b inside' (λ above below. out (omega arith) below)))
+            rw (get_or-set_other least block b value 0 apart, get_or-set_other lowest block b place 0 apart)
+            (was.exact b (omega arith) (λ above below. out (omega arith) below))
       ];
     }
 
@@ -357,22 +305,21 @@ pub first_lowest-more : {counts least lowest : List ℕ} {block value place : �
     → HasFirstLowest counts least lowest block
     → HasFirstLowest counts (least ++ value ∷ []) (lowest ++ place ∷ []) (block + 1)
 first_lowest-more {counts} {least} {lowest} {block} {value} {place} is was =
-    let P : ℕ → Type 0 =
-    λ b. IsLowest counts b (get_or (least ++ value ∷ []) b 0) (get_or (lowest ++ place ∷ []) b 0) in
     record {
       long_least = omega (arith, length_push least value, was.long_least);
       long_lowest = omega (arith, length_push lowest place, was.long_lowest);
       each = λ b short. elim (cases_eq b block) [
-        | inl same ↦ subst P (sym same) (rw (
-          get_or_push least value 0 block was.long_least,
-          get_or_push lowest place 0 block was.long_lowest,
-        ) is)
+        | inl same ↦
+            rw (
+              same,
+              get_or_push least value 0 block was.long_least,
+              get_or_push lowest place 0 block was.long_lowest,
+            ) is
         | inr apart ↦
-            let shorter : b < block = omega arith in
             rw (
               get_or_append_left least (value ∷ []) 0 b (omega (arith, was.long_least)),
               get_or_append_left lowest (place ∷ []) 0 b (omega (arith, was.long_lowest)),
-            ) (was.each b shorter)
+            ) (was.each b (omega arith))
       ];
     }
 

@@ -1,16 +1,14 @@
 -- The cut set at a place, and the residuals of the first cut sets.
-use Rattle.std.proofs.Common.{◌≡◌, ℕ, zero, suc, ◌+◌, ◌<◌, ◌≤◌, ◌^◌, List, [], ◌∷◌, ◌++◌, length, take, get_or}
+use Rattle.std.proofs.Common.{◌≡◌, ℕ, ◌+◌, ◌<◌, ◌≤◌, ◌^◌, List, [], ◌∷◌, ◌++◌, length, take, get_or}
 use Rattle.std.proofs.Common.{slice_get, Some, ◌∙◌, ap, arith}
-use Rattle.std.proofs.{lemmas.List.map_more, lemmas.List.Sums.get_or-le-sum_by}
+use Rattle.std.proofs.{lemmas.List.map_more, lemmas.List.Sums.get_or-le-sum_by, lemmas.Option.get_or_from_slice_get}
 use Rattle.unit_sets.specs.CutOrder.{IsOrderedCuts, weight}
 use Rattle.residual_ledger.specs.{Residual.residual, Residual.cut_at, Kept.residuals}
 use Rattle.residual_ledger.proofs.ResidualLemmas.{residual-nobody}
 
 pub cut_at-is : (cuts : List (List ℕ)) (place : ℕ) (cut : List ℕ) → slice_get cuts place ≡ Some cut
     → cut_at cuts place ≡ cut
-cut_at-is [] place cut at = absurd cc
-cut_at-is (first ∷ cuts) zero cut at = cc
-cut_at-is (first ∷ cuts) (suc place) cut at = cut_at-is cuts place cut at
+cut_at-is cuts place cut at = get_or_from_slice_get cuts place cut [] at
 
 -- a cut set of a list has no more members than the list weighs
 pub cut_fits : (cuts : List (List ℕ)) (place : ℕ) (cut : List ℕ) → IsOrderedCuts cuts → place < length cuts

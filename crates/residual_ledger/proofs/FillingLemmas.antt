@@ -1,9 +1,9 @@
 -- How the rows are counted, begun and filled.
 use Rattle.std.proofs.Common.{◌≡◌, ◌≢◌, ℕ, zero, suc, ◌+◌, ◌-◌, ◌*◌, ◌<◌, ◌≤◌, Bool, true, false, cond, List, [], ◌∷◌}
 use Rattle.std.proofs.Common.{◌++◌, length, take, drop, set, get_or, All, replicate, slice_get, Some, if◌then◌else◌}
-use Rattle.std.proofs.Common.{refl, sym, ◌∙◌, ap, subst, arith, inl, inr, append-nil, add-one, length-append}
+use Rattle.std.proofs.Common.{refl, sym, ◌∙◌, ap, arith, inl, inr, append-nil, add-one, length-append}
 use Rattle.std.proofs.Common.{length-drop, length-set, get_or-set_same, get_or-set_other}
-use Rattle.std.proofs.lemmas.Bool.{cases_eq, cases_order, cond-true, cond-false}
+use Rattle.std.proofs.lemmas.Bool.{cases_eq, cases_order}
 use Rattle.std.proofs.lemmas.List.{take_more, take_all, get_or_append_left, get_or_push, get_or-take, get_or-drop}
 use Rattle.std.proofs.lemmas.List.{get_or-replicate, length-replicate, ext_get_or, get_or_default, get_or_read}
 use Rattle.std.proofs.lemmas.List.{length-take-le}
@@ -80,8 +80,7 @@ beginning-more {old} {ends} {start} {number} short was =
     record {
       so_far = omega (arith, was.so_far, was.rest number (omega arith));
       started = λ k h. elim (cases_eq k number) [
-        | inl same ↦ subst (λ (n : ℕ). get_or (set ends number start) n 0 ≡ start_of (λ m. get_or old m 0) n) (sym same)
-            (get_or-set_same ends number start 0 short ∙ was.so_far)
+        | inl same ↦ rw same (get_or-set_same ends number start 0 short ∙ was.so_far)
         | inr apart ↦ get_or-set_other ends number k start 0 apart ∙ was.started k (omega arith)
       ];
       rest = λ k h. get_or-set_other ends number k start 0 (λ e. absurd (omega arith)) ∙ was.rest k (omega arith);
@@ -128,17 +127,11 @@ filled {size} {held} {held'} {ends} {rows} number place was short room new old =
     record {
       room = length-set rows slot place ∙ was.room ∙ ap (start_of size) (sym (length-set ends number (slot + 1)));
       fits = λ other h. elim (cases_eq other number) [
-        | inl same ↦ omega (arith, ap (λ n. length (held' n)) same, ap size same)
+        | inl same ↦ rw same (omega arith)
         | inr apart ↦ omega (arith, ap length (old other apart), was.fits other (below other h))
       ];
       placed = λ other h. elim (cases_eq other number) [
-        | inl same ↦ omega (
-          arith,
-          ap (λ n. get_or (set ends number (slot + 1)) n 0) same,
-          get_or-set_same ends number (slot + 1) 0 short,
-          ap (start_of size) same,
-          ap (λ n. length (held' n)) same,
-        )
+        | inl same ↦ rw (same, get_or-set_same ends number (slot + 1) 0 short) (omega arith)
         | inr apart ↦ omega (
           arith,
           get_or-set_other ends number other (slot + 1) 0 apart,
@@ -149,22 +142,17 @@ filled {size} {held} {held'} {ends} {rows} number place was short room new old =
       has = λ other k h within. elim (cases_eq other number) [
         | inl same ↦
             let short_k : k < length (held number) + 1 = omega (arith, within, ap (λ n. length (held' n)) same) in
-            let in_new : get_or (held' other) k 0 ≡ get_or (held number ++ place ∷ []) k 0 =
-            ap (λ n. get_or (held' n) k 0) same ∙ ap (λ xs. get_or xs k 0) new in
-            elim (cases_eq k (length (held number))) [
+            rw (same, new) (elim (cases_eq k (length (held number))) [
               | inl last ↦
-                  let index : start_of size other + k ≡ slot = omega (arith, ap (start_of size) same) in
-                  ap (λ n. get_or (set rows slot place) n 0) index ∙ get_or-set_same rows slot place 0 inside
-                  ∙ sym (in_new ∙ get_or_push (held number) place 0 k (sym last))
+                  let index : start_of size number + k ≡ slot = omega arith in
+                  rw (index, get_or-set_same rows slot place 0 inside)
+                  (sym (get_or_push (held number) place 0 k (sym last)))
               | inr earlier ↦
                   let before : k < length (held number) = omega arith in
-                  let index : start_of size other + k ≡ start_of size number + k = ap (λ n. start_of size n + k) same in
                   let far : start_of size number + k ≢ slot = λ e. absurd (omega (arith, e)) in
-                  ap (λ n. get_or (set rows slot place) n 0) index
-                  ∙ get_or-set_other rows slot (start_of size number + k) place 0 far
-                  ∙ was.has number k short before
-                  ∙ sym (in_new ∙ get_or_append_left (held number) (place ∷ []) 0 k before)
-            ]
+                  get_or-set_other rows slot (start_of size number + k) place 0 far ∙ was.has number k short before
+                  ∙ sym (get_or_append_left (held number) (place ∷ []) 0 k before)
+            ])
         | inr apart ↦
             let before : k < length (held other) = omega (arith, within, ap length (old other apart)) in
             let low : k < size other = omega (arith, was.fits other (below other h)) in
@@ -197,68 +185,66 @@ IsPutting cuts place some ends rows = IsFilling (holders cuts) (held_with cuts p
 
 with_none : (cuts : List (List ℕ)) (place : ℕ) (some : List ℕ) (unit : ℕ) → among some unit ≡ false
     → held_with cuts place some unit ≡ holding_below cuts unit place
-with_none cuts place some unit none =
-    ap (λ xs. holding_below cuts unit place ++ xs) (cond-false (among some unit) (place ∷ []) [] none)
-    ∙ append-nil (holding_below cuts unit place)
-
-with_one : (cuts : List (List ℕ)) (place : ℕ) (some : List ℕ) (unit : ℕ) → among some unit ≡ true
-    → held_with cuts place some unit ≡ holding_below cuts unit place ++ place ∷ []
-with_one cuts place some unit has =
-    ap (λ xs. holding_below cuts unit place ++ xs) (cond-true (among some unit) (place ∷ []) [] has)
+with_none cuts place some unit none = rw none (append-nil (holding_below cuts unit place))
 
 pub putting-all : (cuts : List (List ℕ)) (place : ℕ) {ends rows : List ℕ}
     → IsPutting cuts place (cut_at cuts place) ends rows → HoldsFirst cuts (place + 1) ends rows
 putting-all cuts place has =
     filling-along (λ unit. ap (holding_below cuts unit) (add-one place) ∙ passing-more (holds cuts unit) place) has
 
--- a member of the cut set whose turn it is has room in its row
-putting_room : (cuts : List (List ℕ)) (place i : ℕ) → place < length cuts → IsRising (cut_at cuts place)
-    → i < length (cut_at cuts place)
-    → length (held_with cuts place (take i (cut_at cuts place)) (get_or (cut_at cuts place) i 0))
-    < holders cuts (get_or (cut_at cuts place) i 0)
-putting_room cuts place i short rising there =
-    let unit : ℕ = get_or (cut_at cuts place) i 0 in
-    let same : held_with cuts place (take i (cut_at cuts place)) unit ≡ holding_below cuts unit place =
-    with_none cuts place (take i (cut_at cuts place)) unit (fresh_at (cut_at cuts place) i rising there) in
-    omega (
-      arith,
-      ap length same,
-      length-passing-one (holds cuts unit) place (length cuts) short
-          (among-at (cut_at cuts place) i 0 there),
-    )
+-- whose turn it is among the members of the cut set at a place
+pub record IsTurn (cuts : List (List ℕ)) (place i number : ℕ) : Type 0 where
+  pub below : place < length cuts
+  pub rising : IsRising (cut_at cuts place)
+  pub there : i < length (cut_at cuts place)
+  pub at : number ≡ get_or (cut_at cuts place) i 0
 
-pub putting-slot : (cuts : List (List ℕ)) (place i : ℕ) {ends rows : List ℕ} → place < length cuts
-    → IsRising (cut_at cuts place) → i < length (cut_at cuts place) → get_or (cut_at cuts place) i 0 < length ends
-    → IsPutting cuts place (take i (cut_at cuts place)) ends rows
-    → get_or ends (get_or (cut_at cuts place) i 0) 0 < length rows
-putting-slot cuts place i short rising there inside was =
-    slot_below (get_or (cut_at cuts place) i 0) was inside (putting_room cuts place i short rising there)
+module _ (cuts : List (List ℕ)) {place i number : ℕ} (t : IsTurn cuts place i number) where
+  abbrev cut : List ℕ
+  cut = cut_at cuts place
 
-pub putting-more : (cuts : List (List ℕ)) (place i : ℕ) {ends rows : List ℕ} → place < length cuts
-    → IsRising (cut_at cuts place) → i < length (cut_at cuts place) → get_or (cut_at cuts place) i 0 < length ends
-    → IsPutting cuts place (take i (cut_at cuts place)) ends rows
-    → IsPutting cuts place (take (i + 1) (cut_at cuts place))
-    (set ends (get_or (cut_at cuts place) i 0) (get_or ends (get_or (cut_at cuts place) i 0) 0 + 1))
-    (set rows (get_or ends (get_or (cut_at cuts place) i 0) 0) place)
-putting-more cuts place i short rising there inside was =
-    let cut : List ℕ = cut_at cuts place in
-    let unit : ℕ = get_or cut i 0 in
-    let more : take (i + 1) cut ≡ take i cut ++ unit ∷ [] = take_more cut i 0 there in
-    filled unit place was inside (putting_room cuts place i short rising there)
-    (with_one cuts place (take (i + 1) cut) unit (ap (λ xs. among xs unit) more ∙ push-itself (take i cut) unit)
-    ∙ ap (λ xs. xs ++ place ∷ []) (sym (with_none cuts place (take i cut) unit (fresh_at cut i rising there))))
-    (λ other apart. ap (λ (b : Bool). holding_below cuts other place ++ (if b then place ∷ [] else []))
-    (ap (λ xs. among xs other) more ∙ push-other (take i cut) apart))
+  pub turn-known : (size : ℕ) → All (λ unit. unit < size) cut → number < size
+  turn-known size known = omega (arith, t.at, known i 0 t.there)
+
+  -- the unit's row has only what it had before the cut set
+  turn-fresh : held_with cuts place (take i cut) number ≡ holding_below cuts number place
+  turn-fresh = with_none cuts place (take i cut) number (rw t.at (fresh_at cut i t.rising t.there))
+
+  -- and so it has room
+  turn-room : length (held_with cuts place (take i cut) number) < holders cuts number
+  turn-room =
+      omega (
+        arith,
+        ap length turn-fresh,
+        length-passing-one (holds cuts number) place (length cuts) t.below (rw t.at (among-at cut i 0 t.there)),
+      )
+
+  pub turn-slot : {ends rows : List ℕ} → All (λ unit. unit < length ends) cut
+      → IsPutting cuts place (take i cut) ends rows → get_or ends number 0 < length rows
+  turn-slot {ends} known was = slot_below number was (turn-known (length ends) known) turn-room
+
+  pub turn-more : {ends rows : List ℕ} → All (λ unit. unit < length ends) cut
+      → IsPutting cuts place (take i cut) ends rows
+      → IsPutting cuts place (take (i + 1) cut) (set ends number (get_or ends number 0 + 1))
+      (set rows (get_or ends number 0) place)
+  turn-more {ends} known was =
+      let more : take (i + 1) cut ≡ take i cut ++ number ∷ [] = rw (t.at, take_more cut i 0 t.there) refl in
+      filled number place was (turn-known (length ends) known) turn-room
+      (rw (turn-fresh, more, push-itself (take i cut) number))
+      (λ other apart. ap (λ (b : Bool). holding_below cuts other place ++ (if b then place ∷ [] else []))
+      (ap (λ xs. among xs other) more ∙ push-other (take i cut) apart))
 
 -- ---- how many sets hold each number
 
-pub record IsCounting (cuts : List (List ℕ)) (count : ℕ) (sizes : List ℕ) : Type 0 where
+pub record IsCountingFor (units : ℕ) (cuts : List (List ℕ)) (count : ℕ) (sizes : List ℕ) : Type 0 where
+  pub long : length sizes ≡ units + 1
   pub each : (unit : ℕ) → unit < length sizes → get_or sizes unit 0 ≡ length (holding_below cuts unit count)
 
-pub counting-first : (cuts : List (List ℕ)) (count : ℕ) → IsCounting cuts 0 (replicate count 0)
-counting-first cuts count = record {
+pub counting-first : (units : ℕ) (cuts : List (List ℕ)) → IsCountingFor units cuts 0 (replicate (units + 1) 0)
+counting-first units cuts = record {
+  long = length-replicate (units + 1) 0;
   each =
-      λ unit h. get_or-replicate count unit 0 0 (omega (arith, h, length-replicate {A = ℕ} count 0))
+      λ unit h. get_or-replicate (units + 1) unit 0 0 (omega (arith, h, length-replicate {A = ℕ} (units + 1) 0))
       ∙ sym (ap length (passing-none (holds cuts unit)));
 }
 
@@ -267,30 +253,35 @@ one_or_none : (has : Bool) {old new before after : ℕ} → after ≡ before + c
 one_or_none true {old} {new} next more same is = let up : new ≡ suc old = more refl in omega arith
 one_or_none false {old} {new} next more same is = let kept : new ≡ old = same refl in omega arith
 
-pub counting-more : (cuts : List (List ℕ)) {place : ℕ} {sizes sizes' : List ℕ}
-    → IsOneMore (cut_at cuts place) sizes sizes' → IsCounting cuts place sizes → IsCounting cuts (place + 1) sizes'
-counting-more cuts {place} {sizes} more was = record {
+-- one cut set more is counted, at the places of its members
+pub counting-more : {units : ℕ} (cuts : List (List ℕ)) {place : ℕ} {cut sizes new : List ℕ}
+    → cut_at cuts place ≡ cut → IsOneMore cut sizes new → IsCountingFor units cuts place sizes
+    → IsCountingFor units cuts (place + 1) new
+counting-more cuts {place} {cut} {sizes} at more was = record {
+  long = sym more.long ∙ was.long;
   each = λ unit h.
       let inside : unit < length sizes = omega (arith, h, more.long) in
       let next : length (holding_below cuts unit (place + 1))
-      ≡ length (holding_below cuts unit place) + cond (among (cut_at cuts place) unit) 1 0 =
-      ap (λ n. length (holding_below cuts unit n)) (add-one place) ∙ length-passing-more (holds cuts unit) place in
-      one_or_none (among (cut_at cuts place) unit) next (more.more unit) (more.same unit) (was.each unit inside);
+      ≡ length (holding_below cuts unit place) + cond (among cut unit) 1 0 =
+      rw (add-one place, ← at) (length-passing-more (holds cuts unit) place) in
+      one_or_none (among cut unit) next (more.more unit) (more.same unit) (was.each unit inside);
 }
 
 -- no number is held by more sets than there are so far
-pub counting-le : (cuts : List (List ℕ)) {count : ℕ} (most : ℕ) {sizes : List ℕ} → count ≤ most
-    → IsCounting cuts count sizes
-    → All (λ size. size ≤ most) sizes
+pub counting-le : {units : ℕ} (cuts : List (List ℕ)) {count : ℕ} (most : ℕ) {sizes : List ℕ} → count ≤ most
+    → IsCountingFor units cuts count sizes → All (λ size. size ≤ most) sizes
 counting-le cuts {count} most {sizes} few was k d short =
-    let at : get_or sizes k d ≡ get_or sizes k 0 = get_or_default sizes k d 0 short in
-    omega (arith, at, was.each k short, length-passing-le (holds cuts k) count)
+    omega (
+      arith,
+      get_or_default sizes k d 0 short,
+      was.each k short,
+      length-passing-le (holds cuts k) count,
+    )
 
 pub sizes-le : {units : ℕ} (most : ℕ) (cuts : List (List ℕ)) {sizes : List ℕ} → length cuts ≤ most
-    → HasSizes units cuts sizes
-    → All (λ size. size ≤ most) sizes
-sizes-le most cuts {sizes} few has =
-    let counting : IsCounting cuts (length cuts) sizes = record { each = has.each } in
+    → HasSizes units cuts sizes → All (λ size. size ≤ most) sizes
+sizes-le {units} most cuts {sizes} few has =
+    let counting : IsCountingFor units cuts (length cuts) sizes = record { long = has.all; each = has.each } in
     counting-le cuts most few counting
 
 -- ---- from first to last
@@ -350,25 +341,11 @@ all_filled cuts {ends} {rows} long has = record {
       };
 }
 
--- the counts for the units up to a number
-pub record IsCountingFor (units : ℕ) (cuts : List (List ℕ)) (count : ℕ) (sizes : List ℕ) : Type 0 where
-  pub long : length sizes ≡ units + 1
-  pub counted : IsCounting cuts count sizes
-
 pub all_counted : (units : ℕ) (cuts : List (List ℕ)) (count : ℕ) (sizes : List ℕ) → count ≡ length cuts
     → IsCountingFor units cuts count sizes → HasSizes units cuts sizes
 all_counted units cuts count sizes full has = record {
   all = has.long;
-  each = λ unit h. has.counted.each unit h ∙ ap (λ n. length (holding_below cuts unit n)) full;
-}
-
--- some numbers of cut sets at the places of one more cut set
-pub counting_for-more : {units : ℕ} (cuts : List (List ℕ)) {place : ℕ} {cut sizes new : List ℕ}
-    → cut_at cuts place ≡ cut → IsOneMore cut sizes new → IsCountingFor units cuts place sizes
-    → IsCountingFor units cuts (place + 1) new
-counting_for-more cuts {sizes} {new} at more was = record {
-  long = sym more.long ∙ was.long;
-  counted = counting-more cuts (subst (λ (c : List ℕ). IsOneMore c sizes new) (sym at) more) was.counted;
+  each = λ unit h. has.each unit h ∙ ap (λ n. length (holding_below cuts unit n)) full;
 }
 
 -- each member of a cut set has a row
@@ -379,13 +356,6 @@ known_members units cuts place sizes known short at long k d inside =
     let there : k < length (cut_at cuts place) = omega (arith, inside, ap length at) in
     omega (arith, known place [] short k d there, ap (λ xs. get_or xs k d) at)
 
--- whose turn it is among the members of the cut set at a place
-pub record IsTurn (cuts : List (List ℕ)) (place i number : ℕ) : Type 0 where
-  pub below : place < length cuts
-  pub rising : IsRising (cut_at cuts place)
-  pub there : i < length (cut_at cuts place)
-  pub at : number ≡ get_or (cut_at cuts place) i 0
-
 pub turn : (cuts : List (List ℕ)) {place : ℕ} {members : List ℕ} {i item number : ℕ} → place < length cuts
     → IsCutSet members → slice_get cuts place ≡ Some members → i < length members → item ≡ get_or members i item
     → number ≡ item → IsTurn cuts place i number
@@ -393,30 +363,10 @@ turn cuts {place} {members} {i} {item} below cut at short is same =
     let whole : cut_at cuts place ≡ members = cut_at-is cuts place members at in
     record {
       below = below;
-      rising = subst IsRising (sym whole) cut.rising;
+      rising = rw whole cut.rising;
       there = omega (arith, ap length whole);
       at = same ∙ get_or_read members i item short is 0 ∙ ap (λ (xs : List ℕ). get_or xs i 0) (sym whole);
     }
-
-pub turn-known : (cuts : List (List ℕ)) {place i number : ℕ} (size : ℕ) → IsTurn cuts place i number
-    → All (λ unit. unit < size) (cut_at cuts place) → number < size
-turn-known cuts {i} size t known = omega (arith, t.at, known i 0 t.there)
-
-pub turn-slot : (cuts : List (List ℕ)) {place i number : ℕ} {ends rows : List ℕ} → IsTurn cuts place i number
-    → All (λ unit. unit < length ends) (cut_at cuts place) → IsPutting cuts place (take i (cut_at cuts place)) ends rows
-    → get_or ends number 0 < length rows
-turn-slot cuts {place} {i} {ends} {rows} t known was =
-    subst (λ (n : ℕ). get_or ends n 0 < length rows) (sym t.at)
-    (putting-slot cuts place i t.below t.rising t.there (known i 0 t.there) was)
-
-pub turn-more : (cuts : List (List ℕ)) {place i number : ℕ} {ends rows : List ℕ} → IsTurn cuts place i number
-    → All (λ unit. unit < length ends) (cut_at cuts place) → IsPutting cuts place (take i (cut_at cuts place)) ends rows
-    → IsPutting cuts place (take (i + 1) (cut_at cuts place)) (set ends number (get_or ends number 0 + 1))
-    (set rows (get_or ends number 0) place)
-turn-more cuts {place} {i} {ends} {rows} t known was =
-    subst (λ (n : ℕ). IsPutting cuts place (take (i + 1) (cut_at cuts place)) (set ends n (get_or ends n 0 + 1))
-    (set rows (get_or ends n 0) place)) (sym t.at)
-    (putting-more cuts place i t.below t.rising t.there (known i 0 t.there) was)
 
 pub turn-last : (cuts : List (List ℕ)) (place i : ℕ) (members : List ℕ) {ends rows : List ℕ}
     → slice_get cuts place ≡ Some members
@@ -425,4 +375,4 @@ pub turn-last : (cuts : List (List ℕ)) (place i : ℕ) (members : List ℕ) {e
 turn-last cuts place i members {ends} {rows} at past was =
     let all : take i (cut_at cuts place) ≡ cut_at cuts place =
     take_all i (cut_at cuts place) (omega (arith, ap length (cut_at-is cuts place members at))) in
-    putting-all cuts place (subst (λ (some : List ℕ). IsPutting cuts place some ends rows) all was)
+    putting-all cuts place (rw all at was)

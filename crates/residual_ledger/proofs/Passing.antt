@@ -5,7 +5,7 @@ use Rattle.std.specs.{List.AllByRecursion, List.Sorted.IsStrictlySortedBy, Order
 use Rattle.std.specs.{declared.cmp.Ordering.TheVariants.Less}
 use Rattle.std.proofs.Common.{refl, sym, ◌∙◌, ap, subst, arith, inl, inr, append-nil, length-append}
 use Rattle.std.proofs.{lemmas.Bool.cond_both, lemmas.Bool.cases_eq, lemmas.Bool.Decides.nat_tests}
-use Rattle.std.proofs.{lemmas.List.Folds.list_any-append}
+use Rattle.std.proofs.{lemmas.List.Folds.list_any-append, lemmas.Bool.eqb-true, Math.Bool.and-false, Math.Bool.or-false}
 use Rattle.unit_sets.proofs.Sorted.{sorted-push, all-push}
 use Rattle.unit_sets.specs.{UnitList.among, UnitList.IsRising, Words.passing_below}
 
@@ -48,11 +48,10 @@ length-passing-le test (suc n) = omega (
 -- more pass below a greater bound
 pub length-passing-grows : (test : ℕ → Bool) (n m : ℕ) → n ≤ m
     → length (passing_below test n) ≤ length (passing_below test m)
-length-passing-grows test n zero low = let same : n ≡ 0 = omega arith in
-    omega (arith, ap (λ k. length (passing_below test k)) same)
+length-passing-grows test n zero low = let same : n ≡ 0 = omega arith in rw same (omega arith)
 length-passing-grows test n (suc m) low =
     elim (cases_eq n (suc m)) [
-      | inl same ↦ omega (arith, ap (λ k. length (passing_below test k)) same)
+      | inl same ↦ rw same (omega arith)
       | inr apart ↦ omega (arith, length-passing-more test m, length-passing-grows test n m (omega arith))
     ]
 
@@ -71,40 +70,25 @@ none_below_zero k = grind (arith, nat_tests)
 
 last : (l : Bool) {l' : Bool} (e t tn : Bool) → l' ≡ (l || e) → (e ≡ true → tn ≡ t)
     → ((l && t) || (tn && e)) ≡ (l' && t)
-last true true t tn h k = let is : tn ≡ t = k refl in rw (h, is) (idempotent t)
+last l true t tn h same = rw (h, same refl) (here l t)
   where
-    idempotent : (b : Bool) → (b || (b && true)) ≡ b
-    idempotent true = refl
-    idempotent false = refl
-last false true t tn h k = let is : tn ≡ t = k refl in rw (h, is) (kept t)
+    here : (l t : Bool) → ((l && t) || (t && true)) ≡ ((l || true) && t)
+    here true true = refl
+    here true false = refl
+    here false true = refl
+    here false false = refl
+last l false t tn h same = rw h (elsewhere l t)
   where
-    kept : (b : Bool) → (b && true) ≡ b
-    kept true = refl
-    kept false = refl
-last true false t tn h k = rw h (dropped t tn)
-  where
-    dropped : (b c : Bool) → (b || (c && false)) ≡ b
-    dropped true c = refl
-    dropped false true = refl
-    dropped false false = refl
-last false false t tn h k = rw h (gone tn)
-  where
-    gone : (c : Bool) → (c && false) ≡ false
-    gone true = refl
-    gone false = refl
+    elsewhere : (l t : Bool) → ((l && t) || (tn && false)) ≡ ((l || false) && t)
+    elsewhere true true = refl
+    elsewhere true false = and-false tn
+    elsewhere false t = and-false tn
 
 below_one_more : (k n : ℕ) → nat_lt k (suc n) ≡ (nat_lt k n || (n == k))
 below_one_more k n = grind (arith, nat_tests)
 
-same_by_test : (a b : ℕ) → (a == b) ≡ true → a ≡ b
-same_by_test a b h = grind (arith, nat_tests)
-
 among-one : (b : Bool) (n k : ℕ) → among (if b then n ∷ [] else []) k ≡ (b && (n == k))
-among-one true n k = or_nothing (n == k)
-  where
-    or_nothing : (a : Bool) → (a || false) ≡ a
-    or_nothing true = refl
-    or_nothing false = refl
+among-one true n k = or-false (n == k)
 among-one false n k = refl
 
 pub among-passing : (test : ℕ → Bool) (n k : ℕ) → among (passing_below test n) k ≡ (nat_lt k n && test k)
@@ -114,23 +98,23 @@ among-passing test (suc n) k =
     ∙ list_any-append (λ member. member == k) (passing_below test n) (if test n then n ∷ [] else [])
     ∙ ap (λ b. b || among (if test n then n ∷ [] else []) k) (among-passing test n k)
     ∙ ap (λ b. (nat_lt k n && test k) || b) (among-one (test n) n k)
-    ∙ last (nat_lt k n) (n == k) (test k) (test n) (below_one_more k n) (λ e. ap test (same_by_test n k e))
+    ∙ last (nat_lt k n) (n == k) (test k) (test n) (below_one_more k n) (λ e. ap test (eqb-true n k e))
 
 less_from_lt : (a b : ℕ) → a < b → nat_cmp a b ≡ Less
 less_from_lt a b h = grind (arith, nat_tests)
 
 all_below : (test : ℕ → Bool) (n m : ℕ) → n ≤ m → AllByRecursion (λ k. nat_cmp k m ≡ Less) (passing_below test n)
-all_below test zero m low = subst (AllByRecursion (λ k. nat_cmp k m ≡ Less)) (sym (passing-none test)) tt
+all_below test zero m low = rw (passing-none test) tt
 all_below test (suc n) m low =
-    subst (AllByRecursion (λ k. nat_cmp k m ≡ Less)) (sym (passing-more test n))
-    (cond_both (test n) (n ∷ []) [] (λ one. AllByRecursion (λ k. nat_cmp k m ≡ Less) (passing_below test n ++ one))
+    rw (passing-more test n) (cond_both (test n) (n ∷ []) []
+    (λ one. AllByRecursion (λ k. nat_cmp k m ≡ Less) (passing_below test n ++ one))
     (λ _. all-push (λ k. nat_cmp k m ≡ Less) (passing_below test n) n (all_below test n m (omega arith))
     (less_from_lt n m (omega arith)))
     (λ _. rw append-nil (all_below test n m (omega arith))))
 
 pub IsRising-passing : (test : ℕ → Bool) (n : ℕ) → IsRising (passing_below test n)
 unfolding IsStrictlySortedBy
-IsRising-passing test zero = subst IsRising (sym (passing-none test)) tt
+IsRising-passing test zero = rw (passing-none test) tt
 IsRising-passing test (suc n) =
     subst IsRising (sym (passing-more test n))
     (cond_both (test n) (n ∷ []) [] (λ one. IsRising (passing_below test n ++ one))

@@ -1,6 +1,6 @@
 -- How the residual of a cut set changes with the set of units that are out.
 use Rattle.std.proofs.Common.{◌≡◌, ℕ, suc, ◌+◌, ◌<◌, ◌≤◌, Bool, true, false, not, cond, ◌||◌, ◌==◌, List, [], ◌∷◌, ◌++◌}
-use Rattle.std.proofs.Common.{length, take, get_or, filter, refl, sym, ◌∙◌, ap, subst, arith, eqb-true, eq-eqb}
+use Rattle.std.proofs.Common.{length, take, get_or, filter, refl, sym, ◌∙◌, ap, arith, eqb-true, eq-eqb}
 use Rattle.std.proofs.Common.{zero-add, inl, inr, length-take}
 use Rattle.std.specs.{List.list_any, List.AllByRecursion, declared.cmp.Ordering.TheVariants.Less}
 use Rattle.std.specs.{List.Sorted.IsStrictlySortedBy, Ordering.nat_cmp}
@@ -17,13 +17,16 @@ pub residual-nobody : (cut : List ℕ) → residual [] cut ≡ length cut
 residual-nobody [] = refl
 residual-nobody (x ∷ xs) = ap suc (residual-nobody xs)
 
+at_most_one : (b : Bool) → cond b 1 0 ≤ 1
+at_most_one true = omega arith
+at_most_one false = omega arith
+
+length-filter-le : (p : ℕ → Bool) (xs : List ℕ) → length (filter p xs) ≤ length xs
+length-filter-le p [] = omega arith
+length-filter-le p (x ∷ xs) = omega (arith, length-filter-cons p x xs, length-filter-le p xs, at_most_one (p x))
+
 pub residual-le : (out cut : List ℕ) → residual out cut ≤ length cut
-residual-le out [] = omega arith
-residual-le out (x ∷ xs) = omega (arith, residual-cons out x xs, residual-le out xs, at_most_one (not (among out x)))
-  where
-    at_most_one : (b : Bool) → cond b 1 0 ≤ 1
-    at_most_one true = omega arith
-    at_most_one false = omega arith
+residual-le out cut = length-filter-le (λ member. not (among out member)) cut
 
 -- ---- one unit more out
 
@@ -39,12 +42,10 @@ residual-apart unit out (x ∷ xs) none =
     ∙ ap (λ n. cond (not (among out x)) 1 0 + n) (residual-apart unit out xs parts.1)
     ∙ sym (residual-cons out x xs)
 
-below_other : (x y : ℕ) → nat_cmp x y ≡ Less → (y == x) ≡ false
-below_other x y h = grind (arith, nat_tests)
-
 none_of_higher : (x : ℕ) (xs : List ℕ) → AllByRecursion (λ y. nat_cmp x y ≡ Less) xs → among xs x ≡ false
 none_of_higher x [] all = refl
-none_of_higher x (y ∷ ys) all = or_from (y == x) (among ys x) (below_other x y all.0) (none_of_higher x ys all.1)
+none_of_higher x (y ∷ ys) all =
+    or_from (y == x) (among ys x) (grind (arith, nat_tests, all.0)) (none_of_higher x ys all.1)
 
 -- the first unit of a rising set doesn't come again
 first_not_later : (x : ℕ) (xs : List ℕ) → IsRising (x ∷ xs) → among xs x ≡ false
@@ -62,15 +63,10 @@ residual-taken unit out (x ∷ xs) rising free has =
     elim (cases_Bool (x == unit)) [
       | inl here ↦
           let same : x ≡ unit = eqb-true x unit here in
-          let later : among xs unit ≡ false =
-          subst (λ (q : ℕ). among xs q ≡ false) same (first_not_later x xs rising) in
-          let was : among out x ≡ false = subst (λ (q : ℕ). among out q ≡ false) (sym same) free in
-          let now : (unit == x) ≡ true = eq-eqb unit x (sym same) in
-          let left : residual out (x ∷ xs) ≡ 1 + residual out xs =
-          residual-cons out x xs ∙ ap (λ b. cond (not b) 1 0 + residual out xs) was in
+          let later : among xs unit ≡ false = rw same at (first_not_later x xs rising) in
+          let left : residual out (x ∷ xs) ≡ 1 + residual out xs = rw (residual-cons out x xs, same, free) refl in
           let right : residual (unit ∷ out) (x ∷ xs) ≡ residual (unit ∷ out) xs =
-          residual-cons (unit ∷ out) x xs ∙ ap (λ b. cond (not (b || among out x)) 1 0 + residual (unit ∷ out) xs)
-          now ∙ zero-add (residual (unit ∷ out) xs) in
+          rw (residual-cons (unit ∷ out) x xs, eq-eqb unit x (sym same)) (zero-add (residual (unit ∷ out) xs)) in
           omega (arith, left, right, residual-apart unit out xs later)
       | inr other ↦
           let later : among xs unit ≡ true = second_of (x == unit) (among xs unit) other has in
@@ -104,7 +100,7 @@ one_more_at_most unit out cut rising =
 
     again : (v : ℕ) → among out unit ≡ true → among (unit ∷ out) v ≡ among out v
     again v already =
-        absorbed (unit == v) (among out v) (λ e. subst (λ (q : ℕ). among out q ≡ true) (eqb-true unit v e) already)
+        absorbed (unit == v) (among out v) (λ e. rw (eqb-true unit v e) at already)
 
 -- so many units take no more than so many members of a cut set
 pub residual-asked-le : (asked out cut : List ℕ) → IsRising cut
@@ -154,14 +150,6 @@ met_unit (unit ∷ asked) cut some =
     ]
 
 -- ---- counting the members that are asked
-
-pub length-filter-le : (p : ℕ → Bool) (xs : List ℕ) → length (filter p xs) ≤ length xs
-length-filter-le p [] = omega arith
-length-filter-le p (x ∷ xs) = omega (arith, length-filter-cons p x xs, length-filter-le p xs, at_most_one (p x))
-  where
-    at_most_one : (b : Bool) → cond b 1 0 ≤ 1
-    at_most_one true = omega arith
-    at_most_one false = omega arith
 
 pub asked_so_far-le : (asked members : List ℕ) (i : ℕ) {count : ℕ}
     → count ≡ length (filter (among asked) (take i members))

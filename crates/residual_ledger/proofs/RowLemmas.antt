@@ -1,8 +1,9 @@
 -- Rising rows of places, and lists that differ by one at the places of a row.
-use Rattle.std.proofs.Common.{◌≡◌, ◌≢◌, ℕ, zero, suc, ◌+◌, ◌<◌, Bool, true, false, ◌||◌, ◌==◌, List, [], ◌∷◌, ◌++◌}
-use Rattle.std.proofs.Common.{length, take, set, get_or, All, refl, sym, ◌∙◌, ap, subst, arith, inl, inr, add-one}
+use Rattle.std.proofs.Common.{◌≡◌, ◌≢◌, ℕ, zero, suc, ◌+◌, ◌<◌, ◌≤◌, true, false, ◌||◌, ◌==◌, List, [], ◌∷◌, ◌++◌}
+use Rattle.std.proofs.Common.{length, take, set, get_or, All, refl, sym, ◌∙◌, ap, arith, inl, inr, add-one}
 use Rattle.std.proofs.Common.{length-set, get_or-set_same, get_or-set_other, eq-eqb}
 use Rattle.std.specs.{List.Sorted.IsStrictlySortedBy, Ordering.nat_cmp, declared.cmp.Ordering.TheVariants.Less}
+use Rattle.std.proofs.Math.Bool.{or-false}
 use Rattle.std.proofs.lemmas.Bool.{or_from, or_left, or_right, cases_eq, ne_eqb}
 use Rattle.std.proofs.{lemmas.Bool.Decides.nat_tests, lemmas.List.take_more, lemmas.List.Folds.list_any-append}
 use Rattle.std.proofs.{lemmas.List.Elements.Contains-get_or, lemmas.Map.Keys.Less-from_sorted}
@@ -12,10 +13,6 @@ use Rattle.residual_ledger.specs.Kept.{IsOneMore}
 
 -- ---- members
 
-or-nothing : (a : Bool) → (a || false) ≡ a
-or-nothing true = refl
-or-nothing false = refl
-
 pub among-append : (xs ys : List ℕ) (x : ℕ) → among (xs ++ ys) x ≡ (among xs x || among ys x)
 among-append xs ys x = list_any-append (λ member. member == x) xs ys
 
@@ -23,7 +20,7 @@ pub push-other : (row : List ℕ) {place p : ℕ} → p ≢ place → among (row
 push-other row {place} {p} apart =
     among-append row (place ∷ []) p
     ∙ ap (λ b. among row p || (b || false)) (ne_eqb place p (λ e. apart (sym e)))
-    ∙ or-nothing (among row p)
+    ∙ or-false (among row p)
 
 pub push-itself : (row : List ℕ) (place : ℕ) → among (row ++ place ∷ []) place ≡ true
 push-itself row place =
@@ -55,6 +52,21 @@ fresh_at (y ∷ ys) (suc i) rising short =
     (less y (get_or ys i 0) (Less-from_sorted nat_cmp (y ∷ ys) 0 (suc i) 0 rising (omega arith) short))
     (fresh_at ys i (IsRising-tail y ys rising) (omega arith))
 
+less_from : (a b : ℕ) → nat_cmp a b ≡ Less → a < b
+less_from a b h = grind (arith, nat_tests)
+
+-- a rising row's numbers stand in order
+pub in_order : (row : List ℕ) (i k : ℕ) → IsRising row → i ≤ k → k < length row → get_or row i 0 ≤ get_or row k 0
+in_order row i k rising order short = elim (cases_eq i k) [
+  | inl same ↦ omega (arith, ap (λ n. get_or row n 0) same)
+  | inr apart ↦
+      omega (
+        arith,
+        less_from (get_or row i 0) (get_or row k 0)
+            (Less-from_sorted nat_cmp row i k 0 rising (omega arith) short),
+      )
+]
+
 -- ---- one more at the places of a row
 
 pub one_more-lower : {row low high : List ℕ} (place left : ℕ) → IsOneMore row low high → among row place ≡ false
@@ -62,15 +74,12 @@ pub one_more-lower : {row low high : List ℕ} (place left : ℕ) → IsOneMore 
 one_more-lower {row} {low} {high} place left old fresh short is = record {
   long = length-set low place left ∙ old.long;
   more = λ p has. elim (cases_eq p place) [
-    | inl same ↦ subst (λ (q : ℕ). get_or high q 0 ≡ suc (get_or (set low place left) q 0)) (sym same)
-        (old.same place fresh ∙ is ∙ ap suc (sym (get_or-set_same low place left 0 short)))
+    | inl same ↦ rw same (old.same place fresh ∙ is ∙ ap suc (sym (get_or-set_same low place left 0 short)))
     | inr apart ↦ old.more p (sym (push-other row apart) ∙ has)
         ∙ ap suc (sym (get_or-set_other low place p left 0 apart))
   ];
   same = λ p none. elim (cases_eq p place) [
-    | inl same ↦ let has : among (row ++ place ∷ []) place ≡ false =
-        subst (λ (q : ℕ). among (row ++ place ∷ []) q ≡ false) same none in
-        absurd (cc (push-itself row place))
+    | inl same ↦ absurd (cc (push-itself row place, rw same at none))
     | inr apart ↦ old.same p (sym (push-other row apart) ∙ none)
         ∙ sym (get_or-set_other low place p left 0 apart)
   ];
@@ -79,19 +88,16 @@ one_more-lower {row} {low} {high} place left old fresh short is = record {
 pub one_more-raise : {row low high : List ℕ} (place : ℕ) → IsOneMore row low high → among row place ≡ false
     → place < length high → IsOneMore (row ++ place ∷ []) low (set high place (suc (get_or high place 0)))
 one_more-raise {row} {low} {high} place old fresh short =
-    let new : List ℕ = set high place (suc (get_or high place 0)) in
     record {
       long = old.long ∙ sym (length-set high place (suc (get_or high place 0)));
       more = λ p has. elim (cases_eq p place) [
-        | inl same ↦ subst (λ (q : ℕ). get_or new q 0 ≡ suc (get_or low q 0)) (sym same)
-            (get_or-set_same high place (suc (get_or high place 0)) 0 short ∙ ap suc (old.same place fresh))
+        | inl same ↦
+            rw same (get_or-set_same high place (suc (get_or high place 0)) 0 short ∙ ap suc (old.same place fresh))
         | inr apart ↦ get_or-set_other high place p (suc (get_or high place 0)) 0 apart
             ∙ old.more p (sym (push-other row apart) ∙ has)
       ];
       same = λ p none. elim (cases_eq p place) [
-        | inl same ↦ let has : among (row ++ place ∷ []) place ≡ false =
-            subst (λ (q : ℕ). among (row ++ place ∷ []) q ≡ false) same none in
-            absurd (cc (push-itself row place))
+        | inl same ↦ absurd (cc (push-itself row place, rw same at none))
         | inr apart ↦ get_or-set_other high place p (suc (get_or high place 0)) 0 apart
             ∙ old.same p (sym (push-other row apart) ∙ none)
       ];

@@ -1,28 +1,18 @@
 -- The first cut set that is tight: no block and no row that is passed over has an earlier one.
-use Rattle.std.proofs.Common.{◌≡◌, ℕ, suc, ◌-◌, ◌<◌, ◌≤◌, Bool, true, false, nat_lt, nat_le, cond}
-use Rattle.std.proofs.Common.{List, [], ◌++◌, length, take, get_or, filter, All, Some, None, sym, ◌∙◌, ap}
-use Rattle.std.proofs.Common.{subst, arith, inl, inr}
+use Rattle.std.proofs.Common.{◌≡◌, ℕ, suc, ◌-◌, ◌<◌, ◌≤◌, Bool, true, false, nat_le}
+use Rattle.std.proofs.Common.{List, [], ◌++◌, length, take, get_or, filter, All, Some, None, ◌∙◌, ap}
+use Rattle.std.proofs.Common.{arith, inl, inr}
 use Rattle.std.specs.List.{list_any, position, position_or_len}
-use Rattle.std.specs.{Ordering.nat_cmp, declared.cmp.Ordering.TheVariants.Less}
-use Rattle.std.proofs.lemmas.Bool.{cases_Bool, cases_lt, cases_eq, le-ltb, lt-ltb, cond-true, cond-false}
-use Rattle.std.proofs.{lemmas.Bool.Decides.nat_tests, lemmas.List.Sums.position_or_len_is}
-use Rattle.std.proofs.{lemmas.Map.Keys.Less-from_sorted}
+use Rattle.std.proofs.lemmas.Bool.{cases_Bool, cases_lt, le-leb, lt-leb, le-ltb, lt-ltb}
+use Rattle.std.proofs.{lemmas.List.Sums.position_or_len_is}
 use Rattle.std.proofs.lemmas.List.{take_all, get_or_default, get_or_read}
 use Rattle.unit_sets.specs.UnitList.{among, IsRising}
 use Rattle.unit_sets.proofs.UnitListLemmas.{Contains-from_among}
 use Rattle.residual_ledger.specs.{Residual.residual, Residual.cut_at, Tight.is_tight, Holding.holding, Kept.residuals}
 use Rattle.residual_ledger.specs.{Kept.IsFirstAtMost, Ledger.IsFirstHolding}
 use Rattle.residual_ledger.proofs.ResidualLemmas.{residual-asked, residual-asked-apart, residual-asked-le, met_unit}
+use Rattle.residual_ledger.proofs.RowLemmas.{in_order}
 use Rattle.residual_ledger.proofs.LedgerLemmas.{count_at, as_many, place_held, row_rises}
-
-tight-from : (left most : ℕ) → left ≤ most → nat_le left most ≡ true
-tight-from left most h = grind (arith, nat_tests)
-
-not_tight-from : (left most : ℕ) → suc most ≤ left → nat_le left most ≡ false
-not_tight-from left most h = grind (arith, nat_tests)
-
-pub leb-not : (a b : ℕ) → b < a → nat_le a b ≡ false
-leb-not a b h = not_tight-from a b (omega arith)
 
 -- ---- one cut set
 
@@ -31,7 +21,7 @@ pub all_free : (asked out : List ℕ) → All (λ unit. among out unit ≡ false
     → among out unit ≡ false
 all_free asked out free unit has =
     let found = Contains-from_among asked unit has in
-    subst (λ (q : ℕ). among out q ≡ false) found.2 (free found.0 unit found.1)
+    rw found.2 at (free found.0 unit found.1)
 
 -- what is kept of a cut set
 pub left_is : (out : List ℕ) (cuts : List (List ℕ)) {counts : List ℕ} (place : ℕ) {left : ℕ}
@@ -62,7 +52,7 @@ tight-counted {out} {asked} {cut} {left} {count} most look is =
 pub not_tight-counted : {out asked cut : List ℕ} {left : ℕ} (most : ℕ) → IsLookedAt out asked cut left
     → length asked < left - most → is_tight (asked ++ out) most cut ≡ false
 not_tight-counted {out} {asked} {cut} most look much =
-    not_tight-from (residual (asked ++ out) cut) most
+    lt-leb (residual (asked ++ out) cut) most
     (omega (arith, look.counted, residual-asked-le asked out cut look.rising))
 
 -- ---- along the row of a unit
@@ -70,9 +60,6 @@ not_tight-counted {out} {asked} {cut} most look much =
 -- the first cut sets of a row don't pass
 pub record IsPassed (row : List ℕ) (cuts : List (List ℕ)) (test : List ℕ → Bool) (end i : ℕ) : Type 0 where
   pub fails : (k : ℕ) → k < i → test (cut_at cuts (get_or row k 0)) ≡ false
-
-less : (a b : ℕ) → nat_cmp a b ≡ Less → a < b
-less a b h = grind (arith, nat_tests)
 
 -- a place before a bound stands in the part of the row that has been gone through, where the rest is not below the
 -- bound
@@ -84,23 +71,15 @@ passed {row} cuts unit i bound test is fails inside rest place before has =
     let in_row : among row place ≡ true =
     ap (λ xs. among xs place) is ∙ place_held cuts unit place (omega arith) ∙ has in
     let found = Contains-from_among row place in_row in
-    let k : ℕ = found.0 in
-    let at : get_or row k 0 ≡ place = get_or_default row k 0 place found.1 ∙ found.2 in
-    elim (cases_lt k i) [
-      | inl gone ↦ subst (λ (p : ℕ). test (cut_at cuts p) ≡ false) at (fails k gone)
-      | inr ahead ↦ absurd (too_late row i k bound place (row_rises cuts unit is) found.1 ahead at rest before)
-    ]
-  where
-    too_late : (row : List ℕ) (i k bound place : ℕ) → IsRising row → k < length row → i ≤ k → get_or row k 0 ≡ place
-        → (i < length row → bound ≤ get_or row i 0) → place < bound → ⊥
-    too_late row i k bound place rising short ahead at rest before = elim (cases_eq i k) [
-      | inl same ↦ omega (arith, at, rest (omega arith), ap (λ n. get_or row n 0) same)
-      | inr apart ↦ omega (
+    let at : get_or row found.0 0 ≡ place = get_or_default row found.0 0 place found.1 ∙ found.2 in
+    elim (cases_lt found.0 i) [
+      | inl gone ↦ rw at at (fails found.0 gone)
+      | inr ahead ↦ absurd (omega (
         arith,
         at,
-        rest (omega arith),
-        less (get_or row i 0) (get_or row k 0) (Less-from_sorted nat_cmp row i k 0 rising (omega arith) short),
-      )
+        rest (omega (arith, found.1)),
+        in_order row i found.0 (row_rises cuts unit is) ahead found.1,
+      ))
     ]
 
 pub holding-stopped : {row : List ℕ} (cuts : List (List ℕ)) {unit i end : ℕ} {test : List ℕ → Bool}
@@ -144,7 +123,7 @@ narrowed-first cuts {out} {asked} {counts} {most} {first} counted free found =
       held = λ place unit h has _. absurd cc;
       here = λ h.
           let cut : List ℕ = cut_at cuts first in
-          tight-from (residual (asked ++ out) cut) most
+          le-leb (residual (asked ++ out) cut) most
           (omega (
             arith,
             found.here (omega arith),
@@ -153,37 +132,26 @@ narrowed-first cuts {out} {asked} {counts} {most} {first} counted free found =
           ));
     }
 
--- every cut set before the first one keeps enough
-none_before : (cuts : List (List ℕ)) {out asked : List ℕ} {most count first : ℕ} (place : ℕ) → length asked ≤ count
-    → IsNarrowed cuts out asked most count first → place < first
-    → is_tight (asked ++ out) most (cut_at cuts place) ≡ false
-none_before cuts {out} {asked} {most} {count} place full was before =
-    let cut : List ℕ = cut_at cuts place in
-    elim (cases_Bool (list_any (among cut) asked)) [
-      | inl some ↦
-          let met = met_unit asked cut some in
-          was.held place met.0 before (ap (λ xs. among xs met.0) (take_all count asked full) ∙ met.1) met.2
-      | inr apart ↦
-          not_tight-from (residual (asked ++ out) cut) most
-          (omega (arith, was.low place before, residual-asked-apart asked out cut apart))
-    ]
+module _ (cuts : List (List ℕ)) {out asked : List ℕ} {most count first : ℕ} (full : length asked ≤ count)
+    (was : IsNarrowed cuts out asked most count first) where
+  -- every cut set before the first one keeps enough
+  none_before : (place : ℕ) → place < first → is_tight (asked ++ out) most (cut_at cuts place) ≡ false
+  none_before place before =
+      let cut : List ℕ = cut_at cuts place in
+      elim (cases_Bool (list_any (among cut) asked)) [
+        | inl some ↦
+            let met = met_unit asked cut some in
+            was.held place met.0 before (ap (λ xs. among xs met.0) (take_all count asked full) ∙ met.1) met.2
+        | inr apart ↦
+            lt-leb (residual (asked ++ out) cut) most
+            (omega (arith, was.low place before, residual-asked-apart asked out cut apart))
+      ]
 
-pub narrowed-found : (cuts : List (List ℕ)) {out asked : List ℕ} {most count first : ℕ} → length asked ≤ count
-    → first < length cuts → IsNarrowed cuts out asked most count first
-    → Some first ≡ position (is_tight (asked ++ out) most) cuts
-narrowed-found cuts {out} {asked} {most} {first} full short was =
-    let is : position_or_len (is_tight (asked ++ out) most) cuts ≡ first =
-    position_or_len_is (is_tight (asked ++ out) most) cuts first [] was.inside
-    (λ k h. none_before cuts k full was h) was.here in
-    sym (ap (λ n. cond (nat_lt n (length cuts)) (Some n) None) is
-    ∙ cond-true (nat_lt first (length cuts)) (Some first) None (lt-ltb first (length cuts) short))
+  narrowed-is : position_or_len (is_tight (asked ++ out) most) cuts ≡ first
+  narrowed-is = position_or_len_is (is_tight (asked ++ out) most) cuts first [] was.inside none_before was.here
 
-pub narrowed-none : (cuts : List (List ℕ)) {out asked : List ℕ} {most count first : ℕ} → length asked ≤ count
-    → length cuts ≤ first → IsNarrowed cuts out asked most count first
-    → None ≡ position (is_tight (asked ++ out) most) cuts
-narrowed-none cuts {out} {asked} {most} {first} full past was =
-    let is : position_or_len (is_tight (asked ++ out) most) cuts ≡ first =
-    position_or_len_is (is_tight (asked ++ out) most) cuts first [] was.inside
-    (λ k h. none_before cuts k full was h) was.here in
-    sym (ap (λ n. cond (nat_lt n (length cuts)) (Some n) None) is
-    ∙ cond-false (nat_lt first (length cuts)) (Some first) None (le-ltb first (length cuts) past))
+  pub narrowed-found : first < length cuts → Some first ≡ position (is_tight (asked ++ out) most) cuts
+  narrowed-found short = rw (narrowed-is, lt-ltb first (length cuts) short)
+
+  pub narrowed-none : length cuts ≤ first → None ≡ position (is_tight (asked ++ out) most) cuts
+  narrowed-none past = rw (narrowed-is, le-ltb first (length cuts) past)

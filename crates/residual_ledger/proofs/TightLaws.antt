@@ -1,9 +1,9 @@
 -- The first number of the tight cut sets, and two ways to write the units that are out.
-use Rattle.std.specs.Prelude.{◌≡◌, ℕ, zero, suc, ◌+◌, ◌<◌, Bool, true, false, nat_lt, List, [], ◌∷◌, length, get_or}
-use Rattle.std.specs.Prelude.{slice_get, Some, None, if◌then◌else◌, nat_le}
+use Rattle.std.specs.Prelude.{◌≡◌, ℕ, zero, suc, ◌+◌, ◌<◌, Bool, true, false, List, [], ◌∷◌, length, get_or}
+use Rattle.std.specs.Prelude.{slice_get, Some, nat_le}
 use Rattle.std.specs.{List.position, List.position_or_len, Option.option_map}
-use Rattle.std.proofs.Common.{refl, sym, ◌∙◌, ap, inl, inr, arith}
-use Rattle.std.proofs.lemmas.Bool.{cases_lt, cond-true, cond-false, lt-ltb, le-ltb}
+use Rattle.std.proofs.Common.{refl, ◌∙◌, ap, inl, inr, arith}
+use Rattle.std.proofs.lemmas.Bool.{cases_lt, lt-ltb, le-ltb}
 use Rattle.std.proofs.lemmas.List.Sums.{fails_before_first, passes_at_first}
 use Rattle.unit_sets.specs.UnitList.{among}
 use Rattle.residual_ledger.proofs.ResidualFacts.{residual-alike}
@@ -14,23 +14,17 @@ numbers_from-first : (number : ℕ) (test : List ℕ → Bool) (cuts : List (Lis
     → slice_get (numbers_from number test cuts) 0 ≡ Some (number + place)
 numbers_from-first number test [] place short before here = absurd (omega arith)
 numbers_from-first number test (cut ∷ cuts) zero short before here =
-    let same : number ≡ number + 0 = omega arith in
-    ap (λ (list : List ℕ). slice_get list 0) (cond-true (test cut) (number ∷ numbers_from (suc number) test cuts)
-    (numbers_from (suc number) test cuts) here) ∙ ap Some same
+    let same : number ≡ number + 0 = omega arith in rw here (ap Some same)
 numbers_from-first number test (cut ∷ cuts) (suc place) short before here =
     let same : suc number + place ≡ number + suc place = omega arith in
-    ap (λ (list : List ℕ). slice_get list 0) (cond-false (test cut) (number ∷ numbers_from (suc number) test cuts)
-    (numbers_from (suc number) test cuts) (before 0 (omega arith)))
-    ∙ numbers_from-first (suc number) test cuts place (omega arith) (λ k h. before (suc k) (omega arith)) here
-    ∙ ap Some same
+    rw (before 0 (omega arith)) (numbers_from-first (suc number) test cuts place (omega arith)
+    (λ k h. before (suc k) (omega arith)) here ∙ ap Some same)
 
 numbers_from-none : (number : ℕ) (test : List ℕ → Bool) (cuts : List (List ℕ))
     → ((k : ℕ) → k < length cuts → test (get_or cuts k []) ≡ false) → numbers_from number test cuts ≡ []
 numbers_from-none number test [] none = refl
 numbers_from-none number test (cut ∷ cuts) none =
-    cond-false (test cut) (number ∷ numbers_from (suc number) test cuts) (numbers_from (suc number) test cuts)
-    (none 0 (omega arith))
-    ∙ numbers_from-none (suc number) test cuts (λ k h. none (suc k) (omega arith))
+    rw (none 0 (omega arith)) (numbers_from-none (suc number) test cuts (λ k h. none (suc k) (omega arith)))
 
 -- the first of the numbers from 1 is one more than the first place from 0
 pub numbers_from-position : (test : List ℕ → Bool) (cuts : List (List ℕ))
@@ -40,16 +34,13 @@ numbers_from-position test cuts =
     elim (cases_lt place (length cuts)) [
       | inl some ↦
           let one_more : 1 + place ≡ suc place = omega arith in
-          numbers_from-first 1 test cuts place some (λ k h. fails_before_first test cuts k [] h)
-          (passes_at_first test cuts [] some)
-          ∙ ap Some one_more
-          ∙ ap (option_map suc) (sym (cond-true (nat_lt place (length cuts)) (Some place) None
-          (lt-ltb place (length cuts) some)))
+          rw (lt-ltb place (length cuts) some) (numbers_from-first 1 test cuts place some
+          (λ k h. fails_before_first test cuts k [] h) (passes_at_first test cuts [] some) ∙ ap Some one_more)
       | inr all ↦
-          ap (λ (list : List ℕ). slice_get list 0) (numbers_from-none 1 test cuts
-          (λ k h. fails_before_first test cuts k [] (omega arith)))
-          ∙ ap (option_map suc) (sym (cond-false (nat_lt place (length cuts)) (Some place) None
-          (le-ltb place (length cuts) all)))
+          rw (
+            numbers_from-none 1 test cuts (λ k h. fails_before_first test cuts k [] (omega arith)),
+            le-ltb place (length cuts) all,
+          )
     ]
 
 -- the first tight cut set by number and by place
@@ -63,12 +54,7 @@ numbers_from-alike : (number : ℕ) (test other : List ℕ → Bool) → ((cut :
     → (cuts : List (List ℕ)) → numbers_from number test cuts ≡ numbers_from number other cuts
 numbers_from-alike number test other alike [] = refl
 numbers_from-alike number test other alike (cut ∷ cuts) =
-    ap (λ (list : List ℕ). if test cut then number ∷ list else numbers_from (suc number) test cuts)
-    (numbers_from-alike (suc number) test other alike cuts)
-    ∙ ap (λ (list : List ℕ). if test cut then number ∷ numbers_from (suc number) other cuts else list)
-    (numbers_from-alike (suc number) test other alike cuts)
-    ∙ ap (λ (b : Bool). if b then number ∷ numbers_from (suc number) other cuts else numbers_from
-    (suc number) other cuts) (alike cut)
+    rw (alike cut, numbers_from-alike (suc number) test other alike cuts)
 
 -- two ways to write the units that are out make the same cut sets tight, where they have the same members
 pub tight-alike : (out other : List ℕ) (most : ℕ) → ((unit : ℕ) → among out unit ≡ among other unit)

@@ -1,21 +1,16 @@
-use Rattle.std.proofs.Common.{◌≡◌, ◌+◌, ℕ, List, length, replicate, take, drop, take_at, ◌++◌, rules, subst, sym, arith}
-use Rattle.std.proofs.lemmas.List.{length-replicate}
+use Rattle.std.proofs.Common.{◌≡◌, ◌+◌, ℕ, List, length, replicate, take, drop, take_at, ◌++◌, rules, arith}
 use Rattle.unit_sets.specs.CutOrder.{weight_limit}
 use Rattle.unit_sets.proofs.CutOrderLemmas.{cut_at as set_at}
 use Rattle.residual_ledger.specs.Kept.{IsOneMore}
 use Rattle.residual_ledger.proofs.{CutLemmas.cut_at-is, LedgerFacts.few_cuts}
-use Rattle.residual_ledger.proofs.FillingLemmas.{IsCountingFor, counting-first, counting-le, counting_for-more}
+use Rattle.residual_ledger.proofs.FillingLemmas.{counting-first, counting-le, counting-more}
 use Rattle.residual_ledger.proofs.FillingLemmas.{known_members}
 use Rattle.residual_ledger.proofs.holding.count_sets.Goals as goal
 
 pub loop-place-init : goal.loop-place-init
 loop-place-init c =
     let zeros : c.in_ok-sizes.sizes.items ≡ replicate (c.args.units + 1) 0 = search rules in
-    subst (IsCountingFor c.args.units c.args.cuts.now 0) (sym zeros)
-    (record {
-      long = length-replicate (c.args.units + 1) 0;
-      counted = counting-first c.args.cuts.now (c.args.units + 1);
-    })
+    rw zeros (counting-first c.args.units c.args.cuts.now)
 
 pub count_members-requires-clause-rising : goal.count_members-requires-clause-rising
 count_members-requires-clause-rising c =
@@ -33,7 +28,7 @@ pub count_members-requires-clause-room : goal.count_members-requires-clause-room
 count_members-requires-clause-room c =
     let cuts = c.args.cuts.now in
     rw c.as_mut_slice.ensures.value (counting-le cuts weight_limit
-    (omega (arith, few_cuts cuts, c.requires.ordered.within)) c.loop-place.invariant.counted)
+    (omega (arith, few_cuts cuts, c.requires.ordered.within)) c.loop-place.invariant)
 
 pub loop-place-preserved : goal.loop-place-preserved
 loop-place-preserved c =
@@ -43,9 +38,8 @@ loop-place-preserved c =
     let old : List ℕ = c.loop-place.sizes.items in
     let size = c.loop-place.sizes.len in
     let more : IsOneMore c.members.result.now old new =
-    subst (λ (was : List ℕ). IsOneMore c.members.result.now was new) c.as_mut_slice.ensures.value
-    c.count_members.ensures in
+    rw c.as_mut_slice.ensures.value at c.count_members.ensures in
     let long : length new ≡ size = omega (arith, more.long) in
     let whole : take size (new ++ drop (length new) old) ≡ new = take_at new (drop (length new) old) size long in
-    subst (IsCountingFor c.args.units cuts (place + 1)) (sym whole) (counting_for-more cuts
+    rw whole (counting-more cuts
     (cut_at-is cuts place c.members.result.now c.members.ensures.value) more c.loop-place.invariant)

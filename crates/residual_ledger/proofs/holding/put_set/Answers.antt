@@ -1,4 +1,4 @@
-use Rattle.std.proofs.Common.{◌<◌, ℕ, All, get_or, length, subst, sym, arith}
+use Rattle.std.proofs.Common.{◌<◌, All, get_or, length, arith}
 use Rattle.unit_sets.proofs.CutOrderLemmas.{cut_at as set_at}
 use Rattle.residual_ledger.specs.Residual.{cut_at}
 use Rattle.residual_ledger.proofs.FillingLemmas.{IsTurn, turn, turn-known, turn-slot, turn-more, turn-last}
@@ -16,9 +16,7 @@ own c =
 
 known : (c : goal.After-slice_known-in-loop-unit-1)
     → All (λ unit. unit < length c.loop-unit.ends) (cut_at c.args.cuts.now c.args.place)
-known c =
-    subst (λ (size : ℕ). All (λ unit. unit < size) (cut_at c.args.cuts.now c.args.place)) (sym c.loop-unit.auto.ends)
-    c.requires.known
+known c = rw c.loop-unit.auto.ends c.requires.known
 
 -- its row has a free slot
 slot : (c : goal.After-slice_known-in-loop-unit-1)
@@ -27,7 +25,7 @@ slot c = turn-slot c.args.cuts.now (own c) (known c) c.loop-unit.invariant
 
 pub bounds-ends-number-in-loop-unit : goal.bounds-ends-number-in-loop-unit
 bounds-ends-number-in-loop-unit c =
-    turn-known c.args.cuts.now (length c.loop-unit.ends) (own c) (known c)
+    turn-known c.args.cuts.now (own c) (length c.loop-unit.ends) (known c)
 
 pub bounds-rows-end : goal.bounds-rows-end
 bounds-rows-end c = omega (arith, slot c)

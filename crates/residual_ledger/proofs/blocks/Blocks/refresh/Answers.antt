@@ -1,5 +1,5 @@
 use Rattle.std.proofs.Common.{◌≤◌, ◌<◌, ◌-◌, length, get_or, refl, arith}
-use Rattle.residual_ledger.proofs.BlockLemmas.{in_order, not_empty, outside_ends}
+use Rattle.residual_ledger.proofs.{RowLemmas.in_order, BlockLemmas.not_empty, BlockLemmas.outside_ends}
 use Rattle.residual_ledger.proofs.blocks.Blocks.refresh.Goals as goal
 
 pub refresh_between-requires-clause-order : goal.refresh_between-requires-clause-order

@@ -1,7 +1,7 @@
-use Rattle.std.proofs.Common.{◌≡◌, ◌+◌, ℕ, List, length, get_or, take_at, subst, sym, ◌∙◌, arith}
+use Rattle.std.proofs.Common.{◌≡◌, ◌+◌, ℕ, List, length, get_or, take_at, ◌∙◌, arith}
 use Rattle.std.proofs.lemmas.Grind.{common_steps}
 use Rattle.unit_sets.specs.CutOrder.{weight_limit}
-use Rattle.residual_ledger.specs.Holding.{HasSizes, HoldsFirst, HasStarts, HasRows, start_of}
+use Rattle.residual_ledger.specs.Holding.{HasSizes, HasStarts, HasRows, start_of}
 use Rattle.residual_ledger.proofs.LedgerFacts.{few_cuts}
 use Rattle.residual_ledger.proofs.FillingLemmas.{sizes-le, begun, all_filled}
 use Rattle.residual_ledger.proofs.holding.Holding.new.Goals as goal
@@ -20,13 +20,13 @@ put_sets-requires-clause-first c =
     let ends : List ℕ = c.as_mut_slice-3.result.now in
     let rows : List ℕ = c.as_mut_slice-2.result.now in
     let has : HasSizes c.args.units cuts sizes =
-    subst (HasSizes c.args.units cuts) (sym c.as_mut_slice.ensures.value) c.in_ok-ends.ensures in
+    rw c.as_mut_slice.ensures.value c.in_ok-ends.ensures in
     let same : ends ≡ begins = grind (arith, common_steps) in
     let long : length begins ≡ length sizes = c.begin_rows-total.auto.ends in
     let starts : HasStarts (λ k. get_or sizes k 0) begins = c.begin_rows-total.ensures.begins in
     let room : length rows ≡ start_of (λ k. get_or sizes k 0) (length sizes) =
     c.as_mut_slice-2.ensures.len ∙ c.in_ok-rows.ensures.len ∙ c.begin_rows-total.ensures.total in
-    subst (λ (e : List ℕ). HoldsFirst cuts 0 e rows) (sym same) (begun cuts begins rows has long starts room)
+    rw same (begun cuts begins rows has long starts room)
 
 -- the two vectors as they are read again
 written : {units : ℕ} (cuts : List (List ℕ)) {ends rows ends' rows' : List ℕ} → ends' ≡ ends → rows' ≡ rows

@@ -1,18 +1,16 @@
-use Rattle.std.proofs.Common.{◌≡◌, ◌<◌, ℕ, List, length, All, take_at, rules, ap, subst, sym, ◌∙◌, arith}
-use Rattle.unit_sets.specs.UnitList.{without_unit}
+use Rattle.std.proofs.Common.{◌≡◌, ◌<◌, length, All, take_at, rules, ap, ◌∙◌, arith}
 use Rattle.residual_ledger.specs.Holding.{holding}
-use Rattle.residual_ledger.specs.Kept.{residuals, HasLowest, IsOneMore}
+use Rattle.residual_ledger.specs.Kept.{IsOneMore}
 use Rattle.residual_ledger.proofs.BlockLemmas.{risen}
-use Rattle.residual_ledger.proofs.LedgerLemmas.{row_is, row_rises, row_within, row_room, raised_counts, written}
+use Rattle.residual_ledger.proofs.LedgerLemmas.{row_rises, row_within, row_room, raised_counts, written}
 use Rattle.residual_ledger.proofs.ledger.Ledger.back.Goals.{After-as_slice, After-raise, After-row-row}
 use Rattle.residual_ledger.proofs.ledger.Ledger.back.Goals as goal
 
 -- the row is that of the unit's cut sets
 held : (c : After-row-row) → c.row-row.result.now ≡ holding c.self.inside.cuts c.args.unit
 held c =
-    let inside = c.self.inside in
-    c.row-row.ensures ∙ row_is inside.cuts c.args.unit c.self.invariant.rows_of_units c.number.ensures.unit.0
-    (omega (arith, ap (λ v. v.units) c.self.view_is))
+    c.row-row.ensures ∙ (c.self.invariant.rows_of_units.row c.args.unit c.number.ensures.unit.0
+    (omega (arith, ap (λ v. v.units) c.self.view_is))).is
 
 within : (c : After-row-row) → All (λ place. place < length c.self.inside.counts.items) c.row-row.result.now
 within c =
@@ -21,9 +19,7 @@ within c =
 
 -- each count of the row is one more
 more : (c : After-raise) → IsOneMore c.row-row.result.now c.self.inside.counts.items c.raise.new.counts
-more c =
-    subst (λ (was : List ℕ). IsOneMore c.row-row.result.now was c.raise.new.counts) c.as_mut_slice.ensures.value
-    c.raise.ensures
+more c = rw c.as_mut_slice.ensures.value at c.raise.ensures
 
 whole : (c : After-as_slice) → c.as_slice.result.now ≡ c.raise.new.counts
 whole c =
@@ -55,8 +51,7 @@ refresh-requires-clause-rising c =
 pub refresh-requires-clause-within : goal.refresh-requires-clause-within
 refresh-requires-clause-within c =
     let at = goal.at.refresh-requires-clause-within c in
-    subst (λ (size : ℕ). All (λ place. place < size) c.row-row.result.now)
-    ((more at.After-raise).long ∙ ap length (sym (whole at.After-as_slice))) (within at.After-row-row)
+    rw (whole at.After-as_slice, ← (more at.After-raise).long) (within at.After-row-row)
 
 pub refresh-requires-clause-least : goal.refresh-requires-clause-least
 refresh-requires-clause-least c =
@@ -68,17 +63,12 @@ pub invariant_of-self : goal.invariant_of-self
 invariant_of-self c =
     let at = goal.at.invariant_of-self c in
     let inside = c.self.inside in
-    let counts : c.raise.new.counts ≡ residuals (without_unit c.args.unit inside.out) inside.cuts =
-    raised_counts inside.out inside.cuts c.args.unit
-    (held at.After-row-row) c.self.invariant.counted c.self.invariant.whole.ordered (search rules)
-    (more at.After-raise) in
-    rw (c.remove.ensures.after) (written inside.units inside.cuts (without_unit c.args.unit inside.out)
-    c.refresh.new.self.least.items c.refresh.new.self.lowest.items inside.holding.ends.items inside.holding.rows.items
+    rw (c.remove.ensures.after) (written
     (take_at c.raise.new.counts _ _ (omega (arith, c.raise.auto.counts, c.as_mut_slice.ensures.len)))
     (record {
       whole = c.self.invariant.whole;
-      counted = counts;
-      blocks = subst (λ (n : List ℕ). HasLowest n c.refresh.new.self.least.items c.refresh.new.self.lowest.items)
-          (whole at.After-as_slice) c.refresh.ensures;
+      counted = raised_counts inside.out inside.cuts c.args.unit (held at.After-row-row) c.self.invariant.counted
+          c.self.invariant.whole.ordered (search rules) (more at.After-raise);
+      blocks = rw (whole at.After-as_slice) at c.refresh.ensures;
       rows_of_units = c.self.invariant.rows_of_units;
     }))

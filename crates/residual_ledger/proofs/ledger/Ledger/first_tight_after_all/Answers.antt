@@ -18,7 +18,7 @@ returns-then-first-len c =
     let many : length c.self.inside.counts.items ≡ length cuts =
     as_many c.self.inside.out c.self.inside.cuts c.self.invariant.counted
     ∙ ap (λ v. length v.cuts) c.self.view_is in
-    narrowed-found cuts (omega arith) (omega (arith, c.len.ensures)) c.loop-unit.invariant
+    narrowed-found cuts (omega arith) c.loop-unit.invariant (omega (arith, c.len.ensures))
 
 pub returns-else-first-len : goal.returns-else-first-len
 returns-else-first-len c =
@@ -26,4 +26,4 @@ returns-else-first-len c =
     let many : length c.self.inside.counts.items ≡ length cuts =
     as_many c.self.inside.out c.self.inside.cuts c.self.invariant.counted
     ∙ ap (λ v. length v.cuts) c.self.view_is in
-    narrowed-none cuts (omega arith) (omega (arith, c.len.ensures)) c.loop-unit.invariant
+    narrowed-none cuts (omega arith) c.loop-unit.invariant (omega (arith, c.len.ensures))

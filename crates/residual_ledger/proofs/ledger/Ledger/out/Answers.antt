@@ -1,55 +1,46 @@
-use Rattle.std.proofs.Common.{◌≡◌, ℕ, List, take_at, rules, ap, subst, ◌∙◌, arith}
-use Rattle.unit_sets.specs.UnitList.{with_unit}
-use Rattle.residual_ledger.specs.{Holding.holding, Kept.residuals, Kept.IsOneMore}
-use Rattle.residual_ledger.proofs.LedgerLemmas.{row_is, row_rises, row_within, row_positive, lowered_counts, written}
+use Rattle.std.proofs.Common.{◌≡◌, take_at, rules, ap, ◌∙◌, arith}
+use Rattle.residual_ledger.specs.{Holding.holding, Kept.IsOneMore}
+use Rattle.residual_ledger.proofs.LedgerLemmas.{row_rises, row_within, row_positive, lowered_counts, written}
+use Rattle.residual_ledger.proofs.ledger.Ledger.out.Goals.{After-row-row}
 use Rattle.residual_ledger.proofs.ledger.Ledger.out.Goals as goal
+
+-- the row is that of the unit's cut sets
+held : (c : After-row-row) → c.row-row.result.now ≡ holding c.self.inside.cuts c.args.unit
+held c =
+    c.row-row.ensures ∙ (c.self.invariant.rows_of_units.row c.args.unit c.number.ensures.unit.0
+    (omega (arith, ap (λ v. v.units) c.self.view_is))).is
 
 pub lower-requires-clause-rising : goal.lower-requires-clause-rising
 lower-requires-clause-rising c =
-    let inside = c.self.inside in
-    let row : List ℕ = c.row-row.result.now in
-    let is : row ≡ holding inside.cuts c.args.unit =
-    c.row-row.ensures ∙ row_is inside.cuts c.args.unit c.self.invariant.rows_of_units c.number.ensures.unit.0
-    (omega (arith, ap (λ v. v.units) c.self.view_is)) in
-    row_rises inside.cuts c.args.unit is
+    let at = goal.at.lower-requires-clause-rising c in
+    row_rises c.self.inside.cuts c.args.unit (held at.After-row-row)
 
 pub lower-requires-clause-within : goal.lower-requires-clause-within
 lower-requires-clause-within c =
+    let at = goal.at.lower-requires-clause-within c in
     let inside = c.self.inside in
-    let row : List ℕ = c.row-row.result.now in
-    let is : row ≡ holding inside.cuts c.args.unit =
-    c.row-row.ensures ∙ row_is inside.cuts c.args.unit c.self.invariant.rows_of_units c.number.ensures.unit.0
-    (omega (arith, ap (λ v. v.units) c.self.view_is)) in
-    rw c.as_mut_slice.ensures.value (row_within inside.out inside.cuts c.args.unit is c.self.invariant.counted)
+    rw c.as_mut_slice.ensures.value (row_within inside.out inside.cuts c.args.unit (held at.After-row-row)
+    c.self.invariant.counted)
 
 pub lower-requires-clause-positive : goal.lower-requires-clause-positive
 lower-requires-clause-positive c =
+    let at = goal.at.lower-requires-clause-positive c in
     let inside = c.self.inside in
-    let row : List ℕ = c.row-row.result.now in
-    let is : row ≡ holding inside.cuts c.args.unit =
-    c.row-row.ensures ∙ row_is inside.cuts c.args.unit c.self.invariant.rows_of_units c.number.ensures.unit.0
-    (omega (arith, ap (λ v. v.units) c.self.view_is)) in
-    rw c.as_mut_slice.ensures.value (row_positive inside.out inside.cuts c.args.unit is
+    rw c.as_mut_slice.ensures.value (row_positive inside.out inside.cuts c.args.unit (held at.After-row-row)
     c.self.invariant.counted c.self.invariant.whole.ordered (search rules))
 
 pub invariant_of-self : goal.invariant_of-self
 invariant_of-self c =
+    let at = goal.at.invariant_of-self c in
     let inside = c.self.inside in
-    let row : List ℕ = c.row-row.result.now in
-    let is : row ≡ holding inside.cuts c.args.unit =
-    c.row-row.ensures ∙ row_is inside.cuts c.args.unit c.self.invariant.rows_of_units c.number.ensures.unit.0
-    (omega (arith, ap (λ v. v.units) c.self.view_is)) in
-    let more : IsOneMore row c.lower.new.counts inside.counts.items =
-    subst (IsOneMore row c.lower.new.counts) c.as_mut_slice.ensures.value c.lower.ensures.lowered in
-    let counts : c.lower.new.counts ≡ residuals (with_unit c.args.unit inside.out) inside.cuts =
-    lowered_counts inside.out inside.cuts c.args.unit is
-    c.self.invariant.counted c.self.invariant.whole.ordered (search rules) more in
-    rw (c.insert.ensures.after) (written inside.units inside.cuts (with_unit c.args.unit inside.out)
-    c.lower.new.blocks.least.items c.lower.new.blocks.lowest.items inside.holding.ends.items inside.holding.rows.items
+    let more : IsOneMore c.row-row.result.now c.lower.new.counts inside.counts.items =
+    rw c.as_mut_slice.ensures.value at c.lower.ensures.lowered in
+    rw (c.insert.ensures.after) (written
     (take_at c.lower.new.counts _ _ (omega (arith, c.lower.auto.counts, c.as_mut_slice.ensures.len)))
     (record {
       whole = c.self.invariant.whole;
-      counted = counts;
+      counted = lowered_counts inside.out inside.cuts c.args.unit (held at.After-row-row)
+          c.self.invariant.counted c.self.invariant.whole.ordered (search rules) more;
       blocks = c.lower.ensures.least;
       rows_of_units = c.self.invariant.rows_of_units;
     }))

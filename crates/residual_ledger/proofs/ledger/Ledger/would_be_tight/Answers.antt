@@ -4,13 +4,13 @@ use Rattle.residual_ledger.specs.{Residual.cut_at, Kept.residuals}
 use Rattle.residual_ledger.proofs.{CutLemmas.cut_at-is, CutLemmas.cut_fits, LedgerLemmas.cut_rises}
 use Rattle.residual_ledger.proofs.{ledger.Ledger.would_be_tight.Goals.After-index-left}
 use Rattle.residual_ledger.proofs.SearchLemmas.{IsLookedAt, left_is, asked-le, tight-counted, not_tight-counted}
-use Rattle.residual_ledger.proofs.SearchLemmas.{leb-not}
+use Rattle.std.proofs.lemmas.Bool.{lt-leb}
 use Rattle.residual_ledger.proofs.ledger.Ledger.would_be_tight.Goals as goal
 
 pub count_asked-requires : goal.count_asked-requires
 count_asked-requires c =
     let inside : c.args.place < length c.self.inside.cuts =
-    subst (λ (n : ℕ). c.args.place < n) (ap (λ v. length v.cuts) (sym c.self.view_is)) c.requires.there in
+    omega (arith, ap (λ v. length v.cuts) c.self.view_is, c.requires.there) in
     let short : length c.members.result.now < 2 ^ 31 =
     cut_fits c.self.inside.cuts c.args.place c.members.result.now c.members.ensures.ordered inside
     c.members.ensures.value in
@@ -54,5 +54,5 @@ pub returns-else-saturating_sub-asked : goal.returns-else-saturating_sub-asked
 returns-else-saturating_sub-asked c =
     let at = goal.at.returns-else-saturating_sub-asked c in
     let much : length c.args.asked.now < c.index-left.result.now - c.args.most = omega arith in
-    leb-not c.saturating_sub.result (length c.args.asked.now) (omega arith)
+    lt-leb c.saturating_sub.result (length c.args.asked.now) (omega arith)
     ∙ sym (not_tight-counted c.args.most (looked_at at.After-index-left) much)
