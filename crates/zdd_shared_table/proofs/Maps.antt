@@ -1,6 +1,7 @@
 -- What a list of references and the words of the table say as maps.
 use Rattle.std.proofs.Common.{◌≡◌, ◌≢◌, ℕ, zero, suc, ◌+◌, ◌-◌, ◌<◌, ◌≤◌, List, [], ◌∷◌, length, get_or, set, sym, ◌∙◌}
-use Rattle.std.proofs.Common.{ap, subst, refl, arith, Contains, ⊎_elim, get_or-set_other}
+use Rattle.std.proofs.Common.{ap, subst, refl, arith, ◌++◌, Contains, ⊎_elim, get_or-set_other}
+use Rattle.std.proofs.lemmas.List.Elements.{Contains-append_cases}
 use Rattle.unit_sets.proofs.Sorted.{Contains-cons_cases, Contains-cons_first, Contains-cons_other, Contains-nil}
 use mathlib.Core.Logic.{dite}
 use native.Mathlib.Decide.{ℕ_discrete}
@@ -50,6 +51,25 @@ find-standing {known} (pair ∷ pairs) reference {word} of in_list =
     ∙ find-standing pairs reference {word = word} (IsOf-tail of)
     (⊎_elim (λ (same : pair ≡ (reference, word)). absurd (other (ap (λ (p : ℕ × ℕ). p.0) same))) (λ later. later)
     (Contains-cons_cases pair (reference, word) pairs in_list)))
+
+-- what more at the end leaves found
+pub find-front : (pairs more : List (ℕ × ℕ)) → Grown (find pairs) (find (pairs ++ more))
+find-front [] more reference known = absurd (known refl)
+find-front (pair ∷ pairs) more reference known =
+    dite (ℕ_discrete pair.0 reference) (λ is. find-first pair (pairs ++ more) is ∙ sym (find-first pair pairs is))
+    (λ other. let later = find-later pair pairs other in
+    find-later pair (pairs ++ more) other
+    ∙ (find-front pairs more reference (λ none. known (later ∙ none)) ∙ sym later))
+
+-- of two lists of a map's pairs both together
+pub IsOf-both : {known : ℕ → ℕ} {pairs more : List (ℕ × ℕ)} → IsOf known pairs → IsOf known more
+    → IsOf known (pairs ++ more)
+IsOf-both {pairs} {more} one two = record {
+  says = λ reference word h. ⊎_elim (one.says reference word) (two.says reference word)
+      (Contains-append_cases pairs more (reference, word) h);
+  filled = λ reference word h. ⊎_elim (one.filled reference word) (two.filled reference word)
+      (Contains-append_cases pairs more (reference, word) h);
+}
 
 -- a map whose pairs the list has
 pub find-says : {known : ℕ → ℕ} {pairs : List (ℕ × ℕ)} (reference : ℕ) → IsOf known pairs → find pairs reference ≢ 0

@@ -1,7 +1,7 @@
 -- What a sound seat's calls on one node give.
 use Rattle.std.proofs.Common.{◌≡◌, ◌≢◌, ℕ, ◌+◌, ◌<◌, ◌≤◌, List, [], ◌∷◌, ◌++◌, sym, ◌∙◌, ap, subst, arith, Contains}
 use Rattle.std.proofs.Common.{inl, inr, Option, Some, None, Result, Ok, Err, IfSome, IfNone}
-use Rattle.std.proofs.lemmas.List.Elements.{Contains-append_left, Contains-push}
+use Rattle.std.proofs.lemmas.List.Elements.{Contains-push}
 use Rattle.unit_sets.specs.Unit.{IsUnit}
 use Rattle.zdd_words.specs.Word.{level_of, lo_of, hi_of}
 use Rattle.zdd_families.specs.Family.{branch, IsAbove, first_unit, sets_with, sets_without}
@@ -12,7 +12,7 @@ use Rattle.zdd_families.proofs.Canonical.{sets_with-family, lo_units, hi_units}
 use Rattle.zdd_shared_table.specs.{Known.find, Search.HasEnded, Views.searched_all, declared.view.View.View}
 use Rattle.zdd_shared_table.specs.Making.{LearnsWord, CountsRefused, NotesRefused, PassesSlots, FillsAtMostOne}
 use Rattle.zdd_shared_table.specs.Seats.{TableId, Seated, IsSound, IsSoundView, seated}
-use Rattle.zdd_shared_table.proofs.Maps.{find-stands}
+use Rattle.zdd_shared_table.proofs.Maps.{find-front, find-stands}
 
 -- a reference that is known and no terminal has a word
 pub inner_known : (known : ℕ → ℕ) (r : ℕ) → Knows known r → 2 ≤ r → known r ≢ 0
@@ -102,11 +102,10 @@ pub known_ended : (word slot : ℕ) (v : View) {w : View} → HasEnded word slot
 known_ended word slot v (inl is) = ap (λ u. u.known) is
 known_ended word slot v (inr is) = ap (λ u. u.known) is
 
-pub grown_ended : (word slot : ℕ) (v : View) {w : View} → HasEnded word slot v w → IsSoundView w
-    → Grown (find v.known) (find w.known)
-grown_ended word slot v end sound =
-    grown_sound v.known sound (λ pair h. subst (λ l. Contains l pair) (sym (known_ended word slot v end))
-    (Contains-append_left v.known ((slot + 2, word) ∷ []) pair h))
+pub grown_ended : (word slot : ℕ) (v : View) {w : View} → HasEnded word slot v w → Grown (find v.known) (find w.known)
+grown_ended word slot v end =
+    subst (λ l. Grown (find v.known) (find l)) (sym (known_ended word slot v end))
+    (find-front v.known ((slot + 2, word) ∷ []))
 
 pub node_ended : {word : ℕ} (slot : ℕ) {level lo hi : ℕ} (v : View) {w : View} → HasEnded word slot v w → IsSoundView v
     → IsSoundView w
@@ -118,7 +117,7 @@ node_ended {word} slot v {w} end sound sound' some level_is lo_is hi_is knows_lo
     (subst (λ (l : List (ℕ × ℕ)). Contains l (slot + 2, word)) (sym (known_ended word slot v end))
     (Contains-push v.known (slot + 2, word))) in
     node_family (find v.known) (find w.known) (slot + 2) sound.closed sound'.closed
-    (grown_ended word slot v end sound') at some level_is lo_is hi_is knows_lo knows_hi
+    (grown_ended word slot v end) at some level_is lo_is hi_is knows_lo knows_hi
 
 -- what the seat knows and counts after a search that has this answer
 pub record HasSearched {E : Type 0} (slots word : ℕ) (answer : Result ℕ E) (old new : Seated) : Type 0 where

@@ -1,5 +1,5 @@
 -- Each filled slot stays known to some seat, whatever step is made; so a filled word stays.
-use Rattle.std.proofs.Common.{◌≡◌, ◌≢◌, ℕ, zero, suc, ◌+◌, ◌^◌, ◌==◌, List, [], ◌∷◌, ◌++◌, get_or, set, sym, ◌∙◌, ap}
+use Rattle.std.proofs.Common.{◌≡◌, ◌≢◌, ℕ, zero, suc, ◌+◌, ◌==◌, List, [], ◌∷◌, ◌++◌, get_or, set, sym, ◌∙◌, ap}
 use Rattle.std.proofs.Common.{subst, refl, if◌then◌else◌}
 use mathlib.Core.Logic.{dite}
 use mathlib.Core.Option.{some, some-ne-none, some-injective}
@@ -7,16 +7,16 @@ use native.Mathlib.Decide.{ℕ_discrete}
 use lib.ListN.{get_elem?}
 use Rattle.atomic_table.specs.Table.{State}
 use Rattle.atomic_table.proofs.Lists.{set_else}
-use Rattle.zdd_words.specs.Word.{home_of}
 use Rattle.zdd_shared_table.specs.{Known.find, declared.view.View.View}
-use Rattle.zdd_shared_table.specs.Views.{learned, filled, searching, searched_all, passed_on, loaded, exchanged, joined}
+use Rattle.zdd_shared_table.specs.Views.{learned, filled, passed_on, loaded, exchanged, joined}
 use Rattle.zdd_shared_table.specs.Rule.{ForgetsNothing, IsKnownBySome, IsStore}
-use Rattle.zdd_shared_table.proofs.{Filling.IsGrown-placed, Views.by_test}
-use Rattle.zdd_shared_table.proofs.Maps.{find-first, find-later, placed-slot}
+use Rattle.zdd_shared_table.proofs.{Filling.IsGrown-placed, Maps.find-front, Maps.placed-slot}
+use Rattle.zdd_shared_table.proofs.Views.{by_slot, by_passed}
 
--- all that a view knows another knows too
-abbrev pub Keeps : View → View → Type 0
-Keeps v w = (reference : ℕ) → find v.known reference ≢ 0 → find w.known reference ≢ 0
+-- all that a view knows another knows too, of a table of the same size
+pub record Keeps (v w : View) : Type 0 where
+  pub size : w.size ≡ v.size
+  pub known : (reference : ℕ) → find v.known reference ≢ 0 → find w.known reference ≢ 0
 
 -- a seat's new view stands among the views
 pub stands : (views : List View) (seat : ℕ) (v w : View) → get_elem? views seat ≡ some v
@@ -29,59 +29,46 @@ same_view : (views : List View) {seat other : ℕ} (v w : View) → get_elem? vi
     → get_elem? views other ≡ some w → other ≡ seat → w ≡ v
 same_view views v w at there same = some-injective w v (sym there ∙ (ap (get_elem? views) same ∙ at))
 
--- a pair more at the end forgets nothing
-find-front : (pairs more : List (ℕ × ℕ)) (reference : ℕ) → find pairs reference ≢ 0
-    → find (pairs ++ more) reference ≡ find pairs reference
-find-front [] more reference known = absurd (known refl)
-find-front (pair ∷ pairs) more reference known =
-    dite (ℕ_discrete pair.0 reference) (λ is. find-first pair (pairs ++ more) is ∙ sym (find-first pair pairs is))
-    (λ other. let later = find-later pair pairs other in
-    find-later pair (pairs ++ more) other
-    ∙ (find-front pairs more reference (λ none. known (later ∙ none)) ∙ sym later))
+keeps_front : (v : View) (more : List (ℕ × ℕ)) (reference : ℕ) → find v.known reference ≢ 0
+    → find (v.known ++ more) reference ≢ 0
+keeps_front v more reference known none = known (sym (find-front v.known more reference known) ∙ none)
 
-keeps_front : (pairs more : List (ℕ × ℕ)) (reference : ℕ) → find pairs reference ≢ 0
-    → find (pairs ++ more) reference ≢ 0
-keeps_front pairs more reference known none = known (sym (find-front pairs more reference known) ∙ none)
+pub keeps_same : (v : View) → Keeps v v
+keeps_same v = record { size = refl; known = λ reference known. known }
 
-keeps_passed : (word before : ℕ) (v : View) → Keeps v (passed_on word before v)
-keeps_passed word before v =
-    by_test (Keeps v) (before + 1) v.size (searched_all word v) (searching word (before + 1) v)
-    (λ _ reference known. known) (λ _ reference known. known)
+pub keeps_filled : (word slot : ℕ) (v : View) → Keeps v (filled word slot v)
+keeps_filled word slot v = record { size = refl; known = keeps_front v ((slot + 2, word) ∷ []) }
+
+pub keeps_joined : (v w : View) → Keeps v (joined v w)
+keeps_joined v w = record { size = refl; known = keeps_front v w.known }
+
+-- a search keeps what was known, whatever its step starts from
+keeps_searched : (word before slot found : ℕ) (v start : View) → Keeps v start
+    → Keeps v (if found == 0 then start else (if found == word then learned word slot v else passed_on word before v))
+keeps_searched word before slot found v start keeps =
+    by_slot (Keeps v) word before slot found v start (λ _. keeps)
+    (λ _ _. record { size = refl; known = keeps_front v ((slot + 2, word) ∷ []) })
+    (λ _ _. by_passed (Keeps v) word before v (λ _. record { size = refl; known = λ reference known. known })
+    record { size = refl; known = λ reference known. known })
 
 pub keeps_loaded : (word before slot found : ℕ) (v : View) → Keeps v (loaded word before slot found v)
-keeps_loaded word before slot found v =
-    by_test (Keeps v) found 0 v (if found == word then learned word slot v else passed_on word before v)
-    (λ _ reference known. known)
-    (λ _. by_test (Keeps v) found word (learned word slot v) (passed_on word before v)
-    (λ _ reference known. keeps_front v.known ((slot + 2, word) ∷ []) reference known)
-    (λ _. keeps_passed word before v))
+keeps_loaded word before slot found v = keeps_searched word before slot found v v (keeps_same v)
 
 pub keeps_exchanged : (word before slot found : ℕ) (v : View) → Keeps v (exchanged word before slot found v)
 keeps_exchanged word before slot found v =
-    by_test (Keeps v) found 0 (filled word slot v)
-    (if found == word then learned word slot v else passed_on word before v)
-    (λ _ reference known. keeps_front v.known ((slot + 2, word) ∷ []) reference known)
-    (λ _. by_test (Keeps v) found word (learned word slot v) (passed_on word before v)
-    (λ _ reference known. keeps_front v.known ((slot + 2, word) ∷ []) reference known)
-    (λ _. keeps_passed word before v))
-
-pub keeps_filled : (word slot : ℕ) (v : View) → Keeps v (filled word slot v)
-keeps_filled word slot v reference known = keeps_front v.known ((slot + 2, word) ∷ []) reference known
-
-pub keeps_joined : (v w : View) → Keeps v (joined v w)
-keeps_joined v w reference known = keeps_front v.known w.known reference known
+    keeps_searched word before slot found v (filled word slot v) (keeps_filled word slot v)
 
 -- a seat's view becomes one that keeps what it knew
-pub still_known : {views : List View} (seat : ℕ) (v w : View) → get_elem? views seat ≡ some v → Keeps v w → {slot : ℕ}
+pub still_known : {views : List View} (seat : ℕ) {v w : View} → get_elem? views seat ≡ some v → Keeps v w → {slot : ℕ}
     → IsKnownBySome views slot → IsKnownBySome (set views seat w) slot
-still_known {views} seat v w mine keeps {slot} by =
+still_known {views} seat {v} {w} mine keeps {slot} by =
     dite (ℕ_discrete by.seat seat)
     (λ same. record {
       seat = seat;
       view = w;
       at = stands views seat v w mine;
       knows =
-          keeps (slot + 2) (subst (λ (u : View). find u.known (slot + 2) ≢ 0)
+          keeps.known (slot + 2) (subst (λ (u : View). find u.known (slot + 2) ≢ 0)
           (same_view views v by.view mine by.at same) by.knows);
     })
     (λ other. record {
@@ -131,10 +118,7 @@ pub filled_stays : (bits : ℕ) (before after : State (Unit {0}) View) → IsSto
 filled_stays bits before after rule rule' remembers slot full =
     let by = rule.owned slot full in
     let later = remembers by.seat (slot + 2) by.view by.at by.knows in
-    let earlier =
-    IsGrown-placed (λ w. home_of w bits) (2 ^ bits) before.words by.view (rule.views by.seat by.view by.at)
-    (slot + 2) by.knows in
+    let earlier = IsGrown-placed (rule.views by.seat by.view by.at) (slot + 2) by.knows in
     let now =
-    IsGrown-placed (λ w. home_of w bits) (2 ^ bits) after.words later.1 (rule'.views later.0 later.1 later.2)
-    (slot + 2) (λ none. by.knows (sym later.3 ∙ none)) in
+    IsGrown-placed (rule'.views later.0 later.1 later.2) (slot + 2) (λ none. by.knows (sym later.3 ∙ none)) in
     sym (placed-slot after.words slot) ∙ (now ∙ (later.3 ∙ (sym earlier ∙ placed-slot before.words slot)))

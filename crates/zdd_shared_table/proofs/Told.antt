@@ -10,7 +10,7 @@ use Rattle.zdd_shared_table.proofs.Filling.{IsOf-known, IsGrown-placed}
 pub closed_view : {home : ℕ → ℕ} {size : ℕ} {words : List ℕ} (v : View) → HoldsNodes home size words
     → Fits home size words v → IsClosed (find v.known)
 closed_view {home} {size} {words} v rule fits r known =
-    let at : placed words r ≡ find v.known r = IsGrown-placed home size words v fits r known in (
+    let at : placed words r ≡ find v.known r = IsGrown-placed fits r known in (
       (placed-inside words r (λ none. known (sym at ∙ none))).0,
       (fits.known r (find v.known r) (find-stands v.known r known)).1,
     )
@@ -21,8 +21,7 @@ module _ {home : ℕ → ℕ} {size : ℕ} {words : List ℕ} (v : View) (rule :
   pub slot_of : (reference : ℕ) → find v.known reference ≢ 0
       → (2 ≤ reference) × (get_or words (reference - 2) 0 ≡ find v.known reference)
   slot_of reference known =
-      let at : placed words reference ≡ find v.known reference =
-      IsGrown-placed home size words v fits reference known in
+      let at : placed words reference ≡ find v.known reference = IsGrown-placed fits reference known in
       let inside = placed-inside words reference (λ none. known (sym at ∙ none)) in
       (inside.0, sym inside.1 ∙ at)
 
@@ -45,8 +44,7 @@ module _ {home : ℕ → ℕ} {size : ℕ} {words : List ℕ} (v : View) (rule :
   told = record {
     closed = closed_view v rule fits;
     unique = unique;
-    agree =
-        λ reference word h. find-standing v.known reference (IsOf-known home size words v fits) h;
+    agree = λ reference word h. find-standing v.known reference (IsOf-known fits) h;
     within = within;
     missed = fits.missed;
     fills = fits.fills;

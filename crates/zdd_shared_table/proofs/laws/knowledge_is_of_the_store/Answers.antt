@@ -7,4 +7,4 @@ use Rattle.zdd_shared_table.proofs.laws.knowledge_is_of_the_store.Goals as goal
 pub returns : goal.returns
 returns c = λ home size words v rule fits r knows.
     sym (family-grown (find v.known) (placed words) r (closed_view v rule fits)
-    (closed_words rule) (IsGrown-placed home size words v fits) knows)
+    (closed_words rule) (IsGrown-placed fits) knows)

@@ -1,9 +1,9 @@
 use Rattle.std.proofs.Common.{◌≡◌, ◌<◌, ◌^◌, ◌++◌, sym, ◌∙◌, ap, subst, arith, Contains}
-use Rattle.std.proofs.lemmas.List.Elements.{Contains-append_left, Contains-append_right}
+use Rattle.std.proofs.lemmas.List.Elements.{Contains-append_right}
 use Rattle.std.proofs.lemmas.Nat.{pow_pos}
 use Rattle.zdd_families.specs.Map.{Grown}
 use Rattle.zdd_shared_table.specs.{Known.find, Seats.map_of}
-use Rattle.zdd_shared_table.proofs.{Nodes.grown_sound, Steps.allows_join, Steps.allows_look}
+use Rattle.zdd_shared_table.proofs.{Maps.find-front, Nodes.grown_sound, Steps.allows_join, Steps.allows_look}
 use Rattle.zdd_shared_table.proofs.{store.NodeStore.join.Goals.After-load}
 use Rattle.zdd_shared_table.proofs.store.NodeStore.join.Goals as goal
 
@@ -43,8 +43,8 @@ returns-clause-keeps c =
     let after = c.load.new.seat.me.0 in
     let mine = c.seat.inside.place.me.0.known in
     let theirs = c.other.inside.place.me.0.known in
-    subst (λ m. Grown m (find after.known)) (ap map_of c.seat.view_is) (grown_sound mine c.load.ensures.2.2
-    (λ pair h. subst (λ l. Contains l pair) (sym (known_after c)) (Contains-append_left mine theirs pair h)))
+    subst (λ m. Grown m (find after.known)) (ap map_of c.seat.view_is)
+    (subst (λ l. Grown (find mine) (find l)) (sym (known_after c)) (find-front mine theirs))
 
 pub returns-clause-gains : goal.returns-clause-gains
 returns-clause-gains c =

@@ -1,8 +1,8 @@
 use Rattle.std.proofs.Common.{pow_mono, ◌≡◌, ◌≢◌, ℕ, ◌+◌, ◌≤◌, ◌^◌, sym, ◌∙◌, ap, subst, arith}
 use Rattle.zdd_words.proofs.WordLemmas.{packed-filled}
 use Rattle.zdd_words.specs.Word.{packed}
-use Rattle.zdd_families.specs.Family.{branch, IsAbove}
-use Rattle.zdd_families.specs.Map.{Knows, KnowsAs, Grown, family}
+use Rattle.zdd_families.specs.Family.{branch}
+use Rattle.zdd_families.specs.Map.{Knows, KnowsAs, IsClosed, IsNode, Grown, family}
 use Rattle.zdd_shared_table.specs.Known.{find}
 use Rattle.zdd_shared_table.specs.Seats.{IsSeat, IsSound, map_of, seated}
 use Rattle.zdd_shared_table.proofs.Nodes.{asked_node, grown_ended, node_ended}
@@ -12,15 +12,12 @@ use Rattle.zdd_shared_table.proofs.store.NodeStore.node.Goals.{Joined-found, in-
 
 pub search-found-requires-clause-node : goal.search-found-requires-clause-node
 search-found-requires-clause-node c =
-    let known = find c.seat.inside.place.me.0.known in
-    let is : known ≡ map_of c.args.seat.now = ap map_of c.seat.view_is in
+    let is = ap map_of c.seat.view_is in
     let packs = c.pack-word.ensures in
-    asked_node c.seat.invariant.sound.closed
+    subst (λ m. IsNode m c.pack-word.result) (sym is)
+    (asked_node (subst IsClosed is c.seat.invariant.sound.closed)
     packs.level_comes_back packs.lo_comes_back packs.hi_comes_back c.number.ensures.unit
-    (subst (λ m. Knows m c.args.lo) (sym is) c.requires.knows_lo)
-    (subst (λ m. Knows m c.args.hi) (sym is) c.requires.knows_hi) c.requires.filled
-    (subst (λ m. IsAbove c.args.level (family m c.args.lo)) (sym is) c.requires.lo_above)
-    (subst (λ m. IsAbove c.args.level (family m c.args.hi)) (sym is) c.requires.hi_above)
+    c.requires.knows_lo c.requires.knows_hi c.requires.filled c.requires.lo_above c.requires.hi_above)
 
 pub at_slot-requires : goal.at_slot-requires
 at_slot-requires c =
@@ -34,22 +31,19 @@ pub returns-clause-family : goal.returns-clause-family
 returns-clause-family c =
     let old = c.seat.inside.place.me.0 in
     let new = c.search-found.new.seat.me.0 in
-    let is : find old.known ≡ map_of c.args.seat.now = ap map_of c.seat.view_is in
     let packs = c.pack-word.ensures in
     let some : c.pack-word.result ≢ 0 =
     λ none. packed-filled c.args.level c.args.lo c.args.hi c.number.ensures.unit.0 (sym packs.value ∙ none) in
     let of =
-    λ (m : ℕ → ℕ) (r : ℕ). KnowsAs (find new.known) r
+    λ (m : ℕ → ℕ) (r : ℕ). Knows m c.args.lo → Knows m c.args.hi → KnowsAs (find new.known) r
     (branch c.args.level (family m c.args.lo) (family m c.args.hi)) in
     elim c.match-found.branch [
-      | in-Some w ↦
-          rw w.result-is
-          (subst (λ r. of (map_of c.args.seat.now) r) (sym w.at_slot.ensures)
-          (subst (λ m. of m (w.in-Some.slot + 2)) is (node_ended w.in-Some.slot old
+      | in-Some w ↦ rw (w.result-is, w.at_slot.ensures)
+          (subst (λ m. of m (w.in-Some.slot + 2)) (ap map_of c.seat.view_is)
+          (node_ended w.in-Some.slot old
           w.in-Some.ensures.found.1 c.seat.invariant.sound c.search-found.ensures.sound some
-          packs.level_comes_back packs.lo_comes_back packs.hi_comes_back
-          (subst (λ m. Knows m c.args.lo) (sym is) c.requires.knows_lo)
-          (subst (λ m. Knows m c.args.hi) (sym is) c.requires.knows_hi))))
+          packs.level_comes_back packs.lo_comes_back packs.hi_comes_back)
+          c.requires.knows_lo c.requires.knows_hi)
       | in-None w ↦ rw w.result-is tt
     ]
 
@@ -57,11 +51,9 @@ pub returns-clause-keeps : goal.returns-clause-keeps
 returns-clause-keeps c =
     let old = c.seat.inside.place.me.0 in
     let new = c.search-found.new.seat.me.0 in
-    let is : find old.known ≡ map_of c.args.seat.now = ap map_of c.seat.view_is in
-    subst (λ m. Grown m (find new.known)) is
+    subst (λ m. Grown m (find new.known)) (ap map_of c.seat.view_is)
     (elim c.match-found.branch [
       | in-Some w ↦ grown_ended c.pack-word.result w.in-Some.slot old w.in-Some.ensures.found.1
-          c.search-found.ensures.sound
       | in-None w ↦ λ r has. ap (λ v. find v.known r) w.in-None.ensures.passed_all
     ])
 

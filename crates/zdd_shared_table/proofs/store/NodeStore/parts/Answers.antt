@@ -1,5 +1,4 @@
 use Rattle.std.proofs.Common.{◌≡◌, ◌≢◌, ◌+◌, ◌-◌, ◌<◌, sym, ◌∙◌, ap, subst, arith}
-use Rattle.zdd_families.specs.Map.{Knows}
 use Rattle.zdd_shared_table.specs.{Known.find, Seats.map_of}
 use Rattle.zdd_shared_table.proofs.Nodes.{inner_known, HasParts, has_parts}
 use Rattle.zdd_shared_table.proofs.{Steps.allows_read, store.NodeStore.parts.Goals.After-unpack}
@@ -11,9 +10,9 @@ load-word-requires c =
     let id = c.self.inside.table.shared.table_id in
     let own : seat.table_id ≡ id = ap (λ s. s.store) c.seat.view_is ∙ (c.requires.own ∙ sym c.self.view_is) in
     let is : find seat.me.0.known ≡ map_of c.args.seat.now = ap map_of c.seat.view_is in
-    let knows : Knows (find seat.me.0.known) c.args.r = subst (λ m. Knows m c.args.r) (sym is) c.requires.knows in
     let within : c.args.r < seat.me.0.size + 2 =
-    c.seat.invariant.sound.within c.args.r (inner_known (find seat.me.0.known) c.args.r knows c.requires.inner) in
+    c.seat.invariant.sound.within c.args.r (subst (λ m. m c.args.r ≢ 0) (sym is)
+    (inner_known (map_of c.args.seat.now) c.args.r c.requires.knows c.requires.inner)) in
     let sized = c.seat.invariant.sized in
     let words : seat.table_id.words ≡ id.words = ap (λ t. t.words) own in
     let inside : c.number.result - 2 < id.words =
@@ -27,8 +26,9 @@ parts_of c =
     let is : find seat.me.0.known ≡ map_of c.args.seat.now = ap map_of c.seat.view_is in
     let after : find seat.me.0.known ≡ find c.load-word.new.seat.me.0.known =
     ap (λ v. find v.known) (sym c.load-word.ensures.2.0) in
-    let knows : Knows (find seat.me.0.known) c.args.r = subst (λ m. Knows m c.args.r) (sym is) c.requires.knows in
-    let has : find seat.me.0.known c.args.r ≢ 0 = inner_known (find seat.me.0.known) c.args.r knows c.requires.inner in
+    let has : find seat.me.0.known c.args.r ≢ 0 =
+    subst (λ m. m c.args.r ≢ 0) (sym is)
+    (inner_known (map_of c.args.seat.now) c.args.r c.requires.knows c.requires.inner) in
     let at : (c.number.result - 2) + 2 ≡ c.args.r =
     let n = c.number.ensures.value in let large = c.requires.inner in omega arith in
     let word : c.load-word.result ≡ find seat.me.0.known c.args.r =

@@ -1,38 +1,28 @@
-use Rattle.std.proofs.Common.{◌≡◌, ℕ, ◌-◌, ◌≤◌, List, [], sym, subst, ap, arith}
+use Rattle.std.proofs.Common.{◌≡◌, ◌-◌, ◌≤◌, sym, subst, ap, refl, arith}
 use Rattle.unit_sets.proofs.Sorted.{Contains-nil}
 use Rattle.atomic_table.specs.{Table.Me, Seated.TableId}
-use Rattle.zdd_shared_table.specs.{Seats.IsSound, Seats.IsSeat, Views.split_off, declared.view.View.View}
+use Rattle.zdd_shared_table.specs.{Seats.IsSound, Seats.IsSeat, declared.view.View.View}
 use Rattle.zdd_shared_table.proofs.store.NodeStore.split.Goals as goal
 use Rattle.zdd_shared_table.proofs.store.NodeStore.split.Goals.{After-cut}
 
-sound_split : {size : ℕ} {pairs : List (ℕ × ℕ)} {asked gained : List ℕ} → IsSound size pairs asked gained
-    → IsSound size pairs [] []
-sound_split sound = record {
-  closed = sound.closed;
-  unique = sound.unique;
-  agree = sound.agree;
-  within = sound.within;
-  missed = λ word none. Contains-nil word none;
-  fills = λ reference none. Contains-nil reference none;
-}
-
-split_seat : (id : TableId) (v : View) (share : ℕ) → v.size ≡ id.words → 1 ≤ share
-    → IsSound v.size v.known v.missed v.fills → IsSeat id (split_off share v, [])
-split_seat id v share sized some sound =
-    record {
-      holds_none = λ i. [];
-      sized = sized;
-      shares = some;
-      sound = sound_split sound;
-    }
-
 new_seat : (c : After-cut) → IsSeat c.cut.result.table_id c.cut.result.me
 new_seat c =
-    let seat = c.seat.inside.place in
     let own = c.seat.invariant in
     let P : TableId × Me (Unit {0}) View → Type 0 = λ p. IsSeat p.0 p.1 in
     subst P (λ i. (sym c.cut.ensures.at i, sym c.cut.ensures.right i))
-    (split_seat seat.table_id seat.me.0 c.args.share own.sized c.requires.some own.sound)
+    record {
+      holds_none = refl;
+      sized = own.sized;
+      shares = c.requires.some;
+      sound = record {
+        closed = own.sound.closed;
+        unique = own.sound.unique;
+        agree = own.sound.agree;
+        within = own.sound.within;
+        missed = λ word none. Contains-nil word none;
+        fills = λ reference none. Contains-nil reference none;
+      };
+    }
 
 old_seat : (c : After-cut) → IsSeat c.cut.new.seat.table_id c.cut.new.seat.me
 old_seat c =
