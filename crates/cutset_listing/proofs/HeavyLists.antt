@@ -52,7 +52,7 @@ module _ (family : List (List ℕ)) where
   in_a_list is = record {
     list = joined sizes;
     sets = joined-sets sizes family each_size;
-    ordered = joined-in_order sizes each_size is;
+    ordered = joined-in_order sizes family each_size is;
     as_many = length-joined sizes family each_size;
     as_heavy = weight-joined sizes family each_size;
   }

@@ -1,27 +1,18 @@
 -- The size of a branch, and the sizes that are found on the way to it.
-use Rattle.std.proofs.Common.{◌≡◌, ◌≢◌, ℕ, ◌+◌, ◌*◌, ◌<◌, ◌≤◌, List, [], ◌∷◌, ◌++◌, length, refl, sym, ◌∙◌}
-use Rattle.std.proofs.Common.{ap, subst}
-use Rattle.std.proofs.Common.{arith, length-append}
+use Rattle.std.proofs.Common.{◌≡◌, ◌≢◌, ℕ, ◌+◌, ◌*◌, ◌<◌, ◌≤◌, List, [], ◌∷◌, length, refl, sym, ◌∙◌}
+use Rattle.std.proofs.Common.{ap, subst, arith, length-append}
 use Rattle.std.specs.Prelude.{Result, Ok, Err, IfOk, OnOk}
 use Rattle.unit_sets.specs.{CutOrder.weight, CutOrder.weight_limit, declared.refusal.ListEnd.ListEnd}
 use Rattle.zdd_families.specs.{Family.branch, Family.each_with, Map.family}
 use Rattle.zdd_families.proofs.MapLemmas.{family-empty, family-unit}
 use Rattle.cutset_listing.specs.{FamilySizes.IsSizeOf, declared.measure.FamilySize.FamilySize}
-use Rattle.cutset_listing.proofs.Behind.{parts_weigh_less, weight-append, weight-cons}
+use Rattle.cutset_listing.proofs.Behind.{parts_weigh_less, weight-parts, weight-cons}
 
--- ---- how many sets a branch has, and what they weigh
+-- ---- how many sets a branch has
 
 length-each_with : (x : ℕ) (f : List (List ℕ)) → length (each_with x f) ≡ length f
 length-each_with x [] = refl
 length-each_with x (set ∷ f) = let rest = length-each_with x f in omega (arith, rest)
-
-weight-each_with : (x : ℕ) (f : List (List ℕ)) → weight (each_with x f) ≡ weight f + length f
-weight-each_with x [] = refl
-weight-each_with x (set ∷ f) =
-    let rest = weight-each_with x f in
-    let e = weight-cons set f in
-    let e' = weight-cons (x ∷ set) (each_with x f) in
-    omega (arith, rest, e, e')
 
 pub length-branch : (x : ℕ) (lo hi : List (List ℕ)) → length (branch x lo hi) ≡ length lo + length hi
 length-branch x [] hi = let e = length-each_with x hi in omega (arith, e)
@@ -32,25 +23,10 @@ length-branch x ((unit ∷ set) ∷ others) hi =
     let e' = length-each_with x hi in
     omega (arith, e, e')
 
-pub weight-branch : (x : ℕ) (lo hi : List (List ℕ)) → weight (branch x lo hi) ≡ weight lo + (weight hi + length hi)
-weight-branch x [] hi = let e = weight-each_with x hi in omega (arith, e)
-weight-branch x ([] ∷ others) hi =
-    let a = weight-cons [] (each_with x hi ++ others) in
-    let b = weight-append (each_with x hi) others in
-    let d = weight-each_with x hi in
-    let e = weight-cons [] others in
-    omega (arith, a, b, d, e)
-weight-branch x ((unit ∷ set) ∷ others) hi =
-    let b = weight-append (each_with x hi) ((unit ∷ set) ∷ others) in
-    let d = weight-each_with x hi in
-    omega (arith, b, d)
-
 -- each set weighs one at least
 pub light_count : (f : List (List ℕ)) → length f ≤ weight f
 light_count [] = omega arith
 light_count (set ∷ f) = let rest = light_count f in let e = weight-cons set f in omega (arith, rest, e)
-
--- ---- the sizes that were found
 
 -- ---- a node and its parts
 
@@ -72,7 +48,7 @@ pub record IsParted (known : ℕ → ℕ) (r x lo hi : ℕ) : Type 0 where
 module _ {known : ℕ → ℕ} {r x lo hi : ℕ} (parts : IsParted known r x lo hi) where
   weight_of_parts : weight (family known r) ≡ weight (family known lo) + (weight (family known hi)
       + length (family known hi))
-  weight_of_parts = ap weight parts.branch ∙ weight-branch x (family known lo) (family known hi)
+  weight_of_parts = ap weight parts.branch ∙ weight-parts x (family known lo) (family known hi)
 
   both_less : weight (family known lo) + weight (family known hi) < weight (family known r)
   both_less =

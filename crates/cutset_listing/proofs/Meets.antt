@@ -1,14 +1,14 @@
 -- The nodes that a search meets are those that the root reaches.
-use Rattle.std.proofs.Common.{◌≡◌, ◌≢◌, ℕ, zero, suc, ◌+◌, ◌<◌, ◌≤◌, true, false, List, [], ◌∷◌, ◌++◌, length, take}
-use Rattle.std.proofs.Common.{refl, sym, ◌∙◌, ap, subst, inl, inr, arith, length-append, eq-eqb}
-use Rattle.std.specs.Prelude.{◌⊎◌, ◌↔◌, ◌||◌, nat_lt, nat_eq, Contains, slice_index_or}
+use Rattle.std.proofs.Common.{◌≡◌, ◌≢◌, ℕ, zero, suc, ◌+◌, ◌<◌, ◌≤◌, List, [], ◌∷◌, ◌++◌, length, take}
+use Rattle.std.proofs.Common.{refl, sym, ◌∙◌, ap, subst, inl, inr, arith, length-append}
+use Rattle.std.specs.Prelude.{◌⊎◌, ◌↔◌, nat_eq, Contains, slice_index_or}
 use Rattle.std.specs.List.{list_any, AllByRecursion}
-use Rattle.std.proofs.lemmas.Bool.{cases_Bool, cases_lt, cond-true, cond-false, or_left, or_right, or_from, lt-ltb}
-use Rattle.std.proofs.lemmas.Bool.{le-ltb, eqb-true}
-use Rattle.std.proofs.lemmas.List.{take-append-le, take_more, get_or_append_left}
-use Rattle.std.proofs.lemmas.List.Elements.{Contains-append_left, Contains-append_right}
-use Rattle.unit_sets.proofs.Sorted.{Contains-cons_first, Contains-cons_other, Contains-cons_cases, Contains-nil}
-use Rattle.unit_sets.proofs.Sorted.{all-push}
+use Rattle.std.specs.Cmp.{nat_eq_equiv}
+use Rattle.std.proofs.lemmas.Bool.{cases_Bool, cases_lt, lt-ltb, le-ltb, eqb-true}
+use Rattle.std.proofs.lemmas.List.{take-append-le, take_all, take_more, get_or_append_left}
+use Rattle.std.proofs.lemmas.List.Elements.{Contains-append_left, Contains-append_right, Contains-get_or}
+use Rattle.std.proofs.lemmas.Map.Views.{Contains-from_any, list_any-from_Contains}
+use Rattle.unit_sets.proofs.Sorted.{Contains-cons_first, Contains-cons_other, all-push}
 use Rattle.zdd_words.specs.Reference.{IsReference}
 use Rattle.zdd_words.specs.Word.{packed, lo_of, hi_of}
 use Rattle.zdd_words.proofs.WordLemmas.{lo_of-packed, hi_of-packed}
@@ -20,29 +20,6 @@ use Rattle.cutset_listing.specs.Nodes.{with_node}
 use Rattle.cutset_listing.proofs.NodesLemmas.{IsMet, HasParts, HasMet}
 
 -- ---- one reference more
-
-among-contains : (r : ℕ) (nodes : List ℕ) → list_any (nat_eq r) nodes ≡ true → Contains nodes r
-among-contains r [] there = absurd cc
-among-contains r (node ∷ nodes) there =
-    elim (cases_Bool (nat_eq r node)) [
-      | inl same ↦ subst (λ q. Contains (node ∷ nodes) q) (sym (eqb-true r node same)) (Contains-cons_first node nodes)
-      | inr other ↦ Contains-cons_other node r nodes
-          (among-contains r nodes (ap (λ b. b || list_any (nat_eq r) nodes) (sym other) ∙ there))
-    ]
-
-contains-among : (r : ℕ) (nodes : List ℕ) → list_any (nat_eq r) nodes ≡ false → Contains nodes r → ⊥
-contains-among r [] none has = Contains-nil r has
-contains-among r (node ∷ nodes) none has =
-    elim (cases_Bool (nat_eq r node)) [
-      | inl same ↦ absurd (let e : true ≡ false = sym (or_left (nat_eq r node) (list_any (nat_eq r) nodes) same)
-          ∙ none in absurd cc)
-      | inr other ↦ elim (Contains-cons_cases node r nodes has) [
-        | inl same ↦ absurd (let e : nat_eq r node ≡ true =
-            ap (λ q. nat_eq q node) (sym same) ∙ eq-eqb node node refl in let f : true ≡ false = sym e ∙ other in
-            absurd cc)
-        | inr later ↦ contains-among r nodes (ap (λ b. b || list_any (nat_eq r) nodes) (sym other) ∙ none) later
-      ]
-    ]
 
 -- it was a terminal or among them, or stands behind them
 pub record Stays (r : ℕ) (nodes : List ℕ) : Type 0 where
@@ -57,25 +34,16 @@ pub record Comes (r : ℕ) (nodes : List ℕ) : Type 0 where
 with_node-cases : (r : ℕ) (nodes : List ℕ) → Stays r nodes ⊎ Comes r nodes
 with_node-cases r nodes =
     elim (cases_lt r 2) [
-      | inl terminal ↦ inl (record {
-        same =
-            cond-true (nat_lt r 2 || list_any (nat_eq r) nodes) nodes (nodes ++ r ∷ [])
-            (or_left (nat_lt r 2) (list_any (nat_eq r) nodes) (lt-ltb r 2 terminal));
-        known = inl terminal;
-      })
+      | inl terminal ↦ inl (record { same = rw (lt-ltb r 2 terminal) refl; known = inl terminal })
       | inr inner ↦ elim (cases_Bool (list_any (nat_eq r) nodes)) [
         | inl there ↦ inl (record {
-          same =
-              cond-true (nat_lt r 2 || list_any (nat_eq r) nodes) nodes (nodes ++ r ∷ [])
-              (or_right (nat_lt r 2) (list_any (nat_eq r) nodes) there);
-          known = inr (among-contains r nodes there);
+          same = rw (le-ltb r 2 inner, there) refl;
+          known = inr (Contains-from_any (λ x y same. eqb-true x y same) r nodes there);
         })
         | inr none ↦ inr (record {
-          behind =
-              cond-false (nat_lt r 2 || list_any (nat_eq r) nodes) nodes (nodes ++ r ∷ [])
-              (or_from (nat_lt r 2) (list_any (nat_eq r) nodes) (le-ltb r 2 inner) none);
+          behind = rw (le-ltb r 2 inner, none) refl;
           inner = inner;
-          new = contains-among r nodes none;
+          new = λ has. let e = list_any-from_Contains nat_eq_equiv r nodes has in absurd cc;
         })
       ]
     ]
@@ -185,33 +153,28 @@ module _ (known : ℕ → ℕ) (closed : IsClosed known) where
         )));
   }
 
-  at_place : (nodes : List ℕ) (place : ℕ) → place < length nodes → Contains nodes (slice_index_or nodes place 0)
-  at_place [] place short = absurd (omega (arith, short))
-  at_place (node ∷ nodes) zero short = Contains-cons_first node nodes
-  at_place (node ∷ nodes) (suc place) short =
-      Contains-cons_other node (slice_index_or nodes place 0) nodes (at_place nodes place (omega (arith, short)))
-
   module _ {root : ℕ} {nodes : List ℕ} {place r : ℕ} (met : HasMet known root nodes place)
       (short : place < length nodes) (is : r ≡ slice_index_or nodes place 0) where
     here : Reaches known root r
     here =
         each-contains (Reaches known root) nodes r met.reached
-        (subst (Contains nodes) (sym is) (at_place nodes place short))
+        (subst (Contains nodes) (sym is) (Contains-get_or nodes place 0 short))
 
     pub inner : known r ≢ 0
     inner = reached-inner here
 
-    lo_reached : 2 ≤ lo_of (known r) → Reaches known root (lo_of (known r))
-    lo_reached above = elim (lo_known {known = known} {word = known r} (closed r inner).1) [
+    part_reached : {part : ℕ} → Knows known part → (known part ≢ 0 → Reaches known r part) → 2 ≤ part
+        → Reaches known root part
+    part_reached knows reaches above = elim knows [
       | inl terminal ↦ absurd (omega (arith, above, terminal))
-      | inr lo_has ↦ reaches_then here (reaches_lo inner (reaches_itself lo_has))
+      | inr has ↦ reaches_then here (reaches has)
     ]
 
+    lo_reached : 2 ≤ lo_of (known r) → Reaches known root (lo_of (known r))
+    lo_reached = part_reached (lo_known (closed r inner).1) (λ has. reaches_lo inner (reaches_itself has))
+
     hi_reached : 2 ≤ hi_of (known r) → Reaches known root (hi_of (known r))
-    hi_reached above = elim (hi_known {known = known} {word = known r} (closed r inner).1) [
-      | inl terminal ↦ absurd (omega (arith, above, terminal))
-      | inr hi_has ↦ reaches_then here (reaches_hi inner (reaches_itself hi_has))
-    ]
+    hi_reached = part_reached (hi_known (closed r inner).1) (λ has. reaches_hi inner (reaches_itself has))
 
     -- both parts of the next node
     pub meets_parts : {lo hi : ℕ} {nodes' : List ℕ} → lo ≡ lo_of (known r) → hi ≡ hi_of (known r)
@@ -255,16 +218,10 @@ module _ (known : ℕ → ℕ) (closed : IsClosed known) where
     λ reaches. follow root q reaches met.from_root,
   )
     where
-      take_whole : (l : List ℕ) (n : ℕ) → length l ≤ n → take n l ≡ l
-      take_whole [] zero h = refl
-      take_whole [] (suc n) h = refl
-      take_whole (x ∷ l) zero h = absurd (omega (arith, h))
-      take_whole (x ∷ l) (suc n) h = ap (λ m. x ∷ m) (take_whole l n (omega (arith, h)))
-
       parts_of : (r : ℕ) → Contains nodes r → HasParts known nodes r
       parts_of r has =
           each-contains (HasParts known nodes) nodes r (subst (AllByRecursion (HasParts known nodes))
-          (take_whole nodes place all) met.parts) has
+          (take_all place nodes all) met.parts) has
 
       follow : (r p : ℕ) → Reaches known r p → IsMet known nodes r → Contains nodes p
       follow r p (reaches_itself has) is = is has

@@ -4,15 +4,18 @@ use Rattle.std.proofs.Common.{take, drop, refl, sym, ◌∙◌, ap, subst, inl, 
 use Rattle.std.specs.Prelude.{filter, ◌==◌, Contains, nat_le, sum_by}
 use Rattle.std.specs.{List.AllByRecursion, List.Sorted.IsStrictlySortedBy, Ordering.nat_cmp, Ordering.ordering_then}
 use Rattle.std.specs.{declared.cmp.Ordering.Ordering, declared.cmp.Ordering.TheVariants.Less}
-use Rattle.std.proofs.lemmas.Bool.{cases_Bool, cases_lt, cases_eq, cond-true, cond-false, ne_eqb, eqb-true}
+use Rattle.std.proofs.lemmas.Bool.{cases_Bool, cases_lt, cases_eq, ne_eqb, eqb-true}
 use Rattle.std.proofs.{lemmas.Bool.Decides.nat_tests, lemmas.Cmp.nat_cmp_total, lemmas.Cmp.tied_itself}
 use Rattle.std.proofs.{lemmas.List.append-nil, lemmas.List.Sums.sum_by-append, lemmas.List.Sums.sum_by-cons}
-use Rattle.std.proofs.lemmas.List.Elements.{Contains-append_cases, Contains-append_left, Contains-append_right}
+use Rattle.std.proofs.lemmas.List.{Kept.IsStrictlySortedBy-filter, Elements.All-contains, Elements.All-filter}
+use Rattle.std.proofs.lemmas.List.Elements.{All-from_recursion, filter_passes, Contains-append_cases}
+use Rattle.std.proofs.lemmas.List.Elements.{Contains-append_left, Contains-append_right}
 use Rattle.unit_sets.specs.CutOrder.{cut_cmp, IsInCutOrder, weight}
 use Rattle.unit_sets.specs.UnitList.{IsRising}
 use Rattle.unit_sets.proofs.Sorted.{Contains-cons_first, Contains-cons_other, Contains-cons_cases, Contains-nil}
 use Rattle.zdd_families.specs.Family.{IsFamily, set_cmp}
-use Rattle.zdd_families.proofs.Lists.{each-append, each-weaker, sorted-append, filter-all}
+use Rattle.zdd_families.proofs.{CutsLemmas.each-contains, CutsLemmas.each-from_contains}
+use Rattle.zdd_families.proofs.Lists.{each-weaker, sorted-append, filter-all}
 use Rattle.cutset_listing.specs.BySize.{of_size, at_size, joined}
 use Rattle.cutset_listing.specs.Listing.{HasSetsOf, LacksEmptySet}
 use Rattle.cutset_listing.proofs.{Behind.weight-append, Walks.each-front}
@@ -21,82 +24,36 @@ each-back : {K : Type 0} (P : K → Type 0) (xs ys : List K) → AllByRecursion 
 each-back P [] ys all = all
 each-back P (x ∷ xs) ys all = each-back P xs ys all.1
 
-each-filter : {K : Type 0} (P : K → Type 0) (test : K → Bool) (xs : List K) → AllByRecursion P xs
-    → AllByRecursion P (filter test xs)
-each-filter P test [] all = tt
-each-filter P test (x ∷ xs) all =
-    elim (cases_Bool (test x)) [
-      | inl kept ↦ subst (AllByRecursion P) (sym (cond-true (test x) (x ∷ filter test xs) (filter test xs) kept))
-          (all.0, each-filter P test xs all.1)
-      | inr left ↦ subst (AllByRecursion P) (sym (cond-false (test x) (x ∷ filter test xs) (filter test xs) left))
-          (each-filter P test xs all.1)
-    ]
-
-each-has : {K : Type 0} (P : K → Type 0) (xs : List K) → ((x : K) → Contains xs x → P x) → AllByRecursion P xs
-each-has P [] all = tt
-each-has P (x ∷ xs) all =
-    (all x (Contains-cons_first x xs), each-has P xs (λ y h. all y (Contains-cons_other x y xs h)))
-
 sorted-front : {K : Type 0} (R : K → K → Ordering) (xs ys : List K) → IsStrictlySortedBy R (xs ++ ys)
     → IsStrictlySortedBy R xs
 unfolding IsStrictlySortedBy
 sorted-front R [] ys sorted = tt
 sorted-front R (x ∷ xs) ys sorted = (each-front (λ y. R x y ≡ Less) xs ys sorted.0, sorted-front R xs ys sorted.1)
 
-sorted-filter : {K : Type 0} (R : K → K → Ordering) (test : K → Bool) (xs : List K) → IsStrictlySortedBy R xs
-    → IsStrictlySortedBy R (filter test xs)
-unfolding IsStrictlySortedBy
-sorted-filter R test [] sorted = tt
-sorted-filter R test (x ∷ xs) sorted =
-    elim (cases_Bool (test x)) [
-      | inl kept ↦ subst (IsStrictlySortedBy R) (sym (cond-true (test x) (x ∷ filter test xs) (filter test xs) kept))
-          (each-filter (λ y. R x y ≡ Less) test xs sorted.0, sorted-filter R test xs sorted.1)
-      | inr left ↦ subst (IsStrictlySortedBy R) (sym (cond-false (test x) (x ∷ filter test xs) (filter test xs) left))
-          (sorted-filter R test xs sorted.1)
-    ]
-
 -- ---- the sets of one size
 
 Contains-of_size : (size : ℕ) (f : List (List ℕ)) (set : List ℕ) → Contains (of_size size f) set
     → Contains f set × (length set ≡ size)
-Contains-of_size size [] set has = Contains-nil set has
-Contains-of_size size (first ∷ f) set has =
-    elim (cases_Bool (length first == size)) [
-      | inl so_long ↦ elim (Contains-cons_cases first set (of_size size f)
-          (subst (λ q. Contains q set) (cond-true (length first == size) (first ∷ of_size size f) (of_size size f)
-          so_long) has)) [
-            | inl same ↦ (
-              subst (λ q. Contains (first ∷ f) q) same (Contains-cons_first first f),
-              ap length (sym same) ∙ eqb-true (length first) size so_long,
-            )
-            | inr later ↦ let of = Contains-of_size size f set later in (Contains-cons_other first set f of.0, of.1)
-          ]
-      | inr other ↦
-          let of =
-          Contains-of_size size f set (subst (λ q. Contains q set)
-          (cond-false (length first == size) (first ∷ of_size size f) (of_size size f) other) has) in
-          (Contains-cons_other first set f of.0, of.1)
-    ]
+Contains-of_size size f set has =
+    let test : List ℕ → Bool = λ set. length set == size in (
+      All-contains (Contains f) (of_size size f) set (All-filter test (Contains f) f
+          (All-from_recursion (Contains f) f (each-from_contains (Contains f) f (λ x h. h)))) has,
+      eqb-true (length set) size (All-contains (λ s. test s ≡ true) (of_size size f) set (filter_passes test f) has),
+    )
 
 of_size-Contains : (f : List (List ℕ)) (set : List ℕ) → Contains f set → Contains (of_size (length set) f) set
 of_size-Contains [] set has = Contains-nil set has
 of_size-Contains (first ∷ f) set has =
     elim (cases_Bool (length first == length set)) [
-      | inl so_long ↦ subst (λ q. Contains q set) (sym
-          (cond-true (length first == length set) (first ∷ of_size (length set) f) (of_size (length set) f) so_long))
-          (elim (Contains-cons_cases first set f has) [
-            | inl same ↦ subst (λ q. Contains (first ∷ of_size (length set) f) q) same
-                (Contains-cons_first first (of_size (length set) f))
-            | inr later ↦ Contains-cons_other first set (of_size (length set) f) (of_size-Contains f set later)
-          ])
-      | inr other ↦ subst (λ q. Contains q set) (sym
-          (cond-false (length first == length set) (first ∷ of_size (length set) f) (of_size (length set) f) other))
-          (elim (Contains-cons_cases first set f has) [
-            | inl same ↦ absurd (let e : (length set == length set) ≡ false =
-                ap (λ (s : List ℕ). length s == length set) (sym same) ∙ other in
-                let e' : (length set == length set) ≡ true = eq-eqb (length set) (length set) refl in absurd cc)
-            | inr later ↦ of_size-Contains f set later
-          ])
+      | inl so_long ↦ rw so_long (elim (Contains-cons_cases first set f has) [
+        | inl same ↦ subst (λ q. Contains (first ∷ of_size (length set) f) q) same
+            (Contains-cons_first first (of_size (length set) f))
+        | inr later ↦ Contains-cons_other first set (of_size (length set) f) (of_size-Contains f set later)
+      ])
+      | inr other ↦ rw other (elim (Contains-cons_cases first set f has) [
+        | inl same ↦ let e = eq-eqb (length first) (length set) (ap length same) in absurd cc
+        | inr later ↦ of_size-Contains f set later
+      ])
     ]
 
 -- ---- the lists from a size on
@@ -113,14 +70,9 @@ splits_first : (from : ℕ) (list : List (List ℕ)) (lists : List (List (List �
     → Splits from (list ∷ lists) f → list ≡ of_size from f
 splits_first from list lists f splits = splits 0 ∙ ap (λ n. of_size n f) (omega arith)
 
-joined-each : (P : List ℕ → Type 0) (from : ℕ) (lists : List (List (List ℕ))) (f : List (List ℕ)) → Splits from lists f
-    → AllByRecursion P f → AllByRecursion P (joined lists)
-joined-each P from [] f splits all = tt
-joined-each P from (list ∷ lists) f splits all =
-    each-append P list (joined lists)
-    (subst (AllByRecursion P) (sym (splits_first from list lists f splits))
-    (each-filter P (λ set. length set == from) f all))
-    (joined-each P (suc from) lists f (splits_rest from list lists f splits) all)
+splits_all : (lists : List (List (List ℕ))) (f : List (List ℕ)) → ((size : ℕ) → at_size lists size ≡ of_size size f)
+    → Splits 0 lists f
+splits_all lists f splits k = splits k ∙ ap (λ n. of_size n f) (omega arith)
 
 joined-has : (from : ℕ) (lists : List (List (List ℕ))) (f : List (List ℕ)) (set : List ℕ) → Splits from lists f
     → Contains (joined lists) set → Contains f set × (from ≤ length set)
@@ -141,14 +93,6 @@ has-joined : (lists : List (List (List ℕ))) (k : ℕ) (set : List ℕ) → Con
 has-joined [] k set has = Contains-nil set has
 has-joined (list ∷ lists) zero set has = Contains-append_left list (joined lists) set has
 has-joined (list ∷ lists) (suc k) set has = Contains-append_right list (joined lists) set (has-joined lists k set has)
-
-pub joined-sets : (lists : List (List (List ℕ))) (f : List (List ℕ))
-    → ((size : ℕ) → at_size lists size ≡ of_size size f) → HasSetsOf f (joined lists)
-joined-sets lists f splits set = (
-  λ has. (joined-has 0 lists f set (λ k. splits k ∙ ap (λ n. of_size n f) (omega arith)) has).0,
-  λ has. has-joined lists (length set) set (subst (λ q. Contains q set) (sym (splits (length set)))
-      (of_size-Contains f set has)),
-)
 
 -- ---- the order
 
@@ -182,39 +126,18 @@ joined-ordered from [] f splits sorted = tt
 joined-ordered from (list ∷ lists) f splits sorted =
     let first : list ≡ of_size from f = splits_first from list lists f splits in
     let long : AllByRecursion (λ (set : List ℕ). length set ≡ from) list =
-    each-has (λ (set : List ℕ). length set ≡ from) list
+    each-from_contains (λ (set : List ℕ). length set ≡ from) list
     (λ set has. (Contains-of_size from f set (subst (λ q. Contains q set) first has)).1) in
     let longer : AllByRecursion (λ (set : List ℕ). suc from ≤ length set) (joined lists) =
-    each-has (λ (set : List ℕ). suc from ≤ length set) (joined lists)
+    each-from_contains (λ (set : List ℕ). suc from ≤ length set) (joined lists)
     (λ set has. (joined-has (suc from) lists f set (splits_rest from list lists f splits) has).1) in
     sorted-append cut_cmp list (joined lists)
     (one_size_ordered from list long (subst (IsStrictlySortedBy set_cmp) (sym first)
-    (sorted-filter set_cmp (λ set. length set == from) f sorted)))
+    (IsStrictlySortedBy-filter set_cmp (λ set. length set == from) f sorted)))
     (joined-ordered (suc from) lists f (splits_rest from list lists f splits) sorted)
     (each-weaker (λ (a : List ℕ). length a ≡ from) (λ a. AllByRecursion (λ b. cut_cmp a b ≡ Less) (joined lists)) list
     (λ a same. each-weaker (λ (b : List ℕ). suc from ≤ length b) (λ b. cut_cmp a b ≡ Less) (joined lists)
     (λ b more. smaller_first a b (omega (arith, same, more))) longer) long)
-
-pub joined-in_order : (lists : List (List (List ℕ))) {f : List (List ℕ)}
-    → ((size : ℕ) → at_size lists size ≡ of_size size f) → IsFamily f → IsInCutOrder (joined lists)
-joined-in_order lists {f} splits is =
-    joined-ordered 0 lists f (λ k. splits k ∙ ap (λ n. of_size n f) (omega arith)) is.ordered
-
-pub joined-rising : (lists : List (List (List ℕ))) {f : List (List ℕ)}
-    → ((size : ℕ) → at_size lists size ≡ of_size size f) → IsFamily f → AllByRecursion IsRising (joined lists)
-joined-rising lists {f} splits is =
-    joined-each IsRising 0 lists f (λ k. splits k ∙ ap (λ n. of_size n f) (omega arith)) is.rising
-
-filled_set : (f : List (List ℕ)) → LacksEmptySet f → (set : List ℕ) → Contains f set → 0 < length set
-filled_set f lacks [] has = absurd (lacks has)
-filled_set f lacks (unit ∷ set) has = omega arith
-
-pub joined-filled : (lists : List (List (List ℕ))) (f : List (List ℕ))
-    → ((size : ℕ) → at_size lists size ≡ of_size size f) → LacksEmptySet f
-    → AllByRecursion (λ (set : List ℕ). 0 < length set) (joined lists)
-joined-filled lists f splits lacks =
-    each-has (λ (set : List ℕ). 0 < length set) (joined lists)
-    (λ set has. filled_set f lacks set ((joined-sets lists f splits set).0 has))
 
 -- ---- what the sets come to, by a number for each set
 
@@ -228,17 +151,12 @@ no_sets from [] none = refl
 no_sets from (set ∷ f) none =
     elim (cases_lt (length set) from) [
       | inl short ↦
-          cond-false (nat_le from (length set)) (set ∷ from_size from f) (from_size from f)
-          (grind (arith, nat_tests, short))
-          ∙ no_sets from f (λ k. sym (cond-false (length set == (from + k)) (set ∷ of_size (from + k) f)
-          (of_size (from + k) f) (ne_eqb (length set) (from + k) (λ s. omega (arith, s, short)))) ∙ none k)
+          let a : nat_le from (length set) ≡ false = grind (arith, nat_tests, short) in
+          rw a (no_sets from f (λ k. rw (ne_eqb (length set) (from + k) (λ s. omega (arith, s, short))) at (none k)))
       | inr long ↦
-          let k : ℕ = length set - from in
-          let so_long : length set ≡ from + k = omega (arith, long) in
-          let there : of_size (from + k) (set ∷ f) ≡ set ∷ of_size (from + k) f =
-          cond-true (length set == (from + k)) (set ∷ of_size (from + k) f) (of_size (from + k) f)
-          (ap (λ n. length set == n) (sym so_long) ∙ eq-eqb (length set) (length set) refl) in
-          absurd (let e = sym there ∙ none k in absurd cc)
+          let so_long : length set ≡ from + (length set - from) = omega (arith, long) in
+          absurd (let e = rw (eq-eqb (length set) (from + (length set - from)) so_long) at (none (length set - from)) in
+          absurd cc)
     ]
 
 module _ (each : List ℕ → ℕ) where
@@ -258,43 +176,23 @@ module _ (each : List ℕ → ℕ) where
   total-from from (set ∷ f) =
       let rest = total-from from f in
       let e = total-cons set (from_size from f) in
-      let e' = total-cons set (of_size from f) in
-      let e'' = total-cons set (from_size (suc from) f) in
       elim (cases_lt (length set) from) [
         | inl short ↦
-            let a : from_size from (set ∷ f) ≡ from_size from f =
-            cond-false (nat_le from (length set)) (set ∷ from_size from f) (from_size from f)
-            (grind (arith, nat_tests, short)) in
-            let b : of_size from (set ∷ f) ≡ of_size from f =
-            cond-false (length set == from) (set ∷ of_size from f) (of_size from f)
-            (ne_eqb (length set) from (λ s. omega (arith, s, short))) in
-            let d : from_size (suc from) (set ∷ f) ≡ from_size (suc from) f =
-            cond-false (nat_le (suc from) (length set)) (set ∷ from_size (suc from) f) (from_size (suc from) f)
-            (grind (arith, nat_tests, short)) in
-            let a' = ap total a in let b' = ap total b in let d' = ap total d in omega (arith, rest, a', b', d')
+            let a : nat_le from (length set) ≡ false = grind (arith, nat_tests, short) in
+            let d : nat_le (suc from) (length set) ≡ false = grind (arith, nat_tests, short) in
+            rw (a, ne_eqb (length set) from (λ s. omega (arith, s, short)), d) rest
         | inr long ↦
-            let a : from_size from (set ∷ f) ≡ set ∷ from_size from f =
-            cond-true (nat_le from (length set)) (set ∷ from_size from f) (from_size from f)
-            (grind (arith, nat_tests, long)) in
-            let a' = ap total a in
+            let a : nat_le from (length set) ≡ true = grind (arith, nat_tests, long) in
             elim (cases_eq (length set) from) [
               | inl same ↦
-                  let b : of_size from (set ∷ f) ≡ set ∷ of_size from f =
-                  cond-true (length set == from) (set ∷ of_size from f) (of_size from f)
-                  (eq-eqb (length set) from same) in
-                  let d : from_size (suc from) (set ∷ f) ≡ from_size (suc from) f =
-                  cond-false (nat_le (suc from) (length set)) (set ∷ from_size (suc from) f) (from_size (suc from) f)
-                  (grind (arith, nat_tests, same)) in
-                  let b' = ap total b in let d' = ap total d in omega (arith, rest, a', b', d', e, e')
+                  let d : nat_le (suc from) (length set) ≡ false = grind (arith, nat_tests, same) in
+                  rw (a, eq-eqb (length set) from same, d)
+                  (omega (arith, rest, e, total-cons set (of_size from f)))
               | inr other ↦
-                  let b : of_size from (set ∷ f) ≡ of_size from f =
-                  cond-false (length set == from) (set ∷ of_size from f) (of_size from f)
-                  (ne_eqb (length set) from other) in
                   let more : suc from ≤ length set = omega (arith, long, other) in
-                  let d : from_size (suc from) (set ∷ f) ≡ set ∷ from_size (suc from) f =
-                  cond-true (nat_le (suc from) (length set)) (set ∷ from_size (suc from) f) (from_size (suc from) f)
-                  (grind (arith, nat_tests, more)) in
-                  let b' = ap total b in let d' = ap total d in omega (arith, rest, a', b', d', e, e'')
+                  let d : nat_le (suc from) (length set) ≡ true = grind (arith, nat_tests, more) in
+                  rw (a, ne_eqb (length set) from other, d)
+                  (omega (arith, rest, e, total-cons set (from_size (suc from) f)))
             ]
       ]
 
@@ -308,27 +206,50 @@ module _ (each : List ℕ → ℕ) where
       let e = total-from from f in
       omega (arith, a, b, d, e)
 
-  pub total-joined : (lists : List (List (List ℕ))) (f : List (List ℕ))
-      → ((size : ℕ) → at_size lists size ≡ of_size size f) → sum_by each (joined lists) ≡ sum_by each f
-  total-joined lists f splits =
-      total-splits 0 lists f (λ k. splits k ∙ ap (λ n. of_size n f) (omega arith))
-      ∙ ap total (filter-all (λ (set : List ℕ). nat_le 0 (length set)) f
-      (each-has (λ (set : List ℕ). nat_le 0 (length set) ≡ true) f (λ set has. grind (arith, nat_tests))))
-
-pub weight-joined : (lists : List (List (List ℕ))) (f : List (List ℕ))
-    → ((size : ℕ) → at_size lists size ≡ of_size size f) → weight (joined lists) ≡ weight f
-weight-joined lists f splits = total-joined (λ set. 1 + length set) lists f splits
-
 -- a list has as many elements as ones
 length-ones : (f : List (List ℕ)) → length f ≡ sum_by (λ (set : List ℕ). 1) f
 length-ones [] = refl
 length-ones (set ∷ f) =
     let rest = length-ones f in let e = sum_by-cons (λ (s : List ℕ). 1) set f in omega (arith, rest, e)
 
-pub length-joined : (lists : List (List (List ℕ))) (f : List (List ℕ))
-    → ((size : ℕ) → at_size lists size ≡ of_size size f) → length (joined lists) ≡ length f
-length-joined lists f splits =
-    length-ones (joined lists) ∙ total-joined (λ set. 1) lists f splits ∙ sym (length-ones f)
+filled_set : (f : List (List ℕ)) → LacksEmptySet f → (set : List ℕ) → Contains f set → 0 < length set
+filled_set f lacks [] has = absurd (lacks has)
+filled_set f lacks (unit ∷ set) has = omega arith
+
+-- ---- where the lists have the sets of each size
+
+module _ (lists : List (List (List ℕ))) (f : List (List ℕ)) (splits : (size : ℕ) → at_size lists size ≡ of_size size f)
+  where
+    pub joined-sets : HasSetsOf f (joined lists)
+    joined-sets set = (
+      λ has. (joined-has 0 lists f set (splits_all lists f splits) has).0,
+      λ has. has-joined lists (length set) set (subst (λ q. Contains q set) (sym (splits (length set)))
+          (of_size-Contains f set has)),
+    )
+
+    joined-each : (P : List ℕ → Type 0) → ((set : List ℕ) → Contains f set → P set) → AllByRecursion P (joined lists)
+    joined-each P each = each-from_contains P (joined lists) (λ set has. each set ((joined-sets set).0 has))
+
+    pub joined-in_order : IsFamily f → IsInCutOrder (joined lists)
+    joined-in_order is = joined-ordered 0 lists f (splits_all lists f splits) is.ordered
+
+    pub joined-rising : IsFamily f → AllByRecursion IsRising (joined lists)
+    joined-rising is = joined-each IsRising (λ set has. each-contains IsRising f set is.rising has)
+
+    pub joined-filled : LacksEmptySet f → AllByRecursion (λ (set : List ℕ). 0 < length set) (joined lists)
+    joined-filled lacks = joined-each (λ set. 0 < length set) (filled_set f lacks)
+
+    total-joined : (each : List ℕ → ℕ) → sum_by each (joined lists) ≡ sum_by each f
+    total-joined each =
+        total-splits each 0 lists f (splits_all lists f splits)
+        ∙ ap (sum_by each) (filter-all (λ (set : List ℕ). nat_le 0 (length set)) f
+        (each-from_contains (λ set. nat_le 0 (length set) ≡ true) f (λ set has. grind (arith, nat_tests))))
+
+    pub weight-joined : weight (joined lists) ≡ weight f
+    weight-joined = total-joined (λ set. 1 + length set)
+
+    pub length-joined : length (joined lists) ≡ length f
+    length-joined = length-ones (joined lists) ∙ total-joined (λ set. 1) ∙ sym (length-ones f)
 
 -- ---- lists put one after the other
 
@@ -358,31 +279,22 @@ pub part-each : (P : List ℕ → Type 0) (lists : List (List (List ℕ))) (k : 
 part-each P lists k short is all = subst (AllByRecursion P) (sym is) (part_each P lists k short all)
 
 -- the lists up to a place, with the one that stands there
-with_next : (lists : List (List (List ℕ))) (k : ℕ) (cuts : List (List ℕ)) {sets : List (List ℕ)} → k < length lists
-    → cuts ≡ joined (take k lists) → sets ≡ at_size lists k → cuts ++ sets ≡ joined (take (suc k) lists)
-with_next lists k cuts {sets} short same is =
-    ap (λ q. q ++ sets) same ∙ ap (λ q. joined (take k lists) ++ q) is ∙ sym (joined-next lists k short)
+module _ (lists : List (List (List ℕ))) (k : ℕ) (cuts : List (List ℕ)) {sets : List (List ℕ)}
+    (short : k < length lists) (same : cuts ≡ joined (take k lists)) (is : sets ≡ at_size lists k) where
+  with_next : cuts ++ sets ≡ joined (take (suc k) lists)
+  with_next = rw (same, is) (sym (joined-next lists k short))
 
-pub part-next : (lists : List (List (List ℕ))) (k : ℕ) (cuts : List (List ℕ)) {cuts' sets : List (List ℕ)}
-    → k < length lists
-    → cuts ≡ joined (take k lists) → sets ≡ at_size lists k → cuts' ≡ cuts ++ sets → cuts' ≡ joined (take (k + 1) lists)
-part-next lists k cuts short same is added =
-    added ∙ with_next lists k cuts short same is
-    ∙ ap (λ n. joined (take n lists)) (let e : suc k ≡ k + 1 = omega arith in e)
+  pub part-next : {cuts' : List (List ℕ)} → cuts' ≡ cuts ++ sets → cuts' ≡ joined (take (k + 1) lists)
+  part-next added = added ∙ with_next ∙ ap (λ n. joined (take n lists)) (let e : suc k ≡ k + 1 = omega arith in e)
 
-pub part-ordered : (lists : List (List (List ℕ))) (k : ℕ) (cuts : List (List ℕ)) {sets : List (List ℕ)}
-    → k < length lists
-    → cuts ≡ joined (take k lists) → sets ≡ at_size lists k → IsInCutOrder (joined lists) → IsInCutOrder (cuts ++ sets)
-part-ordered lists k cuts short same is ordered =
-    subst IsInCutOrder (sym (with_next lists k cuts short same is))
-    (sorted-front cut_cmp (joined (take (suc k) lists)) (joined (drop (suc k) lists))
-    (subst IsInCutOrder (joined-front lists (suc k)) ordered))
+  pub part-ordered : IsInCutOrder (joined lists) → IsInCutOrder (cuts ++ sets)
+  part-ordered ordered =
+      subst IsInCutOrder (sym with_next) (sorted-front cut_cmp (joined (take (suc k) lists))
+      (joined (drop (suc k) lists)) (subst IsInCutOrder (joined-front lists (suc k)) ordered))
 
-pub part-weight : (lists : List (List (List ℕ))) (k : ℕ) (cuts : List (List ℕ)) {sets : List (List ℕ)}
-    → k < length lists
-    → cuts ≡ joined (take k lists) → sets ≡ at_size lists k → weight (cuts ++ sets) ≤ weight (joined lists)
-part-weight lists k cuts short same is =
-    let a = ap weight (with_next lists k cuts short same is) in
-    let b = ap weight (joined-front lists (suc k)) in
-    let d = weight-append (joined (take (suc k) lists)) (joined (drop (suc k) lists)) in
-    omega (arith, a, b, d)
+  pub part-weight : weight (cuts ++ sets) ≤ weight (joined lists)
+  part-weight =
+      let a = ap weight with_next in
+      let b = ap weight (joined-front lists (suc k)) in
+      let d = weight-append (joined (take (suc k) lists)) (joined (drop (suc k) lists)) in
+      omega (arith, a, b, d)

@@ -3,11 +3,12 @@ use Rattle.std.proofs.Common.{◌≡◌, ◌≢◌, ℕ, ◌+◌, ◌*◌, ◌<�
 use Rattle.std.proofs.Common.{ap, subst, inl, inr, arith, append_assoc, length-append}
 use Rattle.std.specs.Prelude.{◌==◌, ◌⊎◌, Err, IsErrOf}
 use Rattle.std.specs.List.{AllByRecursion}
-use Rattle.std.proofs.lemmas.Bool.{cases_Bool, cond-true, cond-false, eqb-true}
+use Rattle.std.proofs.lemmas.Bool.{cases_Bool, eqb-true}
 use Rattle.std.proofs.{Math.Seq.take-length, lemmas.List.Elements.filter-append}
 use Rattle.std.proofs.lemmas.List.{append-nil, take-take, take-append-le, length-take-le}
 use Rattle.unit_sets.specs.CutOrder.{weight, weight_limit}
 use Rattle.zdd_families.specs.{Family.branch, Map.Knows, Map.family}
+use Rattle.zdd_families.proofs.{CutsLemmas.each-contains, CutsLemmas.each-from_contains, Lists.each-weaker}
 use Rattle.zdd_families.proofs.MapLemmas.{family-empty, family-unit}
 use Rattle.cutset_listing.specs.{declared.walk.Pending.Pending, declared.walk.Walk.Walk, BySize.of_size, BySize.at_size}
 use Rattle.cutset_listing.specs.Visits.{behind, still, IsPending, Nested, IsOn, Keeps, Stands, visits_left}
@@ -25,6 +26,13 @@ still-push known path (node ∷ nodes) last =
     ap (λ q. q ++ behind (take node.before path) (family known node.node)) (still-push known path nodes last)
     ∙ append_assoc (behind (take last.before path) (family known last.node)) (still known path nodes)
     (behind (take node.before path) (family known node.node))
+
+still-none : (known : ℕ → ℕ) (path : List ℕ) (nodes : List Pending) (none : Pending) → none.node ≡ 0
+    → still known path (nodes ++ none ∷ []) ≡ still known path nodes
+still-none known path nodes none is =
+    still-push known path nodes none
+    ∙ ap (λ (q : List (List ℕ)). behind (take none.before path) q ++ still known path nodes)
+    (ap (family known) is ∙ family-empty known)
 
 -- the path counts up to where the nodes stand
 pub still-path : (known : ℕ → ℕ) (path path' : List ℕ) (nodes : List Pending)
@@ -53,29 +61,28 @@ each-push : {K : Type 0} (P : K → Type 0) (xs : List K) (x : K) → AllByRecur
 each-push P [] x all one = (one, tt)
 each-push P (y ∷ xs) x all one = (all.0, each-push P xs x all.1 one)
 
-each-also : {K : Type 0} (P Q R : K → Type 0) (xs : List K) → ((x : K) → P x → Q x → R x) → AllByRecursion P xs
-    → AllByRecursion Q xs → AllByRecursion R xs
-each-also P Q R [] step all also = tt
-each-also P Q R (x ∷ xs) step all also = (step x all.0 also.0, each-also P Q R xs step all.1 also.1)
+-- a node stands no further down the path
+abbrev Before : ℕ → Pending → Type 0
+Before place node = node.before ≤ place
 
 nested-front : (nodes : List Pending) (last : Pending) → Nested (nodes ++ last ∷ []) → Nested nodes
 nested-front [] last nested = tt
 nested-front (node ∷ nodes) last nested = (
-  each-front (λ (other : Pending). node.before ≤ other.before) nodes (last ∷ []) nested.0,
+  each-front (λ other. node.before ≤ other.before) nodes (last ∷ []) nested.0,
   nested-front nodes last nested.1,
 )
 
 nested-below : (nodes : List Pending) (last : Pending) → Nested (nodes ++ last ∷ [])
-    → AllByRecursion (λ (node : Pending). node.before ≤ last.before) nodes
+    → AllByRecursion (Before last.before) nodes
 nested-below [] last nested = tt
 nested-below (node ∷ nodes) last nested =
-    (each-last (λ (other : Pending). node.before ≤ other.before) nodes last nested.0, nested-below nodes last nested.1)
+    (each-last (λ other. node.before ≤ other.before) nodes last nested.0, nested-below nodes last nested.1)
 
 nested-push : (nodes : List Pending) (last : Pending) → Nested nodes
-    → AllByRecursion (λ (node : Pending). node.before ≤ last.before) nodes → Nested (nodes ++ last ∷ [])
+    → AllByRecursion (Before last.before) nodes → Nested (nodes ++ last ∷ [])
 nested-push [] last nested below = (tt, tt)
 nested-push (node ∷ nodes) last nested below = (
-  each-push (λ (other : Pending). node.before ≤ other.before) nodes last nested.0 below.0,
+  each-push (λ other. node.before ≤ other.before) nodes last nested.0 below.0,
   nested-push nodes last nested.1 below.1,
 )
 
@@ -95,9 +102,21 @@ starts known root knows e f g h =
       weight = let same = ap weight (behind-nothing (family known root)) in omega (arith, same);
     })
 
-module _ (known : ℕ → ℕ) {sets : List (List ℕ)} (path : List ℕ) (later : List Pending) (at : Pending)
-    (found : List (List (List ℕ))) (weighs : ℕ) (on : IsOn known sets path (later ++ at ∷ []) found weighs) where
-  below : AllByRecursion (λ (node : Pending). node.before ≤ at.before) later
+-- nodes that leave the same to be found
+same_still : {known : ℕ → ℕ} {sets : List (List ℕ)} {path path' : List ℕ} {nodes nodes' : List Pending}
+    {found : List (List (List ℕ))} {weighs : ℕ} → IsOn known sets path nodes found weighs
+    → AllByRecursion (IsPending known path') nodes' → Nested nodes' → still known path' nodes' ≡ still known path nodes
+    → IsOn known sets path' nodes' found weighs
+same_still {found} {weighs} on each nested same = record {
+  each_pending = each;
+  nested = nested;
+  by_size = λ size. ap (λ q. at_size found size ++ of_size size q) same ∙ on.by_size size;
+  weight = ap (λ q. weighs + weight q) same ∙ on.weight;
+}
+
+module _ {known : ℕ → ℕ} {sets : List (List ℕ)} {path : List ℕ} (later : List Pending) (at : Pending)
+    {found : List (List (List ℕ))} {weighs : ℕ} (on : IsOn known sets path (later ++ at ∷ []) found weighs) where
+  below : AllByRecursion (Before at.before) later
   below = nested-below later at on.nested
 
   at_pending : IsPending known path at
@@ -110,35 +129,20 @@ module _ (known : ℕ → ℕ) {sets : List (List ℕ)} (path : List ℕ) (later
   pub truncated : IsOn known sets (take at.before path) (later ++ at ∷ []) found weighs
   truncated =
       let short : length (take at.before path) ≡ at.before = length-take-le at.before path at_pending.1 in
-      let upto : AllByRecursion (λ (node : Pending). node.before ≤ at.before) (later ++ at ∷ []) =
-      each-push (λ (node : Pending). node.before ≤ at.before) later at below (omega arith) in
-      let same : still known (take at.before path) (later ++ at ∷ []) ≡ still known path (later ++ at ∷ []) =
-      still-path known (take at.before path) path (later ++ at ∷ [])
-      (each-also (λ (node : Pending). node.before ≤ at.before) (λ (node : Pending). node.before ≤ at.before)
+      let upto : AllByRecursion (Before at.before) (later ++ at ∷ []) =
+      each-push (Before at.before) later at below (omega arith) in
+      same_still on
+      (each-from_contains (IsPending known (take at.before path)) (later ++ at ∷ []) (λ node has.
+      let h : node.before ≤ at.before = each-contains (Before at.before) (later ++ at ∷ []) node upto has in
+      ((each-contains (IsPending known path) (later ++ at ∷ []) node on.each_pending has).0, omega (arith, short, h))))
+      on.nested
+      (still-path known (take at.before path) path (later ++ at ∷ []) (each-weaker (Before at.before)
       (λ (node : Pending). take node.before (take at.before path) ≡ take node.before path) (later ++ at ∷ [])
-      (λ node h _. take-take node.before at.before path h) upto upto) in
-      record {
-        each_pending =
-            each-also (IsPending known path) (λ (node : Pending). node.before ≤ at.before)
-            (IsPending known (take at.before path)) (later ++ at ∷ [])
-            (λ node is h. (is.0, omega (arith, short, h))) on.each_pending upto;
-        nested = on.nested;
-        by_size = λ size. ap (λ q. at_size found size ++ of_size size q) same ∙ on.by_size size;
-        weight = ap (λ q. weighs + weight q) same ∙ on.weight;
-      }
+      (λ node h. take-take node.before at.before path h) upto))
 
   -- the family without sets has none
   pub skips : at.node ≡ 0 → IsOn known sets path later found weighs
-  skips none =
-      let same : still known path (later ++ at ∷ []) ≡ still known path later =
-      still-push known path later at ∙ ap (λ (q : List (List ℕ)). behind (take at.before path) q
-      ++ still known path later) (ap (family known) none ∙ family-empty known) in
-      record {
-        each_pending = each_later;
-        nested = nested-front later at on.nested;
-        by_size = λ size. ap (λ q. at_size found size ++ of_size size q) (sym same) ∙ on.by_size size;
-        weight = ap (λ q. weighs + weight q) (sym same) ∙ on.weight;
-      }
+  skips none = same_still on each_later (nested-front later at on.nested) (sym (still-none known path later at none))
 
   module _ (at_end : length path ≡ at.before) where
     whole : take at.before path ≡ path
@@ -194,9 +198,8 @@ module _ (known : ℕ → ℕ) {sets : List (List ℕ)} (path : List ℕ) (later
         let all : take (at.before + 1) on_path ≡ on_path = ap (λ n. take n on_path) (sym long) ∙ take-length on_path in
         let same_later : still known on_path later ≡ still known path later =
         still-path known on_path path later
-        (each-also (λ (node : Pending). node.before ≤ at.before) (λ (node : Pending). node.before ≤ at.before)
-        (λ (node : Pending). take node.before on_path ≡ take node.before path) later
-        (λ node h _. sym (take-take node.before at.before on_path h) ∙ ap (take node.before) front) below below) in
+        (each-weaker (Before at.before) (λ (node : Pending). take node.before on_path ≡ take node.before path) later
+        (λ node h. sym (take-take node.before at.before on_path h) ∙ ap (take node.before) front) below) in
         let H : List (List ℕ) = behind on_path (family known hi) in
         let L : List (List ℕ) = behind path (family known lo) in
         let R : List (List ℕ) = still known path later in
@@ -230,16 +233,15 @@ module _ (known : ℕ → ℕ) {sets : List (List ℕ)} (path : List ℕ) (later
           each_pending =
               each-push (IsPending known on_path) (later ++ lo_at ∷ []) hi_at
               (each-push (IsPending known on_path) later lo_at
-              (each-also (IsPending known path) (IsPending known path) (IsPending known on_path) later
-              (λ node is _. (is.0, omega (arith, is.1, long, at_end))) each_later each_later)
+              (each-weaker (IsPending known path) (IsPending known on_path) later
+              (λ node is. (is.0, omega (arith, is.1, long, at_end))) each_later)
               (knows_lo, omega (arith, long)))
               (knows_hi, omega (arith, long));
           nested =
               nested-push (later ++ lo_at ∷ []) hi_at
               (nested-push later lo_at (nested-front later at on.nested) below)
-              (each-push (λ (node : Pending). node.before ≤ at.before + 1) later lo_at
-              (each-also (λ (node : Pending). node.before ≤ at.before) (λ (node : Pending). node.before ≤ at.before)
-              (λ (node : Pending). node.before ≤ at.before + 1) later (λ node h _. omega (arith, h)) below below)
+              (each-push (Before (at.before + 1)) later lo_at
+              (each-weaker (Before at.before) (Before (at.before + 1)) later (λ node h. omega (arith, h)) below)
               (omega arith));
           by_size =
               λ size. ap (λ q. at_size found size ++ of_size size q) now
@@ -270,31 +272,21 @@ parts_left known nodes nodes' last x lo hi n m is filled same =
 -- ---- going down
 
 -- a node without sets that stands before the last one
-pub leaves_out : (known : ℕ → ℕ) {sets : List (List ℕ)} (path : List ℕ) (later : List Pending) (none last : Pending)
-    (found : List (List (List ℕ))) (weighs : ℕ) → none.node ≡ 0
+pub leaves_out : {known : ℕ → ℕ} {sets : List (List ℕ)} {path : List ℕ} (later : List Pending) (none last : Pending)
+    {found : List (List (List ℕ))} {weighs : ℕ} → none.node ≡ 0
     → IsOn known sets path ((later ++ none ∷ []) ++ last ∷ []) found weighs →
     IsOn known sets path (later ++ last ∷ []) found weighs
-leaves_out known path later none last found weighs empty on =
-    let below = nested-below (later ++ none ∷ []) last on.nested in
-    let H : List (List ℕ) = behind (take last.before path) (family known last.node) in
-    let same : still known path ((later ++ none ∷ []) ++ last ∷ []) ≡ still known path (later ++ last ∷ []) =
-    still-push known path (later ++ none ∷ []) last
-    ∙ ap (λ q. H ++ q) (still-push known path later none
-    ∙ ap (λ (q : List (List ℕ)). behind (take none.before path) q ++ still known path later)
-    (ap (family known) empty ∙ family-empty known))
-    ∙ sym (still-push known path later last) in
-    record {
-      each_pending =
-          each-push (IsPending known path) later last
-          (each-front (IsPending known path) later (none ∷ [])
-          (each-front (IsPending known path) (later ++ none ∷ []) (last ∷ []) on.each_pending))
-          (each-last (IsPending known path) (later ++ none ∷ []) last on.each_pending);
-      nested =
-          nested-push later last (nested-front later none (nested-front (later ++ none ∷ []) last on.nested))
-          (each-front (λ (node : Pending). node.before ≤ last.before) later (none ∷ []) below);
-      by_size = λ size. ap (λ q. at_size found size ++ of_size size q) (sym same) ∙ on.by_size size;
-      weight = ap (λ q. weighs + weight q) (sym same) ∙ on.weight;
-    }
+leaves_out {known} {path} later none last empty on =
+    same_still on
+    (each-push (IsPending known path) later last
+    (each-front (IsPending known path) later (none ∷ []) (each_later (later ++ none ∷ []) last on))
+    (at_pending (later ++ none ∷ []) last on))
+    (nested-push later last (nested-front later none (nested-front (later ++ none ∷ []) last on.nested))
+    (each-front (Before last.before) later (none ∷ []) (below (later ++ none ∷ []) last on)))
+    (still-push known path later last
+    ∙ ap (λ q. behind (take last.before path) (family known last.node) ++ q)
+    (sym (still-none known path later none empty))
+    ∙ sym (still-push known path (later ++ none ∷ []) last))
 
 -- what a step down leaves of two walks
 pub record Opens (known : ℕ → ℕ) (old new : Walk) (node x lo hi : ℕ) : Type 0 where
@@ -306,7 +298,7 @@ pub record Opens (known : ℕ → ℕ) (old new : Walk) (node x lo hi : ℕ) : T
   pub found : new.found ≡ old.found
   pub weight : new.weight ≡ old.weight
 
-module _ (known : ℕ → ℕ) (old new : Walk) (node x lo hi : ℕ) (is : Opens known old new node x lo hi) where
+module _ {known : ℕ → ℕ} {old new : Walk} {node x lo hi : ℕ} (is : Opens known old new node x lo hi) where
   abbrev hi_at : Pending
   hi_at = record { node = hi; before = length old.path.items + 1 }
 
@@ -321,29 +313,21 @@ module _ (known : ℕ → ℕ) (old new : Walk) (node x lo hi : ℕ) (is : Opens
   left nodes = (nodes ≡ both) ⊎ ((nodes ≡ old.pending.items ++ hi_at ∷ []) × (lo ≡ 0))
 
   left_now : left (new.pending.items ++ ahead new hi ∷ [])
-  left_now = elim (cases_Bool (lo == 0)) [
-    | inl empty ↦ inr (
-      ap (λ q. q ++ ahead new hi ∷ []) (is.pending
-          ∙ cond-true (lo == 0) old.pending.items (old.pending.items ++ ahead old lo ∷ []) empty)
-          ∙ ap (λ (at : Pending). old.pending.items ++ at ∷ []) now,
-      eqb-true lo 0 empty,
-    )
-    | inr filled ↦ inl (ap (λ q. q ++ ahead new hi ∷ []) (is.pending
-        ∙ cond-false (lo == 0) old.pending.items (old.pending.items ++ ahead old lo ∷ []) filled)
-        ∙ ap (λ (at : Pending). (old.pending.items ++ ahead old lo ∷ []) ++ at ∷ []) now)
-  ]
+  left_now = rw (now, is.pending) (elim (cases_Bool (lo == 0)) [
+    | inl empty ↦ inr (rw empty refl, eqb-true lo 0 empty)
+    | inr filled ↦ inl (rw filled refl)
+  ])
 
   pub opens_on : (sets : List (List ℕ)) → Stands known sets old (old.pending.items ++ ahead old node ∷ [])
       → Stands known sets new (new.pending.items ++ ahead new hi ∷ [])
   opens_on sets on =
       let same : IsOn known sets new.path.items both old.found old.weight =
-      opens known old.path.items old.pending.items (ahead old node) old.found old.weight on refl x lo hi is.parts
-      is.knows_lo is.knows_hi both is.path refl in
+      opens old.pending.items (ahead old node) on refl x lo hi is.parts is.knows_lo is.knows_hi both is.path refl in
       let now_on : IsOn known sets new.path.items both new.found new.weight = rw (is.found, is.weight) same in
       elim left_now [
         | inl e ↦ subst (λ nodes. IsOn known sets new.path.items nodes new.found new.weight) (sym e) now_on
         | inr e ↦ subst (λ nodes. IsOn known sets new.path.items nodes new.found new.weight) (sym e.0)
-            (leaves_out known new.path.items old.pending.items (ahead old lo) hi_at new.found new.weight e.1 now_on)
+            (leaves_out old.pending.items (ahead old lo) hi_at e.1 now_on)
       ]
 
   pub opens_fewer : family known hi ≢ [] → visits_left known (new.pending.items ++ ahead new hi ∷ [])
@@ -383,8 +367,7 @@ pub keeps_on : (known : ℕ → ℕ) {sets : List (List ℕ)} (old new : Walk) (
     → length old.path.items ≡ at.before → at.node ≡ 1 →
     Stands known sets old (old.pending.items ++ at ∷ []) → Stands known sets new new.pending.items
 keeps_on known old new at kept at_end unit on =
-    rw (kept.path, kept.pending) (keeps known old.path.items old.pending.items at old.found old.weight on at_end
-    unit new.found kept.found kept.weight)
+    rw (kept.path, kept.pending) (keeps old.pending.items at on at_end unit new.found kept.found kept.weight)
 
 pub keeps_fewer : (known : ℕ → ℕ) (old new : Walk) (at : Pending) → Keeps old new
     → visits_left known new.pending.items < visits_left known (old.pending.items ++ at ∷ [])
@@ -392,30 +375,28 @@ keeps_fewer known old new at kept = rw kept.pending (fewer_left known old.pendin
 
 -- ---- the first of a node's sets
 
-module _ (known : ℕ → ℕ) (old end : Walk) (at : Pending) (at_end : length old.path.items ≡ at.before)
-    (on : WalksOn known old (old.pending.items ++ ahead old at.node ∷ []) end
-    (end.pending.items ++ ahead end 1 ∷ [])) where
+module _ {known : ℕ → ℕ} {old end : Walk} (at : Pending) (at_end : length old.path.items ≡ at.before)
+    (down : Descends known old at.node end 1) where
   at_is : ahead old at.node ≡ at
   at_is = ap (λ n. record { node = at.node; before = n }) at_end
 
   at_end_on : {sets : List (List ℕ)} → Stands known sets old (old.pending.items ++ at ∷ [])
       → Stands known sets end (end.pending.items ++ ahead end 1 ∷ [])
   at_end_on {sets} stands =
-      on sets (subst (λ (q : Pending). Stands known sets old (old.pending.items ++ q ∷ [])) (sym at_is) stands)
+      down.on sets (subst (λ (q : Pending). Stands known sets old (old.pending.items ++ q ∷ [])) (sym at_is) stands)
 
-  pub finds_on : (new : Walk) → Keeps end new → WalksOn known old (old.pending.items ++ at ∷ []) new new.pending.items
-  finds_on new kept sets stands = keeps_on known end new (ahead end 1) kept refl refl (at_end_on stands)
+  pub finds_on : {new : Walk} → Keeps end new → WalksOn known old (old.pending.items ++ at ∷ []) new new.pending.items
+  finds_on {new} kept sets stands = keeps_on known end new (ahead end 1) kept refl refl (at_end_on stands)
 
   pub finds_heavy : weight_limit < end.weight + (1 + length end.path.items)
       → IsTooHeavy known old (old.pending.items ++ at ∷ [])
   finds_heavy heavy sets stands =
-      too_heavy known end.path.items end.pending.items (ahead end 1) end.found end.weight (at_end_on stands)
-      refl refl heavy
+      too_heavy end.pending.items (ahead end 1) (at_end_on stands) refl refl heavy
 
-  pub finds_fewer : (new : Walk) → visits_left known (end.pending.items ++ ahead end 1 ∷ [])
-      ≤ visits_left known (old.pending.items ++ ahead old at.node ∷ []) → Keeps end new
+  pub finds_fewer : {new : Walk} → Keeps end new
       → visits_left known new.pending.items < visits_left known (old.pending.items ++ at ∷ [])
-  finds_fewer new less kept =
+  finds_fewer {new} kept =
+      let less = down.fewer in
       let a = keeps_fewer known end new (ahead end 1) kept in
       let b = ap (λ (q : Pending). visits_left known (old.pending.items ++ q ∷ [])) at_is in
       omega (arith, less, a, b)

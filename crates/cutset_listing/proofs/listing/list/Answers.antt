@@ -14,12 +14,12 @@ cut_list-requires-clause-filled c = joined-filled c.in_ok-found.found _ c.in_ok-
 
 pub cut_list-requires-clause-rising : goal.cut_list-requires-clause-rising
 cut_list-requires-clause-rising c =
-    joined-rising c.in_ok-found.found c.in_ok-found.ensures.sets
+    joined-rising c.in_ok-found.found _ c.in_ok-found.ensures.sets
     (IsFamily-family _ c.args.root c.is_sound.ensures.sound.closed c.requires.knows)
 
 pub cut_list-requires-clause-ordered : goal.cut_list-requires-clause-ordered
 cut_list-requires-clause-ordered c =
-    joined-in_order c.in_ok-found.found c.in_ok-found.ensures.sets
+    joined-in_order c.in_ok-found.found _ c.in_ok-found.ensures.sets
     (IsFamily-family _ c.args.root c.is_sound.ensures.sound.closed c.requires.knows)
 
 -- the sets of all sizes are those of the family

@@ -1,5 +1,5 @@
-use Rattle.std.proofs.Common.{rules, ◌≡◌, ◌∙◌, ap, length, refl}
-use Rattle.zdd_families.proofs.Canonical.{family-filled}
+use Rattle.std.proofs.Common.{rules, ◌≡◌, ◌≢◌, ◌∙◌, [], ap, length, refl}
+use Rattle.zdd_families.{specs.Map.family, proofs.Canonical.family-filled}
 use Rattle.zdd_shared_table.specs.Seats.{map_of}
 use Rattle.cutset_listing.specs.{declared.walk.Walk.Walk, Visits.with_later}
 use Rattle.cutset_listing.proofs.Walks.{Opens, opens_fewer, opens_to}
@@ -30,16 +30,14 @@ opened c =
       weight = refl;
     }
 
-pub returns-clause-on : goal.returns-clause-on
-returns-clause-on c =
+filled : (c : In_ok-push) → family (map_of c.args.seat.now) c.parts-parts.result.hi ≢ []
+filled c =
     let seat = c.parts-parts.ensures.seat in
-    opens_to _ c.args.self.now (new_walk c) c.args.node _ _ _ (opened c)
-    (family-filled _ c.parts-parts.result.hi (rw seat at c.parts-parts.ensures.sound.closed)
-    (rw seat at c.parts-parts.ensures.hi.0) c.parts-parts.ensures.filled)
+    family-filled _ c.parts-parts.result.hi (rw seat at c.parts-parts.ensures.sound.closed)
+    (rw seat at c.parts-parts.ensures.hi.0) c.parts-parts.ensures.filled
+
+pub returns-clause-on : goal.returns-clause-on
+returns-clause-on c = opens_to (opened c) (filled c)
 
 pub returns-clause-fewer : goal.returns-clause-fewer
-returns-clause-fewer c =
-    let seat = c.parts-parts.ensures.seat in
-    opens_fewer _ c.args.self.now (new_walk c) c.args.node _ _ _ (opened c)
-    (family-filled _ c.parts-parts.result.hi (rw seat at c.parts-parts.ensures.sound.closed)
-    (rw seat at c.parts-parts.ensures.hi.0) c.parts-parts.ensures.filled)
+returns-clause-fewer c = opens_fewer (opened c) (filled c)

@@ -10,15 +10,14 @@ returns-in-Ok-clause-on c = λ sets on.
     let popped : c.args.self.now.pending.items ≡ c.pop.new.self.items ++ c.in-Some.last ∷ [] =
     c.in-Some.ensures.items in
     c.in-Ok.ensures.on sets (rw c.truncate.ensures.items
-    (truncated _ {sets = sets} _ c.pop.new.self.items c.in-Some.last _ _ (rw popped at on)))
+    (truncated c.pop.new.self.items c.in-Some.last (rw popped at on)))
 
 pub returns-in-Err-clause-limit : goal.returns-in-Err-clause-limit
 returns-in-Err-clause-limit c = λ refused sets on.
     let popped : c.args.self.now.pending.items ≡ c.pop.new.self.items ++ c.in-Some.last ∷ [] =
     c.in-Some.ensures.items in
     c.in-Err.ensures.limit (refused_so c.in-Err.end _ refused) sets
-    (rw c.truncate.ensures.items (truncated _ {sets = sets} _ c.pop.new.self.items c.in-Some.last _ _
-    (rw popped at on)))
+    (rw c.truncate.ensures.items (truncated c.pop.new.self.items c.in-Some.last (rw popped at on)))
 
 pub returns-in-None-clause-limit : goal.returns-in-None-clause-limit
 returns-in-None-clause-limit c = grind (arith, common_steps)
