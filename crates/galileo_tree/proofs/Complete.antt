@@ -1,5 +1,5 @@
 -- The spelling of statements is read as these statements, and each row of what may stand next is reached.
-use Rattle.std.proofs.Common.{◌≡◌, ℕ, true, false, List, [], ◌∷◌, ◌++◌, Result, Ok, Err, Option, Some, None, refl}
+use Rattle.std.proofs.Common.{◌≡◌, true, List, [], ◌∷◌, ◌++◌, Result, Ok, Err, Option, Some, None, refl}
 use Rattle.std.proofs.Common.{sym, ap, ◌∙◌, append_assoc}
 use Rattle.std.specs.{Prelude.map, List.list_all, List.flat_map}
 use Rattle.std.proofs.{lemmas.Bool.and_parts, lemmas.List.append-nil}
@@ -10,11 +10,11 @@ use Rattle.galileo_tree.specs.{declared.raw.RawBasic.RawBasic, declared.raw.RawA
 use Rattle.galileo_tree.specs.{declared.raw.Statement.Statement, declared.fault.ParseFault.ParseFault}
 use Rattle.galileo_tree.specs.{declared.fault.ParseFault.TheVariants.Expected, ReadTree.ReadTree, GateWord.kind_said}
 use Rattle.galileo_tree.specs.declared.raw.Statement.TheVariants.{Top, Gate, Basic}
-use Rattle.galileo_tree.specs.Lexeme.{Lexeme, is_equals, is_semicolon, is_bare, is_name, is_value, is_top_word, placed}
-use Rattle.galileo_tree.specs.Parsed.{State, Outside, TopWord, TopName, Defined, GateWord, Inputs, AttributeWord}
-use Rattle.galileo_tree.specs.Parsed.{AttributeEquals, Attributes, On, Whole, Stop, step, expected, proceed, parsed}
-use Rattle.galileo_tree.specs.Parsed.{with_statement, attribute_of, top_of, gate_of, basic_of}
-use Rattle.galileo_tree.specs.Grammar.{IsDefinedName, Written, lexemes_in, attribute_in, AreAttributes, Spells}
+use Rattle.galileo_tree.specs.Lexeme.{Lexeme, is_equals, is_semicolon, is_bare, is_name, placed}
+use Rattle.galileo_tree.specs.Parsed.{State, Outside, Defined, GateWord, Inputs}
+use Rattle.galileo_tree.specs.Parsed.{AttributeEquals, Attributes, Step, Whole, step, expected, proceed, parsed}
+use Rattle.galileo_tree.specs.Parsed.{with_statement, gate_of, basic_of}
+use Rattle.galileo_tree.specs.Grammar.{Written, lexemes_in, attribute_in, AreAttributes, Spells}
 use Rattle.galileo_tree.specs.Grammar.{SpellsAll}
 use Rattle.galileo_tree.proofs.LexemeKinds.{name_alone, bare_alone, equals_alone, said_alone}
 use Rattle.galileo_tree.proofs.Parses.{with_front, with_front-none}
@@ -22,61 +22,26 @@ use Rattle.galileo_tree.proofs.Parses.{with_front, with_front-none}
 abbrev Ending : Type 0
 Ending = Result LexPlace LexFault
 
--- a step that goes on, and one that ends a statement
-pub on_run : (state later : State) (lexeme : Lexeme) (rest : List Lexeme) (ending : Ending)
-    → step state lexeme ≡ On later →
-    parsed state (lexeme ∷ rest) ending ≡ parsed later rest ending
-on_run state later lexeme rest ending does =
+-- what is read behind a lexeme is what its step gives
+pub step_run : (state : State) (lexeme : Lexeme) (rest : List Lexeme) (ending : Ending) {does : Step}
+    → step state lexeme ≡ does → parsed state (lexeme ∷ rest) ending
+    ≡ proceed does (Expected (expected state) lexeme.place) (λ next. parsed next rest ending)
+step_run state lexeme rest ending does =
     ap (λ s. proceed s (Expected (expected state) lexeme.place) (λ next. parsed next rest ending)) does
-
-pub whole_run : (state : State) (statement : Statement) (lexeme : Lexeme) (rest : List Lexeme) (ending : Ending)
-    → step state lexeme ≡ Whole statement →
-    parsed state (lexeme ∷ rest) ending ≡ with_statement statement (parsed Outside rest ending)
-whole_run state statement lexeme rest ending does =
-    ap (λ s. proceed s (Expected (expected state) lexeme.place) (λ next. parsed next rest ending)) does
-
-pub stop_run : (state : State) (lexeme : Lexeme) (rest : List Lexeme) (ending : Ending) → step state lexeme ≡ Stop →
-    parsed state (lexeme ∷ rest) ending ≡ Err (Expected (expected state) lexeme.place)
-stop_run state lexeme rest ending does =
-    ap (λ s. proceed s (Expected (expected state) lexeme.place) (λ next. parsed next rest ending)) does
-
--- the first lexemes of each statement
-pub top_word_run : (word : Lexeme) (rest : List Lexeme) (ending : Ending) → is_top_word word ≡ true →
-    parsed Outside (word ∷ rest) ending ≡ parsed (TopWord word.place) rest ending
-top_word_run word rest ending is = on_run Outside (TopWord word.place) word rest ending (rw is refl)
-
-pub top_name_run : (place : Place) (name : Lexeme) (rest : List Lexeme) (ending : Ending) → is_name name ≡ true →
-    parsed (TopWord place) (name ∷ rest) ending ≡ parsed (TopName place (placed name)) rest ending
-top_name_run place name rest ending is =
-    on_run (TopWord place) (TopName place (placed name)) name rest ending (rw is refl)
-
-pub name_run : {name : Lexeme} (rest : List Lexeme) (ending : Ending) → IsDefinedName name →
-    parsed Outside (name ∷ rest) ending ≡ parsed (Defined (placed name)) rest ending
-name_run {name} rest ending is = on_run Outside (Defined (placed name)) name rest ending (rw (is.no_top, is.named) refl)
-
--- a gate word
-pub gate_word_run : (name : Placed) (word : Lexeme) (kind : GateKind) (rest : List Lexeme) (ending : Ending) →
-    is_semicolon word ≡ false → kind_said word ≡ Some kind →
-    parsed (Defined name) (word ∷ rest) ending ≡ parsed (GateWord name word kind) rest ending
-gate_word_run name word kind rest ending open_still said =
-    on_run (Defined name) (GateWord name word kind) word rest ending (rw (open_still, said) refl)
 
 -- inputs behind inputs
 inputs_more : (name : Placed) (word : Place) (kind : GateKind) (before : List Placed) (inputs rest : List Lexeme)
-    (ending : Ending) →
-    list_all is_name inputs ≡ true →
+    (ending : Ending) → list_all is_name inputs ≡ true →
     parsed (Inputs name word kind before) (inputs ++ rest) ending
     ≡ parsed (Inputs name word kind (before ++ map placed inputs)) rest ending
 inputs_more name word kind before [] rest ending each =
     ap (λ all. parsed (Inputs name word kind all) rest ending) (sym (append-nil before))
 inputs_more name word kind before (input ∷ inputs) rest ending each =
-    let named = (and_parts (is_name input) _ each).0 in
-    on_run (Inputs name word kind before) (Inputs name word kind (before ++ placed input ∷ [])) input (inputs ++ rest)
-    ending
-    (rw (name_alone input named, named) refl)
-    ∙ inputs_more name word kind (before ++ placed input ∷ []) inputs rest ending (and_parts (is_name input) _ each).1
+    let parts = and_parts (is_name input) _ each in
+    rw (name_alone input parts.0, parts.0)
+    (inputs_more name word kind (before ++ placed input ∷ []) inputs rest ending parts.1
     ∙ ap (λ all. parsed (Inputs name word kind all) rest ending)
-    (append_assoc before (placed input ∷ []) (map placed inputs))
+    (append_assoc before (placed input ∷ []) (map placed inputs)))
 
 -- behind the gate word: no inputs yet, or some
 abbrev pub inputs_state : Placed → Lexeme → GateKind → List Lexeme → State
@@ -88,50 +53,15 @@ pub inputs_run : (name : Placed) (word : Lexeme) (kind : GateKind) (inputs rest 
     parsed (GateWord name word kind) (inputs ++ rest) ending ≡ parsed (inputs_state name word kind inputs) rest ending
 inputs_run name word kind [] rest ending each = refl
 inputs_run name word kind (input ∷ inputs) rest ending each =
-    let named = (and_parts (is_name input) _ each).0 in
-    on_run (GateWord name word kind) (Inputs name word.place kind (placed input ∷ [])) input (inputs ++ rest) ending
-    (rw (name_alone input named, named) refl)
-    ∙ inputs_more name word.place kind (placed input ∷ []) inputs rest ending (and_parts (is_name input) _ each).1
+    let parts = and_parts (is_name input) _ each in
+    rw (name_alone input parts.0, parts.0)
+    (inputs_more name word.place kind (placed input ∷ []) inputs rest ending parts.1)
 
 inputs_close : (name : Placed) (word : Lexeme) (kind : GateKind) (inputs : List Lexeme) (close : Lexeme)
     → is_semicolon close ≡ true →
     step (inputs_state name word kind inputs) close ≡ Whole (gate_of name word.place kind (map placed inputs))
 inputs_close name word kind [] close is = rw is refl
 inputs_close name word kind (input ∷ inputs) close is = rw is refl
-
--- an attribute's `=` and value
-equals_run : (name : Placed) (before : List RawAttribute) (word : List ℕ) (equals : Lexeme) (rest : List Lexeme)
-    (ending : Ending) →
-    is_equals equals ≡ true →
-    parsed (AttributeWord name before word) (equals ∷ rest) ending
-    ≡ parsed (AttributeEquals name before word) rest ending
-equals_run name before word equals rest ending is =
-    on_run (AttributeWord name before word) (AttributeEquals name before word) equals rest ending (rw is refl)
-
-value_run : (name : Placed) (before : List RawAttribute) (word : List ℕ) (value : Lexeme) (rest : List Lexeme)
-    (ending : Ending) →
-    is_value value ≡ true →
-    parsed (AttributeEquals name before word) (value ∷ rest) ending
-    ≡ parsed (Attributes name (before ++ attribute_of word value ∷ [])) rest ending
-value_run name before word value rest ending is =
-    on_run (AttributeEquals name before word) (Attributes name (before ++ attribute_of word value ∷ [])) value rest
-    ending (rw is refl)
-
--- the first attribute's word, where it is no gate word
-pub first_word_run : (name : Placed) (word : Lexeme) (rest : List Lexeme) (ending : Ending) → is_bare word ≡ true
-    → kind_said word ≡ None →
-    parsed (Defined name) (word ∷ rest) ending ≡ parsed (AttributeWord name [] word.text) rest ending
-first_word_run name word rest ending bare said =
-    on_run (Defined name) (AttributeWord name [] word.text) word rest ending
-    (rw (bare_alone word bare, said, bare) refl)
-
--- an attribute's word behind a value
-pub next_word_run : (name : Placed) (before : List RawAttribute) (word : Lexeme) (rest : List Lexeme) (ending : Ending)
-    → is_bare word ≡ true →
-    parsed (Attributes name before) (word ∷ rest) ending ≡ parsed (AttributeWord name before word.text) rest ending
-next_word_run name before word rest ending is =
-    on_run (Attributes name before) (AttributeWord name before word.text) word rest ending
-    (rw (bare_alone word is, is) refl)
 
 -- attributes behind attributes
 attributes_more : (name : Placed) (before : List RawAttribute) (attributes : List Written) (rest : List Lexeme)
@@ -142,28 +72,18 @@ attributes_more : (name : Placed) (before : List RawAttribute) (attributes : Lis
 attributes_more name before [] rest ending each =
     ap (λ all. parsed (Attributes name all) rest ending) (sym (append-nil before))
 attributes_more name before (written ∷ attributes) rest ending each =
-    let word = written.word in
-    let more = flat_map lexemes_in attributes ++ rest in
-    let longer = before ++ attribute_in written ∷ [] in
-    next_word_run name before word (written.equals ∷ written.value ∷ more) ending each.0.bare
-    ∙ equals_run name before word.text written.equals (written.value ∷ more) ending each.0.equals
-    ∙ value_run name before word.text written.value more ending each.0.value
-    ∙ attributes_more name longer attributes rest ending each.1
+    rw (bare_alone written.word each.0.bare, each.0.bare, each.0.equals, each.0.value)
+    (attributes_more name (before ++ attribute_in written ∷ []) attributes rest ending each.1
     ∙ ap (λ all. parsed (Attributes name all) rest ending)
-    (append_assoc before (attribute_in written ∷ []) (map attribute_in attributes))
+    (append_assoc before (attribute_in written ∷ []) (map attribute_in attributes)))
 
 -- the first attribute's word, which may be a gate word, and its `=`
 first_said : (name : Placed) (word equals : Lexeme) (rest : List Lexeme) (ending : Ending) (said : Option GateKind)
-    → kind_said word ≡ said →
-    is_bare word ≡ true → is_equals equals ≡ true →
+    → kind_said word ≡ said → is_bare word ≡ true → is_equals equals ≡ true →
     parsed (Defined name) (word ∷ equals ∷ rest) ending ≡ parsed (AttributeEquals name [] word.text) rest ending
 first_said name word equals rest ending (Some kind) said bare is =
-    gate_word_run name word kind (equals ∷ rest) ending (bare_alone word bare) said
-    ∙ on_run (GateWord name word kind) (AttributeEquals name [] word.text) equals rest ending
-    (rw ((equals_alone equals is).0, (equals_alone equals is).1, is, bare) refl)
-first_said name word equals rest ending None said bare is =
-    first_word_run name word (equals ∷ rest) ending bare said
-    ∙ equals_run name [] word.text equals rest ending is
+    let alone = equals_alone equals is in rw (bare_alone word bare, said, alone.0, alone.1, is, bare) refl
+first_said name word equals rest ending None said bare is = rw (bare_alone word bare, said, bare, is) refl
 
 pub first_equals_run : (name : Placed) (word equals : Lexeme) (rest : List Lexeme) (ending : Ending) →
     is_bare word ≡ true → is_equals equals ≡ true →
@@ -184,8 +104,7 @@ attributes_run name [] rest ending each = refl
 attributes_run name (written ∷ attributes) rest ending each =
     let more = flat_map lexemes_in attributes ++ rest in
     first_equals_run name written.word written.equals (written.value ∷ more) ending each.0.bare each.0.equals
-    ∙ value_run name [] written.word.text written.value more ending each.0.value
-    ∙ attributes_more name (attribute_in written ∷ []) attributes rest ending each.1
+    ∙ rw each.0.value (attributes_more name (attribute_in written ∷ []) attributes rest ending each.1)
 
 -- the word and the `=` of the next attribute, whichever it is
 pub word_equals_run : (name : Placed) (attributes : List Written) (word equals : Lexeme) (rest : List Lexeme)
@@ -195,8 +114,7 @@ pub word_equals_run : (name : Placed) (attributes : List Written) (word equals :
     ≡ parsed (AttributeEquals name (map attribute_in attributes) word.text) rest ending
 word_equals_run name [] word equals rest ending bare is = first_equals_run name word equals rest ending bare is
 word_equals_run name (written ∷ attributes) word equals rest ending bare is =
-    next_word_run name (map attribute_in (written ∷ attributes)) word (equals ∷ rest) ending bare
-    ∙ equals_run name (map attribute_in (written ∷ attributes)) word.text equals rest ending is
+    rw (bare_alone word bare, bare, is) refl
 
 attributes_close : (name : Placed) (attributes : List Written) (close : Lexeme) → is_semicolon close ≡ true →
     step (attributes_state name attributes) close ≡ Whole (basic_of name (map attribute_in attributes))
@@ -207,35 +125,25 @@ attributes_close name (written ∷ attributes) close is = rw is refl
 pub spelled_run : (statement : Statement) (lexemes rest : List Lexeme) (ending : Ending) → Spells statement lexemes →
     parsed Outside (lexemes ++ rest) ending ≡ with_statement statement (parsed Outside rest ending)
 spelled_run (Top top) lexemes rest ending is =
-    rw is.spelled
-    (top_word_run is.word (is.name ∷ is.close ∷ rest) ending is.is_top
-    ∙ top_name_run is.word.place is.name (is.close ∷ rest) ending is.named
-    ∙ whole_run (TopName is.word.place (placed is.name)) (top_of is.word.place (placed is.name)) is.close rest ending
-    (rw is.closed refl)
-    ∙ ap (λ (t : RawTop). with_statement (Top t) (parsed Outside rest ending)) (sym is.is))
+    rw (is.spelled, is.is_top, is.named, is.closed)
+    (ap (λ (t : RawTop). with_statement (Top t) (parsed Outside rest ending)) (sym is.is))
 spelled_run (Gate gate) lexemes rest ending is =
     let name = placed is.name in
-    ap (λ all. parsed Outside (all ++ rest) ending) is.spelled
-    ∙ name_run (is.word ∷ (is.inputs ++ is.close ∷ []) ++ rest) ending is.defined
-    ∙ gate_word_run name is.word gate.kind ((is.inputs ++ is.close ∷ []) ++ rest) ending
-    (said_alone is.word gate.kind is.said) is.said
-    ∙ ap (λ all. parsed (GateWord name is.word gate.kind) all ending) (append_assoc is.inputs (is.close ∷ []) rest)
+    rw (is.spelled, is.defined.no_top, is.defined.named, said_alone is.word gate.kind is.said, is.said)
+    (ap (λ all. parsed (GateWord name is.word gate.kind) all ending) (append_assoc is.inputs (is.close ∷ []) rest)
     ∙ inputs_run name is.word gate.kind is.inputs (is.close ∷ rest) ending is.named
-    ∙ whole_run (inputs_state name is.word gate.kind is.inputs)
-    (gate_of name is.word.place gate.kind (map placed is.inputs)) is.close rest ending
+    ∙ step_run (inputs_state name is.word gate.kind is.inputs) is.close rest ending
     (inputs_close name is.word gate.kind is.inputs is.close is.closed)
-    ∙ ap (λ (g : RawGate). with_statement (Gate g) (parsed Outside rest ending)) (sym is.is)
+    ∙ ap (λ (g : RawGate). with_statement (Gate g) (parsed Outside rest ending)) (sym is.is))
 spelled_run (Basic basic) lexemes rest ending is =
     let name = placed is.name in
     let attributes = flat_map lexemes_in is.attributes in
-    ap (λ all. parsed Outside (all ++ rest) ending) is.spelled
-    ∙ name_run ((attributes ++ is.close ∷ []) ++ rest) ending is.defined
-    ∙ ap (λ all. parsed (Defined name) all ending) (append_assoc attributes (is.close ∷ []) rest)
+    rw (is.spelled, is.defined.no_top, is.defined.named)
+    (ap (λ all. parsed (Defined name) all ending) (append_assoc attributes (is.close ∷ []) rest)
     ∙ attributes_run name is.attributes (is.close ∷ rest) ending is.each
-    ∙ whole_run (attributes_state name is.attributes) (basic_of name (map attribute_in is.attributes)) is.close rest
-    ending
+    ∙ step_run (attributes_state name is.attributes) is.close rest ending
     (attributes_close name is.attributes is.close is.closed)
-    ∙ ap (λ (b : RawBasic). with_statement (Basic b) (parsed Outside rest ending)) (sym is.is)
+    ∙ ap (λ (b : RawBasic). with_statement (Basic b) (parsed Outside rest ending)) (sym is.is))
 
 with_front-statement : (statement : Statement) (more : List Statement) (read : Result ReadTree ParseFault) →
     with_statement statement (with_front more read) ≡ with_front (statement ∷ more) read

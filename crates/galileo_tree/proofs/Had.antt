@@ -1,9 +1,9 @@
 -- What the open statement has had in each state, and what a further lexeme makes of it.
 use Rattle.std.proofs.Common.{◌≡◌, ℕ, true, List, [], ◌∷◌, ◌++◌, Option, Some, None, refl, sym, ap, ◌∙◌}
-use Rattle.std.proofs.Common.{subst, append_assoc}
-use Rattle.std.specs.Prelude.{map, ◌&&◌}
+use Rattle.std.proofs.Common.{append_assoc}
+use Rattle.std.specs.Prelude.{map}
 use Rattle.std.specs.List.{list_all, flat_map}
-use Rattle.std.proofs.{lemmas.Bool.and_from, lemmas.List.append-nil, lemmas.List.map-append}
+use Rattle.std.proofs.{lemmas.List.append-nil, lemmas.List.map-append}
 use Rattle.std.proofs.{lemmas.List.Folds.list_all-append, lemmas.List.Concat.flat_map-append}
 use Rattle.fault_words.specs.{declared.kind.GateKind.GateKind, declared.place.Place.Place}
 use Rattle.galileo_tree.specs.{declared.raw.Placed.Placed, declared.raw.RawAttribute.RawAttribute, GateWord.kind_said}
@@ -107,9 +107,7 @@ Makes had Stop = Unit {0}
 
 list_all-push : (lexemes : List Lexeme) (lexeme : Lexeme) → list_all is_name lexemes ≡ true → is_name lexeme ≡ true →
     list_all is_name (lexemes ++ lexeme ∷ []) ≡ true
-list_all-push lexemes lexeme each last =
-    list_all-append is_name lexemes (lexeme ∷ [])
-    ∙ and_from (list_all is_name lexemes) (is_name lexeme && true) each (and_from (is_name lexeme) true last refl)
+list_all-push lexemes lexeme each last = rw (list_all-append is_name lexemes (lexeme ∷ []), each, last) refl
 
 attributes-push : (whole : List Written) (last : Written) → AreAttributes whole → IsAttribute last
     → AreAttributes (whole ++ last ∷ [])
@@ -284,11 +282,10 @@ inputs_make {name} {inputs} {had} lexeme gate =
     (λ other. rw other tt)))
 
 -- one more lexeme of an attribute that has begun
-basic_longer : (name : Placed) (attributes : List RawAttribute) (begun had : List Lexeme) (whole : List Written)
-    (lexeme : Lexeme) →
-    HadBasic name attributes begun had whole → HadBasic name attributes (begun ++ lexeme ∷ []) (had ++ lexeme ∷ [])
-    whole
-basic_longer name attributes begun had whole lexeme basic = record {
+basic_longer : {name : Placed} {attributes : List RawAttribute} {begun had : List Lexeme} {whole : List Written}
+    (lexeme : Lexeme) → HadBasic name attributes begun had whole
+    → HadBasic name attributes (begun ++ lexeme ∷ []) (had ++ lexeme ∷ []) whole
+basic_longer {begun} {whole} lexeme basic = record {
   first = basic.first;
   is =
       ap (λ l. l ++ lexeme ∷ []) basic.is ∙ ap (λ l. basic.first ∷ l)
@@ -303,17 +300,9 @@ word_makes : {name : Placed} {attributes : List RawAttribute} {word : List ℕ} 
     {begun : Lexeme} (lexeme : Lexeme) →
     HadBasic name attributes (begun ∷ []) had whole → is_bare begun ≡ true → word ≡ begun.text →
     Makes (had ++ lexeme ∷ []) (step (AttributeWord name attributes word) lexeme)
-word_makes {name} {attributes} {had} {whole} {begun} lexeme basic bare word_is =
+word_makes {whole} {begun} lexeme basic bare word_is =
     by_test (is_equals lexeme)
-    (λ equals. rw equals (
-      whole,
-      begun,
-      lexeme,
-      basic_longer name attributes (begun ∷ []) had whole lexeme basic,
-      bare,
-      word_is,
-      equals,
-    ))
+    (λ equals. rw equals (whole, begun, lexeme, basic_longer lexeme basic, bare, word_is, equals))
     (λ other. rw other tt)
 
 equals_makes : {name : Placed} {attributes : List RawAttribute} {word : List ℕ} {had : List Lexeme}
@@ -322,11 +311,11 @@ equals_makes : {name : Placed} {attributes : List RawAttribute} {word : List ℕ
     → is_equals equals ≡ true →
     Makes (had ++ lexeme ∷ []) (step (AttributeEquals name attributes word) lexeme)
 unfolding basic_longer
-equals_makes {name} {attributes} {word} {had} {whole} begun equals lexeme basic bare word_is equals_is =
+equals_makes {word} {whole} begun equals lexeme basic bare word_is equals_is =
     by_test (is_value lexeme)
     (λ valued.
     let last : Written = record { word = begun; equals = equals; value = lexeme } in
-    let longer = basic_longer name attributes (begun ∷ equals ∷ []) had whole lexeme basic in
+    let longer = basic_longer lexeme basic in
     rw valued (
       whole ++ last ∷ [],
       record {
@@ -354,8 +343,8 @@ value_makes : {name : Placed} {attributes : List RawAttribute} {had : List Lexem
     HadBasic name attributes [] had whole → IsSome whole
     → Makes (had ++ lexeme ∷ []) (step (Attributes name attributes) lexeme)
 unfolding basic_longer
-value_makes {name} {attributes} {had} {whole} lexeme basic some =
-    let longer = basic_longer name attributes [] had whole lexeme basic in
+value_makes {whole} lexeme basic some =
+    let longer = basic_longer lexeme basic in
     by_test (is_semicolon lexeme)
     (λ close. rw (close, basic.name_is, basic.attributes_are)
     (record {
@@ -376,19 +365,11 @@ value_makes {name} {attributes} {had} {whole} lexeme basic some =
 -- what a lexeme makes of what has been had
 pub makes : (state : State) (had : List Lexeme) (lexeme : Lexeme) → Had state had
     → Makes (had ++ lexeme ∷ []) (step state lexeme)
-makes Outside had lexeme is =
-    subst (λ l. Makes (l ++ lexeme ∷ []) (step Outside lexeme)) (sym is) (outside_makes lexeme)
-makes (TopWord place) had lexeme is =
-    subst (λ l. Makes (l ++ lexeme ∷ []) (step (TopWord place) lexeme)) (sym is.1)
-    (top_word_makes is.0 lexeme is.2 is.3)
-makes (TopName place name) had lexeme is =
-    subst (λ l. Makes (l ++ lexeme ∷ []) (step (TopName place name) lexeme)) (sym is.2)
-    (top_name_makes is.0 is.1 lexeme is.3 is.4 is.5 is.6)
-makes (Defined name) had lexeme is =
-    subst (λ l. Makes (l ++ lexeme ∷ []) (step (Defined name) lexeme)) (sym is.1) (name_makes lexeme is.2 is.3)
-makes (GateWord name word kind) had lexeme is =
-    subst (λ l. Makes (l ++ lexeme ∷ []) (step (GateWord name word kind) lexeme)) (sym is.1)
-    (gate_word_makes word kind lexeme is.2 is.3 is.4)
+makes Outside had lexeme is = rw is (outside_makes lexeme)
+makes (TopWord place) had lexeme is = rw is.1 (top_word_makes is.0 lexeme is.2 is.3)
+makes (TopName place name) had lexeme is = rw is.2 (top_name_makes is.0 is.1 lexeme is.3 is.4 is.5 is.6)
+makes (Defined name) had lexeme is = rw is.1 (name_makes lexeme is.2 is.3)
+makes (GateWord name word kind) had lexeme is = rw is.1 (gate_word_makes word kind lexeme is.2 is.3 is.4)
 makes (Inputs name place kind inputs) had lexeme is = inputs_make lexeme is
 makes (AttributeWord name attributes word) had lexeme is = word_makes lexeme is.2 is.3 is.4
 makes (AttributeEquals name attributes word) had lexeme is = equals_makes is.1 is.2 lexeme is.3 is.4 is.5 is.6

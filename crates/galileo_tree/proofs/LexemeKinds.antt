@@ -1,5 +1,5 @@
 -- A lexeme is of one kind.
-use Rattle.std.proofs.Common.{◌≡◌, Bool, true, false, Option, Some, None, refl}
+use Rattle.std.proofs.Common.{◌≡◌, Bool, true, false, Some, None, refl}
 use Rattle.std.specs.Prelude.{◌&&◌, ◌||◌, if◌then◌else◌}
 use Rattle.fault_words.specs.{declared.kind.GateKind.GateKind, Name.is_bare_name}
 use Rattle.galileo_tree.specs.GateWord.{gate_word, kind_said}
@@ -26,37 +26,30 @@ pub equals_alone : (lexeme : Lexeme) → is_equals lexeme ≡ true
 unfolding is_equals is_semicolon is_name is_bare
 equals_alone lexeme is = equals_apart lexeme.kind (is_bare_name lexeme.text) is
 
-name_apart : (kind : TokenKind) (bare : Bool) → (is_quoted_kind kind || (is_word_kind kind && bare)) ≡ true
-    → is_semicolon_kind kind ≡ false
-name_apart Word bare is = refl
-name_apart Quoted bare is = refl
-name_apart Equals bare is = refl
-name_apart Semicolon bare is = absurd (cc)
+-- what a semicolon does not answer is the answer of another lexeme
+not_semicolon : {A : Type 0} (of : TokenKind → A) (answer : A) (kind : TokenKind) → of kind ≡ answer
+    → (of Semicolon ≡ answer → ⊥) → is_semicolon_kind kind ≡ false
+not_semicolon of answer Word is apart = refl
+not_semicolon of answer Quoted is apart = refl
+not_semicolon of answer Equals is apart = refl
+not_semicolon of answer Semicolon is apart = absurd (apart is)
 
 -- no name is a semicolon
 pub name_alone : (lexeme : Lexeme) → is_name lexeme ≡ true → is_semicolon lexeme ≡ false
 unfolding is_semicolon is_name is_bare
-name_alone lexeme is = name_apart lexeme.kind (is_bare_name lexeme.text) is
-
-bare_apart : (kind : TokenKind) (bare : Bool) → (is_word_kind kind && bare) ≡ true → is_semicolon_kind kind ≡ false
-bare_apart Word bare is = refl
-bare_apart Quoted bare is = refl
-bare_apart Equals bare is = refl
-bare_apart Semicolon bare is = absurd (cc)
+name_alone lexeme is =
+    not_semicolon (λ kind. is_quoted_kind kind || (is_word_kind kind && is_bare_name lexeme.text)) true lexeme.kind is
+    (λ e. absurd cc)
 
 -- no bare word is a semicolon
 pub bare_alone : (lexeme : Lexeme) → is_bare lexeme ≡ true → is_semicolon lexeme ≡ false
 unfolding is_semicolon is_bare
-bare_alone lexeme is = bare_apart lexeme.kind (is_bare_name lexeme.text) is
-
-said_apart : (kind : TokenKind) (word : Option GateKind) (said : GateKind)
-    → (if is_word_kind kind then word else None) ≡ Some said → is_semicolon_kind kind ≡ false
-said_apart Word word said is = refl
-said_apart Quoted word said is = refl
-said_apart Equals word said is = refl
-said_apart Semicolon word said is = absurd (cc)
+bare_alone lexeme is =
+    not_semicolon (λ kind. is_word_kind kind && is_bare_name lexeme.text) true lexeme.kind is (λ e. absurd cc)
 
 -- no gate word is a semicolon
 pub said_alone : (lexeme : Lexeme) (said : GateKind) → kind_said lexeme ≡ Some said → is_semicolon lexeme ≡ false
 unfolding is_semicolon kind_said
-said_alone lexeme said is = said_apart lexeme.kind (gate_word lexeme.text) said is
+said_alone lexeme said is =
+    not_semicolon (λ kind. if is_word_kind kind then gate_word lexeme.text else None) (Some said) lexeme.kind is
+    (λ e. absurd cc)

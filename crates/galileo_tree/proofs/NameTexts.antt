@@ -1,9 +1,10 @@
 -- The text of a word and of a quoted token has the form of a name.
-use Rattle.std.proofs.Common.{◌≡◌, ℕ, ◌+◌, ◌-◌, ◌<◌, ◌≤◌, ◌⊎◌, inl, inr, Bool, true, false, List, [], ◌∷◌, ◌++◌, length}
+use Rattle.std.proofs.Common.{◌≡◌, ℕ, ◌+◌, ◌-◌, ◌<◌, ◌≤◌, ◌⊎◌, inl, inr, Bool, true, List, [], ◌∷◌, ◌++◌, length}
 use Rattle.std.proofs.Common.{take, drop, sym, refl, ap, ◌∙◌, arith, append_assoc, le-leb, take-append-drop}
 use Rattle.std.proofs.Common.{length-drop, length-append, length-take-le}
+use Rattle.std.proofs.lemmas.Bool.{and_parts}
 use Rattle.std.proofs.lemmas.List.{take_at, drop-drop, take_rest}
-use Rattle.std.specs.Prelude.{◌&&◌, slice_range}
+use Rattle.std.specs.Prelude.{slice_range}
 use Rattle.std.specs.List.{list_all}
 use Rattle.fault_words.specs.Name.{is_name, is_name_byte}
 use Rattle.galileo_lexer.specs.{declared.token.TokenKind.TokenKind, Bytes.is_word_byte, Bytes.is_quotable}
@@ -11,21 +12,13 @@ use Rattle.galileo_lexer.specs.{Pieces.IsNameText, Spelling.Spells}
 use Rattle.galileo_lexer.specs.declared.token.TokenKind.TheVariants.{Word, Quoted, Equals, Semicolon}
 use Rattle.galileo_tree.specs.Lexeme.{HasNameText, text_between}
 
-and_split : (a : Bool) {b : Bool} → (a && b) ≡ true → (a ≡ true) × (b ≡ true)
-and_split true both = (refl, both)
-and_split false both = absurd (cc)
-
-both_hold : (a : Bool) {b : Bool} → a ≡ true → b ≡ true → (a && b) ≡ true
-both_hold true left right = right
-both_hold false left right = left
-
 -- bytes that pass a test pass a wider one
 list_all-wider : (narrow wide : ℕ → Bool) → ((byte : ℕ) → narrow byte ≡ true → wide byte ≡ true) →
     (bytes : List ℕ) → list_all narrow bytes ≡ true → list_all wide bytes ≡ true
 list_all-wider narrow wide widens [] each = refl
 list_all-wider narrow wide widens (byte ∷ bytes) each =
-    let parts = and_split (narrow byte) each in
-    both_hold (wide byte) (widens byte parts.0) (list_all-wider narrow wide widens bytes parts.1)
+    let parts = and_parts (narrow byte) (list_all narrow bytes) each in
+    rw (widens byte parts.0) (list_all-wider narrow wide widens bytes parts.1)
 
 word_byte_named : (byte : ℕ) → is_word_byte byte ≡ true → is_name_byte byte ≡ true
 unfolding is_word_byte
@@ -38,8 +31,7 @@ quotable_named byte is = is
 name_text : {allowed : ℕ → Bool} → ((byte : ℕ) → allowed byte ≡ true → is_name_byte byte ≡ true) →
     {bytes : List ℕ} → IsNameText allowed bytes → is_name bytes ≡ true
 name_text {allowed} widens {bytes} is =
-    both_hold _ (both_hold _ (le-leb _ _ is.some) (le-leb _ _ is.few))
-    (list_all-wider allowed is_name_byte widens bytes is.each)
+    rw (le-leb _ _ is.some, le-leb _ _ is.few) (list_all-wider allowed is_name_byte widens bytes is.each)
 
 quoted_length : (name : List ℕ) → length (34 ∷ name ++ 34 ∷ []) ≡ length name + 2
 quoted_length name = omega (arith, length-append name (34 ∷ []))

@@ -1,6 +1,6 @@
 -- Lexemes have one reading.
 use Rattle.std.proofs.Common.{◌≡◌, List, [], ◌∷◌, ◌++◌, Result, Ok, Err, refl, sym, ap, ◌∙◌, subst, append_assoc}
-use Rattle.std.specs.{Prelude.map, List.flat_map}
+use Rattle.std.specs.List.{flat_map}
 use Rattle.std.proofs.lemmas.List.{append-nil}
 use Rattle.fault_words.specs.declared.kind.GateKind.{GateKind}
 use Rattle.galileo_lexer.specs.{declared.token.LexPlace.LexPlace, declared.token.LexFault.LexFault}
@@ -10,13 +10,12 @@ use Rattle.galileo_tree.specs.declared.fault.What.TheVariants as what
 use Rattle.galileo_tree.specs.declared.fault.ParseFault.TheVariants.{Lex, Expected, NoMemory}
 use Rattle.galileo_tree.specs.Lexeme.{Lexeme, Stream, placed, place_at}
 use Rattle.galileo_tree.specs.Parsed.{Outside, Defined, GateWord, parsed, parsed_from}
-use Rattle.galileo_tree.specs.Grammar.{lexemes_in, attribute_in, SpellsAll, IsViable, Stands, at_start, behind_top_word}
+use Rattle.galileo_tree.specs.Grammar.{lexemes_in, SpellsAll, IsViable, Stands, at_start, behind_top_word}
 use Rattle.galileo_tree.specs.Grammar.{behind_top_name, behind_name, behind_first_word, behind_inputs, behind_equals}
 use Rattle.galileo_tree.specs.Grammar.{behind_value, behind_next_word, Expects, IsFirstFault, at_lexeme, at_end}
 use Rattle.galileo_tree.specs.Grammar.{at_token, IsReading}
-use Rattle.galileo_tree.proofs.{LexemeKinds.said_alone, Parses.with_front, Sound.sound}
-use Rattle.galileo_tree.proofs.Complete.{top_word_run, top_name_run, name_run, gate_word_run, inputs_state, inputs_run}
-use Rattle.galileo_tree.proofs.Complete.{first_word_run, next_word_run, attributes_run, word_equals_run, all_run}
+use Rattle.galileo_tree.proofs.{LexemeKinds.bare_alone, LexemeKinds.said_alone, Parses.with_front, Sound.sound}
+use Rattle.galileo_tree.proofs.Complete.{inputs_state, inputs_run, attributes_run, word_equals_run, all_run}
 
 -- ---- what is expected is one thing
 
@@ -48,34 +47,29 @@ inputs_row name word kind (input ∷ inputs) = refl
 
 stands_row : (open_part : List Lexeme) {wanted : What} → Stands open_part wanted → row_behind open_part ≡ wanted
 stands_row open_part (at_start is wants) = rw (is, wants) refl
-stands_row open_part (behind_top_word word is top wants) =
-    rw (is, wants) (ap row_of (top_word_run word [] somewhere top))
-stands_row open_part (behind_top_name word name is top named wants) =
-    rw (is, wants) (ap row_of (top_word_run word (name ∷ []) somewhere top
-    ∙ top_name_run word.place name [] somewhere named))
-stands_row open_part (behind_name name is defined wants) = rw (is, wants) (ap row_of (name_run [] somewhere defined))
+stands_row open_part (behind_top_word word is top wants) = rw (is, wants, top) refl
+stands_row open_part (behind_top_name word name is top named wants) = rw (is, wants, top, named) refl
+stands_row open_part (behind_name name is defined wants) = rw (is, wants, defined.no_top, defined.named) refl
 stands_row open_part (behind_first_word name word is defined bare said wants) =
-    rw (is, wants) (ap row_of (name_run (word ∷ []) somewhere defined
-    ∙ first_word_run (placed name) word [] somewhere bare said))
+    rw (is, wants, defined.no_top, defined.named, bare_alone word bare, said, bare) refl
 stands_row open_part (behind_inputs name word kind inputs is defined said named wants) =
-    rw (is, wants) (ap row_of (name_run (word ∷ inputs) somewhere defined
-    ∙ gate_word_run (placed name) word kind inputs somewhere (said_alone word kind said) said
-    ∙ ap (λ l. parsed (GateWord (placed name) word kind) l somewhere) (sym (append-nil inputs))
+    rw (is, wants, defined.no_top, defined.named, said_alone word kind said, said)
+    (ap row_of (ap (λ l. parsed (GateWord (placed name) word kind) l somewhere) (sym (append-nil inputs))
     ∙ inputs_run (placed name) word kind inputs [] somewhere named)
     ∙ inputs_row (placed name) word kind inputs)
 stands_row open_part (behind_equals name attributes word equals is defined each bare equal wants) =
-    rw (is, wants) (ap row_of (name_run (flat_map lexemes_in attributes ++ word ∷ equals ∷ []) somewhere defined
-    ∙ attributes_run (placed name) attributes (word ∷ equals ∷ []) somewhere each
+    rw (is, wants, defined.no_top, defined.named)
+    (ap row_of (attributes_run (placed name) attributes (word ∷ equals ∷ []) somewhere each
     ∙ word_equals_run (placed name) attributes word equals [] somewhere bare equal))
 stands_row open_part (behind_value name first attributes is defined each wants) =
-    let all = flat_map lexemes_in (first ∷ attributes) in
-    rw (is, wants) (ap row_of (name_run all somewhere defined
-    ∙ ap (λ l. parsed (Defined (placed name)) l somewhere) (sym (append-nil all))
+    rw (is, wants, defined.no_top, defined.named)
+    (ap row_of (ap (λ l. parsed (Defined (placed name)) l somewhere)
+    (sym (append-nil (flat_map lexemes_in (first ∷ attributes))))
     ∙ attributes_run (placed name) (first ∷ attributes) [] somewhere each))
 stands_row open_part (behind_next_word name first attributes word is defined each bare wants) =
-    rw (is, wants) (ap row_of (name_run (flat_map lexemes_in (first ∷ attributes) ++ word ∷ []) somewhere defined
-    ∙ attributes_run (placed name) (first ∷ attributes) (word ∷ []) somewhere each
-    ∙ next_word_run (placed name) (map attribute_in (first ∷ attributes)) word [] somewhere bare))
+    rw (is, wants, defined.no_top, defined.named)
+    (ap row_of (attributes_run (placed name) (first ∷ attributes) (word ∷ []) somewhere each)
+    ∙ rw (bare_alone word bare, bare) refl)
 
 expects_row : {before : List Lexeme} {wanted : What} → Expects before wanted → row_behind before ≡ wanted
 expects_row expects =
@@ -140,14 +134,13 @@ same_lexeme : {front : List Lexeme} {lexeme : Lexeme} {wanted : What} {other_fro
     IsViable front → (IsViable (front ++ lexeme ∷ []) → ⊥) → Expects front wanted →
     IsViable other_front → (IsViable (other_front ++ other ∷ []) → ⊥) → Expects other_front other_wanted →
     Meets front lexeme other_front other → Expected wanted lexeme.place ≡ Expected other_wanted other.place
-same_lexeme {lexeme} {wanted} {other_wanted} viable stops expects other_viable other_stops
-    other_expects (same_place fronts items) =
+same_lexeme {lexeme} {wanted} {other_wanted} _ _ expects _ _ other_expects (same_place fronts items) =
     let wants : wanted ≡ other_wanted = one_wanted (subst (λ l. Expects l wanted) fronts expects) other_expects in
     ap (λ w. Expected w lexeme.place) wants ∙ ap (λ (l : Lexeme). Expected other_wanted l.place) items
-same_lexeme {front} {lexeme} viable stops expects other_viable other_stops
-    other_expects (earlier middle is) = absurd (stops (viable_at front lexeme middle is other_viable))
-same_lexeme {other_front} {other} viable stops expects other_viable other_stops
-    other_expects (later middle is) = absurd (other_stops (viable_at other_front other middle is viable))
+same_lexeme {front} {lexeme} _ stops _ other_viable _ _ (earlier middle is) =
+    absurd (stops (viable_at front lexeme middle is other_viable))
+same_lexeme {other_front} {other} viable _ _ _ other_stops _ (later middle is) =
+    absurd (other_stops (viable_at other_front other middle is viable))
 
 one_fault : {stream : Stream} {first second : ParseFault} → IsFirstFault stream first → IsFirstFault stream second
     → first ≡ second
@@ -157,13 +150,11 @@ one_fault (at_lexeme front lexeme back wanted is viable stops expects fault)
     ∙ same_lexeme viable stops expects other_viable other_stops other_expects
     (meets front back other_front other_back (sym is ∙ other_is))
     ∙ sym other_fault
-one_fault (at_lexeme front lexeme back wanted is viable stops expects fault)
-    (at_end place other_wanted ends whole_viable unspelled other_expects other_fault) =
+one_fault (at_lexeme front lexeme back _ is _ stops _ _) (at_end _ _ _ whole_viable _ _ _) =
     absurd (stops (viable_at front lexeme back is whole_viable))
-one_fault (at_lexeme front lexeme back wanted is viable stops expects fault)
-    (at_token found ends whole_viable other_fault) = absurd (stops (viable_at front lexeme back is whole_viable))
-one_fault (at_end place wanted ends whole_viable unspelled expects fault)
-    (at_lexeme front lexeme back other_wanted is viable stops other_expects other_fault) =
+one_fault (at_lexeme front lexeme back _ is _ stops _ _) (at_token _ _ whole_viable _) =
+    absurd (stops (viable_at front lexeme back is whole_viable))
+one_fault (at_end _ _ _ whole_viable _ _ _) (at_lexeme front lexeme back _ is _ stops _ _) =
     absurd (stops (viable_at front lexeme back is whole_viable))
 one_fault (at_end place wanted ends whole_viable unspelled expects fault)
     (at_end other_place other_wanted other_ends other_viable other_unspelled other_expects other_fault) =
@@ -171,26 +162,21 @@ one_fault (at_end place wanted ends whole_viable unspelled expects fault)
     let places : place ≡ other_place = cc in
     fault ∙ ap (λ w. Expected w (place_at place)) wants ∙ ap (λ p. Expected other_wanted (place_at p)) places
     ∙ sym other_fault
-one_fault (at_end place wanted ends whole_viable unspelled expects fault)
-    (at_token found other_ends other_viable other_fault) = absurd (cc)
-one_fault (at_token found ends whole_viable fault)
-    (at_lexeme front lexeme back wanted is viable stops expects other_fault) =
+one_fault (at_end _ _ ends _ _ _ _) (at_token _ other_ends _ _) = absurd (cc)
+one_fault (at_token _ _ whole_viable _) (at_lexeme front lexeme back _ is _ stops _ _) =
     absurd (stops (viable_at front lexeme back is whole_viable))
-one_fault (at_token found ends whole_viable fault)
-    (at_end place wanted other_ends other_viable unspelled expects other_fault) = absurd (cc)
-one_fault (at_token found ends whole_viable fault)
-    (at_token other_found other_ends other_viable other_fault) =
+one_fault (at_token _ ends _ _) (at_end _ _ other_ends _ _ _ _) = absurd (cc)
+one_fault (at_token found ends _ fault) (at_token other_found other_ends _ other_fault) =
     let founds : found ≡ other_found = cc in
     fault ∙ ap Lex founds ∙ sym other_fault
 
 -- a text that is spelled has no fault
 spelled_whole : {stream : Stream} (tree : ReadTree) {fault : ParseFault} → IsReading stream (Ok tree)
     → IsFirstFault stream fault → ⊥
-spelled_whole {stream} tree reads (at_lexeme front lexeme back wanted is viable stops expects fault_is) =
+spelled_whole {stream} tree reads (at_lexeme front lexeme back _ is _ stops _ _) =
     stops (viable_at front lexeme back is (spelled_viable stream.lexemes tree.statements reads.0))
-spelled_whole tree reads (at_end place wanted ends whole_viable unspelled expects fault_is) =
-    unspelled tree.statements reads.0
-spelled_whole tree reads (at_token found ends whole_viable fault_is) = let whole = reads.2 in absurd (cc)
+spelled_whole tree reads (at_end _ _ _ _ unspelled _ _) = unspelled tree.statements reads.0
+spelled_whole tree reads (at_token _ ends _ _) = let whole = reads.2 in absurd (cc)
 
 faulty_read : {stream : Stream} {fault : ParseFault} (read : Result ReadTree ParseFault) → IsFirstFault stream fault
     → IsReading stream read → read ≡ Err fault

@@ -12,9 +12,9 @@ use Rattle.galileo_tree.specs.Lexeme.{Lexeme, Stream, is_equals, is_semicolon, i
 use Rattle.galileo_tree.specs.Parsed.{State, Outside, TopWord, TopName, Defined, GateWord, Inputs, AttributeWord}
 use Rattle.galileo_tree.specs.Parsed.{AttributeEquals, Attributes, Step, On, Whole, Stop, step, expected, missing}
 use Rattle.galileo_tree.specs.Parsed.{parsed, parsed_from, top_of, gate_of, basic_of, attribute_of}
-use Rattle.galileo_tree.specs.Grammar.{Spells, SpellsAll, IsViable, at_lexeme, at_end, at_token, IsReading}
+use Rattle.galileo_tree.specs.Grammar.{Spells, SpellsAll, IsViable, Expects, at_lexeme, at_end, at_token, IsReading}
 use Rattle.galileo_tree.proofs.Parses.{with_front, with_front-push, with_front-none}
-use Rattle.galileo_tree.proofs.Complete.{on_run, whole_run, stop_run, all_run}
+use Rattle.galileo_tree.proofs.Complete.{step_run, all_run}
 use Rattle.galileo_tree.proofs.Had.{Had, Makes, stands, makes}
 
 -- ---- each state can be completed
@@ -55,13 +55,7 @@ closes state had statement is does =
     subst (Makes (had ++ a_semicolon ∷ [])) does (makes state had a_semicolon is) in (
       a_semicolon ∷ [],
       statement ∷ [],
-      (
-        had ++ a_semicolon ∷ [],
-        [],
-        sym (append-nil (had ++ a_semicolon ∷ [])),
-        spells,
-        refl,
-      ),
+      (had ++ a_semicolon ∷ [], [], sym (append-nil (had ++ a_semicolon ∷ [])), spells, refl),
     )
 
 -- a lexeme with which it goes on
@@ -138,21 +132,21 @@ front_viable statements whole had spells viable = (
 abbrev Ending : Type 0
 Ending = Result LexPlace LexFault
 
--- the lexemes so far are read as these statements, in this state
-abbrev Runs : List Statement → List Lexeme → State → List Lexeme → Type 0
-Runs statements whole state had =
-    (rest : List Lexeme) (ending : Ending) → parsed Outside (whole ++ had ++ rest) ending
-    ≡ with_front statements (parsed state rest ending)
-
 abbrev at_stream : List Lexeme → Ending → Stream
 at_stream lexemes ending = record { lexemes = lexemes; ending = ending }
+
+-- the lexemes so far are whole statements and some of an open one, and are read as these, in this state
+record IsRun (statements : List Statement) (whole : List Lexeme) (state : State) (had : List Lexeme) : Type 0 where
+  spells : SpellsAll statements whole
+  is : Had state had
+  runs : (rest : List Lexeme) (ending : Ending) → parsed Outside (whole ++ had ++ rest) ending
+      ≡ with_front statements (parsed state rest ending)
 
 -- what is claimed of what is left
 abbrev Claim : List Lexeme → Ending → Type 0
 Claim lexemes ending =
-    (statements : List Statement) (whole : List Lexeme) (state : State) (had : List Lexeme) → SpellsAll statements whole
-    → Had state had →
-    Runs statements whole state had →
+    (statements : List Statement) (whole : List Lexeme) (state : State) (had : List Lexeme)
+    → IsRun statements whole state had →
     IsReading (at_stream (whole ++ had ++ lexemes) ending) (with_front statements (parsed state lexemes ending))
 
 -- where the reading fails the lexemes spell nothing
@@ -164,62 +158,55 @@ no_spelling statements others lexemes place fault fails spells =
     ap (λ l. parsed Outside l (Ok place)) (append-nil lexemes) in
     cc
 
--- the lexemes end in an open statement
-open_end : (statements : List Statement) (whole : List Lexeme) (state : State) (had : List Lexeme) (ending : Ending) →
-    SpellsAll statements whole → Had state had → Runs statements whole state had →
-    ((e : Ending) → parsed state [] e ≡ Err (missing (expected state) e)) →
-    IsReading (at_stream (whole ++ had ++ []) ending) (Err (missing (expected state) ending))
-open_end statements whole state had (Ok place) spells is runs fails =
-    let here = whole ++ had in
-    let same : here ++ [] ≡ here = append-nil here in
-    subst (λ l. IsReading (at_stream l (Ok place)) (Err (missing (expected state) (Ok place)))) (sym same)
-    (at_end place (expected state) refl (front_viable statements whole had spells (completes state had is))
-    (λ others spelled.
-    no_spelling statements others here place (missing (expected state) (Ok place))
-    (ap (λ l. parsed Outside l (Ok place)) (sym same) ∙ runs [] (Ok place)
-    ∙ ap (with_front statements) (fails (Ok place))) spelled)
-    (statements, whole, had, refl, spells, stands state had is) refl)
-open_end statements whole state had (Err found) spells is runs fails =
-    subst (λ l. IsReading (at_stream l (Err found)) (Err (missing (expected state) (Err found))))
-    (sym (append-nil (whole ++ had)))
-    (at_token found refl (front_viable statements whole had spells (completes state had is)) refl)
+module _ {statements : List Statement} {whole : List Lexeme} {state : State} {had : List Lexeme}
+    (run : IsRun statements whole state had) where
+  viable : IsViable (whole ++ had)
+  viable = front_viable statements whole had run.spells (completes state had run.is)
+
+  expects : Expects (whole ++ had) (expected state)
+  expects = (statements, whole, had, refl, run.spells, stands state had run.is)
+
+  -- the lexemes end in an open statement
+  open_end : (ending : Ending) → ((e : Ending) → parsed state [] e ≡ Err (missing (expected state) e)) →
+      IsReading (at_stream (whole ++ had ++ []) ending) (Err (missing (expected state) ending))
+  open_end (Ok place) fails =
+      let same : (whole ++ had) ++ [] ≡ whole ++ had = append-nil (whole ++ had) in
+      subst (λ l. IsReading (at_stream l (Ok place)) (Err (missing (expected state) (Ok place)))) (sym same)
+      (at_end place (expected state) refl viable
+      (λ others spelled.
+      no_spelling statements others (whole ++ had) place (missing (expected state) (Ok place))
+      (ap (λ l. parsed Outside l (Ok place)) (sym same) ∙ run.runs [] (Ok place)
+      ∙ ap (with_front statements) (fails (Ok place))) spelled)
+      expects refl)
+  open_end (Err found) fails =
+      subst (λ l. IsReading (at_stream l (Err found)) (Err (missing (expected state) (Err found))))
+      (sym (append-nil (whole ++ had))) (at_token found refl viable refl)
 
 -- they end where no statement is open
 closed_end : (statements : List Statement) (whole : List Lexeme) {had : List Lexeme} (ending : Ending)
-    → SpellsAll statements whole
-    → had ≡ [] →
+    → SpellsAll statements whole → had ≡ [] →
     IsReading (at_stream (whole ++ had ++ []) ending) (with_front statements (parsed Outside [] ending))
-closed_end statements whole {had} (Ok place) spells is =
-    let same : whole ++ had ++ [] ≡ whole = append-nil (whole ++ had) ∙ ap (λ l. whole ++ l) is ∙ append-nil whole in (
-      subst (SpellsAll (statements ++ [])) (sym same)
-          (subst (λ s. SpellsAll s whole) (sym (append-nil statements)) spells),
-      place,
-      refl,
-      refl,
-    )
-closed_end statements whole {had} (Err found) spells is =
-    let same : whole ++ had ++ [] ≡ whole = append-nil (whole ++ had) ∙ ap (λ l. whole ++ l) is ∙ append-nil whole in
-    subst (λ l. IsReading (at_stream l (Err found)) (with_front statements (parsed Outside [] (Err found)))) (sym same)
-    (at_token found refl ([], statements, subst (SpellsAll statements) (sym (append-nil whole)) spells) refl)
+closed_end statements whole {had} ending spells none =
+    subst (λ l. IsReading (at_stream l ending) (with_front statements (parsed Outside [] ending)))
+    (sym (append-nil (whole ++ had) ∙ ap (λ l. whole ++ l) none ∙ append-nil whole)) (by_ending ending)
+  where
+    by_ending : (ending : Ending)
+        → IsReading (at_stream whole ending) (with_front statements (parsed Outside [] ending))
+    by_ending (Ok place) =
+        (subst (λ s. SpellsAll s whole) (sym (append-nil statements)) spells, place, refl, refl)
+    by_ending (Err found) =
+        at_token found refl ([], statements, subst (SpellsAll statements) (sym (append-nil whole)) spells) refl
 
 end_claim : (ending : Ending) → Claim [] ending
-end_claim ending statements whole Outside had spells is runs = closed_end statements whole ending spells is
-end_claim ending statements whole (TopWord place) had spells is runs =
-    open_end statements whole (TopWord place) had ending spells is runs (λ e. refl)
-end_claim ending statements whole (TopName place name) had spells is runs =
-    open_end statements whole (TopName place name) had ending spells is runs (λ e. refl)
-end_claim ending statements whole (Defined name) had spells is runs =
-    open_end statements whole (Defined name) had ending spells is runs (λ e. refl)
-end_claim ending statements whole (GateWord name word kind) had spells is runs =
-    open_end statements whole (GateWord name word kind) had ending spells is runs (λ e. refl)
-end_claim ending statements whole (Inputs name place kind inputs) had spells is runs =
-    open_end statements whole (Inputs name place kind inputs) had ending spells is runs (λ e. refl)
-end_claim ending statements whole (AttributeWord name attributes word) had spells is runs =
-    open_end statements whole (AttributeWord name attributes word) had ending spells is runs (λ e. refl)
-end_claim ending statements whole (AttributeEquals name attributes word) had spells is runs =
-    open_end statements whole (AttributeEquals name attributes word) had ending spells is runs (λ e. refl)
-end_claim ending statements whole (Attributes name attributes) had spells is runs =
-    open_end statements whole (Attributes name attributes) had ending spells is runs (λ e. refl)
+end_claim ending statements whole Outside had run = closed_end statements whole ending run.spells run.is
+end_claim ending statements whole (TopWord place) had run = open_end run ending (λ e. refl)
+end_claim ending statements whole (TopName place name) had run = open_end run ending (λ e. refl)
+end_claim ending statements whole (Defined name) had run = open_end run ending (λ e. refl)
+end_claim ending statements whole (GateWord name word kind) had run = open_end run ending (λ e. refl)
+end_claim ending statements whole (Inputs name place kind inputs) had run = open_end run ending (λ e. refl)
+end_claim ending statements whole (AttributeWord name attributes word) had run = open_end run ending (λ e. refl)
+end_claim ending statements whole (AttributeEquals name attributes word) had run = open_end run ending (λ e. refl)
+end_claim ending statements whole (Attributes name attributes) had run = open_end run ending (λ e. refl)
 
 -- the lexemes so far, with one more
 with_more : (whole had : List Lexeme) (lexeme : Lexeme) (rest : List Lexeme)
@@ -229,66 +216,61 @@ with_more whole had lexeme rest =
     ∙ sym (append_assoc whole had (lexeme ∷ rest))
 
 by_step : (lexeme : Lexeme) (lexemes : List Lexeme) (ending : Ending) → Claim lexemes ending →
-    (statements : List Statement) (whole : List Lexeme) (state : State) (had : List Lexeme) → SpellsAll statements whole
-    → Had state had →
-    Runs statements whole state had → (does : Step) → step state lexeme ≡ does → Makes (had ++ lexeme ∷ []) does →
+    {statements : List Statement} {whole : List Lexeme} {state : State} {had : List Lexeme}
+    → IsRun statements whole state had → (does : Step) → step state lexeme ≡ does → Makes (had ++ lexeme ∷ []) does →
     IsReading (at_stream (whole ++ had ++ lexeme ∷ lexemes) ending)
     (with_front statements (parsed state (lexeme ∷ lexemes) ending))
-by_step lexeme lexemes ending claim statements whole state had spells is runs (On later) does made =
+by_step lexeme lexemes ending claim {statements} {whole} {state} {had} run (On later) does made =
     let longer = had ++ lexeme ∷ [] in
-    let then_runs : Runs statements whole later longer =
-    λ rest e. ap (λ l. parsed Outside l e) (with_more whole had lexeme rest) ∙ runs (lexeme ∷ rest) e
-    ∙ ap (with_front statements) (on_run state later lexeme rest e does) in
     subst (λ l. IsReading (at_stream l ending) (with_front statements (parsed state (lexeme ∷ lexemes) ending)))
     (with_more whole had lexeme lexemes)
     (subst (IsReading (at_stream (whole ++ longer ++ lexemes) ending))
-    (ap (with_front statements) (sym (on_run state later lexeme lexemes ending does)))
-    (claim statements whole later longer spells made then_runs))
-by_step lexeme lexemes ending claim statements whole state had spells is runs (Whole statement) does made =
+    (ap (with_front statements) (sym (step_run state lexeme lexemes ending does)))
+    (claim statements whole later longer record {
+      spells = run.spells;
+      is = made;
+      runs = λ rest e. ap (λ l. parsed Outside l e) (with_more whole had lexeme rest) ∙ run.runs (lexeme ∷ rest) e
+          ∙ ap (with_front statements) (step_run state lexeme rest e does);
+    }))
+by_step lexeme lexemes ending claim {statements} {whole} {state} {had} run (Whole statement) does made =
     let longer = had ++ lexeme ∷ [] in
     let more = statements ++ statement ∷ [] in
-    let then_runs : Runs more (whole ++ longer) Outside [] =
-    λ rest e.
-    ap (λ l. parsed Outside (l ++ rest) e) (append-nil (whole ++ longer))
-    ∙ ap (λ l. parsed Outside l e) (with_more whole had lexeme rest)
-    ∙ runs (lexeme ∷ rest) e
-    ∙ ap (with_front statements) (whole_run state statement lexeme rest e does)
+    let same : (rest : List Lexeme) → whole ++ longer ++ [] ++ rest ≡ whole ++ had ++ lexeme ∷ rest =
+    λ rest. ap (λ l. l ++ rest) (append-nil (whole ++ longer)) ∙ with_more whole had lexeme rest in
+    let read_same : (rest : List Lexeme) (e : Ending) → with_front statements (parsed state (lexeme ∷ rest) e)
+    ≡ with_front more (parsed Outside rest e) =
+    λ rest e. ap (with_front statements) (step_run state lexeme rest e does)
     ∙ with_front-push statements statement (parsed Outside rest e) in
-    let lexemes_same : whole ++ longer ++ [] ++ lexemes ≡ whole ++ had ++ lexeme ∷ lexemes =
-    ap (λ l. l ++ lexemes) (append-nil (whole ++ longer)) ∙ with_more whole had lexeme lexemes in
-    let read_same : with_front more (parsed Outside lexemes ending)
-    ≡ with_front statements (parsed state (lexeme ∷ lexemes) ending) =
-    sym (with_front-push statements statement (parsed Outside lexemes ending))
-    ∙ ap (with_front statements) (sym (whole_run state statement lexeme lexemes ending does)) in
     subst (λ l. IsReading (at_stream l ending) (with_front statements (parsed state (lexeme ∷ lexemes) ending)))
-    lexemes_same
-    (subst (IsReading (at_stream (whole ++ longer ++ [] ++ lexemes) ending)) read_same
-    (claim more (whole ++ longer) Outside [] (SpellsAll-push statements statement whole longer spells made) refl
-    then_runs))
-by_step lexeme lexemes ending claim statements whole state had spells is runs Stop does made =
+    (same lexemes)
+    (subst (IsReading (at_stream (whole ++ longer ++ [] ++ lexemes) ending)) (sym (read_same lexemes ending))
+    (claim more (whole ++ longer) Outside [] record {
+      spells = SpellsAll-push statements statement whole longer run.spells made;
+      is = refl;
+      runs = λ rest e. ap (λ l. parsed Outside l e) (same rest) ∙ run.runs (lexeme ∷ rest) e ∙ read_same rest e;
+    }))
+by_step lexeme lexemes ending claim {statements} {whole} {state} {had} run Stop does made =
     let front = whole ++ had in
-    let fault = Expected (expected state) lexeme.place in
+    let place : LexPlace = record { line = 1; column = 1 } in
     subst (IsReading (at_stream (front ++ lexeme ∷ lexemes) ending))
-    (ap (with_front statements) (sym (stop_run state lexeme lexemes ending does)))
-    (at_lexeme front lexeme lexemes (expected state) refl
-    (front_viable statements whole had spells (completes state had is))
+    (ap (with_front statements) (sym (step_run state lexeme lexemes ending does)))
+    (at_lexeme front lexeme lexemes (expected state) refl (viable run)
     (λ viable.
     let more = viable.0 in
-    no_spelling statements viable.1 (front ++ lexeme ∷ [] ++ more) (record { line = 1; column = 1 }) fault
-    (ap (λ l. parsed Outside l (Ok (record { line = 1; column = 1 }))) (append_assoc front (lexeme ∷ []) more)
-    ∙ runs (lexeme ∷ more) (Ok (record { line = 1; column = 1 }))
-    ∙ ap (with_front statements) (stop_run state lexeme more (Ok (record { line = 1; column = 1 })) does))
-    viable.2)
-    (statements, whole, had, refl, spells, stands state had is) refl)
+    no_spelling statements viable.1 (front ++ lexeme ∷ [] ++ more) place (Expected (expected state) lexeme.place)
+    (ap (λ l. parsed Outside l (Ok place)) (append_assoc front (lexeme ∷ []) more)
+    ∙ run.runs (lexeme ∷ more) (Ok place)
+    ∙ ap (with_front statements) (step_run state lexeme more (Ok place) does))
+    viable.2) (expects run) refl)
 
 claims : (lexemes : List Lexeme) (ending : Ending) → Claim lexemes ending
 claims [] ending = end_claim ending
-claims (lexeme ∷ lexemes) ending = λ statements whole state had spells is runs.
-    by_step lexeme lexemes ending (claims lexemes ending) statements whole state had spells is runs (step state lexeme)
-    refl (makes state had lexeme is)
+claims (lexeme ∷ lexemes) ending = λ statements whole state had run.
+    by_step lexeme lexemes ending (claims lexemes ending) run (step state lexeme) refl (makes state had lexeme run.is)
 
 -- what a stream of lexemes gives is a reading of it
 pub sound : (stream : Stream) → IsReading stream (parsed_from Outside stream)
 sound stream =
     subst (IsReading stream) (sym (with_front-none (parsed_from Outside stream)))
-    (claims stream.lexemes stream.ending [] [] Outside [] refl refl (λ rest e. with_front-none (parsed Outside rest e)))
+    (claims stream.lexemes stream.ending [] [] Outside []
+    record { spells = refl; is = refl; runs = λ rest e. with_front-none (parsed Outside rest e) })
