@@ -1,6 +1,6 @@
 -- The parts that are read of a deck are those that its first dividing line makes.
-use Rattle.std.specs.Prelude.{◌≡◌, ◌↔◌, ◌⊎◌, ℕ, suc, ◌+◌, min, nat_eq, Bool, true, false, ◌||◌, if◌then◌else◌, List, []}
-use Rattle.std.specs.Prelude.{◌∷◌, ◌++◌, length, take, get_or, codes, Option, Some, None}
+use Rattle.std.specs.Prelude.{◌≡◌, ◌↔◌, ◌⊎◌, ℕ, suc, ◌+◌, min, nat_eq, Bool, true, false, List}
+use Rattle.std.specs.Prelude.{[], ◌∷◌, ◌++◌, length, take, get_or, codes, Option, Some, None}
 use Rattle.std.specs.List.{All, list_any, position_or_len, before_first, after_first, count_by}
 use Rattle.std.specs.Cmp.Lexicographic.{pointwise, same_text}
 use Rattle.std.proofs.Common.{refl, sym, ap, ◌∙◌, subst, inl, inr, arith}
@@ -15,39 +15,26 @@ use Rattle.crew_script.specs.Divides.{without_return, size_of, IsDividedAt, Crew
 
 -- ---- a deck is divided in one way
 
-goes_on : (size place number : ℕ) (line : List ℕ) (lines : List (List ℕ)) → is_crews line ≡ false
-    → split_by size place number (line ∷ lines) ≡ split_by size (place + length line + 1) (number + 1) lines
-goes_on size place number line lines miss =
-    ap (λ b. if b then divided size place (length line) number
-    else split_by size (place + length line + 1) (number + 1) lines) miss
-
-divides_at : (size place number : ℕ) (line : List ℕ) (lines : List (List ℕ)) → is_crews line ≡ true
-    → split_by size place number (line ∷ lines) ≡ divided size place (length line) number
-divides_at size place number line lines hit =
-    ap (λ b. if b then divided size place (length line) number
-    else split_by size (place + length line + 1) (number + 1) lines) hit
-
 divided_later : (size place number : ℕ) (before : List (List ℕ)) (line : List ℕ) (behind : List (List ℕ))
     → list_any is_crews before ≡ false → is_crews line ≡ true
     → split_by size place number (before ++ line ∷ behind)
     ≡ divided size (place + size_of before) (length line) (number + length before)
 divided_later size place number [] line behind first hit =
-    divides_at size place number line behind hit ∙ ap (λ (p : ℕ × ℕ). divided size p.0 (length line) p.1)
-    (λ i. ((let e : place ≡ place + 0 = omega arith in e) i, (let e : number ≡ number + 0 = omega arith in e) i))
+    rw hit (ap (λ (p : ℕ × ℕ). divided size p.0 (length line) p.1)
+    (λ i. ((let e : place ≡ place + 0 = omega arith in e) i, (let e : number ≡ number + 0 = omega arith in e) i)))
 divided_later size place number (other ∷ before) line behind first hit =
     let (miss, none) = or_parts (is_crews other) (list_any is_crews before) first in
     let at : place + length other + 1 + size_of before ≡ place + (length other + 1 + size_of before) = omega arith in
     let under : number + 1 + length before ≡ number + length (other ∷ before) = omega arith in
-    goes_on size place number other (before ++ line ∷ behind) miss
-    ∙ divided_later size (place + length other + 1) (number + 1) before line behind none hit
-    ∙ ap (λ (p : ℕ × ℕ). divided size p.0 (length line) p.1) (λ i. (at i, under i))
+    rw miss (divided_later size (place + length other + 1) (number + 1) before line behind none hit
+    ∙ ap (λ (p : ℕ × ℕ). divided size p.0 (length line) p.1) (λ i. (at i, under i)))
 
 undivided : (size place number : ℕ) (lines : List (List ℕ)) → list_any is_crews lines ≡ false
     → split_by size place number lines ≡ record { tree = size; crews = None }
 undivided size place number [] none = refl
 undivided size place number (line ∷ lines) none =
     let (miss, more) = or_parts (is_crews line) (list_any is_crews lines) none in
-    goes_on size place number line lines miss ∙ undivided size (place + length line + 1) (number + 1) lines more
+    rw miss (undivided size (place + length line + 1) (number + 1) lines more)
 
 pub divided_once : (bytes : List ℕ) (split : Split) → Divides bytes split → split_of bytes ≡ split
 divided_once bytes split is = by_crews split.crews is
@@ -149,10 +136,13 @@ lines_before (first ∷ before) line behind bytes are =
 pub tree_part_undivided : (bytes : List ℕ) (tree : ℕ) (crews : CrewsAt) → IsDividedAt bytes tree crews
     → list_any is_crews (lines_of (take tree bytes)) ≡ false
 tree_part_undivided bytes tree crews at =
-    ap (λ n. list_any is_crews (lines_of (take n bytes))) at.place
-    ∙ ap (list_any is_crews) (lines_before at.before at.line at.behind bytes at.lines)
-    ∙ list_any-append is_crews at.before ([] ∷ [])
-    ∙ ap (λ b. b || false) at.first
+    rw (
+      at.place,
+      lines_before at.before at.line at.behind bytes at.lines,
+      list_any-append is_crews at.before ([] ∷ []),
+      at.first,
+    )
+    refl
 
 pub number_by_feeds : (bytes : List ℕ) (tree : ℕ) (crews : CrewsAt) → IsDividedAt bytes tree crews
     → crews.line ≡ count_by is_feed (take tree bytes) + 2

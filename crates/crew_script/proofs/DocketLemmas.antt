@@ -1,11 +1,11 @@
 -- Crews and their requests, and what one line more makes of them.
-use Rattle.std.proofs.Common.{◌≡◌, ℕ, zero, suc, ◌+◌, ◌-◌, ◌<◌, ◌≤◌, true, false, List, [], ◌∷◌, ◌++◌, length, sym}
+use Rattle.std.proofs.Common.{◌≡◌, ℕ, zero, suc, ◌+◌, ◌-◌, ◌<◌, ◌≤◌, true, false, List, [], ◌∷◌, ◌++◌, length}
 use Rattle.std.proofs.Common.{refl, ap, ◌∙◌, subst, arith, length-append, inl, inr, set, get_or}
 use Rattle.std.specs.{Prelude.None, List.All}
 use Rattle.std.proofs.lemmas.Bool.{cases_Bool, or_left, or_right}
 use Rattle.std.proofs.lemmas.List.{map-append}
 use Rattle.std.proofs.lemmas.List.Elements.{All-push, All-nil, All-cons, All-head, All-tail}
-use Rattle.fault_words.specs.Names.{has_name, same_name, all_differ}
+use Rattle.fault_words.specs.Names.{has_name, same_name}
 use Rattle.fault_words.specs.Name.{is_name}
 use Rattle.crew_script.specs.declared.dockets.TheConstants.{MOST_CREWS, MOST_REQUESTS}
 use Rattle.crew_script.specs.Dockets.{crew_at, names_of, request_count, HasMargin, HasMargins, IsDockets}
@@ -80,9 +80,9 @@ dockets_crew crews total name form (kept, counted) none =
       record {
         few_crews = omega (arith, crew_room crews name none, length-append crews (named name ∷ []));
         named = record {
-          names = subst (All (λ n. is_name n ≡ true)) (sym (names_more crews (named name ∷ [])))
+          names = rw (names_more crews (named name ∷ []))
               (All-push (λ n. is_name n ≡ true) (names_of crews) name kept.named.names form);
-          differ = subst (λ l. all_differ l ≡ true) (sym (names_more crews (named name ∷ [])))
+          differ = rw (names_more crews (named name ∷ []))
               (differ_push (names_of crews) name kept.named.differ (crew_new crews name none));
         };
         few_requests = omega (arith, kept.few_requests, count);
@@ -125,8 +125,8 @@ dockets_request (crew ∷ crews) total ask (kept, counted) none margin = (
   record {
     few_crews = omega (arith, kept.few_crews, ask_length (crew ∷ crews) ask);
     named = record {
-      names = subst (All (λ n. is_name n ≡ true)) (sym (ask_names (crew ∷ crews) ask)) kept.named.names;
-      differ = subst (λ l. all_differ l ≡ true) (sym (ask_names (crew ∷ crews) ask)) kept.named.differ;
+      names = rw (ask_names (crew ∷ crews) ask) kept.named.names;
+      differ = rw (ask_names (crew ∷ crews) ask) kept.named.differ;
     };
     few_requests = omega (arith, request_room (crew ∷ crews) none, ask_count crew crews ask);
     margins = ask_margins (crew ∷ crews) ask kept.margins margin;

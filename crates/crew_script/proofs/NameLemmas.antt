@@ -1,8 +1,8 @@
 -- Names that differ, and what a take says.
-use Rattle.std.proofs.Common.{◌≡◌, ℕ, ◌<◌, true, false, not, List, [], ◌∷◌, ◌++◌, length, drop, refl, sym, ap, subst}
+use Rattle.std.proofs.Common.{◌≡◌, ℕ, ◌<◌, true, false, not, List, [], ◌∷◌, ◌++◌, length, drop, refl, sym, subst}
 use Rattle.std.proofs.Common.{◌∙◌, arith, true≢false}
-use Rattle.std.specs.Prelude.{◌||◌, Some, None, codes}
-use Rattle.std.proofs.lemmas.Bool.{and_from, and_parts, or_from, or_left, or_parts, or_right, not-true}
+use Rattle.std.specs.Prelude.{Some, None, codes}
+use Rattle.std.proofs.lemmas.Bool.{and_parts, or_from, or_left, or_parts, or_right, not-true}
 use Rattle.std.proofs.lemmas.Bool.{false_from_ne_true}
 use Rattle.std.proofs.{lemmas.List.Folds.list_any-append, lemmas.Grind.common_steps}
 use lib.Pointwise.{bytes_decides}
@@ -22,12 +22,11 @@ differ_push [] name differ new = refl
 differ_push (first ∷ names) name differ new =
     let (alone, rest) = and_parts (not (has_name names first)) (all_differ names) differ in
     let (apart, later) = or_parts (same_name name first) (has_name names name) new in
-    let still : has_name (names ++ name ∷ []) first ≡ false =
-    list_any-append (same_name first) names (name ∷ [])
-    ∙ or_from (has_name names first) (same_name first name || false) (not-true (has_name names first) alone)
-    (or_from (same_name first name) false (other_way name first apart) refl) in
-    and_from (not (has_name (names ++ name ∷ []) first)) (all_differ (names ++ name ∷ [])) (ap not still)
-    (differ_push names name rest later)
+    rw (
+      list_any-append (same_name first) names (name ∷ []),
+      not-true (has_name names first) alone,
+      other_way name first apart,
+    ) (differ_push names name rest later)
 
 -- a name that stands among names that differ is none of those before it
 pub differ_at : (names : List (List ℕ)) (name : List ℕ) (more : List (List ℕ))

@@ -1,16 +1,16 @@
 -- What lines stand for, or their first fault, is what is read of them.
 use Rattle.std.proofs.Common.{◌≡◌, ℕ, ◌+◌, ◌<◌, ◌≤◌, true, false, List, [], ◌∷◌, ◌++◌, map, length, sym, refl, ap}
 use Rattle.std.proofs.Common.{subst, ◌∙◌, arith, append_assoc, append-nil, length-append, inl, inr, le-leb}
-use Rattle.std.specs.Prelude.{Result, Ok, Err, Some, None, if◌then◌else◌}
+use Rattle.std.specs.Prelude.{Result, Ok, Err, Some, None}
 use Rattle.std.specs.List.{flat_map}
 use Rattle.std.proofs.lemmas.Bool.{lt-leb}
 use Rattle.fault_words.specs.{declared.place.Place.Place, Names.all_differ, Names.has_name}
 use Rattle.crew_script.specs.{declared.dockets.TheConstants.MOST_CREWS, declared.dockets.TheConstants.MOST_REQUESTS}
 use Rattle.crew_script.specs.{Dockets.names_of, Dockets.request_count, Says.Says, declared.dockets.Ask.Ask}
 use Rattle.crew_script.specs.{declared.dockets.Crew.Crew, declared.line.Line.Line, declared.fault.CrewCode.CrewCode}
-use Rattle.crew_script.specs.{declared.fault.CrewCode.TheVariants.TooManyRequests, declared.fault.CrewFault.CrewFault}
+use Rattle.crew_script.specs.{declared.fault.CrewFault.CrewFault}
 use Rattle.crew_script.specs.{declared.fault.CrewFault.TheVariants.Fault, declared.fault.CrewFault.TheVariants.NoMemory}
-use Rattle.crew_script.specs.Crews.{said, after, with_ask, crew_fault, request_fault, fault_behind, fault_at}
+use Rattle.crew_script.specs.Crews.{said, after, with_ask, crew_fault, request_fault, fault_behind}
 use Rattle.crew_script.specs.Crews.{unless_fault, crews_from}
 use Rattle.crew_script.specs.CrewsOf.{Say, say_none, say_nothing, say_next, lines_for, AreCrews, HasFault, bad_line}
 use Rattle.crew_script.specs.CrewsOf.{duplicate_crew, too_many_crews, request_before_crew, too_many_requests}
@@ -42,9 +42,7 @@ run number crews say_none clean = refl
 run number crews (say_nothing bytes lines more says rest) clean =
     one_read number crews lines says ∙ run (number + 1) crews rest clean
 run number crews (say_next bytes other lines more says some rest) clean =
-    one_read number crews lines says
-    ∙ ap (λ f. unless_fault number f (crews_from (number + 1) (after crews other) lines)) clean.0
-    ∙ run (number + 1) (after crews other) rest clean.1
+    one_read number crews lines says ∙ rw clean.0 (run (number + 1) (after crews other) rest clean.1)
 
 -- ---- what is said for crews has no fault
 
@@ -55,10 +53,9 @@ crew_open crews name new few = rw (new, lt-leb MOST_CREWS (length crews) few) re
 request_open : (crews : List Crew) (crew : Crew) → request_count (crews ++ crew ∷ []) < MOST_REQUESTS
     → request_fault (crews ++ crew ∷ []) ≡ None
 request_open [] crew few =
-    ap (λ b. if b then Some TooManyRequests else None) (lt-leb MOST_REQUESTS (request_count (crew ∷ [])) few)
+    rw (lt-leb MOST_REQUESTS (request_count (crew ∷ [])) few) refl
 request_open (first ∷ crews) crew few =
-    ap (λ b. if b then Some TooManyRequests else None)
-    (lt-leb MOST_REQUESTS (request_count (first ∷ (crews ++ crew ∷ []))) few)
+    rw (lt-leb MOST_REQUESTS (request_count (first ∷ (crews ++ crew ∷ []))) few) refl
 
 abbrev crew_with : List ℕ → List Ask → Crew
 crew_with name docket = record { name = name; docket = docket }
@@ -77,17 +74,15 @@ docket_ran crews name front (ask ∷ back) {rest} {end} few ran =
     let now = crews ++ crew_with name front ∷ [] in
     let next = crews ++ crew_with name (front ++ ask ∷ []) ∷ [] in
     let count = count_more crews (crew_with name front ∷ []) in
-    let last : with_ask ask now ≡ next = ask_last crews (crew_with name front) ask in
     let more : Ran next (map line.Request back ++ rest) end =
     docket_ran crews name (front ++ ask ∷ []) back
     (let long = length-append front (ask ∷ []) in omega (arith, few, long))
-    (subst (λ d. Ran (crews ++ crew_with name d ∷ []) rest end) (sym (append_assoc front (ask ∷ []) back)) ran) in
+    (rw (append_assoc front (ask ∷ []) back) ran) in
     let moved : Ran (with_ask ask now) (map line.Request back ++ rest) end =
-    subst (λ l. Ran l (map line.Request back ++ rest) end) (sym last) more in
+    rw (ask_last crews (crew_with name front) ask) more in
     record {
       clean = (request_open crews (crew_with name front) (omega (arith, few, count)), moved.clean);
-      gives =
-          moved.gives;
+      gives = moved.gives;
     }
 
 crews_ran : (crews more : List Crew) → all_differ (names_of (crews ++ more)) ≡ true
@@ -110,8 +105,7 @@ crews_ran crews (crew ∷ more) differ few_crews few_requests =
     docket_ran crews crew.name [] crew.docket (omega (arith, count, few_requests)) rest in
     record {
       clean = (crew_open crews crew.name new (omega (arith, long, few_crews)), docket.clean);
-      gives =
-          docket.gives;
+      gives = docket.gives;
     }
 
 stands_one : (number : ℕ) {lines : List (List ℕ)} {crews : List Crew} → AreCrews lines crews
@@ -149,18 +143,10 @@ read_on number crews [] more end same =
     ap (λ l. crews_from number l more) is ∙ ap (λ n. crews_from n end more) plus
 read_on number crews (bytes ∷ lines) more end same = elim (fault_cases (fault_behind crews (said bytes))) [
   | inl none ↦
-      let next = after crews (said bytes) in
-      let goes : (rest : Result (List Crew) CrewFault)
-      → unless_fault number (fault_behind crews (said bytes)) rest ≡ rest =
-      λ rest. ap (λ f. unless_fault number f rest) none in
       let plus : number + 1 + length lines ≡ number + length (bytes ∷ lines) = omega arith in
-      goes (crews_from (number + 1) next (lines ++ more))
-      ∙ read_on (number + 1) next lines more end (sym (goes (crews_from (number + 1) next lines)) ∙ same)
-      ∙ ap (λ n. crews_from n end more) plus
-  | inr some ↦
-      let fails : crews_from number crews (bytes ∷ lines) ≡ Err (fault_at some.0 number) =
-      ap (λ f. unless_fault number f (crews_from (number + 1) (after crews (said bytes)) lines)) some.1 in
-      absurd (let clash = sym fails ∙ same in cc)
+      rw none (read_on (number + 1) (after crews (said bytes)) lines more end (rw none at same)
+      ∙ ap (λ n. crews_from n end more) plus)
+  | inr some ↦ let clash = rw some.1 at same in absurd cc
 ]
 
 faults_one : {number : ℕ} {lines : List (List ℕ)} {code : CrewCode} {place : Place}

@@ -1,10 +1,10 @@
 -- What a line says by its words is what it says by its form.
-use Rattle.std.proofs.Common.{◌≡◌, ℕ, ◌+◌, ◌<◌, ◌≤◌, Bool, true, false, List, [], ◌∷◌, ◌++◌, length, cond, not, sym}
+use Rattle.std.proofs.Common.{◌≡◌, ℕ, ◌+◌, ◌<◌, ◌≤◌, Bool, true, false, List, [], ◌∷◌, ◌++◌, length, not, sym}
 use Rattle.std.proofs.Common.{refl, ap, subst, ◌∙◌, arith, append_assoc, append-nil, inl, inr, eqb-true, take, lt-ltb}
 use Rattle.std.proofs.Common.{le-leb, length-append}
 use Rattle.std.specs.Prelude.{◌⊎◌, ◌||◌, ◌&&◌, codes, Option, Some, None, unwrap_or, nat_le, nat_lt}
 use Rattle.std.specs.List.{list_all, position_or_len}
-use Rattle.std.specs.Str.{str_eq_ignore_ascii_case, str_to_ascii_lowercase, bytes_eq}
+use Rattle.std.specs.Str.{str_eq_ignore_ascii_case, str_to_ascii_lowercase}
 use Rattle.std.proofs.lemmas.Bool.{cases_Bool, and_parts, not-true, leb-true, ltb-true}
 use Rattle.fault_words.specs.{Name.is_name, Name.is_bare_name, Names.all_differ, Names.has_name}
 use lib.Pointwise.{bytes_decides}
@@ -41,9 +41,7 @@ lower word form here =
 other_form : (word : Word) (form other : List ℕ) → says word form ≡ true → str_eq_ignore_ascii_case form other ≡ false
     → says word other ≡ false
 other_form word form other here differ =
-    ap (λ t. is_bare_kind word.kind && bytes_eq t (str_to_ascii_lowercase other)) (lower word form here)
-    ∙ ap (λ b. is_bare_kind word.kind && b) differ
-    ∙ and_none (is_bare_kind word.kind)
+    rw (lower word form here, differ) (and_none (is_bare_kind word.kind))
 
 mark_lower : (text : List ℕ) → begins_comment text ≡ true → begins_comment (str_to_ascii_lowercase text) ≡ true
 mark_lower [] begins = absurd cc
@@ -57,7 +55,7 @@ no_comment word form here plain = elim (cases_Bool (begins_comment word.text)) [
   | inl hit ↦
       let clash = sym (ap begins_comment (lower word form here) ∙ plain) ∙ mark_lower word.text hit in
       absurd cc
-  | inr miss ↦ ap (λ b. is_bare_kind word.kind && b) miss ∙ and_none (is_bare_kind word.kind)
+  | inr miss ↦ rw miss (and_none (is_bare_kind word.kind))
 ]
 
 -- ---- the names of a take
@@ -75,23 +73,20 @@ takes before word few is new = rw (is, new, lt-ltb (length before) 16 few) refl
 pub take_all : (before : List (List ℕ)) (names : List Word) → Took before names
     → take_line before names ≡ Request (Take (before ++ texts names))
 take_all before [] took =
-    let some : 1 ≤ length before = omega (arith, took.some) in
-    rw (le-leb 1 (length before) some) (ap (λ l. Request (Take l)) (sym (append-nil before)))
+    rw (le-leb 1 (length before) (omega (arith, took.some))) (ap (λ l. Request (Take l)) (sym (append-nil before)))
 take_all before (word ∷ names) took =
     let (is, are) = and_parts (is_name_word word) (list_all is_name_word names) took.are in
     let new = differ_at before word.text (texts names) took.differ in
     let long = length-append before (word.text ∷ []) in
-    let goes : take_line before (word ∷ names) ≡ take_line (before ++ word.text ∷ []) names =
-    rw (takes before word (omega (arith, took.few)) is new) refl in
-    goes
-    ∙ take_all (before ++ word.text ∷ []) names (record {
+    let same = append_assoc before (word.text ∷ []) (texts names) in
+    rw (takes before word (omega (arith, took.few)) is new)
+    (take_all (before ++ word.text ∷ []) names (record {
       are = are;
-      differ = subst (λ l. all_differ l ≡ true) (sym (append_assoc before (word.text ∷ []) (texts names))) took.differ;
-      few =
-          omega (arith, long, took.few);
+      differ = rw same took.differ;
+      few = omega (arith, long, took.few);
       some = omega (arith, long);
     })
-    ∙ ap (λ l. Request (Take l)) (append_assoc before (word.text ∷ []) (texts names))
+    ∙ ap (λ l. Request (Take l)) same)
 
 pub take_read : (before : List (List ℕ)) (names : List Word) → length before ≤ 16 → all_differ before ≡ true
     → (take_line before names ≡ Bad) ⊎ Took before names
@@ -99,7 +94,7 @@ take_read before [] few differ = elim (cases_Bool (nat_le 1 (length before))) [
   | inl hit ↦ inr (let some = leb-true 1 (length before) hit in
       record {
         are = refl;
-        differ = subst (λ l. all_differ l ≡ true) (sym (append-nil before)) differ;
+        differ = rw (append-nil before) differ;
         few = omega (arith, few);
         some = omega (arith, some);
       })
@@ -117,9 +112,8 @@ take_read before (word ∷ names) few differ = elim (cases_Bool (is_taken_too be
         | inl bad ↦ inl (rw hit bad)
         | inr took ↦ inr (record {
           are = rw is took.are;
-          differ = subst (λ l. all_differ l ≡ true) (append_assoc before (word.text ∷ []) (texts names)) took.differ;
-          few =
-              omega (arith, took.few, long);
+          differ = rw append_assoc at took.differ;
+          few = omega (arith, took.few, long);
           some = omega arith;
         })
       ]
@@ -153,8 +147,7 @@ says_one line _ (says_take _ first names spells form are taken) =
       are = are;
       differ = differ;
       few = omega (arith, long, most);
-      some =
-          omega (arith, long, least);
+      some = omega (arith, long, least);
     }))
 says_one line _ (says_return _ first name spells form is) =
     ap line_of (words_spelled spells)
@@ -184,7 +177,7 @@ none_spelled (no_word gap blank) = blank
 
 spells_all : (line : List ℕ) {all : List Word} → words_of line ≡ all → list_all is_whole all ≡ true → Spells all line
 spells_all line same whole =
-    subst (λ l. Spells l line) same (spelled Between line tt (subst (λ l. list_all is_whole l ≡ true) (sym same) whole))
+    subst (λ l. Spells l line) same (spelled Between line tt (rw same whole))
 
 form_whole : (word : Word) (form : List ℕ) → says word form ≡ true → is_whole word ≡ true
 form_whole word form here =
@@ -200,9 +193,7 @@ name_whole word is = elim (cases_Bool (is_bare_kind word.kind)) [
         let parts =
         and_parts (is_name word.text) (is_quoted_kind word.kind
         || (is_bare_kind word.kind && is_bare_name word.text)) is in
-        let empty : (is_quoted_kind word.kind || (is_bare_kind word.kind && is_bare_name word.text)) ≡ false =
-        rw (none, miss) refl in
-        absurd (let both = sym parts.1 ∙ empty in cc)
+        let clash = rw (none, miss) at parts.1 in absurd cc
   ]
 ]
 
@@ -225,12 +216,8 @@ quotes_first : (text line : List ℕ) {first : Word} {rest : List Word} → word
     → is_bare_kind first.kind ≡ false
 quotes_first text [] same = grind (arith, same)
 quotes_first text (byte ∷ line) {first} {rest} same = elim (cases_Bool (is_quote byte)) [
-  | inl hit ↦ closed_first text line
-      (subst (λ b. cond b (words (Closed text) line) (words (InQuotes (text ++ byte ∷ [])) line) ≡ first ∷ rest) hit
-      same)
-  | inr miss ↦ quotes_first (text ++ byte ∷ []) line
-      (subst (λ b. cond b (words (Closed text) line) (words (InQuotes (text ++ byte ∷ [])) line) ≡ first ∷ rest) miss
-      same)
+  | inl hit ↦ closed_first text line (rw hit at same)
+  | inr miss ↦ quotes_first (text ++ byte ∷ []) line (rw miss at same)
 ]
 
 record IsComment (line : List ℕ) : Type 0 where
@@ -253,8 +240,7 @@ comment_found (byte ∷ line) {first} same here = elim (cases_Bool (is_blank byt
       }
   | inr miss ↦ elim (cases_Bool (is_quote byte)) [
     | inl quote ↦
-        let opens : words_of (byte ∷ line) ≡ words (InQuotes []) line = rw (miss, quote) refl in
-        let kind = quotes_first [] line (sym opens ∙ same) in
+        let kind = quotes_first [] line (rw (miss, quote) at same) in
         let parts = and_parts (is_bare_kind first.kind) (begins_comment first.text) here in
         absurd (let both = sym parts.0 ∙ kind in cc)
     | inr other ↦
@@ -320,8 +306,7 @@ read_name line {first} {rest} form saying same here bad says_so = elim (name_rea
       let spells =
       spells_all line (same ∙ ap (λ l. first ∷ l) found.alone)
       (rw (form_whole first form here, name_whole found.word found.is) refl) in
-      let one : only_name rest ≡ Some found.word.text = ap only_name found.alone ∙ rw found.is refl in
-      inr (subst (λ o. Says line (saying o)) (sym one) (says_so found.word spells found.is))
+      inr (rw (found.alone, found.is) (says_so found.word spells found.is))
 ]
 
 read_margin : (line : List ℕ) {first : Word} {rest : List Word} → words_of line ≡ first ∷ rest
@@ -332,8 +317,7 @@ read_margin line {first} {rest} same form = elim (margin_read rest) [
       let spells =
       spells_all line (same ∙ ap (λ l. first ∷ l) found.alone)
       (rw (form_whole first (codes "margin") form, found.kind) refl) in
-      let one : only_margin rest ≡ Some found.number = ap only_margin found.alone ∙ rw found.kind found.is in
-      inr (subst (λ o. Says line (margin_line o)) (sym one)
+      inr (rw (found.alone, found.kind, found.is)
       (says_margin line first found.word found.number spells form found.kind found.is))
 ]
 
@@ -358,16 +342,13 @@ read_take line {first} {rest} same form = elim (take_read [] rest (omega arith) 
 read_request : (line : List ℕ) {first : Word} {rest : List Word} → words_of line ≡ first ∷ rest
     → Reads line (request_line first rest)
 read_request line {first} {rest} same = elim (cases_Bool (says first (codes "take"))) [
-  | inl take ↦ subst (Reads line) (sym (let e : request_line first rest ≡ take_line [] rest = rw take refl in e))
-      (read_take line same take)
+  | inl take ↦ rw take (read_take line same take)
   | inr no_take ↦ elim (cases_Bool (says first (codes "return"))) [
-    | inl back ↦ subst (Reads line) (sym (let e : request_line first rest ≡ return_line (only_name rest) =
-        rw (no_take, back) refl in e)) (read_name line (codes "return") return_line same back refl
+    | inl back ↦ rw (no_take, back) (read_name line (codes "return") return_line same back refl
         (λ name spells is. says_return line first name spells back is))
     | inr no_back ↦ elim (cases_Bool (says first (codes "margin"))) [
-      | inl margin ↦ subst (Reads line) (sym (let e : request_line first rest ≡ margin_line (only_margin rest) =
-          rw (no_take, no_back, margin) refl in e)) (read_margin line same margin)
-      | inr none ↦ inl (rw (no_take, no_back, none) refl)
+      | inl margin ↦ rw (no_take, no_back, margin) (read_margin line same margin)
+      | inr none ↦ rw (no_take, no_back, none) (inl refl)
     ]
   ]
 ]
@@ -375,14 +356,11 @@ read_request line {first} {rest} same = elim (cases_Bool (says first (codes "tak
 by_words : (line : List ℕ) (all : List Word) → words_of line ≡ all → Reads line (line_of all)
 by_words line [] same = inr (says_blank line (none_spelled (spells_all line same refl)))
 by_words line (first ∷ rest) same = elim (cases_Bool (is_comment first)) [
-  | inl hit ↦ subst (Reads line) (sym (let e : line_of (first ∷ rest) ≡ Nothing = rw hit refl in e))
-      (inr (comment_says (comment_found line same hit)))
+  | inl hit ↦ rw hit (inr (comment_says (comment_found line same hit)))
   | inr miss ↦ elim (cases_Bool (says first (codes "crew"))) [
-    | inl crew ↦ subst (Reads line) (sym (let e : line_of (first ∷ rest) ≡ crew_line (only_name rest) =
-        rw (miss, crew) refl in e)) (read_name line (codes "crew") crew_line same crew refl
+    | inl crew ↦ rw (miss, crew) (read_name line (codes "crew") crew_line same crew refl
         (λ name spells is. says_crew line first name spells crew is))
-    | inr other ↦ subst (Reads line) (sym (let e : line_of (first ∷ rest) ≡ request_line first rest =
-        rw (miss, other) refl in e)) (read_request line same)
+    | inr other ↦ rw (miss, other) (read_request line same)
   ]
 ]
 
@@ -396,10 +374,9 @@ small_margin text number is =
     elim (cases_Bool (is_numeral 4 text && nat_le (number_from 0 text) GREATEST_MARGIN)) [
       | inl hit ↦
           let (form, small) = and_parts (is_numeral 4 text) (nat_le (number_from 0 text) GREATEST_MARGIN) hit in
-          let found : Some (number_from 0 text) ≡ Some number = sym (rw hit refl) ∙ is in
-          let same : number_from 0 text ≡ number = ap (λ o. unwrap_or o 0) found in
+          let same : number_from 0 text ≡ number = ap (λ o. unwrap_or o 0) (rw hit at is) in
           subst (λ n. n ≤ GREATEST_MARGIN) same (leb-true (number_from 0 text) GREATEST_MARGIN small)
-      | inr miss ↦ let none : None ≡ Some number = sym (rw miss refl) ∙ is in absurd cc
+      | inr miss ↦ let none = rw miss at is in absurd cc
     ]
 
 says_small : {line : List ℕ} {other : Line} → Says line other → SaysMargin other

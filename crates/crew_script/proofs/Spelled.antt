@@ -1,12 +1,12 @@
 -- The words of a line are those that spell it.
-use Rattle.std.proofs.Common.{◌≡◌, ℕ, Bool, true, false, List, [], ◌∷◌, ◌++◌, sym, refl, ap, subst, ◌∙◌, append_assoc}
+use Rattle.std.proofs.Common.{◌≡◌, ℕ, Bool, true, false, List, [], ◌∷◌, ◌++◌, sym, refl, ap, ◌∙◌, append_assoc}
 use Rattle.std.proofs.Common.{append-nil, inl, inr, eqb-true}
 use Rattle.std.specs.Prelude.{◌||◌}
 use Rattle.std.specs.List.{list_any, list_all}
-use Rattle.std.proofs.lemmas.Bool.{cases_Bool, and_parts, not-true, or_from, or_parts}
+use Rattle.std.proofs.lemmas.Bool.{cases_Bool, and_parts, not-true, or_parts}
 use Rattle.std.proofs.lemmas.List.Folds.{list_any-append}
 use Rattle.crew_script.specs.Words.{Word, Mode, Between, InBare, InQuotes, Closed, words, words_of, is_blank, is_quote}
-use Rattle.crew_script.specs.Words.{bare, quoted, broken, parts, begins_bare, are_blank, Writes, bare_word, quoted_word}
+use Rattle.crew_script.specs.Words.{bare, quoted, parts, begins_bare, are_blank, Writes, bare_word, quoted_word}
 use Rattle.crew_script.specs.Words.{Spells, no_word, word_on}
 use Rattle.crew_script.specs.Lines.{is_bare_kind, is_quoted_kind}
 use Rattle.crew_script.proofs.WordLemmas.{blank_skipped, closed_parts}
@@ -14,8 +14,7 @@ use Rattle.crew_script.proofs.WordLemmas.{blank_skipped, closed_parts}
 any_push : (test : ℕ → Bool) (bytes : List ℕ) (byte : ℕ) → list_any test bytes ≡ false → test byte ≡ false
     → list_any test (bytes ++ byte ∷ []) ≡ false
 any_push test bytes byte none last =
-    list_any-append test bytes (byte ∷ [])
-    ∙ or_from (list_any test bytes) (test byte || false) none (or_from (test byte) false last refl)
+    rw (list_any-append test bytes (byte ∷ []), none, last) refl
 
 -- ---- what is spelled is read
 
@@ -34,30 +33,23 @@ no_words (byte ∷ gap) blank =
 bare_ends : (text rest : List ℕ) → parts rest ≡ true → words (InBare text) rest ≡ bare text ∷ words_of rest
 bare_ends text [] ends = refl
 bare_ends text (byte ∷ rest) ends =
-    let stops : words (InBare text) (byte ∷ rest) ≡ bare text ∷ words_of rest = rw ends refl in
-    stops ∙ ap (λ l. bare text ∷ l) (sym (blank_skipped byte rest ends))
+    rw ends refl
 
 bare_run : (text more rest : List ℕ) → list_any is_blank more ≡ false → parts rest ≡ true
     → words (InBare text) (more ++ rest) ≡ bare (text ++ more) ∷ words_of rest
 bare_run text [] rest none ends = bare_ends text rest ends ∙ ap (λ t. bare t ∷ words_of rest) (sym (append-nil text))
 bare_run text (byte ∷ more) rest none ends =
-    let miss = (or_parts (is_blank byte) (list_any is_blank more) none).0 in
-    let goes : words (InBare text) (byte ∷ (more ++ rest)) ≡ words (InBare (text ++ byte ∷ [])) (more ++ rest) =
-    rw miss refl in
-    goes
-    ∙ bare_run (text ++ byte ∷ []) more rest (or_parts (is_blank byte) (list_any is_blank more) none).1 ends
-    ∙ ap (λ t. bare t ∷ words_of rest) (append_assoc text (byte ∷ []) more)
+    let (miss, later) = or_parts (is_blank byte) (list_any is_blank more) none in
+    rw miss (bare_run (text ++ byte ∷ []) more rest later ends
+    ∙ ap (λ t. bare t ∷ words_of rest) (append_assoc text (byte ∷ []) more))
 
 quote_run : (text more rest : List ℕ) → list_any is_quote more ≡ false
     → words (InQuotes text) (more ++ 34 ∷ rest) ≡ words (Closed (text ++ more)) rest
 quote_run text [] rest none = ap (λ t. words (Closed t) rest) (sym (append-nil text))
 quote_run text (byte ∷ more) rest none =
-    let miss = (or_parts (is_quote byte) (list_any is_quote more) none).0 in
-    let goes : words (InQuotes text) (byte ∷ (more ++ 34 ∷ rest))
-    ≡ words (InQuotes (text ++ byte ∷ [])) (more ++ 34 ∷ rest) = rw miss refl in
-    goes
-    ∙ quote_run (text ++ byte ∷ []) more rest (or_parts (is_quote byte) (list_any is_quote more) none).1
-    ∙ ap (λ t. words (Closed t) rest) (append_assoc text (byte ∷ []) more)
+    let (miss, later) = or_parts (is_quote byte) (list_any is_quote more) none in
+    rw miss (quote_run (text ++ byte ∷ []) more rest later
+    ∙ ap (λ t. words (Closed t) rest) (append_assoc text (byte ∷ []) more))
 
 quote_no_blank : is_blank 34 ≡ false
 unfolding is_blank
@@ -74,9 +66,8 @@ word_run : (word : Word) (written rest : List ℕ) → Writes word written → p
     → words_of (written ++ rest) ≡ word ∷ words_of rest
 word_run _ _ rest (bare_word [] begins none) ends = absurd cc
 word_run _ _ rest (bare_word (byte ∷ text) begins none) ends =
-    bare_begins byte (text ++ rest) (or_parts (is_blank byte) (list_any is_blank text) none).0
-    (not-true (is_quote byte) begins)
-    ∙ bare_run (byte ∷ []) text rest (or_parts (is_blank byte) (list_any is_blank text) none).1 ends
+    let (miss, later) = or_parts (is_blank byte) (list_any is_blank text) none in
+    bare_begins byte (text ++ rest) miss (not-true (is_quote byte) begins) ∙ bare_run (byte ∷ []) text rest later ends
 word_run _ _ rest (quoted_word text none) ends =
     quote_begins ((text ++ 34 ∷ []) ++ rest)
     ∙ ap (words (InQuotes [])) (append_assoc text (34 ∷ []) rest)
@@ -122,65 +113,34 @@ pub spelled : (mode : Mode) (line : List ℕ) → IsOpen mode → list_all is_wh
     → Spells (words mode line) (front mode ++ line)
 spelled Between [] is whole = no_word [] refl
 spelled Between (byte ∷ line) is whole = elim (cases_Bool (is_blank byte)) [
-  | inl hit ↦
-      let same = blank_skipped byte line hit in
-      subst (λ l. Spells l (byte ∷ line)) (sym same) (spells_blank byte hit (spelled Between line tt
-      (subst (λ l. list_all is_whole l ≡ true) same whole)))
+  | inl hit ↦ rw hit (spells_blank byte hit (spelled Between line tt (rw hit at whole)))
   | inr miss ↦ elim (cases_Bool (is_quote byte)) [
-    | inl quote ↦
-        let mark : byte ≡ 34 = eqb-true byte 34 quote in
-        let same : words_of (byte ∷ line) ≡ words (InQuotes []) line = rw (miss, quote) refl in
-        subst (λ l. Spells l (byte ∷ line)) (sym same)
-        (subst (λ b. Spells (words (InQuotes []) line) (b ∷ line)) (sym mark)
-        (spelled (InQuotes []) line refl (subst (λ l. list_all is_whole l ≡ true) same whole)))
-    | inr other ↦
-        let same = bare_begins byte line miss other in
-        subst (λ l. Spells l (byte ∷ line)) (sym same)
-        (spelled (InBare (byte ∷ [])) line (rw other refl, rw miss refl)
-        (subst (λ l. list_all is_whole l ≡ true) same whole))
+    | inl quote ↦ rw (miss, quote, eqb-true byte 34 quote)
+        (spelled (InQuotes []) line refl (rw (miss, quote) at whole))
+    | inr other ↦ rw (miss, other)
+        (spelled (InBare (byte ∷ [])) line (rw other refl, rw miss refl) (rw (miss, other) at whole))
   ]
 ]
 spelled (InBare text) [] is whole =
     word_on [] text [] (bare text) [] refl (bare_word text is.0 is.1) refl (no_word [] refl)
 spelled (InBare text) (byte ∷ line) is whole = elim (cases_Bool (is_blank byte)) [
-  | inl hit ↦
-      let same : words (InBare text) (byte ∷ line) ≡ bare text ∷ words_of line = rw hit refl in
-      subst (λ l. Spells l (text ++ byte ∷ line)) (sym same)
-      (word_on [] text (byte ∷ line) (bare text) (words_of line) refl (bare_word text is.0 is.1) hit
-      (spells_blank byte hit (spelled Between line tt (subst (λ l. list_all is_whole l ≡ true) same whole))))
-  | inr miss ↦
-      let same : words (InBare text) (byte ∷ line) ≡ words (InBare (text ++ byte ∷ [])) line = rw miss refl in
-      subst (λ l. Spells l (text ++ byte ∷ line)) (sym same)
-      (subst (Spells (words (InBare (text ++ byte ∷ [])) line)) (append_assoc text (byte ∷ []) line)
+  | inl hit ↦ rw hit (word_on [] text (byte ∷ line) (bare text) (words_of line) refl (bare_word text is.0 is.1) hit
+      (spells_blank byte hit (spelled Between line tt (rw hit at whole))))
+  | inr miss ↦ rw (miss, ← append_assoc text (byte ∷ []) line)
       (spelled (InBare (text ++ byte ∷ [])) line (begins_push text byte is.0, any_push is_blank text byte is.1 miss)
-      (subst (λ l. list_all is_whole l ≡ true) same whole)))
+      (rw miss at whole))
 ]
 spelled (InQuotes text) [] is whole = absurd cc
 spelled (InQuotes text) (byte ∷ line) is whole = elim (cases_Bool (is_quote byte)) [
-  | inl quote ↦
-      let mark : byte ≡ 34 = eqb-true byte 34 quote in
-      let same : words (InQuotes text) (byte ∷ line) ≡ words (Closed text) line = rw quote refl in
-      subst (λ l. Spells l (34 ∷ (text ++ byte ∷ line))) (sym same)
-      (subst (λ b. Spells (words (Closed text) line) (34 ∷ (text ++ b ∷ line))) (sym mark)
-      (subst (λ t. Spells (words (Closed text) line) (34 ∷ t)) (append_assoc text (34 ∷ []) line)
-      (spelled (Closed text) line is (subst (λ l. list_all is_whole l ≡ true) same whole))))
-  | inr other ↦
-      let same : words (InQuotes text) (byte ∷ line) ≡ words (InQuotes (text ++ byte ∷ [])) line = rw other refl in
-      subst (λ l. Spells l (34 ∷ (text ++ byte ∷ line))) (sym same)
-      (subst (λ t. Spells (words (InQuotes (text ++ byte ∷ [])) line) (34 ∷ t)) (append_assoc text (byte ∷ []) line)
-      (spelled (InQuotes (text ++ byte ∷ [])) line (any_push is_quote text byte is other)
-      (subst (λ l. list_all is_whole l ≡ true) same whole)))
+  | inl quote ↦ rw (quote, eqb-true byte 34 quote, ← append_assoc text (34 ∷ []) line)
+      (spelled (Closed text) line is (rw quote at whole))
+  | inr other ↦ rw (other, ← append_assoc text (byte ∷ []) line)
+      (spelled (InQuotes (text ++ byte ∷ [])) line (any_push is_quote text byte is other) (rw other at whole))
 ]
 spelled (Closed text) [] is whole =
     word_on [] (34 ∷ text ++ 34 ∷ []) [] (quoted text) [] refl (quoted_word text is) refl (no_word [] refl)
 spelled (Closed text) (byte ∷ line) is whole = elim (cases_Bool (is_blank byte)) [
-  | inl hit ↦
-      let same : words (Closed text) (byte ∷ line) ≡ quoted text ∷ words_of line = rw hit refl in
-      subst (λ l. Spells l (34 ∷ ((text ++ 34 ∷ []) ++ byte ∷ line))) (sym same)
-      (word_on [] (34 ∷ text ++ 34 ∷ []) (byte ∷ line) (quoted text) (words_of line) refl (quoted_word text is) hit
-      (spells_blank byte hit (spelled Between line tt (subst (λ l. list_all is_whole l ≡ true) same whole))))
-  | inr miss ↦
-      let same : words (Closed text) (byte ∷ line) ≡ broken ∷ [] = rw miss refl in
-      let clash : list_all is_whole (broken ∷ []) ≡ true = subst (λ l. list_all is_whole l ≡ true) same whole in
-      absurd cc
+  | inl hit ↦ rw hit (word_on [] (34 ∷ text ++ 34 ∷ []) (byte ∷ line) (quoted text) (words_of line) refl
+      (quoted_word text is) hit (spells_blank byte hit (spelled Between line tt (rw hit at whole))))
+  | inr miss ↦ let clash = rw miss at whole in absurd cc
 ]

@@ -1,16 +1,16 @@
 -- What is read of lines is what they stand for, or their first fault.
-use Rattle.std.proofs.Common.{◌≡◌, ◌≢◌, ℕ, ◌+◌, true, List, [], ◌∷◌, ◌++◌, length, sym, refl, ap, subst, ◌∙◌}
+use Rattle.std.proofs.Common.{◌≡◌, ◌≢◌, ℕ, ◌+◌, List, [], ◌∷◌, ◌++◌, length, sym, refl, ap, subst, ◌∙◌}
 use Rattle.std.proofs.Common.{arith, append_assoc, append-nil, length-append, inl, inr}
-use Rattle.std.specs.Prelude.{◌⊎◌, Err, Option, Some, None, nat_le}
+use Rattle.std.specs.Prelude.{◌⊎◌, Option, Some, None, nat_le}
 use Rattle.std.specs.List.{flat_map}
 use Rattle.std.proofs.{lemmas.Bool.cases_Bool, lemmas.Bool.leb-true, lemmas.List.map-append}
 use Rattle.std.proofs.{lemmas.List.Concat.flat_map-append}
-use Rattle.fault_words.specs.Names.{all_differ, has_name}
+use Rattle.fault_words.specs.Names.{has_name}
 use Rattle.crew_script.specs.{declared.dockets.TheConstants.MOST_CREWS, declared.dockets.TheConstants.MOST_REQUESTS}
 use Rattle.crew_script.specs.{Dockets.names_of, Dockets.request_count, declared.dockets.Ask.Ask}
 use Rattle.crew_script.specs.{declared.dockets.Crew.Crew, declared.line.Line.Line, declared.fault.CrewCode.CrewCode}
-use Rattle.crew_script.specs.Crews.{said, after, with_ask, crew_fault, request_fault, fault_behind, fault_at}
-use Rattle.crew_script.specs.Crews.{unless_fault, crews_from}
+use Rattle.crew_script.specs.Crews.{said, after, with_ask, fault_behind}
+use Rattle.crew_script.specs.Crews.{crews_from}
 use Rattle.crew_script.specs.Says.{Says, says_blank, says_comment, says_crew, says_take, says_return, says_margin}
 use Rattle.crew_script.specs.CrewsOf.{Say, say_none, say_nothing, say_next, lines_for, AreCrews, HasFault, bad_line}
 use Rattle.crew_script.specs.CrewsOf.{duplicate_crew, too_many_crews, request_before_crew, too_many_requests, Answers}
@@ -64,24 +64,20 @@ stands_on {before} crews bytes line.Nothing stand same none = record {
 }
 stands_on crews bytes line.Bad stand same none = absurd cc
 stands_on {before} crews bytes (line.Crew name) stand same none = record {
-  say = subst (Say (before ++ bytes ∷ [])) (sym (flat_map-append lines_for crews (named name ∷ [])))
+  say = rw (flat_map-append lines_for crews (named name ∷ []))
       (say_append stand.say (say_one (says_it bytes same (λ e. absurd cc)) (λ e. absurd cc)));
-  differ = subst (λ l. all_differ l ≡ true) (sym (names_more crews (named name ∷ [])))
+  differ = rw (names_more crews (named name ∷ []))
       (differ_push (names_of crews) name stand.differ (crew_new crews name none));
   few_crews = omega (arith, crew_room crews name none, length-append crews (named name ∷ []));
   few_requests = omega (arith, stand.few_requests, count_more crews (named name ∷ []));
 }
 stands_on [] bytes (line.Request ask) stand same none = absurd cc
 stands_on {before} (first ∷ crews) bytes (line.Request ask) stand same none = record {
-  say = subst (Say (before ++ bytes ∷ [])) (sym (ask_lines first crews ask)) (say_append stand.say
+  say = rw (ask_lines first crews ask) (say_append stand.say
       (say_one (says_it bytes same (λ e. absurd cc)) (λ e. absurd cc)));
-  differ = subst (λ l. all_differ l ≡ true) (sym (ask_names (first ∷ crews) ask)) stand.differ;
-  few_crews =
-      let same_length = ask_length (first ∷ crews) ask in let few = stand.few_crews in omega (arith, same_length, few);
-  few_requests =
-      let room = request_room (first ∷ crews) none in
-      let more = ask_count first crews ask in
-      omega (arith, room, more);
+  differ = rw (ask_names (first ∷ crews) ask) stand.differ;
+  few_crews = omega (arith, ask_length (first ∷ crews) ask, stand.few_crews);
+  few_requests = omega (arith, request_room (first ∷ crews) none, ask_count first crews ask);
 }
 
 -- ---- a fault
@@ -112,17 +108,13 @@ has_fault crews bytes (line.Crew name) code same some =
     let says = says_it bytes same (λ e. absurd cc) in
     elim (cases_Bool (has_name (names_of crews) name)) [
       | inl hit ↦
-          let is : crew_fault crews name ≡ Some DuplicateCrew = rw hit refl in
-          subst (HasFault crews bytes) (some_code DuplicateCrew code (sym is ∙ some))
+          subst (HasFault crews bytes) (some_code DuplicateCrew code (rw hit at some))
           (duplicate_crew crews bytes name says hit)
       | inr miss ↦ elim (cases_Bool (nat_le MOST_CREWS (length crews))) [
         | inl many ↦
-            let is : crew_fault crews name ≡ Some TooManyCrews = rw (miss, many) refl in
-            subst (HasFault crews bytes) (some_code TooManyCrews code (sym is ∙ some))
+            subst (HasFault crews bytes) (some_code TooManyCrews code (rw (miss, many) at some))
             (too_many_crews crews bytes name says miss (leb-true MOST_CREWS (length crews) many))
-        | inr few ↦
-            let is : crew_fault crews name ≡ None = rw (miss, few) refl in
-            absurd (let clash = sym is ∙ some in cc)
+        | inr few ↦ let clash = rw (miss, few) at some in absurd cc
       ]
     ]
 has_fault [] bytes (line.Request ask) code same some =
@@ -131,13 +123,10 @@ has_fault [] bytes (line.Request ask) code same some =
 has_fault (first ∷ crews) bytes (line.Request ask) code same some =
     elim (cases_Bool (nat_le MOST_REQUESTS (request_count (first ∷ crews)))) [
       | inl many ↦
-          let is : request_fault (first ∷ crews) ≡ Some TooManyRequests = rw many refl in
-          subst (HasFault (first ∷ crews) bytes) (some_code TooManyRequests code (sym is ∙ some))
+          subst (HasFault (first ∷ crews) bytes) (some_code TooManyRequests code (rw many at some))
           (too_many_requests (first ∷ crews) bytes ask (says_it bytes same (λ e. absurd cc))
           (λ e. absurd cc) (leb-true MOST_REQUESTS (request_count (first ∷ crews)) many))
-      | inr few ↦
-          let is : request_fault (first ∷ crews) ≡ None = rw few refl in
-          absurd (let clash = sym is ∙ some in cc)
+      | inr few ↦ let clash = rw few at some in absurd cc
     ]
 
 -- ---- all lines
@@ -151,35 +140,22 @@ answers : (number : ℕ) {before : List (List ℕ)} (lines : List (List ℕ)) {c
 answers number {before} [] {crews} stand = subst (λ l. AreCrews l crews) (sym (append-nil before)) stand
 answers number {before} (bytes ∷ lines) {crews} stand = elim (fault_cases (fault_behind crews (said bytes))) [
   | inl none ↦
-      let rest = crews_from (number + length before + 1) (after crews (said bytes)) lines in
-      let goes : unless_fault (number + length before) (fault_behind crews (said bytes)) rest ≡ rest =
-      ap (λ f. unless_fault (number + length before) f rest) none in
       let more =
-      answers number {before = before ++ bytes ∷ []} lines {crews = after crews (said bytes)}
-      (stands_on crews bytes (said bytes) stand refl none) in
+      answers number {before = before ++ bytes ∷ []} lines (stands_on crews bytes (said bytes) stand refl none) in
       let next : number + length (before ++ bytes ∷ []) ≡ number + length before + 1 =
       omega (arith, length-append before (bytes ∷ [])) in
-      subst (Answers number (before ++ bytes ∷ lines)) (sym goes)
-      (subst (λ n. Answers number (before ++ bytes ∷ lines) (crews_from n (after crews (said bytes)) lines)) next
-      (subst (λ l. Answers number l (crews_from (number + length (before ++ bytes ∷ [])) (after crews (said bytes))
-      lines)) (append_assoc before (bytes ∷ []) lines) more))
-  | inr some ↦
-      let rest = crews_from (number + length before + 1) (after crews (said bytes)) lines in
-      let fails : unless_fault (number + length before) (fault_behind crews (said bytes)) rest
-      ≡ Err (fault_at some.0 (number + length before)) =
-      ap (λ f. unless_fault (number + length before) f rest) some.1 in
-      subst (Answers number (before ++ bytes ∷ lines)) (sym fails)
-      (record {
-        before = before;
-        bytes = bytes;
-        behind = lines;
-        crews = crews;
-        split = refl;
-        stand = stand;
-        has = has_fault crews bytes (said bytes) some.0 refl some.1;
-        line = refl;
-        column = refl;
-      })
+      rw (none, ← next, ← append_assoc before (bytes ∷ []) lines) more
+  | inr some ↦ rw some.1 (record {
+    before = before;
+    bytes = bytes;
+    behind = lines;
+    crews = crews;
+    split = refl;
+    stand = stand;
+    has = has_fault crews bytes (said bytes) some.0 refl some.1;
+    line = refl;
+    column = refl;
+  })
 ]
 
 none_stand : AreCrews [] []

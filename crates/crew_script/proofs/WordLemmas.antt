@@ -1,6 +1,6 @@
 -- What the words of a line are, run by run.
-use Rattle.std.proofs.Common.{◌≡◌, ℕ, ◌+◌, ◌<◌, true, false, List, [], ◌∷◌, ◌++◌, length, take, drop, cond, not}
-use Rattle.std.proofs.Common.{sym, refl, ap, ◌∙◌, arith, append_assoc, append-nil, inl, inr, subst, ◌≤◌, suc}
+use Rattle.std.proofs.Common.{◌≡◌, ℕ, ◌+◌, ◌<◌, true, false, List, [], ◌∷◌, ◌++◌, length, take, drop, cond}
+use Rattle.std.proofs.Common.{sym, refl, ap, ◌∙◌, arith, append_assoc, append-nil, inl, inr, ◌≤◌, suc}
 use Rattle.std.specs.List.{prefix_len, position_or_len}
 use Rattle.std.proofs.lemmas.Bool.{cases_Bool, not-true}
 use Rattle.crew_script.specs.Words.{InBare, InQuotes, Closed, words, words_of, is_blank, is_quote, bare, quoted, broken}
@@ -36,13 +36,8 @@ pub bare_on : (text bytes : List ℕ) → words (InBare text) bytes
 bare_on text [] = ap (λ t. bare t ∷ []) (sym (append-nil text))
 bare_on text (byte ∷ bytes) = elim (cases_Bool (is_blank byte)) [
   | inl hit ↦
-      let none : position_or_len is_blank (byte ∷ bytes) ≡ 0 =
-      ap (λ b. cond (not b) (1 + position_or_len is_blank bytes) 0) hit in
-      let ends : words (InBare text) (byte ∷ bytes) ≡ bare text ∷ words_of bytes = rw hit refl in
-      ends
-      ∙ ap (λ t. bare t ∷ words_of bytes) (sym (append-nil text))
-      ∙ ap (λ l. bare (text ++ []) ∷ l) (sym (blank_skipped byte bytes hit))
-      ∙ ap (λ n. bare (text ++ take n (byte ∷ bytes)) ∷ words_of (drop n (byte ∷ bytes))) (sym none)
+      rw hit (ap (λ t. bare t ∷ words_of bytes) (sym (append-nil text))
+      ∙ ap (λ l. bare (text ++ []) ∷ l) (sym (blank_skipped byte bytes hit)))
   | inr miss ↦
       let place = position_or_len is_blank bytes in
       let on : suc place ≡ 1 + place = omega arith in
@@ -72,8 +67,7 @@ quoted_on text (byte ∷ bytes) within = elim (cases_Bool (is_quote byte)) [
   | inl hit ↦ rw hit (ap (λ t. words (Closed t) bytes) (sym (append-nil text)))
   | inr miss ↦
       let place = position_or_len is_quote bytes in
-      let few : 1 + place < length (byte ∷ bytes) =
-      subst (λ b. cond (not b) (1 + place) 0 < length (byte ∷ bytes)) miss within in
+      let few = rw miss at within in
       let on : suc place ≡ 1 + place = omega arith in
       let past : suc (place + 1) ≡ 1 + place + 1 = omega arith in
       rw miss
@@ -87,15 +81,8 @@ pub quoted_open : (text bytes : List ℕ) → length bytes ≤ position_or_len i
     → words (InQuotes text) bytes ≡ broken ∷ []
 quoted_open text [] none = refl
 quoted_open text (byte ∷ bytes) none = elim (cases_Bool (is_quote byte)) [
-  | inl hit ↦
-      let place = position_or_len is_quote bytes in
-      let few : length (byte ∷ bytes) ≤ 0 = subst (λ b. length (byte ∷ bytes) ≤ cond (not b) (1 + place) 0) hit none in
-      absurd (omega (arith, few))
-  | inr miss ↦
-      let place = position_or_len is_quote bytes in
-      let few : length (byte ∷ bytes) ≤ 1 + place =
-      subst (λ b. length (byte ∷ bytes) ≤ cond (not b) (1 + place) 0) miss none in
-      rw miss (quoted_open (text ++ byte ∷ []) bytes (omega (arith, few)))
+  | inl hit ↦ let few = rw hit at none in absurd (omega (arith, few))
+  | inr miss ↦ let few = rw miss at none in rw miss (quoted_open (text ++ byte ∷ []) bytes (omega (arith, few)))
 ]
 
 -- behind a quoted word stands a blank, or the line ends
