@@ -64,24 +64,9 @@ impl Found {
         ensures limit { IsErrOf result ListEnd.ListLimit → weight_limit < weight (joined self.now) }
     {
         let mut cuts = CutList::new(alloc);
-        for size in 0..self.sizes() {
-            cuts.append(self.sets_of(size))?;
+        for size in 0..self.lists.len() {
+            cuts.append(&self.lists[size])?;
         }
         Ok(cuts)
-    }
-
-    // How many sizes have lists.
-    fn sizes(&self) -> usize
-        ensures { result ≡ length self.now }
-    {
-        self.lists.len()
-    }
-
-    // The sets of a size.
-    fn sets_of(&self, size: usize) -> &Rows<UnitNo>
-        requires { size < length self.now }
-        ensures { result.now ≡ at_size self.now size }
-    {
-        &self.lists[size]
     }
 }

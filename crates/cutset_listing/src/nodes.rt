@@ -7,58 +7,18 @@ ghost use Rattle.cutset_listing.specs.Nodes.{with_node};
 
 use indexmap::IndexSet;
 use std::alloc::Global;
-use std::marker::Model;
 use unit_sets::NoMemory;
 use zdd_shared_table::{NodeStore, StoreSeat};
 use zdd_words::NodeRef;
 
-// The nodes that a search has met, each once, in the order in which it met them. A contract sees them as their
-// references.
-#[derive(Drop)]
-struct Met {
-    nodes: IndexSet<NodeRef>,
-}
-
-impl Model for Met {
-    ghost use Rattle.std.specs.Prelude.{ℕ, List};
-
-    ghost Value = { List ℕ };
-
-    ghost view = { λ met. met.nodes.keys };
-}
-
-impl Met {
-    fn new(alloc: Global) -> Met
-        ensures { result ≡ [] }
-    {
-        Met {
-            nodes: IndexSet::new(alloc),
-        }
+// Puts a reference behind those that a search has met, unless it is among them or a terminal.
+fn meet(met: &mut IndexSet<NodeRef>, r: NodeRef) -> Result<(), NoMemory>
+    ensures { OnOk result (met.new.keys ≡ with_node r met.old.keys) }
+{
+    if r != NodeRef::EMPTY && r != NodeRef::UNIT {
+        met.insert(r)?;
     }
-
-    // Puts a reference behind the others, unless it is among them or a terminal.
-    fn add(&mut self, r: NodeRef) -> Result<(), NoMemory>
-        ensures { OnOk result (self.new ≡ with_node r self.old) }
-    {
-        if r != NodeRef::EMPTY && r != NodeRef::UNIT {
-            self.nodes.insert(r)?;
-        }
-        Ok(())
-    }
-
-    fn len(&self) -> usize
-        ensures { result ≡ length self.now }
-    {
-        self.nodes.len()
-    }
-
-    // The reference at a place.
-    fn node(&self, place: usize) -> NodeRef
-        requires { place < length self.now }
-        ensures { result ≡ slice_index_or self.now place 0 }
-    {
-        self.nodes[place]
-    }
+    Ok(())
 }
 
 /// The number of distinct families, other than the one without sets and that of the empty set alone, that are got from
@@ -74,18 +34,34 @@ pub fn node_count(
     ensures count { IfOk result (IsNodeCount (family (map_of seat.old) root)) }
     ensures seat { seat.new ≡ seat.old }
 {
+    let mut met = IndexSet::new(alloc);
+    count_met(&mut met, store, seat, root)
+}
+
+// Meets a reference's node and all nodes below it, where none is met yet, and counts them.
+fn count_met(
+    met: &mut IndexSet<NodeRef>,
+    store: &NodeStore,
+    seat: &mut StoreSeat,
+    root: NodeRef,
+) -> Result<u64, NoMemory>
+    requires own { seat.old.store ≡ store.now }
+    requires knows { Knows (map_of seat.old) root }
+    requires none { met.old.keys ≡ [] }
+    ensures count { IfOk result (IsNodeCount (family (map_of seat.old) root)) }
+    ensures seat { seat.new ≡ seat.old }
+{
     // Tells the proof that different references have different families.
     seat.is_sound();
-    let mut met = Met::new(alloc);
-    met.add(root)?;
+    meet(met, root)?;
     let mut place = 0;
     while place < met.len() {
-        let parts = store.parts(seat, met.node(place));
+        let parts = store.parts(seat, met[place]);
         // Tells the proof that both are parts of the node's word.
         parts.lo.number();
         parts.hi.number();
-        met.add(parts.lo)?;
-        met.add(parts.hi)?;
+        meet(met, parts.lo)?;
+        meet(met, parts.hi)?;
         place += 1;
     }
     Ok(met.len() as u64)
