@@ -1,4 +1,4 @@
-//! Tests of `outage_engine`: whole runs, from the bytes read to the bytes written.
+//! Tests of `outage_engine` and `picture_engine`: whole runs, from the bytes read to the bytes written.
 #![tactic(auto)]
 
 #[cfg(test)]
@@ -11,6 +11,8 @@ mod held_tests;
 mod limit_tests;
 #[cfg(test)]
 mod make_tests;
+#[cfg(test)]
+mod picture_tests;
 #[cfg(test)]
 mod runs;
 #[cfg(test)]

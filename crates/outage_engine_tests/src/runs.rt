@@ -38,7 +38,7 @@ pub(super) const SOUND: Edges = Edges {
 // How many bits of slots the store of a run has, where a test asks for no other.
 pub(super) const BITS: u32 = 12;
 
-fn words_of(alloc: Global, line: &str) -> Result<Vec<Word>, AllocError> {
+pub(super) fn words_of(alloc: Global, line: &str) -> Result<Vec<Word>, AllocError> {
     let mut words = Vec::new(alloc);
     for word in line.split_whitespace() {
         words.push(Word::of(alloc, word.as_bytes())?)?;
@@ -53,13 +53,17 @@ fn calls_of(alloc: Global, failing: Option<u64>) -> Result<CallList, AllocError>
     }
 }
 
-fn source_of(alloc: Global, deck: &[u8], edges: Edges) -> Result<HeldSource, AllocError> {
+pub(super) fn source_of(
+    alloc: Global,
+    deck: &[u8],
+    edges: Edges,
+) -> Result<HeldSource, AllocError> {
     let failing = calls_of(alloc, edges.failing_read)?;
     let bytes = Bytes::of(alloc, deck)?;
     Ok(HeldSource::new(bytes, edges.piece.max(1), failing))
 }
 
-fn sink_of(alloc: Global, edges: Edges) -> Result<KeptSink, AllocError> {
+pub(super) fn sink_of(alloc: Global, edges: Edges) -> Result<KeptSink, AllocError> {
     KeptSink::new(alloc, edges.room, calls_of(alloc, edges.failing_write)?)
 }
 

@@ -1,5 +1,0 @@
-use Rattle.cutset_listing_tests.proofs.Mades.{lacks_none}
-use Rattle.cutset_listing_tests.proofs.tests.empty_ones.Goals as goal
-
-pub list-requires-clause-filled : goal.list-requires-clause-filled
-list-requires-clause-filled c = lacks_none _

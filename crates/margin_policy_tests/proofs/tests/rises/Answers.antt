@@ -1,6 +1,0 @@
-use Rattle.std.proofs.Common.{arith}
-use Rattle.margin_policy.proofs.TestLemmas.{rises-all}
-use Rattle.margin_policy_tests.proofs.tests.rises.Goals as goal
-
-pub returns : goal.returns
-returns c = λ _. rises-all (omega arith) c.loop-i.invariant

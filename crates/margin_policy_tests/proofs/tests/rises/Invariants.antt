@@ -1,5 +1,0 @@
-use Rattle.margin_policy.proofs.TestLemmas.{RisesSoFar}
-use Rattle.margin_policy_tests.proofs.tests.rises.Given as goal
-
-abbrev pub invariant-loop-i : goal.invariant-loop-i
-invariant-loop-i l = RisesSoFar l.units l.i

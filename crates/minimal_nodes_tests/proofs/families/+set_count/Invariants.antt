@@ -1,7 +1,0 @@
-use Rattle.std.proofs.Common.{◌-◌}
-use Rattle.zdd_families.specs.Map.{level_in}
-use Rattle.family_memory.specs.Memory.{map_of}
-use Rattle.minimal_nodes_tests.proofs.families.+set_count.Given as goal
-
-abbrev pub decreases-set_count : goal.decreases-set_count
-decreases-set_count l = 4096 - level_in (map_of l.memory.now) l.r

@@ -1,6 +1,0 @@
-use Rattle.std.proofs.Common.{All}
-use Rattle.fault_definitions.specs.Tree.{IsUnitOf}
-use Rattle.replay_semantics_tests.proofs.tests.order_of.Given as goal
-
-abbrev pub invariant-loop-digit : goal.invariant-loop-digit
-invariant-loop-digit l = All (IsUnitOf l.tree) l.units.items

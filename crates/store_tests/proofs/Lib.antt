@@ -1,0 +1,2 @@
+mod Mades
+mod Reading

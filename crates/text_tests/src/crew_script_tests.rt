@@ -1,0 +1,4 @@
+//! The crew part of a deck, and each fault of it.
+
+mod crews;
+mod decks;
