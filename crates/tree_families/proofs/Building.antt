@@ -49,7 +49,7 @@ pub recipe-cut_family : {tree : FaultTree} → IsTree tree → {node : ℕ} → 
     → StandFor (IsCutFamily tree) (below tree node) families → IsMadeBy (node_recipe tree node families) made
     → IsMinimal made least → IsCutFamily tree node least
 recipe-cut_family {tree} kept {node} is_node families {made} {least} stand is minimal =
-    cut_family-minimal _ _ _ _ (recipe-generates tree kept node is_node families made stand is) minimal
+    cut_family-minimal tree node made least (recipe-generates tree kept node is_node families made stand is) minimal
 
 -- ---- by the kind of the node
 

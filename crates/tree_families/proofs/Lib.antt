@@ -5,5 +5,6 @@ pub mod NodeSteps
 pub mod RecipeParts
 pub mod Steps
 pub mod TreeParts
+pub mod LeastFamilies
 pub mod CutFamilies
 pub mod ExamplesLemmas

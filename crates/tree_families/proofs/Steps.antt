@@ -1,4 +1,5 @@
--- What the recipe of a node makes from families that generate what the node reads: it generates the node.
+-- What a recipe makes of families that are true where what a node reads is, by any reading of the nodes: it is true by
+-- the gate's kind. So what the recipe of a node makes from families that generate what the node reads generates it.
 use Rattle.std.specs.Prelude.{◌≡◌, ℕ, zero, suc, Bool, true, false, ◌&&◌, ◌||◌, ◌==◌, nat_le, List, [], ◌∷◌, Contains}
 use Rattle.std.specs.{List.list_any, List.list_all, List.Sorted.IsStrictlySortedBy}
 use Rattle.std.proofs.Common.{refl, sym, ◌∙◌, ap, subst, inl, inr, arith}
@@ -17,7 +18,7 @@ use Rattle.zdd_families.proofs.{FamilyLemmas.IsFamily-nil, FamilyLemmas.IsFamily
 use Rattle.zdd_families.proofs.{Parts.empty_unit}
 use Rattle.zdd_families.proofs.WithinLemmas.{some_within-union, some_within-product, some_within-minimal}
 use Rattle.zdd_families.proofs.WithinLemmas.{some_within-votes}
-use Rattle.tree_families.specs.Generation.{IsFamilyOf, AreFamiliesOf, IsFamilyFor}
+use Rattle.tree_families.specs.Generation.{IsFamilyOf, AreFamiliesOf, IsFamilyFor, IsTrueFor, IsTrueWhere}
 use Rattle.tree_families.specs.Recipe.{Recipe, IsUnionOfAll, IsProductOfAll, IsMadeBy, all_united}
 use Rattle.tree_families.specs.Recipe.{all_multiplied, first_alone, gate_recipe, alone, node_recipe, StandFor}
 
@@ -116,45 +117,43 @@ module _ (tree : FaultTree) where
   of_products (family ∷ others) of all (product, least, is, minimal, rest) =
       of_products others (of_minimal (of_product of all.0 is) minimal) all.1 rest
 
--- ---- families that generate the nodes that are read
+-- ---- families that are true where the nodes that are read are, by any reading
 
-module _ (tree : FaultTree) where
-  all_of_tree : (nodes : List ℕ) (families : List (List (List ℕ))) → StandFor (IsFamilyFor tree) nodes families
+module _ (tree : FaultTree) (reading : (ℕ → Bool) → ℕ → Bool) where
+  all_of_tree : (nodes : List ℕ) (families : List (List (List ℕ))) → StandFor (IsTrueFor tree reading) nodes families
       → AreFamiliesOf tree families
   all_of_tree [] [] stand = tt
   all_of_tree (node ∷ nodes) (family ∷ families) stand = (stand.0.of_tree, all_of_tree nodes families stand.1)
   all_of_tree nodes families stand = absurd stand
 
   module _ (within : ℕ → Bool) where
-    some_hit : (nodes : List ℕ) (families : List (List (List ℕ))) → StandFor (IsFamilyFor tree) nodes families
-        → list_any (hit_by within) families ≡ list_any (reads tree within) nodes
+    some_hit : (nodes : List ℕ) (families : List (List (List ℕ))) → StandFor (IsTrueFor tree reading) nodes families
+        → list_any (hit_by within) families ≡ list_any (reading within) nodes
     some_hit [] [] stand = refl
     some_hit (node ∷ nodes) (family ∷ families) stand =
-        let e = stand.0.some_within within in let rest = some_hit nodes families stand.1 in cc
+        let e : some_within family within ≡ reading within node = stand.0.some_within within in
+        let rest = some_hit nodes families stand.1 in cc
     some_hit nodes families stand = absurd stand
 
-    pub all_hit : (nodes : List ℕ) (families : List (List (List ℕ))) → StandFor (IsFamilyFor tree) nodes families
-        → list_all (hit_by within) families ≡ list_all (reads tree within) nodes
+    all_hit : (nodes : List ℕ) (families : List (List (List ℕ))) → StandFor (IsTrueFor tree reading) nodes families
+        → list_all (hit_by within) families ≡ list_all (reading within) nodes
     all_hit [] [] stand = refl
     all_hit (node ∷ nodes) (family ∷ families) stand =
-        let e = stand.0.some_within within in let rest = all_hit nodes families stand.1 in cc
+        let e : some_within family within ≡ reading within node = stand.0.some_within within in
+        let rest = all_hit nodes families stand.1 in cc
     all_hit nodes families stand = absurd stand
 
-    count_hit : (nodes : List ℕ) (families : List (List (List ℕ))) → StandFor (IsFamilyFor tree) nodes families
-        → count_within families within ≡ true_count (reads tree within) nodes
+    count_hit : (nodes : List ℕ) (families : List (List (List ℕ))) → StandFor (IsTrueFor tree reading) nodes families
+        → count_within families within ≡ true_count (reading within) nodes
     count_hit [] [] stand = refl
     count_hit (node ∷ nodes) (family ∷ families) stand =
-        let e = stand.0.some_within within in let rest = count_hit nodes families stand.1 in cc
+        let e : some_within family within ≡ reading within node = stand.0.some_within within in
+        let rest = count_hit nodes families stand.1 in cc
     count_hit nodes families stand = absurd stand
 
 -- ---- gates
 
--- a family that is true where a test of sets says so
-record IsTrueWhere (tree : FaultTree) (test : (ℕ → Bool) → Bool) (made : List (List ℕ)) : Type 0 where
-  of_tree : IsFamilyOf tree made
-  some_within : (within : ℕ → Bool) → some_within made within ≡ test within
-
-module _ (tree : FaultTree) where
+module _ (tree : FaultTree) (reading : (ℕ → Bool) → ℕ → Bool) where
   -- a family without sets is never true
   never : {made : List (List ℕ)} → made ≡ [] → IsTrueWhere tree (λ within. false) made
   never same =
@@ -164,20 +163,20 @@ module _ (tree : FaultTree) where
       }
 
   united : (nodes : List ℕ) (families : List (List (List ℕ))) {made : List (List ℕ)}
-      → StandFor (IsFamilyFor tree) nodes families → IsMadeBy (all_united families) made
-      → IsTrueWhere tree (λ within. list_any (reads tree within) nodes) made
+      → StandFor (IsTrueFor tree reading) nodes families → IsMadeBy (all_united families) made
+      → IsTrueWhere tree (λ within. list_any (reading within) nodes) made
   united [] [] stand same = never same
   united (node ∷ nodes) (family ∷ families) {made} stand is = record {
-    of_tree = of_unions tree families stand.0.of_tree (all_of_tree tree nodes families stand.1) is;
+    of_tree = of_unions tree families stand.0.of_tree (all_of_tree tree reading nodes families stand.1) is;
     some_within =
         λ within. some_within-unions within family families made is
-        ∙ some_hit tree within (node ∷ nodes) (family ∷ families) stand;
+        ∙ some_hit tree reading within (node ∷ nodes) (family ∷ families) stand;
   }
   united nodes families stand is = absurd stand
 
   multiplied : (nodes : List ℕ) (families : List (List (List ℕ))) {made : List (List ℕ)}
-      → StandFor (IsFamilyFor tree) nodes families → IsMadeBy (all_multiplied families) made
-      → IsTrueWhere tree (λ within. list_all (reads tree within) nodes) made
+      → StandFor (IsTrueFor tree reading) nodes families → IsMadeBy (all_multiplied families) made
+      → IsTrueWhere tree (λ within. list_all (reading within) nodes) made
   multiplied [] [] stand same =
       record {
         of_tree = subst (IsFamilyOf tree) (sym same) (of_empty_set tree);
@@ -185,26 +184,26 @@ module _ (tree : FaultTree) where
             λ within. ap (hit_by within) same;
       }
   multiplied (node ∷ nodes) (family ∷ families) {made} stand is = record {
-    of_tree = of_products tree families stand.0.of_tree (all_of_tree tree nodes families stand.1) is;
+    of_tree = of_products tree families stand.0.of_tree (all_of_tree tree reading nodes families stand.1) is;
     some_within =
         λ within. some_within-products within family families made is
-        ∙ all_hit tree within (node ∷ nodes) (family ∷ families) stand;
+        ∙ all_hit tree reading within (node ∷ nodes) (family ∷ families) stand;
   }
   multiplied nodes families stand is = absurd stand
 
   voted : {least : ℕ} (nodes : List ℕ) {families : List (List (List ℕ))} {made : List (List ℕ)}
-      → StandFor (IsFamilyFor tree) nodes families → IsVotes least families made
-      → IsTrueWhere tree (λ within. nat_le least (true_count (reads tree within) nodes)) made
+      → StandFor (IsTrueFor tree reading) nodes families → IsVotes least families made
+      → IsTrueWhere tree (λ within. nat_le least (true_count (reading within) nodes)) made
   voted {least} nodes {families} {made} stand is = record {
-    of_tree = of_votes tree (all_of_tree tree nodes families stand) is;
+    of_tree = of_votes tree (all_of_tree tree reading nodes families stand) is;
     some_within =
         λ within. some_within-votes least families made within is
-        ∙ ap (nat_le least) (count_hit _ _ _ _ stand);
+        ∙ ap (nat_le least) (count_hit tree reading within nodes families stand);
   }
 
   first : (nodes : List ℕ) (families : List (List (List ℕ))) {made : List (List ℕ)}
-      → StandFor (IsFamilyFor tree) nodes families → IsMadeBy (first_alone families) made
-      → IsTrueWhere tree (λ within. first_reads (reads tree within) nodes) made
+      → StandFor (IsTrueFor tree reading) nodes families → IsMadeBy (first_alone families) made
+      → IsTrueWhere tree (λ within. first_reads (reading within) nodes) made
   first [] [] stand same = never same
   first (node ∷ nodes) (family ∷ families) stand same = record {
     of_tree = subst (IsFamilyOf tree) (sym same) stand.0.of_tree;
@@ -212,17 +211,18 @@ module _ (tree : FaultTree) where
   }
   first nodes families stand is = absurd stand
 
-  gate : (kind : GateKind) (nodes : List ℕ) (families : List (List (List ℕ))) (made : List (List ℕ))
-      → StandFor (IsFamilyFor tree) nodes families → IsMadeBy (gate_recipe kind families) made
-      → IsTrueWhere tree (λ within. gate_reads kind (reads tree within) nodes) made
+  pub gate : (kind : GateKind) (nodes : List ℕ) (families : List (List (List ℕ))) (made : List (List ℕ))
+      → StandFor (IsTrueFor tree reading) nodes families → IsMadeBy (gate_recipe kind families) made
+      → IsTrueWhere tree (λ within. gate_reads kind (reading within) nodes) made
   gate Or nodes families made stand is = united nodes families stand is
   gate (Votes least of) nodes families made stand is = voted nodes stand is
   gate Por nodes families made stand is = first nodes families stand is
   gate Fdep nodes families made stand is = never is
   gate _ nodes families made stand is = multiplied nodes families stand is
 
-  -- ---- units
+-- ---- units
 
+module _ (tree : FaultTree) where
   pub alone_rises : (unit : ℕ) → IsFamily (alone unit)
   unfolding IsStrictlySortedBy
   alone_rises unit = record { ordered = (tt, tt); rising = ((tt, tt), tt) }
@@ -246,57 +246,71 @@ module _ (tree : FaultTree) where
         is_unit;
   }
 
-  unit : (node : ℕ) (nodes : List ℕ) (families : List (List (List ℕ))) (made : List (List ℕ)) → IsUnitOf tree node
-      → StandFor (IsFamilyFor tree) nodes families → IsUnionOfAll (alone node) families made
-      → IsTrueWhere tree (λ within. within node || list_any (reads tree within) nodes) made
-  unit node nodes families made is_unit stand is = record {
-    of_tree = of_unions tree families (of_alone node is_unit) (all_of_tree tree nodes families stand) is;
+module _ (tree : FaultTree) (reading : (ℕ → Bool) → ℕ → Bool) (node : ℕ) (nodes : List ℕ)
+    (families : List (List (List ℕ))) (made : List (List ℕ)) (is_unit : IsUnitOf tree node)
+    (stand : StandFor (IsTrueFor tree reading) nodes families) where
+  unit : IsUnionOfAll (alone node) families made
+      → IsTrueWhere tree (λ within. within node || list_any (reading within) nodes) made
+  unit is = record {
+    of_tree = of_unions tree families (of_alone tree node is_unit) (all_of_tree tree reading nodes families stand) is;
     some_within = λ within.
         let e = some_within-unions within (alone node) families made is in
-        let e' = some_hit tree within nodes families stand in grind (arith, e, e');
+        let e' = some_hit tree reading within nodes families stand in grind (arith, e, e');
   }
 
-  -- ---- nodes
+  -- a unit that needs all of the nodes
+  pub unit_with_all : IsProductOfAll (alone node) families made
+      → IsTrueWhere tree (λ within. within node && list_all (reading within) nodes) made
+  unit_with_all is = record {
+    of_tree =
+        of_products tree families (of_alone tree node is_unit) (all_of_tree tree reading nodes families stand) is;
+    some_within = λ within.
+        let e = some_within-products within (alone node) families made is in
+        let e' = all_hit tree reading within nodes families stand in grind (arith, e, e');
+  }
 
-  module _ (kept : IsTree tree) (node : ℕ) (is_node : IsNodeOf tree node) (families : List (List (List ℕ)))
-      (made : List (List ℕ)) (stand : StandFor (IsFamilyFor tree) (below tree node) families)
-      (is : IsMadeBy (node_recipe tree node families) made) where
-    gate_made : is_above_units tree node ≡ true → IsFamilyFor tree node made
-    gate_made above =
-        let stand' : StandFor (IsFamilyFor tree) (inputs_of tree node) families =
-        subst (λ q. StandFor (IsFamilyFor tree) q families)
-        (cond-true _ _ _ above) stand in
-        let is' : IsMadeBy (gate_recipe (kind_of tree node) families) made =
-        subst (λ (q : Recipe). IsMadeBy q made) (cond-true _ _ _ above) is in
-        let here = gate (kind_of tree node) (inputs_of tree node) families made stand' is' in
-        record {
-          of_tree = here.of_tree;
-          some_within =
-              λ within. here.some_within within ∙ sym (reads-node tree kept within node is_node
-              ∙ cond-true _ _ _ above);
-        }
+-- ---- nodes
 
-    unit_made : is_above_units tree node ≡ false → IsFamilyFor tree node made
-    unit_made low =
-        let stand' : StandFor (IsFamilyFor tree) (triggers_of tree node) families =
-        subst (λ q. StandFor (IsFamilyFor tree) q families)
-        (cond-false _ _ _ low) stand in
-        let is' : IsUnionOfAll (alone node) families made =
-        subst (λ (q : Recipe). IsMadeBy q made) (cond-false _ _ _ low) is in
-        let here =
-        unit node (triggers_of tree node) families made (is_node.0, ltb-false (unit_count tree) node low) stand'
-        is' in
-        record {
-          of_tree = here.of_tree;
-          some_within =
-              λ within. here.some_within within ∙ sym (reads-node tree kept within node is_node
-              ∙ cond-false _ _ _ low);
-        }
+module _ (tree : FaultTree) (kept : IsTree tree) (node : ℕ) (is_node : IsNodeOf tree node)
+    (families : List (List (List ℕ))) (made : List (List ℕ))
+    (stand : StandFor (IsFamilyFor tree) (below tree node) families)
+    (is : IsMadeBy (node_recipe tree node families) made) where
+  gate_made : is_above_units tree node ≡ true → IsFamilyFor tree node made
+  gate_made above =
+      let stand' : StandFor (IsFamilyFor tree) (inputs_of tree node) families =
+      subst (λ q. StandFor (IsFamilyFor tree) q families)
+      (cond-true _ _ _ above) stand in
+      let is' : IsMadeBy (gate_recipe (kind_of tree node) families) made =
+      subst (λ (q : Recipe). IsMadeBy q made) (cond-true _ _ _ above) is in
+      let here = gate tree (reads tree) (kind_of tree node) (inputs_of tree node) families made stand' is' in
+      record {
+        of_tree = here.of_tree;
+        some_within =
+            λ within. here.some_within within ∙ sym (reads-node tree kept within node is_node
+            ∙ cond-true _ _ _ above);
+      }
 
-    -- what a node's recipe makes generates the node, where the families of what it reads do
-    pub IsFamilyFor-made : IsFamilyFor tree node made
-    IsFamilyFor-made =
-        elim (cases_Bool (is_above_units tree node)) [
-          | inl above ↦ gate_made above
-          | inr low ↦ unit_made low
-        ]
+  unit_made : is_above_units tree node ≡ false → IsFamilyFor tree node made
+  unit_made low =
+      let stand' : StandFor (IsFamilyFor tree) (triggers_of tree node) families =
+      subst (λ q. StandFor (IsFamilyFor tree) q families)
+      (cond-false _ _ _ low) stand in
+      let is' : IsUnionOfAll (alone node) families made =
+      subst (λ (q : Recipe). IsMadeBy q made) (cond-false _ _ _ low) is in
+      let here =
+      unit tree (reads tree) node (triggers_of tree node) families made
+      (is_node.0, ltb-false (unit_count tree) node low) stand' is' in
+      record {
+        of_tree = here.of_tree;
+        some_within =
+            λ within. here.some_within within ∙ sym (reads-node tree kept within node is_node
+            ∙ cond-false _ _ _ low);
+      }
+
+  -- what a node's recipe makes generates the node, where the families of what it reads do
+  pub IsFamilyFor-made : IsFamilyFor tree node made
+  IsFamilyFor-made =
+      elim (cases_Bool (is_above_units tree node)) [
+        | inl above ↦ gate_made above
+        | inr low ↦ unit_made low
+      ]

@@ -1,12 +1,12 @@
 -- Each node of a tree has a cut family, and each part of it is due to the tree.
-use Rattle.std.specs.Prelude.{◌≡◌, ◌⊎◌, ℕ, zero, suc, ◌<◌, true, false, List, [], ◌∷◌, All, Contains}
+use Rattle.std.specs.Prelude.{◌≡◌, ◌⊎◌, ℕ, zero, suc, ◌<◌, Bool, true, false, List, [], ◌∷◌, All, Contains}
 use Rattle.std.proofs.Common.{refl, sym, subst, inl, inr, arith}
 use Rattle.std.proofs.lemmas.Bool.{cases_Bool, and_parts, cond-true, cond-false, ltb-false}
 use Rattle.std.proofs.lemmas.List.Elements.{All-contains}
 use Rattle.unit_sets.proofs.Sorted.{Contains-nil, Contains-cons_first, Contains-cons_other, Contains-cons_cases}
 use Rattle.fault_words.specs.declared.kind.GateKind.{GateKind}
 use Rattle.fault_words.specs.declared.kind.GateKind.TheVariants.{Or, Votes, Por, Fdep}
-use Rattle.fault_definitions.specs.{CutFamily.IsCutFamily, Trigger.below, WellFormed.IsTree}
+use Rattle.fault_definitions.specs.{CutFamily.IsCutFamily, Reading.reads, Trigger.below, WellFormed.IsTree}
 use Rattle.fault_definitions.proofs.RankLaws.{below_are_nodes, below_ranks}
 use Rattle.fault_definitions.specs.Tree.{FaultTree, IsNodeOf, is_above_units, is_fdep, is_fdep_kind, kind_of, rank_of}
 use Rattle.fault_definitions.specs.Tree.{unit_count}
@@ -17,9 +17,9 @@ use Rattle.zdd_families.proofs.{MinimalParts.minimal-exists, VotesPartsLemmas.Sp
 use Rattle.tree_families.specs.Recipe.{Recipe, unions, votes, IsMadeBy, all_united, all_multiplied, first_alone}
 use Rattle.tree_families.specs.Recipe.{gate_recipe, alone, node_recipe, StandFor}
 use Rattle.tree_families.specs.Due.{IsDueToTree, IsDueToRecipe, one_unit, one_node}
-use Rattle.tree_families.specs.Generation.{IsFamilyOf}
-use Rattle.tree_families.proofs.{CutFamilies.cut_family-one, FailingSets.IsFamilyFor-cut_family, Steps.of_alone}
-use Rattle.tree_families.proofs.{Building.recipe-cut_family}
+use Rattle.tree_families.specs.Generation.{IsFamilyOf, IsTrueFor}
+use Rattle.tree_families.proofs.{Building.all_generate, Building.recipe-cut_family, CutFamilies.cut_family-one}
+use Rattle.tree_families.proofs.{Steps.of_alone}
 use Rattle.zdd_families.proofs.Parts.{reached-none, reached-unit, PartAt, itself, of_lo, of_hi, part_at}
 use Rattle.tree_families.proofs.RecipeParts.{given, HasMade, recipe-makes, recipe-parts, made_parts}
 
@@ -35,17 +35,12 @@ Spans-of_tree {family} of = record {
   below = λ set has unit member. let high = (of.units set has unit member).1 in omega arith;
 }
 
-all_span : {tree : FaultTree} → IsTree tree → (nodes : List ℕ) (families : List (List (List ℕ)))
-    → ((node : ℕ) → Contains nodes node → IsNodeOf tree node) → StandFor (IsCutFamily tree) nodes families
-    → SpanEach 0 (unit_count tree) families
-all_span kept [] [] are stand = tt
-all_span {tree} kept (node ∷ nodes) (family ∷ families) are stand = (
-  Spans-of_tree {tree = tree} {family = family} (IsFamilyFor-cut_family tree kept node
-      (are node (Contains-cons_first _ _)) family
-      stand.0).of_tree,
-  all_span kept nodes families (λ n has. are n (Contains-cons_other _ _ _ has)) stand.1,
-)
-all_span kept nodes families are stand = absurd stand
+pub all_span : (tree : FaultTree) (reading : (ℕ → Bool) → ℕ → Bool) (nodes : List ℕ) (families : List (List (List ℕ)))
+    → StandFor (IsTrueFor tree reading) nodes families → SpanEach 0 (unit_count tree) families
+all_span tree reading [] [] stand = tt
+all_span tree reading (node ∷ nodes) (family ∷ families) stand =
+    (Spans-of_tree {tree = tree} {family = family} stand.0.of_tree, all_span tree reading nodes families stand.1)
+all_span tree reading nodes families stand = absurd stand
 
 -- ---- what the recipe of a node is given: the families of what it reads, and a unit's own
 
@@ -205,8 +200,8 @@ module _ (tree : FaultTree) (kept : IsTree tree) where
       → StandFor (IsCutFamily tree) (below tree node) families
       → SpanEach 0 (unit_count tree) (given (node_recipe tree node families))
   read_spans node is_node families stand =
-      node_span tree node is_node families (all_span kept (below tree node) families
-      (node_at (below tree node) (below_are_nodes kept node)) stand)
+      node_span tree node is_node families (all_span tree (reads tree) (below tree node) families
+      (all_generate kept (below tree node) families (below_are_nodes kept node) stand))
 
   -- what is due to a node's recipe or a part of what that is given is due to the tree
   due_at : (node : ℕ) → IsNodeOf tree node → (families : List (List (List ℕ))) {part : List (List ℕ)}

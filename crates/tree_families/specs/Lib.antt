@@ -1,4 +1,5 @@
 pub mod Recipe
 pub mod Due
 pub mod Generation
+pub mod Least
 pub mod Examples

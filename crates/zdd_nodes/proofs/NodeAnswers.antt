@@ -1,10 +1,10 @@
 -- The answers of recipes as answers of a node.
-use Rattle.std.proofs.Common.{MatchResult, Result, ◌≡◌, ℕ, false, List, All, sym, subst, inl, inr}
+use Rattle.std.proofs.Common.{MatchResult, Result, ◌≡◌, ◌⊎◌, ℕ, false, List, All, sym, subst, inl, inr}
 use Rattle.fault_definitions.specs.{CutFamily.IsCutFamily, Trigger.below, WellFormed.IsTree}
 use Rattle.fault_definitions.specs.Tree.{FaultTree, IsNodeOf, IsUnitOf, is_fdep}
 use Rattle.zdd_families.specs.{Due.IsDueToMinimal, Minimal.IsMinimal, Map.Knows, Map.family}
 use Rattle.tree_families.proofs.Building.{recipe-cut_family, unit_recipe_is}
-use Rattle.tree_families.specs.Due.{IsDueToRecipe, IsDueToTree, IsDueToUnions, due_to_unions, due_to_end, one_unit}
+use Rattle.tree_families.specs.Due.{IsDueToRecipe, IsDueToTree, due_to_unions, due_to_end, one_unit}
 use Rattle.tree_families.specs.Recipe.{IsMadeBy, IsUnionOfAll, Recipe, StandFor, alone, node_recipe}
 use Rattle.zdd_shared_table.specs.Seats.{Seated, IsSoundSeat, map_of}
 use Rattle.zdd_product.specs.{Seats.Gave, Seats.WasFull, Voting.families}
@@ -26,28 +26,30 @@ pub at_recipe : {E : Type 0} {recipe recipe' : Recipe} → recipe ≡ recipe'
     → FollowsRecipe recipe before after result
 at_recipe same before after result m = subst (λ (q : Recipe). FollowsRecipe q before after result) (sym same) m
 
--- the family of a unit alone, and then the unions with others
-pub unit_made : {E : Type 0} {start mid : Seated} (after : Seated) (unit : ℕ) {own : ℕ} (triggers : List ℕ)
+-- the family of a unit alone, and then others taken in one by one
+pub unit_made : {E : Type 0} (IsAll DueAll : List (List ℕ) → List (List (List ℕ)) → List (List ℕ) → Type 0)
+    {start mid : Seated} (after : Seated) (unit : ℕ) {own : ℕ} (triggers : List ℕ)
     → IsSoundSeat start
     → All (Knows (map_of start)) triggers
     → Gave (λ h. h ≡ alone unit) (λ h. h ≡ alone unit) start mid own
-    → (result : Result ℕ E) → Answer (IsUnionOfAll (family (map_of mid) own) (families (map_of mid) triggers))
-    (IsDueToUnions (family (map_of mid) own) (families (map_of mid) triggers)) mid after result
-    → Answer (IsUnionOfAll (alone unit) (families (map_of start) triggers))
-    (IsDueToUnit unit (families (map_of start) triggers)) start after result
-unit_made {start} {mid} after unit triggers sound knows gave result m =
+    → (result : Result ℕ E) → Answer (IsAll (family (map_of mid) own) (families (map_of mid) triggers))
+    (DueAll (family (map_of mid) own) (families (map_of mid) triggers)) mid after result
+    → Answer (IsAll (alone unit) (families (map_of start) triggers))
+    (λ h. (h ≡ alone unit) ⊎ DueAll (alone unit) (families (map_of start) triggers) h) start after result
+unit_made IsAll DueAll {start} {mid} after unit triggers sound knows gave result m =
     let fs = families (map_of start) triggers in
+    let due : List (List ℕ) → Type 0 = λ h. (h ≡ alone unit) ⊎ DueAll (alone unit) fs h in
     let stay : families (map_of mid) triggers ≡ fs =
     families_stay start mid sound gave.on.went.sound gave.on.went.keeps triggers knows in
-    let m' : Answer (IsUnionOfAll (alone unit) fs) (IsDueToUnions (alone unit) fs) mid after result =
-    subst (λ (q : List (List (List ℕ))). Answer (IsUnionOfAll (alone unit) q) (IsDueToUnions (alone unit) q) mid after
+    let m' : Answer (IsAll (alone unit) fs) (DueAll (alone unit) fs) mid after result =
+    subst (λ (q : List (List (List ℕ))). Answer (IsAll (alone unit) q) (DueAll (alone unit) q) mid after
     result) stay
-    (subst (λ (q : List (List ℕ)). Answer (IsUnionOfAll q (families (map_of mid) triggers))
-    (IsDueToUnions q (families (map_of mid) triggers)) mid after result) gave.known.1 m) in
-    answer_then (IsUnionOfAll (alone unit) fs) after
-    (WentOn-as (λ h. h ≡ alone unit) (IsDueToUnit unit fs) (λ h same. inl same) start mid gave.on) result
-    (answer_as (IsUnionOfAll (alone unit) fs) (IsDueToUnions (alone unit) fs) (IsUnionOfAll (alone unit) fs)
-    (IsDueToUnit unit fs) (λ h is. is) (λ h due. inr due) mid after result m')
+    (subst (λ (q : List (List ℕ)). Answer (IsAll q (families (map_of mid) triggers))
+    (DueAll q (families (map_of mid) triggers)) mid after result) gave.known.1 m) in
+    answer_then (IsAll (alone unit) fs) after
+    (WentOn-as (λ h. h ≡ alone unit) due (λ h same. inl same) start mid gave.on) result
+    (answer_as (IsAll (alone unit) fs) (DueAll (alone unit) fs) (IsAll (alone unit) fs)
+    due (λ h is. is) (λ h later. inr later) mid after result m')
 
 module _ (tree : FaultTree) (node : ℕ) (is_node : IsNodeOf tree node) (read : is_fdep tree node ≡ false)
     (fs : List (List (List ℕ))) (stand : StandFor (IsCutFamily tree) (below tree node) fs) where

@@ -13,25 +13,24 @@ use Rattle.zdd_families.specs.Map.{Knows, family}
 use Rattle.zdd_product.specs.{Seats.KnowsOne, Voting.families}
 use Rattle.zdd_nodes.specs.Reading.{reference_of, CanVote}
 
-pub stand_of : (known : ℕ → ℕ) (tree : FaultTree) (references nodes : List ℕ)
-    → All (λ input. KnowsOne known (reference_of references input) (IsCutFamily tree input)) nodes
-    → StandFor (IsCutFamily tree) nodes (families known (map (reference_of references) nodes))
-stand_of known tree references [] all = tt
-stand_of known tree references (node ∷ nodes) all = (
-  (All-head (λ input. KnowsOne known (reference_of references input) (IsCutFamily tree input)) node nodes all).1,
-  stand_of known tree references nodes (All-tail
-      (λ input. KnowsOne known (reference_of references input) (IsCutFamily tree input)) node nodes all),
-)
+-- references that are known as families which stand for nodes
+module _ (stands : ℕ → List (List ℕ) → Type 0) (known : ℕ → ℕ) (references : List ℕ) where
+  -- that of one node
+  abbrev IsKnown : ℕ → Type 0
+  IsKnown input = KnowsOne known (reference_of references input) (stands input)
 
-pub known_of : (known : ℕ → ℕ) (tree : FaultTree) (references nodes : List ℕ)
-    → All (λ input. KnowsOne known (reference_of references input) (IsCutFamily tree input)) nodes
-    → All (Knows known) (map (reference_of references) nodes)
-known_of known tree references [] all = All-nil (Knows known)
-known_of known tree references (node ∷ nodes) all =
-    All-cons (Knows known) (reference_of references node) (map (reference_of references) nodes)
-    (All-head (λ input. KnowsOne known (reference_of references input) (IsCutFamily tree input)) node nodes all).0
-    (known_of known tree references nodes (All-tail
-    (λ input. KnowsOne known (reference_of references input) (IsCutFamily tree input)) node nodes all))
+  pub stand_of : (nodes : List ℕ) → All (λ input. KnowsOne known (reference_of references input) (stands input)) nodes
+      → StandFor stands nodes (families known (map (reference_of references) nodes))
+  stand_of [] all = tt
+  stand_of (node ∷ nodes) all =
+      ((All-head IsKnown node nodes all).1, stand_of nodes (All-tail IsKnown node nodes all))
+
+  pub known_of : (nodes : List ℕ) → All (λ input. KnowsOne known (reference_of references input) (stands input)) nodes
+      → All (Knows known) (map (reference_of references) nodes)
+  known_of [] all = All-nil (Knows known)
+  known_of (node ∷ nodes) all =
+      All-cons (Knows known) (reference_of references node) (map (reference_of references) nodes)
+      (All-head IsKnown node nodes all).0 (known_of nodes (All-tail IsKnown node nodes all))
 
 -- the front of a list that was written over
 pub front_of : (n size : ℕ) (xs ys : List ℕ) → n ≤ size → n ≤ length xs → take n (take size (xs ++ ys)) ≡ take n xs

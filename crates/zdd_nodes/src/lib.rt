@@ -7,7 +7,8 @@
 //!
 //! What that layer gets: the answer is a reference that the seat knows as exactly the node's cut family;
 //! what the seat fills on the way, and what it asks a full store for, is due to the tree; and `Full` comes
-//! only from a search of this call that passed every slot. No call but `Rooms::new` takes memory.
+//! only from a search of this call that passed every slot. The steps of which recipes consist are there for a
+//! layer with other recipes. No call but `Rooms::new` takes memory.
 #![tactic(auto)]
 
 mod nodes;
@@ -16,4 +17,6 @@ mod rooms;
 mod steps;
 
 pub use nodes::cut_family;
-pub use rooms::Rooms;
+pub use recipes::{make_gate, multiply_all};
+pub use rooms::{Rooms, gather};
+pub use steps::single;

@@ -32,8 +32,8 @@ fn unite_all(ops: &mut Ops, first: NodeRef, others: &[NodeRef]) -> Result<NodeRe
     Ok(made)
 }
 
-// The first family multiplied with the others, from left to right, each product with its minimal sets alone.
-fn multiply_all(ops: &mut Ops, first: NodeRef, others: &[NodeRef]) -> Result<NodeRef, Full>
+/// The first family multiplied with the others, from left to right, each product with its minimal sets alone.
+pub fn multiply_all(ops: &mut Ops, first: NodeRef, others: &[NodeRef]) -> Result<NodeRef, Full>
     requires first { Knows (map_of ops.old) first }
     requires others { All (Knows (map_of ops.old)) others.now }
     ensures { let f = family (map_of ops.old) first in let fs = families (map_of ops.old) others.now in
@@ -60,8 +60,9 @@ pub(crate) fn make_unit(ops: &mut Ops, unit: UnitNo, triggers: &[NodeRef]) -> Re
     unite_all(ops, own, triggers)
 }
 
-// What a gate of a kind makes of the families of its inputs. An `fdep` counts as a gate that never fails.
-pub(crate) fn make_gate(
+/// What a gate of a kind makes of the families of its inputs. An `fdep` counts as a gate that never fails. What the
+/// room, which is for the votes, holds afterwards is left open.
+pub fn make_gate(
     ops: &mut Ops,
     kind: GateKind,
     inputs: &[NodeRef],

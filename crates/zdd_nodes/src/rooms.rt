@@ -43,8 +43,8 @@ fn most_below(tree: &Tree) -> usize
     most
 }
 
-// The references of some nodes, from a list with a reference for each node.
-pub(crate) fn gather(nodes: &[NodeNo], references: &[NodeRef], list: &mut [NodeRef])
+/// Puts the references of some nodes, from a list with a reference for each node, at the front of another list.
+pub fn gather(nodes: &[NodeNo], references: &[NodeRef], list: &mut [NodeRef])
     requires within { All (λ node. (1 ≤ node) × (node ≤ length references.now)) nodes.now }
     requires room { length nodes.now ≤ length list.old }
     ensures list { take (length nodes.now) list.new ≡ map (reference_of references.now) nodes.now }

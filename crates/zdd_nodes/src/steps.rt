@@ -11,8 +11,8 @@ use zdd_product::Ops;
 use zdd_shared_table::Full;
 use zdd_words::NodeRef;
 
-// The family of the set of a unit alone.
-pub(crate) fn single(ops: &mut Ops, unit: UnitNo) -> Result<NodeRef, Full>
+/// The family of the set of a unit alone.
+pub fn single(ops: &mut Ops, unit: UnitNo) -> Result<NodeRef, Full>
     ensures { MatchResult result (Gave (λ h. h ≡ alone unit) (λ h. h ≡ alone unit) ops.old ops.new)
         (λ _. WasFull (λ h. h ≡ alone unit) ops.old ops.new) }
 {

@@ -22,7 +22,7 @@ ends c =
     let after = c.minimal.new.self in
     let made = family (map_of mid) c.in_ok-made.made in
     node_ends tree node c.requires.node c.requires.read (families_below known tree references node)
-    (stand_of known tree references (below tree node) c.requires.below) c.units.ensures.kept after
+    (stand_of (IsCutFamily tree) known references (below tree node) c.requires.below) c.units.ensures.kept after
     c.in_ok-made.ensures.made c.minimal.result
     (MatchResult-from_both c.minimal.result (Gave (IsMinimal made) (IsDueToMinimal made) mid after)
     (λ _. WasFull (IsDueToMinimal made) mid after) c.minimal.ensures.gives c.minimal.ensures.full)

@@ -26,7 +26,8 @@ pub make-requires-clause-knows : goal.make-requires-clause-knows
 make-requires-clause-knows c =
     let known = map_of c.args.ops.now in
     subst (All (Knows known)) (sym (gathered (goal.at.make-requires-clause-knows c).After-deref))
-    (known_of known c.args.tree.now c.args.families.now (below c.args.tree.now c.args.node) c.requires.below)
+    (known_of (IsCutFamily c.args.tree.now) known c.args.families.now (below c.args.tree.now c.args.node)
+    c.requires.below)
 
 pub make-requires-clause-stand : goal.make-requires-clause-stand
 make-requires-clause-stand c =
@@ -34,4 +35,4 @@ make-requires-clause-stand c =
     let known = map_of c.args.ops.now in
     subst (λ q. StandFor (IsCutFamily tree) (below tree c.args.node) (families known q))
     (sym (gathered (goal.at.make-requires-clause-stand c).After-deref))
-    (stand_of known tree c.args.families.now (below tree c.args.node) c.requires.below)
+    (stand_of (IsCutFamily tree) known c.args.families.now (below tree c.args.node) c.requires.below)

@@ -1,6 +1,6 @@
 use Rattle.std.proofs.Common.{◌≡◌, inl}
 use Rattle.std.proofs.lemmas.Result.{err_from_is_err_and}
-use Rattle.tree_families.specs.Recipe.{alone}
+use Rattle.tree_families.specs.{Due.IsDueToUnions, Recipe.IsUnionOfAll, Recipe.alone}
 use Rattle.zdd_shared_table.specs.Seats.{map_of}
 use Rattle.zdd_product.proofs.After.{WasFull-as}
 use Rattle.zdd_product.specs.Voting.{families}
@@ -18,5 +18,5 @@ returns-in_err-own c =
 
 pub returns : goal.returns
 returns c =
-    unit_made c.unite_all.new.ops c.args.unit c.args.triggers.now
+    unit_made IsUnionOfAll IsDueToUnions c.unite_all.new.ops c.args.unit c.args.triggers.now
     c.is_sound.ensures.sound c.requires c.in_ok-own.ensures c.unite_all.result c.unite_all.ensures
