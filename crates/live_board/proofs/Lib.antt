@@ -1,0 +1,9 @@
+pub mod HistoryLemmas
+pub mod LongerLemmas
+pub mod PlaceLemmas
+pub mod OwnLemmas
+pub mod StepLemmas
+pub mod TableLemmas
+pub mod StateLemmas
+pub mod TurnLemmas
+pub mod PassLemmas
