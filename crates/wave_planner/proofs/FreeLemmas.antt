@@ -1,0 +1,92 @@
+-- Which units may be out together: with fewer of them out no more cut sets are tight.
+use Rattle.std.specs.Prelude.{◌≡◌, ℕ, suc, ◌<◌, ◌≤◌, ◌^◌, Bool, true, false, not, cond, List, [], ◌∷◌, Option, Some}
+use Rattle.std.specs.Prelude.{is_none, slice_get}
+use Rattle.std.specs.List.{position}
+use Rattle.std.proofs.Common.{refl, sym, ◌∙◌, arith}
+use Rattle.std.proofs.lemmas.Bool.{leb-true, le-leb}
+use Rattle.std.proofs.lemmas.List.Quantifiers.{position-Some}
+use Rattle.unit_sets.specs.{CutOrder.IsOrderedCuts, UnitList.among}
+use Rattle.residual_ledger.specs.{Residual.residual, Tight.is_tight, Tight.numbers_from, Tight.tight}
+use Rattle.residual_ledger.proofs.{LedgerFacts.few_cuts, ResidualFacts.residual-cons}
+use Rattle.wave_planner.specs.{Filling.is_free, Waves.IsFree}
+
+-- ---- fewer units out
+
+-- each of some units is one of others
+abbrev pub AreAmong : List ℕ → List ℕ → Type 0
+AreAmong few many = (unit : ℕ) → among few unit ≡ true → among many unit ≡ true
+
+residual-fewer : (few many : List ℕ) → AreAmong few many → (cut : List ℕ) → residual many cut ≤ residual few cut
+residual-fewer few many fewer [] = omega arith
+residual-fewer few many fewer (unit ∷ cut) =
+    let more = residual-cons many unit cut in
+    let less = residual-cons few unit cut in
+    let one = counted (among few unit) (among many unit) (fewer unit) in
+    let others = residual-fewer few many fewer cut in
+    omega arith
+  where
+    counted : (f m : Bool) → (f ≡ true → m ≡ true) → cond (not m) 1 0 ≤ cond (not f) 1 0
+    counted true m h = rw (h refl) (omega arith)
+    counted false true h = omega arith
+    counted false false h = omega arith
+
+module _ (test other : List ℕ → Bool) (fewer : (cut : List ℕ) → other cut ≡ true → test cut ≡ true) where
+  none-fewer : (number : ℕ) (cuts : List (List ℕ)) → numbers_from number test cuts ≡ []
+      → numbers_from number other cuts ≡ []
+  none-fewer number [] none = refl
+  none-fewer number (cut ∷ cuts) none =
+      by_tests (none-fewer (suc number) cuts) (test cut) (other cut) (fewer cut) none
+    where
+      by_tests : (numbers_from (suc number) test cuts ≡ [] → numbers_from (suc number) other cuts ≡ [])
+          → (first second : Bool) → (second ≡ true → first ≡ true)
+          → cond first (number ∷ numbers_from (suc number) test cuts) (numbers_from (suc number) test cuts) ≡ []
+          → cond second (number ∷ numbers_from (suc number) other cuts) (numbers_from (suc number) other cuts) ≡ []
+      by_tests later true second so h = absurd cc
+      by_tests later false true so h = absurd (cc (so refl))
+      by_tests later false false so h = later h
+
+-- some of the units that may be out together may be out together
+pub fewer_free : (cuts : List (List ℕ)) (margin : ℕ) (few many : List ℕ) → AreAmong few many
+    → IsFree cuts margin many → IsFree cuts margin few
+fewer_free cuts margin few many fewer free =
+    none-fewer (is_tight many margin) (is_tight few margin)
+    (λ cut small. le-leb (residual many cut) margin (omega
+    (arith, residual-fewer few many fewer cut, leb-true (residual few cut) margin small)))
+    1 cuts free
+
+-- ---- the same by the test
+
+none_first : (numbers : List ℕ) → is_none (slice_get numbers 0) ≡ true → numbers ≡ []
+none_first [] none = refl
+none_first (number ∷ numbers) none = absurd cc
+
+none_there : (numbers : List ℕ) → numbers ≡ [] → is_none (slice_get numbers 0) ≡ true
+none_there numbers none = rw none refl
+
+pub free_by_test : (cuts : List (List ℕ)) (margin : ℕ) (units : List ℕ) → is_free cuts margin units ≡ true
+    → IsFree cuts margin units
+free_by_test cuts margin units = none_first (tight units margin cuts)
+
+pub test_by_free : (cuts : List (List ℕ)) (margin : ℕ) (units : List ℕ) → IsFree cuts margin units
+    → is_free cuts margin units ≡ true
+test_by_free cuts margin units = none_there (tight units margin cuts)
+
+pub not_free : (cuts : List (List ℕ)) (margin : ℕ) (units : List ℕ) → is_free cuts margin units ≡ false
+    → ¬ IsFree cuts margin units
+not_free cuts margin units miss free = cc (miss, test_by_free cuts margin units free)
+
+-- a test that passes fewer units where it passes some
+abbrev pub PassesFewer : (List ℕ → Bool) → Type 0
+PassesFewer free = (few many : List ℕ) → AreAmong few many → free many ≡ true → free few ≡ true
+
+pub passes_fewer : (cuts : List (List ℕ)) (margin : ℕ) → PassesFewer (is_free cuts margin)
+passes_fewer cuts margin few many fewer hit =
+    test_by_free cuts margin few (fewer_free cuts margin few many fewer (free_by_test cuts margin many hit))
+
+-- ---- the numbers of cut sets are small
+
+pub few_places : (test : List ℕ → Bool) {cuts : List (List ℕ)} {first : Option ℕ} {place : ℕ} → IsOrderedCuts cuts
+    → first ≡ position test cuts → first ≡ Some place → place < 2 ^ 31
+few_places test {cuts} {place} ordered is some =
+    let found = position-Some test cuts place [] (sym is ∙ some) in
+    omega (arith, found.0, few_cuts cuts, ordered.within)
