@@ -33,9 +33,9 @@ module _ {statements : List Statement} {deck : NumberedText} (is : IsDeckOf (nam
 
   -- and so does the top event, where each name that is used is defined
   pub deck_top : undefined (names statements) (uses statements) ≡ []
-      → first_number deck.tops.items ≤ deck.units + length deck.gates.items
+      → first_number deck.tops ≤ deck.units + length deck.gates.items
   deck_top none =
-      subst (λ nodes. first_number deck.tops.items ≤ nodes)
+      subst (λ nodes. first_number deck.tops ≤ nodes)
       (let total : length (names statements) ≡ deck.units + length deck.gates.items =
       omega (arith, is.units, ap length is.gates_all, names_total statements) in total)
       (subst (λ ts. first_number ts ≤ length (names statements)) (sym is.tops_all)

@@ -51,7 +51,7 @@ module _ (read : ReadTree) where
       → {index : List (List ℕ)} (deck : NumberedText) {parts : Parts} → index ≡ names read.statements
       → parts.statements.now ≡ read.statements → parts.end ≡ read.end → IsDeckOf index parts.statements.now deck
       → undefined index (uses parts.statements.now) ≡ [] → deck.units ≤ length parts.statements.now
-      → parts.units ≡ deck.units → parts.gates.now ≡ deck.gates.items → parts.tops.now ≡ deck.tops.items
+      → parts.units ≡ deck.units → parts.gates.now ≡ deck.gates.items → parts.tops.now ≡ deck.tops
       → AreParts parts
   are_parts none once deck {parts} same text end d known few units gates tops =
       let is : read_of parts ≡ read =

@@ -10,6 +10,6 @@ pub record SoFar (names : List (List ℕ)) (statements : List Statement) (i : �
   pub few : deck.units ≤ i
   pub gates_all : deck.gates.items ++ map (numbered_gate names) (gates (drop i statements))
       ≡ map (numbered_gate names) (gates statements)
-  pub tops_all : deck.tops.items ++ map (λ top. numbered names top.name) (tops (drop i statements))
+  pub tops_all : deck.tops ++ map (λ top. numbered names top.name) (tops (drop i statements))
       ≡ map (λ top. numbered names top.name) (tops statements)
   pub known : undefined names (uses (drop i statements)) ≡ undefined names (uses statements)

@@ -58,9 +58,9 @@ impl Taken {
     fn take_basic(&mut self, alloc: Global, basic: RawBasic) -> Result<(), NoMemory>
         ensures { OnOk result (Takes (Statement.Basic basic) self.old self.new) }
     {
+        self.units.push(basic.name.name)?;
         let attributes = attributes_of(alloc, basic.attributes)?;
         self.attributes.push(attributes)?;
-        self.units.push(basic.name.name)?;
         Ok(())
     }
 }
@@ -145,26 +145,24 @@ fn first_top(tops: &[Numbered]) -> NodeNo
 pub(crate) fn assemble(
     alloc: Global,
     statements: Vec<Statement>,
-    deck: NumberedText,
+    deck: &NumberedText,
 ) -> Result<TreeParts, NoMemory>
-    requires deck { IsDeckOf (names statements.items) statements.items deck }
-    requires inputs { AreWithin (deck.units + length deck.gates.items) deck.gates.items }
-    requires top { first_number deck.tops.items ≤ deck.units + length deck.gates.items }
-    requires some_top { 1 ≤ length deck.tops.items }
-    requires few_units { deck.units ≤ most_units }
-    requires few_gates { length deck.gates.items ≤ MOST_GATES }
+    requires deck { IsDeckOf (names statements.items) statements.items deck.now }
+    requires inputs { AreWithin (deck.now.units + length deck.now.gates.items) deck.now.gates.items }
+    requires top { first_number deck.now.tops ≤ deck.now.units + length deck.now.gates.items }
+    requires some_top { 1 ≤ length deck.now.tops }
+    requires few_units { deck.now.units ≤ most_units }
+    requires few_gates { length deck.now.gates.items ≤ MOST_GATES }
     ensures { IfOk result (λ parts. (ranks : List ℕ) → ranked parts ranks ≡ tree_of statements.items ranks) }
 {
-    let kinds = kinds_of(alloc, &deck.gates)?;
-    let inputs = input_lists(alloc, deck.units, &deck.gates)?;
-    let top = first_top(&deck.tops);
     let taken = take_all(alloc, statements)?;
     let names = joined(taken.units, taken.gates)?;
+    let kinds = kinds_of(alloc, &deck.gates)?;
     Ok(TreeParts {
         names,
         kinds,
-        inputs,
+        inputs: input_lists(alloc, deck.units, &deck.gates)?,
         attributes: AttributeLists::from_items(taken.attributes),
-        top,
+        top: first_top(deck.tops.as_slice()),
     })
 }

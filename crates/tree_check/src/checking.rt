@@ -15,7 +15,8 @@ pub fn check(alloc: Global, raw: RawTree) -> Result<Tree, CheckFault>
     ensures fault { IfErr result (IsRefusal raw) }
 {
     let deck = examine(alloc, &raw)?;
-    let parts = assemble(alloc, raw.into_statements(), deck)?;
-    let tree = Tree::new(alloc, parts)?;
+    let parts = assemble(alloc, raw.into_statements(), &deck);
+    drop(deck);
+    let tree = Tree::new(alloc, parts?)?;
     Ok(tree)
 }

@@ -16,6 +16,16 @@ use galileo_tree::RawTree;
 use name_index::NameIndex;
 use std::alloc::Global;
 
+/// The classes that show at one gate.
+const CLASSES_OF_GATES: [CheckCode; 6] = [
+    CheckCode::Votes,
+    CheckCode::DummyInput,
+    CheckCode::NoInputs,
+    CheckCode::FdepShape,
+    CheckCode::DependentGate,
+    CheckCode::SpareNotBasic,
+];
+
 /// The text by numbers, where no class of faults occurs, or the first fault. The classes are tried in their order, each
 /// once the ones before it don't occur.
 pub(crate) fn examine(alloc: Global, raw: &RawTree) -> Result<NumberedText, CheckFault>
@@ -48,7 +58,7 @@ fn examine_named(
         end: raw.end(),
         units: deck.units,
         gates: &deck.gates,
-        tops: &deck.tops,
+        tops: deck.tops.as_slice(),
     };
     match examine_parts(alloc, index, parts) {
         Ok(()) => Ok(deck),
@@ -66,15 +76,7 @@ fn examine_parts(alloc: Global, index: &NameIndex<'_>, parts: Parts<'_>) -> Resu
     ensures passed { OnOk result (HasPassed (read_of parts.entry)) }
     ensures fault { IfErr result (IsRefusal (read_of parts.entry)) }
 {
-    let of_gates = [
-        CheckCode::Votes,
-        CheckCode::DummyInput,
-        CheckCode::NoInputs,
-        CheckCode::FdepShape,
-        CheckCode::DependentGate,
-        CheckCode::SpareNotBasic,
-    ];
-    try_classes(&of_gates, parts)?;
+    try_classes(&CLASSES_OF_GATES, parts)?;
     check_spares(alloc, parts)?;
     try_classes(&[CheckCode::Replicated, CheckCode::TopIsFdep], parts)?;
     check_cycles(alloc, index, parts)?;

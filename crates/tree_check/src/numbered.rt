@@ -17,11 +17,11 @@ pub(crate) struct NumberedGate {
     pub word: Place,
     /// The place of the name.
     pub name: Place,
-    pub inputs: InputRow,
+    pub inputs: NumberedRow,
 }
 
-/// The inputs of a gate by numbers.
-pub(crate) type InputRow = flat_rows::GrowingList<Numbered>;
+/// Names by numbers, as the inputs of a gate.
+pub(crate) type NumberedRow = flat_rows::GrowingList<Numbered>;
 
 /// A text by numbers.
 #[derive(Drop)]
@@ -30,7 +30,7 @@ pub(crate) struct NumberedText {
     pub units: usize,
     pub gates: Vec<NumberedGate>,
     /// The names of the top statements.
-    pub tops: Vec<Numbered>,
+    pub tops: NumberedRow,
 }
 
 /// A text in parts: its statements, and what they say by numbers.

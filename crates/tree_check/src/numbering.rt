@@ -6,15 +6,20 @@ ghost use Rattle.tree_check.specs.Classes.{undefined};
 ghost use Rattle.tree_check.specs.Found.{IsFoundAs};
 ghost use Rattle.tree_check.specs.Numbering.{IsDeckOf, AddsStatement};
 
-use crate::numbered::{InputRow, Numbered, NumberedGate, NumberedText};
+use crate::numbered::{Numbered, NumberedGate, NumberedRow, NumberedText};
 use crate::{CheckCode, CheckFault};
 use galileo_tree::{Placed, RawGate, Statement};
 use name_index::NameIndex;
 use std::alloc::Global;
 
-/// The number of a name that is used. `last` is that of the name used before it, behind which it may well stand.
-fn number(index: &NameIndex<'_>, used: &Placed, last: &mut usize) -> Result<Numbered, CheckFault>
-    ensures number { IfOk result (λ n. n ≡ numbered index.now used.now) }
+/// Adds a name that is used, by its number. `last` is that of the name used before it, behind which it may well stand.
+fn number(
+    row: &mut NumberedRow,
+    index: &NameIndex<'_>,
+    used: &Placed,
+    last: &mut usize,
+) -> Result<(), CheckFault>
+    ensures row { OnOk result (row.new ≡ row.old ++ numbered index.now used.now ∷ []) }
     ensures known { OnOk result (undefined index.now (used.now ∷ []) ≡ []) }
     ensures fault { IfErr result (IsFoundAs CheckCode.Undefined (undefined index.now (used.now ∷ []))) }
 {
@@ -23,15 +28,16 @@ fn number(index: &NameIndex<'_>, used: &Placed, last: &mut usize) -> Result<Numb
         return Err(CheckFault::Fault(CheckCode::Undefined, used.place));
     }
     *last = number;
-    Ok(Numbered {
+    row.push(Numbered {
         number,
         place: used.place,
-    })
+    })?;
+    Ok(())
 }
 
 /// Adds the numbers of the inputs of a gate.
 fn number_inputs(
-    row: &mut InputRow,
+    row: &mut NumberedRow,
     index: &NameIndex<'_>,
     inputs: &[Placed],
     last: &mut usize,
@@ -41,31 +47,35 @@ fn number_inputs(
     ensures fault { IfErr result (IsFoundAs CheckCode.Undefined (undefined index.now inputs.now)) }
 {
     for input in inputs {
-        let next = number(index, input, last)?;
-        row.push(next)?;
+        number(row, index, input, last)?;
     }
     Ok(())
 }
 
+/// Adds a gate with the numbers of its inputs.
 fn number_gate(
+    gates: &mut Vec<NumberedGate>,
     alloc: Global,
     index: &NameIndex<'_>,
     gate: &RawGate,
     last: &mut usize,
-) -> Result<NumberedGate, CheckFault>
-    ensures gate { IfOk result (λ g. g ≡ numbered_gate index.now gate.now) }
+) -> Result<(), CheckFault>
+    ensures gate { OnOk result (gates.new.items ≡ gates.old.items ++ numbered_gate index.now gate.now ∷ []) }
     ensures known { OnOk result (undefined index.now gate.now.inputs ≡ []) }
     ensures fault { IfErr result (IsFoundAs CheckCode.Undefined (undefined index.now gate.now.inputs)) }
 {
     let inputs = gate.inputs.as_slice();
-    let mut row = InputRow::with_room(alloc, inputs.len())?;
+    let mut row = NumberedRow::with_room(alloc, inputs.len())?;
     match number_inputs(&mut row, index, inputs, last) {
-        Ok(()) => Ok(NumberedGate {
-            kind: gate.kind,
-            word: gate.word,
-            name: gate.name.place,
-            inputs: row,
-        }),
+        Ok(()) => {
+            gates.push(NumberedGate {
+                kind: gate.kind,
+                word: gate.word,
+                name: gate.name.place,
+                inputs: row,
+            })?;
+            Ok(())
+        }
         Err(fault) => {
             drop(row);
             Err(fault)
@@ -88,11 +98,13 @@ impl NumberedText {
         ensures fault { IfErr result (IsFoundAs CheckCode.Undefined (undefined index.now (uses_in statement.now))) }
     {
         match statement {
-            Statement::Top(top) => self.tops.push(number(index, &top.name, last)?)?,
-            Statement::Gate(gate) => self.gates.push(number_gate(alloc, index, gate, last)?)?,
-            Statement::Basic(_) => self.units += 1,
+            Statement::Top(top) => number(&mut self.tops, index, &top.name, last),
+            Statement::Gate(gate) => number_gate(&mut self.gates, alloc, index, gate, last),
+            Statement::Basic(_) => {
+                self.units += 1;
+                Ok(())
+            }
         }
-        Ok(())
     }
 
     /// Adds what each statement says, to a text that says nothing yet.
@@ -104,7 +116,7 @@ impl NumberedText {
     ) -> Result<(), CheckFault>
         requires units { self.old.units ≡ 0 }
         requires gates { self.old.gates.items ≡ [] }
-        requires tops { self.old.tops.items ≡ [] }
+        requires tops { self.old.tops ≡ [] }
         ensures deck { OnOk result (IsDeckOf index.now statements.now self.new) }
         ensures few { OnOk result (self.new.units ≤ length statements.now) }
         ensures known { OnOk result (undefined index.now (uses statements.now) ≡ []) }
@@ -132,7 +144,7 @@ pub(crate) fn number_all(
     let mut deck = NumberedText {
         units: 0,
         gates: Vec::new(alloc),
-        tops: Vec::new(alloc),
+        tops: NumberedRow::new(alloc),
     };
     match deck.add_all(alloc, index, statements) {
         Ok(()) => Ok(deck),

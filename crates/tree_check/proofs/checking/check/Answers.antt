@@ -7,22 +7,22 @@ use Rattle.tree_check.proofs.DeckParts.{deck_within, deck_top, deck_few_units, d
 use Rattle.tree_check.proofs.Faultless.{IsTree-faultless}
 use Rattle.tree_check.proofs.checking.check.Goals as goal
 
-pub assemble-requires-clause-deck : goal.assemble-requires-clause-deck
-assemble-requires-clause-deck c = rw c.into_statements.ensures.statements c.in_ok-deck.ensures.examined.numbered
+pub assemble-parts-requires-clause-deck : goal.assemble-parts-requires-clause-deck
+assemble-parts-requires-clause-deck c = rw c.into_statements.ensures.statements c.in_ok-deck.ensures.examined.numbered
 
-pub assemble-requires-clause-inputs : goal.assemble-requires-clause-inputs
-assemble-requires-clause-inputs c = deck_within c.in_ok-deck.ensures.examined.numbered
+pub assemble-parts-requires-clause-inputs : goal.assemble-parts-requires-clause-inputs
+assemble-parts-requires-clause-inputs c = deck_within c.in_ok-deck.ensures.examined.numbered
 
-pub assemble-requires-clause-top : goal.assemble-requires-clause-top
-assemble-requires-clause-top c =
+pub assemble-parts-requires-clause-top : goal.assemble-parts-requires-clause-top
+assemble-parts-requires-clause-top c =
     deck_top c.in_ok-deck.ensures.examined.numbered c.in_ok-deck.ensures.examined.faultless.before.1.1.1.0
 
-pub assemble-requires-clause-few_units : goal.assemble-requires-clause-few_units
-assemble-requires-clause-few_units c =
+pub assemble-parts-requires-clause-few_units : goal.assemble-parts-requires-clause-few_units
+assemble-parts-requires-clause-few_units c =
     deck_few_units c.in_ok-deck.ensures.examined.numbered c.in_ok-deck.ensures.examined.faultless.after.0
 
-pub assemble-requires-clause-few_gates : goal.assemble-requires-clause-few_gates
-assemble-requires-clause-few_gates c =
+pub assemble-parts-requires-clause-few_gates : goal.assemble-parts-requires-clause-few_gates
+assemble-parts-requires-clause-few_gates c =
     deck_few_gates c.in_ok-deck.ensures.examined.numbered c.in_ok-deck.ensures.examined.faultless.after.1.0
 
 pub new-requires : goal.new-requires

@@ -15,4 +15,4 @@ examine_parts-requires-clause-parts c =
     are_parts c.args.raw.now c.requires.none c.requires.once c.in_ok-deck.deck c.requires.names
     c.statements-statements.ensures.statements c.end.ensures
     c.in_ok-deck.ensures.deck c.in_ok-deck.ensures.known c.in_ok-deck.ensures.few refl c.deref.ensures.value
-    c.deref-2.ensures.value
+    c.as_slice.ensures.items
