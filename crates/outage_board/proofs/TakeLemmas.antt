@@ -3,7 +3,7 @@ use Rattle.std.proofs.Common.{◌≡◌, ℕ, suc, ◌-◌, ◌≤◌, Bool, tru
 use Rattle.std.proofs.Common.{sym, ◌∙◌, ap, subst, arith, inl, inr, map, take, ◌+◌, ◌<◌}
 use Rattle.std.specs.Prelude.{nat_le, nat_lt, ◌||◌, ◌&&◌, ◌==◌, Option, Some, None, is_none}
 use Rattle.std.proofs.lemmas.Bool.{cases_lt, lt-ltb, le-ltb, leb-true, le-leb, and_parts, or_left, or_right}
-use Rattle.std.proofs.lemmas.List.{map-append, take_more}
+use Rattle.std.proofs.lemmas.List.{length-map, length-take-le, map-append, take_more}
 use lib.Pointwise.{bytes_decides}
 use Rattle.fault_definitions.specs.Tree.{FaultTree}
 use Rattle.unit_sets.specs.UnitList.{among}
@@ -156,3 +156,8 @@ pub map_take_more : {A B : Type 0} (f : A → B) (xs : List A) (i : ℕ) (d : A)
 map_take_more f xs i d within before is push =
     push ∙ (λ k. before k ++ is k ∷ []) ∙ sym (map-append f (take i xs) (get_or xs i d ∷ []))
     ∙ ap (map f) (sym (take_more xs i d within))
+
+-- as many were made as there are first elements
+pub map_take_length : {A B : Type 0} (f : A → B) (xs : List A) (i : ℕ) {made : List B} → i ≤ length xs
+    → made ≡ map f (take i xs) → length made ≡ i
+map_take_length f xs i within are = ap length are ∙ length-map (take i xs) f ∙ length-take-le i xs within

@@ -1,10 +1,9 @@
 //! What one crew asks, by the units of the tree.
-ghost use Rattle.std.specs.Prelude.{◌≡◌, [], ◌∷◌, ◌++◌, IfOk, OnOk};
+ghost use Rattle.std.specs.Prelude.{◌≡◌};
 
 use margin_policy::Request;
-use std::alloc::Global;
 use std::marker::{Model, PhantomData};
-use unit_sets::{NoMemory, UnitNo};
+use unit_sets::UnitNo;
 
 /// The requests of a crew, in order. A contract sees their list.
 #[derive(Drop)]
@@ -24,20 +23,13 @@ impl Model for Docket {
 }
 
 impl Docket {
-    pub(crate) fn with_room(alloc: Global, count: usize) -> Result<Docket, NoMemory>
-        ensures { IfOk result (λ docket. docket ≡ []) }
+    pub(crate) fn of(requests: Vec<Request>) -> Docket
+        ensures { result ≡ requests.items }
     {
-        Ok(Docket {
-            requests: Vec::with_capacity(alloc, count)?,
+        Docket {
+            requests,
             inside: PhantomData,
-        })
-    }
-
-    pub(crate) fn push(&mut self, request: Request) -> Result<(), NoMemory>
-        ensures { OnOk result (self.new ≡ self.old ++ request ∷ []) }
-    {
-        self.requests.push(request)?;
-        Ok(())
+        }
     }
 
     pub(crate) fn as_slice(&self) -> &[Request]

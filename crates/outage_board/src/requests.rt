@@ -64,11 +64,11 @@ fn requests_of(
     ensures { IfOk result (λ requests. requests ≡ requests_of tree.now (crew_at dockets.now crew.0)) }
 {
     let count = dockets.len(crew);
-    let mut requests = Docket::with_room(alloc, count as usize)?;
+    let mut requests = Vec::with_capacity(alloc, count as usize)?;
     for place in 0..count {
-        requests.push(request_of(tree, dockets.ask(crew, place), units)?)?;
+        requests.push_reserved(request_of(tree, dockets.ask(crew, place), units)?);
     }
-    Ok(requests)
+    Ok(Docket::of(requests))
 }
 
 // What each crew asks, by an index of the tree's units.
@@ -82,7 +82,7 @@ fn requests_by(
     let mut units = Vec::with_capacity(alloc, AskedUnits::LIMIT)?;
     let mut all = Vec::with_capacity(alloc, dockets.crews() as usize)?;
     for crew in 0..dockets.crews() {
-        all.push(requests_of(alloc, tree, dockets, CrewNo(crew), &mut units)?)?;
+        all.push_reserved(requests_of(alloc, tree, dockets, CrewNo(crew), &mut units)?);
     }
     Ok(all)
 }
