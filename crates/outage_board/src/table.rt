@@ -38,7 +38,7 @@ pub(crate) fn laid(alloc: Global, state: BoardState) -> Result<(BoardTable, Plac
     match Table::new(alloc, &[FREE], slots, &opened) {
         Ok(made) => Ok(made),
         // The slots come back for want of memory, as its value does where a push fails.
-        Err(Refused { slots }) => Err(AllocFailed { value: slots })?,
+        Err(Refused { slots }) => Err(NoMemory::from(AllocFailed { value: slots })),
     }
 }
 
