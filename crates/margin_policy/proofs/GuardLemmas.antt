@@ -22,7 +22,7 @@ use Rattle.margin_policy.proofs.HeldLemmas.{no_holder}
 use Rattle.margin_policy.specs.Standing.{StandingView, IsRequestFor, reply_of, after, nothing_held}
 use Rattle.margin_policy.specs.Guard.{HasAllUnits, KeepsMore, is_judged}
 
--- ---- a return only raises what cut sets keep
+-- ---- where units come back, cut sets keep no less
 
 module _ (test other : List ℕ → Bool) (fewer : (cut : List ℕ) → other cut ≡ true → test cut ≡ true) where
   numbers-fewer : (number : ℕ) (cuts : List (List ℕ)) → numbers_from number test cuts ≡ []
@@ -60,22 +60,23 @@ still_held held unit other out = elim (as_before_or_set held unit None other) [
   | inr none ↦ absurd (cc (rw none at out))
 ]
 
--- with fewer units out no more cut sets are tight
+-- with fewer units out every cut set keeps more than the margin, if it did before
+pub fewer_keep_more : (cuts : List (List ℕ)) (margin : ℕ) (back out : List ℕ)
+    → ((unit : ℕ) → among back unit ≡ true → among out unit ≡ true)
+    → tight out margin cuts ≡ [] → tight back margin cuts ≡ []
+fewer_keep_more cuts margin back out fewer none =
+    numbers-fewer (is_tight out margin) (is_tight back margin)
+    (λ cut small. le-leb (residual out cut) margin (omega
+    (arith, residual-fewer out back fewer cut, leb-true (residual back cut) margin small)))
+    1 cuts none
+
 return_keeps_more : (cuts : List (List ℕ)) (held : Held) (margin unit : ℕ)
     → tight (units_out held) margin cuts ≡ [] → tight (units_out (without_held unit held)) margin cuts ≡ []
-return_keeps_more cuts held margin unit none =
-    numbers-fewer (is_tight (units_out held) margin) (is_tight back margin)
-    (λ cut small. le-leb (residual (units_out held) cut) margin (omega
-    (arith, residual-fewer (units_out held) back fewer cut, leb-true (residual back cut) margin small)))
-    1 cuts none
-  where
-    back : List ℕ
-    back = units_out (without_held unit held)
-
-    fewer : (other : ℕ) → among back other ≡ true → among (units_out held) other ≡ true
-    fewer other out =
-        among-units_out held other
-        ∙ still_held held unit other (sym (among-units_out (without_held unit held) other) ∙ out)
+return_keeps_more cuts held margin unit =
+    fewer_keep_more cuts margin (units_out (without_held unit held)) (units_out held)
+    (λ other out.
+    among-units_out held other
+    ∙ still_held held unit other (sym (among-units_out (without_held unit held) other) ∙ out))
 
 -- ---- what the margin rule granted
 
